@@ -1,0 +1,1 @@
+// Definitions and laws of numbers, lists and tables that every layer above cites. It has no code.

@@ -1,0 +1,3 @@
+pub mod Months
+pub mod Years
+pub mod Difference
