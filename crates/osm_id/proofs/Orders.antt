@@ -11,7 +11,7 @@ use mir.Syntax.{w64}
 use mir.Val.{Fits, SFits}
 use borrow.Author.Tests.{lt-ltb, le-ltb, ltb-true, le-leb, leb-true, eq-eqb, eqb-true}
 use Rattle.base.proofs.Split.{byBool, byLe, byEq, clash, no, same-test}
-use Rattle.signed.proofs.Strict.{Strict, byOrder, asymmetric, by-places}
+use Rattle.base.proofs.Strict.{Strict, byOrder, asymmetric, by-places}
 use Rattle.osm_id.specs.Order.{before, sameId, keyOf, cmpOf, keyBefore, rank, idOf, firstKey, lastKey, EndKey}
 use Rattle.osm_id.specs.declared.Ordering.the-variants.{Less, Equal, Greater}
 

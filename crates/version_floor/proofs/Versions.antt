@@ -10,7 +10,7 @@ use mir.Val.{SFits, ofZ, toZ}
 use mir.Facts.{toZ-ofZ, ofZ-toZ, fits-ofZ, fits-of-lt, sfits-toZ}
 use borrow.Author.Tests.{lt-ltb, le-ltb}
 use Rattle.base.proofs.Split.{byBool, byLt, no}
-use Rattle.signed.proofs.Strict.{byOrder, asymmetric, not-less, integers}
+use Rattle.base.proofs.Strict.{byOrder, asymmetric, not-less, integers}
 use Rattle.version_floor.specs.Version.{higher, admitOf, wordOf, ofWord}
 use Rattle.version_floor.specs.declared.Version.{Version}
 use Rattle.version_floor.specs.declared.Version.the-variants.{Absent, Is}
