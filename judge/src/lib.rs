@@ -13,6 +13,9 @@ pub use quick_xml::lines;
 pub use answer::*;
 pub use commands::parse_rfc3339_utc;
 
+pub mod compare;
+pub mod random;
+
 /// Direct calls of osm_id.rs and version_floor.rs, which keep no state.
 pub mod ground;
 
