@@ -3,6 +3,7 @@
 mod answer;
 mod commands;
 mod coord;
+mod fixed_list;
 mod host;
 mod kinds;
 mod osc;
@@ -12,8 +13,10 @@ pub use quick_xml::lines;
 
 pub use answer::*;
 pub use commands::parse_rfc3339_utc;
+pub use fixed_list::fixed_list;
 
 pub mod compare;
+pub mod produce;
 pub mod random;
 
 /// Direct calls of osm_id.rs and version_floor.rs, which keep no state.
