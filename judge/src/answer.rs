@@ -281,7 +281,7 @@ impl Sizes {
     };
 
     /// The first of 13, 14 and 15 that the overlay's state would not fit.
-    fn exceeded(&self, state: &State) -> Option<u32> {
+    pub(crate) fn exceeded(&self, state: &State) -> Option<u32> {
         let known = |k: &KindState| k.live.len() + k.deleted.len();
         if state.texts.len() > self.strings || state.string_bytes.len() > self.string_bytes {
             Some(13)
@@ -518,6 +518,10 @@ pub fn run_sized(input: &[u8], allow_regression: bool, sizes: &Sizes) -> (Outcom
 pub struct Seek(crate::osc::sorted::Seek);
 
 impl Seek {
+    pub fn at(place: Option<usize>) -> Self {
+        Self(crate::osc::sorted::Seek::judge_at(place))
+    }
+
     pub fn find(&mut self, ids: &[i64], id: i64) -> Option<usize> {
         self.0.find(ids, id)
     }

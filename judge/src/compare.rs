@@ -2,6 +2,8 @@
 //! built library in the package `compare`, by a faulty copy of the judge in tests/faults.rs.
 
 pub mod ground;
+pub mod lookups;
+pub mod overlay;
 
 /// The number of compared answers, or the first difference.
 pub type Compared = Result<u64, String>;

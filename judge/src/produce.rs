@@ -12,7 +12,8 @@ fn line(text: &str) -> Bytes {
     bytes
 }
 
-/// Every kind of event, each with good fields: thirteen names opened and empty, a close, another.
+/// Every kind of event: thirteen names opened and empty, with good fields; a close; another; and a
+/// node with a low version, and one without its coordinates.
 pub fn events() -> Vec<Bytes> {
     let mut out = Vec::new();
     for tail in [
@@ -29,6 +30,8 @@ pub fn events() -> Vec<Bytes> {
         "bbox",
         "bounds|x=y",
         "x",
+        "node|id=1|version=0|lat7=3|lon7=-4|user=w",
+        "node|id=1|version=3|user=z",
     ] {
         out.push(line(&format!("open|{tail}")));
         out.push(line(&format!("empty|{tail}")));
@@ -108,7 +111,7 @@ impl Style {
         ids: 4,
     };
     pub const DAMAGED: Self = Self {
-        damage: 25,
+        damage: 30,
         ..Self::VALID
     };
 }
@@ -246,7 +249,7 @@ impl Documents {
         let known = self.given.get(&(kind, id)).copied();
         let version = match (self.random.below(30), known) {
             (0, _) => *self.random.pick(&[i32::MIN, i32::MAX, -1, 0]),
-            (1, Some(v)) if self.style.damage > 0 => v.saturating_sub(1),
+            (1..=3, Some(v)) if self.style.damage > 0 => v.saturating_sub(1),
             (_, Some(v)) => v.saturating_add(self.random.below(3) as i32),
             (_, None) => self.random.below(7) as i32 - 1,
         };
@@ -360,7 +363,7 @@ impl Documents {
         let mut n = 0;
         while n < out.len() {
             if self.random.once_in(self.style.damage) {
-                match self.random.below(8) {
+                match self.random.below(20) {
                     0 => {
                         out.remove(n);
                         continue;
@@ -433,7 +436,7 @@ impl Documents {
                 let mut fields = fields;
                 let at = self.random.below(fields.len());
                 if let Some(equals) = fields[at].iter().position(|&b| b == b'=') {
-                    let bad: [&[u8]; 22] = [
+                    let bad: [&[u8]; 25] = [
                         b"",
                         b"x",
                         b"1.5",
@@ -455,6 +458,9 @@ impl Documents {
                         b"2024-01-01T00:00:60Z",
                         b"2023-02-29T00:00:00Z",
                         b"0",
+                        b"2147483647",
+                        b"-900000001",
+                        b"1800000001",
                         b"-1",
                     ];
                     let value = *self.random.pick(&bad);
