@@ -139,6 +139,10 @@ impl Overlay {
         direct::sorted(&self.inner, kind)
     }
 
+    pub fn sorted_record(&self, kind: Kind, n: usize) -> Record {
+        direct::sorted_record(&self.inner, kind, n)
+    }
+
     pub fn state(&self) -> State {
         let (spans, string_bytes) = self.inner.judge_spans();
         State {

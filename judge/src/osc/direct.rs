@@ -224,6 +224,16 @@ pub(crate) fn sorted(overlay: &CompactDiffOverlay, kind: ElementKind) -> Sorted 
     }
 }
 
+/// The record by its number in the live list; the published read panics past the list.
+pub(crate) fn sorted_record(overlay: &CompactDiffOverlay, kind: ElementKind, n: usize) -> Record {
+    let diff = overlay.clone().into_sorted();
+    match kind {
+        ElementKind::Node => node(&diff.node(n)),
+        ElementKind::Way => way(&diff.way(n)),
+        ElementKind::Relation => relation(&diff.relation(n)),
+    }
+}
+
 /// The lookups of sorted.rs over lent lists, which are strictly in OSM order.
 pub struct Lookups {
     diff: SortedDiff,
