@@ -4,6 +4,7 @@
 pub mod ground;
 pub mod lookups;
 pub mod overlay;
+pub mod program;
 
 /// The number of compared answers, or the first difference.
 pub type Compared = Result<u64, String>;

@@ -51,14 +51,19 @@ impl Random {
 /// The seed and the length of a run: TORVASKIN_SEED (1 where unset), and TORVASKIN_ROUNDS, which
 /// multiplies the number of random inputs (1 where unset).
 pub fn seed_and_rounds() -> (u64, u64) {
-    let number = |name: &str| {
-        std::env::var(name).ok().map(|s| {
-            s.parse::<u64>()
-                .unwrap_or_else(|_| panic!("{name} is no number: {s}"))
-        })
-    };
     (
         number("TORVASKIN_SEED").unwrap_or(1),
         number("TORVASKIN_ROUNDS").unwrap_or(1),
     )
+}
+
+/// The longest event sequence from a level: TORVASKIN_DEPTH, 3 where unset.
+pub fn depth() -> usize {
+    number("TORVASKIN_DEPTH").map_or(3, |n| n as usize)
+}
+
+fn number(name: &str) -> Option<u64> {
+    let text = std::env::var(name).ok()?;
+    let number = text.parse().ok();
+    Some(number.unwrap_or_else(|| panic!("{name} is no number: {text}")))
 }

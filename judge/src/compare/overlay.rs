@@ -531,7 +531,11 @@ pub fn readers(port: &mut dyn OverlayPort, seed: u64, rounds: u64) -> Compared {
                     left[reader] = source.document().into_iter();
                 }
                 _ => {
-                    let line = left[reader].next().unwrap_or_else(|| b"close\n".to_vec());
+                    let mut line = left[reader].next().unwrap_or_else(|| b"close\n".to_vec());
+                    if random.once_in(300) {
+                        // Two lines in one slice are no event line.
+                        line.extend_from_slice(b"close\n");
+                    }
                     both.line(reader, &line)?;
                 }
             }
