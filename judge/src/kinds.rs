@@ -39,3 +39,12 @@ pub(crate) struct HeaderBlock;
 impl HeaderBlock {
     pub(crate) const LOCATIONS_ON_WAYS: &'static str = "LocationsOnWays";
 }
+
+/// Named by the published files only in builds for unit tests.
+#[cfg(test)]
+#[allow(dead_code)]
+pub(crate) enum MemberId {
+    Node(i64),
+    Way(i64),
+    Relation(i64),
+}

@@ -26,6 +26,8 @@ pub mod ground;
 pub(crate) use coord::{coord_fmt, coord_pack};
 pub(crate) use error::{Error, Result};
 pub(crate) use host::{counters, read, write};
+#[cfg(test)]
+pub(crate) use kinds::MemberId;
 pub(crate) use kinds::{ElementKind, HeaderBlock};
 
 include!(concat!(env!("OUT_DIR"), "/root_modules.rs"));

@@ -284,7 +284,7 @@ impl Documents {
             list.push(format!("changeset={}", self.number(changeset)));
         }
         if self.random.once_in(3) {
-            let uid = i64::from(self.random.next() as i32);
+            let uid = i64::from(self.random.draw() as i32);
             list.push(format!("uid={}", self.number(uid)));
         }
         if self.random.once_in(3) {
@@ -410,7 +410,7 @@ impl Documents {
             }
             2 if !line.is_empty() => {
                 let at = self.random.below(line.len());
-                line[at] = self.random.next() as u8;
+                line[at] = self.random.draw() as u8;
             }
             3 => {
                 let mut fields = fields;

@@ -8,7 +8,7 @@ impl Random {
         Self(seed)
     }
 
-    pub fn next(&mut self) -> u64 {
+    pub fn draw(&mut self) -> u64 {
         self.0 = self.0.wrapping_add(0x9e37_79b9_7f4a_7c15);
         let mut z = self.0;
         z = (z ^ (z >> 30)).wrapping_mul(0xbf58_476d_1ce4_e5b9);
@@ -18,7 +18,7 @@ impl Random {
 
     /// A number below `n`.
     pub fn below(&mut self, n: usize) -> usize {
-        (self.next() % n as u64) as usize
+        (self.draw() % n as u64) as usize
     }
 
     /// True once in `n` times.
@@ -33,10 +33,10 @@ impl Random {
     /// An id: small, around a power of two, or any.
     pub fn id(&mut self) -> i64 {
         match self.below(4) {
-            0 => self.next() as i64,
+            0 => self.draw() as i64,
             1 => {
                 let power = 1u64 << self.below(64);
-                let near = power.wrapping_add(self.next() % 5).wrapping_sub(2) as i64;
+                let near = power.wrapping_add(self.draw() % 5).wrapping_sub(2) as i64;
                 if self.once_in(2) {
                     near.wrapping_neg()
                 } else {

@@ -9,6 +9,9 @@ struct Faulty {
     fault: Fault,
 }
 
+/// From the input and the judge's answer.
+type Read = fn(&[u8], (u32, i64)) -> (u32, i64);
+
 #[derive(Clone, Copy)]
 enum Fault {
     None,
@@ -19,9 +22,9 @@ enum Fault {
     Rank(fn(i64, u64) -> u64),
     Admit(fn(u64, u64, (u32, i32)) -> (u32, i32)),
     Raise(fn(u64, u64, u64) -> u64),
-    I64(fn(&[u8], (u32, i64)) -> (u32, i64)),
-    I32(fn(&[u8], (u32, i64)) -> (u32, i64)),
-    Stamp(fn(&[u8], (u32, i64)) -> (u32, i64)),
+    I64(Read),
+    I32(Read),
+    Stamp(Read),
     Text(fn(&[u8], u8) -> u8),
 }
 

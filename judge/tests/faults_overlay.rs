@@ -277,8 +277,10 @@ impl OverlayPort for Faulty {
     }
 }
 
-/// The comparisons by their names.
-const COMPARISONS: [(&str, fn(&mut Faulty) -> Compared); 5] = [
+/// A comparison by its name.
+type Comparison = (&'static str, fn(&mut Faulty) -> Compared);
+
+const COMPARISONS: [Comparison; 5] = [
     ("nesting", |port| nesting(port, 2)),
     ("documents", |port| documents(port, 1, 1)),
     ("readers", |port| readers(port, 1, 1)),

@@ -190,8 +190,8 @@ pub fn versions(port: &dyn Ground, seed: u64, rounds: u64) -> Compared {
     let mut random = Random::new(seed);
     for _ in 0..100_000 * rounds {
         let mut any = || match random.below(4) {
-            0 => random.next(),
-            1 => random.next() >> 32,
+            0 => random.draw(),
+            1 => random.draw() >> 32,
             _ => word(Some(random.below(9) as i32 - 4)),
         };
         let (floor, claim) = (any(), any());
@@ -352,7 +352,7 @@ pub fn random_integer(random: &mut Random) -> Vec<u8> {
     }
     if random.once_in(5) && !s.is_empty() {
         let at = random.below(s.len());
-        s[at] = random.next() as u8;
+        s[at] = random.draw() as u8;
     }
     s
 }
@@ -591,7 +591,7 @@ pub fn random_text(random: &mut Random) -> Vec<u8> {
     if random.once_in(3) && !s.is_empty() {
         let at = random.below(s.len());
         if random.once_in(2) {
-            s[at] = random.next() as u8;
+            s[at] = random.draw() as u8;
         } else {
             s.truncate(at);
         }

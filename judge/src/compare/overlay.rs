@@ -651,7 +651,7 @@ fn any_meta(random: &mut Random, texts: usize) -> Meta {
     if random.once_in(25) {
         // Flags and fields that do not go together.
         match random.below(4) {
-            0 => meta.flags = random.next() as u8,
+            0 => meta.flags = random.draw() as u8,
             1 => meta.flags &= !1,
             2 => meta.flags &= !8,
             _ => meta.flags &= !4,
