@@ -5,6 +5,7 @@ pub mod ground;
 pub mod lookups;
 pub mod overlay;
 pub mod program;
+pub mod reads;
 
 /// The number of compared answers, or the first difference.
 pub type Compared = Result<u64, String>;

@@ -42,6 +42,7 @@ enum Fault {
     SetUpTakesAnySize,
     DirectMetaUnchecked,
     LineFeedNotWanted,
+    WritesPastARecord,
 }
 
 struct Faulty {
@@ -275,6 +276,11 @@ impl OverlayPort for Faulty {
         }
         state
     }
+
+    fn written_elsewhere(&mut self) -> Option<String> {
+        let long = self.good.state().kinds[1].arena.len() > 45;
+        (self.is(Fault::WritesPastARecord) && long).then(|| "the way arena".to_owned())
+    }
 }
 
 /// A comparison by its name.
@@ -333,6 +339,7 @@ fn every_fault_is_found() {
         (F::SizesIgnored, [0, 1, 1, 1, 1]),
         (F::DirectMetaUnchecked, [0, 0, 1, 1, 0]),
         (F::LineFeedNotWanted, [0, 1, 1, 0, 0]),
+        (F::WritesPastARecord, [1, 1, 1, 1, 0]),
         (F::SetUpTakesAnySize, [0, 0, 0, 0, 1]),
     ] {
         for ((name, comparison), finds) in COMPARISONS.iter().zip(finders) {

@@ -60,6 +60,25 @@ fn input_a() {
 }
 
 #[test]
+fn state_as_text() {
+    let input = in_section(
+        "modify",
+        "open|node|id=7|version=3|lat7=10|lon7=-20\nempty|tag|k=a\\nb|v=A\nclose\nempty|way|id=-4|user=u",
+    ) + "\n";
+    let (_, overlay) = run(&lines(&input), false);
+    let node = "07000000000000000a000000ecffffff01000000\
+                09030000000000000000000000000000000000000000000000000000000100000001000000\
+                41";
+    let way = "fcffffffffffffff0000000000000000\
+               0500000000000000000000000000000000000000000000000002000000";
+    let expected = format!(
+        "n|arena|{node}\nn|live|7|0\nw|arena|{way}\nw|live|-4|0\nr|arena|\n\
+         text|0|\ntext|1|a\\nb\ntext|2|u\n"
+    );
+    assert_eq!(overlay.state().dump(), expected.replace('|', "\t"));
+}
+
+#[test]
 fn doc_takes_only_the_root() {
     listed("empty|osmChange", "");
     listed("open|osmChange\nclose", "");

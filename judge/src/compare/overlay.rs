@@ -64,6 +64,9 @@ pub trait OverlayPort {
     /// The number, and the listing's length where the number is 0.
     fn listing(&mut self, output: &mut [u8]) -> (u32, usize);
     fn state(&mut self) -> PortState;
+    /// Whether a lent byte past the used counts, or before what the last call appended, was written
+    /// since the last question: a text that says which.
+    fn written_elsewhere(&mut self) -> Option<String>;
 }
 
 /// The published Rust as a port: its refusals, then document 01's words for what it has not.
@@ -86,6 +89,10 @@ impl JudgeSide {
             readers: Vec::new(),
             sizes: LARGE,
         }
+    }
+
+    pub fn overlay(&self) -> &Overlay {
+        &self.overlay
     }
 
     /// The texts held, for a caller who makes handles.
@@ -284,6 +291,10 @@ impl OverlayPort for JudgeSide {
             string_bytes: state.string_bytes.len(),
         }
     }
+
+    fn written_elsewhere(&mut self) -> Option<String> {
+        None
+    }
 }
 
 /// Both sides, given the same calls.
@@ -348,14 +359,15 @@ impl<'a> Both<'a> {
 
     fn state(&mut self) -> Result<(), String> {
         let states = (self.judge.state(), self.port.state());
-        self.same(states.0, states.1)
+        self.same(states.0, states.1)?;
+        let written = self.port.written_elsewhere();
+        self.same(None, written)
     }
 
     /// The listing in outputs that are long enough, exactly long enough, and one byte short; what
     /// lies past it, and everything on a refusal, stays as it was.
     fn listing(&mut self) -> Result<(), String> {
-        let mut room = vec![0xa5u8; 1 << 20];
-        let (_, len) = self.judge.listing(&mut room);
+        let len = self.judge.overlay.listing().len();
         let mut lengths = vec![len, len + 9];
         lengths.extend(len.checked_sub(1));
         for size in lengths {
