@@ -512,6 +512,7 @@ fn a_refused_event_keeps_its_user_only_in_the_rust() {
     for (inner, kept) in [
         ("empty|node|id=1|user=u", true),               // 7: lat7 missing
         ("empty|node|id=1|user=u|lat7=x|lon7=0", true), // 8
+        ("empty|node|id=1|user=u|lat7=0|lon7=1800000001", true), // 10
         ("empty|node|id=1|user=u|version=x", false),    // 8 in the metadata
         ("empty|node|id=1|timestamp=x|user=u", false),  // 9
         ("empty|node|user=u", false),                   // 7: id missing
