@@ -1,0 +1,64 @@
+//! The built library behind the judge's traits.
+
+pub mod ffi;
+
+use judge::compare::ground::Ground;
+
+/// The library's calls.
+pub struct Library;
+
+fn key(k: ffi::OsmIdKey) -> (u8, u64) {
+    (k.class, k.magnitude)
+}
+
+fn integer(i: ffi::Integer) -> (u32, i64) {
+    (i.number, i.value)
+}
+
+// Each call passes numbers, or a slice as its pointer and its length.
+impl Ground for Library {
+    fn osm_id_key(&self, id: i64) -> (u8, u64) {
+        key(unsafe { ffi::tvk_osm_id_key(id) })
+    }
+
+    fn osm_id_cmp(&self, a: i64, b: i64) -> u8 {
+        unsafe { ffi::tvk_osm_id_cmp(a, b) }
+    }
+
+    fn blob_osm_first_key(&self, min: i64, max: i64) -> (u8, u64) {
+        key(unsafe { ffi::tvk_blob_osm_first_key(min, max) })
+    }
+
+    fn blob_osm_last_key(&self, min: i64, max: i64) -> (u8, u64) {
+        key(unsafe { ffi::tvk_blob_osm_last_key(min, max) })
+    }
+
+    fn osm_id_rank(&self, id: i64) -> u64 {
+        unsafe { ffi::tvk_osm_id_rank(id) }
+    }
+
+    fn version_admit(&self, floor: u64, claim: u64) -> (u32, i32) {
+        let reply = unsafe { ffi::tvk_version_admit(floor, claim) };
+        (reply.number, reply.held)
+    }
+
+    fn version_raise(&self, floor: u64, claim: u64) -> u64 {
+        unsafe { ffi::tvk_version_raise(floor, claim) }
+    }
+
+    fn read_i64(&self, s: &[u8]) -> (u32, i64) {
+        integer(unsafe { ffi::tvk_read_i64(s.as_ptr(), s.len()) })
+    }
+
+    fn read_i32(&self, s: &[u8]) -> (u32, i64) {
+        integer(unsafe { ffi::tvk_read_i32(s.as_ptr(), s.len()) })
+    }
+
+    fn stamp(&self, s: &[u8]) -> (u32, i64) {
+        integer(unsafe { ffi::tvk_parse_rfc3339_utc(s.as_ptr(), s.len()) })
+    }
+
+    fn is_text(&self, s: &[u8]) -> u8 {
+        unsafe { ffi::tvk_is_text(s.as_ptr(), s.len()) }
+    }
+}

@@ -1,0 +1,136 @@
+// Beside the published file: the driver by its private name, and the same driver one event at a time.
+pub(crate) fn judge_drive<R: io::BufRead>(
+    reader: &mut Reader<R>,
+    overlay: &mut CompactDiffOverlay,
+) -> ParseResult<()> {
+    drive_osc(reader, &mut CompactSink::new(overlay), Path::new("events"))
+}
+
+/// `drive_osc`'s state and its sink's staged element between two events.
+#[derive(Clone)]
+pub(crate) struct JudgeSteps {
+    level: Level,
+    section: OscAction,
+    open: ElementKind,
+    staging: Option<JudgeStaged>,
+}
+
+/// What is staged for an element, by value.
+#[derive(Clone, Debug, PartialEq, Eq)]
+pub(crate) struct JudgeStaged {
+    pub(crate) kind: ElementKind,
+    pub(crate) id: i64,
+    pub(crate) lat: i32,
+    pub(crate) lon: i32,
+    pub(crate) meta: (u8, i32, i64, i64, i32, u32),
+    pub(crate) tag_keys: Vec<u32>,
+    pub(crate) tag_values: Vec<String>,
+    pub(crate) refs: Vec<i64>,
+    pub(crate) members: Vec<(i64, u8, u32)>,
+}
+
+impl JudgeStaged {
+    fn take(s: Staging) -> Self {
+        Self {
+            kind: s.kind,
+            id: s.id,
+            lat: s.lat,
+            lon: s.lon,
+            meta: (
+                s.meta.flags,
+                s.meta.version,
+                s.meta.timestamp,
+                s.meta.changeset,
+                s.meta.uid,
+                s.meta.user_id,
+            ),
+            tag_keys: s.tag_keys,
+            tag_values: s.tag_values,
+            refs: s.refs,
+            members: s.members,
+        }
+    }
+
+    fn give(self) -> Staging {
+        let (flags, version, timestamp, changeset, uid, user_id) = self.meta;
+        Staging {
+            kind: self.kind,
+            id: self.id,
+            lat: self.lat,
+            lon: self.lon,
+            meta: ArenaMeta {
+                flags,
+                version,
+                timestamp,
+                changeset,
+                uid,
+                user_id,
+            },
+            tag_keys: self.tag_keys,
+            tag_values: self.tag_values,
+            refs: self.refs,
+            members: self.members,
+        }
+    }
+}
+
+impl JudgeSteps {
+    /// The state that `drive_osc` begins with.
+    pub(crate) fn new() -> Self {
+        Self {
+            level: Level::Doc,
+            section: OscAction::Create,
+            open: ElementKind::Node,
+            staging: None,
+        }
+    }
+
+    /// One turn of `drive_osc`'s loop.
+    pub(crate) fn step(
+        &mut self,
+        overlay: &mut CompactDiffOverlay,
+        event: &Event<'_>,
+    ) -> ParseResult<()> {
+        let path = Path::new("events");
+        let mut state = DriveState {
+            level: self.level,
+            section: self.section,
+            open: self.open,
+        };
+        let mut sink = CompactSink::new(overlay);
+        sink.staging = self.staging.take().map(JudgeStaged::give);
+        let reply = match event {
+            Event::Start(e) => handle_open(e, false, &mut state, &mut sink, path),
+            Event::Empty(e) => handle_open(e, true, &mut state, &mut sink, path),
+            Event::End(_) => handle_close(&mut state, &mut sink, path),
+            _ => Ok(()),
+        };
+        self.staging = sink.staging.take().map(JudgeStaged::take);
+        self.level = state.level;
+        self.section = state.section;
+        self.open = state.open;
+        reply
+    }
+
+    /// `drive_osc`'s end test.
+    pub(crate) fn is_done(&self) -> bool {
+        self.level == Level::Done
+    }
+
+    /// The level in the published order: Doc 0, Root 1, Other 2, Section 3, Element 4, Leaf 5, Done 6.
+    pub(crate) fn level(&self) -> u8 {
+        match self.level {
+            Level::Doc => 0,
+            Level::Root => 1,
+            Level::Other => 2,
+            Level::Section => 3,
+            Level::Element => 4,
+            Level::Leaf => 5,
+            Level::Done => 6,
+        }
+    }
+
+    pub(crate) fn staged(&self) -> Option<&JudgeStaged> {
+        self.staging.as_ref()
+    }
+}

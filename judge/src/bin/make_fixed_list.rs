@@ -1,0 +1,5 @@
+//! Prints the fixed list.
+
+fn main() {
+    print!("{}", judge::fixed_list());
+}
