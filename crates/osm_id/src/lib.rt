@@ -3,6 +3,7 @@ ghost use mathlib.Core.Path.{_≡_};
 ghost use Rattle.osm_id.specs.Order.{keyOf, cmpOf, firstKey, lastKey, rank, idOf};
 
 // The canonical-order key: class 0 for zero, 1 for a negative id, 2 for a positive one; and the magnitude.
+#[repr(C)]
 pub struct OsmIdKey {
     pub class: u8,
     pub magnitude: u64,

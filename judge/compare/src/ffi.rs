@@ -15,12 +15,12 @@ pub struct Reply {
     pub held: i32,
 }
 
-/// Number 0 with the value, or a refusal with 0.
+/// Number 0 with the bits of the value at its width, or a refusal with 0.
 #[repr(C)]
 #[derive(Clone, Copy, Debug, PartialEq, Eq)]
-pub struct Integer {
+pub struct Number {
     pub number: u32,
-    pub value: i64,
+    pub value: u64,
 }
 
 unsafe extern "C" {
@@ -31,8 +31,8 @@ unsafe extern "C" {
     pub fn tvk_osm_id_rank(id: i64) -> u64;
     pub fn tvk_version_admit(floor: u64, claim: u64) -> Reply;
     pub fn tvk_version_raise(floor: u64, claim: u64) -> u64;
-    pub fn tvk_read_i64(s: *const u8, n: usize) -> Integer;
-    pub fn tvk_read_i32(s: *const u8, n: usize) -> Integer;
-    pub fn tvk_parse_rfc3339_utc(s: *const u8, n: usize) -> Integer;
+    pub fn tvk_read_i64(s: *const u8, n: usize) -> Number;
+    pub fn tvk_read_i32(s: *const u8, n: usize) -> Number;
+    pub fn tvk_parse_rfc3339_utc(s: *const u8, n: usize) -> Number;
     pub fn tvk_is_text(s: *const u8, n: usize) -> u8;
 }

@@ -11,8 +11,15 @@ fn key(k: ffi::OsmIdKey) -> (u8, u64) {
     (k.class, k.magnitude)
 }
 
-fn integer(i: ffi::Integer) -> (u32, i64) {
-    (i.number, i.value)
+/// The number of 64 bits.
+fn wide(n: ffi::Number) -> (u32, i64) {
+    (n.number, n.value.cast_signed())
+}
+
+/// The number of 32 bits; bits above them are a fault of the port.
+fn narrow(n: ffi::Number) -> (u32, i64) {
+    let bits = u32::try_from(n.value).expect("the bits of an i32");
+    (n.number, i64::from(bits.cast_signed()))
 }
 
 // Each call passes numbers, or a slice as its pointer and its length.
@@ -47,15 +54,15 @@ impl Ground for Library {
     }
 
     fn read_i64(&self, s: &[u8]) -> (u32, i64) {
-        integer(unsafe { ffi::tvk_read_i64(s.as_ptr(), s.len()) })
+        wide(unsafe { ffi::tvk_read_i64(s.as_ptr(), s.len()) })
     }
 
     fn read_i32(&self, s: &[u8]) -> (u32, i64) {
-        integer(unsafe { ffi::tvk_read_i32(s.as_ptr(), s.len()) })
+        narrow(unsafe { ffi::tvk_read_i32(s.as_ptr(), s.len()) })
     }
 
     fn stamp(&self, s: &[u8]) -> (u32, i64) {
-        integer(unsafe { ffi::tvk_parse_rfc3339_utc(s.as_ptr(), s.len()) })
+        wide(unsafe { ffi::tvk_parse_rfc3339_utc(s.as_ptr(), s.len()) })
     }
 
     fn is_text(&self, s: &[u8]) -> u8 {

@@ -1,0 +1,4 @@
+pub mod Name
+pub mod Nesting
+pub mod Marks
+pub mod Grammar

@@ -1,0 +1,4 @@
+pub mod Tables
+pub mod Codes
+pub mod Theorem
+pub mod Examples

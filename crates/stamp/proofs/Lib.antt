@@ -1,0 +1,6 @@
+pub mod Numbers
+pub mod Reading
+pub mod Judging
+pub mod Counting
+pub mod Answering
+pub mod Bounds

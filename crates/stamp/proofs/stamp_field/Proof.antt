@@ -1,0 +1,75 @@
+-- `stamp_field`: the integer reader's bits, raised by 1000.
+use mathlib.Core.Path.{sym, _∙_}
+use native.Mathlib.Omega.{arith}
+use denote.Ref.{now}
+use Rattle.stamp.proofs.Reading.{field-not, field-low, field-high}
+use borrow.Author.Needs.{needs}
+use Rattle.stamp.proofs.stamp_field.Statement.{statement}
+use Rattle.stamp.proofs.stamp_field.Tie as tie
+
+sub-read-i32 : tie.Need-sub-read-i32
+sub-read-i32 c = search needs
+
+part-read-i32-start : tie.Need-part-read-i32-start
+part-read-i32-start c = search needs
+
+part-read-i32-end : tie.Need-part-read-i32-end
+part-read-i32-end c = search needs
+
+read-i32-requires : tie.Need-read-i32-requires
+read-i32-requires c κs = search needs
+
+enum-known-b : tie.Need-enum-known-b
+enum-known-b c = search needs
+
+enum-told : tie.Need-enum-told
+enum-told c = search needs
+
+returns : tie.Need-returns
+returns c =
+    let a = c .before .before .before .before .before .args in
+    field-not (now (a .s)) (a .from) (a .to) (omega arith) (sym (c .before .before .read-i32 .ensures) ∙ c .enum-told .given .1)
+
+add-t11 : tie.Need-add-t11
+add-t11 c = search needs
+
+cast-t12 : tie.Need-cast-t12
+cast-t12 c = search needs
+
+returns-2 : tie.Need-returns-2
+returns-2 c =
+    let a = c .before .before .before .before .before .before .before .args in
+    field-low (now (a .s)) (a .from) (a .to) (omega arith) (c .before .before .b .given .0 .0) (sym (c .before .before .before .before .read-i32 .ensures) ∙ c .before .before .b .given .1) (omega arith)
+
+sub-t13 : tie.Need-sub-t13
+sub-t13 c =
+    let a = c .before .before .before .before .before .before .before .args in
+    field-high (now (a .s)) (a .from) (a .to) (omega arith) (c .before .before .b .given .0 .0) (sym (c .before .before .before .before .read-i32 .ensures) ∙ c .before .before .b .given .1) (omega arith) .0
+
+cast-t14 : tie.Need-cast-t14
+cast-t14 c =
+    let a = c .before .before .before .before .before .before .before .args in
+    omega (arith, field-high (now (a .s)) (a .from) (a .to) (omega arith) (c .before .before .b .given .0 .0) (sym (c .before .before .before .before .read-i32 .ensures) ∙ c .before .before .b .given .1) (omega arith) .1 .1)
+
+returns-3 : tie.Need-returns-3
+returns-3 c =
+    let a = c .before .before .before .before .before .before .before .args in
+    field-high (now (a .s)) (a .from) (a .to) (omega arith) (c .before .before .b .given .0 .0) (sym (c .before .before .before .before .read-i32 .ensures) ∙ c .before .before .b .given .1) (omega arith) .1
+
+pub stamp-field-spec : {M : Type 1} → statement M
+stamp-field-spec =
+    tie.close
+    (tie.spec
+    sub-read-i32
+    part-read-i32-start
+    part-read-i32-end
+    read-i32-requires
+    enum-known-b
+    enum-told
+    returns
+    add-t11
+    cast-t12
+    returns-2
+    sub-t13
+    cast-t14
+    returns-3)

@@ -1,0 +1,57 @@
+-- `taken`: each test on a raised number is the definition's test on the number.
+use Prim.Native.Nat.{_-_}
+use mathlib.Core.Path.{sym, _∙_, ap}
+use native.Mathlib.Omega.{arith}
+use Rattle.calendar.specs.Calendar.{monthDays}
+use Rattle.stamp.proofs.Numbers.{and-both}
+use Rattle.stamp.proofs.Judging.{before-month, after-month, of-month}
+use borrow.Author.Needs.{needs}
+use Rattle.stamp.proofs.taken.Statement.{statement}
+use Rattle.stamp.proofs.taken.Tie as tie
+
+returns : tie.Need-returns
+returns c = sym (before-month (c .before .before .args .m) (c .if1 .taken))
+
+returns-2 : tie.Need-returns-2
+returns-2 c = sym (after-month (c .before .before .before .before .args .m) (c .if2 .taken))
+
+add-is-leap : tie.Need-add-is-leap
+add-is-leap c = search needs
+
+is-leap-requires : tie.Need-is-leap-requires
+is-leap-requires c κs = search needs
+
+sub-month-length : tie.Need-sub-month-length
+sub-month-length c = search needs
+
+cast-month-length : tie.Need-cast-month-length
+cast-month-length c = search needs
+
+month-length-requires : tie.Need-month-length-requires
+month-length-requires c κs = search needs
+
+cast-day : tie.Need-cast-day
+cast-day c = search needs
+
+add-day : tie.Need-add-day
+add-day c = search needs
+
+returns-3 : tie.Need-returns-3
+returns-3 c =
+    let m = c .before .before .before .before .before .before .before .before .before .before .before .before .before .args .m in
+    simp and-both (sym (of-month m _ (omega arith) (omega arith) (c .before .before .before .before .before .month-length .ensures ∙ ap (λ l. monthDays l (m .month - 1000)) (c .before .before .before .before .before .before .before .is-leap .ensures))))
+
+pub taken-spec : {M : Type 1} → statement M
+taken-spec =
+    tie.close
+    (tie.spec
+    returns
+    returns-2
+    add-is-leap
+    is-leap-requires
+    sub-month-length
+    cast-month-length
+    month-length-requires
+    cast-day
+    add-day
+    returns-3)

@@ -1,0 +1,2 @@
+pub mod Stamp
+pub mod Raised

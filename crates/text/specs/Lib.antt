@@ -1,0 +1,4 @@
+pub mod Char
+pub mod Text
+pub mod Check
+pub mod Escape

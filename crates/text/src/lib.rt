@@ -1,0 +1,391 @@
+// Legal text: well-formed UTF-8 of XML 1.0 characters.
+ghost use mathlib.Core.Path.{_≡_};
+ghost use Prim.Native.Nat.{_+_, _*_, _<_, _≤_};
+ghost use lib.ListN.{drop};
+ghost use Rattle.text.specs.Char.{xmlChar};
+ghost use Rattle.text.specs.Check.{classOf, byteAt, joined, charLen, sized, Starting, isText};
+
+// The class of a first byte: how many bytes a legal character has that starts with it, 0 where none does.
+const CLASS: [u8; 256] = [
+    0,
+    0,
+    0,
+    0,
+    0,
+    0,
+    0,
+    0,
+    0,
+    1,
+    1,
+    0,
+    0,
+    1,
+    0,
+    0,
+    0,
+    0,
+    0,
+    0,
+    0,
+    0,
+    0,
+    0,
+    0,
+    0,
+    0,
+    0,
+    0,
+    0,
+    0,
+    0,
+    1,
+    1,
+    1,
+    1,
+    1,
+    1,
+    1,
+    1,
+    1,
+    1,
+    1,
+    1,
+    1,
+    1,
+    1,
+    1,
+    1,
+    1,
+    1,
+    1,
+    1,
+    1,
+    1,
+    1,
+    1,
+    1,
+    1,
+    1,
+    1,
+    1,
+    1,
+    1,
+    1,
+    1,
+    1,
+    1,
+    1,
+    1,
+    1,
+    1,
+    1,
+    1,
+    1,
+    1,
+    1,
+    1,
+    1,
+    1,
+    1,
+    1,
+    1,
+    1,
+    1,
+    1,
+    1,
+    1,
+    1,
+    1,
+    1,
+    1,
+    1,
+    1,
+    1,
+    1,
+    1,
+    1,
+    1,
+    1,
+    1,
+    1,
+    1,
+    1,
+    1,
+    1,
+    1,
+    1,
+    1,
+    1,
+    1,
+    1,
+    1,
+    1,
+    1,
+    1,
+    1,
+    1,
+    1,
+    1,
+    1,
+    1,
+    1,
+    1,
+    1,
+    1,
+    1,
+    1,
+    0,
+    0,
+    0,
+    0,
+    0,
+    0,
+    0,
+    0,
+    0,
+    0,
+    0,
+    0,
+    0,
+    0,
+    0,
+    0,
+    0,
+    0,
+    0,
+    0,
+    0,
+    0,
+    0,
+    0,
+    0,
+    0,
+    0,
+    0,
+    0,
+    0,
+    0,
+    0,
+    0,
+    0,
+    0,
+    0,
+    0,
+    0,
+    0,
+    0,
+    0,
+    0,
+    0,
+    0,
+    0,
+    0,
+    0,
+    0,
+    0,
+    0,
+    0,
+    0,
+    0,
+    0,
+    0,
+    0,
+    0,
+    0,
+    0,
+    0,
+    0,
+    0,
+    0,
+    0,
+    0,
+    0,
+    2,
+    2,
+    2,
+    2,
+    2,
+    2,
+    2,
+    2,
+    2,
+    2,
+    2,
+    2,
+    2,
+    2,
+    2,
+    2,
+    2,
+    2,
+    2,
+    2,
+    2,
+    2,
+    2,
+    2,
+    2,
+    2,
+    2,
+    2,
+    2,
+    2,
+    3,
+    3,
+    3,
+    3,
+    3,
+    3,
+    3,
+    3,
+    3,
+    3,
+    3,
+    3,
+    3,
+    3,
+    3,
+    3,
+    4,
+    4,
+    4,
+    4,
+    4,
+    0,
+    0,
+    0,
+    0,
+    0,
+    0,
+    0,
+    0,
+    0,
+    0,
+    0,
+];
+
+fn class_of(b: u8) -> u8
+    ensures { λ r. ⌜ r ≡ classOf b ⌝ }
+{
+    CLASS[b as usize]
+}
+
+// The byte at a place, 0 past the end.
+fn byte(s: &[u8], at: usize) -> u8
+    ensures { λ r. ⌜ r ≡ byteAt (now (s .entry)) at ⌝ }
+{
+    if at < s.len() { s[at] } else { 0 }
+}
+
+// The bits of a character so far with the six of a byte that continues it, 0 where it continues none.
+fn join(v: u32, b: u8) -> u32
+    requires { ⌜ v < 0x10000 ⌝ }
+    ensures { λ r. ⌜ (r ≡ joined v b) × (r ≤ v * 64 + 63) ⌝ }
+{
+    if b < 0x80 {
+        return 0;
+    }
+    if b < 0xc0 {
+        v * 64 + (b - 0x80) as u32
+    } else {
+        0
+    }
+}
+
+// Whether a code point from the blank on is a legal character.
+fn legal(v: u32) -> bool
+    requires { ⌜ 0x20 ≤ v ⌝ }
+    ensures { λ r. ⌜ r ≡ xmlChar v ⌝ }
+{
+    if v < 0xd800 {
+        return true;
+    }
+    if v < 0xe000 {
+        return false;
+    }
+    if v < 0xfffe {
+        return true;
+    }
+    if v < 0x10000 {
+        return false;
+    }
+    v < 0x110000
+}
+
+// `k` where the code point is legal and not below the least of `k` bytes.
+fn size(k: usize, least: u32, v: u32) -> usize
+    requires { ⌜ 0x20 ≤ least ⌝ }
+    ensures { λ r. ⌜ r ≡ sized k least v ⌝ }
+{
+    if v < least {
+        return 0;
+    }
+    if legal(v) { k } else { 0 }
+}
+
+// The length of the character that begins at a place with the byte `b` of class 2, 0 where none does.
+fn two(s: &[u8], at: usize, b: u8) -> usize
+    requires { ⌜ Starting (now s) at b 2 ⌝ }
+    ensures { λ r. ⌜ r ≡ charLen (drop at (now (s .entry))) ⌝ }
+{
+    let x = join(b as u32 % 32, byte(s, at + 1));
+    size(2, 0x80, x)
+}
+
+// The same of class 3.
+fn three(s: &[u8], at: usize, b: u8) -> usize
+    requires { ⌜ Starting (now s) at b 3 ⌝ }
+    ensures { λ r. ⌜ r ≡ charLen (drop at (now (s .entry))) ⌝ }
+{
+    let x = join(b as u32 % 16, byte(s, at + 1));
+    let y = join(x, byte(s, at + 2));
+    size(3, 0x800, y)
+}
+
+// The same of class 4.
+fn four(s: &[u8], at: usize, b: u8) -> usize
+    requires { ⌜ Starting (now s) at b 4 ⌝ }
+    ensures { λ r. ⌜ r ≡ charLen (drop at (now (s .entry))) ⌝ }
+{
+    let x = join(b as u32 % 8, byte(s, at + 1));
+    let y = join(x, byte(s, at + 2));
+    let z = join(y, byte(s, at + 3));
+    size(4, 0x10000, z)
+}
+
+// The same of each class `k` but 1.
+fn long(s: &[u8], at: usize, b: u8, k: u8) -> usize
+    requires { ⌜ Starting (now s) at b k ⌝ }
+    requires { ⌜ (k ≡ 1 → ⊥) ⌝ }
+    ensures { λ r. ⌜ r ≡ charLen (drop at (now (s .entry))) ⌝ }
+{
+    if k == 2 {
+        return two(s, at, b);
+    }
+    if k == 3 {
+        return three(s, at, b);
+    }
+    if k == 4 { four(s, at, b) } else { 0 }
+}
+
+// Whether bytes are legal text.
+pub fn is_text(s: &[u8]) -> bool
+    ensures { λ r. ⌜ r ≡ isText (now (s .entry)) ⌝ }
+{
+    let mut at: usize = 0;
+    while at < s.len() {
+        let b = s[at];
+        let k = class_of(b);
+        if k == 1 {
+            at += 1;
+            continue;
+        }
+        let n = long(s, at, b, k);
+        if n == 0 {
+            return false;
+        }
+        at += n;
+    }
+    true
+}
