@@ -1,14 +1,13 @@
--- Laws of one character: its encoding by size, its decoding, and that encodings are a prefix code.
+-- Laws of one character: its encoding by size, its bytes, and that it is read from its encoding.
 use Prim.Native.Nat.{ℕ, _+_, _-_, _*_, _/_, _%_, _<_, _≤_}
-use mathlib.Core.Path.{_≡_, refl, sym, _∙_, ap}
-use mathlib.Core.Bool.{Bool, true, false, cond}
-use mathlib.Core.List.{List, [], _∷_, _++_}
+use mathlib.Core.Path.{_≡_, _∙_}
+use mathlib.Core.Bool.{true}
+use mathlib.Core.List.{[], _∷_, _++_}
 use native.Mathlib.Omega.{arith}
 use lib.Dec.{leb}
-use lib.ListN.{length, drop}
-use lib.Seq.{drop-append-seam}
-use borrow.Author.Tests.{lt-ltb, le-ltb, le-leb, lt-leb}
-use Rattle.base.specs.Bytes.{Bytes, both, either, all}
+use lib.ListN.{length}
+use borrow.Author.Tests.{lt-ltb, le-ltb, le-leb}
+use Rattle.base.specs.Bytes.{Bytes, all}
 use Rattle.base.proofs.Split.{byLt, no}
 use Rattle.base.proofs.Lists.{all-nil, all-cons}
 use Rattle.text.specs.Char.{utf8}
@@ -122,10 +121,3 @@ utf8-high c l =
     (λ a h. rw (utf8-2 c a h) (high 0xc0 _ _ (omega arith) (high 0x80 _ _ l0 z)))
     (λ a h. rw (utf8-3 c a h) (high 0xe0 _ _ (omega arith) (high 0x80 _ _ l0 (high 0x80 _ _ l0 z))))
     (λ a. rw (utf8-4 c a) (high 0xf0 _ _ (omega arith) (high 0x80 _ _ l0 (high 0x80 _ _ l0 (high 0x80 _ _ l0 z)))))
-
--- encodings are a prefix code
-pub utf8-prefix : (a b : ℕ) (r s : Bytes) → utf8 a ++ r ≡ utf8 b ++ s → (a ≡ b) × (r ≡ s)
-utf8-prefix a b r s e = (code, cc (code, drop-append-seam (utf8 a) r, drop-append-seam (utf8 b) s))
-  where
-    code : a ≡ b
-    code = cc (decoded-utf8 a r, decoded-utf8 b s)

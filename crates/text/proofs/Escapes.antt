@@ -1,15 +1,15 @@
 -- Laws of the escapes: the round trips, no breaks, text stays text, and a prefix code where a break ends the field.
-use Prim.Native.Nat.{ℕ, _+_, _*_, _<_, _≤_}
+use Prim.Native.Nat.{ℕ, _*_, _<_, _≤_}
 use mathlib.Core.Path.{_≡_, refl, sym, _∙_, ap}
-use mathlib.Core.Bool.{Bool, true, false, not, cond}
-use mathlib.Core.Option.{Option, none, some, Option·map}
+use mathlib.Core.Bool.{Bool, true, false, not}
+use mathlib.Core.Option.{Option, none, some}
 use mathlib.Core.List.{List, [], _∷_, _++_, append-assoc}
 use native.Mathlib.Omega.{arith}
 use lib.Dec.{leb, eqb}
-use lib.ListN.{length, length-append}
-use borrow.Author.Tests.{eq-eqb, ne-eqb, eqb-true, leb-true}
+use lib.ListN.{length}
+use borrow.Author.Tests.{ne-eqb, eqb-true, leb-true}
 use Rattle.base.specs.Bytes.{Bytes, both, either, all}
-use Rattle.base.proofs.Split.{byBool, byEq, byLt, by-either, no, clash, both-left, both-right, both-of}
+use Rattle.base.proofs.Split.{byBool, byEq, byLt, by-either, no, clash, both-of}
 use Rattle.base.proofs.Lists.{all-nil, all-cons, all-head, all-tail, all-append}
 use Rattle.text.specs.Char.{from-to, xmlChar, utf8}
 use Rattle.text.specs.Text.{encoded}
@@ -104,6 +104,17 @@ unfolding unescapeFrom escape before
 unescape-escape [] = refl
 unescape-escape (b ∷ t) = unescape-escaped b (escape t) ∙ rw (unescape-escape t)
 
+-- a backslash that ends a value is refused, and so is another escape
+pub backslash-last : (t : Bytes) → unescape (escape t ++ (92 ∷ [])) ≡ none
+unfolding unescapeFrom escape before
+backslash-last [] = refl
+backslash-last (b ∷ t) = rw (append-assoc (escaped b) (escape t) (92 ∷ [])) (unescape-escaped b (escape t ++ (92 ∷ [])) ∙ rw (backslash-last t))
+
+pub other-escape : (t : Bytes) (m : ℕ) (r : Bytes) → meaning m ≡ none → unescape (escape t ++ (92 ∷ m ∷ r)) ≡ none
+unfolding unescapeFrom escape before
+other-escape [] m r h = rw h
+other-escape (b ∷ t) m r h = rw (append-assoc (escaped b) (escape t) (92 ∷ m ∷ r)) (unescape-escaped b (escape t ++ (92 ∷ m ∷ r)) ∙ rw (other-escape t m r h))
+
 -- a letter that an escape uses is no break
 unbroken : (m : ℕ) → 92 ≤ m → breaks m ≡ false
 unfolding breaks either
@@ -197,7 +208,7 @@ marked false v = v
 escape-read : (f : Bool) (v t : Bytes) → unescapeFrom f v ≡ some t → all clean v ≡ true → escape t ≡ marked f v
 unfolding unescapeFrom escape marked
 escape-read false [] t e h = let q : t ≡ [] = cc in rw q
-escape-read true [] t e h = none-some e
+escape-read true [] t e h = none-some (sym (backslash-last []) ∙ e)
 escape-read true (b ∷ v) t e h =
     let w = first (meaning b) (unescape v) t e in
     let d = by-meaning b (w .byte) (w .is) in
@@ -280,9 +291,9 @@ module _ (c : ℕ) (r : Bytes) (x : xmlChar c ≡ true) (ih : (f : Bool) (t : By
   unescape-high false t a e = let w = read-high (utf8 c) r t (utf8-high c a) e in rw (w .whole) (text-char c (w .rest) x ∙ ih false (w .rest) (w .then))
 
 unescape-chars : (cs : List ℕ) → all xmlChar cs ≡ true → (f : Bool) (t : Bytes) → unescapeFrom f (encoded cs) ≡ some t → isText t ≡ true
-unfolding encoded unescapeFrom
+unfolding encoded unescapeFrom escape
 unescape-chars [] h false t e = let q : t ≡ [] = cc in rw q text-nil
-unescape-chars [] h true t e = none-some e
+unescape-chars [] h true t e = none-some (sym (backslash-last []) ∙ e)
 unescape-chars (c ∷ cs) h f t e =
     let x = all-head xmlChar c cs h in
     let k = unescape-chars cs (all-tail xmlChar c cs h) in

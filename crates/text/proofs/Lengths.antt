@@ -1,17 +1,17 @@
 -- The length of the character that a run begins with: it is one of an encoding, and the code finds it class by class.
-use Prim.Native.Nat.{ℕ, zero, suc, _+_, _-_, _*_, _/_, _%_, _<_, _≤_}
-use mathlib.Core.Path.{_≡_, refl, sym, _∙_, ap}
-use mathlib.Core.Bool.{Bool, true, false, cond}
-use mathlib.Core.List.{List, [], _∷_, _++_}
+use Prim.Native.Nat.{ℕ, _+_, _-_, _/_, _%_, _<_, _≤_}
+use mathlib.Core.Path.{_≡_, refl, _∙_, ap}
+use mathlib.Core.Bool.{true, false, cond}
+use mathlib.Core.List.{[], _∷_, _++_}
 use native.Mathlib.Omega.{arith}
 use lib.ListN.{length, take, drop, take-append-drop, length-append, List·getD-eq-default, List·getD-append}
 use lib.Seq.{take-append-seam, drop-cons}
-use borrow.Author.Tests.{lt-ltb, le-ltb, le-leb, lt-leb}
-use Rattle.base.specs.Bytes.{Bytes, both, same}
-use Rattle.base.proofs.Split.{byLt, byBool, no, clash, both-left, both-right, both-of, both-no-right}
+use borrow.Author.Tests.{le-leb, lt-leb}
+use Rattle.base.specs.Bytes.{Bytes, both}
+use Rattle.base.proofs.Split.{byLt, byBool, no, both-left, both-right, both-no-right}
 use Rattle.base.proofs.Lists.{same-yes, same-refl}
 use Rattle.text.specs.Char.{xmlChar, utf8}
-use Rattle.text.specs.Check.{byteAt, joined, decoded, begins, charLen, sized, classOf}
+use Rattle.text.specs.Check.{byteAt, joined, decoded, begins, charLen, sized}
 use Rattle.text.proofs.Xml.{none-above}
 use Rattle.text.proofs.Chars.{utf8-2, utf8-3, utf8-4, utf8-some, first-1, first-2, first-3, tail-of, point-2, point-3, point-4, decoded-utf8}
 

@@ -1,24 +1,32 @@
--- Laws of texts for the layers above: joining, cutting at an ASCII byte, plain bytes, single characters.
-use Prim.Native.Nat.{ℕ, suc, _+_, _/_, _%_, _<_, _≤_}
+-- Laws of texts for the layers above: single characters, plain bytes, joining, cutting at an ASCII byte.
+use Prim.Native.Nat.{ℕ, suc, _<_, _≤_}
 use mathlib.Core.Path.{_≡_, refl, sym, _∙_, ap}
-use mathlib.Core.Bool.{Bool, true, false}
+use mathlib.Core.Bool.{Bool, true}
 use mathlib.Core.List.{List, [], _∷_, _++_, append-assoc}
 use native.Mathlib.Omega.{arith}
 use lib.Dec.{leb}
 use lib.ListN.{length, take, drop, length-append}
 use lib.Seq.{drop-append-seam, split-at}
-use borrow.Author.Tests.{lt-ltb, ltb-true, le-leb, leb-true}
-use Rattle.base.specs.Bytes.{Bytes, both, all}
-use Rattle.base.proofs.Split.{byBool, byLt, no, clash, both-left, both-right, both-of, same-test}
+use borrow.Author.Tests.{lt-ltb, ltb-true, leb-true}
+use Rattle.base.specs.Bytes.{Bytes, both, all, isDigit}
+use Rattle.base.proofs.Split.{byBool, byLt, no, both-left, both-right, both-of, same-test}
 use Rattle.base.proofs.Lists.{all-nil, all-cons, all-head, all-tail, all-append}
 use Rattle.text.specs.Char.{xmlChar, utf8}
-use Rattle.text.specs.Text.{encoded, Text}
-use Rattle.text.specs.Check.{byteAt, charLen, isText, plain}
+use Rattle.text.specs.Text.{encoded}
+use Rattle.text.specs.Check.{byteAt, isText, plain}
 use Rattle.text.proofs.Xml.{legal-low}
-use Rattle.text.proofs.Chars.{utf8-1, utf8-high, utf8-some, point-1}
+use Rattle.text.proofs.Chars.{utf8-1, utf8-high, utf8-some, point-1, decoded-utf8}
 use Rattle.text.proofs.Lengths.{char-len, len-illegal}
 use Rattle.text.proofs.Theorem.{text-nil, goes, stops, sound, complete}
 
+-- encodings are a prefix code
+pub utf8-prefix : (a b : ℕ) (r s : Bytes) → utf8 a ++ r ≡ utf8 b ++ s → (a ≡ b) × (r ≡ s)
+utf8-prefix a b r s e = (code, cc (code, drop-append-seam (utf8 a) r, drop-append-seam (utf8 b) s))
+  where
+    code : a ≡ b
+    code = cc (decoded-utf8 a r, decoded-utf8 b s)
+
+-- a test that implies another, over a list
 pub all-imp : {A : Type 0} (p q : A → Bool) → ((x : A) → p x ≡ true → q x ≡ true) → (xs : List A) → all p xs ≡ true → all q xs ≡ true
 all-imp p q f [] h = all-nil q
 all-imp p q f (x ∷ xs) h = all-cons q x xs (f x (all-head p x xs h)) (all-imp p q f xs (all-tail p x xs h))
@@ -65,7 +73,15 @@ pub plain-of : (b : ℕ) → 0x20 ≤ b → b < 0x80 → plain b ≡ true
 unfolding plain
 plain-of b l h = both-of (lt-ltb b 0x80 h) (legal-low b l (omega arith))
 
--- where the runs that two parts make are the same, and the first part ends in no ASCII byte, it lies before the byte b
+-- a run of decimal digits is text
+pub text-digits : (s : Bytes) → all isDigit s ≡ true → isText s ≡ true
+unfolding isDigit
+text-digits s h =
+    text-plain s
+    (all-imp isDigit plain
+    (λ b d. plain-of b (omega (arith, leb-true 48 b (both-left _ _ d))) (omega (arith, leb-true b 57 (both-right _ _ d)))) s h)
+
+-- p has no ASCII byte: where `p ++ r` is `s ++ (b ∷ t)` with an ASCII byte b, all of p lies in s
 record Before (p r s t : Bytes) (b : ℕ) : Type 0 where
   rest : Bytes
   front : s ≡ p ++ rest

@@ -1,14 +1,14 @@
--- The test passes exactly the texts.
+-- The text check takes exactly the texts: the encodings of XML 1.0's characters.
 use Prim.Native.Nat.{ℕ, zero, suc, _+_, _-_, _<_, _≤_}
 use mathlib.Core.Path.{_≡_, refl, sym, _∙_, ap}
-use mathlib.Core.Bool.{Bool, true, false}
+use mathlib.Core.Bool.{true, false}
 use mathlib.Core.List.{List, [], _∷_, _++_}
 use native.Mathlib.Omega.{arith}
 use lib.ListN.{length, drop, length-drop, drop-of-length-le}
 use lib.Seq.{drop-append-seam, drop-nil, drop-drop}
-use borrow.Author.Tests.{lt-ltb, le-ltb, ltb-true}
+use borrow.Author.Tests.{lt-ltb, ltb-true}
 use Rattle.base.specs.Bytes.{Bytes, both, all}
-use Rattle.base.proofs.Split.{byLt, no, clash, both-left, both-right, both-of}
+use Rattle.base.proofs.Split.{no, both-left, both-right}
 use Rattle.base.proofs.Lists.{all-nil, all-cons, all-head, all-tail}
 use Rattle.text.specs.Char.{xmlChar, utf8}
 use Rattle.text.specs.Text.{encoded, Text}
@@ -20,6 +20,7 @@ pub text-nil : isText [] ≡ true
 unfolding isText textAfter
 text-nil = refl
 
+-- to skip bytes is to drop them
 after : (n : ℕ) (s : Bytes) → textAfter n s ≡ isText (drop n s)
 unfolding textAfter isText
 after n [] = rw (drop-nil n)
@@ -57,6 +58,7 @@ sound-after zero (b ∷ s) h =
     more (w .c) (b ∷ s) (drop (charLen (b ∷ s)) (b ∷ s)) (w .legal) (w .here)
     (rw (rest (charLen (b ∷ s)) b s l) at (sound-after (charLen (b ∷ s) - 1) s (both-right _ _ h)))
 
+-- what the check takes is text
 pub sound : (s : Bytes) → isText s ≡ true → Text s
 unfolding isText
 sound s h = sound-after 0 s h
@@ -69,9 +71,11 @@ complete-chars (c ∷ cs) h =
     goes (utf8 c ++ encoded cs) (omega (arith, utf8-some c))
     ∙ rw (e, drop-append-seam (utf8 c) (encoded cs)) (complete-chars cs (all-tail xmlChar c cs h))
 
+-- the check takes every text
 pub complete : (s : Bytes) → Text s → isText s ≡ true
 complete s t = rw (t .same) (complete-chars (t .chars) (t .legal))
 
+-- past the end
 pub turn-ends : (s : Bytes) (at : ℕ) → length s ≤ at → isText (drop at s) ≡ true
 turn-ends s at h = rw (drop-of-length-le s h) text-nil
 

@@ -1,9 +1,9 @@
 -- The text check as a test, and the rule of its table of classes.
 use Prim.Native.Nat.{ℕ, zero, suc, _+_, _-_, _*_, _<_}
 use mathlib.Core.Path.{_≡_}
-use mathlib.Core.Bool.{Bool, true, false, cond}
-use mathlib.Core.List.{List, [], _∷_}
-use lib.Dec.{ltb, leb, eqb}
+use mathlib.Core.Bool.{Bool, true, cond}
+use mathlib.Core.List.{[], _∷_}
+use lib.Dec.{ltb, leb}
 use lib.ListN.{length, getD, take}
 use Rattle.base.specs.Bytes.{Bytes, both, same}
 use Rattle.text.specs.Char.{from-to, xmlChar, utf8}
@@ -53,16 +53,18 @@ textAfter zero (b ∷ s) = both (ltb 0 (charLen (b ∷ s))) (textAfter (charLen 
 unfoldable pub isText : Bytes → Bool
 isText s = textAfter 0 s
 
--- k where the code point is legal and not below the least of k bytes, else 0: no longer form than needed is well-formed
+-- an ASCII character of XML 1.0
+unfoldable pub plain : ℕ → Bool
+plain b = both (ltb b 0x80) (xmlChar b)
+
+-- What the contracts of the private functions cite.
+
+-- k where a code point is legal and not below the least of k bytes, else 0
 unfoldable pub sized : ℕ → ℕ → ℕ → ℕ
 sized k least v = cond (both (leb least v) (xmlChar v)) k 0
 
--- the byte b of class k stands at a place
+-- the byte b, of class k, stands at a place
 pub record Starting (s : Bytes) (at b k : ℕ) : Type 0 where
   pub inside : at < length s
   pub byte : b ≡ byteAt s at
   pub class : k ≡ classOf b
-
--- an ASCII character of XML 1.0
-unfoldable pub plain : ℕ → Bool
-plain b = both (ltb b 0x80) (xmlChar b)

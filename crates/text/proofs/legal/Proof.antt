@@ -1,28 +1,22 @@
+-- `text::legal` meets its contract: XML 1.0's ranges, one answer for each.
 use mathlib.Core.Path.{sym}
 use native.Mathlib.Omega.{arith}
 use Rattle.text.proofs.Xml.{legal-low, no-surrogate, legal-middle, no-fffe, legal-rest}
 use Rattle.text.proofs.legal.Statement.{statement}
 use Rattle.text.proofs.legal.Tie as tie
-use Rattle.text.proofs.legal.Reads as reads
-use Rattle.text.proofs.legal.Lts as lts
 
--- src/lib.rt:62:9
 returns : tie.Need-returns
 returns c = sym (legal-low _ (omega arith) (omega arith))
 
--- src/lib.rt:65:9
 returns-2 : tie.Need-returns-2
 returns-2 c = sym (no-surrogate _ (omega arith) (omega arith))
 
--- src/lib.rt:68:9
 returns-3 : tie.Need-returns-3
 returns-3 c = sym (legal-middle _ (omega arith) (omega arith))
 
--- src/lib.rt:71:9
 returns-4 : tie.Need-returns-4
 returns-4 c = sym (no-fffe _ (omega arith) (omega arith))
 
--- src/lib.rt:57:1
 returns-5 : tie.Need-returns-5
 returns-5 c = sym (legal-rest _ (c .if4 .left))
 

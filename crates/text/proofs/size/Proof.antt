@@ -1,26 +1,19 @@
+-- `text::size` meets its contract.
 use mathlib.Core.Path.{sym, _∙_}
-use native.Mathlib.Omega.{arith}
 use borrow.Author.Needs.{needs}
 use Rattle.text.proofs.Lengths.{sized-low, sized-is}
 use Rattle.text.proofs.size.Statement.{statement}
 use Rattle.text.proofs.size.Tie as tie
-use Rattle.text.proofs.size.Reads as reads
-use Rattle.text.proofs.size.Lts as lts
-use Rattle.text.proofs.legal.Reads as legal-reads
 
--- src/lib.rt:82:9
 returns : tie.Need-returns
 returns c = sym (sized-low _ _ _ (c .if1 .taken))
 
--- src/lib.rt:84:8
 legal-requires : tie.Need-legal-requires
 legal-requires c κs = search needs
 
--- src/lib.rt:77:1
 returns-2 : tie.Need-returns-2
 returns-2 c = sym (sized-is _ _ _ (c .before .before .if1 .left) ∙ rw (← c .before .legal .ensures, c .if2 .taken))
 
--- src/lib.rt:77:1
 returns-3 : tie.Need-returns-3
 returns-3 c = sym (sized-is _ _ _ (c .before .before .if1 .left) ∙ rw (← c .before .legal .ensures, c .if2 .left))
 
