@@ -1,0 +1,82 @@
+//! How fast the library's ground layers run beside Rust's own functions, in one run: nanoseconds a call, the least of nine rounds,
+//! and the ratio. Both sides are called through a trait object, so that neither is inlined into the loop.
+
+use compare::Library;
+use judge::compare::ground::Ground;
+use std::hint::black_box;
+use std::time::Instant;
+
+const ROUNDS: usize = 9;
+
+/// The least time of a call over the rounds, in nanoseconds.
+fn least(calls: usize, mut work: impl FnMut()) -> f64 {
+    let mut best = f64::INFINITY;
+    for _ in 0..ROUNDS {
+        let start = Instant::now();
+        work();
+        best = best.min(start.elapsed().as_secs_f64() * 1e9 / calls as f64);
+    }
+    best
+}
+
+fn row(name: &str, calls: usize, port: impl FnMut(), rust: impl FnMut()) {
+    let (p, r) = (least(calls, port), least(calls, rust));
+    println!("{name}\t{p:.1} ns\t{r:.1} ns\t{:.2}", p / r);
+}
+
+/// One loop for each side over the same inputs; every answer is used.
+fn over<A>(inputs: &[A], f: &dyn Fn(&A) -> u64) {
+    let mut sum = 0u64;
+    for a in inputs {
+        sum = sum.wrapping_add(f(black_box(a)));
+    }
+    black_box(sum);
+}
+
+fn parse<T: std::str::FromStr + Into<i64>>(s: &[u8]) -> u64 {
+    std::str::from_utf8(s)
+        .ok()
+        .and_then(|t| t.parse::<T>().ok())
+        .map_or(0, |n| n.into().cast_unsigned())
+}
+
+fn main() {
+    println!("what\tport\tRust\tratio");
+    let numbers: Vec<Vec<u8>> = (0..100_000u64)
+        .map(|i| {
+            i.wrapping_mul(0x9e37_79b9_7f4a_7c15)
+                .cast_signed()
+                .to_string()
+                .into_bytes()
+        })
+        .collect();
+    row(
+        "i64, up to 20 bytes",
+        numbers.len(),
+        || over(&numbers, &|s| Library.read_i64(s).1.cast_unsigned()),
+        || over(&numbers, &|s| parse::<i64>(s)),
+    );
+    let small: Vec<Vec<u8>> = (0..100_000i32)
+        .map(|i| (i - 50_000).to_string().into_bytes())
+        .collect();
+    row(
+        "i32, up to 6 bytes",
+        small.len(),
+        || over(&small, &|s| Library.read_i32(s).1.cast_unsigned()),
+        || over(&small, &|s| parse::<i32>(s)),
+    );
+    for (name, sample) in [
+        ("text, 64 KiB of ASCII", "road name 1 ".repeat(5_462)),
+        ("text, 64 KiB half Cyrillic", "road дорога ".repeat(3_641)),
+        ("text, 12 bytes", "road name 1 ".to_string()),
+    ] {
+        let copies = if sample.len() < 100 { 100_000 } else { 50 };
+        let texts: Vec<Vec<u8>> = vec![sample.into_bytes(); copies];
+        row(
+            name,
+            copies,
+            || over(&texts, &|s| u64::from(Library.is_text(s))),
+            || over(&texts, &|s| u64::from(std::str::from_utf8(s).is_ok())),
+        );
+    }
+}
