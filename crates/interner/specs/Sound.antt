@@ -1,0 +1,73 @@
+-- Document 01, "Sound", of the strings: "counts within lent sizes; string spans within the used bytes, legal text, no two texts equal,
+-- handle 0 empty".
+use Prim.Native.Nat.{ℕ, zero, suc, _*_}
+use mathlib.Core.Bool.{Bool, true, false, not}
+use mathlib.Core.List.{List, [], _∷_, map}
+use lib.Dec.{leb}
+use lib.ListN.{length}
+use Rattle.base.specs.Bytes.{Bytes, both, all, same}
+use Rattle.text.specs.Check.{isText}
+use Rattle.little.specs.Little.{over}
+use Rattle.interner.specs.declared.Found.{Found}
+use Rattle.interner.specs.declared.Found.the-variants.{At, Not}
+use Rattle.interner.specs.Strings.{spanned, bytesAt, findIn, Store, lent, usedOf}
+
+-- n handles from h on
+unfoldable pub handles : ℕ → ℕ → List ℕ
+handles zero h = []
+handles (suc n) h = h ∷ handles n (suc h)
+
+-- the strings of the first n handles
+unfoldable pub textsIn : List ℕ → Bytes → ℕ → List Bytes
+textsIn spans bytes n = map (bytesAt spans bytes) (handles n 0)
+
+-- the held texts, by handle
+abbrev pub textsOf : Store → List Bytes
+textsOf s = textsIn (s .spans) (usedOf s) (s .strings)
+
+-- "counts within lent sizes"
+unfoldable pub counted : Store → Bool
+counted s = both (leb (2 * (s .strings)) (length (s .spans))) (leb (s .used) (length (s .bytes)))
+
+-- "string spans within the used bytes"
+unfoldable pub within : List ℕ → Bytes → ℕ → Bool
+within spans bytes n = all (spanned spans bytes) (handles n 0)
+
+unfoldable pub differs : Bytes → Bytes → Bool
+differs t u = not (same t u)
+
+-- "no two texts equal"
+unfoldable pub distinct : List Bytes → Bool
+distinct [] = true
+distinct (t ∷ ts) = both (all (differs t) ts) (distinct ts)
+
+-- "string spans within the used bytes, legal text, no two texts equal", of the first n handles
+unfoldable pub soundUpTo : List ℕ → Bytes → ℕ → Bool
+soundUpTo spans bytes n =
+    both (within spans bytes n) (both (all isText (textsIn spans bytes n)) (distinct (textsIn spans bytes n)))
+
+-- "handle 0 empty"
+unfoldable pub firstEmpty : List Bytes → Bool
+firstEmpty [] = false
+firstEmpty (t ∷ ts) = same t []
+
+unfoldable pub soundStrings : Store → Bool
+soundStrings s = both (counted s) (both (soundUpTo (s .spans) (usedOf s) (s .strings)) (firstEmpty (textsOf s)))
+
+-- the strings of an empty overlay: handle 0 alone
+abbrev pub freshSpans : List ℕ → List ℕ
+freshSpans spans = over spans 0 (0 ∷ 0 ∷ [])
+
+abbrev pub fresh : List ℕ → Bytes → Store
+fresh spans bytes = lent (freshSpans spans) bytes 1 0
+
+-- ---- as the check goes: handle by handle
+
+abbrev pub isNot : Found → Bool
+isNot Not = true
+isNot (At h) = false
+
+-- the string of a handle lies within the bytes, is legal text, and no handle before it has an equal one
+unfoldable pub newAt : List ℕ → Bytes → ℕ → Bool
+newAt spans bytes h =
+    both (spanned spans bytes h) (both (isText (bytesAt spans bytes h)) (isNot (findIn spans bytes h (bytesAt spans bytes h))))

@@ -1,0 +1,2 @@
+pub mod Littles
+pub mod Overs
