@@ -9,16 +9,22 @@ use crate::compare::ground::{
 };
 use crate::random::Random;
 
-/// Lines in order, each once.
+/// A line: what is asked, and what the judge answers.
+struct Line {
+    question: String,
+    answer: String,
+}
+
+/// Lines in order, each question once.
 struct List {
-    lines: Vec<String>,
+    lines: Vec<Line>,
     seen: HashSet<String>,
 }
 
 impl List {
-    fn add(&mut self, line: String) {
-        if self.seen.insert(line.clone()) {
-            self.lines.push(line);
+    fn add(&mut self, question: String, answer: String) {
+        if self.seen.insert(question.clone()) {
+            self.lines.push(Line { question, answer });
         }
     }
 
@@ -35,20 +41,31 @@ impl List {
             ("i64", Judge.read_i64(bytes)),
             ("i32", Judge.read_i32(bytes)),
         ] {
-            self.add(format!("{name}\t{text}\t{number}\t{value}"));
+            self.add(format!("{name}\t{text}"), format!("{number}\t{value}"));
         }
     }
 
     fn stamp(&mut self, bytes: &[u8]) {
         if let Some(text) = Self::field(bytes) {
             let (number, value) = Judge.stamp(bytes);
-            self.add(format!("stamp\t{text}\t{number}\t{value}"));
+            self.add(format!("stamp\t{text}"), format!("{number}\t{value}"));
         }
     }
 }
 
 /// The whole list; README.md says which lines there are.
 pub fn fixed_list() -> String {
+    let shown = |line: &Line| format!("{}\t{}\n", line.question, line.answer);
+    list().lines.iter().map(shown).collect()
+}
+
+/// The same lines without their answers.
+pub fn fixed_questions() -> String {
+    let shown = |line: &Line| format!("{}\n", line.question);
+    list().lines.iter().map(shown).collect()
+}
+
+fn list() -> List {
     let mut list = List {
         lines: Vec::new(),
         seen: HashSet::new(),
@@ -62,15 +79,15 @@ pub fn fixed_list() -> String {
         .chain([0, 1, -1, i64::MIN, i64::MAX])
     {
         let (class, magnitude) = Judge.osm_id_key(id);
-        list.add(format!("key\t{id}\t{class}\t{magnitude}"));
+        list.add(format!("key\t{id}"), format!("{class}\t{magnitude}"));
     }
     for _ in 0..200 {
         let (a, b) = (*random.pick(&ids), *random.pick(&ids));
-        list.add(format!("cmp\t{a}\t{b}\t{}", Judge.osm_id_cmp(a, b)));
+        list.add(format!("cmp\t{a}\t{b}"), Judge.osm_id_cmp(a, b).to_string());
         let (class, magnitude) = Judge.blob_osm_first_key(a, b);
-        list.add(format!("first\t{a}\t{b}\t{class}\t{magnitude}"));
+        list.add(format!("first\t{a}\t{b}"), format!("{class}\t{magnitude}"));
         let (class, magnitude) = Judge.blob_osm_last_key(a, b);
-        list.add(format!("last\t{a}\t{b}\t{class}\t{magnitude}"));
+        list.add(format!("last\t{a}\t{b}"), format!("{class}\t{magnitude}"));
     }
     let shown = |word: u64| version(word).map_or_else(|| "?".to_owned(), |v| v.to_string());
     let versions: Vec<u64> = {
@@ -85,9 +102,9 @@ pub fn fixed_list() -> String {
         for &claim in &versions {
             let (number, held) = Judge.version_admit(floor, claim);
             let (f, c) = (shown(floor), shown(claim));
-            list.add(format!("admit\t{f}\t{c}\t{number}\t{held}"));
+            list.add(format!("admit\t{f}\t{c}"), format!("{number}\t{held}"));
             let raised = shown(Judge.version_raise(floor, claim));
-            list.add(format!("raise\t{f}\t{c}\t{raised}"));
+            list.add(format!("raise\t{f}\t{c}"), raised);
         }
     }
     for text in [
@@ -148,7 +165,7 @@ pub fn fixed_list() -> String {
     }
     for bytes in text_vectors() {
         let hex: String = bytes.iter().map(|b| format!("{b:02x}")).collect();
-        list.add(format!("text\t{hex}\t{}", Judge.is_text(&bytes)));
+        list.add(format!("text\t{hex}"), Judge.is_text(&bytes).to_string());
     }
-    list.lines.iter().map(|line| format!("{line}\n")).collect()
+    list
 }

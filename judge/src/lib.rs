@@ -13,7 +13,7 @@ pub use quick_xml::lines;
 
 pub use answer::*;
 pub use commands::parse_rfc3339_utc;
-pub use fixed_list::fixed_list;
+pub use fixed_list::{fixed_list, fixed_questions};
 
 pub mod compare;
 pub mod produce;

@@ -53,12 +53,31 @@ fn list_reads_back() {
     assert_eq!(list, judge::fixed_list(), "the same bytes again");
 }
 
-/// Where the project holds the list for its replay, it is this list.
+/// Every question is its line up to the answer.
+#[test]
+fn questions_are_the_lines_without_answers() {
+    let (list, questions) = (judge::fixed_list(), judge::fixed_questions());
+    assert_eq!(list.lines().count(), questions.lines().count());
+    for (line, question) in list.lines().zip(questions.lines()) {
+        let fields: Vec<&str> = line.split('\t').collect();
+        let given = match fields[0] {
+            "cmp" | "first" | "last" | "admit" | "raise" => 2,
+            _ => 1,
+        };
+        assert_eq!(fields[..=given].join("\t"), question);
+    }
+}
+
+/// Where the project holds the list for its replay, it is this list: the questions are what the program reads, the list what it must write.
 #[test]
 fn kept_list_is_this_list() {
-    let kept = std::path::Path::new(env!("CARGO_MANIFEST_DIR")).join("../crates/replay/stdin");
-    match std::fs::read_to_string(kept) {
-        Ok(text) => assert!(text == judge::fixed_list(), "made anew it differs"),
-        Err(e) => assert_eq!(e.kind(), std::io::ErrorKind::NotFound),
+    let folder = std::path::Path::new(env!("CARGO_MANIFEST_DIR")).join("../crates/replay");
+    let made = [
+        ("stdin", judge::fixed_questions()),
+        ("stdout", judge::fixed_list()),
+    ];
+    for (name, text) in made {
+        let kept = std::fs::read_to_string(folder.join(name)).expect(name);
+        assert!(kept == text, "{name}: made anew it differs");
     }
 }

@@ -1,0 +1,81 @@
+-- What a writer leaves: for the writers here, byte by byte; for their callers, by its answer.
+use Prim.Native.Nat.{ℕ, zero, suc, _+_, _-_, _/_, _%_, _^_, _<_, _≤_}
+use mathlib.Core.Path.{_≡_, refl, sym, _∙_, ap}
+use mathlib.Core.List.{[], _∷_, _++_}
+use native.Mathlib.Nat.{suc-add, zero-add}
+use native.Mathlib.Omega.{arith}
+use lib.IntN.{negsuc}
+use lib.ListN.{length, set}
+use mir.Syntax.{Width}
+use mir.Val.{toZ, bits, hbits}
+use mir.Facts.{toZ-pos}
+use borrow.Author.Tests.{le-leb, lt-leb, le-ltb}
+use Rattle.base.specs.Bytes.{Bytes}
+use Rattle.base.proofs.Split.{byLe, no}
+use Rattle.line.specs.Decimal.{numberText, integerText}
+use Rattle.little.specs.Little.{over}
+use Rattle.little.proofs.Overs.{over-here, over-later, over-nothing}
+use Rattle.decimal.specs.Put.{Wrote, put}
+use Rattle.decimal.specs.declared.Written.the-variants.{End, Full}
+use Rattle.decimal.proofs.Numbers.{lowDigits, low-more, length-low}
+
+-- ---- digits from the last to the first
+
+-- the last byte stored, and then those before it
+over-last : (s : Bytes) (at : ℕ) (t : Bytes) (b : ℕ) → at + length t < length s → over (set s (at + length t) b) at t ≡ over s at (t ++ (b ∷ []))
+over-last [] at t b h = absurd (omega arith)
+over-last (x ∷ s) zero [] b h = simp (over-nothing, over-here)
+over-last (x ∷ s) zero (d ∷ t) b h = simp (zero-add, over-here) (ap (d ∷_) (rw zero-add at (over-last s 0 t b (omega arith))))
+over-last (x ∷ s) (suc at) t b h = rw (suc-add, over-later, over-later) (ap (x ∷_) (over-last s at t b (omega arith)))
+
+-- the last of the low digits that are still to be written is stored
+pub digit-stored : (s : Bytes) (at k n : ℕ) → at + k < length s → over (set s (at + k) (48 + n % 10)) at (lowDigits k (n / 10)) ≡ over s at (lowDigits (suc k) n)
+digit-stored s at k n h =
+    let l = length-low k (n / 10) in
+    let e = over-last s at (lowDigits k (n / 10)) (48 + n % 10) (rw l h) in
+    rw low-more (rw l at e)
+
+-- ---- what is written, whole or not at all
+
+module _ (s t : Bytes) where
+  pub put-whole : length t ≤ length s → put s t ≡ record { bytes = over s 0 t; answer = End (length t) }
+  unfolding put
+  put-whole h = rw (le-leb (length t) (length s) h)
+
+  pub put-nothing : length s < length t → put s t ≡ record { bytes = s; answer = Full }
+  unfolding put
+  put-nothing h = rw (lt-leb (length t) (length s) h)
+
+  -- of a writer that left the bytes `left`
+  module _ (left : Bytes) where
+    pub whole : (n : ℕ) → n ≤ length s → n ≡ length t → left ≡ over s 0 t → _≡_ {A = Wrote} (record { bytes = left; answer = End n }) (put s t)
+    whole n h e f = rw (put-whole (rw e at h)) (cc)
+
+    -- what its answer says
+    pub at-end : (n : ℕ) → _≡_ {A = Wrote} (record { bytes = left; answer = End n }) (put s t) → (n ≤ length s) × ((n ≡ length t) × (left ≡ over s 0 t))
+    at-end n e =
+        byLe (length t) (length s)
+        (λ h. let q : End n ≡ End (length t) = ap (λ (w : Wrote). w .answer) (e ∙ put-whole h) in
+        let m : n ≡ length t = cc in
+        (omega arith, (m, ap (λ (w : Wrote). w .bytes) (e ∙ put-whole h))))
+        (λ h. let q : End n ≡ Full = ap (λ (w : Wrote). w .answer) (e ∙ put-nothing h) in no (cc))
+
+    pub at-full : _≡_ {A = Wrote} (record { bytes = left; answer = Full }) (put s t) → (length s < length t) × (left ≡ s)
+    at-full e =
+        byLe (length t) (length s)
+        (λ h. let q : Full ≡ End (length t) = ap (λ (w : Wrote). w .answer) (e ∙ put-whole h) in no (cc))
+        (λ h. (h, ap (λ (w : Wrote). w .bytes) (e ∙ put-nothing h)))
+
+-- ---- integers by their bits, at any width
+
+module _ (w : Width) where
+  pub not-negative : (b : ℕ) → b < 2 ^ hbits w → integerText (toZ w b) ≡ numberText b
+  unfolding integerText
+  not-negative b h = ap integerText (toZ-pos w h)
+
+  pub negative : (b : ℕ) → 2 ^ hbits w ≤ b → b < 2 ^ bits w → integerText (toZ w b) ≡ 45 ∷ numberText (2 ^ bits w - 1 - b + 1)
+  unfolding integerText
+  negative b h g =
+      let z : toZ w b ≡ negsuc (2 ^ bits w - suc b) = rw (le-ltb b (2 ^ hbits w) h) in
+      let m : suc (2 ^ bits w - suc b) ≡ 2 ^ bits w - 1 - b + 1 = omega arith in
+      ap integerText z ∙ ap (λ x. 45 ∷ numberText x) m

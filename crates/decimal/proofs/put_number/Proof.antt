@@ -1,0 +1,33 @@
+-- `put_number` writes the digits of a number where they fit.
+use mathlib.Core.Path.{sym}
+use native.Mathlib.Omega.{arith}
+use denote.Ref.{now}
+use Rattle.line.specs.Decimal.{numberText}
+use Rattle.decimal.proofs.Puts.{whole, put-nothing}
+use borrow.Author.Needs.{needs}
+use Rattle.decimal.proofs.put_number.Statement.{statement}
+use Rattle.decimal.proofs.put_number.Tie as tie
+
+number-length-requires : tie.Need-number-length-requires
+number-length-requires c κs = search needs
+
+put-digits-requires : tie.Need-put-digits-requires
+put-digits-requires c κs = search needs
+
+same-length : tie.Need-same-length
+same-length c = search needs
+
+returns : tie.Need-returns
+returns c =
+    let a = c .before .before .before .before .before .before .before .args in
+    let n = c .before .before .before .before .before .number-length in
+    whole (now (a .out)) (numberText (a .v)) _ (n .result) (search needs) (n .ensures) (c .before .before .put-digits .ensures)
+
+returns-2 : tie.Need-returns-2
+returns-2 c =
+    let a = c .before .before .before .args in
+    sym (put-nothing (now (a .out)) (numberText (a .v)) (omega arith))
+
+pub put-number-spec : {M : Type 1} → statement M
+put-number-spec =
+    tie.close (tie.spec number-length-requires put-digits-requires same-length returns returns-2)
