@@ -1,0 +1,10 @@
+pub mod Fields
+pub mod Metadata
+pub mod Refusals
+pub mod Turns
+pub mod Staging
+pub mod Elements
+pub mod Changes
+pub mod Taken
+pub mod Calls
+pub mod Examples

@@ -1,0 +1,4 @@
+pub mod Field
+pub mod Turn
+pub mod Sane
+pub mod Call
