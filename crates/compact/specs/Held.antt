@@ -9,6 +9,9 @@ use Rattle.kind.specs.declared.Named.{Named}
 use Rattle.kind.specs.declared.Named.the-variants.{Is, Unknown}
 use Rattle.model.specs.Record.{Meta, Member}
 use Rattle.compact.specs.declared.ArenaMeta.{ArenaMeta}
+use Rattle.kind.specs.declared.Kind.{Kind}
+use Rattle.kind.specs.declared.Kind.the-variants.{Node, Way, Relation}
+use Rattle.compact.specs.declared.PushHead.{PushHead}
 use Rattle.compact.specs.declared.CompactNode.{CompactNode}
 use Rattle.compact.specs.declared.CompactWay.{CompactWay}
 use Rattle.compact.specs.declared.CompactRelation.{CompactRelation}
@@ -46,3 +49,9 @@ named ref Unknown role = none
 -- a member, or none where its type byte names no kind
 unfoldable pub memberOf : CompactMember → Option (Member ℕ)
 memberOf m = named (toZ w64 (m .reference)) (ofNumber (m .kind)) (m .role)
+
+-- the head that a direct push gives: a node has a place and no count, a way and a relation a count and no place
+unfoldable pub headIn : Kind → PushHead → Head
+headIn Node h = nodeHead (record { id = h .id; lat = h .lat; lon = h .lon; «tag_count» = h .tags })
+headIn Way h = countsHead (h .id) (h .count) (h .tags)
+headIn Relation h = countsHead (h .id) (h .count) (h .tags)

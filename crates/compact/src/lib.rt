@@ -40,6 +40,15 @@ pub struct CompactRelation {
     pub tag_count: u32,
 }
 
+// A record's head as a direct push gives it, in bits. A node's count is not looked at, nor a way's or a relation's place.
+pub struct PushHead {
+    pub id: u64,
+    pub lat: u32,
+    pub lon: u32,
+    pub count: u32,
+    pub tags: u32,
+}
+
 pub struct CompactMember {
     pub reference: u64,
     pub kind: u8,

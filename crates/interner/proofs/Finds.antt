@@ -90,3 +90,7 @@ module _ (spans : List ℕ) (bytes : Bytes) where
     pub find-past : (n h : ℕ) → length spans < 2 * h + 2 → findFrom spans bytes t n h ≡ Not
     find-past zero h p = find-none h
     find-past (suc n) h p = find-on n h (at-missing t h (sym (missing h (no-words h p)))) ∙ find-past n (suc h) (omega arith)
+
+    pub find-nowhere : (n h : ℕ) → ((j : ℕ) → h ≤ j → j < h + n → isAt spans bytes t j ≡ false) → findFrom spans bytes t n h ≡ Not
+    find-nowhere zero h f = find-none h
+    find-nowhere (suc n) h f = find-on n h (f h (omega arith) (omega arith)) ∙ find-nowhere n (suc h) (λ j a b. f j (omega arith) (omega arith))

@@ -1,3 +1,4 @@
 pub mod Texts
 pub mod Strings
 pub mod Sound
+pub mod Check

@@ -8,9 +8,7 @@ use lib.ListN.{length}
 use Rattle.base.specs.Bytes.{Bytes, both, all, same}
 use Rattle.text.specs.Check.{isText}
 use Rattle.little.specs.Little.{over}
-use Rattle.interner.specs.declared.Found.{Found}
-use Rattle.interner.specs.declared.Found.the-variants.{At, Not}
-use Rattle.interner.specs.Strings.{spanned, bytesAt, findIn, Store, lent, usedOf}
+use Rattle.interner.specs.Strings.{spanned, bytesAt, Store, lent, usedOf}
 
 -- n handles from h on
 unfoldable pub handles : ℕ → ℕ → List ℕ
@@ -60,14 +58,3 @@ freshSpans spans = over spans 0 (0 ∷ 0 ∷ [])
 
 abbrev pub fresh : List ℕ → Bytes → Store
 fresh spans bytes = lent (freshSpans spans) bytes 1 0
-
--- ---- as the check goes: handle by handle
-
-abbrev pub isNot : Found → Bool
-isNot Not = true
-isNot (At h) = false
-
--- the string of a handle lies within the bytes, is legal text, and no handle before it has an equal one
-unfoldable pub newAt : List ℕ → Bytes → ℕ → Bool
-newAt spans bytes h =
-    both (spanned spans bytes h) (both (isText (bytesAt spans bytes h)) (isNot (findIn spans bytes h (bytesAt spans bytes h))))
