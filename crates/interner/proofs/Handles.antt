@@ -5,7 +5,7 @@ use mathlib.Core.Bool.{Bool, true}
 use mathlib.Core.List.{List, [], _∷_, _++_, map}
 use native.Mathlib.Nat.{add-zero, add-suc, suc-add}
 use native.Mathlib.Omega.{arith}
-use lib.ListN.{length}
+use lib.ListN.{length, getD}
 use Rattle.base.specs.Bytes.{all, both}
 use Rattle.base.proofs.Lists.{all-nil, all-cons, all-head, all-tail}
 use Rattle.base.proofs.Split.{byEq}
@@ -53,3 +53,9 @@ module _ {A : Type 0} (p : A → Bool) (f : ℕ → A) where
 
   pub each-made : (n h : ℕ) → all p (map f (handles n h)) ≡ true → (k : ℕ) → h ≤ k → k < h + n → p (f k) ≡ true
   each-made n h e = each-handle (λ k. p (f k)) n h (sym (all-map p f (handles n h)) ∙ e)
+
+pub made-at : {A : Type 0} (f : ℕ → A) (d : A) (n h i : ℕ) → i < n → getD (map f (handles n h)) i d ≡ f (h + i)
+unfolding handles
+made-at f d zero h i g = absurd (omega arith)
+made-at f d (suc n) h zero g = rw add-zero
+made-at f d (suc n) h (suc i) g = rw (add-suc, ← suc-add) (made-at f d n (suc h) i (omega arith))

@@ -9,7 +9,7 @@ use native.Mathlib.Numerals.{add-one}
 use native.Mathlib.Omega.{arith}
 use lib.ListN.{length, take, drop, length-append, length-drop, length-map}
 use lib.Seq.{length-take-le, take-append-le, drop-append-le, drop-at, take-all}
-use borrow.Author.Tests.{leb-true, le-leb}
+use borrow.Author.Tests.{leb-true, le-leb, lt-ltb, le-ltb}
 use Rattle.base.specs.Bytes.{Bytes, both, all, same}
 use Rattle.base.proofs.Split.{byBool, byEq, both-left, both-right, both-of, clash, no}
 use Rattle.base.proofs.Lists.{all-append, all-cons, all-nil, all-head, all-tail, same-refl}
@@ -19,14 +19,15 @@ use Rattle.little.specs.Little.{over}
 use Rattle.little.proofs.Overs.{length-over, used-over, getD-before, getD-over}
 use Rattle.interner.specs.declared.Found.{Found}
 use Rattle.interner.specs.declared.Found.the-variants.{At, Not}
+use Rattle.interner.specs.declared.Span.the-variants.{Part, Missing}
 use Rattle.interner.specs.declared.Interned.the-variants.{Held, Full}
-use Rattle.interner.specs.Texts.{handleOf, takeIn, takeAll, noTexts, answerAs, accepted, handleIn}
-use Rattle.interner.specs.Strings.{startOf, lengthOf, spanned, bytesAt, isAt, findFrom, findIn, Store, usedOf, room, added, taken, intern, internAll, acceptedOf}
+use Rattle.interner.specs.Texts.{handleOf, takeIn, takeAll, noTexts, answerAs, accepted, handleIn, textOf}
+use Rattle.interner.specs.Strings.{startOf, lengthOf, spanned, bytesAt, isAt, findFrom, findIn, Store, usedOf, room, added, taken, intern, internAll, acceptedOf, spanOf}
 use Rattle.interner.specs.Sound.{handles, textsIn, textsOf, counted, within, soundUpTo, differs, distinct, firstEmpty, soundStrings, fresh}
-use Rattle.interner.proofs.Finds.{spanned-yes, spanned-bytes, find-none, find-here, find-on}
+use Rattle.interner.proofs.Finds.{spanned-yes, spanned-bytes, find-none, find-here, find-on, part}
 use Rattle.interner.proofs.Takes.{held, new, full, room-words, room-bytes}
-use Rattle.interner.proofs.Handles.{length-handles, handles-more, all-handles, each-handle, map-handles}
-use Rattle.interner.proofs.Held.{handle-here, handle-on, handle-new, take-held, take-new, distinct-nil, distinct-cons, distinct-new, first-empty-more, empty-handle}
+use Rattle.interner.proofs.Handles.{length-handles, handles-more, all-handles, each-handle, map-handles, made-at}
+use Rattle.interner.proofs.Held.{handle-here, handle-on, handle-new, take-held, take-new, distinct-nil, distinct-cons, distinct-new, first-empty-more, empty-handle, holds}
 
 -- ---- soundness, part by part
 
@@ -68,6 +69,20 @@ length-texts s = length-map (handles (s .strings) 0) (bytesAt (s .spans) (usedOf
 
 pub length-used : (s : Store) → Sound s → length (usedOf s) ≡ s .used
 length-used s p = length-take-le (s .used) (s .bytes) (p .bytes)
+
+-- ---- the text of a held handle is read where its span says
+
+pub text-at : (s : Store) (h : ℕ) → h < s .strings → textOf (textsOf s) h ≡ bytesAt (s .spans) (usedOf s) h
+unfolding textsIn
+text-at s h g = rw zero-add at (made-at (bytesAt (s .spans) (usedOf s)) [] (s .strings) 0 h g)
+
+pub resolved : (s : Store) → Sound s → (h : ℕ) → h < s .strings → spanOf (s .spans) (usedOf s) (s .strings) h ≡ Part (startOf (s .spans) h) (lengthOf (s .spans) h)
+unfolding spanOf
+resolved s p h g = rw (lt-ltb h (s .strings) g) (part (s .spans) (usedOf s) h (p .spans h g))
+
+pub unheld : (s : Store) (h : ℕ) → s .strings ≤ h → spanOf (s .spans) (usedOf s) (s .strings) h ≡ Missing
+unfolding spanOf
+unheld s h g = rw (le-ltb h (s .strings) g)
 
 -- ---- the search finds the handle of the text
 
@@ -246,6 +261,9 @@ module _ (s : Store) (t : Bytes) (p : Sound s) where
       let i : some (s .strings) ≡ some h = rw (does-new e r) at q in
       rw (does-new e r, texts-added s t p r) (handle-new t (textsOf s) e ∙ (rw length-texts i)))
       (λ e r. let i : none ≡ some h = rw (does-full e r) at q in no (cc))
+
+  pub text-answered : (h : ℕ) → handleIn (intern s t .answer) ≡ some h → textOf (textsOf (intern s t .store)) h ≡ t
+  text-answered h q = holds t (textsOf (intern s t .store)) h (handle-after h q) .text
 
   pub keeps : isText t ≡ true → Sound (intern s t .store)
   keeps l =

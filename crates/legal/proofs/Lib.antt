@@ -1,0 +1,11 @@
+pub mod Bits
+pub mod Places
+pub mod Ends
+pub mod Parts
+pub mod Bodies
+pub mod Judging
+pub mod Pushes
+pub mod Fronts
+pub mod Wholes
+pub mod Laws
+pub mod Starts

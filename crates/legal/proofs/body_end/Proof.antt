@@ -1,0 +1,67 @@
+-- Refs, members or nothing.
+use denote.Ref.{now}
+use native.Mathlib.Omega.{arith}
+use mathlib.Core.Path.{_∙_}
+use Rattle.kind.specs.declared.Kind.the-variants.{Node, Way, Relation}
+use Rattle.compact.specs.Held.{countsHead}
+use Rattle.compact.specs.Held.{headIn}
+use Rattle.legal.proofs.Bodies.{body-node, body-short, body-refs, body-members}
+use borrow.Author.Needs.{needs}
+use Rattle.legal.proofs.body_end.Statement.{statement}
+use Rattle.legal.proofs.body_end.Tie as tie
+
+enum-told : tie.Need-enum-told
+enum-told c = search needs
+
+enum-told-2 : tie.Need-enum-told-2
+enum-told-2 c = search needs
+
+cast-refs : tie.Need-cast-refs
+cast-refs c = search needs
+
+mul-refs : tie.Need-mul-refs
+mul-refs c = search needs
+
+sub-if1 : tie.Need-sub-if1
+sub-if1 c = search needs
+
+returns : tie.Need-returns
+unfolding headIn countsHead
+returns c = let a = c .before .before .before .before .before .args in rw (c .before .before .enum-told2 .given .1) (body-short (a .strings) (headIn Way (a .head)) (now (a .bytes)) (a .at) (omega arith) (omega arith))
+
+add-t8 : tie.Need-add-t8
+add-t8 c = search needs
+
+enum-told-3 : tie.Need-enum-told-3
+enum-told-3 c = search needs
+
+parts-end-requires : tie.Need-parts-end-requires
+parts-end-requires c κs = search needs
+
+returns-2 : tie.Need-returns-2
+returns-2 c = let a = c .before .before .before .args in rw (c .enum-told .given .1) (body-node (a .strings) (headIn Node (a .head)) (now (a .bytes)) (a .at) (omega arith))
+
+returns-3 : tie.Need-returns-3
+unfolding headIn countsHead
+returns-3 c = let a = c .before .before .before .before .before .args in rw (c .before .before .enum-told2 .given .1) (body-refs (a .strings) (headIn Way (a .head)) (now (a .bytes)) (a .at) (omega arith))
+
+returns-4 : tie.Need-returns-4
+unfolding headIn countsHead
+returns-4 c = let a = c .before .before .before .before .args in rw (c .before .enum-told3 .given .1) (c .parts-end .ensures ∙ body-members (a .strings) (headIn Relation (a .head)) (now (a .bytes)) (a .at))
+
+pub body-end-spec : {M : Type 1} → statement M
+body-end-spec =
+    tie.close
+    (tie.spec
+    enum-told
+    enum-told-2
+    cast-refs
+    mul-refs
+    sub-if1
+    returns
+    add-t8
+    enum-told-3
+    parts-end-requires
+    returns-2
+    returns-3
+    returns-4)

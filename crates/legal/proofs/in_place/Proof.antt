@@ -1,0 +1,47 @@
+-- A node's place is in range; a way and a relation have none.
+use Rattle.legal.specs.Legal.{inRange}
+use Rattle.legal.specs.Judge.{placed}
+use Rattle.legal.proofs.Bits.{and-both}
+use borrow.Author.Needs.{needs}
+use Rattle.legal.proofs.in_place.Statement.{statement}
+use Rattle.legal.proofs.in_place.Tie as tie
+
+enum-told : tie.Need-enum-told
+enum-told c = search needs
+
+within-requires : tie.Need-within-requires
+within-requires c κs = search needs
+
+within-requires-2 : tie.Need-within-requires-2
+within-requires-2 c κs = search needs
+
+enum-told-2 : tie.Need-enum-told-2
+enum-told-2 c = search needs
+
+enum-told-3 : tie.Need-enum-told-3
+enum-told-3 c = search needs
+
+returns : tie.Need-returns
+unfolding placed inRange
+returns c = rw (and-both, c .before .within .ensures, c .within2 .ensures, c .before .before .enum-told .given .1)
+
+returns-2 : tie.Need-returns-2
+unfolding placed
+returns-2 c = search needs
+
+returns-3 : tie.Need-returns-3
+unfolding placed
+returns-3 c = search needs
+
+pub in-place-spec : {M : Type 1} → statement M
+in-place-spec =
+    tie.close
+    (tie.spec
+    enum-told
+    within-requires
+    within-requires-2
+    enum-told-2
+    enum-told-3
+    returns
+    returns-2
+    returns-3)

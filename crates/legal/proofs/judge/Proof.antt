@@ -1,0 +1,132 @@
+-- The check: the parts end, and then each test in its order.
+use Prim.Native.Nat.{_+_, _*_, _≤_}
+use denote.Ref.{now}
+use native.Mathlib.Omega.{arith}
+use mathlib.Core.Path.{sym, _∙_}
+use lib.ListN.{length}
+use Rattle.compact.specs.Held.{metaOf}
+use Rattle.legal.specs.Judge.{ended}
+use Rattle.legal.proofs.Bits.{and-both, or-either}
+use Rattle.legal.proofs.Judging.{body-refused, body-within, tags-refused, tags-room, judged-is}
+use borrow.Author.Needs.{needs}
+use Rattle.legal.proofs.judge.Statement.{statement}
+use Rattle.legal.proofs.judge.Tie as tie
+
+body-end-requires : tie.Need-body-end-requires
+body-end-requires c κs = search needs
+
+enum-known-tags : tie.Need-enum-known-tags
+enum-known-tags c = search needs
+
+enum-told : tie.Need-enum-told
+enum-told c = search needs
+
+returns : tie.Need-returns
+returns c =
+    let a = c .before .before .before .before .args in
+    body-refused (a .strings) (a .kind) (a .head) (metaOf (a .meta)) (now (a .bytes)) (a .at) (omega arith) (a .more) (sym (c .before .before .body-end .ensures) ∙ c .enum-told .given .1)
+
+-- where the body ends
+within : (c : tie.After-known-told) → c .before .tags .given .0 .0 ≤ length (now (c .before .before .before .before .before .args .bytes))
+within c =
+    let a = c .before .before .before .before .before .args in
+    let d = c .before in
+    body-within (a .strings) (a .kind) (a .head) (metaOf (a .meta)) (now (a .bytes)) (a .at) (omega arith) (a .more) (d .tags .given .0 .0) (sym (d .before .before .body-end .ensures) ∙ d .tags .given .1)
+
+parts-end-requires : tie.Need-parts-end-requires
+parts-end-requires c κs = within c
+
+enum-known-end : tie.Need-enum-known-end
+enum-known-end c = search needs
+
+enum-told-2 : tie.Need-enum-told-2
+enum-told-2 c = search needs
+
+returns-2 : tie.Need-returns-2
+returns-2 c =
+    let a = c .before .before .before .before .before .before .before .before .args in
+    let d = c .before .before .before .before in
+    tags-refused (a .strings) (a .kind) (a .head) (metaOf (a .meta)) (now (a .bytes)) (a .at) (omega arith) (a .more) (d .tags .given .0 .0)
+    (sym (d .before .before .body-end .ensures) ∙ d .tags .given .1) (sym (c .before .before .parts-end .ensures) ∙ c .enum-told2 .given .1)
+
+legal-meta-requires : tie.Need-legal-meta-requires
+legal-meta-requires c κs = search needs
+
+parts-end-requires-2 : tie.Need-parts-end-requires-2
+parts-end-requires-2 c κs = within (c .before .before .before .before .before)
+
+ended-requires : tie.Need-ended-requires
+ended-requires c κs = search needs
+
+in-place-requires : tie.Need-in-place-requires
+in-place-requires c κs = search needs
+
+-- where the tags end
+room : (c : tie.After-known-told2) → let d = c .before .before .before .before .before in let e = c .before .end .given .0 .0 in
+    (d .tags .given .0 .0 + 8 * d .before .before .before .before .args .head .tags ≤ e) × (e ≤ length (now (d .before .before .before .before .args .bytes)))
+room c =
+    let d = c .before .before .before .before .before in
+    let a = d .before .before .before .before .args in
+    tags-room (a .strings) (a .kind) (a .head) (metaOf (a .meta)) (now (a .bytes)) (a .at) (omega arith) (a .more) (d .tags .given .0 .0)
+    (sym (d .before .before .body-end .ensures) ∙ d .tags .given .1) (c .before .end .given .0 .0) (sym (c .before .before .before .parts-end .ensures) ∙ c .before .end .given .1)
+
+sub-few-parts : tie.Need-sub-few-parts
+sub-few-parts c = omega (arith, room (c .before .before .before .before))
+
+cast-few-parts : tie.Need-cast-few-parts
+cast-few-parts c = search needs
+
+mul-few-parts : tie.Need-mul-few-parts
+mul-few-parts c = search needs
+
+sub-few-parts-2 : tie.Need-sub-few-parts-2
+sub-few-parts-2 c = omega (arith, room (c .before .before .before .before .before))
+
+few-parts-requires : tie.Need-few-parts-requires
+few-parts-requires c κs = search needs
+
+choose-requires : tie.Need-choose-requires
+choose-requires c κs = search needs
+
+returns-3 : tie.Need-returns-3
+returns-3 c =
+    let a = c .before .before .before .before .before .before .before .before .before .before .before .before .before .before .before .before .args in
+    let d = c .before .before .before .before .before .before .before .before .before .before .before .before in
+    let x = c .before .before .before .before .before .before .before .before in
+    let w = c .before .before .before .before in
+    rw (
+      judged-is (a .strings) (a .kind) (a .head) (metaOf (a .meta)) (now (a .bytes)) (a .at) (omega arith) (a .more) (d .tags .given .0 .0)
+          (sym (d .before .before .body-end .ensures) ∙ d .tags .given .1) (x .end .given .0 .0) (sym (x .before .before .parts-end .ensures) ∙ x .end .given .1),
+      ← and-both,
+      ← or-either,
+      ← w .before .before .legal-meta .ensures,
+      ← w .before .parts-end2 .ensures,
+      ← w .ended .ensures,
+      ← c .before .before .before .in-place .ensures,
+      ← c .before .few-parts .ensures,
+    )
+    (c .choose .ensures)
+
+pub judge-spec : {M : Type 1} → statement M
+judge-spec =
+    tie.close
+    (tie.spec
+    body-end-requires
+    enum-known-tags
+    enum-told
+    returns
+    parts-end-requires
+    enum-known-end
+    enum-told-2
+    returns-2
+    legal-meta-requires
+    parts-end-requires-2
+    ended-requires
+    in-place-requires
+    sub-few-parts
+    cast-few-parts
+    mul-few-parts
+    sub-few-parts-2
+    few-parts-requires
+    choose-requires
+    returns-3)

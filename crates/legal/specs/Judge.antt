@@ -1,0 +1,101 @@
+-- The check of a record, as an answer: document 01, "17 flags, handle or type byte not as above, or an unflagged field not 0; then 3, 10, 16";
+-- "A direct push whose parts are cut short, or not as many as it counts, is refused 17 too."
+use Prim.Native.Nat.{ℕ, _-_}
+use mathlib.Core.Bool.{Bool, true, false, cond}
+use mathlib.Core.Option.{Option, none, some}
+use lib.Dec.{leb, eqb}
+use lib.IntN.{ℤ}
+use lib.ListN.{length, drop}
+use Rattle.base.specs.Bytes.{Bytes, both, either, all}
+use Rattle.text.specs.Check.{isText}
+use Rattle.kind.specs.declared.Kind.{Kind}
+use Rattle.kind.specs.declared.Kind.the-variants.{Node, Way, Relation}
+use Rattle.refusal.specs.declared.Refusal.{Refusal}
+use Rattle.refusal.specs.declared.Refusal.the-variants.{NotText, CoordinateRange, TooManyParts, BadRecord}
+use Rattle.model.specs.Record.{Meta, Member, Tag, place, Record}
+use Rattle.compact.specs.Layout.{Head}
+use Rattle.compact.specs.Cut.{Cut, times, cutMember, cutTag, cutBody, cutRecord, Kept}
+use Rattle.compact.specs.Held.{nodeHead, countsHead}
+use Rattle.legal.specs.Legal.{Limits, limits, handle, bodyHandles, inRange, faultOf, legal}
+use Rattle.compact.specs.declared.PushHead.{PushHead}
+use Rattle.legal.specs.declared.Fault.{Fault}
+use Rattle.legal.specs.declared.Fault.the-variants as fault
+use Rattle.legal.specs.declared.End.{End}
+use Rattle.legal.specs.declared.End.the-variants.{At, Bad}
+use Rattle.legal.specs.declared.Verdict.{Verdict}
+use Rattle.legal.specs.declared.Verdict.the-variants as verdict
+use Rattle.legal.specs.declared.Part.{Part}
+use Rattle.legal.specs.declared.Part.the-variants.{Role, Key, Value}
+
+abbrev pub answered : Option Refusal → Fault
+answered none = fault.Legal
+answered (some x) = fault.Refused x
+
+-- the answer to a direct push: 17 where its parts are not exactly as it counts, else the first fault of its record
+unfoldable pub faultFor : ℕ → Option (Record ℕ) → Fault
+faultFor strings none = fault.Refused BadRecord
+faultFor strings (some r) = answered (faultOf strings r)
+
+-- where something ends that was cut off bytes of a length and passes a test
+unfoldable pub endOf : {A : Type 0} → (A → Bool) → ℕ → Option (Cut A) → End
+endOf p len none = Bad
+endOf p len (some c) = cond (p (c .item)) (At (len - length (c .rest))) Bad
+
+-- where the legal record ends that starts at a place
+unfoldable pub recordEnd : ℕ → Kind → Bytes → ℕ → End
+recordEnd strings k s at = endOf (λ x. legal strings (x .held)) (length s) (cutRecord k (drop at s))
+
+-- What the contracts of the private functions cite.
+
+-- the check of parts that were cut off bytes of a length; where no more may follow, bytes left over are refused
+abbrev pub judged : ℕ → Option Refusal → Verdict
+judged e none = verdict.Legal e
+judged e (some x) = verdict.Refused x
+
+unfoldable pub verdictOf : ℕ → Bool → ℕ → Option (Cut (Record ℕ)) → Verdict
+verdictOf strings more len none = verdict.Refused BadRecord
+verdictOf strings more len (some c) =
+    cond (either more (eqb (length (c .rest)) 0)) (judged (len - length (c .rest)) (faultOf strings (c .item))) (verdict.Refused BadRecord)
+
+-- one part at a place, and several: a member whose role is held, a tag whose key is held, a tag whose value is text
+unfoldable pub partEnd : Part → ℕ → Bytes → ℕ → End
+partEnd Role strings s at = endOf (λ m. handle strings (m .role)) (length s) (cutMember (drop at s))
+partEnd Key strings s at = endOf (λ t. handle strings (t .key)) (length s) (cutTag (drop at s))
+partEnd Value strings s at = endOf (λ t. isText (t .value)) (length s) (cutTag (drop at s))
+
+unfoldable pub partsEnd : Part → ℕ → ℕ → Bytes → ℕ → End
+partsEnd Role strings n s at = endOf (all (λ m. handle strings (m .role))) (length s) (times cutMember n (drop at s))
+partsEnd Key strings n s at = endOf (all (λ t. handle strings (t .key))) (length s) (times cutTag n (drop at s))
+partsEnd Value strings n s at = endOf (all (λ t. isText (t .value))) (length s) (times cutTag n (drop at s))
+
+-- a tag at a place, whatever its key and value
+unfoldable pub tagEnd : Bytes → ℕ → End
+tagEnd s at = endOf (λ t. true) (length s) (cutTag (drop at s))
+
+-- a body at a place whose handles are held
+unfoldable pub bodyEnd : ℕ → Kind → Head → Bytes → ℕ → End
+bodyEnd strings k h s at = endOf (bodyHandles strings) (length s) (cutBody k h (drop at s))
+
+abbrev pub ended : End → Bool
+ended (At e) = true
+ended Bad = false
+
+-- a place in range; only a node has one
+unfoldable pub placed : Kind → ℤ → ℤ → Bool
+placed Node lat lon = inRange (place lat lon)
+placed Way lat lon = true
+placed Relation lat lon = true
+
+-- so many refs or members, tags and bytes of tag values
+abbrev pub countWithin : Limits → Kind → ℕ → Bool
+countWithin l Node n = true
+countWithin l Way n = leb n (l .refs)
+countWithin l Relation n = leb n (l .members)
+
+unfoldable pub few : Kind → ℕ → ℕ → ℕ → Bool
+few k count tags bytes = both (leb tags (limits .tags)) (both (countWithin limits k count) (leb bytes (limits .valueBytes)))
+
+-- the first of the four tests that fails, in document 01's order
+unfoldable pub chosen : Bool → Bool → Bool → Bool → ℕ → Verdict
+chosen held text inside few e =
+    cond held (cond text (cond inside (cond few (verdict.Legal e) (verdict.Refused TooManyParts)) (verdict.Refused CoordinateRange)) (verdict.Refused NotText)) (verdict.Refused BadRecord)

@@ -1,0 +1,3 @@
+pub mod Legal
+pub mod Judge
+pub mod Whole
