@@ -1,20 +1,27 @@
-//! Links the built library: the file that TORVASKIN_LIB names, else the one `rt staticlib` writes.
+//! Links the built libraries: the files that TORVASKIN_LIB and TORVASKIN_LAYERS name, else those that
+//! `rt staticlib` writes.
 
 use std::path::PathBuf;
 
 fn main() {
-    println!("cargo::rerun-if-env-changed=TORVASKIN_LIB");
-    let lib = std::env::var_os("TORVASKIN_LIB").map_or_else(
+    link("TORVASKIN_LIB", "torvaskin");
+    link("TORVASKIN_LAYERS", "layers");
+}
+
+/// Links the file that a variable names, else that of a crate.
+fn link(variable: &str, built: &str) {
+    println!("cargo::rerun-if-env-changed={variable}");
+    let lib = std::env::var_os(variable).map_or_else(
         || {
             let here = std::env::var_os("CARGO_MANIFEST_DIR").expect("cargo sets it");
-            PathBuf::from(here).join("../../target/staticlib/libtorvaskin.a")
+            PathBuf::from(here).join(format!("../../target/staticlib/lib{built}.a"))
         },
         PathBuf::from,
     );
     println!("cargo::rerun-if-changed={}", lib.display());
     let lib = lib.canonicalize().unwrap_or_else(|e| {
         panic!(
-            "no library at {}: {e}; `rt staticlib torvaskin` builds it",
+            "no library at {}: {e}; `rt staticlib {built}` builds it",
             lib.display()
         )
     });

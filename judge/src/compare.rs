@@ -2,10 +2,13 @@
 //! built library in the package `compare`, by a faulty copy of the judge in tests/faults.rs.
 
 pub mod ground;
+pub mod lent;
 pub mod lookups;
 pub mod overlay;
 pub mod program;
 pub mod reads;
+pub mod records;
+pub mod strings;
 
 /// The number of compared answers, or the first difference.
 pub type Compared = Result<u64, String>;

@@ -145,10 +145,10 @@ fn every_fault_is_found() {
 }
 
 /// A step with one fault.
-struct Step(fn(&[u8], u64, u64, TagStep) -> TagStep);
+struct Step(fn(&[u8], u64, u32, TagStep) -> TagStep);
 
 impl TagPort for Step {
-    fn tag_step(&self, bytes: &[u8], offset: u64, remaining: u64) -> TagStep {
+    fn tag_step(&self, bytes: &[u8], offset: u64, remaining: u32) -> TagStep {
         (self.0)(
             bytes,
             offset,
@@ -160,7 +160,7 @@ impl TagPort for Step {
 
 #[test]
 fn every_faulty_step_is_found() {
-    let faults: [(&str, fn(&[u8], u64, u64, TagStep) -> TagStep); 6] = [
+    let faults: [(&str, fn(&[u8], u64, u32, TagStep) -> TagStep); 6] = [
         ("a step at 0 remaining", |b, o, r, g| {
             if r == 0 {
                 WordsStep.tag_step(b, o, 1)

@@ -36,3 +36,170 @@ unsafe extern "C" {
     pub fn tvk_parse_rfc3339_utc(s: *const u8, n: usize) -> Number;
     pub fn tvk_is_text(s: *const u8, n: usize) -> u8;
 }
+
+/// Number 0 with a value, or a refusal with 0.
+#[repr(C)]
+#[derive(Clone, Copy, Debug, PartialEq, Eq)]
+pub struct Count {
+    pub number: u32,
+    pub value: usize,
+}
+
+/// Number 0 with the first place and one past the last, or 20 with 0 and 0.
+#[repr(C)]
+#[derive(Clone, Copy, Debug, PartialEq, Eq)]
+pub struct Places {
+    pub number: u32,
+    pub from: usize,
+    pub to: usize,
+}
+
+/// Number 0 or 20; where an id was found and where the cursor stands, or `NO_PLACE`.
+#[repr(C)]
+#[derive(Clone, Copy, Debug, PartialEq, Eq)]
+pub struct Cursor {
+    pub number: u32,
+    pub found: usize,
+    pub place: usize,
+}
+
+/// A word from here on is no place.
+pub const NO_PLACE: usize = 1 << 63;
+
+/// Number 0 with a handle, or 13 with 0; then the counts.
+#[repr(C)]
+#[derive(Clone, Copy, Debug, PartialEq, Eq)]
+pub struct Strings {
+    pub number: u32,
+    pub handle: u64,
+    pub strings: u64,
+    pub used: u64,
+}
+
+/// Number 0 with where a text lies, or 22 with 0 and 0.
+#[repr(C)]
+#[derive(Clone, Copy, Debug, PartialEq, Eq)]
+pub struct Part {
+    pub number: u32,
+    pub start: usize,
+    pub len: usize,
+}
+
+// Signed numbers in records are their bits.
+
+#[repr(C)]
+#[derive(Clone, Copy, Debug, PartialEq, Eq)]
+pub struct Meta {
+    pub flags: u8,
+    pub version: u32,
+    pub timestamp: u64,
+    pub changeset: u64,
+    pub uid: u32,
+    pub user: u32,
+}
+
+/// The head of a node.
+#[repr(C)]
+#[derive(Clone, Copy, Debug, PartialEq, Eq)]
+pub struct Placed {
+    pub id: u64,
+    pub lat: u32,
+    pub lon: u32,
+    pub tags: u32,
+}
+
+/// The head of a way or of a relation.
+#[repr(C)]
+#[derive(Clone, Copy, Debug, PartialEq, Eq)]
+pub struct Counted {
+    pub id: u64,
+    pub count: u32,
+    pub tags: u32,
+}
+
+#[repr(C)]
+#[derive(Clone, Copy, Debug, PartialEq, Eq)]
+pub struct Member {
+    pub reference: u64,
+    pub kind: u8,
+    pub role: u32,
+}
+
+/// Number 0 with a tag; 0 and done 1 where none is left; or 22.
+#[repr(C)]
+#[derive(Clone, Copy, Debug, PartialEq, Eq)]
+pub struct Step {
+    pub number: u32,
+    pub done: u8,
+    pub key: u32,
+    pub start: usize,
+    pub len: usize,
+}
+
+// The entries of single layers. A list of ids is the bits of its ids.
+unsafe extern "C" {
+    pub fn tvl_range_overlaps(
+        live: *const u64,
+        live_len: usize,
+        deleted: *const u64,
+        deleted_len: usize,
+        min: i64,
+        max: i64,
+    ) -> Count;
+    pub fn tvl_upsert_range(ids: *const u64, n: usize, first: i64, last: i64) -> Places;
+    pub fn tvl_seek_find(ids: *const u64, n: usize, place: usize, id: i64) -> Cursor;
+    pub fn tvl_intern(
+        spans: *mut u64,
+        words: usize,
+        bytes: *mut u8,
+        size: usize,
+        strings: u64,
+        used: u64,
+        text: *const u8,
+        n: usize,
+    ) -> Strings;
+    pub fn tvl_resolve(
+        spans: *const u64,
+        words: usize,
+        bytes: *const u8,
+        size: usize,
+        strings: u64,
+        handle: u64,
+    ) -> Part;
+    pub fn tvl_append_node(
+        arena: *mut u8,
+        len: usize,
+        used: usize,
+        head: Placed,
+        meta: Meta,
+        parts: *const u8,
+        n: usize,
+    ) -> Count;
+    pub fn tvl_append_way(
+        arena: *mut u8,
+        len: usize,
+        used: usize,
+        head: Counted,
+        meta: Meta,
+        parts: *const u8,
+        n: usize,
+    ) -> Count;
+    pub fn tvl_append_relation(
+        arena: *mut u8,
+        len: usize,
+        used: usize,
+        head: Counted,
+        meta: Meta,
+        parts: *const u8,
+        n: usize,
+    ) -> Count;
+    pub fn tvl_node(bytes: *const u8, n: usize) -> Placed;
+    pub fn tvl_way(bytes: *const u8, n: usize) -> Counted;
+    pub fn tvl_relation(bytes: *const u8, n: usize) -> Counted;
+    pub fn tvl_way_tags_at(head: Counted) -> usize;
+    pub fn tvl_relation_tags_at(head: Counted) -> usize;
+    pub fn tvl_meta(bytes: *const u8, n: usize, at: usize) -> Meta;
+    pub fn tvl_ref_at(bytes: *const u8, n: usize, i: u32) -> u64;
+    pub fn tvl_member_at(bytes: *const u8, n: usize, i: u32) -> Member;
+    pub fn tvl_tag_step(bytes: *const u8, n: usize, offset: usize, remaining: u32) -> Step;
+}

@@ -1,6 +1,9 @@
-//! The built library behind the judge's traits.
+//! The built libraries behind the judge's traits.
 
 pub mod ffi;
+mod layers;
+
+pub use layers::Layers;
 
 use judge::compare::ground::Ground;
 

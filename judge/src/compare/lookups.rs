@@ -20,6 +20,9 @@ pub trait LookupPort {
     ) -> (u32, Option<usize>, Option<usize>);
 }
 
+/// The last place that a cursor can be lent at: a word from 2^63 on is none.
+const LAST_PLACE: usize = usize::MAX >> 1;
+
 /// Strictly in OSM order.
 pub fn is_ordered(ids: &[i64]) -> bool {
     ids.windows(2).all(|w| osm_id_cmp(w[0], w[1]) == 0)
@@ -59,7 +62,8 @@ impl LookupPort for JudgeLookups {
     }
 }
 
-/// Every list of up to three ids out of seven, in any order, with every range of those ids.
+/// Every list of up to three ids out of seven, in any order, with every range of those ids; every two
+/// lists of one or two of them with a few ranges.
 pub fn short_lists(port: &dyn LookupPort) -> Compared {
     let mut tally = Tally::new();
     let ids = [0, -1, -2, i64::MIN, 1, 2, i64::MAX];
@@ -71,6 +75,13 @@ pub fn short_lists(port: &dyn LookupPort) -> Compared {
             .flat_map(|l| ids.iter().map(move |&id| [&l[..], &[id]].concat()))
             .collect();
         lists.extend(longer);
+    }
+    for live in lists.iter().filter(|l| (1..3).contains(&l.len())) {
+        for deleted in lists.iter().filter(|l| (1..3).contains(&l.len())) {
+            for (a, b) in [(0, 0), (-2, -1), (-1, -2), (-2, 1), (1, 2), (2, i64::MIN)] {
+                one_range(&mut tally, port, live, deleted, a, b)?;
+            }
+        }
     }
     for list in &lists {
         for a in ids {
@@ -85,7 +96,7 @@ pub fn short_lists(port: &dyn LookupPort) -> Compared {
                 Some(2),
                 Some(3),
                 Some(9),
-                Some(usize::MAX),
+                Some(LAST_PLACE),
             ] {
                 one_seek(&mut tally, port, place, list, a)?;
             }

@@ -32,20 +32,20 @@ pub enum TagStep {
         key: u32,
         value: Bytes,
         offset: u64,
-        remaining: u64,
+        remaining: u32,
     },
 }
 
 /// The port's step.
 pub trait TagPort {
-    fn tag_step(&self, bytes: &[u8], offset: u64, remaining: u64) -> TagStep;
+    fn tag_step(&self, bytes: &[u8], offset: u64, remaining: u32) -> TagStep;
 }
 
 /// The step by document 01's words.
 pub struct WordsStep;
 
 impl TagPort for WordsStep {
-    fn tag_step(&self, bytes: &[u8], offset: u64, remaining: u64) -> TagStep {
+    fn tag_step(&self, bytes: &[u8], offset: u64, remaining: u32) -> TagStep {
         if remaining == 0 {
             return TagStep::None;
         }
@@ -170,8 +170,8 @@ pub fn overlays(port: &mut dyn ReadPort, seed: u64, rounds: u64) -> Compared {
     tally.done()
 }
 
-/// Tags of produced records, against the Rust's iterator, then at damaged bytes and places, by
-/// document 01's words.
+/// Tags of produced records, against the Rust's iterator, then cut short, not text, and at damaged bytes
+/// and places, by document 01's words.
 pub fn tags(port: &dyn TagPort, seed: u64, rounds: u64) -> Compared {
     let mut tally = Tally::new();
     let mut random = Random::new(seed);
@@ -187,7 +187,8 @@ pub fn tags(port: &dyn TagPort, seed: u64, rounds: u64) -> Compared {
                 let middle = 8 * record.refs.len()
                     + crate::osc::compact::JUDGE_MEMBER_SIZE * record.members.len();
                 let mut at = (head + middle) as u64;
-                let mut left = record.tags.len() as u64;
+                let mut left = record.tags.len() as u32;
+                let first = at;
                 for (key, value) in &record.tags {
                     let step = port.tag_step(bytes, at, left);
                     let TagStep::Tag {
@@ -214,11 +215,49 @@ pub fn tags(port: &dyn TagPort, seed: u64, rounds: u64) -> Compared {
                     (at, left) = (offset, remaining);
                 }
                 tally.same(|| "the record's end".to_owned(), record.len as u64, at)?;
+                one_step(&mut tally, port, bytes, at, 0)?;
+                cut_and_not_text(&mut tally, port, bytes, first)?;
                 damaged_tags(&mut tally, port, &mut random, bytes)?;
             }
         }
     }
     tally.done()
+}
+
+fn one_step(
+    tally: &mut Tally,
+    port: &dyn TagPort,
+    bytes: &[u8],
+    offset: u64,
+    remaining: u32,
+) -> Result<(), String> {
+    tally.same(
+        || format!("tag_step {offset} {remaining} of {bytes:02x?}"),
+        WordsStep.tag_step(bytes, offset, remaining),
+        port.tag_step(bytes, offset, remaining),
+    )
+}
+
+/// The first tag of a record: its bytes cut short at every length, and each byte from the tag on in
+/// turn one that ends legal text.
+fn cut_and_not_text(
+    tally: &mut Tally,
+    port: &dyn TagPort,
+    bytes: &[u8],
+    first: u64,
+) -> Result<(), String> {
+    for len in 0..=bytes.len() {
+        one_step(tally, port, &bytes[..len], first, 1)?;
+    }
+    let mut damaged = bytes.to_vec();
+    for at in first as usize..bytes.len() {
+        for byte in [0x00, 0x0b, 0x1f, 0x80, 0xc0, 0xe0, 0xed, 0xf4, 0xff] {
+            damaged[at] = byte;
+            one_step(tally, port, &damaged, first, 1)?;
+        }
+        damaged[at] = bytes[at];
+    }
+    Ok(())
 }
 
 fn damaged_tags(
@@ -238,12 +277,8 @@ fn damaged_tags(
             1 => bytes.len() as u64 + random.below(3) as u64,
             _ => random.below(bytes.len()) as u64,
         };
-        let remaining = *random.pick(&[0, 1, 2, 1 << 32, u64::MAX]);
-        tally.same(
-            || format!("tag_step {offset} {remaining} of {bytes:02x?}"),
-            WordsStep.tag_step(&bytes, offset, remaining),
-            port.tag_step(&bytes, offset, remaining),
-        )?;
+        let remaining = *random.pick(&[0, 1, 2, 1 << 31, u32::MAX]);
+        one_step(tally, port, &bytes, offset, remaining)?;
     }
     Ok(())
 }

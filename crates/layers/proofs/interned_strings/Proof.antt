@@ -1,0 +1,27 @@
+-- `layers::interned_strings` gives each answer's number and handle, with the counts.
+use borrow.Author.Needs.{needs}
+use Rattle.layers.proofs.interned_strings.Statement.{statement}
+use Rattle.layers.proofs.interned_strings.Tie as tie
+
+enum-known-answer : tie.Need-enum-known-answer
+enum-known-answer c = search needs
+
+enum-known-answer-2 : tie.Need-enum-known-answer-2
+enum-known-answer-2 c = search needs
+
+enum-told : tie.Need-enum-told
+enum-told c = search needs
+
+returns : tie.Need-returns
+returns c = rw (c .before .answer .given .1)
+
+returns-2 : tie.Need-returns-2
+returns-2 c = rw (c .before .answer2 .given .1)
+
+returns-3 : tie.Need-returns-3
+returns-3 c = rw (c .enum-told .given .1)
+
+pub interned-strings-spec : {M : Type 1} → statement M
+interned-strings-spec =
+    tie.close
+    (tie.spec enum-known-answer enum-known-answer-2 enum-told returns returns-2 returns-3)

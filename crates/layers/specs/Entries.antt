@@ -1,0 +1,146 @@
+-- The C boundary of single layers: each enum's number and values, by one definition each. Refusals have document 01's numbers.
+use Prim.Native.Nat.{ℕ}
+use mathlib.Core.Bool.{cond}
+use mathlib.Core.List.{List}
+use lib.Dec.{ltb}
+use Rattle.base.specs.Bytes.{Bytes}
+use Rattle.refusal.specs.Refusal.{numberOf}
+use Rattle.refusal.specs.declared.Refusal.the-variants as refused
+use Rattle.sorted.specs.declared.Overlap.{Overlap}
+use Rattle.sorted.specs.declared.Overlap.the-variants as O
+use Rattle.sorted.specs.declared.Span.{Span}
+use Rattle.sorted.specs.declared.Span.the-variants as S
+use Rattle.sorted.specs.declared.Place.{Place}
+use Rattle.sorted.specs.declared.Place.the-variants as P
+use Rattle.sorted.specs.declared.Sought.{Sought}
+use Rattle.sorted.specs.declared.Sought.the-variants as F
+use Rattle.sorted.specs.declared.Found.{Found}
+use Rattle.interner.specs.Strings as strings
+use Rattle.interner.specs.declared.Interned.{Interned}
+use Rattle.interner.specs.declared.Interned.the-variants.{Held, New, Full}
+use Rattle.interner.specs.declared.Span as interner
+use Rattle.interner.specs.declared.Span.the-variants.{Part, Missing}
+use Rattle.append.specs.Append as append
+use Rattle.append.specs.declared.Appended.{Appended}
+use Rattle.append.specs.declared.Appended.the-variants as A
+use Rattle.compact.specs.declared.ArenaMeta.{ArenaMeta}
+use Rattle.compact.specs.declared.CompactNode.{CompactNode}
+use Rattle.compact.specs.declared.CompactWay.{CompactWay}
+use Rattle.compact.specs.declared.CompactRelation.{CompactRelation}
+use Rattle.compact.specs.declared.CompactMember.{CompactMember}
+use Rattle.compact.specs.declared.TagStep.{TagStep}
+use Rattle.compact.specs.declared.TagStep.the-variants as T
+use Rattle.layers.specs.declared.Number.{Number}
+use Rattle.layers.specs.declared.Places.{Places}
+use Rattle.layers.specs.declared.Cursor.{Cursor}
+use Rattle.layers.specs.declared.Strings.{Strings}
+use Rattle.layers.specs.declared.Part as layers
+use Rattle.layers.specs.declared.Meta.{Meta}
+use Rattle.layers.specs.declared.Placed.{Placed}
+use Rattle.layers.specs.declared.Counted.{Counted}
+use Rattle.layers.specs.declared.Member.{Member}
+use Rattle.layers.specs.declared.Step.{Step}
+
+-- ---- lookups
+
+-- 1 for yes, 0 for no, or refused 20
+abbrev pub overlapNumber : Overlap → Number
+overlapNumber O.Yes = record { number = 0; value = 1 }
+overlapNumber O.No = record { number = 0; value = 0 }
+overlapNumber O.NotInOrder = record { number = numberOf refused.NotInOrder; value = 0 }
+
+-- the first place and one past the last, or refused 20
+abbrev pub spanPlaces : Span → Places
+spanPlaces (S.From from to) = record { number = 0; from = from; to = to }
+spanPlaces S.NotInOrder = record { number = numberOf refused.NotInOrder; from = 0; to = 0 }
+
+-- a word from 2^63 on is no place
+abbrev pub noPlace : ℕ
+noPlace = 9223372036854775808
+
+abbrev pub placeOf : ℕ → Place
+placeOf w = cond (ltb w noPlace) (P.At w) P.Fresh
+
+abbrev pub placeWord : Place → ℕ
+placeWord P.Fresh = noPlace
+placeWord (P.At p) = p
+
+-- where the id was found, or no place, or refused 20; and where the cursor stands then
+abbrev pub soughtCursor : Sought → ℕ → Cursor
+soughtCursor (F.At p) place = record { number = 0; found = p; place = place }
+soughtCursor F.Nowhere place = record { number = 0; found = noPlace; place = place }
+soughtCursor F.NotInOrder place = record { number = numberOf refused.NotInOrder; found = noPlace; place = place }
+
+abbrev pub foundCursor : Found → Cursor
+foundCursor f = soughtCursor (f .answer) (placeWord (f .place))
+
+-- ---- strings
+
+-- the handle of a text that is held now, or refused 13; and the counts
+abbrev pub internedStrings : Interned → ℕ → ℕ → Strings
+internedStrings (Held h) strings used = record { number = 0; handle = h; strings = strings; used = used }
+internedStrings (New h) strings used = record { number = 0; handle = h; strings = strings; used = used }
+internedStrings Full strings used = record { number = numberOf refused.StringsFull; handle = 0; strings = strings; used = used }
+
+-- the lent spans and bytes as a call leaves them, and its reply
+pub record Interning : Type 0 where
+  pub spans : List ℕ
+  pub bytes : Bytes
+  pub reply : Strings
+
+abbrev pub interningOf : strings.After → Interning
+interningOf a =
+    record {
+      spans = a .store .spans;
+      bytes = a .store .bytes;
+      reply = internedStrings (a .answer) (a .store .strings) (a .store .used);
+    }
+
+-- where a held text lies; 22 for a handle that is not held or lies past the bytes ("`arena_invariant_broken`: refusal 22")
+abbrev pub spanPart : interner.Span → layers.Part
+spanPart (Part start len) = record { number = 0; start = start; len = len }
+spanPart Missing = record { number = numberOf refused.Unsound; start = 0; len = 0 }
+
+-- ---- records: a struct of the boundary has the fields of the layer's
+
+abbrev pub metaIn : Meta → ArenaMeta
+metaIn m =
+    record {
+      flags = m .flags;
+      version = m .version;
+      timestamp = m .timestamp;
+      changeset = m .changeset;
+      uid = m .uid;
+      user = m .user;
+    }
+
+abbrev pub nodeIn : Placed → CompactNode
+nodeIn n = record { id = n .id; lat = n .lat; lon = n .lon; «tag_count» = n .tags }
+
+abbrev pub wayIn : Counted → CompactWay
+wayIn w = record { id = w .id; «ref_count» = w .count; «tag_count» = w .tags }
+
+abbrev pub relationIn : Counted → CompactRelation
+relationIn r = record { id = r .id; «member_count» = r .count; «tag_count» = r .tags }
+
+abbrev pub memberIn : Member → CompactMember
+memberIn m = record { reference = m .reference; kind = m .kind; role = m .role }
+
+-- where the used bytes end, or refused 15
+abbrev pub appendedNumber : Appended → Number
+appendedNumber (A.End end) = record { number = 0; value = end }
+appendedNumber A.Full = record { number = numberOf refused.ArenaFull; value = 0 }
+
+-- the lent arena as a call leaves it, and its reply
+pub record Appending : Type 0 where
+  pub arena : Bytes
+  pub reply : Number
+
+abbrev pub appendingOf : append.After → Appending
+appendingOf a = record { arena = a .arena; reply = appendedNumber (a .answer) }
+
+-- no tags are left; or refused 22; or a tag
+abbrev pub stepNumbers : TagStep → Step
+stepNumbers T.Done = record { number = 0; done = 1; key = 0; start = 0; len = 0 }
+stepNumbers T.Unsound = record { number = numberOf refused.Unsound; done = 0; key = 0; start = 0; len = 0 }
+stepNumbers (T.Tag key start len) = record { number = 0; done = 0; key = key; start = start; len = len }
