@@ -1,12 +1,12 @@
 -- Document 01: which metadata and which records are legal; "17 flags, handle or type byte not as above, or an unflagged field not 0; then 3, 10, 16".
-use Prim.Native.Nat.{ℕ, zero, suc, _+_}
-use mathlib.Core.Bool.{Bool, true, false, cond, not}
+use Prim.Native.Nat.{ℕ, _+_}
+use mathlib.Core.Bool.{Bool, true, cond}
 use mathlib.Core.Option.{Option, none, some}
 use mathlib.Core.List.{List, [], _∷_}
 use lib.Dec.{ltb, leb, eqb}
-use lib.IntN.{ℤ, pos, natAbs}
+use lib.IntN.{pos, natAbs}
 use lib.ListN.{length}
-use Rattle.base.specs.Bytes.{Bytes, both, either, all}
+use Rattle.base.specs.Bytes.{both, either, all}
 use Rattle.osm_id.specs.Order.{sameId}
 use Rattle.text.specs.Check.{isText}
 use Rattle.refusal.specs.declared.Refusal.{Refusal}

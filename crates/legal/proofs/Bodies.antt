@@ -18,7 +18,7 @@ use Rattle.model.specs.Record.{Member, Body, place, refs, members}
 use Rattle.compact.specs.Layout.{Head}
 use Rattle.compact.specs.Cut.{Cut, andThen, found, cutI64, times, cutMember, cutBody}
 use Rattle.compact.proofs.Format.{first, of-cut}
-use Rattle.legal.specs.Legal.{limits, handle, bodyHandles, inRange, bodyWithin}
+use Rattle.compact.specs.Legal.{limits, handle, bodyHandles, inRange, bodyWithin}
 use Rattle.legal.specs.Judge.{endOf, partsEnd, bodyEnd, placed, countWithin}
 use Rattle.legal.specs.declared.End.the-variants.{At, Bad}
 use Rattle.legal.specs.declared.Part.the-variants.{Role}

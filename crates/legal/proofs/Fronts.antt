@@ -18,7 +18,7 @@ use Rattle.compact.specs.Cut.{Cut, andThen, found, cutMeta, cutTag, cutParts, c
 use Rattle.compact.specs.Held.{metaOf, nodeHead, countsHead, wayHead, relationHead}
 use Rattle.compact.specs.View.{nodeAt, wayAt, relationAt, metaAt, headAt}
 use Rattle.compact.proofs.Format.{first, of-cut}
-use Rattle.legal.specs.Legal.{legalHandles, legalTexts, inRange, withinLimits, limits, faultOf, legal}
+use Rattle.compact.specs.Legal.{legalHandles, legalTexts, inRange, withinLimits, limits, faultOf, legal}
 use Rattle.legal.specs.Judge.{endOf, recordEnd, judged, verdictOf}
 use Rattle.legal.specs.declared.End.{End}
 use Rattle.legal.specs.declared.End.the-variants.{At, Bad}

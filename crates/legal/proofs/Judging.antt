@@ -20,7 +20,7 @@ use Rattle.model.specs.Record.{Meta, Tag, Body, Record}
 use Rattle.compact.specs.Layout.{Head}
 use Rattle.compact.specs.Cut.{Cut, andThen, found, times, cutTag, cutBody, cutParts}
 use Rattle.compact.specs.Held.{nodeHead, countsHead}
-use Rattle.legal.specs.Legal.{limits, handle, legalMeta, bodyHandles, legalHandles, legalTexts, inRange, valueBytes, withinLimits, faultOf}
+use Rattle.compact.specs.Legal.{limits, handle, legalMeta, bodyHandles, legalHandles, legalTexts, inRange, valueBytes, withinLimits, faultOf}
 use Rattle.legal.specs.Judge.{endOf, judged, verdictOf, partsEnd, bodyEnd, ended, placed, countWithin, few, chosen}
 use Rattle.compact.specs.Held.{headIn}
 use Rattle.compact.specs.declared.PushHead.{PushHead}

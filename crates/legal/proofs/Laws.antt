@@ -19,7 +19,7 @@ use Rattle.compact.specs.Layout.{Head, headBytes, metaBytes}
 use Rattle.compact.specs.Cut.{Kept, pushedRecord}
 use Rattle.compact.specs.Fits.{fitsHead, fitsMeta, fitsKept}
 use Rattle.compact.proofs.Cuts.{Parts, pushed, pushed-bytes}
-use Rattle.legal.specs.Legal.{handle, legalMeta, bodyHandles, legalHandles, legalTexts, inRange, withinLimits, limits, faultOf, legal}
+use Rattle.compact.specs.Legal.{handle, legalMeta, bodyHandles, legalHandles, legalTexts, inRange, withinLimits, limits, faultOf, legal}
 use Rattle.legal.specs.Judge.{answered, faultFor}
 use Rattle.legal.specs.Whole.{Whole}
 use Rattle.legal.specs.declared.Fault.the-variants as fault

@@ -17,7 +17,7 @@ use Rattle.kind.specs.Kind.{ofNumber}
 use Rattle.text.specs.Check.{isText}
 use Rattle.model.specs.Record.{Member, Tag}
 use Rattle.compact.specs.Cut.{Cut, found, cutTag}
-use Rattle.legal.specs.Legal.{handle}
+use Rattle.compact.specs.Legal.{handle}
 use Rattle.legal.specs.Judge.{endOf, partEnd, tagEnd}
 use Rattle.legal.specs.declared.End.the-variants.{At, Bad}
 use Rattle.legal.specs.declared.Part.the-variants.{Role, Key, Value}

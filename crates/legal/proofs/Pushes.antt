@@ -13,7 +13,7 @@ use Rattle.refusal.specs.declared.Refusal.{Refusal}
 use Rattle.model.specs.Record.{Meta, Record}
 use Rattle.compact.specs.Layout.{Head}
 use Rattle.compact.specs.Cut.{Cut, cutParts, whole, pushedRecord}
-use Rattle.legal.specs.Legal.{faultOf}
+use Rattle.compact.specs.Legal.{faultOf}
 use Rattle.legal.specs.Judge.{answered, faultFor, judged, verdictOf}
 use Rattle.legal.specs.declared.Fault.{Fault}
 use Rattle.legal.specs.declared.Fault.the-variants as fault

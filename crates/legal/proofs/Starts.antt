@@ -24,7 +24,7 @@ use Rattle.compact.specs.View.{metaAt, headAt}
 use Rattle.compact.specs.Fits.{fitsKept}
 use Rattle.compact.proofs.Cuts.{record-format}
 use Rattle.compact.proofs.Format.{first, of-cut}
-use Rattle.legal.specs.Legal.{legal}
+use Rattle.compact.specs.Legal.{legal}
 use Rattle.legal.specs.Judge.{endOf, recordEnd}
 use Rattle.legal.specs.Whole.{keptBytes, hasId, recordAt, startsAt}
 use Rattle.legal.specs.declared.End.the-variants.{At}

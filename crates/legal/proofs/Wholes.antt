@@ -18,7 +18,7 @@ use Rattle.compact.specs.Fits.{fitsKept}
 use Rattle.compact.proofs.Cuts.{record-format}
 use Rattle.compact.proofs.Format.{of-cut}
 use Rattle.compact.proofs.Lengths.{length-record}
-use Rattle.legal.specs.Legal.{legal}
+use Rattle.compact.specs.Legal.{legal}
 use Rattle.legal.specs.Judge.{recordEnd, endOf}
 use Rattle.legal.specs.Whole.{keptBytes, Whole, legalRest, afterLegal, onward, wholeStep, wholeBy, wholeRecords}
 use Rattle.legal.specs.declared.End.the-variants.{At, Bad}

@@ -16,7 +16,7 @@ use Rattle.model.specs.Record.{Meta, Member, Tag, place, Record}
 use Rattle.compact.specs.Layout.{Head}
 use Rattle.compact.specs.Cut.{Cut, times, cutMember, cutTag, cutBody, cutRecord, Kept}
 use Rattle.compact.specs.Held.{nodeHead, countsHead}
-use Rattle.legal.specs.Legal.{Limits, limits, handle, bodyHandles, inRange, faultOf, legal}
+use Rattle.compact.specs.Legal.{Limits, limits, handle, bodyHandles, inRange, faultOf, legal}
 use Rattle.compact.specs.declared.PushHead.{PushHead}
 use Rattle.legal.specs.declared.Fault.{Fault}
 use Rattle.legal.specs.declared.Fault.the-variants as fault

@@ -14,7 +14,7 @@ use Rattle.kind.specs.declared.Kind.{Kind}
 use Rattle.compact.specs.Layout.{joined, recordBytes}
 use Rattle.compact.specs.Cut.{Cut, Kept, cutRecord}
 use Rattle.compact.specs.Fits.{fitsKept}
-use Rattle.legal.specs.Legal.{legal}
+use Rattle.compact.specs.Legal.{legal}
 
 abbrev pub keptBytes : Kept → Bytes
 keptBytes x = recordBytes (x .id) (x .held)

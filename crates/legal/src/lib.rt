@@ -11,7 +11,7 @@ ghost use Rattle.compact.specs.Cut.{cutParts, pushedRecord};
 ghost use Rattle.compact.specs.Held.{metaOf};
 ghost use Rattle.compact.specs.View.{headAt};
 ghost use Rattle.compact.specs.Layout.{headLen};
-ghost use Rattle.legal.specs.Legal.{legalMeta};
+ghost use Rattle.compact.specs.Legal.{legalMeta};
 ghost use Rattle.legal.specs.Whole.{wholeRecords};
 ghost use Rattle.legal.specs.Judge.{faultFor, recordEnd, verdictOf, partEnd, partsEnd, tagEnd, bodyEnd, ended, placed, few, chosen};
 ghost use Rattle.compact.specs.Held.{headIn};

@@ -1,5 +1,5 @@
 -- A node's place is in range; a way and a relation have none.
-use Rattle.legal.specs.Legal.{inRange}
+use Rattle.compact.specs.Legal.{inRange}
 use Rattle.legal.specs.Judge.{placed}
 use Rattle.legal.proofs.Bits.{and-both}
 use borrow.Author.Needs.{needs}

@@ -1,6 +1,6 @@
 -- Metadata, test by test.
 use Rattle.compact.specs.Held.{metaOf}
-use Rattle.legal.specs.Legal.{legalMeta}
+use Rattle.compact.specs.Legal.{legalMeta}
 use Rattle.legal.proofs.Bits.{meta-tests, zero-bits}
 use borrow.Author.Needs.{needs}
 use Rattle.legal.proofs.legal_meta.Statement.{statement}
