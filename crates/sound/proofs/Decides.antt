@@ -1,45 +1,44 @@
 -- The test decides `SoundShelf`, both ways.
-use Prim.Native.Nat.{ℕ, zero, suc, _+_, _-_, _<_, _≤_}
+use Prim.Native.Nat.{ℕ, _+_, _-_, _≤_}
 use mathlib.Core.Path.{_≡_, refl, sym, _∙_, ap}
 use mathlib.Core.Logic.{_↔_}
-use mathlib.Core.Bool.{Bool, true, false, not}
-use mathlib.Core.Option.{Option, none, some}
+use mathlib.Core.Bool.{Bool, true, false}
+use mathlib.Core.Option.{none, some}
 use mathlib.Core.List.{List, [], _∷_, _++_}
 use native.Mathlib.Omega.{arith}
-use lib.Dec.{ltb, eqb}
 use lib.ListN.{length, take, drop, length-append, length-drop}
 use lib.Seq.{drop-drop, drop-append-seam}
 use mir.Syntax.{w64}
 use mir.Val.{toZ}
 use borrow.Author.Tests.{lt-ltb, le-ltb, eq-eqb, ne-eqb, leb-true, le-leb}
-use Rattle.base.specs.Bytes.{Bytes, both, either, all}
+use Rattle.base.specs.Bytes.{Bytes, both, all}
 use Rattle.base.proofs.Split.{byLt, byLe, byEq, no, both-left, both-right, both-of, both-no-left, both-no-right}
 use Rattle.base.proofs.Lists.{all-head, all-tail}
 use Rattle.little.specs.Little.{isByte, valueAt}
 use Rattle.little.proofs.Littles.{bytes-take}
 use Rattle.kind.specs.declared.Kind.{Kind}
 use Rattle.kind.specs.declared.Kind.the-variants.{Node, Way, Relation}
-use Rattle.osm_id.specs.Order.{sameId, idOf}
+use Rattle.osm_id.specs.Order.{idOf}
 use Rattle.model.specs.Record.{Record}
 use Rattle.compact.specs.Layout.{joined, headLen}
-use Rattle.compact.specs.Cut.{Cut, found, Kept, cutParts, cutRecord}
-use Rattle.compact.specs.Held.{metaOf, nodeHead, wayHead, relationHead, countsHead}
-use Rattle.compact.specs.View.{metaAt, headAt, nodeAt, wayAt, relationAt}
+use Rattle.compact.specs.Cut.{Cut, found, Kept, cutRecord}
+use Rattle.compact.specs.Held.{nodeHead, wayHead, relationHead, countsHead}
+use Rattle.compact.specs.View.{headAt, nodeAt, wayAt, relationAt}
 use Rattle.compact.specs.Fits.{fitsKept}
 use Rattle.compact.proofs.Cuts.{record-format}
 use Rattle.compact.proofs.Format.{first, of-cut}
 use Rattle.compact.specs.Legal.{legal}
 use Rattle.legal.specs.Judge.{endOf, recordEnd}
-use Rattle.legal.specs.Whole.{keptBytes, Whole, wholeRecords, hasId, recordAt, startsAt}
-use Rattle.legal.specs.declared.End.the-variants.{At, Bad}
-use Rattle.legal.proofs.Fronts.{record-is, record-short, end-past}
-use Rattle.legal.proofs.Wholes.{kept-long, kept-unique, sound, complete}
-use Rattle.table.specs.Words.{soundTable, rowsOf}
+use Rattle.legal.specs.Whole.{keptBytes, Whole, recordAt, startsAt}
+use Rattle.legal.specs.declared.End.the-variants.{At}
+use Rattle.legal.proofs.Fronts.{record-is, record-short}
+use Rattle.legal.proofs.Wholes.{kept-long, sound, complete}
+use Rattle.table.specs.Words.{rowsOf}
 use Rattle.table.specs.declared.Row.{Row}
-use Rattle.shelf.specs.Shelf.{Shelf, isLive}
+use Rattle.shelf.specs.Shelf.{Shelf}
 use Rattle.sound.specs.Sound.{soundRow, SoundShelf}
 use Rattle.sound.specs.Check.{comesTo, idThere, recordThere, passes, soundUsed, soundShelf}
-use Rattle.sound.proofs.Walks.{arrived, stuck, steps}
+use Rattle.sound.proofs.Walks.{arrived, steps}
 
 both-true : (t : Bool) → both (both true t) true ≡ t
 unfolding both

@@ -1,12 +1,12 @@
 -- The id at a place, told by its rank.
 use Prim.Native.Nat.{ℕ, _<_}
-use mathlib.Core.Path.{_≡_, refl, sym, _∙_, ap}
-use mathlib.Core.Bool.{Bool, true, false}
+use mathlib.Core.Path.{_≡_, _∙_, ap}
+use mathlib.Core.Bool.{true, false}
 use lib.ListN.{length}
 use mir.Syntax.{w64}
 use mir.Val.{Fits, toZ}
 use borrow.Author.Tests.{lt-ltb}
-use Rattle.base.specs.Bytes.{Bytes, both}
+use Rattle.base.specs.Bytes.{Bytes}
 use Rattle.base.proofs.Split.{byBool, both-of, both-no-right}
 use Rattle.little.specs.Little.{valueAt}
 use Rattle.osm_id.specs.Order.{rank, idOf, sameId}

@@ -1,3 +1,4 @@
 pub mod Walks
 pub mod Ids
 pub mod Decides
+pub mod Keeps

@@ -1,6 +1,6 @@
 -- The test of `SoundShelf`, total for any storage. proofs/Decides shows that it holds exactly where the shelf is sound.
 use Prim.Native.Nat.{ℕ, zero, suc}
-use mathlib.Core.Bool.{Bool, true, false, not, cond}
+use mathlib.Core.Bool.{Bool, false, not, cond}
 use mathlib.Core.List.{List}
 use lib.Dec.{ltb, leb, eqb}
 use lib.ListN.{length, take}

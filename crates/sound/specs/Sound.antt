@@ -2,10 +2,10 @@
 -- known ids strictly in OSM order, each live with an offset where a record of that id starts, or deleted".
 use Prim.Native.Nat.{ℕ, _≤_}
 use mathlib.Core.Path.{_≡_}
-use mathlib.Core.Bool.{Bool, true, false, not}
+use mathlib.Core.Bool.{Bool, true, not}
 use mathlib.Core.List.{List}
 use lib.ListN.{length, take}
-use Rattle.base.specs.Bytes.{Bytes, either, all}
+use Rattle.base.specs.Bytes.{either, all}
 use Rattle.kind.specs.declared.Kind.{Kind}
 use Rattle.osm_id.specs.Order.{idOf}
 use Rattle.compact.specs.Cut.{Kept}

@@ -1,5 +1,5 @@
 -- The bits that are read are those of an i64, whose rank it is.
-use mathlib.Core.Path.{_≡_, _∙_, ap}
+use mathlib.Core.Path.{_∙_, ap}
 use lib.IntN.{ℤ}
 use mir.Facts.{toZ-ofZ, sfits-toZ, fits-of-lt}
 use mir.Val.{toZ, ofZ}

@@ -1,10 +1,8 @@
 -- A rank is that of the id at the place exactly when the id there is its id.
-use Prim.Native.Nat.{ℕ, _<_, _≤_}
-use mathlib.Core.Path.{_≡_, refl, sym, _∙_, ap}
-use mathlib.Core.Bool.{true, false}
+use mathlib.Core.Path.{sym, _∙_, ap}
 use denote.Ref.{now}
-use native.Mathlib.Omega.{arith}
 use lib.ListN.{length}
+use native.Mathlib.Omega.{arith}
 use borrow.Author.Needs.{needs}
 use borrow.Author.Tests.{le-ltb}
 use Rattle.base.specs.Bytes.{both}
@@ -16,7 +14,7 @@ use Rattle.sound.proofs.record_there.Tie as tie
 
 returns : tie.Need-returns
 unfolding recordThere idThere both
-returns c = rw (le-ltb _ _ (c .if1 .taken))
+returns c = let a = c .before .before .args in rw (le-ltb (a .place) (length (now (a .bytes))) (omega arith))
 
 rank-there-requires : tie.Need-rank-there-requires
 rank-there-requires c κs = search needs

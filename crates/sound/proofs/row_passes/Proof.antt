@@ -1,5 +1,4 @@
 -- A place below 2^63 is looked at, any other says that the id is deleted.
-use mathlib.Core.Path.{_≡_, refl, sym, _∙_, ap}
 use borrow.Author.Needs.{needs}
 use borrow.Author.Tests.{lt-ltb, le-ltb}
 use Rattle.base.specs.Bytes.{either}

@@ -1,6 +1,6 @@
 -- Row by row: all rows pass exactly when those from the i-th on do.
-use Prim.Native.Nat.{ℕ, _-_, _≤_}
-use mathlib.Core.Path.{_≡_, refl, sym, _∙_, ap}
+use Prim.Native.Nat.{_-_}
+use mathlib.Core.Path.{_≡_, sym, _∙_, ap}
 use denote.Ref.{now}
 use native.Mathlib.Omega.{arith}
 use borrow.Author.Needs.{needs}

@@ -1,5 +1,5 @@
 -- The three tests, one after the other.
-use mathlib.Core.Path.{_≡_, refl, sym, _∙_, ap}
+use mathlib.Core.Path.{sym, _∙_}
 use borrow.Author.Needs.{needs}
 use Rattle.base.specs.Bytes.{both}
 use Rattle.base.proofs.Split.{both-no-left, both-no-right}
