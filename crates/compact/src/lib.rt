@@ -12,6 +12,7 @@ use version_floor::Version;
 // "Metadata, `META_LEN` 29 bytes"
 pub const META_LEN: usize = 29;
 
+#[repr(C)]
 pub struct ArenaMeta {
     pub flags: u8,
     pub version: u32,
@@ -41,6 +42,7 @@ pub struct CompactRelation {
 }
 
 // A record's head as a direct push gives it, in bits. A node's count is not looked at, nor a way's or a relation's place.
+#[repr(C)]
 pub struct PushHead {
     pub id: u64,
     pub lat: u32,

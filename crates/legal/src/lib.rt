@@ -12,7 +12,6 @@ ghost use Rattle.compact.specs.Held.{metaOf};
 ghost use Rattle.compact.specs.View.{headAt};
 ghost use Rattle.compact.specs.Layout.{headLen};
 ghost use Rattle.compact.specs.Legal.{legalMeta};
-ghost use Rattle.legal.specs.Whole.{wholeRecords};
 ghost use Rattle.legal.specs.Judge.{faultFor, recordEnd, verdictOf, partEnd, partsEnd, tagEnd, bodyEnd, ended, placed, few, chosen};
 ghost use Rattle.compact.specs.Held.{headIn};
 use compact::ArenaMeta;
@@ -357,18 +356,4 @@ pub fn record_end(kind: Kind, bytes: &[u8], at: usize, strings: u64) -> End
         return End::At(at + n);
     }
     End::Bad
-}
-
-// Whether bytes are legal records, end to end.
-pub fn whole_records(kind: Kind, bytes: &[u8], strings: u64) -> bool
-    ensures { λ r. ⌜ r ≡ wholeRecords strings kind (now (bytes .entry)) ⌝ }
-{
-    let mut at: usize = 0;
-    while at < bytes.len() {
-        let End::At(e) = record_end(kind, bytes, at, strings) else {
-            return false;
-        };
-        at = e;
-    }
-    true
 }

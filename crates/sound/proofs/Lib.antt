@@ -1,4 +1,5 @@
-pub mod Walks
+pub mod Counts
 pub mod Ids
+pub mod Walks
 pub mod Decides
 pub mod Keeps

@@ -1,29 +1,23 @@
 // Soundness of what is lent for one kind, decided.
 ghost use mathlib.Core.Path.{_≡_};
+ghost use mathlib.Core.Bool.{true};
 ghost use mir.Syntax.{w64};
 ghost use mir.Val.{toZ};
-ghost use Rattle.base.specs.Bytes.{all};
 ghost use Rattle.little.specs.Little.{valueAt};
 ghost use Rattle.osm_id.specs.Order.{rank, idOf};
-ghost use Rattle.table.specs.Words.{rowsOf};
+ghost use Rattle.table.specs.Words.{rowsOf, soundTable};
 ghost use Rattle.shelf.specs.Shelf.{lent};
-ghost use Rattle.sound.specs.Check.{comesTo, recordThere, passes, soundUsed, soundShelf};
+ghost use Rattle.sound.specs.Check.{soundUsed, soundShelf};
+ghost use Rattle.sound.specs.Count.{one, count, live, pointsAt, walkOf};
 use kind::Kind;
 use legal::End;
+use table::Found;
 use table::Row;
 
-// Whether a walk over the records from the first one on comes to a place.
-fn comes_to(kind: Kind, bytes: &[u8], strings: u64, place: usize) -> bool
-    ensures { λ r. ⌜ r ≡ comesTo strings kind (now (bytes .entry)) place place 0 ⌝ }
-{
-    let mut at: usize = 0;
-    while at < place {
-        let End::At(e) = legal::record_end(kind, bytes, at, strings) else {
-            return false;
-        };
-        at = e;
-    }
-    at == place
+// Bad: a record is not legal or not whole. Hits: at how many records the row of their id points.
+enum Walked {
+    Bad,
+    Hits(usize),
 }
 
 // The rank of the id that stands at a place.
@@ -33,54 +27,72 @@ fn rank_there(bytes: &[u8], place: usize) -> u64
     osm_id::osm_id_rank(signed::i64_of_bits(little::get_u64(bytes, place)))
 }
 
-// Whether a record of the rank's id starts at a place.
-fn record_there(kind: Kind, bytes: &[u8], strings: u64, id: u64, place: usize) -> bool
-    ensures { λ r. ⌜ r ≡ recordThere strings kind (now (bytes .entry)) id place ⌝ }
+// 1 where the row of the id that stands at a place has that place, else 0.
+fn hit(table: &[u64], ids: u64, bytes: &[u8], at: usize) -> usize
+    requires { ⌜ soundTable (now table) ids ≡ true ⌝ }
+    ensures { λ r. ⌜ r ≡ count (pointsAt (now (bytes .entry)) at) (rowsOf (now (table .entry)) ids) ⌝ }
 {
-    if bytes.len() <= place {
-        return false;
+    let Found::At(i) = table::find_row(table, ids, rank_there(bytes, at)) else {
+        return 0;
+    };
+    let row = table::row_at(table, i);
+    if row.place == at as u64 {
+        return 1;
     }
-    if rank_there(bytes, place) == id {
-        return comes_to(kind, bytes, strings, place);
-    }
-    false
+    0
 }
 
-// Whether a row is that of a deleted id, or points at a record of its id.
-fn row_passes(kind: Kind, bytes: &[u8], strings: u64, row: Row) -> bool
-    ensures { λ r. ⌜ r ≡ passes strings kind (now (bytes .entry)) row ⌝ }
+// One walk from record to record; each is judged once, and its id looked up once.
+fn hits(kind: Kind, table: &[u64], ids: u64, bytes: &[u8], strings: u64) -> Walked
+    requires { ⌜ soundTable (now table) ids ≡ true ⌝ }
+    ensures { λ r. ⌜ r ≡ walkOf strings kind (now (table .entry)) ids (now (bytes .entry)) ⌝ }
 {
-    let place = row.place;
-    if place < 0x8000_0000_0000_0000 {
-        return record_there(kind, bytes, strings, row.rank, place as usize);
+    let mut at: usize = 0;
+    let mut n: usize = 0;
+    while at < bytes.len() {
+        let End::At(e) = legal::record_end(kind, bytes, at, strings) else {
+            return Walked::Bad;
+        };
+        n += hit(table, ids, bytes, at);
+        at = e;
     }
-    true
+    Walked::Hits(n)
 }
 
-fn rows_pass(kind: Kind, table: &[u64], ids: u64, bytes: &[u8], strings: u64) -> bool
-    ensures { λ r. ⌜ r ≡ all (passes strings kind (now (bytes .entry))) (rowsOf (now (table .entry)) ids) ⌝ }
+// 1 for the row of a live id, 0 for that of a deleted one.
+fn live_row(row: Row) -> usize
+    ensures { λ r. ⌜ r ≡ one (live row) ⌝ }
+{
+    if row.place < 0x8000_0000_0000_0000 {
+        1
+    } else {
+        0
+    }
+}
+
+// How many rows are those of live ids.
+fn live_rows(table: &[u64], ids: u64) -> usize
+    ensures { λ r. ⌜ r ≡ count live (rowsOf (now (table .entry)) ids) ⌝ }
 {
     let n = ids as usize;
     let mut i: usize = 0;
+    let mut lives: usize = 0;
     while i < n {
-        if row_passes(kind, bytes, strings, table::row_at(table, i)) {
-            i += 1;
-        } else {
-            return false;
-        }
+        lives += live_row(table::row_at(table, i));
+        i += 1;
     }
-    true
+    lives
 }
 
-// The used bytes, then the table, then its rows.
+// The table, then the used bytes. A row has one place, so there are as many hits as live rows exactly when each live row points at a record of its id.
 fn used_sound(kind: Kind, table: &[u64], ids: u64, bytes: &[u8], strings: u64) -> bool
     ensures { λ r. ⌜ r ≡ soundUsed strings kind (now (table .entry)) ids (now (bytes .entry)) ⌝ }
 {
-    if legal::whole_records(kind, bytes, strings) {
-        if table::is_rising(table, ids) {
-            return rows_pass(kind, table, ids, bytes, strings);
-        }
-        return false;
+    if table::is_rising(table, ids) {
+        let Walked::Hits(n) = hits(kind, table, ids, bytes, strings) else {
+            return false;
+        };
+        return n == live_rows(table, ids);
     }
     false
 }

@@ -1,47 +1,54 @@
--- The three tests, one after the other.
+-- The table, the walk over the used bytes, and then the two counts.
 use mathlib.Core.Path.{sym, _∙_}
+use denote.Ref.{now}
 use borrow.Author.Needs.{needs}
-use Rattle.base.specs.Bytes.{both}
 use Rattle.base.proofs.Split.{both-no-left, both-no-right}
 use Rattle.sound.specs.Check.{soundUsed}
+use Rattle.sound.proofs.Walks.{used-bad, used-hits}
 use Rattle.sound.proofs.used_sound.Statement.{statement}
 use Rattle.sound.proofs.used_sound.Tie as tie
-
-whole-records-requires : tie.Need-whole-records-requires
-whole-records-requires c κs = search needs
 
 is-rising-requires : tie.Need-is-rising-requires
 is-rising-requires c κs = search needs
 
-rows-pass-requires : tie.Need-rows-pass-requires
-rows-pass-requires c κs = search needs
+hits-requires : tie.Need-hits-requires
+hits-requires c κs = sym (c .before .is-rising .ensures) ∙ c .if1 .taken
+
+enum-known-n : tie.Need-enum-known-n
+enum-known-n c = search needs
+
+enum-told : tie.Need-enum-told
+enum-told c = search needs
 
 returns : tie.Need-returns
-unfolding soundUsed both
 returns c =
-    let w = c .before .before .before .before .whole-records .ensures in
-    let t = c .before .before .is-rising .ensures in
-    rw (← w, c .before .before .before .if1 .taken, ← t, c .before .if2 .taken) (c .rows-pass .ensures)
+    let a = c .before .before .before .before .before .before .before .args in
+    sym (used-bad (a .strings) (a .kind) (now (a .table)) (a .ids) (now (a .bytes)) (sym (c .enum-told .given .1) ∙ c .before .before .hits .ensures))
+
+live-rows-requires : tie.Need-live-rows-requires
+live-rows-requires c κs = search needs
 
 returns-2 : tie.Need-returns-2
-unfolding soundUsed
 returns-2 c =
-    let t = c .before .is-rising .ensures in
-    sym (both-no-right _ (both-no-left _ _ (sym t ∙ c .if2 .left)))
+    let a = c .before .before .before .before .before .before .before .before .before .args in
+    let h = c .before .before .before .before in
+    let n = c .before .before .n .given in
+    used-hits (a .strings) (a .kind) (now (a .table)) (a .ids) (now (a .bytes)) (n .0 .0) (c .live-rows .result) (sym (n .1) ∙ h .hits .ensures)
+    (sym (h .before .before .is-rising .ensures) ∙ h .before .if1 .taken) (c .live-rows .ensures)
 
 returns-3 : tie.Need-returns-3
 unfolding soundUsed
-returns-3 c =
-    let w = c .before .whole-records .ensures in
-    sym (both-no-left _ _ (sym w ∙ c .if1 .left))
+returns-3 c = sym (both-no-right _ (both-no-left _ _ (sym (c .before .is-rising .ensures) ∙ c .if1 .left)))
 
 pub used-sound-spec : {M : Type 1} → statement M
 used-sound-spec =
     tie.close
     (tie.spec
-    whole-records-requires
     is-rising-requires
-    rows-pass-requires
+    hits-requires
+    enum-known-n
+    enum-told
     returns
+    live-rows-requires
     returns-2
     returns-3)
