@@ -1,15 +1,19 @@
-//! Links the built libraries: the files that TORVASKIN_LIB and TORVASKIN_LAYERS name, else those that
-//! `rt staticlib` writes.
+//! Links the built libraries: the files that TORVASKIN_LIB, TORVASKIN_LAYERS and TORVASKIN_LEVELS name,
+//! else those that `rt staticlib` writes. Each is copied first, so that none is looked for in the
+//! folder of another.
 
-use std::path::PathBuf;
+use std::path::{Path, PathBuf};
 
 fn main() {
-    link("TORVASKIN_LIB", "torvaskin");
-    link("TORVASKIN_LAYERS", "layers");
+    let out = PathBuf::from(std::env::var_os("OUT_DIR").expect("cargo sets it"));
+    println!("cargo::rustc-link-search=native={}", out.display());
+    link(&out, "TORVASKIN_LIB", "torvaskin");
+    link(&out, "TORVASKIN_LAYERS", "layers");
+    link(&out, "TORVASKIN_LEVELS", "levels");
 }
 
 /// Links the file that a variable names, else that of a crate.
-fn link(variable: &str, built: &str) {
+fn link(out: &Path, variable: &str, built: &str) {
     println!("cargo::rerun-if-env-changed={variable}");
     let lib = std::env::var_os(variable).map_or_else(
         || {
@@ -19,19 +23,11 @@ fn link(variable: &str, built: &str) {
         PathBuf::from,
     );
     println!("cargo::rerun-if-changed={}", lib.display());
-    let lib = lib.canonicalize().unwrap_or_else(|e| {
+    std::fs::copy(&lib, out.join(format!("lib{built}.a"))).unwrap_or_else(|e| {
         panic!(
             "no library at {}: {e}; `rt staticlib {built}` builds it",
             lib.display()
         )
     });
-    let name = lib
-        .file_name()
-        .and_then(|n| n.to_str())
-        .and_then(|n| n.strip_prefix("lib"))
-        .and_then(|n| n.strip_suffix(".a"))
-        .expect("a library's name is lib<name>.a");
-    let folder = lib.parent().expect("a file lies in a folder");
-    println!("cargo::rustc-link-search=native={}", folder.display());
-    println!("cargo::rustc-link-lib=static={name}");
+    println!("cargo::rustc-link-lib=static={built}");
 }

@@ -5,6 +5,7 @@ use std::collections::HashMap;
 use quick_xml::events::{BytesEnd, BytesStart, BytesText, Event};
 use quick_xml::lines::{Line, escape, judge_line};
 
+use crate::nesting::Place;
 use crate::osc::CompactDiffOverlay;
 use crate::osc::direct;
 use crate::osc::xml_parse::{JudgeSteps, judge_drive};
@@ -427,7 +428,12 @@ impl Reader {
 
     /// Doc 0, Root 1, Other 2, Section 3, Element 4, Leaf 5, Done 6.
     pub fn level(&self) -> u8 {
-        self.steps.level()
+        self.place().level
+    }
+
+    /// Where the published driver stands.
+    pub fn place(&self) -> Place {
+        self.steps.place()
     }
 
     /// The accepted events.

@@ -4,6 +4,7 @@
 pub mod ground;
 pub mod lent;
 pub mod lookups;
+pub mod nesting;
 pub mod overlay;
 pub mod program;
 pub mod reads;

@@ -22,6 +22,9 @@ pub mod random;
 /// Direct calls of osm_id.rs and version_floor.rs, which keep no state.
 pub mod ground;
 
+/// Direct calls of xml_parse.rs's nesting.
+pub mod nesting;
+
 // What the published files name by these paths.
 pub(crate) use coord::{coord_fmt, coord_pack};
 pub(crate) use error::{Error, Result};

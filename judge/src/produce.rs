@@ -12,30 +12,50 @@ fn line(text: &str) -> Bytes {
     bytes
 }
 
-/// Every kind of event: thirteen names opened and empty, with good fields; a close; another; and a
-/// node with a low version, and one without its coordinates.
+/// An open and an empty element for each.
+fn elements(tails: &[&str]) -> Vec<Bytes> {
+    let both = |tail| {
+        [
+            line(&format!("open|{tail}")),
+            line(&format!("empty|{tail}")),
+        ]
+    };
+    tails.iter().flat_map(both).collect()
+}
+
+/// Thirteen names with good fields.
+const GOOD: [&str; 13] = [
+    "osmChange",
+    "create",
+    "modify",
+    "delete",
+    "node|id=1|version=2|lat7=3|lon7=-4|user=u",
+    "way|id=1|version=2|user=u",
+    "relation|id=1|version=2",
+    "tag|k=a|v=b",
+    "nd|ref=7",
+    "member|type=way|ref=-7|role=r",
+    "bbox",
+    "bounds|x=y",
+    "x",
+];
+
+/// Every kind of event on which nesting decides: thirteen names opened and empty, with good fields; a
+/// close.
+pub fn nested_events() -> Vec<Bytes> {
+    let mut out = elements(&GOOD);
+    out.push(line("close"));
+    out
+}
+
+/// Every kind of event: thirteen names opened and empty, with good fields; a node with a low version,
+/// and one without its coordinates; a close; and another.
 pub fn events() -> Vec<Bytes> {
-    let mut out = Vec::new();
-    for tail in [
-        "osmChange",
-        "create",
-        "modify",
-        "delete",
-        "node|id=1|version=2|lat7=3|lon7=-4|user=u",
-        "way|id=1|version=2|user=u",
-        "relation|id=1|version=2",
-        "tag|k=a|v=b",
-        "nd|ref=7",
-        "member|type=way|ref=-7|role=r",
-        "bbox",
-        "bounds|x=y",
-        "x",
+    let mut out = elements(&GOOD);
+    out.extend(elements(&[
         "node|id=1|version=0|lat7=3|lon7=-4|user=w",
         "node|id=1|version=3|user=z",
-    ] {
-        out.push(line(&format!("open|{tail}")));
-        out.push(line(&format!("empty|{tail}")));
-    }
+    ]));
     out.push(line("close"));
     out.push(line("other"));
     out

@@ -203,3 +203,29 @@ unsafe extern "C" {
     pub fn tvl_member_at(bytes: *const u8, n: usize, i: u32) -> Member;
     pub fn tvl_tag_step(bytes: *const u8, n: usize, offset: usize, remaining: u32) -> Step;
 }
+
+/// Number 0 with what an event does and the place after it, or a refusal with zeros.
+#[repr(C)]
+#[derive(Clone, Copy, Debug, PartialEq, Eq)]
+pub struct Nested {
+    pub number: u32,
+    pub what: u8,
+    pub item: u8,
+    pub level: u8,
+    pub section: u8,
+    pub kind: u8,
+}
+
+// The entries of the nesting machine.
+unsafe extern "C" {
+    pub fn tvl_name_of(s: *const u8, n: usize) -> u8;
+    pub fn tvl_open_at(
+        level: u8,
+        section: u8,
+        kind: u8,
+        empty: u8,
+        s: *const u8,
+        n: usize,
+    ) -> Nested;
+    pub fn tvl_close_at(level: u8, section: u8, kind: u8) -> Nested;
+}

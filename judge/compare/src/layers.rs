@@ -1,10 +1,12 @@
 //! The entries of single layers behind the judge's traits.
 
 use judge::compare::lookups::LookupPort;
+use judge::compare::nesting::{Answer, NestingPort};
 use judge::compare::overlay::Push;
 use judge::compare::reads::{TagPort, TagStep};
 use judge::compare::records::{Head, RecordPort};
 use judge::compare::strings::{StringPort, Taken};
+use judge::nesting::Place;
 use judge::{Kind, Meta};
 
 use crate::ffi;
@@ -227,5 +229,31 @@ impl TagPort for Layers {
             },
             _ => panic!("{step:?}"),
         }
+    }
+}
+
+fn answer(reply: ffi::Nested) -> Answer {
+    Answer {
+        number: reply.number,
+        what: reply.what,
+        item: reply.item,
+        level: reply.level,
+        section: reply.section,
+        kind: reply.kind,
+    }
+}
+
+impl NestingPort for Layers {
+    fn name_of(&self, name: &[u8]) -> u8 {
+        unsafe { ffi::tvl_name_of(name.as_ptr(), name.len()) }
+    }
+
+    fn open_at(&self, at: Place, empty: u8, name: &[u8]) -> Answer {
+        let (from, n) = (name.as_ptr(), name.len());
+        answer(unsafe { ffi::tvl_open_at(at.level, at.section, at.kind, empty, from, n) })
+    }
+
+    fn close_at(&self, at: Place) -> Answer {
+        answer(unsafe { ffi::tvl_close_at(at.level, at.section, at.kind) })
     }
 }

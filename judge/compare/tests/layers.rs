@@ -1,12 +1,12 @@
-//! Lookups in id lists, strings, record bytes, readers and the tag step: single layers against the
-//! judge.
+//! Lookups in id lists, strings, record bytes, readers, the tag step and nesting: single layers against
+//! the judge.
 
 use compare::{Layers, ffi};
 use judge::compare::lookups::LookupPort;
 use judge::compare::overlay::Push;
 use judge::compare::records::{RecordPort, parts};
-use judge::compare::{Compared, lookups, reads, records, strings};
-use judge::random::seed_and_rounds;
+use judge::compare::{Compared, lookups, nesting, reads, records, strings};
+use judge::random::{depth, seed_and_rounds};
 use judge::{Kind, Meta};
 
 #[track_caller]
@@ -56,6 +56,27 @@ fn readers() {
 fn tags() {
     let (seed, rounds) = seed_and_rounds();
     same(reads::tags(&Layers, seed, rounds));
+}
+
+#[test]
+fn nesting_places() {
+    same(nesting::places(&Layers));
+}
+
+#[test]
+fn nesting_codes() {
+    same(nesting::codes(&Layers));
+}
+
+#[test]
+fn nesting_sequences() {
+    same(nesting::sequences(&Layers, depth() + 1));
+}
+
+#[test]
+fn nesting_names() {
+    let (seed, rounds) = seed_and_rounds();
+    same(nesting::names(&Layers, seed, rounds));
 }
 
 /// A word from 2^63 on is a fresh cursor; it comes back as exactly 2^63.
