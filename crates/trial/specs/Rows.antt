@@ -5,8 +5,9 @@ use mathlib.Core.Option.{Option, none, some}
 use mathlib.Core.List.{List, [], _∷_, _++_, map}
 use lib.Dec.{eqb}
 use lib.IntN.{ℤ, pos, negsuc}
-use lib.ListN.{length}
+use lib.ListN.{length, replicate}
 use mir.Syntax.{Width, w32, w64}
+use mir.Val.{toZ}
 use Rattle.base.specs.Ascii.{ascii}
 use Rattle.base.specs.Bytes.{Bytes, both, same}
 use Rattle.kind.specs.declared.Kind.{Kind}
@@ -15,10 +16,26 @@ use Rattle.osm_id.specs.Order.{sameId, keyOf}
 use Rattle.integer.specs.Integer.{integerOf}
 use Rattle.stamp.specs.Stamp.{stamp}
 use Rattle.model.specs.Record.{Meta, Record, place, refs, members}
+use Rattle.refusal.specs.Refusal.{numberOf, heldOf}
 use Rattle.compact.specs.Layout.{recordBytes}
+use Rattle.compact.specs.Held.{metaOf}
+use Rattle.compact.specs.declared.ArenaMeta.{ArenaMeta}
+use Rattle.shelf.specs.declared.Kept.{Kept}
+use Rattle.shelf.specs.declared.Kept.the-variants.{Taken, Refused}
+use Rattle.overlay.specs.Overlay.{Overlay, overlayOf, empty}
+use Rattle.overlay.specs.Calls.{pushOn, deleteOn, internOn}
+use Rattle.overlay.specs.declared.Handle.{Handle}
+use Rattle.overlay.specs.declared.Handle.the-variants as H
 use Rattle.acts.specs.Call.{Call, pushes, deletes, hears, ends, Answered, actsOf}
 use Rattle.page.specs.Summary.{summary}
 use Rattle.page.specs.Listing.{listing}
+use Rattle.calls.specs.Ask as Ask
+use Rattle.calls.specs.Ask.{Ask, leaves}
+
+-- a direct call, and what document 01 says of it: taken, or refused with a number and the version that is held
+pub data Told : Type 0 where
+  accepts : Ask → Told
+  refuses : Ask → ℕ → ℤ → Told
 
 -- a row: what is asked, and what document 01 says of it
 pub data Row : Type 0 where
@@ -27,6 +44,8 @@ pub data Row : Type 0 where
   integer-is : Width → Bytes → Option ℤ → Row
   takes : ℤ → Record ℕ → ℕ → Row
   prints : List Call → Bytes → Row
+  -- direct calls, one after the other, on an overlay that starts empty and refuses regression
+  answers : List Told → Row
 
 unfoldable pub sameNumber : Option ℤ → Option ℤ → Bool
 sameNumber none none = true
@@ -38,12 +57,47 @@ sameNumber (some a) (some b) = sameId a b
 abbrev pub taken : List Call → List Answered
 taken cs = map (λ c. record { call = c; accepted = true }) cs
 
+abbrev pub askOf : Told → Ask
+askOf (accepts c) = c
+askOf (refuses c n v) = c
+
+-- the answer is what is said
+abbrev pub agrees : Told → Kept → Bool
+agrees (accepts c) Taken = true
+agrees (accepts c) (Refused r) = false
+agrees (refuses c n v) Taken = false
+agrees (refuses c n v) (Refused r) = both (eqb (numberOf r) n) (sameId (heldOf r) v)
+
+-- a text that has its handle is taken
+abbrev pub keptIn : Handle → Kept
+keptIn (H.Is h) = Taken
+keptIn (H.Refused r) = Refused r
+
+-- what a direct call answers
+abbrev pub answerTo : Ask → Overlay → Kept
+answerTo (Ask.interns t) o = keptIn (internOn t o .answer)
+answerTo (Ask.pushes k h m parts) o = pushOn k h m parts o .answer
+answerTo (Ask.deletes k id m) o = deleteOn k (toZ w64 id) (metaOf m) o .answer
+
+-- "Each call gets the overlay .. as last left"
+unfoldable pub allAgree : Overlay → List Told → Bool
+allAgree o [] = true
+allAgree o (t ∷ ts) = both (agrees t (answerTo (askOf t) o)) (allAgree (leaves (askOf t) o) ts)
+
+abbrev pub zeros : ℕ → Bytes
+zeros n = replicate n 0
+
+-- an empty overlay that refuses regression: two ids and 128 arena bytes a kind, two strings, 8 string bytes, nine counters
+abbrev pub small : Overlay
+small = empty 0 (overlayOf (zeros 6) (zeros 128) (zeros 6) (zeros 128) (zeros 6) (zeros 128) (zeros 4) (zeros 8) (zeros 9))
+
 unfoldable pub right : Row → Bool
 right (key-of id class magnitude) = both (eqb (keyOf id .class) class) (eqb (keyOf id .magnitude) magnitude)
 right (stamp-is s v) = sameNumber (stamp s) v
 right (integer-is w s v) = sameNumber (integerOf w s) v
 right (takes id r n) = eqb (length (recordBytes id r)) n
 right (prints cs page) = same (listing (summary (actsOf (taken cs)))) page
+right (answers ts) = allAgree small ts
 
 -- ---- Input A and Output A
 
@@ -85,6 +139,21 @@ relationOfOne = record { meta = noMeta; body = members (record { ref = pos 1; ty
 abbrev pub version : ℤ → Meta ℕ
 version v = record { flags = 9; version = v; timestamp = pos 0; changeset = pos 0; uid = pos 0; user = 0 }
 
+-- ---- calls on way 5, which has no refs and no tags
+
+-- metadata with a version, and without
+abbrev pub at-version : ℕ → ArenaMeta
+at-version v = record { flags = 9; version = v; timestamp = 0; changeset = 0; uid = 0; user = 0 }
+
+abbrev pub unversioned : ArenaMeta
+unversioned = record { flags = 0; version = 0; timestamp = 0; changeset = 0; uid = 0; user = 0 }
+
+abbrev pub pushing : ArenaMeta → Ask
+pushing m = Ask.pushes Way (record { id = 5; lat = 0; lon = 0; count = 0; tags = 0 }) m []
+
+abbrev pub deleting : ArenaMeta → Ask
+deleting m = Ask.deletes Way 5 m
+
 -- ---- the table
 
 abbrev pub rows : List Row
@@ -98,6 +167,14 @@ rows =
     ∷ stamp-is (ascii "1900-02-29T00:00:00Z") none
     ∷ integer-is w32 (ascii "2147483647") (some (pos 2147483647))
     ∷ integer-is w32 (ascii "2147483648") none
+    -- way 5 at version 4, then delete at 3: refused 12, held 4; delete at 4 taken; then an unversioned push taken; then version 3 refused 12, held 4
+    ∷ answers
+    (accepts (pushing (at-version 4))
+    ∷ refuses (deleting (at-version 3)) 12 (pos 4)
+    ∷ accepts (deleting (at-version 4))
+    ∷ accepts (pushing unversioned)
+    ∷ refuses (pushing (at-version 3)) 12 (pos 4)
+    ∷ [])
     -- a node with one tag value `yes`, a way with two refs, a relation with one member
     ∷ takes (pos 1) taggedNode 60
     ∷ takes (pos 1) wayOfTwo 61

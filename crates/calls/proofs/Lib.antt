@@ -1,0 +1,9 @@
+pub mod Rows
+pub mod Lengths
+pub mod Texts
+pub mod Small
+pub mod Shelves
+pub mod Tells
+pub mod Stands
+pub mod Lists
+pub mod Theorems

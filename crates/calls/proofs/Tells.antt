@@ -1,0 +1,199 @@
+-- What a shelf tells is what the accepted acts on its kind come to: an accepted push, an accepted delete, an act on another kind and a text taken in keep that.
+use Prim.Native.Nat.{ℕ, _+_, _<_}
+use mathlib.Core.Path.{_≡_, refl, sym, _∙_, ap}
+use mathlib.Core.Bool.{Bool, true, false, cond}
+use mathlib.Core.Option.{some}
+use mathlib.Core.List.{List, [], _∷_, _++_}
+use native.Mathlib.Omega.{arith}
+use lib.IntN.{ℤ}
+use lib.ListN.{length}
+use mir.Syntax.{w64}
+use mir.Val.{SFits}
+use borrow.Author.Tests.{ltb-true}
+use Rattle.base.specs.Bytes.{Bytes}
+use Rattle.base.proofs.Split.{byBool, byEq, both-left, both-right}
+use Rattle.kind.specs.Kind.{sameKind}
+use Rattle.kind.specs.declared.Kind.{Kind}
+use Rattle.kind.proofs.Numbers as Numbers
+use Rattle.osm_id.specs.Order.{rank}
+use Rattle.osm_id.proofs.Orders.{rank-injective}
+use Rattle.version_floor.specs.Version.{higher}
+use Rattle.version_floor.specs.declared.Version.{Version}
+use Rattle.interner.specs.Texts.{textOf}
+use Rattle.model.specs.Record.{Meta, Body, place, refs, members, kindOf, claimOf}
+use Rattle.model.specs.Act.{Act, Key, push, delete, keyOf, claimedBy, leftBy}
+use Rattle.model.specs.Swap.{swapRecord}
+use Rattle.model.proofs.Keys.{same-key, other-key}
+use Rattle.model.proofs.Swaps.{body-kind, act-key, act-claim}
+use Rattle.compact.specs.Layout.{Head, headBytes, metaBytes, headOf, partsBytes, recordBytes}
+use Rattle.compact.specs.Cut.{Kept}
+use Rattle.compact.specs.Fits.{fitsSigned, fitsMeta, fitsHead, fitting, fitsKept}
+use Rattle.compact.specs.Legal.{legal}
+use Rattle.legal.specs.Whole.{keptBytes}
+use Rattle.table.specs.Rows.{find}
+use Rattle.table.specs.Words.{rowsFrom, rowsOf}
+use Rattle.table.proofs.Tables.{sound-empty}
+use Rattle.page.specs.Summary as Summary
+use Rattle.page.proofs.Tables.{known-more}
+use Rattle.shelf.specs.Shelf.{Shelf, lent, known, pushed, deleted}
+use Rattle.shelf.specs.Fair.{Fair}
+use Rattle.shelf.specs.declared.Kept.the-variants.{Taken}
+use Rattle.shelf.proofs.Claims.{Narrow}
+use Rattle.shelf.proofs.Shelves.{known-none, push-used, push-raises, push-other, delete-used, delete-raises, delete-other}
+use Rattle.sound.specs.Sound.{SoundShelf}
+use Rattle.calls.specs.Known.{recordLength, pushedBy, pushedBytes}
+use Rattle.calls.proofs.Rows.{kept-kind}
+use Rattle.calls.proofs.Lengths.{record-length, pushed-more}
+use Rattle.calls.proofs.Shelves.{lastOf, last-agrees, push-last, push-last-other, delete-last, delete-last-other}
+
+abbrev pub keyIn : Kind → ℤ → Key
+keyIn k id = record { kind = k; id = id }
+
+-- a shelf of a kind and the accepted acts; the highest version only while regression is refused
+pub record Tells (k : Kind) (setting : ℕ) (s : Shelf) (held : List Bytes) (acts : List (Act Bytes)) : Type 0 where
+  pub used : s .used ≡ pushedBytes k acts
+  pub last : (id : ℤ) → SFits w64 id → lastOf k s (textOf held) id ≡ Summary.known acts (keyIn k id) .last
+  pub high : setting ≡ 0 → (id : ℤ) → SFits w64 id → known k s id ≡ Summary.known acts (keyIn k id) .high
+
+-- ---- what is known after one act more
+
+module _ (acts : List (Act Bytes)) (a : Act Bytes) (key : Key) where
+  known-own : key ≡ keyOf a → Summary.known (acts ++ (a ∷ [])) key ≡ Summary.learn a (Summary.known acts key)
+  known-own e = known-more acts a key ∙ rw (same-key key (keyOf a) .1 e)
+
+  known-other : (key ≡ keyOf a → ⊥) → Summary.known (acts ++ (a ∷ [])) key ≡ Summary.known acts key
+  known-other n = known-more acts a key ∙ rw (other-key key (keyOf a) n)
+
+-- ---- an act on an id of the kind
+
+module _ (k : Kind) (setting : ℕ) (s t : Shelf) (held : List Bytes) (acts : List (Act Bytes)) (a : Act Bytes) (id : ℤ) (fits : SFits w64 id) (own : keyIn k id ≡ keyOf a) where
+  -- what holds of its own id and of the others makes what holds of all
+  tells-on : Tells k setting s held acts → t .used ≡ s .used + pushedBy k a
+      → lastOf k t (textOf held) id ≡ some (leftBy a)
+      → ((other : ℤ) → (rank other ≡ rank id → ⊥) → lastOf k t (textOf held) other ≡ lastOf k s (textOf held) other)
+      → (setting ≡ 0 → known k t id ≡ higher (known k s id) (claimedBy a))
+      → ((other : ℤ) → (rank other ≡ rank id → ⊥) → known k t other ≡ known k s other)
+      → Tells k setting t held (acts ++ (a ∷ []))
+  tells-on w used last lasts high highs =
+      record {
+        used = used ∙ (ap (λ (n : ℕ). n + pushedBy k a) (w .used) ∙ sym (pushed-more k acts a));
+        last = λ i f.
+            byEq (rank i) (rank id)
+            (λ e. let q : i ≡ id = rank-injective f fits e in rw (q, known-own acts a (keyIn k id) own) last)
+            (λ n. rw (known-other acts a (keyIn k i) (other i n)) (lasts i n ∙ w .last i f));
+        high = λ z i f.
+            byEq (rank i) (rank id)
+            (λ e. let q : i ≡ id = rank-injective f fits e in rw (q, known-own acts a (keyIn k id) own, ← w .high z id fits) (high z))
+            (λ n. rw (known-other acts a (keyIn k i) (other i n)) (highs i n ∙ w .high z i f));
+      }
+    where
+      other : (i : ℤ) → (rank i ≡ rank id → ⊥) → keyIn k i ≡ keyOf a → ⊥
+      other i n e = n (ap (λ (x : Key). rank (x .id)) (e ∙ sym own))
+
+-- ---- an act on another kind
+
+other-kind : (a b : Kind) → (a ≡ b → ⊥) → sameKind a b ≡ false
+other-kind a b n = byBool (sameKind a b) (λ t. absurd (n (Numbers.same-yes a b t))) (λ t. t)
+
+pushed-other : (k : Kind) (a : Act Bytes) → (k ≡ keyOf a .kind → ⊥) → pushedBy k a ≡ 0
+pushed-other k (push id r) n = ap (λ (t : Bool). cond t (recordLength r) 0) (other-kind k (kindOf (r .body)) n)
+pushed-other k (delete j id claim) n = refl
+
+pub tells-other : (k : Kind) (setting : ℕ) (s : Shelf) (held : List Bytes) (acts : List (Act Bytes)) (a : Act Bytes) → (k ≡ keyOf a .kind → ⊥)
+    → Tells k setting s held acts → Tells k setting s held (acts ++ (a ∷ []))
+tells-other k setting s held acts a n w =
+    let other : (id : ℤ) → keyIn k id ≡ keyOf a → ⊥ = λ id e. n (ap (λ (x : Key). x .kind) e) in
+    record {
+      used = rw (pushed-more k acts a, pushed-other k a n) (omega (arith, w .used));
+      last = λ id f. rw (known-other acts a (keyIn k id) (other id)) (w .last id f);
+      high = λ z id f. rw (known-other acts a (keyIn k id) (other id)) (w .high z id f);
+    }
+
+-- ---- an accepted push of a legal record under its own id
+
+head-id-fits : (id : ℤ) (b : Body ℕ) (n : ℕ) → fitsHead (kindOf b) (headOf id b n) ≡ true → fitsSigned w64 id ≡ true
+unfolding fitsHead headOf
+head-id-fits id (place lat lon) n h = both-left _ _ h
+head-id-fits id (refs rs) n h = both-left _ _ h
+head-id-fits id (members ms) n h = both-left _ _ h
+
+pub id-fits : (k : Kind) (x : Kept) → fitsKept k x ≡ true → fitsSigned w64 (x .id) ≡ true
+unfolding fitsKept fitting
+id-fits k x h = head-id-fits (x .id) (x .held .body) (length (x .held .tags)) (both-left _ _ (both-right _ _ h))
+
+pub signed-fits : (id : ℤ) → fitsSigned w64 id ≡ true → SFits w64 id
+unfolding fitsSigned
+signed-fits id h = record { sfits = ltb-true _ _ h }
+
+meta-fits : (k : Kind) (x : Kept) → fitsKept k x ≡ true → fitsMeta (x .held .meta) ≡ true
+unfolding fitsKept fitting
+meta-fits k x h = both-left _ _ (both-right _ _ (both-right _ _ h))
+
+-- a record's bytes begin with its head and its metadata
+kept-parts : (k : Kind) (x : Kept) → fitsKept k x ≡ true
+    → keptBytes x ≡ headBytes k (headOf (x .id) (x .held .body) (length (x .held .tags))) ++ metaBytes (x .held .meta) ++ partsBytes (x .held)
+unfolding recordBytes
+kept-parts k x h = rw (kept-kind k x h)
+
+bytes-raise : (k : Kind) (setting : ℕ) (s : Shelf) (id : ℤ) (h : Head) (m : Meta ℕ) (parts bytes : Bytes) → bytes ≡ headBytes k h ++ metaBytes m ++ parts → Fair k s → fitsMeta m ≡ true
+    → pushed k setting s id (claimOf m) bytes .answer ≡ Taken → setting ≡ 0 → known k (pushed k setting s id (claimOf m) bytes .shelf) id ≡ higher (known k s id) (claimOf m)
+bytes-raise k setting s id h m parts bytes e fair f taken z = rw e (push-raises k setting s id h m parts fair f (rw e at taken) z)
+
+-- the act that a push of a record is, where these texts are held
+abbrev pub pushOf : List Bytes → Kept → Act Bytes
+pushOf held x = push (x .id) (swapRecord (textOf held) (x .held))
+
+pub push-key : (k : Kind) (held : List Bytes) (x : Kept) → fitsKept k x ≡ true → keyIn k (x .id) ≡ keyOf (pushOf held x)
+push-key k held x fits = ap (λ (j : Kind). keyIn j (x .id)) (sym (kept-kind k x fits)) ∙ sym (act-key (textOf held) (push (x .id) (x .held)))
+
+module _ (strings : ℕ) (k : Kind) (setting : ℕ) (s : Shelf) (held : List Bytes) (acts : List (Act Bytes)) (w : SoundShelf strings k s) (fair : Fair k s) (told : Tells k setting s held acts) where
+  module _ (x : Kept) (fits : fitsKept k x ≡ true) (lawful : legal strings (x .held) ≡ true)
+      (taken : pushed k setting s (x .id) (claimOf (x .held .meta)) (keptBytes x) .answer ≡ Taken) where
+    own-used : pushed k setting s (x .id) (claimOf (x .held .meta)) (keptBytes x) .shelf .used ≡ s .used + pushedBy k (pushOf held x)
+    own-used =
+        rw (push-used k setting s (x .id) (claimOf (x .held .meta)) (keptBytes x) taken, body-kind (textOf held) (x .held .body), kept-kind k x fits, Numbers.same-refl k, record-length (textOf held) (x .id) (x .held))
+
+    pub tells-push : Tells k setting (pushed k setting s (x .id) (claimOf (x .held .meta)) (keptBytes x) .shelf) held (acts ++ (pushOf held x ∷ []))
+    tells-push =
+        let claim = claimOf (x .held .meta) in
+        let t = pushed k setting s (x .id) claim (keptBytes x) .shelf in
+        let h = headOf (x .id) (x .held .body) (length (x .held .tags)) in
+        tells-on k setting s t held acts (pushOf held x) (x .id) (signed-fits (x .id) (id-fits k x fits)) (push-key k held x fits) told own-used
+        (push-last strings k setting s x fits lawful w taken (textOf held) (fair .short))
+        (push-last-other strings k setting s x fits lawful w taken (textOf held))
+        (λ z. bytes-raise k setting s (x .id) h (x .held .meta) (partsBytes (x .held)) (keptBytes x) (kept-parts k x fits) fair (meta-fits k x fits) taken z
+        ∙ ap (higher (known k s (x .id))) (sym (act-claim (textOf held) (push (x .id) (x .held)))))
+        (push-other k setting s (x .id) claim (keptBytes x) taken fair)
+
+  -- ---- an accepted delete
+
+  pub tells-delete : (id : ℤ) (claim : Version) → SFits w64 id → Narrow claim → deleted k setting s id claim .answer ≡ Taken
+      → Tells k setting (deleted k setting s id claim .shelf) held (acts ++ (delete k id claim ∷ []))
+  tells-delete id claim f n taken =
+      let t = deleted k setting s id claim .shelf in
+      tells-on k setting s t held acts (delete k id claim) id f refl told (omega (arith, delete-used k setting s id claim fair taken))
+      (delete-last strings k setting s id claim w fair taken (textOf held))
+      (delete-last-other strings k setting s id claim w fair taken (textOf held))
+      (λ z. delete-raises k setting s id claim fair taken n)
+      (delete-other k setting s id claim fair taken)
+
+  -- ---- more texts held
+
+  pub tells-texts : (more : List Bytes) → ((h : ℕ) → h < strings → textOf held h ≡ textOf more h) → Tells k setting s more acts
+  tells-texts more a =
+      record {
+        used = told .used;
+        last = λ id f. sym (last-agrees strings k s w (textOf held) (textOf more) a id) ∙ told .last id f;
+        high = told .high;
+      }
+
+-- ---- a shelf that holds nothing
+
+pub tells-nothing : (k : Kind) (setting : ℕ) (table : List ℕ) (arena : Bytes) (held : List Bytes) → Tells k setting (lent table 0 arena 0) held []
+unfolding pushedBytes Summary.known Summary.knownFrom rowsOf rowsFrom find
+tells-nothing k setting table arena held =
+    record {
+      used = refl;
+      last = λ id f. refl;
+      high = λ z id f. known-none k (lent table 0 arena 0) (sound-empty table) id refl;
+    }

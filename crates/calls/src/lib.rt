@@ -1,0 +1,1 @@
+// Lists of calls on an overlay: laws alone, no code.

@@ -1,0 +1,8 @@
+pub mod Parts
+pub mod Decides
+pub mod Answers
+pub mod Bounds
+pub mod Shelves
+pub mod Keeps
+pub mod First
+pub mod Witness

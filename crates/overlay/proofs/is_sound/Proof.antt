@@ -1,0 +1,52 @@
+-- Sizes, strings, then the kinds; the first that fails decides.
+use denote.Ref.{now}
+use Rattle.base.specs.Bytes.{both}
+use Rattle.overlay.specs.Sound.{isSound}
+use borrow.Author.Needs.{needs}
+use Rattle.overlay.proofs.is_sound.Statement.{statement}
+use Rattle.overlay.proofs.is_sound.Tie as tie
+
+sizes-fit-requires : tie.Need-sizes-fit-requires
+sizes-fit-requires c κs = search needs
+
+element-copy-out-sound-strings : tie.Need-element-copy-out-sound-strings
+element-copy-out-sound-strings c = search needs
+
+element-copy-out-sound-strings-2 : tie.Need-element-copy-out-sound-strings-2
+element-copy-out-sound-strings-2 c = search needs
+
+sound-strings-requires : tie.Need-sound-strings-requires
+sound-strings-requires c κs = search needs
+
+shelves-sound-requires : tie.Need-shelves-sound-requires
+shelves-sound-requires c κs = search needs
+
+returns : tie.Need-returns
+unfolding isSound both
+returns c =
+    let k = c .before .before .before .before .before .before .before .before .before .before .before .before .before .before .before .args in
+    rw (← c .before .before .before .before .before .before .sizes-fit .ensures (now (k .counts)), c .before .before .before .before .before .if1 .taken, ← c .before .before .sound-strings .ensures, c .before .if2 .taken)
+    (c .shelves-sound .ensures (now (k .spans)) (now (k .bytes)))
+
+returns-2 : tie.Need-returns-2
+unfolding isSound both
+returns-2 c =
+    rw (← c .before .before .before .before .before .sizes-fit .ensures (now (c .before .before .before .before .before .before .before .before .before .before .before .before .before .before .args .counts)), c .before .before .before .before .if1 .taken, ← c .before .sound-strings .ensures, c .if2 .left)
+
+returns-3 : tie.Need-returns-3
+unfolding isSound both
+returns-3 c =
+    rw (← c .before .sizes-fit .ensures (now (c .before .before .before .before .before .before .before .before .before .before .args .counts)), c .if1 .left)
+
+pub is-sound-spec : {M : Type 1} → statement M
+is-sound-spec =
+    tie.close
+    (tie.spec
+    sizes-fit-requires
+    element-copy-out-sound-strings
+    element-copy-out-sound-strings-2
+    sound-strings-requires
+    shelves-sound-requires
+    returns
+    returns-2
+    returns-3)

@@ -1,0 +1,35 @@
+-- The sizes of each kind and of the strings.
+use lib.ListN.{getD}
+use Rattle.overlay.specs.Overlay.{sizesFit}
+use Rattle.overlay.proofs.Parts.{all-four}
+use borrow.Author.Needs.{needs}
+use Rattle.overlay.proofs.sizes_fit.Statement.{statement}
+use Rattle.overlay.proofs.sizes_fit.Tie as tie
+
+shelf-fits-requires : tie.Need-shelf-fits-requires
+shelf-fits-requires c κs = search needs
+
+shelf-fits-requires-2 : tie.Need-shelf-fits-requires-2
+shelf-fits-requires-2 c κs = search needs
+
+shelf-fits-requires-3 : tie.Need-shelf-fits-requires-3
+shelf-fits-requires-3 c κs = search needs
+
+texts-fit-requires : tie.Need-texts-fit-requires
+texts-fit-requires c κs = search needs
+
+returns : tie.Need-returns
+unfolding sizesFit
+returns c counts =
+    rw (← c .before .before .before .shelf-fits .ensures (getD counts 0 0) (getD counts 3 0), ← c .before .before .shelf-fits2 .ensures (getD counts 1 0) (getD counts 4 0), ← c .before .shelf-fits3 .ensures (getD counts 2 0) (getD counts 5 0), ← c .texts-fit .ensures (getD counts 6 0) (getD counts 7 0))
+    (all-four _ _ _ _)
+
+pub sizes-fit-spec : {M : Type 1} → statement M
+sizes-fit-spec =
+    tie.close
+    (tie.spec
+    shelf-fits-requires
+    shelf-fits-requires-2
+    shelf-fits-requires-3
+    texts-fit-requires
+    returns)

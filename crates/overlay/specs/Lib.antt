@@ -1,0 +1,5 @@
+pub mod Overlay
+pub mod Given
+pub mod Sound
+pub mod Calls
+pub mod First

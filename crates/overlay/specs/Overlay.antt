@@ -1,0 +1,98 @@
+-- Document 01, parse.rs: the overlay, as it is lent: for each kind an id table and an arena; the strings; the used counts and the regression setting.
+use Prim.Native.Nat.{ℕ, _/_}
+use mathlib.Core.List.{List, [], _∷_}
+use mathlib.Core.Bool.{Bool}
+use lib.Dec.{leb}
+use lib.ListN.{length, getD}
+use Rattle.base.specs.Bytes.{Bytes, both}
+use Rattle.kind.specs.declared.Kind.{Kind}
+use Rattle.kind.specs.declared.Kind.the-variants.{Node, Way, Relation}
+use Rattle.interner.specs.Strings.{Store}
+use Rattle.interner.specs.Strings as Strings
+use Rattle.interner.specs.Sound.{freshSpans}
+use Rattle.shelf.specs.Shelf.{Shelf}
+use Rattle.shelf.specs.Shelf as Shelf
+
+pub record Overlay : Type 0 where
+  pub nodes : Shelf
+  pub ways : Shelf
+  pub relations : Shelf
+  pub texts : Store
+  -- 0 while regression is refused
+  pub setting : ℕ
+
+-- the overlay that lent parts make. Counters: the used ids of each kind, the used arena bytes of each kind, the held strings, the used string bytes, the setting.
+abbrev pub overlayOf : List ℕ → Bytes → List ℕ → Bytes → List ℕ → Bytes → List ℕ → Bytes → List ℕ → Overlay
+overlayOf nids narena wids warena rids rarena spans bytes counts =
+    record {
+      nodes = Shelf.lent nids (getD counts 0 0) narena (getD counts 3 0);
+      ways = Shelf.lent wids (getD counts 1 0) warena (getD counts 4 0);
+      relations = Shelf.lent rids (getD counts 2 0) rarena (getD counts 5 0);
+      texts = Strings.lent spans bytes (getD counts 6 0) (getD counts 7 0);
+      setting = getD counts 8 0;
+    }
+
+-- the counters of an overlay
+abbrev pub countsOf : Overlay → List ℕ
+countsOf o =
+    o .nodes .ids ∷ o .ways .ids ∷ o .relations .ids ∷ o .nodes .used ∷ o .ways .used ∷ o .relations .used
+    ∷ o .texts .strings ∷ o .texts .used ∷ o .setting ∷ []
+
+-- what is lent for a kind
+abbrev pub shelfOf : Kind → Overlay → Shelf
+shelfOf Node o = o .nodes
+shelfOf Way o = o .ways
+shelfOf Relation o = o .relations
+
+abbrev pub withShelf : Kind → Shelf → Overlay → Overlay
+withShelf Node s o = record { nodes = s; ways = o .ways; relations = o .relations; texts = o .texts; setting = o .setting }
+withShelf Way s o = record { nodes = o .nodes; ways = s; relations = o .relations; texts = o .texts; setting = o .setting }
+withShelf Relation s o = record { nodes = o .nodes; ways = o .ways; relations = s; texts = o .texts; setting = o .setting }
+
+abbrev pub withTexts : Store → Overlay → Overlay
+withTexts t o = record { nodes = o .nodes; ways = o .ways; relations = o .relations; texts = t; setting = o .setting }
+
+abbrev pub withSetting : ℕ → Overlay → Overlay
+withSetting setting o = record { nodes = o .nodes; ways = o .ways; relations = o .relations; texts = o .texts; setting = setting }
+
+-- ---- set-up
+
+-- "1 lent size outside: ids 1 to 4,096 a kind, arena 0 to 1,048,576 bytes a kind, strings 1 to 4,096, string bytes 0 to 65,536"
+pub record Sizes : Type 0 where
+  pub ids : ℕ
+  pub arena : ℕ
+  pub strings : ℕ
+  pub bytes : ℕ
+
+abbrev pub largest : Sizes
+largest = record { ids = 4096; arena = 1048576; strings = 4096; bytes = 65536 }
+
+-- as many ids as the table has rows of three words, as many strings as there are spans of two
+abbrev pub idsLent : Shelf → ℕ
+idsLent s = length (s .table) / 3
+
+abbrev pub stringsLent : Store → ℕ
+stringsLent t = length (t .spans) / 2
+
+unfoldable pub shelfFits : Sizes → Shelf → Bool
+shelfFits z s = both (leb 1 (idsLent s)) (both (leb (idsLent s) (z .ids)) (leb (length (s .arena)) (z .arena)))
+
+unfoldable pub textsFit : Sizes → Store → Bool
+textsFit z t = both (leb 1 (stringsLent t)) (both (leb (stringsLent t) (z .strings)) (leb (length (t .bytes)) (z .bytes)))
+
+unfoldable pub sizesFit : Sizes → Overlay → Bool
+sizesFit z o = both (shelfFits z (o .nodes)) (both (shelfFits z (o .ways)) (both (shelfFits z (o .relations)) (textsFit z (o .texts))))
+
+abbrev pub emptied : Shelf → Shelf
+emptied s = Shelf.lent (s .table) 0 (s .arena) 0
+
+-- an empty overlay: no id, no record, and the empty text alone. Only the counters and the span of handle 0 are written.
+abbrev pub empty : ℕ → Overlay → Overlay
+empty setting o =
+    record {
+      nodes = emptied (o .nodes);
+      ways = emptied (o .ways);
+      relations = emptied (o .relations);
+      texts = Strings.lent (freshSpans (o .texts .spans)) (o .texts .bytes) 1 0;
+      setting = setting;
+    }
