@@ -1,6 +1,6 @@
-//! Links the built libraries: the files that TORVASKIN_LIB, TORVASKIN_LAYERS and TORVASKIN_LEVELS name,
-//! else those that `rt staticlib` writes. Each is copied first, so that none is looked for in the
-//! folder of another.
+//! Links the built libraries: the files that TORVASKIN_LIB, TORVASKIN_SORTED, TORVASKIN_OVERLAY,
+//! TORVASKIN_READING, TORVASKIN_LAYERS and TORVASKIN_LEVELS name, else those that `rt staticlib` writes. Each is copied
+//! first, so that none is looked for in the folder of another.
 
 use std::path::{Path, PathBuf};
 
@@ -8,6 +8,9 @@ fn main() {
     let out = PathBuf::from(std::env::var_os("OUT_DIR").expect("cargo sets it"));
     println!("cargo::rustc-link-search=native={}", out.display());
     link(&out, "TORVASKIN_LIB", "torvaskin");
+    link(&out, "TORVASKIN_SORTED", "sorted_c");
+    link(&out, "TORVASKIN_OVERLAY", "overlay_c");
+    link(&out, "TORVASKIN_READING", "reading_c");
     link(&out, "TORVASKIN_LAYERS", "layers");
     link(&out, "TORVASKIN_LEVELS", "levels");
 }

@@ -104,6 +104,11 @@ impl Overlay {
         self.inner.judge_known(kind, id)
     }
 
+    /// Where the live record of an id starts in its arena.
+    pub fn place(&self, kind: Kind, id: i64) -> Option<usize> {
+        self.inner.judge_index(kind).get(&id).copied()
+    }
+
     pub fn is_empty(&self) -> bool {
         self.inner.is_empty()
     }
@@ -142,6 +147,11 @@ impl Overlay {
 
     pub fn sorted_record(&self, kind: Kind, n: usize) -> Record {
         direct::sorted_record(&self.inner, kind, n)
+    }
+
+    /// Live ids, deleted ids.
+    pub fn sorted_ids(&self, kind: Kind) -> (Vec<i64>, Vec<i64>) {
+        direct::sorted_ids(&self.inner, kind)
     }
 
     pub fn state(&self) -> State {
@@ -266,10 +276,10 @@ impl Stop {
 /// Lent sizes. The published Rust has none: 13 to 16 and 19 are document 01's words.
 #[derive(Clone, Copy, Debug, PartialEq, Eq)]
 pub struct Sizes {
-    /// A kind.
-    pub ids: usize,
-    /// A kind.
-    pub arena: usize,
+    /// For each kind.
+    pub ids: [usize; 3],
+    /// For each kind.
+    pub arenas: [usize; 3],
     pub strings: usize,
     pub string_bytes: usize,
     pub output: usize,
@@ -278,8 +288,8 @@ pub struct Sizes {
 impl Sizes {
     /// What `roadlist` lends.
     pub const ROADLIST: Self = Self {
-        ids: 512,
-        arena: 8_192,
+        ids: [512; 3],
+        arenas: [8_192; 3],
         strings: 512,
         string_bytes: 8_192,
         output: 65_536,
@@ -287,12 +297,13 @@ impl Sizes {
 
     /// The first of 13, 14 and 15 that the overlay's state would not fit.
     pub(crate) fn exceeded(&self, state: &State) -> Option<u32> {
+        let kinds = || state.kinds.iter().enumerate();
         let known = |k: &KindState| k.live.len() + k.deleted.len();
         if state.texts.len() > self.strings || state.string_bytes.len() > self.string_bytes {
             Some(13)
-        } else if state.kinds.iter().any(|k| known(k) > self.ids) {
+        } else if kinds().any(|(n, k)| known(k) > self.ids[n]) {
             Some(14)
-        } else if state.kinds.iter().any(|k| k.arena.len() > self.arena) {
+        } else if kinds().any(|(n, k)| k.arena.len() > self.arenas[n]) {
             Some(15)
         } else {
             None

@@ -2,7 +2,8 @@
 
 use std::panic::{AssertUnwindSafe, catch_unwind};
 
-use judge::compare::overlay::{JudgeSide, OverlayPort, Push};
+use judge::compare::overlay::{DirectPort, JudgeSide, Push};
+use judge::compare::records::parts;
 use judge::{Kind, Meta, Outcome, Overlay, Sizes, run, run_sized};
 
 const NONE: Meta = Meta {
@@ -28,7 +29,9 @@ fn push(kind: Kind) -> Push {
 
 /// The number that document 01 gives for a direct push into a new overlay.
 fn by_words(push: &Push) -> u32 {
-    JudgeSide::new().push(push).number
+    let (head, parts) = (push.head(), parts(push));
+    let reply = JudgeSide::new().push(push.kind as u8, head, &push.meta, &parts);
+    reply.number
 }
 
 #[test]

@@ -2,10 +2,11 @@
 
 use judge::compare::Compared;
 use judge::compare::overlay::{
-    Answer, JudgeSide, OverlayPort, PortState, Push, Reply, calls, documents, nesting, readers,
-    set_ups,
+    Answer, DirectPort, JudgeSide, OverlayPort, PortState, Reply, calls, documents, nesting,
+    readers, set_ups,
 };
-use judge::{Kind, Meta, Sizes};
+use judge::compare::storage::Head;
+use judge::{Meta, Sizes};
 
 /// What a wrong library does.
 #[derive(Clone, Copy, Debug, PartialEq, Eq)]
@@ -66,6 +67,14 @@ impl Faulty {
         self.fault == fault
     }
 
+    fn setting(&self, setting: u64) -> u64 {
+        match self.fault {
+            Fault::AllowsRegression => 1,
+            Fault::RefusesRegressionAlways => 0,
+            _ => setting,
+        }
+    }
+
     fn swapped(&self, number: u32) -> u32 {
         match (self.fault, number) {
             (Fault::SwapsFiveAndSix, 5) => 6,
@@ -89,37 +98,44 @@ impl Faulty {
     }
 }
 
+const TAKEN: Reply = Reply { number: 0, held: 0 };
+
 const FULL: Reply = Reply {
     number: 15,
     held: 0,
 };
 
-impl OverlayPort for Faulty {
-    fn set_up(&mut self, sizes: &Sizes) -> u32 {
+impl DirectPort for Faulty {
+    fn set_up(&mut self, sizes: &Sizes, setting: u64) -> Reply {
         self.events = 0;
         self.stopped = false;
         let mut sizes = *sizes;
         if self.is(Fault::SizesIgnored) {
             sizes = judge::compare::overlay::LARGE;
         }
-        let reply = self.good.set_up(&sizes);
+        let setting = self.setting(setting);
+        let reply = self.good.set_up(&sizes, setting);
         if self.is(Fault::SetUpTakesAnySize) {
-            0
+            TAKEN
         } else {
             reply
         }
     }
 
-    fn allow_version_regression(&mut self, allow: bool) {
-        let allow = match self.fault {
-            Fault::AllowsRegression => true,
-            Fault::RefusesRegressionAlways => false,
-            _ => allow,
-        };
-        self.good.allow_version_regression(allow);
+    fn allow_version_regression(&mut self, setting: u64) -> Reply {
+        let setting = self.setting(setting);
+        self.good.allow_version_regression(setting)
     }
 
-    fn intern(&mut self, text: &[u8]) -> (u32, u32) {
+    fn lend(&mut self, sizes: &Sizes) {
+        self.good.lend(sizes);
+    }
+
+    fn is_sound(&mut self) -> Reply {
+        self.good.is_sound()
+    }
+
+    fn intern(&mut self, text: &[u8]) -> (u32, u64) {
         match self.fault {
             Fault::RefusesAll => (3, 0),
             Fault::CriesFull => (13, 0),
@@ -128,17 +144,15 @@ impl OverlayPort for Faulty {
         }
     }
 
-    fn push(&mut self, push: &Push) -> Reply {
+    fn push(&mut self, kind: u8, head: Head, meta: &Meta, parts: &[u8]) -> Reply {
         match self.fault {
             Fault::CriesFull | Fault::RefusesAll => return FULL,
-            Fault::StoresNothing => return Reply { number: 0, held: 0 },
-            Fault::EqualVersionRefused => {
+            Fault::StoresNothing => return TAKEN,
+            Fault::EqualVersionRefused if kind < 3 => {
                 let state = self.good.state();
-                let known = &state.kinds[push.kind as usize].floors;
-                let equal = known
-                    .iter()
-                    .find(|f| f.0 == push.id && f.1 == push.meta.version);
-                if let (8.., Some(floor)) = (push.meta.flags, equal) {
+                let known = &state.kinds[usize::from(kind)].floors;
+                let equal = known.iter().find(|f| f.0 == head.id && f.1 == meta.version);
+                if let (8.., Some(floor)) = (meta.flags, equal) {
                     return Reply {
                         number: 12,
                         held: floor.1,
@@ -147,21 +161,49 @@ impl OverlayPort for Faulty {
             }
             _ => {}
         }
-        let reply = self.good.push(push);
+        let reply = self.good.push(kind, head, meta, parts);
         if self.is(Fault::DirectMetaUnchecked) && reply.number == 17 {
-            return Reply { number: 0, held: 0 };
+            return TAKEN;
         }
         self.reply(reply)
     }
 
-    fn delete(&mut self, kind: Kind, id: i64, meta: &Meta) -> Reply {
+    fn delete(&mut self, kind: u8, id: i64, meta: &Meta) -> Reply {
         if self.is(Fault::StoresNothing) {
-            return Reply { number: 0, held: 0 };
+            return TAKEN;
         }
         let reply = self.good.delete(kind, id, meta);
         self.reply(reply)
     }
 
+    fn state(&mut self) -> PortState {
+        let mut state = self.good.state();
+        for kind in &mut state.kinds {
+            match self.fault {
+                Fault::InventsUsedBytes if !kind.arena.is_empty() => kind.arena.push(0),
+                Fault::FloorDropped => kind.floors.clear(),
+                Fault::DeletedForgotten => kind.deleted.clear(),
+                Fault::OffsetOfAnotherRecord => {
+                    for live in &mut kind.live {
+                        live.1 = 0;
+                    }
+                }
+                _ => {}
+            }
+        }
+        if self.is(Fault::TextsMixed) {
+            state.texts.reverse();
+        }
+        state
+    }
+
+    fn written_elsewhere(&mut self) -> Option<String> {
+        let long = self.good.state().kinds[1].arena.len() > 45;
+        (self.is(Fault::WritesPastARecord) && long).then(|| "the way arena".to_owned())
+    }
+}
+
+impl OverlayPort for Faulty {
     fn fresh(&mut self, reader: usize) {
         self.stopped = false;
         self.good.fresh(reader);
@@ -254,32 +296,6 @@ impl OverlayPort for Faulty {
             *next = 0;
         }
         (0, text.len())
-    }
-
-    fn state(&mut self) -> PortState {
-        let mut state = self.good.state();
-        for kind in &mut state.kinds {
-            match self.fault {
-                Fault::InventsUsedBytes if !kind.arena.is_empty() => kind.arena.push(0),
-                Fault::FloorDropped => kind.floors.clear(),
-                Fault::DeletedForgotten => kind.deleted.clear(),
-                Fault::OffsetOfAnotherRecord => {
-                    for live in &mut kind.live {
-                        live.1 = 0;
-                    }
-                }
-                _ => {}
-            }
-        }
-        if self.is(Fault::TextsMixed) {
-            state.texts.reverse();
-        }
-        state
-    }
-
-    fn written_elsewhere(&mut self) -> Option<String> {
-        let long = self.good.state().kinds[1].arena.len() > 45;
-        (self.is(Fault::WritesPastARecord) && long).then(|| "the way arena".to_owned())
     }
 }
 

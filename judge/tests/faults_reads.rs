@@ -1,44 +1,138 @@
 //! The comparisons of reads can fail: a copy of the judge with one fault is told from it.
 
-use judge::compare::overlay::{Answer, JudgeSide, OverlayPort, PortState, Push, Reply};
-use judge::compare::reads::{ReadPort, TagPort, TagStep, WordsStep, overlays, tags};
-use judge::{Kind, Meta, Sizes};
+use judge::compare::Compared;
+use judge::compare::overlay::{Answer, DirectPort, JudgeSide, OverlayPort, PortState, Reply};
+use judge::compare::reads::{
+    ReadPort, Seen, TagPort, TagStep, WordsStep, lists, overlays, sequences, tags,
+};
+use judge::compare::storage::Head;
+use judge::{KINDS, Meta, Sizes};
 
 #[derive(Clone, Copy, Debug, PartialEq, Eq)]
 enum Fault {
     None,
     NeverEmpty,
+    EmptyWithoutLive,
     DeletedCounted,
-    DeletedStaysLive,
+    CountsExchanged,
+    DeletedReadAsLive,
+    UnknownReadAsDeleted,
     NoneIsZero,
+    FloorNotRead,
+    LiveVersionNotRead,
     NumberOnePast,
     ListsExchanged,
+    PlainOrder,
     ViewToTheArenasEnd,
-    LiveOffsetOfTheFirst,
+    ViewOfTheFirst,
+    GetOfAnotherKind,
+    GetToTheArenasEnd,
+    DeletedIsFound,
     LargeNumberCut,
+    LargeHandleCut,
+    TextOnePast,
+    TextOfTheNext,
+    UnknownKindIsRelation,
+    UnknownKindIsNoNumber,
 }
 
+#[derive(Clone)]
 struct Faulty {
     fault: Fault,
     good: JudgeSide,
 }
 
-impl OverlayPort for Faulty {
-    fn set_up(&mut self, sizes: &Sizes) -> u32 {
-        self.good.set_up(sizes)
+impl Faulty {
+    fn new(fault: Fault) -> Self {
+        Self {
+            fault,
+            good: JudgeSide::new(),
+        }
     }
-    fn allow_version_regression(&mut self, allow: bool) {
-        self.good.allow_version_regression(allow);
+
+    fn is(&self, fault: Fault) -> bool {
+        self.fault == fault
     }
-    fn intern(&mut self, text: &[u8]) -> (u32, u32) {
+
+    /// A kind's number as the fault reads it.
+    fn kind(&self, kind: u8) -> u8 {
+        if self.is(Fault::UnknownKindIsRelation) {
+            kind.min(2)
+        } else {
+            kind
+        }
+    }
+
+    /// The refusal of a number that means no kind.
+    fn unknown<T>(&self, (number, value): (u32, T)) -> (u32, T) {
+        if self.is(Fault::UnknownKindIsNoNumber) && number == 17 {
+            (21, value)
+        } else {
+            (number, value)
+        }
+    }
+
+    fn number(&self, n: u64) -> u64 {
+        if self.is(Fault::LargeNumberCut) {
+            n & 0xffff_ffff
+        } else {
+            n
+        }
+    }
+
+    /// The ids of a list as plain integers go.
+    fn plain(&self, kind: u8, deleted: bool, n: u64) -> (u32, u64) {
+        let sorted = self.good.overlay().sorted(KINDS[usize::from(kind)]);
+        let mut ids = if deleted { sorted.deleted } else { sorted.live };
+        ids.sort_unstable();
+        let id = ids.get(usize::try_from(n).unwrap_or(usize::MAX));
+        id.map_or((21, 0), |id| (0, id.cast_unsigned()))
+    }
+
+    /// A record seen to the arena's end.
+    fn to_the_end(&mut self, kind: u8, seen: Seen) -> Seen {
+        let arena = |state: PortState| state.kinds[usize::from(kind)].arena.clone();
+        match seen {
+            (0, Some((start, _))) => {
+                let arena = arena(self.good.state());
+                (0, Some((start, arena[start..].to_vec())))
+            }
+            seen => seen,
+        }
+    }
+}
+
+impl DirectPort for Faulty {
+    fn set_up(&mut self, sizes: &Sizes, setting: u64) -> Reply {
+        self.good.set_up(sizes, setting)
+    }
+    fn allow_version_regression(&mut self, setting: u64) -> Reply {
+        self.good.allow_version_regression(setting)
+    }
+    fn lend(&mut self, sizes: &Sizes) {
+        self.good.lend(sizes);
+    }
+    fn is_sound(&mut self) -> Reply {
+        self.good.is_sound()
+    }
+    fn intern(&mut self, text: &[u8]) -> (u32, u64) {
         self.good.intern(text)
     }
-    fn push(&mut self, push: &Push) -> Reply {
-        self.good.push(push)
+    fn push(&mut self, kind: u8, head: Head, meta: &Meta, parts: &[u8]) -> Reply {
+        self.good.push(kind, head, meta, parts)
     }
-    fn delete(&mut self, kind: Kind, id: i64, meta: &Meta) -> Reply {
+    fn delete(&mut self, kind: u8, id: i64, meta: &Meta) -> Reply {
         self.good.delete(kind, id, meta)
     }
+    fn state(&mut self) -> PortState {
+        self.good.state()
+    }
+    fn written_elsewhere(&mut self) -> Option<String> {
+        None
+    }
+}
+
+impl OverlayPort for Faulty {
     fn fresh(&mut self, reader: usize) {
         self.good.fresh(reader);
     }
@@ -51,96 +145,194 @@ impl OverlayPort for Faulty {
     fn listing(&mut self, output: &mut [u8]) -> (u32, usize) {
         self.good.listing(output)
     }
-    fn state(&mut self) -> PortState {
-        self.good.state()
-    }
-    fn written_elsewhere(&mut self) -> Option<String> {
-        None
-    }
 }
 
 impl ReadPort for Faulty {
-    fn is_empty(&mut self) -> bool {
-        self.fault != Fault::NeverEmpty && self.good.is_empty()
-    }
-
-    fn counts(&mut self, kind: Kind) -> (u64, u64) {
-        let (live, deleted) = self.good.counts(kind);
-        if self.fault == Fault::DeletedCounted {
-            (live + deleted, deleted)
-        } else {
-            (live, deleted)
-        }
-    }
-
-    fn is_live(&mut self, kind: Kind, id: i64) -> bool {
-        let deleted = self.fault == Fault::DeletedStaysLive && self.good.is_deleted(kind, id);
-        self.good.is_live(kind, id) || deleted
-    }
-
-    fn is_deleted(&mut self, kind: Kind, id: i64) -> bool {
-        self.good.is_deleted(kind, id)
-    }
-
-    fn known_version(&mut self, kind: Kind, id: i64) -> u64 {
-        let word = self.good.known_version(kind, id);
-        if self.fault == Fault::NoneIsZero && word >= 1 << 32 {
-            0
-        } else {
-            word
-        }
-    }
-
-    fn id_by_number(&mut self, kind: Kind, deleted: bool, n: u64) -> (u32, i64) {
+    fn is_empty(&mut self) -> (u32, u64) {
         match self.fault {
-            Fault::ListsExchanged => self.good.id_by_number(kind, !deleted, n),
-            Fault::LargeNumberCut => self.good.id_by_number(kind, deleted, n & 0xffff_ffff),
-            Fault::NumberOnePast if n == self.good.counts(kind).0 && !deleted => (0, 0),
-            _ => self.good.id_by_number(kind, deleted, n),
-        }
-    }
-
-    fn record_by_number(&mut self, kind: Kind, n: u64) -> (u32, Vec<u8>) {
-        let good = self.good.record_by_number(kind, n);
-        match self.fault {
-            Fault::ViewToTheArenasEnd if good.0 == 0 => {
-                let record = &self.good.overlay().sorted(kind).records[n as usize];
-                (0, record.view.clone())
+            Fault::NeverEmpty => (0, 0),
+            Fault::EmptyWithoutLive => {
+                let live: u64 = (0..3).map(|kind| self.good.live_count(kind).1).sum();
+                (0, u64::from(live == 0))
             }
-            Fault::LiveOffsetOfTheFirst if good.0 == 0 => self.good.record_by_number(kind, 0),
-            _ => good,
+            _ => self.good.is_empty(),
+        }
+    }
+
+    fn live_count(&mut self, kind: u8) -> (u32, u64) {
+        let kind = self.kind(kind);
+        let (live, deleted) = (self.good.live_count(kind), self.good.deleted_count(kind));
+        self.unknown(match self.fault {
+            Fault::DeletedCounted => (live.0, live.1 + deleted.1),
+            Fault::CountsExchanged => deleted,
+            _ => live,
+        })
+    }
+
+    fn deleted_count(&mut self, kind: u8) -> (u32, u64) {
+        let kind = self.kind(kind);
+        let (live, deleted) = (self.good.live_count(kind), self.good.deleted_count(kind));
+        self.unknown(if self.is(Fault::CountsExchanged) {
+            live
+        } else {
+            deleted
+        })
+    }
+
+    fn live_id(&mut self, kind: u8, n: u64) -> (u32, u64) {
+        let (kind, n) = (self.kind(kind), self.number(n));
+        let id = match self.fault {
+            Fault::ListsExchanged => self.good.deleted_id(kind, n),
+            Fault::NumberOnePast if (0, n) == self.good.live_count(kind) => (0, 0),
+            Fault::PlainOrder if kind < 3 => self.plain(kind, false, n),
+            _ => self.good.live_id(kind, n),
+        };
+        self.unknown(id)
+    }
+
+    fn deleted_id(&mut self, kind: u8, n: u64) -> (u32, u64) {
+        let (kind, n) = (self.kind(kind), self.number(n));
+        let id = match self.fault {
+            Fault::ListsExchanged => self.good.live_id(kind, n),
+            Fault::PlainOrder if kind < 3 => self.plain(kind, true, n),
+            _ => self.good.deleted_id(kind, n),
+        };
+        self.unknown(id)
+    }
+
+    fn record(&mut self, kind: u8, n: u64) -> Seen {
+        let (kind, n) = (self.kind(kind), self.number(n));
+        let seen = self.good.record(kind, n);
+        let seen = match self.fault {
+            Fault::ViewToTheArenasEnd => self.to_the_end(kind, seen),
+            Fault::ViewOfTheFirst if seen.0 == 0 => self.good.record(kind, 0),
+            _ => seen,
+        };
+        self.unknown(seen)
+    }
+
+    fn get(&mut self, kind: u8, id: i64) -> Seen {
+        let kind = self.kind(kind);
+        let seen = self.good.get(kind, id);
+        let seen = match self.fault {
+            Fault::GetToTheArenasEnd => self.to_the_end(kind, seen),
+            Fault::GetOfAnotherKind if kind < 3 => self.good.get((kind + 1) % 3, id),
+            Fault::DeletedIsFound if self.good.is_deleted(kind, id) == (0, 1) => {
+                self.good.record(kind, 0)
+            }
+            _ => seen,
+        };
+        self.unknown(seen)
+    }
+
+    fn has(&mut self, kind: u8, id: i64) -> (u32, u64) {
+        let kind = self.kind(kind);
+        let deleted = self.good.is_deleted(kind, id);
+        let has = if self.is(Fault::DeletedReadAsLive) && deleted == (0, 1) {
+            deleted
+        } else {
+            self.good.has(kind, id)
+        };
+        self.unknown(has)
+    }
+
+    fn is_deleted(&mut self, kind: u8, id: i64) -> (u32, u64) {
+        let kind = self.kind(kind);
+        let (number, live) = self.good.has(kind, id);
+        let deleted = if self.is(Fault::UnknownReadAsDeleted) && number == 0 {
+            (0, 1 - live)
+        } else {
+            self.good.is_deleted(kind, id)
+        };
+        self.unknown(deleted)
+    }
+
+    fn known_version(&mut self, kind: u8, id: i64) -> (u32, u64) {
+        let kind = self.kind(kind);
+        let known = self.good.known_version(kind, id);
+        let word = |v: i32| u64::from(v.cast_unsigned());
+        let known = match self.fault {
+            Fault::NoneIsZero if known == (0, 1 << 32) => (0, 0),
+            Fault::FloorNotRead if kind < 3 => {
+                let record = self.good.overlay().record(KINDS[usize::from(kind)], id);
+                let version = record.filter(|r| r.flags & 8 != 0).map(|r| r.version);
+                (0, version.map_or(1 << 32, word))
+            }
+            Fault::LiveVersionNotRead if kind < 3 => {
+                let state = self.good.state();
+                let mut floors = state.kinds[usize::from(kind)].floors.iter();
+                let floor = floors.find(|f| f.0 == id);
+                (0, floor.map_or(1 << 32, |f| word(f.1)))
+            }
+            _ => known,
+        };
+        self.unknown(known)
+    }
+
+    fn text(&mut self, handle: u64) -> Seen {
+        let held = self.good.texts() as u64;
+        match self.fault {
+            Fault::LargeHandleCut => self.good.text(handle & 0xffff_ffff),
+            Fault::TextOnePast if handle == held => self.good.text(0),
+            Fault::TextOfTheNext if handle.saturating_add(1) < held => self.good.text(handle + 1),
+            _ => self.good.text(handle),
         }
     }
 }
+
+/// A comparison by its name.
+type Comparison = (&'static str, fn(Faulty) -> Compared);
+
+const COMPARISONS: [Comparison; 3] = [
+    ("sequences", |port| sequences(&port, 2)),
+    ("lists", |mut port| lists(&mut port, 1, 1)),
+    ("overlays", |mut port| overlays(&mut port, 1, 1)),
+];
 
 #[test]
 fn the_judge_equals_itself() {
-    let good = &mut Faulty {
-        fault: Fault::None,
-        good: JudgeSide::new(),
-    };
-    assert!(overlays(good, 1, 1).expect("no difference") > 10_000);
+    for (name, comparison) in COMPARISONS {
+        let compared = comparison(Faulty::new(Fault::None));
+        let answers = compared.unwrap_or_else(|difference| panic!("{name}: {difference}"));
+        println!("{name}: {answers} answers");
+        assert!(answers > 10_000, "{name}: {answers}");
+    }
     assert!(tags(&WordsStep, 1, 1).expect("no difference") > 10_000);
 }
 
+/// Each fault, with the comparisons that must find it, in the order above.
 #[test]
 fn every_fault_is_found() {
-    for fault in [
-        Fault::NeverEmpty,
-        Fault::DeletedCounted,
-        Fault::DeletedStaysLive,
-        Fault::NoneIsZero,
-        Fault::NumberOnePast,
-        Fault::ListsExchanged,
-        Fault::ViewToTheArenasEnd,
-        Fault::LiveOffsetOfTheFirst,
-        Fault::LargeNumberCut,
+    use Fault as F;
+    for (fault, finders) in [
+        (F::NeverEmpty, [0, 1, 0]),
+        (F::EmptyWithoutLive, [1, 1, 0]),
+        (F::DeletedCounted, [1, 1, 1]),
+        (F::CountsExchanged, [1, 1, 1]),
+        (F::DeletedReadAsLive, [1, 1, 1]),
+        (F::UnknownReadAsDeleted, [1, 1, 1]),
+        (F::NoneIsZero, [1, 1, 1]),
+        (F::FloorNotRead, [1, 1, 1]),
+        (F::LiveVersionNotRead, [1, 1, 1]),
+        (F::NumberOnePast, [1, 1, 1]),
+        (F::ListsExchanged, [1, 1, 1]),
+        (F::PlainOrder, [1, 1, 1]),
+        (F::ViewToTheArenasEnd, [1, 1, 1]),
+        (F::ViewOfTheFirst, [1, 1, 1]),
+        (F::GetOfAnotherKind, [1, 1, 1]),
+        (F::GetToTheArenasEnd, [1, 1, 1]),
+        (F::DeletedIsFound, [1, 1, 1]),
+        (F::LargeNumberCut, [1, 1, 1]),
+        (F::LargeHandleCut, [1, 1, 1]),
+        (F::TextOnePast, [1, 1, 1]),
+        (F::TextOfTheNext, [0, 1, 1]),
+        (F::UnknownKindIsRelation, [1, 1, 1]),
+        (F::UnknownKindIsNoNumber, [1, 1, 1]),
     ] {
-        let port = &mut Faulty {
-            fault,
-            good: JudgeSide::new(),
-        };
-        assert!(overlays(port, 1, 1).is_err(), "{fault:?}");
+        for ((name, comparison), finds) in COMPARISONS.iter().zip(finders) {
+            let found = finds == 1 && comparison(Faulty::new(fault)).is_err();
+            assert_eq!(found, finds == 1, "{fault:?} by {name}");
+        }
     }
 }
 

@@ -672,8 +672,8 @@ fn sizes_by_document_01() {
         String::from_utf8(run_sized(&lines(text), false, sizes).0.print()).expect("text")
     };
     let small = Sizes {
-        ids: 1,
-        arena: 45,
+        ids: [1; 3],
+        arenas: [45; 3],
         strings: 2,
         string_bytes: 1,
         output: 1_000,

@@ -31,14 +31,20 @@ fn the_judge_equals_itself() {
 fn a_faulty_program_is_found() {
     let good = Sizes::ROADLIST;
     for sizes in [
-        Sizes { ids: 511, ..good },
-        Sizes { ids: 513, ..good },
         Sizes {
-            arena: 8_189,
+            ids: [511; 3],
             ..good
         },
         Sizes {
-            arena: 8_200,
+            ids: [513; 3],
+            ..good
+        },
+        Sizes {
+            arenas: [8_189; 3],
+            ..good
+        },
+        Sizes {
+            arenas: [8_200; 3],
             ..good
         },
         Sizes {

@@ -3,14 +3,11 @@ use Prim.Native.Nat.{ℕ, _+_, _^_, _<_, _≤_}
 use mathlib.Core.Path.{_≡_, refl, sym, _∙_, ap}
 use mathlib.Core.Bool.{Bool, true, not}
 use mathlib.Core.Option.{some}
-use mathlib.Core.List.{List, [], _∷_}
 use native.Mathlib.Omega.{arith}
-use lib.Dec.{ltb, eqb}
 use lib.ListN.{length, take, drop, length-append, length-drop}
 use lib.Seq.{length-take-le}
 use Rattle.base.specs.Bytes.{Bytes, all}
-use Rattle.base.proofs.Split.{byBool, by-either, both-left, clash, no}
-use Rattle.base.proofs.Lists.{all-head, all-tail}
+use Rattle.base.proofs.Split.{by-either, both-left, clash}
 use Rattle.little.specs.Little.{isByte}
 use Rattle.little.proofs.Littles.{bytes-take, bytes-drop}
 use Rattle.kind.specs.declared.Kind.{Kind}
@@ -24,33 +21,14 @@ use Rattle.compact.specs.Legal.{legal}
 use Rattle.compact.proofs.Cuts.{record-format}
 use Rattle.compact.proofs.Lengths.{length-record}
 use Rattle.legal.specs.Whole.{keptBytes, Whole, recordAt, startsAt}
-use Rattle.legal.proofs.Starts.{record-there, start-is}
+use Rattle.legal.proofs.Starts.{record-passes, record-there, start-is}
 use Rattle.table.specs.declared.Row.{Row}
 use Rattle.table.specs.Rows.{find}
+use Rattle.table.proofs.Maps.{find-passes}
 use Rattle.shelf.specs.Shelf.{Shelf, isLive}
 use Rattle.shelf.specs.Fair.{rowsIn, Fair}
 use Rattle.sound.specs.Sound.{SoundShelf, soundRow}
 use Rattle.calls.specs.Known.{heldIn, recordIn}
-
--- a row that is found passes what every row passes
-pub row-passes : (p : Row → Bool) (n : ℕ) (rs : List Row) (r : Row) → all p rs ≡ true → find n rs ≡ some r → p r ≡ true
-unfolding find
-row-passes p n [] r h e = no cc
-row-passes p n (q ∷ rs) r h e =
-    byBool (eqb n (q .rank))
-    (λ t. let z : some q ≡ some r = rw t at e in let y : q ≡ r = cc in rw (← y) (all-head p q rs h))
-    (λ t. row-passes p n rs r (all-tail p q rs h) (rw t at e))
-
--- and so does a record
-pub record-passes : (p : Kept → Bool) (at : ℕ) (xs : List Kept) (x : Kept) → all p xs ≡ true → recordAt at xs ≡ some x → p x ≡ true
-unfolding recordAt
-record-passes p at [] x h e = no cc
-record-passes p at (y ∷ xs) x h e =
-    byBool (eqb at 0)
-    (λ t. let z : some y ≡ some x = rw t at e in let w : y ≡ x = cc in rw (← w) (all-head p y xs h))
-    (λ t. byBool (ltb at (length (keptBytes y)))
-    (λ u. no (cc (rw (t, u) at e)))
-    (λ u. record-passes p _ xs x (all-tail p y xs h) (rw (t, u) at e)))
 
 -- what is read at a start of whole records is its record
 pub whole-read : (strings : ℕ) (k : Kind) (s : Bytes) (w : Whole strings k s) (at : ℕ) (x : Kept) → recordAt at (w .kept) ≡ some x → heldIn (cutRecord k (drop at s)) ≡ some (x .held)
@@ -65,7 +43,7 @@ module _ (strings : ℕ) (k : Kind) (s : Shelf) (w : SoundShelf strings k s) whe
   pub live-starts : (n : ℕ) (r : Row) → find n (rowsIn s) ≡ some r → isLive (r .place) ≡ true → (x : Kept) × (recordAt (r .place) (w .whole .kept) ≡ some x)
   unfolding soundRow
   live-starts n r e l =
-      by-either (not (isLive (r .place))) (startsAt (idOf (r .rank)) (r .place) (w .whole .kept)) (row-passes (soundRow (w .whole .kept)) n (rowsIn s) r (w .rows) e)
+      by-either (not (isLive (r .place))) (startsAt (idOf (r .rank)) (r .place) (w .whole .kept)) (find-passes (soundRow (w .whole .kept)) n (rowsIn s) r (w .rows) e)
       (λ t. clash (sym (ap not l) ∙ t) refl)
       (λ t. let y = start-is (idOf (r .rank)) (r .place) (w .whole .kept) t in (y .0, y .1 .0))
 

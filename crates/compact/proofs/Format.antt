@@ -3,7 +3,7 @@ use Prim.Native.Nat.{ℕ, zero, suc, _+_, _^_, _<_, _≤_}
 use mathlib.Core.Path.{_≡_, refl, sym, _∙_, ap, subst}
 use mathlib.Core.Bool.{Bool, true}
 use mathlib.Core.Option.{Option, none, some}
-use mathlib.Core.List.{List, [], _∷_, _++_, append-assoc}
+use mathlib.Core.List.{List, [], _∷_, _++_, append-nil, append-assoc}
 use native.Mathlib.Omega.{arith}
 use lib.Dec.{eqb}
 use lib.IntN.{ℤ}
@@ -150,6 +150,12 @@ unfolding cutI64
 i64-format = read-as (number 8) (fitsSigned w64) (toZ w64) (ofZ w64) (signed-there w64 8 refl) (signed-again w64 8 refl)
 
 -- ---- a counted list
+
+-- one element more
+pub joined-last : {A : Type 0} (bytes : A → Bytes) (xs : List A) (x : A) → joined bytes (xs ++ (x ∷ [])) ≡ joined bytes xs ++ bytes x
+unfolding joined
+joined-last bytes [] x = append-nil (bytes x)
+joined-last bytes (y ∷ xs) x = rw (joined-last bytes xs x) (sym (append-assoc (bytes y) (joined bytes xs) (bytes x)))
 
 unfoldable pub counted : {A : Type 0} → (A → Bool) → ℕ → List A → Bool
 counted fits n xs = both (eqb (length xs) n) (all fits xs)

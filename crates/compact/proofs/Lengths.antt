@@ -1,6 +1,6 @@
 -- How long each part of a record is, and the record.
 use Prim.Native.Nat.{ℕ, _+_, _*_}
-use mathlib.Core.Path.{_≡_}
+use mathlib.Core.Path.{_≡_, refl}
 use mathlib.Core.List.{List, [], _∷_, _++_}
 use native.Mathlib.Omega.{arith}
 use lib.IntN.{ℤ}
@@ -12,6 +12,7 @@ use Rattle.little.proofs.Littles.{length-le}
 use Rattle.kind.specs.declared.Kind.{Kind}
 use Rattle.kind.specs.declared.Kind.the-variants.{Node, Way, Relation}
 use Rattle.model.specs.Record.{Meta, Member, Tag, Record, kindOf}
+use Rattle.compact.specs.Legal.{valueBytes}
 use Rattle.compact.specs.Layout.{i64, metaBytes, memberBytes, tagBytes, joined, Head, headBytes, partsBytes, recordBytes, headLen}
 
 pub length-i64 : (z : ℤ) → length (i64 z) ≡ 8
@@ -34,6 +35,12 @@ pub length-joined : {A : Type 0} (bytes : A → Bytes) (n : ℕ) → ((a : A) �
 unfolding joined
 length-joined bytes n f [] = omega arith
 length-joined bytes n f (x ∷ xs) = rw (length-append, f x, length-joined bytes n f xs) (omega arith)
+
+-- 8 bytes and a value each
+pub length-tags : (ts : List (Tag ℕ)) → length (joined tagBytes ts) ≡ 8 * length ts + valueBytes ts
+unfolding joined valueBytes
+length-tags [] = refl
+length-tags (t ∷ ts) = rw (length-append, length-tag t, length-tags ts) (omega arith)
 
 pub length-head : (k : Kind) (h : Head) → length (headBytes k h) ≡ headLen k
 unfolding headBytes

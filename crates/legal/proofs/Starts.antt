@@ -1,7 +1,7 @@
 -- Records at their starts: an append leaves them where they are, and what is read at a start is its record.
 use Prim.Native.Nat.{ℕ, _+_, _-_}
 use mathlib.Core.Path.{_≡_, refl, sym, _∙_, ap}
-use mathlib.Core.Bool.{true}
+use mathlib.Core.Bool.{Bool, true}
 use mathlib.Core.Option.{Option, none, some}
 use mathlib.Core.List.{List, [], _∷_, _++_}
 use native.Mathlib.Omega.{arith}
@@ -59,6 +59,17 @@ start-is id at xs h = go (recordAt at xs) refl h
     go none e t = no cc
     go (some x) e t = (x, (e, same-is (x .id) id .0 t))
 
+-- a record at a start passes what every record passes
+pub record-passes : (p : Kept → Bool) (at : ℕ) (xs : List Kept) (x : Kept) → all p xs ≡ true → recordAt at xs ≡ some x → p x ≡ true
+unfolding recordAt
+record-passes p at [] x h e = no cc
+record-passes p at (y ∷ xs) x h e =
+    byBool (eqb at 0)
+    (λ t. let z : some y ≡ some x = rw t at e in let w : y ≡ x = cc in rw (← w) (all-head p y xs h))
+    (λ t. byBool (ltb at (length (keptBytes y)))
+    (λ u. let z : none ≡ some x = rw (t, u) at e in no cc)
+    (λ u. record-passes p (at - length (keptBytes y)) xs x (all-tail p y xs h) (rw (t, u) at e)))
+
 -- the record that is appended starts where the bytes ended
 pub record-last : (xs : List Kept) (x : Kept) → recordAt (length (joined keptBytes xs)) (xs ++ x ∷ []) ≡ some x
 unfolding recordAt joined
@@ -77,7 +88,7 @@ starts-last id xs x h = rw (record-last xs x) h
 
 module _ (k : Kind) where
   -- the bytes from a start on begin with its record's
-  bytes-there : (at : ℕ) (xs : List Kept) (x : Kept) → all (fitsKept k) xs ≡ true → recordAt at xs ≡ some x
+  pub bytes-there : (at : ℕ) (xs : List Kept) (x : Kept) → all (fitsKept k) xs ≡ true → recordAt at xs ≡ some x
       → (q : Bytes) × ((drop at (joined keptBytes xs) ≡ keptBytes x ++ q) × (fitsKept k x ≡ true))
   unfolding recordAt joined
   bytes-there at [] x f h = no cc

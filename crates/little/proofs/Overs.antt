@@ -132,6 +132,26 @@ over-over (x ∷ s) zero [] u = rw over-nothing
 over-over (x ∷ s) zero (b ∷ t) u = simp (over-here, zero-add, over-later) (ap (b ∷_) (rw zero-add at (over-over s 0 t u)))
 over-over (x ∷ s) (suc at) t u = simp (suc-add, over-later) (ap (x ∷_) (over-over s at t u))
 
+-- a second writer stands before the first
+pub over-before : (s : Bytes) (at : ℕ) (t u : Bytes) → over (over s (at + length t) u) at t ≡ over s at (t ++ u)
+over-before [] at t u = simp over-none
+over-before (x ∷ s) zero [] u = rw over-nothing
+over-before (x ∷ s) zero (b ∷ t) u = simp (zero-add, over-later, over-here) (ap (b ∷_) (rw zero-add at (over-before s 0 t u)))
+over-before (x ∷ s) (suc at) t u = simp (suc-add, over-later) (ap (x ∷_) (over-before s at t u))
+
+-- a byte stored before a writer
+pub set-over : (s : Bytes) (i b at : ℕ) (t : Bytes) → i < at → set (over s at t) i b ≡ over (set s i b) at t
+set-over [] i b at t h = simp over-none
+set-over (x ∷ s) i b zero t h = absurd (omega arith)
+set-over (x ∷ s) zero b (suc at) t h = simp over-later
+set-over (x ∷ s) (suc i) b (suc at) t h = simp over-later (ap (x ∷_) (set-over s i b at t (omega arith)))
+
+-- from the start on, with what stands before
+pub over-whole : (s : Bytes) (at : ℕ) (t : Bytes) → at ≤ length s → over s at t ≡ over s 0 (take at s ++ t)
+over-whole s zero t h = refl
+over-whole [] (suc at) t h = absurd (omega arith)
+over-whole (x ∷ s) (suc at) t h = rw (over-later, over-here) (ap (x ∷_) (over-whole s at t (omega arith)))
+
 -- a writer that is lent the rest from a place on writes over the whole
 pub over-rest : (s : Bytes) (at k : ℕ) (t : Bytes) → at ≤ length s → take at s ++ over (drop at s) k t ≡ over s (at + k) t
 over-rest s zero k t h = rw zero-add

@@ -1,13 +1,15 @@
 -- Rows as a map from ranks: what is found after a row was put, that ranks go on rising, and that rising rows are what their ranks find.
 use Prim.Native.Nat.{ℕ, zero, suc, _+_, _<_, _≤_}
 use mathlib.Core.Path.{_≡_, refl, sym, _∙_, ap}
-use mathlib.Core.Bool.{true, cond}
+use mathlib.Core.Bool.{Bool, true, cond}
 use mathlib.Core.Option.{Option, none, some, Option·none-ne-some, Option·some-injective}
 use mathlib.Core.List.{List, [], _∷_, _++_}
 use native.Mathlib.Omega.{arith}
 use lib.Dec.{eqb}
 use lib.ListN.{length, getD, take, drop, length-append, length-take, length-drop}
 use borrow.Author.Tests.{lt-ltb, le-ltb, ltb-true, eq-eqb, ne-eqb}
+use Rattle.base.specs.Bytes.{all}
+use Rattle.base.proofs.Lists.{all-head, all-tail}
 use Rattle.base.proofs.Split.{byBool, byLt, byEq, both-left, both-right, both-of}
 use Rattle.table.specs.declared.Row.{Row}
 use Rattle.table.specs.Rows.{risingFrom, rising, find, put, smaller}
@@ -65,6 +67,15 @@ find-rank k (q ∷ rs) r e =
     byEq k (q .rank)
     (λ i. let x : some q ≡ some r = sym (find-same q rs) ∙ rw i at e in cc (Option·some-injective q r x))
     (λ d. find-rank k rs r (sym (find-other k q rs d) ∙ e))
+
+-- what is found passes what every row passes
+pub find-passes : (p : Row → Bool) (k : ℕ) (rs : List Row) (r : Row) → all p rs ≡ true → find k rs ≡ some r → p r ≡ true
+unfolding find
+find-passes p k [] r h e = absurd (Option·none-ne-some r e)
+find-passes p k (q ∷ rs) r h e =
+    byBool (eqb k (q .rank))
+    (λ t. let x : some q ≡ some r = rw t at e in let y : q ≡ r = Option·some-injective q r x in rw (← y) (all-head p q rs h))
+    (λ t. find-passes p k rs r (all-tail p q rs h) (rw t at e))
 
 -- no rank below the first is found
 pub find-low : (j k : ℕ) (rs : List Row) → j ≤ k → risingFrom k rs ≡ true → find j rs ≡ none

@@ -138,7 +138,7 @@ pub struct Step {
 
 // The entries of single layers. A list of ids is the bits of its ids.
 unsafe extern "C" {
-    pub fn tvl_range_overlaps(
+    pub fn tvk_range_overlaps(
         live: *const u64,
         live_len: usize,
         deleted: *const u64,
@@ -146,8 +146,8 @@ unsafe extern "C" {
         min: i64,
         max: i64,
     ) -> Count;
-    pub fn tvl_upsert_range(ids: *const u64, n: usize, first: i64, last: i64) -> Places;
-    pub fn tvl_seek_find(ids: *const u64, n: usize, place: usize, id: i64) -> Cursor;
+    pub fn tvk_upsert_range(ids: *const u64, n: usize, first: i64, last: i64) -> Places;
+    pub fn tvk_seek_find(ids: *const u64, n: usize, place: usize, id: i64) -> Cursor;
     pub fn tvl_intern(
         spans: *mut u64,
         words: usize,
@@ -228,4 +228,81 @@ unsafe extern "C" {
         n: usize,
     ) -> Nested;
     pub fn tvl_close_at(level: u8, section: u8, kind: u8) -> Nested;
+}
+
+/// The head of a push.
+#[repr(C)]
+#[derive(Clone, Copy, Debug, PartialEq, Eq)]
+pub struct Head {
+    pub id: u64,
+    pub lat: u32,
+    pub lon: u32,
+    pub count: u32,
+    pub tags: u32,
+}
+
+/// Number 0 with a handle, or a refusal with 0.
+#[repr(C)]
+#[derive(Clone, Copy, Debug, PartialEq, Eq)]
+pub struct Text {
+    pub number: u32,
+    pub handle: u64,
+}
+
+/// Number 0 and found 1 with where something lies, 0 and found 0 for nothing, or a refusal.
+#[repr(C)]
+#[derive(Clone, Copy, Debug, PartialEq, Eq)]
+pub struct View {
+    pub number: u32,
+    pub found: u32,
+    pub start: usize,
+    pub len: usize,
+}
+
+/// Entries on an overlay: the lent parts, the nine counters, then a call's own arguments.
+macro_rules! overlay_entries {
+    ($($name:ident($($own:ident: $type:ty),*) -> $reply:ty;)*) => {
+        unsafe extern "C" {
+            $(pub fn $name(
+                nids: *mut u64,
+                nids_len: usize,
+                narena: *mut u8,
+                narena_len: usize,
+                wids: *mut u64,
+                wids_len: usize,
+                warena: *mut u8,
+                warena_len: usize,
+                rids: *mut u64,
+                rids_len: usize,
+                rarena: *mut u8,
+                rarena_len: usize,
+                spans: *mut u64,
+                spans_len: usize,
+                bytes: *mut u8,
+                bytes_len: usize,
+                counts: *mut u64,
+                $($own: $type),*
+            ) -> $reply;)*
+        }
+    };
+}
+
+overlay_entries! {
+    tvk_set_up(setting: u64) -> Reply;
+    tvk_is_sound() -> Reply;
+    tvk_allow_version_regression(setting: u64) -> Reply;
+    tvk_intern(text: *const u8, n: usize) -> Text;
+    tvk_push(kind: u8, head: Head, meta: Meta, parts: *const u8, n: usize) -> Reply;
+    tvk_delete(kind: u8, id: i64, meta: Meta) -> Reply;
+    tvk_live_count(kind: u8) -> Number;
+    tvk_deleted_count(kind: u8) -> Number;
+    tvk_is_empty() -> Number;
+    tvk_live_id(kind: u8, n: u64) -> Number;
+    tvk_deleted_id(kind: u8, n: u64) -> Number;
+    tvk_record(kind: u8, n: u64) -> View;
+    tvk_get(kind: u8, id: i64) -> View;
+    tvk_has(kind: u8, id: i64) -> Number;
+    tvk_is_deleted(kind: u8, id: i64) -> Number;
+    tvk_known_version(kind: u8, id: i64) -> Number;
+    tvk_text(handle: u64) -> View;
 }

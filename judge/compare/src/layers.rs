@@ -27,7 +27,7 @@ impl LookupPort for Layers {
     fn range_overlaps(&self, live: &[i64], deleted: &[i64], min: i64, max: i64) -> (u32, bool) {
         let (live, deleted) = (bits(live), bits(deleted));
         let reply = unsafe {
-            ffi::tvl_range_overlaps(
+            ffi::tvk_range_overlaps(
                 live.as_ptr(),
                 live.len(),
                 deleted.as_ptr(),
@@ -42,7 +42,7 @@ impl LookupPort for Layers {
 
     fn upsert_range(&self, ids: &[i64], first: i64, last: i64) -> (u32, usize, usize) {
         let ids = bits(ids);
-        let reply = unsafe { ffi::tvl_upsert_range(ids.as_ptr(), ids.len(), first, last) };
+        let reply = unsafe { ffi::tvk_upsert_range(ids.as_ptr(), ids.len(), first, last) };
         (reply.number, reply.from, reply.to)
     }
 
@@ -54,7 +54,7 @@ impl LookupPort for Layers {
     ) -> (u32, Option<usize>, Option<usize>) {
         let ids = bits(ids);
         let word = at.unwrap_or(ffi::NO_PLACE);
-        let reply = unsafe { ffi::tvl_seek_find(ids.as_ptr(), ids.len(), word, id) };
+        let reply = unsafe { ffi::tvk_seek_find(ids.as_ptr(), ids.len(), word, id) };
         (reply.number, place(reply.place), place(reply.found))
     }
 }
@@ -109,7 +109,7 @@ impl StringPort for Layers {
     }
 }
 
-fn meta_in(meta: &Meta) -> ffi::Meta {
+pub(crate) fn meta_in(meta: &Meta) -> ffi::Meta {
     ffi::Meta {
         flags: meta.flags,
         version: meta.version.cast_unsigned(),

@@ -2,12 +2,14 @@
 
 pub mod ffi;
 mod layers;
+mod overlay;
 
 pub use layers::Layers;
 
 use judge::compare::ground::Ground;
 
 /// The library's calls.
+#[derive(Clone, Copy, Debug)]
 pub struct Library;
 
 fn key(k: ffi::OsmIdKey) -> (u8, u64) {

@@ -82,7 +82,7 @@ fn nesting_names() {
 /// A word from 2^63 on is a fresh cursor; it comes back as exactly 2^63.
 #[test]
 fn fresh_words() {
-    let find = |ids: &[u64], word| unsafe { ffi::tvl_seek_find(ids.as_ptr(), ids.len(), word, 5) };
+    let find = |ids: &[u64], word| unsafe { ffi::tvk_seek_find(ids.as_ptr(), ids.len(), word, 5) };
     for word in [ffi::NO_PLACE, ffi::NO_PLACE + 1, usize::MAX] {
         let found = find(&[0, 3, 5], word);
         assert_eq!((found.number, found.found, found.place), (0, 2, 2));

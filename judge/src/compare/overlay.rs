@@ -1,6 +1,9 @@
 //! The overlay and its readers: direct calls, events, the listing, and the whole state after each.
 
-use super::{Compared, Tally};
+use super::Compared;
+use super::both::Both;
+use super::direct::{call_lists, random_call, set_ups_then, small_sizes};
+use super::storage::Head;
 use crate::answer::{
     Change, KINDS, Kind, KindState, MOST_MEMBERS, MOST_REFS, MOST_TAGS, MOST_VALUE_BYTES, Meta,
     Overlay, Reader, Refusal, Sizes, Stop,
@@ -39,37 +42,63 @@ pub struct Push {
     pub meta: Meta,
 }
 
+impl Push {
+    /// The head that counts exactly these parts.
+    pub fn head(&self) -> Head {
+        Head {
+            id: self.id,
+            lat: self.place.0,
+            lon: self.place.1,
+            count: (self.refs.len() + self.members.len()) as u32,
+            tags: self.tags.len() as u32,
+        }
+    }
+}
+
 /// What both sides hold, in the judge's terms.
 #[derive(Clone, Debug, PartialEq, Eq)]
 pub struct PortState {
     pub kinds: [KindState; 3],
+    /// Texts by handle.
     pub texts: Vec<Bytes>,
-    /// The string bytes in use.
-    pub string_bytes: usize,
+    /// Start and length by handle, and the string bytes in use.
+    pub spans: Vec<(u64, u64)>,
+    pub string_bytes: Bytes,
+    pub allows_regression: bool,
 }
 
-/// One overlay and its readers. Readers are numbered; each begins fresh at `fresh`.
-pub trait OverlayPort {
-    /// A new overlay: 0, or 1 where a size is outside, and the old one stays.
-    fn set_up(&mut self, sizes: &Sizes) -> u32;
-    fn allow_version_regression(&mut self, allow: bool);
+/// One overlay and its direct calls, which give numbers and bytes as a C caller does.
+pub trait DirectPort {
+    /// A new overlay: 0, or 1 where a size is outside, and the old one stays. Setting 0 refuses
+    /// regression, any other allows it.
+    fn set_up(&mut self, sizes: &Sizes, setting: u64) -> Reply;
+    /// The same overlay in storage of other sizes, none below what is in use.
+    fn lend(&mut self, sizes: &Sizes);
+    fn allow_version_regression(&mut self, setting: u64) -> Reply;
+    fn is_sound(&mut self) -> Reply;
     /// The number, and the handle where the number is 0.
-    fn intern(&mut self, text: &[u8]) -> (u32, u32);
-    fn push(&mut self, push: &Push) -> Reply;
-    fn delete(&mut self, kind: Kind, id: i64, meta: &Meta) -> Reply;
+    fn intern(&mut self, text: &[u8]) -> (u32, u64);
+    /// The parts are laid out as in a record.
+    fn push(&mut self, kind: u8, head: Head, meta: &Meta, parts: &[u8]) -> Reply;
+    fn delete(&mut self, kind: u8, id: i64, meta: &Meta) -> Reply;
+    fn state(&mut self) -> PortState;
+    /// Whether a lent byte past the used counts, or before what a call appended, or any after a
+    /// refusal, was written since the last question: a text that says which.
+    fn written_elsewhere(&mut self) -> Option<String>;
+}
+
+/// The readers of an overlay and its listing. Readers are numbered; each begins fresh at `fresh`.
+pub trait OverlayPort: DirectPort {
     fn fresh(&mut self, reader: usize);
     /// One line with its line feed, or a tail without one.
     fn line(&mut self, reader: usize, line: &[u8]) -> Answer;
     fn end(&mut self, reader: usize) -> Answer;
     /// The number, and the listing's length where the number is 0.
     fn listing(&mut self, output: &mut [u8]) -> (u32, usize);
-    fn state(&mut self) -> PortState;
-    /// Whether a lent byte past the used counts, or before what the last call appended, was written
-    /// since the last question: a text that says which.
-    fn written_elsewhere(&mut self) -> Option<String>;
 }
 
 /// The published Rust as a port: its refusals, then document 01's words for what it has not.
+#[derive(Clone)]
 pub struct JudgeSide {
     overlay: Overlay,
     readers: Vec<Reader>,
@@ -87,7 +116,7 @@ impl JudgeSide {
         Self {
             overlay: Overlay::new(),
             readers: Vec::new(),
-            sizes: LARGE,
+            sizes: ROOMY,
         }
     }
 
@@ -123,16 +152,25 @@ impl JudgeSide {
 
 /// The largest sizes that document 01 allows.
 pub const LARGE: Sizes = Sizes {
-    ids: 4_096,
-    arena: 1_048_576,
+    ids: [4_096; 3],
+    arenas: [1_048_576; 3],
     strings: 4_096,
     string_bytes: 65_536,
     output: 1_048_576,
 };
 
+/// Sizes that produced documents and short lists of calls rarely fill.
+pub const ROOMY: Sizes = Sizes {
+    ids: [64, 72, 80],
+    arenas: [60_000, 64_000, 68_000],
+    strings: 256,
+    string_bytes: 16_384,
+    output: 1_048_576,
+};
+
 fn in_range(sizes: &Sizes) -> bool {
-    (1..=4_096).contains(&sizes.ids)
-        && sizes.arena <= 1_048_576
+    sizes.ids.iter().all(|ids| (1..=4_096).contains(ids))
+        && sizes.arenas.iter().all(|&arena| arena <= 1_048_576)
         && (1..=4_096).contains(&sizes.strings)
         && sizes.string_bytes <= 65_536
 }
@@ -174,6 +212,49 @@ fn push_words(push: &Push, texts: usize) -> Option<u32> {
     }
 }
 
+/// A number of so many bytes, cut from the front.
+fn cut<const N: usize>(rest: &mut &[u8]) -> Option<[u8; N]> {
+    let (number, after) = rest.split_first_chunk()?;
+    *rest = after;
+    Some(*number)
+}
+
+/// The push that a head and parts make, by document 01's layout: none where the parts are cut short,
+/// or not as many as the head counts. A node has no count.
+fn whole_push(kind: Kind, head: Head, meta: &Meta, parts: &[u8]) -> Option<Push> {
+    let mut push = Push {
+        kind,
+        id: head.id,
+        place: (head.lat, head.lon),
+        refs: Vec::new(),
+        members: Vec::new(),
+        tags: Vec::new(),
+        meta: *meta,
+    };
+    let mut rest = parts;
+    let count = if kind == Kind::Node { 0 } else { head.count };
+    for _ in 0..count {
+        let id = i64::from_le_bytes(cut(&mut rest)?);
+        if kind == Kind::Way {
+            push.refs.push(id);
+        } else {
+            let [byte] = cut(&mut rest)?;
+            let role = u32::from_le_bytes(cut(&mut rest)?);
+            push.members.push((id, byte, role));
+        }
+    }
+    for _ in 0..head.tags {
+        let key = u32::from_le_bytes(cut(&mut rest)?);
+        let len = u32::from_le_bytes(cut(&mut rest)?);
+        let (value, after) = rest.split_at_checked(len as usize)?;
+        push.tags.push((key, value.to_vec()));
+        rest = after;
+    }
+    rest.is_empty().then_some(push)
+}
+
+const TAKEN: Reply = Reply { number: 0, held: 0 };
+
 fn answer(reply: Result<(), Stop>) -> Answer {
     match reply {
         Ok(()) => Answer {
@@ -189,22 +270,41 @@ fn answer(reply: Result<(), Stop>) -> Answer {
     }
 }
 
-impl OverlayPort for JudgeSide {
-    fn set_up(&mut self, sizes: &Sizes) -> u32 {
+/// A kind by its number; one above 2 is 17.
+pub(super) fn named(kind: u8) -> Option<Kind> {
+    KINDS.get(usize::from(kind)).copied()
+}
+
+pub(super) fn refused(number: u32) -> Reply {
+    Reply { number, held: 0 }
+}
+
+impl DirectPort for JudgeSide {
+    fn set_up(&mut self, sizes: &Sizes, setting: u64) -> Reply {
         if !in_range(sizes) {
-            return 1;
+            return refused(1);
         }
         self.overlay = Overlay::new();
+        self.overlay.allow_version_regression(setting != 0);
         self.readers.clear();
         self.sizes = *sizes;
-        0
+        TAKEN
     }
 
-    fn allow_version_regression(&mut self, allow: bool) {
-        self.overlay.allow_version_regression(allow);
+    fn lend(&mut self, sizes: &Sizes) {
+        self.sizes = *sizes;
     }
 
-    fn intern(&mut self, text: &[u8]) -> (u32, u32) {
+    fn allow_version_regression(&mut self, setting: u64) -> Reply {
+        self.overlay.allow_version_regression(setting != 0);
+        TAKEN
+    }
+
+    fn is_sound(&mut self) -> Reply {
+        TAKEN
+    }
+
+    fn intern(&mut self, text: &[u8]) -> (u32, u64) {
         let Some(text) = crate::lines::text(text) else {
             return (3, 0);
         };
@@ -214,15 +314,19 @@ impl OverlayPort for JudgeSide {
             Ok(())
         });
         if reply.number == 0 {
-            (0, handle)
+            (0, u64::from(handle))
         } else {
             (reply.number, 0)
         }
     }
 
-    fn push(&mut self, push: &Push) -> Reply {
-        if let Some(number) = push_words(push, self.texts()) {
-            return Reply { number, held: 0 };
+    fn push(&mut self, kind: u8, head: Head, meta: &Meta, parts: &[u8]) -> Reply {
+        let push = named(kind).and_then(|kind| whole_push(kind, head, meta, parts));
+        let Some(push) = push else {
+            return refused(17);
+        };
+        if let Some(number) = push_words(&push, self.texts()) {
+            return refused(number);
         }
         let tags: Vec<(u32, &str)> = push
             .tags
@@ -230,22 +334,39 @@ impl OverlayPort for JudgeSide {
             .map(|(key, value)| (*key, crate::lines::text(value).expect("text")))
             .collect();
         self.act(|overlay| match push.kind {
-            Kind::Node => overlay.push_node(push.id, push.place, &tags, &push.meta),
-            Kind::Way => overlay.push_way(push.id, &push.refs, &tags, &push.meta),
-            Kind::Relation => overlay.push_relation(push.id, &push.members, &tags, &push.meta),
+            Kind::Node => overlay.push_node(push.id, push.place, &tags, meta),
+            Kind::Way => overlay.push_way(push.id, &push.refs, &tags, meta),
+            Kind::Relation => overlay.push_relation(push.id, &push.members, &tags, meta),
         })
     }
 
-    fn delete(&mut self, kind: Kind, id: i64, meta: &Meta) -> Reply {
-        if !meta_is_legal(meta, self.texts()) {
-            return Reply {
-                number: 17,
-                held: 0,
-            };
+    fn delete(&mut self, kind: u8, id: i64, meta: &Meta) -> Reply {
+        match named(kind) {
+            Some(kind) if meta_is_legal(meta, self.texts()) => {
+                self.act(|overlay| overlay.delete(kind, id, meta))
+            }
+            _ => refused(17),
         }
-        self.act(|overlay| overlay.delete(kind, id, meta))
     }
 
+    fn state(&mut self) -> PortState {
+        let state = self.overlay.state();
+        let wide = |&(at, len): &(u32, u32)| (u64::from(at), u64::from(len));
+        PortState {
+            kinds: state.kinds,
+            texts: state.texts.into_iter().map(String::into_bytes).collect(),
+            spans: state.spans.iter().map(wide).collect(),
+            string_bytes: state.string_bytes,
+            allows_regression: state.allow_version_regression,
+        }
+    }
+
+    fn written_elsewhere(&mut self) -> Option<String> {
+        None
+    }
+}
+
+impl OverlayPort for JudgeSide {
     fn fresh(&mut self, reader: usize) {
         while self.readers.len() <= reader {
             self.readers.push(Reader::new());
@@ -282,142 +403,16 @@ impl OverlayPort for JudgeSide {
             None => (19, 0),
         }
     }
-
-    fn state(&mut self) -> PortState {
-        let state = self.overlay.state();
-        PortState {
-            kinds: state.kinds,
-            texts: state.texts.into_iter().map(String::into_bytes).collect(),
-            string_bytes: state.string_bytes.len(),
-        }
-    }
-
-    fn written_elsewhere(&mut self) -> Option<String> {
-        None
-    }
 }
 
-/// Both sides, given the same calls.
-struct Both<'a> {
-    judge: JudgeSide,
-    port: &'a mut dyn OverlayPort,
-    tally: Tally,
-    /// The calls so far, for the report.
-    log: Vec<String>,
-}
-
-impl<'a> Both<'a> {
-    fn new(port: &'a mut dyn OverlayPort) -> Self {
-        Self {
-            judge: JudgeSide::new(),
-            port,
-            tally: Tally::new(),
-            log: Vec::new(),
-        }
-    }
-
-    fn same<T: PartialEq + std::fmt::Debug>(&mut self, judge: T, port: T) -> Result<(), String> {
-        let log = &self.log;
-        self.tally.same(|| log.join("\n"), judge, port)
-    }
-
-    fn set_up(&mut self, sizes: &Sizes, allow: bool) -> Result<(), String> {
-        self.log.clear();
-        self.log
-            .push(format!("{sizes:?}, regression allowed: {allow}"));
-        let replies = (self.judge.set_up(sizes), self.port.set_up(sizes));
-        self.same(replies.0, replies.1)?;
-        self.judge.allow_version_regression(allow);
-        self.port.allow_version_regression(allow);
-        Ok(())
-    }
-
-    fn fresh(&mut self, reader: usize) {
-        self.log.push(format!("reader {reader} begins"));
-        self.judge.fresh(reader);
-        self.port.fresh(reader);
-    }
-
-    fn line(&mut self, reader: usize, line: &[u8]) -> Result<Answer, String> {
-        let shown = if line.len() > 300 {
-            format!("{} bytes", line.len())
-        } else {
-            String::from_utf8_lossy(line).into_owned()
-        };
-        self.log.push(format!("reader {reader}: {shown:?}"));
-        let replies = (self.judge.line(reader, line), self.port.line(reader, line));
-        self.same(replies.0, replies.1)?;
-        Ok(replies.0)
-    }
-
-    fn end(&mut self, reader: usize) -> Result<Answer, String> {
-        self.log.push(format!("reader {reader} ends"));
-        let replies = (self.judge.end(reader), self.port.end(reader));
-        self.same(replies.0, replies.1)?;
-        Ok(replies.0)
-    }
-
-    fn state(&mut self) -> Result<(), String> {
-        let states = (self.judge.state(), self.port.state());
-        self.same(states.0, states.1)?;
-        let written = self.port.written_elsewhere();
-        self.same(None, written)
-    }
-
-    /// The listing in outputs that are long enough, exactly long enough, and one byte short; what
-    /// lies past it, and everything on a refusal, stays as it was.
-    fn listing(&mut self) -> Result<(), String> {
-        let len = self.judge.overlay.listing().len();
-        let mut lengths = vec![len, len + 9];
-        lengths.extend(len.checked_sub(1));
-        for size in lengths {
-            self.log.push(format!("listing in {size} bytes"));
-            let mut outputs = (vec![0xa5u8; size], vec![0xa5u8; size]);
-            let replies = (
-                self.judge.listing(&mut outputs.0),
-                self.port.listing(&mut outputs.1),
-            );
-            self.same(replies.0, replies.1)?;
-            self.same(outputs.0, outputs.1)?;
-            self.log.pop();
-        }
-        Ok(())
-    }
-
-    fn everything(&mut self) -> Result<(), String> {
-        self.state()?;
-        self.listing()
-    }
-}
-
-/// Sizes at and past their ends; a refused set-up leaves the overlay as it was.
+/// Sizes at and past their ends, and the listing after each.
 pub fn set_ups(port: &mut dyn OverlayPort) -> Compared {
-    let mut both = Both::new(port);
-    for ids in [0, 1, 2, 4_096, 4_097] {
-        for arena in [0, 1, 1_048_576, 1_048_577] {
-            for strings in [0, 1, 4_096, 4_097] {
-                for string_bytes in [0, 1, 65_536, 65_537] {
-                    both.set_up(&LARGE, false)?;
-                    let texts = (both.judge.intern(b"a"), both.port.intern(b"a"));
-                    both.same(texts.0, texts.1)?;
-                    both.set_up(
-                        &Sizes {
-                            ids,
-                            arena,
-                            strings,
-                            string_bytes,
-                            output: 0,
-                        },
-                        false,
-                    )?;
-                    both.everything()?;
-                    let texts = (both.judge.intern(b"b"), both.port.intern(b"b"));
-                    both.same(texts.0, texts.1)?;
-                }
-            }
-        }
-    }
-    both.tally.done()
+    set_ups_then(port, |both| both.everything())
+}
+
+/// Direct calls alone, good and bad, and the listing at times.
+pub fn calls(port: &mut dyn OverlayPort, seed: u64, rounds: u64) -> Compared {
+    call_lists(port, seed, rounds, |both| both.everything())
 }
 
 /// Every sequence of events up to `depth` from every level, in both settings; after a refusal only
@@ -434,14 +429,14 @@ pub fn nesting(port: &mut dyn OverlayPort, depth: usize) -> Compared {
 }
 
 fn from_level(
-    both: &mut Both<'_>,
+    both: &mut Both<'_, dyn OverlayPort + '_>,
     alphabet: &[Bytes],
     allow: bool,
     lines: &mut Vec<Bytes>,
     depth: usize,
 ) -> Result<(), String> {
     for event in alphabet {
-        both.set_up(&LARGE, allow)?;
+        both.set_up(&ROOMY, u64::from(allow))?;
         both.fresh(0);
         for line in lines.iter() {
             both.line(0, line)?;
@@ -476,9 +471,9 @@ pub fn documents(port: &mut dyn OverlayPort, seed: u64, rounds: u64) -> Compared
         let sizes = if n % 8 >= 6 {
             small_sizes(&mut source.random)
         } else {
-            LARGE
+            ROOMY
         };
-        both.set_up(&sizes, n % 4 >= 2)?;
+        both.set_up(&sizes, u64::from(n % 4 >= 2))?;
         for reader in 0..1 + source.random.below(3) {
             both.fresh(reader);
             for line in source.document() {
@@ -500,16 +495,6 @@ pub fn documents(port: &mut dyn OverlayPort, seed: u64, rounds: u64) -> Compared
     both.tally.done()
 }
 
-fn small_sizes(random: &mut Random) -> Sizes {
-    Sizes {
-        ids: 1 + random.below(6),
-        arena: random.below(600),
-        strings: 1 + random.below(8),
-        string_bytes: random.below(60),
-        output: 0,
-    }
-}
-
 /// Several readers on one overlay, turn by turn, with direct calls between their lines.
 pub fn readers(port: &mut dyn OverlayPort, seed: u64, rounds: u64) -> Compared {
     let mut both = Both::new(port);
@@ -521,9 +506,9 @@ pub fn readers(port: &mut dyn OverlayPort, seed: u64, rounds: u64) -> Compared {
         let sizes = if n % 4 == 3 {
             small_sizes(&mut random)
         } else {
-            LARGE
+            ROOMY
         };
-        both.set_up(&sizes, n % 8 >= 6)?;
+        both.set_up(&sizes, u64::from(n % 8 >= 6))?;
         let count = 1 + random.below(4);
         let mut left: Vec<std::vec::IntoIter<Bytes>> =
             (0..count).map(|_| source.document().into_iter()).collect();
@@ -536,7 +521,7 @@ pub fn readers(port: &mut dyn OverlayPort, seed: u64, rounds: u64) -> Compared {
                 0 => {
                     both.end(reader)?;
                 }
-                1 | 2 => direct_call(&mut both, &mut random)?,
+                1 | 2 => random_call(&mut both, &mut random)?,
                 3 if random.once_in(6) => {
                     // A reader may begin anywhere in a list.
                     both.fresh(reader);
@@ -560,193 +545,4 @@ pub fn readers(port: &mut dyn OverlayPort, seed: u64, rounds: u64) -> Compared {
         both.listing()?;
     }
     both.tally.done()
-}
-
-/// Direct calls alone, good and bad.
-pub fn calls(port: &mut dyn OverlayPort, seed: u64, rounds: u64) -> Compared {
-    let mut both = Both::new(port);
-    let mut random = Random::new(seed);
-    for n in 0..800 * rounds {
-        let sizes = if n % 4 == 3 {
-            small_sizes(&mut random)
-        } else {
-            LARGE
-        };
-        both.set_up(&sizes, n % 2 == 1)?;
-        for _ in 0..1 + random.below(60) {
-            direct_call(&mut both, &mut random)?;
-            if random.once_in(12) {
-                both.everything()?;
-            } else {
-                both.state()?;
-            }
-        }
-        both.listing()?;
-    }
-    both.tally.done()
-}
-
-fn direct_call(both: &mut Both<'_>, random: &mut Random) -> Result<(), String> {
-    let texts = both.judge.texts();
-    match random.below(10) {
-        0..=2 => {
-            let text = any_text(random);
-            both.log.push(format!("intern {text:02x?}"));
-            let replies = (both.judge.intern(&text), both.port.intern(&text));
-            both.same(replies.0, replies.1)
-        }
-        3 | 4 => {
-            let kind = *random.pick(&KINDS);
-            let id = random.below(9) as i64 - 4;
-            let meta = any_meta(random, texts);
-            both.log.push(format!("delete {kind:?} {id} {meta:?}"));
-            let replies = (
-                both.judge.delete(kind, id, &meta),
-                both.port.delete(kind, id, &meta),
-            );
-            both.same(replies.0, replies.1)
-        }
-        _ => {
-            let push = any_push(random, texts);
-            both.log.push(format!("{push:?}"));
-            let replies = (both.judge.push(&push), both.port.push(&push));
-            both.same(replies.0, replies.1)
-        }
-    }
-}
-
-fn any_text(random: &mut Random) -> Bytes {
-    match random.below(3) {
-        0 => random
-            .pick(&["", "a", "b", "name", "é", "x\ty"])
-            .as_bytes()
-            .to_vec(),
-        1 => format!("t{}", random.below(40)).into_bytes(),
-        _ => super::ground::random_text(random),
-    }
-}
-
-fn any_handle(random: &mut Random, texts: usize) -> u32 {
-    match random.below(60) {
-        0 => texts as u32,
-        1 => u32::MAX,
-        _ => random.below(texts) as u32,
-    }
-}
-
-fn any_meta(random: &mut Random, texts: usize) -> Meta {
-    let mut meta = Meta::default();
-    if random.once_in(4) {
-        return meta;
-    }
-    meta.flags = 1;
-    if !random.once_in(3) {
-        meta.flags |= 8;
-        meta.version = match random.below(20) {
-            0 => i32::MIN,
-            1 => i32::MAX,
-            _ => random.below(8) as i32 - 1,
-        };
-    }
-    if random.once_in(3) {
-        meta.flags |= 4;
-        meta.user = any_handle(random, texts);
-    }
-    if random.once_in(5) {
-        meta.flags |= 2;
-    }
-    if random.once_in(2) {
-        meta.timestamp = random.id();
-        meta.changeset = random.id();
-        meta.uid = random.id() as i32;
-    }
-    if random.once_in(25) {
-        // Flags and fields that do not go together.
-        match random.below(4) {
-            0 => meta.flags = random.draw() as u8,
-            1 => meta.flags &= !1,
-            2 => meta.flags &= !8,
-            _ => meta.flags &= !4,
-        }
-    }
-    meta
-}
-
-fn any_push(random: &mut Random, texts: usize) -> Push {
-    let kind = *random.pick(&KINDS);
-    let many = random.once_in(150);
-    let mut push = Push {
-        kind,
-        id: if random.once_in(10) {
-            random.id()
-        } else {
-            random.below(9) as i64 - 4
-        },
-        place: (0, 0),
-        refs: Vec::new(),
-        members: Vec::new(),
-        tags: Vec::new(),
-        meta: any_meta(random, texts),
-    };
-    match kind {
-        Kind::Node => {
-            let mut coordinate = |most: i32| match random.below(30) {
-                0 => most + 1,
-                1 => -most - 1,
-                2 => i32::MIN,
-                3 => most,
-                4 => -most,
-                _ => random.below(1_000) as i32 - 500,
-            };
-            push.place = (coordinate(900_000_000), coordinate(1_800_000_000));
-        }
-        Kind::Way => {
-            let count = if many {
-                1_999 + random.below(4)
-            } else {
-                random.below(5)
-            };
-            push.refs = (0..count).map(|_| random.id()).collect();
-        }
-        Kind::Relation => {
-            let count = if many {
-                1_999 + random.below(4)
-            } else {
-                random.below(5)
-            };
-            for _ in 0..count {
-                let byte = if random.once_in(2_000) {
-                    3
-                } else {
-                    random.below(3) as u8
-                };
-                let role = random.below(texts) as u32;
-                push.members.push((random.id(), byte, role));
-            }
-        }
-    }
-    let count = if many && random.once_in(2) {
-        255 + random.below(4)
-    } else {
-        random.below(4)
-    };
-    for _ in 0..count {
-        let value = match random.below(40) {
-            0 => super::ground::random_text(random),
-            1 if many => vec![b'v'; 16_380 + random.below(8)],
-            _ => any_value(random),
-        };
-        let key = if count > 10 {
-            random.below(texts) as u32
-        } else {
-            any_handle(random, texts)
-        };
-        push.tags.push((key, value));
-    }
-    push
-}
-
-fn any_value(random: &mut Random) -> Bytes {
-    let value = *random.pick(&["", "yes", "no", "7.5", "a\tb\\c\r\n", "Straße", "🚚"]);
-    value.as_bytes().to_vec()
 }

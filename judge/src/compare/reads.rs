@@ -1,24 +1,35 @@
 //! The reads of an overlay: by id, by number in OSM order, and a record's tags one step at a time.
 
-use super::overlay::{JudgeSide, LARGE, OverlayPort};
+use super::both::Both;
+use super::direct::{long_call, long_sizes, random_call, sequences_then, small_sizes};
+use super::overlay::{DirectPort, JudgeSide, OverlayPort, ROOMY, named};
 use super::{Compared, Tally};
-use crate::answer::{KINDS, Kind};
+use crate::answer::{KINDS, Kind, Record};
 use crate::produce::{Bytes, Documents, Style};
 use crate::random::Random;
 
-/// The port's reads. Numbers of refusals come first.
-pub trait ReadPort: OverlayPort {
-    fn is_empty(&mut self) -> bool;
-    /// Live, deleted.
-    fn counts(&mut self, kind: Kind) -> (u64, u64);
-    fn is_live(&mut self, kind: Kind, id: i64) -> bool;
-    fn is_deleted(&mut self, kind: Kind, id: i64) -> bool;
+/// A refusal's number with nothing; or 0 with where something starts and its bytes, or with nothing.
+pub type Seen = (u32, Option<(usize, Bytes)>);
+
+/// The port's reads. A refusal's number comes first, 0 for none. A kind goes by its number.
+pub trait ReadPort: DirectPort {
+    /// 1 where no id is known, else 0.
+    fn is_empty(&mut self) -> (u32, u64);
+    fn live_count(&mut self, kind: u8) -> (u32, u64);
+    fn deleted_count(&mut self, kind: u8) -> (u32, u64);
+    /// The bits of an id by its number in the live list, in OSM order; 21 past the list.
+    fn live_id(&mut self, kind: u8, n: u64) -> (u32, u64);
+    fn deleted_id(&mut self, kind: u8, n: u64) -> (u32, u64);
+    /// The record of the live id by its number, to that record's end; 21 past the list.
+    fn record(&mut self, kind: u8, n: u64) -> Seen;
+    /// The record of an id, if it is live.
+    fn get(&mut self, kind: u8, id: i64) -> Seen;
+    fn has(&mut self, kind: u8, id: i64) -> (u32, u64);
+    fn is_deleted(&mut self, kind: u8, id: i64) -> (u32, u64);
     /// The word of a version or none: 2^32 for none.
-    fn known_version(&mut self, kind: Kind, id: i64) -> u64;
-    /// The id by its number in the live or in the deleted list; 21 with 0 past the list.
-    fn id_by_number(&mut self, kind: Kind, deleted: bool, n: u64) -> (u32, i64);
-    /// The bytes of the record of the live id by its number, to that record's end; 21 with none.
-    fn record_by_number(&mut self, kind: Kind, n: u64) -> (u32, Bytes);
+    fn known_version(&mut self, kind: u8, id: i64) -> (u32, u64);
+    /// The text of a handle; 21 where it is not held.
+    fn text(&mut self, handle: u64) -> Seen;
 }
 
 /// One step over a record's tags.
@@ -73,101 +84,266 @@ impl TagPort for WordsStep {
     }
 }
 
-impl ReadPort for JudgeSide {
-    fn is_empty(&mut self) -> bool {
-        self.overlay().is_empty()
+impl JudgeSide {
+    /// What is read of a kind, or 17.
+    fn of_kind<T: Default>(&self, kind: u8, read: impl FnOnce(Kind) -> (u32, T)) -> (u32, T) {
+        named(kind).map_or_else(|| (17, T::default()), read)
     }
 
-    fn counts(&mut self, kind: Kind) -> (u64, u64) {
-        let overlay = self.overlay();
-        (
-            overlay.live_count(kind) as u64,
-            overlay.deleted_count(kind) as u64,
-        )
-    }
-
-    fn is_live(&mut self, kind: Kind, id: i64) -> bool {
-        self.overlay().has(kind, id)
-    }
-
-    fn is_deleted(&mut self, kind: Kind, id: i64) -> bool {
-        self.overlay().is_deleted(kind, id)
-    }
-
-    fn known_version(&mut self, kind: Kind, id: i64) -> u64 {
-        super::ground::word(self.overlay().known_version(kind, id))
-    }
-
-    fn id_by_number(&mut self, kind: Kind, deleted: bool, n: u64) -> (u32, i64) {
-        let sorted = self.overlay().sorted(kind);
-        let list = if deleted { sorted.deleted } else { sorted.live };
-        let id = usize::try_from(n).ok().and_then(|n| list.get(n).copied());
-        id.map_or((21, 0), |id| (0, id))
-    }
-
-    fn record_by_number(&mut self, kind: Kind, n: u64) -> (u32, Bytes) {
-        let sorted = self.overlay().sorted(kind);
-        let record = usize::try_from(n).ok().and_then(|n| sorted.records.get(n));
-        record.map_or((21, Vec::new()), |r| (0, r.view[..r.len].to_vec()))
+    fn seen(&self, kind: Kind, record: &Record) -> (usize, Bytes) {
+        let place = self.overlay().place(kind, record.id).expect("it is live");
+        (place, record.view[..record.len].to_vec())
     }
 }
 
-/// Everything that can be read of overlays made from documents.
-pub fn overlays(port: &mut dyn ReadPort, seed: u64, rounds: u64) -> Compared {
-    let mut tally = Tally::new();
-    let mut source = Documents::new(seed, Style::VALID);
-    for n in 0..150 * rounds {
-        source.forget();
-        let mut judge = JudgeSide::new();
-        let input = source.document();
-        let what =
-            |read: &str| format!("{read} after\n{}", String::from_utf8_lossy(&input.concat()));
-        judge.set_up(&LARGE);
-        port.set_up(&LARGE);
-        judge.allow_version_regression(n % 2 == 1);
-        port.allow_version_regression(n % 2 == 1);
-        judge.fresh(0);
-        port.fresh(0);
-        for line in &input {
-            let replies = (judge.line(0, line), port.line(0, line));
-            tally.same(|| what("a line"), replies.0, replies.1)?;
-        }
-        tally.same(|| what("is_empty"), judge.is_empty(), port.is_empty())?;
-        for kind in KINDS {
-            tally.same(|| what("counts"), judge.counts(kind), port.counts(kind))?;
-            for id in (-6..=6).chain([i64::MIN, i64::MAX]) {
-                let reads = |side: &mut dyn ReadPort| {
-                    (
-                        side.is_live(kind, id),
-                        side.is_deleted(kind, id),
-                        side.known_version(kind, id),
-                    )
-                };
-                tally.same(
-                    || what(&format!("{kind:?} {id}")),
-                    reads(&mut judge),
-                    reads(port),
-                )?;
+/// The bits of an id by its number, or 21.
+fn nth(ids: &[i64], n: u64) -> (u32, u64) {
+    let id = usize::try_from(n).ok().and_then(|n| ids.get(n));
+    id.map_or((21, 0), |id| (0, id.cast_unsigned()))
+}
+
+impl ReadPort for JudgeSide {
+    fn is_empty(&mut self) -> (u32, u64) {
+        (0, u64::from(self.overlay().is_empty()))
+    }
+
+    fn live_count(&mut self, kind: u8) -> (u32, u64) {
+        self.of_kind(kind, |k| (0, self.overlay().live_count(k) as u64))
+    }
+
+    fn deleted_count(&mut self, kind: u8) -> (u32, u64) {
+        self.of_kind(kind, |k| (0, self.overlay().deleted_count(k) as u64))
+    }
+
+    fn live_id(&mut self, kind: u8, n: u64) -> (u32, u64) {
+        self.of_kind(kind, |k| nth(&self.overlay().sorted_ids(k).0, n))
+    }
+
+    fn deleted_id(&mut self, kind: u8, n: u64) -> (u32, u64) {
+        self.of_kind(kind, |k| nth(&self.overlay().sorted_ids(k).1, n))
+    }
+
+    fn record(&mut self, kind: u8, n: u64) -> Seen {
+        self.of_kind(kind, |k| {
+            if n >= self.overlay().live_count(k) as u64 {
+                return (21, None);
             }
-            let (live, deleted) = judge.counts(kind);
-            let past = [live, live + 1, deleted, deleted + 1, 1 << 32, u64::MAX];
-            for n in (0..live.max(deleted)).chain(past) {
-                let reads = |side: &mut dyn ReadPort| {
-                    (
-                        side.id_by_number(kind, false, n),
-                        side.id_by_number(kind, true, n),
-                        side.record_by_number(kind, n),
-                    )
-                };
-                tally.same(
-                    || what(&format!("{kind:?} number {n}")),
-                    reads(&mut judge),
-                    reads(port),
-                )?;
+            let record = self.overlay().sorted_record(k, n as usize);
+            (0, Some(self.seen(k, &record)))
+        })
+    }
+
+    fn get(&mut self, kind: u8, id: i64) -> Seen {
+        self.of_kind(kind, |k| {
+            let record = self.overlay().record(k, id);
+            (0, record.map(|r| self.seen(k, &r)))
+        })
+    }
+
+    fn has(&mut self, kind: u8, id: i64) -> (u32, u64) {
+        self.of_kind(kind, |k| (0, u64::from(self.overlay().has(k, id))))
+    }
+
+    fn is_deleted(&mut self, kind: u8, id: i64) -> (u32, u64) {
+        self.of_kind(kind, |k| (0, u64::from(self.overlay().is_deleted(k, id))))
+    }
+
+    fn known_version(&mut self, kind: u8, id: i64) -> (u32, u64) {
+        self.of_kind(kind, |k| {
+            let known = self.overlay().known_version(k, id);
+            (0, super::ground::word(known))
+        })
+    }
+
+    fn text(&mut self, handle: u64) -> Seen {
+        let state = self.overlay().state();
+        let n = usize::try_from(handle).unwrap_or(usize::MAX);
+        match (state.spans.get(n), state.texts.get(n)) {
+            (Some(span), Some(text)) => (0, Some((span.0 as usize, text.clone().into_bytes()))),
+            _ => (21, None),
+        }
+    }
+}
+
+/// So many of a list at most, drawn where there are more.
+fn some_of<T: Copy>(random: &mut Random, list: &[T], most: usize) -> Vec<T> {
+    if list.len() <= most {
+        return list.to_vec();
+    }
+    (0..most).map(|_| *random.pick(list)).collect()
+}
+
+/// How many ids, numbers and handles are read of a long list.
+const SOME: usize = 24;
+
+/// Every read of the overlay as both sides hold it; of long lists some.
+fn every_read<P: ReadPort + ?Sized>(
+    both: &mut Both<'_, P>,
+    random: &mut Random,
+) -> Result<(), String> {
+    let empty = (both.judge.is_empty(), both.port.is_empty());
+    both.read("is_empty", empty.0, empty.1)?;
+    for kind in 0..3 {
+        let live = (both.judge.live_count(kind), both.port.live_count(kind));
+        both.read(&format!("live_count {kind}"), live.0, live.1)?;
+        let deleted = (
+            both.judge.deleted_count(kind),
+            both.port.deleted_count(kind),
+        );
+        both.read(&format!("deleted_count {kind}"), deleted.0, deleted.1)?;
+        by_number(both, random, KINDS[usize::from(kind)])?;
+        by_id(both, random, kind)?;
+    }
+    of_no_kind(both)?;
+    let texts = both.judge.texts() as u64;
+    let held: Vec<u64> = (0..texts).collect();
+    let past = [texts, texts + 1, texts + (1 << 32), 1 << 63, u64::MAX];
+    for handle in some_of(random, &held, SOME).into_iter().chain(past) {
+        let texts = (both.judge.text(handle), both.port.text(handle));
+        both.read(&format!("text {handle}"), texts.0, texts.1)?;
+    }
+    Ok(())
+}
+
+/// Ids and records by number against the published lists, and past them.
+fn by_number<P: ReadPort + ?Sized>(
+    both: &mut Both<'_, P>,
+    random: &mut Random,
+    kind: Kind,
+) -> Result<(), String> {
+    let (live, deleted) = both.judge.overlay().sorted_ids(kind);
+    let (live_len, deleted_len) = (live.len() as u64, deleted.len() as u64);
+    let numbers: Vec<u64> = (0..live_len.max(deleted_len)).collect();
+    let past = [live_len, deleted_len, live_len + 1, 1 << 32, u64::MAX];
+    for n in some_of(random, &numbers, SOME).into_iter().chain(past) {
+        let what = |read: &str| format!("{read} {kind:?} {n}");
+        let got = both.port.live_id(kind as u8, n);
+        both.read(&what("live_id"), nth(&live, n), got)?;
+        let got = both.port.deleted_id(kind as u8, n);
+        both.read(&what("deleted_id"), nth(&deleted, n), got)?;
+        let records = (
+            both.judge.record(kind as u8, n),
+            both.port.record(kind as u8, n),
+        );
+        both.read(&what("record"), records.0, records.1)?;
+    }
+    Ok(())
+}
+
+/// What is read of known ids, of those close to them, and of the ends.
+fn by_id<P: ReadPort + ?Sized>(
+    both: &mut Both<'_, P>,
+    random: &mut Random,
+    kind: u8,
+) -> Result<(), String> {
+    let (mut ids, deleted) = both.judge.overlay().sorted_ids(KINDS[usize::from(kind)]);
+    ids.extend(deleted);
+    let mut ids = some_of(random, &ids, SOME);
+    for n in 0..ids.len() {
+        let id = ids[n];
+        ids.extend([id.wrapping_neg(), id.wrapping_add(1)]);
+    }
+    ids.extend([0, -1, 1, i64::MIN, i64::MAX]);
+    ids.sort_unstable();
+    ids.dedup();
+    for id in ids {
+        let records = (both.judge.get(kind, id), both.port.get(kind, id));
+        both.read(&format!("get {kind} {id}"), records.0, records.1)?;
+        let numbers = |side: &mut dyn ReadPort| {
+            [
+                side.has(kind, id),
+                side.is_deleted(kind, id),
+                side.known_version(kind, id),
+            ]
+        };
+        let judge = numbers(&mut both.judge);
+        let port = [
+            both.port.has(kind, id),
+            both.port.is_deleted(kind, id),
+            both.port.known_version(kind, id),
+        ];
+        both.read(&format!("of {kind} {id}"), judge, port)?;
+    }
+    Ok(())
+}
+
+/// Numbers that mean no kind are 17.
+fn of_no_kind<P: ReadPort + ?Sized>(both: &mut Both<'_, P>) -> Result<(), String> {
+    for kind in [3, 4, 128, 255] {
+        let what = |read: &str| format!("{read} {kind}");
+        let port = &mut both.port;
+        let numbers = [
+            port.live_count(kind),
+            port.deleted_count(kind),
+            port.live_id(kind, 0),
+            port.deleted_id(kind, 0),
+            port.has(kind, 1),
+            port.is_deleted(kind, 1),
+            port.known_version(kind, 1),
+        ];
+        let parts = [port.record(kind, 0), port.get(kind, 1)];
+        both.read(&what("numbers of kind"), [(17, 0); 7], numbers)?;
+        both.read(&what("records of kind"), [(17, None), (17, None)], parts)?;
+    }
+    Ok(())
+}
+
+/// Every read after every sequence of direct calls up to `depth`.
+pub fn sequences<P: ReadPort + Clone>(port: &P, depth: usize) -> Compared {
+    sequences_then(port, depth, |both| {
+        every_read(both, &mut Random::new(1))?;
+        both.state()
+    })
+}
+
+/// Reads after lists of direct calls at random: on few ids, and on several hundred.
+pub fn lists(port: &mut dyn ReadPort, seed: u64, rounds: u64) -> Compared {
+    let mut both = Both::new(port);
+    let mut random = Random::new(seed);
+    for n in 0..150 * rounds {
+        let sizes = if n % 4 == 3 {
+            small_sizes(&mut random)
+        } else {
+            ROOMY
+        };
+        both.set_up(&sizes, n % 2)?;
+        every_read(&mut both, &mut random)?;
+        for _ in 0..4 {
+            for _ in 0..random.below(16) {
+                random_call(&mut both, &mut random)?;
+            }
+            every_read(&mut both, &mut random)?;
+            both.state()?;
+        }
+    }
+    for n in 0..3 * rounds {
+        both.set_up(&long_sizes(&mut random), n % 2)?;
+        for call in 0..1_200 {
+            long_call(&mut both, &mut random, call)?;
+            if call % 100 == 99 {
+                every_read(&mut both, &mut random)?;
+                both.state()?;
             }
         }
     }
-    tally.done()
+    both.tally.done()
+}
+
+/// Everything that can be read of overlays made from documents.
+pub fn overlays<P: ReadPort + OverlayPort>(port: &mut P, seed: u64, rounds: u64) -> Compared {
+    let mut both = Both::new(port);
+    let mut random = Random::new(seed);
+    let mut source = Documents::new(seed, Style::VALID);
+    for n in 0..150 * rounds {
+        source.forget();
+        both.set_up(&ROOMY, n % 2)?;
+        both.fresh(0);
+        for line in &source.document() {
+            both.line(0, line)?;
+        }
+        every_read(&mut both, &mut random)?;
+    }
+    both.tally.done()
 }
 
 /// Tags of produced records, against the Rust's iterator, then cut short, not text, and at damaged bytes

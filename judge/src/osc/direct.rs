@@ -224,6 +224,12 @@ pub(crate) fn sorted(overlay: &CompactDiffOverlay, kind: ElementKind) -> Sorted 
     }
 }
 
+/// The ids alone: live, deleted.
+pub(crate) fn sorted_ids(overlay: &CompactDiffOverlay, kind: ElementKind) -> (Vec<i64>, Vec<i64>) {
+    let diff = overlay.clone().into_sorted();
+    (diff.upserts(kind).to_vec(), diff.deleted(kind).to_vec())
+}
+
 /// The record by its number in the live list; the published read panics past the list.
 pub(crate) fn sorted_record(overlay: &CompactDiffOverlay, kind: ElementKind, n: usize) -> Record {
     let diff = overlay.clone().into_sorted();

@@ -1,0 +1,65 @@
+-- The row that the search finds, or none.
+use mathlib.Core.Path.{sym, _∙_, ap}
+use denote.Ref.{now}
+use mir.Val.{toZ}
+use mir.Syntax.{w64}
+use Rattle.table.specs.Words.{lookup}
+use Rattle.table.specs.declared.Found.the-variants.{At, Place}
+use Rattle.listed.specs.Listed.{rowStanding}
+use Rattle.listed.proofs.Standings.{bits-rank, standing-at}
+use borrow.Author.Needs.{needs}
+use Rattle.listed.proofs.standing_of.Statement.{statement}
+use Rattle.listed.proofs.standing_of.Tie as tie
+
+i64-of-bits-requires : tie.Need-i64-of-bits-requires
+i64-of-bits-requires c κs = search needs
+
+osm-id-rank-requires : tie.Need-osm-id-rank-requires
+osm-id-rank-requires c κs = search needs
+
+find-row-requires : tie.Need-find-row-requires
+find-row-requires c κs = search needs
+
+enum-known-i : tie.Need-enum-known-i
+enum-known-i c = search needs
+
+row-at-requires : tie.Need-row-at-requires
+row-at-requires c κs = search needs
+
+row-standing-requires : tie.Need-row-standing-requires
+row-standing-requires c κs = search needs
+
+enum-told : tie.Need-enum-told
+enum-told c = search needs
+
+returns : tie.Need-returns
+returns c =
+    let b = c .before .before .before .before .before in
+    let a = b .before .before .before .before .args in
+    let r = bits-rank (b .before .before .before .before .fits .id) (b .before .before .i64-of-bits .ensures) (b .before .osm-id-rank .ensures) in
+    let f = c .before .before .before .i .given in
+    let e = sym (f .1) ∙ (b .find-row .ensures ∙ ap (lookup (now (a .table)) (a .ids)) r) in
+    c .row-standing .ensures ∙ (ap rowStanding (c .before .row-at .ensures) ∙ sym (standing-at (now (a .table)) (a .ids) (toZ w64 (a .id)) (At (f .0 .0)) e))
+
+returns-2 : tie.Need-returns-2
+returns-2 c =
+    let b = c .before .before in
+    let a = b .before .before .before .before .args in
+    let r = bits-rank (b .before .before .before .before .fits .id) (b .before .before .i64-of-bits .ensures) (b .before .osm-id-rank .ensures) in
+    let f = c .enum-told .given in
+    let e = sym (f .1) ∙ (b .find-row .ensures ∙ ap (lookup (now (a .table)) (a .ids)) r) in
+    sym (standing-at (now (a .table)) (a .ids) (toZ w64 (a .id)) (Place (f .0 .0)) e)
+
+pub standing-of-spec : {M : Type 1} → statement M
+standing-of-spec =
+    tie.close
+    (tie.spec
+    i64-of-bits-requires
+    osm-id-rank-requires
+    find-row-requires
+    enum-known-i
+    row-at-requires
+    row-standing-requires
+    enum-told
+    returns
+    returns-2)

@@ -1,0 +1,35 @@
+-- What an entry leaves and replies, from what a call of the overlay leaves and answers; and where a number means no kind.
+use Prim.Native.Nat.{ℕ}
+use mathlib.Core.Path.{_≡_, refl}
+use mathlib.Core.Bool.{Bool, true, false, cond}
+use lib.IntN.{ℤ}
+use mir.Syntax.{w64}
+use mir.Val.{SFits, toZ, ofZ}
+use mir.Facts.{toZ-ofZ}
+use Rattle.refusal.specs.declared.Reply.{Reply}
+use Rattle.refusal.specs.declared.Refusal.the-variants as R
+use Rattle.shelf.specs.declared.Kept.{Kept}
+use Rattle.overlay.specs.Overlay.{Overlay}
+use Rattle.overlay.specs.Sound.{isSound}
+use Rattle.overlay.specs.Calls.{After, refused, Interning}
+use Rattle.overlay.specs.declared.Handle.{Handle}
+use Rattle.overlay_c.specs.Entries.{replied, keptReply, unknownReply, unknown, interned, handleText}
+use Rattle.overlay_c.specs.declared.Text.{Text}
+
+-- an id that is handed on as its bits is read back
+pub id-is : {id : ℤ} {bits : ℕ} → SFits w64 id → bits ≡ ofZ w64 (toZ w64 (ofZ w64 id)) → toZ w64 bits ≡ id
+id-is f e = rw (e, toZ-ofZ f, toZ-ofZ f)
+
+pub replied-is : {x : Overlay} {a : Kept} {r : Reply} {y : After} → r ≡ keptReply a → record { overlay = x; answer = a } ≡ y → record { overlay = x; reply = r } ≡ replied y
+replied-is told e = rw (told, ← e)
+
+pub interned-is : {x : Overlay} {a : Handle} {r : Text} {y : Interning} → r ≡ handleText a → record { overlay = x; answer = a } ≡ y → record { overlay = x; reply = r } ≡ interned y
+interned-is told e = rw (told, ← e)
+
+-- 22, else 17, and nothing lent changes
+no-kind : (o : Overlay) (b : Bool) → record { overlay = o; reply = unknownReply b } ≡ replied (cond b (refused o R.BadRecord) (refused o R.Unsound))
+no-kind o true = refl
+no-kind o false = refl
+
+pub unknown-is : {o : Overlay} {r : Reply} → r ≡ unknownReply (isSound o) → record { overlay = o; reply = r } ≡ replied (unknown o)
+unknown-is {o} told = rw told (no-kind o (isSound o))

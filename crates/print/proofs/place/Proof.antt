@@ -1,0 +1,62 @@
+-- `place` asks for the room before the piece and behind it, and whether the piece lies within the output.
+use mathlib.Core.Path.{sym, _∙_}
+use native.Mathlib.Omega.{arith}
+use Rattle.print.proofs.Pieces.{place-full, place-none, place-taken, place-left}
+use borrow.Author.Needs.{needs}
+use Rattle.print.proofs.place.Statement.{statement}
+use Rattle.print.proofs.place.Tie as tie
+
+enum-known-room : tie.Need-enum-known-room
+enum-known-room c = search needs
+
+enum-told : tie.Need-enum-told
+enum-told c = search needs
+
+returns : tie.Need-returns
+returns c = (rw (c .enum-told .given .1) (sym (place-none _ _ _)), omega arith)
+
+enum-known-left : tie.Need-enum-known-left
+enum-known-left c = search needs
+
+enum-told-2 : tie.Need-enum-told-2
+enum-told-2 c = search needs
+
+returns-2 : tie.Need-returns-2
+returns-2 c = (rw (c .enum-told2 .given .1) (sym (place-full _ _ _)), omega arith)
+
+less-requires : tie.Need-less-requires
+less-requires c κs = search needs
+
+less-requires-2 : tie.Need-less-requires-2
+less-requires-2 c κs = search needs
+
+within-requires : tie.Need-within-requires
+within-requires c κs = search needs
+
+returns-3 : tie.Need-returns-3
+returns-3 c =
+    let a = c .before .before .before .before .before .before .before .before .before .before .args in
+    rw (c .before .before .before .before .before .before .before .before .room .given .1, c .before .before .before .before .before .left .given .1)
+    (place-taken (a .cap) (a .len) _ _ _ _ (c .before .before .before .less .ensures) (c .before .before .less2 .ensures) (sym (c .before .within .ensures) ∙ c .if1 .taken))
+
+returns-4 : tie.Need-returns-4
+returns-4 c =
+    let a = c .before .before .before .before .before .before .before .before .before .before .args in
+    rw (c .before .before .before .before .before .before .before .before .room .given .1, c .before .before .before .before .before .left .given .1)
+    (place-left (a .cap) (a .len) _ _ _ _ (c .before .before .before .less .ensures) (c .before .before .less2 .ensures) (sym (c .before .within .ensures) ∙ c .if1 .left))
+
+pub place-spec : {M : Type 1} → statement M
+place-spec =
+    tie.close
+    (tie.spec
+    enum-known-room
+    enum-told
+    returns
+    enum-known-left
+    enum-told-2
+    returns-2
+    less-requires
+    less-requires-2
+    within-requires
+    returns-3
+    returns-4)

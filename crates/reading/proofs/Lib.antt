@@ -1,0 +1,4 @@
+pub mod Arms
+pub mod Records
+pub mod Numbers
+pub mod Texts

@@ -1,0 +1,27 @@
+-- The soundness test, then the count of the kind.
+use mathlib.Core.Path.{ap}
+use denote.Ref.{now}
+use borrow.Author.Needs.{needs}
+use Rattle.reading.specs.Reading.{countOn}
+use Rattle.reading.specs.declared.Read.the-variants.{Is}
+use Rattle.reading.proofs.count.Statement.{statement}
+use Rattle.reading.proofs.count.Tie as tie
+
+is-sound-requires : tie.Need-is-sound-requires
+is-sound-requires c κs = search needs
+
+count-in-requires : tie.Need-count-in-requires
+count-in-requires c κs = search needs
+
+returns : tie.Need-returns
+unfolding countOn
+returns c =
+    let a = c .before .before .before .before .before .before .before .before .before .before .before .args in
+    rw (← c .before .before .is-sound .ensures, c .before .if1 .taken) (ap Is (c .count-in .ensures (now (a .narena)) (now (a .warena)) (now (a .rarena)) (now (a .spans)) (now (a .bytes))))
+
+returns-2 : tie.Need-returns-2
+unfolding countOn
+returns-2 c = rw (← c .before .is-sound .ensures, c .if1 .left)
+
+pub count-spec : {M : Type 1} → statement M
+count-spec = tie.close (tie.spec is-sound-requires count-in-requires returns returns-2)

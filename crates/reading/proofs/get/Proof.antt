@@ -1,0 +1,52 @@
+-- The soundness test, then the record of a live id.
+use mathlib.Core.Path.{sym, _∙_, ap}
+use denote.Ref.{now}
+use borrow.Author.Needs.{needs}
+use Rattle.reading.specs.Reading.{liveView, getOn}
+use Rattle.reading.proofs.Arms.{not-live, no-view}
+use Rattle.reading.proofs.get.Statement.{statement}
+use Rattle.reading.proofs.get.Tie as tie
+
+is-sound-requires : tie.Need-is-sound-requires
+is-sound-requires c κs = search needs
+
+standing-in-requires : tie.Need-standing-in-requires
+standing-in-requires c κs = search needs
+
+enum-known-at : tie.Need-enum-known-at
+enum-known-at c = search needs
+
+returns : tie.Need-returns
+unfolding getOn
+returns c =
+    let a = c .before .before .before .before .before .before .before .before .before .before .before .before .args in
+    let s = c .before .standing-in .ensures (now (a .narena)) (now (a .warena)) (now (a .rarena)) (now (a .spans)) (now (a .bytes)) in
+    rw (← c .before .before .before .is-sound .ensures, c .before .before .if1 .taken)
+    (sym (no-view _ _ _ (c .before .standing-in .result) (not-live (c .before .standing-in .result) (c .match .keys2))) ∙ ap (liveView _ _ _) s)
+
+view-in-requires : tie.Need-view-in-requires
+view-in-requires c κs = search needs
+
+returns-2 : tie.Need-returns-2
+unfolding getOn
+returns-2 c =
+    let a = c .before .before .before .before .before .before .before .before .before .before .before .before .before .before .before .args in
+    let s = sym (c .before .before .at .given .1) ∙ c .before .before .before .before .standing-in .ensures (now (a .narena)) (now (a .warena)) (now (a .rarena)) (now (a .spans)) (now (a .bytes)) in
+    rw (← c .before .before .before .before .before .before .is-sound .ensures, c .before .before .before .before .before .if1 .taken)
+    (c .view-in .ensures (now (a .nids)) (now (a .wids)) (now (a .rids)) (now (a .spans)) (now (a .bytes)) ∙ ap (liveView _ _ _) s)
+
+returns-3 : tie.Need-returns-3
+unfolding getOn
+returns-3 c = rw (← c .before .is-sound .ensures, c .if1 .left)
+
+pub get-spec : {M : Type 1} → statement M
+get-spec =
+    tie.close
+    (tie.spec
+    is-sound-requires
+    standing-in-requires
+    enum-known-at
+    returns
+    view-in-requires
+    returns-2
+    returns-3)

@@ -1,0 +1,40 @@
+-- The soundness test, then what is known of the id.
+use mathlib.Core.Path.{_∙_, ap}
+use denote.Ref.{now}
+use borrow.Author.Needs.{needs}
+use Rattle.reading.specs.Reading.{isDeletedOn, yes, isDeletedNow}
+use Rattle.reading.proofs.is_deleted.Statement.{statement}
+use Rattle.reading.proofs.is_deleted.Tie as tie
+
+is-sound-requires : tie.Need-is-sound-requires
+is-sound-requires c κs = search needs
+
+standing-in-requires : tie.Need-standing-in-requires
+standing-in-requires c κs = search needs
+
+is-deleted-now-requires : tie.Need-is-deleted-now-requires
+is-deleted-now-requires c κs = search needs
+
+yes-requires : tie.Need-yes-requires
+yes-requires c κs = search needs
+
+returns : tie.Need-returns
+unfolding isDeletedOn
+returns c =
+    let a = c .before .before .before .before .before .before .before .before .before .before .before .before .before .args in
+    rw (← c .before .before .before .before .is-sound .ensures, c .before .before .before .if1 .taken) (c .yes .ensures ∙ ap yes (c .before .is-deleted-now .ensures ∙ ap isDeletedNow (c .before .before .standing-in .ensures (now (a .narena)) (now (a .warena)) (now (a .rarena)) (now (a .spans)) (now (a .bytes)))))
+
+returns-2 : tie.Need-returns-2
+unfolding isDeletedOn
+returns-2 c = rw (← c .before .is-sound .ensures, c .if1 .left)
+
+pub is-deleted-spec : {M : Type 1} → statement M
+is-deleted-spec =
+    tie.close
+    (tie.spec
+    is-sound-requires
+    standing-in-requires
+    is-deleted-now-requires
+    yes-requires
+    returns
+    returns-2)

@@ -1,0 +1,33 @@
+-- The soundness test, then the known version as a word.
+use mathlib.Core.Path.{_∙_, ap}
+use denote.Ref.{now}
+use borrow.Author.Needs.{needs}
+use Rattle.version_floor.specs.Version.{wordOf}
+use Rattle.reading.specs.Reading.{knownOn}
+use Rattle.reading.specs.declared.Read.the-variants.{Is}
+use Rattle.reading.proofs.known_version.Statement.{statement}
+use Rattle.reading.proofs.known_version.Tie as tie
+
+is-sound-requires : tie.Need-is-sound-requires
+is-sound-requires c κs = search needs
+
+version-in-requires : tie.Need-version-in-requires
+version-in-requires c κs = search needs
+
+version-word-requires : tie.Need-version-word-requires
+version-word-requires c κs = search needs
+
+returns : tie.Need-returns
+unfolding knownOn
+returns c =
+    let a = c .before .before .before .before .before .before .before .before .before .before .before .before .args in
+    rw (← c .before .before .before .is-sound .ensures, c .before .before .if1 .taken) (ap Is (c .version-word .ensures ∙ ap wordOf (c .before .version-in .ensures (now (a .spans)) (now (a .bytes)))))
+
+returns-2 : tie.Need-returns-2
+unfolding knownOn
+returns-2 c = rw (← c .before .is-sound .ensures, c .if1 .left)
+
+pub known-version-spec : {M : Type 1} → statement M
+known-version-spec =
+    tie.close
+    (tie.spec is-sound-requires version-in-requires version-word-requires returns returns-2)

@@ -1,0 +1,54 @@
+-- The soundness test, then the record of the kind's live row.
+use mathlib.Core.Path.{sym, _∙_, ap}
+use denote.Ref.{now}
+use borrow.Author.Needs.{needs}
+use Rattle.reading.specs.Reading.{nthView, recordOn}
+use Rattle.reading.proofs.record_at.Statement.{statement}
+use Rattle.reading.proofs.record_at.Tie as tie
+
+is-sound-requires : tie.Need-is-sound-requires
+is-sound-requires c κs = search needs
+
+row-in-requires : tie.Need-row-in-requires
+row-in-requires c κs = search needs
+
+enum-known-row : tie.Need-enum-known-row
+enum-known-row c = search needs
+
+enum-told : tie.Need-enum-told
+enum-told c = search needs
+
+returns : tie.Need-returns
+unfolding recordOn
+returns c =
+    let a = c .before .before .before .before .before .before .before .before .before .before .before .before .before .args in
+    let s = sym (c .enum-told .given .1) ∙ c .before .before .row-in .ensures (now (a .narena)) (now (a .warena)) (now (a .rarena)) (now (a .spans)) (now (a .bytes)) in
+    rw (← c .before .before .before .before .is-sound .ensures, c .before .before .before .if1 .taken) (ap (nthView _ _ _) s)
+
+view-in-requires : tie.Need-view-in-requires
+view-in-requires c κs = search needs
+
+returns-2 : tie.Need-returns-2
+unfolding recordOn
+returns-2 c =
+    let a = c .before .before .before .before .before .before .before .before .before .before .before .before .before .before .before .args in
+    let s = sym (c .before .before .row .given .1) ∙ c .before .before .before .before .row-in .ensures (now (a .narena)) (now (a .warena)) (now (a .rarena)) (now (a .spans)) (now (a .bytes)) in
+    rw (← c .before .before .before .before .before .before .is-sound .ensures, c .before .before .before .before .before .if1 .taken)
+    (c .view-in .ensures (now (a .nids)) (now (a .wids)) (now (a .rids)) (now (a .spans)) (now (a .bytes)) ∙ ap (nthView _ _ _) s)
+
+returns-3 : tie.Need-returns-3
+unfolding recordOn
+returns-3 c = rw (← c .before .is-sound .ensures, c .if1 .left)
+
+pub record-at-spec : {M : Type 1} → statement M
+record-at-spec =
+    tie.close
+    (tie.spec
+    is-sound-requires
+    row-in-requires
+    enum-known-row
+    enum-told
+    returns
+    view-in-requires
+    returns-2
+    returns-3)

@@ -1,0 +1,55 @@
+-- Where the record of the id lies, if it is live; or 22, else 17.
+use Rattle.reading_c.specs.Entries.{getPart}
+use Rattle.reading_c.proofs.Ids.{id-is}
+use borrow.Author.Needs.{needs}
+use Rattle.reading_c.proofs.tvk_get.Statement.{statement}
+use Rattle.reading_c.proofs.tvk_get.Tie as tie
+
+kind-of-number-requires : tie.Need-kind-of-number-requires
+kind-of-number-requires c κs = search needs
+
+enum-known-k : tie.Need-enum-known-k
+enum-known-k c = search needs
+
+bits-of-i64-requires : tie.Need-bits-of-i64-requires
+bits-of-i64-requires c κs = search needs
+
+get-requires : tie.Need-get-requires
+get-requires c κs = search needs
+
+view-part-requires : tie.Need-view-part-requires
+view-part-requires c κs = search needs
+
+enum-told : tie.Need-enum-told
+enum-told c = search needs
+
+unknown-kind-requires : tie.Need-unknown-kind-requires
+unknown-kind-requires c κs = search needs
+
+view-part-requires-2 : tie.Need-view-part-requires-2
+view-part-requires-2 c κs = search needs
+
+returns : tie.Need-returns
+unfolding getPart
+returns c =
+    let d = id-is (c .before .before .before .before .before .before .before .before .before .before .before .before .before .before .before .fits .id) (c .before .before .bits-of-i64 .ensures) in
+    rw (← c .before .before .before .before .before .before .kind-of-number .ensures, c .before .before .before .before .k .given .1, c .view-part .ensures, c .before .get .ensures, d)
+
+returns-2 : tie.Need-returns-2
+unfolding getPart
+returns-2 c = rw (← c .before .before .before .before .kind-of-number .ensures, c .before .before .enum-told .given .1, c .view-part2 .ensures, c .before .unknown-kind .ensures)
+
+pub tvk-get-spec : {M : Type 1} → statement M
+tvk-get-spec =
+    tie.close
+    (tie.spec
+    kind-of-number-requires
+    enum-known-k
+    bits-of-i64-requires
+    get-requires
+    view-part-requires
+    enum-told
+    unknown-kind-requires
+    view-part-requires-2
+    returns
+    returns-2)

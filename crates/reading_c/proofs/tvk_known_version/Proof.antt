@@ -1,0 +1,55 @@
+-- The known version of the id; or 22, else 17.
+use Rattle.reading_c.specs.Entries.{knownNumber}
+use Rattle.reading_c.proofs.Ids.{id-is}
+use borrow.Author.Needs.{needs}
+use Rattle.reading_c.proofs.tvk_known_version.Statement.{statement}
+use Rattle.reading_c.proofs.tvk_known_version.Tie as tie
+
+kind-of-number-requires : tie.Need-kind-of-number-requires
+kind-of-number-requires c κs = search needs
+
+enum-known-k : tie.Need-enum-known-k
+enum-known-k c = search needs
+
+bits-of-i64-requires : tie.Need-bits-of-i64-requires
+bits-of-i64-requires c κs = search needs
+
+known-version-requires : tie.Need-known-version-requires
+known-version-requires c κs = search needs
+
+read-number-requires : tie.Need-read-number-requires
+read-number-requires c κs = search needs
+
+enum-told : tie.Need-enum-told
+enum-told c = search needs
+
+unknown-kind-requires : tie.Need-unknown-kind-requires
+unknown-kind-requires c κs = search needs
+
+read-number-requires-2 : tie.Need-read-number-requires-2
+read-number-requires-2 c κs = search needs
+
+returns : tie.Need-returns
+unfolding knownNumber
+returns c =
+    let d = id-is (c .before .before .before .before .before .before .before .before .before .before .before .before .before .before .before .fits .id) (c .before .before .bits-of-i64 .ensures) in
+    rw (← c .before .before .before .before .before .before .kind-of-number .ensures, c .before .before .before .before .k .given .1, c .read-number .ensures, c .before .known-version .ensures, d)
+
+returns-2 : tie.Need-returns-2
+unfolding knownNumber
+returns-2 c = rw (← c .before .before .before .before .kind-of-number .ensures, c .before .before .enum-told .given .1, c .read-number2 .ensures, c .before .unknown-kind .ensures)
+
+pub tvk-known-version-spec : {M : Type 1} → statement M
+tvk-known-version-spec =
+    tie.close
+    (tie.spec
+    kind-of-number-requires
+    enum-known-k
+    bits-of-i64-requires
+    known-version-requires
+    read-number-requires
+    enum-told
+    unknown-kind-requires
+    read-number-requires-2
+    returns
+    returns-2)

@@ -1,0 +1,48 @@
+-- Where the record of the n-th live id of the kind lies; or 22, else 17.
+use Rattle.reading_c.specs.Entries.{recordPart}
+use borrow.Author.Needs.{needs}
+use Rattle.reading_c.proofs.tvk_record.Statement.{statement}
+use Rattle.reading_c.proofs.tvk_record.Tie as tie
+
+kind-of-number-requires : tie.Need-kind-of-number-requires
+kind-of-number-requires c κs = search needs
+
+enum-known-k : tie.Need-enum-known-k
+enum-known-k c = search needs
+
+record-at-requires : tie.Need-record-at-requires
+record-at-requires c κs = search needs
+
+view-part-requires : tie.Need-view-part-requires
+view-part-requires c κs = search needs
+
+enum-told : tie.Need-enum-told
+enum-told c = search needs
+
+unknown-kind-requires : tie.Need-unknown-kind-requires
+unknown-kind-requires c κs = search needs
+
+view-part-requires-2 : tie.Need-view-part-requires-2
+view-part-requires-2 c κs = search needs
+
+returns : tie.Need-returns
+unfolding recordPart
+returns c = rw (← c .before .before .before .before .before .kind-of-number .ensures, c .before .before .before .k .given .1, c .view-part .ensures, c .before .record-at .ensures)
+
+returns-2 : tie.Need-returns-2
+unfolding recordPart
+returns-2 c = rw (← c .before .before .before .before .kind-of-number .ensures, c .before .before .enum-told .given .1, c .view-part2 .ensures, c .before .unknown-kind .ensures)
+
+pub tvk-record-spec : {M : Type 1} → statement M
+tvk-record-spec =
+    tie.close
+    (tie.spec
+    kind-of-number-requires
+    enum-known-k
+    record-at-requires
+    view-part-requires
+    enum-told
+    unknown-kind-requires
+    view-part-requires-2
+    returns
+    returns-2)

@@ -1,0 +1,35 @@
+-- A tag is written field after field.
+use denote.Ref.{now}
+use lib.ListN.{length}
+use Rattle.little.specs.Little.{le}
+use Rattle.little.proofs.Littles.{length-le}
+use Rattle.stage.proofs.Gaps.{three}
+use borrow.Author.Needs.{needs}
+use Rattle.stage.proofs.put_tag.Statement.{statement}
+use Rattle.stage.proofs.put_tag.Tie as tie
+
+put-at-requires : tie.Need-put-at-requires
+put-at-requires c κs = search needs
+
+put-at-requires-2 : tie.Need-put-at-requires-2
+put-at-requires-2 c κs = search needs
+
+copy-at-requires : tie.Need-copy-at-requires
+copy-at-requires c κs = search needs
+
+same-length : tie.Need-same-length
+same-length c = search needs
+
+returns : tie.Need-returns
+returns c =
+    let c3 = c .before .before in
+    let c2 = c3 .before .before .before .before in
+    let c1 = c2 .before .before .before .before in
+    let a = c1 .before .before .before .before .args in
+    let v = now (a .value) in
+    rw (c3 .copy-at .ensures, c2 .put-at2 .ensures, c1 .put-at .ensures)
+    (simp length-le at (three (now (a .out)) (le 4 (a .key)) (le 4 (length v)) v))
+
+pub put-tag-spec : {M : Type 1} → statement M
+put-tag-spec =
+    tie.close (tie.spec put-at-requires put-at-requires-2 copy-at-requires same-length returns)

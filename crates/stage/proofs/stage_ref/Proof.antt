@@ -1,0 +1,45 @@
+-- The bytes behind the place move up, and the ref is written where they stood.
+use Prim.Native.Nat.{_+_, _≤_}
+use native.Mathlib.Omega.{arith}
+use denote.Ref.{now}
+use lib.ListN.{length}
+use Rattle.stage.specs.Stage.{refPart}
+use Rattle.little.proofs.Littles.{length-le}
+use Rattle.stage.proofs.Gaps.{room, unchanged, filled}
+use borrow.Author.Needs.{needs}
+use Rattle.stage.proofs.stage_ref.Statement.{statement}
+use Rattle.stage.proofs.stage_ref.Tie as tie
+
+-- where the test has held, the ref has room
+full : (c : tie.Then1) → let a = c .before .before .before .args in (a .at ≤ a .used) × (a .used + 8 ≤ length (now (a .parts)))
+full c = room _ _ _ _ (c .before .has-room .ensures) (c .if1 .taken)
+
+has-room-requires : tie.Need-has-room-requires
+has-room-requires c κs = search needs
+
+open-gap-requires : tie.Need-open-gap-requires
+open-gap-requires c κs = omega (arith, full (c .before))
+
+put-at-requires : tie.Need-put-at-requires
+put-at-requires c κs = search needs
+
+same-length : tie.Need-same-length
+same-length c = search needs
+
+returns : tie.Need-returns
+returns c =
+    let g = c .before .before .before .before .before .before in
+    let t = g .before .before in
+    let a = t .before .before .before .args in
+    rw (c .before .before .put-at .ensures, g .open-gap .ensures)
+    (filled (now (a .parts)) (a .used) (a .at) 8 (refPart (a .reference)) (length-le 8 (a .reference)) (t .before .has-room .ensures) (t .if1 .taken))
+
+returns-2 : tie.Need-returns-2
+returns-2 c =
+    let a = c .before .before .before .args in
+    unchanged (now (a .parts)) (a .used) (a .at) 8 (refPart (a .reference)) (length-le 8 (a .reference)) (c .before .has-room .ensures) (c .if1 .left)
+
+pub stage-ref-spec : {M : Type 1} → statement M
+stage-ref-spec =
+    tie.close
+    (tie.spec has-room-requires open-gap-requires put-at-requires same-length returns returns-2)
