@@ -104,11 +104,11 @@ module _ (a : Attr) (h : legalAttr a ≡ true) where
       (ap (attrWith (a .name)) (unescape-escape (a .value)))
 
 -- a value read with a name that is not empty
-record Named (n : Bytes) (o : Option Bytes) (a : Attr) : Type 0 where
-  name : a .name ≡ n
-  value : o ≡ some (a .value)
+pub record Named (n : Bytes) (o : Option Bytes) (a : Attr) : Type 0 where
+  pub name : a .name ≡ n
+  pub value : o ≡ some (a .value)
 
-attrWith-some : (n : Bytes) (o : Option Bytes) (a : Attr) → attrWith n o ≡ some a → Named n o a
+pub attrWith-some : (n : Bytes) (o : Option Bytes) (a : Attr) → attrWith n o ≡ some a → Named n o a
 attrWith-some n none a e = no (cc)
 attrWith-some n (some v) a e = record { name = cc; value = cc }
 
@@ -148,14 +148,14 @@ attrs-read [] h = refl
 attrs-read (a ∷ as1) h = rw (attr-reads a (all-head legalAttr a as1 h), attrs-read as1 (all-tail legalAttr a as1 h))
 
 -- an attribute that is read, and those after it
-record Listed (o : Option Attr) (x : Option (List Attr)) (as1 : List Attr) : Type 0 where
-  head : Attr
-  tail : List Attr
-  first : o ≡ some head
-  then : x ≡ some tail
-  whole : as1 ≡ head ∷ tail
+pub record Listed (o : Option Attr) (x : Option (List Attr)) (as1 : List Attr) : Type 0 where
+  pub head : Attr
+  pub tail : List Attr
+  pub first : o ≡ some head
+  pub then : x ≡ some tail
+  pub whole : as1 ≡ head ∷ tail
 
-listed : (o : Option Attr) (x : Option (List Attr)) (as1 : List Attr) → beside o x ≡ some as1 → Listed o x as1
+pub listed : (o : Option Attr) (x : Option (List Attr)) (as1 : List Attr) → beside o x ≡ some as1 → Listed o x as1
 listed none x as1 e = no (cc)
 listed (some a) none as1 e = no (cc)
 listed (some a) (some t) as1 e = record { head = a; tail = t; first = refl; then = refl; whole = cc }

@@ -4,13 +4,14 @@ use mathlib.Core.Path.{_≡_, refl, sym, _∙_, ap}
 use mathlib.Core.Bool.{Bool, true, false, not}
 use mathlib.Core.Option.{Option, none, some}
 use mathlib.Core.List.{List, [], _∷_, _++_, append-assoc}
+use mathlib.Core.Logic.{_⊎_, inl, inr, ⊎-elim}
 use native.Mathlib.Omega.{arith}
 use lib.Dec.{leb, eqb}
 use lib.ListN.{length}
 use borrow.Author.Tests.{ne-eqb, eqb-true, leb-true}
-use Rattle.base.specs.Bytes.{Bytes, both, either, all}
-use Rattle.base.proofs.Split.{byBool, byEq, byLt, by-either, no, clash, both-of}
-use Rattle.base.proofs.Lists.{all-nil, all-cons, all-head, all-tail, all-append}
+use Rattle.base.specs.Bytes.{Bytes, both, either, all, same}
+use Rattle.base.proofs.Split.{byBool, byEq, byLt, by-either, either-right, no, clash, both-of, both-no-right}
+use Rattle.base.proofs.Lists.{all-nil, all-cons, all-head, all-tail, all-append, same-yes}
 use Rattle.text.specs.Char.{from-to, xmlChar, utf8}
 use Rattle.text.specs.Text.{encoded}
 use Rattle.text.specs.Check.{isText}
@@ -90,7 +91,8 @@ unfolding escape
 escape-append [] b = refl
 escape-append (x ∷ a) b = rw (escape-append a b) (sym (append-assoc (escaped x) (escape a) (escape b)))
 
-read-byte : (b : ℕ) (r : Bytes) → eqb b 92 ≡ false → unescape (b ∷ r) ≡ before (some b) (unescape r)
+-- a byte that is no backslash stands for itself
+pub read-byte : (b : ℕ) (r : Bytes) → eqb b 92 ≡ false → unescape (b ∷ r) ≡ before (some b) (unescape r)
 unfolding unescapeFrom
 read-byte b r e = rw (e, unescapeFrom)
 
@@ -302,3 +304,69 @@ unescape-chars (c ∷ cs) h f t e =
 -- what a value that is text reads as is text
 pub unescape-text : (v t : Bytes) → isText v ≡ true → unescape v ≡ some t → isText t ≡ true
 unescape-text v t h e = let w = sound v h in unescape-chars (w .chars) (w .legal) false t (rw (w .same) at e)
+
+-- ---- values and texts that need no escape
+
+-- a byte that a value writes by an escape
+abbrev marks : ℕ → Bool
+marks b = either (breaks b) (eqb b 92)
+
+-- no tab, line feed, carriage return or backslash
+unfoldable pub bare : Bytes → Bool
+bare s = all (λ b. not (marks b)) s
+
+pub bare-nil : bare [] ≡ true
+unfolding bare
+bare-nil = all-nil _
+
+pub bare-cons : (b : ℕ) (s : Bytes) → either (breaks b) (eqb b 92) ≡ false → bare s ≡ true → bare (b ∷ s) ≡ true
+unfolding bare
+bare-cons b s n h = all-cons _ b s (ap not n) h
+
+bare-not : (b : ℕ) (s : Bytes) → either (breaks b) (eqb b 92) ≡ true → bare (b ∷ s) ≡ false
+unfolding bare all both
+bare-not b s h = rw h
+
+bare-on : (b : ℕ) (s : Bytes) → bare s ≡ false → bare (b ∷ s) ≡ false
+unfolding bare all
+bare-on b s h = both-no-right (not (marks b)) h
+
+pub bare-append : (s t : Bytes) → bare s ≡ true → bare t ≡ true → bare (s ++ t) ≡ true
+unfolding bare
+bare-append s t h k = all-append _ s t h k
+
+marked-text : (u y : Bytes) → unescapeFrom true u ≡ some y → bare y ≡ false
+unfolding unescapeFrom escape
+marked-text [] y e = none-some (sym (backslash-last []) ∙ e)
+marked-text (m ∷ u) y e =
+    let w = first (meaning m) (unescape u) y e in
+    rw (w .whole) (bare-not (w .byte) (w .rest) (by-meaning m (w .byte) (w .is) .cause))
+
+-- a value is its own text, or neither of the two is bare
+pub raw : (v x : Bytes) → unescape v ≡ some x → (v ≡ x) ⊎ ((bare v ≡ false) × (bare x ≡ false))
+unfolding unescapeFrom
+raw [] x e = inl (cc)
+raw (b ∷ v) x e =
+    byBool (eqb b 92)
+    (λ k. inr (bare-not b v (either-right (breaks b) k), marked-text v x (rw (k, unescapeFrom) at e)))
+    (λ k. let w = first (some b) (unescape v) x (sym (read-byte b v k) ∙ e) in
+    let q : x ≡ b ∷ w .rest = cc (w .whole, w .is) in
+    ⊎-elim (λ p. inl (cc)) (λ p. inr (bare-on b v (p .0), rw q (bare-on b (w .rest) (p .1)))) (raw v (w .rest) (w .then)))
+
+-- a reader of bare texts alone reads a value and its text alike
+pub raw-reads : {B : Type 0} (f : Bytes → Option B) → ((s : Bytes) (z : B) → f s ≡ some z → bare s ≡ true) → (v x : Bytes) → unescape v ≡ some x → f v ≡ f x
+raw-reads {B} f h v x e = ⊎-elim (λ p. ap f p) (λ p. nothing v (p .0) ∙ sym (nothing x (p .1))) (raw v x e)
+  where
+    nothing : (s : Bytes) → bare s ≡ false → f s ≡ none
+    nothing s n = go (f s) refl
+      where
+        go : (o : Option B) → f s ≡ o → f s ≡ none
+        go none q = q
+        go (some z) q = clash (h s z q) n
+
+-- and so does a comparison with a bare word
+pub plain-raw : (w v x : Bytes) → bare w ≡ true → unescape v ≡ some x → same v w ≡ same x w
+plain-raw w v x h e = ⊎-elim (λ p. ap (λ s. same s w) p) (λ p. other v (p .0) ∙ sym (other x (p .1))) (raw v x e)
+  where
+    other : (s : Bytes) → bare s ≡ false → same s w ≡ false
+    other s n = byBool (same s w) (λ t. clash h (rw (same-yes s w t) at n)) (λ t. t)

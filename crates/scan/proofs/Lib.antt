@@ -1,0 +1,5 @@
+pub mod Places
+pub mod Pieces
+pub mod Walks
+pub mod Lines
+pub mod Raws

@@ -1,0 +1,31 @@
+-- `again`: whether the search for the name finds an attribute.
+use mathlib.Core.Path.{sym, _∙_, ap}
+use denote.Ref.{now}
+use borrow.Author.Needs.{needs}
+use Rattle.scan.proofs.Walks.{found, find-name}
+use Rattle.scan.proofs.again.Statement.{statement}
+use Rattle.scan.proofs.again.Tie as tie
+
+value-at-requires : tie.Need-value-at-requires
+value-at-requires c κs = search needs
+
+enum-told : tie.Need-enum-told
+enum-told c = search needs
+
+enum-told-2 : tie.Need-enum-told-2
+enum-told-2 c = search needs
+
+returns : tie.Need-returns
+returns c =
+    let a = c .before .before .before .before .before .args in
+    let p = c .before .before .before .before .before .pre in
+    ap found (sym (c .enum-told .given .1) ∙ c .before .before .value-at .ensures) ∙ find-name (now (a .t)) (now (a .name)) (a .at) p .is
+
+returns-2 : tie.Need-returns-2
+returns-2 c =
+    let a = c .before .before .before .before .before .args in
+    let p = c .before .before .before .before .before .pre in
+    ap found (sym (c .enum-told2 .given .1) ∙ c .before .before .value-at .ensures) ∙ find-name (now (a .t)) (now (a .name)) (a .at) p .is
+
+pub again-spec : {M : Type 1} → statement M
+again-spec = tie.close (tie.spec value-at-requires enum-told enum-told-2 returns returns-2)

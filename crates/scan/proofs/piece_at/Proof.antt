@@ -1,0 +1,47 @@
+-- `piece_at`: a byte, or an escape by its letter.
+use mathlib.Core.Path.{sym, _∙_}
+use native.Mathlib.Omega.{arith}
+use denote.Ref.{now}
+use borrow.Author.Needs.{needs}
+use Rattle.scan.proofs.Pieces.{piece-byte, piece-last, piece-escape}
+use Rattle.scan.proofs.piece_at.Statement.{statement}
+use Rattle.scan.proofs.piece_at.Tie as tie
+
+shared-slice-read-b : tie.Need-shared-slice-read-b
+shared-slice-read-b c = search needs
+
+add-next : tie.Need-add-next
+add-next c = search needs
+
+shared-slice-read-letter : tie.Need-shared-slice-read-letter
+shared-slice-read-letter c = search needs
+
+letter-requires : tie.Need-letter-requires
+letter-requires c κs = search needs
+
+returns : tie.Need-returns
+returns c =
+    let a = c .before .before .before .before .before .before .args in
+    c .letter .ensures ∙ sym (piece-escape (now (a .v)) (a .at) (omega arith) (c .before .before .before .if1 .taken) (omega arith))
+
+returns-2 : tie.Need-returns-2
+returns-2 c =
+    let a = c .before .before .before .before .args in
+    sym (piece-last (now (a .v)) (a .at) (omega arith) (c .before .if1 .taken) (omega arith))
+
+returns-3 : tie.Need-returns-3
+returns-3 c =
+    let a = c .before .before .before .args in
+    sym (piece-byte (now (a .v)) (a .at) (omega arith) (c .if1 .left))
+
+pub piece-at-spec : {M : Type 1} → statement M
+piece-at-spec =
+    tie.close
+    (tie.spec
+    shared-slice-read-b
+    add-next
+    shared-slice-read-letter
+    letter-requires
+    returns
+    returns-2
+    returns-3)

@@ -1,0 +1,94 @@
+-- Event lines as they lie in their bytes: where an event's name and its attributes stand. What a line is, is crate event's `eventOf`; here its parts are places in the line.
+use Prim.Native.Nat.{ℕ, suc, _+_, _≤_}
+use mathlib.Core.Path.{_≡_}
+use mathlib.Core.Bool.{Bool, false, cond}
+use mathlib.Core.Option.{Option, none, some}
+use mathlib.Core.List.{List, [], _∷_}
+use lib.Dec.{leb, eqb}
+use lib.ListN.{length, take, drop}
+use lib.Seq.{slice}
+use Rattle.base.specs.Ascii.{ascii}
+use Rattle.base.specs.Bytes.{Bytes, same}
+use Rattle.refusal.specs.declared.Refusal.the-variants.{NotEventLine}
+use Rattle.text.specs.Escape.{unescape}
+use Rattle.line.specs.Line.{fields}
+use Rattle.event.specs.Event.{Attr, starts, closes, others, Reading, reads, refused, attrsOf, distinct}
+use Rattle.scan.specs.declared.Scanned.{Scanned}
+use Rattle.scan.specs.declared.Scanned.the-variants as S
+use Rattle.scan.specs.declared.Attribute.{Attribute}
+use Rattle.scan.specs.declared.Attribute.the-variants as A
+use Rattle.scan.specs.declared.Value.{Value}
+use Rattle.scan.specs.declared.Value.the-variants as F
+
+-- the fields from a place on; none past the end
+unfoldable pub fieldsAt : Bytes → ℕ → List Bytes
+fieldsAt t at = cond (leb at (length t)) (fields (drop at t)) []
+
+-- ---- attributes
+
+abbrev pub orNone : Option (List Attr) → List Attr
+orNone none = []
+orNone (some as1) = as1
+
+-- the attributes of the fields from a place on
+unfoldable pub attrsAt : Bytes → ℕ → List Attr
+attrsAt t at = orNone (attrsOf (fieldsAt t at))
+
+-- each of those fields is an attribute
+abbrev pub Good : Bytes → ℕ → Type 0
+Good t at = attrsOf (fieldsAt t at) ≡ some (attrsAt t at)
+
+-- whether they are, and no name is there twice
+unfoldable pub stand : Option (List Attr) → Bool
+stand none = false
+stand (some as1) = distinct as1
+
+-- ---- events
+
+-- what a scanned line means: its name from one place to another, its attributes after the tab behind it
+abbrev pub means : Bytes → Scanned → Reading
+means t (S.Refused r) = refused r
+means t (S.Starts empty from to) = reads (starts empty (slice from to t) (attrsAt t (to + 1)))
+means t S.Closes = reads closes
+means t S.Others = reads others
+
+-- the name lies within the line, and attributes alone follow it
+abbrev pub Lies : Bytes → Scanned → Type 0
+Lies t (S.Refused r) = Unit {0}
+Lies t (S.Starts empty from to) = (from ≤ to) × ((to ≤ length t) × Good t (to + 1))
+Lies t S.Closes = Unit {0}
+Lies t S.Others = Unit {0}
+
+-- a line of one word, which starts no element
+unfoldable pub lone : Bytes → Reading
+lone w = cond (same w (ascii "close")) (reads closes) (cond (same w (ascii "other")) (reads others) (refused NotEventLine))
+
+-- ---- one attribute
+
+-- how many bytes come before the first c, or before the end
+unfoldable pub upTo : ℕ → Bytes → ℕ
+upTo c [] = 0
+upTo c (b ∷ bs) = cond (eqb b c) 0 (suc (upTo c bs))
+
+-- the attribute that stands at a place: its name up to the first `=`, its value from there to the field's end
+abbrev pub attributeIn : ℕ → List Bytes → Attribute
+attributeIn at [] = A.End
+attributeIn at (f ∷ fs) = A.At (at + upTo 61 f) (at + length f)
+
+unfoldable pub attributeAt : Bytes → ℕ → Attribute
+attributeAt t at = attributeIn at (fieldsAt t at)
+
+-- ---- the value of a name, as it is written: that of the first attribute of the name from a place on
+
+unfoldable pub valueIn : Bytes → ℕ → List Bytes → Value
+valueIn name at [] = F.Missing
+valueIn name at (f ∷ fs) =
+    cond (same name (take (upTo 61 f) f)) (F.At (at + upTo 61 f + 1) (at + length f)) (valueIn name (at + length f + 1) fs)
+
+unfoldable pub valueAt : Bytes → Bytes → ℕ → Value
+valueAt t name at = valueIn name at (fieldsAt t at)
+
+-- a value's text
+abbrev pub textIn : Bytes → Value → Option Bytes
+textIn t F.Missing = none
+textIn t (F.At from to) = unescape (slice from to t)
