@@ -1,8 +1,10 @@
-//! How fast the library's ground layers run beside Rust's own functions, in one run: nanoseconds a call, the least of nine rounds,
-//! and the ratio. Both sides are called through a trait object, so that neither is inlined into the loop.
+//! How fast the library runs beside Rust's own functions and the published overlay, in one run: nanoseconds a call, the least of nine
+//! rounds, and the ratio. Both sides are called through a trait object or a C entry, so that neither is inlined into the loop.
 
-use compare::Library;
+use compare::{Library, ffi};
 use judge::compare::ground::Ground;
+use judge::compare::storage::Storage;
+use judge::{Meta, Overlay};
 use std::hint::black_box;
 use std::time::Instant;
 
@@ -38,6 +40,104 @@ fn parse<T: std::str::FromStr + Into<i64>>(s: &[u8]) -> u64 {
         .ok()
         .and_then(|t| t.parse::<T>().ok())
         .map_or(0, |n| n.into().cast_unsigned())
+}
+
+/// The lent parts as the C entries take them, then a call's own arguments.
+macro_rules! on {
+    ($name:ident, $lent:expr $(, $own:expr)*) => {{
+        let lent: &mut Storage = $lent;
+        let [nids, wids, rids] = &mut lent.tables;
+        let [narena, warena, rarena] = &mut lent.arenas;
+        unsafe {
+            ffi::$name(
+                nids.as_mut_ptr(),
+                nids.len(),
+                narena.as_mut_ptr(),
+                narena.len(),
+                wids.as_mut_ptr(),
+                wids.len(),
+                warena.as_mut_ptr(),
+                warena.len(),
+                rids.as_mut_ptr(),
+                rids.len(),
+                rarena.as_mut_ptr(),
+                rarena.len(),
+                lent.spans.as_mut_ptr(),
+                lent.spans.len(),
+                lent.bytes.as_mut_ptr(),
+                lent.bytes.len(),
+                lent.counts.as_mut_ptr()
+                $(, $own)*
+            )
+        }
+    }};
+}
+
+fn storage(ids: usize, arena: usize, strings: usize, bytes: usize) -> Storage {
+    Storage {
+        tables: std::array::from_fn(|_| vec![0; 3 * ids]),
+        arenas: std::array::from_fn(|_| vec![0; arena]),
+        spans: vec![0; 2 * strings],
+        bytes: vec![0; bytes],
+        counts: [0; 9],
+    }
+}
+
+/// Ways of so many refs pushed one after the other into an empty overlay.
+fn pushes(lent: &mut Storage, ways: i64, refs: &[i64]) {
+    assert_eq!(on!(tvk_set_up, lent, 0).number, 0);
+    let parts: Vec<u8> = refs.iter().flat_map(|r| r.to_le_bytes()).collect();
+    for id in 1..=ways {
+        let head = ffi::Head {
+            id: id.cast_unsigned(),
+            lat: 0,
+            lon: 0,
+            count: u32::try_from(refs.len()).expect("few refs"),
+            tags: 0,
+        };
+        let meta = ffi::Meta {
+            flags: 9,
+            version: 1,
+            timestamp: 0,
+            changeset: 0,
+            uid: 0,
+            user: 0,
+        };
+        let reply = on!(tvk_push, lent, 1, head, meta, parts.as_ptr(), parts.len());
+        assert_eq!(reply.number, 0);
+    }
+}
+
+fn overlays() {
+    let meta = Meta {
+        flags: 9,
+        version: 1,
+        timestamp: 0,
+        changeset: 0,
+        uid: 0,
+        user: 0,
+    };
+    for (ways, refs) in [(100, 4), (4_096, 26)] {
+        let mut lent = storage(4_096, 1_048_576, 4_096, 65_536);
+        let refs: Vec<i64> = (1..=refs).collect();
+        row(
+            &format!("direct push, {ways} ways of {} refs", refs.len()),
+            usize::try_from(ways).expect("not negative"),
+            || pushes(&mut lent, ways, &refs),
+            || {
+                let mut overlay = Overlay::new();
+                for id in 1..=ways {
+                    overlay.push_way(id, &refs, &[], &meta).expect("taken");
+                }
+                black_box(&overlay);
+            },
+        );
+        let sound = least(1, || assert_eq!(on!(tvk_is_sound, &mut lent).number, 0));
+        println!(
+            "soundness after it, {} bytes\t{sound:.0} ns",
+            lent.counts[4]
+        );
+    }
 }
 
 fn main() {
@@ -79,4 +179,5 @@ fn main() {
             || over(&texts, &|s| u64::from(std::str::from_utf8(s).is_ok())),
         );
     }
+    overlays();
 }
