@@ -2,7 +2,7 @@
 
 pub mod ffi;
 mod layers;
-mod overlay;
+pub mod overlay;
 
 pub use layers::Layers;
 

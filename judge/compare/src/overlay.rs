@@ -4,8 +4,8 @@ use judge::Meta;
 use judge::compare::overlay::Reply;
 use judge::compare::storage::{Head, Part, Storage, StoragePort};
 
+use crate::ffi;
 use crate::layers::meta_in;
-use crate::{Library, ffi};
 
 /// How many elements stand before and past each lent part.
 const GUARD: usize = 16;
@@ -64,73 +64,113 @@ impl Guarded {
     }
 }
 
-/// Calls an entry with the lent parts as pointers and lengths, then its own arguments. The parts stand
-/// between guards, and what the entry left is taken back.
-macro_rules! call {
-    ($entry:ident, $lent:expr $(, $own:expr)*) => {{
-        let lent: &mut Storage = $lent;
-        let mut all = Guarded::of(lent);
-        let words = |part: &mut Vec<u64>| part[GUARD..].as_mut_ptr();
-        let bytes = |part: &mut Vec<u8>| part[GUARD..].as_mut_ptr();
-        let [nodes, ways, relations] = &mut all.tables;
-        let [narena, warena, rarena] = &mut all.arenas;
-        let reply = unsafe {
-            ffi::$entry(
-                words(nodes),
-                lent.tables[0].len(),
-                bytes(narena),
-                lent.arenas[0].len(),
-                words(ways),
-                lent.tables[1].len(),
-                bytes(warena),
-                lent.arenas[1].len(),
-                words(relations),
-                lent.tables[2].len(),
-                bytes(rarena),
-                lent.arenas[2].len(),
-                words(&mut all.spans),
-                lent.spans.len(),
-                bytes(&mut all.bytes),
-                lent.bytes.len(),
-                words(&mut all.counts),
-                $($own),*
-            )
-        };
-        all.back(lent);
-        reply
-    }};
+/// The lent parts as the C entries take them: pointers and lengths.
+pub struct Pointers {
+    pub tables: [(*mut u64, usize); 3],
+    pub arenas: [(*mut u8, usize); 3],
+    pub spans: (*mut u64, usize),
+    pub bytes: (*mut u8, usize),
+    pub counts: *mut u64,
 }
 
-/// Calls an entry that only reads, on the lent parts themselves.
-macro_rules! read {
-    ($entry:ident, $lent:expr $(, $own:expr)*) => {{
-        let lent: &Storage = $lent;
-        let words = |part: &[u64]| part.as_ptr().cast_mut();
-        let bytes = |part: &[u8]| part.as_ptr().cast_mut();
+impl Pointers {
+    /// The parts where they lie.
+    pub fn of(lent: &mut Storage) -> Self {
+        Self {
+            tables: lent.tables.each_mut().map(|t| (t.as_mut_ptr(), t.len())),
+            arenas: lent.arenas.each_mut().map(|a| (a.as_mut_ptr(), a.len())),
+            spans: (lent.spans.as_mut_ptr(), lent.spans.len()),
+            bytes: (lent.bytes.as_mut_ptr(), lent.bytes.len()),
+            counts: lent.counts.as_mut_ptr(),
+        }
+    }
+}
+
+/// Calls an entry with the lent parts, then its own arguments.
+#[macro_export]
+macro_rules! entry {
+    ($name:ident, $lent:expr $(, $own:expr)*) => {{
+        let lent: &$crate::overlay::Pointers = $lent;
+        let [(nids, n), (wids, w), (rids, r)] = lent.tables;
+        let [(narena, na), (warena, wa), (rarena, ra)] = lent.arenas;
+        let ((spans, s), (bytes, b)) = (lent.spans, lent.bytes);
         unsafe {
-            ffi::$entry(
-                words(&lent.tables[0]),
-                lent.tables[0].len(),
-                bytes(&lent.arenas[0]),
-                lent.arenas[0].len(),
-                words(&lent.tables[1]),
-                lent.tables[1].len(),
-                bytes(&lent.arenas[1]),
-                lent.arenas[1].len(),
-                words(&lent.tables[2]),
-                lent.tables[2].len(),
-                bytes(&lent.arenas[2]),
-                lent.arenas[2].len(),
-                words(&lent.spans),
-                lent.spans.len(),
-                bytes(&lent.bytes),
-                lent.bytes.len(),
-                words(&lent.counts),
-                $($own),*
+            $crate::ffi::$name(
+                nids, n, narena, na, wids, w, warena, wa, rids, r, rarena, ra, spans, s, bytes, b,
+                lent.counts $(, $own)*
             )
         }
     }};
 }
+
+/// How storage is lent to a call.
+pub trait Lend {
+    fn changing<R>(&self, lent: &mut Storage, call: impl FnOnce(&Pointers) -> R) -> R;
+    fn reading<R>(&self, lent: &Storage, call: impl FnOnce(&Pointers) -> R) -> R;
+}
+
+/// Between guards where a call may change it; a reading gets the parts themselves.
+#[derive(Clone, Copy)]
+pub struct Between;
+
+impl Lend for Between {
+    fn changing<R>(&self, lent: &mut Storage, call: impl FnOnce(&Pointers) -> R) -> R {
+        let mut all = Guarded::of(lent);
+        let pointers = Pointers {
+            tables: std::array::from_fn(|k| {
+                (all.tables[k][GUARD..].as_mut_ptr(), lent.tables[k].len())
+            }),
+            arenas: std::array::from_fn(|k| {
+                (all.arenas[k][GUARD..].as_mut_ptr(), lent.arenas[k].len())
+            }),
+            spans: (all.spans[GUARD..].as_mut_ptr(), lent.spans.len()),
+            bytes: (all.bytes[GUARD..].as_mut_ptr(), lent.bytes.len()),
+            counts: all.counts[GUARD..].as_mut_ptr(),
+        };
+        let reply = call(&pointers);
+        all.back(lent);
+        reply
+    }
+
+    fn reading<R>(&self, lent: &Storage, call: impl FnOnce(&Pointers) -> R) -> R {
+        let words = |part: &[u64]| (part.as_ptr().cast_mut(), part.len());
+        let bytes = |part: &[u8]| (part.as_ptr().cast_mut(), part.len());
+        call(&Pointers {
+            tables: lent.tables.each_ref().map(|t| words(t)),
+            arenas: lent.arenas.each_ref().map(|a| bytes(a)),
+            spans: words(&lent.spans),
+            bytes: bytes(&lent.bytes),
+            counts: lent.counts.as_ptr().cast_mut(),
+        })
+    }
+}
+
+/// Each part in memory of its own, of exactly its length, for a tool that sees accesses outside: the
+/// vectors of a copied storage are as long as their memory, and the counters are moved into a box.
+#[derive(Clone, Copy)]
+pub struct Exact;
+
+impl Lend for Exact {
+    fn changing<R>(&self, lent: &mut Storage, call: impl FnOnce(&Pointers) -> R) -> R {
+        let mut counts = Box::new(lent.counts);
+        let mut pointers = Pointers::of(lent);
+        pointers.counts = counts.as_mut_ptr();
+        let reply = call(&pointers);
+        lent.counts = *counts;
+        reply
+    }
+
+    fn reading<R>(&self, lent: &Storage, call: impl FnOnce(&Pointers) -> R) -> R {
+        let mut copy = lent.clone();
+        let reply = self.changing(&mut copy, call);
+        assert!(copy == *lent, "a reading has changed what is lent");
+        reply
+    }
+}
+
+/// The overlay's C entries, with storage lent in one of these ways.
+#[derive(Clone, Copy)]
+pub struct Entries<L>(pub L);
 
 fn reply(r: ffi::Reply) -> Reply {
     Reply {
@@ -152,21 +192,26 @@ fn part(view: ffi::View) -> Part {
     }
 }
 
-impl StoragePort for Library {
+impl<L: Lend> StoragePort for Entries<L> {
     fn set_up(&self, lent: &mut Storage, setting: u64) -> Reply {
-        reply(call!(tvk_set_up, lent, setting))
+        reply(self.0.changing(lent, |p| entry!(tvk_set_up, p, setting)))
     }
 
     fn is_sound(&self, lent: &Storage) -> Reply {
-        reply(read!(tvk_is_sound, lent))
+        reply(self.0.reading(lent, |p| entry!(tvk_is_sound, p)))
     }
 
     fn allow_version_regression(&self, lent: &mut Storage, setting: u64) -> Reply {
-        reply(call!(tvk_allow_version_regression, lent, setting))
+        reply(
+            self.0
+                .changing(lent, |p| entry!(tvk_allow_version_regression, p, setting)),
+        )
     }
 
     fn intern(&self, lent: &mut Storage, text: &[u8]) -> (u32, u64) {
-        let taken = call!(tvk_intern, lent, text.as_ptr(), text.len());
+        let taken = self
+            .0
+            .changing(lent, |p| entry!(tvk_intern, p, text.as_ptr(), text.len()));
         (taken.number, taken.handle)
     }
 
@@ -179,54 +224,65 @@ impl StoragePort for Library {
             tags: head.tags,
         };
         let (from, n) = (parts.as_ptr(), parts.len());
-        reply(call!(tvk_push, lent, kind, head, meta_in(meta), from, n))
+        reply(self.0.changing(lent, |p| {
+            entry!(tvk_push, p, kind, head, meta_in(meta), from, n)
+        }))
     }
 
     fn delete(&self, lent: &mut Storage, kind: u8, id: i64, meta: &Meta) -> Reply {
-        reply(call!(tvk_delete, lent, kind, id, meta_in(meta)))
+        reply(
+            self.0
+                .changing(lent, |p| entry!(tvk_delete, p, kind, id, meta_in(meta))),
+        )
     }
 
     fn live_count(&self, lent: &Storage, kind: u8) -> (u32, u64) {
-        number(read!(tvk_live_count, lent, kind))
+        number(self.0.reading(lent, |p| entry!(tvk_live_count, p, kind)))
     }
 
     fn deleted_count(&self, lent: &Storage, kind: u8) -> (u32, u64) {
-        number(read!(tvk_deleted_count, lent, kind))
+        number(self.0.reading(lent, |p| entry!(tvk_deleted_count, p, kind)))
     }
 
     fn is_empty(&self, lent: &Storage) -> (u32, u64) {
-        number(read!(tvk_is_empty, lent))
+        number(self.0.reading(lent, |p| entry!(tvk_is_empty, p)))
     }
 
     fn live_id(&self, lent: &Storage, kind: u8, n: u64) -> (u32, u64) {
-        number(read!(tvk_live_id, lent, kind, n))
+        number(self.0.reading(lent, |p| entry!(tvk_live_id, p, kind, n)))
     }
 
     fn deleted_id(&self, lent: &Storage, kind: u8, n: u64) -> (u32, u64) {
-        number(read!(tvk_deleted_id, lent, kind, n))
+        number(self.0.reading(lent, |p| entry!(tvk_deleted_id, p, kind, n)))
     }
 
     fn record(&self, lent: &Storage, kind: u8, n: u64) -> Part {
-        part(read!(tvk_record, lent, kind, n))
+        part(self.0.reading(lent, |p| entry!(tvk_record, p, kind, n)))
     }
 
     fn get(&self, lent: &Storage, kind: u8, id: i64) -> Part {
-        part(read!(tvk_get, lent, kind, id))
+        part(self.0.reading(lent, |p| entry!(tvk_get, p, kind, id)))
     }
 
     fn has(&self, lent: &Storage, kind: u8, id: i64) -> (u32, u64) {
-        number(read!(tvk_has, lent, kind, id))
+        number(self.0.reading(lent, |p| entry!(tvk_has, p, kind, id)))
     }
 
     fn is_deleted(&self, lent: &Storage, kind: u8, id: i64) -> (u32, u64) {
-        number(read!(tvk_is_deleted, lent, kind, id))
+        number(
+            self.0
+                .reading(lent, |p| entry!(tvk_is_deleted, p, kind, id)),
+        )
     }
 
     fn known_version(&self, lent: &Storage, kind: u8, id: i64) -> (u32, u64) {
-        number(read!(tvk_known_version, lent, kind, id))
+        number(
+            self.0
+                .reading(lent, |p| entry!(tvk_known_version, p, kind, id)),
+        )
     }
 
     fn text(&self, lent: &Storage, handle: u64) -> Part {
-        part(read!(tvk_text, lent, handle))
+        part(self.0.reading(lent, |p| entry!(tvk_text, p, handle)))
     }
 }

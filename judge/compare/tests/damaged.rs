@@ -1,6 +1,6 @@
 //! Damaged storage: the library against document 01's words.
 
-use compare::Library;
+use compare::overlay::{Between, Entries};
 use judge::compare::Compared;
 use judge::compare::damaged::{self, Values};
 use judge::random::seed_and_rounds;
@@ -21,26 +21,26 @@ fn bytes() {
         1 => Values::Few,
         _ => Values::Eighth(seed),
     };
-    same(damaged::bytes(&Library, values));
+    same(damaged::bytes(&Entries(Between), values));
 }
 
 #[test]
 fn whole_words() {
-    same(damaged::whole_words(&Library));
+    same(damaged::whole_words(&Entries(Between)));
 }
 
 #[test]
 fn sizes() {
-    same(damaged::sizes(&Library));
+    same(damaged::sizes(&Entries(Between)));
 }
 
 #[test]
 fn limits() {
-    same(damaged::limits(&Library));
+    same(damaged::limits(&Entries(Between)));
 }
 
 #[test]
 fn random() {
     let (seed, rounds) = seed_and_rounds();
-    same(damaged::random(&Library, seed, rounds));
+    same(damaged::random(&Entries(Between), seed, rounds));
 }

@@ -1,6 +1,6 @@
 //! The overlay's direct calls and reads in lent storage: the library against the judge.
 
-use compare::Library;
+use compare::overlay::{Between, Entries};
 use judge::compare::lending::Lending;
 use judge::compare::overlay::{DirectPort, Push, Reply};
 use judge::compare::reads::ReadPort;
@@ -17,8 +17,8 @@ fn same(compared: Compared) {
     }
 }
 
-fn library() -> Lending<Library> {
-    Lending::new(Library)
+fn library() -> Lending<Entries<Between>> {
+    Lending::new(Entries(Between))
 }
 
 #[test]
@@ -55,7 +55,7 @@ fn parts_not_as_counted() {
 
 #[test]
 fn unsound_storage() {
-    same(storage::unsound(&Library));
+    same(storage::unsound(&Entries(Between)));
 }
 
 #[test]
@@ -82,13 +82,13 @@ fn plain(kind: Kind, id: i64) -> Push {
 }
 
 /// An empty overlay in the sizes that `roadlist` lends.
-fn empty() -> Lending<Library> {
+fn empty() -> Lending<Entries<Between>> {
     let mut overlay = library();
     assert_eq!(overlay.set_up(&Sizes::ROADLIST, 0).number, 0);
     overlay
 }
 
-fn pushed(overlay: &mut Lending<Library>, push: &Push) -> Reply {
+fn pushed(overlay: &mut Lending<Entries<Between>>, push: &Push) -> Reply {
     overlay.push(push.kind as u8, push.head(), &push.meta, &parts(push))
 }
 

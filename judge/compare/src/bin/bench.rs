@@ -1,7 +1,8 @@
 //! How fast the library runs beside Rust's own functions and the published overlay, in one run: nanoseconds a call, the least of nine
 //! rounds, and the ratio. Both sides are called through a trait object or a C entry, so that neither is inlined into the loop.
 
-use compare::{Library, ffi};
+use compare::overlay::Pointers;
+use compare::{Library, entry, ffi};
 use judge::compare::ground::Ground;
 use judge::compare::storage::Storage;
 use judge::{Meta, Overlay};
@@ -42,37 +43,6 @@ fn parse<T: std::str::FromStr + Into<i64>>(s: &[u8]) -> u64 {
         .map_or(0, |n| n.into().cast_unsigned())
 }
 
-/// The lent parts as the C entries take them, then a call's own arguments.
-macro_rules! on {
-    ($name:ident, $lent:expr $(, $own:expr)*) => {{
-        let lent: &mut Storage = $lent;
-        let [nids, wids, rids] = &mut lent.tables;
-        let [narena, warena, rarena] = &mut lent.arenas;
-        unsafe {
-            ffi::$name(
-                nids.as_mut_ptr(),
-                nids.len(),
-                narena.as_mut_ptr(),
-                narena.len(),
-                wids.as_mut_ptr(),
-                wids.len(),
-                warena.as_mut_ptr(),
-                warena.len(),
-                rids.as_mut_ptr(),
-                rids.len(),
-                rarena.as_mut_ptr(),
-                rarena.len(),
-                lent.spans.as_mut_ptr(),
-                lent.spans.len(),
-                lent.bytes.as_mut_ptr(),
-                lent.bytes.len(),
-                lent.counts.as_mut_ptr()
-                $(, $own)*
-            )
-        }
-    }};
-}
-
 fn storage(ids: usize, arena: usize, strings: usize, bytes: usize) -> Storage {
     Storage {
         tables: std::array::from_fn(|_| vec![0; 3 * ids]),
@@ -85,7 +55,7 @@ fn storage(ids: usize, arena: usize, strings: usize, bytes: usize) -> Storage {
 
 /// Ways of so many refs pushed one after the other into an empty overlay.
 fn pushes(lent: &mut Storage, ways: i64, refs: &[i64]) {
-    assert_eq!(on!(tvk_set_up, lent, 0).number, 0);
+    assert_eq!(entry!(tvk_set_up, &Pointers::of(lent), 0).number, 0);
     let parts: Vec<u8> = refs.iter().flat_map(|r| r.to_le_bytes()).collect();
     for id in 1..=ways {
         let head = ffi::Head {
@@ -103,7 +73,15 @@ fn pushes(lent: &mut Storage, ways: i64, refs: &[i64]) {
             uid: 0,
             user: 0,
         };
-        let reply = on!(tvk_push, lent, 1, head, meta, parts.as_ptr(), parts.len());
+        let reply = entry!(
+            tvk_push,
+            &Pointers::of(lent),
+            1,
+            head,
+            meta,
+            parts.as_ptr(),
+            parts.len()
+        );
         assert_eq!(reply.number, 0);
     }
 }
@@ -132,7 +110,9 @@ fn overlays() {
                 black_box(&overlay);
             },
         );
-        let sound = least(1, || assert_eq!(on!(tvk_is_sound, &mut lent).number, 0));
+        let sound = least(1, || {
+            assert_eq!(entry!(tvk_is_sound, &Pointers::of(&mut lent)).number, 0)
+        });
         println!(
             "soundness after it, {} bytes\t{sound:.0} ns",
             lent.counts[4]
