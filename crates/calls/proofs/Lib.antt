@@ -1,6 +1,5 @@
 pub mod Rows
 pub mod Lengths
-pub mod Texts
 pub mod Small
 pub mod Shelves
 pub mod Tells

@@ -39,7 +39,7 @@ use Rattle.shelf.proofs.Shelves.{Laid, push-laid, push-fits, push-used, push-ar
 use Rattle.sound.specs.Sound.{SoundShelf}
 use Rattle.calls.specs.Known.{recordIn, told, lastIn}
 use Rattle.calls.proofs.Rows.{whole-read, live-starts, record-read, record-legal}
-use Rattle.calls.proofs.Texts.{legal-agree}
+use Rattle.reader.proofs.Texts.{legal-agree}
 
 -- what the last act on an id left
 abbrev pub lastOf : Kind → Shelf → (ℕ → Bytes) → ℤ → Option (Left Bytes)

@@ -1,50 +1,20 @@
--- Text is bytes, and so is a record whose values are text.
-use Prim.Native.Nat.{ℕ, _<_}
+-- A record whose values are text is bytes.
+use Prim.Native.Nat.{ℕ}
 use mathlib.Core.Path.{_≡_, refl}
 use mathlib.Core.Bool.{Bool, true}
 use mathlib.Core.List.{List, [], _∷_}
-use native.Mathlib.Omega.{arith}
 use lib.IntN.{ℤ}
 use Rattle.base.specs.Bytes.{Bytes, all}
 use Rattle.base.proofs.Split.{both-left, both-right}
 use Rattle.base.proofs.Lists.{all-nil, all-cons, all-head, all-tail, all-append}
 use Rattle.little.specs.Little.{isByte}
-use Rattle.little.proofs.Littles.{byte-of, bytes-le}
-use Rattle.text.specs.Char.{xmlChar, utf8}
-use Rattle.text.specs.Text.{encoded}
+use Rattle.little.proofs.Littles.{bytes-le}
 use Rattle.text.specs.Check.{isText}
-use Rattle.text.proofs.Xml.{legal-top}
-use Rattle.text.proofs.Chars.{utf8-1, utf8-2, utf8-3, utf8-4, by-size}
-use Rattle.text.proofs.Theorem.{sound}
+use Rattle.reader.proofs.Small.{text-small}
 use Rattle.model.specs.Record.{Member, Tag, Body, place, refs, members, Record}
 use Rattle.compact.specs.Layout.{i64, memberBytes, tagBytes, joined, bodyBytes, partsBytes, recordBytes}
 use Rattle.compact.specs.Legal.{legalTexts, legal}
 use Rattle.overlay.proofs.Bounds.{written-small}
-
--- ---- text
-
-bytes-cons : (b : ℕ) (s : Bytes) → b < 256 → all isByte s ≡ true → all isByte (b ∷ s) ≡ true
-bytes-cons b s l h = all-cons isByte b s (byte-of b l) h
-
-char-small : (c : ℕ) → xmlChar c ≡ true → all isByte (utf8 c) ≡ true
-char-small c h =
-    let t = legal-top c h in
-    let n = all-nil isByte in
-    by-size c
-    (λ a. rw (utf8-1 c a) (bytes-cons _ _ (omega arith) n))
-    (λ a b. rw (utf8-2 c a b) (bytes-cons _ _ (omega arith) (bytes-cons _ _ (omega arith) n)))
-    (λ a b. rw (utf8-3 c a b) (bytes-cons _ _ (omega arith) (bytes-cons _ _ (omega arith) (bytes-cons _ _ (omega arith) n))))
-    (λ a. rw (utf8-4 c a) (bytes-cons _ _ (omega arith) (bytes-cons _ _ (omega arith) (bytes-cons _ _ (omega arith) (bytes-cons _ _ (omega arith) n)))))
-
-chars-small : (cs : List ℕ) → all xmlChar cs ≡ true → all isByte (encoded cs) ≡ true
-unfolding encoded
-chars-small [] h = all-nil isByte
-chars-small (c ∷ cs) h = all-append isByte (utf8 c) (encoded cs) (char-small c (all-head xmlChar c cs h)) (chars-small cs (all-tail xmlChar c cs h))
-
-pub text-small : (t : Bytes) → isText t ≡ true → all isByte t ≡ true
-text-small t h = let w = sound t h in rw (w .same) (chars-small (w .chars) (w .legal))
-
--- ---- records
 
 -- elements that are bytes each, one after the other
 joined-small : {A : Type 0} (p : A → Bool) (bytes : A → Bytes) → ((a : A) → p a ≡ true → all isByte (bytes a) ≡ true) → (xs : List A) → all p xs ≡ true → all isByte (joined bytes xs) ≡ true

@@ -56,7 +56,8 @@ use Rattle.overlay.proofs.Bounds.{over-small}
 use Rattle.overlay.proofs.Shelves.{shelf-same, shelf-other, shelf-texts, shelf-setting, each-shelf, texts-shelf, sized-shelf, sized-texts, put-sized}
 use Rattle.calls.specs.Known.{knownIn, Regresses}
 use Rattle.calls.proofs.Rows.{fair-sound}
-use Rattle.calls.proofs.Small.{text-small, record-small}
+use Rattle.reader.proofs.Small.{text-small}
+use Rattle.calls.proofs.Small.{record-small}
 use Rattle.calls.proofs.Shelves.{lastOf}
 use Rattle.calls.proofs.Tells.{Tells, keyIn, pushOf, push-key, id-fits, signed-fits, tells-push, tells-delete, tells-other, tells-texts, tells-nothing}
 

@@ -1,0 +1,17 @@
+pub mod Answers
+pub mod Refusals
+pub mod Places
+pub mod Texts
+pub mod Staged
+pub mod Steps
+pub mod Children
+pub mod Begins
+pub mod Turns
+pub mod Small
+pub mod Legals
+pub mod Sounds
+pub mod Acts
+pub mod Keeps
+pub mod Does
+pub mod Between
+pub mod Store

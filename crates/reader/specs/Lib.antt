@@ -1,0 +1,4 @@
+pub mod Reader
+pub mod Step
+pub mod Hear
+pub mod Means
