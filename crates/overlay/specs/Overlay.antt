@@ -2,6 +2,8 @@
 use Prim.Native.Nat.{ℕ, _/_}
 use mathlib.Core.List.{List, [], _∷_}
 use mathlib.Core.Bool.{Bool}
+use denote.Ref.{RefT, now}
+use denote.Triple.Both.{Both}
 use lib.Dec.{leb}
 use lib.ListN.{length, getD}
 use Rattle.base.specs.Bytes.{Bytes, both}
@@ -31,6 +33,22 @@ overlayOf nids narena wids warena rids rarena spans bytes counts =
       texts = Strings.lent spans bytes (getD counts 6 0) (getD counts 7 0);
       setting = getD counts 8 0;
     }
+
+-- a lent part, at a call's entry and at its exit
+abbrev pub Lent : Type 0
+Lent = Both (RefT (List ℕ)) (RefT (List ℕ))
+
+-- the overlay at one of the two moments
+abbrev pub overlayAt : (Lent → RefT (List ℕ)) → Lent → Lent → Lent → Lent → Lent → Lent → Lent → Lent → Lent → Overlay
+overlayAt when nids narena wids warena rids rarena spans bytes counts =
+    overlayOf (now (when nids)) (now (when narena)) (now (when wids)) (now (when warena)) (now (when rids)) (now (when rarena)) (now (when spans)) (now (when bytes)) (now (when counts))
+
+-- the overlay as a call is lent it, and as it leaves it
+abbrev pub lent : Lent → Lent → Lent → Lent → Lent → Lent → Lent → Lent → Lent → Overlay
+lent = overlayAt (λ r. r .entry)
+
+abbrev pub left : Lent → Lent → Lent → Lent → Lent → Lent → Lent → Lent → Lent → Overlay
+left = overlayAt (λ r. r .exit)
 
 -- the counters of an overlay
 abbrev pub countsOf : Overlay → List ℕ
