@@ -132,7 +132,8 @@ unmarked-taken t r p =
     rw (is-unmarked t p) (a ∙ rw (ranges-taken t r (p .second), seconds t (r .mday1)))
 
 module _ (s : Bytes) (v : ℤ) where
-  accepts : KeepsForm s → IsDateTime s v → stamp s ≡ some v
+  -- A date-time of section 5.6 that keeps the form is read as its value; this way digits need not be asked for.
+  pub accepts : KeepsForm s → IsDateTime s v → stamp s ≡ some v
   accepts k i =
       let p : Unmarked (i .parts) = kept-unmarked (i .parts) (i .ranges) (rw (← i .text) k) in
       rw (i .text, i .seconds) (unmarked-taken (i .parts) (i .ranges) p)

@@ -1,4 +1,5 @@
--- What document 01 keeps of RFC 3339: "takes 20 bytes, RFC 3339's separators"; "Against RFC 3339 the proof covers all-digit fields".
+-- What document 01 keeps of RFC 3339: "takes 20 bytes, RFC 3339's separators"; "only hour, minute, second above 23, 59, 59, .. are refused";
+-- "Against RFC 3339 the proof covers all-digit fields".
 use Prim.Native.Nat.{ℕ}
 use Prim.Native.Char.{code}
 use mathlib.Core.Path.{_≡_}
