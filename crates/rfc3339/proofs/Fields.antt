@@ -15,7 +15,8 @@ use Rattle.integer.specs.Integer.{decimal}
 use Rattle.integer.proofs.Digits.{decimal-append, digit-of, digit-is}
 use Rattle.integer.proofs.Integers.{integer-digits}
 use Rattle.stamp.specs.Stamp.{stampField}
-use Rattle.rfc3339.specs.Rfc3339.{two, four, digitField}
+use Rattle.rfc3339.specs.Rfc3339.{two, four}
+use Rattle.rfc3339.specs.Form.{digitField}
 
 module _ (n : ℕ) where
   pub two-digits : n < 100 → all isDigit (two n) ≡ true

@@ -1,18 +1,19 @@
--- A text of the shape with digits is that of its numbers, and a date-time's text gives its numbers back.
-use Prim.Native.Nat.{ℕ, _+_, _-_, _<_, _≤_}
+-- A text of the reader's shape with digits is that of its numbers, and a date-time of the kept form gives its numbers back.
+use Prim.Native.Nat.{ℕ, _+_, _<_, _≤_}
 use mathlib.Core.Path.{_≡_, refl, ap, _∙_}
 use mathlib.Core.Bool.{true}
-use mathlib.Core.Option.{some}
+use mathlib.Core.Option.{Option, none, some}
 use native.Mathlib.Omega.{arith}
 use lib.ListN.{length, getD, take, drop, drop-of-length-le}
 use lib.IntN.{pos}
 use borrow.Author.Tests.{eqb-true}
 use Rattle.base.specs.Bytes.{Bytes, both}
-use Rattle.base.proofs.Split.{both-of, both-left, both-right}
+use Rattle.base.proofs.Split.{both-left, both-right}
 use Rattle.integer.specs.Integer.{decimal}
 use Rattle.stamp.specs.Stamp.{Moment, separated, shaped, moment}
 use Rattle.stamp.proofs.Reading.{moment-of}
-use Rattle.rfc3339.specs.Rfc3339.{DateTime, two, four, written, digitField, digitFields}
+use Rattle.rfc3339.specs.Rfc3339.{Case, upper, Offset, utc, DateTime, letter, two, four, timeOffset, optional, partialTime, fullDate, fullTime, dateTime}
+use Rattle.rfc3339.specs.Form.{digitField, AllDigits}
 use Rattle.rfc3339.proofs.Fields.{two-digits, two-reads, two-back, four-digits, four-reads, four-back, field-reads, field-length, field-splits}
 
 -- the number in a text's field
@@ -26,10 +27,32 @@ numbers s =
       year = number s 0 4;
       month = number s 5 2;
       mday = number s 8 2;
+      separator = upper;
       hour = number s 11 2;
       minute = number s 14 2;
       second = number s 17 2;
+      secfrac = none;
+      offset = utc upper;
     }
+
+-- the numbers of a date-time with another separator, fraction and offset
+abbrev pub marked : DateTime → Case → Option Bytes → Offset → DateTime
+marked t c o f =
+    record {
+      year = t .year;
+      month = t .month;
+      mday = t .mday;
+      separator = c;
+      hour = t .hour;
+      minute = t .minute;
+      second = t .second;
+      secfrac = o;
+      offset = f;
+    }
+
+-- in the kept form
+abbrev pub unmarked : DateTime → DateTime
+unmarked t = marked t upper none (utc upper)
 
 -- a date-time as the reader has it
 unfoldable pub signed : DateTime → Moment
@@ -70,42 +93,18 @@ shape s h =
       at19 = eqb-true _ _ (both-right _ _ h5);
     }
 
-pub record Digits (s : Bytes) : Type 0 where
-  pub f0 : digitField s 0 4 ≡ true
-  pub f5 : digitField s 5 2 ≡ true
-  pub f8 : digitField s 8 2 ≡ true
-  pub f11 : digitField s 11 2 ≡ true
-  pub f14 : digitField s 14 2 ≡ true
-  pub f17 : digitField s 17 2 ≡ true
-
-pub fields : (s : Bytes) → digitFields s ≡ true → Digits s
-unfolding digitFields
-fields s h =
-    let h1 = both-right _ _ h in
-    let h2 = both-right _ _ h1 in
-    let h3 = both-right _ _ h2 in
-    let h4 = both-right _ _ h3 in
-    record {
-      f0 = both-left _ _ h;
-      f5 = both-left _ _ h1;
-      f8 = both-left _ _ h2;
-      f11 = both-left _ _ h3;
-      f14 = both-left _ _ h4;
-      f17 = both-right _ _ h4;
-    }
-
-module _ (s : Bytes) (h : Shape s) (d : Digits s) where
+module _ (s : Bytes) (h : Shape s) (d : AllDigits s) where
   -- the reader has the text's numbers
   pub reads : moment s ≡ some (signed (numbers s))
   unfolding signed numbers number
   reads =
       moment-of s (signed (numbers s))
-      (field-reads s 0 4 (omega arith) (omega arith) (d .f0))
-      (field-reads s 5 2 (omega arith) (omega arith) (d .f5))
-      (field-reads s 8 2 (omega arith) (omega arith) (d .f8))
-      (field-reads s 11 2 (omega arith) (omega arith) (d .f11))
-      (field-reads s 14 2 (omega arith) (omega arith) (d .f14))
-      (field-reads s 17 2 (omega arith) (omega arith) (d .f17))
+      (field-reads s 0 4 (omega arith) (omega arith) (d .year))
+      (field-reads s 5 2 (omega arith) (omega arith) (d .month))
+      (field-reads s 8 2 (omega arith) (omega arith) (d .mday))
+      (field-reads s 11 2 (omega arith) (omega arith) (d .hour))
+      (field-reads s 14 2 (omega arith) (omega arith) (d .minute))
+      (field-reads s 17 2 (omega arith) (omega arith) (d .second))
 
   pair : (from : ℕ) → from + 2 ≤ 20 → digitField s from 2 ≡ true → take 2 (drop from s) ≡ two (number s from 2)
   unfolding number digitField
@@ -113,19 +112,19 @@ module _ (s : Bytes) (h : Shape s) (d : Digits s) where
 
   quad : take 4 (drop 0 s) ≡ four (number s 0 4)
   unfolding number digitField
-  quad = four-back (take 4 (drop 0 s)) (field-length s 0 4 (omega arith)) (d .f0) .0
+  quad = four-back (take 4 (drop 0 s)) (field-length s 0 4 (omega arith)) (d .year) .0
 
   year-small : number s 0 4 < 10000
   unfolding number digitField
-  year-small = four-back (take 4 (drop 0 s)) (field-length s 0 4 (omega arith)) (d .f0) .1
+  year-small = four-back (take 4 (drop 0 s)) (field-length s 0 4 (omega arith)) (d .year) .1
 
   pub year-numbers : numbers s .year ≤ 9999
   unfolding numbers
   year-numbers = omega (arith, year-small)
 
   -- and they write the text
-  pub spelled : s ≡ written (numbers s)
-  unfolding written numbers two four
+  pub spelled : s ≡ dateTime (numbers s)
+  unfolding dateTime fullDate fullTime partialTime optional timeOffset letter numbers two four
   spelled =
       field-splits s 0 4 (omega arith)
       ∙ rw (
@@ -136,11 +135,11 @@ module _ (s : Bytes) (h : Shape s) (d : Digits s) where
         field-splits s 17 2 (omega arith),
         drop-of-length-le s {i = 20} (omega arith),
         quad,
-        pair 5 (omega arith) (d .f5),
-        pair 8 (omega arith) (d .f8),
-        pair 11 (omega arith) (d .f11),
-        pair 14 (omega arith) (d .f14),
-        pair 17 (omega arith) (d .f17),
+        pair 5 (omega arith) (d .month),
+        pair 8 (omega arith) (d .mday),
+        pair 11 (omega arith) (d .hour),
+        pair 14 (omega arith) (d .minute),
+        pair 17 (omega arith) (d .second),
         h .at4,
         h .at7,
         h .at10,
@@ -161,22 +160,25 @@ pub record Places (t : DateTime) : Type 0 where
   pub second : t .second < 100
 
 module _ (t : DateTime) where
-  pub written-shape : shaped (written t) ≡ true
-  unfolding shaped separated written two four both
-  written-shape = refl
+  pub unmarked-shape : shaped (dateTime (unmarked t)) ≡ true
+  unfolding shaped separated dateTime fullDate fullTime partialTime optional timeOffset letter two four both
+  unmarked-shape = refl
 
-  pub written-digits : Places t → digitFields (written t) ≡ true
-  unfolding digitFields digitField written two four
+  pub written-digits : Places t → AllDigits (dateTime t)
+  unfolding digitField dateTime fullDate fullTime partialTime two four
   written-digits p =
-      both-of (four-digits (t .year) (p .year))
-      (both-of (two-digits (t .month) (p .month))
-      (both-of (two-digits (t .mday) (p .mday))
-      (both-of (two-digits (t .hour) (p .hour))
-      (both-of (two-digits (t .minute) (p .minute))
-      (two-digits (t .second) (p .second))))))
+      record {
+        year = four-digits (t .year) (p .year);
+        month = two-digits (t .month) (p .month);
+        mday = two-digits (t .mday) (p .mday);
+        hour = two-digits (t .hour) (p .hour);
+        minute = two-digits (t .minute) (p .minute);
+        second = two-digits (t .second) (p .second);
+      }
 
-  written-numbers : numbers (written t) ≡ t
-  unfolding numbers number written two four
+  -- the numbers stand at the same places in every date-time
+  pub written-numbers : numbers (dateTime t) ≡ unmarked t
+  unfolding numbers number dateTime fullDate fullTime partialTime two four
   written-numbers =
       rw (
         four-reads (t .year),
@@ -187,6 +189,8 @@ module _ (t : DateTime) where
         two-reads (t .second),
       )
 
-  pub written-moment : Places t → moment (written t) ≡ some (signed t)
-  written-moment p =
-      reads (written t) (shape (written t) written-shape) (fields (written t) (written-digits p)) ∙ ap (λ u. some (signed u)) written-numbers
+module _ (t : DateTime) where
+  pub unmarked-moment : Places t → moment (dateTime (unmarked t)) ≡ some (signed t)
+  unfolding signed
+  unmarked-moment p =
+      reads (dateTime (unmarked t)) (shape (dateTime (unmarked t)) (unmarked-shape t)) (written-digits (unmarked t) (omega arith)) ∙ ap (λ u. some (signed u)) (written-numbers (unmarked t))

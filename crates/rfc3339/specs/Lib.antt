@@ -1,1 +1,2 @@
 pub mod Rfc3339
+pub mod Form

@@ -1,1 +1,1 @@
-// RFC 3339 itself: what a date-time in UTC is, and that the timestamp reader takes exactly those. It has no code.
+// RFC 3339 itself: what a date-time is, and which of them the timestamp reader takes. It has no code.
