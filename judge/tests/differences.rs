@@ -43,6 +43,17 @@ fn d1_user_of_a_refused_event() {
     let (outcome, words) = run_sized(input, false, &Sizes::ROADLIST);
     assert_eq!(outcome.print(), b"refused\t7\t3\t-\n");
     assert_eq!(words.state().texts, [""]);
+    // The text that follows has handle 2 in the Rust and 1 by document 01, so a direct push that names handle 1 lists another key.
+    let listed = |mut overlay: Overlay| {
+        let handle = overlay.intern("x");
+        overlay
+            .push_way(5, &[], &[(1, "v")], &NONE)
+            .expect("taken");
+        (handle, String::from_utf8(overlay.listing()).expect("text"))
+    };
+    let line = |key: &str| format!("w\t5\t+\t?\t0\t0\t0\t0\t0\t\t0\t1\t{key}\tv\n");
+    assert_eq!(listed(rust), (2, line("u")));
+    assert_eq!(listed(words), (1, line("x")));
 }
 
 #[test]
