@@ -46,9 +46,7 @@ fn d1_user_of_a_refused_event() {
     // The text that follows has handle 2 in the Rust and 1 by document 01, so a direct push that names handle 1 lists another key.
     let listed = |mut overlay: Overlay| {
         let handle = overlay.intern("x");
-        overlay
-            .push_way(5, &[], &[(1, "v")], &NONE)
-            .expect("taken");
+        overlay.push_way(5, &[], &[(1, "v")], &NONE).expect("taken");
         (handle, String::from_utf8(overlay.listing()).expect("text"))
     };
     let line = |key: &str| format!("w\t5\t+\t?\t0\t0\t0\t0\t0\t\t0\t1\t{key}\tv\n");
