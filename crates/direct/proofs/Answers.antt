@@ -26,6 +26,7 @@ use Rattle.interner.specs.declared.Interned.the-variants as I
 use Rattle.interner.proofs.Interns as Interns
 use Rattle.shelf.specs.Shelf.{Shelf}
 use Rattle.shelf.specs.Shelf as Shelf
+use Rattle.shelf.specs.Shelf.{takenIn}
 use Rattle.shelf.specs.declared.Kept.the-variants.{Taken, Refused}
 use Rattle.shelf.proofs.Answers as Shelves
 use Rattle.overlay.specs.Overlay.{Overlay, shelfOf, withShelf, withTexts}
@@ -36,7 +37,7 @@ use Rattle.direct.specs.Calls.{pushAs, pushOn, deleteOn, notInterned, in
 use Rattle.store.specs.declared.Handle.{Handle}
 use Rattle.store.specs.declared.Handle.the-variants as H
 use Rattle.store.proofs.Answers.{is-full, byPushed, byDeleted}
-use Rattle.overlay.proofs.Answers.{shelf-back, answered, strings-sound}
+use Rattle.overlay.proofs.Answers.{shelf-back, is-taken, answered, taken-as, strings-sound}
 
 -- ---- which refusals there are
 
@@ -101,11 +102,11 @@ module _ (k : Kind) (h : PushHead) (m : ArenaMeta) (parts : Bytes) (o : Overlay)
   push-store e g = as-fault F.Legal e g
 
   -- an accepted push
-  pub push-taken : pushOn k h m parts o .answer ≡ Taken
+  pub push-taken : takenIn (pushOn k h m parts o .answer) ≡ true
       → (isSound o ≡ true) × ((pushFault ≡ F.Legal) × ((pushStored .answer ≡ Taken) × (pushOn k h m parts o .overlay ≡ withShelf k (pushStored .shelf) o)))
   push-taken e =
-      byPushOn (λ s w. let z = answered w e in no (cc)) (λ x s g w. let z = answered w e in no (cc))
-      (λ s g w. (s, (g, (answered w e, ap (λ (z : After). z .overlay) w))))
+      byPushOn (λ s w. let z : false ≡ true = taken-as w e in no (cc)) (λ x s g w. let z : false ≡ true = taken-as w e in no (cc))
+      (λ s g w. (s, (g, (is-taken (pushStored .answer) (taken-as w e), ap (λ (z : After). z .overlay) w))))
 
   -- a refusal is of the first place that refuses
   pub push-refusal : {C : Type 0} (r : Refusal) → pushOn k h m parts o .answer ≡ Refused r
@@ -157,11 +158,11 @@ module _ (k : Kind) (id : ℤ) (m : Meta ℕ) (o : Overlay) where
   delete-store e g = byDeleteOn (λ s w. clash e s) (λ s x w. clash g x) (λ s x w. w)
 
   -- an accepted delete
-  pub delete-taken : deleteOn k id m o .answer ≡ Taken
+  pub delete-taken : takenIn (deleteOn k id m o .answer) ≡ true
       → (isSound o ≡ true) × ((legalMeta (o .texts .strings) m ≡ true) × ((deleteStored .answer ≡ Taken) × (deleteOn k id m o .overlay ≡ withShelf k (deleteStored .shelf) o)))
   delete-taken e =
-      byDeleteOn (λ s w. let z = answered w e in no (cc)) (λ s g w. let z = answered w e in no (cc))
-      (λ s g w. (s, (g, (answered w e, ap (λ (z : After). z .overlay) w))))
+      byDeleteOn (λ s w. let z : false ≡ true = taken-as w e in no (cc)) (λ s g w. let z : false ≡ true = taken-as w e in no (cc))
+      (λ s g w. (s, (g, (is-taken (deleteStored .answer) (taken-as w e), ap (λ (z : After). z .overlay) w))))
 
   -- a refusal is of the first place that refuses
   pub delete-refusal : {C : Type 0} (r : Refusal) → deleteOn k id m o .answer ≡ Refused r
