@@ -23,12 +23,10 @@ use Rattle.legal.specs.declared.Fault.{Fault}
 use Rattle.legal.specs.declared.Fault.the-variants as F
 use Rattle.interner.specs.Strings as Strings
 use Rattle.interner.specs.declared.Interned.the-variants as I
-use Rattle.interner.proofs.Interns as Interns
 use Rattle.shelf.specs.Shelf.{Shelf}
 use Rattle.shelf.specs.Shelf as Shelf
 use Rattle.shelf.specs.Shelf.{takenIn}
 use Rattle.shelf.specs.declared.Kept.the-variants.{Taken, Refused}
-use Rattle.shelf.proofs.Answers as Shelves
 use Rattle.overlay.specs.Overlay.{Overlay, shelfOf, withShelf, withTexts}
 use Rattle.overlay.specs.Sound.{isSound}
 use Rattle.overlay.specs.Calls.{After, refused}
@@ -36,8 +34,8 @@ use Rattle.store.specs.Calls.{bytesOf, storePush, storeDelete, Interning, handl
 use Rattle.direct.specs.Calls.{pushAs, pushOn, deleteOn, notInterned, internOn}
 use Rattle.store.specs.declared.Handle.{Handle}
 use Rattle.store.specs.declared.Handle.the-variants as H
-use Rattle.store.proofs.Answers.{is-full, byPushed, byDeleted}
-use Rattle.overlay.proofs.Answers.{shelf-back, is-taken, answered, taken-as, strings-sound}
+use Rattle.store.proofs.Answers.{is-full, byPushed, byDeleted, store-text-refused, store-push-refused, store-delete-refused}
+use Rattle.overlay.proofs.Answers.{is-taken, answered, taken-as, strings-sound}
 
 -- ---- which refusals there are
 
@@ -87,8 +85,7 @@ module _ (k : Kind) (h : PushHead) (m : ArenaMeta) (parts : Bytes) (o : Overlay)
   pub push-refused : (r : Refusal) → pushOn k h m parts o .answer ≡ Refused r → pushOn k h m parts o .overlay ≡ o
   push-refused r e =
       byPushOn (λ s w. ap (λ (z : After). z .overlay) w) (λ x s g w. ap (λ (z : After). z .overlay) w)
-      (λ s g w. let n : pushStored .shelf ≡ shelfOf k o = Shelves.push-refused k (o .setting) (shelfOf k o) (toZ w64 (h .id)) (claimOf (metaOf m)) (bytesOf k h m parts) r (answered w e) in
-      ap (λ (z : After). z .overlay) w ∙ rw n (shelf-back k o))
+      (λ s g w. ap (λ (z : After). z .overlay) w ∙ store-push-refused o k h m parts r (answered w e))
 
   -- ---- 22, then 17, 3, 10, 16, then 12, 14, 15
 
@@ -143,8 +140,7 @@ module _ (k : Kind) (id : ℤ) (m : Meta ℕ) (o : Overlay) where
   pub delete-refused : (r : Refusal) → deleteOn k id m o .answer ≡ Refused r → deleteOn k id m o .overlay ≡ o
   delete-refused r e =
       byDeleteOn (λ s w. ap (λ (z : After). z .overlay) w) (λ s g w. ap (λ (z : After). z .overlay) w)
-      (λ s g w. let n : deleteStored .shelf ≡ shelfOf k o = Shelves.delete-refused k (o .setting) (shelfOf k o) id (claimOf m) r (answered w e) in
-      ap (λ (z : After). z .overlay) w ∙ rw n (shelf-back k o))
+      (λ s g w. ap (λ (z : After). z .overlay) w ∙ store-delete-refused o k id (claimOf m) r (answered w e))
 
   -- ---- 22, then 17, then 12, 14
 
@@ -209,9 +205,7 @@ module _ (t : Bytes) (o : Overlay) where
   pub intern-refused : (r : Refusal) → internOn t o .answer ≡ H.Refused r → internOn t o .overlay ≡ o
   intern-refused r e =
       byInternOn (λ s w. ap (λ (z : Interning). z .overlay) w) (λ s g w. ap (λ (z : Interning). z .overlay) w)
-      (λ s g w. let z = is-full (Strings.intern (o .texts) t .answer) r (handled w e) in
-      let n : Strings.intern (o .texts) t .store ≡ o .texts = Interns.full-same (o .texts) t (strings-sound o s) (z .0) in
-      ap (λ (z : Interning). z .overlay) w ∙ rw n)
+      (λ s g w. ap (λ (z : Interning). z .overlay) w ∙ store-text-refused o t (strings-sound o s) r (handled w e))
 
   -- ---- 22, then 3, then 13
 
