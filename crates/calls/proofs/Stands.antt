@@ -37,7 +37,7 @@ use Rattle.compact.specs.Fits.{fitsSigned, fitsKept}
 use Rattle.compact.specs.Legal.{legal}
 use Rattle.legal.specs.Whole.{keptBytes}
 use Rattle.page.specs.Summary as Summary
-use Rattle.shelf.specs.Shelf.{Shelf, known, pushed, deleted}
+use Rattle.shelf.specs.Shelf.{Shelf, known, pushed, deleted, takenIn}
 use Rattle.shelf.specs.Fair.{Fair}
 use Rattle.shelf.specs.declared.Kept.the-variants.{Taken, Refused}
 use Rattle.shelf.proofs.Answers.{push-regression, delete-regression}
@@ -48,10 +48,14 @@ use Rattle.sound.proofs.Keeps as Sounds
 use Rattle.overlay.specs.Overlay.{Overlay, shelfOf, withShelf, withTexts, largest, sizesFit, shelfFits, textsFit, empty}
 use Rattle.overlay.specs.Given.{InBytes}
 use Rattle.overlay.specs.Sound.{Sound}
-use Rattle.overlay.specs.Calls.{After, setUp, Interning, internOn}
+use Rattle.overlay.specs.Calls.{After, setUp}
+use Rattle.store.specs.Calls.{Interning}
+use Rattle.direct.specs.Calls.{internOn}
 use Rattle.overlay.proofs.Decides.{decides}
-use Rattle.overlay.proofs.Answers.{bySetUp, intern-store}
-use Rattle.overlay.proofs.Keeps.{setup-sound, setup-bytes, intern-sound, intern-bytes}
+use Rattle.overlay.proofs.Answers.{bySetUp}
+use Rattle.direct.proofs.Answers.{intern-store}
+use Rattle.overlay.proofs.Keeps.{setup-sound, setup-bytes}
+use Rattle.direct.proofs.Keeps.{intern-sound, intern-bytes}
 use Rattle.overlay.proofs.Bounds.{over-small}
 use Rattle.overlay.proofs.Shelves.{shelf-same, shelf-other, shelf-texts, shelf-setting, each-shelf, texts-shelf, sized-shelf, sized-texts, put-sized}
 use Rattle.calls.specs.Known.{knownIn, Regresses}
@@ -223,7 +227,7 @@ stands-empty setting o fit b = bySetUp setting o (λ s e. clash fit s) (λ s e. 
     go : setUp setting o .answer ≡ Taken → setUp setting o .overlay ≡ empty setting o → Stands setting (empty setting o) noTexts []
     go e f =
         record {
-          sound = subst Sound f (setup-sound setting o e);
+          sound = subst Sound f (setup-sound setting o (ap takenIn e));
           bytes = subst InBytes f (setup-bytes setting o b);
           set = refl;
           texts = Interns.fresh-texts (o .texts .spans) (o .texts .bytes) (span-lent o fit);
