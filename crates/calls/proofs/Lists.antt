@@ -28,11 +28,15 @@ use Rattle.acts.specs.Call.{Call, Answered, World, outcome, worldAfter, actsFro
 use Rattle.acts.proofs.Calls.{refusedCall, world-append, acts-append}
 use Rattle.overlay.specs.Overlay.{Overlay}
 use Rattle.overlay.specs.Given.{headFits, metaFits}
-use Rattle.overlay.specs.Calls.{pushOn, deleteOn, handleIn, internOn}
-use Rattle.overlay.specs.declared.Handle.the-variants as H
-use Rattle.overlay.proofs.Answers.{byKept, byHandle, push-refused, delete-refused, intern-refused, intern-taken}
+use Rattle.direct.specs.Calls.{pushOn, deleteOn, internOn}
+use Rattle.store.specs.Calls.{handleIn}
+use Rattle.store.specs.declared.Handle.the-variants as H
+use Rattle.overlay.proofs.Answers.{byKept}
+use Rattle.store.proofs.Answers.{byHandle}
+use Rattle.direct.proofs.Answers.{push-refused, delete-refused, intern-refused, intern-taken}
 use Rattle.overlay.proofs.Bounds.{meta-given}
-use Rattle.overlay.proofs.Keeps.{keptAs, push-kept, delete-kept}
+use Rattle.store.proofs.Keeps.{keptAs}
+use Rattle.direct.proofs.Keeps.{push-kept, delete-kept}
 use Rattle.calls.specs.Ask.{Ask, interns, pushes, deletes, callOf, leaves, accepts, after, answered, askFits}
 use Rattle.calls.proofs.Stands.{Stands, stands-push, stands-delete, stands-text}
 

@@ -35,7 +35,7 @@ use Rattle.table.specs.Words.{rowsFrom, rowsOf}
 use Rattle.table.proofs.Tables.{sound-empty}
 use Rattle.page.specs.Summary as Summary
 use Rattle.page.proofs.Tables.{known-more}
-use Rattle.shelf.specs.Shelf.{Shelf, lent, known, pushed, deleted}
+use Rattle.shelf.specs.Shelf.{Shelf, shelfWith, known, pushed, deleted}
 use Rattle.shelf.specs.Fair.{Fair}
 use Rattle.shelf.specs.declared.Kept.the-variants.{Taken}
 use Rattle.shelf.proofs.Claims.{Narrow}
@@ -189,11 +189,11 @@ module _ (strings : ℕ) (k : Kind) (setting : ℕ) (s : Shelf) (held : List Byt
 
 -- ---- a shelf that holds nothing
 
-pub tells-nothing : (k : Kind) (setting : ℕ) (table : List ℕ) (arena : Bytes) (held : List Bytes) → Tells k setting (lent table 0 arena 0) held []
+pub tells-nothing : (k : Kind) (setting : ℕ) (table : List ℕ) (arena : Bytes) (held : List Bytes) → Tells k setting (shelfWith table 0 arena 0) held []
 unfolding pushedBytes Summary.known Summary.knownFrom rowsOf rowsFrom find
 tells-nothing k setting table arena held =
     record {
       used = refl;
       last = λ id f. refl;
-      high = λ z id f. known-none k (lent table 0 arena 0) (sound-empty table) id refl;
+      high = λ z id f. known-none k (shelfWith table 0 arena 0) (sound-empty table) id refl;
     }

@@ -8,7 +8,7 @@ use lib.ListN.{length}
 use Rattle.base.specs.Bytes.{Bytes, both, all, same}
 use Rattle.text.specs.Check.{isText}
 use Rattle.little.specs.Little.{over}
-use Rattle.interner.specs.Strings.{spanned, bytesAt, Store, lent, usedOf}
+use Rattle.interner.specs.Strings.{spanned, bytesAt, Store, storeWith, usedOf}
 
 -- n handles from h on
 unfoldable pub handles : ℕ → ℕ → List ℕ
@@ -57,4 +57,4 @@ abbrev pub freshSpans : List ℕ → List ℕ
 freshSpans spans = over spans 0 (0 ∷ 0 ∷ [])
 
 abbrev pub fresh : List ℕ → Bytes → Store
-fresh spans bytes = lent (freshSpans spans) bytes 1 0
+fresh spans bytes = storeWith (freshSpans spans) bytes 1 0

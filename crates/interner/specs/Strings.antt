@@ -58,8 +58,8 @@ pub record Store : Type 0 where
   pub strings : ℕ
   pub used : ℕ
 
-abbrev pub lent : List ℕ → Bytes → ℕ → ℕ → Store
-lent spans bytes strings used = record { spans = spans; bytes = bytes; strings = strings; used = used }
+abbrev pub storeWith : List ℕ → Bytes → ℕ → ℕ → Store
+storeWith spans bytes strings used = record { spans = spans; bytes = bytes; strings = strings; used = used }
 
 -- the bytes in use
 abbrev pub usedOf : Store → Bytes
@@ -71,7 +71,7 @@ pub record After : Type 0 where
 
 -- what is lent as a call leaves it, with its answer and counts
 abbrev pub after : List ℕ → Bytes → Taken → After
-after spans bytes r = record { store = lent spans bytes (r .strings) (r .used); answer = r .answer }
+after spans bytes r = record { store = storeWith spans bytes (r .strings) (r .used); answer = r .answer }
 
 -- "13 strings or string bytes full"
 unfoldable pub room : Store → Bytes → Bool
@@ -80,7 +80,7 @@ room s t = both (leb (2 * (s .strings) + 2) (length (s .spans))) (leb (s .used +
 -- the text behind the used bytes, its span behind those of the held strings
 unfoldable pub added : Store → Bytes → Store
 added s t =
-    lent (over (s .spans) (2 * (s .strings)) (s .used ∷ length t ∷ [])) (over (s .bytes) (s .used) t) (s .strings + 1) (s .used + length t)
+    storeWith (over (s .spans) (2 * (s .strings)) (s .used ∷ length t ∷ [])) (over (s .bytes) (s .used) t) (s .strings + 1) (s .used + length t)
 
 abbrev pub taken : Store → Bytes → After
 taken s t = record { store = added s t; answer = New (s .strings) }

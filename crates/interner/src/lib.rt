@@ -7,7 +7,7 @@ ghost use lib.ListN.{length, take, set};
 ghost use lib.Dec.{leb};
 ghost use Rattle.base.specs.Bytes.{both, all, same};
 ghost use Rattle.little.specs.Little.{over};
-ghost use Rattle.interner.specs.Strings.{spanAt, spanOf, isAt, findIn, lent, after, taken, intern};
+ghost use Rattle.interner.specs.Strings.{spanAt, spanOf, isAt, findIn, storeWith, after, taken, intern};
 ghost use Rattle.interner.specs.Sound.{soundUpTo, soundStrings, freshSpans};
 ghost use Rattle.interner.specs.Check.{keyOf, other, Keyed, isNot, newAt};
 
@@ -137,7 +137,7 @@ pub fn empty_strings(spans: &mut [u64])
 // Adds a text for which there is room: its span behind those of the held strings, its bytes behind the used ones.
 fn add(spans: &mut [u64], bytes: &mut [u8], strings: u64, used: u64, text: &[u8]) -> Taken
     requires { ⌜ (2 * strings + 2 ≤ length (now spans)) × (used + length (now text) ≤ length (now bytes)) ⌝ }
-    ensures { λ r. ⌜ after (now (spans .exit)) (now (bytes .exit)) r ≡ taken (lent (now (spans .entry)) (now (bytes .entry)) strings used) (now (text .entry)) ⌝ }
+    ensures { λ r. ⌜ after (now (spans .exit)) (now (bytes .exit)) r ≡ taken (storeWith (now (spans .entry)) (now (bytes .entry)) strings used) (now (text .entry)) ⌝ }
 {
     let next = 2 * strings as usize;
     let at = used as usize;
@@ -152,7 +152,7 @@ fn add(spans: &mut [u64], bytes: &mut [u8], strings: u64, used: u64, text: &[u8]
 
 // Takes a text in: the handle of an equal one that is held, else the next handle, if there is room.
 pub fn intern(spans: &mut [u64], bytes: &mut [u8], strings: u64, used: u64, text: &[u8]) -> Taken
-    ensures { λ r. ⌜ after (now (spans .exit)) (now (bytes .exit)) r ≡ intern (lent (now (spans .entry)) (now (bytes .entry)) strings used) (now (text .entry)) ⌝ }
+    ensures { λ r. ⌜ after (now (spans .exit)) (now (bytes .exit)) r ≡ intern (storeWith (now (spans .entry)) (now (bytes .entry)) strings used) (now (text .entry)) ⌝ }
 {
     let seen = little::lesser(used as usize, bytes.len());
     if let Found::At(h) = find_text(spans, &bytes[..seen], strings, text) {
@@ -267,7 +267,7 @@ fn sound_up_to(spans: &[u64], bytes: &[u8], n: usize, keys: &mut [u32; 4096]) ->
 
 // Whether the strings are sound.
 pub fn sound_strings(spans: &[u64], bytes: &[u8], strings: u64, used: u64) -> bool
-    ensures { λ r. ⌜ r ≡ soundStrings (lent (now (spans .entry)) (now (bytes .entry)) strings used) ⌝ }
+    ensures { λ r. ⌜ r ≡ soundStrings (storeWith (now (spans .entry)) (now (bytes .entry)) strings used) ⌝ }
 {
     if (bytes.len() as u64) < used {
         return false;

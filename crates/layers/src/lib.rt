@@ -3,7 +3,7 @@
 ghost use mathlib.Core.Path.{_≡_};
 ghost use mathlib.Core.List.{_++_};
 ghost use Rattle.kind.specs.declared.Kind.the-variants.{Node, Way, Relation};
-ghost use Rattle.interner.specs.Strings.{lent, intern, spanOf as handleSpan};
+ghost use Rattle.interner.specs.Strings.{storeWith, intern, spanOf as handleSpan};
 ghost use Rattle.compact.specs.Layout.{headBytes, metaBytes};
 ghost use Rattle.compact.specs.Held.{metaOf, nodeHead, wayHead, relationHead};
 ghost use Rattle.compact.specs.View.{nodeAt, wayAt, relationAt, metaAt, refAt, memberAt, tagsAt, tagStep};
@@ -77,7 +77,7 @@ pub extern "C" fn tvl_intern(
     used: u64,
     text: &[u8],
 ) -> Strings
-    ensures { λ r. ⌜ record { spans = now (spans .exit); bytes = now (bytes .exit); reply = r } ≡ interningOf (intern (lent (now (spans .entry)) (now (bytes .entry)) strings used) (now (text .entry))) ⌝ }
+    ensures { λ r. ⌜ record { spans = now (spans .exit); bytes = now (bytes .exit); reply = r } ≡ interningOf (intern (storeWith (now (spans .entry)) (now (bytes .entry)) strings used) (now (text .entry))) ⌝ }
 {
     let taken = interner::intern(spans, bytes, strings, used, text);
     let answer = taken.answer;

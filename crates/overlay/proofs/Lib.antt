@@ -5,4 +5,3 @@ pub mod Bounds
 pub mod Shelves
 pub mod Keeps
 pub mod First
-pub mod Witness

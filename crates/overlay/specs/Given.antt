@@ -1,5 +1,4 @@
 -- What a caller's numbers and a lent slice always are: each below the bound of its type.
-use Prim.Native.Nat.{ℕ}
 use mathlib.Core.Path.{_≡_}
 use mathlib.Core.Bool.{Bool, true}
 use lib.Dec.{ltb}

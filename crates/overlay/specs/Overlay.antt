@@ -25,13 +25,13 @@ pub record Overlay : Type 0 where
 
 -- the overlay that lent parts make. Counters: the used ids of each kind, the used arena bytes of each kind, the held strings, the used string bytes, the setting.
 abbrev pub overlayOf : List ℕ → Bytes → List ℕ → Bytes → List ℕ → Bytes → List ℕ → Bytes → List ℕ → Overlay
-overlayOf nids narena wids warena rids rarena spans bytes counts =
+overlayOf nids narena wids warena rids rarena spans bytes used =
     record {
-      nodes = Shelf.lent nids (getD counts 0 0) narena (getD counts 3 0);
-      ways = Shelf.lent wids (getD counts 1 0) warena (getD counts 4 0);
-      relations = Shelf.lent rids (getD counts 2 0) rarena (getD counts 5 0);
-      texts = Strings.lent spans bytes (getD counts 6 0) (getD counts 7 0);
-      setting = getD counts 8 0;
+      nodes = Shelf.shelfWith nids (getD used 0 0) narena (getD used 3 0);
+      ways = Shelf.shelfWith wids (getD used 1 0) warena (getD used 4 0);
+      relations = Shelf.shelfWith rids (getD used 2 0) rarena (getD used 5 0);
+      texts = Strings.storeWith spans bytes (getD used 6 0) (getD used 7 0);
+      setting = getD used 8 0;
     }
 
 -- a lent part, at a call's entry and at its exit
@@ -40,8 +40,8 @@ Lent = Both (RefT (List ℕ)) (RefT (List ℕ))
 
 -- the overlay at one of the two moments
 abbrev pub overlayAt : (Lent → RefT (List ℕ)) → Lent → Lent → Lent → Lent → Lent → Lent → Lent → Lent → Lent → Overlay
-overlayAt when nids narena wids warena rids rarena spans bytes counts =
-    overlayOf (now (when nids)) (now (when narena)) (now (when wids)) (now (when warena)) (now (when rids)) (now (when rarena)) (now (when spans)) (now (when bytes)) (now (when counts))
+overlayAt when nids narena wids warena rids rarena spans bytes used =
+    overlayOf (now (when nids)) (now (when narena)) (now (when wids)) (now (when warena)) (now (when rids)) (now (when rarena)) (now (when spans)) (now (when bytes)) (now (when used))
 
 -- the overlay as a call is lent it, and as it leaves it
 abbrev pub lent : Lent → Lent → Lent → Lent → Lent → Lent → Lent → Lent → Lent → Overlay
@@ -102,7 +102,7 @@ unfoldable pub sizesFit : Sizes → Overlay → Bool
 sizesFit z o = both (shelfFits z (o .nodes)) (both (shelfFits z (o .ways)) (both (shelfFits z (o .relations)) (textsFit z (o .texts))))
 
 abbrev pub emptied : Shelf → Shelf
-emptied s = Shelf.lent (s .table) 0 (s .arena) 0
+emptied s = Shelf.shelfWith (s .table) 0 (s .arena) 0
 
 -- an empty overlay: no id, no record, and the empty text alone. Only the counters and the span of handle 0 are written.
 abbrev pub empty : ℕ → Overlay → Overlay
@@ -111,6 +111,6 @@ empty setting o =
       nodes = emptied (o .nodes);
       ways = emptied (o .ways);
       relations = emptied (o .relations);
-      texts = Strings.lent (freshSpans (o .texts .spans)) (o .texts .bytes) 1 0;
+      texts = Strings.storeWith (freshSpans (o .texts .spans)) (o .texts .bytes) 1 0;
       setting = setting;
     }

@@ -11,8 +11,9 @@ use Rattle.refusal.specs.declared.Refusal.the-variants as R
 use Rattle.shelf.specs.declared.Kept.{Kept}
 use Rattle.overlay.specs.Overlay.{Overlay}
 use Rattle.overlay.specs.Sound.{isSound}
-use Rattle.overlay.specs.Calls.{After, refused, Interning}
-use Rattle.overlay.specs.declared.Handle.{Handle}
+use Rattle.overlay.specs.Calls.{After, refused}
+use Rattle.store.specs.Calls.{Interning}
+use Rattle.store.specs.declared.Handle.{Handle}
 use Rattle.overlay_c.specs.Entries.{replied, keptReply, unknownReply, unknown, interned, handleText}
 use Rattle.overlay_c.specs.declared.Text.{Text}
 

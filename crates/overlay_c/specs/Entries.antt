@@ -15,9 +15,11 @@ use Rattle.compact.specs.declared.PushHead.{PushHead}
 use Rattle.shelf.specs.declared.Kept.{Kept}
 use Rattle.shelf.specs.declared.Kept.the-variants.{Taken, Refused}
 use Rattle.overlay.specs.Overlay.{Overlay}
-use Rattle.overlay.specs.Calls.{After, checked, refused, setUp, allowOn, pushOn, deleteOn, Interning, internOn}
-use Rattle.overlay.specs.declared.Handle.{Handle}
-use Rattle.overlay.specs.declared.Handle.the-variants as H
+use Rattle.overlay.specs.Calls.{After, checked, refused, setUp, allowOn}
+use Rattle.direct.specs.Calls.{pushOn, deleteOn, internOn}
+use Rattle.store.specs.Calls.{Interning}
+use Rattle.store.specs.declared.Handle.{Handle}
+use Rattle.store.specs.declared.Handle.the-variants as H
 use Rattle.overlay_c.specs.declared.Text.{Text}
 
 -- an overlay and the reply that a call gives

@@ -2,16 +2,16 @@
 // Signed numbers in a head and in metadata cross as their bits, which is how C and Rust hold them.
 ghost use mathlib.Core.Path.{_≡_};
 ghost use Rattle.compact.specs.Held.{metaOf};
-ghost use Rattle.overlay.specs.Overlay.{overlayOf};
+ghost use Rattle.overlay.specs.Overlay.{lent, left};
 ghost use Rattle.overlay.specs.Sound.{isSound};
 ghost use Rattle.overlay_c.specs.Entries.{keptReply, handleText, soundReply, unknownReply, setUpReply, allowReply, internReply, pushReply, deleteReply};
 use compact::ArenaMeta;
 use compact::PushHead;
 use kind::Named;
-use overlay::Handle;
 use refusal::Refusal;
 use refusal::Reply;
 use shelf::Kept;
+use store::Handle;
 
 // What `intern` replies: 0 with the text's handle, or the refusal with 0.
 #[repr(C)]
@@ -52,10 +52,11 @@ pub extern "C" fn tvk_set_up(
     rarena: &[u8],
     spans: &mut [u64],
     bytes: &[u8],
-    counts: &mut [u64; 9],
+    used: &mut [u64; 9],
     setting: u64,
 ) -> Reply
-    ensures { λ r. ⌜ record { overlay = (overlayOf (now (nids .entry)) (now (narena .entry)) (now (wids .entry)) (now (warena .entry)) (now (rids .entry)) (now (rarena .entry)) (now (spans .exit)) (now (bytes .entry)) (now (counts .exit))); reply = r } ≡ setUpReply setting (overlayOf (now (nids .entry)) (now (narena .entry)) (now (wids .entry)) (now (warena .entry)) (now (rids .entry)) (now (rarena .entry)) (now (spans .entry)) (now (bytes .entry)) (now (counts .entry))) ⌝ }
+    ensures { λ r. ⌜ record { overlay = left nids narena wids warena rids rarena spans bytes used; reply = r }
+        ≡ setUpReply setting (lent nids narena wids warena rids rarena spans bytes used) ⌝ }
 {
     kept_reply(overlay::set_up(
         nids,
@@ -66,7 +67,7 @@ pub extern "C" fn tvk_set_up(
         rarena,
         spans,
         bytes,
-        counts,
+        used,
         setting,
     ))
 }
@@ -82,28 +83,18 @@ pub extern "C" fn tvk_is_sound(
     rarena: &[u8],
     spans: &[u64],
     bytes: &[u8],
-    counts: &[u64; 9],
+    used: &[u64; 9],
 ) -> Reply
-    ensures { λ r. ⌜ r ≡ soundReply (isSound (overlayOf (now (nids .entry)) (now (narena .entry)) (now (wids .entry)) (now (warena .entry)) (now (rids .entry)) (now (rarena .entry)) (now (spans .entry)) (now (bytes .entry)) (now (counts .entry)))) ⌝ }
+    ensures { λ r. ⌜ r ≡ soundReply (isSound (lent nids narena wids warena rids rarena spans bytes used)) ⌝ }
 {
-    if overlay::is_sound(
-        nids,
-        narena,
-        wids,
-        warena,
-        rids,
-        rarena,
-        spans,
-        bytes,
-        counts,
-    ) {
+    if overlay::is_sound(nids, narena, wids, warena, rids, rarena, spans, bytes, used) {
         return Reply { number: 0, held: 0 };
     }
     refusal::reply_of(Refusal::Unsound)
 }
 
 // The reply where a kind's number means no kind: 22, else 17.
-fn unknown_reply(
+fn unknown(
     nids: &[u64],
     narena: &[u8],
     wids: &[u64],
@@ -112,21 +103,11 @@ fn unknown_reply(
     rarena: &[u8],
     spans: &[u64],
     bytes: &[u8],
-    counts: &[u64; 9],
+    used: &[u64; 9],
 ) -> Reply
-    ensures { λ r. ⌜ r ≡ unknownReply (isSound (overlayOf (now (nids .entry)) (now (narena .entry)) (now (wids .entry)) (now (warena .entry)) (now (rids .entry)) (now (rarena .entry)) (now (spans .entry)) (now (bytes .entry)) (now (counts .entry)))) ⌝ }
+    ensures { λ r. ⌜ r ≡ unknownReply (isSound (lent nids narena wids warena rids rarena spans bytes used)) ⌝ }
 {
-    if overlay::is_sound(
-        nids,
-        narena,
-        wids,
-        warena,
-        rids,
-        rarena,
-        spans,
-        bytes,
-        counts,
-    ) {
+    if overlay::is_sound(nids, narena, wids, warena, rids, rarena, spans, bytes, used) {
         return refusal::reply_of(Refusal::BadRecord);
     }
     refusal::reply_of(Refusal::Unsound)
@@ -143,10 +124,11 @@ pub extern "C" fn tvk_allow_version_regression(
     rarena: &[u8],
     spans: &[u64],
     bytes: &[u8],
-    counts: &mut [u64; 9],
+    used: &mut [u64; 9],
     setting: u64,
 ) -> Reply
-    ensures { λ r. ⌜ record { overlay = (overlayOf (now (nids .entry)) (now (narena .entry)) (now (wids .entry)) (now (warena .entry)) (now (rids .entry)) (now (rarena .entry)) (now (spans .entry)) (now (bytes .entry)) (now (counts .exit))); reply = r } ≡ allowReply setting (overlayOf (now (nids .entry)) (now (narena .entry)) (now (wids .entry)) (now (warena .entry)) (now (rids .entry)) (now (rarena .entry)) (now (spans .entry)) (now (bytes .entry)) (now (counts .entry))) ⌝ }
+    ensures { λ r. ⌜ record { overlay = left nids narena wids warena rids rarena spans bytes used; reply = r }
+        ≡ allowReply setting (lent nids narena wids warena rids rarena spans bytes used) ⌝ }
 {
     kept_reply(overlay::allow_version_regression(
         nids,
@@ -157,7 +139,7 @@ pub extern "C" fn tvk_allow_version_regression(
         rarena,
         spans,
         bytes,
-        counts,
+        used,
         setting,
     ))
 }
@@ -173,12 +155,13 @@ pub extern "C" fn tvk_intern(
     rarena: &[u8],
     spans: &mut [u64],
     bytes: &mut [u8],
-    counts: &mut [u64; 9],
+    used: &mut [u64; 9],
     text: &[u8],
 ) -> Text
-    ensures { λ r. ⌜ record { overlay = (overlayOf (now (nids .entry)) (now (narena .entry)) (now (wids .entry)) (now (warena .entry)) (now (rids .entry)) (now (rarena .entry)) (now (spans .exit)) (now (bytes .exit)) (now (counts .exit))); reply = r } ≡ internReply (now (text .entry)) (overlayOf (now (nids .entry)) (now (narena .entry)) (now (wids .entry)) (now (warena .entry)) (now (rids .entry)) (now (rarena .entry)) (now (spans .entry)) (now (bytes .entry)) (now (counts .entry))) ⌝ }
+    ensures { λ r. ⌜ record { overlay = left nids narena wids warena rids rarena spans bytes used; reply = r }
+        ≡ internReply (now (text .entry)) (lent nids narena wids warena rids rarena spans bytes used) ⌝ }
 {
-    handle_text(overlay::intern(
+    handle_text(direct::intern(
         nids,
         narena,
         wids,
@@ -187,7 +170,7 @@ pub extern "C" fn tvk_intern(
         rarena,
         spans,
         bytes,
-        counts,
+        used,
         text,
     ))
 }
@@ -203,16 +186,17 @@ pub extern "C" fn tvk_push(
     rarena: &mut [u8],
     spans: &[u64],
     bytes: &[u8],
-    counts: &mut [u64; 9],
+    used: &mut [u64; 9],
     kind: u8,
     head: PushHead,
     meta: ArenaMeta,
     parts: &[u8],
 ) -> Reply
-    ensures { λ r. ⌜ record { overlay = (overlayOf (now (nids .exit)) (now (narena .exit)) (now (wids .exit)) (now (warena .exit)) (now (rids .exit)) (now (rarena .exit)) (now (spans .entry)) (now (bytes .entry)) (now (counts .exit))); reply = r } ≡ pushReply kind head meta (now (parts .entry)) (overlayOf (now (nids .entry)) (now (narena .entry)) (now (wids .entry)) (now (warena .entry)) (now (rids .entry)) (now (rarena .entry)) (now (spans .entry)) (now (bytes .entry)) (now (counts .entry))) ⌝ }
+    ensures { λ r. ⌜ record { overlay = left nids narena wids warena rids rarena spans bytes used; reply = r }
+        ≡ pushReply kind head meta (now (parts .entry)) (lent nids narena wids warena rids rarena spans bytes used) ⌝ }
 {
     match kind::kind_of_number(kind) {
-        Named::Is(k) => kept_reply(overlay::push(
+        Named::Is(k) => kept_reply(direct::push(
             nids,
             narena,
             wids,
@@ -221,23 +205,13 @@ pub extern "C" fn tvk_push(
             rarena,
             spans,
             bytes,
-            counts,
+            used,
             k,
             head,
             meta,
             parts,
         )),
-        Named::Unknown => unknown_reply(
-            nids,
-            narena,
-            wids,
-            warena,
-            rids,
-            rarena,
-            spans,
-            bytes,
-            counts,
-        ),
+        Named::Unknown => unknown(nids, narena, wids, warena, rids, rarena, spans, bytes, used),
     }
 }
 
@@ -252,15 +226,16 @@ pub extern "C" fn tvk_delete(
     rarena: &[u8],
     spans: &[u64],
     bytes: &[u8],
-    counts: &mut [u64; 9],
+    used: &mut [u64; 9],
     kind: u8,
     id: i64,
     meta: ArenaMeta,
 ) -> Reply
-    ensures { λ r. ⌜ record { overlay = (overlayOf (now (nids .exit)) (now (narena .entry)) (now (wids .exit)) (now (warena .entry)) (now (rids .exit)) (now (rarena .entry)) (now (spans .entry)) (now (bytes .entry)) (now (counts .exit))); reply = r } ≡ deleteReply kind id (metaOf meta) (overlayOf (now (nids .entry)) (now (narena .entry)) (now (wids .entry)) (now (warena .entry)) (now (rids .entry)) (now (rarena .entry)) (now (spans .entry)) (now (bytes .entry)) (now (counts .entry))) ⌝ }
+    ensures { λ r. ⌜ record { overlay = left nids narena wids warena rids rarena spans bytes used; reply = r }
+        ≡ deleteReply kind id (metaOf meta) (lent nids narena wids warena rids rarena spans bytes used) ⌝ }
 {
     match kind::kind_of_number(kind) {
-        Named::Is(k) => kept_reply(overlay::delete(
+        Named::Is(k) => kept_reply(direct::delete(
             nids,
             narena,
             wids,
@@ -269,21 +244,11 @@ pub extern "C" fn tvk_delete(
             rarena,
             spans,
             bytes,
-            counts,
+            used,
             k,
             signed::bits_of_i64(id),
             meta,
         )),
-        Named::Unknown => unknown_reply(
-            nids,
-            narena,
-            wids,
-            warena,
-            rids,
-            rarena,
-            spans,
-            bytes,
-            counts,
-        ),
+        Named::Unknown => unknown(nids, narena, wids, warena, rids, rarena, spans, bytes, used),
     }
 }

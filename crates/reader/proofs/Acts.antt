@@ -32,9 +32,11 @@ use Rattle.shelf.specs.declared.Kept.the-variants.{Taken}
 use Rattle.overlay.specs.Overlay.{Overlay}
 use Rattle.overlay.specs.Sound.{isSound}
 use Rattle.overlay.specs.Given.{headFits, metaFits}
-use Rattle.overlay.specs.Calls.{After, Interning, handleIn, storePush, storeDelete, pushOn, deleteOn, internOn}
-use Rattle.overlay.specs.declared.Handle.the-variants as H
-use Rattle.overlay.proofs.Answers.{pushFault, push-store, delete-store, intern-store}
+use Rattle.overlay.specs.Calls.{After}
+use Rattle.store.specs.Calls.{Interning, handleIn, storePush, storeDelete}
+use Rattle.direct.specs.Calls.{pushOn, deleteOn, internOn}
+use Rattle.store.specs.declared.Handle.the-variants as H
+use Rattle.direct.proofs.Answers.{pushFault, push-store, delete-store, intern-store}
 use Rattle.acts.specs.Turn as Turn
 use Rattle.acts.specs.Turn.{userText}
 use Rattle.acts.proofs.Metadata.{Legal}

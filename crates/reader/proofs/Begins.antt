@@ -34,8 +34,8 @@ use Rattle.interner.specs.Strings.{Store}
 use Rattle.shelf.specs.Shelf as Shelf
 use Rattle.overlay.specs.Overlay.{Overlay, shelfOf, withShelf}
 use Rattle.overlay.specs.Given.{headFits}
-use Rattle.overlay.specs.Calls.{onShelf}
-use Rattle.overlay.proofs.Answers.{pushStored}
+use Rattle.store.specs.Calls.{onShelf}
+use Rattle.direct.proofs.Answers.{pushStored}
 use Rattle.overlay.proofs.Shelves.{shelf-texts}
 use Rattle.event.specs.Event.{Attr}
 use Rattle.acts.specs.Field.{Field, got, integerField, latitude, longitude}

@@ -38,9 +38,10 @@ use Rattle.interner.specs.Strings as Strings
 use Rattle.interner.specs.declared.Interned.the-variants as I
 use Rattle.shelf.specs.Shelf as Shelf
 use Rattle.overlay.specs.Overlay.{Overlay, shelfOf}
-use Rattle.overlay.specs.Calls.{handleIn, internOn, storePush, storeDelete}
-use Rattle.overlay.specs.declared.Handle.the-variants as Handle
-use Rattle.overlay.proofs.Answers.{pushFault, intern-taken}
+use Rattle.store.specs.Calls.{handleIn, storePush, storeDelete}
+use Rattle.direct.specs.Calls.{internOn}
+use Rattle.store.specs.declared.Handle.the-variants as Handle
+use Rattle.direct.proofs.Answers.{pushFault, intern-taken}
 use Rattle.event.specs.Event.{Attr, Event, starts, closes, others, Reading, reads, refused, eventOf}
 use Rattle.event.proofs.Events.{values-text}
 use Rattle.acts.specs.Field.{Field, got, valueOf, integerField, tagOf, refOf, memberOf}

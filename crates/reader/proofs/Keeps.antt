@@ -47,8 +47,8 @@ use Rattle.stage.proofs.Parts.{withRef, withMember, withTag, length-staged}
 use Rattle.shelf.specs.Shelf as Shelf
 use Rattle.overlay.specs.Overlay.{Overlay, shelfOf}
 use Rattle.overlay.specs.Given.{headFits, metaFits, InBytes}
-use Rattle.overlay.specs.Calls.{storePush, storeDelete}
-use Rattle.overlay.proofs.Answers.{pushFault}
+use Rattle.store.specs.Calls.{storePush, storeDelete}
+use Rattle.direct.proofs.Answers.{pushFault}
 use Rattle.event.specs.Event.{Attr, Event, starts, closes, others, Reading, reads, refused, eventOf}
 use Rattle.event.proofs.Events.{values-text}
 use Rattle.acts.specs.Field.{Field, got, bad, valueOf, orEmpty, integerField, tagOf, refOf, memberOf}

@@ -28,11 +28,12 @@ use Rattle.compact.specs.declared.CompactMember.{CompactMember}
 use Rattle.overlay.specs.Overlay.{Overlay}
 use Rattle.overlay.specs.Sound.{Sound, isSound}
 use Rattle.overlay.specs.Given.{headFits, metaFits, InBytes}
-use Rattle.overlay.specs.Calls.{After, Interning, storePush, storeDelete}
-use Rattle.overlay.proofs.Answers.{pushFault, push-store, delete-store, intern-store}
+use Rattle.overlay.specs.Calls.{After}
+use Rattle.store.specs.Calls.{Interning, storePush, storeDelete}
+use Rattle.direct.proofs.Answers.{pushFault, push-store, delete-store, intern-store}
 use Rattle.overlay.proofs.Bounds.{over-small}
 use Rattle.overlay.proofs.Decides.{decides}
-use Rattle.overlay.proofs.Keeps.{push-sound, push-bytes, delete-sound, delete-bytes, intern-sound, intern-bytes}
+use Rattle.direct.proofs.Keeps.{push-sound, push-bytes, delete-sound, delete-bytes, intern-sound, intern-bytes}
 use Rattle.acts.proofs.Metadata.{Legal}
 use Rattle.reader.specs.Reader.{moreTags, moreParts}
 use Rattle.reader.specs.Step.{metaBits}

@@ -41,8 +41,8 @@ use Rattle.shelf.specs.Shelf as Shelf
 use Rattle.shelf.specs.declared.Kept.{Kept}
 use Rattle.shelf.specs.declared.Kept.the-variants as K
 use Rattle.overlay.specs.Overlay.{Overlay, shelfOf, withTexts}
-use Rattle.overlay.specs.Calls.{bytesOf, storePush, storeDelete}
-use Rattle.overlay.proofs.Answers.{byPushed, byDeleted}
+use Rattle.store.specs.Calls.{bytesOf, storePush, storeDelete}
+use Rattle.store.proofs.Answers.{byPushed, byDeleted}
 use Rattle.event.specs.Event.{Attr, Event, starts, closes, others, Reading, reads, refused, eventOf}
 use Rattle.acts.specs.Field.{Field, got, bad, andThen, integerField, tagOf, refOf, memberOf}
 use Rattle.acts.specs.Field as Field

@@ -18,7 +18,7 @@ use Rattle.nesting.specs.declared.Opened.the-variants as O
 use Rattle.model.specs.Act.{Act}
 use Rattle.interner.specs.Texts.{takeAll}
 use Rattle.interner.specs.Sound.{textsOf}
-use Rattle.overlay.proofs.Answers.{pushStored}
+use Rattle.direct.proofs.Answers.{pushStored}
 use Rattle.event.specs.Event.{Attr, Event, starts, closes, others, Reading, reads, refused, eventOf}
 use Rattle.acts.specs.Field.{Field, got, tagOf, refOf, memberOf}
 use Rattle.acts.specs.Turn as Turn

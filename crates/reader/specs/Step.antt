@@ -41,7 +41,8 @@ use Rattle.shelf.specs.Shelf.{known, checked}
 use Rattle.shelf.specs.declared.Kept.{Kept}
 use Rattle.shelf.specs.declared.Kept.the-variants as K
 use Rattle.overlay.specs.Overlay.{Overlay, shelfOf, withTexts}
-use Rattle.overlay.specs.Calls.{After, storePush, storeDelete}
+use Rattle.overlay.specs.Calls.{After}
+use Rattle.store.specs.Calls.{storePush, storeDelete}
 use Rattle.event.specs.Event.{Attr, Event, starts, closes, others}
 use Rattle.acts.specs.Field as Field
 use Rattle.acts.specs.Field.{Field, got, bad, integerField, tagOf, refOf, memberOf}

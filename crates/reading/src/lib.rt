@@ -8,7 +8,8 @@ ghost use Rattle.base.specs.Bytes.{Bytes};
 ghost use mir.Syntax.{w64};
 ghost use mir.Val.{toZ};
 ghost use Rattle.shelf.specs.Shelf.{known};
-ghost use Rattle.overlay.specs.Overlay.{overlayOf, shelfOf};
+ghost use Rattle.overlay.specs.Overlay.{lent, shelfOf};
+ghost use Rattle.reading.specs.Lent.{tablesLent, arenasLent, shelvesLent};
 ghost use Rattle.reading.specs.Reading.{yes, countIn, countOn, isEmptyOn, rowIn, idRead, idOn, viewIn, recordOn, standingIn, getOn, isLiveNow, hasOn, isDeletedNow, isDeletedOn, knownOn, textView, textOn};
 use interner::Span;
 use kind::Kind;
@@ -32,16 +33,17 @@ fn count_in(
     nids: &[u64],
     wids: &[u64],
     rids: &[u64],
-    counts: &[u64; 9],
+    used: &[u64; 9],
     kind: Kind,
     side: Side,
 ) -> u64
-    ensures { λ r. ⌜ ((narena : Bytes) (warena : Bytes) (rarena : Bytes) (spans : List ℕ) (bytes : Bytes) → r ≡ countIn side (shelfOf kind (overlayOf (now (nids .entry)) narena (now (wids .entry)) warena (now (rids .entry)) rarena spans bytes (now (counts .entry))))) ⌝ }
+    ensures { λ r. ⌜ ((narena warena rarena : Bytes) (spans : List ℕ) (bytes : Bytes)
+        → r ≡ countIn side (shelfOf kind (tablesLent narena warena rarena spans bytes nids wids rids used))) ⌝ }
 {
     match kind {
-        Kind::Node => listed::count_on(side, nids, counts[0]),
-        Kind::Way => listed::count_on(side, wids, counts[1]),
-        Kind::Relation => listed::count_on(side, rids, counts[2]),
+        Kind::Node => listed::count_on(side, nids, used[0]),
+        Kind::Way => listed::count_on(side, wids, used[1]),
+        Kind::Relation => listed::count_on(side, rids, used[2]),
     }
 }
 
@@ -50,17 +52,18 @@ fn row_in(
     nids: &[u64],
     wids: &[u64],
     rids: &[u64],
-    counts: &[u64; 9],
+    used: &[u64; 9],
     kind: Kind,
     side: Side,
     n: u64,
 ) -> Nth
-    ensures { λ r. ⌜ ((narena : Bytes) (warena : Bytes) (rarena : Bytes) (spans : List ℕ) (bytes : Bytes) → r ≡ rowIn side n (shelfOf kind (overlayOf (now (nids .entry)) narena (now (wids .entry)) warena (now (rids .entry)) rarena spans bytes (now (counts .entry))))) ⌝ }
+    ensures { λ r. ⌜ ((narena warena rarena : Bytes) (spans : List ℕ) (bytes : Bytes)
+        → r ≡ rowIn side n (shelfOf kind (tablesLent narena warena rarena spans bytes nids wids rids used))) ⌝ }
 {
     match kind {
-        Kind::Node => listed::row_on(side, nids, counts[0], n),
-        Kind::Way => listed::row_on(side, wids, counts[1], n),
-        Kind::Relation => listed::row_on(side, rids, counts[2], n),
+        Kind::Node => listed::row_on(side, nids, used[0], n),
+        Kind::Way => listed::row_on(side, wids, used[1], n),
+        Kind::Relation => listed::row_on(side, rids, used[2], n),
     }
 }
 
@@ -69,16 +72,17 @@ fn standing_in(
     nids: &[u64],
     wids: &[u64],
     rids: &[u64],
-    counts: &[u64; 9],
+    used: &[u64; 9],
     kind: Kind,
     id: u64,
 ) -> Standing
-    ensures { λ r. ⌜ ((narena : Bytes) (warena : Bytes) (rarena : Bytes) (spans : List ℕ) (bytes : Bytes) → r ≡ standingIn (shelfOf kind (overlayOf (now (nids .entry)) narena (now (wids .entry)) warena (now (rids .entry)) rarena spans bytes (now (counts .entry)))) (toZ w64 id)) ⌝ }
+    ensures { λ r. ⌜ ((narena warena rarena : Bytes) (spans : List ℕ) (bytes : Bytes)
+        → r ≡ standingIn (shelfOf kind (tablesLent narena warena rarena spans bytes nids wids rids used)) (toZ w64 id)) ⌝ }
 {
     match kind {
-        Kind::Node => listed::standing_of(nids, counts[0], id),
-        Kind::Way => listed::standing_of(wids, counts[1], id),
-        Kind::Relation => listed::standing_of(rids, counts[2], id),
+        Kind::Node => listed::standing_of(nids, used[0], id),
+        Kind::Way => listed::standing_of(wids, used[1], id),
+        Kind::Relation => listed::standing_of(rids, used[2], id),
     }
 }
 
@@ -87,16 +91,17 @@ fn view_in(
     narena: &[u8],
     warena: &[u8],
     rarena: &[u8],
-    counts: &[u64; 9],
+    used: &[u64; 9],
     kind: Kind,
     at: u64,
 ) -> View
-    ensures { λ r. ⌜ ((nids : List ℕ) (wids : List ℕ) (rids : List ℕ) (spans : List ℕ) (bytes : Bytes) → r ≡ viewIn (getD (now (counts .entry)) 6 0) kind (shelfOf kind (overlayOf nids (now (narena .entry)) wids (now (warena .entry)) rids (now (rarena .entry)) spans bytes (now (counts .entry)))) at) ⌝ }
+    ensures { λ r. ⌜ ((nids wids rids spans : List ℕ) (bytes : Bytes)
+        → r ≡ viewIn (getD (now (used .entry)) 6 0) kind (shelfOf kind (arenasLent nids wids rids spans bytes narena warena rarena used)) at) ⌝ }
 {
     match kind {
-        Kind::Node => listed::view_at(kind, narena, counts[3], counts[6], at),
-        Kind::Way => listed::view_at(kind, warena, counts[4], counts[6], at),
-        Kind::Relation => listed::view_at(kind, rarena, counts[5], counts[6], at),
+        Kind::Node => listed::view_at(kind, narena, used[3], used[6], at),
+        Kind::Way => listed::view_at(kind, warena, used[4], used[6], at),
+        Kind::Relation => listed::view_at(kind, rarena, used[5], used[6], at),
     }
 }
 
@@ -108,16 +113,17 @@ fn version_in(
     warena: &[u8],
     rids: &[u64],
     rarena: &[u8],
-    counts: &[u64; 9],
+    used: &[u64; 9],
     kind: Kind,
     id: u64,
 ) -> Version
-    ensures { λ r. ⌜ ((spans : List ℕ) (bytes : Bytes) → r ≡ known kind (shelfOf kind (overlayOf (now (nids .entry)) (now (narena .entry)) (now (wids .entry)) (now (warena .entry)) (now (rids .entry)) (now (rarena .entry)) spans bytes (now (counts .entry)))) (toZ w64 id)) ⌝ }
+    ensures { λ r. ⌜ ((spans : List ℕ) (bytes : Bytes)
+        → r ≡ known kind (shelfOf kind (shelvesLent spans bytes nids narena wids warena rids rarena used)) (toZ w64 id)) ⌝ }
 {
     match kind {
-        Kind::Node => shelf::known_version(kind, nids, counts[0], narena, id),
-        Kind::Way => shelf::known_version(kind, wids, counts[1], warena, id),
-        Kind::Relation => shelf::known_version(kind, rids, counts[2], rarena, id),
+        Kind::Node => shelf::known_version(kind, nids, used[0], narena, id),
+        Kind::Way => shelf::known_version(kind, wids, used[1], warena, id),
+        Kind::Relation => shelf::known_version(kind, rids, used[2], rarena, id),
     }
 }
 
@@ -133,24 +139,14 @@ pub fn count(
     rarena: &[u8],
     spans: &[u64],
     bytes: &[u8],
-    counts: &[u64; 9],
+    used: &[u64; 9],
     kind: Kind,
     side: Side,
 ) -> Read
-    ensures { λ r. ⌜ r ≡ countOn kind side (overlayOf (now (nids .entry)) (now (narena .entry)) (now (wids .entry)) (now (warena .entry)) (now (rids .entry)) (now (rarena .entry)) (now (spans .entry)) (now (bytes .entry)) (now (counts .entry))) ⌝ }
+    ensures { λ r. ⌜ r ≡ countOn kind side (lent nids narena wids warena rids rarena spans bytes used) ⌝ }
 {
-    if overlay::is_sound(
-        nids,
-        narena,
-        wids,
-        warena,
-        rids,
-        rarena,
-        spans,
-        bytes,
-        counts,
-    ) {
-        return Read::Is(count_in(nids, wids, rids, counts, kind, side));
+    if overlay::is_sound(nids, narena, wids, warena, rids, rarena, spans, bytes, used) {
+        return Read::Is(count_in(nids, wids, rids, used, kind, side));
     }
     Read::Refused(Refusal::Unsound)
 }
@@ -171,22 +167,12 @@ pub fn is_empty(
     rarena: &[u8],
     spans: &[u64],
     bytes: &[u8],
-    counts: &[u64; 9],
+    used: &[u64; 9],
 ) -> Read
-    ensures { λ r. ⌜ r ≡ isEmptyOn (overlayOf (now (nids .entry)) (now (narena .entry)) (now (wids .entry)) (now (warena .entry)) (now (rids .entry)) (now (rarena .entry)) (now (spans .entry)) (now (bytes .entry)) (now (counts .entry))) ⌝ }
+    ensures { λ r. ⌜ r ≡ isEmptyOn (lent nids narena wids warena rids rarena spans bytes used) ⌝ }
 {
-    if overlay::is_sound(
-        nids,
-        narena,
-        wids,
-        warena,
-        rids,
-        rarena,
-        spans,
-        bytes,
-        counts,
-    ) {
-        return yes((counts[0] == 0) & ((counts[1] == 0) & (counts[2] == 0)));
+    if overlay::is_sound(nids, narena, wids, warena, rids, rarena, spans, bytes, used) {
+        return yes((used[0] == 0) & ((used[1] == 0) & (used[2] == 0)));
     }
     Read::Refused(Refusal::Unsound)
 }
@@ -212,25 +198,15 @@ pub fn id_at(
     rarena: &[u8],
     spans: &[u64],
     bytes: &[u8],
-    counts: &[u64; 9],
+    used: &[u64; 9],
     kind: Kind,
     side: Side,
     n: u64,
 ) -> Read
-    ensures { λ r. ⌜ r ≡ idOn kind side n (overlayOf (now (nids .entry)) (now (narena .entry)) (now (wids .entry)) (now (warena .entry)) (now (rids .entry)) (now (rarena .entry)) (now (spans .entry)) (now (bytes .entry)) (now (counts .entry))) ⌝ }
+    ensures { λ r. ⌜ r ≡ idOn kind side n (lent nids narena wids warena rids rarena spans bytes used) ⌝ }
 {
-    if overlay::is_sound(
-        nids,
-        narena,
-        wids,
-        warena,
-        rids,
-        rarena,
-        spans,
-        bytes,
-        counts,
-    ) {
-        return id_read(row_in(nids, wids, rids, counts, kind, side, n));
+    if overlay::is_sound(nids, narena, wids, warena, rids, rarena, spans, bytes, used) {
+        return id_read(row_in(nids, wids, rids, used, kind, side, n));
     }
     Read::Refused(Refusal::Unsound)
 }
@@ -245,27 +221,17 @@ pub fn record_at(
     rarena: &[u8],
     spans: &[u64],
     bytes: &[u8],
-    counts: &[u64; 9],
+    used: &[u64; 9],
     kind: Kind,
     n: u64,
 ) -> View
-    ensures { λ r. ⌜ r ≡ recordOn kind n (overlayOf (now (nids .entry)) (now (narena .entry)) (now (wids .entry)) (now (warena .entry)) (now (rids .entry)) (now (rarena .entry)) (now (spans .entry)) (now (bytes .entry)) (now (counts .entry))) ⌝ }
+    ensures { λ r. ⌜ r ≡ recordOn kind n (lent nids narena wids warena rids rarena spans bytes used) ⌝ }
 {
-    if overlay::is_sound(
-        nids,
-        narena,
-        wids,
-        warena,
-        rids,
-        rarena,
-        spans,
-        bytes,
-        counts,
-    ) {
-        let Nth::At(row) = row_in(nids, wids, rids, counts, kind, Side::Live, n) else {
+    if overlay::is_sound(nids, narena, wids, warena, rids, rarena, spans, bytes, used) {
+        let Nth::At(row) = row_in(nids, wids, rids, used, kind, Side::Live, n) else {
             return View::Refused(Refusal::NoSuchNumber);
         };
-        return view_in(narena, warena, rarena, counts, kind, row.place);
+        return view_in(narena, warena, rarena, used, kind, row.place);
     }
     View::Refused(Refusal::Unsound)
 }
@@ -282,27 +248,17 @@ pub fn get(
     rarena: &[u8],
     spans: &[u64],
     bytes: &[u8],
-    counts: &[u64; 9],
+    used: &[u64; 9],
     kind: Kind,
     id: u64,
 ) -> View
-    ensures { λ r. ⌜ r ≡ getOn kind (toZ w64 id) (overlayOf (now (nids .entry)) (now (narena .entry)) (now (wids .entry)) (now (warena .entry)) (now (rids .entry)) (now (rarena .entry)) (now (spans .entry)) (now (bytes .entry)) (now (counts .entry))) ⌝ }
+    ensures { λ r. ⌜ r ≡ getOn kind (toZ w64 id) (lent nids narena wids warena rids rarena spans bytes used) ⌝ }
 {
-    if overlay::is_sound(
-        nids,
-        narena,
-        wids,
-        warena,
-        rids,
-        rarena,
-        spans,
-        bytes,
-        counts,
-    ) {
-        let Standing::Live(at) = standing_in(nids, wids, rids, counts, kind, id) else {
+    if overlay::is_sound(nids, narena, wids, warena, rids, rarena, spans, bytes, used) {
+        let Standing::Live(at) = standing_in(nids, wids, rids, used, kind, id) else {
             return View::Nothing;
         };
-        return view_in(narena, warena, rarena, counts, kind, at);
+        return view_in(narena, warena, rarena, used, kind, at);
     }
     View::Refused(Refusal::Unsound)
 }
@@ -335,24 +291,14 @@ pub fn has(
     rarena: &[u8],
     spans: &[u64],
     bytes: &[u8],
-    counts: &[u64; 9],
+    used: &[u64; 9],
     kind: Kind,
     id: u64,
 ) -> Read
-    ensures { λ r. ⌜ r ≡ hasOn kind (toZ w64 id) (overlayOf (now (nids .entry)) (now (narena .entry)) (now (wids .entry)) (now (warena .entry)) (now (rids .entry)) (now (rarena .entry)) (now (spans .entry)) (now (bytes .entry)) (now (counts .entry))) ⌝ }
+    ensures { λ r. ⌜ r ≡ hasOn kind (toZ w64 id) (lent nids narena wids warena rids rarena spans bytes used) ⌝ }
 {
-    if overlay::is_sound(
-        nids,
-        narena,
-        wids,
-        warena,
-        rids,
-        rarena,
-        spans,
-        bytes,
-        counts,
-    ) {
-        return yes(is_live_now(standing_in(nids, wids, rids, counts, kind, id)));
+    if overlay::is_sound(nids, narena, wids, warena, rids, rarena, spans, bytes, used) {
+        return yes(is_live_now(standing_in(nids, wids, rids, used, kind, id)));
     }
     Read::Refused(Refusal::Unsound)
 }
@@ -367,24 +313,14 @@ pub fn is_deleted(
     rarena: &[u8],
     spans: &[u64],
     bytes: &[u8],
-    counts: &[u64; 9],
+    used: &[u64; 9],
     kind: Kind,
     id: u64,
 ) -> Read
-    ensures { λ r. ⌜ r ≡ isDeletedOn kind (toZ w64 id) (overlayOf (now (nids .entry)) (now (narena .entry)) (now (wids .entry)) (now (warena .entry)) (now (rids .entry)) (now (rarena .entry)) (now (spans .entry)) (now (bytes .entry)) (now (counts .entry))) ⌝ }
+    ensures { λ r. ⌜ r ≡ isDeletedOn kind (toZ w64 id) (lent nids narena wids warena rids rarena spans bytes used) ⌝ }
 {
-    if overlay::is_sound(
-        nids,
-        narena,
-        wids,
-        warena,
-        rids,
-        rarena,
-        spans,
-        bytes,
-        counts,
-    ) {
-        return yes(is_deleted_now(standing_in(nids, wids, rids, counts, kind, id)));
+    if overlay::is_sound(nids, narena, wids, warena, rids, rarena, spans, bytes, used) {
+        return yes(is_deleted_now(standing_in(nids, wids, rids, used, kind, id)));
     }
     Read::Refused(Refusal::Unsound)
 }
@@ -399,24 +335,14 @@ pub fn known_version(
     rarena: &[u8],
     spans: &[u64],
     bytes: &[u8],
-    counts: &[u64; 9],
+    used: &[u64; 9],
     kind: Kind,
     id: u64,
 ) -> Read
-    ensures { λ r. ⌜ r ≡ knownOn kind (toZ w64 id) (overlayOf (now (nids .entry)) (now (narena .entry)) (now (wids .entry)) (now (warena .entry)) (now (rids .entry)) (now (rarena .entry)) (now (spans .entry)) (now (bytes .entry)) (now (counts .entry))) ⌝ }
+    ensures { λ r. ⌜ r ≡ knownOn kind (toZ w64 id) (lent nids narena wids warena rids rarena spans bytes used) ⌝ }
 {
-    if overlay::is_sound(
-        nids,
-        narena,
-        wids,
-        warena,
-        rids,
-        rarena,
-        spans,
-        bytes,
-        counts,
-    ) {
-        let version = version_in(nids, narena, wids, warena, rids, rarena, counts, kind, id);
+    if overlay::is_sound(nids, narena, wids, warena, rids, rarena, spans, bytes, used) {
+        let version = version_in(nids, narena, wids, warena, rids, rarena, used, kind, id);
         return Read::Is(version_floor::version_word(version));
     }
     Read::Refused(Refusal::Unsound)
@@ -443,24 +369,14 @@ pub fn text(
     rarena: &[u8],
     spans: &[u64],
     bytes: &[u8],
-    counts: &[u64; 9],
+    used: &[u64; 9],
     handle: u64,
 ) -> View
-    ensures { λ r. ⌜ r ≡ textOn handle (overlayOf (now (nids .entry)) (now (narena .entry)) (now (wids .entry)) (now (warena .entry)) (now (rids .entry)) (now (rarena .entry)) (now (spans .entry)) (now (bytes .entry)) (now (counts .entry))) ⌝ }
+    ensures { λ r. ⌜ r ≡ textOn handle (lent nids narena wids warena rids rarena spans bytes used) ⌝ }
 {
-    if overlay::is_sound(
-        nids,
-        narena,
-        wids,
-        warena,
-        rids,
-        rarena,
-        spans,
-        bytes,
-        counts,
-    ) {
-        let n = little::lesser(counts[7] as usize, bytes.len());
-        return text_view(interner::resolve(spans, &bytes[..n], counts[6], handle));
+    if overlay::is_sound(nids, narena, wids, warena, rids, rarena, spans, bytes, used) {
+        let n = little::lesser(used[7] as usize, bytes.len());
+        return text_view(interner::resolve(spans, &bytes[..n], used[6], handle));
     }
     View::Refused(Refusal::Unsound)
 }

@@ -1,8 +1,10 @@
 // The C entries of the readings of an overlay. A slice is a pointer and its length, the nine counters one pointer.
 ghost use mathlib.Core.Path.{_≡_};
 ghost use Rattle.listed.specs.declared.Side.the-variants.{Live, Deleted};
-ghost use Rattle.overlay.specs.Overlay.{overlayOf};
+ghost use Rattle.listed.specs.declared.View.the-variants as view;
+ghost use Rattle.overlay.specs.Overlay.{lent};
 ghost use Rattle.overlay.specs.Sound.{isSound};
+ghost use Rattle.reading.specs.declared.Read.the-variants.{Refused};
 ghost use Rattle.reading.specs.Reading.{isEmptyOn, textOn};
 ghost use Rattle.reading_c.specs.Entries.{readNumber, noPart, viewPart, unknownKind, countNumber, idNumber, recordPart, getPart, hasNumber, isDeletedNumber, knownNumber};
 use kind::Named;
@@ -75,24 +77,49 @@ fn unknown_kind(
     rarena: &[u8],
     spans: &[u64],
     bytes: &[u8],
-    counts: &[u64; 9],
+    used: &[u64; 9],
 ) -> Refusal
-    ensures { λ r. ⌜ r ≡ unknownKind (isSound (overlayOf (now (nids .entry)) (now (narena .entry)) (now (wids .entry)) (now (warena .entry)) (now (rids .entry)) (now (rarena .entry)) (now (spans .entry)) (now (bytes .entry)) (now (counts .entry)))) ⌝ }
+    ensures { λ r. ⌜ r ≡ unknownKind (isSound (lent nids narena wids warena rids rarena spans bytes used)) ⌝ }
 {
-    if overlay::is_sound(
-        nids,
-        narena,
-        wids,
-        warena,
-        rids,
-        rarena,
-        spans,
-        bytes,
-        counts,
-    ) {
+    if overlay::is_sound(nids, narena, wids, warena, rids, rarena, spans, bytes, used) {
         return Refusal::BadRecord;
     }
     Refusal::Unsound
+}
+
+// The replies where a kind's number means no kind.
+fn no_read(
+    nids: &[u64],
+    narena: &[u8],
+    wids: &[u64],
+    warena: &[u8],
+    rids: &[u64],
+    rarena: &[u8],
+    spans: &[u64],
+    bytes: &[u8],
+    used: &[u64; 9],
+) -> Number
+    ensures { λ r. ⌜ r ≡ readNumber (Refused (unknownKind (isSound (lent nids narena wids warena rids rarena spans bytes used)))) ⌝ }
+{
+    let refusal = unknown_kind(nids, narena, wids, warena, rids, rarena, spans, bytes, used);
+    read_number(Read::Refused(refusal))
+}
+
+fn no_view(
+    nids: &[u64],
+    narena: &[u8],
+    wids: &[u64],
+    warena: &[u8],
+    rids: &[u64],
+    rarena: &[u8],
+    spans: &[u64],
+    bytes: &[u8],
+    used: &[u64; 9],
+) -> Part
+    ensures { λ r. ⌜ r ≡ viewPart (view.Refused (unknownKind (isSound (lent nids narena wids warena rids rarena spans bytes used)))) ⌝ }
+{
+    let refusal = unknown_kind(nids, narena, wids, warena, rids, rarena, spans, bytes, used);
+    view_part(View::Refused(refusal))
 }
 
 // How many ids of a kind are live.
@@ -106,10 +133,10 @@ pub extern "C" fn tvk_live_count(
     rarena: &[u8],
     spans: &[u64],
     bytes: &[u8],
-    counts: &[u64; 9],
+    used: &[u64; 9],
     kind: u8,
 ) -> Number
-    ensures { λ r. ⌜ r ≡ countNumber kind Live (overlayOf (now (nids .entry)) (now (narena .entry)) (now (wids .entry)) (now (warena .entry)) (now (rids .entry)) (now (rarena .entry)) (now (spans .entry)) (now (bytes .entry)) (now (counts .entry))) ⌝ }
+    ensures { λ r. ⌜ r ≡ countNumber kind Live (lent nids narena wids warena rids rarena spans bytes used) ⌝ }
 {
     match kind::kind_of_number(kind) {
         Named::Is(k) => read_number(reading::count(
@@ -121,21 +148,11 @@ pub extern "C" fn tvk_live_count(
             rarena,
             spans,
             bytes,
-            counts,
+            used,
             k,
             Side::Live,
         )),
-        Named::Unknown => read_number(Read::Refused(unknown_kind(
-            nids,
-            narena,
-            wids,
-            warena,
-            rids,
-            rarena,
-            spans,
-            bytes,
-            counts,
-        ))),
+        Named::Unknown => no_read(nids, narena, wids, warena, rids, rarena, spans, bytes, used),
     }
 }
 
@@ -150,10 +167,10 @@ pub extern "C" fn tvk_deleted_count(
     rarena: &[u8],
     spans: &[u64],
     bytes: &[u8],
-    counts: &[u64; 9],
+    used: &[u64; 9],
     kind: u8,
 ) -> Number
-    ensures { λ r. ⌜ r ≡ countNumber kind Deleted (overlayOf (now (nids .entry)) (now (narena .entry)) (now (wids .entry)) (now (warena .entry)) (now (rids .entry)) (now (rarena .entry)) (now (spans .entry)) (now (bytes .entry)) (now (counts .entry))) ⌝ }
+    ensures { λ r. ⌜ r ≡ countNumber kind Deleted (lent nids narena wids warena rids rarena spans bytes used) ⌝ }
 {
     match kind::kind_of_number(kind) {
         Named::Is(k) => read_number(reading::count(
@@ -165,21 +182,11 @@ pub extern "C" fn tvk_deleted_count(
             rarena,
             spans,
             bytes,
-            counts,
+            used,
             k,
             Side::Deleted,
         )),
-        Named::Unknown => read_number(Read::Refused(unknown_kind(
-            nids,
-            narena,
-            wids,
-            warena,
-            rids,
-            rarena,
-            spans,
-            bytes,
-            counts,
-        ))),
+        Named::Unknown => no_read(nids, narena, wids, warena, rids, rarena, spans, bytes, used),
     }
 }
 
@@ -194,21 +201,11 @@ pub extern "C" fn tvk_is_empty(
     rarena: &[u8],
     spans: &[u64],
     bytes: &[u8],
-    counts: &[u64; 9],
+    used: &[u64; 9],
 ) -> Number
-    ensures { λ r. ⌜ r ≡ readNumber (isEmptyOn (overlayOf (now (nids .entry)) (now (narena .entry)) (now (wids .entry)) (now (warena .entry)) (now (rids .entry)) (now (rarena .entry)) (now (spans .entry)) (now (bytes .entry)) (now (counts .entry)))) ⌝ }
+    ensures { λ r. ⌜ r ≡ readNumber (isEmptyOn (lent nids narena wids warena rids rarena spans bytes used)) ⌝ }
 {
-    read_number(reading::is_empty(
-        nids,
-        narena,
-        wids,
-        warena,
-        rids,
-        rarena,
-        spans,
-        bytes,
-        counts,
-    ))
+    read_number(reading::is_empty(nids, narena, wids, warena, rids, rarena, spans, bytes, used))
 }
 
 // The bits of the n-th live id in OSM order, or 21.
@@ -222,11 +219,11 @@ pub extern "C" fn tvk_live_id(
     rarena: &[u8],
     spans: &[u64],
     bytes: &[u8],
-    counts: &[u64; 9],
+    used: &[u64; 9],
     kind: u8,
     n: u64,
 ) -> Number
-    ensures { λ r. ⌜ r ≡ idNumber kind Live n (overlayOf (now (nids .entry)) (now (narena .entry)) (now (wids .entry)) (now (warena .entry)) (now (rids .entry)) (now (rarena .entry)) (now (spans .entry)) (now (bytes .entry)) (now (counts .entry))) ⌝ }
+    ensures { λ r. ⌜ r ≡ idNumber kind Live n (lent nids narena wids warena rids rarena spans bytes used) ⌝ }
 {
     match kind::kind_of_number(kind) {
         Named::Is(k) => read_number(reading::id_at(
@@ -238,22 +235,12 @@ pub extern "C" fn tvk_live_id(
             rarena,
             spans,
             bytes,
-            counts,
+            used,
             k,
             Side::Live,
             n,
         )),
-        Named::Unknown => read_number(Read::Refused(unknown_kind(
-            nids,
-            narena,
-            wids,
-            warena,
-            rids,
-            rarena,
-            spans,
-            bytes,
-            counts,
-        ))),
+        Named::Unknown => no_read(nids, narena, wids, warena, rids, rarena, spans, bytes, used),
     }
 }
 
@@ -268,11 +255,11 @@ pub extern "C" fn tvk_deleted_id(
     rarena: &[u8],
     spans: &[u64],
     bytes: &[u8],
-    counts: &[u64; 9],
+    used: &[u64; 9],
     kind: u8,
     n: u64,
 ) -> Number
-    ensures { λ r. ⌜ r ≡ idNumber kind Deleted n (overlayOf (now (nids .entry)) (now (narena .entry)) (now (wids .entry)) (now (warena .entry)) (now (rids .entry)) (now (rarena .entry)) (now (spans .entry)) (now (bytes .entry)) (now (counts .entry))) ⌝ }
+    ensures { λ r. ⌜ r ≡ idNumber kind Deleted n (lent nids narena wids warena rids rarena spans bytes used) ⌝ }
 {
     match kind::kind_of_number(kind) {
         Named::Is(k) => read_number(reading::id_at(
@@ -284,22 +271,12 @@ pub extern "C" fn tvk_deleted_id(
             rarena,
             spans,
             bytes,
-            counts,
+            used,
             k,
             Side::Deleted,
             n,
         )),
-        Named::Unknown => read_number(Read::Refused(unknown_kind(
-            nids,
-            narena,
-            wids,
-            warena,
-            rids,
-            rarena,
-            spans,
-            bytes,
-            counts,
-        ))),
+        Named::Unknown => no_read(nids, narena, wids, warena, rids, rarena, spans, bytes, used),
     }
 }
 
@@ -314,11 +291,11 @@ pub extern "C" fn tvk_record(
     rarena: &[u8],
     spans: &[u64],
     bytes: &[u8],
-    counts: &[u64; 9],
+    used: &[u64; 9],
     kind: u8,
     n: u64,
 ) -> Part
-    ensures { λ r. ⌜ r ≡ recordPart kind n (overlayOf (now (nids .entry)) (now (narena .entry)) (now (wids .entry)) (now (warena .entry)) (now (rids .entry)) (now (rarena .entry)) (now (spans .entry)) (now (bytes .entry)) (now (counts .entry))) ⌝ }
+    ensures { λ r. ⌜ r ≡ recordPart kind n (lent nids narena wids warena rids rarena spans bytes used) ⌝ }
 {
     match kind::kind_of_number(kind) {
         Named::Is(k) => view_part(reading::record_at(
@@ -330,21 +307,11 @@ pub extern "C" fn tvk_record(
             rarena,
             spans,
             bytes,
-            counts,
+            used,
             k,
             n,
         )),
-        Named::Unknown => view_part(View::Refused(unknown_kind(
-            nids,
-            narena,
-            wids,
-            warena,
-            rids,
-            rarena,
-            spans,
-            bytes,
-            counts,
-        ))),
+        Named::Unknown => no_view(nids, narena, wids, warena, rids, rarena, spans, bytes, used),
     }
 }
 
@@ -359,11 +326,11 @@ pub extern "C" fn tvk_get(
     rarena: &[u8],
     spans: &[u64],
     bytes: &[u8],
-    counts: &[u64; 9],
+    used: &[u64; 9],
     kind: u8,
     id: i64,
 ) -> Part
-    ensures { λ r. ⌜ r ≡ getPart kind id (overlayOf (now (nids .entry)) (now (narena .entry)) (now (wids .entry)) (now (warena .entry)) (now (rids .entry)) (now (rarena .entry)) (now (spans .entry)) (now (bytes .entry)) (now (counts .entry))) ⌝ }
+    ensures { λ r. ⌜ r ≡ getPart kind id (lent nids narena wids warena rids rarena spans bytes used) ⌝ }
 {
     match kind::kind_of_number(kind) {
         Named::Is(k) => view_part(reading::get(
@@ -375,21 +342,11 @@ pub extern "C" fn tvk_get(
             rarena,
             spans,
             bytes,
-            counts,
+            used,
             k,
             signed::bits_of_i64(id),
         )),
-        Named::Unknown => view_part(View::Refused(unknown_kind(
-            nids,
-            narena,
-            wids,
-            warena,
-            rids,
-            rarena,
-            spans,
-            bytes,
-            counts,
-        ))),
+        Named::Unknown => no_view(nids, narena, wids, warena, rids, rarena, spans, bytes, used),
     }
 }
 
@@ -404,11 +361,11 @@ pub extern "C" fn tvk_has(
     rarena: &[u8],
     spans: &[u64],
     bytes: &[u8],
-    counts: &[u64; 9],
+    used: &[u64; 9],
     kind: u8,
     id: i64,
 ) -> Number
-    ensures { λ r. ⌜ r ≡ hasNumber kind id (overlayOf (now (nids .entry)) (now (narena .entry)) (now (wids .entry)) (now (warena .entry)) (now (rids .entry)) (now (rarena .entry)) (now (spans .entry)) (now (bytes .entry)) (now (counts .entry))) ⌝ }
+    ensures { λ r. ⌜ r ≡ hasNumber kind id (lent nids narena wids warena rids rarena spans bytes used) ⌝ }
 {
     match kind::kind_of_number(kind) {
         Named::Is(k) => read_number(reading::has(
@@ -420,21 +377,11 @@ pub extern "C" fn tvk_has(
             rarena,
             spans,
             bytes,
-            counts,
+            used,
             k,
             signed::bits_of_i64(id),
         )),
-        Named::Unknown => read_number(Read::Refused(unknown_kind(
-            nids,
-            narena,
-            wids,
-            warena,
-            rids,
-            rarena,
-            spans,
-            bytes,
-            counts,
-        ))),
+        Named::Unknown => no_read(nids, narena, wids, warena, rids, rarena, spans, bytes, used),
     }
 }
 
@@ -449,11 +396,11 @@ pub extern "C" fn tvk_is_deleted(
     rarena: &[u8],
     spans: &[u64],
     bytes: &[u8],
-    counts: &[u64; 9],
+    used: &[u64; 9],
     kind: u8,
     id: i64,
 ) -> Number
-    ensures { λ r. ⌜ r ≡ isDeletedNumber kind id (overlayOf (now (nids .entry)) (now (narena .entry)) (now (wids .entry)) (now (warena .entry)) (now (rids .entry)) (now (rarena .entry)) (now (spans .entry)) (now (bytes .entry)) (now (counts .entry))) ⌝ }
+    ensures { λ r. ⌜ r ≡ isDeletedNumber kind id (lent nids narena wids warena rids rarena spans bytes used) ⌝ }
 {
     match kind::kind_of_number(kind) {
         Named::Is(k) => read_number(reading::is_deleted(
@@ -465,21 +412,11 @@ pub extern "C" fn tvk_is_deleted(
             rarena,
             spans,
             bytes,
-            counts,
+            used,
             k,
             signed::bits_of_i64(id),
         )),
-        Named::Unknown => read_number(Read::Refused(unknown_kind(
-            nids,
-            narena,
-            wids,
-            warena,
-            rids,
-            rarena,
-            spans,
-            bytes,
-            counts,
-        ))),
+        Named::Unknown => no_read(nids, narena, wids, warena, rids, rarena, spans, bytes, used),
     }
 }
 
@@ -494,11 +431,11 @@ pub extern "C" fn tvk_known_version(
     rarena: &[u8],
     spans: &[u64],
     bytes: &[u8],
-    counts: &[u64; 9],
+    used: &[u64; 9],
     kind: u8,
     id: i64,
 ) -> Number
-    ensures { λ r. ⌜ r ≡ knownNumber kind id (overlayOf (now (nids .entry)) (now (narena .entry)) (now (wids .entry)) (now (warena .entry)) (now (rids .entry)) (now (rarena .entry)) (now (spans .entry)) (now (bytes .entry)) (now (counts .entry))) ⌝ }
+    ensures { λ r. ⌜ r ≡ knownNumber kind id (lent nids narena wids warena rids rarena spans bytes used) ⌝ }
 {
     match kind::kind_of_number(kind) {
         Named::Is(k) => read_number(reading::known_version(
@@ -510,21 +447,11 @@ pub extern "C" fn tvk_known_version(
             rarena,
             spans,
             bytes,
-            counts,
+            used,
             k,
             signed::bits_of_i64(id),
         )),
-        Named::Unknown => read_number(Read::Refused(unknown_kind(
-            nids,
-            narena,
-            wids,
-            warena,
-            rids,
-            rarena,
-            spans,
-            bytes,
-            counts,
-        ))),
+        Named::Unknown => no_read(nids, narena, wids, warena, rids, rarena, spans, bytes, used),
     }
 }
 
@@ -539,10 +466,10 @@ pub extern "C" fn tvk_text(
     rarena: &[u8],
     spans: &[u64],
     bytes: &[u8],
-    counts: &[u64; 9],
+    used: &[u64; 9],
     handle: u64,
 ) -> Part
-    ensures { λ r. ⌜ r ≡ viewPart (textOn handle (overlayOf (now (nids .entry)) (now (narena .entry)) (now (wids .entry)) (now (warena .entry)) (now (rids .entry)) (now (rarena .entry)) (now (spans .entry)) (now (bytes .entry)) (now (counts .entry)))) ⌝ }
+    ensures { λ r. ⌜ r ≡ viewPart (textOn handle (lent nids narena wids warena rids rarena spans bytes used)) ⌝ }
 {
     view_part(reading::text(
         nids,
@@ -553,7 +480,7 @@ pub extern "C" fn tvk_text(
         rarena,
         spans,
         bytes,
-        counts,
+        used,
         handle,
     ))
 }

@@ -30,7 +30,7 @@ use Rattle.table.specs.declared.Found.the-variants.{At, Place}
 use Rattle.table.specs.declared.Put.{Put}
 use Rattle.table.proofs.Tables.{stored-known, stored-full}
 use Rattle.shelf.specs.declared.Kept.the-variants.{Taken, Refused}
-use Rattle.shelf.specs.Shelf.{Shelf, lent, known, knownAt, floorOf, floorAt, floorAfter, checked, room, roomAt, refused, gone, rowed, joined, pushedAs, pushed, deletedAs, deleted}
+use Rattle.shelf.specs.Shelf.{Shelf, shelfWith, known, knownAt, floorOf, floorAt, floorAfter, checked, room, roomAt, refused, gone, rowed, joined, pushedAs, pushed, deletedAs, deleted}
 
 -- a row that was inserted had room
 pub inserted-room : (ws : List ℕ) (count : ℕ) (row : Row) → stored ws count row .answer ≡ answers.Inserted → 3 * suc count ≤ length ws
@@ -69,14 +69,14 @@ head-most Relation = omega arith
 
 module _ (s : Shelf) (id : ℤ) (floor : ℕ) (bytes : Bytes) where
   pub join-full : (a : Bytes) → record { arena = a; answer = Full } ≡ append (s .arena) (s .used) bytes
-      → record { shelf = lent (s .table) (s .ids) a (s .used); answer = Refused ArenaFull } ≡ joined s id floor bytes
+      → record { shelf = shelfWith (s .table) (s .ids) a (s .used); answer = Refused ArenaFull } ≡ joined s id floor bytes
   unfolding joined
   join-full a e = rw (← e, joins.refused (s .arena) (s .used) bytes a (sym e) .0)
 
   pub join-end : (a : Bytes) (e : ℕ) (t : List ℕ) (n : ℕ) → record { arena = a; answer = End e } ≡ append (s .arena) (s .used) bytes
       → t ≡ stored (s .table) (s .ids) (record { rank = rank id; place = s .used; floor = floor }) .words
       → n ≡ countAfter (stored (s .table) (s .ids) (record { rank = rank id; place = s .used; floor = floor }) .answer) (s .ids)
-      → record { shelf = lent t n a e; answer = Taken } ≡ joined s id floor bytes
+      → record { shelf = shelfWith t n a e; answer = Taken } ≡ joined s id floor bytes
   unfolding joined rowed
   join-end a e t n w p q = rw (← w, p, q)
 
@@ -126,7 +126,7 @@ module _ (k : Kind) (s : Shelf) (id : ℤ) where
     pub delete-room : (t : List ℕ) (n : ℕ) {v x : Version} {f : ℕ} → room s id ≡ true → v ≡ known k s id → x ≡ higher v claim → f ≡ wordOf x
         → t ≡ stored (s .table) (s .ids) (record { rank = rank id; place = gone; floor = f }) .words
         → n ≡ countAfter (stored (s .table) (s .ids) (record { rank = rank id; place = gone; floor = f }) .answer) (s .ids)
-        → record { shelf = lent t n (s .arena) (s .used); answer = Taken } ≡ deletedAs k s id claim Admitted
+        → record { shelf = shelfWith t n (s .arena) (s .used); answer = Taken } ≡ deletedAs k s id claim Admitted
     unfolding rowed
     delete-room t n r e x f p q = rw (r, ← e, ← x, ← f, p, q)
 

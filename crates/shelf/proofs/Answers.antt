@@ -19,7 +19,7 @@ use Rattle.refusal.specs.declared.Refusal.the-variants.{Regression, IdsFull, Ar
 use Rattle.append.proofs.Writes.{fits-is, full-is}
 use Rattle.shelf.specs.declared.Kept.{Kept}
 use Rattle.shelf.specs.declared.Kept.the-variants.{Taken, Refused}
-use Rattle.shelf.specs.Shelf.{Shelf, After, lent, gone, known, floorOf, floorAfter, checked, room, refused, rowed, joined, pushed, deleted}
+use Rattle.shelf.specs.Shelf.{Shelf, After, shelfWith, gone, known, floorOf, floorAfter, checked, room, refused, rowed, joined, pushed, deleted}
 use Rattle.shelf.proofs.Acts.{pushed-as, push-room, push-full, deleted-as, delete-full}
 
 -- ---- the answers
@@ -52,7 +52,7 @@ module _ (k : Kind) (setting : ℕ) (s : Shelf) (id : ℤ) (claim : Version) whe
     -- what an accepted push leaves: its bytes over the arena from the used ones on, and the row of its id there
     abbrev pub laid : Shelf
     laid =
-        rowed (lent (s .table) (s .ids) (over (s .arena) (s .used) bytes) (s .used + length bytes)) id (s .used) (floorAfter setting (known k s id) claim (floorOf s id))
+        rowed (shelfWith (s .table) (s .ids) (over (s .arena) (s .used) bytes) (s .used + length bytes)) id (s .used) (floorAfter setting (known k s id) claim (floorOf s id))
 
     -- a push is refused 12, 14 or 15, in that order, or taken
     pub byPush : {C : Type 0}

@@ -34,7 +34,7 @@ use Rattle.table.specs.Words.{rowAt, rowsFrom, rowsOf, lookup, stored, soundTab
 use Rattle.table.proofs.Maps.{find-put-same, find-put-other}
 use Rattle.table.proofs.Tables.{sound-of, stored-known, stored-new, found-row, found-none, rows-stored, sound-stored, length-stored}
 use Rattle.shelf.specs.declared.Kept.the-variants.{Taken}
-use Rattle.shelf.specs.Shelf.{Shelf, After, lent, isLive, gone, versionAt, liveVersion, knownOf, known, floorOf, floorAfter, checked, room, refused, rowed, pushed, deleted}
+use Rattle.shelf.specs.Shelf.{Shelf, After, shelfWith, isLive, gone, versionAt, liveVersion, knownOf, known, floorOf, floorAfter, checked, room, refused, rowed, pushed, deleted}
 use Rattle.shelf.specs.Fair.{rowsIn, Fair}
 use Rattle.shelf.proofs.Answers.{dropped, laid, byDelete, byPush, answered, check-refused}
 use Rattle.shelf.proofs.Claims.{version-same, version-joined, Narrow, narrow-none, narrow-higher, narrow-at}
@@ -93,7 +93,7 @@ module _ (s : Shelf) (id : ℤ) (place floor : ℕ) (sound : soundTable (s .tabl
           let x = ap (λ z. z .answer) (stored-new (s .table) (s .ids) row p l (leb-true (3 * suc (s .ids)) (length (s .table)) r)) in no (cc)
 
   pub rowed-laid : (arena : Bytes) (used : ℕ) → length arena ≡ length (s .arena) → s .used ≤ used → take (s .used) arena ≡ take (s .used) (s .arena)
-      → Laid s id place floor (rowed (lent (s .table) (s .ids) arena used) id place floor)
+      → Laid s id place floor (rowed (shelfWith (s .table) (s .ids) arena used) id place floor)
   unfolding rowed
   rowed-laid arena used e l b =
       let row : Row = record { rank = rank id; place = place; floor = floor } in
@@ -300,6 +300,6 @@ module _ (k : Kind) (setting : ℕ) (s : Shelf) (id : ℤ) (h : Head) (m : Meta 
 
 -- ---- a shelf without ids is fair
 
-pub fair-empty : (k : Kind) (table : List ℕ) (arena : Bytes) → all isByte arena ≡ true → length arena < 2 ^ 63 → Fair k (lent table 0 arena 0)
+pub fair-empty : (k : Kind) (table : List ℕ) (arena : Bytes) → all isByte arena ≡ true → length arena < 2 ^ 63 → Fair k (shelfWith table 0 arena 0)
 unfolding rowsOf rowsFrom rising find
 fair-empty k table arena b l = record { bytes = b; short = l; sound = sound-of table 0 (omega arith) refl; places = λ n r e h. no (cc) }

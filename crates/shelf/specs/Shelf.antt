@@ -37,8 +37,8 @@ pub record Shelf : Type 0 where
   pub used : ℕ
 
 -- a shelf by its parts, as the functions are lent them
-abbrev pub lent : List ℕ → ℕ → Bytes → ℕ → Shelf
-lent table ids arena used = record { table = table; ids = ids; arena = arena; used = used }
+abbrev pub shelfWith : List ℕ → ℕ → Bytes → ℕ → Shelf
+shelfWith table ids arena used = record { table = table; ids = ids; arena = arena; used = used }
 
 -- ---- what is known of an id
 
@@ -95,6 +95,11 @@ room s id = roomAt (s .table) (s .ids) (lookup (s .table) (s .ids) (rank id))
 
 -- ---- what an act leaves
 
+-- "accepted unless refused"
+abbrev pub takenIn : Kept → Bool
+takenIn Taken = true
+takenIn (Refused r) = false
+
 pub record After : Type 0 where
   pub shelf : Shelf
   pub answer : Kept
@@ -104,7 +109,7 @@ refused s r = record { shelf = s; answer = Refused r }
 
 -- the table and the count that storing a row leaves
 abbrev pub withRow : Shelf → Stored → Shelf
-withRow s t = lent (t .words) (countAfter (t .answer) (s .ids)) (s .arena) (s .used)
+withRow s t = shelfWith (t .words) (countAfter (t .answer) (s .ids)) (s .arena) (s .used)
 
 -- the row of an id set
 unfoldable pub rowed : Shelf → ℤ → ℕ → ℕ → Shelf
@@ -117,7 +122,7 @@ floorAfter setting known Absent floor = cond (eqb setting 0) (wordOf known) floo
 
 -- the record joined to the used bytes, and the row of its id at its place
 abbrev pub joinedAs : Shelf → ℤ → ℕ → Bytes → Appended → After
-joinedAs s id floor arena (End e) = record { shelf = rowed (lent (s .table) (s .ids) arena e) id (s .used) floor; answer = Taken }
+joinedAs s id floor arena (End e) = record { shelf = rowed (shelfWith (s .table) (s .ids) arena e) id (s .used) floor; answer = Taken }
 joinedAs s id floor arena Full = refused s ArenaFull
 
 unfoldable pub joined : Shelf → ℤ → ℕ → Bytes → After

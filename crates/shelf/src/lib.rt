@@ -11,7 +11,7 @@ ghost use Rattle.compact.specs.Held.{metaOf, headIn};
 ghost use Rattle.append.specs.Append.{append};
 ghost use Rattle.version_floor.specs.declared.Admit.the-variants.{Admitted};
 ghost use Rattle.table.specs.Words.{lookup, stored, countAfter};
-ghost use Rattle.shelf.specs.Shelf.{lent, liveVersion, knownOf, knownAt, known, floorAt, checked, roomAt, floorAfter, joined, pushedAs, pushed, deletedAs, deleted};
+ghost use Rattle.shelf.specs.Shelf.{shelfWith, liveVersion, knownOf, knownAt, known, floorAt, checked, roomAt, floorAfter, joined, pushedAs, pushed, deletedAs, deleted};
 use append::Appended;
 use compact::ArenaMeta;
 use compact::CompactNode;
@@ -89,7 +89,7 @@ fn rank_of(id: u64) -> u64
 }
 
 pub fn known_version(kind: Kind, table: &[u64], ids: u64, arena: &[u8], id: u64) -> Version
-    ensures { λ r. ⌜ ((used : ℕ) → r ≡ known kind (lent (now (table .entry)) ids (now (arena .entry)) used) (toZ w64 id)) ⌝ }
+    ensures { λ r. ⌜ ((used : ℕ) → r ≡ known kind (shelfWith (now (table .entry)) ids (now (arena .entry)) used) (toZ w64 id)) ⌝ }
 {
     let found = table::find_row(table, ids, rank_of(id));
     version_found(kind, table, arena, found)
@@ -207,7 +207,7 @@ fn join(
     meta: ArenaMeta,
     parts: &[u8],
 ) -> Outcome
-    ensures { λ r. ⌜ record { shelf = lent (now (table .exit)) (r .ids) (now (arena .exit)) (r .used); answer = r .answer } ≡ joined (lent (now (table .entry)) ids (now (arena .entry)) used) (toZ w64 (head .id)) floor (headBytes kind (headIn kind head) ++ metaBytes (metaOf meta) ++ now (parts .entry)) ⌝ }
+    ensures { λ r. ⌜ record { shelf = shelfWith (now (table .exit)) (r .ids) (now (arena .exit)) (r .used); answer = r .answer } ≡ joined (shelfWith (now (table .entry)) ids (now (arena .entry)) used) (toZ w64 (head .id)) floor (headBytes kind (headIn kind head) ++ metaBytes (metaOf meta) ++ now (parts .entry)) ⌝ }
 {
     let Appended::End(end) = append_record(kind, arena, used as usize, head, meta, parts) else {
         return Outcome {
@@ -237,8 +237,8 @@ fn push_admitted(
     found: Found,
     version: Version,
 ) -> Outcome
-    requires { ⌜ (found ≡ lookup (now table) ids (rank (toZ w64 (head .id)))) × (version ≡ known kind (lent (now table) ids (now arena) used) (toZ w64 (head .id))) ⌝ }
-    ensures { λ r. ⌜ record { shelf = lent (now (table .exit)) (r .ids) (now (arena .exit)) (r .used); answer = r .answer } ≡ pushedAs kind setting (lent (now (table .entry)) ids (now (arena .entry)) used) (toZ w64 (head .id)) (claimOf (metaOf meta)) (headBytes kind (headIn kind head) ++ metaBytes (metaOf meta) ++ now (parts .entry)) Admitted ⌝ }
+    requires { ⌜ (found ≡ lookup (now table) ids (rank (toZ w64 (head .id)))) × (version ≡ known kind (shelfWith (now table) ids (now arena) used) (toZ w64 (head .id))) ⌝ }
+    ensures { λ r. ⌜ record { shelf = shelfWith (now (table .exit)) (r .ids) (now (arena .exit)) (r .used); answer = r .answer } ≡ pushedAs kind setting (shelfWith (now (table .entry)) ids (now (arena .entry)) used) (toZ w64 (head .id)) (claimOf (metaOf meta)) (headBytes kind (headIn kind head) ++ metaBytes (metaOf meta) ++ now (parts .entry)) Admitted ⌝ }
 {
     if has_room(table, ids, found) {
         let floor = floor_after(
@@ -267,7 +267,7 @@ pub fn push(
     meta: ArenaMeta,
     parts: &[u8],
 ) -> Outcome
-    ensures { λ r. ⌜ record { shelf = lent (now (table .exit)) (r .ids) (now (arena .exit)) (r .used); answer = r .answer } ≡ pushed kind setting (lent (now (table .entry)) ids (now (arena .entry)) used) (toZ w64 (head .id)) (claimOf (metaOf meta)) (headBytes kind (headIn kind head) ++ metaBytes (metaOf meta) ++ now (parts .entry)) ⌝ }
+    ensures { λ r. ⌜ record { shelf = shelfWith (now (table .exit)) (r .ids) (now (arena .exit)) (r .used); answer = r .answer } ≡ pushed kind setting (shelfWith (now (table .entry)) ids (now (arena .entry)) used) (toZ w64 (head .id)) (claimOf (metaOf meta)) (headBytes kind (headIn kind head) ++ metaBytes (metaOf meta) ++ now (parts .entry)) ⌝ }
 {
     let found = table::find_row(table, ids, rank_of(head.id));
     let version = version_found(kind, table, arena, found);
@@ -307,8 +307,8 @@ fn delete_admitted(
     found: Found,
     version: Version,
 ) -> Outcome
-    requires { ⌜ (found ≡ lookup (now table) ids (rank (toZ w64 id))) × (version ≡ known kind (lent (now table) ids (now arena) used) (toZ w64 id)) ⌝ }
-    ensures { λ r. ⌜ record { shelf = lent (now (table .exit)) (r .ids) (now (arena .entry)) (r .used); answer = r .answer } ≡ deletedAs kind (lent (now (table .entry)) ids (now (arena .entry)) used) (toZ w64 id) claim Admitted ⌝ }
+    requires { ⌜ (found ≡ lookup (now table) ids (rank (toZ w64 id))) × (version ≡ known kind (shelfWith (now table) ids (now arena) used) (toZ w64 id)) ⌝ }
+    ensures { λ r. ⌜ record { shelf = shelfWith (now (table .exit)) (r .ids) (now (arena .entry)) (r .used); answer = r .answer } ≡ deletedAs kind (shelfWith (now (table .entry)) ids (now (arena .entry)) used) (toZ w64 id) claim Admitted ⌝ }
 {
     if has_room(table, ids, found) {
         let floor = version_floor::version_word(version_floor::higher_of(version, claim));
@@ -335,7 +335,7 @@ pub fn delete(
     id: u64,
     claim: Version,
 ) -> Outcome
-    ensures { λ r. ⌜ record { shelf = lent (now (table .exit)) (r .ids) (now (arena .entry)) (r .used); answer = r .answer } ≡ deleted kind setting (lent (now (table .entry)) ids (now (arena .entry)) used) (toZ w64 id) claim ⌝ }
+    ensures { λ r. ⌜ record { shelf = shelfWith (now (table .exit)) (r .ids) (now (arena .entry)) (r .used); answer = r .answer } ≡ deleted kind setting (shelfWith (now (table .entry)) ids (now (arena .entry)) used) (toZ w64 id) claim ⌝ }
 {
     let found = table::find_row(table, ids, rank_of(id));
     let version = version_found(kind, table, arena, found);

@@ -32,13 +32,13 @@ use Rattle.table.specs.Rows.{put}
 use Rattle.table.specs.Words.{rowsOf, rowsFrom}
 use Rattle.table.proofs.Tables.{sound-empty}
 use Rattle.table.proofs.Maps.{put-nil, put-before, put-over, put-behind}
-use Rattle.shelf.specs.Shelf.{Shelf, lent, isLive, gone, rowed, known, floorOf, floorAfter, pushed, deleted}
+use Rattle.shelf.specs.Shelf.{Shelf, shelfWith, isLive, gone, rowed, known, floorOf, floorAfter, pushed, deleted}
 use Rattle.shelf.specs.declared.Kept.the-variants.{Taken}
 use Rattle.shelf.proofs.Answers.{byDelete, answered}
 use Rattle.shelf.proofs.Shelves.{Laid, delete-laid, push-laid, push-fits, push-used, push-arena}
 use Rattle.sound.specs.Sound.{soundRow, SoundShelf}
 
-pub empty-sound : (strings : ℕ) (k : Kind) (table : List ℕ) (arena : Bytes) → SoundShelf strings k (lent table 0 arena 0)
+pub empty-sound : (strings : ℕ) (k : Kind) (table : List ℕ) (arena : Bytes) → SoundShelf strings k (shelfWith table 0 arena 0)
 unfolding rowsOf rowsFrom all
 empty-sound strings k table arena = record { fits = omega arith; whole = nothing-whole strings k; order = sound-empty table; rows = refl }
 

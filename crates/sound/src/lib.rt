@@ -6,7 +6,7 @@ ghost use mir.Val.{toZ};
 ghost use Rattle.little.specs.Little.{valueAt};
 ghost use Rattle.osm_id.specs.Order.{rank, idOf};
 ghost use Rattle.table.specs.Words.{rowsOf, soundTable};
-ghost use Rattle.shelf.specs.Shelf.{lent};
+ghost use Rattle.shelf.specs.Shelf.{shelfWith};
 ghost use Rattle.sound.specs.Check.{soundUsed, soundShelf};
 ghost use Rattle.sound.specs.Count.{one, count, live, pointsAt, walkOf};
 use kind::Kind;
@@ -106,7 +106,7 @@ pub fn sound_shelf(
     used: u64,
     strings: u64,
 ) -> bool
-    ensures { λ r. ⌜ r ≡ soundShelf strings kind (lent (now (table .entry)) ids (now (arena .entry)) used) ⌝ }
+    ensures { λ r. ⌜ r ≡ soundShelf strings kind (shelfWith (now (table .entry)) ids (now (arena .entry)) used) ⌝ }
 {
     let n = used as usize;
     if arena.len() < n {

@@ -23,9 +23,9 @@ use Rattle.compact.specs.declared.ArenaMeta.{ArenaMeta}
 use Rattle.shelf.specs.declared.Kept.{Kept}
 use Rattle.shelf.specs.declared.Kept.the-variants.{Taken, Refused}
 use Rattle.overlay.specs.Overlay.{Overlay, overlayOf, empty}
-use Rattle.overlay.specs.Calls.{pushOn, deleteOn, internOn}
-use Rattle.overlay.specs.declared.Handle.{Handle}
-use Rattle.overlay.specs.declared.Handle.the-variants as H
+use Rattle.direct.specs.Calls.{pushOn, deleteOn, internOn}
+use Rattle.store.specs.declared.Handle.{Handle}
+use Rattle.store.specs.declared.Handle.the-variants as H
 use Rattle.acts.specs.Call.{Call, pushes, deletes, hears, ends, Answered, actsOf}
 use Rattle.page.specs.Summary.{summary}
 use Rattle.page.specs.Listing.{listing}

@@ -6,7 +6,7 @@ use denote.Ref.{now}
 use lib.ListN.{take}
 use lib.Seq.{length-take-le}
 use Rattle.interner.specs.declared.Found.the-variants.{Not}
-use Rattle.interner.specs.Strings.{lent, findIn, room}
+use Rattle.interner.specs.Strings.{storeWith, findIn, room}
 use Rattle.interner.proofs.Takes.{held, new, full, room-words, room-bytes, take-min}
 use borrow.Author.Needs.{needs}
 use Rattle.interner.proofs.intern.Statement.{statement}
@@ -52,7 +52,7 @@ not-found c = sym (found (c .before .before)) ∙ c .enum-told .given .1
 returns : tie.Need-returns
 returns c =
     let a = c .before .before .before .before .before .before .before .before .before .before .args in
-    let s = lent (now (a .spans)) (now (a .bytes)) (a .strings) (a .used) in
+    let s = storeWith (now (a .spans)) (now (a .bytes)) (a .strings) (a .used) in
     sym (held s (now (a .text)) (c .before .h .given .0 .0) (sym (found (c .before .before .before)) ∙ c .before .h .given .1))
 
 enum-told : tie.Need-enum-told
@@ -64,7 +64,7 @@ fits-requires c κs = search needs
 -- the test for room held
 roomy : (c : tie.Then1)
     → let a = c .before .before .before .before .before .before .before .before .before .before .before .args in
-    room (lent (now (a .spans)) (now (a .bytes)) (a .strings) (a .used)) (now (a .text)) ≡ true
+    room (storeWith (now (a .spans)) (now (a .bytes)) (a .strings) (a .used)) (now (a .text)) ≡ true
 unfolding room
 roomy c = sym (c .before .fits2 .ensures) ∙ c .if1 .taken
 
@@ -72,7 +72,7 @@ add-requires : tie.Need-add-requires
 add-requires c κs =
     let r = roomy (c .before .before) in
     let a = c .before .before .before .before .before .before .before .before .before .before .before .before .before .args in
-    let s = lent (now (a .spans)) (now (a .bytes)) (a .strings) (a .used) in
+    let s = storeWith (now (a .spans)) (now (a .bytes)) (a .strings) (a .used) in
     (room-words s (now (a .text)) r, room-bytes s (now (a .text)) r)
 
 same-length-3 : tie.Need-same-length-3
@@ -85,7 +85,7 @@ returns-2 : tie.Need-returns-2
 returns-2 c =
     let f = c .before .before .before .before .before .before .before .before .before in
     let a = f .before .before .before .before .before .before .before .before .before .args in
-    let s = lent (now (a .spans)) (now (a .bytes)) (a .strings) (a .used) in
+    let s = storeWith (now (a .spans)) (now (a .bytes)) (a .strings) (a .used) in
     rw (new s (now (a .text)) (not-found f) (roomy (c .before .before .before .before .before .before .before)))
     (c .before .before .before .before .add .ensures)
 
@@ -100,7 +100,7 @@ unfolding room
 returns-3 c =
     let f = c .before .before in
     let a = f .before .before .before .before .before .before .before .before .before .args in
-    let s = lent (now (a .spans)) (now (a .bytes)) (a .strings) (a .used) in
+    let s = storeWith (now (a .spans)) (now (a .bytes)) (a .strings) (a .used) in
     let r : room s (now (a .text)) ≡ false = rw (← c .before .fits2 .ensures) (c .if1 .left) in
     rw (full s (now (a .text)) (not-found f) r)
 

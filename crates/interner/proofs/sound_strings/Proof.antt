@@ -3,7 +3,7 @@ use mathlib.Core.Path.{_∙_, sym}
 use native.Mathlib.Omega.{arith}
 use denote.Ref.{now}
 use lib.Seq.{length-take-le}
-use Rattle.interner.specs.Strings.{lent}
+use Rattle.interner.specs.Strings.{storeWith}
 use Rattle.interner.proofs.Checks.{unsound, some-held, first-length, strings-decide}
 use borrow.Author.Needs.{needs}
 use Rattle.interner.proofs.sound_strings.Statement.{statement}
@@ -12,17 +12,17 @@ use Rattle.interner.proofs.sound_strings.Tie as tie
 returns : tie.Need-returns
 returns c =
     let a = c .before .before .before .args in
-    sym (unsound (lent (now (a .spans)) (now (a .bytes)) (a .strings) (a .used)) (λ p. omega (arith, p .bytes)))
+    sym (unsound (storeWith (now (a .spans)) (now (a .bytes)) (a .strings) (a .used)) (λ p. omega (arith, p .bytes)))
 
 returns-2 : tie.Need-returns-2
 returns-2 c =
     let a = c .before .before .before .before .args in
-    sym (unsound (lent (now (a .spans)) (now (a .bytes)) (a .strings) (a .used)) (λ p. omega (arith, p .words)))
+    sym (unsound (storeWith (now (a .spans)) (now (a .bytes)) (a .strings) (a .used)) (λ p. omega (arith, p .words)))
 
 returns-3 : tie.Need-returns-3
 returns-3 c =
     let a = c .before .before .before .before .before .args in
-    let s = lent (now (a .spans)) (now (a .bytes)) (a .strings) (a .used) in
+    let s = storeWith (now (a .spans)) (now (a .bytes)) (a .strings) (a .used) in
     sym (unsound s (λ p. omega (arith, some-held s p)))
 
 shared-slice-read-if4 : tie.Need-shared-slice-read-if4
@@ -40,12 +40,12 @@ returns-4 : tie.Need-returns-4
 returns-4 c =
     let a = c .before .before .before .before .before .before .before .before .before .before .args in
     c .sound-up-to .ensures
-    ∙ sym (strings-decide (lent (now (a .spans)) (now (a .bytes)) (a .strings) (a .used)) (omega arith) (omega arith) (omega arith) (c .before .before .before .if4 .taken))
+    ∙ sym (strings-decide (storeWith (now (a .spans)) (now (a .bytes)) (a .strings) (a .used)) (omega arith) (omega arith) (omega arith) (c .before .before .before .if4 .taken))
 
 returns-5 : tie.Need-returns-5
 returns-5 c =
     let a = c .before .before .before .before .before .before .before .args in
-    let s = lent (now (a .spans)) (now (a .bytes)) (a .strings) (a .used) in
+    let s = storeWith (now (a .spans)) (now (a .bytes)) (a .strings) (a .used) in
     sym (unsound s (λ p. c .if4 .left (first-length s p)))
 
 pub sound-strings-spec : {M : Type 1} → statement M

@@ -1,5 +1,4 @@
 -- Sizes, strings, then the kinds; the first that fails decides.
-use denote.Ref.{now}
 use Rattle.base.specs.Bytes.{both}
 use Rattle.overlay.specs.Sound.{isSound}
 use borrow.Author.Needs.{needs}
@@ -24,19 +23,18 @@ shelves-sound-requires c κs = search needs
 returns : tie.Need-returns
 unfolding isSound both
 returns c =
-    let k = c .before .before .before .before .before .before .before .before .before .before .before .before .before .before .before .args in
-    rw (← c .before .before .before .before .before .before .sizes-fit .ensures (now (k .counts)), c .before .before .before .before .before .if1 .taken, ← c .before .before .sound-strings .ensures, c .before .if2 .taken)
-    (c .shelves-sound .ensures (now (k .spans)) (now (k .bytes)))
+    rw (← c .before .before .before .before .before .before .sizes-fit .ensures, c .before .before .before .before .before .if1 .taken, ← c .before .before .sound-strings .ensures, c .before .if2 .taken)
+    (c .shelves-sound .ensures)
 
 returns-2 : tie.Need-returns-2
 unfolding isSound both
 returns-2 c =
-    rw (← c .before .before .before .before .before .sizes-fit .ensures (now (c .before .before .before .before .before .before .before .before .before .before .before .before .before .before .args .counts)), c .before .before .before .before .if1 .taken, ← c .before .sound-strings .ensures, c .if2 .left)
+    rw (← c .before .before .before .before .before .sizes-fit .ensures, c .before .before .before .before .if1 .taken, ← c .before .sound-strings .ensures, c .if2 .left)
 
 returns-3 : tie.Need-returns-3
 unfolding isSound both
 returns-3 c =
-    rw (← c .before .sizes-fit .ensures (now (c .before .before .before .before .before .before .before .before .before .before .args .counts)), c .if1 .left)
+    rw (← c .before .sizes-fit .ensures, c .if1 .left)
 
 pub is-sound-spec : {M : Type 1} → statement M
 is-sound-spec =

@@ -1,5 +1,4 @@
 -- 1, or the counters of an empty overlay and the span of handle 0.
-use denote.Ref.{now}
 use Rattle.overlay.specs.Calls.{setUp}
 use borrow.Author.Needs.{needs}
 use Rattle.overlay.proofs.set_up.Statement.{statement}
@@ -20,7 +19,7 @@ same-length c = search needs
 returns : tie.Need-returns
 unfolding setUp
 returns c =
-    rw (← c .before .before .before .before .before .before .before .sizes-fit .ensures (now (c .before .before .before .before .before .before .before .before .before .before .before .before .before .before .before .before .before .args .counts)), c .before .before .before .before .before .before .if1 .taken, c .before .before .before .before .empty-strings .ensures, c .reset .ensures)
+    rw (← c .before .before .before .before .before .before .before .sizes-fit .ensures, c .before .before .before .before .before .before .if1 .taken, c .before .before .before .before .empty-strings .ensures, c .reset .ensures)
 
 same-length-2 : tie.Need-same-length-2
 same-length-2 c = search needs
@@ -28,7 +27,7 @@ same-length-2 c = search needs
 returns-2 : tie.Need-returns-2
 unfolding setUp
 returns-2 c =
-    rw (← c .before .sizes-fit .ensures (now (c .before .before .before .before .before .before .before .before .before .before .before .args .counts)), c .if1 .left)
+    rw (← c .before .sizes-fit .ensures, c .if1 .left)
 
 pub set-up-spec : {M : Type 1} → statement M
 set-up-spec =

@@ -37,18 +37,18 @@ sound-shelf-requires-3 c κs = search needs
 
 returns : tie.Need-returns
 unfolding shelvesSound both
-returns c spans bytes =
+returns c =
     rw (← c .before .before .before .before .before .before .before .before .sound-shelf .ensures, c .before .before .before .before .before .before .before .if1 .taken, ← c .before .before .before .before .sound-shelf2 .ensures, c .before .before .before .if2 .taken)
     (c .sound-shelf3 .ensures)
 
 returns-2 : tie.Need-returns-2
 unfolding shelvesSound both
-returns-2 c spans bytes =
+returns-2 c =
     rw (← c .before .before .before .before .before .sound-shelf .ensures, c .before .before .before .before .if1 .taken, ← c .before .sound-shelf2 .ensures, c .if2 .left)
 
 returns-3 : tie.Need-returns-3
 unfolding shelvesSound both
-returns-3 c spans bytes =
+returns-3 c =
     rw (← c .before .sound-shelf .ensures, c .if1 .left)
 
 pub shelves-sound-spec : {M : Type 1} → statement M

@@ -1,5 +1,6 @@
 -- The sizes of each kind and of the strings.
 use lib.ListN.{getD}
+use denote.Ref.{now}
 use Rattle.overlay.specs.Overlay.{sizesFit}
 use Rattle.overlay.proofs.Parts.{all-four}
 use borrow.Author.Needs.{needs}
@@ -20,8 +21,9 @@ texts-fit-requires c κs = search needs
 
 returns : tie.Need-returns
 unfolding sizesFit
-returns c counts =
-    rw (← c .before .before .before .shelf-fits .ensures (getD counts 0 0) (getD counts 3 0), ← c .before .before .shelf-fits2 .ensures (getD counts 1 0) (getD counts 4 0), ← c .before .shelf-fits3 .ensures (getD counts 2 0) (getD counts 5 0), ← c .texts-fit .ensures (getD counts 6 0) (getD counts 7 0))
+returns c =
+    let used = now (c .before .before .before .before .before .before .before .before .before .before .before .before .args .used) in
+    rw (← c .before .before .before .shelf-fits .ensures (getD used 0 0) (getD used 3 0), ← c .before .before .shelf-fits2 .ensures (getD used 1 0) (getD used 4 0), ← c .before .shelf-fits3 .ensures (getD used 2 0) (getD used 5 0), ← c .texts-fit .ensures (getD used 6 0) (getD used 7 0))
     (all-four _ _ _ _)
 
 pub sizes-fit-spec : {M : Type 1} → statement M

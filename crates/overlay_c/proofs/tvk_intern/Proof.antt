@@ -1,4 +1,4 @@
--- The lent storage and the reply are those of `overlay::intern`.
+-- The lent storage and the reply are those of `direct::intern`.
 use Rattle.overlay_c.specs.Entries.{internReply}
 use Rattle.overlay_c.proofs.Replies.{interned-is}
 use borrow.Author.Needs.{needs}

@@ -1,4 +1,4 @@
--- What `overlay::push` leaves and answers; or nothing changes, and 22 or 17 is replied.
+-- What `direct::push` leaves and answers; or nothing changes, and 22 or 17 is replied.
 use Rattle.overlay_c.specs.Entries.{pushReply}
 use Rattle.overlay_c.proofs.Replies.{replied-is, unknown-is}
 use borrow.Author.Needs.{needs}
@@ -20,8 +20,8 @@ kept-reply-requires c κs = search needs
 enum-told : tie.Need-enum-told
 enum-told c = search needs
 
-unknown-reply-requires : tie.Need-unknown-reply-requires
-unknown-reply-requires c κs = search needs
+unknown-requires : tie.Need-unknown-requires
+unknown-requires c κs = search needs
 
 same-length : tie.Need-same-length
 same-length c = search needs
@@ -69,7 +69,7 @@ returns-2 : tie.Need-returns-2
 unfolding pushReply
 returns-2 c =
     let w = c .before .before .before .before .before .before .before .before in
-    rw (← w .before .before .kind-of-number .ensures, w .enum-told .given .1) (unknown-is (c .unknown-reply .ensures))
+    rw (← w .before .before .kind-of-number .ensures, w .enum-told .given .1) (unknown-is (c .unknown .ensures))
 
 pub tvk-push-spec : {M : Type 1} → statement M
 tvk-push-spec =
@@ -80,7 +80,7 @@ tvk-push-spec =
     push-requires
     kept-reply-requires
     enum-told
-    unknown-reply-requires
+    unknown-requires
     same-length
     same-length-2
     same-length-3

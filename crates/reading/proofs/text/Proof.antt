@@ -37,9 +37,9 @@ unfolding textOn
 returns c =
     let a = c .before .before .before .before .before .before .before .before .before .before .before .before .before .before .before .before .args in
     let n = c .before .before .before .before .lesser in
-    let u = ap (λ m. take m (now (a .bytes))) (n .ensures) ∙ take-min (getD (now (a .counts)) 7 0) (now (a .bytes)) in
+    let u = ap (λ m. take m (now (a .bytes))) (n .ensures) ∙ take-min (getD (now (a .used)) 7 0) (now (a .bytes)) in
     rw (← c .before .before .before .before .before .before .before .is-sound .ensures, c .before .before .before .before .before .before .if1 .taken)
-    (c .text-view .ensures ∙ ap textView (c .before .resolve .ensures ∙ ap (λ s. spanOf (now (a .spans)) s (getD (now (a .counts)) 6 0) (a .handle)) u))
+    (c .text-view .ensures ∙ ap textView (c .before .resolve .ensures ∙ ap (λ s. spanOf (now (a .spans)) s (getD (now (a .used)) 6 0) (a .handle)) u))
 
 returns-2 : tie.Need-returns-2
 unfolding textOn

@@ -23,11 +23,8 @@ view-part-requires c κs = search needs
 enum-told : tie.Need-enum-told
 enum-told c = search needs
 
-unknown-kind-requires : tie.Need-unknown-kind-requires
-unknown-kind-requires c κs = search needs
-
-view-part-requires-2 : tie.Need-view-part-requires-2
-view-part-requires-2 c κs = search needs
+no-view-requires : tie.Need-no-view-requires
+no-view-requires c κs = search needs
 
 returns : tie.Need-returns
 unfolding getPart
@@ -37,7 +34,7 @@ returns c =
 
 returns-2 : tie.Need-returns-2
 unfolding getPart
-returns-2 c = rw (← c .before .before .before .before .kind-of-number .ensures, c .before .before .enum-told .given .1, c .view-part2 .ensures, c .before .unknown-kind .ensures)
+returns-2 c = rw (← c .before .before .before .kind-of-number .ensures, c .before .enum-told .given .1, c .no-view .ensures)
 
 pub tvk-get-spec : {M : Type 1} → statement M
 tvk-get-spec =
@@ -49,7 +46,6 @@ tvk-get-spec =
     get-requires
     view-part-requires
     enum-told
-    unknown-kind-requires
-    view-part-requires-2
+    no-view-requires
     returns
     returns-2)

@@ -19,11 +19,8 @@ view-part-requires c κs = search needs
 enum-told : tie.Need-enum-told
 enum-told c = search needs
 
-unknown-kind-requires : tie.Need-unknown-kind-requires
-unknown-kind-requires c κs = search needs
-
-view-part-requires-2 : tie.Need-view-part-requires-2
-view-part-requires-2 c κs = search needs
+no-view-requires : tie.Need-no-view-requires
+no-view-requires c κs = search needs
 
 returns : tie.Need-returns
 unfolding recordPart
@@ -31,7 +28,7 @@ returns c = rw (← c .before .before .before .before .before .kind-of-number .e
 
 returns-2 : tie.Need-returns-2
 unfolding recordPart
-returns-2 c = rw (← c .before .before .before .before .kind-of-number .ensures, c .before .before .enum-told .given .1, c .view-part2 .ensures, c .before .unknown-kind .ensures)
+returns-2 c = rw (← c .before .before .before .kind-of-number .ensures, c .before .enum-told .given .1, c .no-view .ensures)
 
 pub tvk-record-spec : {M : Type 1} → statement M
 tvk-record-spec =
@@ -42,7 +39,6 @@ tvk-record-spec =
     record-at-requires
     view-part-requires
     enum-told
-    unknown-kind-requires
-    view-part-requires-2
+    no-view-requires
     returns
     returns-2)

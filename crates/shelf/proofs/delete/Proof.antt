@@ -9,7 +9,7 @@ use Rattle.osm_id.specs.Order.{rank}
 use Rattle.version_floor.specs.declared.Admit.the-variants.{Admitted, Below}
 use Rattle.version_floor.specs.declared.Admit.{Admit}
 use Rattle.table.specs.Words.{lookup}
-use Rattle.shelf.specs.Shelf.{lent, Shelf, known, deletedAs, deleted}
+use Rattle.shelf.specs.Shelf.{shelfWith, Shelf, known, deletedAs, deleted}
 use Rattle.shelf.proofs.Acts.{found-as, known-as, checked-as, deleted-as}
 use borrow.Author.Needs.{needs}
 use Rattle.shelf.proofs.delete.Statement.{statement}
@@ -18,7 +18,7 @@ use Rattle.shelf.proofs.delete.Tie as tie
 -- what is known once the check has answered
 module _ (c : tie.After-check) where
   abbrev shelf : Shelf
-  shelf = let k = c .before .before .before .before .before .before .before .before .args in lent (now (k .table)) (k .ids) (now (k .arena)) (k .used)
+  shelf = let k = c .before .before .before .before .before .before .before .before .args in shelfWith (now (k .table)) (k .ids) (now (k .arena)) (k .used)
 
   abbrev id : ℤ
   id = toZ w64 (c .before .before .before .before .before .before .before .before .args .id)

@@ -3,7 +3,7 @@ use mathlib.Core.Path.{sym}
 use mir.Val.{toZ}
 use mir.Syntax.{w64}
 use denote.Ref.{now}
-use Rattle.shelf.specs.Shelf.{lent}
+use Rattle.shelf.specs.Shelf.{shelfWith}
 use Rattle.shelf.proofs.Acts.{room-as, delete-room, delete-full}
 use borrow.Author.Needs.{needs}
 use Rattle.shelf.proofs.delete_admitted.Statement.{statement}
@@ -26,7 +26,7 @@ same-length c = search needs
 
 returns : tie.Need-returns
 returns c = let k = c .before .before .before .before .before .before .before .before .before .before .before .args in
-    let s = lent (now (k .table)) (k .ids) (now (k .arena)) (k .used) in
+    let s = shelfWith (now (k .table)) (k .ids) (now (k .arena)) (k .used) in
     let id = toZ w64 (k .id) in
     let found = c .before .before .before .before .before .before .before .before .before .before .before .pre .0 in
     let room = room-as (k .kind) s id found (c .before .before .before .before .before .before .before .has-room .ensures) (c .before .before .before .before .before .before .if1 .taken) in
@@ -37,7 +37,7 @@ same-length-2 c = search needs
 
 returns-2 : tie.Need-returns-2
 returns-2 c = let k = c .before .before .before .before .before .args in
-    let s = lent (now (k .table)) (k .ids) (now (k .arena)) (k .used) in
+    let s = shelfWith (now (k .table)) (k .ids) (now (k .arena)) (k .used) in
     let id = toZ w64 (k .id) in
     sym (delete-full (k .kind) s id (k .claim) (room-as (k .kind) s id (c .before .before .before .before .before .pre .0) (c .before .has-room .ensures) (c .if1 .left)))
 

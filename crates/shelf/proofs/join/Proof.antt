@@ -6,7 +6,7 @@ use denote.Ref.{now}
 use Rattle.compact.specs.Held.{metaOf}
 use Rattle.compact.specs.Layout.{headBytes, metaBytes}
 use Rattle.compact.specs.Held.{headIn}
-use Rattle.shelf.specs.Shelf.{lent}
+use Rattle.shelf.specs.Shelf.{shelfWith}
 use Rattle.shelf.proofs.Acts.{join-full, join-end}
 use borrow.Author.Needs.{needs}
 use Rattle.shelf.proofs.join.Statement.{statement}
@@ -26,7 +26,7 @@ same-length c = search needs
 
 returns : tie.Need-returns
 returns c = let k = c .before .before .before .before .before .before .before .before .before .args in
-    let s = lent (now (k .table)) (k .ids) (now (k .arena)) (k .used) in
+    let s = shelfWith (now (k .table)) (k .ids) (now (k .arena)) (k .used) in
     let id = toZ w64 (k .head .id) in
     let bytes = headBytes (k .kind) (headIn (k .kind) (k .head)) ++ metaBytes (metaOf (k .meta)) ++ now (k .parts) in
     join-full s id (k .floor) bytes _ (rw (c .enum-told .given .1) at (c .before .before .before .before .append-record .ensures))
@@ -42,7 +42,7 @@ same-length-3 c = search needs
 
 returns-2 : tie.Need-returns-2
 returns-2 c = let k = c .before .before .before .before .before .before .before .before .before .before .before .before .before .before .args in
-    let s = lent (now (k .table)) (k .ids) (now (k .arena)) (k .used) in
+    let s = shelfWith (now (k .table)) (k .ids) (now (k .arena)) (k .used) in
     let id = toZ w64 (k .head .id) in
     let bytes = headBytes (k .kind) (headIn (k .kind) (k .head)) ++ metaBytes (metaOf (k .meta)) ++ now (k .parts) in
     join-end s id (k .floor) bytes _ _ _ _ (rw (c .before .before .before .before .before .end .given .1) at (c .before .before .before .before .before .before .before .before .before .append-record .ensures)) (c .before .before .set-row .ensures .0) (c .before .before .set-row .ensures .1)

@@ -16,7 +16,7 @@ use Rattle.compact.specs.Held.{metaOf}
 use Rattle.compact.specs.Layout.{headBytes, metaBytes}
 use Rattle.table.specs.Words.{lookup}
 use Rattle.compact.specs.Held.{headIn}
-use Rattle.shelf.specs.Shelf.{lent, Shelf, known, pushedAs, pushed}
+use Rattle.shelf.specs.Shelf.{shelfWith, Shelf, known, pushedAs, pushed}
 use Rattle.shelf.proofs.Acts.{found-as, known-as, checked-as, pushed-as}
 use borrow.Author.Needs.{needs}
 use Rattle.shelf.proofs.push.Statement.{statement}
@@ -25,7 +25,7 @@ use Rattle.shelf.proofs.push.Tie as tie
 -- what is known once the check has answered
 module _ (c : tie.After-check) where
   abbrev shelf : Shelf
-  shelf = let k = c .before .before .before .before .before .before .before .before .before .before .before .args in lent (now (k .table)) (k .ids) (now (k .arena)) (k .used)
+  shelf = let k = c .before .before .before .before .before .before .before .before .before .before .before .args in shelfWith (now (k .table)) (k .ids) (now (k .arena)) (k .used)
 
   abbrev id : ℤ
   id = toZ w64 (c .before .before .before .before .before .before .before .before .before .before .before .args .head .id)

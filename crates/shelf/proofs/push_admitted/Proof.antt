@@ -8,7 +8,7 @@ use Rattle.model.specs.Record.{claimOf}
 use Rattle.compact.specs.Held.{metaOf}
 use Rattle.compact.specs.Layout.{headBytes, metaBytes}
 use Rattle.compact.specs.Held.{headIn}
-use Rattle.shelf.specs.Shelf.{lent}
+use Rattle.shelf.specs.Shelf.{shelfWith}
 use Rattle.shelf.proofs.Acts.{room-as, floor-as, carried-as, push-room, push-full}
 use borrow.Author.Needs.{needs}
 use Rattle.shelf.proofs.push_admitted.Statement.{statement}
@@ -37,7 +37,7 @@ same-length-2 c = search needs
 
 returns : tie.Need-returns
 returns c = let k = c .before .before .before .before .before .before .before .before .before .before .before .before .before .before .before .before .before .args in
-    let s = lent (now (k .table)) (k .ids) (now (k .arena)) (k .used) in
+    let s = shelfWith (now (k .table)) (k .ids) (now (k .arena)) (k .used) in
     let id = toZ w64 (k .head .id) in
     let bytes = headBytes (k .kind) (headIn (k .kind) (k .head)) ++ metaBytes (metaOf (k .meta)) ++ now (k .parts) in
     let claim = claimOf (metaOf (k .meta)) in
@@ -51,7 +51,7 @@ same-length-3 c = search needs
 
 returns-2 : tie.Need-returns-2
 returns-2 c = let k = c .before .before .before .before .before .before .args in
-    let s = lent (now (k .table)) (k .ids) (now (k .arena)) (k .used) in
+    let s = shelfWith (now (k .table)) (k .ids) (now (k .arena)) (k .used) in
     let id = toZ w64 (k .head .id) in
     let bytes = headBytes (k .kind) (headIn (k .kind) (k .head)) ++ metaBytes (metaOf (k .meta)) ++ now (k .parts) in
     let claim = claimOf (metaOf (k .meta)) in

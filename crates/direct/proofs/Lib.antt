@@ -1,0 +1,5 @@
+pub mod Parts
+pub mod Answers
+pub mod Keeps
+pub mod First
+pub mod Witness

@@ -1,0 +1,75 @@
+-- 22, 3, or what the store answers.
+use mathlib.Core.Path.{sym, _∙_}
+use denote.Ref.{now}
+use Rattle.overlay.specs.Overlay.{Overlay, overlayOf}
+use Rattle.direct.proofs.Parts.{intern-unsound, intern-not-text, intern-text}
+use borrow.Author.Needs.{needs}
+use Rattle.direct.proofs.intern.Statement.{statement}
+use Rattle.direct.proofs.intern.Tie as tie
+
+-- the overlay as it was lent
+abbrev given : tie.Start → Overlay
+given s =
+    let k = s .args in
+    overlayOf (now (k .nids)) (now (k .narena)) (now (k .wids)) (now (k .warena)) (now (k .rids)) (now (k .rarena)) (now (k .spans)) (now (k .bytes)) (now (k .used))
+
+is-sound-requires : tie.Need-is-sound-requires
+is-sound-requires c κs = search needs
+
+is-text-requires : tie.Need-is-text-requires
+is-text-requires c κs = search needs
+
+store-text-requires : tie.Need-store-text-requires
+store-text-requires c κs = search needs
+
+same-length : tie.Need-same-length
+same-length c = search needs
+
+same-length-2 : tie.Need-same-length-2
+same-length-2 c = search needs
+
+returns : tie.Need-returns
+returns c =
+    let w = c .before .before .before .before .before .before .before .before in
+    let s = w .before .before .before .before .before .before .before .before .before .before .before .before .before .before .before .before in
+    intern-text (given s) (now (s .args .text)) (sym (w .before .before .before .is-sound .ensures) ∙ w .before .before .if1 .taken) (sym (w .before .is-text .ensures) ∙ w .if2 .taken) _
+    (c .before .before .before .before .store-text .ensures)
+
+same-length-3 : tie.Need-same-length-3
+same-length-3 c = search needs
+
+same-length-4 : tie.Need-same-length-4
+same-length-4 c = search needs
+
+returns-2 : tie.Need-returns-2
+returns-2 c =
+    let s = c .before .before .before .before .before .before .before .before .before .before .before .before .before .before .before .before in
+    intern-not-text (given s) (now (s .args .text)) (sym (c .before .before .before .is-sound .ensures) ∙ c .before .before .if1 .taken) (sym (c .before .is-text .ensures) ∙ c .if2 .left)
+
+same-length-5 : tie.Need-same-length-5
+same-length-5 c = search needs
+
+same-length-6 : tie.Need-same-length-6
+same-length-6 c = search needs
+
+returns-3 : tie.Need-returns-3
+returns-3 c =
+    let s = c .before .before .before .before .before .before .before .before .before .before .before .before .before .before in
+    intern-unsound (given s) (now (s .args .text)) (sym (c .before .is-sound .ensures) ∙ c .if1 .left)
+
+pub intern-spec : {M : Type 1} → statement M
+intern-spec =
+    tie.close
+    (tie.spec
+    is-sound-requires
+    is-text-requires
+    store-text-requires
+    same-length
+    same-length-2
+    returns
+    same-length-3
+    same-length-4
+    returns-2
+    same-length-5
+    same-length-6
+    returns-3)

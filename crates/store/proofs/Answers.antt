@@ -1,0 +1,43 @@
+-- What each answer of the store means, and which refusals there are.
+use Prim.Native.Nat.{ℕ}
+use mathlib.Core.Path.{_≡_, refl}
+use lib.IntN.{ℤ}
+use Rattle.base.specs.Bytes.{Bytes}
+use Rattle.base.proofs.Split.{no}
+use Rattle.kind.specs.declared.Kind.{Kind}
+use Rattle.version_floor.specs.declared.Version.{Version}
+use Rattle.refusal.specs.declared.Refusal.{Refusal}
+use Rattle.refusal.specs.declared.Refusal.the-variants as R
+use Rattle.interner.specs.declared.Interned.{Interned}
+use Rattle.interner.specs.declared.Interned.the-variants as I
+use Rattle.shelf.specs.Shelf.{Shelf}
+use Rattle.shelf.specs.Shelf as Shelf
+use Rattle.shelf.specs.declared.Kept.the-variants.{Refused}
+use Rattle.shelf.proofs.Answers as Shelves
+use Rattle.store.specs.Calls.{handleIn}
+use Rattle.store.specs.declared.Handle.{Handle}
+use Rattle.store.specs.declared.Handle.the-variants as H
+
+-- a text has a handle or is refused
+pub byHandle : {C : Type 0} (x : Handle) → ((n : ℕ) → x ≡ H.Is n → C) → ((r : Refusal) → x ≡ H.Refused r → C) → C
+byHandle (H.Is n) f g = f n refl
+byHandle (H.Refused r) f g = g r refl
+
+-- 13 is that the strings are full
+pub is-full : (i : Interned) (r : Refusal) → handleIn i ≡ H.Refused r → (i ≡ I.Full) × (r ≡ R.StringsFull)
+is-full (I.Held h) r e = no (cc)
+is-full (I.New h) r e = no (cc)
+is-full I.Full r e = (refl, cc)
+
+-- the store gives 12, 14 or 15
+module _ {C : Type 0} (k : Kind) (setting : ℕ) (s : Shelf) (id : ℤ) (claim : Version) where
+  pub byPushed : (bytes : Bytes) (r : Refusal) → Shelf.pushed k setting s id claim bytes .answer ≡ Refused r
+      → ((v : ℤ) → r ≡ R.Regression v → C) → (r ≡ R.IdsFull → C) → (r ≡ R.ArenaFull → C) → C
+  byPushed bytes r e a b c =
+      Shelves.byPush k setting s id claim bytes (λ v q w. let z = Shelves.answered w e in a v (cc)) (λ q x w. let z = Shelves.answered w e in b (cc))
+      (λ q x l w. let z = Shelves.answered w e in c (cc)) (λ q x l w. let z = Shelves.answered w e in no (cc))
+
+  pub byDeleted : (r : Refusal) → Shelf.deleted k setting s id claim .answer ≡ Refused r → ((v : ℤ) → r ≡ R.Regression v → C) → (r ≡ R.IdsFull → C) → C
+  byDeleted r e a b =
+      Shelves.byDelete k setting s id claim (λ v q w. let z = Shelves.answered w e in a v (cc)) (λ q x w. let z = Shelves.answered w e in b (cc))
+      (λ q x w. let z = Shelves.answered w e in no (cc))

@@ -1,0 +1,54 @@
+-- Document 01, the table's row "store", of a text, a push and a delete: what each leaves, and what it answers. Soundness and what is given are tested before it.
+use mathlib.Core.List.{_++_}
+use lib.IntN.{ℤ}
+use mir.Syntax.{w64}
+use mir.Val.{toZ}
+use Rattle.base.specs.Bytes.{Bytes}
+use Rattle.kind.specs.declared.Kind.{Kind}
+use Rattle.version_floor.specs.declared.Version.{Version}
+use Rattle.refusal.specs.declared.Refusal.the-variants as R
+use Rattle.model.specs.Record.{claimOf}
+use Rattle.compact.specs.Layout.{headBytes, metaBytes}
+use Rattle.compact.specs.Held.{metaOf, headIn}
+use Rattle.compact.specs.declared.ArenaMeta.{ArenaMeta}
+use Rattle.compact.specs.declared.PushHead.{PushHead}
+use Rattle.interner.specs.Strings as Strings
+use Rattle.interner.specs.declared.Interned.{Interned}
+use Rattle.interner.specs.declared.Interned.the-variants as I
+use Rattle.shelf.specs.Shelf as Shelf
+use Rattle.overlay.specs.Overlay.{Overlay, shelfOf, withShelf, withTexts}
+use Rattle.overlay.specs.Calls.{After}
+use Rattle.store.specs.declared.Handle.{Handle}
+use Rattle.store.specs.declared.Handle.the-variants as H
+
+-- ---- a text: 13, or its handle
+
+pub record Interning : Type 0 where
+  pub overlay : Overlay
+  pub answer : Handle
+
+abbrev pub handleIn : Interned → Handle
+handleIn (I.Held h) = H.Is h
+handleIn (I.New h) = H.Is h
+handleIn I.Full = H.Refused R.StringsFull
+
+abbrev pub storeText : Bytes → Overlay → Interning
+storeText t o = record { overlay = withTexts (Strings.intern (o .texts) t .store) o; answer = handleIn (Strings.intern (o .texts) t .answer) }
+
+-- ---- a push: 12, 14, 15
+
+-- what is done to one kind
+abbrev pub onShelf : Kind → Overlay → Shelf.After → After
+onShelf k o a = record { overlay = withShelf k (a .shelf) o; answer = a .answer }
+
+-- the bytes of a push: head, metadata, parts
+abbrev pub bytesOf : Kind → PushHead → ArenaMeta → Bytes → Bytes
+bytesOf k h m parts = headBytes k (headIn k h) ++ metaBytes (metaOf m) ++ parts
+
+abbrev pub storePush : Kind → PushHead → ArenaMeta → Bytes → Overlay → After
+storePush k h m parts o = onShelf k o (Shelf.pushed k (o .setting) (shelfOf k o) (toZ w64 (h .id)) (claimOf (metaOf m)) (bytesOf k h m parts))
+
+-- ---- a delete: 12, 14
+
+abbrev pub storeDelete : Kind → ℤ → Version → Overlay → After
+storeDelete k id claim o = onShelf k o (Shelf.deleted k (o .setting) (shelfOf k o) id claim)

@@ -1,0 +1,168 @@
+// The store's row of the table, over the nine lent parts and with no test of soundness: 13 for a text, 12, 14, 15 for a push, 12, 14 for a delete.
+// A caller makes the tests of the rows before it first.
+ghost use mathlib.Core.Path.{_≡_};
+ghost use Prim.Native.Nat.{_+_, _<_};
+ghost use lib.ListN.{length, set};
+ghost use mir.Syntax.{w64};
+ghost use mir.Val.{toZ};
+ghost use Rattle.model.specs.Record.{claimOf};
+ghost use Rattle.compact.specs.Held.{metaOf};
+ghost use Rattle.shelf.specs.Shelf.{pushed, deleted};
+ghost use Rattle.overlay.specs.Overlay.{lent, left};
+ghost use Rattle.store.specs.Lent.{shelfLent, shelfLeft, settingIn, othersKept};
+ghost use Rattle.store.specs.Calls.{bytesOf, storePush, storeDelete, handleIn, storeText};
+use compact::ArenaMeta;
+use compact::PushHead;
+use interner::Interned;
+use kind::Kind;
+use refusal::Refusal;
+use shelf::Kept;
+use version_floor::Version;
+
+// What `intern` answers: the text's handle, or a refusal.
+pub enum Handle {
+    Is(u64),
+    Refused(Refusal),
+}
+
+// Writes two counters.
+fn put_two(used: &mut [u64], i: usize, a: u64, j: usize, b: u64)
+    requires { ⌜ (i < length (now used)) × (j < length (now used)) ⌝ }
+    ensures { λ _. ⌜ now (used .exit) ≡ set (set (now (used .entry)) i a) j b ⌝ }
+{
+    used[i] = a;
+    used[j] = b;
+}
+
+// ---- a text
+
+fn handle_in(answer: Interned) -> Handle
+    ensures { λ r. ⌜ r ≡ handleIn answer ⌝ }
+{
+    match answer {
+        Interned::Held(h) => Handle::Is(h),
+        Interned::New(h) => Handle::Is(h),
+        Interned::Full => Handle::Refused(Refusal::StringsFull),
+    }
+}
+
+// Takes a text in: 13, or its handle.
+pub fn store_text(
+    nids: &[u64],
+    narena: &[u8],
+    wids: &[u64],
+    warena: &[u8],
+    rids: &[u64],
+    rarena: &[u8],
+    spans: &mut [u64],
+    bytes: &mut [u8],
+    used: &mut [u64; 9],
+    text: &[u8],
+) -> Handle
+    ensures { λ r. ⌜ record { overlay = left nids narena wids warena rids rarena spans bytes used; answer = r }
+        ≡ storeText (now (text .entry)) (lent nids narena wids warena rids rarena spans bytes used) ⌝ }
+{
+    let taken = interner::intern(spans, bytes, used[6], used[7], text);
+    put_two(used, 6, taken.strings, 7, taken.used);
+    let answer = taken.answer;
+    handle_in(answer)
+}
+
+// ---- a push
+
+// On the kind whose counters stand at `at` and three behind it: 12, 14, 15, or taken.
+fn push_at(
+    at: usize,
+    kind: Kind,
+    table: &mut [u64],
+    arena: &mut [u8],
+    used: &mut [u64; 9],
+    head: PushHead,
+    meta: ArenaMeta,
+    parts: &[u8],
+) -> Kept
+    requires { ⌜ at < 3 ⌝ }
+    ensures { λ r. ⌜ (record { shelf = shelfLeft at table arena used; answer = r }
+        ≡ pushed kind (settingIn used) (shelfLent at table arena used) (toZ w64 (head .id)) (claimOf (metaOf meta)) (bytesOf kind head meta (now (parts .entry))))
+        × othersKept at used ⌝ }
+{
+    let ids = used[at];
+    let end = used[at + 3];
+    let o = shelf::push(kind, used[8], table, ids, arena, end, head, meta, parts);
+    put_two(used, at, o.ids, at + 3, o.used);
+    o.answer
+}
+
+// A push whose record is legal: 12, 14, 15, or taken.
+pub fn store_push(
+    nids: &mut [u64],
+    narena: &mut [u8],
+    wids: &mut [u64],
+    warena: &mut [u8],
+    rids: &mut [u64],
+    rarena: &mut [u8],
+    spans: &[u64],
+    bytes: &[u8],
+    used: &mut [u64; 9],
+    kind: Kind,
+    head: PushHead,
+    meta: ArenaMeta,
+    parts: &[u8],
+) -> Kept
+    ensures { λ r. ⌜ record { overlay = left nids narena wids warena rids rarena spans bytes used; answer = r }
+        ≡ storePush kind head meta (now (parts .entry)) (lent nids narena wids warena rids rarena spans bytes used) ⌝ }
+{
+    match kind {
+        Kind::Node => push_at(0, kind, nids, narena, used, head, meta, parts),
+        Kind::Way => push_at(1, kind, wids, warena, used, head, meta, parts),
+        Kind::Relation => push_at(2, kind, rids, rarena, used, head, meta, parts),
+    }
+}
+
+// ---- a delete
+
+// On the kind whose counters stand at `at` and three behind it: 12, 14, or taken.
+fn delete_at(
+    at: usize,
+    kind: Kind,
+    table: &mut [u64],
+    arena: &[u8],
+    used: &mut [u64; 9],
+    id: u64,
+    claim: Version,
+) -> Kept
+    requires { ⌜ at < 3 ⌝ }
+    ensures { λ r. ⌜ (record { shelf = shelfLeft at table arena used; answer = r } ≡ deleted kind (settingIn used) (shelfLent at table arena used) (toZ w64 id) claim)
+        × othersKept at used ⌝ }
+{
+    let ids = used[at];
+    let end = used[at + 3];
+    let o = shelf::delete(kind, used[8], table, ids, arena, end, id, claim);
+    put_two(used, at, o.ids, at + 3, o.used);
+    o.answer
+}
+
+// A delete whose metadata is legal: 12, 14, or taken.
+pub fn store_delete(
+    nids: &mut [u64],
+    narena: &[u8],
+    wids: &mut [u64],
+    warena: &[u8],
+    rids: &mut [u64],
+    rarena: &[u8],
+    spans: &[u64],
+    bytes: &[u8],
+    used: &mut [u64; 9],
+    kind: Kind,
+    id: u64,
+    claim: Version,
+) -> Kept
+    ensures { λ r. ⌜ record { overlay = left nids narena wids warena rids rarena spans bytes used; answer = r }
+        ≡ storeDelete kind (toZ w64 id) claim (lent nids narena wids warena rids rarena spans bytes used) ⌝ }
+{
+    match kind {
+        Kind::Node => delete_at(0, kind, nids, narena, used, id, claim),
+        Kind::Way => delete_at(1, kind, wids, warena, used, id, claim),
+        Kind::Relation => delete_at(2, kind, rids, rarena, used, id, claim),
+    }
+}
