@@ -1,4 +1,4 @@
-pub mod Reader
+pub mod State
 pub mod Step
-pub mod Hear
+pub mod Event
 pub mod Means
