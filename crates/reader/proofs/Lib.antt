@@ -1,0 +1,9 @@
+pub mod Answers
+pub mod Small
+pub mod Texts
+pub mod Element
+pub mod Acts
+pub mod Held
+pub mod Legals
+pub mod Steps
+pub mod Advances

@@ -1,4 +1,5 @@
 pub mod State
+pub mod Given
 pub mod Step
 pub mod Event
 pub mod Means
