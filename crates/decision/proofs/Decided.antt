@@ -185,7 +185,7 @@ module _ (p : Place) where
   closes-so L.Other a h = refl
   closes-so L.Done a h = refl
 
-  decides-so : {x : Reading} {d : Decision} → Decides p x d → decideReading x p ≡ d
+  pub decides-so : {x : Reading} {d : Decision} → Decides p x d → decideReading x p ≡ d
   unfolding decideEvent
   decides-so bad-line = refl
   decides-so (start {e = e} {attrs = attrs} s) = starts-so e attrs s

@@ -69,21 +69,21 @@ delete-lawful A.Create p q d k h = h
 delete-lawful A.Modify p q d k h = h
 delete-lawful A.Delete p q d k h = k
 
+got-first : {b c : Body Bytes} {k : Kind} → _≡_ {A = Field (Body Bytes)} (got b) (got c) → First b × (kindOf b ≡ k) → First c × (kindOf c ≡ k)
+got-first {b} {c} e f = let q : b ≡ c = cc in rw q at f
+
+pub body-first : (attrs : List Attr) (k : Kind) {b : Body Bytes} → bodyFor k attrs ≡ got b → First b × (kindOf b ≡ k)
+body-first attrs K.Node e =
+    let x = then-got _ (latitude attrs) e in
+    let y = then-got _ (longitude attrs) (x .1 .1) in
+    got-first (y .1 .1) ((latitude-fits attrs (x .1 .0), longitude-fits attrs (y .1 .0)), refl)
+body-first attrs K.Way e = got-first e (refl, refl)
+body-first attrs K.Relation e = got-first e (refl, refl)
+
 module _ (attrs : List Attr) (h : all (λ (a : Attr). isText (a .value)) attrs ≡ true) where
   given : {id : ℤ} {m : Meta Bytes} → idOf attrs ≡ got id → metaOf attrs ≡ got m → Given id m
   unfolding idOf
   given a b = record { fits = integer-fits (ascii "id") attrs w64 a; legal = meta-legal attrs b; user = meta-user isText attrs text-nil h b }
-
-  got-first : {b c : Body Bytes} {k : Kind} → _≡_ {A = Field (Body Bytes)} (got b) (got c) → First b × (kindOf b ≡ k) → First c × (kindOf c ≡ k)
-  got-first {b} {c} e f = let q : b ≡ c = cc in rw q at f
-
-  first : (k : Kind) {b : Body Bytes} → bodyFor k attrs ≡ got b → First b × (kindOf b ≡ k)
-  first K.Node e =
-      let x = then-got _ (latitude attrs) e in
-      let y = then-got _ (longitude attrs) (x .1 .1) in
-      got-first (y .1 .1) ((latitude-fits attrs (x .1 .0), longitude-fits attrs (y .1 .0)), refl)
-  first K.Way e = got-first e (refl, refl)
-  first K.Relation e = got-first e (refl, refl)
 
   begun-kind : (e : Bool) (k : Kind) (p q : Place) → q ≡ cond e p (record { level = L.Element; section = p .section; kind = k }) → q .kind ≡ cond e (p .kind) k
   begun-kind true k p q l = ap (λ (x : Place). x .kind) l
@@ -94,7 +94,7 @@ module _ (attrs : List Attr) (h : all (λ (a : Attr). isText (a .value)) attrs �
       field-lawful p (idOf attrs) _ (λ id a.
       field-lawful p (metaOf attrs) _ (λ m b.
       field-lawful p (bodyFor k attrs) _ (λ x c.
-      let f = first k c in
+      let f = body-first attrs k c in
       let z : q .kind ≡ cond e (p .kind) (kindOf x) = rw (f .1) (begun-kind e k p q l) in
       (given a b, (f .0, z)))))
 
