@@ -1,0 +1,4 @@
+pub mod Turns
+pub mod Elements
+pub mod Changes
+pub mod Calls

@@ -17,6 +17,7 @@ use Rattle.refusal.specs.declared.Refusal.{Refusal}
 use Rattle.kind.specs.declared.Kind.{Kind}
 use Rattle.kind.specs.declared.Kind.the-variants as K
 use Rattle.nesting.specs.Name.{nameOf}
+use Rattle.nesting.specs.declared.Name.{Name}
 use Rattle.nesting.specs.Nesting.{opened, closed}
 use Rattle.nesting.specs.declared.Action.{Action}
 use Rattle.nesting.specs.declared.Action.the-variants as A
@@ -68,21 +69,21 @@ delete-lawful A.Create p q d k h = h
 delete-lawful A.Modify p q d k h = h
 delete-lawful A.Delete p q d k h = k
 
+got-first : {b c : Body Bytes} {k : Kind} → _≡_ {A = Field (Body Bytes)} (got b) (got c) → First b × (kindOf b ≡ k) → First c × (kindOf c ≡ k)
+got-first {b} {c} e f = let q : b ≡ c = cc in rw q at f
+
+pub body-first : (attrs : List Attr) (k : Kind) {b : Body Bytes} → bodyFor k attrs ≡ got b → First b × (kindOf b ≡ k)
+body-first attrs K.Node e =
+    let x = then-got _ (latitude attrs) e in
+    let y = then-got _ (longitude attrs) (x .1 .1) in
+    got-first (y .1 .1) ((latitude-fits attrs (x .1 .0), longitude-fits attrs (y .1 .0)), refl)
+body-first attrs K.Way e = got-first e (refl, refl)
+body-first attrs K.Relation e = got-first e (refl, refl)
+
 module _ (attrs : List Attr) (h : all (λ (a : Attr). isText (a .value)) attrs ≡ true) where
   given : {id : ℤ} {m : Meta Bytes} → idOf attrs ≡ got id → metaOf attrs ≡ got m → Given id m
   unfolding idOf
   given a b = record { fits = integer-fits (ascii "id") attrs w64 a; legal = meta-legal attrs b; user = meta-user isText attrs text-nil h b }
-
-  got-first : {b c : Body Bytes} {k : Kind} → _≡_ {A = Field (Body Bytes)} (got b) (got c) → First b × (kindOf b ≡ k) → First c × (kindOf c ≡ k)
-  got-first {b} {c} e f = let q : b ≡ c = cc in rw q at f
-
-  first : (k : Kind) {b : Body Bytes} → bodyFor k attrs ≡ got b → First b × (kindOf b ≡ k)
-  first K.Node e =
-      let x = then-got _ (latitude attrs) e in
-      let y = then-got _ (longitude attrs) (x .1 .1) in
-      got-first (y .1 .1) ((latitude-fits attrs (x .1 .0), longitude-fits attrs (y .1 .0)), refl)
-  first K.Way e = got-first e (refl, refl)
-  first K.Relation e = got-first e (refl, refl)
 
   begun-kind : (e : Bool) (k : Kind) (p q : Place) → q ≡ cond e p (record { level = L.Element; section = p .section; kind = k }) → q .kind ≡ cond e (p .kind) k
   begun-kind true k p q l = ap (λ (x : Place). x .kind) l
@@ -93,7 +94,7 @@ module _ (attrs : List Attr) (h : all (λ (a : Attr). isText (a .value)) attrs �
       field-lawful p (idOf attrs) _ (λ id a.
       field-lawful p (metaOf attrs) _ (λ m b.
       field-lawful p (bodyFor k attrs) _ (λ x c.
-      let f = first k c in
+      let f = body-first attrs k c in
       let z : q .kind ≡ cond e (p .kind) (kindOf x) = rw (f .1) (begun-kind e k p q l) in
       (given a b, (f .0, z)))))
 
@@ -118,12 +119,12 @@ module _ (attrs : List Attr) (h : all (λ (a : Attr). isText (a .value)) attrs �
       field-lawful p (memberOf attrs) _ (λ m e. let g = member-got attrs m .0 e in
       delete-lawful a p q (joins q m) k (k, (l, (member-fits attrs e, rw (g .1 .1) (role-text (valueOf (ascii "role") attrs) refl)))))
 
-  opened-lawful : (o : Opened) (e : Bool) (a : Action) (p : Place) → Leads e p o → Lawful p (decideOpened o e a attrs)
-  opened-lawful O.Misplaced e a p l = tt
-  opened-lawful O.OutsideSection e a p l = tt
-  opened-lawful (O.Goes q) e a p l = l
-  opened-lawful (O.Begins k q) e a p l = element-lawful a e k p q l
-  opened-lawful (O.Holds c q) e a p l = child-lawful c a p q (l .0) (l .1)
+  opened-lawful : (o : Opened) (e : Bool) (a : Action) (n : Name) (p : Place) → Leads e n p o → Lawful p (decideOpened o e a attrs)
+  opened-lawful O.Misplaced e a n p l = tt
+  opened-lawful O.OutsideSection e a n p l = tt
+  opened-lawful (O.Goes q) e a n p l = l .kind
+  opened-lawful (O.Begins k q) e a n p l = element-lawful a e k p q (l .leads-to)
+  opened-lawful (O.Holds c q) e a n p l = child-lawful c a p q (l .kind) (l .child-of)
 
 closed-lawful : (l : Level) (a : Action) (p : Place) → Lawful p (decideClosed l a (closed p))
 closed-lawful L.Element a p = delete-lawful a p (closed p) (ends (closed p)) (closed-kind p) (closed-kind p)
@@ -136,7 +137,7 @@ closed-lawful L.Done a p = closed-kind p
 
 event-lawful : (line : Bytes) (e : Event) (p : Place) → eventOf line ≡ reads e → Lawful p (decideEvent e p)
 unfolding decideEvent
-event-lawful line (starts empty n attrs) p q = opened-lawful attrs (values-text line empty n attrs q) (opened empty (nameOf n) p) empty (p .section) p (leads empty (nameOf n) p)
+event-lawful line (starts empty n attrs) p q = opened-lawful attrs (values-text line empty n attrs q) (opened empty (nameOf n) p) empty (p .section) (nameOf n) p (leads empty (nameOf n) p)
 event-lawful line closes p q = closed-lawful (p .level) (p .section) p
 event-lawful line others p q = refl
 
