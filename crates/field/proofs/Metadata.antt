@@ -27,8 +27,8 @@ use Rattle.stamp.proofs.Bounds.{stamp-fits}
 use Rattle.version_floor.specs.declared.Version.the-variants.{Absent, Is}
 use Rattle.model.specs.Record.{Meta, flagged, claimOf}
 use Rattle.event.specs.Event.{Attr, named}
-use Rattle.acts.specs.Field.{Field, got, bad, andThen, orElse, noMeta, mark, withVersion, withTimestamp, withChangeset, withUid, withUser, withVisible, metaWith, metaFrom, metaOf}
-use Rattle.acts.proofs.Fields.{then-got, then-bad, byField}
+use Rattle.field.specs.Field.{Field, got, bad, andThen, orElse, noMeta, mark, withVersion, withTimestamp, withChangeset, withUid, withUser, withVisible, metaWith, metaFrom, metaOf}
+use Rattle.field.proofs.Fields.{then-got, then-bad, byField}
 
 -- ---- flags
 
@@ -231,40 +231,40 @@ flag-step (other s) h b = rw (s b)
 
 -- the first attribute at fault gives the refusal: "metadata in line order"
 pub data FirstFault : List Attr → Refusal → Type 0 where
-  here : {a : Attr} {as1 : List Attr} {r : Refusal} → Fault a r → FirstFault (a ∷ as1) r
-  later : {a : Attr} {as1 : List Attr} {r : Refusal} → ((x : Refusal) → Fault a x → ⊥) → FirstFault as1 r → FirstFault (a ∷ as1) r
+  here : {a : Attr} {attrs : List Attr} {r : Refusal} → Fault a r → FirstFault (a ∷ attrs) r
+  later : {a : Attr} {attrs : List Attr} {r : Refusal} → ((x : Refusal) → Fault a x → ⊥) → FirstFault attrs r → FirstFault (a ∷ attrs) r
 
 no-fault : {r : Refusal} → FirstFault [] r → ⊥
 no-fault t = elim t [ ]
 
-first-fault : {a : Attr} {as1 : List Attr} {r : Refusal} → FirstFault (a ∷ as1) r → Fault a r ⊎ (((x : Refusal) → Fault a x → ⊥) × FirstFault as1 r)
+first-fault : {a : Attr} {attrs : List Attr} {r : Refusal} → FirstFault (a ∷ attrs) r → Fault a r ⊎ (((x : Refusal) → Fault a x → ⊥) × FirstFault attrs r)
 first-fault (here b) = inl b
 first-fault (later h t) = inr (h, t)
 
-pub from-bad : (m : Meta Bytes) (as1 : List Attr) (r : Refusal) → (metaFrom m as1 ≡ bad r) ↔ FirstFault as1 r
+pub from-bad : (m : Meta Bytes) (attrs : List Attr) (r : Refusal) → (metaFrom m attrs ≡ bad r) ↔ FirstFault attrs r
 unfolding metaFrom
 from-bad m [] r = (λ e. no (cc), λ t. absurd (no-fault t))
-from-bad m (a ∷ as1) r = (
+from-bad m (a ∷ attrs) r = (
   λ e. ⊎-elim
       (λ b. here (with-bad m a r .0 b))
-      (λ t. later (λ x b. no (cc (with-bad m a x .1 b, t .1 .0))) (from-bad (t .0) as1 r .0 (t .1 .1)))
+      (λ t. later (λ x b. no (cc (with-bad m a x .1 b, t .1 .0))) (from-bad (t .0) attrs r .0 (t .1 .1)))
       (then-bad _ (metaWith m a) r .0 e),
   λ t. ⊎-elim
       (λ b. rw (with-bad m a r .1 b))
-      (λ s. byField (metaWith m a) (λ n e. rw e (from-bad n as1 r .1 (s .1))) (λ x e. absurd (s .0 x (with-bad m a x .0 e))))
+      (λ s. byField (metaWith m a) (λ n e. rw e (from-bad n attrs r .1 (s .1))) (λ x e. absurd (s .0 x (with-bad m a x .0 e))))
       (first-fault t),
 )
 
-pub meta-bad : (as1 : List Attr) (r : Refusal) → (metaOf as1 ≡ bad r) ↔ FirstFault as1 r
+pub meta-bad : (attrs : List Attr) (r : Refusal) → (metaOf attrs ≡ bad r) ↔ FirstFault attrs r
 unfolding metaOf
-meta-bad as1 r = from-bad noMeta as1 r
+meta-bad attrs r = from-bad noMeta attrs r
 
 -- what each attribute that is taken keeps, all of them keep
 module _ (P : Meta Bytes → Type 0) (step : (m n : Meta Bytes) (a : Attr) → Took m a n → P m → P n) where
-  pub from-keeps : (m : Meta Bytes) (as1 : List Attr) {n : Meta Bytes} → metaFrom m as1 ≡ got n → P m → P n
+  pub from-keeps : (m : Meta Bytes) (attrs : List Attr) {n : Meta Bytes} → metaFrom m attrs ≡ got n → P m → P n
   unfolding metaFrom
   from-keeps m [] {n} e p = let q : m ≡ n = cc in rw q at p
-  from-keeps m (a ∷ as1) e p = let t = then-got _ (metaWith m a) e in from-keeps (t .0) as1 (t .1 .1) (step m (t .0) a (with-got m a (t .1 .0)) p)
+  from-keeps m (a ∷ attrs) e p = let t = then-got _ (metaWith m a) e in from-keeps (t .0) attrs (t .1 .1) (step m (t .0) a (with-got m a (t .1 .0)) p)
 
 -- ---- legal metadata
 
@@ -355,16 +355,16 @@ legal-step m n a (visible {v = v}) l =
     (l .version-fits) (l .timestamp-fits) (l .changeset-fits) (l .uid-fits)
 legal-step m n a (other h) l = l
 
-pub meta-legal : (as1 : List Attr) {m : Meta Bytes} → metaOf as1 ≡ got m → Legal m
+pub meta-legal : (attrs : List Attr) {m : Meta Bytes} → metaOf attrs ≡ got m → Legal m
 unfolding metaOf
-meta-legal as1 e = from-keeps Legal legal-step noMeta as1 e no-legal
+meta-legal attrs e = from-keeps Legal legal-step noMeta attrs e no-legal
 
 -- ---- which flags are set
 
 -- some attribute passes a test
 unfoldable pub any : (Attr → Bool) → List Attr → Bool
 any p [] = false
-any p (a ∷ as1) = either (p a) (any p as1)
+any p (a ∷ attrs) = either (p a) (any p attrs)
 
 either-swap : (x y z : Bool) → either x (either y z) ≡ either (either y x) z
 unfolding either
@@ -378,19 +378,19 @@ unfolding either
 either-none true = refl
 either-none false = refl
 
-from-flags : (m : Meta Bytes) (as1 : List Attr) {n : Meta Bytes} → m .flags ≤ 15 → metaFrom m as1 ≡ got n
-    → (b : Flag) → flagged (bitOf b) (n .flags) ≡ either (any (sets b) as1) (flagged (bitOf b) (m .flags))
+from-flags : (m : Meta Bytes) (attrs : List Attr) {n : Meta Bytes} → m .flags ≤ 15 → metaFrom m attrs ≡ got n
+    → (b : Flag) → flagged (bitOf b) (n .flags) ≡ either (any (sets b) attrs) (flagged (bitOf b) (m .flags))
 unfolding metaFrom any either
 from-flags m [] {n} h e b = let q : m ≡ n = cc in rw q
-from-flags m (a ∷ as1) h e b =
+from-flags m (a ∷ attrs) h e b =
     let t = then-got _ (metaWith m a) e in
     let k = with-got m a (t .1 .0) in
-    from-flags (t .0) as1 (small-step k h) (t .1 .1) b ∙ ap (either (any (sets b) as1)) (flag-step k h b) ∙ either-swap (any (sets b) as1) (sets b a) _
+    from-flags (t .0) attrs (small-step k h) (t .1 .1) b ∙ ap (either (any (sets b) attrs)) (flag-step k h b) ∙ either-swap (any (sets b) attrs) (sets b a) _
 
 -- a flag is set exactly when an attribute sets it
-pub meta-flags : (as1 : List Attr) {m : Meta Bytes} → metaOf as1 ≡ got m → (b : Flag) → flagged (bitOf b) (m .flags) ≡ any (sets b) as1
+pub meta-flags : (attrs : List Attr) {m : Meta Bytes} → metaOf attrs ≡ got m → (b : Flag) → flagged (bitOf b) (m .flags) ≡ any (sets b) attrs
 unfolding metaOf flagged
-meta-flags as1 e b = from-flags noMeta as1 (omega arith) e b ∙ ap (either (any (sets b) as1)) (none-set b) ∙ either-none (any (sets b) as1)
+meta-flags attrs e b = from-flags noMeta attrs (omega arith) e b ∙ ap (either (any (sets b) attrs)) (none-set b) ∙ either-none (any (sets b) attrs)
   where
     none-set : (b : Flag) → flagged (bitOf b) 0 ≡ false
     none-set present = refl
@@ -401,20 +401,20 @@ meta-flags as1 e b = from-flags noMeta as1 (omega arith) e b ∙ ap (either (any
 same-swap : (xs ys : Bytes) → same xs ys ≡ same ys xs
 same-swap xs ys = same-test _ _ (λ e. rw (same-yes xs ys e) (same-refl ys)) (λ e. rw (same-yes ys xs e) (same-refl xs))
 
-pub any-named : (n : Bytes) (as1 : List Attr) → any (λ a. same (a .name) n) as1 ≡ named n as1
+pub any-named : (n : Bytes) (attrs : List Attr) → any (λ a. same (a .name) n) attrs ≡ named n attrs
 unfolding any named either
 any-named n [] = refl
-any-named n (a ∷ as1) = rw (same-swap (a .name) n) (byBool (same n (a .name)) (λ t. rw t) (λ t. rw t (any-named n as1)))
+any-named n (a ∷ attrs) = rw (same-swap (a .name) n) (byBool (same n (a .name)) (λ t. rw t) (λ t. rw t (any-named n attrs)))
 
 -- "It claims the version it gives": a version is claimed exactly when there is an attribute `version`
-pub meta-claim : (as1 : List Attr) {m : Meta Bytes} → metaOf as1 ≡ got m → claimOf m ≡ cond (named (ascii "version") as1) (Is (m .version)) Absent
+pub meta-claim : (attrs : List Attr) {m : Meta Bytes} → metaOf attrs ≡ got m → claimOf m ≡ cond (named (ascii "version") attrs) (Is (m .version)) Absent
 unfolding claimOf
-meta-claim as1 {m} e = ap (λ (t : Bool). cond t (Is (m .version)) Absent) (meta-flags as1 e hasVersion ∙ any-named (ascii "version") as1)
+meta-claim attrs {m} e = ap (λ (t : Bool). cond t (Is (m .version)) Absent) (meta-flags attrs e hasVersion ∙ any-named (ascii "version") attrs)
 
 -- what holds of every attribute's value, and of the empty text, holds of the user
-pub meta-user : (p : Bytes → Bool) (as1 : List Attr) {m : Meta Bytes} → p [] ≡ true → all (λ a. p (a .value)) as1 ≡ true → metaOf as1 ≡ got m → p (m .user) ≡ true
+pub meta-user : (p : Bytes → Bool) (attrs : List Attr) {m : Meta Bytes} → p [] ≡ true → all (λ a. p (a .value)) attrs ≡ true → metaOf attrs ≡ got m → p (m .user) ≡ true
 unfolding metaOf metaFrom
-meta-user p as1 h k e = go noMeta as1 h k e
+meta-user p attrs h k e = go noMeta attrs h k e
   where
     step : {m n : Meta Bytes} {a : Attr} → Took m a n → p (a .value) ≡ true → p (m .user) ≡ true → p (n .user) ≡ true
     step (version e) v h = h
@@ -425,8 +425,8 @@ meta-user p as1 h k e = go noMeta as1 h k e
     step visible v h = h
     step (other s) v h = h
 
-    go : (m : Meta Bytes) (as1 : List Attr) {n : Meta Bytes} → p (m .user) ≡ true → all (λ a. p (a .value)) as1 ≡ true → metaFrom m as1 ≡ got n → p (n .user) ≡ true
+    go : (m : Meta Bytes) (attrs : List Attr) {n : Meta Bytes} → p (m .user) ≡ true → all (λ a. p (a .value)) attrs ≡ true → metaFrom m attrs ≡ got n → p (n .user) ≡ true
     go m [] {n} h k e = let q : m ≡ n = cc in rw q at h
-    go m (a ∷ as1) h k e =
+    go m (a ∷ attrs) h k e =
         let t = then-got _ (metaWith m a) e in
-        go (t .0) as1 (step (with-got m a (t .1 .0)) (all-head _ a as1 k) h) (all-tail _ a as1 k) (t .1 .1)
+        go (t .0) attrs (step (with-got m a (t .1 .0)) (all-head _ a attrs k) h) (all-tail _ a attrs k) (t .1 .1)

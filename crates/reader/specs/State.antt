@@ -1,13 +1,16 @@
 -- A reader in storage, with the overlay that it reads into and the bytes that are lent for the parts of its element.
-use Prim.Native.Nat.{ℕ, _+_, _*_, _-_, _^_}
+use Prim.Native.Nat.{ℕ, _+_, _*_, _-_}
 use mathlib.Core.Bool.{Bool, true, false}
-use mathlib.Core.List.{List}
+use mathlib.Core.Option.{Option}
 use lib.Dec.{leb, ltb}
 use lib.ListN.{length, take}
 use Rattle.base.specs.Bytes.{Bytes, both}
+use Rattle.refusal.specs.Refusal.{numberOf}
+use Rattle.refusal.specs.declared.Refusal.{Refusal}
 use Rattle.kind.specs.declared.Kind.{Kind}
 use Rattle.kind.specs.declared.Kind.the-variants.{Node, Way, Relation}
 use Rattle.nesting.specs.Nesting.{start}
+use Rattle.model.specs.Record.{Record}
 use Rattle.compact.specs.Cut.{pushedRecord}
 use Rattle.compact.specs.Held.{metaOf, headIn}
 use Rattle.compact.specs.declared.ArenaMeta.{ArenaMeta}
@@ -18,18 +21,41 @@ use Rattle.legal.specs.declared.Fault.the-variants as F
 use Rattle.overlay.specs.Overlay.{Overlay}
 use Rattle.overlay.specs.Sound.{isSound}
 use Rattle.reader.specs.declared.Pending.{Pending}
-use Rattle.reader.specs.declared.Pending.the-variants.{Nothing, Element}
-use Rattle.reader.specs.declared.Stop.the-variants.{Going}
-use Rattle.reader.specs.declared.Reader.{Reader}
+use Rattle.reader.specs.declared.Stop.{Stop}
+use Rattle.reader.specs.declared.Stop.the-variants.{Going, At}
+use Rattle.reader.specs.declared.EventReader.{EventReader}
 
 pub record State : Type 0 where
   pub overlay : Overlay
-  pub reader : Reader
+  pub reader : EventReader
   pub parts : Bytes
 
+-- between elements: a push of nothing, which no event makes
+abbrev pub noPending : Pending
+noPending =
+    record {
+      head = record { id = 0; lat = 0; lon = 0; count = 0; tags = 0 };
+      meta = record { flags = 0; version = 0; timestamp = 0; changeset = 0; uid = 0; user = 0 };
+      used = 0;
+    }
+
 -- "readers begin fresh"
-abbrev pub fresh : Reader
-fresh = record { place = start; pending = Nothing; lines = 0; stop = Going }
+abbrev pub freshReader : EventReader
+freshReader = record { place = start; pending = noPending; lines = 0; stop = Going }
+
+-- the line of the next event: "line from 1", accepted events and one
+abbrev pub nextLine : State → ℕ
+nextLine s = s .reader .lines + 1
+
+-- ---- the stop mark
+
+-- "a refused event, except for 22, stops its reader": the refusals of an event are 2 to 16, and no other is a stop mark
+unfoldable pub stopsBy : Refusal → Bool
+stopsBy r = both (leb 2 (numberOf r)) (leb (numberOf r) 16)
+
+abbrev pub isStopped : Stop → Bool
+isStopped Going = false
+isStopped (At r line) = stopsBy r
 
 -- ---- Sound, of a reader: "staged parts passing the same; line count (u64) below its largest"
 
@@ -37,11 +63,14 @@ abbrev pub isLegal : Fault → Bool
 isLegal F.Legal = true
 isLegal (F.Refused r) = false
 
+-- the record that is staged, in handles; there is one in sound storage
+unfoldable pub pendingRecord : Kind → Bytes → Pending → Option (Record ℕ)
+pendingRecord k parts x = pushedRecord k (headIn k (x .head)) (metaOf (x .meta)) (take (x .used) parts)
+
 -- the parts that are staged lie within the lent bytes, and the push that they will make passes 17, 3, 10 and 16
 unfoldable pub pendingSound : ℕ → Kind → Bytes → Pending → Bool
-pendingSound strings k parts Nothing = true
-pendingSound strings k parts (Element h m used) =
-    both (leb used (length parts)) (isLegal (faultFor strings (pushedRecord k (headIn k h) (metaOf m) (take used parts))))
+pendingSound strings k parts x =
+    both (leb (x .used) (length parts)) (isLegal (faultFor strings (pendingRecord k parts x)))
 
 unfoldable pub readerSound : State → Bool
 readerSound s =

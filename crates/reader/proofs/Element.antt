@@ -1,4 +1,4 @@
--- An element in storage stands for a record: its head counts the record's parts, its bytes are theirs; and with one part more it stands for the record with that part.
+-- An element that is staged: its head counts a record's parts, its bytes are theirs; and with one part more it is staged for the record with that part.
 use Prim.Native.Nat.{ℕ, _+_, _*_, _-_, _≤_}
 use mathlib.Core.Path.{_≡_, refl, sym, _∙_, ap}
 use mathlib.Core.Bool.{true}
@@ -31,7 +31,7 @@ use Rattle.compact.proofs.Cuts.{member-format, tag-format, pushed, pushed-back,
 use Rattle.compact.proofs.Lengths.{length-i64, length-member, length-tag, length-joined}
 use Rattle.stage.specs.Stage.{staged, refPart, memberPart, tagPart}
 use Rattle.stage.proofs.Parts.{inBits, member-part, tag-part, withRef, withMember, withTag, length-parts, staged-ref, ref-fits, staged-member, member-fits, staged-tag, tag-fits}
-use Rattle.reader.specs.Reader.{middle, valuesIn, moreTags, moreParts}
+use Rattle.reader.specs.State.{middle, valuesIn, moreTags, moreParts}
 
 -- ---- the head
 
@@ -66,31 +66,31 @@ module _ (h : PushHead) where
       let n = counted-is fitsTag (headIn k h .tags) (o .item) (o .fit) in
       of-cut (λ (x : Record ℕ) r. Counted k (x .body) (length (x .tags))) (o .then) (rw (n .0 ∙ head-tags k) (w .0))))
 
--- what stands in storage for a record
-pub record Stands (k : Kind) (h : PushHead) (m : ArenaMeta) (x : Bytes) (r : Record ℕ) : Type 0 where
+-- what stages in storage for a record
+pub record Stages (k : Kind) (h : PushHead) (m : ArenaMeta) (x : Bytes) (r : Record ℕ) : Type 0 where
   pub kind : kindOf (r .body) ≡ k
   pub head : headOf (toZ w64 (h .id)) (r .body) (length (r .tags)) ≡ headIn k h
   pub meta : r .meta ≡ metaOf m
   pub fit : both (fitsBody (r .body)) (all fitsTag (r .tags)) ≡ true
   pub bytes : x ≡ partsBytes r
 
-pub stands : (k : Kind) (h : PushHead) (m : ArenaMeta) (x : Bytes) (r : Record ℕ) → all isByte x ≡ true → pushedRecord k (headIn k h) (metaOf m) x ≡ some r
-    → Stands k h m x r
+pub stages : (k : Kind) (h : PushHead) (m : ArenaMeta) (x : Bytes) (r : Record ℕ) → all isByte x ≡ true → pushedRecord k (headIn k h) (metaOf m) x ≡ some r
+    → Stages k h m x r
 unfolding pushedRecord
-stands k h m x r b e = go (cutParts k (headIn k h) (metaOf m) x) refl e
+stages k h m x r b e = go (cutParts k (headIn k h) (metaOf m) x) refl e
   where
     used-up : (y : Record ℕ) (q : Bytes) → usedUp y q ≡ some r → cutParts k (headIn k h) (metaOf m) x ≡ some (record { item = y; rest = q }) → headOf (toZ w64 (h .id)) (r .body) (length (r .tags)) ≡ headIn k h
     used-up y [] e w = let z : y ≡ r = cc in rw (← z) (parts-head h k (metaOf m) x _ b w)
     used-up y (d ∷ q) e w = no cc
 
-    go : (o : Option (Cut (Record ℕ))) → cutParts k (headIn k h) (metaOf m) x ≡ o → whole o ≡ some r → Stands k h m x r
+    go : (o : Option (Cut (Record ℕ))) → cutParts k (headIn k h) (metaOf m) x ≡ o → whole o ≡ some r → Stages k h m x r
     go none t e = no cc
     go (some c) t f =
         let p = pushed k (headIn k h) (metaOf m) x r b e in
         record { kind = p .kind; head = used-up (c .item) (c .rest) f t; meta = p .meta; fit = p .fit; bytes = rw append-nil at (p .here .is) }
 
-pub standing : (k : Kind) (h : PushHead) (m : ArenaMeta) (x : Bytes) (r : Record ℕ) → Stands k h m x r → pushedRecord k (headIn k h) (metaOf m) x ≡ some r
-standing k h m x r w = rw (← w .head, ← w .meta, w .bytes, ← w .kind) (pushed-back (toZ w64 (h .id)) r (w .fit))
+pub stages-back : (k : Kind) (h : PushHead) (m : ArenaMeta) (x : Bytes) (r : Record ℕ) → Stages k h m x r → pushedRecord k (headIn k h) (metaOf m) x ≡ some r
+stages-back k h m x r w = rw (← w .head, ← w .meta, w .bytes, ← w .kind) (pushed-back (toZ w64 (h .id)) r (w .fit))
 
 -- ---- what the counts say of the record
 
@@ -143,7 +143,7 @@ middle-is h id (place lat lon) n e = refl
 middle-is h id (refs rs) n e = length-joined i64 8 length-i64 rs ∙ ap (λ (x : Head). 8 * x .count) e
 middle-is h id (members ms) n e = length-joined memberBytes 13 length-member ms ∙ ap (λ (x : Head). 13 * x .count) e
 
-module _ (k : Kind) (h : PushHead) (m : ArenaMeta) (x : Bytes) (r : Record ℕ) (w : Stands k h m x r) where
+module _ (k : Kind) (h : PushHead) (m : ArenaMeta) (x : Bytes) (r : Record ℕ) (w : Stages k h m x r) where
   pub tags-counted : length (r .tags) ≡ h .tags
   tags-counted = sym (head-of-tags (toZ w64 (h .id)) (r .body) (length (r .tags))) ∙ ap (λ (z : Head). z .tags) (w .head) ∙ head-tags h k
 
@@ -164,9 +164,9 @@ module _ (k : Kind) (h : PushHead) (m : ArenaMeta) (x : Bytes) (r : Record ℕ) 
 
 -- ---- one part more
 
--- with a part x put in at a place, the element stands for the next record, which is within the limits
+-- with a part x put in at a place, the element stages for the next record, which is within the limits
 pub record Grows (k : Kind) (h : PushHead) (m : ArenaMeta) (parts : Bytes) (used at : ℕ) (x : Bytes) (next : Record ℕ) : Type 0 where
-  pub stands : Stands k h m (take (used + length x) (staged parts used at x)) next
+  pub stages : Stages k h m (take (used + length x) (staged parts used at x)) next
   pub room : used + length x ≤ length parts
   pub few : withinLimits limits next ≡ true
 
@@ -179,7 +179,7 @@ unfolding valueBytes
 values-last [] t = omega arith
 values-last (y ∷ ts) t = omega (arith, values-last ts t)
 
-module _ (k : Kind) (h : PushHead) (m : ArenaMeta) (parts : Bytes) (used : ℕ) (r : Record ℕ) (w : Stands k h m (take used parts) r) (u : used ≤ length parts)
+module _ (k : Kind) (h : PushHead) (m : ArenaMeta) (parts : Bytes) (used : ℕ) (r : Record ℕ) (w : Stages k h m (take used parts) r) (u : used ≤ length parts)
     (n : 44432 ≤ length parts) (f : withinLimits limits r ≡ true) where
   abbrev id : ℤ
   id = toZ w64 (h .id)
@@ -204,7 +204,7 @@ module _ (k : Kind) (h : PushHead) (m : ArenaMeta) (parts : Bytes) (used : ℕ) 
       let e : headOf id (r .body) (length (r .tags ++ (t ∷ []))) ≡ headIn k (moreTags h) =
       rw length-append (tags-more id (r .body) (length (r .tags))) ∙ ap tagsMore (w .head) ∙ sym (in-tags-more k h) in
       record {
-        stands = record {
+        stages = record {
           kind = w .kind;
           head = e;
           meta = w .meta;
@@ -229,7 +229,7 @@ module _ (k : Kind) (h : PushHead) (m : ArenaMeta) (parts : Bytes) (used : ℕ) 
       let i : headOf id (refs rs) (length (r .tags)) ≡ headIn k h = rw b at (w .head) in
       let j : fitsBody (refs rs) ≡ true = rw b at (both-left _ _ (w .fit)) in
       record {
-        stands = record {
+        stages = record {
           kind = sym e;
           head = refs-more id rs z (length (r .tags)) ∙ ap countMore i ∙ sym (in-count-more k h (λ y. no (cc)));
           meta = w .meta;
@@ -254,7 +254,7 @@ module _ (k : Kind) (h : PushHead) (m : ArenaMeta) (parts : Bytes) (used : ℕ) 
       let i : headOf id (members ms) (length (r .tags)) ≡ headIn k h = rw b at (w .head) in
       let j : fitsBody (members ms) ≡ true = rw b at (both-left _ _ (w .fit)) in
       record {
-        stands = record {
+        stages = record {
           kind = sym e;
           head = members-more id ms x (length (r .tags)) ∙ ap countMore i ∙ sym (in-count-more k h (λ y. no (cc)));
           meta = w .meta;

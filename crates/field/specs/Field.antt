@@ -17,8 +17,8 @@ use Rattle.kind.specs.declared.Kind.the-variants.{Node, Way, Relation}
 use Rattle.nesting.specs.declared.Name.{Name}
 use Rattle.nesting.specs.declared.Name.the-variants as N
 use Rattle.nesting.specs.Name.{nameOf}
-use Rattle.model.specs.Record.{Meta, Member, Tag, flagged}
-use Rattle.event.specs.Event.{Attr}
+use Rattle.model.specs.Record.{Meta, Member, Tag, Body, place, refs, members, flagged}
+use Rattle.event.specs.Event.{Attr, valueOf, orEmpty}
 
 -- a field's value, or its refusal
 pub data Field (A : Type 0) : Type 0 where
@@ -35,11 +35,7 @@ abbrev pub orElse : {A : Type 0} → Refusal → Option A → Field A
 orElse r none = bad r
 orElse r (some a) = got a
 
--- ---- attributes by name
-
-unfoldable pub valueOf : Bytes → List Attr → Option Bytes
-valueOf n [] = none
-valueOf n (a ∷ as1) = cond (same n (a .name)) (some (a .value)) (valueOf n as1)
+-- ---- one attribute
 
 -- "7 missing"
 abbrev pub required : Option Bytes → Field Bytes
@@ -50,10 +46,15 @@ abbrev pub anInteger : Option ℤ → Field ℤ
 anInteger o = orElse NotInteger o
 
 unfoldable pub textField : Bytes → List Attr → Field Bytes
-textField n as1 = required (valueOf n as1)
+textField n attrs = required (valueOf n attrs)
 
 unfoldable pub integerField : Width → Bytes → List Attr → Field ℤ
-integerField w n as1 = andThen (textField n as1) (λ v. anInteger (integerOf w v))
+integerField w n attrs = andThen (textField n attrs) (λ v. anInteger (integerOf w v))
+
+-- ---- an element's id
+
+unfoldable pub idOf : List Attr → Field ℤ
+idOf attrs = integerField w64 (ascii "id") attrs
 
 -- ---- coordinates of a pushed node
 
@@ -63,13 +64,19 @@ within limit z = cond (leb (natAbs z) limit) (got z) (bad CoordinateRange)
 
 -- a coordinate: the attribute of a name, within a limit
 abbrev pub coordinate : Bytes → ℕ → List Attr → Field ℤ
-coordinate n limit as1 = andThen (integerField w32 n as1) (within limit)
+coordinate n limit attrs = andThen (integerField w32 n attrs) (within limit)
 
 unfoldable pub latitude : List Attr → Field ℤ
-latitude as1 = coordinate (ascii "lat7") 900000000 as1
+latitude attrs = coordinate (ascii "lat7") 900000000 attrs
 
 unfoldable pub longitude : List Attr → Field ℤ
-longitude as1 = coordinate (ascii "lon7") 1800000000 as1
+longitude attrs = coordinate (ascii "lon7") 1800000000 attrs
+
+-- what an element of a kind begins with: "then a pushed node's lat7; then lon7"
+abbrev pub bodyFor : Kind → List Attr → Field (Body Bytes)
+bodyFor Node attrs = andThen (latitude attrs) (λ lat. andThen (longitude attrs) (λ lon. got (place lat lon)))
+bodyFor Way attrs = got (refs [])
+bodyFor Relation attrs = got (members [])
 
 -- ---- metadata
 
@@ -122,19 +129,19 @@ metaWith m a =
 -- "then metadata in line order"
 unfoldable pub metaFrom : Meta Bytes → List Attr → Field (Meta Bytes)
 metaFrom m [] = got m
-metaFrom m (a ∷ as1) = andThen (metaWith m a) (λ n. metaFrom n as1)
+metaFrom m (a ∷ attrs) = andThen (metaWith m a) (λ n. metaFrom n attrs)
 
 unfoldable pub metaOf : List Attr → Field (Meta Bytes)
-metaOf as1 = metaFrom noMeta as1
+metaOf attrs = metaFrom noMeta attrs
 
 -- ---- children
 
 -- "Tag: k, v."
 unfoldable pub tagOf : List Attr → Field (Tag Bytes)
-tagOf as1 = andThen (textField (ascii "k") as1) (λ k. andThen (textField (ascii "v") as1) (λ v. got (record { key = k; value = v })))
+tagOf attrs = andThen (textField (ascii "k") attrs) (λ k. andThen (textField (ascii "v") attrs) (λ v. got (record { key = k; value = v })))
 
 unfoldable pub refOf : List Attr → Field ℤ
-refOf as1 = integerField w64 (ascii "ref") as1
+refOf attrs = integerField w64 (ascii "ref") attrs
 
 -- "11 member type not `node`, `way`, `relation`"
 abbrev pub typeNamed : Name → Field Kind
@@ -151,14 +158,9 @@ typeNamed N.Member = bad MemberType
 typeNamed N.Bounds = bad MemberType
 typeNamed N.Unknown = bad MemberType
 
--- "role (optional, else empty)"
-abbrev pub orEmpty : Option Bytes → Bytes
-orEmpty none = []
-orEmpty (some v) = v
-
--- "Member: type, ref, role"
+-- "Member: type, ref, role"; "role (optional, else empty)"
 unfoldable pub memberOf : List Attr → Field (Member Bytes)
-memberOf as1 =
-    andThen (textField (ascii "type") as1) (λ t. andThen (typeNamed (nameOf t)) (λ k.
-    andThen (integerField w64 (ascii "ref") as1) (λ r.
-    got (record { ref = r; type = k; role = orEmpty (valueOf (ascii "role") as1) }))))
+memberOf attrs =
+    andThen (textField (ascii "type") attrs) (λ t. andThen (typeNamed (nameOf t)) (λ k.
+    andThen (integerField w64 (ascii "ref") attrs) (λ r.
+    got (record { ref = r; type = k; role = orEmpty (valueOf (ascii "role") attrs) }))))

@@ -24,8 +24,8 @@ use Rattle.nesting.specs.declared.Name.{Name}
 use Rattle.nesting.specs.declared.Name.the-variants as N
 use Rattle.nesting.specs.Name.{Spelling, spellings, nameIn, nameOf}
 use Rattle.model.specs.Record.{Member, Tag}
-use Rattle.event.specs.Event.{Attr, named}
-use Rattle.acts.specs.Field.{Field, got, bad, andThen, orElse, valueOf, textField, integerField, within, coordinate, latitude, longitude, tagOf, refOf, typeNamed, orEmpty, memberOf}
+use Rattle.event.specs.Event.{Attr, named, valueOf, orEmpty}
+use Rattle.field.specs.Field.{Field, got, bad, andThen, orElse, textField, integerField, within, coordinate, latitude, longitude, tagOf, refOf, typeNamed, memberOf}
 
 -- ---- one field, then another
 
@@ -60,73 +60,73 @@ byField (bad r) g h = h r refl
 -- ---- attributes by name
 
 -- a value and the attribute that has it
-pub record Given (n : Bytes) (as1 : List Attr) (v : Bytes) : Type 0 where
+pub record Given (n : Bytes) (attrs : List Attr) (v : Bytes) : Type 0 where
   pub attr : Attr
-  pub among : List·Memᴰ attr as1
+  pub among : List·Memᴰ attr attrs
   pub name : n ≡ attr .name
   pub value : attr .value ≡ v
 
-pub value-given : (n : Bytes) (as1 : List Attr) {v : Bytes} → valueOf n as1 ≡ some v → Given n as1 v
+pub value-given : (n : Bytes) (attrs : List Attr) {v : Bytes} → valueOf n attrs ≡ some v → Given n attrs v
 unfolding valueOf
 value-given n [] e = no (cc)
-value-given n (a ∷ as1) {v} e =
+value-given n (a ∷ attrs) {v} e =
     byBool (same n (a .name))
     (λ t. let h : some (a .value) ≡ some v = rw t at e in record { attr = a; among = List·Memᴰ·head refl; name = same-yes n (a .name) t; value = cc })
-    (λ t. let g = value-given n as1 (rw t at e) in record { attr = g .attr; among = List·Memᴰ·tail (g .among); name = g .name; value = g .value })
+    (λ t. let g = value-given n attrs (rw t at e) in record { attr = g .attr; among = List·Memᴰ·tail (g .among); name = g .name; value = g .value })
 
 -- a name has no value exactly when no attribute has the name
-pub value-none : (n : Bytes) (as1 : List Attr) → (valueOf n as1 ≡ none) ↔ (named n as1 ≡ false)
+pub value-none : (n : Bytes) (attrs : List Attr) → (valueOf n attrs ≡ none) ↔ (named n attrs ≡ false)
 unfolding valueOf named
 value-none n [] = (λ e. refl, λ e. refl)
-value-none n (a ∷ as1) =
+value-none n (a ∷ attrs) =
     byBool (same n (a .name))
     (λ t. rw t (λ e. no (cc), λ e. clash refl e))
-    (λ t. rw t (value-none n as1))
+    (λ t. rw t (value-none n attrs))
 
 -- what holds of every attribute's value holds of a name's value
-pub value-all : (p : Bytes → Bool) (n : Bytes) (as1 : List Attr) {v : Bytes} → all (λ a. p (a .value)) as1 ≡ true → valueOf n as1 ≡ some v → p v ≡ true
+pub value-all : (p : Bytes → Bool) (n : Bytes) (attrs : List Attr) {v : Bytes} → all (λ a. p (a .value)) attrs ≡ true → valueOf n attrs ≡ some v → p v ≡ true
 unfolding valueOf
 value-all p n [] h e = no (cc)
-value-all p n (a ∷ as1) {v} h e =
+value-all p n (a ∷ attrs) {v} h e =
     byBool (same n (a .name))
-    (λ t. let q : some (a .value) ≡ some v = rw t at e in let r : a .value ≡ v = cc in rw r at (all-head _ a as1 h))
-    (λ t. value-all p n as1 (all-tail _ a as1 h) (rw t at e))
+    (λ t. let q : some (a .value) ≡ some v = rw t at e in let r : a .value ≡ v = cc in rw r at (all-head _ a attrs h))
+    (λ t. value-all p n attrs (all-tail _ a attrs h) (rw t at e))
 
 -- ---- texts and integers
 
-module _ (n : Bytes) (as1 : List Attr) where
-  pub text-got : (v : Bytes) → (textField n as1 ≡ got v) ↔ (valueOf n as1 ≡ some v)
+module _ (n : Bytes) (attrs : List Attr) where
+  pub text-got : (v : Bytes) → (textField n attrs ≡ got v) ↔ (valueOf n attrs ≡ some v)
   unfolding textField
-  text-got v = or-got Missing (valueOf n as1) v
+  text-got v = or-got Missing (valueOf n attrs) v
 
   -- a text that is read is an attribute's value
-  pub text-given : {v : Bytes} → textField n as1 ≡ got v → Given n as1 v
-  text-given {v} e = value-given n as1 (text-got v .0 e)
+  pub text-given : {v : Bytes} → textField n attrs ≡ got v → Given n attrs v
+  text-given {v} e = value-given n attrs (text-got v .0 e)
 
   -- "7 missing"
-  pub text-bad : (r : Refusal) → (textField n as1 ≡ bad r) ↔ ((valueOf n as1 ≡ none) × (r ≡ Missing))
+  pub text-bad : (r : Refusal) → (textField n attrs ≡ bad r) ↔ ((valueOf n attrs ≡ none) × (r ≡ Missing))
   unfolding textField
-  text-bad r = or-bad Missing (valueOf n as1) r
+  text-bad r = or-bad Missing (valueOf n attrs) r
 
   module _ (w : Width) where
-    pub integer-got : (z : ℤ) → (integerField w n as1 ≡ got z) ↔ ((v : Bytes) × ((valueOf n as1 ≡ some v) × (integerOf w v ≡ some z)))
+    pub integer-got : (z : ℤ) → (integerField w n attrs ≡ got z) ↔ ((v : Bytes) × ((valueOf n attrs ≡ some v) × (integerOf w v ≡ some z)))
     unfolding integerField
     integer-got z = (
-      λ e. let t = then-got _ (textField n as1) e in (t .0, (text-got _ .0 (t .1 .0), or-got _ _ z .0 (t .1 .1))),
+      λ e. let t = then-got _ (textField n attrs) e in (t .0, (text-got _ .0 (t .1 .0), or-got _ _ z .0 (t .1 .1))),
       λ t. rw (text-got (t .0) .1 (t .1 .0)) (or-got _ _ z .1 (t .1 .1)),
     )
 
     -- "8 not an integer of its width"
-    pub integer-bad : (r : Refusal) → (integerField w n as1 ≡ bad r)
-        ↔ (((valueOf n as1 ≡ none) × (r ≡ Missing)) ⊎ ((v : Bytes) × ((valueOf n as1 ≡ some v) × ((integerOf w v ≡ none) × (r ≡ NotInteger)))))
+    pub integer-bad : (r : Refusal) → (integerField w n attrs ≡ bad r)
+        ↔ (((valueOf n attrs ≡ none) × (r ≡ Missing)) ⊎ ((v : Bytes) × ((valueOf n attrs ≡ some v) × ((integerOf w v ≡ none) × (r ≡ NotInteger)))))
     unfolding integerField
     integer-bad r = (
-      λ e. ⊎-elim (λ b. inl (text-bad r .0 b)) (λ t. inr (t .0, (text-got _ .0 (t .1 .0), or-bad _ _ r .0 (t .1 .1)))) (then-bad _ (textField n as1) r .0 e),
-      λ s. then-bad _ (textField n as1) r .1 (⊎-elim (λ b. inl (text-bad r .1 b)) (λ t. inr (t .0, (text-got _ .1 (t .1 .0), or-bad _ _ r .1 (t .1 .1)))) s),
+      λ e. ⊎-elim (λ b. inl (text-bad r .0 b)) (λ t. inr (t .0, (text-got _ .0 (t .1 .0), or-bad _ _ r .0 (t .1 .1)))) (then-bad _ (textField n attrs) r .0 e),
+      λ s. then-bad _ (textField n attrs) r .1 (⊎-elim (λ b. inl (text-bad r .1 b)) (λ t. inr (t .0, (text-got _ .1 (t .1 .0), or-bad _ _ r .1 (t .1 .1)))) s),
     )
 
     -- a number that is read is one of its width
-    pub integer-fits : {z : ℤ} → integerField w n as1 ≡ got z → SFits w z
+    pub integer-fits : {z : ℤ} → integerField w n attrs ≡ got z → SFits w z
     integer-fits {z} e = let t = integer-got z .0 e in integer-of-is w (t .0) (t .1 .1) .1
 
 -- ---- coordinates
@@ -146,64 +146,64 @@ module _ (limit : ℕ) (z : ℤ) where
       go true e = (λ h. no (cc), λ h. clash e (lt-leb (natAbs z) limit (h .0)))
       go false e = (λ h. (leb-false (natAbs z) limit e, cc), λ h. ap bad (sym (h .1)))
 
-module _ (n : Bytes) (limit : ℕ) (as1 : List Attr) where
-  pub coordinate-got : (z : ℤ) → (coordinate n limit as1 ≡ got z) ↔ ((integerField w32 n as1 ≡ got z) × (natAbs z ≤ limit))
+module _ (n : Bytes) (limit : ℕ) (attrs : List Attr) where
+  pub coordinate-got : (z : ℤ) → (coordinate n limit attrs ≡ got z) ↔ ((integerField w32 n attrs ≡ got z) × (natAbs z ≤ limit))
   coordinate-got z = (
     λ e.
-        let t = then-got _ (integerField w32 n as1) e in
+        let t = then-got _ (integerField w32 n attrs) e in
         let h = within-got limit (t .0) z .0 (t .1 .1) in
         (t .1 .0 ∙ ap got (h .0), rw (h .0) at (h .1)),
     λ h. rw (h .0) (within-got limit z z .1 (refl, h .1)),
   )
 
   -- "10 coordinate range"
-  pub coordinate-bad : (r : Refusal) → (coordinate n limit as1 ≡ bad r)
-      ↔ ((integerField w32 n as1 ≡ bad r) ⊎ ((z : ℤ) × ((integerField w32 n as1 ≡ got z) × ((limit < natAbs z) × (r ≡ CoordinateRange)))))
+  pub coordinate-bad : (r : Refusal) → (coordinate n limit attrs ≡ bad r)
+      ↔ ((integerField w32 n attrs ≡ bad r) ⊎ ((z : ℤ) × ((integerField w32 n attrs ≡ got z) × ((limit < natAbs z) × (r ≡ CoordinateRange)))))
   coordinate-bad r = (
-    λ e. ⊎-elim inl (λ t. inr (t .0, (t .1 .0, within-bad limit (t .0) r .0 (t .1 .1)))) (then-bad _ (integerField w32 n as1) r .0 e),
-    λ s. then-bad _ (integerField w32 n as1) r .1 (⊎-elim inl (λ t. inr (t .0, (t .1 .0, within-bad limit (t .0) r .1 (t .1 .1)))) s),
+    λ e. ⊎-elim inl (λ t. inr (t .0, (t .1 .0, within-bad limit (t .0) r .0 (t .1 .1)))) (then-bad _ (integerField w32 n attrs) r .0 e),
+    λ s. then-bad _ (integerField w32 n attrs) r .1 (⊎-elim inl (λ t. inr (t .0, (t .1 .0, within-bad limit (t .0) r .1 (t .1 .1)))) s),
   )
 
-  pub coordinate-fits : {z : ℤ} → coordinate n limit as1 ≡ got z → (natAbs z ≤ limit) × SFits w32 z
-  coordinate-fits {z} e = let h = coordinate-got z .0 e in (h .1, integer-fits n as1 w32 (h .0))
+  pub coordinate-fits : {z : ℤ} → coordinate n limit attrs ≡ got z → (natAbs z ≤ limit) × SFits w32 z
+  coordinate-fits {z} e = let h = coordinate-got z .0 e in (h .1, integer-fits n attrs w32 (h .0))
 
 -- "at most 900,000,000 and 1,800,000,000 either side of 0"
-pub latitude-fits : (as1 : List Attr) {z : ℤ} → latitude as1 ≡ got z → (natAbs z ≤ 900000000) × SFits w32 z
+pub latitude-fits : (attrs : List Attr) {z : ℤ} → latitude attrs ≡ got z → (natAbs z ≤ 900000000) × SFits w32 z
 unfolding latitude
-latitude-fits as1 e = coordinate-fits (ascii "lat7") 900000000 as1 e
+latitude-fits attrs e = coordinate-fits (ascii "lat7") 900000000 attrs e
 
-pub longitude-fits : (as1 : List Attr) {z : ℤ} → longitude as1 ≡ got z → (natAbs z ≤ 1800000000) × SFits w32 z
+pub longitude-fits : (attrs : List Attr) {z : ℤ} → longitude attrs ≡ got z → (natAbs z ≤ 1800000000) × SFits w32 z
 unfolding longitude
-longitude-fits as1 e = coordinate-fits (ascii "lon7") 1800000000 as1 e
+longitude-fits attrs e = coordinate-fits (ascii "lon7") 1800000000 attrs e
 
 -- ---- children
 
-pub ref-fits : (as1 : List Attr) {z : ℤ} → refOf as1 ≡ got z → SFits w64 z
+pub ref-fits : (attrs : List Attr) {z : ℤ} → refOf attrs ≡ got z → SFits w64 z
 unfolding refOf
-ref-fits as1 e = integer-fits (ascii "ref") as1 w64 e
+ref-fits attrs e = integer-fits (ascii "ref") attrs w64 e
 
-module _ (as1 : List Attr) where
-  pub tag-got : (t : Tag Bytes) → (tagOf as1 ≡ got t) ↔ ((valueOf (ascii "k") as1 ≡ some (t .key)) × (valueOf (ascii "v") as1 ≡ some (t .value)))
+module _ (attrs : List Attr) where
+  pub tag-got : (t : Tag Bytes) → (tagOf attrs ≡ got t) ↔ ((valueOf (ascii "k") attrs ≡ some (t .key)) × (valueOf (ascii "v") attrs ≡ some (t .value)))
   unfolding tagOf
   tag-got t = (
     λ e.
-        let k = then-got _ (textField (ascii "k") as1) e in
-        let v = then-got _ (textField (ascii "v") as1) (k .1 .1) in
+        let k = then-got _ (textField (ascii "k") attrs) e in
+        let v = then-got _ (textField (ascii "v") attrs) (k .1 .1) in
         let q : got (record { key = k .0; value = v .0 }) ≡ got t = v .1 .1 in
-        (text-got _ as1 (t .key) .0 (k .1 .0 ∙ cc), text-got _ as1 (t .value) .0 (v .1 .0 ∙ cc)),
-    λ h. rw (text-got _ as1 (t .key) .1 (h .0), text-got _ as1 (t .value) .1 (h .1)),
+        (text-got _ attrs (t .key) .0 (k .1 .0 ∙ cc), text-got _ attrs (t .value) .0 (v .1 .0 ∙ cc)),
+    λ h. rw (text-got _ attrs (t .key) .1 (h .0), text-got _ attrs (t .value) .1 (h .1)),
   )
 
-  pub tag-bad : (r : Refusal) → (tagOf as1 ≡ bad r) ↔ (((valueOf (ascii "k") as1 ≡ none) ⊎ (valueOf (ascii "v") as1 ≡ none)) × (r ≡ Missing))
+  pub tag-bad : (r : Refusal) → (tagOf attrs ≡ bad r) ↔ (((valueOf (ascii "k") attrs ≡ none) ⊎ (valueOf (ascii "v") attrs ≡ none)) × (r ≡ Missing))
   unfolding tagOf
   tag-bad r = (
     λ e. ⊎-elim
-        (λ k. let h = text-bad _ as1 r .0 k in (inl (h .0), h .1))
-        (λ t. let h = text-bad _ as1 r .0 (last-bad _ (textField (ascii "v") as1) r .0 (t .1 .1)) in (inr (h .0), h .1))
-        (then-bad _ (textField (ascii "k") as1) r .0 e),
-    λ h. byField (textField (ascii "k") as1)
-        (λ k e. ⊎-elim (λ a. no (cc (text-bad _ as1 r .1 (a, h .1)))) (λ a. rw (e, text-bad _ as1 r .1 (a, h .1))) (h .0))
-        (λ x e. rw e (ap bad (text-bad _ as1 x .0 e .1 ∙ sym (h .1)))),
+        (λ k. let h = text-bad _ attrs r .0 k in (inl (h .0), h .1))
+        (λ t. let h = text-bad _ attrs r .0 (last-bad _ (textField (ascii "v") attrs) r .0 (t .1 .1)) in (inr (h .0), h .1))
+        (then-bad _ (textField (ascii "k") attrs) r .0 e),
+    λ h. byField (textField (ascii "k") attrs)
+        (λ k e. ⊎-elim (λ a. no (cc (text-bad _ attrs r .1 (a, h .1)))) (λ a. rw (e, text-bad _ attrs r .1 (a, h .1))) (h .0))
+        (λ x e. rw e (ap bad (text-bad _ attrs x .0 e .1 ∙ sym (h .1)))),
   )
 
 -- the words for the kinds
@@ -258,49 +258,49 @@ type-bad s r = (
       (λ x e. e ∙ ap bad (type-only (nameOf s) e ∙ sym (h .1))),
 )
 
-module _ (as1 : List Attr) where
+module _ (attrs : List Attr) where
   -- "Member: type, ref, role (optional, else empty)."
-  pub member-got : (m : Member Bytes) → (memberOf as1 ≡ got m)
-      ↔ ((valueOf (ascii "type") as1 ≡ some (wordOf (m .type))) × ((integerField w64 (ascii "ref") as1 ≡ got (m .ref)) × (m .role ≡ orEmpty (valueOf (ascii "role") as1))))
+  pub member-got : (m : Member Bytes) → (memberOf attrs ≡ got m)
+      ↔ ((valueOf (ascii "type") attrs ≡ some (wordOf (m .type))) × ((integerField w64 (ascii "ref") attrs ≡ got (m .ref)) × (m .role ≡ orEmpty (valueOf (ascii "role") attrs))))
   unfolding memberOf
   member-got m = (
     λ e.
-        let t = then-got _ (textField (ascii "type") as1) e in
+        let t = then-got _ (textField (ascii "type") attrs) e in
         let k = then-got _ (typeNamed (nameOf (t .0))) (t .1 .1) in
-        let z = then-got _ (integerField w64 (ascii "ref") as1) (k .1 .1) in
-        let q : got (record { ref = z .0; type = k .0; role = orEmpty (valueOf (ascii "role") as1) }) ≡ got m = z .1 .1 in
-        (text-got _ as1 _ .0 (t .1 .0 ∙ ap got (type-got (t .0) (m .type) .0 (k .1 .0 ∙ cc))), (z .1 .0 ∙ cc, cc)),
-    λ h. rw (text-got _ as1 _ .1 (h .0), type-got (wordOf (m .type)) (m .type) .1 refl, h .1 .0)
+        let z = then-got _ (integerField w64 (ascii "ref") attrs) (k .1 .1) in
+        let q : got (record { ref = z .0; type = k .0; role = orEmpty (valueOf (ascii "role") attrs) }) ≡ got m = z .1 .1 in
+        (text-got _ attrs _ .0 (t .1 .0 ∙ ap got (type-got (t .0) (m .type) .0 (k .1 .0 ∙ cc))), (z .1 .0 ∙ cc, cc)),
+    λ h. rw (text-got _ attrs _ .1 (h .0), type-got (wordOf (m .type)) (m .type) .1 refl, h .1 .0)
         (λ i. got (record { ref = m .ref; type = m .type; role = sym (h .1 .1) i })),
   )
 
-  pub member-bad : (r : Refusal) → (memberOf as1 ≡ bad r)
-      ↔ (((valueOf (ascii "type") as1 ≡ none) × (r ≡ Missing))
-      ⊎ ((s : Bytes) × ((valueOf (ascii "type") as1 ≡ some s)
-      × ((((k : Kind) → s ≡ wordOf k → ⊥) × (r ≡ MemberType)) ⊎ ((k : Kind) × ((s ≡ wordOf k) × (integerField w64 (ascii "ref") as1 ≡ bad r)))))))
+  pub member-bad : (r : Refusal) → (memberOf attrs ≡ bad r)
+      ↔ (((valueOf (ascii "type") attrs ≡ none) × (r ≡ Missing))
+      ⊎ ((s : Bytes) × ((valueOf (ascii "type") attrs ≡ some s)
+      × ((((k : Kind) → s ≡ wordOf k → ⊥) × (r ≡ MemberType)) ⊎ ((k : Kind) × ((s ≡ wordOf k) × (integerField w64 (ascii "ref") attrs ≡ bad r)))))))
   unfolding memberOf
   member-bad r = (
     λ e. ⊎-elim
-        (λ b. inl (text-bad _ as1 r .0 b))
+        (λ b. inl (text-bad _ attrs r .0 b))
         (λ t. inr (
           t .0,
           (
-            text-got _ as1 _ .0 (t .1 .0),
+            text-got _ attrs _ .0 (t .1 .0),
             ⊎-elim
                 (λ b. inl (type-bad (t .0) r .0 b))
-                (λ k. inr (k .0, (type-got (t .0) (k .0) .0 (k .1 .0), last-bad _ (integerField w64 (ascii "ref") as1) r .0 (k .1 .1))))
+                (λ k. inr (k .0, (type-got (t .0) (k .0) .0 (k .1 .0), last-bad _ (integerField w64 (ascii "ref") attrs) r .0 (k .1 .1))))
                 (then-bad _ (typeNamed (nameOf (t .0))) r .0 (t .1 .1)),
           ),
         ))
-        (then-bad _ (textField (ascii "type") as1) r .0 e),
+        (then-bad _ (textField (ascii "type") attrs) r .0 e),
     λ s. ⊎-elim
-        (λ b. rw (text-bad _ as1 r .1 b))
-        (λ t. rw (text-got _ as1 _ .1 (t .1 .0)) (⊎-elim
+        (λ b. rw (text-bad _ attrs r .1 b))
+        (λ t. rw (text-got _ attrs _ .1 (t .1 .0)) (⊎-elim
         (λ b. rw (type-bad (t .0) r .1 b))
         (λ k. rw (type-got (t .0) (k .0) .1 (k .1 .0), k .1 .1))
         (t .1 .1)))
         s,
   )
 
-  pub member-fits : {m : Member Bytes} → memberOf as1 ≡ got m → SFits w64 (m .ref)
-  member-fits {m} e = integer-fits (ascii "ref") as1 w64 (member-got m .0 e .1 .0)
+  pub member-fits : {m : Member Bytes} → memberOf attrs ≡ got m → SFits w64 (m .ref)
+  member-fits {m} e = integer-fits (ascii "ref") attrs w64 (member-got m .0 e .1 .0)

@@ -1,0 +1,317 @@
+-- An event that goes on, whatever is decided of it: a turn of the acts' reader that its state stands for, the direct calls of that turn, and again a legal element staged.
+use Prim.Native.Nat.{ℕ, _+_, _<_}
+use mathlib.Core.Path.{_≡_, refl, sym, _∙_, ap, subst}
+use mathlib.Core.Bool.{Bool, true, false}
+use mathlib.Core.Option.{none, some}
+use mathlib.Core.List.{List, [], _∷_, _++_, map, map-append}
+use native.Mathlib.Omega.{arith}
+use lib.Dec.{leb}
+use lib.IntN.{ℤ}
+use lib.ListN.{length, take}
+use mir.Syntax.{w64}
+use mir.Val.{toZ, ofZ, SFits}
+use mir.Facts.{toZ-ofZ, fits-ofZ}
+use borrow.Author.Tests.{leb-true, lt-ltb}
+use Rattle.base.specs.Bytes.{Bytes, all}
+use Rattle.base.proofs.Split.{both-left, both-right}
+use Rattle.base.proofs.Lists.{all-nil}
+use Rattle.little.specs.Little.{isByte}
+use Rattle.little.proofs.Littles.{bytes-take}
+use Rattle.refusal.specs.declared.Refusal.the-variants as R
+use Rattle.kind.specs.declared.Kind.{Kind}
+use Rattle.nesting.specs.declared.Place.{Place}
+use Rattle.model.specs.Record.{Meta, Member, Tag, Body, refs, members, Record, kindOf, flagged, claimOf}
+use Rattle.model.specs.Act.{Act, push, delete}
+use Rattle.model.specs.Swap.{swapMeta, swapMember, swapTag, swapBody, swapRecord}
+use Rattle.compact.specs.Cut.{pushedRecord}
+use Rattle.compact.specs.Fits.{fitsNumber}
+use Rattle.compact.specs.Held.{metaOf, headIn}
+use Rattle.compact.specs.Legal.{limits, legalMeta, legal}
+use Rattle.compact.specs.declared.ArenaMeta.{ArenaMeta}
+use Rattle.compact.specs.declared.PushHead.{PushHead}
+use Rattle.stage.specs.Stage.{staged, refPart, memberPart, tagPart}
+use Rattle.stage.proofs.Parts.{withRef, withMember, withTag, length-staged}
+use Rattle.legal.specs.Judge.{faultFor}
+use Rattle.legal.proofs.Laws.{legal-more}
+use Rattle.interner.specs.Texts.{textOf}
+use Rattle.interner.specs.Sound.{textsOf}
+use Rattle.version_floor.specs.declared.Admit.{Admit}
+use Rattle.shelf.specs.Shelf.{known, checked}
+use Rattle.shelf.specs.declared.Kept.the-variants.{Taken}
+use Rattle.overlay.specs.Overlay.{Overlay, shelfOf}
+use Rattle.overlay.specs.Sound.{isSound}
+use Rattle.overlay.specs.Given.{headFits, metaFits}
+use Rattle.overlay.specs.Calls.{After}
+use Rattle.store.specs.Calls.{storePush, storeDelete}
+use Rattle.direct.specs.Calls.{deleteOn}
+use Rattle.direct.proofs.Answers.{push-store, delete-store}
+use Rattle.field.specs.Field.{got}
+use Rattle.decision.specs.Decision.{Decision, refuses, moves, begins, deletes, tags, refers, joins, ends}
+use Rattle.decision.proofs.Lawful.{Lawful}
+use Rattle.decision.proofs.Lawful as Decided
+use Rattle.acts.specs.Turn.{Staged, Turn, userText, first, clears, grows, turnOf}
+use Rattle.acts.specs.Turn as Turn
+use Rattle.reader.specs.declared.Pending.{Pending}
+use Rattle.reader.specs.State.{State, noPending, readerSound, stateSound, middle, moreTags, moreParts}
+use Rattle.reader.specs.Given.{Given}
+use Rattle.reader.specs.Step.{Advanced, Step, goes, clearsTo, metaBits, headFor, memberBits, tagWithin, partWithin, partPlace, stepOf}
+use Rattle.reader.specs.Means.{stagedOf, readerOf}
+use Rattle.reader.proofs.Texts.{legal-agree}
+use Rattle.reader.proofs.Element.{stages-back, way-body, relation-body, Grows, tag-grows, ref-grows, member-grows}
+use Rattle.reader.proofs.Acts.{Acts, no-act, a-push, a-delete, TakesIn, no-text, Acted, Fine, takes-fine, acted-fine, takes-texts, more-strings, same-text, strings-few}
+use Rattle.reader.proofs.Held.{Held, held-of, held-few, held-means, stagedAs, fault-legal, bareRecord, bare-stages, bare-legal, bare-held, nothing-held, nothing-means}
+use Rattle.reader.proofs.Legals.{legal-meta, meta-fits, claim-same, meta-comes, bodyIn, body-comes, begun, head-fits, head-id, legal-tag, legal-ref, legal-member, staged-small, tag-small, ref-small, member-small, tags-fit, count-fits}
+use Rattle.reader.proofs.Steps.{Each, stopped, leaves, Took, empty-held, each-text, each-user, each-admit, each-after, each-within}
+
+-- what is left is what the turn says, by the direct calls of the turn, and a legal element is staged
+pub record Advances (d : Decision) (s : State) (l : Advanced) : Type 0 where
+  pub comes : Turn
+  pub is : turnOf d (readerOf s) ≡ got comes
+  pub place : l .place ≡ comes .reader .place
+  pub acted : Acted (s .overlay) comes (l .overlay)
+  pub held : Held (l .overlay .texts .strings) (l .place .kind) (l .parts) (l .pending)
+  pub staged : stagedOf (textsOf (l .overlay .texts)) (l .place .kind) (l .parts) (l .pending) ≡ comes .reader .staged
+  pub small : all isByte (l .parts) ≡ true
+  pub size : length (l .parts) ≡ length (s .parts)
+
+-- ---- the store's push and delete as direct calls
+
+pushes-act : (k : Kind) (h : PushHead) (m : ArenaMeta) (parts : Bytes) (o : Overlay) (r : Record ℕ) → isSound o ≡ true → headFits h ≡ true → metaFits m ≡ true
+    → all isByte parts ≡ true → pushedRecord k (headIn k h) (metaOf m) parts ≡ some r → legal (o .texts .strings) r ≡ true → storePush k h m parts o .answer ≡ Taken
+    → Acts o (some (push (toZ w64 (h .id)) (swapRecord (textOf (textsOf (o .texts))) r))) (storePush k h m parts o .overlay)
+pushes-act k h m parts o r e f g b p l a =
+    let s = push-store k h m parts o e (ap (faultFor (o .texts .strings)) p ∙ fault-legal (o .texts .strings) r l) in
+    rw (ap (λ (z : After). z .overlay) s) at (a-push k h m parts r f g b p (ap (λ (z : After). z .answer) s ∙ a))
+
+-- an element that begins behind its user's text
+module _ (o : Overlay) (w : Fine o) (id : ℤ) (m : Meta Bytes) (g : Decided.Given id m) (h : ℕ) (q : Overlay) (t : Took o (userText m) q h (m .user))
+    (z : flagged 4 (m .flags) ≡ false → h ≡ 0) where
+  named-fine : Fine q
+  named-fine = takes-fine w (t .takes)
+
+  named-legal : legalMeta (q .texts .strings) (metaOf (metaBits m h)) ≡ true
+  named-legal = legal-meta m (g .legal) h (q .texts .strings) (t .held) z
+
+  named-fits : metaFits (metaBits m h) ≡ true
+  named-fits = meta-fits m (g .legal) h (omega (arith, t .held, strings-few q (named-fine .sound)))
+
+  first-comes : (b : Body Bytes) → Decided.First b
+      → stagedAs (textsOf (q .texts)) (headFor id b) (bareRecord (metaBits m h) (bodyIn b)) ≡ record { id = id; held = first m b }
+  first-comes b f =
+      let x = head-id id b (g .fits) in
+      let y = meta-comes m (g .legal) h (textOf (textsOf (q .texts))) (t .text) in
+      let v = body-comes (textOf (textsOf (q .texts))) b f in
+      λ i. record { id = x i; held = record { meta = y i; body = v i; tags = [] } }
+
+  first-acts : (b : Body Bytes) → Decided.First b → storePush (kindOf b) (headFor id b) (metaBits m h) [] q .answer ≡ Taken
+      → Acts q (some (push id (first m b))) (storePush (kindOf b) (headFor id b) (metaBits m h) [] q .overlay)
+  first-acts b f a =
+      let k = kindOf b in
+      let x = begun id b f in
+      let r = bareRecord (metaBits m h) (bodyIn b) in
+      let p = stages-back k (headFor id b) (metaBits m h) [] r (bare-stages x (metaBits m h)) in
+      let l = bare-legal x (q .texts .strings) (metaBits m h) named-legal in
+      subst (λ (y : Staged). Acts q (some (push (y .id) (y .held))) (storePush k (headFor id b) (metaBits m h) [] q .overlay)) (first-comes b f)
+      (pushes-act k (headFor id b) (metaBits m h) [] q r (named-fine .sound) (head-fits id b (g .fits) f) named-fits (all-nil isByte) p l a)
+
+  delete-acts : (k : Kind) → storeDelete k id (claimOf m) q .answer ≡ Taken → Acts q (some (delete k id (claimOf m))) (storeDelete k id (claimOf m) q .overlay)
+  delete-acts k a =
+      let x = metaBits m h in
+      let i : toZ w64 (ofZ w64 id) ≡ id = toZ-ofZ (g .fits) in
+      let c = claim-same m (g .legal) h in
+      let s : deleteOn k (toZ w64 (ofZ w64 id)) (metaOf x) q ≡ storeDelete k id (claimOf m) q = rw (i, ← c) (delete-store k id (metaOf x) q (named-fine .sound) named-legal) in
+      let d : Acts q (some (delete k (toZ w64 (ofZ w64 id)) (claimOf (metaOf x)))) (deleteOn k (toZ w64 (ofZ w64 id)) (metaOf x) q .overlay) =
+      a-delete k (ofZ w64 id) x (fits-ofZ (g .fits) .fits) named-fits (ap (λ (z : After). z .answer) s ∙ a) in
+      rw (ap (λ (z : After). z .overlay) s, i, c) at d
+
+-- the texts of a record with one part more
+module _ (f g : ℕ → Bytes) (r : Record ℕ) (e : swapRecord g r ≡ swapRecord f r) where
+  tag-swapped : (t : Tag Bytes) (n : ℕ) → g n ≡ t .key → swapRecord g (withTag r (record { key = n; value = t .value })) ≡ Turn.withTag t (swapRecord f r)
+  tag-swapped t n k =
+      rw (map-append (swapTag g) (r .tags) (record { key = n; value = t .value } ∷ []))
+      (λ i. record { meta = e i .meta; body = e i .body; tags = e i .tags ++ (record { key = k i; value = t .value } ∷ []) })
+
+  ref-swapped : (rs : List ℤ) (z : ℤ) → r .body ≡ refs rs → swapRecord g (withRef r rs z) ≡ Turn.withRef z (swapRecord f r)
+  ref-swapped rs z b = rw b (λ i. record { meta = e i .meta; body = refs (rs ++ (z ∷ [])); tags = e i .tags })
+
+  member-swapped : (ms : List (Member ℕ)) (x : Member Bytes) (n : ℕ) → r .body ≡ members ms → g n ≡ x .role
+      → swapRecord g (withMember r ms (record { ref = x .ref; type = x .type; role = n })) ≡ Turn.withMember x (swapRecord f r)
+  member-swapped ms x n b k =
+      let y : swapBody g (members ms) ≡ swapBody f (members ms) = rw b at (ap (λ (z : Record Bytes). z .body) e) in
+      let z : map (swapMember g) ms ≡ map (swapMember f) ms = cc in
+      rw (b, map-append (swapMember g) ms (record { ref = x .ref; type = x .type; role = n } ∷ []))
+      (λ i. record { meta = e i .meta; body = members (z i ++ (record { ref = x .ref; type = x .type; role = k i } ∷ [])); tags = e i .tags })
+
+-- ---- what a sound state holds
+
+pub state-fine : (s : State) → Given s → stateSound s ≡ true → Fine (s .overlay)
+unfolding stateSound
+state-fine s g e = record { sound = both-left _ _ e; bytes = g .overlay }
+
+pub state-held : (s : State) → Given s → stateSound s ≡ true → Held (s .overlay .texts .strings) (s .reader .place .kind) (s .parts) (s .reader .pending)
+unfolding stateSound readerSound
+state-held s g e = held-of _ _ (s .parts) (s .reader .pending) (g .reader .head) (g .reader .meta) (g .reader .bytes) (both-left _ _ (both-right _ _ e))
+
+module _ (s : State) (g : Given s) (e : stateSound s ≡ true) where
+  abbrev now : List Bytes
+  now = textsOf (s .overlay .texts)
+
+  abbrev kind : Kind
+  kind = s .reader .place .kind
+
+  abbrev pending : Pending
+  pending = s .reader .pending
+
+  fine : Fine (s .overlay)
+  fine = state-fine s g e
+
+  held : Held (s .overlay .texts .strings) kind (s .parts) pending
+  held = state-held s g e
+
+  means : readerOf s .staged ≡ stagedAs now (pending .head) (held .held)
+  unfolding readerOf
+  means = held-means (s .overlay .texts .strings) kind (s .parts) pending held now
+
+  -- nothing is staged any more
+  cleared : (d : Decision) (p : Place) (q : Overlay) (ts : List Bytes) (a : Act Bytes) → turnOf d (readerOf s) ≡ got (clears p ts a) → Acted (s .overlay) (clears p ts a) q
+      → Each (Advances d s) (clearsTo s p q)
+  cleared d p q ts a i w =
+      let z = empty-held q (acted-fine fine w .sound) in
+      leaves (record {
+        comes = clears p ts a;
+        is = i;
+        place = refl;
+        acted = w;
+        held = nothing-held (q .texts .strings) (p .kind) (s .parts) (z .1);
+        staged = nothing-means (q .texts .strings) (p .kind) (s .parts) (z .1) (textsOf (q .texts)) (z .0);
+        small = g .reader .bytes;
+        size = refl;
+      })
+
+  -- one part more
+  module _ (d : Decision) (p : Place) (k : p .kind ≡ kind) (o : Overlay) (ts : List Bytes) (takes : TakesIn (s .overlay) ts o) where
+    before : swapRecord (textOf (textsOf (o .texts))) (held .held) ≡ swapRecord (textOf now) (held .held)
+    before = legal-agree (s .overlay .texts .strings) (textOf (textsOf (o .texts))) (textOf now) (same-text (s .overlay) o ts (takes-texts takes)) (held .held) (held .lawful)
+
+    more-legal : legal (o .texts .strings) (held .held) ≡ true
+    more-legal = legal-more (s .overlay .texts .strings) (o .texts .strings) (more-strings (s .overlay) o ts (takes-texts takes)) (held .held) (held .lawful)
+
+    grown : (j : PushHead) (at : ℕ) (x : Bytes) (next : Record ℕ) (f : Record Bytes → Record Bytes) → turnOf d (readerOf s) ≡ got (grows p f ts (readerOf s))
+        → j .id ≡ pending .head .id → Grows kind j (pending .meta) (s .parts) (pending .used) at x next → legal (o .texts .strings) next ≡ true → headFits j ≡ true
+        → all isByte x ≡ true → swapRecord (textOf (textsOf (o .texts))) next ≡ f (swapRecord (textOf now) (held .held))
+        → Advances d s (record { overlay = o; place = p; pending = record { head = j; meta = pending .meta; used = pending .used + length x }; parts = staged (s .parts) (pending .used) at x })
+    grown j at x next f i q w l h b c =
+        let n = length-staged (s .parts) (pending .used) at x in
+        let y : Pending = record { head = j; meta = pending .meta; used = pending .used + length x } in
+        let z = staged (s .parts) (pending .used) at x in
+        let v : Held (o .texts .strings) kind z y = record { held = next; stages = w .stages; lawful = l; fits = omega (arith, w .room); head = h; meta = held .meta } in
+        let u : stagedAs (textsOf (o .texts)) j next ≡ grows p f ts (readerOf s) .reader .staged = rw means (λ i. record { id = toZ w64 (q i); held = c i }) in
+        record {
+          comes = grows p f ts (readerOf s);
+          is = i;
+          place = refl;
+          acted = record { between = o; taken = takes; acted = no-act };
+          held = rw k v;
+          staged = ap (λ (j : Kind). stagedOf (textsOf (o .texts)) j z y) k ∙ (held-means (o .texts .strings) kind z y v (textsOf (o .texts)) ∙ u);
+          small = staged-small (s .parts) (pending .used) at x (g .reader .bytes) b;
+          size = n;
+        }
+
+  -- ---- whatever is decided
+
+  handle-fits : (o : Overlay) → Fine o → (n : ℕ) → n < o .texts .strings → fitsNumber 4 n ≡ true
+  unfolding fitsNumber
+  handle-fits o w n l = lt-ltb n 4294967296 (omega (arith, strings-few o (w .sound)))
+
+  abbrev admit : Kind → ℤ → Meta Bytes → Admit
+  admit k id m = checked (s .overlay .setting) (known k (shelfOf k (s .overlay)) id) (claimOf m)
+
+  pub advances : (d : Decision) → Lawful (s .reader .place) d → Each (Advances d s) (stepOf d s)
+  unfolding stepOf turnOf readerOf
+  advances (refuses r) w = stopped
+  advances (moves p) w =
+      let v : Held (s .overlay .texts .strings) (p .kind) (s .parts) pending = rw w held in
+      leaves (record {
+        comes = record { reader = record { place = p; staged = readerOf s .staged }; texts = []; act = none };
+        is = refl;
+        place = refl;
+        acted = record { between = s .overlay; taken = no-text; acted = no-act };
+        held = v;
+        staged = ap (λ (k : Kind). stagedOf now k (s .parts) pending) w;
+        small = g .reader .bytes;
+        size = refl;
+      })
+  advances (begins true p id m b) w =
+      each-admit (admit (kindOf b) id m) _
+      (each-user (s .overlay) (fine .sound) m _ (w .0 .legal) (w .0 .user) (λ h q t z.
+      each-after (storePush (kindOf b) (headFor id b) (metaBits m h) [] q) (clearsTo s p) (λ a.
+      cleared (begins true p id m b) p _ (userText m) (push id (first m b)) refl
+      (record { between = q; taken = t .takes; acted = first-acts (s .overlay) fine id m (w .0) h q t z b (w .1 .0) a }))))
+  advances (begins false p id m b) w =
+      each-user (s .overlay) (fine .sound) m _ (w .0 .legal) (w .0 .user) (λ h q t z.
+      let x = begun id b (w .1 .0) in
+      let y : Pending = record { head = headFor id b; meta = metaBits m h; used = 0 } in
+      let v : Held (q .texts .strings) (kindOf b) (s .parts) y =
+      bare-held x (q .texts .strings) (metaBits m h) (s .parts) (named-legal (s .overlay) fine id m (w .0) h q t z) (head-fits id b (w .0 .fits) (w .1 .0))
+      (named-fits (s .overlay) fine id m (w .0) h q t z) in
+      let u : Held (q .texts .strings) (p .kind) (s .parts) y = rw (w .1 .1) v in
+      leaves (record {
+        comes = record { reader = record { place = p; staged = record { id = id; held = first m b } }; texts = userText m; act = none };
+        is = refl;
+        place = refl;
+        acted = record { between = q; taken = t .takes; acted = no-act };
+        held = u;
+        staged =
+            ap (λ (k : Kind). stagedOf (textsOf (q .texts)) k (s .parts) y) (w .1 .1)
+            ∙ (held-means (q .texts .strings) (kindOf b) (s .parts) y v (textsOf (q .texts)) ∙ first-comes (s .overlay) fine id m (w .0) h q t z b (w .1 .0));
+        small = g .reader .bytes;
+        size = refl;
+      }))
+  advances (deletes k p id m) w =
+      each-admit (admit k id m) _
+      (each-user (s .overlay) (fine .sound) m _ (w .legal) (w .user) (λ h q t z.
+      each-after (storeDelete k id (claimOf m) q) (clearsTo s p) (λ a.
+      cleared (deletes k p id m) p _ (userText m) (delete k id (claimOf m)) refl
+      (record { between = q; taken = t .takes; acted = delete-acts (s .overlay) fine id m w h q t z k a }))))
+  advances (tags p t) w =
+      each-text (s .overlay) (fine .sound) (t .key) _ (w .1 .0) (λ n o a.
+      each-within (tagWithin s t) _ R.TooManyParts (λ c.
+      let u : Tag ℕ = record { key = n; value = t .value } in
+      let c1 = both-left _ _ c in
+      let b = tag-grows kind (pending .head) (pending .meta) (s .parts) (pending .used) (held .held) (held .stages) (held .fits) (omega (arith, g .reader .room)) (held-few _ _ _ _ held) u
+      (handle-fits o (takes-fine fine (a .takes)) n (a .held)) c1 (both-right (leb (pending .head .tags + 1) (limits .tags)) _ c) in
+      grown (tags p t) p (w .0) o (t .key ∷ []) (a .takes) (moreTags (pending .head)) (pending .used) (tagPart n (t .value)) (withTag (held .held) u) (Turn.withTag t) refl refl b
+      (legal-tag (o .texts .strings) (held .held) (more-legal (tags p t) p (w .0) o (t .key ∷ []) (a .takes)) u (a .held) (w .1 .1) (b .few))
+      (tags-fit (pending .head) (held .head) (leb-true (pending .head .tags + 1) 256 c1))
+      (tag-small n (t .value) (w .1 .1))
+      (tag-swapped (textOf now) (textOf (textsOf (o .texts))) (held .held) (before (tags p t) p (w .0) o (t .key ∷ []) (a .takes)) t n (a .text))))
+  advances (refers p z) w =
+      let x = way-body (held .held .body) (held .stages .kind ∙ w .1 .0) in
+      each-within (partWithin s (limits .refs)) _ R.TooManyParts (λ c.
+      let b = ref-grows kind (pending .head) (pending .meta) (s .parts) (pending .used) (held .held) (held .stages) (held .fits) (omega (arith, g .reader .room)) (held-few _ _ _ _ held)
+      (x .0) z (w .1 .0) (x .1) (w .1 .1) c in
+      grown (refers p z) p (w .0) (s .overlay) [] no-text (moreParts (pending .head)) (partPlace s) (refPart (ofZ w64 z)) (withRef (held .held) (x .0) z) (Turn.withRef z) refl refl b
+      (legal-ref (s .overlay .texts .strings) (held .held) (held .lawful) (x .0) z (b .few))
+      (count-fits (pending .head) (held .head) (leb-true (pending .head .count + 1) 2000 c))
+      (ref-small (ofZ w64 z))
+      (ref-swapped (textOf now) (textOf now) (held .held) refl (x .0) z (x .1)))
+  advances (joins p y) w =
+      let x = relation-body (held .held .body) (held .stages .kind ∙ w .1 .0) in
+      each-text (s .overlay) (fine .sound) (y .role) _ (w .1 .1 .1) (λ n o a.
+      each-within (partWithin s (limits .members)) _ R.TooManyParts (λ c.
+      let u : Member ℕ = record { ref = y .ref; type = y .type; role = n } in
+      let b = member-grows kind (pending .head) (pending .meta) (s .parts) (pending .used) (held .held) (held .stages) (held .fits) (omega (arith, g .reader .room)) (held-few _ _ _ _ held)
+      (x .0) u (w .1 .0) (x .1) (w .1 .1 .0) (handle-fits o (takes-fine fine (a .takes)) n (a .held)) c in
+      grown (joins p y) p (w .0) o (y .role ∷ []) (a .takes) (moreParts (pending .head)) (partPlace s) (memberPart (memberBits y n)) (withMember (held .held) (x .0) u) (Turn.withMember y) refl refl b
+      (legal-member (o .texts .strings) (held .held) (more-legal (joins p y) p (w .0) o (y .role ∷ []) (a .takes)) (x .0) u (x .1) (a .held) (b .few))
+      (count-fits (pending .head) (held .head) (leb-true (pending .head .count + 1) 2000 c))
+      (member-small (memberBits y n))
+      (member-swapped (textOf now) (textOf (textsOf (o .texts))) (held .held) (before (joins p y) p (w .0) o (y .role ∷ []) (a .takes)) (x .0) y n (x .1) (a .text))))
+  advances (ends p) w =
+      let b = take (pending .used) (s .parts) in
+      let q = storePush kind (pending .head) (pending .meta) b (s .overlay) in
+      each-after q (clearsTo s p) (λ a.
+      let i = pushes-act kind (pending .head) (pending .meta) b (s .overlay) (held .held) (fine .sound) (held .head) (held .meta) (bytes-take (pending .used) (s .parts) (g .reader .bytes))
+      (stages-back kind (pending .head) (pending .meta) b (held .held) (held .stages)) (held .lawful) a in
+      cleared (ends p) p (q .overlay) [] (push (readerOf s .staged .id) (readerOf s .staged .held)) refl
+      (record { between = s .overlay; taken = no-text; acted = subst (λ (y : Staged). Acts (s .overlay) (some (push (y .id) (y .held))) (q .overlay)) (sym means) i }))
