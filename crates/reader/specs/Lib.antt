@@ -3,3 +3,5 @@ pub mod Given
 pub mod Step
 pub mod Event
 pub mod Means
+pub mod First
+pub mod Table
