@@ -1,3 +1,4 @@
 pub mod Places
 pub mod Lawful
 pub mod Decided
+pub mod Table
