@@ -8,5 +8,4 @@ pub mod Legals
 pub mod Steps
 pub mod Advances
 pub mod Events
-pub mod First
 pub mod Tables

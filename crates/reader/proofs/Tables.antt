@@ -14,6 +14,8 @@ use mir.Val.{toZ, ofZ}
 use borrow.Author.Tests.{leb-true, lt-ltb, le-ltb}
 use Rattle.base.specs.Bytes.{Bytes, both}
 use Rattle.base.proofs.Split.{byBool, both-left, both-right, no, clash}
+use Rattle.refusal.specs.First.{Row, row, firstOf}
+use Rattle.refusal.proofs.First.{before, first-more}
 use Rattle.refusal.specs.declared.Refusal.{Refusal}
 use Rattle.refusal.specs.declared.Refusal.the-variants as R
 use Rattle.kind.specs.declared.Kind.{Kind}
@@ -49,7 +51,8 @@ use Rattle.overlay.proofs.Answers.{strings-sound}
 use Rattle.overlay.proofs.Shelves.{texts-shelf}
 use Rattle.decision.specs.Decision.{Decision, refuses, moves, begins, deletes, tags, refers, joins, ends, decide}
 use Rattle.decision.proofs.Lawful.{Lawful, decide-lawful}
-use Rattle.reader.specs.First.{Row, row, firstOf}
+use Rattle.decision.specs.Table.{refusalIn, decideTable}
+use Rattle.decision.proofs.Table.{decide-first}
 use Rattle.reader.specs.declared.Stop.{Stop}
 use Rattle.reader.specs.declared.Stop.the-variants.{Going, At}
 use Rattle.reader.specs.declared.EventAnswer.the-variants as E
@@ -57,8 +60,7 @@ use Rattle.stage.specs.Stage.{refPart, memberPart, tagPart}
 use Rattle.reader.specs.State.{State, nextLine, stopsBy, isStopped, pendingSound, readerSound, stateSound, moreTags, moreParts}
 use Rattle.reader.specs.Step.{Advanced, Step, goes, stops, unlessBelow, onHandle, withText, metaBits, withUser, onKept, onAfter, clearsTo, stages, headFor, memberBits, tagWithin, partWithin, partPlace, stepOf}
 use Rattle.reader.specs.Event.{EventResult, stepped, eventOn, endAt, endOn}
-use Rattle.reader.specs.Table.{Told, told, answerBy, atLine, regressionRow, textRow, userRow, idsRow, arenaRow, limitRow, storeRows, unsoundRow, stopRows, decisionRows, eventTable, isDone, endTable}
-use Rattle.reader.proofs.First.{before, first-more}
+use Rattle.reader.specs.Table.{Told, told, answerBy, atLine, regressionRow, textRow, userRow, idsRow, arenaRow, limitRow, storeRows, unsoundRow, stopRows, eventTable, isDone, endTable}
 use Rattle.reader.proofs.Answers.{byEvent, byEnd, byLevel}
 use Rattle.reader.proofs.Legals.{claim-same, head-id}
 
@@ -77,9 +79,12 @@ goes-first : (l : Advanced) → By [] (goes l)
 unfolding firstOf
 goes-first l = record { first = refl }
 
-refuses-first : (r : Refusal) (rows : List (Row Refusal)) → By (row r true ∷ rows) (stops r)
-unfolding firstOf
-refuses-first r rows = record { first = refl }
+-- by what the decision refuses, else by the first of the store's rows
+pub record Behind (x : Option Refusal) (rows : List (Row Refusal)) (y : Step) : Type 0 where
+  pub first : refusalOf y ≡ before x (firstOf rows)
+
+behind : {rows : List (Row Refusal)} {y : Step} → By rows y → Behind none rows y
+behind h = record { first = h .first }
 
 -- 12
 by-admit : (a : Admit) (rows : List (Row Refusal)) (x : Step) → (a ≡ Admitted → By rows x) → By (row (R.Regression (heldBy a)) (isBelow a) ∷ rows) (unlessBelow a x)
@@ -160,22 +165,22 @@ module _ (s : State) (e : stateSound s ≡ true) where
   abbrev admit : Kind → ℤ → Meta Bytes → Admit
   admit k id m = checked (s .overlay .setting) (known k (shelfOf k (s .overlay)) id) (claimOf m)
 
-  pub step-first : (d : Decision) → Lawful (s .reader .place) d → By (decisionRows d ++ storeRows d s) (stepOf d s)
+  pub step-first : (d : Decision) → Lawful (s .reader .place) d → Behind (refusalIn d) (storeRows d s) (stepOf d s)
   unfolding stepOf storeRows
-  step-first (refuses r) w = refuses-first r []
-  step-first (moves p) w = goes-first _
+  step-first (refuses r) w = record { first = refl }
+  step-first (moves p) w = behind (goes-first _)
   step-first (begins true p id m b) w =
-      by-admit (admit (kindOf b) id m) _ _ (λ c.
+      behind (by-admit (admit (kindOf b) id m) _ _ (λ c.
       by-user (s .overlay) overlay-sound _ m _ (λ h q y.
       passed (admit (kindOf b) id m) _ _ c
-      (by-push s p (kindOf b) (s .overlay) q y (headFor id b) (metaBits m h) [] id (claimOf m) (head-id id b (w .0 .fits)) (claim-same m (w .0 .legal) h))))
-  step-first (begins false p id m b) w = by-user (s .overlay) overlay-sound [] m _ (λ h q y. goes-first _)
+      (by-push s p (kindOf b) (s .overlay) q y (headFor id b) (metaBits m h) [] id (claimOf m) (head-id id b (w .0 .fits)) (claim-same m (w .0 .legal) h)))))
+  step-first (begins false p id m b) w = behind (by-user (s .overlay) overlay-sound [] m _ (λ h q y. goes-first _))
   step-first (deletes k p id m) w =
-      by-admit (admit k id m) _ _ (λ c.
-      by-user (s .overlay) overlay-sound _ m _ (λ h q y. passed (admit k id m) _ _ c (by-delete s p k (s .overlay) q y id (claimOf m))))
-  step-first (tags p t) w = by-text (s .overlay) overlay-sound _ (t .key) _ (λ h q y. by-limit (tagWithin s t) s q p (moreTags (s .reader .pending .head)) (s .reader .pending .used) (tagPart h (t .value)))
-  step-first (refers p z) w = by-limit (partWithin s (limits .refs)) s (s .overlay) p (moreParts (s .reader .pending .head)) (partPlace s) (refPart (ofZ w64 z))
-  step-first (joins p m) w = by-text (s .overlay) overlay-sound _ (m .role) _ (λ h q y. by-limit (partWithin s (limits .members)) s q p (moreParts (s .reader .pending .head)) (partPlace s) (memberPart (memberBits m h)))
+      behind (by-admit (admit k id m) _ _ (λ c.
+      by-user (s .overlay) overlay-sound _ m _ (λ h q y. passed (admit k id m) _ _ c (by-delete s p k (s .overlay) q y id (claimOf m)))))
+  step-first (tags p t) w = behind (by-text (s .overlay) overlay-sound _ (t .key) _ (λ h q y. by-limit (tagWithin s t) s q p (moreTags (s .reader .pending .head)) (s .reader .pending .used) (tagPart h (t .value))))
+  step-first (refers p z) w = behind (by-limit (partWithin s (limits .refs)) s (s .overlay) p (moreParts (s .reader .pending .head)) (partPlace s) (refPart (ofZ w64 z)))
+  step-first (joins p m) w = behind (by-text (s .overlay) overlay-sound _ (m .role) _ (λ h q y. by-limit (partWithin s (limits .members)) s q p (moreParts (s .reader .pending .head)) (partPlace s) (memberPart (memberBits m h))))
   step-first (ends p) w =
       let x = s .reader .pending in
       let y = by-push s p (s .reader .place .kind) (s .overlay) (s .overlay) (beside (s .overlay) (s .overlay .texts)) (x .head) (x .meta) (take (x .used) (s .parts)) _ _ refl refl in
@@ -223,10 +228,12 @@ pub event-first : (line : Bytes) (s : State) → eventOn line s .answer ≡ answ
 unfolding eventTable
 event-first line s =
     let d = decide line (s .reader .place) in
-    let rows = decisionRows d ++ storeRows d s in
+    let rows = decideTable line (s .reader .place) ++ storeRows d s in
     let z = atLine (nextLine s) rows in
     let going : (x : Step) → stateSound s ≡ true → isStopped (s .reader .stop) ≡ false → stepOf d s ≡ x → stepped s x .answer ≡ answerBy (firstOf (table s z)) =
-    λ x e g f. let y : refusalOf x ≡ firstOf rows = rw f at (step-first s e d (decide-lawful line (s .reader .place)) .first) in
+    λ x e g f. let y : refusalOf x ≡ firstOf rows =
+    ap refusalOf (sym f) ∙ (step-first s e d (decide-lawful line (s .reader .place)) .first
+    ∙ (ap (λ (o : Option Refusal). before o (firstOf (storeRows d s))) (decide-first line (s .reader .place)) ∙ sym (first-more (decideTable line (s .reader .place)) (storeRows d s)))) in
     stepped-answer s x ∙ ap answerBy (ap (toldAt (nextLine s)) y ∙ (sym (first-at (nextLine s) rows) ∙ sym (table-going s z e g))) in
     byEvent line s
     (λ e w. ap (λ (a : EventResult). a .answer) w ∙ ap answerBy (sym (table-22 s z e)))

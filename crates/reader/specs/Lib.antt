@@ -3,5 +3,4 @@ pub mod Given
 pub mod Step
 pub mod Event
 pub mod Means
-pub mod First
 pub mod Table

@@ -10,6 +10,7 @@ use lib.ListN.{length}
 use mir.Syntax.{w64}
 use mir.Val.{toZ}
 use Rattle.base.specs.Bytes.{Bytes, both}
+use Rattle.refusal.specs.First.{Row, row}
 use Rattle.refusal.specs.declared.Refusal.{Refusal}
 use Rattle.refusal.specs.declared.Refusal.the-variants as R
 use Rattle.kind.specs.declared.Kind.{Kind}
@@ -24,7 +25,7 @@ use Rattle.shelf.specs.Shelf.{known, checked, room}
 use Rattle.overlay.specs.Overlay.{Overlay, shelfOf}
 use Rattle.overlay.specs.First.{isBelow, heldBy, fullFor}
 use Rattle.decision.specs.Decision.{Decision, refuses, moves, begins, deletes, tags, refers, joins, ends, decide}
-use Rattle.reader.specs.First.{Row, row}
+use Rattle.decision.specs.Table.{decideTable}
 use Rattle.reader.specs.declared.Stop.{Stop}
 use Rattle.reader.specs.declared.Stop.the-variants.{Going, At}
 use Rattle.reader.specs.declared.EventAnswer.{EventAnswer}
@@ -102,20 +103,10 @@ abbrev pub stopRows : Stop → List (Row Told)
 stopRows Going = []
 stopRows (At r n) = row (told r n) (stopsBy r) ∷ []
 
-abbrev pub decisionRows : Decision → List (Row Refusal)
-decisionRows (refuses r) = row r true ∷ []
-decisionRows (moves p) = []
-decisionRows (begins e p id m b) = []
-decisionRows (deletes k p id m) = []
-decisionRows (tags p t) = []
-decisionRows (refers p z) = []
-decisionRows (joins p m) = []
-decisionRows (ends p) = []
-
 unfoldable pub eventTable : Bytes → State → List (Row Told)
 eventTable line s =
     unsoundRow s ∷ (stopRows (s .reader .stop)
-    ++ atLine (nextLine s) (decisionRows (decide line (s .reader .place)) ++ storeRows (decide line (s .reader .place)) s))
+    ++ atLine (nextLine s) (decideTable line (s .reader .place) ++ storeRows (decide line (s .reader .place)) s))
 
 abbrev pub isDone : Level → Bool
 isDone L.Done = true
