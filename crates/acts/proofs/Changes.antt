@@ -6,7 +6,7 @@ use mathlib.Core.List.{List, [], _∷_, _++_, append-nil, map}
 use Rattle.base.specs.Bytes.{Bytes}
 use Rattle.kind.specs.declared.Kind.{Kind}
 use Rattle.nesting.specs.Name.{nameOf}
-use Rattle.nesting.specs.Nesting.{start, opened, closed}
+use Rattle.nesting.specs.Nesting.{start, opened}
 use Rattle.nesting.specs.Marks.{Mark, opens, empties, closes, taken, step, Change, pushes, deletes, madeAtOpening, madeAtEnd, openedMakes, closedMakes, makes, changesFrom}
 use Rattle.nesting.specs.Grammar.{Document, each, events, changes}
 use Rattle.nesting.proofs.Reading.{Leads, stays, goes, joins, making}

@@ -1,5 +1,5 @@
 -- What a turn comes to: where it makes an act and that it makes none elsewhere, the texts that it takes in, and what every turn keeps of its reader.
-use mathlib.Core.Path.{_≡_, refl, sym, _∙_, ap}
+use mathlib.Core.Path.{_≡_, refl, sym, _∙_}
 use mathlib.Core.Bool.{Bool, true, false}
 use mathlib.Core.Logic.{_↔_}
 use mathlib.Core.Option.{Option, none, some}
@@ -9,6 +9,8 @@ use Rattle.base.specs.Ascii.{ascii}
 use Rattle.base.specs.Bytes.{Bytes, all}
 use Rattle.base.proofs.Split.{byBool, no}
 use Rattle.base.proofs.Lists.{all-nil, all-cons}
+use Rattle.refusal.specs.First.{firstOf}
+use Rattle.refusal.specs.declared.Refusal.{Refusal}
 use Rattle.kind.specs.declared.Kind.{Kind}
 use Rattle.kind.specs.declared.Kind.the-variants as K
 use Rattle.nesting.specs.Name.{nameOf}
@@ -25,6 +27,8 @@ use Rattle.field.specs.Field.{Field, got, bad, idOf, metaOf, bodyFor}
 use Rattle.field.proofs.Fields.{value-all, tag-got, member-got}
 use Rattle.field.proofs.Metadata.{meta-user}
 use Rattle.decision.specs.Decision.{Decision, refuses, moves, begins, deletes, tags, refers, joins, ends, decideReading, decide}
+use Rattle.decision.specs.Table.{refusalIn, decideTable}
+use Rattle.decision.proofs.Table.{decide-first}
 use Rattle.decision.proofs.Lawful.{Lawful, decide-lawful}
 use Rattle.decision.proofs.Decided.{Pushing, Starts, Decides, decided, decides-so}
 use Rattle.decision.proofs.Decided as D
@@ -42,6 +46,29 @@ of-turn P h e = rw e at h
 pub other-does-nothing : (line : Bytes) (r : Reader) → eventOf line ≡ reads others → turn line r ≡ got (record { reader = r; texts = []; act = none })
 unfolding turn turnOf decide
 other-does-nothing line r e = rw (e, decides-so (r .place) D.other)
+
+-- ---- refusals
+
+abbrev pub refusalOf : Field Turn → Option Refusal
+refusalOf (got t) = none
+refusalOf (bad x) = some x
+
+refused-so : (d : Decision) (r : Reader) → refusalOf (turnOf d r) ≡ refusalIn d
+unfolding turnOf
+refused-so (refuses x) r = refl
+refused-so (moves p) r = refl
+refused-so (begins true p id m b) r = refl
+refused-so (begins false p id m b) r = refl
+refused-so (deletes k p id m) r = refl
+refused-so (tags p t) r = refl
+refused-so (refers p z) r = refl
+refused-so (joins p m) r = refl
+refused-so (ends p) r = refl
+
+-- a line is refused by the first row of its table that holds, at the place of its reader and whatever that has put together
+pub turn-first : (line : Bytes) (r : Reader) → refusalOf (turn line r) ≡ firstOf (decideTable line (r .place))
+unfolding turn
+turn-first line r = refused-so (decide line (r .place)) r ∙ decide-first line (r .place)
 
 -- ---- acts
 

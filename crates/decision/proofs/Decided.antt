@@ -1,5 +1,5 @@
 -- What is decided of a line at a place, exactly: for each outcome, where it is decided and nowhere else.
-use mathlib.Core.Path.{_≡_, refl, sym, _∙_, ap}
+use mathlib.Core.Path.{_≡_, refl}
 use mathlib.Core.Bool.{Bool}
 use mathlib.Core.Logic.{_↔_}
 use mathlib.Core.List.{List}
@@ -21,7 +21,7 @@ use Rattle.nesting.specs.declared.Child.the-variants as C
 use Rattle.nesting.specs.declared.Opened.{Opened}
 use Rattle.nesting.specs.declared.Opened.the-variants as O
 use Rattle.model.specs.Record.{Meta, Member, Tag, Body}
-use Rattle.event.specs.Event.{Attr, Event, starts, closes, others, Reading, reads, refused, eventOf}
+use Rattle.event.specs.Event.{Attr, starts, closes, others, Reading, reads, refused, eventOf}
 use Rattle.field.specs.Field.{Field, got, bad, idOf, metaOf, bodyFor, tagOf, refOf, memberOf}
 use Rattle.decision.specs.Decision.{Decision, refuses, moves, begins, deletes, tags, refers, joins, ends, onField, pushBegins, elementBegins, unlessDelete, childOf, decideOpened, decideClosed, decideEvent, decideReading, decide}
 

@@ -1,7 +1,7 @@
 -- What a decision holds is within the bounds of its fields: numbers fit their widths, metadata is legal, texts are text, and the place that it leads to is of the kind
 -- of the element that stands open.
-use Prim.Native.Nat.{ℕ, _≤_}
-use mathlib.Core.Path.{_≡_, refl, sym, _∙_, ap}
+use Prim.Native.Nat.{_≤_}
+use mathlib.Core.Path.{_≡_, refl, ap}
 use mathlib.Core.Bool.{Bool, true, false, cond}
 use mathlib.Core.List.{List, []}
 use mathlib.Core.Option.{Option, none, some}
@@ -10,10 +10,8 @@ use mir.Syntax.{w32, w64}
 use mir.Val.{SFits}
 use Rattle.base.specs.Ascii.{ascii}
 use Rattle.base.specs.Bytes.{Bytes, all}
-use Rattle.base.proofs.Split.{no}
 use Rattle.text.specs.Check.{isText}
 use Rattle.text.proofs.Theorem.{text-nil}
-use Rattle.refusal.specs.declared.Refusal.{Refusal}
 use Rattle.kind.specs.declared.Kind.{Kind}
 use Rattle.kind.specs.declared.Kind.the-variants as K
 use Rattle.nesting.specs.Name.{nameOf}
