@@ -9,6 +9,7 @@ use Rattle.base.proofs.Split.{clash}
 use Rattle.nesting.specs.Name.{nameOf}
 use Rattle.nesting.specs.Nesting.{opened, closed, closedTo}
 use Rattle.nesting.specs.declared.Name.{Name}
+use Rattle.nesting.specs.declared.Action.the-variants as A
 use Rattle.nesting.specs.declared.Level.the-variants as L
 use Rattle.nesting.specs.declared.Place.{Place}
 use Rattle.nesting.specs.declared.Child.{Child}
@@ -174,3 +175,40 @@ element-pushed r {q} line last {lines} {t} {p} {id = id} {m = m} {b = b} d e i l
     let g = line-begins (r .place) (eventOf line) (decide-exactly line (r .place) _ .0 d) in
     let k = children-kept {r = a} (g .0) (g .1) (subst (λ (y : Turn). Inside (y .reader) lines q) (sym h) i) in
     rw (c, decides-so (q .place) (D.end l (k .1)), k .0)
+
+-- ---- a `delete` section
+
+-- "children are checked and dropped": whatever is taken inside an element there takes no text in, makes no act and puts nothing together
+pub record Drops (r : Reader) (t : Turn) : Type 0 where
+  pub staged : t .reader .staged ≡ r .staged
+  pub texts : t .texts ≡ []
+  pub act : t .act ≡ none
+
+module _ (r : Reader) (inside : isInside (r .place .level) ≡ true) (deleting : r .place .section ≡ A.Delete) where
+  start-drops : (e : Bool) (n : Name) (attrs : List Attr) (o : Opened) {d : Decision} → Leads e n (r .place) o → Starts (r .place) e attrs o d → OfTurn (Drops r) (turnOf d r)
+  unfolding turnOf
+  start-drops e n attrs o l D.misplaced = tt
+  start-drops e n attrs o l D.outside = tt
+  start-drops e n attrs o l D.goes = record { staged = refl; texts = refl; act = refl }
+  start-drops e n attrs o l (D.bad-id i) = tt
+  start-drops e n attrs o l (D.bad-meta i j) = tt
+  start-drops e n attrs o l (D.bad-body s i j b) = tt
+  start-drops e n attrs o l (D.begin s i j b) = clash inside (l .outside)
+  start-drops e n attrs o l (D.delete s i j) = clash inside (l .outside)
+  start-drops e n attrs o l (D.bad-child f) = tt
+  start-drops e n attrs o l (D.tag s f) = absurd (s deleting)
+  start-drops e n attrs o l (D.ref s f) = absurd (s deleting)
+  start-drops e n attrs o l (D.member s f) = absurd (s deleting)
+  start-drops e n attrs o l (D.drop s c) = record { staged = refl; texts = refl; act = refl }
+
+  line-drops : {x : Reading} {d : Decision} → Decides (r .place) x d → OfTurn (Drops r) (turnOf d r)
+  unfolding turnOf
+  line-drops D.bad-line = tt
+  line-drops (D.start {e = e} {n = n} {attrs = attrs} s) = start-drops e (nameOf n) attrs (opened e (nameOf n) (r .place)) (leads e (nameOf n) (r .place)) s
+  line-drops (D.end l s) = absurd (s deleting)
+  line-drops (D.close h) = record { staged = refl; texts = refl; act = refl }
+  line-drops D.other = record { staged = refl; texts = refl; act = refl }
+
+  pub delete-drops : (line : Bytes) {t : Turn} → turn line r ≡ got t → Drops r t
+  unfolding turn decide
+  delete-drops line e = of-turn (Drops r) (line-drops (decided (r .place) (eventOf line))) e

@@ -10,7 +10,6 @@ use Rattle.base.specs.Bytes.{Bytes, all}
 use Rattle.base.proofs.Split.{byBool, no}
 use Rattle.base.proofs.Lists.{all-nil, all-cons}
 use Rattle.refusal.specs.First.{firstOf}
-use Rattle.refusal.specs.declared.Refusal.{Refusal}
 use Rattle.kind.specs.declared.Kind.{Kind}
 use Rattle.kind.specs.declared.Kind.the-variants as K
 use Rattle.nesting.specs.Name.{nameOf}
@@ -28,7 +27,7 @@ use Rattle.field.proofs.Fields.{value-all, tag-got, member-got}
 use Rattle.field.proofs.Metadata.{meta-user}
 use Rattle.decision.specs.Decision.{Decision, refuses, moves, begins, deletes, tags, refers, joins, ends, decideReading, decide}
 use Rattle.decision.specs.Table.{refusalIn, decideTable}
-use Rattle.decision.proofs.Table.{decide-first}
+use Rattle.decision.proofs.Table.{refusalOf, decide-first}
 use Rattle.decision.proofs.Lawful.{Lawful, decide-lawful}
 use Rattle.decision.proofs.Decided.{Pushing, Starts, Decides, decided, decides-so}
 use Rattle.decision.proofs.Decided as D
@@ -48,10 +47,6 @@ unfolding turn turnOf decide
 other-does-nothing line r e = rw (e, decides-so (r .place) D.other)
 
 -- ---- refusals
-
-abbrev pub refusalOf : Field Turn → Option Refusal
-refusalOf (got t) = none
-refusalOf (bad x) = some x
 
 refused-so : (d : Decision) (r : Reader) → refusalOf (turnOf d r) ≡ refusalIn d
 unfolding turnOf

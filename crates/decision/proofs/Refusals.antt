@@ -42,7 +42,7 @@ first-gives P (r ∷ rows) {a} h e =
     (λ t. first-gives P rows (all-tail _ r rows h) (rw t at e))
 
 -- 7 to 11
-abbrev pub isField : Refusal → Bool
+abbrev isField : Refusal → Bool
 isField r = both (leb 7 (numberOf r)) (leb (numberOf r) 11)
 
 abbrev fieldsGive : List (Row Refusal) → Bool
@@ -82,26 +82,26 @@ pub record Opens (line : Bytes) (p : Place) (o : Opened) : Type 0 where
   pub leads-to : opened empty (nameOf name) p ≡ o
 
 -- where a refusal is given: line, nesting or fields
-pub data Refused (line : Bytes) (p : Place) : Refusal → Type 0 where
-  at-line : {r : Refusal} → eventOf line ≡ refused r → 2 ≤ numberOf r → numberOf r ≤ 4 → Refused line p r
-  misplaced : Opens line p O.Misplaced → Refused line p R.Misplaced
-  outside : Opens line p O.OutsideSection → Refused line p R.OutsideSection
-  at-field : {r : Refusal} → 7 ≤ numberOf r → numberOf r ≤ 11 → Refused line p r
+pub data RefusedAt (line : Bytes) (p : Place) : Refusal → Type 0 where
+  at-line : {r : Refusal} → eventOf line ≡ refused r → 2 ≤ numberOf r → numberOf r ≤ 4 → RefusedAt line p r
+  misplaced : Opens line p O.Misplaced → RefusedAt line p R.Misplaced
+  outside : Opens line p O.OutsideSection → RefusedAt line p R.OutsideSection
+  at-field : {r : Refusal} → 7 ≤ numberOf r → numberOf r ≤ 11 → RefusedAt line p r
 
 module _ (line : Bytes) (p : Place) where
-  line-refused : {r : Refusal} → eventOf line ≡ refused r → Refused line p r
+  line-refused : {r : Refusal} → eventOf line ≡ refused r → RefusedAt line p r
   line-refused {r} e = ⊎-elim (λ q. by (rw q (omega arith))) (λ s. ⊎-elim (λ q. by (rw q (omega arith))) (λ q. by (rw q (omega arith))) s) (no-other line r e)
     where
-      by : (2 ≤ numberOf r) × (numberOf r ≤ 4) → Refused line p r
+      by : (2 ≤ numberOf r) × (numberOf r ≤ 4) → RefusedAt line p r
       by h = at-line e (h .0) (h .1)
 
-  field-refused : (rows : List (Row Refusal)) {r : Refusal} → fieldsGive rows ≡ true → firstOf rows ≡ some r → Refused line p r
+  field-refused : (rows : List (Row Refusal)) {r : Refusal} → fieldsGive rows ≡ true → firstOf rows ≡ some r → RefusedAt line p r
   field-refused rows {r} h e =
       let k = first-gives isField rows h e in
       at-field (leb-true 7 (numberOf r) (both-left _ _ k)) (leb-true (numberOf r) 11 (both-right _ _ k))
 
   start-refused : (e : Bool) (n : Bytes) (attrs : List Attr) {r : Refusal} → eventOf line ≡ reads (starts e n attrs) → (o : Opened) → opened e (nameOf n) p ≡ o
-      → firstOf (startRows o (p .section) attrs) ≡ some r → Refused line p r
+      → firstOf (startRows o (p .section) attrs) ≡ some r → RefusedAt line p r
   unfolding firstOf
   start-refused e n attrs {r} q O.Misplaced l h =
       let k : R.Misplaced ≡ r = cc in rw (← k) (misplaced (record { empty = e; name = n; attrs = attrs; reading = q; leads-to = l }))
@@ -112,17 +112,17 @@ module _ (line : Bytes) (p : Place) where
   start-refused e n attrs q (O.Holds c s) l h = field-refused _ (fields-give (O.Holds c s) (p .section) attrs) h
 
   -- every refusal has its place and its numbers
-  pub refused-at : (r : Refusal) → decide line p ≡ refuses r → Refused line p r
+  pub refused-at : (r : Refusal) → decide line p ≡ refuses r → RefusedAt line p r
   unfolding decide decideEvent
   refused-at r h = go (eventOf line) refl (ap refusalIn h)
     where
-      go : (x : Reading) → eventOf line ≡ x → refusalIn (decideReading x p) ≡ some r → Refused line p r
+      go : (x : Reading) → eventOf line ≡ x → refusalIn (decideReading x p) ≡ some r → RefusedAt line p r
       go (reads (starts e n attrs)) q k = start-refused e n attrs q (opened e (nameOf n) p) refl (sym (start-first attrs (opened e (nameOf n) p) e (p .section)) ∙ k)
       go (reads closes) q k = no (cc (close-taken p (decided p (reads closes))))
       go (reads others) q k = no (cc)
       go (refused y) q k = let z : y ≡ r = cc in line-refused (q ∙ ap refused z)
 
-  within-eleven : {r : Refusal} → Refused line p r → (2 ≤ numberOf r) × (numberOf r ≤ 11)
+  within-eleven : {r : Refusal} → RefusedAt line p r → (2 ≤ numberOf r) × (numberOf r ≤ 11)
   within-eleven (at-line e a b) = (a, omega arith)
   within-eleven (misplaced o) = (omega arith, omega arith)
   within-eleven (outside o) = (omega arith, omega arith)
@@ -132,13 +132,13 @@ module _ (line : Bytes) (p : Place) where
   pub decide-within : (r : Refusal) → decide line p ≡ refuses r → (2 ≤ numberOf r) × (numberOf r ≤ 11)
   decide-within r h = within-eleven (refused-at r h)
 
-  fifth : {r : Refusal} → Refused line p r → numberOf r ≡ 5 → Opens line p O.Misplaced
+  fifth : {r : Refusal} → RefusedAt line p r → numberOf r ≡ 5 → Opens line p O.Misplaced
   fifth (at-line e a b) q = absurd (omega arith)
   fifth (misplaced o) q = o
   fifth (outside o) q = absurd (omega arith)
   fifth (at-field a b) q = absurd (omega arith)
 
-  sixth : {r : Refusal} → Refused line p r → numberOf r ≡ 6 → Opens line p O.OutsideSection
+  sixth : {r : Refusal} → RefusedAt line p r → numberOf r ≡ 6 → Opens line p O.OutsideSection
   sixth (at-line e a b) q = absurd (omega arith)
   sixth (misplaced o) q = absurd (omega arith)
   sixth (outside o) q = o

@@ -37,13 +37,14 @@ use Rattle.field.proofs.Fields.{value-none, byField, text-got, integer-got, typ
 use Rattle.field.proofs.Metadata.{Took, Fault, present, sets, with-got, with-bad}
 use Rattle.field.proofs.Metadata as M
 use Rattle.decision.specs.Decision.{Decision, onField, pushBegins, elementBegins, unlessDelete, childOf, decideOpened, decideEvent, decide}
-use Rattle.decision.specs.Table.{refusalIn, isNone, value, missingRow, integerRows, exceeds, coordinateRows, badInteger, badStamp, metaRows, placeRows, elementRows, isKindWord, childRows, startRows, eventRows, decideTable}
+use Rattle.decision.specs.Table.{refusalIn, isNone, valueOrEmpty, missingRow, integerRows, exceeds, coordinateRows, badInteger, badStamp, metaRows, placeRows, elementRows, isKindWord, childRows, startRows, eventRows, decideTable}
 use Rattle.decision.proofs.Decided.{Decides, decided}
 use Rattle.decision.proofs.Decided as D
 
 -- ---- one field after the other
 
-abbrev refusalOf : {A : Type 0} → Field A → Option Refusal
+-- the refusal of a field, if it is one
+abbrev pub refusalOf : {A : Type 0} → Field A → Option Refusal
 refusalOf (got a) = none
 refusalOf (bad r) = some r
 
@@ -82,13 +83,13 @@ module _ (n : Bytes) (attrs : List Attr) where
   integer-first : (w : Width) → refusalOf (integerField w n attrs) ≡ firstOf (integerRows n attrs w)
   unfolding integerField firstOf
   integer-first w =
-      then-first (textField n attrs) _ (missingRow n attrs ∷ []) (row R.NotInteger (isNone (integerOf w (value n attrs))) ∷ []) text-first
+      then-first (textField n attrs) _ (missingRow n attrs ∷ []) (row R.NotInteger (isNone (integerOf w (valueOrEmpty n attrs))) ∷ []) text-first
       (λ v e. rw (text-got n attrs v .0 e) (or-first R.NotInteger (integerOf w v)))
 
   coordinate-first : (limit : ℕ) → refusalOf (coordinate n limit attrs) ≡ firstOf (coordinateRows n attrs limit)
   unfolding firstOf
   coordinate-first limit =
-      then-first (integerField w32 n attrs) (within limit) (integerRows n attrs w32) (row R.CoordinateRange (exceeds limit (integerOf w32 (value n attrs))) ∷ []) (integer-first w32)
+      then-first (integerField w32 n attrs) (within limit) (integerRows n attrs w32) (row R.CoordinateRange (exceeds limit (integerOf w32 (valueOrEmpty n attrs))) ∷ []) (integer-first w32)
       (λ z e. let g = integer-got n attrs w32 z .0 e in
       rw (g .1 .0, g .1 .1) (byLe (natAbs z) limit (λ h. rw (le-leb (natAbs z) limit h, le-ltb limit (natAbs z) h)) (λ h. rw (lt-leb (natAbs z) limit h, lt-ltb limit (natAbs z) h))))
 
@@ -204,7 +205,7 @@ module _ (attrs : List Attr) where
       (λ k e. last-first (textField (ascii "v") attrs) _ ∙ text-first _ attrs)
   child-first C.Nd a p = field-first (refOf attrs) _ (λ z. unless-taken a p _ refl) ∙ integer-first _ attrs w64
   child-first C.Member a p =
-      let typed : Row Refusal = row R.MemberType (not (isKindWord (value (ascii "type") attrs))) in
+      let typed : Row Refusal = row R.MemberType (not (isKindWord (valueOrEmpty (ascii "type") attrs))) in
       field-first (memberOf attrs) _ (λ m. unless-taken a p _ refl)
       ∙ then-first (textField (ascii "type") attrs) _ (missingRow (ascii "type") attrs ∷ []) (typed ∷ integerRows (ascii "ref") attrs w64) (text-first _ attrs)
       (λ t e. then-first (typeNamed (nameOf t)) _ (typed ∷ []) (integerRows (ascii "ref") attrs w64) (rw (text-got _ attrs t .0 e) (type-first t))
