@@ -95,13 +95,8 @@ module _ (r : Reader) {a : Act Bytes} where
   unfolding turnOf
   start-makes e o h (D.begin {id = id} {m = m} {b = b} p i j x) y = begin-makes e id m b h p i j x y
   start-makes e o h (D.delete {k = k} {id = id} {m = m} s i j) y = let z : delete k id (claimOf m) ≡ a = cc in rw (← z) (at-opening h s i j)
-  start-makes e o h D.misplaced y = no (cc)
-  start-makes e o h D.outside y = no (cc)
+  start-makes e o h (D.refuse x) y = no (cc)
   start-makes e o h D.goes y = no (cc)
-  start-makes e o h (D.bad-id i) y = no (cc)
-  start-makes e o h (D.bad-meta i j) y = no (cc)
-  start-makes e o h (D.bad-body p i j x) y = no (cc)
-  start-makes e o h (D.bad-child f) y = no (cc)
   start-makes e o h (D.tag p f) y = no (cc)
   start-makes e o h (D.ref p f) y = no (cc)
   start-makes e o h (D.member p f) y = no (cc)
@@ -203,15 +198,10 @@ module _ (p : Bytes → Bool) (empty : p [] ≡ true) where
 
     start-texts : (e : Bool) (attrs : List Attr) {d : Decision} {o : Opened} → all (λ a. p (a .value)) attrs ≡ true → Starts (r .place) e attrs o d → Texts (turnOf d r)
     unfolding turnOf
-    start-texts e attrs h D.misplaced = tt
-    start-texts e attrs h D.outside = tt
+    start-texts e attrs h (D.refuse x) = tt
     start-texts e attrs h D.goes = all-nil p
-    start-texts e attrs h (D.bad-id i) = tt
-    start-texts e attrs h (D.bad-meta i j) = tt
-    start-texts e attrs h (D.bad-body s i j x) = tt
     start-texts e attrs h (D.begin {q = q} {id = id} {m = m} {b = b} s i j x) = begun-texts e q id m b (user-all m (meta-user p attrs empty h j))
     start-texts e attrs h (D.delete {m = m} s i j) = user-all m (meta-user p attrs empty h j)
-    start-texts e attrs h (D.bad-child f) = tt
     start-texts e attrs h (D.tag {t = t} s f) = one (value-all p (ascii "k") attrs h (tag-got attrs t .0 f .0))
     start-texts e attrs h (D.ref s f) = all-nil p
     start-texts e attrs h (D.member {m = m} s f) = one (rw (member-got attrs m .0 f .1 .1) (role-all attrs (valueOf (ascii "role") attrs) h refl))

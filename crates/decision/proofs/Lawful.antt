@@ -78,15 +78,10 @@ module _ (attrs : List Attr) (h : all (λ (a : Attr). isText (a .value)) attrs �
   begun-kind false k p l = ap (λ (x : Place). x .kind) l
 
   start-lawful : (e : Bool) (n : Name) (p : Place) (o : Opened) {d : Decision} → Leads e n p o → Starts p e attrs o d → Lawful p d
-  start-lawful e n p o l D.misplaced = tt
-  start-lawful e n p o l D.outside = tt
+  start-lawful e n p o l (D.refuse x) = tt
   start-lawful e n p o l D.goes = l .kind
-  start-lawful e n p o l (D.bad-id i) = tt
-  start-lawful e n p o l (D.bad-meta i j) = tt
-  start-lawful e n p o l (D.bad-body s i j x) = tt
   start-lawful e n p o l (D.begin {k = k} s i j x) = let f = body-first attrs k x in (given i j, (f .0, rw (f .1) (begun-kind e k p (l .leads-to))))
   start-lawful e n p o l (D.delete s i j) = given i j
-  start-lawful e n p o l (D.bad-child f) = tt
   start-lawful e n p o l (D.tag {t = t} s f) = let g = tag-got attrs t .0 f in (l .kind, (value-all isText (ascii "k") attrs h (g .0), value-all isText (ascii "v") attrs h (g .1)))
   start-lawful e n p o l (D.ref s f) = (l .kind, (l .child-of, ref-fits attrs f))
   start-lawful e n p o l (D.member {m = m} s f) =
