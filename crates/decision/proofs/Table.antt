@@ -1,28 +1,26 @@
 -- A line is refused before the store by the first condition of its table that holds, and where none holds it is not refused.
 use Prim.Native.Nat.{ℕ}
-use mathlib.Core.Path.{_≡_, refl, sym, _∙_, ap}
-use mathlib.Core.Bool.{Bool, true, false, not, cond}
+use mathlib.Core.Path.{_≡_, refl, sym, _∙_}
+use mathlib.Core.Bool.{Bool, true, false, not}
 use mathlib.Core.Option.{Option, none, some}
 use mathlib.Core.List.{List, [], _∷_, _++_}
-use lib.Dec.{leb, ltb}
-use lib.IntN.{ℤ, natAbs}
+use lib.IntN.{natAbs}
 use lib.ListN.{length}
 use mir.Syntax.{Width, w32, w64}
 use borrow.Author.Tests.{lt-ltb, le-ltb, le-leb, lt-leb}
 use Rattle.base.specs.Ascii.{ascii}
-use Rattle.base.specs.Bytes.{Bytes, both, either, all, same}
+use Rattle.base.specs.Bytes.{Bytes, both, either, same}
 use Rattle.base.proofs.Split.{byBool, byLe, clash, no}
 use Rattle.base.proofs.Lists.{same-yes}
 use Rattle.refusal.specs.First.{Row, row, firstOf}
-use Rattle.refusal.proofs.First.{before, first-more}
+use Rattle.refusal.proofs.First.{first-more}
 use Rattle.refusal.specs.declared.Refusal.{Refusal}
 use Rattle.refusal.specs.declared.Refusal.the-variants as R
 use Rattle.integer.specs.Integer.{integerOf}
-use Rattle.stamp.specs.Stamp.{stamp}
 use Rattle.kind.specs.declared.Kind.{Kind}
 use Rattle.kind.specs.declared.Kind.the-variants as K
 use Rattle.nesting.specs.Name.{nameOf}
-use Rattle.nesting.specs.Nesting.{opened, closed}
+use Rattle.nesting.specs.Nesting.{opened}
 use Rattle.nesting.specs.declared.Action.{Action}
 use Rattle.nesting.specs.declared.Action.the-variants as A
 use Rattle.nesting.specs.declared.Place.{Place}
@@ -31,21 +29,22 @@ use Rattle.nesting.specs.declared.Child.the-variants as C
 use Rattle.nesting.specs.declared.Opened.{Opened}
 use Rattle.nesting.specs.declared.Opened.the-variants as O
 use Rattle.model.specs.Record.{Meta}
-use Rattle.event.specs.Event.{Attr, named, valueOf, orEmpty, Event, starts, closes, others, Reading, reads, refused, body, eventOf}
+use Rattle.event.specs.Event.{Attr, named, valueOf, Event, starts, closes, others, reads, body}
 use Rattle.event.proofs.Refusals.{by-line}
 use Rattle.event.proofs.Events.{judged-legal}
 use Rattle.field.specs.Field.{Field, got, bad, andThen, orElse, textField, integerField, within, coordinate, latitude, longitude, idOf, metaWith, metaFrom, metaOf, noMeta, bodyFor, tagOf, refOf, typeNamed, memberOf}
 use Rattle.field.proofs.Fields.{value-none, byField, text-got, integer-got, type-got, type-bad, wordOf}
 use Rattle.field.proofs.Metadata.{Took, Fault, present, sets, with-got, with-bad}
 use Rattle.field.proofs.Metadata as M
-use Rattle.decision.specs.Decision.{Decision, onField, pushBegins, elementBegins, unlessDelete, childOf, decideOpened, decideEvent, decideReading, decide}
-use Rattle.decision.specs.Table.{refusalIn, isNone, value, missingRow, integerRows, exceeds, coordinateRows, badInteger, badStamp, metaRows, placeRows, elementRows, isKindWord, childRows, fieldRows, startRows, eventRows, decideTable}
+use Rattle.decision.specs.Decision.{Decision, onField, pushBegins, elementBegins, unlessDelete, childOf, decideOpened, decideEvent, decide}
+use Rattle.decision.specs.Table.{refusalIn, isNone, valueOrEmpty, missingRow, integerRows, exceeds, coordinateRows, badInteger, badStamp, metaRows, placeRows, elementRows, isKindWord, childRows, startRows, eventRows, decideTable}
 use Rattle.decision.proofs.Decided.{Decides, decided}
 use Rattle.decision.proofs.Decided as D
 
 -- ---- one field after the other
 
-abbrev refusalOf : {A : Type 0} → Field A → Option Refusal
+-- the refusal of a field, if it is one
+abbrev pub refusalOf : {A : Type 0} → Field A → Option Refusal
 refusalOf (got a) = none
 refusalOf (bad r) = some r
 
@@ -84,13 +83,13 @@ module _ (n : Bytes) (attrs : List Attr) where
   integer-first : (w : Width) → refusalOf (integerField w n attrs) ≡ firstOf (integerRows n attrs w)
   unfolding integerField firstOf
   integer-first w =
-      then-first (textField n attrs) _ (missingRow n attrs ∷ []) (row R.NotInteger (isNone (integerOf w (value n attrs))) ∷ []) text-first
+      then-first (textField n attrs) _ (missingRow n attrs ∷ []) (row R.NotInteger (isNone (integerOf w (valueOrEmpty n attrs))) ∷ []) text-first
       (λ v e. rw (text-got n attrs v .0 e) (or-first R.NotInteger (integerOf w v)))
 
   coordinate-first : (limit : ℕ) → refusalOf (coordinate n limit attrs) ≡ firstOf (coordinateRows n attrs limit)
   unfolding firstOf
   coordinate-first limit =
-      then-first (integerField w32 n attrs) (within limit) (integerRows n attrs w32) (row R.CoordinateRange (exceeds limit (integerOf w32 (value n attrs))) ∷ []) (integer-first w32)
+      then-first (integerField w32 n attrs) (within limit) (integerRows n attrs w32) (row R.CoordinateRange (exceeds limit (integerOf w32 (valueOrEmpty n attrs))) ∷ []) (integer-first w32)
       (λ z e. let g = integer-got n attrs w32 z .0 e in
       rw (g .1 .0, g .1 .1) (byLe (natAbs z) limit (λ h. rw (le-leb (natAbs z) limit h, le-ltb limit (natAbs z) h)) (λ h. rw (lt-leb (natAbs z) limit h, lt-ltb limit (natAbs z) h))))
 
@@ -206,13 +205,13 @@ module _ (attrs : List Attr) where
       (λ k e. last-first (textField (ascii "v") attrs) _ ∙ text-first _ attrs)
   child-first C.Nd a p = field-first (refOf attrs) _ (λ z. unless-taken a p _ refl) ∙ integer-first _ attrs w64
   child-first C.Member a p =
-      let typed : Row Refusal = row R.MemberType (not (isKindWord (value (ascii "type") attrs))) in
+      let typed : Row Refusal = row R.MemberType (not (isKindWord (valueOrEmpty (ascii "type") attrs))) in
       field-first (memberOf attrs) _ (λ m. unless-taken a p _ refl)
       ∙ then-first (textField (ascii "type") attrs) _ (missingRow (ascii "type") attrs ∷ []) (typed ∷ integerRows (ascii "ref") attrs w64) (text-first _ attrs)
       (λ t e. then-first (typeNamed (nameOf t)) _ (typed ∷ []) (integerRows (ascii "ref") attrs w64) (rw (text-got _ attrs t .0 e) (type-first t))
       (λ k f. last-first (integerField w64 (ascii "ref") attrs) _ ∙ integer-first _ attrs w64))
 
-  start-first : (o : Opened) (e : Bool) (a : Action) → refusalIn (decideOpened o e a attrs) ≡ firstOf (startRows o a attrs)
+  pub start-first : (o : Opened) (e : Bool) (a : Action) → refusalIn (decideOpened o e a attrs) ≡ firstOf (startRows o a attrs)
   unfolding firstOf
   start-first O.Misplaced e a = refl
   start-first O.OutsideSection e a = refl
@@ -220,7 +219,7 @@ module _ (attrs : List Attr) where
   start-first (O.Begins k p) e a = element-first a e k p
   start-first (O.Holds c p) e a = child-first c a p
 
-close-taken : (p : Place) {d : Decision} → Decides p (reads closes) d → refusalIn d ≡ none
+pub close-taken : (p : Place) {d : Decision} → Decides p (reads closes) d → refusalIn d ≡ none
 close-taken p (D.end l s) = refl
 close-taken p (D.close h) = refl
 

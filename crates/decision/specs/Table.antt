@@ -51,19 +51,19 @@ exceeds limit none = false
 exceeds limit (some z) = ltb limit (natAbs z)
 
 module _ (n : Bytes) (attrs : List Attr) where
-  abbrev pub value : Bytes
-  value = orEmpty (valueOf n attrs)
+  abbrev pub valueOrEmpty : Bytes
+  valueOrEmpty = orEmpty (valueOf n attrs)
 
   abbrev pub missingRow : Row Refusal
   missingRow = row R.Missing (not (named n attrs))
 
   -- 7, 8
   abbrev pub integerRows : Width → List (Row Refusal)
-  integerRows w = missingRow ∷ row R.NotInteger (isNone (integerOf w value)) ∷ []
+  integerRows w = missingRow ∷ row R.NotInteger (isNone (integerOf w valueOrEmpty)) ∷ []
 
   -- 7, 8, 10
   abbrev pub coordinateRows : ℕ → List (Row Refusal)
-  coordinateRows limit = integerRows w32 ++ (row R.CoordinateRange (exceeds limit (integerOf w32 value)) ∷ [])
+  coordinateRows limit = integerRows w32 ++ (row R.CoordinateRange (exceeds limit (integerOf w32 valueOrEmpty)) ∷ [])
 
 -- "Version, uid .. are i32; .. changeset i64"
 abbrev pub badInteger : Attr → Bool
@@ -102,7 +102,7 @@ isKindWord v = either (same v (ascii "node")) (either (same v (ascii "way")) (sa
 abbrev pub childRows : Child → List Attr → List (Row Refusal)
 childRows C.Tag attrs = missingRow (ascii "k") attrs ∷ missingRow (ascii "v") attrs ∷ []
 childRows C.Nd attrs = integerRows (ascii "ref") attrs w64
-childRows C.Member attrs = missingRow (ascii "type") attrs ∷ row R.MemberType (not (isKindWord (value (ascii "type") attrs))) ∷ integerRows (ascii "ref") attrs w64
+childRows C.Member attrs = missingRow (ascii "type") attrs ∷ row R.MemberType (not (isKindWord (valueOrEmpty (ascii "type") attrs))) ∷ integerRows (ascii "ref") attrs w64
 
 abbrev pub fieldRows : Opened → Action → List Attr → List (Row Refusal)
 fieldRows O.Misplaced a attrs = []
