@@ -14,7 +14,7 @@ use Rattle.interner.specs.Sound.{distinct, firstEmpty}
 use Rattle.interner.proofs.Held.{take-held, take-new, grown-all, text-stays-all, distinct-new, first-empty-more, empty-handle, handle-new, raised}
 use Rattle.model.specs.Act.{Act}
 use Rattle.field.specs.Field.{Field, got, bad}
-use Rattle.acts.specs.Turn.{Reader, Turn, turn}
+use Rattle.acts.specs.Turn.{Reader, fresh, Turn, turn}
 use Rattle.acts.specs.Call.{Call, interns, pushes, deletes, hears, ends, Answered, World, begin, turned, outcome, actsBefore, worldAfter, actsFrom, actsOf}
 use Rattle.acts.proofs.Turns.{actIn, KindAgrees, fresh-agrees, turn-agrees}
 
@@ -157,27 +157,18 @@ reader-alone w (c ∷ cs) n =
     (λ t. rw t (reader-alone w cs n))
 
 -- in every reader the element is of the kind that stands open
-pub outcome-agrees : (w : World) (c : Call) → ((n : ℕ) → KindAgrees (w .readers n)) → (n : ℕ) → KindAgrees (outcome w c .world .readers n)
-unfolding outcome
-outcome-agrees w (interns t) h n = h n
-outcome-agrees w (pushes id none) h n = h n
-outcome-agrees w (pushes id (some r)) h n = h n
-outcome-agrees w (deletes k id m) h n = h n
-outcome-agrees w (hears m s) h n = go (turn s (w .readers m)) refl
+lines-agree : (r : Reader) (lines : List Bytes) → KindAgrees r → KindAgrees (readerAfter r lines)
+unfolding readerAfter
+lines-agree r [] h = h
+lines-agree r (line ∷ lines) h = lines-agree (readerLeft r (turn line r)) lines (go (turn line r) refl)
   where
-    go : (f : Field Turn) → turn s (w .readers m) ≡ f → KindAgrees (turned w m f .world .readers n)
-    go (bad x) e = h n
-    go (got t) e = byBool (eqb n m) (λ q. rw q (turn-agrees s (w .readers m) (h m) e)) (λ q. rw q (h n))
-outcome-agrees w (ends m) h n = h n
-
-pub after-agrees : (w : World) (cs : List Answered) → ((n : ℕ) → KindAgrees (w .readers n)) → (n : ℕ) → KindAgrees (worldAfter w cs .readers n)
-unfolding worldAfter
-after-agrees w [] h n = h n
-after-agrees w (c ∷ cs) h n = byBool (c .accepted) (λ t. rw t (after-agrees (outcome w (c .call) .world) cs (outcome-agrees w (c .call) h) n)) (λ t. rw t (after-agrees w cs h n))
+    go : (f : Field Turn) → turn line r ≡ f → KindAgrees (readerLeft r f)
+    go (got t) e = turn-agrees line r h e
+    go (bad x) e = h
 
 -- in every list, and at every place of it
 pub reached-agrees : (cs : List Answered) (n : ℕ) → KindAgrees (worldAfter begin cs .readers n)
-reached-agrees cs n = after-agrees begin cs (λ m. fresh-agrees) n
+reached-agrees cs n = rw (reader-alone begin cs n) (lines-agree fresh (linesOf n cs) fresh-agrees)
 
 -- ---- texts
 

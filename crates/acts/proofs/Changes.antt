@@ -6,7 +6,7 @@ use mathlib.Core.List.{List, [], _∷_, _++_, append-nil, map}
 use Rattle.base.specs.Bytes.{Bytes}
 use Rattle.kind.specs.declared.Kind.{Kind}
 use Rattle.nesting.specs.Name.{nameOf}
-use Rattle.nesting.specs.Nesting.{start, opened, closed}
+use Rattle.nesting.specs.Nesting.{start, opened}
 use Rattle.nesting.specs.Marks.{Mark, opens, empties, closes, taken, step, Change, pushes, deletes, madeAtOpening, madeAtEnd, openedMakes, closedMakes, makes, changesFrom}
 use Rattle.nesting.specs.Grammar.{Document, each, events, changes}
 use Rattle.nesting.proofs.Reading.{Leads, stays, goes, joins, making}
@@ -106,15 +106,10 @@ module _ (r : Reader) where
   start-makes : (e : Bool) (attrs : List Attr) {o : Opened} {d : Decision} → Starts (r .place) e attrs o d
       → OfTurn (λ t. (taken o ≡ some (t .reader .place)) × (openedMakes e (r .place .section) o ≡ changesBy (t .act))) (turnOf d r)
   unfolding turnOf taken openedMakes madeAtOpening
-  start-makes e attrs D.misplaced = tt
-  start-makes e attrs D.outside = tt
+  start-makes e attrs (D.refuse x) = tt
   start-makes e attrs D.goes = (refl, refl)
-  start-makes e attrs (D.bad-id i) = tt
-  start-makes e attrs (D.bad-meta i j) = tt
-  start-makes e attrs (D.bad-body s i j x) = tt
   start-makes e attrs (D.begin {k = k} {q = q} {id = id} {m = m} {b = b} s i j x) = begun-makes e k q id m b (r .place .section) s (body-first attrs k x .1)
   start-makes e attrs (D.delete s i j) = (refl, rw s)
-  start-makes e attrs (D.bad-child f) = tt
   start-makes e attrs (D.tag s f) = (refl, refl)
   start-makes e attrs (D.ref s f) = (refl, refl)
   start-makes e attrs (D.member s f) = (refl, refl)

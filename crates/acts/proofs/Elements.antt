@@ -5,25 +5,28 @@ use mathlib.Core.Option.{Option, none, some}
 use mathlib.Core.List.{List, [], _∷_, _++_, append-assoc, append-nil}
 use lib.IntN.{ℤ}
 use Rattle.base.specs.Bytes.{Bytes}
-use Rattle.base.proofs.Split.{clash}
+use Rattle.base.proofs.Split.{clash, no}
+use Rattle.kind.specs.declared.Kind.the-variants as K
 use Rattle.nesting.specs.Name.{nameOf}
 use Rattle.nesting.specs.Nesting.{opened, closed, closedTo}
 use Rattle.nesting.specs.declared.Name.{Name}
+use Rattle.nesting.specs.declared.Action.the-variants as A
 use Rattle.nesting.specs.declared.Level.the-variants as L
 use Rattle.nesting.specs.declared.Place.{Place}
 use Rattle.nesting.specs.declared.Child.{Child}
 use Rattle.nesting.specs.declared.Child.the-variants as C
 use Rattle.nesting.specs.declared.Opened.{Opened}
-use Rattle.model.specs.Record.{Meta, Member, Tag, Body, place, refs, members}
+use Rattle.model.specs.Record.{Meta, Member, Tag, Body, place, refs, members, kindOf}
 use Rattle.model.specs.Act.{push}
 use Rattle.event.specs.Event.{Attr, starts, closes, others, Reading, reads, refused, eventOf}
 use Rattle.field.specs.Field.{Field, got, bad, tagOf, refOf, memberOf}
-use Rattle.decision.specs.Decision.{Decision, begins, decide}
+use Rattle.decision.specs.Decision.{Decision, begins, refers, joins, decide}
+use Rattle.decision.proofs.Lawful.{Lawful, decide-lawful}
 use Rattle.decision.proofs.Places.{childNamed, isInside, Leads, leads}
 use Rattle.decision.proofs.Decided.{Pushing, Starts, Decides, decided, decides-so, decide-exactly}
 use Rattle.decision.proofs.Decided as D
 use Rattle.acts.specs.Turn.{Staged, Reader, Turn, first, userText, bodyWithRef, bodyWithMember, turnOf, turn}
-use Rattle.acts.proofs.Turns.{OfTurn, of-turn, actIn}
+use Rattle.acts.proofs.Turns.{OfTurn, of-turn, actIn, KindAgrees}
 
 -- ---- the children among some lines
 
@@ -95,6 +98,24 @@ module _ (s : Staged) where
   with-none : s ≡ withChildren s noChildren
   with-none = grows-by noChildren (grown-none (s .held .body) []) (sym (append-nil (s .held .tags)))
 
+-- where a ref or a member is taken the element that stands open has that list
+way-body : (b : Body Bytes) → kindOf b ≡ K.Way → (rs : List ℤ) × (b ≡ refs rs)
+way-body (place lat lon) e = no (cc)
+way-body (refs rs) e = (rs, refl)
+way-body (members ms) e = no (cc)
+
+relation-body : (b : Body Bytes) → kindOf b ≡ K.Relation → (ms : List (Member Bytes)) × (b ≡ members ms)
+relation-body (place lat lon) e = no (cc)
+relation-body (refs rs) e = no (cc)
+relation-body (members ms) e = (ms, refl)
+
+module _ (line : Bytes) (r : Reader) (agrees : KindAgrees r) (q : Place) where
+  pub has-refs : (z : ℤ) → decide line (r .place) ≡ refers q z → (rs : List ℤ) × (r .staged .held .body ≡ refs rs)
+  has-refs z e = let l : Lawful (r .place) (refers q z) = rw e at (decide-lawful line (r .place)) in way-body (r .staged .held .body) (agrees ∙ l .1 .0)
+
+  pub has-members : (m : Member Bytes) → decide line (r .place) ≡ joins q m → (ms : List (Member Bytes)) × (r .staged .held .body ≡ members ms)
+  has-members m e = let l : Lawful (r .place) (joins q m) = rw e at (decide-lawful line (r .place)) in relation-body (r .staged .held .body) (agrees ∙ l .1 .0)
+
 -- what a line leaves of an element that stays open
 pub record Grows (r : Reader) (c : Children) (t : Turn) : Type 0 where
   pub staged : t .reader .staged ≡ withChildren (r .staged) c
@@ -106,15 +127,10 @@ module _ (r : Reader) (inside : isInside (r .place .level) ≡ true) (pushing : 
 
   start-grows : (e : Bool) (n : Name) (attrs : List Attr) (o : Opened) {d : Decision} → Leads e n (r .place) o → Starts (r .place) e attrs o d → Growing (childIn (childNamed n) attrs) (turnOf d r)
   unfolding turnOf
-  start-grows e n attrs o l D.misplaced = tt
-  start-grows e n attrs o l D.outside = tt
+  start-grows e n attrs o l (D.refuse x) = tt
   start-grows e n attrs o l D.goes = λ i. record { staged = rw (l .inside inside .1) (with-none (r .staged)); section = l .inside inside .0 }
-  start-grows e n attrs o l (D.bad-id i) = tt
-  start-grows e n attrs o l (D.bad-meta i j) = tt
-  start-grows e n attrs o l (D.bad-body s i j b) = tt
   start-grows e n attrs o l (D.begin s i j b) = clash inside (l .outside)
   start-grows e n attrs o l (D.delete s i j) = clash inside (l .outside)
-  start-grows e n attrs o l (D.bad-child f) = tt
   start-grows e n attrs o l (D.tag {t = t} s f) = λ i. record { staged = rw (l .child, f) (grows-by (r .staged) _ (grown-none (r .staged) (r .staged .held .body) (t ∷ [])) refl); section = l .section }
   start-grows e n attrs o l (D.ref {z = z} s f) = λ i. record { staged = rw (l .child, f) (grows-by (r .staged) _ (grown-ref (r .staged) z (r .staged .held .body)) (sym (append-nil (r .staged .held .tags)))); section = l .section }
   start-grows e n attrs o l (D.member {m = m} s f) = λ i. record { staged = rw (l .child, f) (grows-by (r .staged) _ (grown-member (r .staged) m (r .staged .held .body)) (sym (append-nil (r .staged .held .tags)))); section = l .section }
@@ -174,3 +190,35 @@ element-pushed r {q} line last {lines} {t} {p} {id = id} {m = m} {b = b} d e i l
     let g = line-begins (r .place) (eventOf line) (decide-exactly line (r .place) _ .0 d) in
     let k = children-kept {r = a} (g .0) (g .1) (subst (λ (y : Turn). Inside (y .reader) lines q) (sym h) i) in
     rw (c, decides-so (q .place) (D.end l (k .1)), k .0)
+
+-- ---- a `delete` section
+
+-- "children are checked and dropped": whatever is taken inside an element there takes no text in, makes no act and puts nothing together
+pub record Drops (r : Reader) (t : Turn) : Type 0 where
+  pub staged : t .reader .staged ≡ r .staged
+  pub texts : t .texts ≡ []
+  pub act : t .act ≡ none
+
+module _ (r : Reader) (inside : isInside (r .place .level) ≡ true) (deleting : r .place .section ≡ A.Delete) where
+  start-drops : (e : Bool) (n : Name) (attrs : List Attr) (o : Opened) {d : Decision} → Leads e n (r .place) o → Starts (r .place) e attrs o d → OfTurn (Drops r) (turnOf d r)
+  unfolding turnOf
+  start-drops e n attrs o l (D.refuse x) = tt
+  start-drops e n attrs o l D.goes = record { staged = refl; texts = refl; act = refl }
+  start-drops e n attrs o l (D.begin s i j b) = clash inside (l .outside)
+  start-drops e n attrs o l (D.delete s i j) = clash inside (l .outside)
+  start-drops e n attrs o l (D.tag s f) = absurd (s deleting)
+  start-drops e n attrs o l (D.ref s f) = absurd (s deleting)
+  start-drops e n attrs o l (D.member s f) = absurd (s deleting)
+  start-drops e n attrs o l (D.drop s c) = record { staged = refl; texts = refl; act = refl }
+
+  line-drops : {x : Reading} {d : Decision} → Decides (r .place) x d → OfTurn (Drops r) (turnOf d r)
+  unfolding turnOf
+  line-drops D.bad-line = tt
+  line-drops (D.start {e = e} {n = n} {attrs = attrs} s) = start-drops e (nameOf n) attrs (opened e (nameOf n) (r .place)) (leads e (nameOf n) (r .place)) s
+  line-drops (D.end l s) = absurd (s deleting)
+  line-drops (D.close h) = record { staged = refl; texts = refl; act = refl }
+  line-drops D.other = record { staged = refl; texts = refl; act = refl }
+
+  pub delete-drops : (line : Bytes) {t : Turn} → turn line r ≡ got t → Drops r t
+  unfolding turn decide
+  delete-drops line e = of-turn (Drops r) (line-drops (decided (r .place) (eventOf line))) e

@@ -1,5 +1,5 @@
 -- What a turn comes to: where it makes an act and that it makes none elsewhere, the texts that it takes in, and what every turn keeps of its reader.
-use mathlib.Core.Path.{_≡_, refl, sym, _∙_, ap}
+use mathlib.Core.Path.{_≡_, refl, sym, _∙_}
 use mathlib.Core.Bool.{Bool, true, false}
 use mathlib.Core.Logic.{_↔_}
 use mathlib.Core.Option.{Option, none, some}
@@ -9,6 +9,7 @@ use Rattle.base.specs.Ascii.{ascii}
 use Rattle.base.specs.Bytes.{Bytes, all}
 use Rattle.base.proofs.Split.{byBool, no}
 use Rattle.base.proofs.Lists.{all-nil, all-cons}
+use Rattle.refusal.specs.First.{firstOf}
 use Rattle.kind.specs.declared.Kind.{Kind}
 use Rattle.kind.specs.declared.Kind.the-variants as K
 use Rattle.nesting.specs.Name.{nameOf}
@@ -25,6 +26,8 @@ use Rattle.field.specs.Field.{Field, got, bad, idOf, metaOf, bodyFor}
 use Rattle.field.proofs.Fields.{value-all, tag-got, member-got}
 use Rattle.field.proofs.Metadata.{meta-user}
 use Rattle.decision.specs.Decision.{Decision, refuses, moves, begins, deletes, tags, refers, joins, ends, decideReading, decide}
+use Rattle.decision.specs.Table.{refusalIn, decideTable}
+use Rattle.decision.proofs.Table.{refusalOf, decide-first}
 use Rattle.decision.proofs.Lawful.{Lawful, decide-lawful}
 use Rattle.decision.proofs.Decided.{Pushing, Starts, Decides, decided, decides-so}
 use Rattle.decision.proofs.Decided as D
@@ -42,6 +45,25 @@ of-turn P h e = rw e at h
 pub other-does-nothing : (line : Bytes) (r : Reader) → eventOf line ≡ reads others → turn line r ≡ got (record { reader = r; texts = []; act = none })
 unfolding turn turnOf decide
 other-does-nothing line r e = rw (e, decides-so (r .place) D.other)
+
+-- ---- refusals
+
+refused-so : (d : Decision) (r : Reader) → refusalOf (turnOf d r) ≡ refusalIn d
+unfolding turnOf
+refused-so (refuses x) r = refl
+refused-so (moves p) r = refl
+refused-so (begins true p id m b) r = refl
+refused-so (begins false p id m b) r = refl
+refused-so (deletes k p id m) r = refl
+refused-so (tags p t) r = refl
+refused-so (refers p z) r = refl
+refused-so (joins p m) r = refl
+refused-so (ends p) r = refl
+
+-- a line is refused by the first row of its table that holds, at the place of its reader and whatever that has put together
+pub turn-first : (line : Bytes) (r : Reader) → refusalOf (turn line r) ≡ firstOf (decideTable line (r .place))
+unfolding turn
+turn-first line r = refused-so (decide line (r .place)) r ∙ decide-first line (r .place)
 
 -- ---- acts
 
@@ -73,13 +95,8 @@ module _ (r : Reader) {a : Act Bytes} where
   unfolding turnOf
   start-makes e o h (D.begin {id = id} {m = m} {b = b} p i j x) y = begin-makes e id m b h p i j x y
   start-makes e o h (D.delete {k = k} {id = id} {m = m} s i j) y = let z : delete k id (claimOf m) ≡ a = cc in rw (← z) (at-opening h s i j)
-  start-makes e o h D.misplaced y = no (cc)
-  start-makes e o h D.outside y = no (cc)
+  start-makes e o h (D.refuse x) y = no (cc)
   start-makes e o h D.goes y = no (cc)
-  start-makes e o h (D.bad-id i) y = no (cc)
-  start-makes e o h (D.bad-meta i j) y = no (cc)
-  start-makes e o h (D.bad-body p i j x) y = no (cc)
-  start-makes e o h (D.bad-child f) y = no (cc)
   start-makes e o h (D.tag p f) y = no (cc)
   start-makes e o h (D.ref p f) y = no (cc)
   start-makes e o h (D.member p f) y = no (cc)
@@ -181,15 +198,10 @@ module _ (p : Bytes → Bool) (empty : p [] ≡ true) where
 
     start-texts : (e : Bool) (attrs : List Attr) {d : Decision} {o : Opened} → all (λ a. p (a .value)) attrs ≡ true → Starts (r .place) e attrs o d → Texts (turnOf d r)
     unfolding turnOf
-    start-texts e attrs h D.misplaced = tt
-    start-texts e attrs h D.outside = tt
+    start-texts e attrs h (D.refuse x) = tt
     start-texts e attrs h D.goes = all-nil p
-    start-texts e attrs h (D.bad-id i) = tt
-    start-texts e attrs h (D.bad-meta i j) = tt
-    start-texts e attrs h (D.bad-body s i j x) = tt
     start-texts e attrs h (D.begin {q = q} {id = id} {m = m} {b = b} s i j x) = begun-texts e q id m b (user-all m (meta-user p attrs empty h j))
     start-texts e attrs h (D.delete {m = m} s i j) = user-all m (meta-user p attrs empty h j)
-    start-texts e attrs h (D.bad-child f) = tt
     start-texts e attrs h (D.tag {t = t} s f) = one (value-all p (ascii "k") attrs h (tag-got attrs t .0 f .0))
     start-texts e attrs h (D.ref s f) = all-nil p
     start-texts e attrs h (D.member {m = m} s f) = one (rw (member-got attrs m .0 f .1 .1) (role-all attrs (valueOf (ascii "role") attrs) h refl))

@@ -1,5 +1,5 @@
 -- Document 01: what one event does to its reader, which texts it takes in and which act it makes, by what is decided of it: one clause a decision.
-use mathlib.Core.Bool.{Bool, true, false, cond}
+use mathlib.Core.Bool.{true, false, cond}
 use mathlib.Core.Option.{Option, none, some}
 use mathlib.Core.List.{List, [], _∷_, _++_}
 use lib.IntN.{ℤ, pos}

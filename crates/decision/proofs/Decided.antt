@@ -1,5 +1,5 @@
 -- What is decided of a line at a place, exactly: for each outcome, where it is decided and nowhere else.
-use mathlib.Core.Path.{_≡_, refl, sym, _∙_, ap}
+use mathlib.Core.Path.{_≡_, refl}
 use mathlib.Core.Bool.{Bool}
 use mathlib.Core.Logic.{_↔_}
 use mathlib.Core.List.{List}
@@ -21,7 +21,7 @@ use Rattle.nesting.specs.declared.Child.the-variants as C
 use Rattle.nesting.specs.declared.Opened.{Opened}
 use Rattle.nesting.specs.declared.Opened.the-variants as O
 use Rattle.model.specs.Record.{Meta, Member, Tag, Body}
-use Rattle.event.specs.Event.{Attr, Event, starts, closes, others, Reading, reads, refused, eventOf}
+use Rattle.event.specs.Event.{Attr, starts, closes, others, Reading, reads, refused, eventOf}
 use Rattle.field.specs.Field.{Field, got, bad, idOf, metaOf, bodyFor, tagOf, refOf, memberOf}
 use Rattle.decision.specs.Decision.{Decision, refuses, moves, begins, deletes, tags, refers, joins, ends, onField, pushBegins, elementBegins, unlessDelete, childOf, decideOpened, decideClosed, decideEvent, decideReading, decide}
 
@@ -35,30 +35,30 @@ pub data Checked (attrs : List Attr) : Child → Type 0 where
   ref : {z : ℤ} → refOf attrs ≡ got z → Checked attrs C.Nd
   member : {m : Member Bytes} → memberOf attrs ≡ got m → Checked attrs C.Member
 
-pub data Faulty (attrs : List Attr) (r : Refusal) : Child → Type 0 where
-  tag : tagOf attrs ≡ bad r → Faulty attrs r C.Tag
-  ref : refOf attrs ≡ bad r → Faulty attrs r C.Nd
-  member : memberOf attrs ≡ bad r → Faulty attrs r C.Member
+-- an open or an empty element is refused: 5 and 6; then the fields, each whole before the next
+pub data Refuses (p : Place) (attrs : List Attr) : Opened → Refusal → Type 0 where
+  misplaced : Refuses p attrs O.Misplaced R.Misplaced
+  outside : Refuses p attrs O.OutsideSection R.OutsideSection
+  bad-id : {k : Kind} {q : Place} {r : Refusal} → idOf attrs ≡ bad r → Refuses p attrs (O.Begins k q) r
+  bad-meta : {k : Kind} {q : Place} {id : ℤ} {r : Refusal} → idOf attrs ≡ got id → metaOf attrs ≡ bad r → Refuses p attrs (O.Begins k q) r
+  bad-body : {k : Kind} {q : Place} {id : ℤ} {m : Meta Bytes} {r : Refusal} → Pushing p → idOf attrs ≡ got id → metaOf attrs ≡ got m → bodyFor k attrs ≡ bad r
+      → Refuses p attrs (O.Begins k q) r
+  bad-tag : {q : Place} {r : Refusal} → tagOf attrs ≡ bad r → Refuses p attrs (O.Holds C.Tag q) r
+  bad-ref : {q : Place} {r : Refusal} → refOf attrs ≡ bad r → Refuses p attrs (O.Holds C.Nd q) r
+  bad-member : {q : Place} {r : Refusal} → memberOf attrs ≡ bad r → Refuses p attrs (O.Holds C.Member q) r
 
 -- what is decided of an open or an empty element, by where it leads
 pub data Starts (p : Place) (e : Bool) (attrs : List Attr) : Opened → Decision → Type 0 where
-  -- 5 and 6
-  misplaced : Starts p e attrs O.Misplaced (refuses R.Misplaced)
-  outside : Starts p e attrs O.OutsideSection (refuses R.OutsideSection)
+  refuse : {o : Opened} {r : Refusal} → Refuses p attrs o r → Starts p e attrs o (refuses r)
   -- neither an object nor a child that is kept
   goes : {q : Place} → Starts p e attrs (O.Goes q) (moves q)
-  -- an object: id, then metadata, then what a pushed one holds at first
-  bad-id : {k : Kind} {q : Place} {r : Refusal} → idOf attrs ≡ bad r → Starts p e attrs (O.Begins k q) (refuses r)
-  bad-meta : {k : Kind} {q : Place} {id : ℤ} {r : Refusal} → idOf attrs ≡ got id → metaOf attrs ≡ bad r → Starts p e attrs (O.Begins k q) (refuses r)
-  bad-body : {k : Kind} {q : Place} {id : ℤ} {m : Meta Bytes} {r : Refusal} → Pushing p → idOf attrs ≡ got id → metaOf attrs ≡ got m → bodyFor k attrs ≡ bad r
-      → Starts p e attrs (O.Begins k q) (refuses r)
+  -- an object
   begin : {k : Kind} {q : Place} {id : ℤ} {m : Meta Bytes} {b : Body Bytes} → Pushing p → idOf attrs ≡ got id → metaOf attrs ≡ got m → bodyFor k attrs ≡ got b
       → Starts p e attrs (O.Begins k q) (begins e q id m b)
   -- "In a delete section the delete happens at the opening"
   delete : {k : Kind} {q : Place} {id : ℤ} {m : Meta Bytes} → p .section ≡ A.Delete → idOf attrs ≡ got id → metaOf attrs ≡ got m
       → Starts p e attrs (O.Begins k q) (deletes k q id m)
   -- a child
-  bad-child : {c : Child} {q : Place} {r : Refusal} → Faulty attrs r c → Starts p e attrs (O.Holds c q) (refuses r)
   tag : {q : Place} {t : Tag Bytes} → Pushing p → tagOf attrs ≡ got t → Starts p e attrs (O.Holds C.Tag q) (tags q t)
   ref : {q : Place} {z : ℤ} → Pushing p → refOf attrs ≡ got z → Starts p e attrs (O.Holds C.Nd q) (refers q z)
   member : {q : Place} {m : Member Bytes} → Pushing p → memberOf attrs ≡ got m → Starts p e attrs (O.Holds C.Member q) (joins q m)
@@ -86,10 +86,10 @@ module _ (p : Place) where
   by-section A.Delete s f g = g s
 
   module _ (e : Bool) (attrs : List Attr) where
-    by-field : {A : Type 0} (o : Opened) (f : Field A) (g : A → Decision) → ((r : Refusal) → f ≡ bad r → Starts p e attrs o (refuses r))
+    by-field : {A : Type 0} (o : Opened) (f : Field A) (g : A → Decision) → ((r : Refusal) → f ≡ bad r → Refuses p attrs o r)
         → ((a : A) → f ≡ got a → Starts p e attrs o (g a)) → Starts p e attrs o (onField f g)
     by-field o (got a) g b h = h a refl
-    by-field o (bad r) g b h = b r refl
+    by-field o (bad r) g b h = refuse (b r refl)
 
     push-decided : (k : Kind) (q : Place) → Pushing p → Starts p e attrs (O.Begins k q) (pushBegins e k q attrs)
     push-decided k q d = by-field _ _ _ (λ r. bad-id) (λ id i. by-field _ _ _ (λ r. bad-meta i) (λ m j. by-field _ _ _ (λ r. bad-body d i j) (λ b. begin d i j)))
@@ -106,13 +106,13 @@ module _ (p : Place) where
     unless-decided A.Delete c q d s f k = drop s k
 
     child-decided : (c : Child) (q : Place) (a : Action) → p .section ≡ a → Starts p e attrs (O.Holds c q) (childOf c a q attrs)
-    child-decided C.Tag q a s = by-field _ _ _ (λ r f. bad-child (tag f)) (λ t f. unless-decided a C.Tag q _ s (λ d. tag d f) (tag f))
-    child-decided C.Nd q a s = by-field _ _ _ (λ r f. bad-child (ref f)) (λ z f. unless-decided a C.Nd q _ s (λ d. ref d f) (ref f))
-    child-decided C.Member q a s = by-field _ _ _ (λ r f. bad-child (member f)) (λ m f. unless-decided a C.Member q _ s (λ d. member d f) (member f))
+    child-decided C.Tag q a s = by-field _ _ _ (λ r. bad-tag) (λ t f. unless-decided a C.Tag q _ s (λ d. tag d f) (tag f))
+    child-decided C.Nd q a s = by-field _ _ _ (λ r. bad-ref) (λ z f. unless-decided a C.Nd q _ s (λ d. ref d f) (ref f))
+    child-decided C.Member q a s = by-field _ _ _ (λ r. bad-member) (λ m f. unless-decided a C.Member q _ s (λ d. member d f) (member f))
 
     start-decided : (o : Opened) → Starts p e attrs o (decideOpened o e (p .section) attrs)
-    start-decided O.Misplaced = misplaced
-    start-decided O.OutsideSection = outside
+    start-decided O.Misplaced = refuse misplaced
+    start-decided O.OutsideSection = refuse outside
     start-decided (O.Goes q) = goes
     start-decided (O.Begins k q) = element-decided k q (p .section) refl
     start-decided (O.Holds c q) = child-decided c q (p .section) refl
@@ -156,21 +156,21 @@ module _ (p : Place) where
     dropped q (ref f) = rw f
     dropped q (member f) = rw f
 
-    faulty : {r : Refusal} {c : Child} (a : Action) (q : Place) → Faulty attrs r c → childOf c a q attrs ≡ refuses r
-    faulty a q (tag f) = rw f
-    faulty a q (ref f) = rw f
-    faulty a q (member f) = rw f
+    refuses-so : {o : Opened} {r : Refusal} → Refuses p attrs o r → decideOpened o e (p .section) attrs ≡ refuses r
+    refuses-so misplaced = refl
+    refuses-so outside = refl
+    refuses-so (bad-id {k = k} {q = q} i) = by-section (p .section) refl (λ h. rw (pushing (p .section) k q h, i)) (λ s. rw (s, i))
+    refuses-so (bad-meta {k = k} {q = q} i j) = by-section (p .section) refl (λ h. rw (pushing (p .section) k q h, i, j)) (λ s. rw (s, i, j))
+    refuses-so (bad-body {k = k} {q = q} h i j b) = rw (pushing (p .section) k q h, i, j, b)
+    refuses-so (bad-tag f) = rw f
+    refuses-so (bad-ref f) = rw f
+    refuses-so (bad-member f) = rw f
 
     starts-so : {o : Opened} {d : Decision} → Starts p e attrs o d → decideOpened o e (p .section) attrs ≡ d
-    starts-so misplaced = refl
-    starts-so outside = refl
+    starts-so (refuse x) = refuses-so x
     starts-so goes = refl
-    starts-so (bad-id {k = k} {q = q} i) = by-section (p .section) refl (λ h. rw (pushing (p .section) k q h, i)) (λ s. rw (s, i))
-    starts-so (bad-meta {k = k} {q = q} i j) = by-section (p .section) refl (λ h. rw (pushing (p .section) k q h, i, j)) (λ s. rw (s, i, j))
-    starts-so (bad-body {k = k} {q = q} h i j b) = rw (pushing (p .section) k q h, i, j, b)
     starts-so (begin {k = k} {q = q} h i j b) = rw (pushing (p .section) k q h, i, j, b)
     starts-so (delete s i j) = rw (s, i, j)
-    starts-so (bad-child {q = q} f) = faulty (p .section) q f
     starts-so (tag h f) = rw f (kept (p .section) _ _ h)
     starts-so (ref h f) = rw f (kept (p .section) _ _ h)
     starts-so (member h f) = rw f (kept (p .section) _ _ h)

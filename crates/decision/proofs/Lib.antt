@@ -1,3 +1,5 @@
 pub mod Places
-pub mod Lawful
 pub mod Decided
+pub mod Lawful
+pub mod Table
+pub mod Refusals

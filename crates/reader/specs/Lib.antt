@@ -3,3 +3,4 @@ pub mod Given
 pub mod Step
 pub mod Event
 pub mod Means
+pub mod Table
