@@ -45,6 +45,13 @@ module _ (p : Bytes) (k : 16384 < length p) (h : lacks 10 p ≡ true) where
   pub long-stands : (t : Bytes) (at : Place) → decide (p ++ t) at ≡ decide p at
   long-stands t at = long-decided t at ∙ sym (long-alone at)
 
--- by the first 16,385 bytes of a line
-pub long-first : (s : Bytes) → 16384 < length s → lacks 10 (take 16385 s) ≡ true → eventOf s ≡ refused LongLine
-long-first s k h = rw take-append-drop at (long-begins (take 16385 s) (omega (arith, length-take-le 16385 s (omega arith))) h (drop 16385 s))
+-- by the first 16,385 bytes of a line: they decide, and stand for it
+module _ (s : Bytes) (k : 16384 < length s) (h : lacks 10 (take 16385 s) ≡ true) where
+  enough : 16384 < length (take 16385 s)
+  enough = omega (arith, length-take-le 16385 s (omega arith))
+
+  pub long-first : eventOf s ≡ refused LongLine
+  long-first = rw take-append-drop at (long-begins (take 16385 s) enough h (drop 16385 s))
+
+  pub first-stands : (at : Place) → decide s at ≡ decide (take 16385 s) at
+  first-stands at = rw take-append-drop at (long-stands (take 16385 s) enough h (drop 16385 s) at)

@@ -38,7 +38,7 @@ module _ (s : Bytes) (i : ℕ) where
 
 -- ---- the line up to there
 
-pub slice-taken : (at n : ℕ) (s : Bytes) → slice at (at + n) s ≡ take n (drop at s)
+slice-taken : (at n : ℕ) (s : Bytes) → slice at (at + n) s ≡ take n (drop at s)
 slice-taken zero n s = rw zero-add
 slice-taken (suc at) n [] = rw suc-add (sym (take-nil n))
 slice-taken (suc at) n (b ∷ s) = rw suc-add (slice-taken at n s)
