@@ -23,7 +23,7 @@ use Rattle.compact.specs.Layout.{headLen}
 use Rattle.compact.specs.Legal.{limits}
 use Rattle.shelf.specs.Shelf.{known, checked, room}
 use Rattle.overlay.specs.Overlay.{Overlay, shelfOf}
-use Rattle.overlay.specs.First.{isBelow, heldBy, fullFor}
+use Rattle.store.specs.First.{isBelow, heldBy, fullFor}
 use Rattle.decision.specs.Decision.{Decision, refuses, moves, begins, deletes, tags, refers, joins, ends, decide}
 use Rattle.decision.specs.Table.{decideTable}
 use Rattle.reader.specs.declared.Stop.{Stop}
