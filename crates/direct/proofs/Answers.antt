@@ -23,11 +23,10 @@ use Rattle.legal.specs.declared.Fault.{Fault}
 use Rattle.legal.specs.declared.Fault.the-variants as F
 use Rattle.interner.specs.Strings as Strings
 use Rattle.interner.specs.declared.Interned.the-variants as I
-use Rattle.interner.proofs.Interns as Interns
 use Rattle.shelf.specs.Shelf.{Shelf}
 use Rattle.shelf.specs.Shelf as Shelf
+use Rattle.shelf.specs.Shelf.{takenIn}
 use Rattle.shelf.specs.declared.Kept.the-variants.{Taken, Refused}
-use Rattle.shelf.proofs.Answers as Shelves
 use Rattle.overlay.specs.Overlay.{Overlay, shelfOf, withShelf, withTexts}
 use Rattle.overlay.specs.Sound.{isSound}
 use Rattle.overlay.specs.Calls.{After, refused}
@@ -35,8 +34,8 @@ use Rattle.store.specs.Calls.{bytesOf, storePush, storeDelete, Interning, handl
 use Rattle.direct.specs.Calls.{pushAs, pushOn, deleteOn, notInterned, internOn}
 use Rattle.store.specs.declared.Handle.{Handle}
 use Rattle.store.specs.declared.Handle.the-variants as H
-use Rattle.store.proofs.Answers.{is-full, byPushed, byDeleted}
-use Rattle.overlay.proofs.Answers.{shelf-back, answered, strings-sound}
+use Rattle.store.proofs.Answers.{is-full, byPushed, byDeleted, store-text-refused, store-push-refused, store-delete-refused}
+use Rattle.overlay.proofs.Answers.{is-taken, answered, taken-as, strings-sound}
 
 -- ---- which refusals there are
 
@@ -86,8 +85,7 @@ module _ (k : Kind) (h : PushHead) (m : ArenaMeta) (parts : Bytes) (o : Overlay)
   pub push-refused : (r : Refusal) → pushOn k h m parts o .answer ≡ Refused r → pushOn k h m parts o .overlay ≡ o
   push-refused r e =
       byPushOn (λ s w. ap (λ (z : After). z .overlay) w) (λ x s g w. ap (λ (z : After). z .overlay) w)
-      (λ s g w. let n : pushStored .shelf ≡ shelfOf k o = Shelves.push-refused k (o .setting) (shelfOf k o) (toZ w64 (h .id)) (claimOf (metaOf m)) (bytesOf k h m parts) r (answered w e) in
-      ap (λ (z : After). z .overlay) w ∙ rw n (shelf-back k o))
+      (λ s g w. ap (λ (z : After). z .overlay) w ∙ store-push-refused o k h m parts r (answered w e))
 
   -- ---- 22, then 17, 3, 10, 16, then 12, 14, 15
 
@@ -101,11 +99,11 @@ module _ (k : Kind) (h : PushHead) (m : ArenaMeta) (parts : Bytes) (o : Overlay)
   push-store e g = as-fault F.Legal e g
 
   -- an accepted push
-  pub push-taken : pushOn k h m parts o .answer ≡ Taken
+  pub push-taken : takenIn (pushOn k h m parts o .answer) ≡ true
       → (isSound o ≡ true) × ((pushFault ≡ F.Legal) × ((pushStored .answer ≡ Taken) × (pushOn k h m parts o .overlay ≡ withShelf k (pushStored .shelf) o)))
   push-taken e =
-      byPushOn (λ s w. let z = answered w e in no (cc)) (λ x s g w. let z = answered w e in no (cc))
-      (λ s g w. (s, (g, (answered w e, ap (λ (z : After). z .overlay) w))))
+      byPushOn (λ s w. let z : false ≡ true = taken-as w e in no (cc)) (λ x s g w. let z : false ≡ true = taken-as w e in no (cc))
+      (λ s g w. (s, (g, (is-taken (pushStored .answer) (taken-as w e), ap (λ (z : After). z .overlay) w))))
 
   -- a refusal is of the first place that refuses
   pub push-refusal : {C : Type 0} (r : Refusal) → pushOn k h m parts o .answer ≡ Refused r
@@ -142,8 +140,7 @@ module _ (k : Kind) (id : ℤ) (m : Meta ℕ) (o : Overlay) where
   pub delete-refused : (r : Refusal) → deleteOn k id m o .answer ≡ Refused r → deleteOn k id m o .overlay ≡ o
   delete-refused r e =
       byDeleteOn (λ s w. ap (λ (z : After). z .overlay) w) (λ s g w. ap (λ (z : After). z .overlay) w)
-      (λ s g w. let n : deleteStored .shelf ≡ shelfOf k o = Shelves.delete-refused k (o .setting) (shelfOf k o) id (claimOf m) r (answered w e) in
-      ap (λ (z : After). z .overlay) w ∙ rw n (shelf-back k o))
+      (λ s g w. ap (λ (z : After). z .overlay) w ∙ store-delete-refused o k id (claimOf m) r (answered w e))
 
   -- ---- 22, then 17, then 12, 14
 
@@ -157,11 +154,11 @@ module _ (k : Kind) (id : ℤ) (m : Meta ℕ) (o : Overlay) where
   delete-store e g = byDeleteOn (λ s w. clash e s) (λ s x w. clash g x) (λ s x w. w)
 
   -- an accepted delete
-  pub delete-taken : deleteOn k id m o .answer ≡ Taken
+  pub delete-taken : takenIn (deleteOn k id m o .answer) ≡ true
       → (isSound o ≡ true) × ((legalMeta (o .texts .strings) m ≡ true) × ((deleteStored .answer ≡ Taken) × (deleteOn k id m o .overlay ≡ withShelf k (deleteStored .shelf) o)))
   delete-taken e =
-      byDeleteOn (λ s w. let z = answered w e in no (cc)) (λ s g w. let z = answered w e in no (cc))
-      (λ s g w. (s, (g, (answered w e, ap (λ (z : After). z .overlay) w))))
+      byDeleteOn (λ s w. let z : false ≡ true = taken-as w e in no (cc)) (λ s g w. let z : false ≡ true = taken-as w e in no (cc))
+      (λ s g w. (s, (g, (is-taken (deleteStored .answer) (taken-as w e), ap (λ (z : After). z .overlay) w))))
 
   -- a refusal is of the first place that refuses
   pub delete-refusal : {C : Type 0} (r : Refusal) → deleteOn k id m o .answer ≡ Refused r
@@ -208,9 +205,7 @@ module _ (t : Bytes) (o : Overlay) where
   pub intern-refused : (r : Refusal) → internOn t o .answer ≡ H.Refused r → internOn t o .overlay ≡ o
   intern-refused r e =
       byInternOn (λ s w. ap (λ (z : Interning). z .overlay) w) (λ s g w. ap (λ (z : Interning). z .overlay) w)
-      (λ s g w. let z = is-full (Strings.intern (o .texts) t .answer) r (handled w e) in
-      let n : Strings.intern (o .texts) t .store ≡ o .texts = Interns.full-same (o .texts) t (strings-sound o s) (z .0) in
-      ap (λ (z : Interning). z .overlay) w ∙ rw n)
+      (λ s g w. ap (λ (z : Interning). z .overlay) w ∙ store-text-refused o t (strings-sound o s) r (handled w e))
 
   -- ---- 22, then 3, then 13
 

@@ -31,7 +31,7 @@ use Rattle.store.specs.First.{refusalIn}
 use Rattle.overlay.proofs.Answers.{strings-sound}
 use Rattle.direct.proofs.Answers.{byPushOn, byDeleteOn, byInternOn}
 use Rattle.refusal.proofs.First.{before, first-more}
-use Rattle.store.proofs.First.{text-first, deleted-first, pushed-first}
+use Rattle.store.proofs.First.{interned-first, deleted-first, pushed-first}
 use Rattle.overlay.proofs.First.{unsound-first, sound-first}
 
 -- ---- what is pushed: 17, 3, 10, 16
@@ -88,4 +88,4 @@ module _ (t : Bytes) (o : Overlay) where
   pub intern-first : refusalIn (internOn t o .answer) ≡ firstOf (internTable t o)
   unfolding firstOf
   intern-first =
-      byInternOn t o (λ s w. rw (w, s)) (λ s g w. rw (w, s, g)) (λ s g w. rw (w, s, g) (text-first (o .texts) t (strings-sound o s)))
+      byInternOn t o (λ s w. rw (w, s)) (λ s g w. rw (w, s, g)) (λ s g w. rw (w, s, g) (interned-first (o .texts) t (strings-sound o s)))

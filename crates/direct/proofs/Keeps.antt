@@ -28,7 +28,7 @@ use Rattle.interner.specs.Sound.{textsOf}
 use Rattle.interner.specs.declared.Interned.{Interned}
 use Rattle.interner.specs.declared.Interned.the-variants as I
 use Rattle.interner.proofs.Interns as Interns
-use Rattle.shelf.specs.Shelf.{Shelf}
+use Rattle.shelf.specs.Shelf.{Shelf, takenIn}
 use Rattle.shelf.specs.Shelf as Shelf
 use Rattle.shelf.specs.declared.Kept.the-variants.{Taken}
 use Rattle.shelf.proofs.Shelves.{delete-laid, push-laid, push-arena}
@@ -64,7 +64,7 @@ pub record PushKept (k : Kind) (h : PushHead) (m : ArenaMeta) (parts : Bytes) (o
   pub left : pushOn k h m parts o .overlay ≡ withShelf k (storedAs k o (keptAs h held) .shelf) o
 
 module _ (k : Kind) (h : PushHead) (m : ArenaMeta) (parts : Bytes) (o : Overlay) where
-  pub push-kept : headFits h ≡ true → metaFits m ≡ true → all isByte parts ≡ true → pushOn k h m parts o .answer ≡ Taken → PushKept k h m parts o
+  pub push-kept : headFits h ≡ true → metaFits m ≡ true → all isByte parts ≡ true → takenIn (pushOn k h m parts o .answer) ≡ true → PushKept k h m parts o
   push-kept f g b e =
       let t = push-taken k h m parts o e in
       let x = push-legal (o .texts .strings) (pushedRecord k (headIn k h) (metaOf m) parts) (t .1 .0) in
@@ -94,7 +94,7 @@ pub record DeleteKept (k : Kind) (id : ℤ) (m : Meta ℕ) (o : Overlay) : Type 
   pub stored : deleteStored k id m o .answer ≡ Taken
   pub left : deleteOn k id m o .overlay ≡ withShelf k (deleteStored k id m o .shelf) o
 
-pub delete-kept : (k : Kind) (id : ℤ) (m : Meta ℕ) (o : Overlay) → deleteOn k id m o .answer ≡ Taken → DeleteKept k id m o
+pub delete-kept : (k : Kind) (id : ℤ) (m : Meta ℕ) (o : Overlay) → takenIn (deleteOn k id m o .answer) ≡ true → DeleteKept k id m o
 delete-kept k id m o e = let t = delete-taken k id m o e in record { sound = t .0; lawful = t .1 .0; stored = t .1 .1 .0; left = t .1 .1 .1 }
 
 -- an accepted text: held before, or the next one
@@ -145,7 +145,7 @@ module _ (k : Kind) (h : PushHead) (m : ArenaMeta) (parts : Bytes) (o : Overlay)
   push-setting = push-leaves (λ z. z .setting ≡ o .setting) (λ s. shelf-setting k s o)
 
   -- its own kind is as the store leaves it
-  pub push-shelf : pushOn k h m parts o .answer ≡ Taken → shelfOf k (pushOn k h m parts o .overlay) ≡ pushStored k h m parts o .shelf
+  pub push-shelf : takenIn (pushOn k h m parts o .answer) ≡ true → shelfOf k (pushOn k h m parts o .overlay) ≡ pushStored k h m parts o .shelf
   push-shelf e = rw (push-taken k h m parts o e .1 .1 .1) (shelf-same k _ o)
 
 module _ (k : Kind) (id : ℤ) (m : Meta ℕ) (o : Overlay) where
@@ -163,7 +163,7 @@ module _ (k : Kind) (id : ℤ) (m : Meta ℕ) (o : Overlay) where
   pub delete-setting : deleteOn k id m o .overlay .setting ≡ o .setting
   delete-setting = delete-leaves (λ z. z .setting ≡ o .setting) (λ s. shelf-setting k s o)
 
-  pub delete-shelf : deleteOn k id m o .answer ≡ Taken → shelfOf k (deleteOn k id m o .overlay) ≡ deleteStored k id m o .shelf
+  pub delete-shelf : takenIn (deleteOn k id m o .answer) ≡ true → shelfOf k (deleteOn k id m o .overlay) ≡ deleteStored k id m o .shelf
   delete-shelf e = rw (delete-taken k id m o e .1 .1 .1) (shelf-same k _ o)
 
 module _ (t : Bytes) (o : Overlay) where

@@ -23,7 +23,7 @@ use Rattle.legal.specs.Judge.{faultFor}
 use Rattle.legal.specs.declared.Fault.the-variants as F
 use Rattle.table.specs.Words.{held, halve, answerAt, lookup, stored, storedAt, countAfter}
 use Rattle.append.specs.Append.{append}
-use Rattle.shelf.specs.Shelf.{known, checked, room, rowed, joined, pushed}
+use Rattle.shelf.specs.Shelf.{known, checked, room, rowed, joined, pushed, takenIn}
 use Rattle.shelf.specs.declared.Kept.the-variants.{Taken}
 use Rattle.shelf.proofs.Shelves.{push-used}
 use Rattle.overlay.specs.Overlay.{Overlay, overlayOf, shelfOf, sizesFit, shelfFits, textsFit, empty}
@@ -43,7 +43,7 @@ abbrev given : Overlay
 given =
     overlayOf (replicate 3 0) (replicate 60 0) (replicate 3 0) (replicate 60 0) (replicate 3 0) (replicate 60 0) (replicate 2 0) [] (replicate 9 0)
 
-set-up : setUp 0 given .answer ≡ Taken
+set-up : takenIn (setUp 0 given .answer) ≡ true
 unfolding setUp sizesFit shelfFits textsFit both
 set-up = refl
 

@@ -48,12 +48,17 @@ module _ (k : Kind) (h : PushHead) (m : ArenaMeta) (parts : Bytes) (o : Overlay)
   abbrev pub storeRows : List (Row Refusal)
   storeRows = pushRows k (o .setting) (shelfOf k o) (toZ w64 (h .id)) (claimOf (metaOf m)) (bytesOf k h m parts)
 
-  -- 22; 17, 3, 10, 16; 12, 14, 15
+  -- after 22: 17, 3, 10, 16; 12, 14, 15
+  abbrev pub restOfPush : List (Row Refusal)
+  restOfPush = checkRows ++ storeRows
+
   abbrev pub pushTable : List (Row Refusal)
-  pushTable = unsoundRow o ∷ checkRows ++ storeRows
+  pushTable = unsoundRow o ∷ restOfPush
 
 module _ (k : Kind) (id : ℤ) (m : Meta ℕ) (o : Overlay) where
-  -- 22; 17; 12, 14
+  -- after 22: 17; 12, 14
+  abbrev pub restOfDelete : List (Row Refusal)
+  restOfDelete = row R.BadRecord (not (legalMeta (o .texts .strings) m)) ∷ deleteRows k (o .setting) (shelfOf k o) id (claimOf m)
+
   abbrev pub deleteTable : List (Row Refusal)
-  deleteTable =
-      unsoundRow o ∷ row R.BadRecord (not (legalMeta (o .texts .strings) m)) ∷ deleteRows k (o .setting) (shelfOf k o) id (claimOf m)
+  deleteTable = unsoundRow o ∷ restOfDelete

@@ -1,4 +1,4 @@
--- What each answer of set-up means: a refusal is of the place that refuses, and changes nothing. And the parts of an overlay.
+-- The parts of an overlay; and what each answer of set-up and of the regression setting means: a refusal is of the place that refuses, and changes nothing.
 use Prim.Native.Nat.{ℕ}
 use mathlib.Core.Path.{_≡_, refl, sym, _∙_, ap}
 use mathlib.Core.Bool.{true, false}
@@ -13,11 +13,12 @@ use Rattle.kind.specs.declared.Kind.the-variants.{Node, Way, Relation}
 use Rattle.refusal.specs.declared.Refusal.{Refusal}
 use Rattle.refusal.specs.declared.Refusal.the-variants as R
 use Rattle.interner.proofs.Interns as Interns
+use Rattle.shelf.specs.Shelf.{takenIn}
 use Rattle.shelf.specs.declared.Kept.{Kept}
 use Rattle.shelf.specs.declared.Kept.the-variants.{Taken, Refused}
-use Rattle.overlay.specs.Overlay.{Overlay, overlayOf, countsOf, shelfOf, withShelf, largest, sizesFit, empty}
+use Rattle.overlay.specs.Overlay.{Overlay, overlayOf, countsOf, shelfOf, withShelf, withSetting, largest, sizesFit, empty}
 use Rattle.overlay.specs.Sound.{isSound}
-use Rattle.overlay.specs.Calls.{After, refused, setUp}
+use Rattle.overlay.specs.Calls.{After, refused, setUp, allowOn}
 
 -- ---- the parts of an overlay
 
@@ -45,13 +46,20 @@ shelf-back Way o = refl
 shelf-back Relation o = refl
 
 -- an act is taken or refused
-pub byKept : {C : Type 0} (x : Kept) → (x ≡ Taken → C) → ((r : Refusal) → x ≡ Refused r → C) → C
+pub byKept : {C : Type 0} (x : Kept) → (takenIn x ≡ true → C) → ((r : Refusal) → x ≡ Refused r → C) → C
 byKept Taken f g = f refl
 byKept (Refused r) f g = g r refl
+
+pub is-taken : (x : Kept) → takenIn x ≡ true → x ≡ Taken
+is-taken Taken e = refl
+is-taken (Refused r) e = no (cc)
 
 -- an answer, by what the whole is
 pub answered : {a : After} {t : Overlay} {x y : Kept} → a ≡ record { overlay = t; answer = x } → a .answer ≡ y → x ≡ y
 answered {a} e f = sym (ap (λ (z : After). z .answer) e) ∙ f
+
+pub taken-as : {a : After} {t : Overlay} {x : Kept} → a ≡ record { overlay = t; answer = x } → takenIn (a .answer) ≡ true → takenIn x ≡ true
+taken-as {a} e f = sym (ap (λ (z : After). takenIn (z .answer)) e) ∙ f
 
 -- ---- set-up
 
@@ -74,8 +82,34 @@ module _ (setting : ℕ) (o : Overlay) where
   pub setup-1-only : (r : Refusal) → setUp setting o .answer ≡ Refused r → (r ≡ R.Size) × (sizesFit largest o ≡ false)
   setup-1-only r e = bySetUp (λ s w. let z = answered w e in (cc, s)) (λ s w. let z = answered w e in no (cc))
 
-  pub setup-taken : setUp setting o .answer ≡ Taken → (sizesFit largest o ≡ true) × (setUp setting o .overlay ≡ empty setting o)
-  setup-taken e = bySetUp (λ s w. let z = answered w e in no (cc)) (λ s w. (s, ap (λ (z : After). z .overlay) w))
+  pub setup-taken : takenIn (setUp setting o .answer) ≡ true → (sizesFit largest o ≡ true) × (setUp setting o .overlay ≡ empty setting o)
+  setup-taken e = bySetUp (λ s w. let z : false ≡ true = taken-as w e in no (cc)) (λ s w. (s, ap (λ (z : After). z .overlay) w))
+
+-- ---- the regression setting
+
+module _ (setting : ℕ) (o : Overlay) where
+  -- it is refused 22, or taken
+  pub byAllow : {C : Type 0}
+      → (isSound o ≡ false → allowOn setting o ≡ refused o R.Unsound → C)
+      → (isSound o ≡ true → allowOn setting o ≡ record { overlay = withSetting setting o; answer = Taken } → C) → C
+  unfolding allowOn
+  byAllow f g = byBool (isSound o) (λ e. g e (rw e)) (λ e. f e (rw e))
+
+  -- a refusal changes nothing
+  pub allow-refused : (r : Refusal) → allowOn setting o .answer ≡ Refused r → allowOn setting o .overlay ≡ o
+  allow-refused r e = byAllow (λ s w. ap (λ (z : After). z .overlay) w) (λ s w. let z = answered w e in no (cc))
+
+  -- 22 exactly where the overlay is unsound, and no other refusal
+  pub allow-22 : isSound o ≡ false → allowOn setting o .answer ≡ Refused R.Unsound
+  allow-22 e = byAllow (λ s w. ap (λ (z : After). z .answer) w) (λ s w. clash s e)
+
+  pub allow-22-only : (r : Refusal) → allowOn setting o .answer ≡ Refused r → (r ≡ R.Unsound) × (isSound o ≡ false)
+  allow-22-only r e = byAllow (λ s w. let z = answered w e in (cc, s)) (λ s w. let z = answered w e in no (cc))
+
+  -- an accepted one stores the setting, and nothing else changes
+  pub allow-taken : takenIn (allowOn setting o .answer) ≡ true → (isSound o ≡ true) × (allowOn setting o .overlay ≡ withSetting setting o)
+  allow-taken e =
+      byAllow (λ s w. let z : false ≡ true = taken-as w e in no (cc)) (λ s w. (s, ap (λ (z : After). z .overlay) w))
 
 -- ---- the strings
 

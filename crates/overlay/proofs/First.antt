@@ -1,4 +1,4 @@
--- T4: set-up is refused by the first condition of its table that holds, and accepted where none holds.
+-- T4: set-up and the regression setting are refused by the first condition of their table that holds, and accepted where none holds.
 use Prim.Native.Nat.{ℕ}
 use mathlib.Core.Path.{_≡_}
 use mathlib.Core.Bool.{true, false}
@@ -8,16 +8,22 @@ use Rattle.refusal.specs.declared.Refusal.{Refusal}
 use Rattle.refusal.specs.declared.Refusal.the-variants as R
 use Rattle.overlay.specs.Overlay.{Overlay}
 use Rattle.overlay.specs.Sound.{isSound}
-use Rattle.overlay.specs.Calls.{setUp}
+use Rattle.overlay.specs.Calls.{setUp, allowOn}
 use Rattle.refusal.specs.First.{Row, firstOf}
-use Rattle.overlay.specs.First.{keptBy, setUpTable, unsoundRow}
-use Rattle.overlay.proofs.Answers.{bySetUp}
+use Rattle.overlay.specs.First.{keptBy, setUpTable, unsoundRow, allowTable}
+use Rattle.overlay.proofs.Answers.{bySetUp, byAllow}
 
 -- ---- set-up: 1
 
 pub setup-first : (setting : ℕ) (o : Overlay) → setUp setting o .answer ≡ keptBy (firstOf (setUpTable o))
 unfolding firstOf
 setup-first setting o = bySetUp setting o (λ s w. rw (w, s)) (λ s w. rw (w, s))
+
+-- ---- the regression setting: 22
+
+pub allow-first : (setting : ℕ) (o : Overlay) → allowOn setting o .answer ≡ keptBy (firstOf (allowTable o))
+unfolding firstOf
+allow-first setting o = byAllow setting o (λ s w. rw (w, s)) (λ s w. rw (w, s))
 
 -- ---- 22 before other rows
 

@@ -1,4 +1,4 @@
--- Set-up makes a sound overlay; a shelf put anew keeps an overlay sound, and its bytes bytes.
+-- Set-up makes a sound overlay; the regression setting and a shelf put anew keep one sound, and its bytes bytes.
 use Prim.Native.Nat.{ℕ, _≤_, _/_}
 use mathlib.Core.Path.{_≡_, refl, sym, _∙_}
 use mathlib.Core.Bool.{true}
@@ -15,16 +15,15 @@ use Rattle.legal.proofs.Laws.{whole-more}
 use Rattle.legal.proofs.Wholes.{kept-unique}
 use Rattle.interner.specs.Sound.{fresh}
 use Rattle.interner.proofs.Interns as Interns
-use Rattle.shelf.specs.Shelf.{Shelf}
-use Rattle.shelf.specs.declared.Kept.the-variants.{Taken}
+use Rattle.shelf.specs.Shelf.{Shelf, takenIn}
 use Rattle.sound.specs.Sound.{SoundShelf}
 use Rattle.sound.proofs.Keeps as Sounds
 use Rattle.overlay.specs.Overlay.{Overlay, shelfOf, withShelf, largest, sizesFit, textsFit, shelfFits, emptied, empty}
 use Rattle.overlay.specs.Given.{InBytes}
 use Rattle.overlay.specs.Sound.{Sound}
-use Rattle.overlay.specs.Calls.{setUp}
-use Rattle.overlay.proofs.Answers.{byKept, setup-refused, setup-taken}
-use Rattle.overlay.proofs.Shelves.{shelf-texts, each-shelf, sized-shelf, sized-texts, sized-of, shelf-sized, texts-sized, put-sized}
+use Rattle.overlay.specs.Calls.{setUp, allowOn}
+use Rattle.overlay.proofs.Answers.{byKept, setup-refused, setup-taken, byAllow}
+use Rattle.overlay.proofs.Shelves.{shelf-texts, each-shelf, sized-shelf, sized-texts, sized-of, shelf-sized, texts-sized, put-sized, setting-shelf}
 
 -- ---- set-up makes a sound overlay
 
@@ -50,7 +49,7 @@ module _ (setting : ℕ) (o : Overlay) where
         shelves = emptied-shelf (SoundShelf 1) (λ k. Sounds.empty-sound 1 k (shelfOf k o .table) (shelfOf k o .arena));
       }
 
-  pub setup-sound : setUp setting o .answer ≡ Taken → Sound (setUp setting o .overlay)
+  pub setup-sound : takenIn (setUp setting o .answer) ≡ true → Sound (setUp setting o .overlay)
   setup-sound e = let t = setup-taken setting o e in rw (t .1) (empty-sound (t .0))
 
 pub setup-bytes : (setting : ℕ) (o : Overlay) → InBytes o → InBytes (setUp setting o .overlay)
@@ -58,6 +57,19 @@ setup-bytes setting o w =
     byKept (setUp setting o .answer)
     (λ e. rw (setup-taken setting o e .1) (record { arenas = emptied-shelf setting o (λ k (s : Shelf). all isByte (s .arena) ≡ true) (w .arenas); texts = w .texts }))
     (λ r e. rw (setup-refused setting o r e) w)
+
+-- ---- the regression setting keeps an overlay sound, and its bytes bytes
+
+module _ (setting : ℕ) (o : Overlay) where
+  pub allow-sound : Sound o → Sound (allowOn setting o .overlay)
+  unfolding sizesFit
+  allow-sound w =
+      byAllow setting o (λ s e. rw e w)
+      (λ s e. rw e (record { sizes = w .sizes; strings = w .strings; shelves = λ k. rw setting-shelf (w .shelves k) }))
+
+  pub allow-bytes : InBytes o → InBytes (allowOn setting o .overlay)
+  allow-bytes w =
+      byAllow setting o (λ s e. rw e w) (λ s e. rw e (record { arenas = λ k. rw setting-shelf (w .arenas k); texts = w .texts }))
 
 -- ---- one part put anew
 

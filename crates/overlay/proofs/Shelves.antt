@@ -1,4 +1,5 @@
 -- An overlay with one shelf or its strings put anew: what is put, what stays, and that its sizes stay within bounds.
+use Prim.Native.Nat.{ℕ}
 use mathlib.Core.Path.{_≡_, refl}
 use mathlib.Core.Bool.{true}
 use lib.ListN.{length}
@@ -7,7 +8,7 @@ use Rattle.kind.specs.declared.Kind.{Kind}
 use Rattle.kind.specs.declared.Kind.the-variants.{Node, Way, Relation}
 use Rattle.interner.specs.Strings.{Store}
 use Rattle.shelf.specs.Shelf.{Shelf}
-use Rattle.overlay.specs.Overlay.{Overlay, shelfOf, withShelf, withTexts, Sizes, shelfFits, textsFit, sizesFit}
+use Rattle.overlay.specs.Overlay.{Overlay, shelfOf, withShelf, withTexts, withSetting, Sizes, shelfFits, textsFit, sizesFit}
 
 -- ---- parts
 
@@ -54,6 +55,12 @@ pub texts-shelf : (j : Kind) (t : Store) (o : Overlay) → shelfOf j (withTexts 
 texts-shelf Node t o = refl
 texts-shelf Way t o = refl
 texts-shelf Relation t o = refl
+
+-- and so does a new setting
+pub setting-shelf : (j : Kind) (setting : ℕ) (o : Overlay) → shelfOf j (withSetting setting o) ≡ shelfOf j o
+setting-shelf Node setting o = refl
+setting-shelf Way setting o = refl
+setting-shelf Relation setting o = refl
 
 -- ---- sizes
 

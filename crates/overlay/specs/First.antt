@@ -1,8 +1,16 @@
 -- The tables of set-up and of the regression setting, and the row that each later call begins with (proofs/First).
-use mathlib.Core.Bool.{not}
+use Prim.Native.Nat.{ℕ}
+use mathlib.Core.Bool.{true, not}
 use mathlib.Core.Option.{Option, none, some}
 use mathlib.Core.List.{List, [], _∷_}
+use lib.IntN.{pos}
+use Rattle.kind.specs.Kind.{ofNumber}
+use Rattle.kind.specs.declared.Kind.{Kind}
+use Rattle.kind.specs.declared.Named.{Named}
+use Rattle.kind.specs.declared.Named.the-variants.{Is, Unknown}
 use Rattle.refusal.specs.First.{Row, row}
+use Rattle.refusal.specs.Refusal.{numberOf, replyOf}
+use Rattle.refusal.specs.declared.Reply.{Reply}
 use Rattle.refusal.specs.declared.Refusal.{Refusal}
 use Rattle.refusal.specs.declared.Refusal.the-variants as R
 use Rattle.shelf.specs.declared.Kept.{Kept}
@@ -26,3 +34,22 @@ unsoundRow o = row R.Unsound (not (isSound o))
 -- `allow_version_regression`: 22
 abbrev pub allowTable : Overlay → List (Row Refusal)
 allowTable o = unsoundRow o ∷ []
+
+-- ---- at the C boundary
+
+-- a kind goes by its number: 17 for one that means no kind, else the rows of that kind
+abbrev pub kindRows : Named → (Kind → List (Row Refusal)) → List (Row Refusal)
+kindRows (Is k) rows = rows k
+kindRows Unknown rows = row R.BadRecord true ∷ []
+
+abbrev pub kindTable : ℕ → (Kind → List (Row Refusal)) → Overlay → List (Row Refusal)
+kindTable kind rows o = unsoundRow o ∷ kindRows (ofNumber kind) rows
+
+-- the number of a reply by its refusal, if there is one, and the whole reply
+abbrev pub numberBy : Option Refusal → ℕ
+numberBy none = 0
+numberBy (some r) = numberOf r
+
+abbrev pub replyBy : Option Refusal → Reply
+replyBy none = record { number = 0; held = pos 0 }
+replyBy (some r) = replyOf r

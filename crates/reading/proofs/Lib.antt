@@ -2,3 +2,4 @@ pub mod Arms
 pub mod Records
 pub mod Numbers
 pub mod Texts
+pub mod First

@@ -73,7 +73,7 @@ module _ (o : Overlay) (b : InBytes o) (w : Sound o) (k : Kind) (side : Side) wh
   unfolding countOn
   count-is = rw (tested, all-rows)
 
-  counted : (m : ℕ) → countOn k side o ≡ Is m → length list ≡ m
+  pub counted : (m : ℕ) → countOn k side o ≡ Is m → length list ≡ m
   counted m e = let x : Is (length list) ≡ Is m = sym count-is ∙ e in cc
 
   id-at : (n : ℕ) (d : Row) → n < length list → idOn k side n o ≡ Is (ofZ w64 (idOf (getD list n d .rank)))
@@ -142,7 +142,7 @@ module _ (o : Overlay) (b : InBytes o) (w : Sound o) (k : Kind) where
   unfolding recordOn
   record-past n l = rw (tested o b w k Live, all-rows o b w k Live, missing-is (list o b w k Live) n .1 l)
 
-  record-row : (n : ℕ) (d : Row) → n < length (list o b w k Live)
+  pub record-row : (n : ℕ) (d : Row) → n < length (list o b w k Live)
       → Shows (shelfOf k o) (w .shelves k .whole .kept) (idOf (getD (list o b w k Live) n d .rank)) (recordOn k n o)
   unfolding recordOn
   record-row n d l =

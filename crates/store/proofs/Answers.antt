@@ -1,20 +1,30 @@
--- What each answer of the store means, and which refusals there are.
+-- What each answer of the store means: which refusals there are, and that a refusal changes nothing.
 use Prim.Native.Nat.{ℕ}
 use mathlib.Core.Path.{_≡_, refl}
 use lib.IntN.{ℤ}
+use mir.Syntax.{w64}
+use mir.Val.{toZ}
 use Rattle.base.specs.Bytes.{Bytes}
 use Rattle.base.proofs.Split.{no}
 use Rattle.kind.specs.declared.Kind.{Kind}
 use Rattle.version_floor.specs.declared.Version.{Version}
 use Rattle.refusal.specs.declared.Refusal.{Refusal}
 use Rattle.refusal.specs.declared.Refusal.the-variants as R
+use Rattle.model.specs.Record.{claimOf}
+use Rattle.compact.specs.Held.{metaOf}
+use Rattle.compact.specs.declared.ArenaMeta.{ArenaMeta}
+use Rattle.compact.specs.declared.PushHead.{PushHead}
+use Rattle.interner.specs.Strings.{intern}
 use Rattle.interner.specs.declared.Interned.{Interned}
 use Rattle.interner.specs.declared.Interned.the-variants as I
+use Rattle.interner.proofs.Interns as Interns
 use Rattle.shelf.specs.Shelf.{Shelf}
 use Rattle.shelf.specs.Shelf as Shelf
 use Rattle.shelf.specs.declared.Kept.the-variants.{Refused}
 use Rattle.shelf.proofs.Answers as Shelves
-use Rattle.store.specs.Calls.{handleIn}
+use Rattle.overlay.specs.Overlay.{Overlay, shelfOf}
+use Rattle.overlay.proofs.Answers.{shelf-back}
+use Rattle.store.specs.Calls.{handleIn, bytesOf, storeText, storePush, storeDelete}
 use Rattle.store.specs.declared.Handle.{Handle}
 use Rattle.store.specs.declared.Handle.the-variants as H
 
@@ -41,3 +51,20 @@ module _ {C : Type 0} (k : Kind) (setting : ℕ) (s : Shelf) (id : ℤ) (claim :
   byDeleted r e a b =
       Shelves.byDelete k setting s id claim (λ v q w. let z = Shelves.answered w e in a v (cc)) (λ q x w. let z = Shelves.answered w e in b (cc))
       (λ q x w. let z = Shelves.answered w e in no (cc))
+
+-- ---- a refusal changes nothing
+
+module _ (o : Overlay) where
+  pub store-text-refused : (t : Bytes) → Interns.Sound (o .texts) → (r : Refusal) → storeText t o .answer ≡ H.Refused r → storeText t o .overlay ≡ o
+  store-text-refused t p r e =
+      let n : intern (o .texts) t .store ≡ o .texts = Interns.full-same (o .texts) t p (is-full (intern (o .texts) t .answer) r e .0) in rw n
+
+  pub store-push-refused : (k : Kind) (h : PushHead) (m : ArenaMeta) (parts : Bytes) (r : Refusal)
+      → storePush k h m parts o .answer ≡ Refused r → storePush k h m parts o .overlay ≡ o
+  store-push-refused k h m parts r e =
+      let n = Shelves.push-refused k (o .setting) (shelfOf k o) (toZ w64 (h .id)) (claimOf (metaOf m)) (bytesOf k h m parts) r e in rw n (shelf-back k o)
+
+  pub store-delete-refused : (k : Kind) (id : ℤ) (claim : Version) (r : Refusal)
+      → storeDelete k id claim o .answer ≡ Refused r → storeDelete k id claim o .overlay ≡ o
+  store-delete-refused k id claim r e =
+      let n = Shelves.delete-refused k (o .setting) (shelfOf k o) id claim r e in rw n (shelf-back k o)

@@ -33,8 +33,8 @@ answer-first held roomy (some h) = refl
 answer-first held true none = refl
 answer-first held false none = refl
 
-pub text-first : (s : Store) (t : Bytes) → Interns.Sound s → refusalIn (handleIn (intern s t .answer)) ≡ firstOf (textRows s t)
-text-first s t p = rw (Interns.answers s t p) (answer-first (textsOf s) (room s t) (handleOf t (textsOf s)))
+pub interned-first : (s : Store) (t : Bytes) → Interns.Sound s → refusalIn (handleIn (intern s t .answer)) ≡ firstOf (textRows s t)
+interned-first s t p = rw (Interns.answers s t p) (answer-first (textsOf s) (room s t) (handleOf t (textsOf s)))
 
 -- ---- a delete: 12, 14; a push: 12, 14, 15
 
