@@ -27,7 +27,7 @@ use Rattle.compact.specs.declared.PushHead.{PushHead}
 use Rattle.legal.specs.declared.End.the-variants.{At, Bad}
 use Rattle.legal.specs.declared.Verdict.the-variants.{Refused}
 use Rattle.legal.specs.declared.Part.the-variants.{Key, Value}
-use Rattle.legal.proofs.Places.{Off, off-length, total, times-off, tag-off}
+use Rattle.compact.proofs.Places.{Off, off-length, total, times-off, tag-off}
 use Rattle.legal.proofs.Ends.{Ends, ends-at, end-found}
 use Rattle.legal.proofs.Bodies.{bodyLong, BodyCut, body-cut}
 

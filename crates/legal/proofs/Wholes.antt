@@ -22,7 +22,7 @@ use Rattle.compact.specs.Legal.{legal}
 use Rattle.legal.specs.Judge.{recordEnd, endOf}
 use Rattle.legal.specs.Whole.{keptBytes, Whole, legalRest, afterLegal, onward, wholeStep, wholeBy, wholeRecords}
 use Rattle.legal.specs.declared.End.the-variants.{At, Bad}
-use Rattle.legal.proofs.Places.{off-length}
+use Rattle.compact.proofs.Places.{off-length}
 use Rattle.legal.proofs.Fronts.{record-off, end-tells}
 
 module _ (strings : ℕ) (k : Kind) where
