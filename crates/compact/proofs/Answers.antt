@@ -22,7 +22,7 @@ use Rattle.compact.specs.declared.TagStep.the-variants as tag
 use Rattle.compact.specs.Layout.{headLen}
 use Rattle.compact.specs.Cut.{Cut, found, cutI64, cutMeta, cutMember, cutHead}
 use Rattle.compact.specs.View.{unsoundNumber, answer, nodeRead, wayRead, relationRead, metaRead, step, refStep, memberStep, cutText, tagStep}
-use Rattle.compact.proofs.Places.{Sized, leaving, sized-none, i64-sized, member-sized, meta-sized, head-whole, head-short}
+use Rattle.compact.proofs.Places.{Sized, sized-none, i64-sized, member-sized, meta-sized, head-whole, head-short}
 use Rattle.compact.proofs.Steps.{step-done, step-none, step-some}
 
 -- "`arena_invariant_broken`: refusal 22"

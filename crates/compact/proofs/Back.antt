@@ -1,6 +1,6 @@
 -- What is read from a record is what was appended: head, metadata, each ref, each member and each tag, field by field and by a user's readers and steps.
 use Prim.Native.Nat.{ℕ, zero, suc, _+_, _-_, _*_, _^_, _<_, _≤_}
-use mathlib.Core.Path.{_≡_, refl, _∙_, ap}
+use mathlib.Core.Path.{_≡_, refl, ap}
 use mathlib.Core.Bool.{Bool, true}
 use mathlib.Core.Option.{Option, some, bind}
 use mathlib.Core.List.{List, [], _∷_, _++_, append-assoc}
@@ -20,10 +20,9 @@ use Rattle.little.proofs.Littles.{length-le, value-back}
 use Rattle.text.specs.Check.{isText}
 use Rattle.kind.specs.Kind.{numberOf}
 use Rattle.kind.proofs.Numbers.{number-back}
-use Rattle.kind.specs.declared.Kind.the-variants.{Node}
 use Rattle.model.specs.Record.{Meta, Member, Tag, Body, place, refs, members, Record, kindOf}
 use Rattle.compact.specs.Layout.{u32, i32, i64, metaBytes, memberBytes, tagBytes, joined, Head, headBytes, headOf, headLen, bodyBytes, partsBytes, recordBytes}
-use Rattle.compact.specs.Cut.{Cut, andThen, found, cutI64, cutMeta, cutMember, cutHead}
+use Rattle.compact.specs.Cut.{andThen, found, cutI64, cutMember}
 use Rattle.compact.specs.Fits.{fitsNumber, fitsSigned, fitsMeta, fitsMember, fitsTag, fitsHead, fitsBody, fitting}
 use Rattle.compact.specs.Legal.{legalTexts}
 use Rattle.compact.specs.Held.{metaOf, metaBits, nodeHead, countsHead, wayHead, relationHead, nodeBits, wayBits, relationBits, memberOf}

@@ -17,9 +17,9 @@ use Rattle.kind.specs.declared.Kind.{Kind}
 use Rattle.kind.specs.declared.Kind.the-variants.{Node, Way, Relation}
 use Rattle.kind.specs.declared.Named.{Named}
 use Rattle.kind.specs.declared.Named.the-variants.{Is, Unknown}
-use Rattle.model.specs.Record.{Meta, Member, Tag, Record}
-use Rattle.compact.specs.Layout.{Head, headLen}
-use Rattle.compact.specs.Cut.{Cut, andThen, found, cutBytes, cutNumber, cutI32, cutI64, times, cutMeta, memberAs, cutMember, cutTag, cutCounts, cutHead, Kept}
+use Rattle.model.specs.Record.{Member, Tag}
+use Rattle.compact.specs.Layout.{headLen}
+use Rattle.compact.specs.Cut.{Cut, andThen, found, cutBytes, cutNumber, cutI32, cutI64, times, cutMeta, memberAs, cutMember, cutTag, cutCounts, cutHead}
 use Rattle.compact.specs.Held.{metaOf, nodeHead, countsHead, wayHead, relationHead, named}
 use Rattle.compact.specs.View.{nodeAt, wayAt, relationAt, metaAt, headAt}
 use Rattle.compact.proofs.Format.{first, of-cut, cut-short, cut-whole}

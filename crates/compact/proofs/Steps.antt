@@ -1,7 +1,7 @@
 -- The readers and the steps, case by case.
 use Prim.Native.Nat.{ℕ, _+_, _-_, _≤_, _<_}
 use mathlib.Core.Path.{_≡_, sym}
-use mathlib.Core.Bool.{Bool, true, false, cond}
+use mathlib.Core.Bool.{true, false, cond}
 use mathlib.Core.Option.{Option, none}
 use native.Mathlib.Omega.{arith}
 use lib.ListN.{length, take, drop, length-drop}

@@ -316,15 +316,15 @@ pub fn member_step(bytes: &[u8], offset: usize, remaining: u32) -> MemberStep
     if past(bytes.len(), offset, CompactRelation::MEMBER_SIZE) {
         return MemberStep::Unsound;
     }
-    let Named::Is(kind) = kind::kind_of_number(little::get_u8(bytes, offset + 8)) else {
-        return MemberStep::Unsound;
-    };
     let next = offset + CompactRelation::MEMBER_SIZE;
-    MemberStep::Member {
-        reference: little::get_u64(bytes, offset),
-        kind,
-        role: little::get_u32(bytes, offset + 9),
-        next,
+    match kind::kind_of_number(little::get_u8(bytes, offset + 8)) {
+        Named::Is(kind) => MemberStep::Member {
+            reference: little::get_u64(bytes, offset),
+            kind,
+            role: little::get_u32(bytes, offset + 9),
+            next,
+        },
+        Named::Unknown => MemberStep::Unsound,
     }
 }
 

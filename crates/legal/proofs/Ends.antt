@@ -8,7 +8,6 @@ use native.Mathlib.Omega.{arith}
 use lib.ListN.{length, drop, length-drop}
 use Rattle.base.specs.Bytes.{Bytes, both, all}
 use Rattle.base.proofs.Split.{byBool, no}
-use Rattle.model.specs.Record.{Member, Tag}
 use Rattle.compact.specs.Cut.{Cut, andThen, found, times, cutMember, cutTag}
 use Rattle.legal.specs.Judge.{endOf, partEnd, partsEnd}
 use Rattle.legal.specs.declared.End.{End}

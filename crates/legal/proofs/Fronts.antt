@@ -10,11 +10,10 @@ use lib.Seq.{take-all}
 use Rattle.base.specs.Bytes.{Bytes, both, either}
 use Rattle.base.proofs.Split.{byBool, byLe, no}
 use Rattle.kind.specs.declared.Kind.{Kind}
-use Rattle.kind.specs.declared.Kind.the-variants.{Node, Way, Relation}
 use Rattle.refusal.specs.declared.Refusal.the-variants.{NotText, CoordinateRange, TooManyParts, BadRecord}
 use Rattle.model.specs.Record.{Meta, Tag, Record}
 use Rattle.compact.specs.Layout.{Head, headLen}
-use Rattle.compact.specs.Cut.{Cut, andThen, found, cutMeta, cutTag, cutParts, Kept, cutRecord}
+use Rattle.compact.specs.Cut.{Cut, andThen, found, cutTag, cutParts, Kept, cutRecord}
 use Rattle.compact.specs.Held.{metaOf}
 use Rattle.compact.specs.View.{metaAt, headAt}
 use Rattle.compact.proofs.Format.{first, of-cut}

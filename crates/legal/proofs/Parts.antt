@@ -22,7 +22,7 @@ use Rattle.compact.specs.Legal.{handle}
 use Rattle.legal.specs.Judge.{endOf, partEnd, tagEnd}
 use Rattle.legal.specs.declared.End.the-variants.{At, Bad}
 use Rattle.legal.specs.declared.Part.the-variants.{Role, Key, Value}
-use Rattle.compact.proofs.Places.{leaving, Sized, member-sized, tag-short, tag-long, tag-whole}
+use Rattle.compact.proofs.Places.{leaving, member-sized, tag-short, tag-long, tag-whole}
 use Rattle.legal.proofs.Ends.{end-none, end-found}
 
 -- what the end of a tag tells

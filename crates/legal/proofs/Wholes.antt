@@ -11,7 +11,6 @@ use Rattle.base.proofs.Split.{byBool, no, clash}
 use Rattle.base.proofs.Lists.{all-nil, all-cons, all-head, all-tail, all-append, all-right}
 use Rattle.little.specs.Little.{isByte}
 use Rattle.kind.specs.declared.Kind.{Kind}
-use Rattle.model.specs.Record.{Record}
 use Rattle.compact.specs.Layout.{joined}
 use Rattle.compact.specs.Cut.{Cut, found, Kept, cutRecord}
 use Rattle.compact.specs.Fits.{fitsKept}
