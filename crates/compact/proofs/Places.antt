@@ -5,7 +5,7 @@ use mathlib.Core.Option.{Option, none, some}
 use mathlib.Core.List.{List, [], _∷_}
 use native.Mathlib.Omega.{arith}
 use lib.IntN.{ℤ, pos}
-use lib.ListN.{length, take, drop, length-drop}
+use lib.ListN.{length, take, drop, length-drop, drop-of-length-le}
 use lib.Seq.{drop-drop, length-take-le}
 use mir.Syntax.{w32, w64}
 use mir.Val.{toZ}
@@ -13,14 +13,16 @@ use Rattle.base.specs.Bytes.{Bytes}
 use Rattle.base.proofs.Split.{byLe, no}
 use Rattle.little.specs.Little.{value, valueAt}
 use Rattle.kind.specs.Kind.{ofNumber}
-use Rattle.kind.specs.declared.Kind.the-variants.{Node}
+use Rattle.kind.specs.declared.Kind.{Kind}
+use Rattle.kind.specs.declared.Kind.the-variants.{Node, Way, Relation}
 use Rattle.kind.specs.declared.Named.{Named}
 use Rattle.kind.specs.declared.Named.the-variants.{Is, Unknown}
-use Rattle.model.specs.Record.{Meta, Member, Tag, Record}
-use Rattle.compact.specs.Layout.{Head}
-use Rattle.compact.specs.Cut.{Cut, andThen, found, cutBytes, cutNumber, cutI32, cutI64, times, cutMeta, memberAs, cutMember, cutTag, cutCounts, cutHead, Kept}
-use Rattle.compact.specs.Held.{countsHead}
+use Rattle.model.specs.Record.{Member, Tag}
+use Rattle.compact.specs.Layout.{headLen}
+use Rattle.compact.specs.Cut.{Cut, andThen, found, cutBytes, cutNumber, cutI32, cutI64, times, cutMeta, memberAs, cutMember, cutTag, cutCounts, cutHead}
+use Rattle.compact.specs.Held.{metaOf, nodeHead, countsHead, wayHead, relationHead, named}
+use Rattle.compact.specs.View.{nodeAt, wayAt, relationAt, metaAt, headAt}
 use Rattle.compact.proofs.Format.{first, of-cut, cut-short, cut-whole}
 
 -- r is what is left of s after n bytes
 pub record Off (s : Bytes) (n : ℕ) (r : Bytes) : Type 0 where
@@ -110,6 +112,18 @@ pub record Sized {A : Type 0} (cut : Bytes → Option (Cut A)) (n : ℕ) (to : B
   pub whole : (s : Bytes) (at : ℕ) → at + n ≤ length s → cut (drop at s) ≡ leaving (to s at) (drop (at + n) s)
   pub short : (s : Bytes) (at : ℕ) → at ≤ length s → length s < at + n → cut (drop at s) ≡ none
 
+-- there is none where it would run past the end, from whatever place on
+pub sized-none : {A : Type 0} {cut : Bytes → Option (Cut A)} {n : ℕ} {to : Bytes → ℕ → Option A} → Sized cut n to → 0 < n
+    → (s : Bytes) (at : ℕ) → length s < at + n → cut (drop at s) ≡ none
+sized-none f z s at h =
+    byLe at (length s)
+    (λ l. f .short s at l h)
+    (λ l. rw (drop-of-length-le s {i = at} (omega arith), ← drop-of-length-le s {i = length s} (omega arith)) (f .short s (length s) (omega arith) (omega arith)))
+
+-- where the part from a place on ends
+pub next-is : (s : Bytes) (e : ℕ) → e ≤ length s → length s - length (drop e s) ≡ e
+next-is s e h = omega (arith, length-drop e s)
+
 pub number-sized : (n : ℕ) → Sized (cutNumber n) n (λ s at. some (valueAt n s at))
 unfolding cutNumber andThen valueAt
 number-sized n =
@@ -125,10 +139,6 @@ last-sized o =
       whole = λ s at h. let e : at + 0 ≡ at = omega arith in rw e;
       short = λ s at g h. let n : ⊥ = omega arith in absurd n;
     }
-
-abbrev pub onto : {A B : Type 0} → Option A → (A → Option B) → Option B
-onto none f = none
-onto (some a) f = f a
 
 -- one part after the other
 module _ {A B : Type 0} {cut : Bytes → Option (Cut A)} {n m : ℕ} {to : Bytes → ℕ → A} {next : A → Bytes → Option (Cut B)} {on : A → Bytes → ℕ → Option B} where
@@ -151,15 +161,11 @@ pub i64-sized : Sized cutI64 8 (λ s at. some (toZ w64 (valueAt 8 s at)))
 unfolding cutI64
 i64-sized = then-sized (number-sized 8) (λ v. last-sized (some (toZ w64 v)))
 
-abbrev pub namedAs : ℤ → Named → ℕ → Option (Member ℕ)
-namedAs ref (Is k) role = some (record { ref = ref; type = k; role = role })
-namedAs ref Unknown role = none
-
-member-as : (ref : ℤ) (x : Named) (role : ℕ) → Sized (memberAs ref x role) 0 (λ s at. namedAs ref x role)
+member-as : (ref : ℤ) (x : Named) (role : ℕ) → Sized (memberAs ref x role) 0 (λ s at. named ref x role)
 member-as ref (Is k) role = last-sized (some (record { ref = ref; type = k; role = role }))
 member-as ref Unknown role = last-sized none
 
-pub member-sized : Sized cutMember 13 (λ s at. namedAs (toZ w64 (valueAt 8 s at)) (ofNumber (valueAt 1 s (at + 8))) (valueAt 4 s (at + 8 + 1)))
+pub member-sized : Sized cutMember 13 (λ s at. named (toZ w64 (valueAt 8 s at)) (ofNumber (valueAt 1 s (at + 8))) (valueAt 4 s (at + 8 + 1)))
 unfolding cutMember
 member-sized = then-sized i64-sized (λ ref. then-sized (number-sized 1) (λ type. then-sized (number-sized 4) (λ role. member-as ref (ofNumber type) role)))
 
@@ -177,16 +183,25 @@ meta-sized =
     then-sized i32-sized (λ uid. then-sized (number-sized 4) (λ user.
     last-sized (some (record { flags = flags; version = version; timestamp = timestamp; changeset = changeset; uid = uid; user = user }))))))))
 
+pub meta-there : (s : Bytes) (at : ℕ) → at + 29 ≤ length s → cutMeta (drop at s) ≡ found (metaOf (metaAt s at)) (drop (at + 29) s)
+unfolding metaOf metaAt
+meta-there s at h =
+    let e1 : at + 1 + 4 ≡ at + 5 = omega arith in
+    let e2 : at + 5 + 8 ≡ at + 13 = omega arith in
+    let e3 : at + 13 + 8 ≡ at + 21 = omega arith in
+    let e4 : at + 21 + 4 ≡ at + 25 = omega arith in
+    rw (meta-sized .whole s at h, e1, e2, e3, e4)
+
 -- ---- tags
 
 module _ (s : Bytes) (at : ℕ) where
   -- fewer than 8 bytes hold no tag
-  pub tag-short : at ≤ length s → length s < at + 8 → cutTag (drop at s) ≡ none
+  pub tag-short : length s < at + 8 → cutTag (drop at s) ≡ none
   unfolding cutTag andThen
-  tag-short l h =
+  tag-short h =
       byLe (at + 4) (length s)
       (λ k. rw (number-sized 4 .whole s at k, number-sized 4 .short s (at + 4) k (omega arith)))
-      (λ k. rw (number-sized 4 .short s at l k))
+      (λ k. rw (sized-none (number-sized 4) (omega arith) s at k))
 
   module _ (room : at + 8 ≤ length s) where
     tag-value : cutTag (drop at s) ≡ andThen (cutBytes (valueAt 4 s (at + 4)) (drop (at + 8) s)) (λ v r. found (record { key = valueAt 4 s at; value = v }) r)
@@ -223,3 +238,15 @@ unfolding cutHead
 place-sized =
     then-sized i64-sized (λ id. then-sized i32-sized (λ lat. then-sized i32-sized (λ lon. then-sized (number-sized 4) (λ tags.
     last-sized (some (record { id = id; lat = lat; lon = lon; count = 0; tags = tags }))))))
+
+pub head-whole : (k : Kind) (s : Bytes) → headLen k ≤ length s → cutHead k s ≡ found (headAt k s) (drop (headLen k) s)
+unfolding cutHead headAt nodeHead nodeAt wayHead wayAt relationHead relationAt countsHead
+head-whole Node s h = place-sized .whole s 0 h
+head-whole Way s h = counts-sized .whole s 0 h
+head-whole Relation s h = counts-sized .whole s 0 h
+
+pub head-short : (k : Kind) (s : Bytes) → length s < headLen k → cutHead k s ≡ none
+unfolding cutHead
+head-short Node s h = place-sized .short s 0 (omega arith) h
+head-short Way s h = counts-sized .short s 0 (omega arith) h
+head-short Relation s h = counts-sized .short s 0 (omega arith) h
