@@ -7,5 +7,5 @@ pub mod Held
 pub mod Legals
 pub mod Steps
 pub mod Advances
-pub mod Events
 pub mod Tables
+pub mod Events
