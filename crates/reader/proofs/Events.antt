@@ -101,17 +101,17 @@ turn-refused (ends p) r x = (λ e. no (cc), λ e. no (cc))
 -- ---- the refusals of a step: 2 to 11 of its decision, 12 to 16 of the store
 
 -- each row that holds gives a refusal whose number is from lo to hi
-Among : ℕ → ℕ → List (Row Refusal) → Type 0
+abbrev pub Among : ℕ → ℕ → List (Row Refusal) → Type 0
 Among lo hi [] = Unit {0}
 Among lo hi (x ∷ rows) = ((lo ≤ numberOf (x .gives)) × (numberOf (x .gives) ≤ hi)) × Among lo hi rows
 
-first-among : (lo hi : ℕ) (rows : List (Row Refusal)) (r : Refusal) → Among lo hi rows → firstOf rows ≡ some r → (lo ≤ numberOf r) × (numberOf r ≤ hi)
-unfolding Among firstOf
+pub first-among : (lo hi : ℕ) (rows : List (Row Refusal)) (r : Refusal) → Among lo hi rows → firstOf rows ≡ some r → (lo ≤ numberOf r) × (numberOf r ≤ hi)
+unfolding firstOf
 first-among lo hi [] r w e = no (cc)
 first-among lo hi (x ∷ rows) r w e = byBool (x .holds) (λ t. let z : x .gives ≡ r = cc (rw t at e) in rw (← z) (w .0)) (λ t. first-among lo hi rows r (w .1) (rw t at e))
 
 store-among : (d : Decision) (s : State) → Among 12 16 (storeRows d s)
-unfolding Among storeRows
+unfolding storeRows
 store-among (refuses r) s = tt
 store-among (moves p) s = tt
 store-among (begins true p id m b) s = ((omega arith, omega arith), ((omega arith, omega arith), ((omega arith, omega arith), ((omega arith, omega arith), tt))))

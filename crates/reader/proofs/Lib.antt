@@ -9,3 +9,5 @@ pub mod Steps
 pub mod Advances
 pub mod Tables
 pub mod Events
+pub mod Keeps
+pub mod Regressions
