@@ -9,7 +9,7 @@ use mathlib.Core.List.{List, [], _∷_}
 use native.Mathlib.Omega.{arith}
 use lib.IntN.{ℤ}
 use mir.Syntax.{w64}
-use mir.Val.{toZ}
+use mir.Val.{SFits, toZ}
 use Rattle.base.specs.Bytes.{Bytes}
 use Rattle.base.proofs.Split.{no}
 use Rattle.refusal.specs.First.{Row, row, firstOf}
@@ -28,10 +28,11 @@ use Rattle.interner.specs.Sound.{textsOf}
 use Rattle.shelf.specs.Shelf.{known, checked}
 use Rattle.overlay.specs.Overlay.{Overlay, shelfOf}
 use Rattle.overlay.specs.First.{isBelow, heldBy}
+use Rattle.overlay.proofs.Bounds.{id-given}
 use Rattle.field.specs.Field.{Field, got, bad}
 use Rattle.decision.specs.Decision.{Decision, refuses, moves, begins, deletes, tags, refers, joins, ends, decide}
 use Rattle.decision.specs.Table.{refusalIn}
-use Rattle.decision.proofs.Lawful.{decide-lawful}
+use Rattle.decision.proofs.Lawful.{Lawful, decide-lawful}
 use Rattle.acts.specs.Turn.{Staged, Turn, first, turnOf, turn}
 use Rattle.reader.specs.declared.EventAnswer.the-variants as E
 use Rattle.reader.specs.State.{State, nextLine, isStopped, stateSound}
@@ -59,6 +60,7 @@ record Makes (d : Decision) (s : State) (a : Act Bytes) : Type 0 where
   rows : storeRows d s ≡ rowOf (s .overlay) a ∷ rest
   decided : refusalIn d ≡ none
   others : Among 13 16 rest
+  fits : SFits w64 (keyOf a .id)
 
 got-act : {t x : Turn} {a : Act Bytes} → _≡_ {A = Field Turn} (got x) (got t) → t .act ≡ some a → x .act ≡ some a
 got-act {t} {x} e h = let q : x ≡ t = cc in ap (λ (z : Turn). z .act) q ∙ h
@@ -76,26 +78,32 @@ module _ (s : State) (g : Given s) (e : stateSound s ≡ true) where
       ap (λ (y : Staged). rowOf (s .overlay) (push (y .id) (y .held))) (held-means (s .overlay .texts .strings) k (s .parts) x v texts)
       ∙ rw (body-kind (textOf texts) (v .held .body), v .stages .kind, v .stages .meta)
 
-  makes : (d : Decision) (t : Turn) (a : Act Bytes) → turnOf d (readerOf s) ≡ got t → t .act ≡ some a → Makes d s a
+  ended-fits : SFits w64 (readerOf s .staged .id)
+  unfolding readerOf
+  ended-fits =
+      let m = held-means (s .overlay .texts .strings) (s .reader .place .kind) (s .parts) (s .reader .pending) (state-held s g e) (textsOf (s .overlay .texts)) in
+      rw m (id-given (s .reader .pending .head) (g .reader .head))
+
+  makes : (d : Decision) → Lawful (s .reader .place) d → (t : Turn) (a : Act Bytes) → turnOf d (readerOf s) ≡ got t → t .act ≡ some a → Makes d s a
   unfolding turnOf storeRows
-  makes (refuses r) t a h k = no (cc)
-  makes (moves p) t a h k = let z = got-act h k in no (cc)
-  makes (begins true p id m b) t a h k =
+  makes (refuses r) w t a h k = no (cc)
+  makes (moves p) w t a h k = let z = got-act h k in no (cc)
+  makes (begins true p id m b) w t a h k =
       let z : push id (first m b) ≡ a = cc (got-act h k) in
-      rw (← z) (record { rest = _; rows = refl; decided = refl; others = ((omega arith, omega arith), ((omega arith, omega arith), ((omega arith, omega arith), tt))) })
-  makes (begins false p id m b) t a h k = let z = got-act h k in no (cc)
-  makes (deletes j p id m) t a h k =
+      rw (← z) (record { rest = _; rows = refl; decided = refl; others = ((omega arith, omega arith), ((omega arith, omega arith), ((omega arith, omega arith), tt))); fits = w .0 .fits })
+  makes (begins false p id m b) w t a h k = let z = got-act h k in no (cc)
+  makes (deletes j p id m) w t a h k =
       let z : delete j id (claimOf m) ≡ a = cc (got-act h k) in
-      rw (← z) (record { rest = _; rows = refl; decided = refl; others = ((omega arith, omega arith), ((omega arith, omega arith), tt)) })
-  makes (tags p y) t a h k = let z = got-act h k in no (cc)
-  makes (refers p y) t a h k = let z = got-act h k in no (cc)
-  makes (joins p y) t a h k = let z = got-act h k in no (cc)
-  makes (ends p) t a h k =
+      rw (← z) (record { rest = _; rows = refl; decided = refl; others = ((omega arith, omega arith), ((omega arith, omega arith), tt)); fits = w .fits })
+  makes (tags p y) w t a h k = let z = got-act h k in no (cc)
+  makes (refers p y) w t a h k = let z = got-act h k in no (cc)
+  makes (joins p y) w t a h k = let z = got-act h k in no (cc)
+  makes (ends p) w t a h k =
       let z : push (readerOf s .staged .id) (readerOf s .staged .held) ≡ a = cc (got-act h k) in
       let x = s .reader .pending in
       let j = s .reader .place .kind in
       let r : List (Row Refusal) = idsRow (s .overlay) j (toZ w64 (x .head .id)) ∷ arenaRow (s .overlay) j (x .used) ∷ [] in
-      rw (← z) (record { rest = r; rows = ap (λ (y : Row Refusal). y ∷ r) (sym ended); decided = refl; others = ((omega arith, omega arith), ((omega arith, omega arith), tt)) })
+      rw (← z) (record { rest = r; rows = ap (λ (y : Row Refusal). y ∷ r) (sym ended); decided = refl; others = ((omega arith, omega arith), ((omega arith, omega arith), tt)); fits = ended-fits })
 
 -- ---- the first row
 
@@ -114,10 +122,15 @@ module _ (line : Bytes) (s : State) (g : Given s) (e : stateSound s ≡ true) (g
   unfolding turn readerOf
   event-regression t a h k v =
       let d = decide line (s .reader .place) in
-      let m = makes s g e d t a h k in
+      let m = makes s g e d (decide-lawful line (s .reader .place)) t a h k in
       let f : refusalOf (stepOf d s) ≡ firstOf (rowOf (s .overlay) a ∷ m .rest) =
       step-first s e d (decide-lawful line (s .reader .place)) .first ∙ rw (m .decided, m .rows) in
       let b = by-first (admitAs (s .overlay) a) (m .rest) v (m .others) in (
         λ x. b .0 (sym f ∙ ap refusalOf (event-stops line s e going (R.Regression v) (nextLine s) x .0)),
         λ c. ap (λ (z : EventResult). z .answer) (event-going line s e going ∙ ap (stepped s) (stops-of (stepOf d s) (R.Regression v) (f ∙ b .1 c))),
       )
+
+  -- the id that the act names is one of 64 bits
+  pub act-fits : (t : Turn) (a : Act Bytes) → turn line (readerOf s) ≡ got t → t .act ≡ some a → SFits w64 (keyOf a .id)
+  unfolding turn readerOf
+  act-fits t a h k = makes s g e (decide line (s .reader .place)) (decide-lawful line (s .reader .place)) t a h k .fits
