@@ -7,5 +7,7 @@ pub mod Held
 pub mod Legals
 pub mod Steps
 pub mod Advances
-pub mod Events
 pub mod Tables
+pub mod Events
+pub mod Keeps
+pub mod Regressions

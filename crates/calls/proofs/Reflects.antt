@@ -1,4 +1,4 @@
--- An overlay stands for the texts that were taken in and the acts that were accepted. One act or one text more keeps that, whoever makes it: a direct call or a reader's event.
+-- What an overlay holds is what the texts that were taken in and the acts that were accepted come to. One act or one text more keeps that, whoever makes it: a direct call or a reader's event.
 use Prim.Native.Nat.{ℕ, _/_, _^_, _<_, _≤_}
 use mathlib.Core.Path.{_≡_, refl, sym, _∙_, ap, subst}
 use mathlib.Core.Bool.{Bool, true, false}
@@ -37,7 +37,7 @@ use Rattle.compact.specs.Fits.{fitsSigned, fitsKept}
 use Rattle.compact.specs.Legal.{legal}
 use Rattle.legal.specs.Whole.{keptBytes}
 use Rattle.page.specs.Summary as Summary
-use Rattle.shelf.specs.Shelf.{Shelf, known, pushed, deleted, takenIn}
+use Rattle.shelf.specs.Shelf.{Shelf, known, checked, pushed, deleted}
 use Rattle.shelf.specs.Fair.{Fair}
 use Rattle.shelf.specs.declared.Kept.the-variants.{Taken, Refused}
 use Rattle.shelf.proofs.Answers.{push-regression, delete-regression}
@@ -48,14 +48,10 @@ use Rattle.sound.proofs.Keeps as Sounds
 use Rattle.overlay.specs.Overlay.{Overlay, shelfOf, withShelf, withTexts, largest, sizesFit, shelfFits, textsFit, empty}
 use Rattle.overlay.specs.Given.{InBytes}
 use Rattle.overlay.specs.Sound.{Sound}
-use Rattle.overlay.specs.Calls.{After, setUp}
-use Rattle.store.specs.Calls.{Interning}
-use Rattle.direct.specs.Calls.{internOn}
+use Rattle.overlay.specs.Calls.{After, setUp, Interning, internOn}
 use Rattle.overlay.proofs.Decides.{decides}
-use Rattle.overlay.proofs.Answers.{bySetUp}
-use Rattle.direct.proofs.Answers.{intern-store}
-use Rattle.overlay.proofs.Keeps.{setup-sound, setup-bytes}
-use Rattle.direct.proofs.Keeps.{intern-sound, intern-bytes}
+use Rattle.overlay.proofs.Answers.{bySetUp, intern-store}
+use Rattle.overlay.proofs.Keeps.{setup-sound, setup-bytes, intern-sound, intern-bytes}
 use Rattle.overlay.proofs.Bounds.{over-small}
 use Rattle.overlay.proofs.Shelves.{shelf-same, shelf-other, shelf-texts, shelf-setting, each-shelf, texts-shelf, sized-shelf, sized-texts, put-sized}
 use Rattle.calls.specs.Known.{knownIn, Regresses}
@@ -70,7 +66,7 @@ abbrev pub named : Act Bytes → Bool
 named a = fitsSigned w64 (keyOf a .id)
 
 -- an overlay of a setting, the texts that were taken in, in the order of their handles, and the accepted acts, in order
-pub record Stands (setting : ℕ) (o : Overlay) (held : List Bytes) (acts : List (Act Bytes)) : Type 0 where
+pub record Reflects (setting : ℕ) (o : Overlay) (held : List Bytes) (acts : List (Act Bytes)) : Type 0 where
   pub sound : Sound o
   pub bytes : InBytes o
   pub set : o .setting ≡ setting
@@ -97,7 +93,7 @@ span-lent : (o : Overlay) → sizesFit largest o ≡ true → 2 ≤ length (o .t
 unfolding textsFit
 span-lent o h = omega (arith, leb-true 1 (length (o .texts .spans) / 2) (both-left _ _ (sized-texts largest o h)))
 
-module _ (setting : ℕ) (o : Overlay) (held : List Bytes) (acts : List (Act Bytes)) (w : Stands setting o held acts) where
+module _ (setting : ℕ) (o : Overlay) (held : List Bytes) (acts : List (Act Bytes)) (w : Reflects setting o held acts) where
   -- each shelf is fair
   pub fair-of : (k : Kind) → Fair k (shelfOf k o)
   fair-of k = fair-sound (o .texts .strings) k (shelfOf k o) (w .sound .shelves k) (w .bytes .arenas k) (arena-short (shelfOf k o) (sized-shelf largest o (w .sound .sizes) k))
@@ -106,9 +102,9 @@ module _ (setting : ℕ) (o : Overlay) (held : List Bytes) (acts : List (Act Byt
 
   module _ (k : Kind) (t : Shelf) (a : Act Bytes) (kind : k ≡ keyOf a .kind) where
     -- the shelf of the kind put anew, where it is sound, of bytes and of its size, and tells of the act
-    put-stands : SoundShelf (o .texts .strings) k t → all isByte (t .arena) ≡ true → length (t .table) ≡ length (shelfOf k o .table) → length (t .arena) ≡ length (shelfOf k o .arena)
-        → Tells k (o .setting) t held (acts ++ (a ∷ [])) → named a ≡ true → Stands setting (withShelf k t o) held (acts ++ (a ∷ []))
-    put-stands s b e f told n =
+    put-reflects : SoundShelf (o .texts .strings) k t → all isByte (t .arena) ≡ true → length (t .table) ≡ length (shelfOf k o .table) → length (t .arena) ≡ length (shelfOf k o .arena)
+        → Tells k (o .setting) t held (acts ++ (a ∷ [])) → named a ≡ true → Reflects setting (withShelf k t o) held (acts ++ (a ∷ []))
+    put-reflects s b e f told n =
         record {
           sound = record {
             sizes = put-sized largest k t o e f (w .sound .sizes);
@@ -131,15 +127,15 @@ module _ (setting : ℕ) (o : Overlay) (held : List Bytes) (acts : List (Act Byt
   -- an accepted push of a legal record
   module _ (k : Kind) (x : Kept) (fits : fitsKept k x ≡ true) (lawful : legal (o .texts .strings) (x .held) ≡ true)
       (taken : pushed k (o .setting) (shelfOf k o) (x .id) (claimOf (x .held .meta)) (keptBytes x) .answer ≡ Taken) where
-    pub stands-push : Stands setting (withShelf k (pushed k (o .setting) (shelfOf k o) (x .id) (claimOf (x .held .meta)) (keptBytes x) .shelf) o) held (acts ++ (pushOf held x ∷ []))
-    stands-push =
+    pub reflects-push : Reflects setting (withShelf k (pushed k (o .setting) (shelfOf k o) (x .id) (claimOf (x .held .meta)) (keptBytes x) .shelf) o) held (acts ++ (pushOf held x ∷ []))
+    reflects-push =
         let strings = o .texts .strings in
         let s = shelfOf k o in
         let c = claimOf (x .held .meta) in
         let p = w .sound .shelves k in
         let i = id-fits k x fits in
         let l = push-laid k (o .setting) s (x .id) c (p .order) (keptBytes x) taken in
-        put-stands k (pushed k (o .setting) s (x .id) c (keptBytes x) .shelf) (pushOf held x) (ap (λ (z : Key). z .kind) (push-key k held x fits))
+        put-reflects k (pushed k (o .setting) s (x .id) c (keptBytes x) .shelf) (pushOf held x) (ap (λ (z : Key). z .kind) (push-key k held x fits))
         (Sounds.push-sound strings k (o .setting) s c x fits lawful (signed-fits (x .id) i) p taken)
         (rw (push-arena k (o .setting) s (x .id) c (keptBytes x) taken) (over-small (s .arena) (s .used) (keptBytes x) (w .bytes .arenas k) (record-small strings (x .id) (x .held) lawful)))
         (l .words) (l .size)
@@ -147,22 +143,22 @@ module _ (setting : ℕ) (o : Overlay) (held : List Bytes) (acts : List (Act Byt
 
   -- an accepted delete
   module _ (k : Kind) (id : ℤ) (claim : Version) (fits : fitsSigned w64 id ≡ true) (narrow : Narrow claim) (taken : deleted k (o .setting) (shelfOf k o) id claim .answer ≡ Taken) where
-    pub stands-delete : Stands setting (withShelf k (deleted k (o .setting) (shelfOf k o) id claim .shelf) o) held (acts ++ (delete k id claim ∷ []))
-    stands-delete =
+    pub reflects-delete : Reflects setting (withShelf k (deleted k (o .setting) (shelfOf k o) id claim .shelf) o) held (acts ++ (delete k id claim ∷ []))
+    reflects-delete =
         let strings = o .texts .strings in
         let s = shelfOf k o in
         let p = w .sound .shelves k in
         let l = delete-laid k (o .setting) s id claim (p .order) taken in
-        put-stands k (deleted k (o .setting) s id claim .shelf) (delete k id claim) refl
+        put-reflects k (deleted k (o .setting) s id claim .shelf) (delete k id claim) refl
         (Sounds.delete-sound strings k (o .setting) s id claim p taken)
         (rw (delete-arena k (o .setting) s id claim (fair-of k) taken) (w .bytes .arenas k))
         (l .words) (l .size)
         (tells-delete strings k (o .setting) s held acts p (fair-of k) (w .tells k) id claim (signed-fits id fits) narrow taken) fits
 
   -- a text taken in: the held handles keep their texts
-  pub stands-text : (t : Bytes) → isText t ≡ true → accepted (intern (o .texts) t .answer) ≡ true
-      → Stands setting (withTexts (intern (o .texts) t .store) o) (takeIn held t) acts
-  stands-text t l a =
+  pub reflects-text : (t : Bytes) → isText t ≡ true → accepted (intern (o .texts) t .answer) ≡ true
+      → Reflects setting (withTexts (intern (o .texts) t .store) o) (takeIn held t) acts
+  reflects-text t l a =
       let e : internOn t o .overlay ≡ withTexts (intern (o .texts) t .store) o = ap (λ (z : Interning). z .overlay) (intern-store t o (decides o (w .bytes) .1 (w .sound)) l) in
       let n : length held ≡ o .texts .strings = ap length (sym (w .texts)) ∙ Interns.length-texts (o .texts) in
       record {
@@ -179,18 +175,18 @@ module _ (setting : ℕ) (o : Overlay) (held : List Bytes) (acts : List (Act Byt
   -- ---- what that comes to
 
   -- while regression is refused, what the overlay knows of an id is what the acts come to
-  pub page-stands : setting ≡ 0 → (key : Key) → SFits w64 (key .id) → knownIn o key ≡ Summary.known acts key
+  pub page-reflects : setting ≡ 0 → (key : Key) → SFits w64 (key .id) → knownIn o key ≡ Summary.known acts key
   unfolding knownIn
-  page-stands z key f =
+  page-reflects z key f =
       let t = w .tells (key .kind) in
       let l = ap (λ (x : List Bytes). lastOf (key .kind) (shelfOf (key .kind) o) (textOf x) (key .id)) (w .texts) ∙ t .last (key .id) f in
       let h = t .high (w .set ∙ z) (key .id) f in
       λ i. record { last = l i; high = h i }
 
   -- of an id that has not 64 bits nothing is known
-  pub ids-stand : (key : Key) → fitsSigned w64 (key .id) ≡ false → Summary.known acts key ≡ Summary.nothing
+  pub ids-reflect : (key : Key) → fitsSigned w64 (key .id) ≡ false → Summary.known acts key ≡ Summary.nothing
   unfolding Summary.known
-  ids-stand key f = unnamed Summary.nothing acts key (w .ids) f
+  ids-reflect key f = unnamed Summary.nothing acts key (w .ids) f
 
   -- T13: what the store refuses 12, while regression is refused
   module _ (z : setting ≡ 0) (k : Kind) (id : ℤ) (fits : SFits w64 id) (claim : Version) (v : ℤ) where
@@ -208,6 +204,10 @@ module _ (setting : ℕ) (o : Overlay) (held : List Bytes) (acts : List (Act Byt
         let f = subst (λ (n : ℕ). P n ↔ (admitOf (known k (shelfOf k o) id) claim ≡ Below v)) (sym (w .set ∙ z)) e in
         (λ x. regresses .0 (f .0 x), λ x. f .1 (regresses .1 x))
 
+    pub admit-regresses : (checked (o .setting) (known k (shelfOf k o) id) claim ≡ Below v) ↔ Regresses acts (keyIn k id) claim v
+    unfolding checked
+    admit-regresses = as-checked (λ n. checked n (known k (shelfOf k o) id) claim ≡ Below v) ((λ x. x, λ x. x))
+
     pub push-regresses : (bytes : Bytes) → (pushed k (o .setting) (shelfOf k o) id claim bytes .answer ≡ Refused (Regression v)) ↔ Regresses acts (keyIn k id) claim v
     push-regresses bytes = as-checked (λ n. pushed k n (shelfOf k o) id claim bytes .answer ≡ Refused (Regression v)) (push-regression k (shelfOf k o) id claim bytes v)
 
@@ -216,18 +216,18 @@ module _ (setting : ℕ) (o : Overlay) (held : List Bytes) (acts : List (Act Byt
 
 -- ---- an empty overlay stands for no act
 
-pub stands-empty : (setting : ℕ) (o : Overlay) → sizesFit largest o ≡ true → InBytes o → Stands setting (empty setting o) noTexts []
-stands-empty setting o fit b = bySetUp setting o (λ s e. clash fit s) (λ s e. go (ap (λ (z : After). z .answer) e) (ap (λ (z : After). z .overlay) e))
+pub reflects-empty : (setting : ℕ) (o : Overlay) → sizesFit largest o ≡ true → InBytes o → Reflects setting (empty setting o) noTexts []
+reflects-empty setting o fit b = bySetUp setting o (λ s e. clash fit s) (λ s e. go (ap (λ (z : After). z .answer) e) (ap (λ (z : After). z .overlay) e))
   where
     told : (k : Kind) → Tells k setting (shelfOf k (empty setting o)) noTexts []
     told Node = tells-nothing Node setting (o .nodes .table) (o .nodes .arena) noTexts
     told Way = tells-nothing Way setting (o .ways .table) (o .ways .arena) noTexts
     told Relation = tells-nothing Relation setting (o .relations .table) (o .relations .arena) noTexts
 
-    go : setUp setting o .answer ≡ Taken → setUp setting o .overlay ≡ empty setting o → Stands setting (empty setting o) noTexts []
+    go : setUp setting o .answer ≡ Taken → setUp setting o .overlay ≡ empty setting o → Reflects setting (empty setting o) noTexts []
     go e f =
         record {
-          sound = subst Sound f (setup-sound setting o (ap takenIn e));
+          sound = subst Sound f (setup-sound setting o e);
           bytes = subst InBytes f (setup-bytes setting o b);
           set = refl;
           texts = Interns.fresh-texts (o .texts .spans) (o .texts .bytes) (span-lent o fit);
