@@ -5,22 +5,30 @@ use mathlib.Core.Bool.{true, false}
 use mathlib.Core.List.{List, [], _∷_, _++_}
 use native.Mathlib.Omega.{arith}
 use lib.Dec.{ltb}
+use lib.IntN.{ℤ}
 use lib.ListN.{length, take, drop}
 use Rattle.base.specs.Bytes.{Bytes}
 use Rattle.base.proofs.Split.{byBool, byLe, no}
 use Rattle.little.specs.Little.{valueAt}
 use Rattle.text.specs.Check.{isText}
 use Rattle.text.specs.Escape.{escape}
+use Rattle.line.specs.Decimal.{integerText}
+use Rattle.kind.specs.declared.Kind.{Kind}
 use Rattle.interner.specs.Strings.{spanOf, spanAt}
 use Rattle.interner.specs.declared.Span.the-variants.{Part, Missing}
 use Rattle.interner.proofs.Finds.{lies, within-bytes}
-use Rattle.compact.specs.View.{tagStep}
+use Rattle.model.specs.Swap.{swapMeta}
+use Rattle.compact.specs.Layout.{headLen}
+use Rattle.compact.specs.Held.{metaOf}
+use Rattle.compact.specs.View.{metaAt, headAt, tagStep}
+use Rattle.compact.specs.declared.ArenaMeta.{ArenaMeta}
 use Rattle.compact.specs.declared.TagStep.{TagStep}
 use Rattle.compact.specs.declared.TagStep.the-variants as step
 use Rattle.compact.proofs.Steps.{step-short, step-long, step-whole}
+use Rattle.page.specs.Listing.{metaFields}
 use Rattle.print.specs.Print.{Printed, print, tab, tabs}
 use Rattle.print.proofs.Prints.{print-append, tabs-append}
-use Rattle.fields.specs.Fields.{spanText, heldText, eachFrom, tagsFrom, stepFields}
+use Rattle.fields.specs.Fields.{spanText, heldText, eachFrom, tagFieldsFrom, bodyFieldsAt, tagFieldsAt, fieldsAt}
 
 -- ---- a text
 
@@ -92,21 +100,36 @@ module _ (s : Bytes) (at n : ℕ) (more : 0 < n) where
 module _ (cap : ℕ) (f : ℕ → Bytes) (s : Bytes) where
   pub tags-next : (at n key start len : ℕ) (p q : Printed) → 0 < n → step.Tag key start len ≡ tagStep s at n
       → q ≡ print cap (tabs (escape (f key) ∷ escape (take len (drop start s)) ∷ [])) p
-      → print cap (tabs (tagsFrom f s (start + len) (n - 1))) q ≡ print cap (tabs (tagsFrom f s at n)) p
-  unfolding tagsFrom tabs print
+      → print cap (tabs (tagFieldsFrom f s (start + len) (n - 1))) q ≡ print cap (tabs (tagFieldsFrom f s at n)) p
+  unfolding tagFieldsFrom tabs print
   tags-next at zero key start len p q h t e = absurd (omega arith)
   tags-next at (suc n) key start len p q h t e = let d : suc n - 1 ≡ n = omega arith in rw (d, ← t, e)
 
-  pub tags-end : (at : ℕ) (p : Printed) → print cap (tabs (tagsFrom f s at 0)) p ≡ p
-  unfolding tagsFrom tabs print
+  pub tags-end : (at : ℕ) (p : Printed) → print cap (tabs (tagFieldsFrom f s at 0)) p ≡ p
+  unfolding tagFieldsFrom tabs print
   tags-end at p = refl
 
-  pub tags-done : (at n : ℕ) (p : Printed) → step.Done ≡ tagStep s at n → print cap (tabs (tagsFrom f s at n)) p ≡ p
-  unfolding tagsFrom tabs print
+  pub tags-done : (at n : ℕ) (p : Printed) → step.Done ≡ tagStep s at n → print cap (tabs (tagFieldsFrom f s at n)) p ≡ p
+  unfolding tagFieldsFrom tabs print
   tags-done at zero p e = refl
   tags-done at (suc n) p e = rw (← e)
 
-  pub tags-stop : (at n : ℕ) (p : Printed) → step.Unsound ≡ tagStep s at n → print cap (tabs (tagsFrom f s at n)) p ≡ p
-  unfolding tagsFrom tabs print
+  pub tags-stop : (at n : ℕ) (p : Printed) → step.Unsound ≡ tagStep s at n → print cap (tabs (tagFieldsFrom f s at n)) p ≡ p
+  unfolding tagFieldsFrom tabs print
   tags-stop at zero p e = refl
   tags-stop at (suc n) p e = rw (← e)
+
+-- ---- a record: metadata, then place or refs or members, then tags
+
+module _ (cap : ℕ) (f : ℕ → Bytes) (k : Kind) (s : Bytes) where
+  pub fields-printed : (m : ArenaMeta) (bs ts : List Bytes) (p q r t : Printed) → m ≡ metaAt s (headLen k) → bs ≡ bodyFieldsAt f k (headAt k s) s → ts ≡ tagFieldsAt f k (headAt k s) s
+      → q ≡ print cap (tabs (metaFields (swapMeta f (metaOf m)))) p → r ≡ print cap (tabs bs) q → t ≡ print cap (tabs ts) r → t ≡ print cap (tabs (fieldsAt f k s)) p
+  unfolding fieldsAt
+  fields-printed m bs ts p q r t em eb et e1 e2 e3 =
+      rw (← em, ← eb, ← et) (both-printed cap (metaFields (swapMeta f (metaOf m)) ++ bs) ts p r t (both-printed cap (metaFields (swapMeta f (metaOf m))) bs p q r e1 e2) e3)
+
+  -- a place: two integers
+  pub place-printed : (lat lon : ℤ) (p q r : Printed) → q ≡ print cap (tab ∷ integerText lat ∷ []) p → r ≡ print cap (tab ∷ integerText lon ∷ []) q
+      → r ≡ print cap (tabs (integerText lat ∷ integerText lon ∷ [])) p
+  unfolding tabs print
+  place-printed lat lon p q r e g = rw (← e) g

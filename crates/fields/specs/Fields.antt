@@ -56,9 +56,9 @@ stepFields f s step.Unsound more = []
 stepFields f s (step.Tag key start len) more = escape (f key) ∷ escape (take len (drop start s)) ∷ more (start + len)
 
 -- "each key and value", of n tags from an offset on
-unfoldable pub tagsFrom : (ℕ → Bytes) → Bytes → ℕ → ℕ → List Bytes
-tagsFrom f s at zero = []
-tagsFrom f s at (suc n) = stepFields f s (tagStep s at (suc n)) (λ next. tagsFrom f s next n)
+unfoldable pub tagFieldsFrom : (ℕ → Bytes) → Bytes → ℕ → ℕ → List Bytes
+tagFieldsFrom f s at zero = []
+tagFieldsFrom f s at (suc n) = stepFields f s (tagStep s at (suc n)) (λ next. tagFieldsFrom f s next n)
 
 -- ---- a record
 
@@ -68,7 +68,7 @@ bodyFieldsAt f Way h s = numberText (h .count) ∷ eachFrom (refFieldsAt s) 0 (h
 bodyFieldsAt f Relation h s = numberText (h .count) ∷ eachFrom (λ i. heldMember f (memberAt s i)) 0 (h .count)
 
 unfoldable pub tagFieldsAt : (ℕ → Bytes) → Kind → Head → Bytes → List Bytes
-tagFieldsAt f k h s = numberText (h .tags) ∷ tagsFrom f s (tagsAt k (h .count)) (h .tags)
+tagFieldsAt f k h s = numberText (h .tags) ∷ tagFieldsFrom f s (tagsAt k (h .count)) (h .tags)
 
 unfoldable pub fieldsAt : (ℕ → Bytes) → Kind → Bytes → List Bytes
 fieldsAt f k s = metaFields (swapMeta f (metaOf (metaAt s (headLen k)))) ++ bodyFieldsAt f k (headAt k s) s ++ tagFieldsAt f k (headAt k s) s

@@ -11,7 +11,7 @@ ghost use Rattle.compact.specs.Held.{metaOf};
 ghost use Rattle.compact.specs.View.{memberAt};
 ghost use Rattle.page.specs.Listing.{metaFields};
 ghost use Rattle.print.specs.Print.{print, tabs};
-ghost use Rattle.fields.specs.Fields.{heldText, eachFrom, refFieldsAt, heldMember, tagsFrom, fieldsAt};
+ghost use Rattle.fields.specs.Fields.{heldText, eachFrom, refFieldsAt, heldMember, tagFieldsFrom, fieldsAt};
 use compact::ArenaMeta;
 use compact::CompactMember;
 use compact::CompactNode;
@@ -151,7 +151,7 @@ fn put_tags(
     strings: u64,
 ) -> Room
     ensures { λ r. ⌜ record { out = now (out .exit); room = r }
-        ≡ print cap (tabs (numberText n ∷ tagsFrom (heldText (now (spans .entry)) (now (bytes .entry)) strings) (now (view .entry)) offset n)) (record { out = now (out .entry); room = room }) ⌝ }
+        ≡ print cap (tabs (numberText n ∷ tagFieldsFrom (heldText (now (spans .entry)) (now (bytes .entry)) strings) (now (view .entry)) offset n)) (record { out = now (out .entry); room = room }) ⌝ }
 {
     let mut left = print::put_number(out, cap, room, n as u64);
     let mut at = offset;

@@ -15,7 +15,7 @@ use Rattle.compact.specs.declared.TagStep.the-variants as step
 use Rattle.compact.proofs.TagStep as TagStep
 use Rattle.line.specs.Decimal.{numberText}
 use Rattle.print.specs.Print.{Printed, print, tabs}
-use Rattle.fields.specs.Fields.{heldText, tagsFrom}
+use Rattle.fields.specs.Fields.{heldText, tagFieldsFrom}
 use Rattle.fields.proofs.Walks.{counted-printed, tag-within, tags-next, tags-end, tags-done, tags-stop}
 use borrow.Author.Needs.{needs}
 use Rattle.fields.proofs.put_tags.Statement.{statement}
@@ -24,15 +24,15 @@ use Rattle.fields.proofs.put_tags.Tie as tie
 abbrev Inv-loop : tie.InvT-loop
 Inv-loop out₀ cap view offset n spans bytes strings left₀ at₀ remaining₀ out left at remaining =
     (length out ≡ length out₀)
-    × (print cap (tabs (tagsFrom (heldText spans bytes strings) view at remaining)) (record { out = out; room = left })
-    ≡ print cap (tabs (tagsFrom (heldText spans bytes strings) view offset n)) (record { out = out₀; room = left₀ }))
+    × (print cap (tabs (tagFieldsFrom (heldText spans bytes strings) view at remaining)) (record { out = out; room = left })
+    ≡ print cap (tabs (tagFieldsFrom (heldText spans bytes strings) view offset n)) (record { out = out₀; room = left₀ }))
 
 abbrev μ-loop : tie.MeasureT-loop
 μ-loop out₀ cap view offset n spans bytes strings left₀ at₀ remaining₀ out left at remaining = remaining
 
 -- a step that is no tag ends the tags
 stopped : (cap : ℕ) (f : ℕ → Bytes) (s : Bytes) (at n : ℕ) (p : Printed) (t : TagStep) → OneOf (0 ∷ 1 ∷ []) (tagOf TagStep.the-type t) → t ≡ tagStep s at n
-    → print cap (tabs (tagsFrom f s at n)) p ≡ p
+    → print cap (tabs (tagFieldsFrom f s at n)) p ≡ p
 stopped cap f s at n p step.Done k e = tags-done cap f s at n p e
 stopped cap f s at n p step.Unsound k e = tags-stop cap f s at n p e
 stopped cap f s at n p (step.Tag key start len) k e = absurd (⊎-elim (λ z. omega arith) (λ z. omega arith) k)
@@ -45,7 +45,7 @@ returns c =
     let a = b .before .before .before .before .before .before .args in
     let f = heldText (now (a .spans)) (now (a .bytes)) (a .strings) in
     sym (stopped (a .cap) f (now (a .view)) (l .at) (l .remaining) _ (c .before .tag-step .result) (c .match .keys2) (c .before .tag-step .ensures))
-    ∙ (l .inv .1 ∙ counted-printed (a .cap) (numberText (a .n)) (tagsFrom f (now (a .view)) (a .offset) (a .n)) _ _ (b .put-number .ensures))
+    ∙ (l .inv .1 ∙ counted-printed (a .cap) (numberText (a .n)) (tagFieldsFrom f (now (a .view)) (a .offset) (a .n)) _ _ (b .put-number .ensures))
 
 add-end : tie.Need-add-end Inv-loop μ-loop
 add-end c =
@@ -83,7 +83,7 @@ returns-2 c =
     let z : l .remaining ≡ 0 = omega arith in
     let f = heldText (now (a .spans)) (now (a .bytes)) (a .strings) in
     sym (rw z (tags-end (a .cap) f (now (a .view)) (l .at) _))
-    ∙ (l .inv .1 ∙ counted-printed (a .cap) (numberText (a .n)) (tagsFrom f (now (a .view)) (a .offset) (a .n)) _ _ (c .before .before .before .before .put-number .ensures))
+    ∙ (l .inv .1 ∙ counted-printed (a .cap) (numberText (a .n)) (tagFieldsFrom f (now (a .view)) (a .offset) (a .n)) _ _ (c .before .before .before .before .put-number .ensures))
 
 pub put-tags-spec : {M : Type 1} → statement M
 put-tags-spec =
