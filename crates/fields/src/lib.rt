@@ -114,7 +114,15 @@ fn put_members(
     let mut left = print::put_number(out, cap, room, n as u64);
     let mut i: u32 = 0;
     while i < n {
-        left = put_member(out, cap, left, compact::member_at(view, i), spans, bytes, strings);
+        left = put_member(
+            out,
+            cap,
+            left,
+            compact::member_at(view, i),
+            spans,
+            bytes,
+            strings,
+        );
         i += 1;
     }
     left
@@ -161,7 +169,16 @@ fn put_tags(
             return left;
         };
         let end = start + len;
-        left = put_tag(out, cap, left, &view[start..end], key, spans, bytes, strings);
+        left = put_tag(
+            out,
+            cap,
+            left,
+            &view[start..end],
+            key,
+            spans,
+            bytes,
+            strings,
+        );
         at = end;
         remaining -= 1;
     }

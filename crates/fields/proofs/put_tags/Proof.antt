@@ -71,9 +71,11 @@ loop-again c =
     let a = b .before .before .before .before .before .before .before .before .before .before .before .args in
     let g = c .before .before .before .before .before .before .key .given in
     let w = g .0 .1 .0 in
-    let d : w + g .0 .1 .1 .0 - w ≡ g .0 .1 .1 .0 = omega arith in
-    (omega arith, tags-next (a .cap) (heldText (now (a .spans)) (now (a .bytes)) (a .strings)) (now (a .view)) (l .at) (l .remaining) (g .0 .0) w (g .0 .1 .1 .0) _ _ (omega arith)
-    (sym (g .1) ∙ b .tag-step .ensures) (rw d at (c .before .before .put-tag .ensures)) ∙ l .inv .1)
+    let d : w + g .0 .1 .1 .0 - w ≡ g .0 .1 .1 .0 = omega arith in (
+      omega arith,
+      tags-next (a .cap) (heldText (now (a .spans)) (now (a .bytes)) (a .strings)) (now (a .view)) (l .at) (l .remaining) (g .0 .0) w (g .0 .1 .1 .0) _ _ (omega arith)
+          (sym (g .1) ∙ b .tag-step .ensures) (rw d at (c .before .before .put-tag .ensures)) ∙ l .inv .1,
+    )
 
 returns-2 : tie.Need-returns-2 Inv-loop μ-loop
 unfolding tabs
