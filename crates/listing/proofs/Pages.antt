@@ -21,7 +21,7 @@ use Rattle.model.specs.Act.{gone, live}
 use Rattle.model.specs.Swap.{swapRecord}
 use Rattle.table.specs.Words.{rowsOf, held, soundTable}
 use Rattle.table.specs.declared.Row as table
-use Rattle.table.proofs.Tables.{held-all}
+use Rattle.table.proofs.Tables.{sound-fits, held-all}
 use Rattle.shelf.specs.Shelf.{Shelf, isLive, known}
 use Rattle.shelf.specs.Fair.{rowsIn}
 use Rattle.sound.specs.Sound.{SoundShelf, soundRow}
@@ -74,8 +74,8 @@ module _ (strings : ℕ) (k : Kind) (s : Shelf) (w : SoundShelf strings k s) (f 
 
   -- the rows of a kind
   pub kind-listed : joined (kindPieces f k s) ≡ listing (kindTable k s f)
-  unfolding kindTable soundTable
-  kind-listed = rw (held-all (s .table) (s .ids) (leb-true _ _ (both-left _ _ (w .order)))) (rows-listed (rowsIn s) (w .rows))
+  unfolding kindTable
+  kind-listed = rw (held-all (s .table) (s .ids) (sound-fits (s .table) (s .ids) (w .order))) (rows-listed (rowsIn s) (w .rows))
 
 -- a handle's text is the held one
 texts-held : (o : Overlay) → Sound o → textIn (o .texts) ≡ textOf (textsOf (o .texts))
@@ -86,9 +86,16 @@ unfolding piecesOf tableOf
 page-sound o w =
     let t = textOf (textsOf (o .texts)) in
     let n = o .texts .strings in
-    rw (texts-held o w, joined-append (kindPieces t Node (o .nodes) ++ kindPieces t Way (o .ways)) (kindPieces t Relation (o .relations)), joined-append (kindPieces t Node (o .nodes)) (kindPieces t Way (o .ways)),
-    kind-listed n Node (o .nodes) (w .shelves Node) t, kind-listed n Way (o .ways) (w .shelves Way) t, kind-listed n Relation (o .relations) (w .shelves Relation) t,
-    listing-append (kindTable Node (o .nodes) t ++ kindTable Way (o .ways) t) (kindTable Relation (o .relations) t), listing-append (kindTable Node (o .nodes) t) (kindTable Way (o .ways) t))
+    rw (
+      texts-held o w,
+      joined-append (kindPieces t Node (o .nodes) ++ kindPieces t Way (o .ways)) (kindPieces t Relation (o .relations)),
+      joined-append (kindPieces t Node (o .nodes)) (kindPieces t Way (o .ways)),
+      kind-listed n Node (o .nodes) (w .shelves Node) t,
+      kind-listed n Way (o .ways) (w .shelves Way) t,
+      kind-listed n Relation (o .relations) (w .shelves Relation) t,
+      listing-append (kindTable Node (o .nodes) t ++ kindTable Way (o .ways) t) (kindTable Relation (o .relations) t),
+      listing-append (kindTable Node (o .nodes) t) (kindTable Way (o .ways) t),
+    )
 
 -- the same, by the test
 pub page-pieces : (o : Overlay) → InBytes o → isSound o ≡ true → joined (piecesOf o) ≡ pageOf o

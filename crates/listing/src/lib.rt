@@ -96,16 +96,7 @@ fn put_last(
     if place < 0x8000_0000_0000_0000 {
         let n = little::lesser(used as usize, arena.len());
         let at = little::lesser(place as usize, n);
-        return fields::put_record(
-            out,
-            cap,
-            room,
-            kind,
-            &arena[at..n],
-            spans,
-            bytes,
-            strings,
-        );
+        return fields::put_record(out, cap, room, kind, &arena[at..n], spans, bytes, strings);
     }
     room
 }
