@@ -39,12 +39,16 @@ use Rattle.acts.specs.Call as Call
 use Rattle.acts.proofs.Calls.{refusedCall, takenCall, world-append, acts-append, own-reader, other-reader, textsFrom, texts-after}
 use Rattle.overlay.specs.Overlay.{Overlay}
 use Rattle.overlay.specs.Given.{headFits, metaFits}
-use Rattle.overlay.specs.Calls.{pushOn, deleteOn, handleIn, internOn}
-use Rattle.overlay.specs.declared.Handle.the-variants as H
-use Rattle.overlay.proofs.Answers.{byKept, byHandle, push-refused, delete-refused, intern-refused, intern-taken}
+use Rattle.direct.specs.Calls.{pushOn, deleteOn, internOn}
+use Rattle.store.specs.Calls.{handleIn}
+use Rattle.store.specs.declared.Handle.the-variants as H
+use Rattle.overlay.proofs.Answers.{byKept}
+use Rattle.store.proofs.Answers.{byHandle}
+use Rattle.direct.proofs.Answers.{push-refused, delete-refused, intern-refused, intern-taken}
 use Rattle.overlay.proofs.Bounds.{meta-given}
 use Rattle.overlay.proofs.Decides.{decides}
-use Rattle.overlay.proofs.Keeps.{keptAs, push-kept, delete-kept}
+use Rattle.store.proofs.Keeps.{keptAs}
+use Rattle.direct.proofs.Keeps.{push-kept, delete-kept}
 use Rattle.reader.specs.declared.EventAnswer.the-variants as E
 use Rattle.reader.specs.State.{State}
 use Rattle.reader.specs.Event.{EventResult, eventOn, endOn}

@@ -48,10 +48,14 @@ use Rattle.sound.proofs.Keeps as Sounds
 use Rattle.overlay.specs.Overlay.{Overlay, shelfOf, withShelf, withTexts, largest, sizesFit, shelfFits, textsFit, empty}
 use Rattle.overlay.specs.Given.{InBytes}
 use Rattle.overlay.specs.Sound.{Sound}
-use Rattle.overlay.specs.Calls.{After, setUp, Interning, internOn}
+use Rattle.overlay.specs.Calls.{After, setUp}
+use Rattle.store.specs.Calls.{Interning}
+use Rattle.direct.specs.Calls.{internOn}
 use Rattle.overlay.proofs.Decides.{decides}
-use Rattle.overlay.proofs.Answers.{bySetUp, intern-store}
-use Rattle.overlay.proofs.Keeps.{setup-sound, setup-bytes, intern-sound, intern-bytes}
+use Rattle.overlay.proofs.Answers.{bySetUp}
+use Rattle.direct.proofs.Answers.{intern-store}
+use Rattle.overlay.proofs.Keeps.{setup-sound, setup-bytes}
+use Rattle.direct.proofs.Keeps.{intern-sound, intern-bytes}
 use Rattle.overlay.proofs.Bounds.{over-small}
 use Rattle.overlay.proofs.Shelves.{shelf-same, shelf-other, shelf-texts, shelf-setting, each-shelf, texts-shelf, sized-shelf, sized-texts, put-sized}
 use Rattle.calls.specs.Known.{knownIn, Regresses}

@@ -33,12 +33,13 @@ use Rattle.acts.specs.Call.{begin, worldAfter, actsOf}
 use Rattle.overlay.specs.Overlay.{Overlay, shelfOf, largest, sizesFit, empty}
 use Rattle.overlay.specs.Given.{InBytes, headFits}
 use Rattle.overlay.specs.Sound.{isSound}
-use Rattle.overlay.specs.Calls.{After, pushOn, deleteOn, internOn}
-use Rattle.overlay.specs.declared.Handle.the-variants as H
-use Rattle.overlay.proofs.Answers.{push-store, delete-store}
+use Rattle.overlay.specs.Calls.{After}
+use Rattle.direct.specs.Calls.{pushOn, deleteOn, internOn}
+use Rattle.store.specs.declared.Handle.the-variants as H
+use Rattle.direct.proofs.Answers.{push-store, delete-store}
 use Rattle.overlay.proofs.Bounds.{id-given}
 use Rattle.overlay.proofs.Decides.{decides}
-use Rattle.overlay.proofs.Keeps.{intern-kept}
+use Rattle.direct.proofs.Keeps.{intern-kept}
 use Rattle.reader.specs.declared.EventAnswer.the-variants as E
 use Rattle.reader.specs.State.{State, nextLine, isStopped}
 use Rattle.reader.specs.Given.{Given}

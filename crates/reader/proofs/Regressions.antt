@@ -27,7 +27,7 @@ use Rattle.interner.specs.Texts.{textOf}
 use Rattle.interner.specs.Sound.{textsOf}
 use Rattle.shelf.specs.Shelf.{known, checked}
 use Rattle.overlay.specs.Overlay.{Overlay, shelfOf}
-use Rattle.overlay.specs.First.{isBelow, heldBy}
+use Rattle.store.specs.First.{isBelow, heldBy}
 use Rattle.overlay.proofs.Bounds.{id-given}
 use Rattle.field.specs.Field.{Field, got, bad}
 use Rattle.decision.specs.Decision.{Decision, refuses, moves, begins, deletes, tags, refers, joins, ends, decide}

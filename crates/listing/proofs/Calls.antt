@@ -1,0 +1,116 @@
+-- The call: measured first, lent the output's end; then written, where it fits.
+use Prim.Native.Nat.{ℕ, suc, _-_, _<_, _≤_}
+use mathlib.Core.Path.{_≡_, refl, sym, _∙_, ap}
+use mathlib.Core.Bool.{Bool, true, false}
+use mathlib.Core.List.{List, [], _∷_, _++_}
+use native.Mathlib.Omega.{arith}
+use lib.ListN.{length, getD, drop, length-take}
+use borrow.Author.Tests.{le-leb, lt-leb, lt-ltb}
+use borrow.Rule.Slice.PartMut.{midOf, putMid, put-same}
+use Rattle.base.specs.Bytes.{Bytes, all}
+use Rattle.base.proofs.Split.{byLe, no}
+use Rattle.base.proofs.Lists.{all-nil, all-cons}
+use Rattle.little.specs.Little.{isByte, over}
+use Rattle.little.proofs.Overs.{over-start}
+use Rattle.kind.specs.declared.Kind.{Kind}
+use Rattle.kind.specs.declared.Kind.the-variants.{Node, Way, Relation}
+use Rattle.refusal.specs.declared.Refusal.the-variants as R
+use Rattle.print.specs.declared.Room.{Room}
+use Rattle.print.specs.declared.Room.the-variants.{Left, Full}
+use Rattle.print.specs.Print.{Printed, print, joined}
+use Rattle.print.specs.Piece.{behind}
+use Rattle.print.proofs.Prints as Prints
+use Rattle.print.proofs.Prints.{behind-fits, behind-past, room-print, length-print}
+use Rattle.overlay.specs.Overlay.{Overlay, overlayOf, shelfOf}
+use Rattle.overlay.specs.Given.{InBytes}
+use Rattle.overlay.specs.Sound.{isSound}
+use Rattle.listing.specs.declared.Listed.the-variants.{Length, Refused}
+use Rattle.listing.specs.Pieces.{piecesOf}
+use Rattle.listing.specs.Call.{Listing, notListed, pageOf, written, listingOn}
+use Rattle.listing.proofs.Pages.{page-pieces}
+
+-- lent bytes are bytes
+pub bytes-lent : (s : Bytes) → ((i : ℕ) → getD s i 0 < 256) → all isByte s ≡ true
+unfolding isByte
+bytes-lent [] h = all-nil isByte
+bytes-lent (b ∷ s) h = all-cons isByte b s (lt-ltb b 256 (h 0)) (bytes-lent s (λ i. h (suc i)))
+
+pub all-lent : (nids : List ℕ) (narena : Bytes) (wids : List ℕ) (warena : Bytes) (rids : List ℕ) (rarena : Bytes) (spans : List ℕ) (bytes : Bytes) (counts : List ℕ)
+    → all isByte narena ≡ true → all isByte warena ≡ true → all isByte rarena ≡ true → all isByte bytes ≡ true → InBytes (overlayOf nids narena wids warena rids rarena spans bytes counts)
+all-lent nids narena wids warena rids rarena spans bytes counts n w r t = record { arenas = arenas; texts = t }
+  where
+    arenas : (k : Kind) → all isByte (shelfOf k (overlayOf nids narena wids warena rids rarena spans bytes counts) .arena) ≡ true
+    arenas Node = n
+    arenas Way = w
+    arenas Relation = r
+
+-- ---- the three cases
+
+module _ (out : Bytes) (o : Overlay) where
+  pub list-22 : isSound o ≡ false → notListed out R.Unsound ≡ listingOn out o
+  unfolding listingOn
+  list-22 t = rw t
+
+  module _ (t : isSound o ≡ true) where
+    pub list-19 : length out < length (pageOf o) → notListed out R.ShortOutput ≡ listingOn out o
+    unfolding listingOn written
+    list-19 h = rw (t, lt-leb (length (pageOf o)) (length out) h)
+
+    pub list-length : length (pageOf o) ≤ length out → record { out = pageOf o ++ drop (length (pageOf o)) out; answer = Length (length (pageOf o)) } ≡ listingOn out o
+    unfolding listingOn written
+    list-length h = rw (t, le-leb (length (pageOf o)) (length out) h)
+
+-- ---- the room that measuring leaves
+
+left-fits : (n l left : ℕ) → Left left ≡ behind (Left n) l → (l ≤ n) × (left ≡ n - l)
+left-fits n l left e =
+    byLe l n
+    (λ h. let w = behind-fits n l h in (h, (cc)))
+    (λ h. let w = behind-past n l h in no (cc))
+
+full-past : (n l : ℕ) → Full ≡ behind (Left n) l → n < l
+full-past n l e =
+    byLe l n
+    (λ h. let w = behind-fits n l h in no (cc))
+    (λ h. h)
+
+-- ---- what the two walks leave
+
+none-of : (s : Bytes) → length s ≡ 0 → s ≡ []
+none-of [] h = refl
+none-of (b ∷ s) h = absurd (omega arith)
+
+-- the end of the output, lent to be measured
+abbrev pub ending : Bytes → Bytes
+ending out = midOf (length out) (length out - length out) out
+
+module _ (out : Bytes) (o : Overlay) (b : InBytes o) (t : isSound o ≡ true) (x : Bytes) (r : Room)
+    (e : record { out = x; room = r } ≡ print (length out) (piecesOf o) (record { out = ending out; room = Left (length out) })) where
+  -- nothing is written there
+  pub measured-out : putMid (length out) (length out - length out) out x ≡ out
+  measured-out =
+      let n : length (ending out) ≡ 0 = omega (arith, length-take (length out - length out) (drop (length out) out)) in
+      let a : x ≡ [] = none-of x (ap (λ (p : Printed). length (p .out)) e ∙ (length-print (length out) (piecesOf o) _ ∙ n)) in
+      ap (putMid (length out) (length out - length out) out) (a ∙ sym (none-of (ending out) n)) ∙ put-same (length out) (length out - length out) out
+
+  measured-room : r ≡ behind (Left (length out)) (length (pageOf o))
+  measured-room = ap (λ (p : Printed). p .room) e ∙ (room-print (length out) (piecesOf o) _ ∙ ap (λ (p : Bytes). behind (Left (length out)) (length p)) (page-pieces o b t))
+
+  pub short-listed : Full ≡ r → record { out = putMid (length out) (length out - length out) out x; answer = Refused R.ShortOutput } ≡ listingOn out o
+  short-listed f = rw measured-out (list-19 out o t (full-past (length out) (length (pageOf o)) (f ∙ measured-room)))
+
+  pub room-left : (l : ℕ) → Left l ≡ r → l ≤ length out
+  room-left l f = let w = left-fits (length out) (length (pageOf o)) l (f ∙ measured-room) in omega (arith, w .0, w .1)
+
+  pub whole-listed : (l : ℕ) → Left l ≡ r → (y : Bytes) (q : Room)
+      → record { out = y; room = q } ≡ print (length out) (piecesOf o) (record { out = putMid (length out) (length out - length out) out x; room = Left (length out) })
+      → record { out = y; answer = Length (length out - l) } ≡ listingOn out o
+  whole-listed l f y q g =
+      let w = left-fits (length out) (length (pageOf o)) l (f ∙ measured-room) in
+      let j = page-pieces o b t in
+      let z : length (joined (piecesOf o)) ≤ length out = rw j (w .0) in
+      let v = Prints.written (piecesOf o) out (length out) z (omega arith) in
+      let d : length out - length out ≡ 0 = omega arith in
+      let y-is : y ≡ pageOf o ++ drop (length (pageOf o)) out = ap (λ (p : Printed). p .out) (rw measured-out at g ∙ v) ∙ rw (d, j) (over-start out (pageOf o) (w .0)) in
+      let l-is : length out - l ≡ length (pageOf o) = omega (arith, w .0, w .1) in
+      rw (y-is, l-is) (list-length out o t (w .0))

@@ -1,0 +1,4 @@
+pub mod Walks
+pub mod Rows
+pub mod Pages
+pub mod Calls
