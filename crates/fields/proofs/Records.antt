@@ -1,7 +1,7 @@
 -- Of a record that the readers find the fields are the page's: the fields of the record with its texts as texts. In sound strings a handle's text is the held one.
 use Prim.Native.Nat.{ℕ, zero, suc, _+_, _<_, _≤_}
 use mathlib.Core.Path.{_≡_, refl, sym, _∙_, ap}
-use mathlib.Core.Option.{Option, none, some}
+use mathlib.Core.Option.{Option, none, some, Option·map}
 use mathlib.Core.List.{List, [], _∷_, _++_, map}
 use native.Mathlib.Omega.{arith}
 use native.Mathlib.Nat.{zero-add}
@@ -28,7 +28,7 @@ use Rattle.model.specs.Record.{Member, Tag, Body, place, refs, members, Record,
 use Rattle.model.specs.Swap.{swapMember, swapTag, swapBody, swapRecord}
 use Rattle.compact.specs.Layout.{headOf, headLen}
 use Rattle.compact.specs.Held.{named, memberOf}
-use Rattle.compact.specs.View.{refAt, memberAt, tagStep, with, onward, tagsFrom}
+use Rattle.compact.specs.View.{refAt, memberAt, step, tagStep, tagGiven, onward, stepped, tagsFrom}
 use Rattle.compact.specs.declared.CompactMember.{CompactMember}
 use Rattle.compact.specs.declared.TagStep.{TagStep}
 use Rattle.compact.specs.declared.TagStep.the-variants as step
@@ -88,21 +88,21 @@ module _ (f : ℕ → Bytes) (s : Bytes) where
   -- ---- tags
 
   onward-is : (n : ℕ) (more : ℕ → Option (List (Tag ℕ))) (mine : ℕ → List Bytes) → ((at : ℕ) (ts : List (Tag ℕ)) → more at ≡ some ts → mine at ≡ each (λ t. tagFields (swapTag f t)) ts)
-      → (t : TagStep) (ts : List (Tag ℕ)) → onward s t more ≡ some ts → stepFields f s t mine ≡ each (λ t. tagFields (swapTag f t)) ts
-  unfolding with each
+      → (t : TagStep) (ts : List (Tag ℕ)) → onward (tagGiven s t) more ≡ some ts → stepFields f s t mine ≡ each (λ t. tagFields (swapTag f t)) ts
+  unfolding each
   onward-is n more mine h step.Done ts e = let q : [] ≡ ts = cc in rw (← q)
   onward-is n more mine h step.Unsound ts e = no (cc)
   onward-is n more mine h (step.Tag key start len) ts e = go (more (start + len)) refl
     where
       go : (o : Option (List (Tag ℕ))) → more (start + len) ≡ o → stepFields f s (step.Tag key start len) mine ≡ each (λ t. tagFields (swapTag f t)) ts
-      go none q = let w : none ≡ some ts = sym (ap (λ (o : Option (List (Tag ℕ))). with (some (record { key = key; value = take len (drop start s) })) o _∷_) q) ∙ e in no (cc)
+      go none q = let w : none ≡ some ts = sym (ap (λ (o : Option (List (Tag ℕ))). Option·map (record { key = key; value = take len (drop start s) } ∷_) o) q) ∙ e in no (cc)
       go (some us) q =
-          let w : some (record { key = key; value = take len (drop start s) } ∷ us) ≡ some ts = sym (ap (λ (o : Option (List (Tag ℕ))). with (some (record { key = key; value = take len (drop start s) })) o _∷_) q) ∙ e in
+          let w : some (record { key = key; value = take len (drop start s) } ∷ us) ≡ some ts = sym (ap (λ (o : Option (List (Tag ℕ))). Option·map (record { key = key; value = take len (drop start s) } ∷_) o) q) ∙ e in
           let v : record { key = key; value = take len (drop start s) } ∷ us ≡ ts = cc in
           rw (← v, h (start + len) us q)
 
   tags-are : (n at : ℕ) (ts : List (Tag ℕ)) → tagsFrom s at n ≡ some ts → tagFieldsFrom f s at n ≡ each (λ t. tagFields (swapTag f t)) ts
-  unfolding tagsFrom tagFieldsFrom tagStep each
+  unfolding tagsFrom stepped step tagFieldsFrom tagStep each
   tags-are zero at ts e = let q : [] ≡ ts = cc in rw (← q)
   tags-are (suc n) at ts e = onward-is n (λ next. tagsFrom s next n) (λ next. tagFieldsFrom f s next n) (tags-are n) (tagStep s at (suc n)) ts e
 

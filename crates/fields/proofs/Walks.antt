@@ -24,7 +24,7 @@ use Rattle.compact.specs.View.{metaAt, headAt, tagStep}
 use Rattle.compact.specs.declared.ArenaMeta.{ArenaMeta}
 use Rattle.compact.specs.declared.TagStep.{TagStep}
 use Rattle.compact.specs.declared.TagStep.the-variants as step
-use Rattle.compact.proofs.Steps.{step-short, step-long, step-whole}
+use Rattle.compact.proofs.Steps.{tag-past, tag-over, tag-judged}
 use Rattle.page.specs.Listing.{metaFields}
 use Rattle.print.specs.Print.{Printed, print, tab, tabs}
 use Rattle.print.proofs.Prints.{print-append, tabs-append}
@@ -90,12 +90,12 @@ module _ (s : Bytes) (at n : ℕ) (more : 0 < n) where
       let v = valueAt 4 s (at + 4) in
       byLe (at + 8) (length s)
       (λ r. byLe (at + 8 + v) (length s)
-      (λ h. let w = step-whole s at n m r v refl h in
+      (λ h. let w = tag-judged s at n m r v refl h in
       byBool (isText (take v (drop (at + 8) s)))
       (λ t. let x = rw t at w in let a : start ≡ at + 8 = cc in let b : len ≡ v = cc in omega arith)
       (λ t. let x = rw t at w in no (cc)))
-      (λ h. let w = step-long s at n m r v refl h in no (cc)))
-      (λ h. let w = step-short s at n m h in no (cc))
+      (λ h. let w = tag-over s at n m r v refl h in no (cc)))
+      (λ h. let w = tag-past s at n m h in no (cc))
 
 module _ (cap : ℕ) (f : ℕ → Bytes) (s : Bytes) where
   pub tags-next : (at n key start len : ℕ) (p q : Printed) → 0 < n → step.Tag key start len ≡ tagStep s at n
