@@ -5,9 +5,9 @@ pub mod Element
 pub mod Acts
 pub mod Held
 pub mod Legals
+pub mod Tables
 pub mod Steps
 pub mod Advances
-pub mod Tables
 pub mod Events
 pub mod Keeps
 pub mod Regressions

@@ -22,15 +22,25 @@ use Rattle.compact.specs.Held.{metaOf}
 use Rattle.compact.specs.declared.ArenaMeta.{ArenaMeta}
 use Rattle.shelf.specs.declared.Kept.{Kept}
 use Rattle.shelf.specs.declared.Kept.the-variants.{Taken, Refused}
+<<<<<<< HEAD
 use Rattle.overlay.specs.Overlay.{Overlay, overlayOf, empty}
 use Rattle.direct.specs.Calls.{pushOn, deleteOn, internOn}
 use Rattle.store.specs.declared.Handle.{Handle}
 use Rattle.store.specs.declared.Handle.the-variants as H
+=======
+use Rattle.overlay.specs.Overlay.{overlayOf}
+use Rattle.direct.specs.Calls.{pushOn, deleteOn, internOn}
+use Rattle.store.specs.declared.Handle.{Handle}
+use Rattle.store.specs.declared.Handle.the-variants as H
+use Rattle.reader.specs.declared.EventAnswer.{EventAnswer}
+use Rattle.reader.specs.declared.EventAnswer.the-variants as E
+use Rattle.reader.specs.Event.{eventOn, endOn}
+>>>>>>> core2
 use Rattle.acts.specs.Call.{Call, pushes, deletes, hears, ends, Answered, actsOf}
 use Rattle.page.specs.Summary.{summary}
 use Rattle.page.specs.Listing.{listing}
 use Rattle.calls.specs.Ask as Ask
-use Rattle.calls.specs.Ask.{Ask, leaves}
+use Rattle.calls.specs.Ask.{Ask, Lent, started, stateOf, leaves}
 
 -- a direct call, and what document 01 says of it: taken, or refused with a number and the version that is held
 pub data Told : Type 0 where
@@ -73,23 +83,29 @@ abbrev pub keptIn : Handle → Kept
 keptIn (H.Is h) = Taken
 keptIn (H.Refused r) = Refused r
 
--- what a direct call answers
-abbrev pub answerTo : Ask → Overlay → Kept
-answerTo (Ask.interns t) o = keptIn (internOn t o .answer)
-answerTo (Ask.pushes k h m parts) o = pushOn k h m parts o .answer
-answerTo (Ask.deletes k id m) o = deleteOn k (toZ w64 id) (metaOf m) o .answer
+abbrev pub keptAt : EventAnswer → Kept
+keptAt E.Accepted = Taken
+keptAt (E.Refused r n) = Refused r
+
+-- what a call answers
+abbrev pub answerTo : Ask → Lent → Kept
+answerTo (Ask.interns t) l = keptIn (internOn t (l .overlay) .answer)
+answerTo (Ask.pushes k h m parts) l = pushOn k h m parts (l .overlay) .answer
+answerTo (Ask.deletes k id m) l = deleteOn k (toZ w64 id) (metaOf m) (l .overlay) .answer
+answerTo (Ask.hears n line) l = keptAt (eventOn line (stateOf n l) .answer)
+answerTo (Ask.ends n) l = keptAt (endOn (stateOf n l) .answer)
 
 -- "Each call gets the overlay .. as last left"
-unfoldable pub allAgree : Overlay → List Told → Bool
-allAgree o [] = true
-allAgree o (t ∷ ts) = both (agrees t (answerTo (askOf t) o)) (allAgree (leaves (askOf t) o) ts)
+unfoldable pub allAgree : Lent → List Told → Bool
+allAgree l [] = true
+allAgree l (t ∷ ts) = both (agrees t (answerTo (askOf t) l)) (allAgree (leaves (askOf t) l) ts)
 
 abbrev pub zeros : ℕ → Bytes
 zeros n = replicate n 0
 
 -- an empty overlay that refuses regression: two ids and 128 arena bytes a kind, two strings, 8 string bytes, nine counters
-abbrev pub small : Overlay
-small = empty 0 (overlayOf (zeros 6) (zeros 128) (zeros 6) (zeros 128) (zeros 6) (zeros 128) (zeros 4) (zeros 8) (zeros 9))
+abbrev pub small : Lent
+small = started 0 (overlayOf (zeros 6) (zeros 128) (zeros 6) (zeros 128) (zeros 6) (zeros 128) (zeros 4) (zeros 8) (zeros 9)) (λ n. [])
 
 unfoldable pub right : Row → Bool
 right (key-of id class magnitude) = both (eqb (keyOf id .class) class) (eqb (keyOf id .magnitude) magnitude)
