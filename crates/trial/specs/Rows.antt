@@ -22,12 +22,6 @@ use Rattle.compact.specs.Held.{metaOf}
 use Rattle.compact.specs.declared.ArenaMeta.{ArenaMeta}
 use Rattle.shelf.specs.declared.Kept.{Kept}
 use Rattle.shelf.specs.declared.Kept.the-variants.{Taken, Refused}
-<<<<<<< HEAD
-use Rattle.overlay.specs.Overlay.{Overlay, overlayOf, empty}
-use Rattle.direct.specs.Calls.{pushOn, deleteOn, internOn}
-use Rattle.store.specs.declared.Handle.{Handle}
-use Rattle.store.specs.declared.Handle.the-variants as H
-=======
 use Rattle.overlay.specs.Overlay.{overlayOf}
 use Rattle.direct.specs.Calls.{pushOn, deleteOn, internOn}
 use Rattle.store.specs.declared.Handle.{Handle}
@@ -35,7 +29,6 @@ use Rattle.store.specs.declared.Handle.the-variants as H
 use Rattle.reader.specs.declared.EventAnswer.{EventAnswer}
 use Rattle.reader.specs.declared.EventAnswer.the-variants as E
 use Rattle.reader.specs.Event.{eventOn, endOn}
->>>>>>> core2
 use Rattle.acts.specs.Call.{Call, pushes, deletes, hears, ends, Answered, actsOf}
 use Rattle.page.specs.Summary.{summary}
 use Rattle.page.specs.Listing.{listing}
