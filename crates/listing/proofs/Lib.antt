@@ -2,3 +2,4 @@ pub mod Walks
 pub mod Rows
 pub mod Pages
 pub mod Calls
+pub mod Summaries
