@@ -3,3 +3,4 @@ pub mod Rows
 pub mod Pages
 pub mod Calls
 pub mod Summaries
+pub mod First
