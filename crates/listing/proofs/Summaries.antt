@@ -1,15 +1,15 @@
 -- The overlay's table is sorted, and each key finds in it what the overlay knows of the key. So it is the summary of the acts that the overlay stands for.
 use Prim.Native.Nat.{ℕ, zero, suc, _*_, _^_, _<_, _≤_}
 use mathlib.Core.Path.{_≡_, refl, sym, _∙_, ap, subst}
-use mathlib.Core.Bool.{Bool, true, false, cond}
+use mathlib.Core.Bool.{Bool, true, false}
 use mathlib.Core.Option.{Option, none, some, Option·map}
 use mathlib.Core.List.{List, [], _∷_, _++_, map}
 use native.Mathlib.Omega.{arith}
 use lib.Dec.{ltb, eqb}
 use lib.IntN.{ℤ}
-use lib.ListN.{length, getD}
+use lib.ListN.{getD}
 use mir.Syntax.{w64}
-use mir.Val.{SFits, Fits}
+use mir.Val.{SFits}
 use mir.Facts.{fits-of-lt}
 use borrow.Author.Tests.{lt-ltb, ltb-true}
 use Rattle.base.specs.Bytes.{Bytes, all}
@@ -22,8 +22,7 @@ use Rattle.osm_id.specs.Order.{rank, idOf}
 use Rattle.osm_id.proofs.Orders.{id-rank, rank-before, rank-fits, rank-id, id-fits}
 use Rattle.interner.specs.Texts.{textOf}
 use Rattle.interner.specs.Sound.{textsOf}
-use Rattle.model.specs.Act.{Act, Key, Left, gone, live, sameKey, keyBefore}
-use Rattle.model.specs.Swap.{swapRecord}
+use Rattle.model.specs.Act.{Act, Key, gone, sameKey, keyBefore}
 use Rattle.model.proofs.Keys.{ids-order, kinds-order}
 use Rattle.compact.specs.Fits.{fitsSigned}
 use Rattle.table.specs.declared.Row as table
@@ -34,13 +33,13 @@ use Rattle.table.proofs.Maps as Maps
 use Rattle.table.proofs.Tables.{sound-rises}
 use Rattle.shelf.specs.Shelf.{Shelf, isLive, known}
 use Rattle.shelf.specs.Fair.{rowsIn}
-use Rattle.sound.specs.Sound.{SoundShelf, soundRow}
+use Rattle.sound.specs.Sound.{soundRow}
 use Rattle.overlay.specs.Overlay.{Overlay, shelfOf}
 use Rattle.overlay.specs.Sound.{Sound}
 use Rattle.page.specs.Summary as Summary
 use Rattle.page.specs.Summary.{Row, Table, find, summary}
 use Rattle.page.proofs.Tables.{Every, Above, Sorted, find-nil, find-here, find-later, same-table, summary-sorted, rowIn, find-summary}
-use Rattle.listing.specs.Known.{recordIn, told, lastIn, knownIn}
+use Rattle.listing.specs.Known.{lastIn, knownIn}
 use Rattle.listing.specs.Table.{leftAt, rowOf, kindTable, tableOf, isRank, Ranked}
 use Rattle.listing.proofs.Rows.{row-starts, record-read}
 
