@@ -1,8 +1,8 @@
 -- Of a record that the readers find the fields are the page's: the fields of the record with its texts as texts. In sound strings a handle's text is the held one.
-use Prim.Native.Nat.{ℕ, zero, suc, _+_, _<_, _≤_}
+use Prim.Native.Nat.{ℕ, zero, suc, _+_, _<_}
 use mathlib.Core.Path.{_≡_, refl, sym, _∙_, ap}
 use mathlib.Core.Option.{Option, none, some, Option·map}
-use mathlib.Core.List.{List, [], _∷_, _++_, map}
+use mathlib.Core.List.{List, [], _∷_, map}
 use native.Mathlib.Omega.{arith}
 use native.Mathlib.Nat.{zero-add}
 use lib.IntN.{ℤ, pos}
@@ -17,16 +17,14 @@ use Rattle.kind.specs.declared.Kind.{Kind}
 use Rattle.kind.specs.declared.Kind.the-variants.{Node, Way, Relation}
 use Rattle.kind.specs.declared.Named.{Named}
 use Rattle.kind.specs.declared.Named.the-variants.{Is, Unknown}
-use Rattle.text.specs.Escape.{escape}
-use Rattle.line.specs.Decimal.{numberText, integerText}
+use Rattle.line.specs.Decimal.{numberText}
 use Rattle.interner.specs.Texts.{textOf}
 use Rattle.interner.specs.Strings.{Store, usedOf, spanOf}
 use Rattle.interner.specs.Sound.{textsOf}
-use Rattle.interner.specs.declared.Span.the-variants.{Missing}
 use Rattle.interner.proofs.Interns.{Sound, resolved, text-at, length-texts}
 use Rattle.model.specs.Record.{Member, Tag, Body, place, refs, members, Record, kindOf}
 use Rattle.model.specs.Swap.{swapMember, swapTag, swapBody, swapRecord}
-use Rattle.compact.specs.Layout.{headOf, headLen}
+use Rattle.compact.specs.Layout.{headOf}
 use Rattle.compact.specs.Held.{named, memberOf}
 use Rattle.compact.specs.View.{refAt, memberAt, step, tagStep, tagGiven, onward, stepped, tagsFrom}
 use Rattle.compact.specs.declared.CompactMember.{CompactMember}
@@ -34,7 +32,7 @@ use Rattle.compact.specs.declared.TagStep.{TagStep}
 use Rattle.compact.specs.declared.TagStep.the-variants as step
 use Rattle.compact.proofs.Back.{Found}
 use Rattle.compact.proofs.Cuts.{head-tags}
-use Rattle.page.specs.Listing.{each, counted, refFields, memberFields, tagFields, metaFields, bodyFields, recordFields}
+use Rattle.page.specs.Listing.{each, counted, refFields, memberFields, tagFields, bodyFields, recordFields}
 use Rattle.fields.specs.Fields.{heldText, eachFrom, refFieldsAt, heldMember, stepFields, tagFieldsFrom, bodyFieldsAt, tagFieldsAt, fieldsAt}
 
 -- ---- texts

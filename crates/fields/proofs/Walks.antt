@@ -1,7 +1,6 @@
 -- The walks over a record's parts: fields printed one after the other, element by element and tag by tag.
 use Prim.Native.Nat.{ℕ, zero, suc, _+_, _-_, _<_, _≤_}
-use mathlib.Core.Path.{_≡_, refl, sym, _∙_, ap}
-use mathlib.Core.Bool.{true, false}
+use mathlib.Core.Path.{_≡_, refl, _∙_}
 use mathlib.Core.List.{List, [], _∷_, _++_}
 use native.Mathlib.Omega.{arith}
 use lib.Dec.{ltb}
@@ -14,7 +13,7 @@ use Rattle.text.specs.Check.{isText}
 use Rattle.text.specs.Escape.{escape}
 use Rattle.line.specs.Decimal.{integerText}
 use Rattle.kind.specs.declared.Kind.{Kind}
-use Rattle.interner.specs.Strings.{spanOf, spanAt}
+use Rattle.interner.specs.Strings.{spanOf}
 use Rattle.interner.specs.declared.Span.the-variants.{Part, Missing}
 use Rattle.interner.proofs.Finds.{lies, within-bytes}
 use Rattle.model.specs.Swap.{swapMeta}
@@ -22,13 +21,12 @@ use Rattle.compact.specs.Layout.{headLen}
 use Rattle.compact.specs.Held.{metaOf}
 use Rattle.compact.specs.View.{metaAt, headAt, tagStep}
 use Rattle.compact.specs.declared.ArenaMeta.{ArenaMeta}
-use Rattle.compact.specs.declared.TagStep.{TagStep}
 use Rattle.compact.specs.declared.TagStep.the-variants as step
 use Rattle.compact.proofs.Steps.{tag-past, tag-over, tag-judged}
 use Rattle.page.specs.Listing.{metaFields}
 use Rattle.print.specs.Print.{Printed, print, tab, tabs}
 use Rattle.print.proofs.Prints.{print-append, tabs-append}
-use Rattle.fields.specs.Fields.{spanText, heldText, eachFrom, tagFieldsFrom, bodyFieldsAt, tagFieldsAt, fieldsAt}
+use Rattle.fields.specs.Fields.{heldText, eachFrom, tagFieldsFrom, bodyFieldsAt, tagFieldsAt, fieldsAt}
 
 -- ---- a text
 

@@ -1,8 +1,7 @@
 // The fields of a live line, printed from a record's bytes: metadata, place or refs or members, tags.
 ghost use mathlib.Core.Path.{_≡_};
 ghost use mathlib.Core.List.{[], _∷_};
-ghost use Prim.Native.Nat.{_+_, _≤_};
-ghost use lib.ListN.{length, take, drop};
+ghost use Prim.Native.Nat.{_+_};
 ghost use Rattle.text.specs.Escape.{escape};
 ghost use Rattle.line.specs.Decimal.{numberText};
 ghost use Rattle.kind.specs.declared.Kind.the-variants.{Node, Way, Relation};

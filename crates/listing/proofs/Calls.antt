@@ -1,7 +1,7 @@
 -- The call: measured first, lent the output's end; then written, where it fits.
 use Prim.Native.Nat.{ℕ, suc, _-_, _<_, _≤_}
 use mathlib.Core.Path.{_≡_, refl, sym, _∙_, ap}
-use mathlib.Core.Bool.{Bool, true, false}
+use mathlib.Core.Bool.{true, false}
 use mathlib.Core.List.{List, [], _∷_, _++_}
 use native.Mathlib.Omega.{arith}
 use lib.ListN.{length, getD, drop, length-take}
@@ -10,7 +10,7 @@ use borrow.Rule.Slice.PartMut.{midOf, putMid, put-same}
 use Rattle.base.specs.Bytes.{Bytes, all}
 use Rattle.base.proofs.Split.{byLe, no}
 use Rattle.base.proofs.Lists.{all-nil, all-cons}
-use Rattle.little.specs.Little.{isByte, over}
+use Rattle.little.specs.Little.{isByte}
 use Rattle.little.proofs.Overs.{over-start}
 use Rattle.kind.specs.declared.Kind.{Kind}
 use Rattle.kind.specs.declared.Kind.the-variants.{Node, Way, Relation}
@@ -26,7 +26,7 @@ use Rattle.overlay.specs.Given.{InBytes}
 use Rattle.overlay.specs.Sound.{isSound}
 use Rattle.listing.specs.declared.Listed.the-variants.{Length, Refused}
 use Rattle.listing.specs.Pieces.{piecesOf}
-use Rattle.listing.specs.Call.{Listing, notListed, pageOf, written, listingOn}
+use Rattle.listing.specs.Call.{notListed, pageOf, written, listingOn}
 use Rattle.listing.proofs.Pages.{page-pieces}
 
 -- lent bytes are bytes

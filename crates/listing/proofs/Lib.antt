@@ -2,3 +2,5 @@ pub mod Walks
 pub mod Rows
 pub mod Pages
 pub mod Calls
+pub mod Summaries
+pub mod First

@@ -1,37 +1,30 @@
 -- In sound storage the printed pieces are together the listing of the overlay's table.
-use Prim.Native.Nat.{ℕ, _*_, _≤_}
-use mathlib.Core.Path.{_≡_, refl, sym, _∙_, ap}
-use mathlib.Core.Bool.{Bool, true, false}
-use mathlib.Core.Option.{some}
+use Prim.Native.Nat.{ℕ}
+use mathlib.Core.Path.{_≡_, refl, sym}
+use mathlib.Core.Bool.{true, false}
 use mathlib.Core.List.{List, [], _∷_, _++_, append-assoc, map}
-use lib.ListN.{length, take, drop}
-use borrow.Author.Tests.{leb-true}
+use lib.ListN.{take, drop}
 use Rattle.base.specs.Bytes.{Bytes, all}
-use Rattle.base.proofs.Split.{byBool, both-left}
+use Rattle.base.proofs.Split.{byBool}
 use Rattle.base.proofs.Lists.{all-head, all-tail}
 use Rattle.kind.specs.declared.Kind.{Kind}
 use Rattle.kind.specs.declared.Kind.the-variants.{Node, Way, Relation}
 use Rattle.line.specs.Line.{line}
-use Rattle.osm_id.specs.Order.{idOf}
 use Rattle.interner.specs.Texts.{textOf}
 use Rattle.interner.specs.Sound.{textsOf}
 use Rattle.interner.proofs.Interns as Interns
-use Rattle.model.specs.Record.{kindOf}
-use Rattle.model.specs.Act.{gone, live}
-use Rattle.model.specs.Swap.{swapRecord}
-use Rattle.table.specs.Words.{rowsOf, held, soundTable}
+use Rattle.table.specs.Words.{held}
 use Rattle.table.specs.declared.Row as table
 use Rattle.table.proofs.Tables.{sound-fits, held-all}
-use Rattle.shelf.specs.Shelf.{Shelf, isLive, known}
+use Rattle.shelf.specs.Shelf.{Shelf, isLive}
 use Rattle.shelf.specs.Fair.{rowsIn}
 use Rattle.sound.specs.Sound.{SoundShelf, soundRow}
 use Rattle.page.specs.Summary.{Row, Table}
-use Rattle.page.specs.Listing.{kindField, versionField, recordFields, rowFields, listing}
+use Rattle.page.specs.Listing.{kindField, rowFields, listing}
 use Rattle.print.specs.Print.{joined, linePieces}
 use Rattle.print.proofs.Prints.{joined-append, line-pieces}
-use Rattle.fields.specs.Fields.{fieldsAt}
 use Rattle.fields.proofs.Records.{held-text, fields-are}
-use Rattle.overlay.specs.Overlay.{Overlay, shelfOf}
+use Rattle.overlay.specs.Overlay.{Overlay}
 use Rattle.overlay.specs.Given.{InBytes}
 use Rattle.overlay.specs.Sound.{Sound, isSound}
 use Rattle.overlay.proofs.Decides.{decides}

@@ -1,7 +1,7 @@
 -- A sound shelf, row by row: at the place of each live row the readers find a legal record of its kind.
 use Prim.Native.Nat.{ℕ}
 use mathlib.Core.Path.{_≡_, refl, sym, _∙_, ap, subst}
-use mathlib.Core.Bool.{Bool, true, false, not}
+use mathlib.Core.Bool.{true, not}
 use mathlib.Core.Option.{some}
 use mathlib.Core.List.{List, _++_}
 use lib.ListN.{take, drop}

@@ -1,5 +1,4 @@
 -- "A call .. is refused when, and only when, .. a condition of the table holds at its place": the listing's conditions in order, 22, then 19.
-use mathlib.Core.Bool.{not}
 use mathlib.Core.Option.{Option, none, some}
 use mathlib.Core.List.{List, [], _∷_}
 use lib.Dec.{ltb}

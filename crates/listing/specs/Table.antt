@@ -1,9 +1,11 @@
 -- Document 01, "The listing": "Kinds n, w, r in that order, ids in OSM order, live and deleted merged." An overlay as the page's table: a row for each known id.
 use Prim.Native.Nat.{ℕ}
-use mathlib.Core.Bool.{cond}
+use mathlib.Core.Path.{_≡_}
+use mathlib.Core.Bool.{Bool, true, cond}
 use mathlib.Core.Option.{Option, none, some}
 use mathlib.Core.List.{_++_, map}
-use Rattle.base.specs.Bytes.{Bytes}
+use lib.Dec.{ltb}
+use Rattle.base.specs.Bytes.{Bytes, all}
 use Rattle.kind.specs.declared.Kind.{Kind}
 use Rattle.kind.specs.declared.Kind.the-variants.{Node, Way, Relation}
 use Rattle.osm_id.specs.Order.{idOf}
@@ -41,3 +43,10 @@ unfoldable pub tableOf : Overlay → Table
 tableOf o =
     kindTable Node (shelfOf Node o) (textOf (textsOf (o .texts))) ++ kindTable Way (shelfOf Way o) (textOf (textsOf (o .texts)))
     ++ kindTable Relation (shelfOf Relation o) (textOf (textsOf (o .texts)))
+
+-- the rank of each known id is a word of 64 bits, as each word of a lent table is
+unfoldable pub isRank : table.Row → Bool
+isRank r = ltb (r .rank) 18446744073709551616
+
+pub record Ranked (o : Overlay) : Type 0 where
+  pub rows : (k : Kind) → all isRank (rowsIn (shelfOf k o)) ≡ true

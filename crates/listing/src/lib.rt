@@ -1,6 +1,5 @@
 // The listing of an overlay into lent bytes: one walk that measures, and the same walk that writes.
 ghost use mathlib.Core.Path.{_≡_};
-ghost use mathlib.Core.Bool.{Bool};
 ghost use mathlib.Core.List.{[], _∷_};
 ghost use mir.Syntax.{w64};
 ghost use mir.Val.{toZ};

@@ -4,36 +4,6 @@ use Rattle.compact.specs.Held.{metaOf}
 use borrow.Author.Needs.{needs}
 use Rattle.fields.proofs.put_meta.Statement.{statement}
 use Rattle.fields.proofs.put_meta.Tie as tie
-use Rattle.fields.proofs.put_meta.Reads as reads
-use Rattle.fields.proofs.put_meta.Lts as lts
-use Rattle.fields.proofs.put_held.Reads as put-held-reads
-use Rattle.print.proofs.put_integer.Reads as put-integer-reads
-use Rattle.print.proofs.put_integer32.Reads as put-integer32-reads
-use Rattle.print.proofs.put_number.Reads as put-number-reads
-
-cast-put-number : tie.Need-cast-put-number
-cast-put-number c = search needs
-
-put-number-requires : tie.Need-put-number-requires
-put-number-requires c κs = search needs
-
-put-integer32-requires : tie.Need-put-integer32-requires
-put-integer32-requires c κs = search needs
-
-put-integer-requires : tie.Need-put-integer-requires
-put-integer-requires c κs = search needs
-
-put-integer-requires-2 : tie.Need-put-integer-requires-2
-put-integer-requires-2 c κs = search needs
-
-put-integer32-requires-2 : tie.Need-put-integer32-requires-2
-put-integer32-requires-2 c κs = search needs
-
-put-held-requires : tie.Need-put-held-requires
-put-held-requires c κs = search needs
-
-same-length : tie.Need-same-length
-same-length c = search needs
 
 returns : tie.Need-returns
 unfolding print tabs metaOf
@@ -50,12 +20,12 @@ pub put-meta-spec : {M : Type 1} → statement M
 put-meta-spec =
     tie.close
     (tie.spec
-    cast-put-number
-    put-number-requires
-    put-integer32-requires
-    put-integer-requires
-    put-integer-requires-2
-    put-integer32-requires-2
-    put-held-requires
-    same-length
+    (λ c. search needs)
+    (λ c κs. search needs)
+    (λ c κs. search needs)
+    (λ c κs. search needs)
+    (λ c κs. search needs)
+    (λ c κs. search needs)
+    (λ c κs. search needs)
+    (λ c. search needs)
     returns)

@@ -1,5 +1,4 @@
 -- Metadata, latitude and longitude, tags.
-use mathlib.Core.Path.{refl, sym, ap}
 use mathlib.Core.List.{[], _∷_}
 use denote.Ref.{now}
 use mir.Syntax.{w32}
@@ -8,40 +7,11 @@ use Rattle.line.specs.Decimal.{numberText, integerText}
 use Rattle.kind.specs.declared.Kind.the-variants.{Node}
 use Rattle.compact.specs.Held.{nodeHead}
 use Rattle.compact.specs.View.{headAt, tagsAt}
-use Rattle.print.specs.Print.{tabs}
-use Rattle.fields.specs.Fields.{heldText, eachFrom, refFieldsAt, heldMember, tagFieldsFrom, bodyFieldsAt, tagFieldsAt}
+use Rattle.fields.specs.Fields.{heldText, tagFieldsFrom, bodyFieldsAt, tagFieldsAt}
 use Rattle.fields.proofs.Walks.{fields-printed, place-printed}
 use borrow.Author.Needs.{needs}
 use Rattle.fields.proofs.put_node.Statement.{statement}
 use Rattle.fields.proofs.put_node.Tie as tie
-use Rattle.fields.proofs.put_node.Reads as reads
-use Rattle.fields.proofs.put_node.Lts as lts
-use Rattle.compact.proofs.CompactNode.read.Reads as read-reads
-use Rattle.compact.proofs.read_meta.Reads as read-meta-reads
-use Rattle.fields.proofs.put_meta.Reads as put-meta-reads
-use Rattle.fields.proofs.put_tags.Reads as put-tags-reads
-use Rattle.print.proofs.put_integer32.Reads as put-integer32-reads
-
-read-requires : tie.Need-read-requires
-read-requires c κs = search needs
-
-read-meta-requires : tie.Need-read-meta-requires
-read-meta-requires c κs = search needs
-
-put-meta-requires : tie.Need-put-meta-requires
-put-meta-requires c κs = search needs
-
-put-integer32-requires : tie.Need-put-integer32-requires
-put-integer32-requires c κs = search needs
-
-put-integer32-requires-2 : tie.Need-put-integer32-requires-2
-put-integer32-requires-2 c κs = search needs
-
-put-tags-requires : tie.Need-put-tags-requires
-put-tags-requires c κs = search needs
-
-same-length : tie.Need-same-length
-same-length c = search needs
 
 returns : tie.Need-returns
 unfolding bodyFieldsAt tagFieldsAt headAt nodeHead tagsAt
@@ -62,11 +32,11 @@ pub put-node-spec : {M : Type 1} → statement M
 put-node-spec =
     tie.close
     (tie.spec
-    read-requires
-    read-meta-requires
-    put-meta-requires
-    put-integer32-requires
-    put-integer32-requires-2
-    put-tags-requires
-    same-length
+    (λ c κs. search needs)
+    (λ c κs. search needs)
+    (λ c κs. search needs)
+    (λ c κs. search needs)
+    (λ c κs. search needs)
+    (λ c κs. search needs)
+    (λ c. search needs)
     returns)

@@ -1,48 +1,15 @@
 -- Metadata, members, tags.
-use mathlib.Core.Path.{refl, sym, ap}
-use mathlib.Core.List.{[], _∷_}
+use mathlib.Core.List.{_∷_}
 use denote.Ref.{now}
-use mir.Syntax.{w32}
-use mir.Val.{toZ}
-use Rattle.line.specs.Decimal.{numberText, integerText}
+use Rattle.line.specs.Decimal.{numberText}
 use Rattle.kind.specs.declared.Kind.the-variants.{Relation}
 use Rattle.compact.specs.Held.{relationHead, countsHead}
 use Rattle.compact.specs.View.{headAt, tagsAt, memberAt}
-use Rattle.print.specs.Print.{tabs}
-use Rattle.fields.specs.Fields.{heldText, eachFrom, refFieldsAt, heldMember, tagFieldsFrom, bodyFieldsAt, tagFieldsAt}
+use Rattle.fields.specs.Fields.{heldText, eachFrom, heldMember, tagFieldsFrom, bodyFieldsAt, tagFieldsAt}
 use Rattle.fields.proofs.Walks.{fields-printed}
 use borrow.Author.Needs.{needs}
 use Rattle.fields.proofs.put_relation.Statement.{statement}
 use Rattle.fields.proofs.put_relation.Tie as tie
-use Rattle.fields.proofs.put_relation.Reads as reads
-use Rattle.fields.proofs.put_relation.Lts as lts
-use Rattle.compact.proofs.CompactRelation.read.Reads as read-reads
-use Rattle.compact.proofs.CompactRelation.tags_at.Reads as tags-at-reads
-use Rattle.compact.proofs.read_meta.Reads as read-meta-reads
-use Rattle.fields.proofs.put_members.Reads as put-members-reads
-use Rattle.fields.proofs.put_meta.Reads as put-meta-reads
-use Rattle.fields.proofs.put_tags.Reads as put-tags-reads
-
-read-requires : tie.Need-read-requires
-read-requires c κs = search needs
-
-read-meta-requires : tie.Need-read-meta-requires
-read-meta-requires c κs = search needs
-
-put-meta-requires : tie.Need-put-meta-requires
-put-meta-requires c κs = search needs
-
-put-members-requires : tie.Need-put-members-requires
-put-members-requires c κs = search needs
-
-tags-at-requires : tie.Need-tags-at-requires
-tags-at-requires c κs = search needs
-
-put-tags-requires : tie.Need-put-tags-requires
-put-tags-requires c κs = search needs
-
-same-length : tie.Need-same-length
-same-length c = search needs
 
 returns : tie.Need-returns
 unfolding bodyFieldsAt tagFieldsAt headAt relationHead countsHead
@@ -63,11 +30,11 @@ pub put-relation-spec : {M : Type 1} → statement M
 put-relation-spec =
     tie.close
     (tie.spec
-    read-requires
-    read-meta-requires
-    put-meta-requires
-    put-members-requires
-    tags-at-requires
-    put-tags-requires
-    same-length
+    (λ c κs. search needs)
+    (λ c κs. search needs)
+    (λ c κs. search needs)
+    (λ c κs. search needs)
+    (λ c κs. search needs)
+    (λ c κs. search needs)
+    (λ c. search needs)
     returns)

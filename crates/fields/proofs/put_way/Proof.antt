@@ -1,48 +1,15 @@
 -- Metadata, refs, tags.
-use mathlib.Core.Path.{refl, sym, ap}
-use mathlib.Core.List.{[], _∷_}
+use mathlib.Core.List.{_∷_}
 use denote.Ref.{now}
-use mir.Syntax.{w32}
-use mir.Val.{toZ}
-use Rattle.line.specs.Decimal.{numberText, integerText}
+use Rattle.line.specs.Decimal.{numberText}
 use Rattle.kind.specs.declared.Kind.the-variants.{Way}
 use Rattle.compact.specs.Held.{wayHead, countsHead}
 use Rattle.compact.specs.View.{headAt, tagsAt}
-use Rattle.print.specs.Print.{tabs}
-use Rattle.fields.specs.Fields.{heldText, eachFrom, refFieldsAt, heldMember, tagFieldsFrom, bodyFieldsAt, tagFieldsAt}
+use Rattle.fields.specs.Fields.{heldText, eachFrom, refFieldsAt, tagFieldsFrom, bodyFieldsAt, tagFieldsAt}
 use Rattle.fields.proofs.Walks.{fields-printed}
 use borrow.Author.Needs.{needs}
 use Rattle.fields.proofs.put_way.Statement.{statement}
 use Rattle.fields.proofs.put_way.Tie as tie
-use Rattle.fields.proofs.put_way.Reads as reads
-use Rattle.fields.proofs.put_way.Lts as lts
-use Rattle.compact.proofs.CompactWay.read.Reads as read-reads
-use Rattle.compact.proofs.CompactWay.tags_at.Reads as tags-at-reads
-use Rattle.compact.proofs.read_meta.Reads as read-meta-reads
-use Rattle.fields.proofs.put_meta.Reads as put-meta-reads
-use Rattle.fields.proofs.put_refs.Reads as put-refs-reads
-use Rattle.fields.proofs.put_tags.Reads as put-tags-reads
-
-read-requires : tie.Need-read-requires
-read-requires c κs = search needs
-
-read-meta-requires : tie.Need-read-meta-requires
-read-meta-requires c κs = search needs
-
-put-meta-requires : tie.Need-put-meta-requires
-put-meta-requires c κs = search needs
-
-put-refs-requires : tie.Need-put-refs-requires
-put-refs-requires c κs = search needs
-
-tags-at-requires : tie.Need-tags-at-requires
-tags-at-requires c κs = search needs
-
-put-tags-requires : tie.Need-put-tags-requires
-put-tags-requires c κs = search needs
-
-same-length : tie.Need-same-length
-same-length c = search needs
 
 returns : tie.Need-returns
 unfolding bodyFieldsAt tagFieldsAt headAt wayHead countsHead
@@ -63,11 +30,11 @@ pub put-way-spec : {M : Type 1} → statement M
 put-way-spec =
     tie.close
     (tie.spec
-    read-requires
-    read-meta-requires
-    put-meta-requires
-    put-refs-requires
-    tags-at-requires
-    put-tags-requires
-    same-length
+    (λ c κs. search needs)
+    (λ c κs. search needs)
+    (λ c κs. search needs)
+    (λ c κs. search needs)
+    (λ c κs. search needs)
+    (λ c κs. search needs)
+    (λ c. search needs)
     returns)

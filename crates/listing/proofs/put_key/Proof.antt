@@ -3,27 +3,6 @@ use Rattle.print.specs.Print.{print, tabs}
 use borrow.Author.Needs.{needs}
 use Rattle.listing.proofs.put_key.Statement.{statement}
 use Rattle.listing.proofs.put_key.Tie as tie
-use Rattle.listing.proofs.put_key.Reads as reads
-use Rattle.listing.proofs.put_key.Lts as lts
-use Rattle.listing.proofs.put_kind.Reads as put-kind-reads
-use Rattle.listing.proofs.put_sign.Reads as put-sign-reads
-use Rattle.listing.proofs.put_version.Reads as put-version-reads
-use Rattle.print.proofs.put_integer.Reads as put-integer-reads
-
-put-kind-requires : tie.Need-put-kind-requires
-put-kind-requires c κs = search needs
-
-put-integer-requires : tie.Need-put-integer-requires
-put-integer-requires c κs = search needs
-
-put-sign-requires : tie.Need-put-sign-requires
-put-sign-requires c κs = search needs
-
-put-version-requires : tie.Need-put-version-requires
-put-version-requires c κs = search needs
-
-same-length : tie.Need-same-length
-same-length c = search needs
 
 returns : tie.Need-returns
 unfolding print tabs
@@ -38,9 +17,9 @@ pub put-key-spec : {M : Type 1} → statement M
 put-key-spec =
     tie.close
     (tie.spec
-    put-kind-requires
-    put-integer-requires
-    put-sign-requires
-    put-version-requires
-    same-length
+    (λ c κs. search needs)
+    (λ c κs. search needs)
+    (λ c κs. search needs)
+    (λ c κs. search needs)
+    (λ c. search needs)
     returns)

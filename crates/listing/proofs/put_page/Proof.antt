@@ -10,52 +10,9 @@ use Rattle.listing.proofs.Walks.{take-most, page-printed}
 use borrow.Author.Needs.{needs}
 use Rattle.listing.proofs.put_page.Statement.{statement}
 use Rattle.listing.proofs.put_page.Tie as tie
-use Rattle.listing.proofs.put_page.Reads as reads
-use Rattle.listing.proofs.put_page.Lts as lts
-use Rattle.listing.proofs.put_rows.Reads as put-rows-reads
-use Rattle.little.proofs.lesser.Reads as lesser-reads
-
-element-copy-out-lesser : tie.Need-element-copy-out-lesser
-element-copy-out-lesser c = search needs
-
-lesser-requires : tie.Need-lesser-requires
-lesser-requires c κs = search needs
 
 slice-aggregate-texts : tie.Need-slice-aggregate-texts
 slice-aggregate-texts c = sym (length-take-le (c .before .lesser .result) (now (c .before .before .before .before .before .before .before .before .before .before .before .before .args .bytes)) (omega arith))
-
-element-copy-out-strings : tie.Need-element-copy-out-strings
-element-copy-out-strings c = search needs
-
-element-copy-out-put-rows : tie.Need-element-copy-out-put-rows
-element-copy-out-put-rows c = search needs
-
-element-copy-out-put-rows-2 : tie.Need-element-copy-out-put-rows-2
-element-copy-out-put-rows-2 c = search needs
-
-put-rows-requires : tie.Need-put-rows-requires
-put-rows-requires c κs = search needs
-
-element-copy-out-put-rows-3 : tie.Need-element-copy-out-put-rows-3
-element-copy-out-put-rows-3 c = search needs
-
-element-copy-out-put-rows-4 : tie.Need-element-copy-out-put-rows-4
-element-copy-out-put-rows-4 c = search needs
-
-put-rows-requires-2 : tie.Need-put-rows-requires-2
-put-rows-requires-2 c κs = search needs
-
-element-copy-out-put-rows-5 : tie.Need-element-copy-out-put-rows-5
-element-copy-out-put-rows-5 c = search needs
-
-element-copy-out-put-rows-6 : tie.Need-element-copy-out-put-rows-6
-element-copy-out-put-rows-6 c = search needs
-
-put-rows-requires-3 : tie.Need-put-rows-requires-3
-put-rows-requires-3 c κs = search needs
-
-same-length : tie.Need-same-length
-same-length c = search needs
 
 returns : tie.Need-returns
 unfolding piecesOf
@@ -72,18 +29,18 @@ pub put-page-spec : {M : Type 1} → statement M
 put-page-spec =
     tie.close
     (tie.spec
-    element-copy-out-lesser
-    lesser-requires
+    (λ c. search needs)
+    (λ c κs. search needs)
     slice-aggregate-texts
-    element-copy-out-strings
-    element-copy-out-put-rows
-    element-copy-out-put-rows-2
-    put-rows-requires
-    element-copy-out-put-rows-3
-    element-copy-out-put-rows-4
-    put-rows-requires-2
-    element-copy-out-put-rows-5
-    element-copy-out-put-rows-6
-    put-rows-requires-3
-    same-length
+    (λ c. search needs)
+    (λ c. search needs)
+    (λ c. search needs)
+    (λ c κs. search needs)
+    (λ c. search needs)
+    (λ c. search needs)
+    (λ c κs. search needs)
+    (λ c. search needs)
+    (λ c. search needs)
+    (λ c κs. search needs)
+    (λ c. search needs)
     returns)

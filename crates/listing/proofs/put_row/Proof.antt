@@ -16,38 +16,6 @@ use Rattle.listing.proofs.Walks.{line-printed}
 use borrow.Author.Needs.{needs}
 use Rattle.listing.proofs.put_row.Statement.{statement}
 use Rattle.listing.proofs.put_row.Tie as tie
-use Rattle.listing.proofs.put_row.Reads as reads
-use Rattle.listing.proofs.put_row.Lts as lts
-use Rattle.listing.proofs.put_key.Reads as put-key-reads
-use Rattle.listing.proofs.put_last.Reads as put-last-reads
-use Rattle.osm_id.proofs.osm_id_of_rank.Reads as osm-id-of-rank-reads
-use Rattle.print.proofs.put_bytes.Reads as put-bytes-reads
-use Rattle.shelf.proofs.known_version.Reads as known-version-reads
-use Rattle.signed.proofs.bits_of_i64.Reads as bits-of-i64-reads
-
-osm-id-of-rank-requires : tie.Need-osm-id-of-rank-requires
-osm-id-of-rank-requires c κs = search needs
-
-bits-of-i64-requires : tie.Need-bits-of-i64-requires
-bits-of-i64-requires c κs = search needs
-
-known-version-requires : tie.Need-known-version-requires
-known-version-requires c κs = search needs
-
-put-key-requires : tie.Need-put-key-requires
-put-key-requires c κs = search needs
-
-put-last-requires : tie.Need-put-last-requires
-put-last-requires c κs = search needs
-
-slice-aggregate-put-bytes : tie.Need-slice-aggregate-put-bytes
-slice-aggregate-put-bytes c = search needs
-
-put-bytes-requires : tie.Need-put-bytes-requires
-put-bytes-requires c κs = search needs
-
-same-length : tie.Need-same-length
-same-length c = search needs
 
 returns : tie.Need-returns
 unfolding rowFieldsAt isLive
@@ -68,12 +36,12 @@ pub put-row-spec : {M : Type 1} → statement M
 put-row-spec =
     tie.close
     (tie.spec
-    osm-id-of-rank-requires
-    bits-of-i64-requires
-    known-version-requires
-    put-key-requires
-    put-last-requires
-    slice-aggregate-put-bytes
-    put-bytes-requires
-    same-length
+    (λ c κs. search needs)
+    (λ c κs. search needs)
+    (λ c κs. search needs)
+    (λ c κs. search needs)
+    (λ c κs. search needs)
+    (λ c. search needs)
+    (λ c κs. search needs)
+    (λ c. search needs)
     returns)
