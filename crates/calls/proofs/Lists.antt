@@ -1,12 +1,14 @@
 -- Lists of calls: after each, what is lent agrees with the calls and their replies. The overlay reflects the texts taken in and the acts accepted; each reader's storage is
 -- sound but for its count of lines, and stands for the reader that the accepted lines make.
-use Prim.Native.Nat.{ℕ, _<_, _≤_}
+use Prim.Native.Nat.{ℕ, _+_, _<_}
 use mathlib.Core.Path.{_≡_, refl, sym, _∙_, ap, subst}
 use mathlib.Core.Bool.{Bool, true, false, cond}
 use mathlib.Core.Option.{Option, none, some}
 use mathlib.Core.List.{List, [], _∷_, _++_, append-assoc, append-nil}
 use lib.Dec.{eqb}
 use lib.IntN.{ℤ}
+use lib.ListN.{length}
+use native.Mathlib.Omega.{arith}
 use mir.Syntax.{w64}
 use mir.Val.{toZ}
 use mir.Facts.{fits-of-lt, sfits-toZ}
@@ -36,7 +38,7 @@ use Rattle.field.specs.Field.{Field, got}
 use Rattle.acts.specs.Turn.{Turn, turn}
 use Rattle.acts.specs.Call.{Call, Answered, World, outcome, pushOf, turned, actsBefore, worldAfter, actsFrom}
 use Rattle.acts.specs.Call as Call
-use Rattle.acts.proofs.Calls.{refusedCall, takenCall, world-append, acts-append, own-reader, other-reader, textsFrom, texts-after}
+use Rattle.acts.proofs.Calls.{refusedCall, takenCall, world-append, acts-append, own-reader, other-reader, linesOf, textsFrom, texts-after}
 use Rattle.overlay.specs.Overlay.{Overlay}
 use Rattle.overlay.specs.Given.{headFits, metaFits}
 use Rattle.overlay.specs.Calls.{pushOn, deleteOn, handleIn, internOn}
@@ -49,11 +51,11 @@ use Rattle.reader.specs.declared.EventAnswer.the-variants as E
 use Rattle.reader.specs.State.{State}
 use Rattle.reader.specs.Event.{EventResult, eventOn, endOn}
 use Rattle.reader.specs.Means.{readerOf}
-use Rattle.reader.proofs.Answers.{byAnswer, end-keeps}
+use Rattle.reader.proofs.Answers.{byAnswer, event-counts, end-keeps}
 use Rattle.reader.proofs.Acts.{TakesIn, no-text, a-text, Acts, no-act, a-push, a-delete, Acted, Fine, more-strings, same-text}
 use Rattle.reader.proofs.Events.{Accepted, event-accepted, byRefused}
 use Rattle.reader.proofs.Keeps.{Ready, event-ready, ready-more, ready-means}
-use Rattle.calls.specs.Ask.{Ask, interns, pushes, deletes, hears, ends, callOf, Lent, stateOf, withState, withOverlay, leaves, accepts, after, answered, askFits}
+use Rattle.calls.specs.Ask.{Ask, interns, pushes, deletes, hears, ends, callOf, Lent, stateOf, withState, withOverlay, passes, leaves, accepts, after, answered, askFits}
 use Rattle.calls.proofs.Reflects.{Reflects, reflects-push, reflects-delete, reflects-text}
 
 -- ---- the calls that a turn makes
@@ -254,3 +256,32 @@ agrees-calls setting (c ∷ cs) l w acts f g =
     let u = worldAfter w (a ∷ []) in
     let i = agrees-calls setting cs (leaves c l) u (acts ++ actsFrom w (a ∷ [])) (all-tail askFits c cs f) (agrees-call setting l w acts g c (all-head askFits c cs f)) in
     rw (world-append w (a ∷ []) (answered (leaves c l) cs), acts-append w (a ∷ []) (answered (leaves c l) cs), ← append-assoc acts (actsFrom w (a ∷ [])) (actsFrom u (answered (leaves c l) cs))) i
+
+-- ---- the count of lines: an event's line is one more than the lines that its reader has taken
+
+module _ (n : ℕ) where
+  event-lines : (line : Bytes) (s : State) (xs : List Bytes) → eventOn line s .state .reader .lines + length xs ≡ s .reader .lines + length (cond (passes (eventOn line s .answer)) (line ∷ xs) xs)
+  event-lines line s xs =
+      byAnswer (eventOn line s .answer)
+      (λ a. rw (a, event-counts line s a .0) (omega arith))
+      (λ r m a. byRefused line s r m a (λ u k j e. rw (a, e)) (λ u t e. rw (a, e)))
+
+  call-lines : (c : Ask) (l : Lent) (ds : List Answered)
+      → leaves c l .readers n .lines + length (linesOf n ds) ≡ l .readers n .lines + length (linesOf n (answerOf c l ∷ ds))
+  unfolding linesOf
+  call-lines (interns t) l ds = byBool (accepts (interns t) l) (λ e. rw e) (λ e. rw e)
+  call-lines (pushes k h m parts) l ds = byBool (accepts (pushes k h m parts) l) (λ e. rw e) (λ e. rw e)
+  call-lines (deletes k id m) l ds = byBool (accepts (deletes k id m) l) (λ e. rw e) (λ e. rw e)
+  call-lines (hears m line) l ds =
+      byEq n m
+      (λ q. rw (eq-eqb n m q, q) (event-lines line (stateOf m l) (linesOf m ds)))
+      (λ q. rw (ne-eqb n m q) (byBool (accepts (hears m line) l) (λ e. rw e) (λ e. rw e)))
+  call-lines (ends m) l ds =
+      byEq n m
+      (λ q. rw (eq-eqb n m q, end-keeps (stateOf m l), q) (byBool (accepts (ends m) l) (λ e. rw e) (λ e. rw e)))
+      (λ q. rw (ne-eqb n m q) (byBool (accepts (ends m) l) (λ e. rw e) (λ e. rw e)))
+
+  pub lines-counted : (cs : List Ask) (l : Lent) → after l cs .readers n .lines ≡ l .readers n .lines + length (linesOf n (answered l cs))
+  unfolding after answered linesOf
+  lines-counted [] l = omega arith
+  lines-counted (c ∷ cs) l = lines-counted cs (leaves c l) ∙ call-lines c l (answered (leaves c l) cs)
