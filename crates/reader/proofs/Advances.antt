@@ -19,6 +19,7 @@ use Rattle.little.specs.Little.{isByte}
 use Rattle.little.proofs.Littles.{bytes-take}
 use Rattle.refusal.specs.declared.Refusal.the-variants as R
 use Rattle.kind.specs.declared.Kind.{Kind}
+use Rattle.kind.specs.declared.Kind.the-variants as K
 use Rattle.nesting.specs.declared.Place.{Place}
 use Rattle.model.specs.Record.{Meta, Member, Tag, Body, refs, members, Record, kindOf, flagged, claimOf}
 use Rattle.model.specs.Act.{Act, push, delete}
@@ -26,7 +27,7 @@ use Rattle.model.specs.Swap.{swapMeta, swapMember, swapTag, swapBody, swapRecor
 use Rattle.compact.specs.Cut.{pushedRecord}
 use Rattle.compact.specs.Fits.{fitsNumber}
 use Rattle.compact.specs.Held.{metaOf, headIn}
-use Rattle.compact.specs.Legal.{limits, legalMeta, legal}
+use Rattle.compact.specs.Legal.{limits, legalMeta, withinLimits, legal}
 use Rattle.compact.specs.declared.ArenaMeta.{ArenaMeta}
 use Rattle.compact.specs.declared.PushHead.{PushHead}
 use Rattle.stage.specs.Stage.{staged, refPart, memberPart, tagPart}
@@ -50,12 +51,12 @@ use Rattle.decision.proofs.Lawful as Decided
 use Rattle.acts.specs.Turn.{Staged, Turn, userText, first, clears, grows, turnOf}
 use Rattle.acts.specs.Turn as Turn
 use Rattle.reader.specs.declared.Pending.{Pending}
-use Rattle.reader.specs.State.{State, noPending, readerSound, stateSound, middle, moreTags, moreParts}
+use Rattle.reader.specs.State.{State, pendingRecord, readerSound, stateSound, moreTags, moreParts}
 use Rattle.reader.specs.Given.{Given}
 use Rattle.reader.specs.Step.{Advanced, Step, goes, clearsTo, metaBits, headFor, memberBits, tagWithin, partWithin, partPlace, stepOf}
 use Rattle.reader.specs.Means.{stagedOf, readerOf}
 use Rattle.reader.proofs.Texts.{legal-agree}
-use Rattle.reader.proofs.Element.{stages-back, way-body, relation-body, Grows, tag-grows, ref-grows, member-grows}
+use Rattle.reader.proofs.Element.{stages-back, way-body, relation-body, Grows, tag-limit, ref-limit, member-limit, tag-grows, ref-grows, member-grows}
 use Rattle.reader.proofs.Acts.{Acts, no-act, a-push, a-delete, TakesIn, no-text, Acted, Fine, takes-fine, acted-fine, takes-texts, more-strings, same-text, strings-few}
 use Rattle.reader.proofs.Held.{Held, held-of, held-few, held-means, stagedAs, fault-legal, bareRecord, bare-stages, bare-legal, bare-held, nothing-held, nothing-means}
 use Rattle.reader.proofs.Legals.{legal-meta, meta-fits, claim-same, meta-comes, bodyIn, body-comes, begun, head-fits, head-id, legal-tag, legal-ref, legal-member, staged-small, tag-small, ref-small, member-small, tags-fit, count-fits}
@@ -170,6 +171,9 @@ module _ (s : State) (g : Given s) (e : stateSound s ≡ true) where
   unfolding readerOf
   means = held-means (s .overlay .texts .strings) kind (s .parts) pending held now
 
+  few : withinLimits limits (held .held) ≡ true
+  few = held-few (s .overlay .texts .strings) kind (s .parts) pending held
+
   -- nothing is staged any more
   cleared : (d : Decision) (p : Place) (q : Overlay) (ts : List Bytes) (a : Act Bytes) → turnOf d (readerOf s) ≡ got (clears p ts a) → Acted (s .overlay) (clears p ts a) q
       → Each (Advances d s) (clearsTo s p q)
@@ -275,21 +279,21 @@ module _ (s : State) (g : Given s) (e : stateSound s ≡ true) where
       each-text (s .overlay) (fine .sound) (t .key) _ (w .1 .0) (λ n o a.
       each-within (tagWithin s t) _ R.TooManyParts (λ c.
       let u : Tag ℕ = record { key = n; value = t .value } in
-      let c1 = both-left _ _ c in
-      let b = tag-grows kind (pending .head) (pending .meta) (s .parts) (pending .used) (held .held) (held .stages) (held .fits) (omega (arith, g .reader .room)) (held-few _ _ _ _ held) u
-      (handle-fits o (takes-fine fine (a .takes)) n (a .held)) c1 (both-right (leb (pending .head .tags + 1) (limits .tags)) _ c) in
+      let l = sym (tag-limit kind (pending .head) (pending .meta) (s .parts) (pending .used) (held .held) (held .stages) (held .fits) few u) ∙ c in
+      let b = tag-grows kind (pending .head) (pending .meta) (s .parts) (pending .used) (held .held) (held .stages) (held .fits) few (g .reader .room) u
+      (handle-fits o (takes-fine fine (a .takes)) n (a .held)) l in
       grown (tags p t) p (w .0) o (t .key ∷ []) (a .takes) (moreTags (pending .head)) (pending .used) (tagPart n (t .value)) (withTag (held .held) u) (Turn.withTag t) refl refl b
-      (legal-tag (o .texts .strings) (held .held) (more-legal (tags p t) p (w .0) o (t .key ∷ []) (a .takes)) u (a .held) (w .1 .1) (b .few))
-      (tags-fit (pending .head) (held .head) (leb-true (pending .head .tags + 1) 256 c1))
+      (legal-tag (o .texts .strings) (held .held) (more-legal (tags p t) p (w .0) o (t .key ∷ []) (a .takes)) u (a .held) (w .1 .1) l)
+      (tags-fit (pending .head) (held .head) (leb-true (pending .head .tags + 1) 256 (both-left _ _ c)))
       (tag-small n (t .value) (w .1 .1))
       (tag-swapped (textOf now) (textOf (textsOf (o .texts))) (held .held) (before (tags p t) p (w .0) o (t .key ∷ []) (a .takes)) t n (a .text))))
   advances (refers p z) w =
       let x = way-body (held .held .body) (held .stages .kind ∙ w .1 .0) in
       each-within (partWithin s (limits .refs)) _ R.TooManyParts (λ c.
-      let b = ref-grows kind (pending .head) (pending .meta) (s .parts) (pending .used) (held .held) (held .stages) (held .fits) (omega (arith, g .reader .room)) (held-few _ _ _ _ held)
-      (x .0) z (w .1 .0) (x .1) (w .1 .1) c in
+      let l = sym (ref-limit kind (pending .head) (pending .meta) (s .parts) (pending .used) (held .held) (held .stages) (held .fits) few (x .0) z (w .1 .0) (x .1)) ∙ c in
+      let b = ref-grows kind (pending .head) (pending .meta) (s .parts) (pending .used) (held .held) (held .stages) (held .fits) few (g .reader .room) (x .0) z (w .1 .0) (x .1) (w .1 .1) l in
       grown (refers p z) p (w .0) (s .overlay) [] no-text (moreParts (pending .head)) (partPlace s) (refPart (ofZ w64 z)) (withRef (held .held) (x .0) z) (Turn.withRef z) refl refl b
-      (legal-ref (s .overlay .texts .strings) (held .held) (held .lawful) (x .0) z (b .few))
+      (legal-ref (s .overlay .texts .strings) (held .held) (held .lawful) (x .0) z l)
       (count-fits (pending .head) (held .head) (leb-true (pending .head .count + 1) 2000 c))
       (ref-small (ofZ w64 z))
       (ref-swapped (textOf now) (textOf now) (held .held) refl (x .0) z (x .1)))
@@ -298,10 +302,11 @@ module _ (s : State) (g : Given s) (e : stateSound s ≡ true) where
       each-text (s .overlay) (fine .sound) (y .role) _ (w .1 .1 .1) (λ n o a.
       each-within (partWithin s (limits .members)) _ R.TooManyParts (λ c.
       let u : Member ℕ = record { ref = y .ref; type = y .type; role = n } in
-      let b = member-grows kind (pending .head) (pending .meta) (s .parts) (pending .used) (held .held) (held .stages) (held .fits) (omega (arith, g .reader .room)) (held-few _ _ _ _ held)
-      (x .0) u (w .1 .0) (x .1) (w .1 .1 .0) (handle-fits o (takes-fine fine (a .takes)) n (a .held)) c in
+      let l = sym (member-limit kind (pending .head) (pending .meta) (s .parts) (pending .used) (held .held) (held .stages) (held .fits) few (x .0) u (w .1 .0) (x .1)) ∙ c in
+      let b = member-grows kind (pending .head) (pending .meta) (s .parts) (pending .used) (held .held) (held .stages) (held .fits) few (g .reader .room) (x .0) u (w .1 .0) (x .1) (w .1 .1 .0)
+      (handle-fits o (takes-fine fine (a .takes)) n (a .held)) l in
       grown (joins p y) p (w .0) o (y .role ∷ []) (a .takes) (moreParts (pending .head)) (partPlace s) (memberPart (memberBits y n)) (withMember (held .held) (x .0) u) (Turn.withMember y) refl refl b
-      (legal-member (o .texts .strings) (held .held) (more-legal (joins p y) p (w .0) o (y .role ∷ []) (a .takes)) (x .0) u (x .1) (a .held) (b .few))
+      (legal-member (o .texts .strings) (held .held) (more-legal (joins p y) p (w .0) o (y .role ∷ []) (a .takes)) (x .0) u (x .1) (a .held) l)
       (count-fits (pending .head) (held .head) (leb-true (pending .head .count + 1) 2000 c))
       (member-small (memberBits y n))
       (member-swapped (textOf now) (textOf (textsOf (o .texts))) (held .held) (before (joins p y) p (w .0) o (y .role ∷ []) (a .takes)) (x .0) y n (x .1) (a .text))))
@@ -313,3 +318,23 @@ module _ (s : State) (g : Given s) (e : stateSound s ≡ true) where
       (stages-back kind (pending .head) (pending .meta) b (held .held) (held .stages)) (held .lawful) a in
       cleared (ends p) p (q .overlay) [] (push (readerOf s .staged .id) (readerOf s .staged .held)) refl
       (record { between = s .overlay; taken = no-text; acted = subst (λ (y : Staged). Acts (s .overlay) (some (push (y .id) (y .held))) (q .overlay)) (sym means) i }))
+
+  -- ---- 16: "A reader gives 16 at the child that passes the limit"; a child is within the limits exactly where the element with it is
+
+  module _ (r : Record ℕ) (is : pendingRecord kind (s .parts) pending ≡ some r) where
+    same : held .held ≡ r
+    unfolding pendingRecord
+    same = cc (stages-back kind (pending .head) (pending .meta) (take (pending .used) (s .parts)) (held .held) (held .stages), is)
+
+    pub limit-tag : (t : Tag Bytes) (key : ℕ) → tagWithin s t ≡ withinLimits limits (withTag r (record { key = key; value = t .value }))
+    limit-tag t key = rw (← same) (tag-limit kind (pending .head) (pending .meta) (s .parts) (pending .used) (held .held) (held .stages) (held .fits) few (record { key = key; value = t .value }))
+
+    pub limit-ref : (rs : List ℤ) (z : ℤ) → kind ≡ K.Way → r .body ≡ refs rs → partWithin s (limits .refs) ≡ withinLimits limits (withRef r rs z)
+    limit-ref rs z k b =
+        let c : held .held .body ≡ refs rs = ap (λ (x : Record ℕ). x .body) same ∙ b in
+        rw (← same) (ref-limit kind (pending .head) (pending .meta) (s .parts) (pending .used) (held .held) (held .stages) (held .fits) few rs z k c)
+
+    pub limit-member : (ms : List (Member ℕ)) (x : Member ℕ) → kind ≡ K.Relation → r .body ≡ members ms → partWithin s (limits .members) ≡ withinLimits limits (withMember r ms x)
+    limit-member ms x k b =
+        let c : held .held .body ≡ members ms = ap (λ (x : Record ℕ). x .body) same ∙ b in
+        rw (← same) (member-limit kind (pending .head) (pending .meta) (s .parts) (pending .used) (held .held) (held .stages) (held .fits) few ms x k c)
