@@ -5,7 +5,6 @@ use mathlib.Core.Path.{_≡_, refl, sym, _∙_, ap, subst}
 use mathlib.Core.Bool.{Bool, true, false, cond}
 use mathlib.Core.Option.{Option, none, some}
 use mathlib.Core.List.{List, [], _∷_, _++_, append-assoc, append-nil}
-use lib.Dec.{eqb}
 use lib.IntN.{ℤ}
 use lib.ListN.{length}
 use native.Mathlib.Omega.{arith}
@@ -22,13 +21,12 @@ use Rattle.kind.specs.declared.Kind.{Kind}
 use Rattle.version_floor.specs.declared.Version.the-variants.{Is}
 use Rattle.model.specs.Record.{Meta, Record, claimOf, flagged}
 use Rattle.model.specs.Act.{Act}
-use Rattle.model.specs.Swap.{swapRecord}
 use Rattle.compact.specs.Cut.{pushedRecord}
 use Rattle.compact.specs.Held.{metaOf, headIn}
 use Rattle.compact.specs.Fits.{fitsSigned, fitsMeta}
 use Rattle.compact.specs.declared.ArenaMeta.{ArenaMeta}
 use Rattle.compact.specs.declared.PushHead.{PushHead}
-use Rattle.interner.specs.Texts.{accepted, takeAll, textOf}
+use Rattle.interner.specs.Texts.{accepted, takeAll}
 use Rattle.interner.specs.Strings.{intern}
 use Rattle.interner.specs.Sound.{textsOf}
 use Rattle.interner.specs.declared.Interned.{Interned}
@@ -36,7 +34,7 @@ use Rattle.interner.specs.declared.Interned.the-variants as I
 use Rattle.shelf.proofs.Claims.{Narrow}
 use Rattle.field.specs.Field.{Field, got}
 use Rattle.acts.specs.Turn.{Turn, turn}
-use Rattle.acts.specs.Call.{Call, Answered, World, outcome, pushOf, turned, actsBefore, worldAfter, actsFrom}
+use Rattle.acts.specs.Call.{Call, Answered, World, outcome, turned, actsBefore, worldAfter, actsFrom}
 use Rattle.acts.specs.Call as Call
 use Rattle.acts.proofs.Calls.{refusedCall, takenCall, world-append, acts-append, own-reader, other-reader, linesOf, textsFrom, texts-after}
 use Rattle.overlay.specs.Overlay.{Overlay}
@@ -49,11 +47,11 @@ use Rattle.overlay.proofs.Decides.{decides}
 use Rattle.overlay.proofs.Keeps.{keptAs, push-kept, delete-kept}
 use Rattle.reader.specs.declared.EventAnswer.the-variants as E
 use Rattle.reader.specs.State.{State}
-use Rattle.reader.specs.Event.{EventResult, eventOn, endOn}
+use Rattle.reader.specs.Event.{eventOn, endOn}
 use Rattle.reader.specs.Means.{readerOf}
 use Rattle.reader.proofs.Answers.{byAnswer, event-counts, end-keeps}
 use Rattle.reader.proofs.Acts.{TakesIn, no-text, a-text, Acts, no-act, a-push, a-delete, Acted, Fine, more-strings, same-text}
-use Rattle.reader.proofs.Events.{Accepted, event-accepted, byRefused}
+use Rattle.reader.proofs.Events.{event-accepted, byRefused}
 use Rattle.reader.proofs.Keeps.{Ready, event-ready, ready-more, ready-means}
 use Rattle.calls.specs.Ask.{Ask, interns, pushes, deletes, hears, ends, callOf, Lent, stateOf, withState, withOverlay, passes, leaves, accepts, after, answered, askFits}
 use Rattle.calls.proofs.Reflects.{Reflects, reflects-push, reflects-delete, reflects-text}

@@ -1,7 +1,7 @@
 -- T7 to T10 and T13 over lists of calls, refused ones included: `intern`, direct pushes and deletes, events and ends of any readers, on an overlay that starts empty, whatever
 -- its sizes. The acts are those of the calls and their replies.
 use Prim.Native.Nat.{ℕ, _+_, _^_, _<_}
-use mathlib.Core.Path.{_≡_, refl, sym, _∙_, ap}
+use mathlib.Core.Path.{_≡_, refl, _∙_, ap}
 use mathlib.Core.Bool.{true, false}
 use mathlib.Core.Logic.{_↔_}
 use mathlib.Core.Option.{some}
@@ -49,7 +49,7 @@ use Rattle.reader.specs.Given.{Given}
 use Rattle.reader.specs.Event.{eventOn}
 use Rattle.reader.proofs.Keeps.{fresh-ready, fresh-means, ready-sound}
 use Rattle.reader.proofs.Regressions.{event-regression, act-fits}
-use Rattle.calls.specs.Ask.{Ask, started, stateOf, after, askFits, PartsGiven, reached, replies}
+use Rattle.calls.specs.Ask.{Ask, started, stateOf, askFits, PartsGiven, reached, replies}
 use Rattle.calls.specs.Known.{knownIn, Regresses, pushedBytes}
 use Rattle.calls.proofs.Reflects.{reflects-empty, page-reflects, push-regresses, delete-regresses, admit-regresses}
 use Rattle.calls.proofs.Lists.{Agrees, agrees-fine, agrees-calls, lines-counted}

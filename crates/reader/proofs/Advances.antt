@@ -1,15 +1,14 @@
 -- An event that goes on, whatever is decided of it: a turn of the acts' reader that its state stands for, the direct calls of that turn, and again a legal element staged.
 use Prim.Native.Nat.{ℕ, _+_, _<_}
 use mathlib.Core.Path.{_≡_, refl, sym, _∙_, ap, subst}
-use mathlib.Core.Bool.{Bool, true, false}
+use mathlib.Core.Bool.{true, false}
 use mathlib.Core.Option.{none, some}
 use mathlib.Core.List.{List, [], _∷_, _++_, map, map-append}
 use native.Mathlib.Omega.{arith}
-use lib.Dec.{leb}
 use lib.IntN.{ℤ}
 use lib.ListN.{length, take}
 use mir.Syntax.{w64}
-use mir.Val.{toZ, ofZ, SFits}
+use mir.Val.{toZ, ofZ}
 use mir.Facts.{toZ-ofZ, fits-ofZ}
 use borrow.Author.Tests.{leb-true, lt-ltb}
 use Rattle.base.specs.Bytes.{Bytes, all}
@@ -23,7 +22,7 @@ use Rattle.kind.specs.declared.Kind.the-variants as K
 use Rattle.nesting.specs.declared.Place.{Place}
 use Rattle.model.specs.Record.{Meta, Member, Tag, Body, refs, members, Record, kindOf, flagged, claimOf}
 use Rattle.model.specs.Act.{Act, push, delete}
-use Rattle.model.specs.Swap.{swapMeta, swapMember, swapTag, swapBody, swapRecord}
+use Rattle.model.specs.Swap.{swapMember, swapTag, swapBody, swapRecord}
 use Rattle.compact.specs.Cut.{pushedRecord}
 use Rattle.compact.specs.Fits.{fitsNumber}
 use Rattle.compact.specs.Held.{metaOf, headIn}
@@ -53,7 +52,7 @@ use Rattle.acts.specs.Turn as Turn
 use Rattle.reader.specs.declared.Pending.{Pending}
 use Rattle.reader.specs.State.{State, pendingRecord, readerSound, stateSound, moreTags, moreParts}
 use Rattle.reader.specs.Given.{Given}
-use Rattle.reader.specs.Step.{Advanced, Step, goes, clearsTo, metaBits, headFor, memberBits, tagWithin, partWithin, partPlace, stepOf}
+use Rattle.reader.specs.Step.{Advanced, goes, clearsTo, metaBits, headFor, memberBits, tagWithin, partWithin, partPlace, stepOf}
 use Rattle.reader.specs.Means.{stagedOf, readerOf}
 use Rattle.reader.proofs.Texts.{legal-agree}
 use Rattle.reader.proofs.Element.{stages-back, way-body, relation-body, Grows, tag-limit, ref-limit, member-limit, tag-grows, ref-grows, member-grows}

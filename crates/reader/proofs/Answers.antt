@@ -1,10 +1,10 @@
 -- An event and an end, place by place: 22, the stop mark, then the step or the level.
 use Prim.Native.Nat.{ℕ, _+_}
 use mathlib.Core.Path.{_≡_, refl, sym, _∙_, ap}
-use mathlib.Core.Bool.{Bool, true, false}
+use mathlib.Core.Bool.{true, false}
 use mathlib.Core.Logic.{_↔_}
 use Rattle.base.specs.Bytes.{Bytes}
-use Rattle.base.proofs.Split.{byBool, no, clash}
+use Rattle.base.proofs.Split.{byBool, no}
 use Rattle.refusal.specs.declared.Refusal.{Refusal}
 use Rattle.refusal.specs.declared.Refusal.the-variants as R
 use Rattle.nesting.specs.declared.Level.{Level}

@@ -11,7 +11,7 @@ use lib.ListN.{length, take, length-append}
 use lib.Seq.{length-take-le}
 use mir.Syntax.{Width, w64}
 use mir.Val.{SFits, toZ, ofZ}
-use borrow.Author.Tests.{leb-true, le-leb, lt-ltb}
+use borrow.Author.Tests.{lt-ltb}
 use Rattle.base.specs.Bytes.{Bytes, both, all}
 use Rattle.base.proofs.Split.{both-left, both-right, both-of, no}
 use Rattle.base.proofs.Lists.{all-append, all-cons, all-nil}

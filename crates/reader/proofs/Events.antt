@@ -1,49 +1,42 @@
 -- An accepted event is a turn of the acts' reader that its state stands for, by the direct calls that the turn makes. The overlay stays sound and so does what is staged,
 -- whatever the count of lines; the reader too, until its count is at its largest.
-use Prim.Native.Nat.{ℕ, _+_, _<_, _≤_}
+use Prim.Native.Nat.{ℕ, _≤_}
 use mathlib.Core.Path.{_≡_, refl, sym, _∙_, ap}
-use mathlib.Core.Bool.{Bool, true, false, cond}
+use mathlib.Core.Bool.{true, false, cond}
 use mathlib.Core.Logic.{_↔_}
 use mathlib.Core.Option.{Option, none, some}
 use mathlib.Core.List.{List, [], _∷_}
 use native.Mathlib.Omega.{arith}
-use lib.ListN.{length}
-use borrow.Author.Tests.{lt-ltb, le-leb}
-use Rattle.base.specs.Bytes.{Bytes, both, all}
-use Rattle.base.proofs.Split.{byBool, both-left, both-right, both-of, no, clash}
-use Rattle.little.specs.Little.{isByte}
+use borrow.Author.Tests.{le-leb}
+use Rattle.base.specs.Bytes.{Bytes, both}
+use Rattle.base.proofs.Split.{byBool, both-of, no, clash}
 use Rattle.refusal.specs.Refusal.{numberOf}
 use Rattle.refusal.specs.First.{Row, firstOf}
 use Rattle.refusal.proofs.First.{before}
 use Rattle.refusal.specs.declared.Refusal.{Refusal}
 use Rattle.refusal.specs.declared.Refusal.the-variants as R
-use Rattle.nesting.specs.Nesting.{start}
-use Rattle.nesting.specs.declared.Place.{Place}
-use Rattle.interner.specs.Texts.{takeAll, textOf}
+use Rattle.interner.specs.Texts.{takeAll}
 use Rattle.interner.specs.Sound.{textsOf}
-use Rattle.overlay.specs.Overlay.{Overlay}
 use Rattle.overlay.specs.Sound.{isSound}
-use Rattle.overlay.specs.Given.{headFits, metaFits, InBytes}
-use Rattle.field.specs.Field.{Field, got, bad}
+use Rattle.field.specs.Field.{got, bad}
 use Rattle.decision.specs.Decision.{Decision, refuses, moves, begins, deletes, tags, refers, joins, ends, decide}
 use Rattle.decision.specs.Table.{refusalIn}
 use Rattle.decision.proofs.Lawful.{decide-lawful}
 use Rattle.decision.proofs.Refusals.{decide-within}
-use Rattle.acts.specs.Turn.{Reader, fresh, Turn, turnOf, turn}
+use Rattle.acts.specs.Turn.{Reader, Turn, turnOf, turn}
 use Rattle.reader.specs.declared.Stop.{Stop}
-use Rattle.reader.specs.declared.Stop.the-variants.{Going, At}
-use Rattle.reader.specs.declared.EventReader.{EventReader}
+use Rattle.reader.specs.declared.Stop.the-variants.{At}
 use Rattle.reader.specs.declared.EventAnswer.the-variants as E
-use Rattle.reader.specs.State.{State, noPending, freshReader, nextLine, stopsBy, isStopped, pendingSound, readerSound, stateSound}
-use Rattle.reader.specs.Given.{ReaderGiven, Given}
-use Rattle.reader.specs.Step.{Advanced, Step, goes, stops, stepOf}
+use Rattle.reader.specs.State.{State, nextLine, stopsBy, isStopped, pendingSound, readerSound, stateSound}
+use Rattle.reader.specs.Given.{Given}
+use Rattle.reader.specs.Step.{goes, stops, stepOf}
 use Rattle.reader.specs.Event.{EventResult, refusedAt, stoppedAt, stepped, eventOn, endOn}
-use Rattle.reader.specs.Means.{stagedOf, readerOf}
-use Rattle.reader.proofs.Answers.{answered, byAnswer, stepAt, event-stopped, event-going, byEvent, event-goes, end-stopped}
+use Rattle.reader.specs.Means.{readerOf}
+use Rattle.reader.proofs.Answers.{answered, stepAt, event-stopped, event-going, byEvent, event-goes, end-stopped}
 use Rattle.reader.specs.Table.{storeRows}
-use Rattle.reader.proofs.Acts.{Acted, Fine, acted-fine, acted-texts}
-use Rattle.reader.proofs.Held.{Held, held-of, held-sound, held-more, held-same, nothing-held, nothing-means}
-use Rattle.reader.proofs.Steps.{each-goes, empty-held}
+use Rattle.reader.proofs.Acts.{Acted, acted-fine, acted-texts}
+use Rattle.reader.proofs.Held.{held-sound}
+use Rattle.reader.proofs.Steps.{each-goes}
 use Rattle.reader.proofs.Advances.{Advances, state-fine, advances}
 use Rattle.reader.proofs.Tables.{refusalOf, step-first}
 

@@ -1,12 +1,12 @@
 -- What lists of calls need, in two parts: the overlay is sound, and of each reader what is staged is sound and its numbers fit. An event keeps both, accepted or refused,
 -- whatever the count of lines; other calls keep a reader too, since no text is lost; and "readers begin fresh".
 use Prim.Native.Nat.{ℕ, _+_, _<_, _≤_}
-use mathlib.Core.Path.{_≡_, refl, ap}
+use mathlib.Core.Path.{_≡_, refl}
 use mathlib.Core.Bool.{true}
 use lib.ListN.{length}
 use borrow.Author.Tests.{lt-ltb}
 use Rattle.base.specs.Bytes.{Bytes, both, all}
-use Rattle.base.proofs.Split.{both-left, both-right, both-of}
+use Rattle.base.proofs.Split.{both-of}
 use Rattle.little.specs.Little.{isByte}
 use Rattle.nesting.specs.Nesting.{start}
 use Rattle.interner.specs.Texts.{textOf}

@@ -1,10 +1,9 @@
 -- 12 of an event: where its turn makes an act, the first of the store's rows is that act's, so it is refused 12 exactly where the act's version is below the known one,
 -- and the refusal names that one.
-use Prim.Native.Nat.{ℕ, _≤_}
 use mathlib.Core.Path.{_≡_, refl, sym, _∙_, ap}
 use mathlib.Core.Bool.{true, false}
 use mathlib.Core.Logic.{_↔_}
-use mathlib.Core.Option.{Option, none, some}
+use mathlib.Core.Option.{none, some}
 use mathlib.Core.List.{List, [], _∷_}
 use native.Mathlib.Omega.{arith}
 use lib.IntN.{ℤ}
@@ -13,10 +12,8 @@ use mir.Val.{SFits, toZ}
 use Rattle.base.specs.Bytes.{Bytes}
 use Rattle.base.proofs.Split.{no}
 use Rattle.refusal.specs.First.{Row, row, firstOf}
-use Rattle.refusal.specs.Refusal.{numberOf}
 use Rattle.refusal.specs.declared.Refusal.{Refusal}
 use Rattle.refusal.specs.declared.Refusal.the-variants as R
-use Rattle.refusal.proofs.First.{before}
 use Rattle.version_floor.specs.declared.Admit.{Admit}
 use Rattle.version_floor.specs.declared.Admit.the-variants.{Admitted, Below}
 use Rattle.model.specs.Record.{claimOf}
@@ -29,7 +26,7 @@ use Rattle.shelf.specs.Shelf.{known, checked}
 use Rattle.overlay.specs.Overlay.{Overlay, shelfOf}
 use Rattle.overlay.specs.First.{isBelow, heldBy}
 use Rattle.overlay.proofs.Bounds.{id-given}
-use Rattle.field.specs.Field.{Field, got, bad}
+use Rattle.field.specs.Field.{Field, got}
 use Rattle.decision.specs.Decision.{Decision, refuses, moves, begins, deletes, tags, refers, joins, ends, decide}
 use Rattle.decision.specs.Table.{refusalIn}
 use Rattle.decision.proofs.Lawful.{Lawful, decide-lawful}
@@ -41,8 +38,8 @@ use Rattle.reader.specs.Step.{Step, goes, stops, stepOf}
 use Rattle.reader.specs.Event.{EventResult, stepped, eventOn}
 use Rattle.reader.specs.Means.{readerOf}
 use Rattle.reader.specs.Table.{regressionRow, idsRow, arenaRow, storeRows}
-use Rattle.reader.proofs.Answers.{stepAt, event-going}
-use Rattle.reader.proofs.Held.{held-means, stagedAs}
+use Rattle.reader.proofs.Answers.{event-going}
+use Rattle.reader.proofs.Held.{held-means}
 use Rattle.reader.proofs.Advances.{state-held}
 use Rattle.reader.proofs.Tables.{refusalOf, step-first}
 use Rattle.reader.proofs.Events.{Among, first-among, event-stops}

@@ -1,11 +1,9 @@
 -- T4: an event and an end are refused by the first condition of their table that holds, with its line and its HELD, and accepted where none holds.
 use Prim.Native.Nat.{ℕ, _+_}
 use mathlib.Core.Path.{_≡_, refl, sym, _∙_, ap}
-use mathlib.Core.Bool.{Bool, true, false, not, cond}
-use mathlib.Core.Option.{Option, none, some, Option·map}
+use mathlib.Core.Bool.{Bool, true, false, not}
+use mathlib.Core.Option.{Option, none, some}
 use mathlib.Core.List.{List, [], _∷_, _++_}
-use native.Mathlib.Omega.{arith}
-use lib.Dec.{ltb}
 use lib.IntN.{ℤ}
 use lib.ListN.{length, take}
 use lib.Seq.{length-take-le}
@@ -13,7 +11,7 @@ use mir.Syntax.{w64}
 use mir.Val.{toZ, ofZ}
 use borrow.Author.Tests.{leb-true, lt-ltb, le-ltb}
 use Rattle.base.specs.Bytes.{Bytes, both}
-use Rattle.base.proofs.Split.{byBool, both-left, both-right, no, clash}
+use Rattle.base.proofs.Split.{byBool, both-left, both-right}
 use Rattle.refusal.specs.First.{Row, row, firstOf}
 use Rattle.refusal.proofs.First.{before, first-more}
 use Rattle.refusal.specs.declared.Refusal.{Refusal}
@@ -25,9 +23,8 @@ use Rattle.nesting.specs.declared.Level.the-variants as L
 use Rattle.version_floor.specs.declared.Version.{Version}
 use Rattle.version_floor.specs.declared.Admit.{Admit}
 use Rattle.version_floor.specs.declared.Admit.the-variants.{Admitted, Below}
-use Rattle.model.specs.Record.{Meta, Body, kindOf, flagged, claimOf}
+use Rattle.model.specs.Record.{Meta, kindOf, flagged, claimOf}
 use Rattle.compact.specs.Held.{metaOf, headIn}
-use Rattle.compact.specs.Layout.{headLen}
 use Rattle.compact.specs.Legal.{limits}
 use Rattle.compact.specs.declared.ArenaMeta.{ArenaMeta}
 use Rattle.compact.specs.declared.PushHead.{PushHead}
@@ -35,17 +32,12 @@ use Rattle.compact.proofs.Lengths.{length-written}
 use Rattle.interner.specs.Strings as Strings
 use Rattle.interner.specs.Texts.{handleOf, answerAs}
 use Rattle.interner.specs.Sound.{textsOf}
-use Rattle.interner.specs.declared.Interned.{Interned}
-use Rattle.interner.specs.declared.Interned.the-variants as I
 use Rattle.interner.proofs.Interns as Interns
-use Rattle.shelf.specs.Shelf.{Shelf, known, checked, room}
-use Rattle.shelf.specs.Shelf as Shelf
-use Rattle.shelf.specs.declared.Kept.{Kept}
-use Rattle.shelf.specs.declared.Kept.the-variants as K
+use Rattle.shelf.specs.Shelf.{known, checked, room}
 use Rattle.shelf.proofs.Answers as Shelves
 use Rattle.overlay.specs.Overlay.{Overlay, shelfOf, withTexts}
 use Rattle.overlay.specs.Sound.{isSound}
-use Rattle.overlay.specs.First.{isNone, isBelow, heldBy, fullFor}
+use Rattle.overlay.specs.First.{isNone, isBelow, heldBy}
 use Rattle.overlay.specs.Calls.{bytesOf, storePush, storeDelete}
 use Rattle.overlay.proofs.Answers.{strings-sound}
 use Rattle.overlay.proofs.Shelves.{texts-shelf}
@@ -55,13 +47,12 @@ use Rattle.decision.specs.Table.{refusalIn, decideTable}
 use Rattle.decision.proofs.Table.{decide-first}
 use Rattle.reader.specs.declared.Stop.{Stop}
 use Rattle.reader.specs.declared.Stop.the-variants.{Going, At}
-use Rattle.reader.specs.declared.EventAnswer.the-variants as E
 use Rattle.stage.specs.Stage.{refPart, memberPart, tagPart}
 use Rattle.reader.specs.State.{State, nextLine, stopsBy, isStopped, pendingSound, readerSound, stateSound, moreTags, moreParts}
-use Rattle.reader.specs.Step.{Advanced, Step, goes, stops, unlessBelow, onHandle, withText, metaBits, withUser, onKept, onAfter, clearsTo, stages, headFor, memberBits, tagWithin, partWithin, partPlace, stepOf}
+use Rattle.reader.specs.Step.{Advanced, Step, goes, stops, unlessBelow, onHandle, withText, metaBits, withUser, onAfter, clearsTo, stages, headFor, memberBits, tagWithin, partWithin, partPlace, stepOf}
 use Rattle.reader.specs.Event.{EventResult, stepped, eventOn, endAt, endOn}
 use Rattle.reader.specs.Table.{Told, told, answerBy, atLine, regressionRow, textRow, userRow, idsRow, arenaRow, limitRow, storeRows, unsoundRow, stopRows, eventTable, isDone, endTable}
-use Rattle.reader.proofs.Answers.{byEvent, byEnd, byLevel}
+use Rattle.reader.proofs.Answers.{byEvent, byEnd}
 use Rattle.reader.proofs.Legals.{claim-same, head-id}
 
 -- the refusal of a step, if there is one

@@ -1,6 +1,6 @@
 -- Document 01, "Trial rows († proved)", and its Input A with Output A: one table, from the definitions.
-use Prim.Native.Nat.{ℕ, zero, suc}
-use mathlib.Core.Bool.{Bool, true, false, cond}
+use Prim.Native.Nat.{ℕ}
+use mathlib.Core.Bool.{Bool, true, false}
 use mathlib.Core.Option.{Option, none, some}
 use mathlib.Core.List.{List, [], _∷_, _++_, map}
 use lib.Dec.{eqb}
@@ -10,8 +10,7 @@ use mir.Syntax.{Width, w32, w64}
 use mir.Val.{toZ}
 use Rattle.base.specs.Ascii.{ascii}
 use Rattle.base.specs.Bytes.{Bytes, both, same}
-use Rattle.kind.specs.declared.Kind.{Kind}
-use Rattle.kind.specs.declared.Kind.the-variants.{Node, Way, Relation}
+use Rattle.kind.specs.declared.Kind.the-variants.{Node, Way}
 use Rattle.osm_id.specs.Order.{sameId, keyOf}
 use Rattle.integer.specs.Integer.{integerOf}
 use Rattle.stamp.specs.Stamp.{stamp}
