@@ -53,7 +53,7 @@ use Rattle.reader.proofs.Answers.{byAnswer, event-counts, end-keeps}
 use Rattle.reader.proofs.Acts.{TakesIn, no-text, a-text, Acts, no-act, a-push, a-delete, Acted, Fine, more-strings, same-text}
 use Rattle.reader.proofs.Events.{event-accepted, byRefused}
 use Rattle.reader.proofs.Keeps.{Ready, event-ready, ready-more, ready-means}
-use Rattle.calls.specs.Ask.{Ask, interns, pushes, deletes, hears, ends, callOf, Lent, stateOf, withState, withOverlay, passes, leaves, accepts, after, answered, askFits}
+use Rattle.calls.specs.Ask.{Ask, interns, pushes, deletes, hears, ends, callOf, Storage, stateOf, withState, withOverlay, eventTaken, leaves, accepts, after, answered, askFits}
 use Rattle.calls.proofs.Reflects.{Reflects, reflects-push, reflects-delete, reflects-text}
 
 -- ---- the calls that a turn makes
@@ -97,19 +97,19 @@ module _ (setting : ℕ) where
 
 -- ---- what is lent agrees with the calls and their replies
 
-pub record Agrees (setting : ℕ) (l : Lent) (w : World) (acts : List (Act Bytes)) : Type 0 where
+pub record Agrees (setting : ℕ) (l : Storage) (w : World) (acts : List (Act Bytes)) : Type 0 where
   pub overlay : Reflects setting (l .overlay) (w .texts) acts
   pub ready : (n : ℕ) → Ready (l .overlay .texts .strings) (l .readers n) (l .parts n)
   pub readers : (n : ℕ) → readerOf (stateOf n l) ≡ w .readers n
 
-pub agrees-fine : {setting : ℕ} {l : Lent} {w : World} {acts : List (Act Bytes)} → Agrees setting l w acts → Fine (l .overlay)
+pub agrees-fine : {setting : ℕ} {l : Storage} {w : World} {acts : List (Act Bytes)} → Agrees setting l w acts → Fine (l .overlay)
 agrees-fine {l = l} g = record { sound = decides (l .overlay) (g .overlay .bytes) .1 (g .overlay .sound); bytes = g .overlay .bytes }
 
 -- a call and its reply
-abbrev pub answerOf : Ask → Lent → Answered
+abbrev pub answerOf : Ask → Storage → Answered
 answerOf c l = record { call = callOf c; accepted = accepts c l }
 
-module _ (setting : ℕ) (l : Lent) (w : World) (acts : List (Act Bytes)) (g : Agrees setting l w acts) where
+module _ (setting : ℕ) (l : Storage) (w : World) (acts : List (Act Bytes)) (g : Agrees setting l w acts) where
   -- the overlay after a call by its reply: the texts and the acts that it adds
   abbrev Adds : Overlay → Answered → Type 0
   Adds q a = Reflects setting q (worldAfter w (a ∷ []) .texts) (acts ++ actsFrom w (a ∷ []))
@@ -245,7 +245,7 @@ module _ (setting : ℕ) (l : Lent) (w : World) (acts : List (Act Bytes)) (g : A
 
 -- ---- a list of calls
 
-pub agrees-calls : (setting : ℕ) (cs : List Ask) (l : Lent) (w : World) (acts : List (Act Bytes)) → all askFits cs ≡ true → Agrees setting l w acts
+pub agrees-calls : (setting : ℕ) (cs : List Ask) (l : Storage) (w : World) (acts : List (Act Bytes)) → all askFits cs ≡ true → Agrees setting l w acts
     → Agrees setting (after l cs) (worldAfter w (answered l cs)) (acts ++ actsFrom w (answered l cs))
 unfolding after answered worldAfter actsFrom
 agrees-calls setting [] l w acts f g = rw append-nil g
@@ -258,13 +258,13 @@ agrees-calls setting (c ∷ cs) l w acts f g =
 -- ---- the count of lines: an event's line is one more than the lines that its reader has taken
 
 module _ (n : ℕ) where
-  event-lines : (line : Bytes) (s : State) (xs : List Bytes) → eventOn line s .state .reader .lines + length xs ≡ s .reader .lines + length (cond (passes (eventOn line s .answer)) (line ∷ xs) xs)
+  event-lines : (line : Bytes) (s : State) (xs : List Bytes) → eventOn line s .state .reader .lines + length xs ≡ s .reader .lines + length (cond (eventTaken (eventOn line s .answer)) (line ∷ xs) xs)
   event-lines line s xs =
       byAnswer (eventOn line s .answer)
       (λ a. rw (a, event-counts line s a .0) (omega arith))
       (λ r m a. byRefused line s r m a (λ u k j e. rw (a, e)) (λ u t e. rw (a, e)))
 
-  call-lines : (c : Ask) (l : Lent) (ds : List Answered)
+  call-lines : (c : Ask) (l : Storage) (ds : List Answered)
       → leaves c l .readers n .lines + length (linesOf n ds) ≡ l .readers n .lines + length (linesOf n (answerOf c l ∷ ds))
   unfolding linesOf
   call-lines (interns t) l ds = byBool (accepts (interns t) l) (λ e. rw e) (λ e. rw e)
@@ -279,7 +279,7 @@ module _ (n : ℕ) where
       (λ q. rw (eq-eqb n m q, end-keeps (stateOf m l), q) (byBool (accepts (ends m) l) (λ e. rw e) (λ e. rw e)))
       (λ q. rw (ne-eqb n m q) (byBool (accepts (ends m) l) (λ e. rw e) (λ e. rw e)))
 
-  pub lines-counted : (cs : List Ask) (l : Lent) → after l cs .readers n .lines ≡ l .readers n .lines + length (linesOf n (answered l cs))
+  pub lines-counted : (cs : List Ask) (l : Storage) → after l cs .readers n .lines ≡ l .readers n .lines + length (linesOf n (answered l cs))
   unfolding after answered linesOf
   lines-counted [] l = omega arith
   lines-counted (c ∷ cs) l = lines-counted cs (leaves c l) ∙ call-lines c l (answered (leaves c l) cs)

@@ -51,15 +51,15 @@ use Rattle.acts.specs.Turn.{Staged, Turn, userText, first, clears, grows, turnO
 use Rattle.acts.specs.Turn as Turn
 use Rattle.reader.specs.declared.Pending.{Pending}
 use Rattle.reader.specs.State.{State, pendingRecord, readerSound, stateSound, moreTags, moreParts}
-use Rattle.reader.specs.Given.{Given}
+use Rattle.reader.specs.Given.{StateGiven}
 use Rattle.reader.specs.Step.{Advanced, goes, clearsTo, metaBits, headFor, memberBits, tagWithin, partWithin, partPlace, stepOf}
 use Rattle.reader.specs.Means.{stagedOf, readerOf}
 use Rattle.reader.proofs.Texts.{legal-agree}
-use Rattle.reader.proofs.Element.{stages-back, way-body, relation-body, Grows, tag-limit, ref-limit, member-limit, tag-grows, ref-grows, member-grows}
+use Rattle.reader.proofs.Element.{stages-back, way-body, relation-body, PartStaged, tag-limit, ref-limit, member-limit, tag-grows, ref-grows, member-grows}
 use Rattle.reader.proofs.Acts.{Acts, no-act, a-push, a-delete, TakesIn, no-text, Acted, Fine, takes-fine, acted-fine, takes-texts, more-strings, same-text, strings-few}
-use Rattle.reader.proofs.Held.{Held, held-of, held-few, held-means, stagedAs, fault-legal, bareRecord, bare-stages, bare-legal, bare-held, nothing-held, nothing-means}
-use Rattle.reader.proofs.Legals.{legal-meta, meta-fits, claim-same, meta-comes, bodyIn, body-comes, begun, head-fits, head-id, legal-tag, legal-ref, legal-member, staged-small, tag-small, ref-small, member-small, tags-fit, count-fits}
-use Rattle.reader.proofs.Steps.{Each, stopped, leaves, Took, empty-held, each-text, each-user, each-admit, each-after, each-within}
+use Rattle.reader.proofs.Held.{Held, held-of, held-few, held-means, elementAs, fault-legal, bareRecord, bare-stages, bare-legal, bare-held, nothing-held, nothing-means}
+use Rattle.reader.proofs.Legals.{legal-meta, meta-fits, claim-same, meta-comes, bodyIn, body-comes, begun, head-fits, bits-id, legal-tag, legal-ref, legal-member, staged-small, tag-small, ref-small, member-small, tags-fit, count-fits}
+use Rattle.reader.proofs.Steps.{EachStep, stopped, leaves, TakenAs, empty-text, each-text, each-user, each-admit, each-after, each-within}
 
 -- what is left is what the turn says, by the direct calls of the turn, and a legal element is staged
 pub record Advances (d : Decision) (s : State) (l : Advanced) : Type 0 where
@@ -82,7 +82,7 @@ pushes-act k h m parts o r e f g b p l a =
     rw (ap (λ (z : After). z .overlay) s) at (a-push k h m parts r f g b p (ap (λ (z : After). z .answer) s ∙ a))
 
 -- an element that begins behind its user's text
-module _ (o : Overlay) (w : Fine o) (id : ℤ) (m : Meta Bytes) (g : Decided.Given id m) (h : ℕ) (q : Overlay) (t : Took o (userText m) q h (m .user))
+module _ (o : Overlay) (w : Fine o) (id : ℤ) (m : Meta Bytes) (g : Decided.Given id m) (h : ℕ) (q : Overlay) (t : TakenAs o (userText m) q h (m .user))
     (z : flagged 4 (m .flags) ≡ false → h ≡ 0) where
   named-fine : Fine q
   named-fine = takes-fine w (t .takes)
@@ -94,9 +94,9 @@ module _ (o : Overlay) (w : Fine o) (id : ℤ) (m : Meta Bytes) (g : Decided.Giv
   named-fits = meta-fits m (g .legal) h (omega (arith, t .held, strings-few q (named-fine .sound)))
 
   first-comes : (b : Body Bytes) → Decided.First b
-      → stagedAs (textsOf (q .texts)) (headFor id b) (bareRecord (metaBits m h) (bodyIn b)) ≡ record { id = id; held = first m b }
+      → elementAs (textsOf (q .texts)) (headFor id b) (bareRecord (metaBits m h) (bodyIn b)) ≡ record { id = id; held = first m b }
   first-comes b f =
-      let x = head-id id b (g .fits) in
+      let x = bits-id id b (g .fits) in
       let y = meta-comes m (g .legal) h (textOf (textsOf (q .texts))) (t .text) in
       let v = body-comes (textOf (textsOf (q .texts))) b f in
       λ i. record { id = x i; held = record { meta = y i; body = v i; tags = [] } }
@@ -142,15 +142,15 @@ module _ (f g : ℕ → Bytes) (r : Record ℕ) (e : swapRecord g r ≡ swapReco
 
 -- ---- what a sound state holds
 
-pub state-fine : (s : State) → Given s → stateSound s ≡ true → Fine (s .overlay)
+pub state-fine : (s : State) → StateGiven s → stateSound s ≡ true → Fine (s .overlay)
 unfolding stateSound
 state-fine s g e = record { sound = both-left _ _ e; bytes = g .overlay }
 
-pub state-held : (s : State) → Given s → stateSound s ≡ true → Held (s .overlay .texts .strings) (s .reader .place .kind) (s .parts) (s .reader .pending)
+pub state-held : (s : State) → StateGiven s → stateSound s ≡ true → Held (s .overlay .texts .strings) (s .reader .place .kind) (s .parts) (s .reader .pending)
 unfolding stateSound readerSound
 state-held s g e = held-of _ _ (s .parts) (s .reader .pending) (g .reader .head) (g .reader .meta) (g .reader .bytes) (both-left _ _ (both-right _ _ e))
 
-module _ (s : State) (g : Given s) (e : stateSound s ≡ true) where
+module _ (s : State) (g : StateGiven s) (e : stateSound s ≡ true) where
   abbrev now : List Bytes
   now = textsOf (s .overlay .texts)
 
@@ -166,7 +166,7 @@ module _ (s : State) (g : Given s) (e : stateSound s ≡ true) where
   held : Held (s .overlay .texts .strings) kind (s .parts) pending
   held = state-held s g e
 
-  means : readerOf s .staged ≡ stagedAs now (pending .head) (held .held)
+  means : readerOf s .staged ≡ elementAs now (pending .head) (held .held)
   unfolding readerOf
   means = held-means (s .overlay .texts .strings) kind (s .parts) pending held now
 
@@ -175,9 +175,9 @@ module _ (s : State) (g : Given s) (e : stateSound s ≡ true) where
 
   -- nothing is staged any more
   cleared : (d : Decision) (p : Place) (q : Overlay) (ts : List Bytes) (a : Act Bytes) → turnOf d (readerOf s) ≡ got (clears p ts a) → Acted (s .overlay) (clears p ts a) q
-      → Each (Advances d s) (clearsTo s p q)
+      → EachStep (Advances d s) (clearsTo s p q)
   cleared d p q ts a i w =
-      let z = empty-held q (acted-fine fine w .sound) in
+      let z = empty-text q (acted-fine fine w .sound) in
       leaves (record {
         comes = clears p ts a;
         is = i;
@@ -198,7 +198,7 @@ module _ (s : State) (g : Given s) (e : stateSound s ≡ true) where
     more-legal = legal-more (s .overlay .texts .strings) (o .texts .strings) (more-strings (s .overlay) o ts (takes-texts takes)) (held .held) (held .lawful)
 
     grown : (j : PushHead) (at : ℕ) (x : Bytes) (next : Record ℕ) (f : Record Bytes → Record Bytes) → turnOf d (readerOf s) ≡ got (grows p f ts (readerOf s))
-        → j .id ≡ pending .head .id → Grows kind j (pending .meta) (s .parts) (pending .used) at x next → legal (o .texts .strings) next ≡ true → headFits j ≡ true
+        → j .id ≡ pending .head .id → PartStaged kind j (pending .meta) (s .parts) (pending .used) at x next → legal (o .texts .strings) next ≡ true → headFits j ≡ true
         → all isByte x ≡ true → swapRecord (textOf (textsOf (o .texts))) next ≡ f (swapRecord (textOf now) (held .held))
         → Advances d s (record { overlay = o; place = p; pending = record { head = j; meta = pending .meta; used = pending .used + length x }; parts = staged (s .parts) (pending .used) at x })
     grown j at x next f i q w l h b c =
@@ -206,7 +206,7 @@ module _ (s : State) (g : Given s) (e : stateSound s ≡ true) where
         let y : Pending = record { head = j; meta = pending .meta; used = pending .used + length x } in
         let z = staged (s .parts) (pending .used) at x in
         let v : Held (o .texts .strings) kind z y = record { held = next; stages = w .stages; lawful = l; fits = omega (arith, w .room); head = h; meta = held .meta } in
-        let u : stagedAs (textsOf (o .texts)) j next ≡ grows p f ts (readerOf s) .reader .staged = rw means (λ i. record { id = toZ w64 (q i); held = c i }) in
+        let u : elementAs (textsOf (o .texts)) j next ≡ grows p f ts (readerOf s) .reader .staged = rw means (λ i. record { id = toZ w64 (q i); held = c i }) in
         record {
           comes = grows p f ts (readerOf s);
           is = i;
@@ -227,7 +227,7 @@ module _ (s : State) (g : Given s) (e : stateSound s ≡ true) where
   abbrev admit : Kind → ℤ → Meta Bytes → Admit
   admit k id m = checked (s .overlay .setting) (known k (shelfOf k (s .overlay)) id) (claimOf m)
 
-  pub advances : (d : Decision) → Lawful (s .reader .place) d → Each (Advances d s) (stepOf d s)
+  pub advances : (d : Decision) → Lawful (s .reader .place) d → EachStep (Advances d s) (stepOf d s)
   unfolding stepOf turnOf readerOf
   advances (refuses r) w = stopped
   advances (moves p) w =

@@ -74,10 +74,10 @@ pub record Stages (k : Kind) (h : PushHead) (m : ArenaMeta) (x : Bytes) (r : Rec
   pub fit : both (fitsBody (r .body)) (all fitsTag (r .tags)) ≡ true
   pub bytes : x ≡ partsBytes r
 
-pub stages : (k : Kind) (h : PushHead) (m : ArenaMeta) (x : Bytes) (r : Record ℕ) → all isByte x ≡ true → pushedRecord k (headIn k h) (metaOf m) x ≡ some r
+pub stages-of : (k : Kind) (h : PushHead) (m : ArenaMeta) (x : Bytes) (r : Record ℕ) → all isByte x ≡ true → pushedRecord k (headIn k h) (metaOf m) x ≡ some r
     → Stages k h m x r
 unfolding pushedRecord
-stages k h m x r b e = go (cutParts k (headIn k h) (metaOf m) x) refl e
+stages-of k h m x r b e = go (cutParts k (headIn k h) (metaOf m) x) refl e
   where
     used-up : (y : Record ℕ) (q : Bytes) → usedUp y q ≡ some r → cutParts k (headIn k h) (metaOf m) x ≡ some (record { item = y; rest = q }) → headOf (toZ w64 (h .id)) (r .body) (length (r .tags)) ≡ headIn k h
     used-up y [] e w = let z : y ≡ r = cc in rw (← z) (parts-head h k (metaOf m) x _ b w)
@@ -165,7 +165,7 @@ module _ (k : Kind) (h : PushHead) (m : ArenaMeta) (x : Bytes) (r : Record ℕ) 
 -- ---- one part more
 
 -- with a part x put in at a place, the element stages for the next record, which is within the limits
-pub record Grows (k : Kind) (h : PushHead) (m : ArenaMeta) (parts : Bytes) (used at : ℕ) (x : Bytes) (next : Record ℕ) : Type 0 where
+pub record PartStaged (k : Kind) (h : PushHead) (m : ArenaMeta) (parts : Bytes) (used at : ℕ) (x : Bytes) (next : Record ℕ) : Type 0 where
   pub stages : Stages k h m (take (used + length x) (staged parts used at x)) next
   pub room : used + length x ≤ length parts
 
@@ -218,11 +218,11 @@ module _ (k : Kind) (h : PushHead) (m : ArenaMeta) (parts : Bytes) (used : ℕ) 
 
     grows : (j : PushHead) (at size : ℕ) (x : Bytes) (next : Record ℕ) → kindOf (next .body) ≡ k → headOf (toZ w64 (j .id)) (next .body) (length (next .tags)) ≡ headIn k j
         → next .meta ≡ metaOf m → both (fitsBody (next .body)) (all fitsTag (next .tags)) ≡ true → length x ≡ size → used + size ≤ 44432
-        → (used + size ≤ length parts → take (used + size) (staged parts used at x) ≡ partsBytes next) → Grows k j m parts used at x next
+        → (used + size ≤ length parts → take (used + size) (staged parts used at x) ≡ partsBytes next) → PartStaged k j m parts used at x next
     grows j at size x next kind head meta fit long room bytes =
         record { stages = record { kind = kind; head = head; meta = meta; fit = fit; bytes = rw long (bytes (omega arith)) }; room = omega arith }
 
-    pub tag-grows : (t : Tag ℕ) → fitsNumber 4 (t .key) ≡ true → withinLimits limits (withTag r t) ≡ true → Grows k (moreTags h) m parts used used (tagPart (t .key) (t .value)) (withTag r t)
+    pub tag-grows : (t : Tag ℕ) → fitsNumber 4 (t .key) ≡ true → withinLimits limits (withTag r t) ≡ true → PartStaged k (moreTags h) m parts used used (tagPart (t .key) (t .value)) (withTag r t)
     unfolding fitsTag fitsNumber
     tag-grows t a g =
         let q = tag-fits parts used r (w .bytes) t u g in
@@ -232,7 +232,7 @@ module _ (k : Kind) (h : PushHead) (m : ArenaMeta) (parts : Bytes) (used : ℕ) 
         (ap length (tag-part t) ∙ length-tag t) q (staged-tag parts used r (w .bytes) t)
 
     pub ref-grows : (rs : List ℤ) (z : ℤ) → k ≡ Way → r .body ≡ refs rs → SFits w64 z → withinLimits limits (withRef r rs z) ≡ true
-        → Grows k (moreParts h) m parts used (middle k (h .count)) (refPart (ofZ w64 z)) (withRef r rs z)
+        → PartStaged k (moreParts h) m parts used (middle k (h .count)) (refPart (ofZ w64 z)) (withRef r rs z)
     unfolding fitsBody
     ref-grows rs z e b s g =
         let o : middle k (h .count) ≡ 8 * length rs = rw e (ap (λ (y : ℕ). 8 * y) (sym (refs-counted k h m (take used parts) r w rs e b))) in
@@ -244,7 +244,7 @@ module _ (k : Kind) (h : PushHead) (m : ArenaMeta) (parts : Bytes) (used : ℕ) 
         (length-i64 z) (ref-fits parts used r (w .bytes) rs z b u g) (rw o (staged-ref parts used r (w .bytes) rs z b))
 
     pub member-grows : (ms : List (Member ℕ)) (x : Member ℕ) → k ≡ Relation → r .body ≡ members ms → SFits w64 (x .ref) → fitsNumber 4 (x .role) ≡ true
-        → withinLimits limits (withMember r ms x) ≡ true → Grows k (moreParts h) m parts used (middle k (h .count)) (memberPart (inBits x)) (withMember r ms x)
+        → withinLimits limits (withMember r ms x) ≡ true → PartStaged k (moreParts h) m parts used (middle k (h .count)) (memberPart (inBits x)) (withMember r ms x)
     unfolding fitsBody fitsMember
     member-grows ms x e b s t g =
         let o : middle k (h .count) ≡ 13 * length ms = rw e (ap (λ (y : ℕ). 13 * y) (sym (members-counted k h m (take used parts) r w ms e b))) in

@@ -37,7 +37,7 @@ use Rattle.reader.specs.declared.Pending.{Pending}
 use Rattle.reader.specs.State.{noPending, isLegal, pendingRecord, pendingSound}
 use Rattle.reader.specs.Means.{stagedOf}
 use Rattle.reader.proofs.Texts.{legal-agree}
-use Rattle.reader.proofs.Element.{Stages, stages, stages-back}
+use Rattle.reader.proofs.Element.{Stages, stages-of, stages-back}
 
 pub record Held (strings : ℕ) (k : Kind) (parts : Bytes) (x : Pending) : Type 0 where
   pub held : Record ℕ
@@ -56,8 +56,8 @@ is-legal F.Legal e = refl
 is-legal (F.Refused r) e = clash e refl
 
 -- the texts of a record under its id, in an act's terms
-abbrev pub stagedAs : List Bytes → PushHead → Record ℕ → Staged
-stagedAs texts h r = record { id = toZ w64 (h .id); held = swapRecord (textOf texts) r }
+abbrev pub elementAs : List Bytes → PushHead → Record ℕ → Staged
+elementAs texts h r = record { id = toZ w64 (h .id); held = swapRecord (textOf texts) r }
 
 module _ (strings : ℕ) (k : Kind) (parts : Bytes) (x : Pending) where
   -- what the test accepts is a legal record, and a legal record passes it
@@ -67,7 +67,7 @@ module _ (strings : ℕ) (k : Kind) (parts : Bytes) (x : Pending) where
       let r = push-legal strings (pendingRecord k parts x) (is-legal _ (both-right _ _ e)) in
       record {
         held = r .0;
-        stages = stages k (x .head) (x .meta) (take (x .used) parts) (r .0) (bytes-take (x .used) parts b) (r .1 .0);
+        stages = stages-of k (x .head) (x .meta) (take (x .used) parts) (r .0) (bytes-take (x .used) parts b) (r .1 .0);
         lawful = r .1 .1;
         fits = leb-true (x .used) (length parts) (both-left _ _ e);
         head = h;
@@ -86,7 +86,7 @@ module _ (strings : ℕ) (k : Kind) (parts : Bytes) (x : Pending) where
     held-few = both-right _ _ (both-right _ _ (both-right _ _ (w .lawful)))
 
     -- what it stands for among the acts
-    pub held-means : (texts : List Bytes) → stagedOf texts k parts x ≡ stagedAs texts (x .head) (w .held)
+    pub held-means : (texts : List Bytes) → stagedOf texts k parts x ≡ elementAs texts (x .head) (w .held)
     unfolding stagedOf pendingRecord
     held-means texts = rw (stages-back k (x .head) (x .meta) (take (x .used) parts) (w .held) (w .stages))
 
@@ -101,7 +101,7 @@ module _ (strings : ℕ) (k : Kind) (parts : Bytes) (x : Pending) where
 
 -- ---- an element that has no part yet: a legal body without refs and members, and metadata that is legal
 
-pub record Bare (k : Kind) (h : PushHead) (b : Body ℕ) : Type 0 where
+pub record Partless (k : Kind) (h : PushHead) (b : Body ℕ) : Type 0 where
   pub kind : kindOf b ≡ k
   pub head : headOf (toZ w64 (h .id)) b 0 ≡ headIn k h
   pub fit : fitsBody b ≡ true
@@ -113,7 +113,7 @@ pub record Bare (k : Kind) (h : PushHead) (b : Body ℕ) : Type 0 where
 abbrev pub bareRecord : ArenaMeta → Body ℕ → Record ℕ
 bareRecord a b = record { meta = metaOf a; body = b; tags = [] }
 
-module _ {k : Kind} {h : PushHead} {b : Body ℕ} (w : Bare k h b) where
+module _ {k : Kind} {h : PushHead} {b : Body ℕ} (w : Partless k h b) where
   pub bare-stages : (a : ArenaMeta) → Stages k h a [] (bareRecord a b)
   unfolding partsBytes joined
   bare-stages a = record { kind = w .kind; head = w .head; meta = refl; fit = both-of (w .fit) (all-nil fitsTag); bytes = rw (w .parts) }
@@ -135,7 +135,7 @@ noBody K.Node = place (toZ w32 0) (toZ w32 0)
 noBody K.Way = refs []
 noBody K.Relation = members []
 
-nothing-bare : (k : Kind) → Bare k (noPending .head) (noBody k)
+nothing-bare : (k : Kind) → Partless k (noPending .head) (noBody k)
 unfolding headOf headIn nodeHead countsHead fitsBody bodyBytes bodyHandles inRange joined both
 nothing-bare K.Node = record { kind = refl; head = refl; fit = refl; parts = refl; handles = λ n. refl; inside = refl; few = refl }
 nothing-bare K.Way = record { kind = refl; head = refl; fit = all-nil (fitsSigned w64); parts = refl; handles = λ n. refl; inside = refl; few = refl }
@@ -157,7 +157,7 @@ pub nothing-means : (n : ℕ) (k : Kind) (parts : Bytes) → 0 < n → (texts : 
 unfolding metaOf nothing-held
 nothing-means n k parts h texts e = held-means n k parts noPending (nothing-held n k parts h) texts ∙ go k
   where
-    go : (k : Kind) → stagedAs texts (noPending .head) (bareRecord (noPending .meta) (noBody k)) ≡ noElement k
+    go : (k : Kind) → elementAs texts (noPending .head) (bareRecord (noPending .meta) (noBody k)) ≡ noElement k
     go K.Node = rw e
     go K.Way = rw e
     go K.Relation = rw e

@@ -35,7 +35,7 @@ use Rattle.decision.proofs.Lawful.{First}
 use Rattle.reader.specs.State.{moreTags, moreParts}
 use Rattle.reader.specs.Step.{metaBits, headFor}
 use Rattle.reader.proofs.Small.{text-small}
-use Rattle.reader.proofs.Held.{Bare}
+use Rattle.reader.proofs.Held.{Partless}
 
 -- ---- metadata
 
@@ -85,7 +85,7 @@ body-comes f (place lat lon) w = refl
 body-comes f (refs rs) w = rw w
 body-comes f (members ms) w = rw w
 
-pub begun : (id : ℤ) (b : Body Bytes) → First b → Bare (kindOf b) (headFor id b) (bodyIn b)
+pub begun : (id : ℤ) (b : Body Bytes) → First b → Partless (kindOf b) (headFor id b) (bodyIn b)
 unfolding headOf headIn nodeHead countsHead fitsBody bodyBytes bodyHandles inRange joined
 begun id (place lat lon) w =
     record {
@@ -111,10 +111,10 @@ head-fits id (refs rs) f w = bits-fit (ofZ w64 id) 0 0 (fits-ofZ f .fits) (omega
 head-fits id (members ms) f w = bits-fit (ofZ w64 id) 0 0 (fits-ofZ f .fits) (omega arith) (omega arith)
 
 -- the id comes back from its bits
-pub head-id : (id : ℤ) (b : Body Bytes) → SFits w64 id → toZ w64 (headFor id b .id) ≡ id
-head-id id (place lat lon) f = toZ-ofZ f
-head-id id (refs rs) f = toZ-ofZ f
-head-id id (members ms) f = toZ-ofZ f
+pub bits-id : (id : ℤ) (b : Body Bytes) → SFits w64 id → toZ w64 (headFor id b .id) ≡ id
+bits-id id (place lat lon) f = toZ-ofZ f
+bits-id id (refs rs) f = toZ-ofZ f
+bits-id id (members ms) f = toZ-ofZ f
 
 -- ---- one part more
 
