@@ -1,5 +1,5 @@
 -- An event that goes on, whatever is decided of it: a turn of the acts' reader that its state stands for, the direct calls of that turn, and again a legal element staged.
-use Prim.Native.Nat.{ℕ, _+_, _<_}
+use Prim.Native.Nat.{ℕ, _+_, _<_, _≤_}
 use mathlib.Core.Path.{_≡_, refl, sym, _∙_, ap, subst}
 use mathlib.Core.Bool.{true, false}
 use mathlib.Core.Option.{none, some}
@@ -57,8 +57,8 @@ use Rattle.reader.specs.Means.{stagedOf, readerOf}
 use Rattle.reader.proofs.Texts.{legal-agree}
 use Rattle.reader.proofs.Element.{stages-back, way-body, relation-body, PartStaged, tag-limit, ref-limit, member-limit, tag-grows, ref-grows, member-grows}
 use Rattle.reader.proofs.Acts.{Acts, no-act, a-push, a-delete, TakesIn, no-text, Acted, Fine, takes-fine, acted-fine, takes-texts, more-strings, same-text, strings-few}
-use Rattle.reader.proofs.Held.{Held, held-of, held-few, held-means, elementAs, fault-legal, bareRecord, bare-stages, bare-legal, bare-held, nothing-held, nothing-means}
-use Rattle.reader.proofs.Legals.{legal-meta, meta-fits, claim-same, meta-comes, bodyIn, body-comes, begun, head-fits, bits-id, legal-tag, legal-ref, legal-member, staged-small, tag-small, ref-small, member-small, tags-fit, count-fits}
+use Rattle.reader.proofs.Held.{Held, held-of, held-few, held-means, elementAs, fault-legal, bareRecord, bare-stages, bare-legal}
+use Rattle.reader.proofs.Legals.{begun-held, begun-means, nothing-held, nothing-means, legal-meta, meta-fits, claim-same, bodyIn, begun, head-fits, legal-tag, legal-ref, legal-member, staged-small, tag-small, ref-small, member-small, tags-fit, count-fits}
 use Rattle.reader.proofs.Steps.{EachStep, stopped, leaves, TakenAs, empty-text, each-text, each-user, each-admit, each-after, each-within}
 
 -- what is left is what the turn says, by the direct calls of the turn, and a legal element is staged
@@ -90,16 +90,21 @@ module _ (o : Overlay) (w : Fine o) (id : ℤ) (m : Meta Bytes) (g : Decided.Giv
   named-legal : legalMeta (q .texts .strings) (metaOf (metaBits m h)) ≡ true
   named-legal = legal-meta m (g .legal) h (q .texts .strings) (t .held) z
 
-  named-fits : metaFits (metaBits m h) ≡ true
-  named-fits = meta-fits m (g .legal) h (omega (arith, t .held, strings-few q (named-fine .sound)))
+  named-small : h ≤ 4096
+  named-small = omega (arith, t .held, strings-few q (named-fine .sound))
 
-  first-comes : (b : Body Bytes) → Decided.First b
-      → elementAs (textsOf (q .texts)) (headFor id b) (bareRecord (metaBits m h) (bodyIn b)) ≡ record { id = id; held = first m b }
-  first-comes b f =
-      let x = bits-id id b (g .fits) in
-      let y = meta-comes m (g .legal) h (textOf (textsOf (q .texts))) (t .text) in
-      let v = body-comes (textOf (textsOf (q .texts))) b f in
-      λ i. record { id = x i; held = record { meta = y i; body = v i; tags = [] } }
+  named-fits : metaFits (metaBits m h) ≡ true
+  named-fits = meta-fits m (g .legal) h named-small
+
+  -- what is staged of an element that begins
+  named-held : (b : Body Bytes) → Decided.First b → (parts : Bytes) → Held (q .texts .strings) (kindOf b) parts (record { head = headFor id b; meta = metaBits m h; used = 0 })
+  named-held b f parts = begun-held id m b (g .fits) (g .legal) f (q .texts .strings) h (t .held) named-small z parts
+
+  named-means : (b : Body Bytes) (f : Decided.First b) (parts : Bytes)
+      → stagedOf (textsOf (q .texts)) (kindOf b) parts (record { head = headFor id b; meta = metaBits m h; used = 0 }) ≡ record { id = id; held = first m b }
+  named-means b f parts =
+      held-means (q .texts .strings) (kindOf b) parts _ (begun-held id m b (g .fits) (g .legal) f (q .texts .strings) h (t .held) named-small z parts) (textsOf (q .texts))
+      ∙ begun-means id m b (g .fits) (g .legal) f (q .texts .strings) h (t .held) named-small z (textsOf (q .texts)) (t .text)
 
   first-acts : (b : Body Bytes) → Decided.First b → storePush (kindOf b) (headFor id b) (metaBits m h) [] q .answer ≡ Taken
       → Acts q (some (push id (first m b))) (storePush (kindOf b) (headFor id b) (metaBits m h) [] q .overlay)
@@ -109,7 +114,7 @@ module _ (o : Overlay) (w : Fine o) (id : ℤ) (m : Meta Bytes) (g : Decided.Giv
       let r = bareRecord (metaBits m h) (bodyIn b) in
       let p = stages-back k (headFor id b) (metaBits m h) [] r (bare-stages x (metaBits m h)) in
       let l = bare-legal x (q .texts .strings) (metaBits m h) named-legal in
-      subst (λ (y : Staged). Acts q (some (push (y .id) (y .held))) (storePush k (headFor id b) (metaBits m h) [] q .overlay)) (first-comes b f)
+      subst (λ (y : Staged). Acts q (some (push (y .id) (y .held))) (storePush k (headFor id b) (metaBits m h) [] q .overlay)) (begun-means id m b (g .fits) (g .legal) f (q .texts .strings) h (t .held) named-small z (textsOf (q .texts)) (t .text))
       (pushes-act k (headFor id b) (metaBits m h) [] q r (named-fine .sound) (head-fits id b (g .fits) f) named-fits (all-nil isByte) p l a)
 
   delete-acts : (k : Kind) → storeDelete k id (claimOf m) q .answer ≡ Taken → Acts q (some (delete k id (claimOf m))) (storeDelete k id (claimOf m) q .overlay)
@@ -183,8 +188,8 @@ module _ (s : State) (g : StateGiven s) (e : stateSound s ≡ true) where
         is = i;
         place = refl;
         acted = w;
-        held = nothing-held (q .texts .strings) (p .kind) (s .parts) (z .1);
-        staged = nothing-means (q .texts .strings) (p .kind) (s .parts) (z .1) (textsOf (q .texts)) (z .0);
+        held = nothing-held (q .texts .strings) (s .parts) (z .1) (p .kind);
+        staged = nothing-means (q .texts .strings) (s .parts) (z .1) (p .kind) (textsOf (q .texts)) (z .0);
         small = g .reader .bytes;
         size = refl;
       })
@@ -250,21 +255,15 @@ module _ (s : State) (g : StateGiven s) (e : stateSound s ≡ true) where
       (record { between = q; taken = t .takes; acted = first-acts (s .overlay) fine id m (w .0) h q t z b (w .1 .0) a }))))
   advances (begins false p id m b) w =
       each-user (s .overlay) (fine .sound) m _ (w .0 .legal) (w .0 .user) (λ h q t z.
-      let x = begun id b (w .1 .0) in
       let y : Pending = record { head = headFor id b; meta = metaBits m h; used = 0 } in
-      let v : Held (q .texts .strings) (kindOf b) (s .parts) y =
-      bare-held x (q .texts .strings) (metaBits m h) (s .parts) (named-legal (s .overlay) fine id m (w .0) h q t z) (head-fits id b (w .0 .fits) (w .1 .0))
-      (named-fits (s .overlay) fine id m (w .0) h q t z) in
-      let u : Held (q .texts .strings) (p .kind) (s .parts) y = rw (w .1 .1) v in
+      let v : Held (q .texts .strings) (p .kind) (s .parts) y = rw (w .1 .1) (named-held (s .overlay) fine id m (w .0) h q t z b (w .1 .0) (s .parts)) in
       leaves (record {
         comes = record { reader = record { place = p; staged = record { id = id; held = first m b } }; texts = userText m; act = none };
         is = refl;
         place = refl;
         acted = record { between = q; taken = t .takes; acted = no-act };
-        held = u;
-        staged =
-            ap (λ (k : Kind). stagedOf (textsOf (q .texts)) k (s .parts) y) (w .1 .1)
-            ∙ (held-means (q .texts .strings) (kindOf b) (s .parts) y v (textsOf (q .texts)) ∙ first-comes (s .overlay) fine id m (w .0) h q t z b (w .1 .0));
+        held = v;
+        staged = ap (λ (k : Kind). stagedOf (textsOf (q .texts)) k (s .parts) y) (w .1 .1) ∙ named-means (s .overlay) fine id m (w .0) h q t z b (w .1 .0) (s .parts);
         small = g .reader .bytes;
         size = refl;
       }))

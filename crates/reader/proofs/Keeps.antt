@@ -21,7 +21,8 @@ use Rattle.reader.specs.Event.{eventOn}
 use Rattle.reader.specs.Means.{readerOf}
 use Rattle.reader.proofs.Answers.{byAnswer, event-counts}
 use Rattle.reader.proofs.Acts.{Fine}
-use Rattle.reader.proofs.Held.{Held, held-of, held-sound, held-more, held-same, nothing-held, nothing-means}
+use Rattle.reader.proofs.Held.{Held, held-of, held-sound, held-more, held-same}
+use Rattle.reader.proofs.Legals.{nothing-held, nothing-means}
 use Rattle.reader.proofs.Steps.{empty-text}
 use Rattle.reader.proofs.Events.{event-accepted, byRefused}
 
@@ -89,10 +90,10 @@ module _ (o : Overlay) (e : isSound o ≡ true) (parts : Bytes) where
   unfolding readerOf
   fresh-means =
       let z = empty-text o e in
-      λ i. record { place = start; staged = nothing-means (o .texts .strings) (start .kind) parts (z .1) (textsOf (o .texts)) (z .0) i }
+      λ i. record { place = start; staged = nothing-means (o .texts .strings) parts (z .1) (start .kind) (textsOf (o .texts)) (z .0) i }
 
   nothing : Held (o .texts .strings) (start .kind) parts (freshReader .pending)
-  nothing = nothing-held (o .texts .strings) (start .kind) parts (empty-text o e .1)
+  nothing = nothing-held (o .texts .strings) parts (empty-text o e .1) (start .kind)
 
   pub fresh-ready : all isByte parts ≡ true → length parts ≡ 44432 → ReadyIn (freshIn o parts)
   fresh-ready b l = record { given = record { head = nothing .head; meta = nothing .meta; bytes = b; room = l }; sound = held-sound _ _ _ _ nothing }
