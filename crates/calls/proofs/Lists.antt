@@ -1,12 +1,13 @@
 -- Lists of calls: after each, what is lent agrees with the calls and their replies. The overlay reflects the texts taken in and the acts accepted; each reader's storage is
 -- sound but for its count of lines, and stands for the reader that the accepted lines make.
-use Prim.Native.Nat.{ℕ, _<_, _≤_}
+use Prim.Native.Nat.{ℕ, _+_, _<_}
 use mathlib.Core.Path.{_≡_, refl, sym, _∙_, ap, subst}
 use mathlib.Core.Bool.{Bool, true, false, cond}
 use mathlib.Core.Option.{Option, none, some}
 use mathlib.Core.List.{List, [], _∷_, _++_, append-assoc, append-nil}
-use lib.Dec.{eqb}
 use lib.IntN.{ℤ}
+use lib.ListN.{length}
+use native.Mathlib.Omega.{arith}
 use mir.Syntax.{w64}
 use mir.Val.{toZ}
 use mir.Facts.{fits-of-lt, sfits-toZ}
@@ -20,13 +21,12 @@ use Rattle.kind.specs.declared.Kind.{Kind}
 use Rattle.version_floor.specs.declared.Version.the-variants.{Is}
 use Rattle.model.specs.Record.{Meta, Record, claimOf, flagged}
 use Rattle.model.specs.Act.{Act}
-use Rattle.model.specs.Swap.{swapRecord}
 use Rattle.compact.specs.Cut.{pushedRecord}
 use Rattle.compact.specs.Held.{metaOf, headIn}
 use Rattle.compact.specs.Fits.{fitsSigned, fitsMeta}
 use Rattle.compact.specs.declared.ArenaMeta.{ArenaMeta}
 use Rattle.compact.specs.declared.PushHead.{PushHead}
-use Rattle.interner.specs.Texts.{accepted, takeAll, textOf}
+use Rattle.interner.specs.Texts.{accepted, takeAll}
 use Rattle.interner.specs.Strings.{intern}
 use Rattle.interner.specs.Sound.{textsOf}
 use Rattle.interner.specs.declared.Interned.{Interned}
@@ -34,9 +34,9 @@ use Rattle.interner.specs.declared.Interned.the-variants as I
 use Rattle.shelf.proofs.Claims.{Narrow}
 use Rattle.field.specs.Field.{Field, got}
 use Rattle.acts.specs.Turn.{Turn, turn}
-use Rattle.acts.specs.Call.{Call, Answered, World, outcome, pushOf, turned, actsBefore, worldAfter, actsFrom}
+use Rattle.acts.specs.Call.{Call, Answered, World, outcome, turned, actsBefore, worldAfter, actsFrom}
 use Rattle.acts.specs.Call as Call
-use Rattle.acts.proofs.Calls.{refusedCall, takenCall, world-append, acts-append, own-reader, other-reader, textsFrom, texts-after}
+use Rattle.acts.proofs.Calls.{refusedCall, takenCall, world-append, acts-append, own-reader, other-reader, linesOf, textsFrom, texts-after}
 use Rattle.overlay.specs.Overlay.{Overlay}
 use Rattle.overlay.specs.Given.{headFits, metaFits}
 use Rattle.direct.specs.Calls.{pushOn, deleteOn, internOn}
@@ -51,13 +51,13 @@ use Rattle.store.proofs.Keeps.{keptAs}
 use Rattle.direct.proofs.Keeps.{push-kept, delete-kept}
 use Rattle.reader.specs.declared.EventAnswer.the-variants as E
 use Rattle.reader.specs.State.{State}
-use Rattle.reader.specs.Event.{EventResult, eventOn, endOn}
+use Rattle.reader.specs.Event.{eventOn, endOn}
 use Rattle.reader.specs.Means.{readerOf}
-use Rattle.reader.proofs.Answers.{byAnswer, end-keeps}
+use Rattle.reader.proofs.Answers.{byAnswer, event-counts, end-keeps}
 use Rattle.reader.proofs.Acts.{TakesIn, no-text, a-text, Acts, no-act, a-push, a-delete, Acted, Fine, more-strings, same-text}
-use Rattle.reader.proofs.Events.{Accepted, event-accepted, byRefused}
+use Rattle.reader.proofs.Events.{event-accepted, byRefused}
 use Rattle.reader.proofs.Keeps.{Ready, event-ready, ready-more, ready-means}
-use Rattle.calls.specs.Ask.{Ask, interns, pushes, deletes, hears, ends, callOf, Lent, stateOf, withState, withOverlay, leaves, accepts, after, answered, askFits}
+use Rattle.calls.specs.Ask.{Ask, interns, pushes, deletes, hears, ends, callOf, Storage, stateOf, withState, withOverlay, eventTaken, leaves, accepts, after, answered, askFits}
 use Rattle.calls.proofs.Reflects.{Reflects, reflects-push, reflects-delete, reflects-text}
 
 -- ---- the calls that a turn makes
@@ -101,19 +101,19 @@ module _ (setting : ℕ) where
 
 -- ---- what is lent agrees with the calls and their replies
 
-pub record Agrees (setting : ℕ) (l : Lent) (w : World) (acts : List (Act Bytes)) : Type 0 where
+pub record Agrees (setting : ℕ) (l : Storage) (w : World) (acts : List (Act Bytes)) : Type 0 where
   pub overlay : Reflects setting (l .overlay) (w .texts) acts
   pub ready : (n : ℕ) → Ready (l .overlay .texts .strings) (l .readers n) (l .parts n)
   pub readers : (n : ℕ) → readerOf (stateOf n l) ≡ w .readers n
 
-pub agrees-fine : {setting : ℕ} {l : Lent} {w : World} {acts : List (Act Bytes)} → Agrees setting l w acts → Fine (l .overlay)
+pub agrees-fine : {setting : ℕ} {l : Storage} {w : World} {acts : List (Act Bytes)} → Agrees setting l w acts → Fine (l .overlay)
 agrees-fine {l = l} g = record { sound = decides (l .overlay) (g .overlay .bytes) .1 (g .overlay .sound); bytes = g .overlay .bytes }
 
 -- a call and its reply
-abbrev pub answerOf : Ask → Lent → Answered
+abbrev pub answerOf : Ask → Storage → Answered
 answerOf c l = record { call = callOf c; accepted = accepts c l }
 
-module _ (setting : ℕ) (l : Lent) (w : World) (acts : List (Act Bytes)) (g : Agrees setting l w acts) where
+module _ (setting : ℕ) (l : Storage) (w : World) (acts : List (Act Bytes)) (g : Agrees setting l w acts) where
   -- the overlay after a call by its reply: the texts and the acts that it adds
   abbrev Adds : Overlay → Answered → Type 0
   Adds q a = Reflects setting q (worldAfter w (a ∷ []) .texts) (acts ++ actsFrom w (a ∷ []))
@@ -249,7 +249,7 @@ module _ (setting : ℕ) (l : Lent) (w : World) (acts : List (Act Bytes)) (g : A
 
 -- ---- a list of calls
 
-pub agrees-calls : (setting : ℕ) (cs : List Ask) (l : Lent) (w : World) (acts : List (Act Bytes)) → all askFits cs ≡ true → Agrees setting l w acts
+pub agrees-calls : (setting : ℕ) (cs : List Ask) (l : Storage) (w : World) (acts : List (Act Bytes)) → all askFits cs ≡ true → Agrees setting l w acts
     → Agrees setting (after l cs) (worldAfter w (answered l cs)) (acts ++ actsFrom w (answered l cs))
 unfolding after answered worldAfter actsFrom
 agrees-calls setting [] l w acts f g = rw append-nil g
@@ -258,3 +258,32 @@ agrees-calls setting (c ∷ cs) l w acts f g =
     let u = worldAfter w (a ∷ []) in
     let i = agrees-calls setting cs (leaves c l) u (acts ++ actsFrom w (a ∷ [])) (all-tail askFits c cs f) (agrees-call setting l w acts g c (all-head askFits c cs f)) in
     rw (world-append w (a ∷ []) (answered (leaves c l) cs), acts-append w (a ∷ []) (answered (leaves c l) cs), ← append-assoc acts (actsFrom w (a ∷ [])) (actsFrom u (answered (leaves c l) cs))) i
+
+-- ---- the count of lines: an event's line is one more than the lines that its reader has taken
+
+module _ (n : ℕ) where
+  event-lines : (line : Bytes) (s : State) (xs : List Bytes) → eventOn line s .state .reader .lines + length xs ≡ s .reader .lines + length (cond (eventTaken (eventOn line s .answer)) (line ∷ xs) xs)
+  event-lines line s xs =
+      byAnswer (eventOn line s .answer)
+      (λ a. rw (a, event-counts line s a .0) (omega arith))
+      (λ r m a. byRefused line s r m a (λ u k j e. rw (a, e)) (λ u t e. rw (a, e)))
+
+  call-lines : (c : Ask) (l : Storage) (ds : List Answered)
+      → leaves c l .readers n .lines + length (linesOf n ds) ≡ l .readers n .lines + length (linesOf n (answerOf c l ∷ ds))
+  unfolding linesOf
+  call-lines (interns t) l ds = byBool (accepts (interns t) l) (λ e. rw e) (λ e. rw e)
+  call-lines (pushes k h m parts) l ds = byBool (accepts (pushes k h m parts) l) (λ e. rw e) (λ e. rw e)
+  call-lines (deletes k id m) l ds = byBool (accepts (deletes k id m) l) (λ e. rw e) (λ e. rw e)
+  call-lines (hears m line) l ds =
+      byEq n m
+      (λ q. rw (eq-eqb n m q, q) (event-lines line (stateOf m l) (linesOf m ds)))
+      (λ q. rw (ne-eqb n m q) (byBool (accepts (hears m line) l) (λ e. rw e) (λ e. rw e)))
+  call-lines (ends m) l ds =
+      byEq n m
+      (λ q. rw (eq-eqb n m q, end-keeps (stateOf m l), q) (byBool (accepts (ends m) l) (λ e. rw e) (λ e. rw e)))
+      (λ q. rw (ne-eqb n m q) (byBool (accepts (ends m) l) (λ e. rw e) (λ e. rw e)))
+
+  pub lines-counted : (cs : List Ask) (l : Storage) → after l cs .readers n .lines ≡ l .readers n .lines + length (linesOf n (answered l cs))
+  unfolding after answered linesOf
+  lines-counted [] l = omega arith
+  lines-counted (c ∷ cs) l = lines-counted cs (leaves c l) ∙ call-lines c l (answered (leaves c l) cs)

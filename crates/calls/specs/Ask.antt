@@ -48,26 +48,26 @@ callOf (ends n) = Call.ends n
 
 -- ---- what is lent: the overlay, and to each reader its own storage
 
-pub record Lent : Type 0 where
+pub record Storage : Type 0 where
   pub overlay : Overlay
   pub readers : ℕ → EventReader
   pub parts : ℕ → Bytes
 
 -- "start empty"; "readers begin fresh", whatever bytes are lent to them
-abbrev pub started : ℕ → Overlay → (ℕ → Bytes) → Lent
+abbrev pub started : ℕ → Overlay → (ℕ → Bytes) → Storage
 started setting o parts = record { overlay = empty setting o; readers = λ n. freshReader; parts = parts }
 
 -- what an event or an end of a reader gets, and what it leaves
-abbrev pub stateOf : ℕ → Lent → State
+abbrev pub stateOf : ℕ → Storage → State
 stateOf n l = record { overlay = l .overlay; reader = l .readers n; parts = l .parts n }
 
 abbrev pub putAt : {A : Type 0} → ℕ → A → (ℕ → A) → ℕ → A
 putAt n a f m = cond (eqb m n) a (f m)
 
-abbrev pub withState : ℕ → State → Lent → Lent
+abbrev pub withState : ℕ → State → Storage → Storage
 withState n s l = record { overlay = s .overlay; readers = putAt n (s .reader) (l .readers); parts = putAt n (s .parts) (l .parts) }
 
-abbrev pub withOverlay : Overlay → Lent → Lent
+abbrev pub withOverlay : Overlay → Storage → Storage
 withOverlay o l = record { overlay = o; readers = l .readers; parts = l .parts }
 
 -- ---- one call: what it leaves, and whether its reply accepted it
@@ -81,31 +81,31 @@ abbrev pub handled : Handle → Bool
 handled (H.Is h) = true
 handled (H.Refused r) = false
 
-abbrev pub passes : EventAnswer → Bool
-passes E.Accepted = true
-passes (E.Refused r n) = false
+abbrev pub eventTaken : EventAnswer → Bool
+eventTaken E.Accepted = true
+eventTaken (E.Refused r n) = false
 
-abbrev pub leaves : Ask → Lent → Lent
+abbrev pub leaves : Ask → Storage → Storage
 leaves (interns t) l = withOverlay (internOn t (l .overlay) .overlay) l
 leaves (pushes k h m parts) l = withOverlay (pushOn k h m parts (l .overlay) .overlay) l
 leaves (deletes k id m) l = withOverlay (deleteOn k (toZ w64 id) (metaOf m) (l .overlay) .overlay) l
 leaves (hears n line) l = withState n (eventOn line (stateOf n l) .state) l
 leaves (ends n) l = withState n (endOn (stateOf n l) .state) l
 
-abbrev pub accepts : Ask → Lent → Bool
+abbrev pub accepts : Ask → Storage → Bool
 accepts (interns t) l = handled (internOn t (l .overlay) .answer)
 accepts (pushes k h m parts) l = takenIn (pushOn k h m parts (l .overlay) .answer)
 accepts (deletes k id m) l = takenIn (deleteOn k (toZ w64 id) (metaOf m) (l .overlay) .answer)
-accepts (hears n line) l = passes (eventOn line (stateOf n l) .answer)
-accepts (ends n) l = passes (endOn (stateOf n l) .answer)
+accepts (hears n line) l = eventTaken (eventOn line (stateOf n l) .answer)
+accepts (ends n) l = eventTaken (endOn (stateOf n l) .answer)
 
 -- ---- a list of calls
 
-unfoldable pub after : Lent → List Ask → Lent
+unfoldable pub after : Storage → List Ask → Storage
 after l [] = l
 after l (c ∷ cs) = after (leaves c l) cs
 
-unfoldable pub answered : Lent → List Ask → List Answered
+unfoldable pub answered : Storage → List Ask → List Answered
 answered l [] = []
 answered l (c ∷ cs) = record { call = callOf c; accepted = accepts c l } ∷ answered (leaves c l) cs
 
@@ -122,8 +122,8 @@ pub record PartsGiven (parts : ℕ → Bytes) : Type 0 where
   pub room : (n : ℕ) → length (parts n) ≡ 44432
 
 -- a list on an overlay that starts empty: what it leaves, and the calls with their replies
-abbrev pub reached : ℕ → Overlay → (ℕ → Bytes) → List Ask → Lent
-reached setting o parts cs = after (started setting o parts) cs
+abbrev pub storageAfter : ℕ → Overlay → (ℕ → Bytes) → List Ask → Storage
+storageAfter setting o parts cs = after (started setting o parts) cs
 
 abbrev pub replies : ℕ → Overlay → (ℕ → Bytes) → List Ask → List Answered
 replies setting o parts cs = answered (started setting o parts) cs

@@ -1,6 +1,6 @@
 -- What a turn asks of the overlay, as direct calls: its text is taken in by `intern`, its act is a push or a delete. Such calls keep the overlay sound, whoever makes them.
 use Prim.Native.Nat.{ℕ, _+_, _/_, _<_, _≤_}
-use mathlib.Core.Path.{_≡_, refl, sym, _∙_, ap}
+use mathlib.Core.Path.{_≡_, refl, _∙_, ap}
 use mathlib.Core.Bool.{true}
 use mathlib.Core.Option.{Option, none, some}
 use mathlib.Core.List.{List, [], _∷_}

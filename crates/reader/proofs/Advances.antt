@@ -1,15 +1,14 @@
 -- An event that goes on, whatever is decided of it: a turn of the acts' reader that its state stands for, the direct calls of that turn, and again a legal element staged.
-use Prim.Native.Nat.{ℕ, _+_, _<_}
+use Prim.Native.Nat.{ℕ, _+_, _<_, _≤_}
 use mathlib.Core.Path.{_≡_, refl, sym, _∙_, ap, subst}
-use mathlib.Core.Bool.{Bool, true, false}
+use mathlib.Core.Bool.{true, false}
 use mathlib.Core.Option.{none, some}
 use mathlib.Core.List.{List, [], _∷_, _++_, map, map-append}
 use native.Mathlib.Omega.{arith}
-use lib.Dec.{leb}
 use lib.IntN.{ℤ}
 use lib.ListN.{length, take}
 use mir.Syntax.{w64}
-use mir.Val.{toZ, ofZ, SFits}
+use mir.Val.{toZ, ofZ}
 use mir.Facts.{toZ-ofZ, fits-ofZ}
 use borrow.Author.Tests.{leb-true, lt-ltb}
 use Rattle.base.specs.Bytes.{Bytes, all}
@@ -19,14 +18,15 @@ use Rattle.little.specs.Little.{isByte}
 use Rattle.little.proofs.Littles.{bytes-take}
 use Rattle.refusal.specs.declared.Refusal.the-variants as R
 use Rattle.kind.specs.declared.Kind.{Kind}
+use Rattle.kind.specs.declared.Kind.the-variants as K
 use Rattle.nesting.specs.declared.Place.{Place}
 use Rattle.model.specs.Record.{Meta, Member, Tag, Body, refs, members, Record, kindOf, flagged, claimOf}
 use Rattle.model.specs.Act.{Act, push, delete}
-use Rattle.model.specs.Swap.{swapMeta, swapMember, swapTag, swapBody, swapRecord}
+use Rattle.model.specs.Swap.{swapMember, swapTag, swapBody, swapRecord}
 use Rattle.compact.specs.Cut.{pushedRecord}
 use Rattle.compact.specs.Fits.{fitsNumber}
 use Rattle.compact.specs.Held.{metaOf, headIn}
-use Rattle.compact.specs.Legal.{limits, legalMeta, legal}
+use Rattle.compact.specs.Legal.{limits, legalMeta, withinLimits, legal}
 use Rattle.compact.specs.declared.ArenaMeta.{ArenaMeta}
 use Rattle.compact.specs.declared.PushHead.{PushHead}
 use Rattle.stage.specs.Stage.{staged, refPart, memberPart, tagPart}
@@ -52,16 +52,16 @@ use Rattle.decision.proofs.Lawful as Decided
 use Rattle.acts.specs.Turn.{Staged, Turn, userText, first, clears, grows, turnOf}
 use Rattle.acts.specs.Turn as Turn
 use Rattle.reader.specs.declared.Pending.{Pending}
-use Rattle.reader.specs.State.{State, noPending, readerSound, stateSound, middle, moreTags, moreParts}
-use Rattle.reader.specs.Given.{Given}
-use Rattle.reader.specs.Step.{Advanced, Step, goes, clearsTo, metaBits, headFor, memberBits, tagWithin, partWithin, partPlace, stepOf}
+use Rattle.reader.specs.State.{State, pendingRecord, readerSound, stateSound, moreTags, moreParts}
+use Rattle.reader.specs.Given.{StateGiven}
+use Rattle.reader.specs.Step.{Advanced, goes, clearsTo, metaBits, headFor, memberBits, tagWithin, partWithin, partPlace, stepOf}
 use Rattle.reader.specs.Means.{stagedOf, readerOf}
 use Rattle.reader.proofs.Texts.{legal-agree}
-use Rattle.reader.proofs.Element.{stages-back, way-body, relation-body, Grows, tag-grows, ref-grows, member-grows}
+use Rattle.reader.proofs.Element.{stages-back, way-body, relation-body, PartStaged, tag-limit, ref-limit, member-limit, tag-grows, ref-grows, member-grows}
 use Rattle.reader.proofs.Acts.{Acts, no-act, a-push, a-delete, TakesIn, no-text, Acted, Fine, takes-fine, acted-fine, takes-texts, more-strings, same-text, strings-few}
-use Rattle.reader.proofs.Held.{Held, held-of, held-few, held-means, stagedAs, fault-legal, bareRecord, bare-stages, bare-legal, bare-held, nothing-held, nothing-means}
-use Rattle.reader.proofs.Legals.{legal-meta, meta-fits, claim-same, meta-comes, bodyIn, body-comes, begun, head-fits, head-id, legal-tag, legal-ref, legal-member, staged-small, tag-small, ref-small, member-small, tags-fit, count-fits}
-use Rattle.reader.proofs.Steps.{Each, stopped, leaves, Took, empty-held, each-text, each-user, each-admit, each-after, each-within}
+use Rattle.reader.proofs.Held.{Held, held-of, held-few, held-means, elementAs, fault-legal, bareRecord, bare-stages, bare-legal}
+use Rattle.reader.proofs.Legals.{begun-held, begun-means, nothing-held, nothing-means, legal-meta, meta-fits, claim-same, bodyIn, begun, head-fits, legal-tag, legal-ref, legal-member, staged-small, tag-small, ref-small, member-small, tags-fit, count-fits}
+use Rattle.reader.proofs.Steps.{EachStep, stopped, leaves, TakenAs, empty-text, each-text, each-user, each-admit, each-after, each-within}
 
 -- what is left is what the turn says, by the direct calls of the turn, and a legal element is staged
 pub record Advances (d : Decision) (s : State) (l : Advanced) : Type 0 where
@@ -84,7 +84,7 @@ pushes-act k h m parts o r e f g b p l a =
     rw (ap (λ (z : After). z .overlay) s) at (a-push k h m parts r f g b p (ap (λ (z : After). z .answer) s ∙ a))
 
 -- an element that begins behind its user's text
-module _ (o : Overlay) (w : Fine o) (id : ℤ) (m : Meta Bytes) (g : Decided.Given id m) (h : ℕ) (q : Overlay) (t : Took o (userText m) q h (m .user))
+module _ (o : Overlay) (w : Fine o) (id : ℤ) (m : Meta Bytes) (g : Decided.Given id m) (h : ℕ) (q : Overlay) (t : TakenAs o (userText m) q h (m .user))
     (z : flagged 4 (m .flags) ≡ false → h ≡ 0) where
   named-fine : Fine q
   named-fine = takes-fine w (t .takes)
@@ -92,16 +92,21 @@ module _ (o : Overlay) (w : Fine o) (id : ℤ) (m : Meta Bytes) (g : Decided.Giv
   named-legal : legalMeta (q .texts .strings) (metaOf (metaBits m h)) ≡ true
   named-legal = legal-meta m (g .legal) h (q .texts .strings) (t .held) z
 
-  named-fits : metaFits (metaBits m h) ≡ true
-  named-fits = meta-fits m (g .legal) h (omega (arith, t .held, strings-few q (named-fine .sound)))
+  named-small : h ≤ 4096
+  named-small = omega (arith, t .held, strings-few q (named-fine .sound))
 
-  first-comes : (b : Body Bytes) → Decided.First b
-      → stagedAs (textsOf (q .texts)) (headFor id b) (bareRecord (metaBits m h) (bodyIn b)) ≡ record { id = id; held = first m b }
-  first-comes b f =
-      let x = head-id id b (g .fits) in
-      let y = meta-comes m (g .legal) h (textOf (textsOf (q .texts))) (t .text) in
-      let v = body-comes (textOf (textsOf (q .texts))) b f in
-      λ i. record { id = x i; held = record { meta = y i; body = v i; tags = [] } }
+  named-fits : metaFits (metaBits m h) ≡ true
+  named-fits = meta-fits m (g .legal) h named-small
+
+  -- what is staged of an element that begins
+  named-held : (b : Body Bytes) → Decided.First b → (parts : Bytes) → Held (q .texts .strings) (kindOf b) parts (record { head = headFor id b; meta = metaBits m h; used = 0 })
+  named-held b f parts = begun-held id m b (g .fits) (g .legal) f (q .texts .strings) h (t .held) named-small z parts
+
+  named-means : (b : Body Bytes) (f : Decided.First b) (parts : Bytes)
+      → stagedOf (textsOf (q .texts)) (kindOf b) parts (record { head = headFor id b; meta = metaBits m h; used = 0 }) ≡ record { id = id; held = first m b }
+  named-means b f parts =
+      held-means (q .texts .strings) (kindOf b) parts _ (begun-held id m b (g .fits) (g .legal) f (q .texts .strings) h (t .held) named-small z parts) (textsOf (q .texts))
+      ∙ begun-means id m b (g .fits) (g .legal) f (q .texts .strings) h (t .held) named-small z (textsOf (q .texts)) (t .text)
 
   first-acts : (b : Body Bytes) → Decided.First b → storePush (kindOf b) (headFor id b) (metaBits m h) [] q .answer ≡ Taken
       → Acts q (some (push id (first m b))) (storePush (kindOf b) (headFor id b) (metaBits m h) [] q .overlay)
@@ -111,7 +116,7 @@ module _ (o : Overlay) (w : Fine o) (id : ℤ) (m : Meta Bytes) (g : Decided.Giv
       let r = bareRecord (metaBits m h) (bodyIn b) in
       let p = stages-back k (headFor id b) (metaBits m h) [] r (bare-stages x (metaBits m h)) in
       let l = bare-legal x (q .texts .strings) (metaBits m h) named-legal in
-      subst (λ (y : Staged). Acts q (some (push (y .id) (y .held))) (storePush k (headFor id b) (metaBits m h) [] q .overlay)) (first-comes b f)
+      subst (λ (y : Staged). Acts q (some (push (y .id) (y .held))) (storePush k (headFor id b) (metaBits m h) [] q .overlay)) (begun-means id m b (g .fits) (g .legal) f (q .texts .strings) h (t .held) named-small z (textsOf (q .texts)) (t .text))
       (pushes-act k (headFor id b) (metaBits m h) [] q r (named-fine .sound) (head-fits id b (g .fits) f) named-fits (all-nil isByte) p l a)
 
   delete-acts : (k : Kind) → storeDelete k id (claimOf m) q .answer ≡ Taken → Acts q (some (delete k id (claimOf m))) (storeDelete k id (claimOf m) q .overlay)
@@ -144,15 +149,15 @@ module _ (f g : ℕ → Bytes) (r : Record ℕ) (e : swapRecord g r ≡ swapReco
 
 -- ---- what a sound state holds
 
-pub state-fine : (s : State) → Given s → stateSound s ≡ true → Fine (s .overlay)
+pub state-fine : (s : State) → StateGiven s → stateSound s ≡ true → Fine (s .overlay)
 unfolding stateSound
 state-fine s g e = record { sound = both-left _ _ e; bytes = g .overlay }
 
-pub state-held : (s : State) → Given s → stateSound s ≡ true → Held (s .overlay .texts .strings) (s .reader .place .kind) (s .parts) (s .reader .pending)
+pub state-held : (s : State) → StateGiven s → stateSound s ≡ true → Held (s .overlay .texts .strings) (s .reader .place .kind) (s .parts) (s .reader .pending)
 unfolding stateSound readerSound
 state-held s g e = held-of _ _ (s .parts) (s .reader .pending) (g .reader .head) (g .reader .meta) (g .reader .bytes) (both-left _ _ (both-right _ _ e))
 
-module _ (s : State) (g : Given s) (e : stateSound s ≡ true) where
+module _ (s : State) (g : StateGiven s) (e : stateSound s ≡ true) where
   abbrev now : List Bytes
   now = textsOf (s .overlay .texts)
 
@@ -168,22 +173,25 @@ module _ (s : State) (g : Given s) (e : stateSound s ≡ true) where
   held : Held (s .overlay .texts .strings) kind (s .parts) pending
   held = state-held s g e
 
-  means : readerOf s .staged ≡ stagedAs now (pending .head) (held .held)
+  means : readerOf s .staged ≡ elementAs now (pending .head) (held .held)
   unfolding readerOf
   means = held-means (s .overlay .texts .strings) kind (s .parts) pending held now
 
+  few : withinLimits limits (held .held) ≡ true
+  few = held-few (s .overlay .texts .strings) kind (s .parts) pending held
+
   -- nothing is staged any more
   cleared : (d : Decision) (p : Place) (q : Overlay) (ts : List Bytes) (a : Act Bytes) → turnOf d (readerOf s) ≡ got (clears p ts a) → Acted (s .overlay) (clears p ts a) q
-      → Each (Advances d s) (clearsTo s p q)
+      → EachStep (Advances d s) (clearsTo s p q)
   cleared d p q ts a i w =
-      let z = empty-held q (acted-fine fine w .sound) in
+      let z = empty-text q (acted-fine fine w .sound) in
       leaves (record {
         comes = clears p ts a;
         is = i;
         place = refl;
         acted = w;
-        held = nothing-held (q .texts .strings) (p .kind) (s .parts) (z .1);
-        staged = nothing-means (q .texts .strings) (p .kind) (s .parts) (z .1) (textsOf (q .texts)) (z .0);
+        held = nothing-held (q .texts .strings) (s .parts) (z .1) (p .kind);
+        staged = nothing-means (q .texts .strings) (s .parts) (z .1) (p .kind) (textsOf (q .texts)) (z .0);
         small = g .reader .bytes;
         size = refl;
       })
@@ -197,7 +205,7 @@ module _ (s : State) (g : Given s) (e : stateSound s ≡ true) where
     more-legal = legal-more (s .overlay .texts .strings) (o .texts .strings) (more-strings (s .overlay) o ts (takes-texts takes)) (held .held) (held .lawful)
 
     grown : (j : PushHead) (at : ℕ) (x : Bytes) (next : Record ℕ) (f : Record Bytes → Record Bytes) → turnOf d (readerOf s) ≡ got (grows p f ts (readerOf s))
-        → j .id ≡ pending .head .id → Grows kind j (pending .meta) (s .parts) (pending .used) at x next → legal (o .texts .strings) next ≡ true → headFits j ≡ true
+        → j .id ≡ pending .head .id → PartStaged kind j (pending .meta) (s .parts) (pending .used) at x next → legal (o .texts .strings) next ≡ true → headFits j ≡ true
         → all isByte x ≡ true → swapRecord (textOf (textsOf (o .texts))) next ≡ f (swapRecord (textOf now) (held .held))
         → Advances d s (record { overlay = o; place = p; pending = record { head = j; meta = pending .meta; used = pending .used + length x }; parts = staged (s .parts) (pending .used) at x })
     grown j at x next f i q w l h b c =
@@ -205,7 +213,7 @@ module _ (s : State) (g : Given s) (e : stateSound s ≡ true) where
         let y : Pending = record { head = j; meta = pending .meta; used = pending .used + length x } in
         let z = staged (s .parts) (pending .used) at x in
         let v : Held (o .texts .strings) kind z y = record { held = next; stages = w .stages; lawful = l; fits = omega (arith, w .room); head = h; meta = held .meta } in
-        let u : stagedAs (textsOf (o .texts)) j next ≡ grows p f ts (readerOf s) .reader .staged = rw means (λ i. record { id = toZ w64 (q i); held = c i }) in
+        let u : elementAs (textsOf (o .texts)) j next ≡ grows p f ts (readerOf s) .reader .staged = rw means (λ i. record { id = toZ w64 (q i); held = c i }) in
         record {
           comes = grows p f ts (readerOf s);
           is = i;
@@ -226,7 +234,7 @@ module _ (s : State) (g : Given s) (e : stateSound s ≡ true) where
   abbrev admit : Kind → ℤ → Meta Bytes → Admit
   admit k id m = checked (s .overlay .setting) (known k (shelfOf k (s .overlay)) id) (claimOf m)
 
-  pub advances : (d : Decision) → Lawful (s .reader .place) d → Each (Advances d s) (stepOf d s)
+  pub advances : (d : Decision) → Lawful (s .reader .place) d → EachStep (Advances d s) (stepOf d s)
   unfolding stepOf turnOf readerOf
   advances (refuses r) w = stopped
   advances (moves p) w =
@@ -249,21 +257,15 @@ module _ (s : State) (g : Given s) (e : stateSound s ≡ true) where
       (record { between = q; taken = t .takes; acted = first-acts (s .overlay) fine id m (w .0) h q t z b (w .1 .0) a }))))
   advances (begins false p id m b) w =
       each-user (s .overlay) (fine .sound) m _ (w .0 .legal) (w .0 .user) (λ h q t z.
-      let x = begun id b (w .1 .0) in
       let y : Pending = record { head = headFor id b; meta = metaBits m h; used = 0 } in
-      let v : Held (q .texts .strings) (kindOf b) (s .parts) y =
-      bare-held x (q .texts .strings) (metaBits m h) (s .parts) (named-legal (s .overlay) fine id m (w .0) h q t z) (head-fits id b (w .0 .fits) (w .1 .0))
-      (named-fits (s .overlay) fine id m (w .0) h q t z) in
-      let u : Held (q .texts .strings) (p .kind) (s .parts) y = rw (w .1 .1) v in
+      let v : Held (q .texts .strings) (p .kind) (s .parts) y = rw (w .1 .1) (named-held (s .overlay) fine id m (w .0) h q t z b (w .1 .0) (s .parts)) in
       leaves (record {
         comes = record { reader = record { place = p; staged = record { id = id; held = first m b } }; texts = userText m; act = none };
         is = refl;
         place = refl;
         acted = record { between = q; taken = t .takes; acted = no-act };
-        held = u;
-        staged =
-            ap (λ (k : Kind). stagedOf (textsOf (q .texts)) k (s .parts) y) (w .1 .1)
-            ∙ (held-means (q .texts .strings) (kindOf b) (s .parts) y v (textsOf (q .texts)) ∙ first-comes (s .overlay) fine id m (w .0) h q t z b (w .1 .0));
+        held = v;
+        staged = ap (λ (k : Kind). stagedOf (textsOf (q .texts)) k (s .parts) y) (w .1 .1) ∙ named-means (s .overlay) fine id m (w .0) h q t z b (w .1 .0) (s .parts);
         small = g .reader .bytes;
         size = refl;
       }))
@@ -277,21 +279,21 @@ module _ (s : State) (g : Given s) (e : stateSound s ≡ true) where
       each-text (s .overlay) (fine .sound) (t .key) _ (w .1 .0) (λ n o a.
       each-within (tagWithin s t) _ R.TooManyParts (λ c.
       let u : Tag ℕ = record { key = n; value = t .value } in
-      let c1 = both-left _ _ c in
-      let b = tag-grows kind (pending .head) (pending .meta) (s .parts) (pending .used) (held .held) (held .stages) (held .fits) (omega (arith, g .reader .room)) (held-few _ _ _ _ held) u
-      (handle-fits o (takes-fine fine (a .takes)) n (a .held)) c1 (both-right (leb (pending .head .tags + 1) (limits .tags)) _ c) in
+      let l = sym (tag-limit kind (pending .head) (pending .meta) (s .parts) (pending .used) (held .held) (held .stages) (held .fits) few u) ∙ c in
+      let b = tag-grows kind (pending .head) (pending .meta) (s .parts) (pending .used) (held .held) (held .stages) (held .fits) few (g .reader .room) u
+      (handle-fits o (takes-fine fine (a .takes)) n (a .held)) l in
       grown (tags p t) p (w .0) o (t .key ∷ []) (a .takes) (moreTags (pending .head)) (pending .used) (tagPart n (t .value)) (withTag (held .held) u) (Turn.withTag t) refl refl b
-      (legal-tag (o .texts .strings) (held .held) (more-legal (tags p t) p (w .0) o (t .key ∷ []) (a .takes)) u (a .held) (w .1 .1) (b .few))
-      (tags-fit (pending .head) (held .head) (leb-true (pending .head .tags + 1) 256 c1))
+      (legal-tag (o .texts .strings) (held .held) (more-legal (tags p t) p (w .0) o (t .key ∷ []) (a .takes)) u (a .held) (w .1 .1) l)
+      (tags-fit (pending .head) (held .head) (leb-true (pending .head .tags + 1) 256 (both-left _ _ c)))
       (tag-small n (t .value) (w .1 .1))
       (tag-swapped (textOf now) (textOf (textsOf (o .texts))) (held .held) (before (tags p t) p (w .0) o (t .key ∷ []) (a .takes)) t n (a .text))))
   advances (refers p z) w =
       let x = way-body (held .held .body) (held .stages .kind ∙ w .1 .0) in
       each-within (partWithin s (limits .refs)) _ R.TooManyParts (λ c.
-      let b = ref-grows kind (pending .head) (pending .meta) (s .parts) (pending .used) (held .held) (held .stages) (held .fits) (omega (arith, g .reader .room)) (held-few _ _ _ _ held)
-      (x .0) z (w .1 .0) (x .1) (w .1 .1) c in
+      let l = sym (ref-limit kind (pending .head) (pending .meta) (s .parts) (pending .used) (held .held) (held .stages) (held .fits) few (x .0) z (w .1 .0) (x .1)) ∙ c in
+      let b = ref-grows kind (pending .head) (pending .meta) (s .parts) (pending .used) (held .held) (held .stages) (held .fits) few (g .reader .room) (x .0) z (w .1 .0) (x .1) (w .1 .1) l in
       grown (refers p z) p (w .0) (s .overlay) [] no-text (moreParts (pending .head)) (partPlace s) (refPart (ofZ w64 z)) (withRef (held .held) (x .0) z) (Turn.withRef z) refl refl b
-      (legal-ref (s .overlay .texts .strings) (held .held) (held .lawful) (x .0) z (b .few))
+      (legal-ref (s .overlay .texts .strings) (held .held) (held .lawful) (x .0) z l)
       (count-fits (pending .head) (held .head) (leb-true (pending .head .count + 1) 2000 c))
       (ref-small (ofZ w64 z))
       (ref-swapped (textOf now) (textOf now) (held .held) refl (x .0) z (x .1)))
@@ -300,10 +302,11 @@ module _ (s : State) (g : Given s) (e : stateSound s ≡ true) where
       each-text (s .overlay) (fine .sound) (y .role) _ (w .1 .1 .1) (λ n o a.
       each-within (partWithin s (limits .members)) _ R.TooManyParts (λ c.
       let u : Member ℕ = record { ref = y .ref; type = y .type; role = n } in
-      let b = member-grows kind (pending .head) (pending .meta) (s .parts) (pending .used) (held .held) (held .stages) (held .fits) (omega (arith, g .reader .room)) (held-few _ _ _ _ held)
-      (x .0) u (w .1 .0) (x .1) (w .1 .1 .0) (handle-fits o (takes-fine fine (a .takes)) n (a .held)) c in
+      let l = sym (member-limit kind (pending .head) (pending .meta) (s .parts) (pending .used) (held .held) (held .stages) (held .fits) few (x .0) u (w .1 .0) (x .1)) ∙ c in
+      let b = member-grows kind (pending .head) (pending .meta) (s .parts) (pending .used) (held .held) (held .stages) (held .fits) few (g .reader .room) (x .0) u (w .1 .0) (x .1) (w .1 .1 .0)
+      (handle-fits o (takes-fine fine (a .takes)) n (a .held)) l in
       grown (joins p y) p (w .0) o (y .role ∷ []) (a .takes) (moreParts (pending .head)) (partPlace s) (memberPart (memberBits y n)) (withMember (held .held) (x .0) u) (Turn.withMember y) refl refl b
-      (legal-member (o .texts .strings) (held .held) (more-legal (joins p y) p (w .0) o (y .role ∷ []) (a .takes)) (x .0) u (x .1) (a .held) (b .few))
+      (legal-member (o .texts .strings) (held .held) (more-legal (joins p y) p (w .0) o (y .role ∷ []) (a .takes)) (x .0) u (x .1) (a .held) l)
       (count-fits (pending .head) (held .head) (leb-true (pending .head .count + 1) 2000 c))
       (member-small (memberBits y n))
       (member-swapped (textOf now) (textOf (textsOf (o .texts))) (held .held) (before (joins p y) p (w .0) o (y .role ∷ []) (a .takes)) (x .0) y n (x .1) (a .text))))
@@ -315,3 +318,23 @@ module _ (s : State) (g : Given s) (e : stateSound s ≡ true) where
       (stages-back kind (pending .head) (pending .meta) b (held .held) (held .stages)) (held .lawful) a in
       cleared (ends p) p (q .overlay) [] (push (readerOf s .staged .id) (readerOf s .staged .held)) refl
       (record { between = s .overlay; taken = no-text; acted = subst (λ (y : Staged). Acts (s .overlay) (some (push (y .id) (y .held))) (q .overlay)) (sym means) i }))
+
+  -- ---- 16: "A reader gives 16 at the child that passes the limit"; a child is within the limits exactly where the element with it is
+
+  module _ (r : Record ℕ) (is : pendingRecord kind (s .parts) pending ≡ some r) where
+    same : held .held ≡ r
+    unfolding pendingRecord
+    same = cc (stages-back kind (pending .head) (pending .meta) (take (pending .used) (s .parts)) (held .held) (held .stages), is)
+
+    pub limit-tag : (t : Tag Bytes) (key : ℕ) → tagWithin s t ≡ withinLimits limits (withTag r (record { key = key; value = t .value }))
+    limit-tag t key = rw (← same) (tag-limit kind (pending .head) (pending .meta) (s .parts) (pending .used) (held .held) (held .stages) (held .fits) few (record { key = key; value = t .value }))
+
+    pub limit-ref : (rs : List ℤ) (z : ℤ) → kind ≡ K.Way → r .body ≡ refs rs → partWithin s (limits .refs) ≡ withinLimits limits (withRef r rs z)
+    limit-ref rs z k b =
+        let c : held .held .body ≡ refs rs = ap (λ (x : Record ℕ). x .body) same ∙ b in
+        rw (← same) (ref-limit kind (pending .head) (pending .meta) (s .parts) (pending .used) (held .held) (held .stages) (held .fits) few rs z k c)
+
+    pub limit-member : (ms : List (Member ℕ)) (x : Member ℕ) → kind ≡ K.Relation → r .body ≡ members ms → partWithin s (limits .members) ≡ withinLimits limits (withMember r ms x)
+    limit-member ms x k b =
+        let c : held .held .body ≡ members ms = ap (λ (x : Record ℕ). x .body) same ∙ b in
+        rw (← same) (member-limit kind (pending .head) (pending .meta) (s .parts) (pending .used) (held .held) (held .stages) (held .fits) few ms x k c)

@@ -1,10 +1,10 @@
 -- An event and an end, place by place: 22, the stop mark, then the step or the level.
 use Prim.Native.Nat.{ℕ, _+_}
 use mathlib.Core.Path.{_≡_, refl, sym, _∙_, ap}
-use mathlib.Core.Bool.{Bool, true, false}
+use mathlib.Core.Bool.{true, false}
 use mathlib.Core.Logic.{_↔_}
 use Rattle.base.specs.Bytes.{Bytes}
-use Rattle.base.proofs.Split.{byBool, no, clash}
+use Rattle.base.proofs.Split.{byBool, no}
 use Rattle.refusal.specs.declared.Refusal.{Refusal}
 use Rattle.refusal.specs.declared.Refusal.the-variants as R
 use Rattle.nesting.specs.declared.Level.{Level}
@@ -19,8 +19,8 @@ use Rattle.reader.specs.Step.{Advanced, Step, goes, stops, stepOf}
 use Rattle.reader.specs.Event.{EventResult, refusedAt, stepped, unlessStopped, eventOn, endAt, endOn}
 
 -- an answer, by what the whole is
-pub answered : {a : EventResult} {t : State} {x y : EventAnswer} → a ≡ record { state = t; answer = x } → a .answer ≡ y → x ≡ y
-answered {a} e f = sym (ap (λ (z : EventResult). z .answer) e) ∙ f
+pub answer-is : {a : EventResult} {t : State} {x y : EventAnswer} → a ≡ record { state = t; answer = x } → a .answer ≡ y → x ≡ y
+answer-is {a} e f = sym (ap (λ (z : EventResult). z .answer) e) ∙ f
 
 -- an event or an end is accepted or refused
 pub byAnswer : {C : Type 0} (x : EventAnswer) → (x ≡ E.Accepted → C) → ((r : Refusal) (n : ℕ) → x ≡ E.Refused r n → C) → C
@@ -81,7 +81,7 @@ module _ (line : Bytes) (s : State) where
   pub event-goes : eventOn line s .answer ≡ E.Accepted
       → (stateSound s ≡ true) × ((l : Advanced) × ((stepAt ≡ goes l) × (eventOn line s ≡ stepped s (goes l))))
   event-goes a =
-      byEvent (λ u w. let z = answered w a in no (cc)) (λ x m u q t w. let z = answered w a in no (cc)) (λ x u q f w. let z = answered w a in no (cc))
+      byEvent (λ u w. let z = answer-is w a in no (cc)) (λ x m u q t w. let z = answer-is w a in no (cc)) (λ x u q f w. let z = answer-is w a in no (cc))
       (λ l u q f w. (u, (l, (f, w))))
 
   -- it adds one to the count of lines, and its reader is not stopped

@@ -1,7 +1,7 @@
 -- An element that is staged: its head counts a record's parts, its bytes are theirs; and with one part more it is staged for the record with that part.
 use Prim.Native.Nat.{ℕ, _+_, _*_, _-_, _≤_}
 use mathlib.Core.Path.{_≡_, refl, sym, _∙_, ap}
-use mathlib.Core.Bool.{true}
+use mathlib.Core.Bool.{Bool, true, false}
 use mathlib.Core.Option.{Option, none, some}
 use mathlib.Core.List.{List, [], _∷_, _++_, append-nil}
 use native.Mathlib.Omega.{arith}
@@ -11,7 +11,7 @@ use lib.ListN.{length, take, length-append}
 use lib.Seq.{length-take-le}
 use mir.Syntax.{Width, w64}
 use mir.Val.{SFits, toZ, ofZ}
-use borrow.Author.Tests.{leb-true, le-leb, lt-ltb}
+use borrow.Author.Tests.{lt-ltb}
 use Rattle.base.specs.Bytes.{Bytes, both, all}
 use Rattle.base.proofs.Split.{both-left, both-right, both-of, no}
 use Rattle.base.proofs.Lists.{all-append, all-cons, all-nil}
@@ -23,7 +23,7 @@ use Rattle.compact.specs.Layout.{i64, memberBytes, Head, headOf, bodyBytes, par
 use Rattle.compact.specs.Cut.{Cut, cutBody, cutParts, usedUp, whole, pushedRecord}
 use Rattle.compact.specs.Fits.{fitsNumber, fitsSigned, fitsMember, fitsTag, fitsBody}
 use Rattle.compact.specs.Held.{metaOf, nodeHead, countsHead, headIn}
-use Rattle.compact.specs.Legal.{valueBytes, limits, withinLimits}
+use Rattle.compact.specs.Legal.{valueBytes, limits, bodyWithin, withinLimits}
 use Rattle.compact.specs.declared.ArenaMeta.{ArenaMeta}
 use Rattle.compact.specs.declared.PushHead.{PushHead}
 use Rattle.compact.proofs.Format.{first, begin, of-cut, i64-format, counted-is, list}
@@ -74,10 +74,10 @@ pub record Stages (k : Kind) (h : PushHead) (m : ArenaMeta) (x : Bytes) (r : Rec
   pub fit : both (fitsBody (r .body)) (all fitsTag (r .tags)) ≡ true
   pub bytes : x ≡ partsBytes r
 
-pub stages : (k : Kind) (h : PushHead) (m : ArenaMeta) (x : Bytes) (r : Record ℕ) → all isByte x ≡ true → pushedRecord k (headIn k h) (metaOf m) x ≡ some r
+pub stages-of : (k : Kind) (h : PushHead) (m : ArenaMeta) (x : Bytes) (r : Record ℕ) → all isByte x ≡ true → pushedRecord k (headIn k h) (metaOf m) x ≡ some r
     → Stages k h m x r
 unfolding pushedRecord
-stages k h m x r b e = go (cutParts k (headIn k h) (metaOf m) x) refl e
+stages-of k h m x r b e = go (cutParts k (headIn k h) (metaOf m) x) refl e
   where
     used-up : (y : Record ℕ) (q : Bytes) → usedUp y q ≡ some r → cutParts k (headIn k h) (metaOf m) x ≡ some (record { item = y; rest = q }) → headOf (toZ w64 (h .id)) (r .body) (length (r .tags)) ≡ headIn k h
     used-up y [] e w = let z : y ≡ r = cc in rw (← z) (parts-head h k (metaOf m) x _ b w)
@@ -165,10 +165,9 @@ module _ (k : Kind) (h : PushHead) (m : ArenaMeta) (x : Bytes) (r : Record ℕ) 
 -- ---- one part more
 
 -- with a part x put in at a place, the element stages for the next record, which is within the limits
-pub record Grows (k : Kind) (h : PushHead) (m : ArenaMeta) (parts : Bytes) (used at : ℕ) (x : Bytes) (next : Record ℕ) : Type 0 where
+pub record PartStaged (k : Kind) (h : PushHead) (m : ArenaMeta) (parts : Bytes) (used at : ℕ) (x : Bytes) (next : Record ℕ) : Type 0 where
   pub stages : Stages k h m (take (used + length x) (staged parts used at x)) next
   pub room : used + length x ≤ length parts
-  pub few : withinLimits limits next ≡ true
 
 pub fits-signed : (w : Width) (z : ℤ) → SFits w z → fitsSigned w z ≡ true
 unfolding fitsSigned
@@ -179,88 +178,79 @@ unfolding valueBytes
 values-last [] t = omega arith
 values-last (y ∷ ts) t = omega (arith, values-last ts t)
 
+only : (b : Bool) → b ≡ both b true
+unfolding both
+only true = refl
+only false = refl
+
 module _ (k : Kind) (h : PushHead) (m : ArenaMeta) (parts : Bytes) (used : ℕ) (r : Record ℕ) (w : Stages k h m (take used parts) r) (u : used ≤ length parts)
-    (n : 44432 ≤ length parts) (f : withinLimits limits r ≡ true) where
-  abbrev id : ℤ
-  id = toZ w64 (h .id)
-
-  tag-within : (t : Tag ℕ) → h .tags + 1 ≤ 256 → valuesIn k h used + length (t .value) ≤ 16384 → withinLimits limits (withTag r t) ≡ true
+    (f : withinLimits limits r ≡ true) where
+  few : (leb (length (r .tags)) (limits .tags) ≡ true) × ((bodyWithin limits (r .body) ≡ true) × (leb (valueBytes (r .tags)) (limits .valueBytes) ≡ true))
   unfolding withinLimits
-  tag-within t a b =
-      let c = tags-counted k h m (take used parts) r w in
+  few = (both-left _ _ f, (both-left _ _ (both-right _ _ f), both-right _ _ (both-right _ _ f)))
+
+  -- ---- 16: a child is within the limits exactly where the record with it is
+
+  pub tag-limit : (t : Tag ℕ) → both (leb (h .tags + 1) (limits .tags)) (leb (valuesIn k h used + length (t .value)) (limits .valueBytes)) ≡ withinLimits limits (withTag r t)
+  unfolding withinLimits both
+  tag-limit t =
+      let c : length (r .tags ++ (t ∷ [])) ≡ h .tags + 1 = rw length-append (ap (λ (i : ℕ). i + 1) (tags-counted k h m (take used parts) r w)) in
       let v : valuesIn k h used ≡ valueBytes (r .tags) = rw (length-take-le used parts u) at (values-counted k h m (take used parts) r w) in
-      both-of (le-leb (length (r .tags ++ (t ∷ []))) 256 (omega (arith, length-append (r .tags) (t ∷ []))))
-      (both-of (both-left _ _ (both-right _ _ f)) (le-leb (valueBytes (r .tags ++ (t ∷ []))) 16384 (omega (arith, values-last (r .tags) t))))
+      rw (c, few .1 .0, values-last (r .tags) t, v)
 
-  pub tag-grows : (t : Tag ℕ) → fitsNumber 4 (t .key) ≡ true → leb (h .tags + 1) (limits .tags) ≡ true → leb (valuesIn k h used + length (t .value)) (limits .valueBytes) ≡ true
-      → Grows k (moreTags h) m parts used used (tagPart (t .key) (t .value)) (withTag r t)
-  unfolding fitsTag fitsNumber
-  tag-grows t a b c =
-      let c2 = leb-true _ _ c in
-      let g = tag-within t (leb-true _ _ b) c2 in
-      let l : length (tagPart (t .key) (t .value)) ≡ 8 + length (t .value) = ap length (tag-part t) ∙ length-tag t in
-      let q = tag-fits parts used r (w .bytes) t u g in
-      let p : used + (8 + length (t .value)) ≤ length parts = omega arith in
-      let e : headOf id (r .body) (length (r .tags ++ (t ∷ []))) ≡ headIn k (moreTags h) =
-      rw length-append (tags-more id (r .body) (length (r .tags))) ∙ ap tagsMore (w .head) ∙ sym (in-tags-more k h) in
-      record {
-        stages = record {
-          kind = w .kind;
-          head = e;
-          meta = w .meta;
-          fit = both-of (both-left _ _ (w .fit)) (all-append fitsTag (r .tags) (t ∷ []) (both-right _ _ (w .fit)) (all-cons fitsTag t [] (both-of a (lt-ltb (length (t .value)) 4294967296 (omega arith))) (all-nil fitsTag)));
-          bytes = rw l (staged-tag parts used r (w .bytes) t p);
-        };
-        room = omega arith;
-        few = g;
-      }
+  pub ref-limit : (rs : List ℤ) (z : ℤ) → k ≡ Way → r .body ≡ refs rs → leb (h .count + 1) (limits .refs) ≡ withinLimits limits (withRef r rs z)
+  unfolding withinLimits both
+  ref-limit rs z e b =
+      let c : length (rs ++ (z ∷ [])) ≡ h .count + 1 = rw length-append (ap (λ (i : ℕ). i + 1) (refs-counted k h m (take used parts) r w rs e b)) in
+      rw (c, few .0, few .1 .1) (only (leb (h .count + 1) 2000))
 
-  pub ref-grows : (rs : List ℤ) (z : ℤ) → k ≡ Way → r .body ≡ refs rs → SFits w64 z → leb (h .count + 1) (limits .refs) ≡ true
-      → Grows k (moreParts h) m parts used (middle k (h .count)) (refPart (ofZ w64 z)) (withRef r rs z)
-  unfolding withinLimits fitsBody
-  ref-grows rs z e b s a =
-      let c = refs-counted k h m (take used parts) r w rs e b in
-      let o : middle k (h .count) ≡ 8 * length rs = rw e (ap (λ (y : ℕ). 8 * y) (sym c)) in
-      let g : withinLimits limits (withRef r rs z) ≡ true =
-      both-of (both-left _ _ f) (both-of (le-leb (length (rs ++ (z ∷ []))) 2000 (omega (arith, leb-true (h .count + 1) 2000 a, length-append rs (z ∷ [])))) (both-right _ _ (both-right _ _ f))) in
-      let l : length (refPart (ofZ w64 z)) ≡ 8 = length-i64 z in
-      let q = ref-fits parts used r (w .bytes) rs z b u g in
-      let p : used + 8 ≤ length parts = omega arith in
-      let i : headOf id (refs rs) (length (r .tags)) ≡ headIn k h = rw b at (w .head) in
-      let j : fitsBody (refs rs) ≡ true = rw b at (both-left _ _ (w .fit)) in
-      record {
-        stages = record {
-          kind = sym e;
-          head = refs-more id rs z (length (r .tags)) ∙ ap countMore i ∙ sym (in-count-more k h (λ y. no (cc)));
-          meta = w .meta;
-          fit = both-of (all-append (fitsSigned w64) rs (z ∷ []) j (all-cons (fitsSigned w64) z [] (fits-signed w64 z s) (all-nil (fitsSigned w64)))) (both-right _ _ (w .fit));
-          bytes = rw (l, o) (staged-ref parts used r (w .bytes) rs z b p);
-        };
-        room = omega arith;
-        few = g;
-      }
+  pub member-limit : (ms : List (Member ℕ)) (x : Member ℕ) → k ≡ Relation → r .body ≡ members ms → leb (h .count + 1) (limits .members) ≡ withinLimits limits (withMember r ms x)
+  unfolding withinLimits both
+  member-limit ms x e b =
+      let c : length (ms ++ (x ∷ [])) ≡ h .count + 1 = rw length-append (ap (λ (i : ℕ). i + 1) (members-counted k h m (take used parts) r w ms e b)) in
+      rw (c, few .0, few .1 .1) (only (leb (h .count + 1) 2000))
 
-  pub member-grows : (ms : List (Member ℕ)) (x : Member ℕ) → k ≡ Relation → r .body ≡ members ms → SFits w64 (x .ref) → fitsNumber 4 (x .role) ≡ true
-      → leb (h .count + 1) (limits .members) ≡ true → Grows k (moreParts h) m parts used (middle k (h .count)) (memberPart (inBits x)) (withMember r ms x)
-  unfolding withinLimits fitsBody fitsMember
-  member-grows ms x e b s t a =
-      let c = members-counted k h m (take used parts) r w ms e b in
-      let o : middle k (h .count) ≡ 13 * length ms = rw e (ap (λ (y : ℕ). 13 * y) (sym c)) in
-      let g : withinLimits limits (withMember r ms x) ≡ true =
-      both-of (both-left _ _ f) (both-of (le-leb (length (ms ++ (x ∷ []))) 2000 (omega (arith, leb-true (h .count + 1) 2000 a, length-append ms (x ∷ [])))) (both-right _ _ (both-right _ _ f))) in
-      let l : length (memberPart (inBits x)) ≡ 13 = ap length (member-part x) ∙ length-member x in
-      let q = member-fits parts used r (w .bytes) ms x b u g in
-      let p : used + 13 ≤ length parts = omega arith in
-      let i : headOf id (members ms) (length (r .tags)) ≡ headIn k h = rw b at (w .head) in
-      let j : fitsBody (members ms) ≡ true = rw b at (both-left _ _ (w .fit)) in
-      record {
-        stages = record {
-          kind = sym e;
-          head = members-more id ms x (length (r .tags)) ∙ ap countMore i ∙ sym (in-count-more k h (λ y. no (cc)));
-          meta = w .meta;
-          fit = both-of (all-append fitsMember ms (x ∷ []) j (all-cons fitsMember x [] (both-of (fits-signed w64 (x .ref) s) t) (all-nil fitsMember))) (both-right _ _ (w .fit));
-          bytes = rw (l, o) (staged-member parts used r (w .bytes) ms x b p);
-        };
-        room = omega arith;
-        few = g;
-      }
+  -- ---- and then the element is staged for that record
+
+  module _ (n : length parts ≡ 44432) where
+    abbrev id : ℤ
+    id = toZ w64 (h .id)
+
+    grows : (j : PushHead) (at size : ℕ) (x : Bytes) (next : Record ℕ) → kindOf (next .body) ≡ k → headOf (toZ w64 (j .id)) (next .body) (length (next .tags)) ≡ headIn k j
+        → next .meta ≡ metaOf m → both (fitsBody (next .body)) (all fitsTag (next .tags)) ≡ true → length x ≡ size → used + size ≤ 44432
+        → (used + size ≤ length parts → take (used + size) (staged parts used at x) ≡ partsBytes next) → PartStaged k j m parts used at x next
+    grows j at size x next kind head meta fit long room bytes =
+        record { stages = record { kind = kind; head = head; meta = meta; fit = fit; bytes = rw long (bytes (omega arith)) }; room = omega arith }
+
+    pub tag-grows : (t : Tag ℕ) → fitsNumber 4 (t .key) ≡ true → withinLimits limits (withTag r t) ≡ true → PartStaged k (moreTags h) m parts used used (tagPart (t .key) (t .value)) (withTag r t)
+    unfolding fitsTag fitsNumber
+    tag-grows t a g =
+        let q = tag-fits parts used r (w .bytes) t u g in
+        grows (moreTags h) used (8 + length (t .value)) (tagPart (t .key) (t .value)) (withTag r t) (w .kind)
+        (rw length-append (tags-more id (r .body) (length (r .tags))) ∙ ap tagsMore (w .head) ∙ sym (in-tags-more k h)) (w .meta)
+        (both-of (both-left _ _ (w .fit)) (all-append fitsTag (r .tags) (t ∷ []) (both-right _ _ (w .fit)) (all-cons fitsTag t [] (both-of a (lt-ltb (length (t .value)) 4294967296 (omega arith))) (all-nil fitsTag))))
+        (ap length (tag-part t) ∙ length-tag t) q (staged-tag parts used r (w .bytes) t)
+
+    pub ref-grows : (rs : List ℤ) (z : ℤ) → k ≡ Way → r .body ≡ refs rs → SFits w64 z → withinLimits limits (withRef r rs z) ≡ true
+        → PartStaged k (moreParts h) m parts used (middle k (h .count)) (refPart (ofZ w64 z)) (withRef r rs z)
+    unfolding fitsBody
+    ref-grows rs z e b s g =
+        let o : middle k (h .count) ≡ 8 * length rs = rw e (ap (λ (y : ℕ). 8 * y) (sym (refs-counted k h m (take used parts) r w rs e b))) in
+        let i : headOf id (refs rs) (length (r .tags)) ≡ headIn k h = rw b at (w .head) in
+        let j : fitsBody (refs rs) ≡ true = rw b at (both-left _ _ (w .fit)) in
+        grows (moreParts h) (middle k (h .count)) 8 (refPart (ofZ w64 z)) (withRef r rs z) (sym e)
+        (refs-more id rs z (length (r .tags)) ∙ ap countMore i ∙ sym (in-count-more k h (λ y. no (cc)))) (w .meta)
+        (both-of (all-append (fitsSigned w64) rs (z ∷ []) j (all-cons (fitsSigned w64) z [] (fits-signed w64 z s) (all-nil (fitsSigned w64)))) (both-right _ _ (w .fit)))
+        (length-i64 z) (ref-fits parts used r (w .bytes) rs z b u g) (rw o (staged-ref parts used r (w .bytes) rs z b))
+
+    pub member-grows : (ms : List (Member ℕ)) (x : Member ℕ) → k ≡ Relation → r .body ≡ members ms → SFits w64 (x .ref) → fitsNumber 4 (x .role) ≡ true
+        → withinLimits limits (withMember r ms x) ≡ true → PartStaged k (moreParts h) m parts used (middle k (h .count)) (memberPart (inBits x)) (withMember r ms x)
+    unfolding fitsBody fitsMember
+    member-grows ms x e b s t g =
+        let o : middle k (h .count) ≡ 13 * length ms = rw e (ap (λ (y : ℕ). 13 * y) (sym (members-counted k h m (take used parts) r w ms e b))) in
+        let i : headOf id (members ms) (length (r .tags)) ≡ headIn k h = rw b at (w .head) in
+        let j : fitsBody (members ms) ≡ true = rw b at (both-left _ _ (w .fit)) in
+        grows (moreParts h) (middle k (h .count)) 13 (memberPart (inBits x)) (withMember r ms x) (sym e)
+        (members-more id ms x (length (r .tags)) ∙ ap countMore i ∙ sym (in-count-more k h (λ y. no (cc)))) (w .meta)
+        (both-of (all-append fitsMember ms (x ∷ []) j (all-cons fitsMember x [] (both-of (fits-signed w64 (x .ref) s) t) (all-nil fitsMember))) (both-right _ _ (w .fit)))
+        (ap length (member-part x) ∙ length-member x) (member-fits parts used r (w .bytes) ms x b u g) (rw o (staged-member parts used r (w .bytes) ms x b))

@@ -1,56 +1,49 @@
 -- An accepted event is a turn of the acts' reader that its state stands for, by the direct calls that the turn makes. The overlay stays sound and so does what is staged,
 -- whatever the count of lines; the reader too, until its count is at its largest.
-use Prim.Native.Nat.{ℕ, _+_, _<_, _≤_}
+use Prim.Native.Nat.{ℕ, _≤_}
 use mathlib.Core.Path.{_≡_, refl, sym, _∙_, ap}
-use mathlib.Core.Bool.{Bool, true, false, cond}
+use mathlib.Core.Bool.{true, false, cond}
 use mathlib.Core.Logic.{_↔_}
 use mathlib.Core.Option.{Option, none, some}
 use mathlib.Core.List.{List, [], _∷_}
 use native.Mathlib.Omega.{arith}
-use lib.ListN.{length}
-use borrow.Author.Tests.{lt-ltb, le-leb}
-use Rattle.base.specs.Bytes.{Bytes, both, all}
-use Rattle.base.proofs.Split.{byBool, both-left, both-right, both-of, no, clash}
-use Rattle.little.specs.Little.{isByte}
+use borrow.Author.Tests.{le-leb}
+use Rattle.base.specs.Bytes.{Bytes, both}
+use Rattle.base.proofs.Split.{byBool, both-of, no, clash}
 use Rattle.refusal.specs.Refusal.{numberOf}
 use Rattle.refusal.specs.First.{Row, firstOf}
 use Rattle.refusal.proofs.First.{before}
 use Rattle.refusal.specs.declared.Refusal.{Refusal}
 use Rattle.refusal.specs.declared.Refusal.the-variants as R
-use Rattle.nesting.specs.Nesting.{start}
-use Rattle.nesting.specs.declared.Place.{Place}
-use Rattle.interner.specs.Texts.{takeAll, textOf}
+use Rattle.interner.specs.Texts.{takeAll}
 use Rattle.interner.specs.Sound.{textsOf}
-use Rattle.overlay.specs.Overlay.{Overlay}
 use Rattle.overlay.specs.Sound.{isSound}
-use Rattle.overlay.specs.Given.{headFits, metaFits, InBytes}
-use Rattle.field.specs.Field.{Field, got, bad}
+use Rattle.field.specs.Field.{got, bad}
 use Rattle.decision.specs.Decision.{Decision, refuses, moves, begins, deletes, tags, refers, joins, ends, decide}
 use Rattle.decision.specs.Table.{refusalIn}
 use Rattle.decision.proofs.Lawful.{decide-lawful}
 use Rattle.decision.proofs.Refusals.{decide-within}
-use Rattle.acts.specs.Turn.{Reader, fresh, Turn, turnOf, turn}
+use Rattle.acts.specs.Turn.{Reader, Turn, turnOf, turn}
 use Rattle.reader.specs.declared.Stop.{Stop}
-use Rattle.reader.specs.declared.Stop.the-variants.{Going, At}
-use Rattle.reader.specs.declared.EventReader.{EventReader}
+use Rattle.reader.specs.declared.Stop.the-variants.{At}
 use Rattle.reader.specs.declared.EventAnswer.the-variants as E
-use Rattle.reader.specs.State.{State, noPending, freshReader, nextLine, stopsBy, isStopped, pendingSound, readerSound, stateSound}
-use Rattle.reader.specs.Given.{ReaderGiven, Given}
-use Rattle.reader.specs.Step.{Advanced, Step, goes, stops, stepOf}
+use Rattle.reader.specs.State.{State, nextLine, stopsBy, isStopped, pendingSound, readerSound, stateSound}
+use Rattle.reader.specs.Given.{StateGiven}
+use Rattle.reader.specs.Step.{goes, stops, stepOf}
 use Rattle.reader.specs.Event.{EventResult, refusedAt, stoppedAt, stepped, eventOn, endOn}
-use Rattle.reader.specs.Means.{stagedOf, readerOf}
-use Rattle.reader.proofs.Answers.{answered, byAnswer, stepAt, event-stopped, event-going, byEvent, event-goes, end-stopped}
-use Rattle.reader.specs.Table.{storeRows}
-use Rattle.reader.proofs.Acts.{Acted, Fine, acted-fine, acted-texts}
-use Rattle.reader.proofs.Held.{Held, held-of, held-sound, held-more, held-same, nothing-held, nothing-means}
-use Rattle.reader.proofs.Steps.{each-goes, empty-held}
+use Rattle.reader.specs.Means.{readerOf}
+use Rattle.reader.proofs.Answers.{answer-is, stepAt, event-stopped, event-going, byEvent, event-goes, end-stopped}
+use Rattle.reader.specs.Table.{storeRowsOf}
+use Rattle.reader.proofs.Acts.{Acted, acted-fine, acted-texts}
+use Rattle.reader.proofs.Held.{held-sound}
+use Rattle.reader.proofs.Steps.{each-goes}
 use Rattle.reader.proofs.Advances.{Advances, state-fine, advances}
-use Rattle.reader.proofs.Tables.{refusalOf, step-first}
+use Rattle.reader.proofs.Tables.{refusalBy, step-first}
 
 -- ---- an accepted event
 
 -- the state t that an accepted event of a state s leaves
-pub record Accepted (line : Bytes) (s t : State) : Type 0 where
+pub record TurnDone (line : Bytes) (s t : State) : Type 0 where
   pub comes : Turn
   pub is : turn line (readerOf s) ≡ got comes
   -- its reader stands for the turn's
@@ -59,12 +52,12 @@ pub record Accepted (line : Bytes) (s t : State) : Type 0 where
   pub texts : textsOf (t .overlay .texts) ≡ takeAll (textsOf (s .overlay .texts)) (comes .texts)
   -- and its overlay is that of the turn's direct calls
   pub acted : Acted (s .overlay) comes (t .overlay)
-  pub given : Given t
+  pub given : StateGiven t
   pub sound : isSound (t .overlay) ≡ true
   pub pending : pendingSound (t .overlay .texts .strings) (t .reader .place .kind) (t .parts) (t .reader .pending) ≡ true
 
-module _ (line : Bytes) (s : State) (g : Given s) where
-  pub event-accepted : eventOn line s .answer ≡ E.Accepted → Accepted line s (eventOn line s .state)
+module _ (line : Bytes) (s : State) (g : StateGiven s) where
+  pub event-accepted : eventOn line s .answer ≡ E.Accepted → TurnDone line s (eventOn line s .state)
   unfolding readerOf turn
   event-accepted a =
       let w = event-goes line s a in
@@ -110,8 +103,8 @@ unfolding firstOf
 first-among lo hi [] r w e = no (cc)
 first-among lo hi (x ∷ rows) r w e = byBool (x .holds) (λ t. let z : x .gives ≡ r = cc (rw t at e) in rw (← z) (w .0)) (λ t. first-among lo hi rows r (w .1) (rw t at e))
 
-store-among : (d : Decision) (s : State) → Among 12 16 (storeRows d s)
-unfolding storeRows
+store-among : (d : Decision) (s : State) → Among 12 16 (storeRowsOf d s)
+unfolding storeRowsOf
 store-among (refuses r) s = tt
 store-among (moves p) s = tt
 store-among (begins true p id m b) s = ((omega arith, omega arith), ((omega arith, omega arith), ((omega arith, omega arith), ((omega arith, omega arith), tt))))
@@ -150,14 +143,14 @@ module _ (line : Bytes) (s : State) (e : stateSound s ≡ true) where
       → (decide line (s .reader .place) ≡ refuses r → C) → (12 ≤ numberOf r → numberOf r ≤ 16 → C) → C
   by-refusal {C} r f decided store = go (refusalIn d) refl
     where
-      first : some r ≡ before (refusalIn d) (firstOf (storeRows d s))
-      first = ap refusalOf (sym f) ∙ step-first s e d (decide-lawful line (s .reader .place)) .first
+      first : some r ≡ before (refusalIn d) (firstOf (storeRowsOf d s))
+      first = ap refusalBy (sym f) ∙ step-first s e d (decide-lawful line (s .reader .place)) .first
 
       go : (x : Option Refusal) → refusalIn d ≡ x → C
-      go (some y) q = let z : some r ≡ some y = first ∙ ap (λ (o : Option Refusal). before o (firstOf (storeRows d s))) q in decided (refuses-in d r (cc))
+      go (some y) q = let z : some r ≡ some y = first ∙ ap (λ (o : Option Refusal). before o (firstOf (storeRowsOf d s))) q in decided (refuses-in d r (cc))
       go none q =
-          let z : some r ≡ firstOf (storeRows d s) = first ∙ ap (λ (o : Option Refusal). before o (firstOf (storeRows d s))) q in
-          let w = first-among 12 16 (storeRows d s) r (store-among d s) (sym z) in
+          let z : some r ≡ firstOf (storeRowsOf d s) = first ∙ ap (λ (o : Option Refusal). before o (firstOf (storeRowsOf d s))) q in
+          let w = first-among 12 16 (storeRowsOf d s) r (store-among d s) (sym z) in
           store (w .0) (w .1)
 
   pub step-stops : (r : Refusal) → stepAt line s ≡ stops r → stopsBy r ≡ true
@@ -177,8 +170,8 @@ module _ (line : Bytes) (s : State) (e : stateSound s ≡ true) where
         byEvent line s
         (λ u w. clash e u)
         (λ x m u q t w. clash (rw q t) g)
-        (λ x u q f w. let z = answered w a in let k : x ≡ r = cc in (rw k at f, cc))
-        (λ l u q f w. let z = answered w a in no (cc))
+        (λ x u q f w. let z = answer-is w a in let k : x ≡ r = cc in (rw k at f, cc))
+        (λ l u q f w. let z = answer-is w a in no (cc))
 
     pub event-11 : (r : Refusal) → numberOf r ≤ 11 → (eventOn line s .answer ≡ E.Refused r (nextLine s)) ↔ (turn line (readerOf s) ≡ bad r)
     unfolding turn readerOf
@@ -199,14 +192,14 @@ module _ (line : Bytes) (s : State) where
       → (stateSound s ≡ true → stopsBy r ≡ true → eventOn line s .state ≡ marked s r n → C) → C
   byRefused r n a unsound refused =
       byEvent line s
-      (λ u w. let z = answered w a in unsound u (cc) (cc) (ap (λ (z : EventResult). z .state) w))
-      (λ x m u q t w. let z = answered w a in let k : x ≡ r = cc in let j : m ≡ n = cc in
+      (λ u w. let z = answer-is w a in unsound u (cc) (cc) (ap (λ (z : EventResult). z .state) w))
+      (λ x m u q t w. let z = answer-is w a in let k : x ≡ r = cc in let j : m ≡ n = cc in
       let i : s .reader .stop ≡ At r n = q ∙ (λ y. At (k y) (j y)) in
       refused u (rw (← k) t) (ap (λ (z : EventResult). z .state) w
       ∙ ap (λ (y : Stop). record { overlay = s .overlay; reader = record { place = s .reader .place; pending = s .reader .pending; lines = s .reader .lines; stop = y }; parts = s .parts }) i))
-      (λ x u q f w. let z = answered w a in let k : x ≡ r = cc in let j : nextLine s ≡ n = cc in
+      (λ x u q f w. let z = answer-is w a in let k : x ≡ r = cc in let j : nextLine s ≡ n = cc in
       refused u (rw (← k) (step-stops line s u x f)) (ap (λ (z : EventResult). z .state) w ∙ (λ y. marked s (k y) (j y))))
-      (λ l u q f w. let z = answered w a in no (cc))
+      (λ l u q f w. let z = answer-is w a in no (cc))
 
   -- 22 changes nothing; each other refusal its reader's mark alone, and that is the mark of a reader that was stopped
   pub event-refused-same : (r : Refusal) (n : ℕ) → eventOn line s .answer ≡ E.Refused r n → eventOn line s .state ≡ cond (stopsBy r) (marked s r n) s

@@ -1,4 +1,4 @@
--- The element that is staged, as a legal record: what the test of a reader says, what stays when texts are taken in, and what stands there between elements.
+-- The element that is staged, as a legal record: what the test of a reader says, and what stays when texts are taken in; and an element without parts.
 use Prim.Native.Nat.{ℕ, _<_, _≤_}
 use mathlib.Core.Path.{_≡_, refl, sym, _∙_, ap}
 use mathlib.Core.Bool.{true}
@@ -6,23 +6,21 @@ use mathlib.Core.Option.{some}
 use mathlib.Core.List.{List, []}
 use native.Mathlib.Omega.{arith}
 use lib.ListN.{length, take}
-use mir.Syntax.{w32, w64}
+use mir.Syntax.{w64}
 use mir.Val.{toZ}
-use borrow.Author.Tests.{leb-true, le-leb, lt-ltb}
-use Rattle.base.specs.Bytes.{Bytes, both, either, all}
+use borrow.Author.Tests.{leb-true, le-leb}
+use Rattle.base.specs.Bytes.{Bytes, all}
 use Rattle.base.proofs.Split.{both-left, both-right, both-of, clash}
 use Rattle.base.proofs.Lists.{all-nil}
 use Rattle.little.specs.Little.{isByte}
 use Rattle.little.proofs.Littles.{bytes-take}
 use Rattle.text.specs.Check.{isText}
-use Rattle.osm_id.specs.Order.{sameId}
 use Rattle.kind.specs.declared.Kind.{Kind}
-use Rattle.kind.specs.declared.Kind.the-variants as K
-use Rattle.model.specs.Record.{Member, Tag, Body, place, refs, members, Record, kindOf, flagged}
+use Rattle.model.specs.Record.{Tag, Body, refs, members, Record, kindOf}
 use Rattle.model.specs.Swap.{swapRecord}
-use Rattle.compact.specs.Held.{metaOf, headIn, nodeHead, countsHead}
+use Rattle.compact.specs.Held.{metaOf, headIn}
 use Rattle.compact.specs.Layout.{headOf, bodyBytes, partsBytes, joined}
-use Rattle.compact.specs.Fits.{fitsBody, fitsSigned, fitsMember, fitsTag}
+use Rattle.compact.specs.Fits.{fitsBody, fitsTag}
 use Rattle.compact.specs.Legal.{limits, handle, valueBytes, legalMeta, bodyHandles, legalHandles, legalTexts, inRange, bodyWithin, withinLimits, legal}
 use Rattle.compact.specs.declared.ArenaMeta.{ArenaMeta}
 use Rattle.compact.specs.declared.PushHead.{PushHead}
@@ -32,12 +30,12 @@ use Rattle.legal.specs.declared.Fault.the-variants as F
 use Rattle.legal.proofs.Laws.{legal-is, legal-more, push-legal}
 use Rattle.interner.specs.Texts.{textOf}
 use Rattle.overlay.specs.Given.{headFits, metaFits}
-use Rattle.acts.specs.Turn.{Staged, noElement}
+use Rattle.acts.specs.Turn.{Staged}
 use Rattle.reader.specs.declared.Pending.{Pending}
-use Rattle.reader.specs.State.{noPending, isLegal, pendingRecord, pendingSound}
+use Rattle.reader.specs.State.{isLegal, pendingRecord, pendingSound}
 use Rattle.reader.specs.Means.{stagedOf}
 use Rattle.reader.proofs.Texts.{legal-agree}
-use Rattle.reader.proofs.Element.{Stages, stages, stages-back}
+use Rattle.reader.proofs.Element.{Stages, stages-of, stages-back}
 
 pub record Held (strings : ℕ) (k : Kind) (parts : Bytes) (x : Pending) : Type 0 where
   pub held : Record ℕ
@@ -56,8 +54,8 @@ is-legal F.Legal e = refl
 is-legal (F.Refused r) e = clash e refl
 
 -- the texts of a record under its id, in an act's terms
-abbrev pub stagedAs : List Bytes → PushHead → Record ℕ → Staged
-stagedAs texts h r = record { id = toZ w64 (h .id); held = swapRecord (textOf texts) r }
+abbrev pub elementAs : List Bytes → PushHead → Record ℕ → Staged
+elementAs texts h r = record { id = toZ w64 (h .id); held = swapRecord (textOf texts) r }
 
 module _ (strings : ℕ) (k : Kind) (parts : Bytes) (x : Pending) where
   -- what the test accepts is a legal record, and a legal record passes it
@@ -67,7 +65,7 @@ module _ (strings : ℕ) (k : Kind) (parts : Bytes) (x : Pending) where
       let r = push-legal strings (pendingRecord k parts x) (is-legal _ (both-right _ _ e)) in
       record {
         held = r .0;
-        stages = stages k (x .head) (x .meta) (take (x .used) parts) (r .0) (bytes-take (x .used) parts b) (r .1 .0);
+        stages = stages-of k (x .head) (x .meta) (take (x .used) parts) (r .0) (bytes-take (x .used) parts b) (r .1 .0);
         lawful = r .1 .1;
         fits = leb-true (x .used) (length parts) (both-left _ _ e);
         head = h;
@@ -86,7 +84,7 @@ module _ (strings : ℕ) (k : Kind) (parts : Bytes) (x : Pending) where
     held-few = both-right _ _ (both-right _ _ (both-right _ _ (w .lawful)))
 
     -- what it stands for among the acts
-    pub held-means : (texts : List Bytes) → stagedOf texts k parts x ≡ stagedAs texts (x .head) (w .held)
+    pub held-means : (texts : List Bytes) → stagedOf texts k parts x ≡ elementAs texts (x .head) (w .held)
     unfolding stagedOf pendingRecord
     held-means texts = rw (stages-back k (x .head) (x .meta) (take (x .used) parts) (w .held) (w .stages))
 
@@ -101,7 +99,7 @@ module _ (strings : ℕ) (k : Kind) (parts : Bytes) (x : Pending) where
 
 -- ---- an element that has no part yet: a legal body without refs and members, and metadata that is legal
 
-pub record Bare (k : Kind) (h : PushHead) (b : Body ℕ) : Type 0 where
+pub record Partless (k : Kind) (h : PushHead) (b : Body ℕ) : Type 0 where
   pub kind : kindOf b ≡ k
   pub head : headOf (toZ w64 (h .id)) b 0 ≡ headIn k h
   pub fit : fitsBody b ≡ true
@@ -113,7 +111,7 @@ pub record Bare (k : Kind) (h : PushHead) (b : Body ℕ) : Type 0 where
 abbrev pub bareRecord : ArenaMeta → Body ℕ → Record ℕ
 bareRecord a b = record { meta = metaOf a; body = b; tags = [] }
 
-module _ {k : Kind} {h : PushHead} {b : Body ℕ} (w : Bare k h b) where
+module _ {k : Kind} {h : PushHead} {b : Body ℕ} (w : Partless k h b) where
   pub bare-stages : (a : ArenaMeta) → Stages k h a [] (bareRecord a b)
   unfolding partsBytes joined
   bare-stages a = record { kind = w .kind; head = w .head; meta = refl; fit = both-of (w .fit) (all-nil fitsTag); bytes = rw (w .parts) }
@@ -127,37 +125,3 @@ module _ {k : Kind} {h : PushHead} {b : Body ℕ} (w : Bare k h b) where
   abbrev pub bare-held : (n : ℕ) (a : ArenaMeta) (parts : Bytes) → legalMeta n (metaOf a) ≡ true → headFits h ≡ true → metaFits a ≡ true
       → Held n k parts (record { head = h; meta = a; used = 0 })
   bare-held n a parts e f g = record { held = bareRecord a b; stages = bare-stages a; lawful = bare-legal n a e; fits = omega arith; head = f; meta = g }
-
--- ---- between elements
-
-abbrev noBody : Kind → Body ℕ
-noBody K.Node = place (toZ w32 0) (toZ w32 0)
-noBody K.Way = refs []
-noBody K.Relation = members []
-
-nothing-bare : (k : Kind) → Bare k (noPending .head) (noBody k)
-unfolding headOf headIn nodeHead countsHead fitsBody bodyBytes bodyHandles inRange joined both
-nothing-bare K.Node = record { kind = refl; head = refl; fit = refl; parts = refl; handles = λ n. refl; inside = refl; few = refl }
-nothing-bare K.Way = record { kind = refl; head = refl; fit = all-nil (fitsSigned w64); parts = refl; handles = λ n. refl; inside = refl; few = refl }
-nothing-bare K.Relation = record { kind = refl; head = refl; fit = all-nil fitsMember; parts = refl; handles = λ n. all-nil (λ (m : Member ℕ). handle n (m .role)); inside = refl; few = refl }
-
-nothing-legal : (n : ℕ) → 0 < n → legalMeta n (metaOf (noPending .meta)) ≡ true
-unfolding legalMeta metaOf flagged sameId both either
-nothing-legal n h = lt-ltb 0 n h
-
-nothing-fits : (headFits (noPending .head) ≡ true) × (metaFits (noPending .meta) ≡ true)
-unfolding headFits metaFits both
-nothing-fits = (refl, refl)
-
-pub nothing-held : (n : ℕ) (k : Kind) (parts : Bytes) → 0 < n → Held n k parts noPending
-nothing-held n k parts h = bare-held (nothing-bare k) n (noPending .meta) parts (nothing-legal n h) (nothing-fits .0) (nothing-fits .1)
-
--- nothing is made of it
-pub nothing-means : (n : ℕ) (k : Kind) (parts : Bytes) → 0 < n → (texts : List Bytes) → textOf texts 0 ≡ [] → stagedOf texts k parts noPending ≡ noElement k
-unfolding metaOf nothing-held
-nothing-means n k parts h texts e = held-means n k parts noPending (nothing-held n k parts h) texts ∙ go k
-  where
-    go : (k : Kind) → stagedAs texts (noPending .head) (bareRecord (noPending .meta) (noBody k)) ≡ noElement k
-    go K.Node = rw e
-    go K.Way = rw e
-    go K.Relation = rw e

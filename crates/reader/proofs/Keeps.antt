@@ -1,12 +1,12 @@
 -- What lists of calls need, in two parts: the overlay is sound, and of each reader what is staged is sound and its numbers fit. An event keeps both, accepted or refused,
 -- whatever the count of lines; other calls keep a reader too, since no text is lost; and "readers begin fresh".
 use Prim.Native.Nat.{ℕ, _+_, _<_, _≤_}
-use mathlib.Core.Path.{_≡_, refl, ap}
+use mathlib.Core.Path.{_≡_, refl}
 use mathlib.Core.Bool.{true}
 use lib.ListN.{length}
 use borrow.Author.Tests.{lt-ltb}
 use Rattle.base.specs.Bytes.{Bytes, both, all}
-use Rattle.base.proofs.Split.{both-left, both-right, both-of}
+use Rattle.base.proofs.Split.{both-of}
 use Rattle.little.specs.Little.{isByte}
 use Rattle.nesting.specs.Nesting.{start}
 use Rattle.interner.specs.Texts.{textOf}
@@ -16,13 +16,14 @@ use Rattle.overlay.specs.Sound.{isSound}
 use Rattle.acts.specs.Turn.{fresh}
 use Rattle.reader.specs.declared.EventReader.{EventReader}
 use Rattle.reader.specs.State.{State, freshReader, pendingSound, readerSound, stateSound}
-use Rattle.reader.specs.Given.{ReaderGiven, Given}
+use Rattle.reader.specs.Given.{ReaderGiven, StateGiven}
 use Rattle.reader.specs.Event.{eventOn}
 use Rattle.reader.specs.Means.{readerOf}
 use Rattle.reader.proofs.Answers.{byAnswer, event-counts}
 use Rattle.reader.proofs.Acts.{Fine}
-use Rattle.reader.proofs.Held.{Held, held-of, held-sound, held-more, held-same, nothing-held, nothing-means}
-use Rattle.reader.proofs.Steps.{empty-held}
+use Rattle.reader.proofs.Held.{Held, held-of, held-sound, held-more, held-same}
+use Rattle.reader.proofs.Legals.{nothing-held, nothing-means}
+use Rattle.reader.proofs.Steps.{empty-text}
 use Rattle.reader.proofs.Events.{event-accepted, byRefused}
 
 -- a reader's part, where so many strings are held
@@ -36,7 +37,7 @@ ReadyIn s = Ready (s .overlay .texts .strings) (s .reader) (s .parts)
 -- ---- an event
 
 module _ (line : Bytes) (s : State) (w : Fine (s .overlay)) (v : ReadyIn s) where
-  given : Given s
+  given : StateGiven s
   given = record { overlay = w .bytes; reader = v .given }
 
   pub event-fine : Fine (eventOn line s .state .overlay)
@@ -52,7 +53,7 @@ module _ (line : Bytes) (s : State) (w : Fine (s .overlay)) (v : ReadyIn s) wher
       (λ r n a. byRefused line s r n a (λ u k j e. rw e v) (λ u t e. rw e (record { given = record { head = v .given .head; meta = v .given .meta; bytes = v .given .bytes; room = v .given .room }; sound = v .sound })))
 
 -- an event keeps its state sound, unless it brings the count of lines to its largest
-pub event-sound : (line : Bytes) (s : State) → Given s → stateSound s ≡ true → s .reader .lines + 1 < 18446744073709551615 → stateSound (eventOn line s .state) ≡ true
+pub event-sound : (line : Bytes) (s : State) → StateGiven s → stateSound s ≡ true → s .reader .lines + 1 < 18446744073709551615 → stateSound (eventOn line s .state) ≡ true
 unfolding stateSound readerSound
 event-sound line s g e n =
     byAnswer (eventOn line s .answer)
@@ -88,11 +89,11 @@ module _ (o : Overlay) (e : isSound o ≡ true) (parts : Bytes) where
   pub fresh-means : readerOf (freshIn o parts) ≡ fresh
   unfolding readerOf
   fresh-means =
-      let z = empty-held o e in
-      λ i. record { place = start; staged = nothing-means (o .texts .strings) (start .kind) parts (z .1) (textsOf (o .texts)) (z .0) i }
+      let z = empty-text o e in
+      λ i. record { place = start; staged = nothing-means (o .texts .strings) parts (z .1) (start .kind) (textsOf (o .texts)) (z .0) i }
 
   nothing : Held (o .texts .strings) (start .kind) parts (freshReader .pending)
-  nothing = nothing-held (o .texts .strings) (start .kind) parts (empty-held o e .1)
+  nothing = nothing-held (o .texts .strings) parts (empty-text o e .1) (start .kind)
 
   pub fresh-ready : all isByte parts ≡ true → length parts ≡ 44432 → ReadyIn (freshIn o parts)
   fresh-ready b l = record { given = record { head = nothing .head; meta = nothing .meta; bytes = b; room = l }; sound = held-sound _ _ _ _ nothing }

@@ -1,6 +1,6 @@
 -- What a decision holds, in bits: an element that begins and its metadata are legal, and a legal record stays legal with one part more within the limits.
 use Prim.Native.Nat.{ℕ, _+_, _<_, _≤_}
-use mathlib.Core.Path.{_≡_, refl, sym, _∙_, ap}
+use mathlib.Core.Path.{_≡_, refl, _∙_}
 use mathlib.Core.Bool.{Bool, true, false}
 use mathlib.Core.List.{List, [], _∷_}
 use native.Mathlib.Omega.{arith}
@@ -18,6 +18,8 @@ use Rattle.little.specs.Little.{isByte, le}
 use Rattle.little.proofs.Littles.{bytes-take, bytes-drop, bytes-le}
 use Rattle.osm_id.proofs.Orders.{same-is}
 use Rattle.text.specs.Check.{isText}
+use Rattle.kind.specs.declared.Kind.{Kind}
+use Rattle.kind.specs.declared.Kind.the-variants as K
 use Rattle.model.specs.Record.{Meta, Member, Tag, Body, place, refs, members, Record, kindOf, flagged, claimOf}
 use Rattle.model.specs.Swap.{swapMeta, swapBody}
 use Rattle.compact.specs.Held.{metaOf, headIn, nodeHead, countsHead}
@@ -30,12 +32,17 @@ use Rattle.stage.specs.Stage.{inserted, staged, refPart, memberPart, tagPart}
 use Rattle.stage.proofs.Parts.{withRef, withMember, withTag}
 use Rattle.overlay.specs.Given.{headFits, metaFits}
 use Rattle.overlay.proofs.Bounds.{over-small}
-use Rattle.field.proofs.Metadata.{Legal}
+use Rattle.field.specs.Field.{noMeta}
+use Rattle.field.proofs.Metadata.{Legal, no-legal}
 use Rattle.decision.proofs.Lawful.{First}
-use Rattle.reader.specs.State.{moreTags, moreParts}
+use Rattle.interner.specs.Texts.{textOf}
+use Rattle.acts.specs.Turn.{noBody, noElement, first}
+use Rattle.reader.specs.declared.Pending.{Pending}
+use Rattle.reader.specs.State.{noPending, moreTags, moreParts}
+use Rattle.reader.specs.Means.{stagedOf}
 use Rattle.reader.specs.Step.{metaBits, headFor}
 use Rattle.reader.proofs.Small.{text-small}
-use Rattle.reader.proofs.Held.{Bare}
+use Rattle.reader.proofs.Held.{Partless, Held, held-means, elementAs, bareRecord, bare-held}
 
 -- ---- metadata
 
@@ -85,7 +92,7 @@ body-comes f (place lat lon) w = refl
 body-comes f (refs rs) w = rw w
 body-comes f (members ms) w = rw w
 
-pub begun : (id : ℤ) (b : Body Bytes) → First b → Bare (kindOf b) (headFor id b) (bodyIn b)
+pub begun : (id : ℤ) (b : Body Bytes) → First b → Partless (kindOf b) (headFor id b) (bodyIn b)
 unfolding headOf headIn nodeHead countsHead fitsBody bodyBytes bodyHandles inRange joined
 begun id (place lat lon) w =
     record {
@@ -111,10 +118,48 @@ head-fits id (refs rs) f w = bits-fit (ofZ w64 id) 0 0 (fits-ofZ f .fits) (omega
 head-fits id (members ms) f w = bits-fit (ofZ w64 id) 0 0 (fits-ofZ f .fits) (omega arith) (omega arith)
 
 -- the id comes back from its bits
-pub head-id : (id : ℤ) (b : Body Bytes) → SFits w64 id → toZ w64 (headFor id b .id) ≡ id
-head-id id (place lat lon) f = toZ-ofZ f
-head-id id (refs rs) f = toZ-ofZ f
-head-id id (members ms) f = toZ-ofZ f
+pub bits-id : (id : ℤ) (b : Body Bytes) → SFits w64 id → toZ w64 (headFor id b .id) ≡ id
+bits-id id (place lat lon) f = toZ-ofZ f
+bits-id id (refs rs) f = toZ-ofZ f
+bits-id id (members ms) f = toZ-ofZ f
+
+-- so it is staged as a legal element, and stands for what the turn begins
+module _ (id : ℤ) (m : Meta Bytes) (b : Body Bytes) (fits : SFits w64 id) (w : Legal m) (f : First b) (n u : ℕ) (held : u < n) (small : u ≤ 4096)
+    (none-named : flagged 4 (m .flags) ≡ false → u ≡ 0) where
+  abbrev pub begunAs : Pending
+  begunAs = record { head = headFor id b; meta = metaBits m u; used = 0 }
+
+  abbrev pub begun-held : (parts : Bytes) → Held n (kindOf b) parts begunAs
+  begun-held parts = bare-held (begun id b f) n (metaBits m u) parts (legal-meta m w u n held none-named) (head-fits id b fits f) (meta-fits m w u small)
+
+  pub begun-means : (texts : List Bytes) → textOf texts u ≡ m .user → elementAs texts (headFor id b) (bareRecord (metaBits m u) (bodyIn b)) ≡ record { id = id; held = first m b }
+  begun-means texts e =
+      let x = bits-id id b fits in
+      let y = meta-comes m w u (textOf texts) e in
+      let v = body-comes (textOf texts) b f in
+      λ i. record { id = x i; held = record { meta = y i; body = v i; tags = [] } }
+
+-- between elements stands one that began with id 0, no metadata and nothing in it
+first-nothing : (k : Kind) → First (noBody k)
+first-nothing K.Node = ((omega arith, no-legal .version-fits), (omega arith, no-legal .version-fits))
+first-nothing K.Way = refl
+first-nothing K.Relation = refl
+
+module _ (n : ℕ) (parts : Bytes) (held : 0 < n) where
+  abbrev begun-nothing : (k : Kind) → Held n (kindOf (noBody k)) parts (begunAs (pos 0) noMeta (noBody k) (no-legal .timestamp-fits) no-legal (first-nothing k) n 0 held (omega arith) (λ z. refl))
+  begun-nothing k = begun-held (pos 0) noMeta (noBody k) (no-legal .timestamp-fits) no-legal (first-nothing k) n 0 held (omega arith) (λ z. refl) parts
+
+  pub nothing-held : (k : Kind) → Held n k parts noPending
+  nothing-held K.Node = begun-nothing K.Node
+  nothing-held K.Way = begun-nothing K.Way
+  nothing-held K.Relation = begun-nothing K.Relation
+
+  -- nothing is made of it
+  pub nothing-means : (k : Kind) (texts : List Bytes) → textOf texts 0 ≡ [] → stagedOf texts k parts noPending ≡ noElement k
+  nothing-means K.Node texts e = held-means n K.Node parts noPending (begun-nothing K.Node) texts ∙ begun-means (pos 0) noMeta (noBody K.Node) (no-legal .timestamp-fits) no-legal (first-nothing K.Node) n 0 held (omega arith) (λ z. refl) texts e
+  nothing-means K.Way texts e = held-means n K.Way parts noPending (begun-nothing K.Way) texts ∙ begun-means (pos 0) noMeta (noBody K.Way) (no-legal .timestamp-fits) no-legal (first-nothing K.Way) n 0 held (omega arith) (λ z. refl) texts e
+  nothing-means K.Relation texts e =
+      held-means n K.Relation parts noPending (begun-nothing K.Relation) texts ∙ begun-means (pos 0) noMeta (noBody K.Relation) (no-legal .timestamp-fits) no-legal (first-nothing K.Relation) n 0 held (omega arith) (λ z. refl) texts e
 
 -- ---- one part more
 

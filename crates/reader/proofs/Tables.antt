@@ -1,11 +1,9 @@
 -- T4: an event and an end are refused by the first condition of their table that holds, with its line and its HELD, and accepted where none holds.
 use Prim.Native.Nat.{ℕ, _+_}
 use mathlib.Core.Path.{_≡_, refl, sym, _∙_, ap}
-use mathlib.Core.Bool.{Bool, true, false, not, cond}
-use mathlib.Core.Option.{Option, none, some, Option·map}
+use mathlib.Core.Bool.{Bool, true, false, not}
+use mathlib.Core.Option.{Option, none, some}
 use mathlib.Core.List.{List, [], _∷_, _++_}
-use native.Mathlib.Omega.{arith}
-use lib.Dec.{ltb}
 use lib.IntN.{ℤ}
 use lib.ListN.{length, take}
 use lib.Seq.{length-take-le}
@@ -13,7 +11,7 @@ use mir.Syntax.{w64}
 use mir.Val.{toZ, ofZ}
 use borrow.Author.Tests.{leb-true, lt-ltb, le-ltb}
 use Rattle.base.specs.Bytes.{Bytes, both}
-use Rattle.base.proofs.Split.{byBool, both-left, both-right, no, clash}
+use Rattle.base.proofs.Split.{byBool, both-left, both-right}
 use Rattle.refusal.specs.First.{Row, row, firstOf}
 use Rattle.refusal.proofs.First.{before, first-more}
 use Rattle.refusal.specs.declared.Refusal.{Refusal}
@@ -25,9 +23,8 @@ use Rattle.nesting.specs.declared.Level.the-variants as L
 use Rattle.version_floor.specs.declared.Version.{Version}
 use Rattle.version_floor.specs.declared.Admit.{Admit}
 use Rattle.version_floor.specs.declared.Admit.the-variants.{Admitted, Below}
-use Rattle.model.specs.Record.{Meta, Body, kindOf, flagged, claimOf}
+use Rattle.model.specs.Record.{Meta, kindOf, flagged, claimOf}
 use Rattle.compact.specs.Held.{metaOf, headIn}
-use Rattle.compact.specs.Layout.{headLen}
 use Rattle.compact.specs.Legal.{limits}
 use Rattle.compact.specs.declared.ArenaMeta.{ArenaMeta}
 use Rattle.compact.specs.declared.PushHead.{PushHead}
@@ -35,18 +32,13 @@ use Rattle.compact.proofs.Lengths.{length-written}
 use Rattle.interner.specs.Strings as Strings
 use Rattle.interner.specs.Texts.{handleOf, answerAs}
 use Rattle.interner.specs.Sound.{textsOf}
-use Rattle.interner.specs.declared.Interned.{Interned}
-use Rattle.interner.specs.declared.Interned.the-variants as I
 use Rattle.interner.proofs.Interns as Interns
-use Rattle.shelf.specs.Shelf.{Shelf, known, checked, room}
-use Rattle.shelf.specs.Shelf as Shelf
-use Rattle.shelf.specs.declared.Kept.{Kept}
-use Rattle.shelf.specs.declared.Kept.the-variants as K
+use Rattle.shelf.specs.Shelf.{known, checked, room}
 use Rattle.shelf.proofs.Answers as Shelves
 use Rattle.overlay.specs.Overlay.{Overlay, shelfOf, withTexts}
 use Rattle.overlay.specs.Sound.{isSound}
-use Rattle.store.specs.First.{isNone, isBelow, heldBy, fullFor}
-use Rattle.store.specs.Calls.{bytesOf, storePush, storeDelete}
+use Rattle.overlay.specs.First.{isNone, isBelow, heldBy}
+use Rattle.overlay.specs.Calls.{bytesOf, storePush, storeDelete}
 use Rattle.overlay.proofs.Answers.{strings-sound}
 use Rattle.overlay.proofs.Shelves.{texts-shelf}
 use Rattle.decision.specs.Decision.{Decision, refuses, moves, begins, deletes, tags, refers, joins, ends, decide}
@@ -55,23 +47,22 @@ use Rattle.decision.specs.Table.{refusalIn, decideTable}
 use Rattle.decision.proofs.Table.{decide-first}
 use Rattle.reader.specs.declared.Stop.{Stop}
 use Rattle.reader.specs.declared.Stop.the-variants.{Going, At}
-use Rattle.reader.specs.declared.EventAnswer.the-variants as E
 use Rattle.stage.specs.Stage.{refPart, memberPart, tagPart}
 use Rattle.reader.specs.State.{State, nextLine, stopsBy, isStopped, pendingSound, readerSound, stateSound, moreTags, moreParts}
-use Rattle.reader.specs.Step.{Advanced, Step, goes, stops, unlessBelow, onHandle, withText, metaBits, withUser, onKept, onAfter, clearsTo, stages, headFor, memberBits, tagWithin, partWithin, partPlace, stepOf}
+use Rattle.reader.specs.Step.{Advanced, Step, goes, stops, unlessBelow, onHandle, withText, metaBits, withUser, onAfter, clearsTo, stages, headFor, memberBits, tagWithin, partWithin, partPlace, stepOf}
 use Rattle.reader.specs.Event.{EventResult, stepped, eventOn, endAt, endOn}
-use Rattle.reader.specs.Table.{Told, told, answerBy, atLine, regressionRow, textRow, userRow, idsRow, arenaRow, limitRow, storeRows, unsoundRow, stopRows, eventTable, isDone, endTable}
-use Rattle.reader.proofs.Answers.{byEvent, byEnd, byLevel}
-use Rattle.reader.proofs.Legals.{claim-same, head-id}
+use Rattle.reader.specs.Table.{RefusalAt, refusalAt, answerBy, atLine, regressionRow, textRow, userRow, idsRow, arenaRow, limitRow, storeRowsOf, unsoundStateRow, stopRows, eventTable, isDone, endTable}
+use Rattle.reader.proofs.Answers.{byEvent, byEnd}
+use Rattle.reader.proofs.Legals.{claim-same, bits-id}
 
 -- the refusal of a step, if there is one
-abbrev pub refusalOf : Step → Option Refusal
-refusalOf (goes l) = none
-refusalOf (stops r) = some r
+abbrev pub refusalBy : Step → Option Refusal
+refusalBy (goes l) = none
+refusalBy (stops r) = some r
 
 -- a step is refused by the first of these rows
 pub record By (rows : List (Row Refusal)) (x : Step) : Type 0 where
-  pub first : refusalOf x ≡ firstOf rows
+  pub first : refusalBy x ≡ firstOf rows
 
 -- ---- row by row
 
@@ -81,7 +72,7 @@ goes-first l = record { first = refl }
 
 -- by what the decision refuses, else by the first of the store's rows
 pub record Behind (x : Option Refusal) (rows : List (Row Refusal)) (y : Step) : Type 0 where
-  pub first : refusalOf y ≡ before x (firstOf rows)
+  pub first : refusalBy y ≡ before x (firstOf rows)
 
 behind : {rows : List (Row Refusal)} {y : Step} → By rows y → Behind none rows y
 behind h = record { first = h .first }
@@ -165,15 +156,15 @@ module _ (s : State) (e : stateSound s ≡ true) where
   abbrev admit : Kind → ℤ → Meta Bytes → Admit
   admit k id m = checked (s .overlay .setting) (known k (shelfOf k (s .overlay)) id) (claimOf m)
 
-  pub step-first : (d : Decision) → Lawful (s .reader .place) d → Behind (refusalIn d) (storeRows d s) (stepOf d s)
-  unfolding stepOf storeRows
+  pub step-first : (d : Decision) → Lawful (s .reader .place) d → Behind (refusalIn d) (storeRowsOf d s) (stepOf d s)
+  unfolding stepOf storeRowsOf
   step-first (refuses r) w = record { first = refl }
   step-first (moves p) w = behind (goes-first _)
   step-first (begins true p id m b) w =
       behind (by-admit (admit (kindOf b) id m) _ _ (λ c.
       by-user (s .overlay) overlay-sound _ m _ (λ h q y.
       passed (admit (kindOf b) id m) _ _ c
-      (by-push s p (kindOf b) (s .overlay) q y (headFor id b) (metaBits m h) [] id (claimOf m) (head-id id b (w .0 .fits)) (claim-same m (w .0 .legal) h)))))
+      (by-push s p (kindOf b) (s .overlay) q y (headFor id b) (metaBits m h) [] id (claimOf m) (bits-id id b (w .0 .fits)) (claim-same m (w .0 .legal) h)))))
   step-first (begins false p id m b) w = behind (by-user (s .overlay) overlay-sound [] m _ (λ h q y. goes-first _))
   step-first (deletes k p id m) w =
       behind (by-admit (admit k id m) _ _ (λ c.
@@ -189,21 +180,21 @@ module _ (s : State) (e : stateSound s ≡ true) where
 -- ---- an event and an end
 
 -- a refusal at a line
-abbrev toldAt : ℕ → Option Refusal → Option Told
-toldAt n none = none
-toldAt n (some r) = some (told r n)
+abbrev refusalAtLine : ℕ → Option Refusal → Option RefusalAt
+refusalAtLine n none = none
+refusalAtLine n (some r) = some (refusalAt r n)
 
-first-at : (n : ℕ) (rows : List (Row Refusal)) → firstOf (atLine n rows) ≡ toldAt n (firstOf rows)
+first-at : (n : ℕ) (rows : List (Row Refusal)) → firstOf (atLine n rows) ≡ refusalAtLine n (firstOf rows)
 unfolding firstOf
 first-at n [] = refl
 first-at n (x ∷ rows) = byBool (x .holds) (λ t. rw t) (λ t. rw t (first-at n rows))
 
 -- 22, then the stop mark
-module _ (s : State) (rows : List (Row Told)) where
-  abbrev table : List (Row Told)
-  table = unsoundRow s ∷ (stopRows (s .reader .stop) ++ rows)
+module _ (s : State) (rows : List (Row RefusalAt)) where
+  abbrev table : List (Row RefusalAt)
+  table = unsoundStateRow s ∷ (stopRows (s .reader .stop) ++ rows)
 
-  table-22 : stateSound s ≡ false → firstOf table ≡ some (told R.Unsound 0)
+  table-22 : stateSound s ≡ false → firstOf table ≡ some (refusalAt R.Unsound 0)
   unfolding firstOf
   table-22 e = rw e
 
@@ -216,11 +207,11 @@ module _ (s : State) (rows : List (Row Told)) where
   unfolding firstOf
   table-going e g = rw e (stop-first (s .reader .stop) g)
 
-  table-stopped : (r : Refusal) (n : ℕ) → stateSound s ≡ true → s .reader .stop ≡ At r n → stopsBy r ≡ true → firstOf table ≡ some (told r n)
+  table-stopped : (r : Refusal) (n : ℕ) → stateSound s ≡ true → s .reader .stop ≡ At r n → stopsBy r ≡ true → firstOf table ≡ some (refusalAt r n)
   unfolding firstOf
   table-stopped r n e g t = rw (e, g, t)
 
-stepped-answer : (s : State) (x : Step) → stepped s x .answer ≡ answerBy (toldAt (nextLine s) (refusalOf x))
+stepped-answer : (s : State) (x : Step) → stepped s x .answer ≡ answerBy (refusalAtLine (nextLine s) (refusalBy x))
 stepped-answer s (goes l) = refl
 stepped-answer s (stops r) = refl
 
@@ -228,20 +219,20 @@ pub event-first : (line : Bytes) (s : State) → eventOn line s .answer ≡ answ
 unfolding eventTable
 event-first line s =
     let d = decide line (s .reader .place) in
-    let rows = decideTable line (s .reader .place) ++ storeRows d s in
+    let rows = decideTable line (s .reader .place) ++ storeRowsOf d s in
     let z = atLine (nextLine s) rows in
     let going : (x : Step) → stateSound s ≡ true → isStopped (s .reader .stop) ≡ false → stepOf d s ≡ x → stepped s x .answer ≡ answerBy (firstOf (table s z)) =
-    λ x e g f. let y : refusalOf x ≡ firstOf rows =
-    ap refusalOf (sym f) ∙ (step-first s e d (decide-lawful line (s .reader .place)) .first
-    ∙ (ap (λ (o : Option Refusal). before o (firstOf (storeRows d s))) (decide-first line (s .reader .place)) ∙ sym (first-more (decideTable line (s .reader .place)) (storeRows d s)))) in
-    stepped-answer s x ∙ ap answerBy (ap (toldAt (nextLine s)) y ∙ (sym (first-at (nextLine s) rows) ∙ sym (table-going s z e g))) in
+    λ x e g f. let y : refusalBy x ≡ firstOf rows =
+    ap refusalBy (sym f) ∙ (step-first s e d (decide-lawful line (s .reader .place)) .first
+    ∙ (ap (λ (o : Option Refusal). before o (firstOf (storeRowsOf d s))) (decide-first line (s .reader .place)) ∙ sym (first-more (decideTable line (s .reader .place)) (storeRowsOf d s)))) in
+    stepped-answer s x ∙ ap answerBy (ap (refusalAtLine (nextLine s)) y ∙ (sym (first-at (nextLine s) rows) ∙ sym (table-going s z e g))) in
     byEvent line s
     (λ e w. ap (λ (a : EventResult). a .answer) w ∙ ap answerBy (sym (table-22 s z e)))
     (λ r n e g t w. ap (λ (a : EventResult). a .answer) w ∙ ap answerBy (sym (table-stopped s z r n e g t)))
     (λ r e g f w. ap (λ (a : EventResult). a .answer) w ∙ going (stops r) e g f)
     (λ l e g f w. ap (λ (a : EventResult). a .answer) w ∙ going (goes l) e g f)
 
-done-first : (s : State) (l : Level) → endAt l s .answer ≡ answerBy (firstOf (row (told R.Unfinished (nextLine s)) (not (isDone l)) ∷ []))
+done-first : (s : State) (l : Level) → endAt l s .answer ≡ answerBy (firstOf (row (refusalAt R.Unfinished (nextLine s)) (not (isDone l)) ∷ []))
 unfolding firstOf
 done-first s L.Done = refl
 done-first s L.Doc = refl
@@ -254,7 +245,7 @@ done-first s L.Other = refl
 pub end-first : (s : State) → endOn s .answer ≡ answerBy (firstOf (endTable s))
 unfolding endTable
 end-first s =
-    let z = row (told R.Unfinished (nextLine s)) (not (isDone (s .reader .place .level))) ∷ [] in
+    let z = row (refusalAt R.Unfinished (nextLine s)) (not (isDone (s .reader .place .level))) ∷ [] in
     byEnd s
     (λ e w. ap (λ (a : EventResult). a .answer) w ∙ ap answerBy (sym (table-22 s z e)))
     (λ r n e g t w. ap (λ (a : EventResult). a .answer) w ∙ ap answerBy (sym (table-stopped s z r n e g t)))

@@ -15,6 +15,6 @@ pub record ReaderGiven (r : EventReader) (parts : Bytes) : Type 0 where
   pub bytes : all isByte parts ≡ true
   pub room : length parts ≡ 44432
 
-pub record Given (s : State) : Type 0 where
+pub record StateGiven (s : State) : Type 0 where
   pub overlay : InBytes (s .overlay)
   pub reader : ReaderGiven (s .reader) (s .parts)

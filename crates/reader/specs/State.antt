@@ -13,7 +13,6 @@ use Rattle.nesting.specs.Nesting.{start}
 use Rattle.model.specs.Record.{Record}
 use Rattle.compact.specs.Cut.{pushedRecord}
 use Rattle.compact.specs.Held.{metaOf, headIn}
-use Rattle.compact.specs.declared.ArenaMeta.{ArenaMeta}
 use Rattle.compact.specs.declared.PushHead.{PushHead}
 use Rattle.legal.specs.Judge.{faultFor}
 use Rattle.legal.specs.declared.Fault.{Fault}

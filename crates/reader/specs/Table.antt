@@ -34,20 +34,20 @@ use Rattle.reader.specs.State.{State, nextLine, stopsBy, stateSound}
 use Rattle.reader.specs.Step.{tagWithin, partWithin}
 
 -- a refusal and its line
-pub record Told : Type 0 where
+pub record RefusalAt : Type 0 where
   pub refusal : Refusal
   pub line : ℕ
 
-abbrev pub told : Refusal → ℕ → Told
-told r n = record { refusal = r; line = n }
+abbrev pub refusalAt : Refusal → ℕ → RefusalAt
+refusalAt r n = record { refusal = r; line = n }
 
-abbrev pub answerBy : Option Told → EventAnswer
+abbrev pub answerBy : Option RefusalAt → EventAnswer
 answerBy none = E.Accepted
 answerBy (some t) = E.Refused (t .refusal) (t .line)
 
 -- rows that are given at a line
-abbrev pub atLine : ℕ → List (Row Refusal) → List (Row Told)
-atLine n rows = map (λ (r : Row Refusal). row (told (r .gives) n) (r .holds)) rows
+abbrev pub atLine : ℕ → List (Row Refusal) → List (Row RefusalAt)
+atLine n rows = map (λ (r : Row Refusal). row (refusalAt (r .gives) n) (r .holds)) rows
 
 -- ---- the store: "12 regression; 13 strings or string bytes full; 14 new id, ids full; 15 record longer than the arena's unused bytes; 16 .."
 
@@ -78,35 +78,35 @@ abbrev pub limitRow : Bool → Row Refusal
 limitRow within = row R.TooManyParts (not within)
 
 -- the store's row of what is decided
-unfoldable pub storeRows : Decision → State → List (Row Refusal)
-storeRows (refuses r) s = []
-storeRows (moves p) s = []
-storeRows (begins true p id m b) s =
+unfoldable pub storeRowsOf : Decision → State → List (Row Refusal)
+storeRowsOf (refuses r) s = []
+storeRowsOf (moves p) s = []
+storeRowsOf (begins true p id m b) s =
     regressionRow (s .overlay) (kindOf b) id (claimOf m) ∷ userRow (s .overlay) m ∷ idsRow (s .overlay) (kindOf b) id ∷ arenaRow (s .overlay) (kindOf b) 0 ∷ []
-storeRows (begins false p id m b) s = userRow (s .overlay) m ∷ []
-storeRows (deletes k p id m) s = regressionRow (s .overlay) k id (claimOf m) ∷ userRow (s .overlay) m ∷ idsRow (s .overlay) k id ∷ []
-storeRows (tags p t) s = textRow (s .overlay) (t .key) ∷ limitRow (tagWithin s t) ∷ []
-storeRows (refers p z) s = limitRow (partWithin s (limits .refs)) ∷ []
-storeRows (joins p m) s = textRow (s .overlay) (m .role) ∷ limitRow (partWithin s (limits .members)) ∷ []
-storeRows (ends p) s =
+storeRowsOf (begins false p id m b) s = userRow (s .overlay) m ∷ []
+storeRowsOf (deletes k p id m) s = regressionRow (s .overlay) k id (claimOf m) ∷ userRow (s .overlay) m ∷ idsRow (s .overlay) k id ∷ []
+storeRowsOf (tags p t) s = textRow (s .overlay) (t .key) ∷ limitRow (tagWithin s t) ∷ []
+storeRowsOf (refers p z) s = limitRow (partWithin s (limits .refs)) ∷ []
+storeRowsOf (joins p m) s = textRow (s .overlay) (m .role) ∷ limitRow (partWithin s (limits .members)) ∷ []
+storeRowsOf (ends p) s =
     regressionRow (s .overlay) (s .reader .place .kind) (toZ w64 (s .reader .pending .head .id)) (claimOf (metaOf (s .reader .pending .meta)))
     ∷ idsRow (s .overlay) (s .reader .place .kind) (toZ w64 (s .reader .pending .head .id)) ∷ arenaRow (s .overlay) (s .reader .place .kind) (s .reader .pending .used) ∷ []
 
 -- ---- an event and an end
 
 -- "each call but lookups in lists, first": it names no line
-abbrev pub unsoundRow : State → Row Told
-unsoundRow s = row (told R.Unsound 0) (not (stateSound s))
+abbrev pub unsoundStateRow : State → Row RefusalAt
+unsoundStateRow s = row (refusalAt R.Unsound 0) (not (stateSound s))
 
 -- "later events and the end repeat that number, line and HELD"
-abbrev pub stopRows : Stop → List (Row Told)
+abbrev pub stopRows : Stop → List (Row RefusalAt)
 stopRows Going = []
-stopRows (At r n) = row (told r n) (stopsBy r) ∷ []
+stopRows (At r n) = row (refusalAt r n) (stopsBy r) ∷ []
 
-unfoldable pub eventTable : Bytes → State → List (Row Told)
+unfoldable pub eventTable : Bytes → State → List (Row RefusalAt)
 eventTable line s =
-    unsoundRow s ∷ (stopRows (s .reader .stop)
-    ++ atLine (nextLine s) (decideTable line (s .reader .place) ++ storeRows (decide line (s .reader .place)) s))
+    unsoundStateRow s ∷ (stopRows (s .reader .stop)
+    ++ atLine (nextLine s) (decideTable line (s .reader .place) ++ storeRowsOf (decide line (s .reader .place)) s))
 
 abbrev pub isDone : Level → Bool
 isDone L.Done = true
@@ -118,5 +118,5 @@ isDone L.Leaf = false
 isDone L.Other = false
 
 -- "18 level is not Done"
-unfoldable pub endTable : State → List (Row Told)
-endTable s = unsoundRow s ∷ (stopRows (s .reader .stop) ++ (row (told R.Unfinished (nextLine s)) (not (isDone (s .reader .place .level))) ∷ []))
+unfoldable pub endTable : State → List (Row RefusalAt)
+endTable s = unsoundStateRow s ∷ (stopRows (s .reader .stop) ++ (row (refusalAt R.Unfinished (nextLine s)) (not (isDone (s .reader .place .level))) ∷ []))
