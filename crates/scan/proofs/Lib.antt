@@ -2,4 +2,3 @@ pub mod Places
 pub mod Pieces
 pub mod Walks
 pub mod Lines
-pub mod Raws

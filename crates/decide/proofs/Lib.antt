@@ -1,0 +1,3 @@
+pub mod Raws
+pub mod Values
+pub mod Attributes
