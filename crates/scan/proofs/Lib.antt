@@ -2,3 +2,4 @@ pub mod Places
 pub mod Pieces
 pub mod Walks
 pub mod Lines
+pub mod Attributes

@@ -120,32 +120,22 @@ abbrev pub found : Value → Bool
 found F.Missing = false
 found (F.At from to) = true
 
--- a value that is found lies within the line, and has a text
-abbrev pub Lying : Bytes → Value → Type 0
-Lying t F.Missing = Unit {0}
-Lying t (F.At from to) = (from ≤ to) × ((to ≤ length t) × ((x : Bytes) × (unescape (slice from to t) ≡ some x)))
-
 -- the search finds the attribute that has the name
 pub record Found (t name : Bytes) (at : ℕ) : Type 0 where
   pub text : textIn t (valueAt t name at) ≡ valueOf name (attrsAt t at)
   pub is : found (valueAt t name at) ≡ named name (attrsAt t at)
-  pub lies : Lying t (valueAt t name at)
 
 module _ (t name : Bytes) where
   none-found : (at : ℕ) → fieldsAt t at ≡ [] → Found t name at
   unfolding valueAt valueIn valueOf attrsAt attrsOf named
-  none-found at e = record { text = rw e; is = rw e; lies = rw e tt }
+  none-found at e = record { text = rw e; is = rw e }
 
   found-step : {at eq to : ℕ} → Stands t at eq to → Step t at eq to → Found t name (to + 1) → Found t name at
   unfolding valueOf named
   found-step {at} {eq} {to} d s ih =
       byBool (same name (slice at eq t))
-      (λ h. record {
-        text = rw (d .valued name, s .whole, h) (s .value);
-        is = rw (d .valued name, s .whole, h);
-        lies = rw (d .valued name, h) (omega (arith, s .equals), (s .end, (s .text, s .value)));
-      })
-      (λ h. record { text = rw (d .valued name, s .whole, h) (ih .text); is = rw (d .valued name, s .whole, h) (ih .is); lies = rw (d .valued name, h) (ih .lies) })
+      (λ h. record { text = rw (d .valued name, s .whole, h) (s .value); is = rw (d .valued name, s .whole, h) })
+      (λ h. record { text = rw (d .valued name, s .whole, h) (ih .text); is = rw (d .valued name, s .whole, h) (ih .is) })
 
   found-from : (fs : List Bytes) (at : ℕ) → fieldsAt t at ≡ fs → Good t at → Found t name at
   found-from [] at e g = none-found at e

@@ -1,3 +1,0 @@
-pub mod Raws
-pub mod Values
-pub mod Attributes
