@@ -1,7 +1,7 @@
--- A value as it is written and its text are read alike where no escape can matter: as an integer, as a timestamp, as a name.
+-- A value as it is written and its text are read alike where no escape can matter: as an integer, as a timestamp, as a name, as a word.
 use Prim.Native.Nat.{ℕ, suc, _+_, _<_}
 use mathlib.Core.Path.{_≡_, refl, sym, _∙_, ap}
-use mathlib.Core.Bool.{true, false}
+use mathlib.Core.Bool.{Bool, true, false, not}
 use mathlib.Core.Option.{Option, none, some, Option·map}
 use mathlib.Core.List.{List, [], _∷_, _++_}
 use native.Mathlib.Omega.{arith}
@@ -10,19 +10,57 @@ use lib.ListN.{length, getD, take, drop, take-append-drop, drop-of-length-le}
 use lib.Seq.{drop-drop, drop-cons}
 use lib.IntN.{ℤ, pos, negℤ}
 use mir.Syntax.{Width}
-use borrow.Author.Tests.{eqb-true, eq-eqb, ne-eqb}
+use borrow.Author.Tests.{eqb-true, eq-eqb, ne-eqb, not-true}
 use Rattle.base.specs.Ascii.{ascii}
 use Rattle.base.specs.Bytes.{Bytes, both, either, isDigit, all, same}
-use Rattle.base.proofs.Split.{byBool, byEq, no, both-left, both-right}
-use Rattle.base.proofs.Lists.{all-head, all-tail}
-use Rattle.text.specs.Escape.{unescape, breaks}
-use Rattle.text.proofs.Escapes.{bare, bare-nil, bare-cons, bare-append, raw-reads, plain-raw}
-use Rattle.integer.specs.Integer.{digits, integer, integerOf}
+use Rattle.base.proofs.Split.{byBool, byEq, no, clash, both-left, both-right, either-right}
+use Rattle.base.proofs.Lists.{all-head, all-tail, same-yes}
+use Rattle.text.specs.Escape.{unescape, unescapeFrom, before, breaks}
+use Rattle.text.proofs.Escapes.{bare, bare-nil, bare-cons, bare-append, read-byte, raw-reads, plain-raw}
+use Rattle.integer.specs.Integer.{digits, integer, ofWidth, integerOf}
 use Rattle.integer.proofs.Digits.{digit-is, digits-is}
 use Rattle.integer.proofs.Integers.{integer-of-is}
 use Rattle.stamp.specs.Stamp.{stampField, separated, shaped, Moment, moment, accepted, stamp}
 use Rattle.stamp.proofs.Reading.{no-year, no-month, no-day, no-hour, no-minute, no-second}
+use Rattle.event.specs.Event.{orEmpty}
+use Rattle.scan.specs.Piece.{textOf}
 use Rattle.nesting.specs.Name.{Spelling, spellings, nameIn, nameOf}
+
+-- ---- readers of texts without escapes
+
+plain-byte : (b : ℕ) → not (either (breaks b) (eqb b 92)) ≡ true → eqb b 92 ≡ false
+plain-byte b h = byBool (eqb b 92) (λ e. clash (sym (ap not (either-right (breaks b) e)) ∙ h) refl) (λ e. e)
+
+-- such a text is its own value
+bare-own : (v : Bytes) → bare v ≡ true → unescape v ≡ some v
+unfolding bare unescapeFrom before
+bare-own [] h = refl
+bare-own (b ∷ v) h = read-byte b v (plain-byte b (all-head _ b v h)) ∙ rw (bare-own v (all-tail _ b v h))
+
+-- a reader of bare texts alone reads a value as it reads its text, whatever the escapes
+text-reads : {B : Type 0} (f : Bytes → Option B) → ((s : Bytes) (z : B) → f s ≡ some z → bare s ≡ true) → f [] ≡ none → (v : Bytes) → f v ≡ f (textOf v)
+unfolding textOf
+text-reads {B} f h n v = go (unescape v) refl
+  where
+    nothing : unescape v ≡ none → (o : Option B) → f v ≡ o → f v ≡ none
+    nothing e none q = q
+    nothing e (some z) q = let y : none ≡ some v = sym e ∙ bare-own v (h v z q) in no (cc)
+
+    go : (o : Option Bytes) → unescape v ≡ o → f v ≡ f (orEmpty o)
+    go (some x) e = raw-reads f h v x e
+    go none e = nothing e (f v) refl ∙ sym n
+
+-- and so is a bare word that is not empty
+text-same : (w v : Bytes) → bare w ≡ true → same [] w ≡ false → same v w ≡ same (textOf v) w
+unfolding textOf
+text-same w v h n = go (unescape v) refl
+  where
+    go : (o : Option Bytes) → unescape v ≡ o → same v w ≡ same (orEmpty o) w
+    go (some x) e = plain-raw w v x h e
+    go none e =
+        byBool (same v w)
+        (λ t. let y : none ≡ some v = sym e ∙ bare-own v (rw (same-yes v w t) h) in no (cc))
+        (λ t. t ∙ sym n)
 
 -- ---- integers
 
@@ -53,8 +91,9 @@ integer-bare (b ∷ s) z e =
     (λ q. rw q (bare-cons 45 s refl (mapped-bare (λ n. negℤ (pos n)) s z (rw (ne-eqb b 43 p, eq-eqb b 45 q) at e))))
     (λ q. mapped-bare pos (b ∷ s) z (rw (ne-eqb b 43 p, ne-eqb b 45 q) at e)))
 
-pub integer-raw : (w : Width) (v x : Bytes) → unescape v ≡ some x → integerOf w v ≡ integerOf w x
-integer-raw w v x e = raw-reads (integerOf w) (λ s z p. integer-bare s z (integer-of-is w s p .0)) v x e
+pub integer-raw : (w : Width) (v : Bytes) → integerOf w v ≡ integerOf w (textOf v)
+unfolding integerOf ofWidth integer
+integer-raw w v = text-reads (integerOf w) (λ s z p. integer-bare s z (integer-of-is w s p .0)) refl v
 
 -- ---- timestamps
 
@@ -104,22 +143,29 @@ stamp-bare s z e =
     read none h p q = no (cc)
     read (some m) h p q = moment-bare s m p h
 
-pub stamp-raw : (v x : Bytes) → unescape v ≡ some x → stamp v ≡ stamp x
-stamp-raw v x e = raw-reads stamp stamp-bare v x e
+pub stamp-raw : (v : Bytes) → stamp v ≡ stamp (textOf v)
+unfolding stamp shaped both
+stamp-raw v = text-reads stamp stamp-bare refl v
 
 -- ---- names
 
-all-spelled : (ps : List Spelling) → all (λ p. bare (p .bytes)) ps ≡ true → (v x : Bytes) → unescape v ≡ some x → nameIn ps v ≡ nameIn ps x
-unfolding nameIn
-all-spelled [] h v x e = refl
-all-spelled (p ∷ ps) h v x e = rw (plain-raw (p .bytes) v x (all-head (λ p. bare (p .bytes)) p ps h) e, all-spelled ps (all-tail (λ p. bare (p .bytes)) p ps h) v x e)
+-- each spelling is bare and not empty
+abbrev worded : Spelling → Bool
+worded p = both (bare (p .bytes)) (not (same [] (p .bytes)))
 
-pub name-raw : (v x : Bytes) → unescape v ≡ some x → nameOf v ≡ nameOf x
-unfolding nameOf spellings bare all both breaks either
-name-raw v x e = all-spelled spellings refl v x e
+all-spelled : (ps : List Spelling) → all worded ps ≡ true → (v : Bytes) → nameIn ps v ≡ nameIn ps (textOf v)
+unfolding nameIn
+all-spelled [] h v = refl
+all-spelled (p ∷ ps) h v =
+    let w = all-head worded p ps h in
+    rw (text-same (p .bytes) v (both-left _ _ w) (not-true _ (both-right _ _ w)), all-spelled ps (all-tail worded p ps h) v)
+
+pub name-raw : (v : Bytes) → nameOf v ≡ nameOf (textOf v)
+unfolding nameOf spellings bare all both breaks either same
+name-raw v = all-spelled spellings refl v
 
 -- ---- "only `visible=false` exactly sets 2"
 
-pub false-raw : (v x : Bytes) → unescape v ≡ some x → same v (ascii "false") ≡ same x (ascii "false")
-unfolding bare all both breaks either
-false-raw v x e = plain-raw (ascii "false") v x refl e
+pub false-raw : (v : Bytes) → same v (ascii "false") ≡ same (textOf v) (ascii "false")
+unfolding bare all both breaks either same
+false-raw v = text-same (ascii "false") v refl refl
