@@ -37,7 +37,7 @@ use Rattle.compact.specs.Fits.{fitsSigned, fitsKept}
 use Rattle.compact.specs.Legal.{legal}
 use Rattle.legal.specs.Whole.{keptBytes}
 use Rattle.page.specs.Summary as Summary
-use Rattle.shelf.specs.Shelf.{Shelf, known, checked, pushed, deleted}
+use Rattle.shelf.specs.Shelf.{Shelf, known, checked, pushed, deleted, takenIn}
 use Rattle.shelf.specs.Fair.{Fair}
 use Rattle.shelf.specs.declared.Kept.the-variants.{Taken, Refused}
 use Rattle.shelf.proofs.Answers.{push-regression, delete-regression}
@@ -231,7 +231,7 @@ reflects-empty setting o fit b = bySetUp setting o (λ s e. clash fit s) (λ s e
     go : setUp setting o .answer ≡ Taken → setUp setting o .overlay ≡ empty setting o → Reflects setting (empty setting o) noTexts []
     go e f =
         record {
-          sound = subst Sound f (setup-sound setting o e);
+          sound = subst Sound f (setup-sound setting o (ap takenIn e));
           bytes = subst InBytes f (setup-bytes setting o b);
           set = refl;
           texts = Interns.fresh-texts (o .texts .spans) (o .texts .bytes) (span-lent o fit);

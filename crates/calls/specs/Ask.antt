@@ -15,8 +15,7 @@ use Rattle.compact.specs.Cut.{pushedRecord}
 use Rattle.compact.specs.Held.{metaOf, headIn}
 use Rattle.compact.specs.declared.ArenaMeta.{ArenaMeta}
 use Rattle.compact.specs.declared.PushHead.{PushHead}
-use Rattle.shelf.specs.declared.Kept.{Kept}
-use Rattle.shelf.specs.declared.Kept.the-variants.{Taken, Refused}
+use Rattle.shelf.specs.Shelf.{takenIn}
 use Rattle.overlay.specs.Overlay.{Overlay, empty}
 use Rattle.overlay.specs.Given.{headFits, metaFits}
 use Rattle.direct.specs.Calls.{pushOn, deleteOn, internOn}
@@ -72,11 +71,7 @@ withOverlay o l = record { overlay = o; readers = l .readers; parts = l .parts }
 
 -- ---- one call: what it leaves, and whether its reply accepted it
 
--- "accepted unless refused"
-abbrev pub takenIn : Kept → Bool
-takenIn Taken = true
-takenIn (Refused r) = false
-
+-- "accepted unless refused": of a push or a delete by `takenIn`
 abbrev pub handled : Handle → Bool
 handled (H.Is h) = true
 handled (H.Refused r) = false

@@ -26,7 +26,7 @@ use Rattle.interner.specs.Texts.{takeAll, textOf}
 use Rattle.interner.specs.Sound.{textsOf}
 use Rattle.interner.proofs.Interns.{length-texts}
 use Rattle.interner.proofs.Held.{grown-all, text-stays-all}
-use Rattle.shelf.specs.declared.Kept.the-variants.{Taken}
+use Rattle.shelf.specs.Shelf.{takenIn}
 use Rattle.overlay.specs.Overlay.{Overlay, largest, textsFit}
 use Rattle.overlay.specs.Sound.{Sound, isSound}
 use Rattle.overlay.specs.Given.{headFits, metaFits, InBytes}
@@ -48,9 +48,9 @@ pub data TakesIn (o : Overlay) : List Bytes → Overlay → Type 0 where
 pub data Acts (o : Overlay) : Option (Act Bytes) → Overlay → Type 0 where
   no-act : Acts o none o
   a-push : (k : Kind) (h : PushHead) (m : ArenaMeta) (parts : Bytes) (r : Record ℕ) → headFits h ≡ true → metaFits m ≡ true → all isByte parts ≡ true
-      → pushedRecord k (headIn k h) (metaOf m) parts ≡ some r → pushOn k h m parts o .answer ≡ Taken
+      → pushedRecord k (headIn k h) (metaOf m) parts ≡ some r → takenIn (pushOn k h m parts o .answer) ≡ true
       → Acts o (some (push (toZ w64 (h .id)) (swapRecord (textOf (textsOf (o .texts))) r))) (pushOn k h m parts o .overlay)
-  a-delete : (k : Kind) (id : ℕ) (m : ArenaMeta) → id < 18446744073709551616 → metaFits m ≡ true → deleteOn k (toZ w64 id) (metaOf m) o .answer ≡ Taken
+  a-delete : (k : Kind) (id : ℕ) (m : ArenaMeta) → id < 18446744073709551616 → metaFits m ≡ true → takenIn (deleteOn k (toZ w64 id) (metaOf m) o .answer) ≡ true
       → Acts o (some (delete k (toZ w64 id) (claimOf (metaOf m)))) (deleteOn k (toZ w64 id) (metaOf m) o .overlay)
 
 -- first the texts, then the act

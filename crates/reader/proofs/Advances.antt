@@ -36,7 +36,7 @@ use Rattle.legal.proofs.Laws.{legal-more}
 use Rattle.interner.specs.Texts.{textOf}
 use Rattle.interner.specs.Sound.{textsOf}
 use Rattle.version_floor.specs.declared.Admit.{Admit}
-use Rattle.shelf.specs.Shelf.{known, checked}
+use Rattle.shelf.specs.Shelf.{known, checked, takenIn}
 use Rattle.shelf.specs.declared.Kept.the-variants.{Taken}
 use Rattle.overlay.specs.Overlay.{Overlay, shelfOf}
 use Rattle.overlay.specs.Sound.{isSound}
@@ -81,7 +81,7 @@ pushes-act : (k : Kind) (h : PushHead) (m : ArenaMeta) (parts : Bytes) (o : Over
     → Acts o (some (push (toZ w64 (h .id)) (swapRecord (textOf (textsOf (o .texts))) r))) (storePush k h m parts o .overlay)
 pushes-act k h m parts o r e f g b p l a =
     let s = push-store k h m parts o e (ap (faultFor (o .texts .strings)) p ∙ fault-legal (o .texts .strings) r l) in
-    rw (ap (λ (z : After). z .overlay) s) at (a-push k h m parts r f g b p (ap (λ (z : After). z .answer) s ∙ a))
+    rw (ap (λ (z : After). z .overlay) s) at (a-push k h m parts r f g b p (ap (λ (z : After). takenIn (z .answer)) s ∙ ap takenIn a))
 
 -- an element that begins behind its user's text
 module _ (o : Overlay) (w : Fine o) (id : ℤ) (m : Meta Bytes) (g : Decided.Given id m) (h : ℕ) (q : Overlay) (t : TakenAs o (userText m) q h (m .user))
@@ -126,7 +126,7 @@ module _ (o : Overlay) (w : Fine o) (id : ℤ) (m : Meta Bytes) (g : Decided.Giv
       let c = claim-same m (g .legal) h in
       let s : deleteOn k (toZ w64 (ofZ w64 id)) (metaOf x) q ≡ storeDelete k id (claimOf m) q = rw (i, ← c) (delete-store k id (metaOf x) q (named-fine .sound) named-legal) in
       let d : Acts q (some (delete k (toZ w64 (ofZ w64 id)) (claimOf (metaOf x)))) (deleteOn k (toZ w64 (ofZ w64 id)) (metaOf x) q .overlay) =
-      a-delete k (ofZ w64 id) x (fits-ofZ (g .fits) .fits) named-fits (ap (λ (z : After). z .answer) s ∙ a) in
+      a-delete k (ofZ w64 id) x (fits-ofZ (g .fits) .fits) named-fits (ap (λ (z : After). takenIn (z .answer)) s ∙ ap takenIn a) in
       rw (ap (λ (z : After). z .overlay) s, i, c) at d
 
 -- the texts of a record with one part more

@@ -37,8 +37,8 @@ use Rattle.shelf.specs.Shelf.{known, checked, room}
 use Rattle.shelf.proofs.Answers as Shelves
 use Rattle.overlay.specs.Overlay.{Overlay, shelfOf, withTexts}
 use Rattle.overlay.specs.Sound.{isSound}
-use Rattle.overlay.specs.First.{isNone, isBelow, heldBy}
-use Rattle.overlay.specs.Calls.{bytesOf, storePush, storeDelete}
+use Rattle.store.specs.First.{isNone, isBelow, heldBy}
+use Rattle.store.specs.Calls.{bytesOf, storePush, storeDelete}
 use Rattle.overlay.proofs.Answers.{strings-sound}
 use Rattle.overlay.proofs.Shelves.{texts-shelf}
 use Rattle.decision.specs.Decision.{Decision, refuses, moves, begins, deletes, tags, refers, joins, ends, decide}
