@@ -29,7 +29,8 @@ use Rattle.overlay.specs.Given.{InBytes}
 use Rattle.overlay.specs.Sound.{Sound, isSound}
 use Rattle.overlay.proofs.Decides.{decides}
 use Rattle.listing.specs.Table.{leftAt, rowOf, kindTable, tableOf}
-use Rattle.listing.specs.Pieces.{rowFieldsAt, rowPieces, kindPieces, textIn, piecesOf}
+use Rattle.rows.specs.Lines.{rowFieldsAt, rowPieces, kindPieces}
+use Rattle.listing.specs.Pieces.{textIn, piecesOf}
 use Rattle.listing.specs.Call.{pageOf}
 use Rattle.listing.proofs.Rows.{row-starts, record-read, record-found, record-kind}
 

@@ -6,7 +6,8 @@ use denote.Ref.{now}
 use lib.ListN.{take, getD}
 use lib.Seq.{length-take-le}
 use Rattle.listing.specs.Pieces.{piecesOf}
-use Rattle.listing.proofs.Walks.{take-most, page-printed}
+use Rattle.rows.proofs.Walks.{take-most}
+use Rattle.listing.proofs.Calls.{page-printed}
 use borrow.Author.Needs.{needs}
 use Rattle.listing.proofs.put_page.Statement.{statement}
 use Rattle.listing.proofs.put_page.Tie as tie

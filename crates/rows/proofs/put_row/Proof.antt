@@ -11,11 +11,11 @@ use Rattle.osm_id.specs.Order.{idOf}
 use Rattle.shelf.specs.Shelf.{isLive}
 use Rattle.page.specs.Listing.{kindField, versionField}
 use Rattle.fields.specs.Fields.{heldText}
-use Rattle.listing.specs.Pieces.{signOf, lastAt, rowFieldsAt}
-use Rattle.listing.proofs.Walks.{line-printed}
+use Rattle.rows.specs.Lines.{signOf, lastAt, rowFieldsAt}
+use Rattle.rows.proofs.Walks.{line-printed}
 use borrow.Author.Needs.{needs}
-use Rattle.listing.proofs.put_row.Statement.{statement}
-use Rattle.listing.proofs.put_row.Tie as tie
+use Rattle.rows.proofs.put_row.Statement.{statement}
+use Rattle.rows.proofs.put_row.Tie as tie
 
 returns : tie.Need-returns
 unfolding rowFieldsAt isLive

@@ -8,11 +8,11 @@ use Rattle.table.specs.Words.{rowsFrom, rowsOf, held}
 use Rattle.shelf.specs.Shelf.{lent}
 use Rattle.print.specs.Print.{print}
 use Rattle.fields.specs.Fields.{heldText}
-use Rattle.listing.specs.Pieces.{rowPieces}
-use Rattle.listing.proofs.Walks.{rows-next, rows-start, rows-end}
+use Rattle.rows.specs.Lines.{rowPieces}
+use Rattle.rows.proofs.Walks.{rows-next, rows-start, rows-end}
 use borrow.Author.Needs.{needs}
-use Rattle.listing.proofs.put_rows.Statement.{statement}
-use Rattle.listing.proofs.put_rows.Tie as tie
+use Rattle.rows.proofs.put_rows.Statement.{statement}
+use Rattle.rows.proofs.put_rows.Tie as tie
 
 abbrev Inv-loop : tie.InvT-loop
 Inv-loop out₀ cap kind table ids arena used spans bytes strings n left₀ i₀ out left i =
