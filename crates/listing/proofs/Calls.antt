@@ -26,7 +26,7 @@ use Rattle.overlay.specs.Given.{InBytes}
 use Rattle.overlay.specs.Sound.{isSound}
 use Rattle.listing.specs.declared.Listed.the-variants.{Length, Refused}
 use Rattle.listing.specs.Pieces.{piecesOf}
-use Rattle.listing.specs.Call.{notListed, pageOf, written, listingOn}
+use Rattle.listing.specs.Call.{notListed, pageOf, pageOver, listingOn}
 use Rattle.listing.proofs.Pages.{page-pieces}
 
 -- three kinds, one after the other
@@ -57,11 +57,11 @@ module _ (out : Bytes) (o : Overlay) where
 
   module _ (t : isSound o ≡ true) where
     pub list-19 : length out < length (pageOf o) → notListed out R.ShortOutput ≡ listingOn out o
-    unfolding listingOn written
+    unfolding listingOn pageOver
     list-19 h = rw (t, lt-leb (length (pageOf o)) (length out) h)
 
     pub list-length : length (pageOf o) ≤ length out → record { out = pageOf o ++ drop (length (pageOf o)) out; answer = Length (length (pageOf o)) } ≡ listingOn out o
-    unfolding listingOn written
+    unfolding listingOn pageOver
     list-length h = rw (t, le-leb (length (pageOf o)) (length out) h)
 
 -- ---- the room that measuring leaves

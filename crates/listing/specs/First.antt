@@ -16,6 +16,6 @@ abbrev pub listingTable : Bytes → Overlay → List Row
 listingTable out o = unsoundRow o ∷ row R.ShortOutput (ltb (length out) (length (pageOf o))) ∷ []
 
 -- the refusal of an answer, if it is one
-abbrev pub refusalIn : Listed → Option Refusal
-refusalIn (Length n) = none
-refusalIn (Refused r) = some r
+abbrev pub listedRefusal : Listed → Option Refusal
+listedRefusal (Length n) = none
+listedRefusal (Refused r) = some r

@@ -9,9 +9,9 @@ use Rattle.overlay.specs.Overlay.{Overlay, shelfOf}
 use Rattle.rows.specs.Lines.{kindPieces}
 
 -- the text of a handle
-abbrev pub textIn : Store → ℕ → Bytes
-textIn t = heldText (t .spans) (usedOf t) (t .strings)
+abbrev pub textHeld : Store → ℕ → Bytes
+textHeld t = heldText (t .spans) (usedOf t) (t .strings)
 
 unfoldable pub piecesOf : Overlay → List Bytes
 piecesOf o =
-    kindPieces (textIn (o .texts)) Node (shelfOf Node o) ++ kindPieces (textIn (o .texts)) Way (shelfOf Way o) ++ kindPieces (textIn (o .texts)) Relation (shelfOf Relation o)
+    kindPieces (textHeld (o .texts)) Node (shelfOf Node o) ++ kindPieces (textHeld (o .texts)) Way (shelfOf Way o) ++ kindPieces (textHeld (o .texts)) Relation (shelfOf Relation o)

@@ -35,7 +35,7 @@ fn put_page(
     let n = little::lesser(counts[7] as usize, bytes.len());
     let texts = &bytes[..n];
     let strings = counts[6];
-    let room = rows::put_rows(
+    let room = rows::put_lines(
         out,
         cap,
         Room::Left(cap),
@@ -48,7 +48,7 @@ fn put_page(
         texts,
         strings,
     );
-    let room = rows::put_rows(
+    let room = rows::put_lines(
         out,
         cap,
         room,
@@ -61,7 +61,7 @@ fn put_page(
         texts,
         strings,
     );
-    rows::put_rows(
+    rows::put_lines(
         out,
         cap,
         room,

@@ -12,7 +12,7 @@ use Rattle.table.specs.declared.Row.{Row}
 use Rattle.shelf.specs.Shelf.{Shelf, isLive, known}
 use Rattle.page.specs.Listing.{kindField, versionField}
 use Rattle.print.specs.Print.{linePieces}
-use Rattle.fields.specs.Fields.{fieldsAt}
+use Rattle.fields.specs.Fields.{recordFieldsAt}
 
 -- "`+` live or `-` deleted"
 abbrev pub signOf : Bool → Bytes
@@ -21,7 +21,7 @@ signOf false = 45 ∷ []
 
 -- "A deleted line ends there. A live one goes on"
 abbrev pub lastAt : (ℕ → Bytes) → Kind → Bytes → ℕ → ℕ → List Bytes
-lastAt f k arena used place = cond (isLive place) (fieldsAt f k (drop place (take used arena))) []
+lastAt f k arena used place = cond (isLive place) (recordFieldsAt f k (drop place (take used arena))) []
 
 unfoldable pub rowFieldsAt : (ℕ → Bytes) → Kind → Shelf → Row → List Bytes
 rowFieldsAt f k s r =

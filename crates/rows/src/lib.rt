@@ -89,7 +89,7 @@ fn put_last(
 }
 
 // A row's line.
-fn put_row(
+fn put_line(
     out: &mut [u8],
     cap: usize,
     room: Room,
@@ -126,7 +126,7 @@ fn put_row(
 }
 
 // The lines of a kind's rows: those counted, as far as the words go.
-pub fn put_rows(
+pub fn put_lines(
     out: &mut [u8],
     cap: usize,
     room: Room,
@@ -146,7 +146,7 @@ pub fn put_rows(
     let mut left = room;
     let mut i: usize = 0;
     while i < n {
-        left = put_row(
+        left = put_line(
             out,
             cap,
             left,

@@ -11,8 +11,8 @@ use Rattle.fields.specs.Fields.{heldText}
 use Rattle.rows.specs.Lines.{rowPieces}
 use Rattle.rows.proofs.Walks.{rows-next, rows-start, rows-end}
 use borrow.Author.Needs.{needs}
-use Rattle.rows.proofs.put_rows.Statement.{statement}
-use Rattle.rows.proofs.put_rows.Tie as tie
+use Rattle.rows.proofs.put_lines.Statement.{statement}
+use Rattle.rows.proofs.put_lines.Tie as tie
 
 abbrev Inv-loop : tie.InvT-loop
 Inv-loop out₀ cap kind table ids arena used spans bytes strings n left₀ i₀ out left i =
@@ -32,7 +32,7 @@ loop-again : tie.Need-loop-again Inv-loop μ-loop
 loop-again c =
     let l = c .before .before .before .before .before .before in
     let a = l .before .before .before .before .before .before .before .args in
-    let e = rw (c .before .before .before .row-at .ensures) at (c .before .before .put-row .ensures) in
+    let e = rw (c .before .before .before .row-at .ensures) at (c .before .before .put-line .ensures) in
     (omega arith, (omega arith, rows-next (a .cap) (heldText (now (a .spans)) (now (a .bytes)) (a .strings)) (a .kind) (lent (now (a .table)) (a .ids) (now (a .arena)) (a .used)) (l .before .lesser .result) (l .loop .i) _ _ (omega arith) e ∙ l .loop .inv .1 .1))
 
 returns : tie.Need-returns Inv-loop μ-loop
@@ -44,8 +44,8 @@ returns c =
     rw (← n .ensures)
     (sym (rows-end (a .cap) (heldText (now (a .spans)) (now (a .bytes)) (a .strings)) (a .kind) (lent (now (a .table)) (a .ids) (now (a .arena)) (a .used)) (n .result) (l .i) _ (omega arith)) ∙ l .inv .1 .1)
 
-pub put-rows-spec : {M : Type 1} → statement M
-put-rows-spec =
+pub put-lines-spec : {M : Type 1} → statement M
+put-lines-spec =
     tie.close
     (tie.spec
     Inv-loop
