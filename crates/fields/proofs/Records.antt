@@ -33,7 +33,7 @@ use Rattle.compact.specs.declared.TagStep.the-variants as step
 use Rattle.compact.proofs.Back.{Found}
 use Rattle.compact.proofs.Cuts.{head-tags}
 use Rattle.page.specs.Listing.{each, counted, refFields, memberFields, tagFields, bodyFields, recordFields}
-use Rattle.fields.specs.Fields.{heldText, eachFrom, refFieldsAt, heldMember, stepFields, tagFieldsFrom, bodyFieldsAt, tagFieldsAt, fieldsAt}
+use Rattle.fields.specs.Fields.{heldText, eachFrom, refFieldsAt, heldMember, stepFields, tagFieldsFrom, bodyFieldsAt, tagFieldsAt, recordFieldsAt}
 
 -- ---- texts
 
@@ -122,7 +122,7 @@ module _ (f : ℕ → Bytes) (s : Bytes) where
       (each-is (λ i. heldMember f (memberAt s i)) (λ x. memberFields (swapMember f x)) none-held ms 0 (λ j l. rw (zero-add j) (member-is f (memberAt s j) (getD ms j none-held) (m ms j none-held refl l)))))
 
 -- a record is found at the front of some bytes: its fields there are the page's
-pub fields-are : (f : ℕ → Bytes) (id : ℤ) (r : Record ℕ) (s : Bytes) → Found id r s → fieldsAt f (kindOf (r .body)) s ≡ recordFields (swapRecord f r)
-unfolding fieldsAt recordFields tagFieldsAt
+pub fields-are : (f : ℕ → Bytes) (id : ℤ) (r : Record ℕ) (s : Bytes) → Found id r s → recordFieldsAt f (kindOf (r .body)) s ≡ recordFields (swapRecord f r)
+unfolding recordFieldsAt recordFields tagFieldsAt
 fields-are f id r s w =
     rw (w .head, w .meta, body-is f s id (r .body) (length (r .tags)) (w .refs-at) (w .members-at), head-tags id (r .body) (length (r .tags)), tags-are f s (length (r .tags)) _ (r .tags) (w .tags), counted-map tagFields (swapTag f) (r .tags))

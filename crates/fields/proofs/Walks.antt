@@ -26,7 +26,7 @@ use Rattle.compact.proofs.Steps.{tag-past, tag-over, tag-judged}
 use Rattle.page.specs.Listing.{metaFields}
 use Rattle.print.specs.Print.{Printed, print, tab, tabs}
 use Rattle.print.proofs.Prints.{print-append, tabs-append}
-use Rattle.fields.specs.Fields.{heldText, eachFrom, tagFieldsFrom, bodyFieldsAt, tagFieldsAt, fieldsAt}
+use Rattle.fields.specs.Fields.{heldText, eachFrom, tagFieldsFrom, bodyFieldsAt, tagFieldsAt, recordFieldsAt}
 
 -- ---- a text
 
@@ -121,8 +121,8 @@ module _ (cap : ℕ) (f : ℕ → Bytes) (s : Bytes) where
 
 module _ (cap : ℕ) (f : ℕ → Bytes) (k : Kind) (s : Bytes) where
   pub fields-printed : (m : ArenaMeta) (bs ts : List Bytes) (p q r t : Printed) → m ≡ metaAt s (headLen k) → bs ≡ bodyFieldsAt f k (headAt k s) s → ts ≡ tagFieldsAt f k (headAt k s) s
-      → q ≡ print cap (tabs (metaFields (swapMeta f (metaOf m)))) p → r ≡ print cap (tabs bs) q → t ≡ print cap (tabs ts) r → t ≡ print cap (tabs (fieldsAt f k s)) p
-  unfolding fieldsAt
+      → q ≡ print cap (tabs (metaFields (swapMeta f (metaOf m)))) p → r ≡ print cap (tabs bs) q → t ≡ print cap (tabs ts) r → t ≡ print cap (tabs (recordFieldsAt f k s)) p
+  unfolding recordFieldsAt
   fields-printed m bs ts p q r t em eb et e1 e2 e3 =
       rw (← em, ← eb, ← et) (both-printed cap (metaFields (swapMeta f (metaOf m)) ++ bs) ts p r t (both-printed cap (metaFields (swapMeta f (metaOf m))) bs p q r e1 e2) e3)
 

@@ -70,5 +70,5 @@ bodyFieldsAt f Relation h s = numberText (h .count) ∷ eachFrom (λ i. heldMemb
 unfoldable pub tagFieldsAt : (ℕ → Bytes) → Kind → Head → Bytes → List Bytes
 tagFieldsAt f k h s = numberText (h .tags) ∷ tagFieldsFrom f s (tagsAt k (h .count)) (h .tags)
 
-unfoldable pub fieldsAt : (ℕ → Bytes) → Kind → Bytes → List Bytes
-fieldsAt f k s = metaFields (swapMeta f (metaOf (metaAt s (headLen k)))) ++ bodyFieldsAt f k (headAt k s) s ++ tagFieldsAt f k (headAt k s) s
+unfoldable pub recordFieldsAt : (ℕ → Bytes) → Kind → Bytes → List Bytes
+recordFieldsAt f k s = metaFields (swapMeta f (metaOf (metaAt s (headLen k)))) ++ bodyFieldsAt f k (headAt k s) s ++ tagFieldsAt f k (headAt k s) s

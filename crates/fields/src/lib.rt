@@ -10,7 +10,7 @@ ghost use Rattle.compact.specs.Held.{metaOf};
 ghost use Rattle.compact.specs.View.{memberAt};
 ghost use Rattle.page.specs.Listing.{metaFields};
 ghost use Rattle.print.specs.Print.{print, tabs};
-ghost use Rattle.fields.specs.Fields.{heldText, eachFrom, refFieldsAt, heldMember, tagFieldsFrom, fieldsAt};
+ghost use Rattle.fields.specs.Fields.{heldText, eachFrom, refFieldsAt, heldMember, tagFieldsFrom, recordFieldsAt};
 use compact::ArenaMeta;
 use compact::CompactMember;
 use compact::CompactNode;
@@ -194,7 +194,7 @@ fn put_node(
     strings: u64,
 ) -> Room
     ensures { λ r. ⌜ record { out = now (out .exit); room = r }
-        ≡ print cap (tabs (fieldsAt (heldText (now (spans .entry)) (now (bytes .entry)) strings) Node (now (view .entry)))) (record { out = now (out .entry); room = room }) ⌝ }
+        ≡ print cap (tabs (recordFieldsAt (heldText (now (spans .entry)) (now (bytes .entry)) strings) Node (now (view .entry)))) (record { out = now (out .entry); room = room }) ⌝ }
 {
     let node = CompactNode::read(view);
     let meta = compact::read_meta(view, CompactNode::META_OFF);
@@ -225,7 +225,7 @@ fn put_way(
     strings: u64,
 ) -> Room
     ensures { λ r. ⌜ record { out = now (out .exit); room = r }
-        ≡ print cap (tabs (fieldsAt (heldText (now (spans .entry)) (now (bytes .entry)) strings) Way (now (view .entry)))) (record { out = now (out .entry); room = room }) ⌝ }
+        ≡ print cap (tabs (recordFieldsAt (heldText (now (spans .entry)) (now (bytes .entry)) strings) Way (now (view .entry)))) (record { out = now (out .entry); room = room }) ⌝ }
 {
     let way = CompactWay::read(view);
     let meta = compact::read_meta(view, CompactWay::META_OFF);
@@ -255,7 +255,7 @@ fn put_relation(
     strings: u64,
 ) -> Room
     ensures { λ r. ⌜ record { out = now (out .exit); room = r }
-        ≡ print cap (tabs (fieldsAt (heldText (now (spans .entry)) (now (bytes .entry)) strings) Relation (now (view .entry)))) (record { out = now (out .entry); room = room }) ⌝ }
+        ≡ print cap (tabs (recordFieldsAt (heldText (now (spans .entry)) (now (bytes .entry)) strings) Relation (now (view .entry)))) (record { out = now (out .entry); room = room }) ⌝ }
 {
     let relation = CompactRelation::read(view);
     let meta = compact::read_meta(view, CompactRelation::META_OFF);
@@ -296,7 +296,7 @@ pub fn put_record(
     strings: u64,
 ) -> Room
     ensures { λ r. ⌜ record { out = now (out .exit); room = r }
-        ≡ print cap (tabs (fieldsAt (heldText (now (spans .entry)) (now (bytes .entry)) strings) kind (now (view .entry)))) (record { out = now (out .entry); room = room }) ⌝ }
+        ≡ print cap (tabs (recordFieldsAt (heldText (now (spans .entry)) (now (bytes .entry)) strings) kind (now (view .entry)))) (record { out = now (out .entry); room = room }) ⌝ }
 {
     match kind {
         Kind::Node => put_node(out, cap, room, view, spans, bytes, strings),

@@ -20,14 +20,18 @@ use Rattle.print.specs.declared.Room.the-variants.{Left, Full}
 use Rattle.print.specs.Print.{Printed, print, joined}
 use Rattle.print.specs.Piece.{behind}
 use Rattle.print.proofs.Prints as Prints
-use Rattle.print.proofs.Prints.{behind-fits, behind-past, room-print, length-print}
+use Rattle.print.proofs.Prints.{print-append, behind-fits, behind-past, room-print, length-print}
 use Rattle.overlay.specs.Overlay.{Overlay, overlayOf, shelfOf}
 use Rattle.overlay.specs.Given.{InBytes}
 use Rattle.overlay.specs.Sound.{isSound}
 use Rattle.listing.specs.declared.Listed.the-variants.{Length, Refused}
 use Rattle.listing.specs.Pieces.{piecesOf}
-use Rattle.listing.specs.Call.{notListed, pageOf, written, listingOn}
+use Rattle.listing.specs.Call.{notListed, pageOf, pageOver, listingOn}
 use Rattle.listing.proofs.Pages.{page-pieces}
+
+-- three kinds, one after the other
+pub page-printed : (cap : ℕ) (xs ys zs : List Bytes) (p q r t : Printed) → q ≡ print cap xs p → r ≡ print cap ys q → t ≡ print cap zs r → t ≡ print cap (xs ++ ys ++ zs) p
+page-printed cap xs ys zs p q r t e1 e2 e3 = rw (print-append cap (xs ++ ys) zs p, print-append cap xs ys p, ← e1, ← e2) e3
 
 -- lent bytes are bytes
 pub bytes-lent : (s : Bytes) → ((i : ℕ) → getD s i 0 < 256) → all isByte s ≡ true
@@ -53,11 +57,11 @@ module _ (out : Bytes) (o : Overlay) where
 
   module _ (t : isSound o ≡ true) where
     pub list-19 : length out < length (pageOf o) → notListed out R.ShortOutput ≡ listingOn out o
-    unfolding listingOn written
+    unfolding listingOn pageOver
     list-19 h = rw (t, lt-leb (length (pageOf o)) (length out) h)
 
     pub list-length : length (pageOf o) ≤ length out → record { out = pageOf o ++ drop (length (pageOf o)) out; answer = Length (length (pageOf o)) } ≡ listingOn out o
-    unfolding listingOn written
+    unfolding listingOn pageOver
     list-length h = rw (t, le-leb (length (pageOf o)) (length out) h)
 
 -- ---- the room that measuring leaves

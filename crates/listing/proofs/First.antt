@@ -19,21 +19,21 @@ use Rattle.compact.specs.Fits.{fitsSigned}
 use Rattle.table.specs.Words.{rowsOf, rowsFrom}
 use Rattle.overlay.specs.Overlay.{Overlay, empty}
 use Rattle.overlay.specs.Sound.{Sound, isSound}
-use Rattle.overlay.specs.First.{firstOf}
+use Rattle.refusal.specs.First.{firstOf}
 use Rattle.page.specs.Summary as Summary
 use Rattle.page.specs.Summary.{summary}
 use Rattle.page.specs.Listing.{listing}
 use Rattle.listing.specs.declared.Listed.the-variants.{Length, Refused}
 use Rattle.listing.specs.Known.{knownIn}
 use Rattle.listing.specs.Table.{kindTable, tableOf, Ranked}
-use Rattle.listing.specs.Call.{Listing, notListed, pageOf, listingOn}
-use Rattle.listing.specs.First.{listingTable, refusalIn}
+use Rattle.listing.specs.Call.{Output, notListed, pageOf, listingOn}
+use Rattle.listing.specs.First.{listingTable, listedRefusal}
 use Rattle.listing.proofs.Calls.{list-22, list-19, list-length}
 use Rattle.listing.proofs.Summaries.{listed-page}
 
 module _ (out : Bytes) (o : Overlay) where
   -- the page over the first bytes of the output
-  abbrev listedOn : Listing
+  abbrev listedOn : Output
   listedOn = record { out = pageOf o ++ drop (length (pageOf o)) out; answer = Length (length (pageOf o)) }
 
   -- the three cases: 22, 19, listed
@@ -46,7 +46,7 @@ module _ (out : Bytes) (o : Overlay) where
       (λ t. f t (sym (list-22 out o t)))
 
   -- T4
-  pub list-first : refusalIn (listingOn out o .answer) ≡ firstOf (listingTable out o)
+  pub list-first : listedRefusal (listingOn out o .answer) ≡ firstOf (listingTable out o)
   unfolding firstOf
   list-first =
       byListing (λ t e. rw (e, t)) (λ t l e. rw (e, t, lt-ltb (length out) (length (pageOf o)) l)) (λ t l e. rw (e, t, le-ltb (length out) (length (pageOf o)) l))
@@ -54,7 +54,7 @@ module _ (out : Bytes) (o : Overlay) where
   -- "19 output shorter than the listing" with no byte written, and so 22
   pub list-refused : (r : Refusal) → listingOn out o .answer ≡ Refused r → listingOn out o .out ≡ out
   list-refused r h =
-      byListing (λ t e. rw e) (λ t l e. rw e) (λ t l e. let z : Length (length (pageOf o)) ≡ Refused r = sym (ap (λ (x : Listing). x .answer) e) ∙ h in no (cc))
+      byListing (λ t e. rw e) (λ t l e. rw e) (λ t l e. let z : Length (length (pageOf o)) ≡ Refused r = sym (ap (λ (x : Output). x .answer) e) ∙ h in no (cc))
 
   -- listed exactly where the overlay is sound and the output is as long as the page, and the answer is the page's length
   pub list-listed : (n : ℕ) → (listingOn out o .answer ≡ Length n) ↔ ((isSound o ≡ true) × ((length (pageOf o) ≤ length out) × (n ≡ length (pageOf o))))
@@ -63,15 +63,15 @@ module _ (out : Bytes) (o : Overlay) where
       to : listingOn out o .answer ≡ Length n → (isSound o ≡ true) × ((length (pageOf o) ≤ length out) × (n ≡ length (pageOf o)))
       to h =
           byListing
-          (λ t e. let z : Refused R.Unsound ≡ Length n = sym (ap (λ (x : Listing). x .answer) e) ∙ h in no (cc))
-          (λ t l e. let z : Refused R.ShortOutput ≡ Length n = sym (ap (λ (x : Listing). x .answer) e) ∙ h in no (cc))
-          (λ t l e. let z : Length (length (pageOf o)) ≡ Length n = sym (ap (λ (x : Listing). x .answer) e) ∙ h in let m : n ≡ length (pageOf o) = cc in (t, (l, m)))
+          (λ t e. let z : Refused R.Unsound ≡ Length n = sym (ap (λ (x : Output). x .answer) e) ∙ h in no (cc))
+          (λ t l e. let z : Refused R.ShortOutput ≡ Length n = sym (ap (λ (x : Output). x .answer) e) ∙ h in no (cc))
+          (λ t l e. let z : Length (length (pageOf o)) ≡ Length n = sym (ap (λ (x : Output). x .answer) e) ∙ h in let m : n ≡ length (pageOf o) = cc in (t, (l, m)))
 
   -- then the output begins with the page, and "output past the listing is unchanged"
   pub list-page : (n : ℕ) → listingOn out o .answer ≡ Length n → (take n (listingOn out o .out) ≡ pageOf o) × (drop n (listingOn out o .out) ≡ drop n out)
   list-page n h =
       let w = list-listed n .0 h in
-      let e = ap (λ (x : Listing). x .out) (list-length out o (w .0) (w .1 .0)) in
+      let e = ap (λ (x : Output). x .out) (list-length out o (w .0) (w .1 .0)) in
       (rw (← e, w .1 .1) (take-append-seam (pageOf o) _), rw (← e, w .1 .1) (drop-append-seam (pageOf o) _))
 
   pub list-size : length (listingOn out o .out) ≡ length out

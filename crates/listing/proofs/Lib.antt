@@ -1,4 +1,3 @@
-pub mod Walks
 pub mod Rows
 pub mod Pages
 pub mod Calls

@@ -29,7 +29,8 @@ use Rattle.overlay.specs.Given.{InBytes}
 use Rattle.overlay.specs.Sound.{Sound, isSound}
 use Rattle.overlay.proofs.Decides.{decides}
 use Rattle.listing.specs.Table.{leftAt, rowOf, kindTable, tableOf}
-use Rattle.listing.specs.Pieces.{rowFieldsAt, rowPieces, kindPieces, textIn, piecesOf}
+use Rattle.rows.specs.Lines.{rowFieldsAt, rowPieces, kindPieces}
+use Rattle.listing.specs.Pieces.{textHeld, piecesOf}
 use Rattle.listing.specs.Call.{pageOf}
 use Rattle.listing.proofs.Rows.{row-starts, record-read, record-found, record-kind}
 
@@ -71,7 +72,7 @@ module _ (strings : ℕ) (k : Kind) (s : Shelf) (w : SoundShelf strings k s) (f 
   kind-listed = rw (held-all (s .table) (s .ids) (sound-fits (s .table) (s .ids) (w .order))) (rows-listed (rowsIn s) (w .rows))
 
 -- a handle's text is the held one
-texts-held : (o : Overlay) → Sound o → textIn (o .texts) ≡ textOf (textsOf (o .texts))
+texts-held : (o : Overlay) → Sound o → textHeld (o .texts) ≡ textOf (textsOf (o .texts))
 texts-held o w = λ i h. held-text (o .texts) (Interns.sound-parts (o .texts) (w .strings)) h i
 
 pub page-sound : (o : Overlay) → Sound o → joined (piecesOf o) ≡ pageOf o

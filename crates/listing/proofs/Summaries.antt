@@ -21,6 +21,7 @@ use Rattle.kind.specs.declared.Kind.the-variants.{Node, Way, Relation}
 use Rattle.osm_id.specs.Order.{rank, idOf}
 use Rattle.osm_id.proofs.Orders.{id-rank, rank-before, rank-fits, rank-id, id-fits}
 use Rattle.interner.specs.Texts.{textOf}
+use Rattle.interner.specs.Strings.{Store}
 use Rattle.interner.specs.Sound.{textsOf}
 use Rattle.model.specs.Act.{Act, Key, gone, sameKey, keyBefore}
 use Rattle.model.proofs.Keys.{ids-order, kinds-order}
@@ -34,8 +35,9 @@ use Rattle.table.proofs.Tables.{sound-rises}
 use Rattle.shelf.specs.Shelf.{Shelf, isLive, known}
 use Rattle.shelf.specs.Fair.{rowsIn}
 use Rattle.sound.specs.Sound.{soundRow}
-use Rattle.overlay.specs.Overlay.{Overlay, shelfOf}
+use Rattle.overlay.specs.Overlay.{Overlay, shelfOf, withShelf, withTexts, empty}
 use Rattle.overlay.specs.Sound.{Sound}
+use Rattle.overlay.proofs.Shelves.{each-shelf, texts-shelf}
 use Rattle.page.specs.Summary as Summary
 use Rattle.page.specs.Summary.{Row, Table, find, summary}
 use Rattle.page.proofs.Tables.{Every, Above, Sorted, find-nil, find-here, find-later, same-table, summary-sorted, rowIn, find-summary}
@@ -241,3 +243,18 @@ all-put p n (r ∷ rs) h g =
 pub ranked-put : (id : ℤ) (place floor : ℕ) → SFits w64 id → (rs : List table.Row) → all isRank rs ≡ true → all isRank (Rows.put (record { rank = rank id; place = place; floor = floor }) rs) ≡ true
 unfolding isRank
 ranked-put id place floor g rs h = all-put isRank (record { rank = rank id; place = place; floor = floor }) rs (lt-ltb _ _ (rank-fits g)) h
+
+pub ranked-shelf : (k : Kind) (s : Shelf) (o : Overlay) → all isRank (rowsIn s) ≡ true → Ranked o → Ranked (withShelf k s o)
+ranked-shelf k s o h n = record { rows = each-shelf (λ j t. all isRank (rowsIn t) ≡ true) k s o h (n .rows) }
+
+pub ranked-texts : (t : Store) (o : Overlay) → Ranked o → Ranked (withTexts t o)
+ranked-texts t o n = record { rows = λ k. rw (texts-shelf k t o) (n .rows k) }
+
+pub ranked-empty : (setting : ℕ) (o : Overlay) → Ranked (empty setting o)
+unfolding rowsOf rowsFrom
+ranked-empty setting o = record { rows = none-ranked }
+  where
+    none-ranked : (k : Kind) → all isRank (rowsIn (shelfOf k (empty setting o))) ≡ true
+    none-ranked Node = all-nil isRank
+    none-ranked Way = all-nil isRank
+    none-ranked Relation = all-nil isRank

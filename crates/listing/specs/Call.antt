@@ -15,11 +15,11 @@ use Rattle.listing.specs.declared.Listed.{Listed}
 use Rattle.listing.specs.declared.Listed.the-variants.{Length, Refused}
 
 -- the output, and the answer
-pub record Listing : Type 0 where
+pub record Output : Type 0 where
   pub out : Bytes
   pub answer : Listed
 
-abbrev pub notListed : Bytes → Refusal → Listing
+abbrev pub notListed : Bytes → Refusal → Output
 notListed out r = record { out = out; answer = Refused r }
 
 -- the page of an overlay
@@ -27,9 +27,9 @@ abbrev pub pageOf : Overlay → Bytes
 pageOf o = listing (tableOf o)
 
 -- a page over the first bytes of the output, or 19
-unfoldable pub written : Bytes → Bytes → Listing
-written out page =
+unfoldable pub pageOver : Bytes → Bytes → Output
+pageOver out page =
     cond (leb (length page) (length out)) (record { out = page ++ drop (length page) out; answer = Length (length page) }) (notListed out R.ShortOutput)
 
-unfoldable pub listingOn : Bytes → Overlay → Listing
-listingOn out o = cond (isSound o) (written out (pageOf o)) (notListed out R.Unsound)
+unfoldable pub listingOn : Bytes → Overlay → Output
+listingOn out o = cond (isSound o) (pageOver out (pageOf o)) (notListed out R.Unsound)

@@ -13,10 +13,10 @@ use Rattle.listing.specs.Call.{pageOf}
 use Rattle.listing.specs.declared.Listed.{Listed}
 use Rattle.listing.specs.declared.Listed.the-variants.{Length, Refused}
 
-abbrev pub listingTable : Bytes → Overlay → List Row
+abbrev pub listingTable : Bytes → Overlay → List (Row Refusal)
 listingTable out o = unsoundRow o ∷ row R.ShortOutput (ltb (length out) (length (pageOf o))) ∷ []
 
 -- the refusal of an answer, if it is one
-abbrev pub refusalIn : Listed → Option Refusal
-refusalIn (Length n) = none
-refusalIn (Refused r) = some r
+abbrev pub listedRefusal : Listed → Option Refusal
+listedRefusal (Length n) = none
+listedRefusal (Refused r) = some r

@@ -1,47 +1,17 @@
--- The pieces that the walk prints, in any words and bytes. In sound storage they are together the listing of the overlay's table (proofs/Pages).
+-- The pieces that the walk prints, in any words and bytes: the lines of each kind. In sound storage they are together the listing of the overlay's table (proofs/Pages).
 use Prim.Native.Nat.{ℕ}
-use mathlib.Core.Bool.{Bool, true, false, cond}
-use mathlib.Core.List.{List, [], _∷_, _++_}
-use lib.ListN.{take, drop}
+use mathlib.Core.List.{List, _++_}
 use Rattle.base.specs.Bytes.{Bytes}
-use Rattle.line.specs.Decimal.{integerText}
-use Rattle.kind.specs.declared.Kind.{Kind}
 use Rattle.kind.specs.declared.Kind.the-variants.{Node, Way, Relation}
-use Rattle.osm_id.specs.Order.{idOf}
 use Rattle.interner.specs.Strings.{Store, usedOf}
-use Rattle.table.specs.Words.{rowsOf, held}
-use Rattle.table.specs.declared.Row.{Row}
-use Rattle.shelf.specs.Shelf.{Shelf, isLive, known}
-use Rattle.page.specs.Listing.{kindField, versionField}
-use Rattle.print.specs.Print.{linePieces}
-use Rattle.fields.specs.Fields.{heldText, fieldsAt}
+use Rattle.fields.specs.Fields.{heldText}
 use Rattle.overlay.specs.Overlay.{Overlay, shelfOf}
-
--- "`+` live or `-` deleted"
-abbrev pub signOf : Bool → Bytes
-signOf true = 43 ∷ []
-signOf false = 45 ∷ []
-
--- "A deleted line ends there. A live one goes on"
-abbrev pub lastAt : (ℕ → Bytes) → Kind → Bytes → ℕ → ℕ → List Bytes
-lastAt f k arena used place = cond (isLive place) (fieldsAt f k (drop place (take used arena))) []
-
-unfoldable pub rowFieldsAt : (ℕ → Bytes) → Kind → Shelf → Row → List Bytes
-rowFieldsAt f k s r =
-    kindField k ∷ integerText (idOf (r .rank)) ∷ signOf (isLive (r .place)) ∷ versionField (known k s (idOf (r .rank))) ∷ lastAt f k (s .arena) (s .used) (r .place)
-
-unfoldable pub rowPieces : (ℕ → Bytes) → Kind → Shelf → List Row → List Bytes
-rowPieces f k s [] = []
-rowPieces f k s (r ∷ rs) = linePieces (rowFieldsAt f k s r) ++ rowPieces f k s rs
-
--- the rows of a kind: those counted, as far as the words go
-abbrev pub kindPieces : (ℕ → Bytes) → Kind → Shelf → List Bytes
-kindPieces f k s = rowPieces f k s (rowsOf (s .table) (held (s .table) (s .ids)))
+use Rattle.rows.specs.Lines.{kindPieces}
 
 -- the text of a handle
-abbrev pub textIn : Store → ℕ → Bytes
-textIn t = heldText (t .spans) (usedOf t) (t .strings)
+abbrev pub textHeld : Store → ℕ → Bytes
+textHeld t = heldText (t .spans) (usedOf t) (t .strings)
 
 unfoldable pub piecesOf : Overlay → List Bytes
 piecesOf o =
-    kindPieces (textIn (o .texts)) Node (shelfOf Node o) ++ kindPieces (textIn (o .texts)) Way (shelfOf Way o) ++ kindPieces (textIn (o .texts)) Relation (shelfOf Relation o)
+    kindPieces (textHeld (o .texts)) Node (shelfOf Node o) ++ kindPieces (textHeld (o .texts)) Way (shelfOf Way o) ++ kindPieces (textHeld (o .texts)) Relation (shelfOf Relation o)

@@ -6,7 +6,8 @@ use denote.Ref.{now}
 use lib.ListN.{take, getD}
 use lib.Seq.{length-take-le}
 use Rattle.listing.specs.Pieces.{piecesOf}
-use Rattle.listing.proofs.Walks.{take-most, page-printed}
+use Rattle.rows.proofs.Walks.{take-most}
+use Rattle.listing.proofs.Calls.{page-printed}
 use borrow.Author.Needs.{needs}
 use Rattle.listing.proofs.put_page.Statement.{statement}
 use Rattle.listing.proofs.put_page.Tie as tie
@@ -23,7 +24,7 @@ returns c =
     let m = n .before .before .before .before .before .before in
     let a = m .before .before .before .before .before .before .before .before .before .before .before .args in
     let d : take (m .lesser .result) (now (a .bytes)) ≡ take (getD (now (a .counts)) 7 0) (now (a .bytes)) = ap (λ (x : ℕ). take x (now (a .bytes))) (m .lesser .ensures) ∙ take-most (getD (now (a .counts)) 7 0) (now (a .bytes)) in
-    rw (← d) (page-printed (a .cap) _ _ _ _ _ _ _ (n .put-rows .ensures) (w .put-rows2 .ensures) (r .put-rows3 .ensures))
+    rw (← d) (page-printed (a .cap) _ _ _ _ _ _ _ (n .put-lines .ensures) (w .put-lines2 .ensures) (r .put-lines3 .ensures))
 
 pub put-page-spec : {M : Type 1} → statement M
 put-page-spec =

@@ -7,8 +7,8 @@ use Rattle.text.specs.Escape.{escape, escaped}
 use Rattle.page.specs.Listing.{versionField}
 use Rattle.print.specs.Print.{tabs}
 use borrow.Author.Needs.{needs}
-use Rattle.listing.proofs.put_version.Statement.{statement}
-use Rattle.listing.proofs.put_version.Tie as tie
+use Rattle.rows.proofs.put_version.Statement.{statement}
+use Rattle.rows.proofs.put_version.Tie as tie
 
 returns : tie.Need-returns
 unfolding tabs escape escaped versionField

@@ -2,8 +2,8 @@
 use Rattle.text.specs.Escape.{escape, escaped}
 use Rattle.print.specs.Print.{tabs}
 use borrow.Author.Needs.{needs}
-use Rattle.listing.proofs.put_sign.Statement.{statement}
-use Rattle.listing.proofs.put_sign.Tie as tie
+use Rattle.rows.proofs.put_sign.Statement.{statement}
+use Rattle.rows.proofs.put_sign.Tie as tie
 
 returns : tie.Need-returns
 unfolding tabs escape escaped

@@ -1,8 +1,8 @@
 -- The kind, and three fields.
 use Rattle.print.specs.Print.{print, tabs}
 use borrow.Author.Needs.{needs}
-use Rattle.listing.proofs.put_key.Statement.{statement}
-use Rattle.listing.proofs.put_key.Tie as tie
+use Rattle.rows.proofs.put_key.Statement.{statement}
+use Rattle.rows.proofs.put_key.Tie as tie
 
 returns : tie.Need-returns
 unfolding print tabs

@@ -1,7 +1,7 @@
 -- The walk over rows and kinds: a row's line, the rows of a kind, and what is lent of an arena.
 use Prim.Native.Nat.{ℕ, zero, suc, _+_, _-_, _<_, _≤_, min}
 use mathlib.Core.Path.{_≡_, refl, sym, _∙_, ap}
-use mathlib.Core.List.{List, [], _∷_, _++_}
+use mathlib.Core.List.{List, [], _∷_}
 use native.Mathlib.Omega.{arith}
 use lib.ListN.{length, take, drop, length-take, drop-of-length-le}
 use lib.Seq.{take-all, take-length}
@@ -12,7 +12,7 @@ use Rattle.table.specs.Words.{rowAt, rowsFrom, rowsOf}
 use Rattle.shelf.specs.Shelf.{Shelf}
 use Rattle.print.specs.Print.{Printed, step, print, tabs, linePieces}
 use Rattle.print.proofs.Prints.{print-append}
-use Rattle.listing.specs.Pieces.{rowFieldsAt, rowPieces}
+use Rattle.rows.specs.Lines.{rowFieldsAt, rowPieces}
 
 -- ---- the used bytes from a place on
 
@@ -71,8 +71,3 @@ module _ (cap : ℕ) (f : ℕ → Bytes) (k : Kind) (s : Shelf) (n : ℕ) where
   pub rows-end : (i : ℕ) (p : Printed) → n ≤ i → print cap (rowPieces f k s (rowsFrom (s .table) i (n - i))) p ≡ p
   unfolding rowsFrom rowPieces print
   rows-end i p h = let d : n - i ≡ 0 = omega arith in rw d
-
--- ---- three kinds
-
-pub page-printed : (cap : ℕ) (xs ys zs : List Bytes) (p q r t : Printed) → q ≡ print cap xs p → r ≡ print cap ys q → t ≡ print cap zs r → t ≡ print cap (xs ++ ys ++ zs) p
-page-printed cap xs ys zs p q r t e1 e2 e3 = rw (print-append cap (xs ++ ys) zs p, print-append cap xs ys p, ← e1, ← e2) e3

@@ -11,11 +11,11 @@ use Rattle.osm_id.specs.Order.{idOf}
 use Rattle.shelf.specs.Shelf.{isLive}
 use Rattle.page.specs.Listing.{kindField, versionField}
 use Rattle.fields.specs.Fields.{heldText}
-use Rattle.listing.specs.Pieces.{signOf, lastAt, rowFieldsAt}
-use Rattle.listing.proofs.Walks.{line-printed}
+use Rattle.rows.specs.Lines.{signOf, lastAt, rowFieldsAt}
+use Rattle.rows.proofs.Walks.{line-printed}
 use borrow.Author.Needs.{needs}
-use Rattle.listing.proofs.put_row.Statement.{statement}
-use Rattle.listing.proofs.put_row.Tie as tie
+use Rattle.rows.proofs.put_line.Statement.{statement}
+use Rattle.rows.proofs.put_line.Tie as tie
 
 returns : tie.Need-returns
 unfolding rowFieldsAt isLive
@@ -32,8 +32,8 @@ returns c =
     (line-printed (a .cap) (kindField (a .kind)) (integerText (toZ w64 (v .before .bits-of-i64 .result))) (signOf (ltb (a .row .place) (2 ^ 63))) (versionField (v .known-version .result))
     (lastAt (heldText (now (a .spans)) (now (a .bytes)) (a .strings)) (a .kind) (now (a .arena)) (a .used) (a .row .place)) _ _ _ _ (k .put-key .ensures) (l .put-last .ensures) (c .before .before .put-bytes .ensures))
 
-pub put-row-spec : {M : Type 1} → statement M
-put-row-spec =
+pub put-line-spec : {M : Type 1} → statement M
+put-line-spec =
     tie.close
     (tie.spec
     (λ c κs. search needs)

@@ -3,10 +3,10 @@ use denote.Ref.{now}
 use borrow.Author.Tests.{lt-ltb, le-ltb}
 use Rattle.shelf.specs.Shelf.{isLive}
 use Rattle.print.specs.Print.{print, tabs}
-use Rattle.listing.proofs.Walks.{view-from}
+use Rattle.rows.proofs.Walks.{view-from}
 use borrow.Author.Needs.{needs}
-use Rattle.listing.proofs.put_last.Statement.{statement}
-use Rattle.listing.proofs.put_last.Tie as tie
+use Rattle.rows.proofs.put_last.Statement.{statement}
+use Rattle.rows.proofs.put_last.Tie as tie
 
 returns : tie.Need-returns
 unfolding isLive

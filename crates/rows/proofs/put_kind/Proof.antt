@@ -1,8 +1,8 @@
 -- The letter of each kind.
 use Rattle.page.specs.Listing.{kindField}
 use borrow.Author.Needs.{needs}
-use Rattle.listing.proofs.put_kind.Statement.{statement}
-use Rattle.listing.proofs.put_kind.Tie as tie
+use Rattle.rows.proofs.put_kind.Statement.{statement}
+use Rattle.rows.proofs.put_kind.Tie as tie
 
 returns : tie.Need-returns
 unfolding kindField
