@@ -58,7 +58,8 @@ use Rattle.overlay.proofs.Keeps.{setup-sound, setup-bytes}
 use Rattle.direct.proofs.Keeps.{intern-sound, intern-bytes}
 use Rattle.overlay.proofs.Bounds.{over-small}
 use Rattle.overlay.proofs.Shelves.{shelf-same, shelf-other, shelf-texts, shelf-setting, each-shelf, texts-shelf, sized-shelf, sized-texts, put-sized}
-use Rattle.calls.specs.Known.{knownIn, Regresses}
+use Rattle.calls.specs.Known.{Regresses}
+use Rattle.listing.specs.Known.{knownIn}
 use Rattle.calls.proofs.Rows.{fair-sound}
 use Rattle.reader.proofs.Small.{text-small}
 use Rattle.calls.proofs.Small.{record-small}

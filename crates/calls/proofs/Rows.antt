@@ -28,7 +28,7 @@ use Rattle.table.proofs.Maps.{find-passes}
 use Rattle.shelf.specs.Shelf.{Shelf, isLive}
 use Rattle.shelf.specs.Fair.{rowsIn, Fair}
 use Rattle.sound.specs.Sound.{SoundShelf, soundRow}
-use Rattle.calls.specs.Known.{heldIn, recordIn}
+use Rattle.listing.specs.Known.{heldIn, recordIn}
 
 -- what is read at a start of whole records is its record
 pub whole-read : (strings : ℕ) (k : Kind) (s : Bytes) (w : Whole strings k s) (at : ℕ) (x : Kept) → recordAt at (w .kept) ≡ some x → heldIn (cutRecord k (drop at s)) ≡ some (x .held)

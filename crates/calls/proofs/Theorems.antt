@@ -51,7 +51,8 @@ use Rattle.reader.specs.Event.{eventOn}
 use Rattle.reader.proofs.Keeps.{fresh-ready, fresh-means, ready-sound}
 use Rattle.reader.proofs.Regressions.{event-regression, act-fits}
 use Rattle.calls.specs.Ask.{Ask, started, stateOf, askFits, PartsGiven, storageAfter, replies}
-use Rattle.calls.specs.Known.{knownIn, Regresses, pushedBytes}
+use Rattle.calls.specs.Known.{Regresses, pushedBytes}
+use Rattle.listing.specs.Known.{knownIn}
 use Rattle.calls.proofs.Reflects.{reflects-empty, page-reflects, push-regresses, delete-regresses, admit-regresses}
 use Rattle.calls.proofs.Lists.{Agrees, agrees-fine, agrees-calls, lines-counted}
 
