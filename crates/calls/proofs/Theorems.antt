@@ -53,7 +53,7 @@ use Rattle.reader.proofs.Regressions.{event-regression, act-fits}
 use Rattle.calls.specs.Ask.{Ask, started, stateOf, askFits, PartsGiven, storageAfter, replies}
 use Rattle.calls.specs.Known.{Regresses, pushedBytes}
 use Rattle.listing.specs.Known.{knownIn}
-use Rattle.calls.proofs.Reflects.{reflects-empty, page-reflects, push-regresses, delete-regresses, admit-regresses}
+use Rattle.calls.proofs.Reflects.{Reflects, reflects-empty, page-reflects, push-regresses, delete-regresses, admit-regresses}
 use Rattle.calls.proofs.Lists.{Agrees, agrees-fine, agrees-calls, lines-counted}
 
 module _ (setting : ℕ) (o : Overlay) (sizes : sizesFit largest o ≡ true) (lent : InBytes o) (parts : ℕ → Bytes) (room : PartsGiven parts) where
@@ -68,6 +68,10 @@ module _ (setting : ℕ) (o : Overlay) (sizes : sizesFit largest o ≡ true) (le
     pub agrees-after : Agrees setting (storageAfter setting o parts cs) (worldAfter begin (replies setting o parts cs)) (actsOf (replies setting o parts cs))
     unfolding actsOf
     agrees-after = agrees-calls setting cs (started setting o parts) begin [] given agrees-started
+
+    -- what the overlay holds is what the accepted calls come to
+    pub reflects-after : Reflects setting (storageAfter setting o parts cs .overlay) (worldAfter begin (replies setting o parts cs) .texts) (actsOf (replies setting o parts cs))
+    reflects-after = agrees-after .overlay
 
     -- no list of calls makes the overlay unsound, however long it is
     pub sound-after : isSound (storageAfter setting o parts cs .overlay) ≡ true

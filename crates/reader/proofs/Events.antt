@@ -22,8 +22,10 @@ use Rattle.field.specs.Field.{got, bad}
 use Rattle.decision.specs.Decision.{Decision, refuses, moves, begins, deletes, tags, refers, joins, ends, decide}
 use Rattle.decision.specs.Table.{refusalIn}
 use Rattle.decision.proofs.Lawful.{decide-lawful}
+use Rattle.decision.proofs.Table.{refusalOf, decide-first}
+use Rattle.acts.proofs.Turns.{turn-first}
 use Rattle.decision.proofs.Refusals.{decide-within}
-use Rattle.acts.specs.Turn.{Reader, Turn, turnOf, turn}
+use Rattle.acts.specs.Turn.{Turn, turnOf, turn}
 use Rattle.reader.specs.declared.Stop.{Stop}
 use Rattle.reader.specs.declared.Stop.the-variants.{At}
 use Rattle.reader.specs.declared.EventAnswer.the-variants as E
@@ -76,20 +78,6 @@ module _ (line : Bytes) (s : State) (g : StateGiven s) where
         sound = q .sound;
         pending = held-sound _ _ _ _ (x .held);
       })
-
--- ---- what the turn refuses: 2 to 11
-
-turn-refused : (d : Decision) (r : Reader) (x : Refusal) → (turnOf d r ≡ bad x) ↔ (d ≡ refuses x)
-unfolding turnOf
-turn-refused (refuses y) r x = (λ e. cc, λ e. cc)
-turn-refused (moves p) r x = (λ e. no (cc), λ e. no (cc))
-turn-refused (begins true p id m b) r x = (λ e. no (cc), λ e. no (cc))
-turn-refused (begins false p id m b) r x = (λ e. no (cc), λ e. no (cc))
-turn-refused (deletes k p id m) r x = (λ e. no (cc), λ e. no (cc))
-turn-refused (tags p t) r x = (λ e. no (cc), λ e. no (cc))
-turn-refused (refers p z) r x = (λ e. no (cc), λ e. no (cc))
-turn-refused (joins p m) r x = (λ e. no (cc), λ e. no (cc))
-turn-refused (ends p) r x = (λ e. no (cc), λ e. no (cc))
 
 -- ---- the refusals of a step: 2 to 11 of its decision, 12 to 16 of the store
 
@@ -159,10 +147,10 @@ module _ (line : Bytes) (s : State) (e : stateSound s ≡ true) where
   module _ (g : isStopped (s .reader .stop) ≡ false) where
     -- an event that the acts' turn refuses is refused so, at its line; and each refusal up to 11 is the turn's
     pub event-bad : (r : Refusal) → turn line (readerOf s) ≡ bad r → eventOn line s .answer ≡ E.Refused r (nextLine s)
-    unfolding turn readerOf stepOf
+    unfolding readerOf stepOf
     event-bad r h =
-        let d = turn-refused (decide line (s .reader .place)) (readerOf s) r .0 h in
-        ap (λ (z : EventResult). z .answer) (event-going line s e g) ∙ ap (λ (x : Decision). stepped s (stepOf x s) .answer) d
+        let k : d ≡ refuses r = refuses-in d r (decide-first line (s .reader .place) ∙ (sym (turn-first line (readerOf s)) ∙ ap refusalOf h)) in
+        ap (λ (z : EventResult). z .answer) (event-going line s e g) ∙ ap (λ (x : Decision). stepped s (stepOf x s) .answer) k
 
     -- a refusal is at the next line, is one of 2 to 16, and stops the reader with itself
     pub event-stops : (r : Refusal) (n : ℕ) → eventOn line s .answer ≡ E.Refused r n → (stepAt line s ≡ stops r) × (n ≡ nextLine s)
@@ -174,9 +162,9 @@ module _ (line : Bytes) (s : State) (e : stateSound s ≡ true) where
         (λ l u q f w. let z = answer-is w a in no (cc))
 
     pub event-11 : (r : Refusal) → numberOf r ≤ 11 → (eventOn line s .answer ≡ E.Refused r (nextLine s)) ↔ (turn line (readerOf s) ≡ bad r)
-    unfolding turn readerOf
+    unfolding turn turnOf readerOf
     event-11 r l = (
-      λ a. by-refusal r (event-stops r (nextLine s) a .0) (λ q. turn-refused (decide line (s .reader .place)) (readerOf s) r .1 q) (λ x y. let n : ⊥ = omega arith in absurd n),
+      λ a. by-refusal r (event-stops r (nextLine s) a .0) (λ q. ap (λ (x : Decision). turnOf x (readerOf s)) q) (λ x y. let n : ⊥ = omega arith in absurd n),
       event-bad r,
     )
 
