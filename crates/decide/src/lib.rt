@@ -13,7 +13,7 @@ ghost use Rattle.event.specs.Event.{body};
 ghost use Rattle.scan.specs.Scan.{attributesAt};
 ghost use Rattle.field.specs.Field.{idOf, metaOf};
 ghost use Rattle.decision.specs.Decision.{Decision, onField, pushBegins, deleteBegins, elementBegins, childOf, decideOpened, decideClosed, decide};
-ghost use Rattle.values.specs.Value.{Within};
+ghost use Rattle.values.specs.Value.{Inside};
 ghost use Rattle.decide.specs.Decided.{meansDecided, DecidedLies, Decides, onHead, HeadLies, unlessDeleted};
 use kind::Kind;
 use metadata::MetaField;
@@ -209,7 +209,7 @@ fn child(t: &[u8], at: usize, c: Child, a: Action, place: Place) -> Decided
 
 // An open or an empty element, whose name lies from one place to another.
 fn opens(t: &[u8], empty: bool, from: usize, to: usize, place: Place) -> Decided
-    requires { ⌜ Within (now t) from to ⌝ }
+    requires { ⌜ Inside (now t) from to ⌝ }
     ensures { λ r. ⌜ Decides (now (t .entry)) (decideOpened (opened empty (nameOf (slice from to (now (t .entry)))) place) empty (place .section) (attributesAt (now (t .entry)) (to + 1))) r ⌝ }
 {
     let section = place.section;
