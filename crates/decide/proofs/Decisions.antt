@@ -4,7 +4,6 @@ use mathlib.Core.Path.{_≡_, refl, _∙_, ap, subst}
 use mathlib.Core.Bool.{Bool}
 use mathlib.Core.List.{List}
 use lib.Seq.{slice}
-use lib.IntN.{ℤ}
 use mir.Syntax.{w64}
 use mir.Val.{toZ}
 use Rattle.base.specs.Bytes.{Bytes}
@@ -17,11 +16,11 @@ use Rattle.nesting.specs.declared.Action.the-variants as A
 use Rattle.nesting.specs.declared.Level.{Level}
 use Rattle.nesting.specs.declared.Level.the-variants as L
 use Rattle.nesting.specs.declared.Place.{Place}
-use Rattle.model.specs.Record.{Meta, Body}
+use Rattle.model.specs.Record.{Body}
 use Rattle.event.specs.Event.{Attr, starts, closes, others, reads, refused, body, eventOf}
 use Rattle.scan.specs.Scan.{attrsAt, Good, attributesAt}
 use Rattle.scan.proofs.Attributes.{attributes-good}
-use Rattle.field.specs.Field.{Field, got, bad, idOf, metaOf, bodyFor}
+use Rattle.field.specs.Field.{Field, got, bad, bodyFor}
 use Rattle.decision.specs.Decision.{Decision, refuses, moves, begins, deletes, onField, pushBegins, deleteBegins, unlessDelete, decideOpened, decideClosed, decideEvent, decide}
 use Rattle.values.specs.Value.{bodyIn}
 use Rattle.metadata.specs.declared.Metadata.{Metadata}
@@ -30,13 +29,9 @@ use Rattle.decide.specs.declared.Decided.{Decided}
 use Rattle.decide.specs.declared.Decided.the-variants as D
 use Rattle.decide.specs.declared.HeadField.{HeadField}
 use Rattle.decide.specs.declared.HeadField.the-variants as H
-use Rattle.decide.specs.Decided.{Decides, onHead, unlessDeleted}
+use Rattle.decide.specs.Decided.{Decides, Heads, unlessDeleted}
 
 -- ---- an element begins
-
--- an answer stands for the id and the metadata of attributes
-abbrev pub Heads : Bytes → List Attr → HeadField → Type 0
-Heads t attrs r = (f : ℤ → Meta Bytes → Decision) → onHead t r f ≡ onField (idOf attrs) (λ id. onField (metaOf attrs) (λ m. f id m))
 
 module _ (t : Bytes) (attrs : List Attr) {r : HeadField} where
   head-is : {s : HeadField} → r ≡ s → Heads t attrs r → Heads t attrs s

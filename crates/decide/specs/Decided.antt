@@ -1,5 +1,6 @@
 -- The decision that the code holds, and what it stands for: a decision of crate decision, its numbers by their bits, its texts by where they are written in the line.
 use mathlib.Core.Path.{_≡_}
+use mathlib.Core.List.{List}
 use lib.IntN.{ℤ}
 use mir.Syntax.{w64}
 use mir.Val.{toZ}
@@ -8,7 +9,9 @@ use Rattle.nesting.specs.declared.Action.{Action}
 use Rattle.nesting.specs.declared.Action.the-variants as A
 use Rattle.nesting.specs.declared.Place.{Place}
 use Rattle.model.specs.Record.{Meta}
-use Rattle.decision.specs.Decision.{Decision, refuses, moves, begins, deletes, tags, refers, joins, ends}
+use Rattle.event.specs.Event.{Attr}
+use Rattle.field.specs.Field.{idOf, metaOf}
+use Rattle.decision.specs.Decision.{Decision, onField, refuses, moves, begins, deletes, tags, refers, joins, ends}
 use Rattle.values.specs.Value.{textAt, ExtentLies, bodyIn}
 use Rattle.metadata.specs.Metadata.{metaWritten, MetadataLies}
 use Rattle.decide.specs.declared.Decided.{Decided}
@@ -46,6 +49,10 @@ pub record Decides (t : Bytes) (d : Decision) (r : Decided) : Type 0 where
 abbrev pub onHead : Bytes → HeadField → (ℤ → Meta Bytes → Decision) → Decision
 onHead t (H.Is id m) f = f (toZ w64 id) (metaWritten t m)
 onHead t (H.Bad r) f = refuses r
+
+-- an answer stands for the id and the metadata of attributes
+abbrev pub Heads : Bytes → List Attr → HeadField → Type 0
+Heads t attrs r = (f : ℤ → Meta Bytes → Decision) → onHead t r f ≡ onField (idOf attrs) (λ id. onField (metaOf attrs) (λ m. f id m))
 
 abbrev pub HeadLies : Bytes → HeadField → Type 0
 HeadLies t (H.Is id m) = MetadataLies t m

@@ -3,18 +3,15 @@
 ghost use mathlib.Core.Path.{_≡_};
 ghost use Prim.Native.Nat.{_+_};
 ghost use lib.Seq.{slice};
-ghost use lib.IntN.{ℤ};
 ghost use Rattle.base.specs.Bytes.{Bytes};
 ghost use Rattle.nesting.specs.Name.{nameOf};
 ghost use Rattle.nesting.specs.Nesting.{opened, closed};
 ghost use Rattle.nesting.specs.declared.Child.the-variants as children;
-ghost use Rattle.model.specs.Record.{Meta};
 ghost use Rattle.event.specs.Event.{body};
 ghost use Rattle.scan.specs.Scan.{attributesAt};
-ghost use Rattle.field.specs.Field.{idOf, metaOf};
-ghost use Rattle.decision.specs.Decision.{Decision, onField, pushBegins, deleteBegins, elementBegins, childOf, decideOpened, decideClosed, decide};
+ghost use Rattle.decision.specs.Decision.{pushBegins, deleteBegins, elementBegins, childOf, decideOpened, decideClosed, decide};
 ghost use Rattle.values.specs.Value.{Inside};
-ghost use Rattle.decide.specs.Decided.{meansDecided, DecidedLies, Decides, onHead, HeadLies, unlessDeleted};
+ghost use Rattle.decide.specs.Decided.{meansDecided, DecidedLies, Decides, Heads, HeadLies, unlessDeleted};
 use kind::Kind;
 use metadata::MetaField;
 use metadata::Metadata;
@@ -83,7 +80,7 @@ enum HeadField {
 }
 
 fn head_field(t: &[u8], at: usize) -> HeadField
-    ensures { λ r. ⌜ ((f : ℤ → Meta Bytes → Decision) → onHead (now (t .entry)) r f ≡ onField (idOf (attributesAt (now (t .entry)) at)) (λ id. onField (metaOf (attributesAt (now (t .entry)) at)) (λ m. f id m))) ⌝ }
+    ensures { λ r. ⌜ Heads (now (t .entry)) (attributesAt (now (t .entry)) at) r ⌝ }
     ensures { λ r. ⌜ HeadLies (now (t .entry)) r ⌝ }
 {
     match values::wide_field(t, b"id", at) {
