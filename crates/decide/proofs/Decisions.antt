@@ -1,10 +1,9 @@
 -- What each answer stands for: the decision of its event.
 use Prim.Native.Nat.{ℕ, _+_}
-use mathlib.Core.Path.{_≡_, refl, sym, _∙_, ap, subst}
+use mathlib.Core.Path.{_≡_, refl, _∙_, ap, subst}
 use mathlib.Core.Bool.{Bool}
 use mathlib.Core.List.{List}
 use lib.Seq.{slice}
-use lib.IntN.{ℤ}
 use mir.Syntax.{w64}
 use mir.Val.{toZ}
 use Rattle.base.specs.Bytes.{Bytes}
@@ -17,26 +16,22 @@ use Rattle.nesting.specs.declared.Action.the-variants as A
 use Rattle.nesting.specs.declared.Level.{Level}
 use Rattle.nesting.specs.declared.Level.the-variants as L
 use Rattle.nesting.specs.declared.Place.{Place}
-use Rattle.model.specs.Record.{Meta, Body}
+use Rattle.model.specs.Record.{Body}
 use Rattle.event.specs.Event.{Attr, starts, closes, others, reads, refused, body, eventOf}
 use Rattle.scan.specs.Scan.{attrsAt, Good, attributesAt}
 use Rattle.scan.proofs.Attributes.{attributes-good}
-use Rattle.field.specs.Field.{Field, got, bad, idOf, metaOf, bodyFor}
+use Rattle.field.specs.Field.{Field, got, bad, bodyFor}
 use Rattle.decision.specs.Decision.{Decision, refuses, moves, begins, deletes, onField, pushBegins, deleteBegins, unlessDelete, decideOpened, decideClosed, decideEvent, decide}
 use Rattle.values.specs.Value.{bodyIn}
 use Rattle.metadata.specs.declared.Metadata.{Metadata}
-use Rattle.metadata.specs.Metadata.{metaIn}
+use Rattle.metadata.specs.Metadata.{metaWritten}
 use Rattle.decide.specs.declared.Decided.{Decided}
 use Rattle.decide.specs.declared.Decided.the-variants as D
 use Rattle.decide.specs.declared.HeadField.{HeadField}
 use Rattle.decide.specs.declared.HeadField.the-variants as H
-use Rattle.decide.specs.Decided.{Decides, onHead, unlessDeleted}
+use Rattle.decide.specs.Decided.{Decides, Heads, unlessDeleted}
 
 -- ---- an element begins
-
--- an answer stands for the id and the metadata of attributes
-abbrev pub Heads : Bytes → List Attr → HeadField → Type 0
-Heads t attrs r = (f : ℤ → Meta Bytes → Decision) → onHead t r f ≡ onField (idOf attrs) (λ id. onField (metaOf attrs) (λ m. f id m))
 
 module _ (t : Bytes) (attrs : List Attr) {r : HeadField} where
   head-is : {s : HeadField} → r ≡ s → Heads t attrs r → Heads t attrs s
@@ -46,7 +41,7 @@ module _ (t : Bytes) (attrs : List Attr) {r : HeadField} where
     pub delete-bad : {x : Refusal} → r ≡ H.Bad x → Heads t attrs r → refuses x ≡ deleteBegins k p attrs
     delete-bad e h = head-is e h (λ id m. deletes k p id m)
 
-    pub delete-got : {id : ℕ} {m : Metadata} → r ≡ H.Is id m → Heads t attrs r → deletes k p (toZ w64 id) (metaIn t m) ≡ deleteBegins k p attrs
+    pub delete-got : {id : ℕ} {m : Metadata} → r ≡ H.Is id m → Heads t attrs r → deletes k p (toZ w64 id) (metaWritten t m) ≡ deleteBegins k p attrs
     delete-got e h = head-is e h (λ id m. deletes k p id m)
 
     module _ (empty : Bool) where
@@ -54,15 +49,15 @@ module _ (t : Bytes) (attrs : List Attr) {r : HeadField} where
       push-bad e h = head-is e h (λ id m. onField (bodyFor k attrs) (λ b. begins empty p id m b))
 
       push-then : {id : ℕ} {m : Metadata} → r ≡ H.Is id m → Heads t attrs r
-          → onField (bodyFor k attrs) (λ b. begins empty p (toZ w64 id) (metaIn t m) b) ≡ pushBegins empty k p attrs
+          → onField (bodyFor k attrs) (λ b. begins empty p (toZ w64 id) (metaWritten t m) b) ≡ pushBegins empty k p attrs
       push-then e h = head-is e h (λ id m. onField (bodyFor k attrs) (λ b. begins empty p id m b))
 
       pub push-bodiless : {id : ℕ} {m : Metadata} {x : Refusal} → r ≡ H.Is id m → Heads t attrs r → bad x ≡ bodyFor k attrs → refuses x ≡ pushBegins empty k p attrs
-      push-bodiless {id} {m} e h b = ap (λ (f : Field (Body Bytes)). onField f (λ x. begins empty p (toZ w64 id) (metaIn t m) x)) b ∙ push-then e h
+      push-bodiless {id} {m} e h b = ap (λ (f : Field (Body Bytes)). onField f (λ x. begins empty p (toZ w64 id) (metaWritten t m) x)) b ∙ push-then e h
 
       pub push-got : {id : ℕ} {m : Metadata} (lat lon : ℕ) → r ≡ H.Is id m → Heads t attrs r → got (bodyIn k lat lon) ≡ bodyFor k attrs
-          → begins empty p (toZ w64 id) (metaIn t m) (bodyIn k lat lon) ≡ pushBegins empty k p attrs
-      push-got {id} {m} lat lon e h b = ap (λ (f : Field (Body Bytes)). onField f (λ x. begins empty p (toZ w64 id) (metaIn t m) x)) b ∙ push-then e h
+          → begins empty p (toZ w64 id) (metaWritten t m) (bodyIn k lat lon) ≡ pushBegins empty k p attrs
+      push-got {id} {m} lat lon e h b = ap (λ (f : Field (Body Bytes)). onField f (λ x. begins empty p (toZ w64 id) (metaWritten t m) x)) b ∙ push-then e h
 
 -- ---- inside an element
 

@@ -3,18 +3,15 @@
 ghost use mathlib.Core.Path.{_≡_};
 ghost use Prim.Native.Nat.{_+_};
 ghost use lib.Seq.{slice};
-ghost use lib.IntN.{ℤ};
 ghost use Rattle.base.specs.Bytes.{Bytes};
 ghost use Rattle.nesting.specs.Name.{nameOf};
 ghost use Rattle.nesting.specs.Nesting.{opened, closed};
 ghost use Rattle.nesting.specs.declared.Child.the-variants as children;
-ghost use Rattle.model.specs.Record.{Meta};
 ghost use Rattle.event.specs.Event.{body};
 ghost use Rattle.scan.specs.Scan.{attributesAt};
-ghost use Rattle.field.specs.Field.{idOf, metaOf};
-ghost use Rattle.decision.specs.Decision.{Decision, onField, pushBegins, deleteBegins, elementBegins, childOf, decideOpened, decideClosed, decide};
-ghost use Rattle.values.specs.Value.{Within};
-ghost use Rattle.decide.specs.Decided.{meansDecided, DecidedLies, Decides, onHead, HeadLies, unlessDeleted};
+ghost use Rattle.decision.specs.Decision.{pushBegins, deleteBegins, elementBegins, childOf, decideOpened, decideClosed, decide};
+ghost use Rattle.values.specs.Value.{Inside};
+ghost use Rattle.decide.specs.Decided.{meansDecided, DecidedLies, Decides, Heads, HeadLies, unlessDeleted};
 use kind::Kind;
 use metadata::MetaField;
 use metadata::Metadata;
@@ -83,7 +80,7 @@ enum HeadField {
 }
 
 fn head_field(t: &[u8], at: usize) -> HeadField
-    ensures { λ r. ⌜ ((f : ℤ → Meta Bytes → Decision) → onHead (now (t .entry)) r f ≡ onField (idOf (attributesAt (now (t .entry)) at)) (λ id. onField (metaOf (attributesAt (now (t .entry)) at)) (λ m. f id m))) ⌝ }
+    ensures { λ r. ⌜ Heads (now (t .entry)) (attributesAt (now (t .entry)) at) r ⌝ }
     ensures { λ r. ⌜ HeadLies (now (t .entry)) r ⌝ }
 {
     match values::wide_field(t, b"id", at) {
@@ -209,7 +206,7 @@ fn child(t: &[u8], at: usize, c: Child, a: Action, place: Place) -> Decided
 
 // An open or an empty element, whose name lies from one place to another.
 fn opens(t: &[u8], empty: bool, from: usize, to: usize, place: Place) -> Decided
-    requires { ⌜ Within (now t) from to ⌝ }
+    requires { ⌜ Inside (now t) from to ⌝ }
     ensures { λ r. ⌜ Decides (now (t .entry)) (decideOpened (opened empty (nameOf (slice from to (now (t .entry)))) place) empty (place .section) (attributesAt (now (t .entry)) (to + 1))) r ⌝ }
 {
     let section = place.section;

@@ -1,12 +1,10 @@
 -- Metadata by the names of its attributes, in line order.
 use Prim.Native.Nat.{ℕ, _+_, _-_, _/_, _%_, _<_, _≤_}
-use mathlib.Core.Path.{_≡_, refl, sym, _∙_, ap}
+use mathlib.Core.Path.{_≡_, sym, _∙_, ap}
 use mathlib.Core.Bool.{Bool, cond}
-use mathlib.Core.List.{List, [], _∷_}
 use native.Mathlib.Omega.{arith}
 use lib.Dec.{ltb}
-use lib.ListN.{length, take, drop-of-length-le}
-use lib.Seq.{slice, length-take-le}
+use lib.Seq.{slice}
 use borrow.Author.Tests.{eq-eqb, ne-eqb, lt-ltb, le-ltb}
 use borrow.Rule.Slice.PartMut.{midOf}
 use Rattle.base.specs.Ascii.{ascii}
@@ -19,11 +17,11 @@ use Rattle.scan.specs.Piece.{textOf}
 use Rattle.scan.specs.Scan.{attributesAt}
 use Rattle.scan.proofs.Places.{Stands}
 use Rattle.scan.proofs.Attributes.{attributes-step}
-use Rattle.field.specs.Field.{Field, got, bad, andThen, mark, metaWith, metaFrom}
+use Rattle.field.specs.Field.{got, bad, andThen, mark, metaWith, metaFrom}
 use Rattle.field.proofs.Metadata.{Flag, present, hidden, hasUser, hasVersion, bitOf, mark-small}
-use Rattle.values.specs.Value.{Within}
+use Rattle.values.specs.Value.{Inside}
 use Rattle.values.proofs.Raws.{false-raw}
-use Rattle.values.proofs.Values.{part}
+use Rattle.values.proofs.Values.{part, none-behind}
 use Rattle.metadata.specs.Metadata.{metaName, metaAs}
 
 -- ---- flags
@@ -59,13 +57,13 @@ named-as m a =
     byBool (same (a .name) (ascii "visible")) (λ e. rw e) (λ e6. rw e6)))))))))))
 
 -- the word `false` is read as it is written
-pub false-here : {t : Bytes} {from to : ℕ} → Within t from to → {b : Bool} → b ≡ same (midOf from (to - from) t) (ascii "false") → b ≡ same (textOf (slice from to t)) (ascii "false")
+pub false-here : {t : Bytes} {from to : ℕ} → Inside t from to → {b : Bool} → b ≡ same (midOf from (to - from) t) (ascii "false") → b ≡ same (textOf (slice from to t)) (ascii "false")
 false-here {t} {from} {to} v e = e ∙ ap (λ (s : Bytes). same s (ascii "false")) (part v) ∙ false-raw (slice from to t)
 
 -- ---- attributes in line order
 
 module _ {t : Bytes} {at eq to : ℕ} (d : Stands t at eq to) where
-  pub behind-within : Within t (cond (ltb eq to) (eq + 1) to) to
+  pub behind-within : Inside t (cond (ltb eq to) (eq + 1) to) to
   behind-within =
       byLt eq to
       (λ h. rw (lt-ltb eq to h) (record { order = omega arith; end = d .end }))
@@ -75,10 +73,7 @@ module _ {t : Bytes} {at eq to : ℕ} (d : Stands t at eq to) where
   behind-same =
       byLt eq to
       (λ h. rw (lt-ltb eq to h))
-      (λ h. rw (le-ltb eq to h) (none to (omega arith) ∙ sym (none (eq + 1) (omega (arith, d .equals)))))
-    where
-      none : (from : ℕ) → to ≤ from → slice from to t ≡ []
-      none from h = drop-of-length-le (take to t) {i = from} (omega (arith, length-take-le to t (d .end)))
+      (λ h. rw (le-ltb eq to h) (none-behind to to t (omega arith) (d .end) ∙ sym (none-behind (eq + 1) to t (omega (arith, d .equals)) (d .end))))
 
   module _ (m : Meta Bytes) where
     -- the attribute here, then those behind it

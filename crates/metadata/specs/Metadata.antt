@@ -10,15 +10,15 @@ use Rattle.integer.specs.Integer.{integerOf}
 use Rattle.stamp.specs.Stamp.{stamp}
 use Rattle.model.specs.Record.{Meta}
 use Rattle.field.specs.Field.{Field, got, bad, andThen, anInteger, aStamp, withVersion, withTimestamp, withChangeset, withUid, withUser, withVisible}
-use Rattle.values.specs.Value.{textAt, Lies}
+use Rattle.values.specs.Value.{textAt, ExtentLies}
 use Rattle.metadata.specs.declared.Metadata.{Metadata}
 use Rattle.metadata.specs.declared.MetaName.{MetaName}
 use Rattle.metadata.specs.declared.MetaName.the-variants as M
 use Rattle.metadata.specs.declared.MetaField.{MetaField}
 use Rattle.metadata.specs.declared.MetaField.the-variants as D
 
-abbrev pub metaIn : Bytes → Metadata → Meta Bytes
-metaIn t m =
+abbrev pub metaWritten : Bytes → Metadata → Meta Bytes
+metaWritten t m =
     record {
       flags = m .flags;
       version = toZ w32 (m .version);
@@ -29,24 +29,24 @@ metaIn t m =
     }
 
 -- its flags are four bits, and its user lies in the line
-pub record Held (t : Bytes) (m : Metadata) : Type 0 where
+pub record MetadataLies (t : Bytes) (m : Metadata) : Type 0 where
   pub small : m .flags ≤ 15
-  pub user : Lies t (m .user)
+  pub user : ExtentLies t (m .user)
 
 -- ---- an answer: metadata, or a refusal
 
 abbrev pub metaField : Bytes → MetaField → Field (Meta Bytes)
-metaField t (D.Is m) = got (metaIn t m)
+metaField t (D.Is m) = got (metaWritten t m)
 metaField t (D.Bad r) = bad r
 
-abbrev pub MetaHeld : Bytes → MetaField → Type 0
-MetaHeld t (D.Is m) = Held t m
-MetaHeld t (D.Bad r) = Unit {0}
+abbrev pub MetaFieldLies : Bytes → MetaField → Type 0
+MetaFieldLies t (D.Is m) = MetadataLies t m
+MetaFieldLies t (D.Bad r) = Unit {0}
 
 -- an answer stands for a field, and holds metadata that lies in the line
 pub record Reads (t : Bytes) (f : Field (Meta Bytes)) (r : MetaField) : Type 0 where
   pub is : metaField t r ≡ f
-  pub held : MetaHeld t r
+  pub held : MetaFieldLies t r
 
 -- ---- one attribute, by its name
 

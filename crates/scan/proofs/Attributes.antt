@@ -1,7 +1,6 @@
 -- Any fields taken as attributes: the walk over them, and the value of a name. The attributes of an event line are taken as they are.
 use Prim.Native.Nat.{ℕ, _+_, _≤_}
-use mathlib.Core.Path.{_≡_, refl, sym, _∙_, ap}
-use mathlib.Core.Bool.{true, false}
+use mathlib.Core.Path.{_≡_, refl, sym, _∙_}
 use mathlib.Core.Option.{Option, none, some}
 use mathlib.Core.List.{List, [], _∷_}
 use native.Mathlib.Omega.{arith}
@@ -9,14 +8,14 @@ use lib.ListN.{length}
 use lib.Seq.{slice}
 use Rattle.base.specs.Bytes.{Bytes, same}
 use Rattle.base.proofs.Split.{byBool, byLe, no}
-use Rattle.event.specs.Event.{Attr, valueOf, attrsOf}
+use Rattle.event.specs.Event.{valueOf, attrsOf}
 use Rattle.scan.specs.declared.Attribute.the-variants as A
 use Rattle.scan.specs.declared.Value.{Value}
 use Rattle.scan.specs.declared.Value.the-variants as F
 use Rattle.scan.specs.Piece.{textOf}
 use Rattle.scan.specs.Scan.{fieldsAt, attrsAt, Good, attributesOf, attributesAt, attributeAt, valueIn, valueAt}
-use Rattle.scan.proofs.Places.{Stands, stands-here, tabAt, equalsAt, attribute-here, ended, fields-past}
-use Rattle.scan.proofs.Walks.{Step, attrs-step, attrs-end}
+use Rattle.scan.proofs.Places.{Stands, stands-here, attribute-here, ended, fields-past}
+use Rattle.scan.proofs.Walks.{Step, attrs-step}
 
 pub attributes-end : (t : Bytes) (at : ℕ) → attributeAt t at ≡ A.End → attributesAt t at ≡ []
 unfolding attributesAt attributesOf
@@ -28,24 +27,24 @@ unfolding attributesAt attributesOf
 attributes-step d = rw (d .rest, d .name, d .value)
 
 -- what a search tells of the value of a name; a field without `=` ends before its value would begin
-abbrev pub Told : Bytes → Value → Option Bytes → Type 0
-Told t F.Missing o = o ≡ none
-Told t (F.At from to) o = (from ≤ to + 1) × ((to ≤ length t) × (o ≡ some (textOf (slice from to t))))
+abbrev pub Searched : Bytes → Value → Option Bytes → Type 0
+Searched t F.Missing o = o ≡ none
+Searched t (F.At from to) o = (from ≤ to + 1) × ((to ≤ length t) × (o ≡ some (textOf (slice from to t))))
 
 module _ (t : Bytes) where
   module _ (name : Bytes) where
-    told-none : (at : ℕ) → fieldsAt t at ≡ [] → Told t (valueAt t name at) (valueOf name (attributesAt t at))
+    told-none : (at : ℕ) → fieldsAt t at ≡ [] → Searched t (valueAt t name at) (valueOf name (attributesAt t at))
     unfolding valueAt valueIn valueOf attributesAt attributesOf
     told-none at e = rw e
 
-    told-step : {at eq to : ℕ} → Stands t at eq to → Told t (valueAt t name (to + 1)) (valueOf name (attributesAt t (to + 1))) → Told t (valueAt t name at) (valueOf name (attributesAt t at))
+    told-step : {at eq to : ℕ} → Stands t at eq to → Searched t (valueAt t name (to + 1)) (valueOf name (attributesAt t (to + 1))) → Searched t (valueAt t name at) (valueOf name (attributesAt t at))
     unfolding valueOf
     told-step {at} {eq} {to} d ih =
         byBool (same name (slice at eq t))
         (λ h. rw (d .valued name, attributes-step d, h) (omega (arith, d .equals), (d .end, refl)))
         (λ h. rw (d .valued name, attributes-step d, h) ih)
 
-    told-from : (fs : List Bytes) (at : ℕ) → fieldsAt t at ≡ fs → Told t (valueAt t name at) (valueOf name (attributesAt t at))
+    told-from : (fs : List Bytes) (at : ℕ) → fieldsAt t at ≡ fs → Searched t (valueAt t name at) (valueOf name (attributesAt t at))
     told-from [] at e = told-none at e
     told-from (f ∷ fs) at e =
         byLe at (length t)
@@ -54,7 +53,7 @@ module _ (t : Bytes) where
         told-step d (told-from fs _ (cc)))
         (λ h. let z : [] ≡ f ∷ fs = sym (fields-past t at h) ∙ e in no (cc))
 
-    pub value-told : (at : ℕ) → Told t (valueAt t name at) (valueOf name (attributesAt t at))
+    pub value-told : (at : ℕ) → Searched t (valueAt t name at) (valueOf name (attributesAt t at))
     value-told at = told-from (fieldsAt t at) at refl
 
   good-none : (at : ℕ) → fieldsAt t at ≡ [] → attributesAt t at ≡ attrsAt t at

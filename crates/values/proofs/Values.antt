@@ -1,24 +1,21 @@
 -- A value read where it lies: its integer, its timestamp, and the field of its name.
 use Prim.Native.Nat.{ℕ, suc, _-_, _^_, _<_, _≤_}
 use mathlib.Core.Path.{_≡_, refl, sym, _∙_, ap, subst}
-use mathlib.Core.Bool.{Bool}
 use mathlib.Core.List.{List, []}
 use mathlib.Core.Option.{Option, none, some}
 use native.Mathlib.Omega.{arith}
 use lib.ListN.{length, take, drop-of-length-le}
 use lib.Seq.{slice, slice-empty, length-take-le}
-use lib.Dec.{leb}
-use lib.IntN.{ℤ, natAbs, negsuc}
-use mir.Syntax.{Width, w32, w64}
-use mir.Val.{toZ, Fits, bits, hbits}
+use lib.IntN.{ℤ, natAbs}
+use mir.Syntax.{Width, w32}
+use mir.Val.{toZ, Fits, hbits}
 use mir.Facts.{toZ-ofZ, toZ-pos}
 use borrow.Author.Tests.{le-leb, lt-leb, le-ltb}
 use borrow.Rule.Slice.PartMut.{midOf}
-use Rattle.base.specs.Ascii.{ascii}
-use Rattle.base.specs.Bytes.{Bytes, same}
-use Rattle.base.proofs.Split.{no, byLt}
+use Rattle.base.specs.Bytes.{Bytes}
+use Rattle.base.proofs.Split.{byLt}
 use Rattle.refusal.specs.declared.Refusal.the-variants.{Missing, CoordinateRange}
-use Rattle.text.specs.Escape.{unescape, unescapeFrom}
+use Rattle.text.specs.Escape.{unescapeFrom}
 use Rattle.integer.specs.Integer.{integerOf, answer, readOf}
 use Rattle.integer.specs.declared.Integer.{Integer}
 use Rattle.integer.specs.declared.Integer.the-variants as I
@@ -32,43 +29,43 @@ use Rattle.scan.specs.declared.Value.the-variants as U
 use Rattle.scan.specs.Piece.{textOf}
 use Rattle.scan.specs.Scan.{attributesAt}
 use Rattle.scan.proofs.Places.{lent-is}
-use Rattle.scan.proofs.Attributes.{Told}
-use Rattle.field.specs.Field.{Field, got, bad, anInteger, within, textField, integerField}
-use Rattle.values.specs.Value.{Within, Found, number, moment}
+use Rattle.scan.proofs.Attributes.{Searched}
+use Rattle.field.specs.Field.{got, bad, anInteger, within, textField, integerField}
+use Rattle.values.specs.Value.{Inside, Located, integerIn, stampIn}
 use Rattle.values.proofs.Raws.{integer-raw, stamp-raw}
 
 -- ---- answers in bits
 
-read-number : (w : Width) (s : Bytes) → number w (readOf w s) ≡ integerOf w s
+read-number : (w : Width) (s : Bytes) → integerIn w (readOf w s) ≡ integerOf w s
 unfolding readOf answer
 read-number w s = go (integerOf w s) refl
   where
-    go : (o : Option ℤ) → integerOf w s ≡ o → number w (answer w o) ≡ o
+    go : (o : Option ℤ) → integerOf w s ≡ o → integerIn w (answer w o) ≡ o
     go none e = refl
     go (some z) e = ap some (toZ-ofZ (integer-of-is w s e .1))
 
-read-moment : (s : Bytes) → moment (S.stampOf s) ≡ S.stamp s
+read-moment : (s : Bytes) → stampIn (S.stampOf s) ≡ S.stamp s
 unfolding S.stampOf S.answer
 read-moment s = go (S.stamp s) refl
   where
-    go : (o : Option ℤ) → S.stamp s ≡ o → moment (S.answer o) ≡ o
+    go : (o : Option ℤ) → S.stamp s ≡ o → stampIn (S.answer o) ≡ o
     go none e = refl
     go (some z) e = ap some (toZ-ofZ (stamp-fits s e))
 
 -- ---- a value
 
-pub number-text : (w : Width) (v : Bytes) {r : Integer} → r ≡ readOf w v → number w r ≡ integerOf w (textOf v)
-number-text w v e = ap (number w) e ∙ read-number w v ∙ integer-raw w v
+pub number-text : (w : Width) (v : Bytes) {r : Integer} → r ≡ readOf w v → integerIn w r ≡ integerOf w (textOf v)
+number-text w v e = ap (integerIn w) e ∙ read-number w v ∙ integer-raw w v
 
-pub moment-text : (v : Bytes) {r : Stamp} → r ≡ S.stampOf v → moment r ≡ S.stamp (textOf v)
-moment-text v e = ap moment e ∙ read-moment v ∙ stamp-raw v
+pub moment-text : (v : Bytes) {r : Stamp} → r ≡ S.stampOf v → stampIn r ≡ S.stamp (textOf v)
+moment-text v e = ap stampIn e ∙ read-moment v ∙ stamp-raw v
 
 -- the bits of a 32-bit integer are 32
 pub narrow-fits : (s : Bytes) (b : ℕ) → readOf w32 s ≡ I.Is b → Fits w32 b
 narrow-fits s b e = read-is w32 s e .1
 
 -- `&t[from..to]`
-pub part : {t : Bytes} {from to : ℕ} → Within t from to → midOf from (to - from) t ≡ slice from to t
+pub part : {t : Bytes} {from to : ℕ} → Inside t from to → midOf from (to - from) t ≡ slice from to t
 part {t} {from} {to} v = lent-is from to t (v .order)
 
 -- the empty extent stands for the empty text
@@ -76,28 +73,29 @@ pub empty-text : (t : Bytes) → textOf (slice 0 0 t) ≡ []
 unfolding textOf unescapeFrom
 empty-text t = rw (slice-empty 0 t)
 
-pub empty-within : (t : Bytes) → Within t 0 0
+pub empty-within : (t : Bytes) → Inside t 0 0
 empty-within t = record { order = omega arith; end = omega arith }
+
+-- a part that would begin behind its end is empty
+pub none-behind : (from to : ℕ) (t : Bytes) → to ≤ from → to ≤ length t → slice from to t ≡ []
+none-behind from to t h k = drop-of-length-le (take to t) {i = from} (omega (arith, length-take-le to t k))
 
 -- ---- the value of a name
 
-none-behind : (from to : ℕ) (t : Bytes) → to ≤ from → to ≤ length t → slice from to t ≡ []
-none-behind from to t h k = drop-of-length-le (take to t) {i = from} (omega (arith, length-take-le to t k))
-
--- a value that would begin behind its field's end is empty
-pub told-found : (t : Bytes) (from to : ℕ) (o : Option Bytes) → from ≤ to → Told t (U.At from to) o → Found t (U.At from to) o
+pub told-found : (t : Bytes) (from to : ℕ) (o : Option Bytes) → from ≤ to → Searched t (U.At from to) o → Located t (U.At from to) o
 told-found t from to o h e = (record { order = h; end = e .1 .0 }, e .1 .1)
 
-pub told-behind : (t : Bytes) (from to : ℕ) (o : Option Bytes) → to < from → Told t (U.At from to) o → Found t (U.At to to) o
+-- where a field has no `=`
+pub told-behind : (t : Bytes) (from to : ℕ) (o : Option Bytes) → to < from → Searched t (U.At from to) o → Located t (U.At to to) o
 told-behind t from to o h e =
     (record { order = omega arith; end = e .1 .0 }, e .1 .1 ∙ ap (λ (s : Bytes). some (textOf s)) (none-behind from to t (omega arith) (e .1 .0) ∙ sym (none-behind to to t (omega arith) (e .1 .0))))
 
 module _ (t n : Bytes) (at : ℕ) {r : Value} where
-  pub found-missing : r ≡ U.Missing → Found t r (valueOf n (attributesAt t at)) → valueOf n (attributesAt t at) ≡ none
-  found-missing e f = subst (λ (r : Value). Found t r (valueOf n (attributesAt t at))) e f
+  pub found-missing : r ≡ U.Missing → Located t r (valueOf n (attributesAt t at)) → valueOf n (attributesAt t at) ≡ none
+  found-missing e f = subst (λ (r : Value). Located t r (valueOf n (attributesAt t at))) e f
 
-  pub found-at : {from to : ℕ} → r ≡ U.At from to → Found t r (valueOf n (attributesAt t at)) → Within t from to × (valueOf n (attributesAt t at) ≡ some (textOf (slice from to t)))
-  found-at e f = subst (λ (r : Value). Found t r (valueOf n (attributesAt t at))) e f
+  pub found-at : {from to : ℕ} → r ≡ U.At from to → Located t r (valueOf n (attributesAt t at)) → Inside t from to × (valueOf n (attributesAt t at) ≡ some (textOf (slice from to t)))
+  found-at e f = subst (λ (r : Value). Located t r (valueOf n (attributesAt t at))) e f
 
 module _ (n : Bytes) (attrs : List Attr) where
   pub text-missing : valueOf n attrs ≡ none → bad Missing ≡ textField n attrs

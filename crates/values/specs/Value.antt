@@ -43,7 +43,7 @@ use Rattle.values.specs.declared.MemberField.the-variants as B
 -- ---- values
 
 -- a value lies within a line
-pub record Within (t : Bytes) (from to : ℕ) : Type 0 where
+pub record Inside (t : Bytes) (from to : ℕ) : Type 0 where
   pub order : from ≤ to
   pub end : to ≤ length t
 
@@ -51,27 +51,28 @@ pub record Within (t : Bytes) (from to : ℕ) : Type 0 where
 abbrev pub textAt : Bytes → Extent → Bytes
 textAt t e = textOf (slice (e .from) (e .to) t)
 
-abbrev pub Lies : Bytes → Extent → Type 0
-Lies t e = Within t (e .from) (e .to)
+abbrev pub ExtentLies : Bytes → Extent → Type 0
+ExtentLies t e = Inside t (e .from) (e .to)
 
 -- a value that may be missing: where it lies, and its text
-abbrev pub Found : Bytes → Value → Option Bytes → Type 0
-Found t F.Missing o = o ≡ none
-Found t (F.At from to) o = Within t from to × (o ≡ some (textOf (slice from to t)))
+abbrev pub Located : Bytes → Value → Option Bytes → Type 0
+Located t F.Missing o = o ≡ none
+Located t (F.At from to) o = Inside t from to × (o ≡ some (textOf (slice from to t)))
 
 -- ---- numbers
 
-abbrev pub number : Width → Integer → Option ℤ
-number w I.Not = none
-number w (I.Is b) = some (toZ w b)
+-- the integer of an answer in bits
+abbrev pub integerIn : Width → Integer → Option ℤ
+integerIn w I.Not = none
+integerIn w (I.Is b) = some (toZ w b)
 
-abbrev pub narrow : Narrow → Option ℤ
-narrow N.Not = none
-narrow (N.Is b) = some (toZ w32 b)
+abbrev pub narrowIn : Narrow → Option ℤ
+narrowIn N.Not = none
+narrowIn (N.Is b) = some (toZ w32 b)
 
-abbrev pub moment : Stamp → Option ℤ
-moment S.Not = none
-moment (S.At b) = some (toZ w64 b)
+abbrev pub stampIn : Stamp → Option ℤ
+stampIn S.Not = none
+stampIn (S.At b) = some (toZ w64 b)
 
 abbrev pub wideField : WideField → Field ℤ
 wideField (W.Is b) = got (toZ w64 b)
@@ -93,12 +94,12 @@ bodyField k (P.Bad r) = bad r
 
 -- ---- texts
 
-abbrev pub textField : Bytes → TextField → Field Bytes
-textField t (T.At e) = got (textAt t e)
-textField t (T.Bad r) = bad r
+abbrev pub extentField : Bytes → TextField → Field Bytes
+extentField t (T.At e) = got (textAt t e)
+extentField t (T.Bad r) = bad r
 
 abbrev pub TextLies : Bytes → TextField → Type 0
-TextLies t (T.At e) = Lies t e
+TextLies t (T.At e) = ExtentLies t e
 TextLies t (T.Bad r) = Unit {0}
 
 -- ---- children
@@ -108,7 +109,7 @@ tagField t (G.Is k v) = got (record { key = textAt t k; value = textAt t v })
 tagField t (G.Bad r) = bad r
 
 abbrev pub TagLies : Bytes → TagField → Type 0
-TagLies t (G.Is k v) = Lies t k × Lies t v
+TagLies t (G.Is k v) = ExtentLies t k × ExtentLies t v
 TagLies t (G.Bad r) = Unit {0}
 
 abbrev pub typeField : TypeField → Field Kind
@@ -120,5 +121,5 @@ memberField t (B.Is reference k role) = got (record { ref = toZ w64 reference; t
 memberField t (B.Bad r) = bad r
 
 abbrev pub MemberLies : Bytes → MemberField → Type 0
-MemberLies t (B.Is reference k role) = Lies t role
+MemberLies t (B.Is reference k role) = ExtentLies t role
 MemberLies t (B.Bad r) = Unit {0}

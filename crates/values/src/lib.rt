@@ -11,7 +11,7 @@ ghost use Rattle.scan.specs.Piece.{textOf};
 ghost use Rattle.scan.specs.Scan.{attributesAt};
 ghost use Rattle.field.specs.Field.{integerField, coordinate, bodyFor, tagOf, typeNamed, memberOf};
 ghost use Rattle.field.specs.Field as F;
-ghost use Rattle.values.specs.Value.{textAt, Lies, Found, narrow, wideField, narrowField, bodyField, textField, TextLies, tagField, TagLies, typeField, memberField, MemberLies};
+ghost use Rattle.values.specs.Value.{textAt, ExtentLies, Located, narrowIn, wideField, narrowField, bodyField, extentField, TextLies, tagField, TagLies, typeField, memberField, MemberLies};
 use integer::Integer;
 use kind::Kind;
 use nesting::Name;
@@ -33,7 +33,7 @@ pub enum Narrow {
 }
 
 pub fn integer_32(v: &[u8]) -> Narrow
-    ensures { λ r. ⌜ narrow r ≡ integerOf w32 (textOf (now (v .entry))) ⌝ }
+    ensures { λ r. ⌜ narrowIn r ≡ integerOf w32 (textOf (now (v .entry))) ⌝ }
 {
     let Integer::Is(b) = integer::read_i32(v) else {
         return Narrow::Not;
@@ -43,7 +43,7 @@ pub fn integer_32(v: &[u8]) -> Narrow
 
 // The value of a name from a place on, within the line.
 fn value(t: &[u8], name: &[u8], at: usize) -> Value
-    ensures { λ r. ⌜ Found (now (t .entry)) r (valueOf (now (name .entry)) (attributesAt (now (t .entry)) at)) ⌝ }
+    ensures { λ r. ⌜ Located (now (t .entry)) r (valueOf (now (name .entry)) (attributesAt (now (t .entry)) at)) ⌝ }
 {
     let Value::At { from, to } = scan::value_at(t, name, at) else {
         return Value::Missing;
@@ -137,7 +137,7 @@ enum TextField {
 }
 
 fn text_field(t: &[u8], name: &[u8], at: usize) -> TextField
-    ensures { λ r. ⌜ textField (now (t .entry)) r ≡ F.textField (now (name .entry)) (attributesAt (now (t .entry)) at) ⌝ }
+    ensures { λ r. ⌜ extentField (now (t .entry)) r ≡ F.textField (now (name .entry)) (attributesAt (now (t .entry)) at) ⌝ }
     ensures { λ r. ⌜ TextLies (now (t .entry)) r ⌝ }
 {
     match value(t, name, at) {
@@ -185,7 +185,7 @@ fn type_named(n: Name) -> TypeField
 // A member's role: empty where it is missing.
 fn role(t: &[u8], at: usize) -> Extent
     ensures { λ r. ⌜ textAt (now (t .entry)) r ≡ orEmpty (valueOf (ascii "role") (attributesAt (now (t .entry)) at)) ⌝ }
-    ensures { λ r. ⌜ Lies (now (t .entry)) r ⌝ }
+    ensures { λ r. ⌜ ExtentLies (now (t .entry)) r ⌝ }
 {
     match value(t, b"role", at) {
         Value::At { from, to } => Extent { from, to },

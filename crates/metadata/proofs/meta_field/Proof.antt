@@ -1,6 +1,6 @@
 -- `meta_field` goes from attribute to attribute. The invariant: the metadata so far lies in the line, and the attributes from the present place on make the whole of it.
 use Prim.Native.Nat.{_+_, _-_, suc}
-use mathlib.Core.Path.{_≡_, refl, sym, _∙_, ap, subst}
+use mathlib.Core.Path.{_≡_, sym, _∙_, ap, subst}
 use mathlib.Core.Bool.{cond}
 use native.Mathlib.Omega.{arith}
 use denote.Ref.{now}
@@ -14,13 +14,13 @@ use Rattle.scan.proofs.Places.{Stands, stands, lent-is}
 use Rattle.scan.proofs.Attributes.{attributes-end}
 use Rattle.field.specs.Field.{metaFrom, metaOf}
 use Rattle.values.proofs.Values.{empty-text, empty-within}
-use Rattle.metadata.specs.Metadata.{metaIn, metaField, Held, MetaHeld, metaName, metaAs}
+use Rattle.metadata.specs.Metadata.{metaWritten, metaField, MetadataLies, MetaFieldLies, metaName, metaAs}
 use Rattle.metadata.proofs.Attributes.{behind-within, meta-on, meta-stops}
 use Rattle.metadata.proofs.meta_field.Statement.{statement}
 use Rattle.metadata.proofs.meta_field.Tie as tie
 
 abbrev Inv-loop : tie.InvT-loop
-Inv-loop t at m₀ p₀ m p = Held t m × (metaFrom (metaIn t m) (attributesAt t p) ≡ metaOf (attributesAt t at))
+Inv-loop t at m₀ p₀ m p = MetadataLies t m × (metaFrom (metaWritten t m) (attributesAt t p) ≡ metaOf (attributesAt t at))
 
 abbrev μ-loop : tie.MeasureT-loop
 μ-loop t at m₀ p₀ m p = suc (length t) - p
@@ -71,7 +71,7 @@ with-attribute-requires c κs = (c .before .before .before .before .before .befo
 met : (c : tie.After-with-attribute Inv-loop μ-loop)
     → let t = now (c .before .before .before .before .before .before .before .before .before .before .args .t) in
     let g = c .before .before .before .before .before .eq .given .0 in
-    metaField t (c .with-attribute .result) ≡ metaAs (metaName (slice (c .before .before .before .before .before .before .before .before .loop .p) (g .0) t)) (metaIn t (c .before .before .before .before .before .before .before .before .loop .m)) (textOf (slice (cond (ltb (g .0) (g .1 .0)) (g .0 + 1) (g .1 .0)) (g .1 .0) t))
+    metaField t (c .with-attribute .result) ≡ metaAs (metaName (slice (c .before .before .before .before .before .before .before .before .loop .p) (g .0) t)) (metaWritten t (c .before .before .before .before .before .before .before .before .loop .m)) (textOf (slice (cond (ltb (g .0) (g .1 .0)) (g .0 + 1) (g .1 .0)) (g .1 .0) t))
 met c =
     let t = now (c .before .before .before .before .before .before .before .before .before .before .args .t) in
     let l = c .before .before .before .before .before .before .before .before .loop in
@@ -94,7 +94,7 @@ loop-again c =
     let t = now (c .before .before .before .before .before .before .before .before .before .before .before .before .before .args .t) in
     let l = c .before .before .before .before .before .before .before .before .before .before .before .loop in
     let e = ap (metaField t) (sym (c .before .n .given .1)) ∙ met (c .before .before .before) in
-    (subst (MetaHeld t) (c .before .n .given .1) (c .before .before .before .with-attribute .ensures .held), meta-on (stood (c .before .before .before .before .before .before .before)) (metaIn t (l .m)) _ e ∙ l .inv .1)
+    (subst (MetaFieldLies t) (c .before .n .given .1) (c .before .before .before .with-attribute .ensures .held), meta-on (stood (c .before .before .before .before .before .before .before)) (metaWritten t (l .m)) _ e ∙ l .inv .1)
 
 enum-known-r : tie.Need-enum-known-r Inv-loop μ-loop
 enum-known-r c = search needs
@@ -104,7 +104,7 @@ returns-2 c =
     let t = now (c .before .before .before .before .before .before .before .before .before .before .before .before .before .args .t) in
     let l = c .before .before .before .before .before .before .before .before .before .before .before .loop in
     let e = ap (metaField t) (sym (c .before .r .given .1)) ∙ met (c .before .before .before) in
-    (meta-stops (stood (c .before .before .before .before .before .before .before)) (metaIn t (l .m)) _ e ∙ l .inv .1, tt)
+    (meta-stops (stood (c .before .before .before .before .before .before .before)) (metaWritten t (l .m)) _ e ∙ l .inv .1, tt)
 
 pub meta-field-spec : {M : Type 1} → statement M
 meta-field-spec =

@@ -4,7 +4,7 @@ use mir.Syntax.{w64}
 use Rattle.integer.specs.Integer.{readOf}
 use Rattle.values.proofs.Values.{part, number-text}
 use Rattle.field.proofs.Metadata.{present}
-use Rattle.values.specs.Value.{number}
+use Rattle.values.specs.Value.{integerIn}
 use borrow.Author.Needs.{needs}
 use Rattle.metadata.proofs.with_changeset.Statement.{statement}
 use Rattle.metadata.proofs.with_changeset.Tie as tie
@@ -29,7 +29,7 @@ enum-told c = search needs
 
 returns : tie.Need-returns
 returns c =
-    let e = ap (number w64) (sym (c .enum-told .given .1)) ∙ number-text w64 _ (c .before .before .read-i64 .ensures ∙ ap (readOf w64) (part (c .before .before .before .before .before .pre .1))) in
+    let e = ap (integerIn w64) (sym (c .enum-told .given .1)) ∙ number-text w64 _ (c .before .before .read-i64 .ensures ∙ ap (readOf w64) (part (c .before .before .before .before .before .pre .1))) in
     record { is = rw (← e); held = tt }
 
 mark-requires : tie.Need-mark-requires
@@ -37,7 +37,7 @@ mark-requires c κs = (c .before .before .before .before .before .before .pre .0
 
 returns-2 : tie.Need-returns-2
 returns-2 c =
-    let e = ap (number w64) (sym (c .before .before .b .given .1)) ∙ number-text w64 _ (c .before .before .before .before .read-i64 .ensures ∙ ap (readOf w64) (part (c .before .before .before .before .before .before .before .pre .1))) in
+    let e = ap (integerIn w64) (sym (c .before .before .b .given .1)) ∙ number-text w64 _ (c .before .before .before .before .read-i64 .ensures ∙ ap (readOf w64) (part (c .before .before .before .before .before .before .before .pre .1))) in
     record { is = rw (← e, c .mark .ensures .0); held = record { small = c .mark .ensures .1; user = c .before .before .before .before .before .before .before .pre .0 .user } }
 
 pub with-changeset-spec : {M : Type 1} → statement M

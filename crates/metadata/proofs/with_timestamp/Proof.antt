@@ -3,7 +3,7 @@ use mathlib.Core.Path.{refl, sym, _∙_, ap}
 use Rattle.stamp.specs.Stamp.{stampOf}
 use Rattle.values.proofs.Values.{part, moment-text}
 use Rattle.field.proofs.Metadata.{present}
-use Rattle.values.specs.Value.{moment}
+use Rattle.values.specs.Value.{stampIn}
 use borrow.Author.Needs.{needs}
 use Rattle.metadata.proofs.with_timestamp.Statement.{statement}
 use Rattle.metadata.proofs.with_timestamp.Tie as tie
@@ -28,7 +28,7 @@ enum-told c = search needs
 
 returns : tie.Need-returns
 returns c =
-    let e = ap (moment) (sym (c .enum-told .given .1)) ∙ moment-text _ (c .before .before .parse-rfc3339-utc .ensures ∙ ap stampOf (part (c .before .before .before .before .before .pre .1))) in
+    let e = ap stampIn (sym (c .enum-told .given .1)) ∙ moment-text _ (c .before .before .parse-rfc3339-utc .ensures ∙ ap stampOf (part (c .before .before .before .before .before .pre .1))) in
     record { is = rw (← e); held = tt }
 
 mark-requires : tie.Need-mark-requires
@@ -36,7 +36,7 @@ mark-requires c κs = (c .before .before .before .before .before .before .pre .0
 
 returns-2 : tie.Need-returns-2
 returns-2 c =
-    let e = ap (moment) (sym (c .before .before .b .given .1)) ∙ moment-text _ (c .before .before .before .before .parse-rfc3339-utc .ensures ∙ ap stampOf (part (c .before .before .before .before .before .before .before .pre .1))) in
+    let e = ap stampIn (sym (c .before .before .b .given .1)) ∙ moment-text _ (c .before .before .before .before .parse-rfc3339-utc .ensures ∙ ap stampOf (part (c .before .before .before .before .before .before .before .pre .1))) in
     record { is = rw (← e, c .mark .ensures .0); held = record { small = c .mark .ensures .1; user = c .before .before .before .before .before .before .before .pre .0 .user } }
 
 pub with-timestamp-spec : {M : Type 1} → statement M

@@ -2,7 +2,7 @@
 use mathlib.Core.Path.{sym, _∙_, ap, subst}
 use denote.Ref.{now}
 use Rattle.field.specs.Field.{tagOf}
-use Rattle.values.specs.Value.{textField, TextLies}
+use Rattle.values.specs.Value.{extentField, TextLies}
 use borrow.Author.Needs.{needs}
 use Rattle.values.proofs.tag_field.Statement.{statement}
 use Rattle.values.proofs.tag_field.Tie as tie
@@ -34,22 +34,22 @@ enum-known-value c = search needs
 returns : tie.Need-returns
 unfolding tagOf
 returns c =
-    let e = ap (textField (now (c .before .before .before .before .before .before .args .t))) (sym (c .before .r .given .1)) ∙ c .before .before .before .text-field .ensures .0 in
+    let e = ap (extentField (now (c .before .before .before .before .before .before .args .t))) (sym (c .before .r .given .1)) ∙ c .before .before .before .text-field .ensures .0 in
     (rw (← e), tt)
 
 returns-2 : tie.Need-returns-2
 unfolding tagOf
 returns-2 c =
-    let e = ap (textField (now (c .before .before .before .before .before .before .before .before .before .before .before .args .t))) (sym (c .before .before .before .before .before .before .key .given .1)) ∙ c .before .before .before .before .before .before .before .before .text-field .ensures .0 in
-    let f = ap (textField (now (c .before .before .before .before .before .before .before .before .before .before .before .args .t))) (sym (c .before .r2 .given .1)) ∙ c .before .before .before .text-field2 .ensures .0 in
+    let e = ap (extentField (now (c .before .before .before .before .before .before .before .before .before .before .before .args .t))) (sym (c .before .before .before .before .before .before .key .given .1)) ∙ c .before .before .before .before .before .before .before .before .text-field .ensures .0 in
+    let f = ap (extentField (now (c .before .before .before .before .before .before .before .before .before .before .before .args .t))) (sym (c .before .r2 .given .1)) ∙ c .before .before .before .text-field2 .ensures .0 in
     (rw (← e, ← f), tt)
 
 returns-3 : tie.Need-returns-3
 unfolding tagOf
 returns-3 c =
     let t = now (c .before .before .before .before .before .before .before .before .before .before .before .args .t) in
-    let e = ap (textField (now (c .before .before .before .before .before .before .before .before .before .before .before .args .t))) (sym (c .before .before .before .before .before .before .key .given .1)) ∙ c .before .before .before .before .before .before .before .before .text-field .ensures .0 in
-    let f = ap (textField (now (c .before .before .before .before .before .before .before .before .before .before .before .args .t))) (sym (c .before .value .given .1)) ∙ c .before .before .before .text-field2 .ensures .0 in
+    let e = ap (extentField (now (c .before .before .before .before .before .before .before .before .before .before .before .args .t))) (sym (c .before .before .before .before .before .before .key .given .1)) ∙ c .before .before .before .before .before .before .before .before .text-field .ensures .0 in
+    let f = ap (extentField (now (c .before .before .before .before .before .before .before .before .before .before .before .args .t))) (sym (c .before .value .given .1)) ∙ c .before .before .before .text-field2 .ensures .0 in
     (rw (← e, ← f), (subst (TextLies t) (c .before .before .before .before .before .before .key .given .1) (c .before .before .before .before .before .before .before .before .text-field .ensures .1), subst (TextLies t) (c .before .value .given .1) (c .before .before .before .text-field2 .ensures .1)))
 
 pub tag-field-spec : {M : Type 1} → statement M

@@ -4,7 +4,7 @@ use denote.Ref.{now}
 use mir.Syntax.{w64}
 use Rattle.integer.specs.Integer.{readOf}
 use Rattle.scan.specs.Scan.{attributesAt}
-use Rattle.values.specs.Value.{number}
+use Rattle.values.specs.Value.{integerIn}
 use Rattle.values.proofs.Values.{part, number-text, found-missing, found-at, integer-missing, integer-got}
 use borrow.Author.Needs.{needs}
 use Rattle.values.proofs.wide_field.Statement.{statement}
@@ -65,7 +65,7 @@ returns-2 c =
     let t = now (a .t) in
     let n = now (a .name) in
     let v = found-at t n (a .at) (c .before .before .before .before .before .from .given .1) (c .before .before .before .before .before .before .before .value .ensures) in
-    integer-got n (attributesAt t (a .at)) w64 _ _ (v .1) (ap (number w64) (sym (c .enum-told2 .given .1)) ∙ number-text w64 _ (c .before .before .read-i64 .ensures ∙ ap (readOf w64) (part (v .0))))
+    integer-got n (attributesAt t (a .at)) w64 _ _ (v .1) (ap (integerIn w64) (sym (c .enum-told2 .given .1)) ∙ number-text w64 _ (c .before .before .read-i64 .ensures ∙ ap (readOf w64) (part (v .0))))
 
 returns-3 : tie.Need-returns-3
 returns-3 c =
@@ -73,7 +73,7 @@ returns-3 c =
     let t = now (a .t) in
     let n = now (a .name) in
     let v = found-at t n (a .at) (c .before .before .before .before .before .before .from .given .1) (c .before .before .before .before .before .before .before .before .value .ensures) in
-    integer-got n (attributesAt t (a .at)) w64 _ _ (v .1) (ap (number w64) (sym (c .before .b .given .1)) ∙ number-text w64 _ (c .before .before .before .read-i64 .ensures ∙ ap (readOf w64) (part (v .0))))
+    integer-got n (attributesAt t (a .at)) w64 _ _ (v .1) (ap (integerIn w64) (sym (c .before .b .given .1)) ∙ number-text w64 _ (c .before .before .before .read-i64 .ensures ∙ ap (readOf w64) (part (v .0))))
 
 pub wide-field-spec : {M : Type 1} → statement M
 wide-field-spec =
