@@ -26,7 +26,7 @@ use Rattle.overlay.specs.Given.{InBytes}
 use Rattle.overlay.specs.Sound.{isSound}
 use Rattle.listing.specs.declared.Listed.the-variants.{Length, Refused}
 use Rattle.listing.specs.Pieces.{piecesOf}
-use Rattle.listing.specs.Call.{notListed, pageOf, pageOver, listingOn}
+use Rattle.listing.specs.Call.{Output, notListed, pageOf, pageOver, listingOn}
 use Rattle.listing.proofs.Pages.{page-pieces}
 
 -- three kinds, one after the other
@@ -48,21 +48,16 @@ all-lent nids narena wids warena rids rarena spans bytes counts n w r t = record
     arenas Way = w
     arenas Relation = r
 
--- ---- the three cases
+-- ---- a page over the output
 
-module _ (out : Bytes) (o : Overlay) where
-  pub list-22 : isSound o ≡ false → notListed out R.Unsound ≡ listingOn out o
-  unfolding listingOn
-  list-22 t = rw t
+module _ (out page : Bytes) where
+  over-short : length out < length page → notListed out R.ShortOutput ≡ pageOver out page
+  unfolding pageOver
+  over-short h = rw (lt-leb (length page) (length out) h)
 
-  module _ (t : isSound o ≡ true) where
-    pub list-19 : length out < length (pageOf o) → notListed out R.ShortOutput ≡ listingOn out o
-    unfolding listingOn pageOver
-    list-19 h = rw (t, lt-leb (length (pageOf o)) (length out) h)
-
-    pub list-length : length (pageOf o) ≤ length out → record { out = pageOf o ++ drop (length (pageOf o)) out; answer = Length (length (pageOf o)) } ≡ listingOn out o
-    unfolding listingOn pageOver
-    list-length h = rw (t, le-leb (length (pageOf o)) (length out) h)
+  over-whole : length page ≤ length out → record { out = page ++ drop (length page) out; answer = Length (length page) } ≡ pageOver out page
+  unfolding pageOver
+  over-whole h = rw (le-leb (length page) (length out) h)
 
 -- ---- the room that measuring leaves
 
@@ -88,33 +83,53 @@ none-of (b ∷ s) h = absurd (omega arith)
 abbrev pub ending : Bytes → Bytes
 ending out = midOf (length out) (length out - length out) out
 
-module _ (out : Bytes) (o : Overlay) (b : InBytes o) (t : isSound o ≡ true) (x : Bytes) (r : Room)
-    (e : record { out = x; room = r } ≡ print (length out) (piecesOf o) (record { out = ending out; room = Left (length out) })) where
+module _ (out : Bytes) (xs : List Bytes) (x : Bytes) (r : Room) (e : record { out = x; room = r } ≡ print (length out) xs (record { out = ending out; room = Left (length out) })) where
   -- nothing is written there
-  pub measured-out : putMid (length out) (length out - length out) out x ≡ out
+  measured-out : putMid (length out) (length out - length out) out x ≡ out
   measured-out =
       let n : length (ending out) ≡ 0 = omega (arith, length-take (length out - length out) (drop (length out) out)) in
-      let a : x ≡ [] = none-of x (ap (λ (p : Printed). length (p .out)) e ∙ (length-print (length out) (piecesOf o) _ ∙ n)) in
+      let a : x ≡ [] = none-of x (ap (λ (p : Printed). length (p .out)) e ∙ (length-print (length out) xs _ ∙ n)) in
       ap (putMid (length out) (length out - length out) out) (a ∙ sym (none-of (ending out) n)) ∙ put-same (length out) (length out - length out) out
 
-  measured-room : r ≡ behind (Left (length out)) (length (pageOf o))
-  measured-room = ap (λ (p : Printed). p .room) e ∙ (room-print (length out) (piecesOf o) _ ∙ ap (λ (p : Bytes). behind (Left (length out)) (length p)) (page-pieces o b t))
+  measured-room : r ≡ behind (Left (length out)) (length (joined xs))
+  measured-room = ap (λ (p : Printed). p .room) e ∙ room-print (length out) xs _
 
-  pub short-listed : Full ≡ r → record { out = putMid (length out) (length out - length out) out x; answer = Refused R.ShortOutput } ≡ listingOn out o
-  short-listed f = rw measured-out (list-19 out o t (full-past (length out) (length (pageOf o)) (f ∙ measured-room)))
+  pub short-listed : Full ≡ r → record { out = putMid (length out) (length out - length out) out x; answer = Refused R.ShortOutput } ≡ pageOver out (joined xs)
+  short-listed f = rw measured-out (over-short out (joined xs) (full-past (length out) (length (joined xs)) (f ∙ measured-room)))
 
-  pub room-left : (l : ℕ) → Left l ≡ r → l ≤ length out
-  room-left l f = let w = left-fits (length out) (length (pageOf o)) l (f ∙ measured-room) in omega (arith, w .0, w .1)
+  module _ (l : ℕ) (f : Left l ≡ r) where
+    left-over : (length (joined xs) ≤ length out) × (l ≡ length out - length (joined xs))
+    left-over = left-fits (length out) (length (joined xs)) l (f ∙ measured-room)
 
-  pub whole-listed : (l : ℕ) → Left l ≡ r → (y : Bytes) (q : Room)
-      → record { out = y; room = q } ≡ print (length out) (piecesOf o) (record { out = putMid (length out) (length out - length out) out x; room = Left (length out) })
-      → record { out = y; answer = Length (length out - l) } ≡ listingOn out o
-  whole-listed l f y q g =
-      let w = left-fits (length out) (length (pageOf o)) l (f ∙ measured-room) in
-      let j = page-pieces o b t in
-      let z : length (joined (piecesOf o)) ≤ length out = rw j (w .0) in
-      let v = Prints.written (piecesOf o) out (length out) z (omega arith) in
-      let d : length out - length out ≡ 0 = omega arith in
-      let y-is : y ≡ pageOf o ++ drop (length (pageOf o)) out = ap (λ (p : Printed). p .out) (rw measured-out at g ∙ v) ∙ rw (d, j) (over-start out (pageOf o) (w .0)) in
-      let l-is : length out - l ≡ length (pageOf o) = omega (arith, w .0, w .1) in
-      rw (y-is, l-is) (list-length out o t (w .0))
+    pub room-left : l ≤ length out
+    room-left = omega (arith, left-over .0, left-over .1)
+
+    pub whole-listed : (y : Bytes) (q : Room) → record { out = y; room = q } ≡ print (length out) xs (record { out = putMid (length out) (length out - length out) out x; room = Left (length out) })
+        → record { out = y; answer = Length (length out - l) } ≡ pageOver out (joined xs)
+    whole-listed y q g =
+        let w = left-over in
+        let v = Prints.written xs out (length out) (w .0) (omega arith) in
+        let d : length out - length out ≡ 0 = omega arith in
+        let y-is : y ≡ joined xs ++ drop (length (joined xs)) out = ap (λ (p : Printed). p .out) (rw measured-out at g ∙ v) ∙ rw d (over-start out (joined xs) (w .0)) in
+        let l-is : length out - l ≡ length (joined xs) = omega (arith, w .0, w .1) in
+        rw (y-is, l-is) (over-whole out (joined xs) (w .0))
+
+-- ---- the call: 22, or what the pieces make of the output
+
+module _ (out : Bytes) (o : Overlay) where
+  pub list-22 : isSound o ≡ false → notListed out R.Unsound ≡ listingOn out o
+  unfolding listingOn
+  list-22 t = rw t
+
+  module _ (t : isSound o ≡ true) where
+    pub list-pieces : InBytes o → (z : Output) → z ≡ pageOver out (joined (piecesOf o)) → z ≡ listingOn out o
+    unfolding listingOn
+    list-pieces b z e = rw t (e ∙ ap (pageOver out) (page-pieces o b t))
+
+    pub list-19 : length out < length (pageOf o) → notListed out R.ShortOutput ≡ listingOn out o
+    unfolding listingOn
+    list-19 h = rw t (over-short out (pageOf o) h)
+
+    pub list-length : length (pageOf o) ≤ length out → record { out = pageOf o ++ drop (length (pageOf o)) out; answer = Length (length (pageOf o)) } ≡ listingOn out o
+    unfolding listingOn
+    list-length h = rw t (over-whole out (pageOf o) h)

@@ -18,7 +18,9 @@ use Rattle.model.specs.Act.{Act, Key}
 use Rattle.compact.specs.Fits.{fitsSigned}
 use Rattle.table.specs.Words.{rowsOf, rowsFrom}
 use Rattle.overlay.specs.Overlay.{Overlay, empty}
+use Rattle.overlay.specs.Given.{InBytes}
 use Rattle.overlay.specs.Sound.{Sound, isSound}
+use Rattle.overlay.proofs.Decides.{decides}
 use Rattle.refusal.specs.First.{firstOf}
 use Rattle.page.specs.Summary as Summary
 use Rattle.page.specs.Summary.{summary}
@@ -88,3 +90,11 @@ empty-listed setting o = refl
 pub page-acts : (o : Overlay) → Sound o → Ranked o → (acts : List (Act Bytes)) → ((key : Key) → SFits w64 (key .id) → knownIn o key ≡ Summary.known acts key)
     → ((key : Key) → fitsSigned w64 (key .id) ≡ false → Summary.known acts key ≡ Summary.nothing) → pageOf o ≡ listing (summary acts)
 page-acts o w n acts h u = ap listing (listed-page o w n acts h u)
+
+-- and an output as long as that page gets it
+pub list-acts : (out : Bytes) (o : Overlay) → InBytes o → Sound o → Ranked o → (acts : List (Act Bytes)) → ((key : Key) → SFits w64 (key .id) → knownIn o key ≡ Summary.known acts key)
+    → ((key : Key) → fitsSigned w64 (key .id) ≡ false → Summary.known acts key ≡ Summary.nothing) → length (listing (summary acts)) ≤ length out
+    → listingOn out o ≡ record { out = listing (summary acts) ++ drop (length (listing (summary acts))) out; answer = Length (length (listing (summary acts))) }
+list-acts out o b w n acts h u l =
+    let p = page-acts o w n acts h u in
+    rw (← p) (sym (list-length out o (decides o b .1 w) (rw p l)))

@@ -3,3 +3,4 @@ pub mod Pages
 pub mod Calls
 pub mod Summaries
 pub mod First
+pub mod Example

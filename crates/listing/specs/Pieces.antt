@@ -2,6 +2,7 @@
 use Prim.Native.Nat.{ℕ}
 use mathlib.Core.List.{List, _++_}
 use Rattle.base.specs.Bytes.{Bytes}
+use Rattle.kind.specs.declared.Kind.{Kind}
 use Rattle.kind.specs.declared.Kind.the-variants.{Node, Way, Relation}
 use Rattle.interner.specs.Strings.{Store, usedOf}
 use Rattle.fields.specs.Fields.{heldText}
@@ -12,6 +13,8 @@ use Rattle.rows.specs.Lines.{kindPieces}
 abbrev pub textHeld : Store → ℕ → Bytes
 textHeld t = heldText (t .spans) (usedOf t) (t .strings)
 
+abbrev pub linesOf : Kind → Overlay → List Bytes
+linesOf k o = kindPieces (textHeld (o .texts)) k (shelfOf k o)
+
 unfoldable pub piecesOf : Overlay → List Bytes
-piecesOf o =
-    kindPieces (textHeld (o .texts)) Node (shelfOf Node o) ++ kindPieces (textHeld (o .texts)) Way (shelfOf Way o) ++ kindPieces (textHeld (o .texts)) Relation (shelfOf Relation o)
+piecesOf o = linesOf Node o ++ linesOf Way o ++ linesOf Relation o

@@ -38,11 +38,12 @@ rowOf k s f r = record { key = record { kind = k; id = idOf (r .rank) }; high = 
 unfoldable pub kindTable : Kind → Shelf → (ℕ → Bytes) → Table
 kindTable k s f = map (rowOf k s f) (rowsIn s)
 
+abbrev pub partOf : Kind → Overlay → Table
+partOf k o = kindTable k (shelfOf k o) (textOf (textsOf (o .texts)))
+
 -- "Kinds n, w, r in that order"
 unfoldable pub tableOf : Overlay → Table
-tableOf o =
-    kindTable Node (shelfOf Node o) (textOf (textsOf (o .texts))) ++ kindTable Way (shelfOf Way o) (textOf (textsOf (o .texts)))
-    ++ kindTable Relation (shelfOf Relation o) (textOf (textsOf (o .texts)))
+tableOf o = partOf Node o ++ partOf Way o ++ partOf Relation o
 
 -- the rank of each known id is a word of 64 bits, as each word of a lent table is
 unfoldable pub isRank : table.Row → Bool

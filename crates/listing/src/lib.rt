@@ -1,10 +1,10 @@
 // The listing of an overlay into lent bytes: one walk that measures, and the same walk that writes.
 ghost use mathlib.Core.Path.{_≡_};
-ghost use Rattle.print.specs.Print.{print};
+ghost use Rattle.print.specs.Print.{print, joined};
 ghost use Rattle.print.specs.declared.Room.the-variants.{Left};
 ghost use Rattle.overlay.specs.Overlay.{lent};
 ghost use Rattle.listing.specs.Pieces.{piecesOf};
-ghost use Rattle.listing.specs.Call.{listingOn};
+ghost use Rattle.listing.specs.Call.{pageOver, listingOn};
 use kind::Kind;
 use print::Room;
 use refusal::Refusal;
@@ -76,6 +76,54 @@ fn put_page(
     )
 }
 
+// The page over the first bytes of the output, or 19: first measured, lent the output's end, then written.
+fn put_listing(
+    nids: &[u64],
+    narena: &[u8],
+    wids: &[u64],
+    warena: &[u8],
+    rids: &[u64],
+    rarena: &[u8],
+    spans: &[u64],
+    bytes: &[u8],
+    counts: &[u64; 9],
+    out: &mut [u8],
+) -> Listed
+    ensures { λ r. ⌜ record { out = now (out .exit); answer = r }
+        ≡ pageOver (now (out .entry)) (joined (piecesOf (lent nids narena wids warena rids rarena spans bytes counts))) ⌝ }
+{
+    let end = out.len();
+    let Room::Left(left) = put_page(
+        nids,
+        narena,
+        wids,
+        warena,
+        rids,
+        rarena,
+        spans,
+        bytes,
+        counts,
+        &mut out[end..],
+        end,
+    ) else {
+        return Listed::Refused(Refusal::ShortOutput);
+    };
+    put_page(
+        nids,
+        narena,
+        wids,
+        warena,
+        rids,
+        rarena,
+        spans,
+        bytes,
+        counts,
+        out,
+        end,
+    );
+    Listed::Length(end - left)
+}
+
 // The listing of an overlay at the start of the output: 22, 19, or its length.
 pub fn list(
     nids: &[u64],
@@ -103,23 +151,7 @@ pub fn list(
         bytes,
         counts,
     ) {
-        let end = out.len();
-        let Room::Left(left) = put_page(
-            nids,
-            narena,
-            wids,
-            warena,
-            rids,
-            rarena,
-            spans,
-            bytes,
-            counts,
-            &mut out[end..],
-            end,
-        ) else {
-            return Listed::Refused(Refusal::ShortOutput);
-        };
-        put_page(
+        return put_listing(
             nids,
             narena,
             wids,
@@ -130,9 +162,7 @@ pub fn list(
             bytes,
             counts,
             out,
-            end,
         );
-        return Listed::Length(end - left);
     }
     Listed::Refused(Refusal::Unsound)
 }

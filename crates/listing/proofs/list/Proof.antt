@@ -1,10 +1,10 @@
--- Soundness, then the room that is left where the output's end is lent, then the page.
+-- Soundness decides; in sound storage the pieces are the page.
 use mathlib.Core.Path.{sym, _∙_}
 use native.Mathlib.Omega.{arith}
 use denote.Ref.{now}
 use Rattle.overlay.specs.Overlay.{Overlay, overlayOf}
 use Rattle.overlay.specs.Given.{InBytes}
-use Rattle.listing.proofs.Calls.{bytes-lent, all-lent, list-22, short-listed, room-left, whole-listed}
+use Rattle.listing.proofs.Calls.{bytes-lent, all-lent, list-22, list-pieces}
 use borrow.Author.Needs.{needs}
 use Rattle.listing.proofs.list.Statement.{statement}
 use Rattle.listing.proofs.list.Tie as tie
@@ -30,29 +30,12 @@ in-bytes c =
 
 returns : tie.Need-returns
 returns c =
-    let p = c .before .before .before .before in
-    let s = p .before .before .before in
-    short-listed (now (s .before .before .before .before .before .before .before .before .before .before .args .out)) (overlayAt s) (in-bytes s) (sym (s .is-sound .ensures) ∙ p .before .before .if1 .taken) _ (p .put-page .result)
-    (p .put-page .ensures) (sym (c .enum-told .given .1))
-
-sub-t16 : tie.Need-sub-t16
-sub-t16 c =
-    let p = c .before .before .before .before .before .before .before .before .before in
-    let s = p .before .before .before in
-    let l = c .before .before .before .before .before .left .given in
-    room-left (now (s .before .before .before .before .before .before .before .before .before .before .args .out)) (overlayAt s) (in-bytes s) (sym (s .is-sound .ensures) ∙ p .before .before .if1 .taken) _ (p .put-page .result)
-    (p .put-page .ensures) (l .0 .0) (sym (l .1))
+    let s = c .before .before .before .before .before in
+    list-pieces (now (s .before .before .before .before .before .before .before .before .before .before .args .out)) (overlayAt s) (sym (s .is-sound .ensures) ∙ c .before .before .before .before .if1 .taken) (in-bytes s) _
+    (c .before .before .put-listing .ensures)
 
 returns-2 : tie.Need-returns-2
 returns-2 c =
-    let p = c .before .before .before .before .before .before .before .before .before in
-    let s = p .before .before .before in
-    let l = c .before .before .before .before .before .left .given in
-    whole-listed (now (s .before .before .before .before .before .before .before .before .before .before .args .out)) (overlayAt s) (in-bytes s) (sym (s .is-sound .ensures) ∙ p .before .before .if1 .taken) _ (p .put-page .result)
-    (p .put-page .ensures) (l .0 .0) (sym (l .1)) _ (c .before .before .put-page2 .result) (c .before .before .put-page2 .ensures)
-
-returns-3 : tie.Need-returns-3
-returns-3 c =
     let s = c .before in
     list-22 (now (s .before .before .before .before .before .before .before .before .before .before .args .out)) (overlayAt s) (sym (s .is-sound .ensures) ∙ c .if1 .left)
 
@@ -61,16 +44,7 @@ list-spec =
     tie.close
     (tie.spec
     (λ c κs. search needs)
-    (λ c. search needs)
-    (λ c. search needs)
-    (λ c. search needs)
     (λ c κs. search needs)
-    (λ c. search needs)
-    (λ c. search needs)
     (λ c. search needs)
     returns
-    (λ c κs. search needs)
-    sub-t16
-    (λ c. search needs)
-    returns-2
-    returns-3)
+    returns-2)
