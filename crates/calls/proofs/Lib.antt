@@ -5,4 +5,5 @@ pub mod Shelves
 pub mod Tells
 pub mod Reflects
 pub mod Lists
+pub mod Stops
 pub mod Theorems

@@ -268,7 +268,7 @@ module _ (n : ℕ) where
       (λ a. rw (a, event-counts line s a .0) (omega arith))
       (λ r m a. byRefused line s r m a (λ u k j e. rw (a, e)) (λ u t e. rw (a, e)))
 
-  call-lines : (c : Ask) (l : Storage) (ds : List Answered)
+  pub call-lines : (c : Ask) (l : Storage) (ds : List Answered)
       → leaves c l .readers n .lines + length (linesOf n ds) ≡ l .readers n .lines + length (linesOf n (answerOf c l ∷ ds))
   unfolding linesOf
   call-lines (interns t) l ds = byBool (accepts (interns t) l) (λ e. rw e) (λ e. rw e)

@@ -13,7 +13,7 @@ use lib.ListN.{length}
 use mir.Syntax.{w64}
 use mir.Val.{SFits, toZ}
 use mir.Facts.{fits-of-lt, sfits-toZ}
-use Rattle.base.specs.Bytes.{Bytes, all}
+use Rattle.base.specs.Bytes.{Bytes, either, all}
 use Rattle.kind.specs.declared.Kind.{Kind}
 use Rattle.refusal.specs.declared.Refusal.the-variants.{Regression}
 use Rattle.model.specs.Record.{claimOf}
@@ -50,10 +50,11 @@ use Rattle.reader.specs.Given.{StateGiven}
 use Rattle.reader.specs.Event.{eventOn}
 use Rattle.reader.proofs.Keeps.{fresh-ready, fresh-means, ready-sound}
 use Rattle.reader.proofs.Regressions.{event-regression, act-fits}
-use Rattle.calls.specs.Ask.{Ask, started, stateOf, askFits, PartsGiven, storageAfter, replies}
+use Rattle.calls.specs.Ask.{Ask, started, stateOf, askFits, PartsGiven, storageAfter, replies, stoppedIn}
 use Rattle.calls.specs.Known.{Regresses, pushedBytes}
 use Rattle.listing.specs.Known.{knownIn}
 use Rattle.calls.proofs.Reflects.{Reflects, reflects-empty, page-reflects, push-regresses, delete-regresses, admit-regresses}
+use Rattle.calls.proofs.Stops.{stopped-calls}
 use Rattle.calls.proofs.Lists.{Agrees, agrees-fine, agrees-calls, lines-counted}
 
 module _ (setting : ℕ) (o : Overlay) (sizes : sizesFit largest o ≡ true) (lent : InBytes o) (parts : ℕ → Bytes) (room : PartsGiven parts) where
@@ -80,6 +81,12 @@ module _ (setting : ℕ) (o : Overlay) (sizes : sizesFit largest o ≡ true) (le
     -- the lines that a reader has taken are those of its accepted events
     pub lines-after : (n : ℕ) → storageAfter setting o parts cs .readers n .lines ≡ length (linesOf n (replies setting o parts cs))
     lines-after n = lines-counted n cs (started setting o parts) ∙ zero-add _
+
+    -- and a reader is stopped exactly where one of its events was refused
+    pub stopped-after : (n : ℕ) → length (linesOf n (replies setting o parts cs)) < 18446744073709551615
+        → isStopped (storageAfter setting o parts cs .readers n .stop) ≡ stoppedIn n (replies setting o parts cs)
+    unfolding either
+    stopped-after n h = stopped-calls n setting cs (started setting o parts) begin [] given agrees-started (omega arith)
 
     -- T7: the held texts are those of the accepted calls, and the handle of each is its place
     pub texts-held : textsOf (storageAfter setting o parts cs .overlay .texts) ≡ worldAfter begin (replies setting o parts cs) .texts
@@ -125,17 +132,18 @@ module _ (o : Overlay) (sizes : sizesFit largest o ≡ true) (lent : InBytes o) 
       let e = ap (λ (z : After). z .answer) (delete-store k (toZ w64 id) (metaOf m) q (agrees-fine agrees .sound) l) in
       rw e (delete-regresses 0 q _ _ (agrees .overlay) refl k (toZ w64 id) (sfits-toZ {w = w64} (fits-of-lt f)) (claimOf (metaOf m)) v)
 
-  -- and so is an act that a reader's event makes, at the line that is one more than those that the reader has taken, unless the reader is stopped or the count of its lines
-  -- is at its largest
-  pub regression-event : (n : ℕ) (line : Bytes) (t : Turn) (a : Act Bytes) → isStopped (storageAfter 0 o parts cs .readers n .stop) ≡ false
+  -- and so is an act that a reader's event makes, at the line that is one more than those that the reader has taken, unless one of its events was refused before or the count
+  -- of its lines is at its largest
+  pub regression-event : (n : ℕ) (line : Bytes) (t : Turn) (a : Act Bytes) → stoppedIn n (replies 0 o parts cs) ≡ false
       → length (linesOf n (replies 0 o parts cs)) < 18446744073709551615 → turn line (worldAfter begin (replies 0 o parts cs) .readers n) ≡ got t → t .act ≡ some a → (v : ℤ)
       → (eventOn line (stateOf n (storageAfter 0 o parts cs)) .answer ≡ E.Refused (Regression v) (length (linesOf n (replies 0 o parts cs)) + 1))
       ↔ Regresses (actsOf (replies 0 o parts cs)) (keyOf a) (claimedBy a) v
-  regression-event n line t a going below h k v =
+  regression-event n line t a never below h k v =
       let s = stateOf n (storageAfter 0 o parts cs) in
       let g : StateGiven s = record { overlay = agrees .overlay .bytes; reader = agrees .ready n .given } in
       let c = lines-after 0 o sizes lent parts room cs given n in
       let e = ready-sound s (agrees-fine agrees) (agrees .ready n) (omega (arith, c)) in
+      let going = stopped-after 0 o sizes lent parts room cs given n below ∙ never in
       let i = ap (turn line) (agrees .readers n) ∙ h in
       let x = rw c at (event-regression line s g e going t a i k v) in
       let y = admit-regresses 0 (s .overlay) _ _ (agrees .overlay) refl (keyOf a .kind) (keyOf a .id) (act-fits line s g e going t a i k) (claimedBy a) v in

@@ -2,13 +2,13 @@
 -- made: "Each call gets the overlay, and each event or end its reader, as last left; readers begin fresh, anywhere in a list."
 use Prim.Native.Nat.{ℕ}
 use mathlib.Core.Path.{_≡_}
-use mathlib.Core.Bool.{Bool, true, false, cond}
+use mathlib.Core.Bool.{Bool, true, false, not, cond}
 use mathlib.Core.List.{List, [], _∷_}
 use mir.Syntax.{w64}
 use mir.Val.{toZ}
 use lib.Dec.{eqb, ltb}
 use lib.ListN.{length}
-use Rattle.base.specs.Bytes.{Bytes, both, all}
+use Rattle.base.specs.Bytes.{Bytes, both, either, all}
 use Rattle.little.specs.Little.{isByte}
 use Rattle.kind.specs.declared.Kind.{Kind}
 use Rattle.compact.specs.Cut.{pushedRecord}
@@ -122,3 +122,15 @@ storageAfter setting o parts cs = after (started setting o parts) cs
 
 abbrev pub replies : ℕ → Overlay → (ℕ → Bytes) → List Ask → List Answered
 replies setting o parts cs = answered (started setting o parts) cs
+
+-- "a refused event, except for 22, stops its reader": one of a reader's events was refused
+abbrev pub isEventOf : ℕ → Call → Bool
+isEventOf n (Call.interns t) = false
+isEventOf n (Call.pushes id r) = false
+isEventOf n (Call.deletes k id m) = false
+isEventOf n (Call.hears m line) = eqb n m
+isEventOf n (Call.ends m) = false
+
+unfoldable pub stoppedIn : ℕ → List Answered → Bool
+stoppedIn n [] = false
+stoppedIn n (c ∷ cs) = either (both (isEventOf n (c .call)) (not (c .accepted))) (stoppedIn n cs)

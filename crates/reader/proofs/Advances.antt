@@ -23,11 +23,9 @@ use Rattle.nesting.specs.declared.Place.{Place}
 use Rattle.model.specs.Record.{Meta, Member, Tag, Body, refs, members, Record, kindOf, flagged, claimOf}
 use Rattle.model.specs.Act.{Act, push, delete}
 use Rattle.model.specs.Swap.{swapMember, swapTag, swapBody, swapRecord}
-use Rattle.compact.specs.Cut.{pushedRecord}
 use Rattle.compact.specs.Fits.{fitsNumber}
-use Rattle.compact.specs.Held.{metaOf, headIn}
+use Rattle.compact.specs.Held.{metaOf}
 use Rattle.compact.specs.Legal.{limits, legalMeta, withinLimits, legal}
-use Rattle.compact.specs.declared.ArenaMeta.{ArenaMeta}
 use Rattle.compact.specs.declared.PushHead.{PushHead}
 use Rattle.stage.specs.Stage.{staged, refPart, memberPart, tagPart}
 use Rattle.stage.proofs.Parts.{withRef, withMember, withTag, length-staged}
@@ -59,8 +57,8 @@ use Rattle.reader.specs.Means.{stagedOf, readerOf}
 use Rattle.reader.proofs.Texts.{legal-agree}
 use Rattle.reader.proofs.Element.{stages-back, way-body, relation-body, PartStaged, tag-limit, ref-limit, member-limit, tag-grows, ref-grows, member-grows}
 use Rattle.reader.proofs.Acts.{Acts, no-act, a-push, a-delete, TakesIn, no-text, Acted, Fine, takes-fine, acted-fine, takes-texts, more-strings, same-text, strings-few}
-use Rattle.reader.proofs.Held.{Held, held-of, held-few, held-means, elementAs, fault-legal, bareRecord, bare-stages, bare-legal}
-use Rattle.reader.proofs.Legals.{begun-held, begun-means, nothing-held, nothing-means, legal-meta, meta-fits, claim-same, bodyIn, begun, head-fits, legal-tag, legal-ref, legal-member, staged-small, tag-small, ref-small, member-small, tags-fit, count-fits}
+use Rattle.reader.proofs.Held.{Held, held-of, held-few, held-means, elementAs, fault-legal}
+use Rattle.reader.proofs.Legals.{begun-held, begun-means, nothing-held, nothing-means, legal-meta, meta-fits, claim-same, legal-tag, legal-ref, legal-member, staged-small, tag-small, ref-small, member-small, tags-fit, count-fits}
 use Rattle.reader.proofs.Steps.{EachStep, stopped, leaves, TakenAs, empty-text, each-text, each-user, each-admit, each-after, each-within}
 
 -- what is left is what the turn says, by the direct calls of the turn, and a legal element is staged
@@ -76,12 +74,17 @@ pub record Advances (d : Decision) (s : State) (l : Advanced) : Type 0 where
 
 -- ---- the store's push and delete as direct calls
 
-pushes-act : (k : Kind) (h : PushHead) (m : ArenaMeta) (parts : Bytes) (o : Overlay) (r : Record ℕ) → isSound o ≡ true → headFits h ≡ true → metaFits m ≡ true
-    → all isByte parts ≡ true → pushedRecord k (headIn k h) (metaOf m) parts ≡ some r → legal (o .texts .strings) r ≡ true → storePush k h m parts o .answer ≡ Taken
-    → Acts o (some (push (toZ w64 (h .id)) (swapRecord (textOf (textsOf (o .texts))) r))) (storePush k h m parts o .overlay)
-pushes-act k h m parts o r e f g b p l a =
-    let s = push-store k h m parts o e (ap (faultFor (o .texts .strings)) p ∙ fault-legal (o .texts .strings) r l) in
-    rw (ap (λ (z : After). z .overlay) s) at (a-push k h m parts r f g b p (ap (λ (z : After). takenIn (z .answer)) s ∙ ap takenIn a))
+-- a push of the element that is staged
+held-acts : (k : Kind) (parts : Bytes) (x : Pending) (o : Overlay) → Held (o .texts .strings) k parts x → isSound o ≡ true → all isByte parts ≡ true
+    → storePush k (x .head) (x .meta) (take (x .used) parts) o .answer ≡ Taken
+    → Acts o (some (push (stagedOf (textsOf (o .texts)) k parts x .id) (stagedOf (textsOf (o .texts)) k parts x .held))) (storePush k (x .head) (x .meta) (take (x .used) parts) o .overlay)
+held-acts k parts x o v e b a =
+    let bytes = take (x .used) parts in
+    let p = stages-back k (x .head) (x .meta) bytes (v .held) (v .stages) in
+    let s = push-store k (x .head) (x .meta) bytes o e (ap (faultFor (o .texts .strings)) p ∙ fault-legal (o .texts .strings) (v .held) (v .lawful)) in
+    let i = a-push k (x .head) (x .meta) bytes (v .held) (v .head) (v .meta) (bytes-take (x .used) parts b) p (ap (λ (z : After). takenIn (z .answer)) s ∙ ap takenIn a) in
+    subst (λ (y : Staged). Acts o (some (push (y .id) (y .held))) (storePush k (x .head) (x .meta) bytes o .overlay)) (sym (held-means (o .texts .strings) k parts x v (textsOf (o .texts))))
+    (rw (ap (λ (z : After). z .overlay) s) at i)
 
 -- an element that begins behind its user's text
 module _ (o : Overlay) (w : Fine o) (id : ℤ) (m : Meta Bytes) (g : Decided.Given id m) (h : ℕ) (q : Overlay) (t : TakenAs o (userText m) q h (m .user))
@@ -111,13 +114,8 @@ module _ (o : Overlay) (w : Fine o) (id : ℤ) (m : Meta Bytes) (g : Decided.Giv
   first-acts : (b : Body Bytes) → Decided.First b → storePush (kindOf b) (headFor id b) (metaBits m h) [] q .answer ≡ Taken
       → Acts q (some (push id (first m b))) (storePush (kindOf b) (headFor id b) (metaBits m h) [] q .overlay)
   first-acts b f a =
-      let k = kindOf b in
-      let x = begun id b f in
-      let r = bareRecord (metaBits m h) (bodyIn b) in
-      let p = stages-back k (headFor id b) (metaBits m h) [] r (bare-stages x (metaBits m h)) in
-      let l = bare-legal x (q .texts .strings) (metaBits m h) named-legal in
-      subst (λ (y : Staged). Acts q (some (push (y .id) (y .held))) (storePush k (headFor id b) (metaBits m h) [] q .overlay)) (begun-means id m b (g .fits) (g .legal) f (q .texts .strings) h (t .held) named-small z (textsOf (q .texts)) (t .text))
-      (pushes-act k (headFor id b) (metaBits m h) [] q r (named-fine .sound) (head-fits id b (g .fits) f) named-fits (all-nil isByte) p l a)
+      subst (λ (y : Staged). Acts q (some (push (y .id) (y .held))) (storePush (kindOf b) (headFor id b) (metaBits m h) [] q .overlay)) (named-means b f [])
+      (held-acts (kindOf b) [] (record { head = headFor id b; meta = metaBits m h; used = 0 }) q (named-held b f []) (named-fine .sound) (all-nil isByte) a)
 
   delete-acts : (k : Kind) → storeDelete k id (claimOf m) q .answer ≡ Taken → Acts q (some (delete k id (claimOf m))) (storeDelete k id (claimOf m) q .overlay)
   delete-acts k a =
@@ -311,13 +309,10 @@ module _ (s : State) (g : StateGiven s) (e : stateSound s ≡ true) where
       (member-small (memberBits y n))
       (member-swapped (textOf now) (textOf (textsOf (o .texts))) (held .held) (before (joins p y) p (w .0) o (y .role ∷ []) (a .takes)) (x .0) y n (x .1) (a .text))))
   advances (ends p) w =
-      let b = take (pending .used) (s .parts) in
-      let q = storePush kind (pending .head) (pending .meta) b (s .overlay) in
+      let q = storePush kind (pending .head) (pending .meta) (take (pending .used) (s .parts)) (s .overlay) in
       each-after q (clearsTo s p) (λ a.
-      let i = pushes-act kind (pending .head) (pending .meta) b (s .overlay) (held .held) (fine .sound) (held .head) (held .meta) (bytes-take (pending .used) (s .parts) (g .reader .bytes))
-      (stages-back kind (pending .head) (pending .meta) b (held .held) (held .stages)) (held .lawful) a in
       cleared (ends p) p (q .overlay) [] (push (readerOf s .staged .id) (readerOf s .staged .held)) refl
-      (record { between = s .overlay; taken = no-text; acted = subst (λ (y : Staged). Acts (s .overlay) (some (push (y .id) (y .held))) (q .overlay)) (sym means) i }))
+      (record { between = s .overlay; taken = no-text; acted = held-acts kind (s .parts) pending (s .overlay) held (fine .sound) (g .reader .bytes) a }))
 
   -- ---- 16: "A reader gives 16 at the child that passes the limit"; a child is within the limits exactly where the element with it is
 
