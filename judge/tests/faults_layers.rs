@@ -2,7 +2,7 @@
 //! the judge.
 
 use judge::compare::overlay::Push;
-use judge::compare::records::{Head, RecordPort, WordsRecords, appends, readers};
+use judge::compare::records::{Head, Member, RecordPort, Step, WordsRecords, appends, readers};
 use judge::compare::strings::{StringPort, Taken, WordsStrings, damaged, texts};
 use judge::{Kind, Meta};
 
@@ -158,9 +158,12 @@ enum Wrong {
     PlaceExchanged,
     VersionAndUid,
     CountsExchanged,
-    MissingIsAll,
+    MissingIsZero,
     NextRef,
+    RefPastTheBytes,
     RoleEarly,
+    TypeThree,
+    OneMoreThanRemaining,
     MembersOfTwelve,
 }
 
@@ -197,9 +200,13 @@ impl RecordPort for Records {
         }
     }
 
-    fn head(&self, kind: Kind, bytes: &[u8]) -> Head {
-        let head = WordsRecords.head(kind, bytes);
-        match self.0 {
+    fn head(&self, kind: Kind, bytes: &[u8]) -> Option<Head> {
+        let mut whole = bytes.to_vec();
+        if self.0 == Wrong::MissingIsZero {
+            whole.resize(bytes.len().max(20), 0);
+        }
+        let head = WordsRecords.head(kind, &whole)?;
+        Some(match self.0 {
             Wrong::PlaceExchanged => Head {
                 place: (head.place.1, head.place.0),
                 ..head
@@ -209,30 +216,48 @@ impl RecordPort for Records {
                 tags: head.count,
                 ..head
             },
-            Wrong::MissingIsAll if bytes.len() < 8 => Head { id: -1, ..head },
             _ => head,
-        }
+        })
     }
 
-    fn meta(&self, bytes: &[u8], at: usize) -> Meta {
-        let mut meta = WordsRecords.meta(bytes, at);
+    fn meta(&self, bytes: &[u8], at: usize) -> Option<Meta> {
+        let mut meta = WordsRecords.meta(bytes, at)?;
         if self.0 == Wrong::VersionAndUid {
             (meta.version, meta.uid) = (meta.uid, meta.version);
         }
-        meta
+        Some(meta)
     }
 
-    fn ref_at(&self, bytes: &[u8], i: u32) -> i64 {
-        let more = u32::from(self.0 == Wrong::NextRef);
-        WordsRecords.ref_at(bytes, i.saturating_add(more))
-    }
-
-    fn member_at(&self, bytes: &[u8], i: u32) -> (i64, u8, u32) {
-        let (id, byte, role) = WordsRecords.member_at(bytes, i);
-        if self.0 == Wrong::RoleEarly {
-            return (id, byte, role << 8 | u32::from(byte));
+    fn ref_step(&self, bytes: &[u8], offset: usize, remaining: u32) -> Step<i64> {
+        let good = WordsRecords.ref_step(bytes, offset, remaining);
+        match self.0 {
+            Wrong::NextRef => WordsRecords.ref_step(bytes, offset.saturating_add(8), remaining),
+            Wrong::RefPastTheBytes if good == Step::Unsound => Step::At {
+                value: 0,
+                next: offset.saturating_add(8),
+            },
+            Wrong::OneMoreThanRemaining => WordsRecords.ref_step(bytes, offset, remaining.max(1)),
+            _ => good,
         }
-        (id, byte, role)
+    }
+
+    fn member_step(&self, bytes: &[u8], offset: usize, remaining: u32) -> Step<Member> {
+        let good = WordsRecords.member_step(bytes, offset, remaining);
+        let Step::At { value, next } = good else {
+            let place = offset.checked_add(8).filter(|p| bytes.get(*p) == Some(&3));
+            if let (Wrong::TypeThree, Step::Unsound, Some(at)) = (self.0, good, place) {
+                let mut relation = bytes.to_vec();
+                relation[at] = 2;
+                return WordsRecords.member_step(&relation, offset, remaining);
+            }
+            return good;
+        };
+        if self.0 == Wrong::RoleEarly {
+            let (id, byte, role) = value;
+            let value = (id, byte, role << 8 | u32::from(byte));
+            return Step::At { value, next };
+        }
+        good
     }
 
     fn tags_at(&self, kind: Kind, head: &Head) -> usize {
@@ -267,9 +292,12 @@ fn every_fault_of_records_is_found() {
         Wrong::PlaceExchanged,
         Wrong::VersionAndUid,
         Wrong::CountsExchanged,
-        Wrong::MissingIsAll,
+        Wrong::MissingIsZero,
         Wrong::NextRef,
+        Wrong::RefPastTheBytes,
         Wrong::RoleEarly,
+        Wrong::TypeThree,
+        Wrong::OneMoreThanRemaining,
         Wrong::MembersOfTwelve,
     ] {
         assert!(readers(&Records(wrong), 1, 1).is_err(), "{wrong:?}");

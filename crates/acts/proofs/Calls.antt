@@ -13,12 +13,10 @@ use Rattle.interner.specs.Texts.{handleOf, takeIn, takeAll, noTexts, textOf}
 use Rattle.interner.specs.Sound.{distinct, firstEmpty}
 use Rattle.interner.proofs.Held.{take-held, take-new, grown-all, text-stays-all, distinct-new, first-empty-more, empty-handle, handle-new, raised}
 use Rattle.model.specs.Act.{Act}
-use Rattle.acts.specs.Field.{Field, got, bad}
-use Rattle.acts.specs.Turn.{Reader, Turn, turn}
-use Rattle.acts.specs.Sane.{Sane}
-use Rattle.acts.specs.Call.{Call, interns, pushes, deletes, hears, ends, Answered, World, begin, turnOf, outcome, actsBefore, worldAfter, actsFrom, actsOf}
-use Rattle.acts.proofs.Turns.{actIn}
-use Rattle.acts.proofs.Staging.{fresh-sane, turn-sane}
+use Rattle.field.specs.Field.{Field, got, bad}
+use Rattle.acts.specs.Turn.{Reader, fresh, Turn, turn}
+use Rattle.acts.specs.Call.{Call, interns, pushes, deletes, hears, ends, Answered, World, begin, turned, outcome, actsBefore, worldAfter, actsFrom, actsOf}
+use Rattle.acts.proofs.Turns.{actIn, KindAgrees, fresh-agrees, turn-agrees}
 
 -- ---- refused calls
 
@@ -51,7 +49,7 @@ pub event-act : (w : World) (n : ℕ) (s : Bytes) → outcome w (hears n s) .act
 unfolding outcome
 event-act w n s = go (turn s (w .readers n))
   where
-    go : (f : Field Turn) → turnOf w n f .act ≡ actIn f
+    go : (f : Field Turn) → turned w n f .act ≡ actIn f
     go (got t) = refl
     go (bad x) = refl
 
@@ -103,7 +101,7 @@ pub other-reader : (w : World) (n m : ℕ) (s : Bytes) → (m ≡ n → ⊥) →
 unfolding outcome
 other-reader w n m s h = go (turn s (w .readers n))
   where
-    go : (f : Field Turn) → turnOf w n f .world .readers m ≡ w .readers m
+    go : (f : Field Turn) → turned w n f .world .readers m ≡ w .readers m
     go (bad x) = refl
     go (got t) = ap (λ (b : Bool). cond b (t .reader) (w .readers m)) (ne-eqb m n h)
 
@@ -133,7 +131,7 @@ unfoldable pub readerAfter : Reader → List Bytes → Reader
 readerAfter r [] = r
 readerAfter r (s ∷ ss) = readerAfter (readerLeft r (turn s r)) ss
 
-turn-left : (w : World) (m n : ℕ) (f : Field Turn) → turnOf w m f .world .readers n ≡ cond (eqb n m) (readerLeft (w .readers m) f) (w .readers n)
+turn-left : (w : World) (m n : ℕ) (f : Field Turn) → turned w m f .world .readers n ≡ cond (eqb n m) (readerLeft (w .readers m) f) (w .readers n)
 turn-left w m n (got t) = refl
 turn-left w m n (bad x) = byBool (eqb n m) (λ q. rw q (ap (w .readers) (eqb-true n m q))) (λ q. rw q)
 
@@ -158,28 +156,19 @@ reader-alone w (c ∷ cs) n =
     (λ t. rw t (reader-alone (outcome w (c .call) .world) cs n ∙ heard-left w n (c .call) (linesOf n cs)))
     (λ t. rw t (reader-alone w cs n))
 
--- every reader stays sane
-pub outcome-sane : (w : World) (c : Call) → ((n : ℕ) → Sane (w .readers n)) → (n : ℕ) → Sane (outcome w c .world .readers n)
-unfolding outcome
-outcome-sane w (interns t) h n = h n
-outcome-sane w (pushes id none) h n = h n
-outcome-sane w (pushes id (some r)) h n = h n
-outcome-sane w (deletes k id m) h n = h n
-outcome-sane w (hears m s) h n = go (turn s (w .readers m)) refl
+-- in every reader the element is of the kind that stands open
+lines-agree : (r : Reader) (lines : List Bytes) → KindAgrees r → KindAgrees (readerAfter r lines)
+unfolding readerAfter
+lines-agree r [] h = h
+lines-agree r (line ∷ lines) h = lines-agree (readerLeft r (turn line r)) lines (go (turn line r) refl)
   where
-    go : (f : Field Turn) → turn s (w .readers m) ≡ f → Sane (turnOf w m f .world .readers n)
-    go (bad x) e = h n
-    go (got t) e = byBool (eqb n m) (λ q. rw q (turn-sane s (w .readers m) (h m) e)) (λ q. rw q (h n))
-outcome-sane w (ends m) h n = h n
-
-pub after-sane : (w : World) (cs : List Answered) → ((n : ℕ) → Sane (w .readers n)) → (n : ℕ) → Sane (worldAfter w cs .readers n)
-unfolding worldAfter
-after-sane w [] h n = h n
-after-sane w (c ∷ cs) h n = byBool (c .accepted) (λ t. rw t (after-sane (outcome w (c .call) .world) cs (outcome-sane w (c .call) h) n)) (λ t. rw t (after-sane w cs h n))
+    go : (f : Field Turn) → turn line r ≡ f → KindAgrees (readerLeft r f)
+    go (got t) e = turn-agrees line r h e
+    go (bad x) e = h
 
 -- in every list, and at every place of it
-pub reached-sane : (cs : List Answered) (n : ℕ) → Sane (worldAfter begin cs .readers n)
-reached-sane cs n = after-sane begin cs (λ m. fresh-sane) n
+pub reached-agrees : (cs : List Answered) (n : ℕ) → KindAgrees (worldAfter begin cs .readers n)
+reached-agrees cs n = rw (reader-alone begin cs n) (lines-agree fresh (linesOf n cs) fresh-agrees)
 
 -- ---- texts
 
@@ -208,7 +197,7 @@ call-texts w (pushes id (some r)) = refl
 call-texts w (deletes k id m) = refl
 call-texts w (hears n s) = go (turn s (w .readers n))
   where
-    go : (f : Field Turn) → turnOf w n f .world .texts ≡ takeAll (w .texts) (turnTexts f)
+    go : (f : Field Turn) → turned w n f .world .texts ≡ takeAll (w .texts) (turnTexts f)
     go (got t) = refl
     go (bad x) = refl
 call-texts w (ends n) = refl

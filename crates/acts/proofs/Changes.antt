@@ -1,46 +1,50 @@
 -- The acts of a document are what the document changes: of each object in `create` and `modify` a push of its kind, in `delete` a deletion of its kind.
-use mathlib.Core.Path.{_≡_, refl, sym, _∙_, ap, subst}
+use mathlib.Core.Path.{_≡_, refl, sym, _∙_, ap}
 use mathlib.Core.Bool.{Bool, true, false}
 use mathlib.Core.Option.{Option, none, some}
 use mathlib.Core.List.{List, [], _∷_, _++_, append-nil, map}
-use lib.IntN.{ℤ}
-use mir.Syntax.{w64}
-use Rattle.base.specs.Ascii.{ascii}
 use Rattle.base.specs.Bytes.{Bytes}
-use Rattle.base.proofs.Split.{no}
 use Rattle.kind.specs.declared.Kind.{Kind}
 use Rattle.nesting.specs.Name.{nameOf}
-use Rattle.nesting.specs.Nesting.{start, opened, closed}
+use Rattle.nesting.specs.Nesting.{start, opened}
 use Rattle.nesting.specs.Marks.{Mark, opens, empties, closes, taken, step, Change, pushes, deletes, madeAtOpening, madeAtEnd, openedMakes, closedMakes, makes, changesFrom}
 use Rattle.nesting.specs.Grammar.{Document, each, events, changes}
 use Rattle.nesting.proofs.Reading.{Leads, stays, goes, joins, making}
 use Rattle.nesting.proofs.Documents.{documents, document-changes}
+use Rattle.nesting.specs.declared.Name.{Name}
 use Rattle.nesting.specs.declared.Action.{Action}
 use Rattle.nesting.specs.declared.Action.the-variants as A
 use Rattle.nesting.specs.declared.Level.{Level}
 use Rattle.nesting.specs.declared.Level.the-variants as L
 use Rattle.nesting.specs.declared.Place.{Place}
-use Rattle.nesting.specs.declared.Child.{Child}
-use Rattle.nesting.specs.declared.Child.the-variants as C
 use Rattle.nesting.specs.declared.Opened.{Opened}
-use Rattle.nesting.specs.declared.Opened.the-variants as O
-use Rattle.model.specs.Record.{Meta, Body, Record, kindOf}
+use lib.IntN.{ℤ}
+use Rattle.model.specs.Record.{Meta, Body, kindOf}
 use Rattle.model.specs.Act.{Act, push, delete}
 use Rattle.event.specs.Event as E
-use Rattle.event.specs.Event.{Attr, Event}
-use Rattle.acts.specs.Field.{Field, got, integerField, metaOf, tagOf, refOf, memberOf}
-use Rattle.acts.specs.Turn.{Staged, Reader, fresh, Turn, moves, pushed, bodyFor, stages, pushBegins, begins, addsTo, holds, starting, closing, turnOn}
-use Rattle.acts.specs.Sane.{kept, keptAt, stagedKind, Sane}
+use Rattle.event.specs.Event.{Attr, Reading, reads, refused, eventOf}
+use Rattle.field.specs.Field.{Field, got, bad}
+use Rattle.decision.specs.Decision.{Decision, begins, decide}
+use Rattle.decision.proofs.Lawful.{body-first}
+use Rattle.decision.proofs.Decided.{Starts, Decides, decided}
+use Rattle.decision.proofs.Decided as D
+use Rattle.acts.specs.Turn.{Reader, fresh, Turn, turnOf, turn}
 use Rattle.acts.specs.Call.{actsBefore}
-use Rattle.acts.proofs.Fields.{then-got}
-use Rattle.acts.proofs.Staging.{fresh-sane, body-kind, event-sane}
+use Rattle.acts.proofs.Turns.{OfTurn, of-turn, KindAgrees, fresh-agrees, turn-agrees}
 
--- the mark of an event, if it is one
-abbrev pub markOf : Event → List Mark
-markOf (E.starts true n as1) = empties (nameOf n) ∷ []
-markOf (E.starts false n as1) = opens (nameOf n) ∷ []
-markOf E.closes = closes ∷ []
-markOf E.others = []
+abbrev pub markOf : Bool → Name → Mark
+markOf true n = empties n
+markOf false n = opens n
+
+-- the mark of a line, if it is one
+abbrev pub marksIn : Reading → List Mark
+marksIn (reads (E.starts e n attrs)) = markOf e (nameOf n) ∷ []
+marksIn (reads E.closes) = closes ∷ []
+marksIn (reads E.others) = []
+marksIn (refused r) = []
+
+abbrev pub lineMarks : Bytes → List Mark
+lineMarks line = marksIn (eventOf line)
 
 -- what an act does
 abbrev pub changeOf : Act Bytes → Change
@@ -51,119 +55,105 @@ abbrev pub changesBy : Option (Act Bytes) → List Change
 changesBy none = []
 changesBy (some a) = changeOf a ∷ []
 
--- ---- one event
+-- ---- one line
 
--- what a turn leaves and makes: the place, and the changes of its act
-pub record Does (t : Turn) (q : Place) (cs : List Change) : Type 0 where
-  pub leaves : t .reader .place ≡ q
-  pub makes : changesBy (t .act) ≡ cs
+mark-step : (e : Bool) (n : Name) (p : Place) → step p (markOf e n) ≡ taken (opened e n p)
+unfolding step
+mark-step true n p = refl
+mark-step false n p = refl
 
-got-does : {t u : Turn} {q : Place} {cs : List Change} → _≡_ {A = Field Turn} (got t) (got u) → Does t q cs → Does u q cs
-got-does {t} {u} {q} {cs} e d = let h : t ≡ u = cc in subst (λ (y : Turn). Does y q cs) h d
-
-stages-does : (x : Bool) (a : Action) (k : Kind) (p : Place) (id : ℤ) (m : Meta Bytes) (b : Body Bytes) → (a ≡ A.Delete → ⊥) → kindOf b ≡ k → Does (stages x p id m b) p (madeAtOpening x a k)
-unfolding madeAtOpening
-stages-does true A.Create k p id m b d h = record { leaves = refl; makes = ap (λ (y : Kind). pushes y ∷ []) h }
-stages-does true A.Modify k p id m b d h = record { leaves = refl; makes = ap (λ (y : Kind). pushes y ∷ []) h }
-stages-does true A.Delete k p id m b d h = absurd (d refl)
-stages-does false A.Create k p id m b d h = record { leaves = refl; makes = refl }
-stages-does false A.Modify k p id m b d h = record { leaves = refl; makes = refl }
-stages-does false A.Delete k p id m b d h = absurd (d refl)
-
-module _ (x : Bool) (k : Kind) (p : Place) (as1 : List Attr) where
-  push-does : (a : Action) → (a ≡ A.Delete → ⊥) → {t : Turn} → pushBegins x k p as1 ≡ got t → Does t p (madeAtOpening x a k)
-  push-does a d g =
-      let i = then-got _ (integerField w64 (ascii "id") as1) g in
-      let m = then-got _ (metaOf as1) (i .1 .1) in
-      let b = then-got _ (bodyFor k as1) (m .1 .1) in
-      got-does (b .1 .1) (stages-does x a k p (i .0) (m .0) (b .0) d (body-kind k as1 (b .1 .0)))
-
-  begins-does : (a : Action) {t : Turn} → begins a x k p as1 ≡ got t → Does t p (madeAtOpening x a k)
-  unfolding madeAtOpening
-  begins-does A.Create g = push-does A.Create (λ e. no (cc)) g
-  begins-does A.Modify g = push-does A.Modify (λ e. no (cc)) g
-  begins-does A.Delete g =
-      let i = then-got _ (integerField w64 (ascii "id") as1) g in
-      let m = then-got _ (metaOf as1) (i .1 .1) in
-      got-does (m .1 .1) (record { leaves = refl; makes = refl })
-
-adds-does : (o : Option Staged) (p : Place) (ts : List Bytes) (f : Record Bytes → Record Bytes) → Does (addsTo o p ts f) p []
-adds-does none p ts f = record { leaves = refl; makes = refl }
-adds-does (some s) p ts f = record { leaves = refl; makes = refl }
-
-holds-does : (c : Child) (r : Reader) (p : Place) (as1 : List Attr) {t : Turn} → holds c r p as1 ≡ got t → Does t p []
-holds-does C.Tag r p as1 g = let y = then-got _ (tagOf as1) g in got-does (y .1 .1) (adds-does (r .staged) p _ _)
-holds-does C.Nd r p as1 g = let y = then-got _ (refOf as1) g in got-does (y .1 .1) (adds-does (r .staged) p _ _)
-holds-does C.Member r p as1 g = let y = then-got _ (memberOf as1) g in got-does (y .1 .1) (adds-does (r .staged) p _ _)
+mark-makes : (e : Bool) (n : Name) (p : Place) → makes p (markOf e n) ≡ openedMakes e (p .section) (opened e n p)
+unfolding makes
+mark-makes true n p = refl
+mark-makes false n p = refl
 
 -- one mark, by where it leads and what it makes
 one-mark : {p q : Place} {m : Mark} {cs : List Change} → step p m ≡ some q → makes p m ≡ cs → Leads p (m ∷ []) cs q
 one-mark {q = q} e h = making (goes e (stays q)) (append-nil _ ∙ h)
 
-start-does : (o : Opened) (x : Bool) (r : Reader) (as1 : List Attr) {t : Turn} → starting o x r as1 ≡ got t
-    → (q : Place) × ((taken o ≡ some q) × Does t q (openedMakes x (r .place .section) o))
-unfolding taken openedMakes
-start-does O.Misplaced x r as1 g = no (cc)
-start-does O.OutsideSection x r as1 g = no (cc)
-start-does (O.Goes p) x r as1 g = (p, (refl, got-does g (record { leaves = refl; makes = refl })))
-start-does (O.Begins k p) x r as1 g = (p, (refl, begins-does x k p as1 (r .place .section) g))
-start-does (O.Holds c p) x r as1 g = (p, (refl, holds-does c r p as1 g))
+-- a line leads where its mark does, and its act is what the mark makes
+module _ (r : Reader) where
+  abbrev Led : List Mark → Field Turn → Type 0
+  Led ms = OfTurn (λ t. Leads (r .place) ms (changesBy (t .act)) (t .reader .place))
 
-end-makes : (a : Action) (k : Kind) (o : Option Staged) → stagedKind o ≡ kept a k → changesBy (pushed o) ≡ madeAtEnd a k
-unfolding madeAtEnd
-end-makes A.Create k none h = no (cc)
-end-makes A.Modify k none h = no (cc)
-end-makes A.Delete k none h = refl
-end-makes A.Create k (some s) h = let q : kindOf (s .held .body) ≡ k = cc in ap (λ (y : Kind). pushes y ∷ []) q
-end-makes A.Modify k (some s) h = let q : kindOf (s .held .body) ≡ k = cc in ap (λ (y : Kind). pushes y ∷ []) q
-end-makes A.Delete k (some s) h = no (cc)
+  -- what an element makes at its opening, and at its end, in a `create` or `modify` section
+  begun-makes : (e : Bool) (k : Kind) (q : Place) (id : ℤ) (m : Meta Bytes) (b : Body Bytes) (a : Action) → (a ≡ A.Delete → ⊥) → kindOf b ≡ k
+      → OfTurn (λ t. (some q ≡ some (t .reader .place)) × (madeAtOpening e a k ≡ changesBy (t .act))) (turnOf (begins e q id m b) r)
+  unfolding turnOf madeAtOpening
+  begun-makes true k q id m b A.Create s h = (refl, rw h)
+  begun-makes true k q id m b A.Modify s h = (refl, rw h)
+  begun-makes false k q id m b A.Create s h = (refl, refl)
+  begun-makes false k q id m b A.Modify s h = (refl, refl)
+  begun-makes e k q id m b A.Delete s h = absurd (s refl)
 
-close-does : (l : Level) (a : Action) (k : Kind) (o : Option Staged) → stagedKind o ≡ keptAt l a k
-    → Does (closing l (record { place = record { level = l; section = a; kind = k }; staged = o })) (closed (record { level = l; section = a; kind = k })) (closedMakes l a k)
-unfolding closedMakes madeAtEnd
-close-does L.Element a k o h = record { leaves = refl; makes = end-makes a k o h }
-close-does L.Doc a k o h = record { leaves = refl; makes = refl }
-close-does L.Root a k o h = record { leaves = refl; makes = refl }
-close-does L.Section a k o h = record { leaves = refl; makes = refl }
-close-does L.Leaf a k o h = record { leaves = refl; makes = refl }
-close-does L.Other a k o h = record { leaves = refl; makes = refl }
-close-does L.Done a k o h = record { leaves = refl; makes = refl }
+  ended-makes : (a : Action) {k l : Kind} → (a ≡ A.Delete → ⊥) → l ≡ k → madeAtEnd a k ≡ pushes l ∷ []
+  unfolding madeAtEnd
+  ended-makes A.Create s h = rw h
+  ended-makes A.Modify s h = rw h
+  ended-makes A.Delete s h = absurd (s refl)
 
-does-leads : {p q : Place} {m : Mark} (t : Turn) → step p m ≡ some q → Does t q (makes p m) → Leads p (m ∷ []) (changesBy (t .act)) (t .reader .place)
-does-leads t e d = rw (d .leaves) (one-mark e (sym (d .makes)))
+  closed-makes : (l : Level) (a : Action) (k : Kind) → (l ≡ L.Element → a ≡ A.Delete) → closedMakes l a k ≡ []
+  unfolding closedMakes madeAtEnd
+  closed-makes L.Element a k h = rw (h refl)
+  closed-makes L.Doc a k h = refl
+  closed-makes L.Root a k h = refl
+  closed-makes L.Section a k h = refl
+  closed-makes L.Leaf a k h = refl
+  closed-makes L.Other a k h = refl
+  closed-makes L.Done a k h = refl
 
--- an accepted event leads where its mark does, and its act is what the mark makes
-pub event-leads : (e : Event) (r : Reader) (t : Turn) → Sane r → turnOn e r ≡ got t → Leads (r .place) (markOf e) (changesBy (t .act)) (t .reader .place)
-unfolding turnOn step makes
-event-leads (E.starts true n as1) r t h g = let d = start-does (opened true (nameOf n) (r .place)) true r as1 g in does-leads t (d .1 .0) (d .1 .1)
-event-leads (E.starts false n as1) r t h g = let d = start-does (opened false (nameOf n) (r .place)) false r as1 g in does-leads t (d .1 .0) (d .1 .1)
-event-leads E.closes r t h g = does-leads t refl (got-does g (close-does (r .place .level) (r .place .section) (r .place .kind) (r .staged) (h .same)))
-event-leads E.others r t h g = let q : moves r (r .place) ≡ t = cc in subst (λ (y : Turn). Leads (r .place) [] (changesBy (y .act)) (y .reader .place)) q (stays (r .place))
+  -- where an open or an empty element leads, and what it makes
+  start-makes : (e : Bool) (attrs : List Attr) {o : Opened} {d : Decision} → Starts (r .place) e attrs o d
+      → OfTurn (λ t. (taken o ≡ some (t .reader .place)) × (openedMakes e (r .place .section) o ≡ changesBy (t .act))) (turnOf d r)
+  unfolding turnOf taken openedMakes madeAtOpening
+  start-makes e attrs (D.refuse x) = tt
+  start-makes e attrs D.goes = (refl, refl)
+  start-makes e attrs (D.begin {k = k} {q = q} {id = id} {m = m} {b = b} s i j x) = begun-makes e k q id m b (r .place .section) s (body-first attrs k x .1)
+  start-makes e attrs (D.delete s i j) = (refl, rw s)
+  start-makes e attrs (D.tag s f) = (refl, refl)
+  start-makes e attrs (D.ref s f) = (refl, refl)
+  start-makes e attrs (D.member s f) = (refl, refl)
+  start-makes e attrs (D.drop s c) = (refl, refl)
 
--- ---- a list of events
+  led-by : {ms : List Mark} (f : Field Turn) (P : Turn → Type 0) → OfTurn P f → ((t : Turn) → P t → Leads (r .place) ms (changesBy (t .act)) (t .reader .place)) → Led ms f
+  led-by (got t) P h g = g t h
+  led-by (bad x) P h g = tt
+
+  line-leads : {x : Reading} {d : Decision} → KindAgrees r → Decides (r .place) x d → Led (marksIn x) (turnOf d r)
+  unfolding turnOf step makes closedMakes
+  line-leads h D.bad-line = tt
+  line-leads h (D.start {e = e} {n = n} {attrs = attrs} {d = d} s) =
+      led-by (turnOf d r) _ (start-makes e attrs s) (λ t g. one-mark (mark-step e (nameOf n) (r .place) ∙ g .0) (mark-makes e (nameOf n) (r .place) ∙ g .1))
+  line-leads h (D.end l s) = one-mark refl (rw l (ended-makes (r .place .section) s h))
+  line-leads h (D.close c) = one-mark refl (closed-makes (r .place .level) (r .place .section) (r .place .kind) c)
+  line-leads h D.other = stays (r .place)
+
+-- ---- a list of lines
 
 -- a reader takes all of them, and makes acts
-pub data Takes : Reader → List Event → List (Act Bytes) → Reader → Type 0 where
+pub data Takes : Reader → List Bytes → List (Act Bytes) → Reader → Type 0 where
   done : {r : Reader} → Takes r [] [] r
-  more : {r q : Reader} {e : Event} {es : List Event} {as1 : List (Act Bytes)} (t : Turn) → turnOn e r ≡ got t → Takes (t .reader) es as1 q → Takes r (e ∷ es) (actsBefore (t .act) as1) q
+  more : {r q : Reader} {line : Bytes} {lines : List Bytes} {acts : List (Act Bytes)} (t : Turn) → turn line r ≡ got t → Takes (t .reader) lines acts q
+      → Takes r (line ∷ lines) (actsBefore (t .act) acts) q
 
-changes-before : (o : Option (Act Bytes)) (as1 : List (Act Bytes)) → map changeOf (actsBefore o as1) ≡ changesBy o ++ map changeOf as1
-changes-before none as1 = refl
-changes-before (some a) as1 = refl
+changes-before : (o : Option (Act Bytes)) (acts : List (Act Bytes)) → map changeOf (actsBefore o acts) ≡ changesBy o ++ map changeOf acts
+changes-before none acts = refl
+changes-before (some a) acts = refl
 
-pub events-lead : {r q : Reader} {es : List Event} {as1 : List (Act Bytes)} → Sane r → Takes r es as1 q → Leads (r .place) (each markOf es) (map changeOf as1) (q .place)
-unfolding each
-events-lead {r} h done = stays (r .place)
-events-lead {r} {es = e ∷ es} h (more {as1 = as1} t g k) =
-    making (joins (event-leads e r t h g) (events-lead (event-sane e r h g) k)) (sym (changes-before (t .act) as1))
+pub lines-lead : {r q : Reader} {lines : List Bytes} {acts : List (Act Bytes)} → KindAgrees r → Takes r lines acts q → Leads (r .place) (each lineMarks lines) (map changeOf acts) (q .place)
+unfolding each turn decide
+lines-lead {r} h done = stays (r .place)
+lines-lead {r} {lines = line ∷ lines} h (more {acts = acts} t e k) =
+    let l : Leads (r .place) (lineMarks line) (changesBy (t .act)) (t .reader .place) = of-turn _ (line-leads r h (decided (r .place) (eventOf line))) e in
+    making (joins l (lines-lead (turn-agrees line r h e) k)) (sym (changes-before (t .act) acts))
 
--- a fresh reader that takes the events of a document makes the acts that the document says, of the kinds that it says, in its order
-pub document-acts : (d : Document) {es : List Event} {as1 : List (Act Bytes)} {q : Reader} → each markOf es ≡ events d → Takes fresh es as1 q → map changeOf as1 ≡ changes d
-document-acts d e k = sym (events-lead fresh-sane k .does) ∙ (ap (changesFrom start) e ∙ document-changes d)
+-- a fresh reader that takes the lines of a document makes the acts that the document says, of the kinds that it says, in its order
+pub document-acts : (d : Document) {lines : List Bytes} {acts : List (Act Bytes)} {q : Reader} → each lineMarks lines ≡ events d → Takes fresh lines acts q → map changeOf acts ≡ changes d
+document-acts d e k = sym (lines-lead fresh-agrees k .does) ∙ (ap (changesFrom start) e ∙ document-changes d)
 
--- and whatever a fresh reader takes up to an accepted end is the events of a document
-pub taken-document : {es : List Event} {as1 : List (Act Bytes)} {q : Reader} → Takes fresh es as1 q → q .place .level ≡ L.Done
-    → (d : Document) × ((events d ≡ each markOf es) × (map changeOf as1 ≡ changes d))
-taken-document {es} {q = q} k l =
-    let x = documents (each markOf es) .0 (q .place, events-lead fresh-sane k .runs, l) in
+-- and whatever a fresh reader takes up to an accepted end is the lines of a document
+pub taken-document : {lines : List Bytes} {acts : List (Act Bytes)} {q : Reader} → Takes fresh lines acts q → q .place .level ≡ L.Done
+    → (d : Document) × ((events d ≡ each lineMarks lines) × (map changeOf acts ≡ changes d))
+taken-document {lines} {q = q} k l =
+    let x = documents (each lineMarks lines) .0 (q .place, lines-lead fresh-agrees k .runs, l) in
     (x .0, (x .1, document-acts (x .0) (sym (x .1)) k))

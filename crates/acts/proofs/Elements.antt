@@ -1,198 +1,224 @@
 -- A push is made of its element's opening and of its children in order: "a push from that and its children in order".
-use mathlib.Core.Path.{_≡_, refl, sym, _∙_, ap}
-use mathlib.Core.Bool.{Bool, false}
+use mathlib.Core.Path.{_≡_, refl, sym, _∙_, ap, subst}
+use mathlib.Core.Bool.{Bool, true, false}
 use mathlib.Core.Option.{Option, none, some}
 use mathlib.Core.List.{List, [], _∷_, _++_, append-assoc, append-nil}
 use lib.IntN.{ℤ}
 use Rattle.base.specs.Bytes.{Bytes}
-use Rattle.base.proofs.Split.{no}
-use Rattle.kind.specs.declared.Kind.{Kind}
-use Rattle.nesting.specs.Grammar.{each}
+use Rattle.base.proofs.Split.{clash, no}
+use Rattle.kind.specs.declared.Kind.the-variants as K
 use Rattle.nesting.specs.Name.{nameOf}
-use Rattle.nesting.specs.Nesting.{opened}
+use Rattle.nesting.specs.Nesting.{opened, closed, closedTo}
+use Rattle.nesting.specs.declared.Name.{Name}
 use Rattle.nesting.specs.declared.Action.the-variants as A
-use Rattle.nesting.specs.declared.Level.{Level}
 use Rattle.nesting.specs.declared.Level.the-variants as L
 use Rattle.nesting.specs.declared.Place.{Place}
 use Rattle.nesting.specs.declared.Child.{Child}
 use Rattle.nesting.specs.declared.Child.the-variants as C
 use Rattle.nesting.specs.declared.Opened.{Opened}
-use Rattle.nesting.specs.declared.Opened.the-variants as O
-use Rattle.model.specs.Record.{Member, Tag, Body, place, refs, members, kindOf}
+use Rattle.model.specs.Record.{Meta, Member, Tag, Body, place, refs, members, kindOf}
 use Rattle.model.specs.Act.{push}
-use Rattle.event.specs.Event.{Attr, Event, starts, closes, others}
-use Rattle.acts.specs.Field.{Field, got, bad, tagOf, refOf, memberOf}
-use Rattle.acts.specs.Turn.{Staged, Reader, Turn, stages, closing, turnOn}
-use Rattle.acts.specs.Sane.{keptIn, stagedKind, Sane}
-use Rattle.acts.proofs.Fields.{then-got}
-use Rattle.acts.proofs.Turns.{Begun, recordOf, actIn, begun-stages}
-use Rattle.acts.proofs.Staging.{childNamed, Leads, leads, event-sane, tag-appended, ref-appended, member-appended, has-refs, has-members}
+use Rattle.event.specs.Event.{Attr, starts, closes, others, Reading, reads, refused, eventOf}
+use Rattle.field.specs.Field.{Field, got, bad, tagOf, refOf, memberOf}
+use Rattle.decision.specs.Decision.{Decision, begins, refers, joins, decide}
+use Rattle.decision.proofs.Lawful.{Lawful, decide-lawful}
+use Rattle.decision.proofs.Places.{childNamed, isInside, Leads, leads}
+use Rattle.decision.proofs.Decided.{Pushing, Starts, Decides, decided, decides-so, decide-exactly}
+use Rattle.decision.proofs.Decided as D
+use Rattle.acts.specs.Turn.{Staged, Reader, Turn, first, userText, bodyWithRef, bodyWithMember, turnOf, turn}
+use Rattle.acts.proofs.Turns.{OfTurn, of-turn, actIn, KindAgrees}
 
--- ---- the children among some events
+-- ---- the children among some lines
+
+pub record Children : Type 0 where
+  pub tags : List (Tag Bytes)
+  pub refs : List ℤ
+  pub members : List (Member Bytes)
+
+abbrev pub noChildren : Children
+noChildren = record { tags = []; refs = []; members = [] }
+
+abbrev pub joined : Children → Children → Children
+joined a b = record { tags = a .tags ++ b .tags; refs = a .refs ++ b .refs; members = a .members ++ b .members }
 
 abbrev pub listOf : {A : Type 0} → Field A → List A
 listOf (got a) = a ∷ []
 listOf (bad r) = []
 
--- the tag, the ref and the member of a child
-abbrev pub tagAs : Option Child → List Attr → List (Tag Bytes)
-tagAs none as1 = []
-tagAs (some C.Tag) as1 = listOf (tagOf as1)
-tagAs (some C.Nd) as1 = []
-tagAs (some C.Member) as1 = []
+-- the child that stands in some attributes
+abbrev pub childIn : Option Child → List Attr → Children
+childIn none attrs = noChildren
+childIn (some C.Tag) attrs = record { tags = listOf (tagOf attrs); refs = []; members = [] }
+childIn (some C.Nd) attrs = record { tags = []; refs = listOf (refOf attrs); members = [] }
+childIn (some C.Member) attrs = record { tags = []; refs = []; members = listOf (memberOf attrs) }
 
-abbrev pub refAs : Option Child → List Attr → List ℤ
-refAs none as1 = []
-refAs (some C.Tag) as1 = []
-refAs (some C.Nd) as1 = listOf (refOf as1)
-refAs (some C.Member) as1 = []
+abbrev pub childrenIn : Reading → Children
+childrenIn (reads (starts e n attrs)) = childIn (childNamed (nameOf n)) attrs
+childrenIn (reads closes) = noChildren
+childrenIn (reads others) = noChildren
+childrenIn (refused r) = noChildren
 
-abbrev pub memberAs : Option Child → List Attr → List (Member Bytes)
-memberAs none as1 = []
-memberAs (some C.Tag) as1 = []
-memberAs (some C.Nd) as1 = []
-memberAs (some C.Member) as1 = listOf (memberOf as1)
-
-abbrev pub tagIn : Event → List (Tag Bytes)
-tagIn (starts x n as1) = tagAs (childNamed (nameOf n)) as1
-tagIn closes = []
-tagIn others = []
-
-abbrev pub refIn : Event → List ℤ
-refIn (starts x n as1) = refAs (childNamed (nameOf n)) as1
-refIn closes = []
-refIn others = []
-
-abbrev pub memberIn : Event → List (Member Bytes)
-memberIn (starts x n as1) = memberAs (childNamed (nameOf n)) as1
-memberIn closes = []
-memberIn others = []
+-- in order, by the lines alone
+unfoldable pub childrenOf : List Bytes → Children
+childrenOf [] = noChildren
+childrenOf (line ∷ lines) = joined (childrenIn (eventOf line)) (childrenOf lines)
 
 -- a body with further refs or members
-abbrev pub grown : Body Bytes → List ℤ → List (Member Bytes) → Body Bytes
-grown (place lat lon) zs xs = place lat lon
-grown (refs rs) zs xs = refs (rs ++ zs)
-grown (members ms) zs xs = members (ms ++ xs)
+abbrev pub grown : Body Bytes → Children → Body Bytes
+grown (place lat lon) c = place lat lon
+grown (refs rs) c = refs (rs ++ c .refs)
+grown (members ms) c = members (ms ++ c .members)
 
--- what is staged, with the children of some events
-abbrev pub withChildren : Staged → List (Tag Bytes) → List ℤ → List (Member Bytes) → Staged
-withChildren s ts zs xs = record { id = s .id; held = record { meta = s .held .meta; body = grown (s .held .body) zs xs; tags = s .held .tags ++ ts } }
+-- an element with further children
+abbrev pub withChildren : Staged → Children → Staged
+withChildren s c = record { id = s .id; held = record { meta = s .held .meta; body = grown (s .held .body) c; tags = s .held .tags ++ c .tags } }
 
--- ---- one event inside an element
+-- ---- one line inside an element
 
-grown-none : (b : Body Bytes) → grown b [] [] ≡ b
-grown-none (place lat lon) = refl
-grown-none (refs rs) = ap refs (append-nil rs)
-grown-none (members ms) = ap members (append-nil ms)
+module _ (s : Staged) where
+  grows-by : {b : Body Bytes} {ts : List (Tag Bytes)} (c : Children) → b ≡ grown (s .held .body) c → ts ≡ s .held .tags ++ c .tags
+      → record { id = s .id; held = record { meta = s .held .meta; body = b; tags = ts } } ≡ withChildren s c
+  grows-by c h k = λ i. record { id = s .id; held = record { meta = s .held .meta; body = h i; tags = k i } }
 
-with-none : (s : Staged) → withChildren s [] [] [] ≡ s
-with-none s = λ i. record { id = s .id; held = record { meta = s .held .meta; body = grown-none (s .held .body) i; tags = append-nil (s .held .tags) i } }
+  grown-none : (b : Body Bytes) (ts : List (Tag Bytes)) → b ≡ grown b (record { tags = ts; refs = []; members = [] })
+  grown-none (place lat lon) ts = refl
+  grown-none (refs rs) ts = ap refs (sym (append-nil rs))
+  grown-none (members ms) ts = ap members (sym (append-nil ms))
 
--- what a turn leaves staged
-left-staged : {t u : Turn} {s x : Staged} → _≡_ {A = Field Turn} (got t) (got u) → t .reader .staged ≡ some x → u .reader .staged ≡ some s → s ≡ x
-left-staged {t} {u} {s} {x} e h g = let q : t ≡ u = cc in let k : some s ≡ some x = sym g ∙ (ap (λ (y : Turn). y .reader .staged) (sym q) ∙ h) in cc
+  grown-ref : (z : ℤ) (b : Body Bytes) → bodyWithRef z b ≡ grown b (record { tags = []; refs = z ∷ []; members = [] })
+  grown-ref z (place lat lon) = refl
+  grown-ref z (refs rs) = refl
+  grown-ref z (members ms) = ap members (sym (append-nil ms))
 
-module _ (r : Reader) (s : Staged) (sane : Sane r) (has : r .staged ≡ some s) (x : Bool) (n : Bytes) (as1 : List Attr) (q : Place) where
-  tag-grows : opened x (nameOf n) (r .place) ≡ O.Holds C.Tag q → {t : Turn} {y : Staged} → turnOn (starts x n as1) r ≡ got t → t .reader .staged ≡ some y
-      → y ≡ withChildren s (listOf (tagOf as1)) [] []
-  unfolding turnOn
-  tag-grows o h g =
-      let k = then-got _ (tagOf as1) (rw o at h) in
-      rw (k .1 .0) (left-staged (sym (tag-appended r s has x n as1 q (k .0) o (k .1 .0)) ∙ h) refl g
-      ∙ (λ i. record { id = s .id; held = record { meta = s .held .meta; body = sym (grown-none (s .held .body)) i; tags = s .held .tags ++ (k .0 ∷ []) } }))
+  grown-member : (m : Member Bytes) (b : Body Bytes) → bodyWithMember m b ≡ grown b (record { tags = []; refs = []; members = m ∷ [] })
+  grown-member m (place lat lon) = refl
+  grown-member m (refs rs) = ap refs (sym (append-nil rs))
+  grown-member m (members ms) = refl
 
-  ref-grows : opened x (nameOf n) (r .place) ≡ O.Holds C.Nd q → {t : Turn} {y : Staged} → turnOn (starts x n as1) r ≡ got t → t .reader .staged ≡ some y
-      → y ≡ withChildren s [] (listOf (refOf as1)) []
-  unfolding turnOn
-  ref-grows o h g =
-      let k = then-got _ (refOf as1) (rw o at h) in
-      let b = has-refs r s has x n as1 q sane o in
-      rw (k .1 .0) (left-staged (sym (ref-appended r s has x n as1 q (k .0) (b .0) o (k .1 .0) (b .1)) ∙ h) refl g
-      ∙ (λ i. record { id = s .id; held = record { meta = s .held .meta; body = grown (sym (b .1) i) (k .0 ∷ []) []; tags = sym (append-nil (s .held .tags)) i } }))
+  with-none : s ≡ withChildren s noChildren
+  with-none = grows-by noChildren (grown-none (s .held .body) []) (sym (append-nil (s .held .tags)))
 
-  member-grows : opened x (nameOf n) (r .place) ≡ O.Holds C.Member q → {t : Turn} {y : Staged} → turnOn (starts x n as1) r ≡ got t → t .reader .staged ≡ some y
-      → y ≡ withChildren s [] [] (listOf (memberOf as1))
-  unfolding turnOn
-  member-grows o h g =
-      let k = then-got _ (memberOf as1) (rw o at h) in
-      let b = has-members r s has x n as1 q sane o in
-      rw (k .1 .0) (left-staged (sym (member-appended r s has x n as1 q (k .0) (b .0) o (k .1 .0) (b .1)) ∙ h) refl g
-      ∙ (λ i. record { id = s .id; held = record { meta = s .held .meta; body = grown (sym (b .1) i) [] (k .0 ∷ []); tags = sym (append-nil (s .held .tags)) i } }))
+-- where a ref or a member is taken the element that stands open has that list
+way-body : (b : Body Bytes) → kindOf b ≡ K.Way → (rs : List ℤ) × (b ≡ refs rs)
+way-body (place lat lon) e = no (cc)
+way-body (refs rs) e = (rs, refl)
+way-body (members ms) e = no (cc)
 
-  child-grows : (c : Child) → opened x (nameOf n) (r .place) ≡ O.Holds c q → {t : Turn} {y : Staged} → turnOn (starts x n as1) r ≡ got t → t .reader .staged ≡ some y
-      → y ≡ withChildren s (tagAs (some c) as1) (refAs (some c) as1) (memberAs (some c) as1)
-  child-grows C.Tag o h g = tag-grows o h g
-  child-grows C.Nd o h g = ref-grows o h g
-  child-grows C.Member o h g = member-grows o h g
+relation-body : (b : Body Bytes) → kindOf b ≡ K.Relation → (ms : List (Member Bytes)) × (b ≡ members ms)
+relation-body (place lat lon) e = no (cc)
+relation-body (refs rs) e = no (cc)
+relation-body (members ms) e = (ms, refl)
 
-module _ (r : Reader) (s : Staged) (sane : Sane r) (has : r .staged ≡ some s) where
-  -- the kind that is to be staged
-  kept-there : keptIn (r .place) ≡ some (kindOf (s .held .body))
-  kept-there = sym (sane .same) ∙ ap stagedKind has
+module _ (line : Bytes) (r : Reader) (agrees : KindAgrees r) (q : Place) where
+  pub has-refs : (z : ℤ) → decide line (r .place) ≡ refers q z → (rs : List ℤ) × (r .staged .held .body ≡ refs rs)
+  has-refs z e = let l : Lawful (r .place) (refers q z) = rw e at (decide-lawful line (r .place)) in way-body (r .staged .held .body) (agrees ∙ l .1 .0)
 
-  start-grows : (x : Bool) (n : Bytes) (as1 : List Attr) (o : Opened) → opened x (nameOf n) (r .place) ≡ o → Leads x (nameOf n) (r .place) o
-      → {t : Turn} {y : Staged} → turnOn (starts x n as1) r ≡ got t → t .reader .staged ≡ some y
-      → y ≡ withChildren s (tagIn (starts x n as1)) (refIn (starts x n as1)) (memberIn (starts x n as1))
-  unfolding turnOn
-  start-grows x n as1 O.Misplaced e l h g = no (cc (rw e at h))
-  start-grows x n as1 O.OutsideSection e l h g = no (cc (rw e at h))
-  start-grows x n as1 (O.Goes q) e l h g = rw (l .no-child (kindOf (s .held .body)) kept-there) (left-staged (rw e at h) has g ∙ sym (with-none s))
-  start-grows x n as1 (O.Begins k q) e l h g = let z = kept-there ∙ refl in no (cc (l .outside))
-  start-grows x n as1 (O.Holds c q) e l h g = rw (l .child) (child-grows r s sane has x n as1 q c e h g)
+  pub has-members : (m : Member Bytes) → decide line (r .place) ≡ joins q m → (ms : List (Member Bytes)) × (r .staged .held .body ≡ members ms)
+  has-members m e = let l : Lawful (r .place) (joins q m) = rw e at (decide-lawful line (r .place)) in relation-body (r .staged .held .body) (agrees ∙ l .1 .0)
 
-  close-grows : (l : Level) → {t : Turn} {y : Staged} → _≡_ {A = Field Turn} (got (closing l r)) (got t) → t .reader .staged ≡ some y → y ≡ s
-  close-grows L.Element {t} h g = let q : closing L.Element r ≡ t = cc in let z : none ≡ some _ = ap (λ (u : Turn). u .reader .staged) q ∙ g in no (cc)
-  close-grows L.Doc h g = left-staged h has g
-  close-grows L.Root h g = left-staged h has g
-  close-grows L.Section h g = left-staged h has g
-  close-grows L.Leaf h g = left-staged h has g
-  close-grows L.Other h g = left-staged h has g
-  close-grows L.Done h g = left-staged h has g
+-- what a line leaves of an element that stays open
+pub record Grows (r : Reader) (c : Children) (t : Turn) : Type 0 where
+  pub staged : t .reader .staged ≡ withChildren (r .staged) c
+  pub section : t .reader .place .section ≡ r .place .section
 
-  event-grows : (e : Event) {t : Turn} {y : Staged} → turnOn e r ≡ got t → t .reader .staged ≡ some y → y ≡ withChildren s (tagIn e) (refIn e) (memberIn e)
-  unfolding turnOn
-  event-grows (starts x n as1) h g = start-grows x n as1 (opened x (nameOf n) (r .place)) refl (leads x (nameOf n) (r .place)) h g
-  event-grows closes h g = close-grows (r .place .level) h g ∙ sym (with-none s)
-  event-grows others h g = left-staged h has g ∙ sym (with-none s)
+module _ (r : Reader) (inside : isInside (r .place .level) ≡ true) (pushing : Pushing (r .place)) where
+  abbrev Growing : Children → Field Turn → Type 0
+  Growing c = OfTurn (λ t. isInside (t .reader .place .level) ≡ true → Grows r c t)
 
--- ---- the events between an element's opening and its close
+  start-grows : (e : Bool) (n : Name) (attrs : List Attr) (o : Opened) {d : Decision} → Leads e n (r .place) o → Starts (r .place) e attrs o d → Growing (childIn (childNamed n) attrs) (turnOf d r)
+  unfolding turnOf
+  start-grows e n attrs o l (D.refuse x) = tt
+  start-grows e n attrs o l D.goes = λ i. record { staged = rw (l .inside inside .1) (with-none (r .staged)); section = l .inside inside .0 }
+  start-grows e n attrs o l (D.begin s i j b) = clash inside (l .outside)
+  start-grows e n attrs o l (D.delete s i j) = clash inside (l .outside)
+  start-grows e n attrs o l (D.tag {t = t} s f) = λ i. record { staged = rw (l .child, f) (grows-by (r .staged) _ (grown-none (r .staged) (r .staged .held .body) (t ∷ [])) refl); section = l .section }
+  start-grows e n attrs o l (D.ref {z = z} s f) = λ i. record { staged = rw (l .child, f) (grows-by (r .staged) _ (grown-ref (r .staged) z (r .staged .held .body)) (sym (append-nil (r .staged .held .tags)))); section = l .section }
+  start-grows e n attrs o l (D.member {m = m} s f) = λ i. record { staged = rw (l .child, f) (grows-by (r .staged) _ (grown-member (r .staged) m (r .staged .held .body)) (sym (append-nil (r .staged .held .tags)))); section = l .section }
+  start-grows e n attrs o l (D.drop s c) = absurd (pushing s)
 
-grown-more : (b : Body Bytes) (zs ws : List ℤ) (xs ys : List (Member Bytes)) → grown (grown b zs xs) ws ys ≡ grown b (zs ++ ws) (xs ++ ys)
-grown-more (place lat lon) zs ws xs ys = refl
-grown-more (refs rs) zs ws xs ys = ap refs (append-assoc rs zs ws)
-grown-more (members ms) zs ws xs ys = ap members (append-assoc ms xs ys)
+  line-grows : {x : Reading} {d : Decision} → Decides (r .place) x d → Growing (childrenIn x) (turnOf d r)
+  unfolding turnOf closed closedTo
+  line-grows D.bad-line = tt
+  line-grows (D.start {e = e} {n = n} {attrs = attrs} s) = start-grows e (nameOf n) attrs (opened e (nameOf n) (r .place)) (leads e (nameOf n) (r .place)) s
+  line-grows (D.end l s) = rw l (λ i. clash i refl)
+  line-grows (D.close h) = λ i. record { staged = with-none (r .staged); section = refl }
+  line-grows D.other = λ i. record { staged = with-none (r .staged); section = refl }
 
--- a reader takes events, one after the other, and has something staged after each
-pub data Inside : Reader → List Event → Reader → Type 0 where
+-- ---- the lines between an element's opening and its close
+
+-- a reader takes lines, one after the other, and stands inside an element after each
+pub data Inside : Reader → List Bytes → Reader → Type 0 where
   here : {r : Reader} → Inside r [] r
-  next : {r q : Reader} {e : Event} {es : List Event} {t : Turn} {s : Staged} → turnOn e r ≡ got t → t .reader .staged ≡ some s → Inside (t .reader) es q → Inside r (e ∷ es) q
+  next : {r q : Reader} {line : Bytes} {lines : List Bytes} {t : Turn} → turn line r ≡ got t → isInside (t .reader .place .level) ≡ true → Inside (t .reader) lines q → Inside r (line ∷ lines) q
 
--- then its children are those of the events, in their order
-pub children-kept : {r q : Reader} {es : List Event} (s : Staged) → Sane r → r .staged ≡ some s → Inside r es q
-    → q .staged ≡ some (withChildren s (each tagIn es) (each refIn es) (each memberIn es))
-unfolding each
-children-kept s sane has here = has ∙ ap {B = Option Staged} some (sym (with-none s))
-children-kept {r} {es = e ∷ es} s sane has (next {s = y} h g k) =
-    let i = children-kept y (event-sane e r sane h) g k in
-    let c = event-grows r s sane has e h g in
-    i ∙ ap {B = Option Staged} some (ap (λ (z : Staged). withChildren z (each tagIn es) (each refIn es) (each memberIn es)) c
-    ∙ (λ j. record {
-      id = s .id;
-      held = record {
-        meta = s .held .meta;
-        body = grown-more (s .held .body) (refIn e) (each refIn es) (memberIn e) (each memberIn es) j;
-        tags = append-assoc (s .held .tags) (tagIn e) (each tagIn es) j;
-      };
-    }))
+grown-more : (b : Body Bytes) (c d : Children) → grown (grown b c) d ≡ grown b (joined c d)
+grown-more (place lat lon) c d = refl
+grown-more (refs rs) c d = ap refs (append-assoc rs (c .refs) (d .refs))
+grown-more (members ms) c d = ap members (append-assoc ms (c .members) (d .members))
 
--- the opening of an element that is to be pushed, the events inside it, and its close: the push of its record
-pub element-pushed : (r : Reader) → Sane r → (n : Bytes) (as1 : List Attr) (k : Kind) (p : Place) → opened false (nameOf n) (r .place) ≡ O.Begins k p → (r .place .section ≡ A.Delete → ⊥)
-    → (b : Begun k as1) {t : Turn} {es : List Event} {q : Reader} → turnOn (starts false n as1) r ≡ got t → Inside (t .reader) es q → q .place .level ≡ L.Element
-    → actIn (turnOn closes q) ≡ some (push (b .named .id) (record { meta = b .named .meta; body = grown (b .body) (each refIn es) (each memberIn es); tags = each tagIn es }))
-unfolding turnOn
-element-pushed r sane n as1 k p o d b {t} {es} {q} h i l =
-    let s : Staged = record { id = b .named .id; held = recordOf b } in
-    let f : got (stages false p (b .named .id) (b .named .meta) (b .body)) ≡ got t = sym (rw (o, begun-stages (r .place .section) false p d b)) ∙ h in
-    let e : stages false p (b .named .id) (b .named .meta) (b .body) ≡ t = cc in
-    let g : t .reader .staged ≡ some s = ap (λ (u : Turn). u .reader .staged) (sym e) in
-    rw (l, children-kept s (event-sane (starts false n as1) r sane h) g i)
+-- then its children are those of the lines, in their order, and its section is the same
+pub children-kept : {r q : Reader} {lines : List Bytes} → isInside (r .place .level) ≡ true → Pushing (r .place) → Inside r lines q
+    → (q .staged ≡ withChildren (r .staged) (childrenOf lines)) × Pushing (q .place)
+unfolding childrenOf turn decide
+children-kept {r} h s here = (with-none (r .staged), s)
+children-kept {r} {lines = line ∷ lines} h s (next {t = t} e k i) =
+    let g = of-turn (λ (u : Turn). isInside (u .reader .place .level) ≡ true → Grows r (childrenIn (eventOf line)) u) (line-grows r h s (decided (r .place) (eventOf line))) e k in
+    let f = children-kept k (λ x. s (sym (g .section) ∙ x)) i in (
+      f .0 ∙ ap (λ (y : Staged). withChildren y (childrenOf lines)) (g .staged)
+          ∙ grows-by (r .staged) (joined (childrenIn (eventOf line)) (childrenOf lines)) (grown-more (r .staged .held .body) _ _) (append-assoc (r .staged .held .tags) _ _),
+      f .1,
+    )
+
+-- an element that begins stands open, in a section that pushes
+start-begins : (p : Place) (e : Bool) (n : Name) (attrs : List Attr) (o : Opened) {q : Place} {id : ℤ} {m : Meta Bytes} {b : Body Bytes} → Leads e n p o → Starts p e attrs o (begins false q id m b)
+    → (isInside (q .level) ≡ true) × Pushing q
+start-begins p e n attrs o l (D.begin s i j b) = rw (l .leads-to) (refl, s)
+
+line-begins : (p : Place) (x : Reading) {q : Place} {id : ℤ} {m : Meta Bytes} {b : Body Bytes} → Decides p x (begins false q id m b) → (isInside (q .level) ≡ true) × Pushing q
+line-begins p x (D.start {e = e} {n = n} {attrs = attrs} s) = start-begins p e (nameOf n) attrs (opened e (nameOf n) p) (leads e (nameOf n) p) s
+
+-- the opening of an element that is to be pushed (where exactly, decision.proofs.Decided says), the lines inside it, and its close: the push of its record
+pub element-pushed : (r : Reader) {q : Reader} (line last : Bytes) {lines : List Bytes} {t : Turn} {p : Place} {id : ℤ} {m : Meta Bytes} {b : Body Bytes}
+    → decide line (r .place) ≡ begins false p id m b → turn line r ≡ got t → Inside (t .reader) lines q → q .place .level ≡ L.Element → eventOf last ≡ reads closes
+    → actIn (turn last q) ≡ some (push id (record { meta = m; body = grown b (childrenOf lines); tags = childrenOf lines .tags }))
+unfolding turn turnOf decide
+element-pushed r {q} line last {lines} {t} {p} {id = id} {m = m} {b = b} d e i l c =
+    let a : Reader = record { place = p; staged = record { id = id; held = first m b } } in
+    let u : Turn = record { reader = a; texts = userText m; act = none } in
+    let f : got u ≡ got t = rw d at e in
+    let h : u ≡ t = cc in
+    let g = line-begins (r .place) (eventOf line) (decide-exactly line (r .place) _ .0 d) in
+    let k = children-kept {r = a} (g .0) (g .1) (subst (λ (y : Turn). Inside (y .reader) lines q) (sym h) i) in
+    rw (c, decides-so (q .place) (D.end l (k .1)), k .0)
+
+-- ---- a `delete` section
+
+-- "children are checked and dropped": whatever is taken inside an element there takes no text in, makes no act and puts nothing together
+pub record Drops (r : Reader) (t : Turn) : Type 0 where
+  pub staged : t .reader .staged ≡ r .staged
+  pub texts : t .texts ≡ []
+  pub act : t .act ≡ none
+
+module _ (r : Reader) (inside : isInside (r .place .level) ≡ true) (deleting : r .place .section ≡ A.Delete) where
+  start-drops : (e : Bool) (n : Name) (attrs : List Attr) (o : Opened) {d : Decision} → Leads e n (r .place) o → Starts (r .place) e attrs o d → OfTurn (Drops r) (turnOf d r)
+  unfolding turnOf
+  start-drops e n attrs o l (D.refuse x) = tt
+  start-drops e n attrs o l D.goes = record { staged = refl; texts = refl; act = refl }
+  start-drops e n attrs o l (D.begin s i j b) = clash inside (l .outside)
+  start-drops e n attrs o l (D.delete s i j) = clash inside (l .outside)
+  start-drops e n attrs o l (D.tag s f) = absurd (s deleting)
+  start-drops e n attrs o l (D.ref s f) = absurd (s deleting)
+  start-drops e n attrs o l (D.member s f) = absurd (s deleting)
+  start-drops e n attrs o l (D.drop s c) = record { staged = refl; texts = refl; act = refl }
+
+  line-drops : {x : Reading} {d : Decision} → Decides (r .place) x d → OfTurn (Drops r) (turnOf d r)
+  unfolding turnOf
+  line-drops D.bad-line = tt
+  line-drops (D.start {e = e} {n = n} {attrs = attrs} s) = start-drops e (nameOf n) attrs (opened e (nameOf n) (r .place)) (leads e (nameOf n) (r .place)) s
+  line-drops (D.end l s) = absurd (s deleting)
+  line-drops (D.close h) = record { staged = refl; texts = refl; act = refl }
+  line-drops D.other = record { staged = refl; texts = refl; act = refl }
+
+  pub delete-drops : (line : Bytes) {t : Turn} → turn line r ≡ got t → Drops r t
+  unfolding turn decide
+  delete-drops line e = of-turn (Drops r) (line-drops (decided (r .place) (eventOf line))) e

@@ -1,10 +1,4 @@
-pub mod Fields
-pub mod Metadata
-pub mod Refusals
 pub mod Turns
-pub mod Staging
 pub mod Elements
 pub mod Changes
-pub mod Taken
 pub mod Calls
-pub mod Examples

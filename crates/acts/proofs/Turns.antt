@@ -1,210 +1,220 @@
--- Where an event makes an act, and that it makes none elsewhere.
-use mathlib.Core.Path.{_≡_, refl, _∙_}
+-- What a turn comes to: where it makes an act and that it makes none elsewhere, the texts that it takes in, and what every turn keeps of its reader.
+use mathlib.Core.Path.{_≡_, refl, sym, _∙_}
 use mathlib.Core.Bool.{Bool, true, false}
-use mathlib.Core.Logic.{_↔_, _⊎_, inl, inr, ⊎-elim}
+use mathlib.Core.Logic.{_↔_}
 use mathlib.Core.Option.{Option, none, some}
-use mathlib.Core.List.{List, []}
+use mathlib.Core.List.{List, [], _∷_}
 use lib.IntN.{ℤ}
-use mir.Syntax.{w64}
-use mir.Val.{SFits}
 use Rattle.base.specs.Ascii.{ascii}
-use Rattle.base.specs.Bytes.{Bytes}
-use Rattle.base.proofs.Split.{no}
-use Rattle.refusal.specs.declared.Refusal.{Refusal}
+use Rattle.base.specs.Bytes.{Bytes, all}
+use Rattle.base.proofs.Split.{byBool, no}
+use Rattle.base.proofs.Lists.{all-nil, all-cons}
+use Rattle.refusal.specs.First.{firstOf}
 use Rattle.kind.specs.declared.Kind.{Kind}
 use Rattle.kind.specs.declared.Kind.the-variants as K
 use Rattle.nesting.specs.Name.{nameOf}
 use Rattle.nesting.specs.Nesting.{opened}
-use Rattle.nesting.specs.declared.Action.{Action}
 use Rattle.nesting.specs.declared.Action.the-variants as A
-use Rattle.nesting.specs.declared.Level.{Level}
 use Rattle.nesting.specs.declared.Level.the-variants as L
 use Rattle.nesting.specs.declared.Place.{Place}
-use Rattle.nesting.specs.declared.Child.{Child}
-use Rattle.nesting.specs.declared.Child.the-variants as C
 use Rattle.nesting.specs.declared.Opened.{Opened}
 use Rattle.nesting.specs.declared.Opened.the-variants as O
-use Rattle.model.specs.Record.{Meta, Body, place, Record, claimOf}
+use Rattle.model.specs.Record.{Meta, Member, Body, place, refs, members, flagged, claimOf, kindOf}
 use Rattle.model.specs.Act.{Act, push, delete}
-use Rattle.event.specs.Event.{Attr, Event, starts, closes, others, Reading, reads, refused, eventOf}
-use Rattle.acts.specs.Field.{Field, got, bad, andThen, integerField, latitude, longitude, metaOf, tagOf, refOf, memberOf}
-use Rattle.acts.specs.Turn.{Staged, Reader, Turn, bodyFor, stages, pushBegins, deleteBegins, begins, addsTo, holds, starting, pushed, closing, turnOn, turnFor, turn}
-use Rattle.acts.proofs.Fields.{then-got, then-bad, last-bad, integer-fits}
+use Rattle.event.specs.Event.{Attr, starts, closes, others, Reading, reads, refused, eventOf, valueOf, orEmpty}
+use Rattle.field.specs.Field.{Field, got, bad, idOf, metaOf, bodyFor}
+use Rattle.field.proofs.Fields.{value-all, tag-got, member-got}
+use Rattle.field.proofs.Metadata.{meta-user}
+use Rattle.decision.specs.Decision.{Decision, refuses, moves, begins, deletes, tags, refers, joins, ends, decideReading, decide}
+use Rattle.decision.specs.Table.{refusalIn, decideTable}
+use Rattle.decision.proofs.Table.{refusalOf, decide-first}
+use Rattle.decision.proofs.Lawful.{Lawful, decide-lawful}
+use Rattle.decision.proofs.Decided.{Pushing, Starts, Decides, decided, decides-so}
+use Rattle.decision.proofs.Decided as D
+use Rattle.acts.specs.Turn.{Reader, fresh, Turn, first, userText, noBody, bodyWithRef, bodyWithMember, turnOf, turn}
+
+-- what is true of a turn, where there is one
+abbrev pub OfTurn : (Turn → Type 0) → Field Turn → Type 0
+OfTurn P (got t) = P t
+OfTurn P (bad r) = Unit {0}
+
+pub of-turn : (P : Turn → Type 0) {f : Field Turn} {t : Turn} → OfTurn P f → f ≡ got t → P t
+of-turn P h e = rw e at h
 
 -- "An `other` event does nothing."
-pub other-does-nothing : (r : Reader) → turnOn others r ≡ got (record { reader = r; texts = []; act = none })
-unfolding turnOn
-other-does-nothing r = refl
+pub other-does-nothing : (line : Bytes) (r : Reader) → eventOf line ≡ reads others → turn line r ≡ got (record { reader = r; texts = []; act = none })
+unfolding turn turnOf decide
+other-does-nothing line r e = rw (e, decides-so (r .place) D.other)
 
--- ---- an element begins
+-- ---- refusals
 
--- the fields of an element that is to be deleted
-pub record Named (as1 : List Attr) : Type 0 where
-  pub id : ℤ
-  pub meta : Meta Bytes
-  pub has-id : integerField w64 (ascii "id") as1 ≡ got id
-  pub has-meta : metaOf as1 ≡ got meta
+refused-so : (d : Decision) (r : Reader) → refusalOf (turnOf d r) ≡ refusalIn d
+unfolding turnOf
+refused-so (refuses x) r = refl
+refused-so (moves p) r = refl
+refused-so (begins true p id m b) r = refl
+refused-so (begins false p id m b) r = refl
+refused-so (deletes k p id m) r = refl
+refused-so (tags p t) r = refl
+refused-so (refers p z) r = refl
+refused-so (joins p m) r = refl
+refused-so (ends p) r = refl
 
-pub id-fits : {as1 : List Attr} (d : Named as1) → SFits w64 (d .id)
-id-fits {as1} d = integer-fits (ascii "id") as1 w64 (d .has-id)
-
--- and of one that is to be pushed
-pub record Begun (k : Kind) (as1 : List Attr) : Type 0 where
-  pub named : Named as1
-  pub body : Body Bytes
-  pub has-body : bodyFor k as1 ≡ got body
-
-abbrev pub recordOf : {k : Kind} {as1 : List Attr} → Begun k as1 → Record Bytes
-recordOf b = record { meta = b .named .meta; body = b .body; tags = [] }
-
--- a node's place: lat7, then lon7
-pub node-place : (as1 : List Attr) (lat lon : ℤ) → (bodyFor K.Node as1 ≡ got (place lat lon)) ↔ ((latitude as1 ≡ got lat) × (longitude as1 ≡ got lon))
-node-place as1 lat lon = (
-  λ e.
-      let x = then-got _ (latitude as1) e in
-      let y = then-got _ (longitude as1) (x .1 .1) in
-      let q : got (place (x .0) (y .0)) ≡ got (place lat lon) = y .1 .1 in
-      (x .1 .0 ∙ cc, y .1 .0 ∙ cc),
-  λ h. rw (h .0, h .1),
-)
-
--- which field refuses an element: "id; then metadata in line order; then a pushed node's lat7; then lon7"
-pub node-bad : (as1 : List Attr) (x : Refusal) → (bodyFor K.Node as1 ≡ bad x) ↔ ((latitude as1 ≡ bad x) ⊎ ((lat : ℤ) × ((latitude as1 ≡ got lat) × (longitude as1 ≡ bad x))))
-node-bad as1 x = (
-  λ e. ⊎-elim inl (λ t. inr (t .0, (t .1 .0, last-bad _ (longitude as1) x .0 (t .1 .1)))) (then-bad _ (latitude as1) x .0 e),
-  λ s. ⊎-elim (λ b. rw b) (λ t. rw (t .1 .0, t .1 .1)) s,
-)
-
-pub delete-bad : (k : Kind) (p : Place) (as1 : List Attr) (x : Refusal) → (deleteBegins k p as1 ≡ bad x)
-    ↔ ((integerField w64 (ascii "id") as1 ≡ bad x) ⊎ ((id : ℤ) × ((integerField w64 (ascii "id") as1 ≡ got id) × (metaOf as1 ≡ bad x))))
-delete-bad k p as1 x = (
-  λ e. ⊎-elim inl (λ t. inr (t .0, (t .1 .0, last-bad _ (metaOf as1) x .0 (t .1 .1)))) (then-bad _ (integerField w64 (ascii "id") as1) x .0 e),
-  λ s. ⊎-elim (λ b. rw b) (λ t. rw (t .1 .0, t .1 .1)) s,
-)
-
-pub push-bad : (e : Bool) (k : Kind) (p : Place) (as1 : List Attr) (x : Refusal) → (pushBegins e k p as1 ≡ bad x)
-    ↔ ((deleteBegins k p as1 ≡ bad x) ⊎ (Named as1 × (bodyFor k as1 ≡ bad x)))
-push-bad e k p as1 x = (
-  λ h. ⊎-elim
-      (λ b. inl (rw b))
-      (λ i. ⊎-elim
-      (λ b. inl (rw (i .1 .0, b)))
-      (λ m. inr (record { id = i .0; meta = m .0; has-id = i .1 .0; has-meta = m .1 .0 }, last-bad _ (bodyFor k as1) x .0 (m .1 .1)))
-      (then-bad _ (metaOf as1) x .0 (i .1 .1)))
-      (then-bad _ (integerField w64 (ascii "id") as1) x .0 h),
-  λ s. ⊎-elim
-      (λ d. ⊎-elim (λ b. rw b) (λ t. rw (t .1 .0, t .1 .1)) (delete-bad k p as1 x .0 d))
-      (λ b. rw (b .0 .has-id, b .0 .has-meta, b .1))
-      s,
-)
+-- a line is refused by the first row of its table that holds, at the place of its reader and whatever that has put together
+pub turn-first : (line : Bytes) (r : Reader) → refusalOf (turn line r) ≡ firstOf (decideTable line (r .place))
+unfolding turn
+turn-first line r = refused-so (decide line (r .place)) r ∙ decide-first line (r .place)
 
 -- ---- acts
-
--- an event of a reader makes an act
-pub data Made (r : Reader) : Event → Act Bytes → Type 0 where
-  -- the close of an element with something staged
-  at-close : {s : Staged} → r .place .level ≡ L.Element → r .staged ≡ some s → Made r closes (push (s .id) (s .held))
-  -- an empty element in a section that is not `delete`
-  at-empty : {n : Bytes} {as1 : List Attr} {k : Kind} {p : Place} → opened true (nameOf n) (r .place) ≡ O.Begins k p → (r .place .section ≡ A.Delete → ⊥)
-      → (b : Begun k as1) → Made r (starts true n as1) (push (b .named .id) (recordOf b))
-  -- the opening of an element, empty or not, in a `delete` section
-  at-opening : {e : Bool} {n : Bytes} {as1 : List Attr} {k : Kind} {p : Place} → opened e (nameOf n) (r .place) ≡ O.Begins k p → r .place .section ≡ A.Delete
-      → (d : Named as1) → Made r (starts e n as1) (delete k (d .id) (claimOf (d .meta)))
 
 -- the act of what an event comes to, if there is one
 abbrev pub actIn : Field Turn → Option (Act Bytes)
 actIn (got t) = t .act
 actIn (bad x) = none
 
-act-then : {A : Type 0} (f : Field A) (g : A → Field Turn) {a : Act Bytes} → actIn (andThen f g) ≡ some a → (x : A) × ((f ≡ got x) × (actIn (g x) ≡ some a))
-act-then (got x) g h = (x, (refl, h))
-act-then (bad r) g h = no (cc)
-
--- a child makes none
-silent : (o : Option Staged) (p : Place) (ts : List Bytes) (f : Record Bytes → Record Bytes) {a : Act Bytes} → addsTo o p ts f .act ≡ some a → ⊥
-silent none p ts f h = no (cc)
-silent (some s) p ts f h = no (cc)
+-- a line makes an act, by what it reads as
+pub data Made (r : Reader) : Reading → Act Bytes → Type 0 where
+  -- the close of an element in a `create` or `modify` section
+  at-close : r .place .level ≡ L.Element → Pushing (r .place) → Made r (reads closes) (push (r .staged .id) (r .staged .held))
+  -- an empty element there
+  at-empty : {n : Bytes} {attrs : List Attr} {k : Kind} {q : Place} {id : ℤ} {m : Meta Bytes} {b : Body Bytes} → opened true (nameOf n) (r .place) ≡ O.Begins k q → Pushing (r .place)
+      → idOf attrs ≡ got id → metaOf attrs ≡ got m → bodyFor k attrs ≡ got b → Made r (reads (starts true n attrs)) (push id (first m b))
+  -- the opening of an element, empty or not, in a `delete` section
+  at-opening : {e : Bool} {n : Bytes} {attrs : List Attr} {k : Kind} {q : Place} {id : ℤ} {m : Meta Bytes} → opened e (nameOf n) (r .place) ≡ O.Begins k q → r .place .section ≡ A.Delete
+      → idOf attrs ≡ got id → metaOf attrs ≡ got m → Made r (reads (starts e n attrs)) (delete k id (claimOf m))
 
 module _ (r : Reader) {a : Act Bytes} where
-  staged-makes : (o : Option Staged) → r .place .level ≡ L.Element → r .staged ≡ o → pushed o ≡ some a → Made r closes a
-  staged-makes none e p h = no (cc)
-  staged-makes (some s) e p h = let q : push (s .id) (s .held) ≡ a = cc in rw (← q) (at-close e p)
+  begin-makes : (e : Bool) {n : Bytes} {attrs : List Attr} {k : Kind} {q : Place} (id : ℤ) (m : Meta Bytes) (b : Body Bytes) → opened e (nameOf n) (r .place) ≡ O.Begins k q → Pushing (r .place)
+      → idOf attrs ≡ got id → metaOf attrs ≡ got m → bodyFor k attrs ≡ got b → actIn (turnOf (begins e q id m b) r) ≡ some a → Made r (reads (starts e n attrs)) a
+  unfolding turnOf
+  begin-makes true id m b o h i j x e = let s : push id (first m b) ≡ a = cc in rw (← s) (at-empty o h i j x)
+  begin-makes false id m b o h i j x e = no (cc)
 
-  close-makes : (l : Level) → r .place .level ≡ l → closing l r .act ≡ some a → Made r closes a
-  close-makes L.Element e h = staged-makes (r .staged) e refl h
-  close-makes L.Doc e h = no (cc)
-  close-makes L.Root e h = no (cc)
-  close-makes L.Section e h = no (cc)
-  close-makes L.Leaf e h = no (cc)
-  close-makes L.Other e h = no (cc)
-  close-makes L.Done e h = no (cc)
+  start-makes : (e : Bool) {n : Bytes} {attrs : List Attr} {d : Decision} (o : Opened) → opened e (nameOf n) (r .place) ≡ o → Starts (r .place) e attrs o d
+      → actIn (turnOf d r) ≡ some a → Made r (reads (starts e n attrs)) a
+  unfolding turnOf
+  start-makes e o h (D.begin {id = id} {m = m} {b = b} p i j x) y = begin-makes e id m b h p i j x y
+  start-makes e o h (D.delete {k = k} {id = id} {m = m} s i j) y = let z : delete k id (claimOf m) ≡ a = cc in rw (← z) (at-opening h s i j)
+  start-makes e o h (D.refuse x) y = no (cc)
+  start-makes e o h D.goes y = no (cc)
+  start-makes e o h (D.tag p f) y = no (cc)
+  start-makes e o h (D.ref p f) y = no (cc)
+  start-makes e o h (D.member p f) y = no (cc)
+  start-makes e o h (D.drop s c) y = no (cc)
 
-  module _ {n : Bytes} {as1 : List Attr} {k : Kind} {p : Place} where
-    ends-makes : (e : Bool) → opened e (nameOf n) (r .place) ≡ O.Begins k p → (r .place .section ≡ A.Delete → ⊥) → (b : Begun k as1)
-        → stages e p (b .named .id) (b .named .meta) (b .body) .act ≡ some a → Made r (starts e n as1) a
-    ends-makes true o d b h = let q : push (b .named .id) (recordOf b) ≡ a = cc in rw (← q) (at-empty o d b)
-    ends-makes false o d b h = no (cc)
+  makes : {x : Reading} {d : Decision} → Decides (r .place) x d → actIn (turnOf d r) ≡ some a → Made r x a
+  unfolding turnOf
+  makes D.bad-line y = no (cc)
+  makes (D.start {e = e} {n = n} s) y = start-makes e (opened e (nameOf n) (r .place)) refl s y
+  makes (D.end l p) y = let z : push (r .staged .id) (r .staged .held) ≡ a = cc in rw (← z) (at-close l p)
+  makes (D.close h) y = no (cc)
+  makes D.other y = no (cc)
 
-    push-makes : (e : Bool) → opened e (nameOf n) (r .place) ≡ O.Begins k p → (r .place .section ≡ A.Delete → ⊥) → actIn (pushBegins e k p as1) ≡ some a → Made r (starts e n as1) a
-    push-makes e o d h =
-        let i = act-then (integerField w64 (ascii "id") as1) _ h in
-        let m = act-then (metaOf as1) _ (i .1 .1) in
-        let b = act-then (bodyFor k as1) _ (m .1 .1) in
-        let x : Begun k as1 = record { named = record { id = i .0; meta = m .0; has-id = i .1 .0; has-meta = m .1 .0 }; body = b .0; has-body = b .1 .0 } in
-        ends-makes e o d x (b .1 .1)
+started : (p : Place) (e : Bool) (n : Bytes) (attrs : List Attr) {o : Opened} {d : Decision} → opened e (nameOf n) p ≡ o → Starts p e attrs o d
+    → decideReading (reads (starts e n attrs)) p ≡ d
+started p e n attrs h s = decides-so p (D.start {e = e} {n = n} {attrs = attrs} (rw h s))
 
-    delete-makes : (e : Bool) → opened e (nameOf n) (r .place) ≡ O.Begins k p → r .place .section ≡ A.Delete → actIn (deleteBegins k p as1) ≡ some a → Made r (starts e n as1) a
-    delete-makes e o d h =
-        let i = act-then (integerField w64 (ascii "id") as1) _ h in
-        let m = act-then (metaOf as1) _ (i .1 .1) in
-        let q : delete k (i .0) (claimOf (m .0)) ≡ a = cc (m .1 .1) in
-        rw (← q) (at-opening o d (record { id = i .0; meta = m .0; has-id = i .1 .0; has-meta = m .1 .0 }))
+made : (r : Reader) {x : Reading} {a : Act Bytes} → Made r x a → actIn (turnOf (decideReading x (r .place)) r) ≡ some a
+unfolding turnOf
+made r (at-close l p) = rw (decides-so (r .place) (D.end l p))
+made r (at-empty {n = n} {attrs = attrs} o p i j x) = rw (started (r .place) true n attrs o (D.begin p i j x))
+made r (at-opening {e = e} {n = n} {attrs = attrs} o s i j) = rw (started (r .place) e n attrs o (D.delete s i j))
 
-    begin-makes : (e : Bool) (s : Action) → opened e (nameOf n) (r .place) ≡ O.Begins k p → r .place .section ≡ s → actIn (begins s e k p as1) ≡ some a → Made r (starts e n as1) a
-    begin-makes e A.Create o d h = push-makes e o (λ x. no (cc)) h
-    begin-makes e A.Modify o d h = push-makes e o (λ x. no (cc)) h
-    begin-makes e A.Delete o d h = delete-makes e o d h
+-- an act is made exactly there
+pub act-made : (line : Bytes) (r : Reader) (a : Act Bytes) → (actIn (turn line r) ≡ some a) ↔ Made r (eventOf line) a
+unfolding turn decide
+act-made line r a = (λ h. makes r (decided (r .place) (eventOf line)) h, λ h. made r h)
 
-  child-makes : (c : Child) (p : Place) (as1 : List Attr) → actIn (holds c r p as1) ≡ some a → ⊥
-  child-makes C.Tag p as1 h = let t = act-then (tagOf as1) _ h in silent (r .staged) p _ _ (t .1 .1)
-  child-makes C.Nd p as1 h = let t = act-then (refOf as1) _ h in silent (r .staged) p _ _ (t .1 .1)
-  child-makes C.Member p as1 h = let t = act-then (memberOf as1) _ h in silent (r .staged) p _ _ (t .1 .1)
+-- ---- the reader
 
-  start-makes : (o : Opened) {e : Bool} {n : Bytes} {as1 : List Attr} → opened e (nameOf n) (r .place) ≡ o → actIn (starting o e r as1) ≡ some a → Made r (starts e n as1) a
-  start-makes O.Misplaced q h = no (cc)
-  start-makes O.OutsideSection q h = no (cc)
-  start-makes (O.Goes p) q h = no (cc)
-  start-makes (O.Begins k p) {e = e} q h = begin-makes e (r .place .section) q refl h
-  start-makes (O.Holds c p) {as1 = as1} q h = absurd (child-makes c p as1 h)
+-- the element that a reader puts together is of the kind that stands open there
+abbrev pub KindAgrees : Reader → Type 0
+KindAgrees r = kindOf (r .staged .held .body) ≡ r .place .kind
 
-  makes : (e : Event) → actIn (turnOn e r) ≡ some a → Made r e a
-  unfolding turnOn
-  makes (starts e n as1) h = start-makes (opened e (nameOf n) (r .place)) refl h
-  makes closes h = close-makes (r .place .level) refl h
-  makes others h = no (cc)
+no-body-kind : (k : Kind) → kindOf (noBody k) ≡ k
+no-body-kind K.Node = refl
+no-body-kind K.Way = refl
+no-body-kind K.Relation = refl
 
--- an element that is to be pushed is staged, or pushed at once
-pub begun-stages : (a : Action) (e : Bool) (p : Place) {k : Kind} {as1 : List Attr} → (a ≡ A.Delete → ⊥) → (b : Begun k as1)
-    → begins a e k p as1 ≡ got (stages e p (b .named .id) (b .named .meta) (b .body))
-begun-stages A.Create e p d b = rw (b .named .has-id, b .named .has-meta, b .has-body)
-begun-stages A.Modify e p d b = rw (b .named .has-id, b .named .has-meta, b .has-body)
-begun-stages A.Delete e p d b = absurd (d refl)
+ref-kind : (z : ℤ) (b : Body Bytes) → kindOf (bodyWithRef z b) ≡ kindOf b
+ref-kind z (place lat lon) = refl
+ref-kind z (refs rs) = refl
+ref-kind z (members ms) = refl
 
-made : {r : Reader} {e : Event} {a : Act Bytes} → Made r e a → actIn (turnOn e r) ≡ some a
-unfolding turnOn
-made (at-close e p) = rw (e, p)
-made {r} (at-empty {p = p} o d b) = rw (o, begun-stages (r .place .section) true p d b)
-made (at-opening o d x) = rw (o, d, x .has-id, x .has-meta)
+member-kind : (m : Member Bytes) (b : Body Bytes) → kindOf (bodyWithMember m b) ≡ kindOf b
+member-kind m (place lat lon) = refl
+member-kind m (refs rs) = refl
+member-kind m (members ms) = refl
 
--- an event makes an act exactly there
-pub act-made : (e : Event) (r : Reader) (a : Act Bytes) → (actIn (turnOn e r) ≡ some a) ↔ Made r e a
-act-made e r a = (λ h. makes r e h, λ h. made h)
+pub fresh-agrees : KindAgrees fresh
+fresh-agrees = refl
 
--- the same of a line
-pub line-made : (s : Bytes) (r : Reader) (a : Act Bytes) → (actIn (turn s r) ≡ some a) ↔ ((e : Event) × ((eventOf s ≡ reads e) × Made r e a))
+agrees : (d : Decision) (r : Reader) → Lawful (r .place) d → KindAgrees r → OfTurn (λ t. KindAgrees (t .reader)) (turnOf d r)
+unfolding turnOf
+agrees (refuses x) r l h = tt
+agrees (moves p) r l h = h ∙ sym l
+agrees (begins true p id m b) r l h = no-body-kind (p .kind)
+agrees (begins false p id m b) r l h = sym (l .1 .1)
+agrees (deletes k p id m) r l h = no-body-kind (p .kind)
+agrees (tags p t) r l h = h ∙ sym (l .0)
+agrees (refers p z) r l h = ref-kind z (r .staged .held .body) ∙ h ∙ sym (l .0)
+agrees (joins p m) r l h = member-kind m (r .staged .held .body) ∙ h ∙ sym (l .0)
+agrees (ends p) r l h = no-body-kind (p .kind)
+
+-- every turn keeps that
+pub turn-agrees : (line : Bytes) (r : Reader) {t : Turn} → KindAgrees r → turn line r ≡ got t → KindAgrees (t .reader)
 unfolding turn
-line-made s r a = go (eventOf s)
-  where
-    go : (x : Reading) → (actIn (turnFor x r) ≡ some a) ↔ ((e : Event) × ((x ≡ reads e) × Made r e a))
-    go (reads e) = (λ h. (e, (refl, makes r e h)), λ t. let q : e ≡ t .0 = cc (t .1 .0) in rw q (made (t .1 .1)))
-    go (refused y) = (λ h. no (cc), λ t. no (cc (t .1 .0)))
+turn-agrees line r h e = of-turn (λ t. KindAgrees (t .reader)) (agrees (decide line (r .place)) r (decide-lawful line (r .place)) h) e
+
+-- ---- texts
+
+-- every value of a line passes a test
+abbrev pub valuesIn : (Bytes → Bool) → Reading → Bool
+valuesIn p (reads (starts e n attrs)) = all (λ a. p (a .value)) attrs
+valuesIn p (reads closes) = true
+valuesIn p (reads others) = true
+valuesIn p (refused r) = true
+
+-- the texts that an event takes in are values of its line, or empty: what holds of those holds of them
+module _ (p : Bytes → Bool) (empty : p [] ≡ true) where
+  abbrev Texts : Field Turn → Type 0
+  Texts = OfTurn (λ t. all p (t .texts) ≡ true)
+
+  one : {t : Bytes} → p t ≡ true → all p (t ∷ []) ≡ true
+  one {t} h = all-cons p t [] h (all-nil p)
+
+  user-all : (m : Meta Bytes) → p (m .user) ≡ true → all p (userText m) ≡ true
+  user-all m h = byBool (flagged 4 (m .flags)) (λ t. rw t (one h)) (λ t. rw t (all-nil p))
+
+  role-all : (attrs : List Attr) (o : Option Bytes) → all (λ a. p (a .value)) attrs ≡ true → valueOf (ascii "role") attrs ≡ o → p (orEmpty o) ≡ true
+  role-all attrs none h e = empty
+  role-all attrs (some v) h e = value-all p (ascii "role") attrs h e
+
+  module _ (r : Reader) where
+    begun-texts : (e : Bool) (q : Place) (id : ℤ) (m : Meta Bytes) (b : Body Bytes) → all p (userText m) ≡ true → Texts (turnOf (begins e q id m b) r)
+    unfolding turnOf
+    begun-texts true q id m b h = h
+    begun-texts false q id m b h = h
+
+    start-texts : (e : Bool) (attrs : List Attr) {d : Decision} {o : Opened} → all (λ a. p (a .value)) attrs ≡ true → Starts (r .place) e attrs o d → Texts (turnOf d r)
+    unfolding turnOf
+    start-texts e attrs h (D.refuse x) = tt
+    start-texts e attrs h D.goes = all-nil p
+    start-texts e attrs h (D.begin {q = q} {id = id} {m = m} {b = b} s i j x) = begun-texts e q id m b (user-all m (meta-user p attrs empty h j))
+    start-texts e attrs h (D.delete {m = m} s i j) = user-all m (meta-user p attrs empty h j)
+    start-texts e attrs h (D.tag {t = t} s f) = one (value-all p (ascii "k") attrs h (tag-got attrs t .0 f .0))
+    start-texts e attrs h (D.ref s f) = all-nil p
+    start-texts e attrs h (D.member {m = m} s f) = one (rw (member-got attrs m .0 f .1 .1) (role-all attrs (valueOf (ascii "role") attrs) h refl))
+    start-texts e attrs h (D.drop s c) = all-nil p
+
+    texts : {x : Reading} {d : Decision} → valuesIn p x ≡ true → Decides (r .place) x d → Texts (turnOf d r)
+    unfolding turnOf
+    texts h D.bad-line = tt
+    texts h (D.start {e = e} {attrs = attrs} s) = start-texts e attrs h s
+    texts h (D.end l s) = all-nil p
+    texts h (D.close c) = all-nil p
+    texts h D.other = all-nil p
+
+  pub texts-all : (line : Bytes) (r : Reader) {t : Turn} → valuesIn p (eventOf line) ≡ true → turn line r ≡ got t → all p (t .texts) ≡ true
+  unfolding turn decide
+  texts-all line r h e = of-turn (λ t. all p (t .texts) ≡ true) (texts r h (decided (r .place) (eventOf line))) e

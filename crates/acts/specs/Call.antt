@@ -11,7 +11,7 @@ use Rattle.kind.specs.declared.Kind.{Kind}
 use Rattle.model.specs.Record.{Meta, Record, claimOf}
 use Rattle.model.specs.Act.{Act, push, delete}
 use Rattle.model.specs.Swap.{swapRecord}
-use Rattle.acts.specs.Field.{Field, got, bad}
+use Rattle.field.specs.Field.{Field, got, bad}
 use Rattle.acts.specs.Turn.{Reader, fresh, Turn, turn}
 
 -- a call; a reader goes by its name, a number; a direct call gives handles, and parts that are cut short make no record
@@ -52,16 +52,16 @@ abbrev pub pushOf : World → ℤ → Option (Record ℕ) → Outcome
 pushOf w id none = quiet w
 pushOf w id (some r) = record { world = w; act = some (push id (swapRecord (textOf (w .texts)) r)) }
 
-abbrev pub turnOf : World → ℕ → Field Turn → Outcome
-turnOf w n (bad r) = quiet w
-turnOf w n (got t) =
+abbrev pub turned : World → ℕ → Field Turn → Outcome
+turned w n (bad r) = quiet w
+turned w n (got t) =
     record { world = record { texts = takeAll (w .texts) (t .texts); readers = readerSet n (t .reader) (w .readers) }; act = t .act }
 
 unfoldable pub outcome : World → Call → Outcome
 outcome w (interns t) = quiet (record { texts = takeIn (w .texts) t; readers = w .readers })
 outcome w (pushes id r) = pushOf w id r
 outcome w (deletes k id m) = record { world = w; act = some (delete k id (claimOf m)) }
-outcome w (hears n s) = turnOf w n (turn s (w .readers n))
+outcome w (hears n s) = turned w n (turn s (w .readers n))
 outcome w (ends n) = quiet w
 
 abbrev pub actsBefore : Option (Act Bytes) → List (Act Bytes) → List (Act Bytes)

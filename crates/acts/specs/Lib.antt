@@ -1,4 +1,2 @@
-pub mod Field
 pub mod Turn
-pub mod Sane
 pub mod Call

@@ -3,6 +3,7 @@ pub mod Lengths
 pub mod Small
 pub mod Shelves
 pub mod Tells
-pub mod Stands
+pub mod Reflects
 pub mod Lists
+pub mod Stops
 pub mod Theorems

@@ -1,7 +1,7 @@
 -- A sound shelf: it is fair, and at the place of each live row a legal record is read, whatever is appended behind it.
 use Prim.Native.Nat.{ℕ, _+_, _^_, _<_, _≤_}
 use mathlib.Core.Path.{_≡_, refl, sym, _∙_, ap}
-use mathlib.Core.Bool.{Bool, true, not}
+use mathlib.Core.Bool.{true, not}
 use mathlib.Core.Option.{some}
 use native.Mathlib.Omega.{arith}
 use lib.ListN.{length, take, drop, length-append, length-drop}
@@ -28,7 +28,7 @@ use Rattle.table.proofs.Maps.{find-passes}
 use Rattle.shelf.specs.Shelf.{Shelf, isLive}
 use Rattle.shelf.specs.Fair.{rowsIn, Fair}
 use Rattle.sound.specs.Sound.{SoundShelf, soundRow}
-use Rattle.calls.specs.Known.{heldIn, recordIn}
+use Rattle.listing.specs.Known.{heldIn, recordIn}
 
 -- what is read at a start of whole records is its record
 pub whole-read : (strings : ℕ) (k : Kind) (s : Bytes) (w : Whole strings k s) (at : ℕ) (x : Kept) → recordAt at (w .kept) ≡ some x → heldIn (cutRecord k (drop at s)) ≡ some (x .held)

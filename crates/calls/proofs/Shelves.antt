@@ -37,7 +37,7 @@ use Rattle.shelf.specs.Fair.{rowsIn, Fair}
 use Rattle.shelf.specs.declared.Kept.the-variants.{Taken}
 use Rattle.shelf.proofs.Shelves.{Laid, push-laid, push-fits, push-used, push-arena, delete-laid, delete-arena, delete-used}
 use Rattle.sound.specs.Sound.{SoundShelf}
-use Rattle.calls.specs.Known.{recordIn, told, lastIn}
+use Rattle.listing.specs.Known.{recordIn, told, lastIn}
 use Rattle.calls.proofs.Rows.{whole-read, live-starts, record-read, record-legal}
 use Rattle.reader.proofs.Texts.{legal-agree}
 

@@ -1,19 +1,23 @@
--- T7 to T10 and T13 over lists of direct calls, refused ones included, on an overlay that starts empty, whatever its sizes. The acts are those of the calls and their replies.
-use Prim.Native.Nat.{ℕ, _^_, _<_}
-use mathlib.Core.Path.{_≡_, refl, ap}
-use mathlib.Core.Bool.{true}
+-- T7 to T10 and T13 over lists of calls, refused ones included: `intern`, direct pushes and deletes, events and ends of any readers, on an overlay that starts empty, whatever
+-- its sizes. The acts are those of the calls and their replies.
+use Prim.Native.Nat.{ℕ, _+_, _^_, _<_}
+use mathlib.Core.Path.{_≡_, refl, _∙_, ap}
+use mathlib.Core.Bool.{true, false}
 use mathlib.Core.Logic.{_↔_}
 use mathlib.Core.Option.{some}
 use mathlib.Core.List.{List, []}
+use native.Mathlib.Omega.{arith}
+use native.Mathlib.Nat.{zero-add}
 use lib.IntN.{ℤ}
+use lib.ListN.{length}
 use mir.Syntax.{w64}
 use mir.Val.{SFits, toZ}
 use mir.Facts.{fits-of-lt, sfits-toZ}
-use Rattle.base.specs.Bytes.{Bytes, all}
+use Rattle.base.specs.Bytes.{Bytes, either, all}
 use Rattle.kind.specs.declared.Kind.{Kind}
 use Rattle.refusal.specs.declared.Refusal.the-variants.{Regression}
 use Rattle.model.specs.Record.{claimOf}
-use Rattle.model.specs.Act.{Key}
+use Rattle.model.specs.Act.{Act, Key, keyOf, claimedBy}
 use Rattle.compact.specs.Cut.{pushedRecord}
 use Rattle.compact.specs.Held.{metaOf, headIn}
 use Rattle.compact.specs.Legal.{legalMeta}
@@ -26,7 +30,10 @@ use Rattle.interner.specs.Sound.{textsOf}
 use Rattle.page.specs.Summary as Summary
 use Rattle.shelf.specs.Shelf as Shelf
 use Rattle.shelf.specs.declared.Kept.the-variants.{Refused}
+use Rattle.field.specs.Field.{got}
+use Rattle.acts.specs.Turn.{Turn, turn}
 use Rattle.acts.specs.Call.{begin, worldAfter, actsOf}
+use Rattle.acts.proofs.Calls.{linesOf}
 use Rattle.overlay.specs.Overlay.{Overlay, shelfOf, largest, sizesFit, empty}
 use Rattle.overlay.specs.Given.{InBytes, headFits}
 use Rattle.overlay.specs.Sound.{isSound}
@@ -37,55 +44,107 @@ use Rattle.direct.proofs.Answers.{push-store, delete-store}
 use Rattle.overlay.proofs.Bounds.{id-given}
 use Rattle.overlay.proofs.Decides.{decides}
 use Rattle.direct.proofs.Keeps.{intern-kept}
-use Rattle.calls.specs.Ask.{Ask, after, answered, askFits}
-use Rattle.calls.specs.Known.{knownIn, Regresses, pushedBytes}
-use Rattle.calls.proofs.Stands.{Stands, stands-empty, page-stands, push-regresses, delete-regresses}
-use Rattle.calls.proofs.Lists.{stands-calls}
+use Rattle.reader.specs.declared.EventAnswer.the-variants as E
+use Rattle.reader.specs.State.{isStopped}
+use Rattle.reader.specs.Given.{StateGiven}
+use Rattle.reader.specs.Event.{eventOn}
+use Rattle.reader.proofs.Keeps.{fresh-ready, fresh-means, ready-sound}
+use Rattle.reader.proofs.Regressions.{event-regression, act-fits}
+use Rattle.calls.specs.Ask.{Ask, started, stateOf, askFits, PartsGiven, storageAfter, replies, stoppedIn}
+use Rattle.calls.specs.Known.{Regresses, pushedBytes}
+use Rattle.listing.specs.Known.{knownIn}
+use Rattle.calls.proofs.Reflects.{Reflects, reflects-empty, page-reflects, push-regresses, delete-regresses, admit-regresses}
+use Rattle.calls.proofs.Stops.{stopped-calls}
+use Rattle.calls.proofs.Lists.{Agrees, agrees-fine, agrees-calls, lines-counted}
 
-module _ (setting : ℕ) (o : Overlay) (sizes : sizesFit largest o ≡ true) (lent : InBytes o) (cs : List Ask) (given : all askFits cs ≡ true) where
-  pub stands-after : Stands setting (after (empty setting o) cs) (worldAfter begin (answered (empty setting o) cs) .texts) (actsOf (answered (empty setting o) cs))
-  unfolding actsOf
-  stands-after = stands-calls setting cs (empty setting o) begin [] given (stands-empty setting o sizes lent)
+module _ (setting : ℕ) (o : Overlay) (sizes : sizesFit largest o ≡ true) (lent : InBytes o) (parts : ℕ → Bytes) (room : PartsGiven parts) where
+  -- an empty overlay and fresh readers agree with no calls
+  agrees-started : Agrees setting (started setting o parts) begin []
+  agrees-started =
+      let w = reflects-empty setting o sizes lent in
+      let e = decides (empty setting o) (w .bytes) .1 (w .sound) in
+      record { overlay = w; ready = λ n. fresh-ready (empty setting o) e (parts n) (room .bytes n) (room .room n); readers = λ n. fresh-means (empty setting o) e (parts n) }
 
-  -- no list of calls makes it unsound
-  pub sound-after : isSound (after (empty setting o) cs) ≡ true
-  sound-after = decides (after (empty setting o) cs) (stands-after .bytes) .1 (stands-after .sound)
+  module _ (cs : List Ask) (given : all askFits cs ≡ true) where
+    pub agrees-after : Agrees setting (storageAfter setting o parts cs) (worldAfter begin (replies setting o parts cs)) (actsOf (replies setting o parts cs))
+    unfolding actsOf
+    agrees-after = agrees-calls setting cs (started setting o parts) begin [] given agrees-started
 
-  -- T7: the held texts are those of the accepted calls, and the handle of each is its place
-  pub texts-held : textsOf (after (empty setting o) cs .texts) ≡ worldAfter begin (answered (empty setting o) cs) .texts
-  texts-held = stands-after .texts
+    -- what the overlay holds is what the accepted calls come to
+    pub reflects-after : Reflects setting (storageAfter setting o parts cs .overlay) (worldAfter begin (replies setting o parts cs) .texts) (actsOf (replies setting o parts cs))
+    reflects-after = agrees-after .overlay
 
-  pub handle-next : (t : Bytes) (n : ℕ) → internOn t (after (empty setting o) cs) .answer ≡ H.Is n → handleOf t (takeIn (worldAfter begin (answered (empty setting o) cs) .texts) t) ≡ some n
-  handle-next t n e = let k = intern-kept t (after (empty setting o) cs) n e in rw (← texts-held, ← k .texts) (k .place)
+    -- no list of calls makes the overlay unsound, however long it is
+    pub sound-after : isSound (storageAfter setting o parts cs .overlay) ≡ true
+    sound-after = agrees-fine agrees-after .sound
 
-  -- T8: the used bytes are those of the accepted pushes
-  pub used-bytes : (k : Kind) → shelfOf k (after (empty setting o) cs) .used ≡ pushedBytes k (actsOf (answered (empty setting o) cs))
-  used-bytes k = stands-after .tells k .used
+    -- the lines that a reader has taken are those of its accepted events
+    pub lines-after : (n : ℕ) → storageAfter setting o parts cs .readers n .lines ≡ length (linesOf n (replies setting o parts cs))
+    lines-after n = lines-counted n cs (started setting o parts) ∙ zero-add _
+
+    -- and a reader is stopped exactly where one of its events was refused
+    pub stopped-after : (n : ℕ) → length (linesOf n (replies setting o parts cs)) < 18446744073709551615
+        → isStopped (storageAfter setting o parts cs .readers n .stop) ≡ stoppedIn n (replies setting o parts cs)
+    unfolding either
+    stopped-after n h = stopped-calls n setting cs (started setting o parts) begin [] given agrees-started (omega arith)
+
+    -- T7: the held texts are those of the accepted calls, and the handle of each is its place
+    pub texts-held : textsOf (storageAfter setting o parts cs .overlay .texts) ≡ worldAfter begin (replies setting o parts cs) .texts
+    texts-held = agrees-after .overlay .texts
+
+    pub handle-next : (t : Bytes) (n : ℕ) → internOn t (storageAfter setting o parts cs .overlay) .answer ≡ H.Is n
+        → handleOf t (takeIn (worldAfter begin (replies setting o parts cs) .texts) t) ≡ some n
+    handle-next t n e = let k = intern-kept t (storageAfter setting o parts cs .overlay) n e in rw (← texts-held, ← k .texts) (k .place)
+
+    -- T8: the used bytes are those of the accepted pushes
+    pub used-bytes : (k : Kind) → shelfOf k (storageAfter setting o parts cs .overlay) .used ≡ pushedBytes k (actsOf (replies setting o parts cs))
+    used-bytes k = agrees-after .overlay .tells k .used
 
 -- while regression is refused
-module _ (o : Overlay) (sizes : sizesFit largest o ≡ true) (lent : InBytes o) (cs : List Ask) (given : all askFits cs ≡ true) where
+module _ (o : Overlay) (sizes : sizesFit largest o ≡ true) (lent : InBytes o) (parts : ℕ → Bytes) (room : PartsGiven parts) (cs : List Ask) (given : all askFits cs ≡ true) where
+  agrees : Agrees 0 (storageAfter 0 o parts cs) (worldAfter begin (replies 0 o parts cs)) (actsOf (replies 0 o parts cs))
+  agrees = agrees-after 0 o sizes lent parts room cs given
+
   -- T9: the known version is the highest that accepted acts claimed
-  pub known-highest : (k : Kind) (id : ℤ) → SFits w64 id → Shelf.known k (shelfOf k (after (empty 0 o) cs)) id ≡ Summary.known (actsOf (answered (empty 0 o) cs)) (record { kind = k; id = id }) .high
-  known-highest k id f = let s = stands-after 0 o sizes lent cs given in s .tells k .high (s .set) id f
+  pub known-highest : (k : Kind) (id : ℤ) → SFits w64 id
+      → Shelf.known k (shelfOf k (storageAfter 0 o parts cs .overlay)) id ≡ Summary.known (actsOf (replies 0 o parts cs)) (record { kind = k; id = id }) .high
+  known-highest k id f = let s = agrees .overlay in s .tells k .high (s .set) id f
 
   -- T10: with what the last act left, that is all that the overlay tells of an id
-  pub page-known : (key : Key) → SFits w64 (key .id) → knownIn (after (empty 0 o) cs) key ≡ Summary.known (actsOf (answered (empty 0 o) cs)) key
-  page-known key f = page-stands 0 _ _ _ (stands-after 0 o sizes lent cs given) refl key f
+  pub page-known : (key : Key) → SFits w64 (key .id) → knownIn (storageAfter 0 o parts cs .overlay) key ≡ Summary.known (actsOf (replies 0 o parts cs)) key
+  page-known key f = page-reflects 0 _ _ _ (agrees .overlay) refl key f
 
   -- T13: an act that passes the earlier checks is refused 12 exactly where its version is below the highest, and the refusal names the highest
-  pub regression-push : (k : Kind) (h : PushHead) (m : ArenaMeta) (parts : Bytes) → headFits h ≡ true
-      → faultFor (after (empty 0 o) cs .texts .strings) (pushedRecord k (headIn k h) (metaOf m) parts) ≡ F.Legal → (v : ℤ)
-      → (pushOn k h m parts (after (empty 0 o) cs) .answer ≡ Refused (Regression v))
-      ↔ Regresses (actsOf (answered (empty 0 o) cs)) (record { kind = k; id = toZ w64 (h .id) }) (claimOf (metaOf m)) v
-  regression-push k h m parts f l v =
-      let s = stands-after 0 o sizes lent cs given in
-      let e = ap (λ (z : After). z .answer) (push-store k h m parts (after (empty 0 o) cs) (sound-after 0 o sizes lent cs given) l) in
-      rw e (push-regresses 0 (after (empty 0 o) cs) _ _ s refl k (toZ w64 (h .id)) (id-given h f) (claimOf (metaOf m)) v _)
+  pub regression-push : (k : Kind) (h : PushHead) (m : ArenaMeta) (bytes : Bytes) → headFits h ≡ true
+      → faultFor (storageAfter 0 o parts cs .overlay .texts .strings) (pushedRecord k (headIn k h) (metaOf m) bytes) ≡ F.Legal → (v : ℤ)
+      → (pushOn k h m bytes (storageAfter 0 o parts cs .overlay) .answer ≡ Refused (Regression v))
+      ↔ Regresses (actsOf (replies 0 o parts cs)) (record { kind = k; id = toZ w64 (h .id) }) (claimOf (metaOf m)) v
+  regression-push k h m bytes f l v =
+      let q = storageAfter 0 o parts cs .overlay in
+      let e = ap (λ (z : After). z .answer) (push-store k h m bytes q (agrees-fine agrees .sound) l) in
+      rw e (push-regresses 0 q _ _ (agrees .overlay) refl k (toZ w64 (h .id)) (id-given h f) (claimOf (metaOf m)) v _)
 
-  pub regression-delete : (k : Kind) (id : ℕ) (m : ArenaMeta) → id < 2 ^ 64 → legalMeta (after (empty 0 o) cs .texts .strings) (metaOf m) ≡ true → (v : ℤ)
-      → (deleteOn k (toZ w64 id) (metaOf m) (after (empty 0 o) cs) .answer ≡ Refused (Regression v))
-      ↔ Regresses (actsOf (answered (empty 0 o) cs)) (record { kind = k; id = toZ w64 id }) (claimOf (metaOf m)) v
+  pub regression-delete : (k : Kind) (id : ℕ) (m : ArenaMeta) → id < 2 ^ 64 → legalMeta (storageAfter 0 o parts cs .overlay .texts .strings) (metaOf m) ≡ true → (v : ℤ)
+      → (deleteOn k (toZ w64 id) (metaOf m) (storageAfter 0 o parts cs .overlay) .answer ≡ Refused (Regression v))
+      ↔ Regresses (actsOf (replies 0 o parts cs)) (record { kind = k; id = toZ w64 id }) (claimOf (metaOf m)) v
   regression-delete k id m f l v =
-      let s = stands-after 0 o sizes lent cs given in
-      let e = ap (λ (z : After). z .answer) (delete-store k (toZ w64 id) (metaOf m) (after (empty 0 o) cs) (sound-after 0 o sizes lent cs given) l) in
-      rw e (delete-regresses 0 (after (empty 0 o) cs) _ _ s refl k (toZ w64 id) (sfits-toZ {w = w64} (fits-of-lt f)) (claimOf (metaOf m)) v)
+      let q = storageAfter 0 o parts cs .overlay in
+      let e = ap (λ (z : After). z .answer) (delete-store k (toZ w64 id) (metaOf m) q (agrees-fine agrees .sound) l) in
+      rw e (delete-regresses 0 q _ _ (agrees .overlay) refl k (toZ w64 id) (sfits-toZ {w = w64} (fits-of-lt f)) (claimOf (metaOf m)) v)
+
+  -- and so is an act that a reader's event makes, at the line that is one more than those that the reader has taken, unless one of its events was refused before or the count
+  -- of its lines is at its largest
+  pub regression-event : (n : ℕ) (line : Bytes) (t : Turn) (a : Act Bytes) → stoppedIn n (replies 0 o parts cs) ≡ false
+      → length (linesOf n (replies 0 o parts cs)) < 18446744073709551615 → turn line (worldAfter begin (replies 0 o parts cs) .readers n) ≡ got t → t .act ≡ some a → (v : ℤ)
+      → (eventOn line (stateOf n (storageAfter 0 o parts cs)) .answer ≡ E.Refused (Regression v) (length (linesOf n (replies 0 o parts cs)) + 1))
+      ↔ Regresses (actsOf (replies 0 o parts cs)) (keyOf a) (claimedBy a) v
+  regression-event n line t a never below h k v =
+      let s = stateOf n (storageAfter 0 o parts cs) in
+      let g : StateGiven s = record { overlay = agrees .overlay .bytes; reader = agrees .ready n .given } in
+      let c = lines-after 0 o sizes lent parts room cs given n in
+      let e = ready-sound s (agrees-fine agrees) (agrees .ready n) (omega (arith, c)) in
+      let going = stopped-after 0 o sizes lent parts room cs given n below ∙ never in
+      let i = ap (turn line) (agrees .readers n) ∙ h in
+      let x = rw c at (event-regression line s g e going t a i k v) in
+      let y = admit-regresses 0 (s .overlay) _ _ (agrees .overlay) refl (keyOf a .kind) (keyOf a .id) (act-fits line s g e going t a i k) (claimedBy a) v in
+      (λ z. y .0 (x .0 z), λ z. x .1 (y .1 z))

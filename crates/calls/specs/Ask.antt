@@ -1,70 +1,136 @@
--- Condition 3: "Each gets its own list of these calls, refused ones included". The calls as they are made, in the order in which each gets the overlay "as last left".
+-- Condition 3: "Each gets its own list of these calls, refused ones included: intern, direct push, direct delete, a reader's event, a reader's end". The calls as they are
+-- made: "Each call gets the overlay, and each event or end its reader, as last left; readers begin fresh, anywhere in a list."
 use Prim.Native.Nat.{ℕ}
-use mathlib.Core.Bool.{Bool, true, false}
+use mathlib.Core.Path.{_≡_}
+use mathlib.Core.Bool.{Bool, true, false, not, cond}
 use mathlib.Core.List.{List, [], _∷_}
 use mir.Syntax.{w64}
 use mir.Val.{toZ}
-use lib.Dec.{ltb}
-use Rattle.base.specs.Bytes.{Bytes, both, all}
+use lib.Dec.{eqb, ltb}
+use lib.ListN.{length}
+use Rattle.base.specs.Bytes.{Bytes, both, either, all}
 use Rattle.little.specs.Little.{isByte}
 use Rattle.kind.specs.declared.Kind.{Kind}
 use Rattle.compact.specs.Cut.{pushedRecord}
 use Rattle.compact.specs.Held.{metaOf, headIn}
 use Rattle.compact.specs.declared.ArenaMeta.{ArenaMeta}
 use Rattle.compact.specs.declared.PushHead.{PushHead}
-use Rattle.shelf.specs.declared.Kept.{Kept}
-use Rattle.shelf.specs.declared.Kept.the-variants.{Taken, Refused}
-use Rattle.overlay.specs.Overlay.{Overlay}
+use Rattle.shelf.specs.Shelf.{takenIn}
+use Rattle.overlay.specs.Overlay.{Overlay, empty}
 use Rattle.overlay.specs.Given.{headFits, metaFits}
 use Rattle.direct.specs.Calls.{pushOn, deleteOn, internOn}
 use Rattle.store.specs.declared.Handle.{Handle}
 use Rattle.store.specs.declared.Handle.the-variants as H
+use Rattle.reader.specs.declared.EventReader.{EventReader}
+use Rattle.reader.specs.declared.EventAnswer.{EventAnswer}
+use Rattle.reader.specs.declared.EventAnswer.the-variants as E
+use Rattle.reader.specs.State.{State, freshReader}
+use Rattle.reader.specs.Event.{eventOn, endOn}
 use Rattle.acts.specs.Call as Call
 use Rattle.acts.specs.Call.{Call, Answered}
 
--- a direct call with what its caller gives
+-- a call with what its caller gives; a reader goes by its name, a number
 pub data Ask : Type 0 where
   interns : Bytes → Ask
   pushes : Kind → PushHead → ArenaMeta → Bytes → Ask
   deletes : Kind → ℕ → ArenaMeta → Ask
+  hears : ℕ → Bytes → Ask
+  ends : ℕ → Ask
 
 -- the call that the acts are defined from
 abbrev pub callOf : Ask → Call
 callOf (interns t) = Call.interns t
 callOf (pushes k h m parts) = Call.pushes (toZ w64 (h .id)) (pushedRecord k (headIn k h) (metaOf m) parts)
 callOf (deletes k id m) = Call.deletes k (toZ w64 id) (metaOf m)
+callOf (hears n line) = Call.hears n line
+callOf (ends n) = Call.ends n
 
--- "accepted unless refused"
-abbrev pub takenIn : Kept → Bool
-takenIn Taken = true
-takenIn (Refused r) = false
+-- ---- what is lent: the overlay, and to each reader its own storage
 
+pub record Storage : Type 0 where
+  pub overlay : Overlay
+  pub readers : ℕ → EventReader
+  pub parts : ℕ → Bytes
+
+-- "start empty"; "readers begin fresh", whatever bytes are lent to them
+abbrev pub started : ℕ → Overlay → (ℕ → Bytes) → Storage
+started setting o parts = record { overlay = empty setting o; readers = λ n. freshReader; parts = parts }
+
+-- what an event or an end of a reader gets, and what it leaves
+abbrev pub stateOf : ℕ → Storage → State
+stateOf n l = record { overlay = l .overlay; reader = l .readers n; parts = l .parts n }
+
+abbrev pub putAt : {A : Type 0} → ℕ → A → (ℕ → A) → ℕ → A
+putAt n a f m = cond (eqb m n) a (f m)
+
+abbrev pub withState : ℕ → State → Storage → Storage
+withState n s l = record { overlay = s .overlay; readers = putAt n (s .reader) (l .readers); parts = putAt n (s .parts) (l .parts) }
+
+abbrev pub withOverlay : Overlay → Storage → Storage
+withOverlay o l = record { overlay = o; readers = l .readers; parts = l .parts }
+
+-- ---- one call: what it leaves, and whether its reply accepted it
+
+-- "accepted unless refused": of a push or a delete by `takenIn`
 abbrev pub handled : Handle → Bool
 handled (H.Is h) = true
 handled (H.Refused r) = false
 
--- what a call leaves, and whether its reply accepted it
-abbrev pub leaves : Ask → Overlay → Overlay
-leaves (interns t) o = internOn t o .overlay
-leaves (pushes k h m parts) o = pushOn k h m parts o .overlay
-leaves (deletes k id m) o = deleteOn k (toZ w64 id) (metaOf m) o .overlay
+abbrev pub eventTaken : EventAnswer → Bool
+eventTaken E.Accepted = true
+eventTaken (E.Refused r n) = false
 
-abbrev pub accepts : Ask → Overlay → Bool
-accepts (interns t) o = handled (internOn t o .answer)
-accepts (pushes k h m parts) o = takenIn (pushOn k h m parts o .answer)
-accepts (deletes k id m) o = takenIn (deleteOn k (toZ w64 id) (metaOf m) o .answer)
+abbrev pub leaves : Ask → Storage → Storage
+leaves (interns t) l = withOverlay (internOn t (l .overlay) .overlay) l
+leaves (pushes k h m parts) l = withOverlay (pushOn k h m parts (l .overlay) .overlay) l
+leaves (deletes k id m) l = withOverlay (deleteOn k (toZ w64 id) (metaOf m) (l .overlay) .overlay) l
+leaves (hears n line) l = withState n (eventOn line (stateOf n l) .state) l
+leaves (ends n) l = withState n (endOn (stateOf n l) .state) l
 
--- "Each call gets the overlay .. as last left"
-unfoldable pub after : Overlay → List Ask → Overlay
-after o [] = o
-after o (c ∷ cs) = after (leaves c o) cs
+abbrev pub accepts : Ask → Storage → Bool
+accepts (interns t) l = handled (internOn t (l .overlay) .answer)
+accepts (pushes k h m parts) l = takenIn (pushOn k h m parts (l .overlay) .answer)
+accepts (deletes k id m) l = takenIn (deleteOn k (toZ w64 id) (metaOf m) (l .overlay) .answer)
+accepts (hears n line) l = eventTaken (eventOn line (stateOf n l) .answer)
+accepts (ends n) l = eventTaken (endOn (stateOf n l) .answer)
 
-unfoldable pub answered : Overlay → List Ask → List Answered
-answered o [] = []
-answered o (c ∷ cs) = record { call = callOf c; accepted = accepts c o } ∷ answered (leaves c o) cs
+-- ---- a list of calls
+
+unfoldable pub after : Storage → List Ask → Storage
+after l [] = l
+after l (c ∷ cs) = after (leaves c l) cs
+
+unfoldable pub answered : Storage → List Ask → List Answered
+answered l [] = []
+answered l (c ∷ cs) = record { call = callOf c; accepted = accepts c l } ∷ answered (leaves c l) cs
 
 -- what a caller gives is within the bounds of its types
 unfoldable pub askFits : Ask → Bool
 askFits (interns t) = all isByte t
 askFits (pushes k h m parts) = both (headFits h) (both (metaFits m) (all isByte parts))
 askFits (deletes k id m) = both (ltb id 18446744073709551616) (metaFits m)
+askFits (hears n line) = all isByte line
+askFits (ends n) = true
+
+pub record PartsGiven (parts : ℕ → Bytes) : Type 0 where
+  pub bytes : (n : ℕ) → all isByte (parts n) ≡ true
+  pub room : (n : ℕ) → length (parts n) ≡ 44432
+
+-- a list on an overlay that starts empty: what it leaves, and the calls with their replies
+abbrev pub storageAfter : ℕ → Overlay → (ℕ → Bytes) → List Ask → Storage
+storageAfter setting o parts cs = after (started setting o parts) cs
+
+abbrev pub replies : ℕ → Overlay → (ℕ → Bytes) → List Ask → List Answered
+replies setting o parts cs = answered (started setting o parts) cs
+
+-- "a refused event, except for 22, stops its reader": one of a reader's events was refused
+abbrev pub isEventOf : ℕ → Call → Bool
+isEventOf n (Call.interns t) = false
+isEventOf n (Call.pushes id r) = false
+isEventOf n (Call.deletes k id m) = false
+isEventOf n (Call.hears m line) = eqb n m
+isEventOf n (Call.ends m) = false
+
+unfoldable pub stoppedIn : ℕ → List Answered → Bool
+stoppedIn n [] = false
+stoppedIn n (c ∷ cs) = either (both (isEventOf n (c .call)) (not (c .accepted))) (stoppedIn n cs)

@@ -1,5 +1,4 @@
--- What an overlay knows of a kind and id, in the terms of the accepted acts: what the last act left, its texts as texts, and the known version;
--- and the bytes that accepted pushes took.
+-- Of the accepted acts: when a version is below the highest claimed, and the bytes that pushes took.
 use Prim.Native.Nat.{ℕ, _+_, _*_}
 use mathlib.Core.Path.{_≡_}
 use mathlib.Core.Bool.{true, cond}
@@ -28,30 +27,6 @@ use Rattle.shelf.specs.Fair.{rowsIn}
 use Rattle.overlay.specs.Overlay.{Overlay, shelfOf}
 use Rattle.page.specs.Summary.{Known}
 use Rattle.page.specs.Summary as Summary
-
--- the record that stands at a place of a shelf's used bytes
-abbrev pub heldIn : Option (Cut Kept) → Option (Record ℕ)
-heldIn none = none
-heldIn (some c) = some (c .item .held)
-
-unfoldable pub recordIn : Kind → Shelf → ℕ → Option (Record ℕ)
-recordIn k s at = heldIn (cutRecord k (drop at (take (s .used) (s .arena))))
-
--- with its texts as texts
-abbrev pub told : (ℕ → Bytes) → Option (Record ℕ) → Option (Left Bytes)
-told f none = none
-told f (some r) = some (live (swapRecord f r))
-
-abbrev pub lastIn : Kind → Shelf → (ℕ → Bytes) → Option Row → Option (Left Bytes)
-lastIn k s f none = none
-lastIn k s f (some r) = cond (isLive (r .place)) (told f (recordIn k s (r .place))) (some gone)
-
-unfoldable pub knownIn : Overlay → Key → Known
-knownIn o key =
-    record {
-      last = lastIn (key .kind) (shelfOf (key .kind) o) (textOf (textsOf (o .texts))) (find (rank (key .id)) (rowsIn (shelfOf (key .kind) o)));
-      high = known (key .kind) (shelfOf (key .kind) o) (key .id);
-    }
 
 -- "its version is below the highest that accepted acts claimed for its kind and id": a claim, and the highest
 pub record Regresses (acts : List (Act Bytes)) (key : Key) (claim : Version) (highest : ℤ) : Type 0 where

@@ -1,35 +1,36 @@
--- What is read from a record is what was appended: head, metadata, each ref, each member, and the tags through the tag step.
-use Prim.Native.Nat.{ℕ, zero, suc, _+_, _*_, _^_, _<_}
-use mathlib.Core.Path.{_≡_, refl}
+-- What is read from a record is what was appended: head, metadata, each ref, each member and each tag, field by field and by a user's readers and steps.
+use Prim.Native.Nat.{ℕ, zero, suc, _+_, _-_, _*_, _^_, _<_, _≤_}
+use mathlib.Core.Path.{_≡_, refl, ap}
 use mathlib.Core.Bool.{Bool, true}
-use mathlib.Core.Option.{Option, some}
+use mathlib.Core.Option.{Option, some, bind}
 use mathlib.Core.List.{List, [], _∷_, _++_, append-assoc}
 use native.Mathlib.Omega.{arith}
 use native.Mathlib.Nat.{zero-add, add-zero, add-suc, suc-add}
 use lib.IntN.{ℤ, pos}
-use lib.ListN.{length, take, drop, getD}
+use lib.ListN.{length, take, drop, getD, length-append, length-drop}
 use lib.Seq.{drop-drop, drop-at, take-at, take-append-seam}
 use mir.Syntax.{w32, w64}
 use mir.Val.{toZ, ofZ}
-use borrow.Author.Tests.{ltb-true, ne-eqb}
+use borrow.Author.Tests.{ltb-true}
 use Rattle.base.specs.Bytes.{Bytes, both, all}
-use Rattle.base.proofs.Split.{both-left, both-right, no}
-use Rattle.base.proofs.Lists.{all-head, all-tail}
+use Rattle.base.proofs.Split.{both-left, both-right, both-of, no}
+use Rattle.base.proofs.Lists.{all-head, all-tail, all-nil, all-cons}
 use Rattle.little.specs.Little.{le, valueAt}
 use Rattle.little.proofs.Littles.{length-le, value-back}
 use Rattle.text.specs.Check.{isText}
 use Rattle.kind.specs.Kind.{numberOf}
 use Rattle.kind.proofs.Numbers.{number-back}
-use Rattle.kind.specs.declared.Kind.the-variants.{Node}
 use Rattle.model.specs.Record.{Meta, Member, Tag, Body, place, refs, members, Record, kindOf}
 use Rattle.compact.specs.Layout.{u32, i32, i64, metaBytes, memberBytes, tagBytes, joined, Head, headBytes, headOf, headLen, bodyBytes, partsBytes, recordBytes}
-use Rattle.compact.specs.Cut.{found, cutTag}
+use Rattle.compact.specs.Cut.{andThen, found, cutI64, cutMember}
 use Rattle.compact.specs.Fits.{fitsNumber, fitsSigned, fitsMeta, fitsMember, fitsTag, fitsHead, fitsBody, fitting}
 use Rattle.compact.specs.Legal.{legalTexts}
-use Rattle.compact.specs.Held.{metaOf, nodeHead, countsHead, wayHead, relationHead, memberOf}
-use Rattle.compact.specs.View.{nodeAt, wayAt, relationAt, metaAt, refAt, memberAt, tagsAt, tagStep, with, gathered, tagsFrom, headAt, bodyAt, readRecord}
-use Rattle.compact.proofs.Format.{signed-again}
-use Rattle.compact.proofs.Cuts.{type-fits, tag-format, head-id, head-tags}
+use Rattle.compact.specs.Held.{metaOf, metaBits, nodeHead, countsHead, wayHead, relationHead, nodeBits, wayBits, relationBits, memberOf}
+use Rattle.compact.specs.View.{nodeAt, wayAt, relationAt, metaAt, refAt, memberAt, tagsAt, headAt}
+use Rattle.compact.specs.View.{nodeRead, wayRead, relationRead, headRead, metaGiven, metaRead, Step, done, yields, refStep, refGiven, memberStep, memberGiven, cutText, tagStep, tagGiven, stepped, refsFrom, membersFrom, tagsFrom, bodyRead, readRecord}
+use Rattle.compact.proofs.Format.{signed-again, i64-format}
+use Rattle.compact.proofs.Cuts.{type-fits, meta-format, member-format, tag-format, head-back as head-cut, head-id, head-tags}
+use Rattle.compact.proofs.Steps.{step-done, step-some}
 use Rattle.compact.proofs.Lengths.{length-i64, length-meta, length-member, length-tag, length-joined, length-head}
 
 -- ---- fields one after another: at a place of s stand the fields xs, and then r
@@ -115,12 +116,6 @@ module _ {A : Type 0} (s : Bytes) (f : ℕ → Option A) (bytes : A → Bytes) (
       let n = later width (base + width * suc i) (long x) (omega arith) w in
       rw (add-suc, ← suc-add) (element xs (suc i) j d r (all-tail fits x xs h) (n .is) (omega arith))
 
-gathered-all : {A : Type 0} (f : ℕ → Option A) (d : A) (xs : List A) (i : ℕ) → ((j : ℕ) → j < length xs → f (i + j) ≡ some (getD xs j d)) → gathered f i (length xs) ≡ some xs
-unfolding gathered with
-gathered-all f d [] i k = refl
-gathered-all f d (x ∷ xs) i k =
-    rw (rw add-zero at (k 0 (omega arith)), gathered-all f d xs (suc i) (λ j h. rw (suc-add, ← add-suc) (k (suc j) (omega arith))))
-
 ref-back : (s : Bytes) (i : ℕ) (z : ℤ) (r : Bytes) → fitsSigned w64 z ≡ true → drop (45 + 8 * i) s ≡ i64 z ++ r → _≡_ {A = Option ℤ} (some (toZ w64 (refAt s i))) (some z)
 unfolding refAt
 ref-back s i z r h e = let w : Lie s (45 + 8 * i) (i64 z ∷ []) r = record { is = e } in rw (i64-at z h w)
@@ -139,16 +134,38 @@ refs-back s rs r h e i l = rw zero-add at (element s (λ i. some (toZ w64 (refAt
 members-back : (s : Bytes) (ms : List (Member ℕ)) (r : Bytes) → all fitsMember ms ≡ true → drop 45 s ≡ joined memberBytes ms ++ r → (i : ℕ) (d : Member ℕ) → i < length ms → memberOf (memberAt s i) ≡ some (getD ms i d)
 members-back s ms r h e i d l = rw zero-add at (element s (λ i. memberOf (memberAt s i)) memberBytes fitsMember 13 45 length-member (member-back s) ms 0 i d r h e l)
 
-body-back : (id : ℤ) (b : Body ℕ) (n : ℕ) (s r : Bytes) → fitsBody b ≡ true → drop (headLen (kindOf b) + 29) s ≡ bodyBytes b ++ r → bodyAt (kindOf b) (headOf id b n) s ≡ some b
-unfolding bodyAt headOf bodyBytes fitsBody
-body-back id (place lat lon) n s r h e = refl
-body-back id (refs rs) n s r h e = rw (gathered-all (λ i. some (toZ w64 (refAt s i))) (pos 0) rs 0 (λ j l. rw zero-add (refs-back s rs r h e j l)))
-body-back id (members ms) n s r h e =
-    let d : Member ℕ = record { ref = pos 0; type = Node; role = 0 } in
-    rw (gathered-all (λ i. memberOf (memberAt s i)) d ms 0 (λ j l. rw zero-add (members-back s ms r h e j d l)))
+-- ---- heads and metadata, by a user's readers
 
--- ---- tags, step by step
+head-read : (id : ℤ) (b : Body ℕ) (n : ℕ) (s r : Bytes) → fitsHead (kindOf b) (headOf id b n) ≡ true → s ≡ headBytes (kindOf b) (headOf id b n) ++ r → headRead (kindOf b) s ≡ some (headOf id b n)
+unfolding headRead nodeRead wayRead relationRead nodeBits wayBits relationBits nodeHead wayHead relationHead countsHead fitsHead headOf
+head-read id (place lat lon) n s r h e =
+    let h2 = both-right _ _ h in let h3 = both-right _ _ h2 in
+    rw (e, head-cut id n r (place lat lon) h, signed-again w64 8 refl id (both-left _ _ h) .0, signed-again w32 4 refl lat (both-left _ _ h2) .0, signed-again w32 4 refl lon (both-left _ _ h3) .0)
+head-read id (refs rs) n s r h e = rw (e, head-cut id n r (refs rs) h, signed-again w64 8 refl id (both-left _ _ h) .0)
+head-read id (members ms) n s r h e = rw (e, head-cut id n r (members ms) h, signed-again w64 8 refl id (both-left _ _ h) .0)
 
+meta-read : (s : Bytes) (at : ℕ) (m : Meta ℕ) (r : Bytes) → fitsMeta m ≡ true → drop at s ≡ metaBytes m ++ r → metaGiven (metaRead s at) ≡ some m
+unfolding metaRead metaBits metaOf fitsMeta
+meta-read s at m r h1 e =
+    let h2 = both-right _ _ h1 in let h3 = both-right _ _ h2 in let h4 = both-right _ _ h3 in let h5 = both-right _ _ h4 in
+    rw (
+      e,
+      meta-format .back m r h1,
+      signed-again w32 4 refl (m .version) (both-left _ _ h2) .0,
+      signed-again w64 8 refl (m .timestamp) (both-left _ _ h3) .0,
+      signed-again w64 8 refl (m .changeset) (both-left _ _ h4) .0,
+      signed-again w32 4 refl (m .uid) (both-left _ _ h5) .0,
+    )
+
+-- ---- refs, members and tags, step by step
+
+-- the bytes that follow a part begin where it ends
+rest-starts : (s : Bytes) (at : ℕ) (x q : Bytes) → at ≤ length s → drop at s ≡ x ++ q → (length s - length q ≡ at + length x) × (drop (at + length x) s ≡ q)
+rest-starts s at x q l e =
+    let n : length s - at ≡ length x + length q = rw (length-drop, length-append) at (ap length e) in
+    (omega arith, rw (← drop-drop, e) (drop-at x q (length x) refl))
+
+-- the value of a tag lies behind its key and its length
 value-at : (s : Bytes) (at : ℕ) (t : Tag ℕ) (r : Bytes) → drop at s ≡ tagBytes t ++ r → take (length (t .value)) (drop (at + 8) s) ≡ t .value
 unfolding tagBytes
 value-at s at t r e =
@@ -157,14 +174,68 @@ value-at s at t r e =
     let w3 = later 4 (at + 8) (length-le 4 _) (omega arith) w2 in
     rw (w3 .is) (take-append-seam (t .value) r)
 
-tags-back : (s : Bytes) (ts : List (Tag ℕ)) (at : ℕ) (r : Bytes) → all fitsTag ts ≡ true → all (λ t. isText (t .value)) ts ≡ true → drop at s ≡ joined tagBytes ts ++ r → tagsFrom s at (length ts) ≡ some ts
-unfolding tagsFrom tagStep joined with
-tags-back s [] at r h g e = refl
-tags-back s (t ∷ ts) at r h g e =
-    let w : Lie s at (tagBytes t ∷ joined tagBytes ts ∷ []) r = record { is = rw append-assoc at e } in
-    let n = later (8 + length (t .value)) (at + 8 + length (t .value)) (length-tag t) (omega arith) w in
-    let c : cutTag (drop at s) ≡ found t (joined tagBytes ts ++ r) = rw (w .is) (tag-format .back t _ (all-head fitsTag t ts h)) in
-    rw (ne-eqb (suc (length ts)) 0 (λ z. omega arith), c, all-head (λ t. isText (t .value)) t ts g, value-at s at t _ (w .is), tags-back s ts (at + 8 + length (t .value)) r (all-tail fitsTag t ts h) (all-tail (λ t. isText (t .value)) t ts g) (n .is))
+-- steps that yield each element where its bytes stand
+module _ {A : Type 0} (s : Bytes) (f : ℕ → ℕ → Step A) (bytes : A → Bytes) (fits : A → Bool)
+    (last : (at : ℕ) → f at 0 ≡ done)
+    (here : (at n : ℕ) (a : A) (r : Bytes) → at ≤ length s → fits a ≡ true → drop at s ≡ bytes a ++ r → f at (suc n) ≡ yields a (length s - length r)) where
+  steps-back : (xs : List A) (at : ℕ) (r : Bytes) → at ≤ length s → all fits xs ≡ true → drop at s ≡ joined bytes xs ++ r → stepped f at (length xs) ≡ some xs
+  unfolding stepped joined
+  steps-back [] at r l h e = rw (last at)
+  steps-back (x ∷ xs) at r l h e =
+      let q = joined bytes xs ++ r in
+      let w : drop at s ≡ bytes x ++ q = rw append-assoc at e in
+      let g = rest-starts s at (bytes x) q l w in
+      let m : length s - length q ≤ length s = omega arith in
+      rw (here at (length xs) x q l (all-head fits x xs h) w, steps-back xs (length s - length q) r m (all-tail fits x xs h) (rw (g .0) (g .1)))
+
+more : (n : ℕ) → suc n ≡ 0 → ⊥
+more n e = omega arith
+
+module _ (s : Bytes) where
+  ref-here : (at n : ℕ) (z : ℤ) (r : Bytes) → at ≤ length s → fitsSigned w64 z ≡ true → drop at s ≡ i64 z ++ r → refGiven (refStep s at (suc n)) ≡ yields z (length s - length r)
+  unfolding refStep
+  ref-here at n z r l h e =
+      let c : cutI64 (drop at s) ≡ found z r = rw e (i64-format .back z r h) in
+      rw (step-some _ _ _ _ s at (suc n) (more n) z r c, signed-again w64 8 refl z h .0)
+
+  member-here : (at n : ℕ) (m : Member ℕ) (r : Bytes) → at ≤ length s → fitsMember m ≡ true → drop at s ≡ memberBytes m ++ r → memberGiven (memberStep s at (suc n)) ≡ yields m (length s - length r)
+  unfolding memberStep fitsMember
+  member-here at n m r l h e =
+      let c : cutMember (drop at s) ≡ found m r = rw e (member-format .back m r h) in
+      rw (step-some _ _ _ _ s at (suc n) (more n) m r c, signed-again w64 8 refl (m .ref) (both-left _ _ h) .0)
+
+  tag-here : (at n : ℕ) (t : Tag ℕ) (r : Bytes) → at ≤ length s → both (fitsTag t) (isText (t .value)) ≡ true → drop at s ≡ tagBytes t ++ r → tagGiven s (tagStep s at (suc n)) ≡ yields t (length s - length r)
+  unfolding tagStep cutText andThen
+  tag-here at n t r l h e =
+      let c : cutText (drop at s) ≡ found t r = rw (e, tag-format .back t r (both-left _ _ h), both-right (fitsTag t) _ h) in
+      let g = rest-starts s at (tagBytes t) r l e in
+      let k = length-tag t in
+      let p : length s - length r - length (t .value) ≡ at + 8 = omega arith in
+      let q : at + 8 + length (t .value) ≡ length s - length r = omega arith in
+      rw (step-some _ _ _ _ s at (suc n) (more n) t r c, p, q, value-at s at t r e)
+
+  refs-from : (rs : List ℤ) (at : ℕ) (r : Bytes) → at ≤ length s → all (fitsSigned w64) rs ≡ true → drop at s ≡ joined i64 rs ++ r → refsFrom s at (length rs) ≡ some rs
+  unfolding refsFrom refStep
+  refs-from = steps-back s (λ o m. refGiven (refStep s o m)) i64 (fitsSigned w64) (λ at. rw (step-done _ _ _ _ s at 0 refl)) ref-here
+
+  members-from : (ms : List (Member ℕ)) (at : ℕ) (r : Bytes) → at ≤ length s → all fitsMember ms ≡ true → drop at s ≡ joined memberBytes ms ++ r → membersFrom s at (length ms) ≡ some ms
+  unfolding membersFrom memberStep
+  members-from = steps-back s (λ o m. memberGiven (memberStep s o m)) memberBytes fitsMember (λ at. rw (step-done _ _ _ _ s at 0 refl)) member-here
+
+  tags-from : (ts : List (Tag ℕ)) (at : ℕ) (r : Bytes) → at ≤ length s → all (λ t. both (fitsTag t) (isText (t .value))) ts ≡ true → drop at s ≡ joined tagBytes ts ++ r → tagsFrom s at (length ts) ≡ some ts
+  unfolding tagsFrom tagStep
+  tags-from = steps-back s (λ o m. tagGiven s (tagStep s o m)) tagBytes (λ t. both (fitsTag t) (isText (t .value))) (λ at. rw (step-done _ _ _ _ s at 0 refl)) tag-here
+
+all-both : {A : Type 0} (p q : A → Bool) (xs : List A) → all p xs ≡ true → all q xs ≡ true → all (λ x. both (p x) (q x)) xs ≡ true
+all-both p q [] g h = all-nil (λ x. both (p x) (q x))
+all-both p q (x ∷ xs) g h =
+    all-cons (λ x. both (p x) (q x)) x xs (both-of (all-head p x xs g) (all-head q x xs h)) (all-both p q xs (all-tail p x xs g) (all-tail q x xs h))
+
+body-read : (id : ℤ) (b : Body ℕ) (n : ℕ) (s r : Bytes) → fitsBody b ≡ true → headLen (kindOf b) + 29 ≤ length s → drop (headLen (kindOf b) + 29) s ≡ bodyBytes b ++ r → bodyRead (kindOf b) (headOf id b n) s ≡ some b
+unfolding bodyRead tagsAt headOf bodyBytes fitsBody
+body-read id (place lat lon) n s r h l e = refl
+body-read id (refs rs) n s r h l e = rw (refs-from s rs 45 r l h e)
+body-read id (members ms) n s r h l e = rw (members-from s ms 45 r l h e)
 
 -- ---- the record
 
@@ -188,21 +259,24 @@ members-of (place lat lon) s r h e ms i d q l = no cc
 members-of (refs rs) s r h e ms i d q l = no cc
 members-of (members xs) s r h e ms i d q l = let z : xs ≡ ms = cc in rw (← z) (members-back s xs r h e i d (rw z l))
 
--- T6: what the readers find in the bytes s is the record r under the id
+-- T6: what is found in the bytes s is the record r under the id; `head` to `members-at` for the library's own fields, the rest by a user's readers and steps
 pub record Found (id : ℤ) (r : Record ℕ) (s : Bytes) : Type 0 where
   pub head : headAt (kindOf (r .body)) s ≡ headOf id (r .body) (length (r .tags))
   pub meta : metaOf (metaAt s (headLen (kindOf (r .body)))) ≡ r .meta
   pub refs-at : (rs : List ℤ) (i : ℕ) → r .body ≡ refs rs → i < length rs → toZ w64 (refAt s i) ≡ getD rs i (pos 0)
   pub members-at : (ms : List (Member ℕ)) (i : ℕ) (d : Member ℕ) → r .body ≡ members ms → i < length ms → memberOf (memberAt s i) ≡ some (getD ms i d)
+  pub head-read : headRead (kindOf (r .body)) s ≡ some (headOf id (r .body) (length (r .tags)))
+  pub meta-read : metaGiven (metaRead s (headLen (kindOf (r .body)))) ≡ some (r .meta)
+  pub body-read : bodyRead (kindOf (r .body)) (headOf id (r .body) (length (r .tags))) s ≡ some (r .body)
   pub tags : tagsFrom s (tagsAt (kindOf (r .body)) (headOf id (r .body) (length (r .tags)) .count)) (length (r .tags)) ≡ some (r .tags)
   pub whole : readRecord (kindOf (r .body)) s ≡ some (record { id = id; held = r })
 
-all-of-it : (id : ℤ) (r : Record ℕ) (s : Bytes) → headAt (kindOf (r .body)) s ≡ headOf id (r .body) (length (r .tags)) → metaOf (metaAt s (headLen (kindOf (r .body)))) ≡ r .meta
-    → bodyAt (kindOf (r .body)) (headOf id (r .body) (length (r .tags))) s ≡ some (r .body)
+all-of-it : (id : ℤ) (r : Record ℕ) (s : Bytes) → headRead (kindOf (r .body)) s ≡ some (headOf id (r .body) (length (r .tags))) → metaGiven (metaRead s (headLen (kindOf (r .body)))) ≡ some (r .meta)
+    → bodyRead (kindOf (r .body)) (headOf id (r .body) (length (r .tags))) s ≡ some (r .body)
     → tagsFrom s (tagsAt (kindOf (r .body)) (headOf id (r .body) (length (r .tags)) .count)) (length (r .tags)) ≡ some (r .tags)
     → readRecord (kindOf (r .body)) s ≡ some (record { id = id; held = r })
-unfolding readRecord with
-all-of-it id r s hd m b t = rw (hd, b, head-tags id (r .body) (length (r .tags)), t, head-id id (r .body) (length (r .tags)), m)
+unfolding readRecord bind
+all-of-it id r s hd m b t = rw (hd, m, b, head-tags id (r .body) (length (r .tags)), t, head-id id (r .body) (length (r .tags)))
 
 found-there : (id : ℤ) (r : Record ℕ) (s q : Bytes) → fitting id r ≡ true → legalTexts r ≡ true
     → Lie s 0 (headBytes (kindOf (r .body)) (headOf id (r .body) (length (r .tags))) ∷ metaBytes (r .meta) ∷ bodyBytes (r .body) ∷ joined tagBytes (r .tags) ∷ []) q → Found id r s
@@ -213,16 +287,23 @@ found-there id r s q h1 g w1 =
     let w2 = later (headLen k) (headLen k) (length-head k _) (omega arith) w1 in
     let w3 = later 29 (headLen k + 29) (length-meta (r .meta)) refl w2 in
     let w4 = later (length (bodyBytes b)) (tagsAt k (headOf id b n .count)) refl (tags-place id b n) w3 in
-    let hd = head-back id b n s _ (both-left _ _ h1) (w1 .is) in
-    let m = meta-back s (headLen k) (r .meta) _ (both-left _ _ h2) (w2 .is) in
-    let t = tags-back s (r .tags) _ q (both-right _ _ h3) g (w4 .is) in
+    let long = simp (length-append, length-head, length-meta) at (ap length (w1 .is)) in
+    let l3 : headLen k + 29 ≤ length s = omega arith in
+    let l4 : tagsAt k (headOf id b n .count) ≤ length s = omega (arith, tags-place id b n) in
+    let hd = head-read id b n s _ (both-left _ _ h1) (w1 .is) in
+    let m = meta-read s (headLen k) (r .meta) _ (both-left _ _ h2) (w2 .is) in
+    let bd = body-read id b n s _ (both-left _ _ h3) l3 (w3 .is) in
+    let t = tags-from s (r .tags) _ q l4 (all-both fitsTag (λ t. isText (t .value)) (r .tags) (both-right _ _ h3) g) (w4 .is) in
     record {
-      head = hd;
-      meta = m;
+      head = head-back id b n s _ (both-left _ _ h1) (w1 .is);
+      meta = meta-back s (headLen k) (r .meta) _ (both-left _ _ h2) (w2 .is);
       refs-at = refs-of b s _ (both-left _ _ h3) (w3 .is);
       members-at = members-of b s _ (both-left _ _ h3) (w3 .is);
+      head-read = hd;
+      meta-read = m;
+      body-read = bd;
       tags = t;
-      whole = all-of-it id r s hd m (body-back id b n s _ (both-left _ _ h3) (w3 .is)) t;
+      whole = all-of-it id r s hd m bd t;
     }
 
 -- whatever follows it, a record that fits its fields and whose values are text is read from its bytes as it was written

@@ -101,7 +101,7 @@ tag-format = record { back = tag-back; forth = tag-forth }
 -- ---- heads
 
 module _ (id : ℤ) (tags : ℕ) (r : Bytes) where
-  head-back : (b : Body ℕ) → fitsHead (kindOf b) (headOf id b tags) ≡ true → cutHead (kindOf b) (headBytes (kindOf b) (headOf id b tags) ++ r) ≡ found (headOf id b tags) r
+  pub head-back : (b : Body ℕ) → fitsHead (kindOf b) (headOf id b tags) ≡ true → cutHead (kindOf b) (headBytes (kindOf b) (headOf id b tags) ++ r) ≡ found (headOf id b tags) r
   unfolding cutHead cutCounts headBytes headOf fitsHead andThen
   head-back (place lat lon) h1 =
       let h2 = both-right _ _ h1 in let h3 = both-right _ _ h2 in

@@ -12,9 +12,11 @@ use Rattle.little.specs.Little.{le}
 use Rattle.kind.specs.declared.Kind.the-variants.{Node, Way, Relation}
 use Rattle.compact.specs.declared.ArenaMeta.{ArenaMeta}
 use Rattle.compact.specs.declared.CompactNode.{CompactNode}
+use Rattle.compact.specs.declared.CompactWay.{CompactWay}
+use Rattle.compact.specs.declared.CompactRelation.{CompactRelation}
 use Rattle.compact.specs.Layout.{Head, metaBytes, headBytes}
 use Rattle.compact.specs.Fits.{fitsNumber, fitsSigned, fitsMeta, fitsHead}
-use Rattle.compact.specs.Held.{metaOf, nodeHead, countsHead}
+use Rattle.compact.specs.Held.{metaOf, metaBits, nodeHead, countsHead, wayHead, relationHead, nodeBits, wayBits, relationBits}
 use Rattle.compact.proofs.Format.{signed-there}
 
 number-fits : (n : ℕ) {v : ℕ} → v < 256 ^ n → fitsNumber n v ≡ true
@@ -49,6 +51,12 @@ unfolding fitsMeta metaOf
 meta-fits m h =
     both-of (number-fits 1 (h .flags)) (both-of (i32-fits (h .version)) (both-of (i64-fits (h .timestamp)) (both-of (i64-fits (h .changeset)) (both-of (i32-fits (h .uid)) (number-fits 4 (h .user))))))
 
+-- the bits again
+pub meta-again : (m : ArenaMeta) → MetaHeld m → metaBits (metaOf m) ≡ m
+unfolding metaBits metaOf
+meta-again m h =
+    rw (ofZ-toZ {w = w32} (fits-of-lt (h .version)), ofZ-toZ {w = w64} (fits-of-lt (h .timestamp)), ofZ-toZ {w = w64} (fits-of-lt (h .changeset)), ofZ-toZ {w = w32} (fits-of-lt (h .uid)))
+
 -- ---- heads
 
 pub record NodeHeld (h : CompactNode) : Type 0 where
@@ -81,3 +89,17 @@ relation-bytes h = refl
 pub relation-fits : (h : Head) → fitsHead Relation h ≡ fitsHead Way h
 unfolding fitsHead
 relation-fits h = refl
+
+-- the bits again
+
+pub node-again : (h : CompactNode) → NodeHeld h → nodeBits (nodeHead h) ≡ h
+unfolding nodeBits nodeHead
+node-again h f = rw (ofZ-toZ {w = w64} (fits-of-lt (f .id)), ofZ-toZ {w = w32} (fits-of-lt (f .lat)), ofZ-toZ {w = w32} (fits-of-lt (f .lon)))
+
+pub way-again : (h : CompactWay) → h .id < 2 ^ 64 → wayBits (wayHead h) ≡ h
+unfolding wayBits wayHead countsHead
+way-again h f = rw (ofZ-toZ {w = w64} (fits-of-lt f))
+
+pub relation-again : (h : CompactRelation) → h .id < 2 ^ 64 → relationBits (relationHead h) ≡ h
+unfolding relationBits relationHead countsHead
+relation-again h f = rw (ofZ-toZ {w = w64} (fits-of-lt f))

@@ -3,5 +3,7 @@ pub mod Cuts
 pub mod Lengths
 pub mod Holds
 pub mod Missing
+pub mod Places
 pub mod Steps
+pub mod Answers
 pub mod Back

@@ -3,7 +3,7 @@ use Prim.Native.Nat.{ℕ}
 use mathlib.Core.Option.{Option, none, some}
 use lib.IntN.{ℤ, pos}
 use mir.Syntax.{w32, w64}
-use mir.Val.{toZ}
+use mir.Val.{toZ, ofZ}
 use Rattle.kind.specs.Kind.{ofNumber}
 use Rattle.kind.specs.declared.Named.{Named}
 use Rattle.kind.specs.declared.Named.the-variants.{Is, Unknown}
@@ -29,6 +29,18 @@ metaOf m =
       user = m .user;
     }
 
+-- the same the other way
+unfoldable pub metaBits : Meta ℕ → ArenaMeta
+metaBits m =
+    record {
+      flags = m .flags;
+      version = ofZ w32 (m .version);
+      timestamp = ofZ w64 (m .timestamp);
+      changeset = ofZ w64 (m .changeset);
+      uid = ofZ w32 (m .uid);
+      user = m .user;
+    }
+
 unfoldable pub nodeHead : CompactNode → Head
 nodeHead n = record { id = toZ w64 (n .id); lat = toZ w32 (n .lat); lon = toZ w32 (n .lon); count = 0; tags = n .«tag_count» }
 
@@ -41,6 +53,16 @@ wayHead w = countsHead (w .id) (w .«ref_count») (w .«tag_count»)
 
 unfoldable pub relationHead : CompactRelation → Head
 relationHead r = countsHead (r .id) (r .«member_count») (r .«tag_count»)
+
+-- heads the other way: of a node its place, of a way and a relation its count
+unfoldable pub nodeBits : Head → CompactNode
+nodeBits h = record { id = ofZ w64 (h .id); lat = ofZ w32 (h .lat); lon = ofZ w32 (h .lon); «tag_count» = h .tags }
+
+unfoldable pub wayBits : Head → CompactWay
+wayBits h = record { id = ofZ w64 (h .id); «ref_count» = h .count; «tag_count» = h .tags }
+
+unfoldable pub relationBits : Head → CompactRelation
+relationBits h = record { id = ofZ w64 (h .id); «member_count» = h .count; «tag_count» = h .tags }
 
 abbrev pub named : ℤ → Named → ℕ → Option (Member ℕ)
 named ref (Is k) role = some (record { ref = ref; type = k; role = role })

@@ -11,7 +11,7 @@ use Rattle.osm_id.specs.Order.{sameId}
 use Rattle.text.specs.Check.{isText}
 use Rattle.refusal.specs.declared.Refusal.{Refusal}
 use Rattle.refusal.specs.declared.Refusal.the-variants.{NotText, CoordinateRange, TooManyParts, BadRecord}
-use Rattle.model.specs.Record.{Meta, Member, Tag, Body, place, refs, members, Record, flagged}
+use Rattle.model.specs.Record.{Meta, Tag, Body, place, refs, members, Record, flagged}
 
 -- "16 an element over 256 tags, 2,000 refs, 2,000 members or 16,384 tag value bytes"
 pub record Limits : Type 0 where

@@ -1,30 +1,47 @@
--- A record read field by field, at the places that the layout gives them. Bytes that are missing read as 0.
-use Prim.Native.Nat.{ℕ, zero, suc, _+_, _*_}
+-- What is read of a record's bytes: each field at the place that the layout gives it, for the library's own code; and a user's readers and steps.
+use Prim.Native.Nat.{ℕ, zero, suc, _+_, _-_, _*_}
 use mathlib.Core.Bool.{cond}
-use mathlib.Core.Option.{Option, none, some, Option·map}
+use mathlib.Core.Option.{Option, none, some, Option·map, bind}
 use mathlib.Core.List.{List, [], _∷_}
 use lib.Dec.{eqb}
+use lib.IntN.{ℤ}
 use lib.ListN.{length, take, drop}
 use mir.Syntax.{w64}
-use mir.Val.{toZ}
+use mir.Val.{toZ, ofZ}
 use Rattle.base.specs.Bytes.{Bytes}
 use Rattle.little.specs.Little.{valueAt}
 use Rattle.text.specs.Check.{isText}
+use Rattle.refusal.specs.Refusal.{numberOf}
+use Rattle.refusal.specs.declared.Refusal.the-variants as refused
 use Rattle.kind.specs.declared.Kind.{Kind}
 use Rattle.kind.specs.declared.Kind.the-variants.{Node, Way, Relation}
-use Rattle.model.specs.Record.{Tag, Body, place, refs, members}
+use Rattle.model.specs.Record.{Meta, Member, Tag, Body, place, refs, members}
 use Rattle.compact.specs.declared.ArenaMeta.{ArenaMeta}
 use Rattle.compact.specs.declared.CompactNode.{CompactNode}
 use Rattle.compact.specs.declared.CompactWay.{CompactWay}
 use Rattle.compact.specs.declared.CompactRelation.{CompactRelation}
 use Rattle.compact.specs.declared.CompactMember.{CompactMember}
+use Rattle.compact.specs.declared.NodeRead.{NodeRead}
+use Rattle.compact.specs.declared.NodeRead.the-variants as node
+use Rattle.compact.specs.declared.WayRead.{WayRead}
+use Rattle.compact.specs.declared.WayRead.the-variants as way
+use Rattle.compact.specs.declared.RelationRead.{RelationRead}
+use Rattle.compact.specs.declared.RelationRead.the-variants as relation
+use Rattle.compact.specs.declared.MetaRead.{MetaRead}
+use Rattle.compact.specs.declared.MetaRead.the-variants as meta
+use Rattle.compact.specs.declared.RefStep.{RefStep}
+use Rattle.compact.specs.declared.RefStep.the-variants as ref
+use Rattle.compact.specs.declared.MemberStep.{MemberStep}
+use Rattle.compact.specs.declared.MemberStep.the-variants as member
 use Rattle.compact.specs.declared.TagStep.{TagStep}
-use Rattle.compact.specs.declared.TagStep.the-variants as step
+use Rattle.compact.specs.declared.TagStep.the-variants as tag
 use Rattle.compact.specs.Layout.{Head, headLen}
-use Rattle.compact.specs.Cut.{Cut, cutTag, Kept}
-use Rattle.compact.specs.Held.{metaOf, nodeHead, wayHead, relationHead, memberOf}
+use Rattle.compact.specs.Cut.{Cut, andThen, found, cutI64, cutMeta, cutMember, cutTag, cutHead, Kept}
+use Rattle.compact.specs.Held.{metaOf, metaBits, nodeHead, wayHead, relationHead, nodeBits, wayBits, relationBits}
 
--- ---- the fields: "node id i64, lat i32, lon i32, tag count u32; way id, ref count, tag count; relation id, member count, tag count (counts u32)"
+-- ---- fields at their places, for the library's own code on bytes that it has checked: bytes that are missing read as 0. A user gets the readers below.
+
+-- "node id i64, lat i32, lon i32, tag count u32; way id, ref count, tag count; relation id, member count, tag count (counts u32)"
 
 unfoldable pub nodeAt : Bytes → CompactNode
 nodeAt s = record { id = valueAt 8 s 0; lat = valueAt 4 s 8; lon = valueAt 4 s 12; «tag_count» = valueAt 4 s 16 }
@@ -61,49 +78,129 @@ tagsAt Node n = 49
 tagsAt Way n = 45 + 8 * n
 tagsAt Relation n = 45 + 13 * n
 
--- ---- the tag step: "none at 0 remaining, else 22 for a tag past the bytes or not text; it yields the key's handle, unresolved"
-
-abbrev pub stepTo : ℕ → Option (Cut (Tag ℕ)) → TagStep
-stepTo offset none = step.Unsound
-stepTo offset (some c) = cond (isText (c .item .value)) (step.Tag (c .item .key) (offset + 8) (length (c .item .value))) step.Unsound
-
-unfoldable pub tagStep : Bytes → ℕ → ℕ → TagStep
-tagStep s offset remaining = cond (eqb remaining 0) step.Done (stepTo offset (cutTag (drop offset s)))
-
--- ---- a record, read by these alone
-
--- where both are there
-unfoldable pub with : {A B C : Type 0} → Option A → Option B → (A → B → C) → Option C
-with none b f = none
-with (some a) none f = none
-with (some a) (some b) f = some (f a b)
-
--- n elements, from number i on
-unfoldable pub gathered : {A : Type 0} → (ℕ → Option A) → ℕ → ℕ → Option (List A)
-gathered f i zero = some []
-gathered f i (suc n) = with (f i) (gathered f (suc i) n) _∷_
-
--- a step's tag, and those from the next offset on
-abbrev pub onward : Bytes → TagStep → (ℕ → Option (List (Tag ℕ))) → Option (List (Tag ℕ))
-onward s step.Done more = some []
-onward s step.Unsound more = none
-onward s (step.Tag key start len) more = with (some (record { key = key; value = take len (drop start s) })) (more (start + len)) _∷_
-
-unfoldable pub tagsFrom : Bytes → ℕ → ℕ → Option (List (Tag ℕ))
-tagsFrom s at zero = onward s (tagStep s at 0) (λ next. none)
-tagsFrom s at (suc n) = onward s (tagStep s at (suc n)) (λ next. tagsFrom s next n)
-
 unfoldable pub headAt : Kind → Bytes → Head
 headAt Node s = nodeHead (nodeAt s)
 headAt Way s = wayHead (wayAt s)
 headAt Relation s = relationHead (relationAt s)
 
-unfoldable pub bodyAt : Kind → Head → Bytes → Option (Body ℕ)
-bodyAt Node h s = some (place (h .lat) (h .lon))
-bodyAt Way h s = Option·map refs (gathered (λ i. some (toZ w64 (refAt s i))) 0 (h .count))
-bodyAt Relation h s = Option·map members (gathered (λ i. memberOf (memberAt s i)) 0 (h .count))
+-- ---- a user's readers of heads and metadata: what is cut off the bytes, or `Unsound` where they are cut short
+
+-- "`arena_invariant_broken`: refusal 22": the number of each `Unsound`
+abbrev pub unsoundNumber : ℕ
+unsoundNumber = numberOf refused.Unsound
+
+abbrev pub answer : {A B : Type 0} → B → (A → Bytes → B) → Option (Cut A) → B
+answer unsound is none = unsound
+answer unsound is (some c) = is (c .item) (c .rest)
+
+unfoldable pub nodeRead : Bytes → NodeRead
+nodeRead s = answer node.Unsound (λ h r. node.Is (nodeBits h)) (cutHead Node s)
+
+unfoldable pub wayRead : Bytes → WayRead
+wayRead s = answer way.Unsound (λ h r. way.Is (wayBits h)) (cutHead Way s)
+
+unfoldable pub relationRead : Bytes → RelationRead
+relationRead s = answer relation.Unsound (λ h r. relation.Is (relationBits h)) (cutHead Relation s)
+
+unfoldable pub metaRead : Bytes → ℕ → MetaRead
+metaRead s at = answer meta.Unsound (λ m r. meta.Is (metaBits m)) (cutMeta (drop at s))
+
+-- ---- a user's steps, "one step a call": "none at 0 remaining, else 22 for a tag past the bytes or not text"
+
+-- over any element: done at 0 remaining, else what is cut off at the offset and the offset of the next one, where the rest begins
+unfoldable pub step : {A B : Type 0} → B → B → (A → ℕ → B) → (Bytes → Option (Cut A)) → Bytes → ℕ → ℕ → B
+step done unsound yields cut s offset remaining =
+    cond (eqb remaining 0) done (answer unsound (λ a r. yields a (length s - length r)) (cut (drop offset s)))
+
+unfoldable pub refStep : Bytes → ℕ → ℕ → RefStep
+refStep s offset remaining = step ref.Done ref.Unsound (λ z next. ref.Ref (ofZ w64 z) next) cutI64 s offset remaining
+
+unfoldable pub memberStep : Bytes → ℕ → ℕ → MemberStep
+memberStep s offset remaining =
+    step member.Done member.Unsound (λ m next. member.Member (ofZ w64 (m .ref)) (m .type) (m .role) next) cutMember s offset remaining
+
+-- a tag whose value is text
+unfoldable pub cutText : Bytes → Option (Cut (Tag ℕ))
+cutText s = andThen (cutTag s) (λ t r. cond (isText (t .value)) (found t r) none)
+
+-- "it yields the key's handle, unresolved"; the value lies up to the next tag
+unfoldable pub tagStep : Bytes → ℕ → ℕ → TagStep
+tagStep s offset remaining =
+    step tag.Done tag.Unsound (λ t next. tag.Tag (t .key) (next - length (t .value)) (length (t .value))) cutText s offset remaining
+
+-- ---- what a user makes of the answers
+
+abbrev pub nodeGiven : NodeRead → Option Head
+nodeGiven (node.Is n) = some (nodeHead n)
+nodeGiven node.Unsound = none
+
+abbrev pub wayGiven : WayRead → Option Head
+wayGiven (way.Is w) = some (wayHead w)
+wayGiven way.Unsound = none
+
+abbrev pub relationGiven : RelationRead → Option Head
+relationGiven (relation.Is r) = some (relationHead r)
+relationGiven relation.Unsound = none
+
+unfoldable pub headRead : Kind → Bytes → Option Head
+headRead Node s = nodeGiven (nodeRead s)
+headRead Way s = wayGiven (wayRead s)
+headRead Relation s = relationGiven (relationRead s)
+
+abbrev pub metaGiven : MetaRead → Option (Meta ℕ)
+metaGiven (meta.Is m) = some (metaOf m)
+metaGiven meta.Unsound = none
+
+pub data Step (A : Type 0) : Type 0 where
+  done : Step A
+  unsound : Step A
+  yields : A → ℕ → Step A
+
+abbrev pub refGiven : RefStep → Step ℤ
+refGiven ref.Done = done
+refGiven ref.Unsound = unsound
+refGiven (ref.Ref v next) = yields (toZ w64 v) next
+
+abbrev pub memberGiven : MemberStep → Step (Member ℕ)
+memberGiven member.Done = done
+memberGiven member.Unsound = unsound
+memberGiven (member.Member v k role next) = yields (record { ref = toZ w64 v; type = k; role = role }) next
+
+-- the value is the view's bytes at its place
+abbrev pub tagGiven : Bytes → TagStep → Step (Tag ℕ)
+tagGiven s tag.Done = done
+tagGiven s tag.Unsound = unsound
+tagGiven s (tag.Tag key start len) = yields (record { key = key; value = take len (drop start s) }) (start + len)
+
+-- ---- a record, read by the readers and steps alone
+
+-- an element and those from the next offset on
+abbrev pub onward : {A : Type 0} → Step A → (ℕ → Option (List A)) → Option (List A)
+onward done more = some []
+onward unsound more = none
+onward (yields a next) more = Option·map (a ∷_) (more next)
+
+-- step after step, from an offset on, until none remain
+unfoldable pub stepped : {A : Type 0} → (ℕ → ℕ → Step A) → ℕ → ℕ → Option (List A)
+stepped f at zero = onward (f at 0) (λ next. none)
+stepped f at (suc n) = onward (f at (suc n)) (λ next. stepped f next n)
+
+unfoldable pub refsFrom : Bytes → ℕ → ℕ → Option (List ℤ)
+refsFrom s at n = stepped (λ o m. refGiven (refStep s o m)) at n
+
+unfoldable pub membersFrom : Bytes → ℕ → ℕ → Option (List (Member ℕ))
+membersFrom s at n = stepped (λ o m. memberGiven (memberStep s o m)) at n
+
+unfoldable pub tagsFrom : Bytes → ℕ → ℕ → Option (List (Tag ℕ))
+tagsFrom s at n = stepped (λ o m. tagGiven s (tagStep s o m)) at n
+
+-- refs or members stand after the head and the metadata
+unfoldable pub bodyRead : Kind → Head → Bytes → Option (Body ℕ)
+bodyRead Node h s = some (place (h .lat) (h .lon))
+bodyRead Way h s = Option·map refs (refsFrom s (tagsAt Way 0) (h .count))
+bodyRead Relation h s = Option·map members (membersFrom s (tagsAt Relation 0) (h .count))
 
 unfoldable pub readRecord : Kind → Bytes → Option Kept
 readRecord k s =
-    with (bodyAt k (headAt k s) s) (tagsFrom s (tagsAt k (headAt k s .count)) (headAt k s .tags))
-    (λ b ts. record { id = headAt k s .id; held = record { meta = metaOf (metaAt s (headLen k)); body = b; tags = ts } })
+    bind (headRead k s) (λ h. bind (metaGiven (metaRead s (headLen k))) (λ m. bind (bodyRead k h s) (λ b.
+    bind (tagsFrom s (tagsAt k (h .count)) (h .tags)) (λ ts. some (record { id = h .id; held = record { meta = m; body = b; tags = ts } })))))

@@ -6,7 +6,11 @@ ghost use lib.Dec.{ltb};
 ghost use Rattle.kind.specs.declared.Kind.the-variants.{Way, Relation};
 ghost use Rattle.model.specs.Record.{claimOf};
 ghost use Rattle.compact.specs.Held.{metaOf};
-ghost use Rattle.compact.specs.View.{nodeAt, wayAt, relationAt, metaAt, refAt, memberAt, tagsAt, tagStep};
+ghost use Rattle.compact.specs.View.{nodeAt, wayAt, relationAt, metaAt, refAt, memberAt, tagsAt};
+ghost use Rattle.compact.specs.View.{unsoundNumber, nodeRead, wayRead, relationRead, metaRead, refStep, memberStep, tagStep};
+use kind::Kind;
+use kind::Named;
+use refusal::Refusal;
 use version_floor::Version;
 
 // "Metadata, `META_LEN` 29 bytes"
@@ -57,6 +61,46 @@ pub struct CompactMember {
     pub role: u32,
 }
 
+// What a user's reader of a head or of metadata answers: the value, or 22 where the bytes are cut short.
+pub enum NodeRead {
+    Is(CompactNode),
+    Unsound,
+}
+
+pub enum WayRead {
+    Is(CompactWay),
+    Unsound,
+}
+
+pub enum RelationRead {
+    Is(CompactRelation),
+    Unsound,
+}
+
+pub enum MetaRead {
+    Is(ArenaMeta),
+    Unsound,
+}
+
+// What a ref step answers: no refs are left; no ref stands here (22); or a ref, in bits, and the offset of the next.
+pub enum RefStep {
+    Done,
+    Unsound,
+    Ref { value: u64, next: usize },
+}
+
+// The same for a member: 22 also where its type byte is none of 0, 1 and 2.
+pub enum MemberStep {
+    Done,
+    Unsound,
+    Member {
+        reference: u64,
+        kind: Kind,
+        role: u32,
+        next: usize,
+    },
+}
+
 // What a tag step answers: no tags are left; no tag stands here (22); or a tag, its key's handle and where its value lies.
 // The next tag stands at the value's end.
 pub enum TagStep {
@@ -83,7 +127,9 @@ fn past(len: usize, at: usize, n: usize) -> bool
     if at <= len { len - at < n } else { true }
 }
 
-// ---- readers of a record's bytes
+// ---- a record's fields at their places, and a user's readers of heads
+// `read`, `read_meta`, `ref_at` and `member_at` are for the library's own code, on bytes that it has checked: bytes that are missing read as 0.
+// A user of a record's view has `try_read`, `try_read_meta`, `ref_step`, `member_step` and `tag_step`, which answer 22 there.
 
 impl CompactNode {
     // After id, latitude, longitude and tag count.
@@ -100,6 +146,15 @@ impl CompactNode {
             lon: little::get_u32(bytes, 12),
             tag_count: little::get_u32(bytes, 16),
         }
+    }
+
+    pub fn try_read(bytes: &[u8]) -> NodeRead
+        ensures { λ r. ⌜ r ≡ nodeRead (now (bytes .entry)) ⌝ }
+    {
+        if bytes.len() < CompactNode::META_OFF {
+            return NodeRead::Unsound;
+        }
+        NodeRead::Is(CompactNode::read(bytes))
     }
 }
 
@@ -124,6 +179,15 @@ impl CompactWay {
             ref_count: little::get_u32(bytes, 8),
             tag_count: little::get_u32(bytes, 12),
         }
+    }
+
+    pub fn try_read(bytes: &[u8]) -> WayRead
+        ensures { λ r. ⌜ r ≡ wayRead (now (bytes .entry)) ⌝ }
+    {
+        if bytes.len() < CompactWay::META_OFF {
+            return WayRead::Unsound;
+        }
+        WayRead::Is(CompactWay::read(bytes))
     }
 }
 
@@ -150,6 +214,15 @@ impl CompactRelation {
             member_count: little::get_u32(bytes, 8),
             tag_count: little::get_u32(bytes, 12),
         }
+    }
+
+    pub fn try_read(bytes: &[u8]) -> RelationRead
+        ensures { λ r. ⌜ r ≡ relationRead (now (bytes .entry)) ⌝ }
+    {
+        if bytes.len() < CompactRelation::META_OFF {
+            return RelationRead::Unsound;
+        }
+        RelationRead::Is(CompactRelation::read(bytes))
     }
 }
 
@@ -194,6 +267,64 @@ pub fn member_at(bytes: &[u8], i: u32) -> CompactMember
         reference: little::get_u64(bytes, at),
         kind: little::get_u8(bytes, at + 8),
         role: little::get_u32(bytes, at + 9),
+    }
+}
+
+// ---- a user's reader of metadata, and a user's steps
+
+// The number of every `Unsound`: "`arena_invariant_broken`: refusal 22".
+pub fn unsound_number() -> u32
+    ensures { λ r. ⌜ r ≡ unsoundNumber ⌝ }
+{
+    refusal::reply_of(Refusal::Unsound).number
+}
+
+// The metadata from a place on.
+pub fn try_read_meta(bytes: &[u8], at: usize) -> MetaRead
+    ensures { λ r. ⌜ r ≡ metaRead (now (bytes .entry)) at ⌝ }
+{
+    if past(bytes.len(), at, META_LEN) {
+        return MetaRead::Unsound;
+    }
+    MetaRead::Is(read_meta(bytes, at))
+}
+
+// The ref at an offset, with so many refs remaining.
+pub fn ref_step(bytes: &[u8], offset: usize, remaining: u32) -> RefStep
+    ensures { λ r. ⌜ r ≡ refStep (now (bytes .entry)) offset remaining ⌝ }
+{
+    if remaining == 0 {
+        return RefStep::Done;
+    }
+    if past(bytes.len(), offset, 8) {
+        return RefStep::Unsound;
+    }
+    let next = offset + 8;
+    RefStep::Ref {
+        value: little::get_u64(bytes, offset),
+        next,
+    }
+}
+
+// The member at an offset, with so many members remaining.
+pub fn member_step(bytes: &[u8], offset: usize, remaining: u32) -> MemberStep
+    ensures { λ r. ⌜ r ≡ memberStep (now (bytes .entry)) offset remaining ⌝ }
+{
+    if remaining == 0 {
+        return MemberStep::Done;
+    }
+    if past(bytes.len(), offset, CompactRelation::MEMBER_SIZE) {
+        return MemberStep::Unsound;
+    }
+    let next = offset + CompactRelation::MEMBER_SIZE;
+    match kind::kind_of_number(little::get_u8(bytes, offset + 8)) {
+        Named::Is(kind) => MemberStep::Member {
+            reference: little::get_u64(bytes, offset),
+            kind,
+            role: little::get_u32(bytes, offset + 9),
+            next,
+        },
+        Named::Unknown => MemberStep::Unsound,
     }
 }
 

@@ -97,6 +97,16 @@ unfoldable pub distinct : List Attr → Bool
 distinct [] = true
 distinct (a ∷ as1) = both (not (named (a .name) as1)) (distinct as1)
 
+-- the value of the attribute of a name, if there is one
+unfoldable pub valueOf : Bytes → List Attr → Option Bytes
+valueOf n [] = none
+valueOf n (a ∷ attrs) = cond (same n (a .name)) (some (a .value)) (valueOf n attrs)
+
+-- a value that may be missing: empty where it is
+abbrev pub orEmpty : Option Bytes → Bytes
+orEmpty none = []
+orEmpty (some v) = v
+
 -- ---- events
 
 abbrev pub startsWith : Bool → Bytes → Option (List Attr) → Reading

@@ -6,16 +6,23 @@ ghost use Rattle.kind.specs.declared.Kind.the-variants.{Node, Way, Relation};
 ghost use Rattle.interner.specs.Strings.{storeWith, intern, spanOf as handleSpan};
 ghost use Rattle.compact.specs.Layout.{headBytes, metaBytes};
 ghost use Rattle.compact.specs.Held.{metaOf, nodeHead, wayHead, relationHead};
-ghost use Rattle.compact.specs.View.{nodeAt, wayAt, relationAt, metaAt, refAt, memberAt, tagsAt, tagStep};
+ghost use Rattle.compact.specs.View.{nodeRead, wayRead, relationRead, metaRead, tagsAt, refStep, memberStep, tagStep};
 ghost use Rattle.append.specs.Append.{append};
 ghost use Rattle.layers.specs.Entries.{internedStrings, interningOf, spanPart};
-ghost use Rattle.layers.specs.Entries.{metaIn, nodeIn, wayIn, relationIn, memberIn, appendedNumber, appendingOf, stepNumbers};
+ghost use Rattle.layers.specs.Entries.{metaIn, nodeIn, wayIn, relationIn, appendedNumber, appendingOf};
+ghost use Rattle.layers.specs.Entries.{nodeReply, wayReply, relationReply, metaReply, refReply, memberReply, stepNumbers};
 use append::Appended;
 use compact::ArenaMeta;
 use compact::CompactNode;
 use compact::CompactRelation;
 use compact::CompactWay;
+use compact::MemberStep;
+use compact::MetaRead;
+use compact::NodeRead;
+use compact::RefStep;
+use compact::RelationRead;
 use compact::TagStep;
+use compact::WayRead;
 use interner::Interned;
 
 // 0 with a value, or the refusal with 0.
@@ -137,11 +144,43 @@ pub struct Counted {
     pub tags: u32,
 }
 
+// 0 with what was read, or 22 with zeros.
 #[repr(C)]
-pub struct Member {
+pub struct PlacedReply {
+    pub number: u32,
+    pub head: Placed,
+}
+
+#[repr(C)]
+pub struct CountedReply {
+    pub number: u32,
+    pub head: Counted,
+}
+
+#[repr(C)]
+pub struct MetaReply {
+    pub number: u32,
+    pub meta: Meta,
+}
+
+// 0 with a ref and the offset of the next; 0 and done 1 where none is left; or 22.
+#[repr(C)]
+pub struct RefReply {
+    pub number: u32,
+    pub done: u8,
+    pub value: u64,
+    pub next: usize,
+}
+
+// The same with a member.
+#[repr(C)]
+pub struct MemberReply {
+    pub number: u32,
+    pub done: u8,
     pub reference: u64,
     pub kind: u8,
     pub role: u32,
+    pub next: usize,
 }
 
 // 0 with a tag; 0 and done 1 where none is left; or 22.
@@ -234,41 +273,96 @@ pub extern "C" fn tvl_append_relation(
     appended_number(append::append_relation(arena, used, head, meta_in(meta), parts))
 }
 
-#[no_mangle]
-pub extern "C" fn tvl_node(bytes: &[u8]) -> Placed
-    ensures { λ r. ⌜ nodeIn r ≡ nodeAt (now (bytes .entry)) ⌝ }
+fn node_reply(answer: NodeRead) -> PlacedReply
+    ensures { λ r. ⌜ r ≡ nodeReply answer ⌝ }
 {
-    let head = CompactNode::read(bytes);
-    Placed {
-        id: head.id,
-        lat: head.lat,
-        lon: head.lon,
-        tags: head.tag_count,
+    match answer {
+        NodeRead::Is(head) => PlacedReply {
+            number: 0,
+            head: Placed {
+                id: head.id,
+                lat: head.lat,
+                lon: head.lon,
+                tags: head.tag_count,
+            },
+        },
+        NodeRead::Unsound => PlacedReply {
+            number: compact::unsound_number(),
+            head: Placed {
+                id: 0,
+                lat: 0,
+                lon: 0,
+                tags: 0,
+            },
+        },
     }
 }
 
 #[no_mangle]
-pub extern "C" fn tvl_way(bytes: &[u8]) -> Counted
-    ensures { λ r. ⌜ wayIn r ≡ wayAt (now (bytes .entry)) ⌝ }
+pub extern "C" fn tvl_node(bytes: &[u8]) -> PlacedReply
+    ensures { λ r. ⌜ r ≡ nodeReply (nodeRead (now (bytes .entry))) ⌝ }
 {
-    let head = CompactWay::read(bytes);
-    Counted {
-        id: head.id,
-        count: head.ref_count,
-        tags: head.tag_count,
+    node_reply(CompactNode::try_read(bytes))
+}
+
+fn way_reply(answer: WayRead) -> CountedReply
+    ensures { λ r. ⌜ r ≡ wayReply answer ⌝ }
+{
+    match answer {
+        WayRead::Is(head) => CountedReply {
+            number: 0,
+            head: Counted {
+                id: head.id,
+                count: head.ref_count,
+                tags: head.tag_count,
+            },
+        },
+        WayRead::Unsound => CountedReply {
+            number: compact::unsound_number(),
+            head: Counted {
+                id: 0,
+                count: 0,
+                tags: 0,
+            },
+        },
     }
 }
 
 #[no_mangle]
-pub extern "C" fn tvl_relation(bytes: &[u8]) -> Counted
-    ensures { λ r. ⌜ relationIn r ≡ relationAt (now (bytes .entry)) ⌝ }
+pub extern "C" fn tvl_way(bytes: &[u8]) -> CountedReply
+    ensures { λ r. ⌜ r ≡ wayReply (wayRead (now (bytes .entry))) ⌝ }
 {
-    let head = CompactRelation::read(bytes);
-    Counted {
-        id: head.id,
-        count: head.member_count,
-        tags: head.tag_count,
+    way_reply(CompactWay::try_read(bytes))
+}
+
+fn relation_reply(answer: RelationRead) -> CountedReply
+    ensures { λ r. ⌜ r ≡ relationReply answer ⌝ }
+{
+    match answer {
+        RelationRead::Is(head) => CountedReply {
+            number: 0,
+            head: Counted {
+                id: head.id,
+                count: head.member_count,
+                tags: head.tag_count,
+            },
+        },
+        RelationRead::Unsound => CountedReply {
+            number: compact::unsound_number(),
+            head: Counted {
+                id: 0,
+                count: 0,
+                tags: 0,
+            },
+        },
     }
+}
+
+#[no_mangle]
+pub extern "C" fn tvl_relation(bytes: &[u8]) -> CountedReply
+    ensures { λ r. ⌜ r ≡ relationReply (relationRead (now (bytes .entry))) ⌝ }
+{
+    relation_reply(CompactRelation::try_read(bytes))
 }
 
 // Where the first tag of a way stands.
@@ -297,39 +391,116 @@ pub extern "C" fn tvl_relation_tags_at(relation: Counted) -> usize
     head.tags_at()
 }
 
+fn meta_reply(answer: MetaRead) -> MetaReply
+    ensures { λ r. ⌜ r ≡ metaReply answer ⌝ }
+{
+    match answer {
+        MetaRead::Is(meta) => MetaReply {
+            number: 0,
+            meta: Meta {
+                flags: meta.flags,
+                version: meta.version,
+                timestamp: meta.timestamp,
+                changeset: meta.changeset,
+                uid: meta.uid,
+                user: meta.user,
+            },
+        },
+        MetaRead::Unsound => MetaReply {
+            number: compact::unsound_number(),
+            meta: Meta {
+                flags: 0,
+                version: 0,
+                timestamp: 0,
+                changeset: 0,
+                uid: 0,
+                user: 0,
+            },
+        },
+    }
+}
+
 // The metadata from a place on.
 #[no_mangle]
-pub extern "C" fn tvl_meta(bytes: &[u8], at: usize) -> Meta
-    ensures { λ r. ⌜ metaIn r ≡ metaAt (now (bytes .entry)) at ⌝ }
+pub extern "C" fn tvl_meta(bytes: &[u8], at: usize) -> MetaReply
+    ensures { λ r. ⌜ r ≡ metaReply (metaRead (now (bytes .entry)) at) ⌝ }
 {
-    let meta = compact::read_meta(bytes, at);
-    Meta {
-        flags: meta.flags,
-        version: meta.version,
-        timestamp: meta.timestamp,
-        changeset: meta.changeset,
-        uid: meta.uid,
-        user: meta.user,
+    meta_reply(compact::try_read_meta(bytes, at))
+}
+
+fn ref_reply(step: RefStep) -> RefReply
+    ensures { λ r. ⌜ r ≡ refReply step ⌝ }
+{
+    match step {
+        RefStep::Done => RefReply {
+            number: 0,
+            done: 1,
+            value: 0,
+            next: 0,
+        },
+        RefStep::Unsound => RefReply {
+            number: compact::unsound_number(),
+            done: 0,
+            value: 0,
+            next: 0,
+        },
+        RefStep::Ref { value, next } => RefReply {
+            number: 0,
+            done: 0,
+            value,
+            next,
+        },
     }
 }
 
 #[no_mangle]
-pub extern "C" fn tvl_ref_at(bytes: &[u8], i: u32) -> u64
-    ensures { λ r. ⌜ r ≡ refAt (now (bytes .entry)) i ⌝ }
+pub extern "C" fn tvl_ref_step(bytes: &[u8], offset: usize, remaining: u32) -> RefReply
+    ensures { λ r. ⌜ r ≡ refReply (refStep (now (bytes .entry)) offset remaining) ⌝ }
 {
-    compact::ref_at(bytes, i)
+    ref_reply(compact::ref_step(bytes, offset, remaining))
+}
+
+fn member_reply(step: MemberStep) -> MemberReply
+    ensures { λ r. ⌜ r ≡ memberReply step ⌝ }
+{
+    match step {
+        MemberStep::Done => MemberReply {
+            number: 0,
+            done: 1,
+            reference: 0,
+            kind: 0,
+            role: 0,
+            next: 0,
+        },
+        MemberStep::Unsound => MemberReply {
+            number: compact::unsound_number(),
+            done: 0,
+            reference: 0,
+            kind: 0,
+            role: 0,
+            next: 0,
+        },
+        MemberStep::Member {
+            reference,
+            kind,
+            role,
+            next,
+        } => MemberReply {
+            number: 0,
+            done: 0,
+            reference,
+            kind: kind::kind_number(kind),
+            role,
+            next,
+        },
+    }
 }
 
 #[no_mangle]
-pub extern "C" fn tvl_member_at(bytes: &[u8], i: u32) -> Member
-    ensures { λ r. ⌜ memberIn r ≡ memberAt (now (bytes .entry)) i ⌝ }
+pub extern "C" fn tvl_member_step(bytes: &[u8], offset: usize, remaining: u32) -> MemberReply
+    ensures { λ r. ⌜ r ≡ memberReply (memberStep (now (bytes .entry)) offset remaining) ⌝ }
 {
-    let member = compact::member_at(bytes, i);
-    Member {
-        reference: member.reference,
-        kind: member.kind,
-        role: member.role,
-    }
+    member_reply(compact::member_step(bytes, offset, remaining))
 }
 
 fn step_numbers(step: TagStep) -> Step
@@ -344,7 +515,7 @@ fn step_numbers(step: TagStep) -> Step
             len: 0,
         },
         TagStep::Unsound => Step {
-            number: 22,
+            number: compact::unsound_number(),
             done: 0,
             key: 0,
             start: 0,

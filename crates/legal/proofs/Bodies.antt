@@ -22,7 +22,7 @@ use Rattle.compact.specs.Legal.{limits, handle, bodyHandles, inRange, bodyWithi
 use Rattle.legal.specs.Judge.{endOf, partsEnd, bodyEnd, placed, countWithin}
 use Rattle.legal.specs.declared.End.the-variants.{At, Bad}
 use Rattle.legal.specs.declared.Part.the-variants.{Role}
-use Rattle.legal.proofs.Places.{Off, off-none, total, times-off, i64-off, member-off, i64-sized}
+use Rattle.compact.proofs.Places.{Off, off-none, total, times-off, i64-off, member-off, i64-sized}
 use Rattle.legal.proofs.Ends.{end-none, end-found}
 
 -- ---- refs: 8 bytes each

@@ -8,14 +8,13 @@ use native.Mathlib.Omega.{arith}
 use lib.ListN.{length, drop, length-drop}
 use Rattle.base.specs.Bytes.{Bytes, both, all}
 use Rattle.base.proofs.Split.{byBool, no}
-use Rattle.model.specs.Record.{Member, Tag}
 use Rattle.compact.specs.Cut.{Cut, andThen, found, times, cutMember, cutTag}
 use Rattle.legal.specs.Judge.{endOf, partEnd, partsEnd}
 use Rattle.legal.specs.declared.End.{End}
 use Rattle.legal.specs.declared.End.the-variants.{At, Bad}
 use Rattle.legal.specs.declared.Part.{Part}
 use Rattle.legal.specs.declared.Part.the-variants.{Role, Key, Value}
-use Rattle.legal.proofs.Places.{Off, off-end, member-off, tag-off}
+use Rattle.compact.proofs.Places.{Off, off-end, member-off, tag-off}
 
 -- what an end tells: what was cut off, that it passes, and where the rest begins
 pub record Ends {A : Type 0} (p : A → Bool) (s : Bytes) (at : ℕ) (o : Option (Cut A)) (e : ℕ) : Type 0 where

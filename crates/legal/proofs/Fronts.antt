@@ -10,13 +10,12 @@ use lib.Seq.{take-all}
 use Rattle.base.specs.Bytes.{Bytes, both, either}
 use Rattle.base.proofs.Split.{byBool, byLe, no}
 use Rattle.kind.specs.declared.Kind.{Kind}
-use Rattle.kind.specs.declared.Kind.the-variants.{Node, Way, Relation}
 use Rattle.refusal.specs.declared.Refusal.the-variants.{NotText, CoordinateRange, TooManyParts, BadRecord}
 use Rattle.model.specs.Record.{Meta, Tag, Record}
 use Rattle.compact.specs.Layout.{Head, headLen}
-use Rattle.compact.specs.Cut.{Cut, andThen, found, cutMeta, cutTag, cutParts, cutHead, Kept, cutRecord}
-use Rattle.compact.specs.Held.{metaOf, nodeHead, countsHead, wayHead, relationHead}
-use Rattle.compact.specs.View.{nodeAt, wayAt, relationAt, metaAt, headAt}
+use Rattle.compact.specs.Cut.{Cut, andThen, found, cutTag, cutParts, Kept, cutRecord}
+use Rattle.compact.specs.Held.{metaOf}
+use Rattle.compact.specs.View.{metaAt, headAt}
 use Rattle.compact.proofs.Format.{first, of-cut}
 use Rattle.compact.specs.Legal.{legalHandles, legalTexts, inRange, withinLimits, limits, faultOf, legal}
 use Rattle.legal.specs.Judge.{endOf, recordEnd, judged, verdictOf}
@@ -24,7 +23,7 @@ use Rattle.legal.specs.declared.End.{End}
 use Rattle.legal.specs.declared.End.the-variants.{At, Bad}
 use Rattle.legal.specs.declared.Verdict.{Verdict}
 use Rattle.legal.specs.declared.Verdict.the-variants.{Legal, Refused}
-use Rattle.legal.proofs.Places.{Off, off-then, off-end, off-length, total, times-off, tag-off, meta-sized, counts-sized, place-sized}
+use Rattle.compact.proofs.Places.{Off, off-then, off-end, off-length, total, times-off, tag-off, meta-sized, meta-there, head-whole, head-short}
 use Rattle.legal.proofs.Ends.{end-none}
 use Rattle.legal.proofs.Bodies.{bodyLong, body-cut}
 
@@ -33,24 +32,6 @@ pub rest-of : (s : Bytes) (at : ℕ) → take (length s - at) (drop at s) ≡ dr
 rest-of s at = take-all (length s - at) (drop at s) (omega (arith, length-drop at s))
 
 -- ---- head and metadata
-
-head-whole : (k : Kind) (s : Bytes) → headLen k ≤ length s → cutHead k s ≡ found (headAt k s) (drop (headLen k) s)
-unfolding cutHead headAt nodeHead nodeAt wayHead wayAt relationHead relationAt countsHead
-head-whole Node s h = place-sized .whole s 0 h
-head-whole Way s h = counts-sized .whole s 0 h
-head-whole Relation s h = counts-sized .whole s 0 h
-
-head-short : (k : Kind) (s : Bytes) → length s < headLen k → cutHead k s ≡ none
-unfolding cutHead
-head-short Node s h = place-sized .short s 0 (omega arith) h
-head-short Way s h = counts-sized .short s 0 (omega arith) h
-head-short Relation s h = counts-sized .short s 0 (omega arith) h
-
-meta-whole : (k : Kind) (s : Bytes) → headLen k + 29 ≤ length s → cutMeta (drop (headLen k) s) ≡ found (metaOf (metaAt s (headLen k))) (drop (headLen k + 29) s)
-unfolding metaOf metaAt
-meta-whole Node s h = meta-sized .whole s 20 h
-meta-whole Way s h = meta-sized .whole s 16 h
-meta-whole Relation s h = meta-sized .whole s 16 h
 
 module _ (k : Kind) (s : Bytes) where
   pub record-short : length s < headLen k + 29 → cutRecord k s ≡ none
@@ -63,7 +44,7 @@ module _ (k : Kind) (s : Bytes) where
   pub record-is : headLen k + 29 ≤ length s
       → cutRecord k s ≡ andThen (cutParts k (headAt k s) (metaOf (metaAt s (headLen k))) (drop (headLen k + 29) s)) (λ r q. found (record { id = headAt k s .id; held = r }) q)
   unfolding cutRecord andThen
-  record-is h = rw (head-whole k s (omega arith), meta-whole k s h)
+  record-is h = rw (head-whole k s (omega arith), meta-there s (headLen k) h)
 
 -- ---- how far a record goes
 

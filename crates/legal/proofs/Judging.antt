@@ -17,7 +17,6 @@ use Rattle.kind.specs.declared.Kind.{Kind}
 use Rattle.kind.specs.declared.Kind.the-variants.{Node, Way, Relation}
 use Rattle.refusal.specs.declared.Refusal.the-variants.{NotText, CoordinateRange, TooManyParts, BadRecord}
 use Rattle.model.specs.Record.{Meta, Tag, Body, Record}
-use Rattle.compact.specs.Layout.{Head}
 use Rattle.compact.specs.Cut.{Cut, andThen, found, times, cutTag, cutBody, cutParts}
 use Rattle.compact.specs.Held.{nodeHead, countsHead}
 use Rattle.compact.specs.Legal.{limits, handle, legalMeta, bodyHandles, legalHandles, legalTexts, inRange, valueBytes, withinLimits, faultOf}
@@ -27,9 +26,9 @@ use Rattle.compact.specs.declared.PushHead.{PushHead}
 use Rattle.legal.specs.declared.End.the-variants.{At, Bad}
 use Rattle.legal.specs.declared.Verdict.the-variants.{Refused}
 use Rattle.legal.specs.declared.Part.the-variants.{Key, Value}
-use Rattle.legal.proofs.Places.{Off, off-length, total, times-off, tag-off}
+use Rattle.compact.proofs.Places.{Off, off-length, total, times-off, tag-off}
 use Rattle.legal.proofs.Ends.{Ends, ends-at, end-found}
-use Rattle.legal.proofs.Bodies.{bodyLong, BodyCut, body-cut}
+use Rattle.legal.proofs.Bodies.{bodyLong, body-cut}
 
 -- ---- the order of the tests
 

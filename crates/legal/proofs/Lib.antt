@@ -1,5 +1,4 @@
 pub mod Bits
-pub mod Places
 pub mod Ends
 pub mod Parts
 pub mod Bodies

@@ -17,11 +17,12 @@ use Rattle.kind.specs.Kind.{ofNumber}
 use Rattle.text.specs.Check.{isText}
 use Rattle.model.specs.Record.{Member, Tag}
 use Rattle.compact.specs.Cut.{Cut, found, cutTag}
+use Rattle.compact.specs.Held.{named}
 use Rattle.compact.specs.Legal.{handle}
 use Rattle.legal.specs.Judge.{endOf, partEnd, tagEnd}
 use Rattle.legal.specs.declared.End.the-variants.{At, Bad}
 use Rattle.legal.specs.declared.Part.the-variants.{Role, Key, Value}
-use Rattle.legal.proofs.Places.{leaving, Sized, namedAs, member-sized, tag-short, tag-long, tag-whole}
+use Rattle.compact.proofs.Places.{leaving, member-sized, tag-short, tag-long, tag-whole}
 use Rattle.legal.proofs.Ends.{end-none, end-found}
 
 -- what the end of a tag tells
@@ -38,7 +39,7 @@ module _ (strings : ℕ) (s : Bytes) (at : ℕ) (within : at ≤ length s) where
   member-bad h = rw (member-sized .short s at within h) (sym (end-none _ (length s)))
 
   type-and-role : (ref : ℤ) (n role e : ℕ) → e ≤ length s
-      → endOf (λ m. handle strings (m .role)) (length s) (leaving (namedAs ref (ofNumber n) role) (drop e s)) ≡ cond (both (ltb n 3) (ltb role strings)) (At e) Bad
+      → endOf (λ m. handle strings (m .role)) (length s) (leaving (named ref (ofNumber n) role) (drop e s)) ≡ cond (both (ltb n 3) (ltb role strings)) (At e) Bad
   unfolding ofNumber both
   type-and-role ref zero role e h = end-found (λ (m : Member ℕ). handle strings (m .role)) s _ e h
   type-and-role ref (suc zero) role e h = end-found (λ (m : Member ℕ). handle strings (m .role)) s _ e h
@@ -55,7 +56,7 @@ module _ (strings : ℕ) (s : Bytes) (at : ℕ) (within : at ≤ length s) where
 
   pub tag-bad-short : length s < at + 8 → Bad ≡ tagEnd s at
   unfolding tagEnd
-  tag-bad-short h = rw (tag-short s at within h) (sym (end-none _ (length s)))
+  tag-bad-short h = rw (tag-short s at h) (sym (end-none _ (length s)))
 
   module _ (room : at + 8 ≤ length s) (n : ℕ) (len : n ≡ valueAt 4 s (at + 4)) where
     pub tag-bad-long : length s < at + 8 + n → Bad ≡ tagEnd s at

@@ -11,7 +11,6 @@ use Rattle.base.proofs.Split.{byBool, no, clash}
 use Rattle.base.proofs.Lists.{all-nil, all-cons, all-head, all-tail, all-append, all-right}
 use Rattle.little.specs.Little.{isByte}
 use Rattle.kind.specs.declared.Kind.{Kind}
-use Rattle.model.specs.Record.{Record}
 use Rattle.compact.specs.Layout.{joined}
 use Rattle.compact.specs.Cut.{Cut, found, Kept, cutRecord}
 use Rattle.compact.specs.Fits.{fitsKept}
@@ -22,7 +21,7 @@ use Rattle.compact.specs.Legal.{legal}
 use Rattle.legal.specs.Judge.{recordEnd, endOf}
 use Rattle.legal.specs.Whole.{keptBytes, Whole, legalRest, afterLegal, onward, wholeStep, wholeBy, wholeRecords}
 use Rattle.legal.specs.declared.End.the-variants.{At, Bad}
-use Rattle.legal.proofs.Places.{off-length}
+use Rattle.compact.proofs.Places.{off-length}
 use Rattle.legal.proofs.Fronts.{record-off, end-tells}
 
 module _ (strings : ℕ) (k : Kind) where

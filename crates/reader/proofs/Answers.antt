@@ -1,216 +1,148 @@
--- What each answer of an event and of an end means: a refusal changes nothing but the stop mark, a stopped reader repeats, an accepted event counts one line.
+-- An event and an end, place by place: 22, the stop mark, then the step or the level.
 use Prim.Native.Nat.{ℕ, _+_}
 use mathlib.Core.Path.{_≡_, refl, sym, _∙_, ap}
 use mathlib.Core.Bool.{true, false}
 use mathlib.Core.Logic.{_↔_}
 use Rattle.base.specs.Bytes.{Bytes}
-use Rattle.base.proofs.Split.{byBool, no, clash}
+use Rattle.base.proofs.Split.{byBool, no}
 use Rattle.refusal.specs.declared.Refusal.{Refusal}
 use Rattle.refusal.specs.declared.Refusal.the-variants as R
 use Rattle.nesting.specs.declared.Level.{Level}
 use Rattle.nesting.specs.declared.Level.the-variants as L
-use Rattle.event.specs.Event.{eventOf}
+use Rattle.decision.specs.Decision.{decide}
 use Rattle.reader.specs.declared.Stop.{Stop}
 use Rattle.reader.specs.declared.Stop.the-variants.{Going, At}
-use Rattle.reader.specs.declared.Heard.{Heard}
-use Rattle.reader.specs.declared.Heard.the-variants as H
-use Rattle.reader.specs.Reader.{State, readerSound, stateSound}
-use Rattle.reader.specs.Step.{Left, Step, goes, refuses}
-use Rattle.reader.specs.Hear.{After, answers, lineOf, stopped, told, stepFor, unlessStopped, hear, ended, end}
+use Rattle.reader.specs.declared.EventAnswer.{EventAnswer}
+use Rattle.reader.specs.declared.EventAnswer.the-variants as E
+use Rattle.reader.specs.State.{State, nextLine, stopsBy, isStopped, stateSound}
+use Rattle.reader.specs.Step.{Advanced, Step, goes, stops, stepOf}
+use Rattle.reader.specs.Event.{EventResult, refusedAt, stepped, unlessStopped, eventOn, endAt, endOn}
 
 -- an answer, by what the whole is
-pub answered : {a : After} {t : State} {x y : Heard} → a ≡ record { state = t; answer = x } → a .answer ≡ y → x ≡ y
-answered {a} e f = sym (ap (λ (z : After). z .answer) e) ∙ f
+pub answer-is : {a : EventResult} {t : State} {x y : EventAnswer} → a ≡ record { state = t; answer = x } → a .answer ≡ y → x ≡ y
+answer-is {a} e f = sym (ap (λ (z : EventResult). z .answer) e) ∙ f
 
 -- an event or an end is accepted or refused
-pub byHeard : {C : Type 0} (x : Heard) → (x ≡ H.Accepted → C) → ((r : Refusal) (n : ℕ) → x ≡ H.Refused r n → C) → C
-byHeard H.Accepted f g = f refl
-byHeard (H.Refused r n) f g = g r n refl
+pub byAnswer : {C : Type 0} (x : EventAnswer) → (x ≡ E.Accepted → C) → ((r : Refusal) (n : ℕ) → x ≡ E.Refused r n → C) → C
+byAnswer E.Accepted f g = f refl
+byAnswer (E.Refused r n) f g = g r n refl
+
+-- a reader is stopped by its mark, or goes on
+module _ (s : State) (a : EventResult) where
+  goes-on : (m : Stop) → isStopped m ≡ false → unlessStopped m s a ≡ a
+  goes-on Going e = refl
+  goes-on (At r n) e = rw e
+
+  byStop : {C : Type 0} (m : Stop) → (isStopped m ≡ false → C) → ((r : Refusal) (n : ℕ) → m ≡ At r n → stopsBy r ≡ true → C) → C
+  byStop Going f g = f refl
+  byStop (At r n) f g = byBool (stopsBy r) (λ e. g r n refl e) f
+
+  repeats : (m : Stop) (r : Refusal) (n : ℕ) → m ≡ At r n → stopsBy r ≡ true → unlessStopped m s a ≡ refusedAt s r n
+  repeats m r n e t = rw (e, t)
 
 -- ---- an event
 
--- what a refusal leaves as it was: all but the stop mark
-pub record Same (s t : State) : Type 0 where
-  pub overlay : t .overlay ≡ s .overlay
-  pub parts : t .parts ≡ s .parts
-  pub place : t .reader .place ≡ s .reader .place
-  pub pending : t .reader .pending ≡ s .reader .pending
-  pub lines : t .reader .lines ≡ s .reader .lines
-
 module _ (line : Bytes) (s : State) where
-  at-going : stateSound s ≡ true → s .reader .stop ≡ Going → (x : Step) → stepFor (eventOf line) s ≡ x → hear line s ≡ told s x
-  unfolding hear
-  at-going e g x f = rw (e, f) (ap (λ (m : Stop). unlessStopped m s (told s x)) g)
+  -- what it does where it is neither refused 22 nor stopped
+  abbrev pub stepAt : Step
+  stepAt = stepOf (decide line (s .reader .place)) s
 
-  at-stopped : stateSound s ≡ true → (r : Refusal) (n : ℕ) → s .reader .stop ≡ At r n → hear line s ≡ answers s r n
-  unfolding hear
-  at-stopped e r n g = rw e (ap (λ (m : Stop). unlessStopped m s (told s (stepFor (eventOf line) s))) g)
+  -- 22 names no line, and changes nothing: the stop mark neither
+  pub event-22 : stateSound s ≡ false → eventOn line s ≡ refusedAt s R.Unsound 0
+  unfolding eventOn
+  event-22 e = rw e
 
-  at-unsound : stateSound s ≡ false → hear line s ≡ answers s R.Unsound 0
-  unfolding hear
-  at-unsound e = rw e
+  -- a stopped reader repeats its number, line and HELD, and changes nothing
+  pub event-stopped : (r : Refusal) (n : ℕ) → stateSound s ≡ true → s .reader .stop ≡ At r n → stopsBy r ≡ true → eventOn line s ≡ refusedAt s r n
+  unfolding eventOn
+  event-stopped r n e g t = rw e (repeats s (stepped s stepAt) (s .reader .stop) r n g t)
+
+  pub event-going : stateSound s ≡ true → isStopped (s .reader .stop) ≡ false → eventOn line s ≡ stepped s stepAt
+  unfolding eventOn
+  event-going e g = rw e (goes-on s (stepped s stepAt) (s .reader .stop) g)
 
   -- an event is refused 22, repeats the stop mark, is refused by its step, or goes
-  pub byHear : {C : Type 0}
-      → (stateSound s ≡ false → hear line s ≡ answers s R.Unsound 0 → C)
-      → ((r : Refusal) (n : ℕ) → stateSound s ≡ true → s .reader .stop ≡ At r n → hear line s ≡ answers s r n → C)
-      → ((r : Refusal) → stateSound s ≡ true → s .reader .stop ≡ Going → stepFor (eventOf line) s ≡ refuses r → hear line s ≡ told s (refuses r) → C)
-      → ((l : Left) → stateSound s ≡ true → s .reader .stop ≡ Going → stepFor (eventOf line) s ≡ goes l → hear line s ≡ told s (goes l) → C)
+  pub byEvent : {C : Type 0}
+      → (stateSound s ≡ false → eventOn line s ≡ refusedAt s R.Unsound 0 → C)
+      → ((r : Refusal) (n : ℕ) → stateSound s ≡ true → s .reader .stop ≡ At r n → stopsBy r ≡ true → eventOn line s ≡ refusedAt s r n → C)
+      → ((r : Refusal) → stateSound s ≡ true → isStopped (s .reader .stop) ≡ false → stepAt ≡ stops r → eventOn line s ≡ stepped s (stops r) → C)
+      → ((l : Advanced) → stateSound s ≡ true → isStopped (s .reader .stop) ≡ false → stepAt ≡ goes l → eventOn line s ≡ stepped s (goes l) → C)
       → C
-  byHear {C} unsound again refusal accepted = byBool (stateSound s) (λ e. marked e (s .reader .stop) refl) (λ e. unsound e (at-unsound e))
+  byEvent {C} unsound again refusal accepted =
+      byBool (stateSound s)
+      (λ e. byStop s (stepped s stepAt) (s .reader .stop) (λ g. steps e g stepAt refl) (λ r n g t. again r n e g t (event-stopped r n e g t)))
+      (λ e. unsound e (event-22 e))
     where
-      steps : stateSound s ≡ true → s .reader .stop ≡ Going → (x : Step) → stepFor (eventOf line) s ≡ x → C
-      steps e g (refuses r) f = refusal r e g f (at-going e g (refuses r) f)
-      steps e g (goes l) f = accepted l e g f (at-going e g (goes l) f)
+      steps : stateSound s ≡ true → isStopped (s .reader .stop) ≡ false → (x : Step) → stepAt ≡ x → C
+      steps e g (stops r) f = refusal r e g f (event-going e g ∙ ap (stepped s) f)
+      steps e g (goes l) f = accepted l e g f (event-going e g ∙ ap (stepped s) f)
 
-      marked : stateSound s ≡ true → (m : Stop) → s .reader .stop ≡ m → C
-      marked e Going g = steps e g (stepFor (eventOf line) s) refl
-      marked e (At r n) g = again r n e g (at-stopped e r n g)
+  -- an accepted event is that of a sound state and a reader that is not stopped, whose step goes
+  pub event-goes : eventOn line s .answer ≡ E.Accepted
+      → (stateSound s ≡ true) × ((l : Advanced) × ((stepAt ≡ goes l) × (eventOn line s ≡ stepped s (goes l))))
+  event-goes a =
+      byEvent (λ u w. let z = answer-is w a in no (cc)) (λ x m u q t w. let z = answer-is w a in no (cc)) (λ x u q f w. let z = answer-is w a in no (cc))
+      (λ l u q f w. (u, (l, (f, w))))
 
-  -- a refusal leaves the overlay, the parts and the reader but for its stop mark
-  pub hear-refused : (r : Refusal) (n : ℕ) → hear line s .answer ≡ H.Refused r n → Same s (hear line s .state)
-  hear-refused r n e =
-      byHear
-      (λ u w. rw w (record { overlay = refl; parts = refl; place = refl; pending = refl; lines = refl }))
-      (λ x m u g w. rw w (record { overlay = refl; parts = refl; place = refl; pending = refl; lines = refl }))
-      (λ x u g f w. rw w (record { overlay = refl; parts = refl; place = refl; pending = refl; lines = refl }))
-      (λ l u g f w. let z = answered w e in no (cc))
-
-  -- 22: nothing changes, the stop mark neither
-  pub hear-22 : stateSound s ≡ false → hear line s ≡ answers s R.Unsound 0
-  hear-22 = at-unsound
-
-  -- a stopped reader answers its mark, and nothing changes
-  pub hear-stopped : (r : Refusal) (n : ℕ) → stateSound s ≡ true → s .reader .stop ≡ At r n → hear line s ≡ answers s r n
-  hear-stopped r n e g = at-stopped e r n g
-
-  -- a refusal of a reader that was going is of its step, and stops the reader at this line
-  pub hear-stops : (r : Refusal) (n : ℕ) → stateSound s ≡ true → s .reader .stop ≡ Going → hear line s .answer ≡ H.Refused r n
-      → (stepFor (eventOf line) s ≡ refuses r) × ((n ≡ lineOf s) × (hear line s .state .reader ≡ stopped (s .reader) r (lineOf s)))
-  hear-stops r n e g a =
-      byHear
-      (λ u w. clash e u)
-      (λ x m u q w. no (cc (q, g)))
-      (λ x u q f w. let z = answered w a in let k : x ≡ r = cc in (rw k at f, (cc, rw k at (ap (λ (z : After). z .state .reader) w))))
-      (λ l u q f w. let z = answered w a in no (cc))
-
-  -- what the step of a reader that is going refuses
-  pub hear-step : (r : Refusal) → stateSound s ≡ true → s .reader .stop ≡ Going → stepFor (eventOf line) s ≡ refuses r → hear line s ≡ told s (refuses r)
-  hear-step r e g f = at-going e g (refuses r) f
-
-  -- an accepted event is that of a sound state and a reader that is going, whose step goes
-  pub hear-goes : hear line s .answer ≡ H.Accepted
-      → (stateSound s ≡ true) × ((s .reader .stop ≡ Going) × ((l : Left) × ((stepFor (eventOf line) s ≡ goes l) × (hear line s ≡ told s (goes l)))))
-  hear-goes a =
-      byHear (λ u w. let z = answered w a in no (cc)) (λ x m u q w. let z = answered w a in no (cc)) (λ x u q f w. let z = answered w a in no (cc))
-      (λ l u q f w. (u, (q, (l, (f, w)))))
-
-  -- it adds one to the count of lines, and the reader is still going
-  pub hear-counts : hear line s .answer ≡ H.Accepted → (hear line s .state .reader .lines ≡ s .reader .lines + 1) × (hear line s .state .reader .stop ≡ Going)
-  hear-counts a = let t = hear-goes a in (ap (λ (z : After). z .state .reader .lines) (t .1 .1 .1 .1), ap (λ (z : After). z .state .reader .stop) (t .1 .1 .1 .1))
-
--- soundness does not look at the stop mark
-pub same-sound : (s t : State) → Same s t → stateSound t ≡ stateSound s
-unfolding stateSound readerSound
-same-sound s t e = rw (e .overlay, e .parts, e .place, e .pending, e .lines)
-
--- a stopped reader hears another line as this one
-pub hear-repeats : (line other : Bytes) (s : State) (r : Refusal) (n : ℕ) → stateSound s ≡ true → s .reader .stop ≡ At r n
-    → hear other (hear line s .state) ≡ hear line s
-hear-repeats line other s r n e g =
-    let w = hear-stopped line s r n e g in
-    rw w (hear-stopped other s r n e g)
-
--- "a refused event, except for 22, stops its reader, and later events .. repeat that number, line and HELD"
-pub hear-again : (line other : Bytes) (s : State) (r : Refusal) (n : ℕ) → stateSound s ≡ true → hear line s .answer ≡ H.Refused r n
-    → hear other (hear line s .state) ≡ answers (hear line s .state) r n
-hear-again line other s r n e a =
-    let t = hear line s .state in
-    let q : stateSound t ≡ true = same-sound s t (hear-refused line s r n a) ∙ e in
-    byHear line s
-    (λ u w. clash e u)
-    (λ x m u g w. let z = answered w a in
-    hear-stopped other t r n q (ap (λ (z : After). z .state .reader .stop) w ∙ g ∙ cc))
-    (λ x u g f w. let z = answered w a in
-    hear-stopped other t r n q (ap (λ (z : After). z .state .reader .stop) w ∙ cc))
-    (λ l u g f w. let z = answered w a in no (cc))
+  -- it adds one to the count of lines, and its reader is not stopped
+  pub event-counts : eventOn line s .answer ≡ E.Accepted → (eventOn line s .state .reader .lines ≡ s .reader .lines + 1) × (eventOn line s .state .reader .stop ≡ Going)
+  event-counts a = let w = event-goes a .1 .1 .1 in (ap (λ (z : EventResult). z .state .reader .lines) w, ap (λ (z : EventResult). z .state .reader .stop) w)
 
 -- ---- the end
 
 module _ (s : State) where
-  end-unsound : stateSound s ≡ false → end s ≡ answers s R.Unsound 0
-  unfolding end
-  end-unsound e = rw e
+  pub end-22 : stateSound s ≡ false → endOn s ≡ refusedAt s R.Unsound 0
+  unfolding endOn
+  end-22 e = rw e
 
-  end-stopped : (r : Refusal) (n : ℕ) → stateSound s ≡ true → s .reader .stop ≡ At r n → end s ≡ answers s r n
-  unfolding end
-  end-stopped r n e g = rw e (ap (λ (m : Stop). unlessStopped m s (ended (s .reader .place .level) s)) g)
+  -- "later events and the end repeat that number, line and HELD"
+  pub end-stopped : (r : Refusal) (n : ℕ) → stateSound s ≡ true → s .reader .stop ≡ At r n → stopsBy r ≡ true → endOn s ≡ refusedAt s r n
+  unfolding endOn
+  end-stopped r n e g t = rw e (repeats s (endAt (s .reader .place .level) s) (s .reader .stop) r n g t)
 
-  end-going : stateSound s ≡ true → s .reader .stop ≡ Going → end s ≡ ended (s .reader .place .level) s
-  unfolding end
-  end-going e g = rw e (ap (λ (m : Stop). unlessStopped m s (ended (s .reader .place .level) s)) g)
+  pub end-going : stateSound s ≡ true → isStopped (s .reader .stop) ≡ false → endOn s ≡ endAt (s .reader .place .level) s
+  unfolding endOn
+  end-going e g = rw e (goes-on s (endAt (s .reader .place .level) s) (s .reader .stop) g)
 
   -- an end is refused 22, repeats the stop mark, or is answered by the level
   pub byEnd : {C : Type 0}
-      → (stateSound s ≡ false → end s ≡ answers s R.Unsound 0 → C)
-      → ((r : Refusal) (n : ℕ) → stateSound s ≡ true → s .reader .stop ≡ At r n → end s ≡ answers s r n → C)
-      → (stateSound s ≡ true → s .reader .stop ≡ Going → end s ≡ ended (s .reader .place .level) s → C)
+      → (stateSound s ≡ false → endOn s ≡ refusedAt s R.Unsound 0 → C)
+      → ((r : Refusal) (n : ℕ) → stateSound s ≡ true → s .reader .stop ≡ At r n → stopsBy r ≡ true → endOn s ≡ refusedAt s r n → C)
+      → (stateSound s ≡ true → isStopped (s .reader .stop) ≡ false → endOn s ≡ endAt (s .reader .place .level) s → C)
       → C
-  byEnd {C} unsound again level = byBool (stateSound s) (λ e. marked e (s .reader .stop) refl) (λ e. unsound e (end-unsound e))
-    where
-      marked : stateSound s ≡ true → (m : Stop) → s .reader .stop ≡ m → C
-      marked e Going g = level e g (end-going e g)
-      marked e (At r n) g = again r n e g (end-stopped r n e g)
+  byEnd unsound again level =
+      byBool (stateSound s)
+      (λ e. byStop s (endAt (s .reader .place .level) s) (s .reader .stop) (λ g. level e g (end-going e g)) (λ r n g t. again r n e g t (end-stopped r n e g t)))
+      (λ e. unsound e (end-22 e))
 
-  ended-keeps : (l : Level) → ended l s .state ≡ s
-  ended-keeps L.Done = refl
-  ended-keeps L.Doc = refl
-  ended-keeps L.Root = refl
-  ended-keeps L.Section = refl
-  ended-keeps L.Element = refl
-  ended-keeps L.Leaf = refl
-  ended-keeps L.Other = refl
+  -- "18 level is not Done", at one line past the last; nothing changes
+  pub byLevel : {C : Type 0} (l : Level) → (l ≡ L.Done → endAt l s ≡ record { state = s; answer = E.Accepted } → C)
+      → ((l ≡ L.Done → ⊥) → endAt l s ≡ refusedAt s R.Unfinished (nextLine s) → C) → C
+  byLevel L.Done f g = f refl refl
+  byLevel L.Doc f g = g (λ e. no (cc)) refl
+  byLevel L.Root f g = g (λ e. no (cc)) refl
+  byLevel L.Section f g = g (λ e. no (cc)) refl
+  byLevel L.Element f g = g (λ e. no (cc)) refl
+  byLevel L.Leaf f g = g (λ e. no (cc)) refl
+  byLevel L.Other f g = g (λ e. no (cc)) refl
 
-  -- an end changes nothing
-  pub end-keeps : end s .state ≡ s
+  -- an end changes nothing: it neither stops its reader nor revives it
+  pub end-keeps : endOn s .state ≡ s
   end-keeps =
-      byEnd (λ u w. ap (λ (z : After). z .state) w) (λ r n u g w. ap (λ (z : After). z .state) w)
-      (λ u g w. ap (λ (z : After). z .state) w ∙ ended-keeps (s .reader .place .level))
+      byEnd (λ u w. ap (λ (z : EventResult). z .state) w) (λ r n u g t w. ap (λ (z : EventResult). z .state) w)
+      (λ u g w. ap (λ (z : EventResult). z .state) w ∙ byLevel (s .reader .place .level) (λ d x. ap (λ (z : EventResult). z .state) x) (λ d x. ap (λ (z : EventResult). z .state) x))
 
-  pub end-22 : stateSound s ≡ false → end s ≡ answers s R.Unsound 0
-  end-22 = end-unsound
+  module _ (e : stateSound s ≡ true) (g : isStopped (s .reader .stop) ≡ false) where
+    end-answer : {x : EventAnswer} → endAt (s .reader .place .level) s ≡ record { state = s; answer = x } → endOn s .answer ≡ x
+    end-answer w = ap (λ (z : EventResult). z .answer) (end-going e g ∙ w)
 
-  -- "later events and the end repeat that number, line and HELD"
-  pub end-repeats : (r : Refusal) (n : ℕ) → stateSound s ≡ true → s .reader .stop ≡ At r n → end s ≡ answers s r n
-  end-repeats = end-stopped
-
-  ended-18 : (l : Level) → (l ≡ L.Done → ⊥) → ended l s .answer ≡ H.Refused R.Unfinished (lineOf s)
-  ended-18 L.Done h = absurd (h refl)
-  ended-18 L.Doc h = refl
-  ended-18 L.Root h = refl
-  ended-18 L.Section h = refl
-  ended-18 L.Element h = refl
-  ended-18 L.Leaf h = refl
-  ended-18 L.Other h = refl
-
-  done-only : (l : Level) → ended l s .answer ≡ H.Accepted → l ≡ L.Done
-  done-only L.Done h = refl
-  done-only L.Doc h = no (cc)
-  done-only L.Root h = no (cc)
-  done-only L.Section h = no (cc)
-  done-only L.Element h = no (cc)
-  done-only L.Leaf h = no (cc)
-  done-only L.Other h = no (cc)
-
-  module _ (e : stateSound s ≡ true) (g : s .reader .stop ≡ Going) where
-    -- "18 level is not Done", at one line past the last
-    pub end-18 : (end s .answer ≡ H.Refused R.Unfinished (lineOf s)) ↔ (s .reader .place .level ≡ L.Done → ⊥)
-    end-18 =
-        let w = ap (λ (z : After). z .answer) (end-going e g) in
-        (λ a d. let q : ended (s .reader .place .level) s .answer ≡ H.Accepted = rw d in let z = sym a ∙ w ∙ q in no (cc), λ h. w ∙ ended-18 (s .reader .place .level) h)
-
-    -- an end is accepted exactly in Done, and has no other refusal
-    pub end-done : (end s .answer ≡ H.Accepted) ↔ (s .reader .place .level ≡ L.Done)
+    -- an end is accepted exactly in Done
+    pub end-done : (endOn s .answer ≡ E.Accepted) ↔ (s .reader .place .level ≡ L.Done)
     end-done =
-        let w = ap (λ (z : After). z .answer) (end-going e g) in
-        (λ a. done-only (s .reader .place .level) (sym w ∙ a), λ d. w ∙ rw d)
+        byLevel (s .reader .place .level) (λ d w. (λ a. d, λ x. end-answer w))
+        (λ n w. (λ a. let z = sym (end-answer w) ∙ a in no (cc), λ d. absurd (n d)))
+
+    -- and refused 18 exactly where it is not: it has no other refusal
+    pub end-18 : (endOn s .answer ≡ E.Refused R.Unfinished (nextLine s)) ↔ (s .reader .place .level ≡ L.Done → ⊥)
+    end-18 =
+        byLevel (s .reader .place .level) (λ d w. (λ a. let z = sym (end-answer w) ∙ a in no (cc), λ n. absurd (n d))) (λ n w. (λ a. n, λ x. end-answer w))

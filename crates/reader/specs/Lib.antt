@@ -1,4 +1,6 @@
-pub mod Reader
+pub mod State
+pub mod Given
 pub mod Step
-pub mod Hear
+pub mod Event
 pub mod Means
+pub mod Table

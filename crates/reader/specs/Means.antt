@@ -2,7 +2,6 @@
 use Prim.Native.Nat.{ℕ}
 use mathlib.Core.Option.{Option, none, some}
 use mathlib.Core.List.{List}
-use lib.ListN.{take}
 use mir.Syntax.{w64}
 use mir.Val.{toZ}
 use Rattle.base.specs.Bytes.{Bytes}
@@ -11,22 +10,18 @@ use Rattle.interner.specs.Texts.{textOf}
 use Rattle.interner.specs.Sound.{textsOf}
 use Rattle.model.specs.Record.{Record}
 use Rattle.model.specs.Swap.{swapRecord}
-use Rattle.compact.specs.Cut.{pushedRecord}
-use Rattle.compact.specs.Held.{metaOf, headIn}
-use Rattle.acts.specs.Turn as Turn
+use Rattle.acts.specs.Turn.{Staged, noElement, Reader}
 use Rattle.reader.specs.declared.Pending.{Pending}
-use Rattle.reader.specs.declared.Pending.the-variants.{Nothing, Element}
-use Rattle.reader.specs.Reader.{State}
+use Rattle.reader.specs.State.{State, pendingRecord}
 
-abbrev pub stagedAs : (ℕ → Bytes) → ℕ → Option (Record ℕ) → Option Turn.Staged
-stagedAs f id none = none
-stagedAs f id (some r) = some (record { id = toZ w64 id; held = swapRecord f r })
+abbrev pub stagedAs : (ℕ → Bytes) → Kind → ℕ → Option (Record ℕ) → Staged
+stagedAs f k id none = noElement k
+stagedAs f k id (some r) = record { id = toZ w64 id; held = swapRecord f r }
 
-unfoldable pub stagedOf : List Bytes → Kind → Bytes → Pending → Option Turn.Staged
-stagedOf held k parts Nothing = none
-stagedOf held k parts (Element h m used) = stagedAs (textOf held) (h .id) (pushedRecord k (headIn k h) (metaOf m) (take used parts))
+unfoldable pub stagedOf : List Bytes → Kind → Bytes → Pending → Staged
+stagedOf held k parts x = stagedAs (textOf held) k (x .head .id) (pendingRecord k parts x)
 
-unfoldable pub readerOf : State → Turn.Reader
+unfoldable pub readerOf : State → Reader
 readerOf s =
     record {
       place = s .reader .place;

@@ -6,9 +6,10 @@ use nesting::Place;
 use refusal::Refusal;
 
 // The element that is being put together: the push that its end will make, and how many of the lent bytes its parts take.
-pub enum Pending {
-    Nothing,
-    Element(PushHead, ArenaMeta, usize),
+pub struct Pending {
+    pub head: PushHead,
+    pub meta: ArenaMeta,
+    pub used: usize,
 }
 
 // The mark of a stopped reader: the refusal that stopped it, and its line.
@@ -18,7 +19,7 @@ pub enum Stop {
 }
 
 // The line count is that of the accepted events.
-pub struct Reader {
+pub struct EventReader {
     pub place: Place,
     pub pending: Pending,
     pub lines: u64,
@@ -26,7 +27,7 @@ pub struct Reader {
 }
 
 // What an event or an end answers: a refusal with its line.
-pub enum Heard {
+pub enum EventAnswer {
     Accepted,
     Refused(Refusal, u64),
 }

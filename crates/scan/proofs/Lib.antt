@@ -2,4 +2,4 @@ pub mod Places
 pub mod Pieces
 pub mod Walks
 pub mod Lines
-pub mod Raws
+pub mod Attributes

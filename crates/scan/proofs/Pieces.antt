@@ -13,7 +13,7 @@ use Rattle.base.specs.Bytes.{Bytes}
 use Rattle.base.proofs.Split.{byEq, byLt, no, clash}
 use Rattle.text.specs.Escape.{meaning, before, unescapeFrom, unescape}
 use Rattle.text.proofs.Escapes.{read-byte}
-use Rattle.acts.specs.Field.{orEmpty}
+use Rattle.event.specs.Event.{orEmpty}
 use Rattle.little.proofs.Overs.{Writing, stored, over-past}
 use Rattle.scan.specs.declared.Piece.the-variants as P
 use Rattle.scan.specs.Piece.{there, lettered, pieceIn, textOf}

@@ -210,6 +210,8 @@ pub record Stands (t : Bytes) (at eq to : ℕ) : Type 0 where
   pub equals : eq ≤ to
   pub end : to ≤ length t
   pub rest : fieldsAt t at ≡ slice at to t ∷ fieldsAt t (to + 1)
+  pub name : take (upTo 61 (slice at to t)) (slice at to t) ≡ slice at eq t
+  pub value : drop (suc (upTo 61 (slice at to t))) (slice at to t) ≡ slice (eq + 1) to t
   pub valued : (name : Bytes) → valueAt t name at ≡ cond (same name (slice at eq t)) (F.At (eq + 1) to) (valueAt t name (to + 1))
   pub attr : at < eq → eq < to → attrOf (slice at to t) ≡ attrWith (slice at eq t) (unescape (slice (eq + 1) to t))
   pub nameless : eq ≡ at → attrOf (slice at to t) ≡ none
@@ -221,6 +223,8 @@ stands-here t at h = record {
   equals = equals-within t at h;
   end = tab-within t at h;
   rest = field-here t at h;
+  name = name-here t at h;
+  value = value-here t at h;
   valued = valued-here t at h;
   attr = attr-here t at h;
   nameless = attr-nameless t at h;

@@ -13,7 +13,7 @@ use Rattle.text.specs.Escape.{unescape}
 use Rattle.line.specs.Line.{fields}
 use Rattle.event.specs.Event.{Attr, attrWith, attrOf, beside, attrsOf, named, distinct}
 use Rattle.event.proofs.Attrs.{attrWith-some, listed}
-use Rattle.acts.specs.Field.{valueOf}
+use Rattle.event.specs.Event.{valueOf}
 use Rattle.scan.specs.declared.Attribute.the-variants as A
 use Rattle.scan.specs.declared.Value.{Value}
 use Rattle.scan.specs.declared.Value.the-variants as F

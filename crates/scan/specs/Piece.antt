@@ -6,7 +6,7 @@ use mathlib.Core.List.{[], _∷_}
 use lib.Dec.{eqb}
 use Rattle.base.specs.Bytes.{Bytes}
 use Rattle.text.specs.Escape.{meaning, unescape}
-use Rattle.acts.specs.Field.{orEmpty}
+use Rattle.event.specs.Event.{orEmpty}
 use Rattle.scan.specs.declared.Piece.{Piece}
 use Rattle.scan.specs.declared.Piece.the-variants as P
 

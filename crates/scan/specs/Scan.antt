@@ -13,6 +13,7 @@ use Rattle.refusal.specs.declared.Refusal.the-variants.{NotEventLine}
 use Rattle.text.specs.Escape.{unescape}
 use Rattle.line.specs.Line.{fields}
 use Rattle.event.specs.Event.{Attr, starts, closes, others, Reading, reads, refused, attrsOf, distinct}
+use Rattle.scan.specs.Piece.{textOf}
 use Rattle.scan.specs.declared.Scanned.{Scanned}
 use Rattle.scan.specs.declared.Scanned.the-variants as S
 use Rattle.scan.specs.declared.Attribute.{Attribute}
@@ -87,6 +88,20 @@ valueIn name at (f ∷ fs) =
 
 unfoldable pub valueAt : Bytes → Bytes → ℕ → Value
 valueAt t name at = valueIn name at (fieldsAt t at)
+
+-- ---- any fields as attributes
+
+-- a field as an attribute: its name goes to the first `=`, its value stands behind it. Where there is no `=`, or another escape in the value, its text is empty
+abbrev pub attributeOf : Bytes → Attr
+attributeOf f = record { name = take (upTo 61 f) f; value = textOf (drop (suc (upTo 61 f)) f) }
+
+unfoldable pub attributesOf : List Bytes → List Attr
+attributesOf [] = []
+attributesOf (f ∷ fs) = attributeOf f ∷ attributesOf fs
+
+-- the fields from a place on, taken as attributes: of an event line these are its attributes
+unfoldable pub attributesAt : Bytes → ℕ → List Attr
+attributesAt t at = attributesOf (fieldsAt t at)
 
 -- a value's text
 abbrev pub textIn : Bytes → Value → Option Bytes

@@ -37,7 +37,7 @@ pub enum Value {
 }
 
 // Whether two runs of bytes are the same.
-fn equal(a: &[u8], b: &[u8]) -> bool
+pub fn equal(a: &[u8], b: &[u8]) -> bool
     ensures { λ r. ⌜ r ≡ same (now (a .entry)) (now (b .entry)) ⌝ }
 {
     check::same(a, b)

@@ -1,6 +1,6 @@
 -- Document 01, "Trial rows († proved)", and its Input A with Output A: one table, from the definitions.
-use Prim.Native.Nat.{ℕ, zero, suc}
-use mathlib.Core.Bool.{Bool, true, false, cond}
+use Prim.Native.Nat.{ℕ}
+use mathlib.Core.Bool.{Bool, true, false}
 use mathlib.Core.Option.{Option, none, some}
 use mathlib.Core.List.{List, [], _∷_, _++_, map}
 use lib.Dec.{eqb}
@@ -10,8 +10,7 @@ use mir.Syntax.{Width, w32, w64}
 use mir.Val.{toZ}
 use Rattle.base.specs.Ascii.{ascii}
 use Rattle.base.specs.Bytes.{Bytes, both, same}
-use Rattle.kind.specs.declared.Kind.{Kind}
-use Rattle.kind.specs.declared.Kind.the-variants.{Node, Way, Relation}
+use Rattle.kind.specs.declared.Kind.the-variants.{Node, Way}
 use Rattle.osm_id.specs.Order.{sameId, keyOf}
 use Rattle.integer.specs.Integer.{integerOf}
 use Rattle.stamp.specs.Stamp.{stamp}
@@ -22,15 +21,18 @@ use Rattle.compact.specs.Held.{metaOf}
 use Rattle.compact.specs.declared.ArenaMeta.{ArenaMeta}
 use Rattle.shelf.specs.declared.Kept.{Kept}
 use Rattle.shelf.specs.declared.Kept.the-variants.{Taken, Refused}
-use Rattle.overlay.specs.Overlay.{Overlay, overlayOf, empty}
+use Rattle.overlay.specs.Overlay.{overlayOf}
 use Rattle.direct.specs.Calls.{pushOn, deleteOn, internOn}
 use Rattle.store.specs.declared.Handle.{Handle}
 use Rattle.store.specs.declared.Handle.the-variants as H
+use Rattle.reader.specs.declared.EventAnswer.{EventAnswer}
+use Rattle.reader.specs.declared.EventAnswer.the-variants as E
+use Rattle.reader.specs.Event.{eventOn, endOn}
 use Rattle.acts.specs.Call.{Call, pushes, deletes, hears, ends, Answered, actsOf}
 use Rattle.page.specs.Summary.{summary}
 use Rattle.page.specs.Listing.{listing}
 use Rattle.calls.specs.Ask as Ask
-use Rattle.calls.specs.Ask.{Ask, leaves}
+use Rattle.calls.specs.Ask.{Ask, Storage, started, stateOf, leaves}
 
 -- a direct call, and what document 01 says of it: taken, or refused with a number and the version that is held
 pub data Told : Type 0 where
@@ -73,23 +75,29 @@ abbrev pub keptIn : Handle → Kept
 keptIn (H.Is h) = Taken
 keptIn (H.Refused r) = Refused r
 
--- what a direct call answers
-abbrev pub answerTo : Ask → Overlay → Kept
-answerTo (Ask.interns t) o = keptIn (internOn t o .answer)
-answerTo (Ask.pushes k h m parts) o = pushOn k h m parts o .answer
-answerTo (Ask.deletes k id m) o = deleteOn k (toZ w64 id) (metaOf m) o .answer
+abbrev pub keptAt : EventAnswer → Kept
+keptAt E.Accepted = Taken
+keptAt (E.Refused r n) = Refused r
+
+-- what a call answers
+abbrev pub answerTo : Ask → Storage → Kept
+answerTo (Ask.interns t) l = keptIn (internOn t (l .overlay) .answer)
+answerTo (Ask.pushes k h m parts) l = pushOn k h m parts (l .overlay) .answer
+answerTo (Ask.deletes k id m) l = deleteOn k (toZ w64 id) (metaOf m) (l .overlay) .answer
+answerTo (Ask.hears n line) l = keptAt (eventOn line (stateOf n l) .answer)
+answerTo (Ask.ends n) l = keptAt (endOn (stateOf n l) .answer)
 
 -- "Each call gets the overlay .. as last left"
-unfoldable pub allAgree : Overlay → List Told → Bool
-allAgree o [] = true
-allAgree o (t ∷ ts) = both (agrees t (answerTo (askOf t) o)) (allAgree (leaves (askOf t) o) ts)
+unfoldable pub allAgree : Storage → List Told → Bool
+allAgree l [] = true
+allAgree l (t ∷ ts) = both (agrees t (answerTo (askOf t) l)) (allAgree (leaves (askOf t) l) ts)
 
 abbrev pub zeros : ℕ → Bytes
 zeros n = replicate n 0
 
 -- an empty overlay that refuses regression: two ids and 128 arena bytes a kind, two strings, 8 string bytes, nine counters
-abbrev pub small : Overlay
-small = empty 0 (overlayOf (zeros 6) (zeros 128) (zeros 6) (zeros 128) (zeros 6) (zeros 128) (zeros 4) (zeros 8) (zeros 9))
+abbrev pub small : Storage
+small = started 0 (overlayOf (zeros 6) (zeros 128) (zeros 6) (zeros 128) (zeros 6) (zeros 128) (zeros 4) (zeros 8) (zeros 9)) (λ n. [])
 
 unfoldable pub right : Row → Bool
 right (key-of id class magnitude) = both (eqb (keyOf id .class) class) (eqb (keyOf id .magnitude) magnitude)

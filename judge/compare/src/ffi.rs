@@ -117,12 +117,48 @@ pub struct Counted {
     pub tags: u32,
 }
 
+/// Number 0 with what was read, or 22 with zeros.
 #[repr(C)]
 #[derive(Clone, Copy, Debug, PartialEq, Eq)]
-pub struct Member {
+pub struct PlacedReply {
+    pub number: u32,
+    pub head: Placed,
+}
+
+#[repr(C)]
+#[derive(Clone, Copy, Debug, PartialEq, Eq)]
+pub struct CountedReply {
+    pub number: u32,
+    pub head: Counted,
+}
+
+#[repr(C)]
+#[derive(Clone, Copy, Debug, PartialEq, Eq)]
+pub struct MetaReply {
+    pub number: u32,
+    pub meta: Meta,
+}
+
+/// Number 0 with a ref and the offset of the next; 0 and done 1 where none is left; or 22.
+#[repr(C)]
+#[derive(Clone, Copy, Debug, PartialEq, Eq)]
+pub struct RefReply {
+    pub number: u32,
+    pub done: u8,
+    pub value: u64,
+    pub next: usize,
+}
+
+/// The same with a member.
+#[repr(C)]
+#[derive(Clone, Copy, Debug, PartialEq, Eq)]
+pub struct MemberReply {
+    pub number: u32,
+    pub done: u8,
     pub reference: u64,
     pub kind: u8,
     pub role: u32,
+    pub next: usize,
 }
 
 /// Number 0 with a tag; 0 and done 1 where none is left; or 22.
@@ -193,14 +229,19 @@ unsafe extern "C" {
         parts: *const u8,
         n: usize,
     ) -> Count;
-    pub fn tvl_node(bytes: *const u8, n: usize) -> Placed;
-    pub fn tvl_way(bytes: *const u8, n: usize) -> Counted;
-    pub fn tvl_relation(bytes: *const u8, n: usize) -> Counted;
+    pub fn tvl_node(bytes: *const u8, n: usize) -> PlacedReply;
+    pub fn tvl_way(bytes: *const u8, n: usize) -> CountedReply;
+    pub fn tvl_relation(bytes: *const u8, n: usize) -> CountedReply;
     pub fn tvl_way_tags_at(head: Counted) -> usize;
     pub fn tvl_relation_tags_at(head: Counted) -> usize;
-    pub fn tvl_meta(bytes: *const u8, n: usize, at: usize) -> Meta;
-    pub fn tvl_ref_at(bytes: *const u8, n: usize, i: u32) -> u64;
-    pub fn tvl_member_at(bytes: *const u8, n: usize, i: u32) -> Member;
+    pub fn tvl_meta(bytes: *const u8, n: usize, at: usize) -> MetaReply;
+    pub fn tvl_ref_step(bytes: *const u8, n: usize, offset: usize, remaining: u32) -> RefReply;
+    pub fn tvl_member_step(
+        bytes: *const u8,
+        n: usize,
+        offset: usize,
+        remaining: u32,
+    ) -> MemberReply;
     pub fn tvl_tag_step(bytes: *const u8, n: usize, offset: usize, remaining: u32) -> Step;
 }
 

@@ -4,7 +4,7 @@ use judge::compare::lookups::LookupPort;
 use judge::compare::nesting::{Answer, NestingPort};
 use judge::compare::overlay::Push;
 use judge::compare::reads::{TagPort, TagStep};
-use judge::compare::records::{Head, RecordPort};
+use judge::compare::records::{Head, Member, RecordPort, Step};
 use judge::compare::strings::{StringPort, Taken};
 use judge::nesting::Place;
 use judge::{Kind, Meta};
@@ -137,12 +137,41 @@ fn counted(head: &Head) -> ffi::Counted {
     }
 }
 
-fn head(c: ffi::Counted) -> Head {
-    Head {
-        id: c.id.cast_signed(),
+/// What was read, or 22 with zeros.
+fn given<T: PartialEq>(number: u32, value: T, zeros: T) -> Option<T> {
+    match number {
+        0 => Some(value),
+        22 => {
+            assert!(value == zeros, "22 with a value");
+            None
+        }
+        _ => panic!("{number}"),
+    }
+}
+
+fn head(reply: ffi::CountedReply) -> Option<Head> {
+    let head = Head {
+        id: reply.head.id.cast_signed(),
         place: (0, 0),
-        count: c.count,
-        tags: c.tags,
+        count: reply.head.count,
+        tags: reply.head.tags,
+    };
+    given(reply.number, head, Head::default())
+}
+
+fn step<T: PartialEq>(number: u32, done: u8, at: (T, usize), zeros: (T, usize)) -> Step<T> {
+    assert!(
+        (number, done) == (0, 0) || at == zeros,
+        "a value without an element"
+    );
+    match (number, done) {
+        (22, 0) => Step::Unsound,
+        (0, 1) => Step::Done,
+        (0, 0) => Step::At {
+            value: at.0,
+            next: at.1,
+        },
+        _ => panic!("{number} {done}"),
     }
 }
 
@@ -166,42 +195,47 @@ impl RecordPort for Layers {
         (reply.number, reply.value)
     }
 
-    fn head(&self, kind: Kind, bytes: &[u8]) -> Head {
+    fn head(&self, kind: Kind, bytes: &[u8]) -> Option<Head> {
         let (from, n) = (bytes.as_ptr(), bytes.len());
         match kind {
             Kind::Node => {
-                let node = unsafe { ffi::tvl_node(from, n) };
-                Head {
+                let reply = unsafe { ffi::tvl_node(from, n) };
+                let node = reply.head;
+                let head = Head {
                     id: node.id.cast_signed(),
                     place: (node.lat.cast_signed(), node.lon.cast_signed()),
                     count: 0,
                     tags: node.tags,
-                }
+                };
+                given(reply.number, head, Head::default())
             }
             Kind::Way => head(unsafe { ffi::tvl_way(from, n) }),
             Kind::Relation => head(unsafe { ffi::tvl_relation(from, n) }),
         }
     }
 
-    fn meta(&self, bytes: &[u8], at: usize) -> Meta {
-        let meta = unsafe { ffi::tvl_meta(bytes.as_ptr(), bytes.len(), at) };
-        Meta {
-            flags: meta.flags,
-            version: meta.version.cast_signed(),
-            timestamp: meta.timestamp.cast_signed(),
-            changeset: meta.changeset.cast_signed(),
-            uid: meta.uid.cast_signed(),
-            user: meta.user,
-        }
+    fn meta(&self, bytes: &[u8], at: usize) -> Option<Meta> {
+        let reply = unsafe { ffi::tvl_meta(bytes.as_ptr(), bytes.len(), at) };
+        let meta = Meta {
+            flags: reply.meta.flags,
+            version: reply.meta.version.cast_signed(),
+            timestamp: reply.meta.timestamp.cast_signed(),
+            changeset: reply.meta.changeset.cast_signed(),
+            uid: reply.meta.uid.cast_signed(),
+            user: reply.meta.user,
+        };
+        given(reply.number, meta, Meta::default())
     }
 
-    fn ref_at(&self, bytes: &[u8], i: u32) -> i64 {
-        unsafe { ffi::tvl_ref_at(bytes.as_ptr(), bytes.len(), i) }.cast_signed()
+    fn ref_step(&self, bytes: &[u8], offset: usize, remaining: u32) -> Step<i64> {
+        let r = unsafe { ffi::tvl_ref_step(bytes.as_ptr(), bytes.len(), offset, remaining) };
+        step(r.number, r.done, (r.value.cast_signed(), r.next), (0, 0))
     }
 
-    fn member_at(&self, bytes: &[u8], i: u32) -> (i64, u8, u32) {
-        let member = unsafe { ffi::tvl_member_at(bytes.as_ptr(), bytes.len(), i) };
-        (member.reference.cast_signed(), member.kind, member.role)
+    fn member_step(&self, bytes: &[u8], offset: usize, remaining: u32) -> Step<Member> {
+        let r = unsafe { ffi::tvl_member_step(bytes.as_ptr(), bytes.len(), offset, remaining) };
+        let member = (r.reference.cast_signed(), r.kind, r.role);
+        step(r.number, r.done, (member, r.next), ((0, 0, 0), 0))
     }
 
     fn tags_at(&self, kind: Kind, head: &Head) -> usize {

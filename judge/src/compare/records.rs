@@ -17,16 +17,30 @@ pub struct Head {
     pub tags: u32,
 }
 
+/// One step over a record's refs or members.
+#[derive(Clone, Copy, Debug, PartialEq, Eq)]
+pub enum Step<T> {
+    /// Nothing remains.
+    Done,
+    /// 22.
+    Unsound,
+    /// An element, and the offset of the next.
+    At { value: T, next: usize },
+}
+
+/// Ref, type byte, role handle.
+pub type Member = (i64, u8, u32);
+
 /// The port's records over lent bytes.
 pub trait RecordPort {
     /// 0 with the end of the used bytes, or 15 with 0. The parts are laid out as in a record.
     fn append(&self, arena: &mut [u8], used: usize, push: &Push, parts: &[u8]) -> (u32, usize);
-    fn head(&self, kind: Kind, bytes: &[u8]) -> Head;
+    /// None for 22, like the next.
+    fn head(&self, kind: Kind, bytes: &[u8]) -> Option<Head>;
     /// The metadata from a place on.
-    fn meta(&self, bytes: &[u8], at: usize) -> Meta;
-    fn ref_at(&self, bytes: &[u8], i: u32) -> i64;
-    /// Ref, type byte, role handle.
-    fn member_at(&self, bytes: &[u8], i: u32) -> (i64, u8, u32);
+    fn meta(&self, bytes: &[u8], at: usize) -> Option<Meta>;
+    fn ref_step(&self, bytes: &[u8], offset: usize, remaining: u32) -> Step<i64>;
+    fn member_step(&self, bytes: &[u8], offset: usize, remaining: u32) -> Step<Member>;
     /// Where the first tag of a way or of a relation with this head stands.
     fn tags_at(&self, kind: Kind, head: &Head) -> usize;
 }
@@ -181,14 +195,21 @@ fn past_the_arena(
     Ok(())
 }
 
-/// Records by document 01's layout. A byte that is missing reads as 0.
+/// Records by document 01's layout: 22 where the bytes are cut short.
 pub struct WordsRecords;
 
-fn number<const N: usize>(bytes: &[u8], at: usize) -> [u8; N] {
-    std::array::from_fn(|i| {
-        let place = at.checked_add(i);
-        place.and_then(|p| bytes.get(p)).copied().unwrap_or(0)
-    })
+/// The bytes from a place on, if all are there.
+fn number<const N: usize>(bytes: &[u8], at: usize) -> Option<[u8; N]> {
+    bytes.get(at..at.checked_add(N)?)?.try_into().ok()
+}
+
+/// The step, by what stands at its offset.
+fn stepped<T>(remaining: u32, element: impl FnOnce() -> Option<(T, usize)>) -> Step<T> {
+    match element() {
+        _ if remaining == 0 => Step::Done,
+        None => Step::Unsound,
+        Some((value, next)) => Step::At { value, next },
+    }
 }
 
 impl RecordPort for WordsRecords {
@@ -206,49 +227,51 @@ impl RecordPort for WordsRecords {
         }
     }
 
-    fn head(&self, kind: Kind, bytes: &[u8]) -> Head {
-        let at = |at: usize| u32::from_le_bytes(number(bytes, at));
-        let id = i64::from_le_bytes(number(bytes, 0));
-        if kind == Kind::Node {
+    fn head(&self, kind: Kind, bytes: &[u8]) -> Option<Head> {
+        let at = |at: usize| number(bytes, at).map(u32::from_le_bytes);
+        let id = i64::from_le_bytes(number(bytes, 0)?);
+        Some(if kind == Kind::Node {
             Head {
                 id,
-                place: (at(8).cast_signed(), at(12).cast_signed()),
+                place: (at(8)?.cast_signed(), at(12)?.cast_signed()),
                 count: 0,
-                tags: at(16),
+                tags: at(16)?,
             }
         } else {
             Head {
                 id,
                 place: (0, 0),
-                count: at(8),
-                tags: at(12),
+                count: at(8)?,
+                tags: at(12)?,
             }
-        }
+        })
     }
 
-    fn meta(&self, bytes: &[u8], at: usize) -> Meta {
-        let place = |n: usize| at.saturating_add(n);
-        Meta {
-            flags: number::<1>(bytes, at)[0],
-            version: i32::from_le_bytes(number(bytes, place(1))),
-            timestamp: i64::from_le_bytes(number(bytes, place(5))),
-            changeset: i64::from_le_bytes(number(bytes, place(13))),
-            uid: i32::from_le_bytes(number(bytes, place(21))),
-            user: u32::from_le_bytes(number(bytes, place(25))),
-        }
+    fn meta(&self, bytes: &[u8], at: usize) -> Option<Meta> {
+        let block: [u8; 29] = number(bytes, at)?;
+        Some(Meta {
+            flags: block[0],
+            version: i32::from_le_bytes(number(&block, 1)?),
+            timestamp: i64::from_le_bytes(number(&block, 5)?),
+            changeset: i64::from_le_bytes(number(&block, 13)?),
+            uid: i32::from_le_bytes(number(&block, 21)?),
+            user: u32::from_le_bytes(number(&block, 25)?),
+        })
     }
 
-    fn ref_at(&self, bytes: &[u8], i: u32) -> i64 {
-        i64::from_le_bytes(number(bytes, 45 + 8 * i as usize))
+    fn ref_step(&self, bytes: &[u8], offset: usize, remaining: u32) -> Step<i64> {
+        stepped(remaining, || {
+            Some((i64::from_le_bytes(number(bytes, offset)?), offset + 8))
+        })
     }
 
-    fn member_at(&self, bytes: &[u8], i: u32) -> (i64, u8, u32) {
-        let at = 45 + 13 * i as usize;
-        (
-            i64::from_le_bytes(number(bytes, at)),
-            number::<1>(bytes, at + 8)[0],
-            u32::from_le_bytes(number(bytes, at + 9)),
-        )
+    fn member_step(&self, bytes: &[u8], offset: usize, remaining: u32) -> Step<Member> {
+        stepped(remaining, || {
+            let block: [u8; 13] = number(bytes, offset)?;
+            let id = i64::from_le_bytes(number(&block, 0)?);
+            let role = u32::from_le_bytes(number(&block, 9)?);
+            (block[8] <= 2).then_some(((id, block[8], role), offset + 13))
+        })
     }
 
     fn tags_at(&self, kind: Kind, head: &Head) -> usize {
@@ -262,9 +285,10 @@ impl RecordPort for WordsRecords {
 }
 
 /// The records of produced documents against the published accessors; then the same bytes cut
-/// short at every length, and numbers past the counts, by document 01's layout.
+/// short at every length and with each byte changed, at any place, by document 01's layout.
 pub fn readers(port: &dyn RecordPort, seed: u64, rounds: u64) -> Compared {
     let mut tally = Tally::new();
+    let mut random = Random::new(seed);
     let mut source = Documents::new(seed, Style::VALID);
     for _ in 0..500 * rounds {
         source.forget();
@@ -275,6 +299,13 @@ pub fn readers(port: &dyn RecordPort, seed: u64, rounds: u64) -> Compared {
                 one_record(&mut tally, port, kind, &record, &texts)?;
                 for n in 0..=record.len {
                     by_words(&mut tally, port, kind, &record.view[..n])?;
+                }
+                let mut damaged = record.view[..record.len].to_vec();
+                for n in 0..damaged.len() {
+                    let byte = damaged[n];
+                    damaged[n] = *random.pick(&[byte ^ 1, byte ^ 2, 3, 255]);
+                    by_words(&mut tally, port, kind, &damaged)?;
+                    damaged[n] = byte;
                 }
             }
         }
@@ -299,8 +330,10 @@ fn one_record(
         count: (record.refs.len() + record.members.len()) as u32,
         tags: record.tags.len() as u32,
     };
-    tally.same(what, head, port.head(kind, bytes))?;
-    let meta = port.meta(bytes, JUDGE_HEADS[kind as usize] - 29);
+    tally.same(what, Some(head), port.head(kind, bytes))?;
+    let Some(meta) = port.meta(bytes, JUDGE_HEADS[kind as usize] - 29) else {
+        return Err(format!("no metadata: {record:?}"));
+    };
     tally.same(
         what,
         (
@@ -320,17 +353,32 @@ fn one_record(
             text(meta.user),
         ),
     )?;
+    let mut offset = JUDGE_HEADS[kind as usize];
     for (i, id) in record.refs.iter().enumerate() {
-        tally.same(what, *id, port.ref_at(bytes, i as u32))?;
+        let remaining = (record.refs.len() - i) as u32;
+        let (value, next) = (*id, offset + 8);
+        let step = port.ref_step(bytes, offset, remaining);
+        tally.same(what, Step::At { value, next }, step)?;
+        offset = next;
     }
     for (i, (byte, id, role)) in record.members.iter().enumerate() {
-        let (got_id, got_byte, handle) = port.member_at(bytes, i as u32);
+        let remaining = (record.members.len() - i) as u32;
+        let Step::At { value, next } = port.member_step(bytes, offset, remaining) else {
+            return Err(format!("no member {i}: {record:?}"));
+        };
+        let (got_id, got_byte, handle) = value;
         tally.same(
             what,
-            (*byte, *id, role.clone()),
-            (got_byte, got_id, text(handle)),
+            (*byte, *id, role.clone(), offset + 13),
+            (got_byte, got_id, text(handle), next),
         )?;
+        offset = next;
     }
+    let done = (
+        port.ref_step(bytes, offset, 0),
+        port.member_step(bytes, offset, 0),
+    );
+    tally.same(what, (Step::Done, Step::Done), done)?;
     let tag_bytes: usize = record.tags.iter().map(|(_, v)| 8 + v.len()).sum();
     let first = record.len - tag_bytes;
     tally.same(what, first, port.tags_at(kind, &head))
@@ -346,21 +394,30 @@ fn by_words(
     let what = |read: &str| format!("{read} of {kind:?} {bytes:02x?}");
     let head = WordsRecords.head(kind, bytes);
     tally.same(|| what("head"), head, port.head(kind, bytes))?;
+    let head = head.unwrap_or_default();
     let tags = (WordsRecords.tags_at(kind, &head), port.tags_at(kind, &head));
     tally.same(|| what("tags_at"), tags.0, tags.1)?;
     for at in [0, 16, 20, bytes.len(), usize::MAX - 28, usize::MAX] {
         let metas = (WordsRecords.meta(bytes, at), port.meta(bytes, at));
         tally.same(|| what(&format!("meta at {at}")), metas.0, metas.1)?;
     }
-    for i in [0, 1, 2, 3, head.count, u32::MAX - 1, u32::MAX] {
-        tally.same(
-            || what(&format!("number {i}")),
-            (
-                WordsRecords.ref_at(bytes, i),
-                WordsRecords.member_at(bytes, i),
-            ),
-            (port.ref_at(bytes, i), port.member_at(bytes, i)),
-        )?;
+    let len = bytes.len();
+    let places = [0, 45, 53, 58, 71, len, len + 1, usize::MAX - 12, usize::MAX];
+    let ends = [8, 12, 13, 14].map(|n| len.saturating_sub(n));
+    for offset in places.into_iter().chain(ends) {
+        for remaining in [0, 1, head.count, u32::MAX] {
+            tally.same(
+                || what(&format!("step at {offset} of {remaining}")),
+                (
+                    WordsRecords.ref_step(bytes, offset, remaining),
+                    WordsRecords.member_step(bytes, offset, remaining),
+                ),
+                (
+                    port.ref_step(bytes, offset, remaining),
+                    port.member_step(bytes, offset, remaining),
+                ),
+            )?;
+        }
     }
     Ok(())
 }

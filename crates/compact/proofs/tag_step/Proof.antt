@@ -8,15 +8,15 @@ use lib.ListN.{length, take, drop}
 use borrow.Author.Tests.{ltb-true, ltb-false}
 use Rattle.little.specs.Little.{valueAt}
 use Rattle.text.specs.Check.{isText}
-use Rattle.compact.specs.declared.TagStep.the-variants as step
+use Rattle.compact.specs.declared.TagStep.the-variants as tag
 use Rattle.compact.specs.View.{tagStep}
-use Rattle.compact.proofs.Steps.{step-done, step-short, step-long, step-whole}
+use Rattle.compact.proofs.Steps.{tag-done, tag-past, tag-over, tag-judged}
 use borrow.Author.Needs.{needs}
 use Rattle.compact.proofs.tag_step.Statement.{statement}
 use Rattle.compact.proofs.tag_step.Tie as tie
 
 returns : tie.Need-returns
-returns c = let a = c .before .before .args in step-done (now (a .bytes)) (a .offset) (a .remaining) (c .if1 .taken)
+returns c = let a = c .before .before .args in tag-done (now (a .bytes)) (a .offset) (a .remaining) (c .if1 .taken)
 
 past-requires : tie.Need-past-requires
 past-requires c κs = search needs
@@ -24,7 +24,7 @@ past-requires c κs = search needs
 returns-2 : tie.Need-returns-2
 returns-2 c =
     let a = c .before .before .before .before .args in
-    step-short (now (a .bytes)) (a .offset) (a .remaining) (c .before .before .if1 .left) (ltb-true (length (now (a .bytes))) _ (sym (c .before .past .ensures) ∙ c .if2 .taken))
+    tag-past (now (a .bytes)) (a .offset) (a .remaining) (c .before .before .if1 .left) (ltb-true (length (now (a .bytes))) _ (sym (c .before .past .ensures) ∙ c .if2 .taken))
 
 add-start : tie.Need-add-start
 add-start c = let a = c .before .before .before .before .args in omega (arith, ltb-false (length (now (a .bytes))) _ (sym (c .before .past .ensures) ∙ c .if2 .left))
@@ -44,7 +44,7 @@ past-requires-2 c κs = search needs
 returns-3 : tie.Need-returns-3
 returns-3 c =
     let a = c .before .before .before .before .before .before .before .args in
-    step-long (now (a .bytes)) (a .offset) (a .remaining) (c .before .before .before .before .before .if1 .left) (ltb-false (length (now (a .bytes))) _ (sym (c .before .before .before .before .past .ensures) ∙ c .before .before .before .if2 .left)) _ (c .before .before .get-u32 .ensures)
+    tag-over (now (a .bytes)) (a .offset) (a .remaining) (c .before .before .before .before .before .if1 .left) (ltb-false (length (now (a .bytes))) _ (sym (c .before .before .before .before .past .ensures) ∙ c .before .before .before .if2 .left)) _ (c .before .before .get-u32 .ensures)
     (ltb-true (length (now (a .bytes))) _ (sym (c .before .past2 .ensures) ∙ c .if3 .taken))
 
 -- where the tag lies within the bytes, the check of its value decides
@@ -52,12 +52,12 @@ judged : (c : tie.Else3) {t u : Bool}
     → let a = c .before .before .before .before .before .before .before .args in
     let n = c .before .before .get-u32 .result in
     t ≡ isText (take (a .offset + 8 + n - (a .offset + 8)) (drop (a .offset + 8) (now (a .bytes)))) → t ≡ u
-    → cond u (step.Tag (valueAt 4 (now (a .bytes)) (a .offset)) (a .offset + 8) n) step.Unsound ≡ tagStep (now (a .bytes)) (a .offset) (a .remaining)
+    → cond u (tag.Tag (valueAt 4 (now (a .bytes)) (a .offset)) (a .offset + 8) n) tag.Unsound ≡ tagStep (now (a .bytes)) (a .offset) (a .remaining)
 judged c p q =
     let a = c .before .before .before .before .before .before .before .args in
     let n = c .before .before .get-u32 .result in
     let e : a .offset + 8 + n - (a .offset + 8) ≡ n = omega arith in
-    let w = step-whole (now (a .bytes)) (a .offset) (a .remaining) (c .before .before .before .before .before .if1 .left)
+    let w = tag-judged (now (a .bytes)) (a .offset) (a .remaining) (c .before .before .before .before .before .if1 .left)
     (ltb-false (length (now (a .bytes))) _ (sym (c .before .before .before .before .past .ensures) ∙ c .before .before .before .if2 .left)) n (c .before .before .get-u32 .ensures)
     (ltb-false (length (now (a .bytes))) _ (sym (c .before .past2 .ensures) ∙ c .if3 .left)) in
     rw (rw e at (sym p ∙ q)) at w

@@ -1,0 +1,241 @@
+-- What an overlay holds is what the texts that were taken in and the acts that were accepted come to. One act or one text more keeps that, whoever makes it: a direct call or a reader's event.
+use Prim.Native.Nat.{ℕ, _/_, _^_, _<_, _≤_}
+use mathlib.Core.Path.{_≡_, refl, sym, _∙_, ap, subst}
+use mathlib.Core.Bool.{Bool, true, false}
+use mathlib.Core.Logic.{_↔_}
+use mathlib.Core.List.{List, [], _∷_, _++_}
+use native.Mathlib.Omega.{arith}
+use lib.IntN.{ℤ}
+use lib.ListN.{length}
+use mir.Syntax.{w64}
+use mir.Val.{SFits}
+use borrow.Author.Tests.{leb-true}
+use Rattle.base.specs.Bytes.{Bytes, all}
+use Rattle.base.proofs.Split.{byBool, both-left, both-right, clash}
+use Rattle.base.proofs.Lists.{all-nil, all-cons, all-head, all-tail, all-append}
+use Rattle.little.specs.Little.{isByte}
+use Rattle.text.specs.Check.{isText}
+use Rattle.kind.specs.Kind.{sameKind}
+use Rattle.kind.specs.declared.Kind.{Kind}
+use Rattle.kind.specs.declared.Kind.the-variants.{Node, Way, Relation}
+use Rattle.kind.proofs.Numbers as Numbers
+use Rattle.version_floor.specs.declared.Version.{Version}
+use Rattle.version_floor.specs.Version.{admitOf}
+use Rattle.version_floor.specs.declared.Admit.the-variants.{Below}
+use Rattle.version_floor.proofs.Versions.{below-is}
+use Rattle.refusal.specs.declared.Refusal.the-variants.{Regression}
+use Rattle.interner.specs.Texts.{textOf, takeIn, noTexts, accepted}
+use Rattle.interner.specs.Strings.{intern}
+use Rattle.interner.specs.Sound.{textsOf}
+use Rattle.interner.proofs.Held.{text-stays}
+use Rattle.interner.proofs.Interns as Interns
+use Rattle.model.specs.Record.{claimOf}
+use Rattle.model.specs.Act.{Act, Key, delete, keyOf}
+use Rattle.model.proofs.Keys.{other-key}
+use Rattle.compact.specs.Cut.{Kept}
+use Rattle.compact.specs.Fits.{fitsSigned, fitsKept}
+use Rattle.compact.specs.Legal.{legal}
+use Rattle.legal.specs.Whole.{keptBytes}
+use Rattle.page.specs.Summary as Summary
+use Rattle.shelf.specs.Shelf.{Shelf, known, checked, pushed, deleted, takenIn}
+use Rattle.shelf.specs.Fair.{Fair}
+use Rattle.shelf.specs.declared.Kept.the-variants.{Taken, Refused}
+use Rattle.shelf.proofs.Answers.{push-regression, delete-regression}
+use Rattle.shelf.proofs.Claims.{Narrow}
+use Rattle.shelf.proofs.Shelves.{push-laid, push-arena, delete-laid, delete-arena}
+use Rattle.sound.specs.Sound.{SoundShelf}
+use Rattle.sound.proofs.Keeps as Sounds
+use Rattle.overlay.specs.Overlay.{Overlay, shelfOf, withShelf, withTexts, largest, sizesFit, shelfFits, textsFit, empty}
+use Rattle.overlay.specs.Given.{InBytes}
+use Rattle.overlay.specs.Sound.{Sound}
+use Rattle.overlay.specs.Calls.{After, setUp}
+use Rattle.store.specs.Calls.{Interning}
+use Rattle.direct.specs.Calls.{internOn}
+use Rattle.overlay.proofs.Decides.{decides}
+use Rattle.overlay.proofs.Answers.{bySetUp}
+use Rattle.direct.proofs.Answers.{intern-store}
+use Rattle.overlay.proofs.Keeps.{setup-sound, setup-bytes}
+use Rattle.direct.proofs.Keeps.{intern-sound, intern-bytes}
+use Rattle.overlay.proofs.Bounds.{over-small}
+use Rattle.overlay.proofs.Shelves.{shelf-same, shelf-other, shelf-texts, shelf-setting, each-shelf, texts-shelf, sized-shelf, sized-texts, put-sized}
+use Rattle.calls.specs.Known.{Regresses}
+use Rattle.listing.specs.Known.{knownIn}
+use Rattle.calls.proofs.Rows.{fair-sound}
+use Rattle.reader.proofs.Small.{text-small}
+use Rattle.calls.proofs.Small.{record-small}
+use Rattle.calls.proofs.Shelves.{lastOf}
+use Rattle.calls.proofs.Tells.{Tells, keyIn, pushOf, push-key, id-fits, signed-fits, tells-push, tells-delete, tells-other, tells-texts, tells-nothing}
+
+-- the id that an act names is one of 64 bits
+abbrev pub named : Act Bytes → Bool
+named a = fitsSigned w64 (keyOf a .id)
+
+-- an overlay of a setting, the texts that were taken in, in the order of their handles, and the accepted acts, in order
+pub record Reflects (setting : ℕ) (o : Overlay) (held : List Bytes) (acts : List (Act Bytes)) : Type 0 where
+  pub sound : Sound o
+  pub bytes : InBytes o
+  pub set : o .setting ≡ setting
+  pub texts : textsOf (o .texts) ≡ held
+  pub tells : (k : Kind) → Tells k (o .setting) (shelfOf k o) held acts
+  pub ids : all named acts ≡ true
+
+arena-short : (s : Shelf) → shelfFits largest s ≡ true → length (s .arena) < 2 ^ 63
+unfolding shelfFits
+arena-short s h = omega (arith, leb-true (length (s .arena)) 1048576 (both-right _ _ (both-right _ _ h)))
+
+byKind : {C : Type 0} (j k : Kind) → (j ≡ k → C) → ((j ≡ k → ⊥) → C) → C
+byKind j k f g = byBool (sameKind j k) (λ t. f (Numbers.same-yes j k t)) (λ t. g (λ e. clash (rw e (Numbers.same-refl k)) t))
+
+-- what no act names is not known
+unnamed : (x : Summary.Known) (acts : List (Act Bytes)) (key : Key) → all named acts ≡ true → fitsSigned w64 (key .id) ≡ false → Summary.knownFrom x acts key ≡ x
+unfolding Summary.knownFrom
+unnamed x [] key h f = refl
+unnamed x (a ∷ acts) key h f =
+    rw (other-key key (keyOf a) (λ e. clash (all-head named a acts h) (rw e at f))) (unnamed x acts key (all-tail named a acts h) f)
+
+-- one string is lent at least
+span-lent : (o : Overlay) → sizesFit largest o ≡ true → 2 ≤ length (o .texts .spans)
+unfolding textsFit
+span-lent o h = omega (arith, leb-true 1 (length (o .texts .spans) / 2) (both-left _ _ (sized-texts largest o h)))
+
+module _ (setting : ℕ) (o : Overlay) (held : List Bytes) (acts : List (Act Bytes)) (w : Reflects setting o held acts) where
+  -- each shelf is fair
+  pub fair-of : (k : Kind) → Fair k (shelfOf k o)
+  fair-of k = fair-sound (o .texts .strings) k (shelfOf k o) (w .sound .shelves k) (w .bytes .arenas k) (arena-short (shelfOf k o) (sized-shelf largest o (w .sound .sizes) k))
+
+  -- ---- an act on a kind
+
+  module _ (k : Kind) (t : Shelf) (a : Act Bytes) (kind : k ≡ keyOf a .kind) where
+    -- the shelf of the kind put anew, where it is sound, of bytes and of its size, and tells of the act
+    put-reflects : SoundShelf (o .texts .strings) k t → all isByte (t .arena) ≡ true → length (t .table) ≡ length (shelfOf k o .table) → length (t .arena) ≡ length (shelfOf k o .arena)
+        → Tells k (o .setting) t held (acts ++ (a ∷ [])) → named a ≡ true → Reflects setting (withShelf k t o) held (acts ++ (a ∷ []))
+    put-reflects s b e f told n =
+        record {
+          sound = record {
+            sizes = put-sized largest k t o e f (w .sound .sizes);
+            strings = rw shelf-texts (w .sound .strings);
+            shelves = λ j. rw shelf-texts (each-shelf (SoundShelf (o .texts .strings)) k t o s (w .sound .shelves) j);
+          };
+          bytes = record {
+            arenas = each-shelf (λ j z. all isByte (z .arena) ≡ true) k t o b (w .bytes .arenas);
+            texts = rw shelf-texts (w .bytes .texts);
+          };
+          set = shelf-setting k t o ∙ w .set;
+          texts = rw shelf-texts (w .texts);
+          tells = λ j.
+              byKind j k
+              (λ q. rw (q, shelf-same k t o, shelf-setting k t o) told)
+              (λ q. rw (shelf-other j k t o q, shelf-setting k t o) (tells-other j (o .setting) (shelfOf j o) held acts a (λ z. q (z ∙ sym kind)) (w .tells j)));
+          ids = all-append named acts (a ∷ []) (w .ids) (all-cons named a [] n (all-nil named));
+        }
+
+  -- an accepted push of a legal record
+  module _ (k : Kind) (x : Kept) (fits : fitsKept k x ≡ true) (lawful : legal (o .texts .strings) (x .held) ≡ true)
+      (taken : pushed k (o .setting) (shelfOf k o) (x .id) (claimOf (x .held .meta)) (keptBytes x) .answer ≡ Taken) where
+    pub reflects-push : Reflects setting (withShelf k (pushed k (o .setting) (shelfOf k o) (x .id) (claimOf (x .held .meta)) (keptBytes x) .shelf) o) held (acts ++ (pushOf held x ∷ []))
+    reflects-push =
+        let strings = o .texts .strings in
+        let s = shelfOf k o in
+        let c = claimOf (x .held .meta) in
+        let p = w .sound .shelves k in
+        let i = id-fits k x fits in
+        let l = push-laid k (o .setting) s (x .id) c (p .order) (keptBytes x) taken in
+        put-reflects k (pushed k (o .setting) s (x .id) c (keptBytes x) .shelf) (pushOf held x) (ap (λ (z : Key). z .kind) (push-key k held x fits))
+        (Sounds.push-sound strings k (o .setting) s c x fits lawful (signed-fits (x .id) i) p taken)
+        (rw (push-arena k (o .setting) s (x .id) c (keptBytes x) taken) (over-small (s .arena) (s .used) (keptBytes x) (w .bytes .arenas k) (record-small strings (x .id) (x .held) lawful)))
+        (l .words) (l .size)
+        (tells-push strings k (o .setting) s held acts p (fair-of k) (w .tells k) x fits lawful taken) i
+
+  -- an accepted delete
+  module _ (k : Kind) (id : ℤ) (claim : Version) (fits : fitsSigned w64 id ≡ true) (narrow : Narrow claim) (taken : deleted k (o .setting) (shelfOf k o) id claim .answer ≡ Taken) where
+    pub reflects-delete : Reflects setting (withShelf k (deleted k (o .setting) (shelfOf k o) id claim .shelf) o) held (acts ++ (delete k id claim ∷ []))
+    reflects-delete =
+        let strings = o .texts .strings in
+        let s = shelfOf k o in
+        let p = w .sound .shelves k in
+        let l = delete-laid k (o .setting) s id claim (p .order) taken in
+        put-reflects k (deleted k (o .setting) s id claim .shelf) (delete k id claim) refl
+        (Sounds.delete-sound strings k (o .setting) s id claim p taken)
+        (rw (delete-arena k (o .setting) s id claim (fair-of k) taken) (w .bytes .arenas k))
+        (l .words) (l .size)
+        (tells-delete strings k (o .setting) s held acts p (fair-of k) (w .tells k) id claim (signed-fits id fits) narrow taken) fits
+
+  -- a text taken in: the held handles keep their texts
+  pub reflects-text : (t : Bytes) → isText t ≡ true → accepted (intern (o .texts) t .answer) ≡ true
+      → Reflects setting (withTexts (intern (o .texts) t .store) o) (takeIn held t) acts
+  reflects-text t l a =
+      let e : internOn t o .overlay ≡ withTexts (intern (o .texts) t .store) o = ap (λ (z : Interning). z .overlay) (intern-store t o (decides o (w .bytes) .1 (w .sound)) l) in
+      let n : length held ≡ o .texts .strings = ap length (sym (w .texts)) ∙ Interns.length-texts (o .texts) in
+      record {
+        sound = subst Sound e (intern-sound t o (w .sound));
+        bytes = subst InBytes e (intern-bytes t o (text-small t l) (w .bytes));
+        set = w .set;
+        texts = Interns.texts-after (o .texts) t (Interns.sound-parts (o .texts) (w .sound .strings)) a ∙ ap (λ (z : List Bytes). takeIn z t) (w .texts);
+        tells = λ k.
+            rw (texts-shelf k (intern (o .texts) t .store) o) (tells-texts (o .texts .strings) k (o .setting) (shelfOf k o) held acts (w .sound .shelves k) (fair-of k) (w .tells k)
+            (takeIn held t) (λ h g. sym (text-stays held t h (rw n g))));
+        ids = w .ids;
+      }
+
+  -- ---- what that comes to
+
+  -- while regression is refused, what the overlay knows of an id is what the acts come to
+  pub page-reflects : setting ≡ 0 → (key : Key) → SFits w64 (key .id) → knownIn o key ≡ Summary.known acts key
+  unfolding knownIn
+  page-reflects z key f =
+      let t = w .tells (key .kind) in
+      let l = ap (λ (x : List Bytes). lastOf (key .kind) (shelfOf (key .kind) o) (textOf x) (key .id)) (w .texts) ∙ t .last (key .id) f in
+      let h = t .high (w .set ∙ z) (key .id) f in
+      λ i. record { last = l i; high = h i }
+
+  -- of an id that has not 64 bits nothing is known
+  pub ids-reflect : (key : Key) → fitsSigned w64 (key .id) ≡ false → Summary.known acts key ≡ Summary.nothing
+  unfolding Summary.known
+  ids-reflect key f = unnamed Summary.nothing acts key (w .ids) f
+
+  -- T13: what the store refuses 12, while regression is refused
+  module _ (z : setting ≡ 0) (k : Kind) (id : ℤ) (fits : SFits w64 id) (claim : Version) (v : ℤ) where
+    regresses : (admitOf (known k (shelfOf k o) id) claim ≡ Below v) ↔ Regresses acts (keyIn k id) claim v
+    regresses =
+        let h = w .tells k .high (w .set ∙ z) id fits in
+        let b = below-is (known k (shelfOf k o) id) claim v in (
+          λ e. let r = b .0 e in record { version = r .0; claims = r .1 .1 .0; known = sym h ∙ r .1 .0; below = r .1 .1 .1 },
+          λ r. b .1 (r .version, (h ∙ r .known, (r .claims, r .below))),
+        )
+
+    -- an answer that is given where the check refuses
+    as-checked : (P : ℕ → Type 0) → P 0 ↔ (admitOf (known k (shelfOf k o) id) claim ≡ Below v) → P (o .setting) ↔ Regresses acts (keyIn k id) claim v
+    as-checked P e =
+        let f = subst (λ (n : ℕ). P n ↔ (admitOf (known k (shelfOf k o) id) claim ≡ Below v)) (sym (w .set ∙ z)) e in
+        (λ x. regresses .0 (f .0 x), λ x. f .1 (regresses .1 x))
+
+    pub admit-regresses : (checked (o .setting) (known k (shelfOf k o) id) claim ≡ Below v) ↔ Regresses acts (keyIn k id) claim v
+    unfolding checked
+    admit-regresses = as-checked (λ n. checked n (known k (shelfOf k o) id) claim ≡ Below v) ((λ x. x, λ x. x))
+
+    pub push-regresses : (bytes : Bytes) → (pushed k (o .setting) (shelfOf k o) id claim bytes .answer ≡ Refused (Regression v)) ↔ Regresses acts (keyIn k id) claim v
+    push-regresses bytes = as-checked (λ n. pushed k n (shelfOf k o) id claim bytes .answer ≡ Refused (Regression v)) (push-regression k (shelfOf k o) id claim bytes v)
+
+    pub delete-regresses : (deleted k (o .setting) (shelfOf k o) id claim .answer ≡ Refused (Regression v)) ↔ Regresses acts (keyIn k id) claim v
+    delete-regresses = as-checked (λ n. deleted k n (shelfOf k o) id claim .answer ≡ Refused (Regression v)) (delete-regression k (shelfOf k o) id claim v)
+
+-- ---- an empty overlay stands for no act
+
+pub reflects-empty : (setting : ℕ) (o : Overlay) → sizesFit largest o ≡ true → InBytes o → Reflects setting (empty setting o) noTexts []
+reflects-empty setting o fit b = bySetUp setting o (λ s e. clash fit s) (λ s e. go (ap (λ (z : After). z .answer) e) (ap (λ (z : After). z .overlay) e))
+  where
+    told : (k : Kind) → Tells k setting (shelfOf k (empty setting o)) noTexts []
+    told Node = tells-nothing Node setting (o .nodes .table) (o .nodes .arena) noTexts
+    told Way = tells-nothing Way setting (o .ways .table) (o .ways .arena) noTexts
+    told Relation = tells-nothing Relation setting (o .relations .table) (o .relations .arena) noTexts
+
+    go : setUp setting o .answer ≡ Taken → setUp setting o .overlay ≡ empty setting o → Reflects setting (empty setting o) noTexts []
+    go e f =
+        record {
+          sound = subst Sound f (setup-sound setting o (ap takenIn e));
+          bytes = subst InBytes f (setup-bytes setting o b);
+          set = refl;
+          texts = Interns.fresh-texts (o .texts .spans) (o .texts .bytes) (span-lent o fit);
+          tells = told;
+          ids = all-nil named;
+        }

@@ -1,0 +1,36 @@
+-- `delete_begins`: id, then metadata.
+use mathlib.Core.Path.{subst}
+use denote.Ref.{now}
+use Rattle.scan.specs.Scan.{attributesAt}
+use Rattle.decide.specs.Decided.{HeadLies}
+use Rattle.decide.proofs.Decisions.{delete-bad, delete-got}
+use borrow.Author.Needs.{needs}
+use Rattle.decide.proofs.delete_begins.Statement.{statement}
+use Rattle.decide.proofs.delete_begins.Tie as tie
+
+head-field-requires : tie.Need-head-field-requires
+head-field-requires c κs = search needs
+
+enum-known-r : tie.Need-enum-known-r
+enum-known-r c = search needs
+
+enum-known-id : tie.Need-enum-known-id
+enum-known-id c = search needs
+
+returns : tie.Need-returns
+returns c =
+    let a = c .before .before .before .before .before .args in
+    let t = now (a .t) in
+    let attrs = attributesAt t (a .at) in
+    record { is = delete-bad t attrs (a .kind) (a .place) (c .before .r .given .1) (c .before .before .before .head-field .ensures .0); lies = tt }
+
+returns-2 : tie.Need-returns-2
+returns-2 c =
+    let a = c .before .before .before .before .before .args in
+    let t = now (a .t) in
+    let attrs = attributesAt t (a .at) in
+    record { is = delete-got t attrs (a .kind) (a .place) (c .before .id .given .1) (c .before .before .before .head-field .ensures .0); lies = subst (HeadLies t) (c .before .id .given .1) (c .before .before .before .head-field .ensures .1) }
+
+pub delete-begins-spec : {M : Type 1} → statement M
+delete-begins-spec =
+    tie.close (tie.spec head-field-requires enum-known-r enum-known-id returns returns-2)

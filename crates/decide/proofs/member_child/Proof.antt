@@ -1,0 +1,44 @@
+-- `member_child`: a refusal, or the child, unless its element is deleted.
+use mathlib.Core.Path.{refl, sym, _∙_, ap, subst}
+use denote.Ref.{now}
+use Rattle.values.specs.Value.{memberField, MemberLies}
+use Rattle.decide.specs.declared.Decided.the-variants as D
+use Rattle.decide.proofs.Decisions.{dropped}
+use borrow.Author.Needs.{needs}
+use Rattle.decide.proofs.member_child.Statement.{statement}
+use Rattle.decide.proofs.member_child.Tie as tie
+
+member-field-requires : tie.Need-member-field-requires
+member-field-requires c κs = search needs
+
+enum-known-r : tie.Need-enum-known-r
+enum-known-r c = search needs
+
+enum-known-reference : tie.Need-enum-known-reference
+enum-known-reference c = search needs
+
+unless-deleted-requires : tie.Need-unless-deleted-requires
+unless-deleted-requires c κs = search needs
+
+returns : tie.Need-returns
+returns c =
+    let t = now (c .before .before .before .before .before .args .t) in
+    let e = ap (memberField t) (sym (c .before .r .given .1)) ∙ c .before .before .before .member-field .ensures .0 in
+    record { is = rw (← e); lies = tt }
+
+returns-2 : tie.Need-returns-2
+returns-2 c =
+    let t = now (c .before .before .before .before .before .before .args .t) in
+    let e = ap (memberField t) (sym (c .before .before .reference .given .1)) ∙ c .before .before .before .before .member-field .ensures .0 in
+    rw (c .unless-deleted .ensures, ← e) (dropped t (c .before .before .before .before .before .before .args .a) (c .before .before .before .before .before .before .args .place) (D.Joins (c .before .before .before .before .before .before .args .place) (c .before .before .reference .given .0 .0) (c .before .before .reference .given .0 .1 .0) (c .before .before .reference .given .0 .1 .1 .0)) (record { is = refl; lies = subst (MemberLies t) (c .before .before .reference .given .1) (c .before .before .before .before .member-field .ensures .1) }))
+
+pub member-child-spec : {M : Type 1} → statement M
+member-child-spec =
+    tie.close
+    (tie.spec
+    member-field-requires
+    enum-known-r
+    enum-known-reference
+    unless-deleted-requires
+    returns
+    returns-2)

@@ -1,0 +1,51 @@
+-- `nd_child`: a refusal, or the child, unless its element is deleted.
+use mathlib.Core.Path.{refl, sym, _∙_, ap}
+use denote.Ref.{now}
+use Rattle.field.specs.Field.{refOf}
+use Rattle.values.specs.Value.{wideField}
+use Rattle.decide.specs.declared.Decided.the-variants as D
+use Rattle.decide.proofs.Decisions.{dropped}
+use borrow.Author.Needs.{needs}
+use Rattle.decide.proofs.nd_child.Statement.{statement}
+use Rattle.decide.proofs.nd_child.Tie as tie
+
+slice-aggregate-wide-field : tie.Need-slice-aggregate-wide-field
+slice-aggregate-wide-field c = search needs
+
+wide-field-requires : tie.Need-wide-field-requires
+wide-field-requires c κs = search needs
+
+enum-known-r : tie.Need-enum-known-r
+enum-known-r c = search needs
+
+enum-known-reference : tie.Need-enum-known-reference
+enum-known-reference c = search needs
+
+unless-deleted-requires : tie.Need-unless-deleted-requires
+unless-deleted-requires c κs = search needs
+
+returns : tie.Need-returns
+unfolding refOf
+returns c =
+    let t = now (c .before .before .before .before .before .before .args .t) in
+    let e = ap (wideField) (sym (c .before .r .given .1)) ∙ c .before .before .before .wide-field .ensures in
+    record { is = rw (← e); lies = tt }
+
+returns-2 : tie.Need-returns-2
+unfolding refOf
+returns-2 c =
+    let t = now (c .before .before .before .before .before .before .before .args .t) in
+    let e = ap (wideField) (sym (c .before .before .reference .given .1)) ∙ c .before .before .before .before .wide-field .ensures in
+    rw (c .unless-deleted .ensures, ← e) (dropped t (c .before .before .before .before .before .before .before .args .a) (c .before .before .before .before .before .before .before .args .place) (D.Refers (c .before .before .before .before .before .before .before .args .place) (c .before .before .reference .given .0 .0)) (record { is = refl; lies = tt }))
+
+pub nd-child-spec : {M : Type 1} → statement M
+nd-child-spec =
+    tie.close
+    (tie.spec
+    slice-aggregate-wide-field
+    wide-field-requires
+    enum-known-r
+    enum-known-reference
+    unless-deleted-requires
+    returns
+    returns-2)

@@ -1,0 +1,63 @@
+-- `push_begins`: id, then metadata, then a node's place.
+use mathlib.Core.Path.{sym, _∙_, ap, subst}
+use denote.Ref.{now}
+use Rattle.scan.specs.Scan.{attributesAt}
+use Rattle.values.specs.Value.{bodyField}
+use Rattle.decide.specs.Decided.{HeadLies}
+use Rattle.decide.proofs.Decisions.{push-bad, push-bodiless, push-got}
+use borrow.Author.Needs.{needs}
+use Rattle.decide.proofs.push_begins.Statement.{statement}
+use Rattle.decide.proofs.push_begins.Tie as tie
+
+head-field-requires : tie.Need-head-field-requires
+head-field-requires c κs = search needs
+
+enum-known-r : tie.Need-enum-known-r
+enum-known-r c = search needs
+
+enum-known-id : tie.Need-enum-known-id
+enum-known-id c = search needs
+
+body-field-requires : tie.Need-body-field-requires
+body-field-requires c κs = search needs
+
+enum-known-r-2 : tie.Need-enum-known-r-2
+enum-known-r-2 c = search needs
+
+enum-known-lat : tie.Need-enum-known-lat
+enum-known-lat c = search needs
+
+returns : tie.Need-returns
+returns c =
+    let a = c .before .before .before .before .before .args in
+    let t = now (a .t) in
+    let attrs = attributesAt t (a .at) in
+    record { is = push-bad t attrs (a .kind) (a .place) (a .empty) (c .before .r .given .1) (c .before .before .before .head-field .ensures .0); lies = tt }
+
+returns-2 : tie.Need-returns-2
+returns-2 c =
+    let a = c .before .before .before .before .before .before .before .before .before .args in
+    let t = now (a .t) in
+    let attrs = attributesAt t (a .at) in
+    record { is = push-bodiless t attrs (a .kind) (a .place) (a .empty) (c .before .before .before .before .before .id .given .1) (c .before .before .before .before .before .before .before .head-field .ensures .0) (ap (bodyField (a .kind)) (sym (c .before .r2 .given .1)) ∙ c .before .before .before .body-field .ensures); lies = tt }
+
+returns-3 : tie.Need-returns-3
+returns-3 c =
+    let a = c .before .before .before .before .before .before .before .before .before .args in
+    let t = now (a .t) in
+    let attrs = attributesAt t (a .at) in
+    record { is = push-got t attrs (a .kind) (a .place) (a .empty) _ _ (c .before .before .before .before .before .id .given .1) (c .before .before .before .before .before .before .before .head-field .ensures .0) (ap (bodyField (a .kind)) (sym (c .before .lat .given .1)) ∙ c .before .before .before .body-field .ensures); lies = subst (HeadLies t) (c .before .before .before .before .before .id .given .1) (c .before .before .before .before .before .before .before .head-field .ensures .1) }
+
+pub push-begins-spec : {M : Type 1} → statement M
+push-begins-spec =
+    tie.close
+    (tie.spec
+    head-field-requires
+    enum-known-r
+    enum-known-id
+    body-field-requires
+    enum-known-r-2
+    enum-known-lat
+    returns
+    returns-2
+    returns-3)

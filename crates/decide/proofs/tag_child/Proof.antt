@@ -1,0 +1,44 @@
+-- `tag_child`: a refusal, or the child, unless its element is deleted.
+use mathlib.Core.Path.{refl, sym, _∙_, ap, subst}
+use denote.Ref.{now}
+use Rattle.values.specs.Value.{tagField, TagLies}
+use Rattle.decide.specs.declared.Decided.the-variants as D
+use Rattle.decide.proofs.Decisions.{dropped}
+use borrow.Author.Needs.{needs}
+use Rattle.decide.proofs.tag_child.Statement.{statement}
+use Rattle.decide.proofs.tag_child.Tie as tie
+
+tag-field-requires : tie.Need-tag-field-requires
+tag-field-requires c κs = search needs
+
+enum-known-r : tie.Need-enum-known-r
+enum-known-r c = search needs
+
+enum-known-key : tie.Need-enum-known-key
+enum-known-key c = search needs
+
+unless-deleted-requires : tie.Need-unless-deleted-requires
+unless-deleted-requires c κs = search needs
+
+returns : tie.Need-returns
+returns c =
+    let t = now (c .before .before .before .before .before .args .t) in
+    let e = ap (tagField t) (sym (c .before .r .given .1)) ∙ c .before .before .before .tag-field .ensures .0 in
+    record { is = rw (← e); lies = tt }
+
+returns-2 : tie.Need-returns-2
+returns-2 c =
+    let t = now (c .before .before .before .before .before .before .args .t) in
+    let e = ap (tagField t) (sym (c .before .before .key .given .1)) ∙ c .before .before .before .before .tag-field .ensures .0 in
+    rw (c .unless-deleted .ensures, ← e) (dropped t (c .before .before .before .before .before .before .args .a) (c .before .before .before .before .before .before .args .place) (D.Tags (c .before .before .before .before .before .before .args .place) (c .before .before .key .given .0 .0) (c .before .before .key .given .0 .1 .0)) (record { is = refl; lies = subst (TagLies t) (c .before .before .key .given .1) (c .before .before .before .before .tag-field .ensures .1) }))
+
+pub tag-child-spec : {M : Type 1} → statement M
+tag-child-spec =
+    tie.close
+    (tie.spec
+    tag-field-requires
+    enum-known-r
+    enum-known-key
+    unless-deleted-requires
+    returns
+    returns-2)

@@ -1,0 +1,2 @@
+pub mod Decision
+pub mod Table

@@ -1,0 +1,1 @@
+// The fields of an event (document 01, "fields"): definitions and laws.

@@ -1,0 +1,135 @@
+-- The call: measured first, lent the output's end; then written, where it fits.
+use Prim.Native.Nat.{ℕ, suc, _-_, _<_, _≤_}
+use mathlib.Core.Path.{_≡_, refl, sym, _∙_, ap}
+use mathlib.Core.Bool.{true, false}
+use mathlib.Core.List.{List, [], _∷_, _++_}
+use native.Mathlib.Omega.{arith}
+use lib.ListN.{length, getD, drop, length-take}
+use borrow.Author.Tests.{le-leb, lt-leb, lt-ltb}
+use borrow.Rule.Slice.PartMut.{midOf, putMid, put-same}
+use Rattle.base.specs.Bytes.{Bytes, all}
+use Rattle.base.proofs.Split.{byLe, no}
+use Rattle.base.proofs.Lists.{all-nil, all-cons}
+use Rattle.little.specs.Little.{isByte}
+use Rattle.little.proofs.Overs.{over-start}
+use Rattle.kind.specs.declared.Kind.{Kind}
+use Rattle.kind.specs.declared.Kind.the-variants.{Node, Way, Relation}
+use Rattle.refusal.specs.declared.Refusal.the-variants as R
+use Rattle.print.specs.declared.Room.{Room}
+use Rattle.print.specs.declared.Room.the-variants.{Left, Full}
+use Rattle.print.specs.Print.{Printed, print, joined}
+use Rattle.print.specs.Piece.{behind}
+use Rattle.print.proofs.Prints as Prints
+use Rattle.print.proofs.Prints.{print-append, behind-fits, behind-past, room-print, length-print}
+use Rattle.overlay.specs.Overlay.{Overlay, overlayOf, shelfOf}
+use Rattle.overlay.specs.Given.{InBytes}
+use Rattle.overlay.specs.Sound.{isSound}
+use Rattle.listing.specs.declared.Listed.the-variants.{Length, Refused}
+use Rattle.listing.specs.Pieces.{piecesOf}
+use Rattle.listing.specs.Call.{Output, notListed, pageOf, pageOver, listingOn}
+use Rattle.listing.proofs.Pages.{page-pieces}
+
+-- three kinds, one after the other
+pub page-printed : (cap : ℕ) (xs ys zs : List Bytes) (p q r t : Printed) → q ≡ print cap xs p → r ≡ print cap ys q → t ≡ print cap zs r → t ≡ print cap (xs ++ ys ++ zs) p
+page-printed cap xs ys zs p q r t e1 e2 e3 = rw (print-append cap (xs ++ ys) zs p, print-append cap xs ys p, ← e1, ← e2) e3
+
+-- lent bytes are bytes
+pub bytes-lent : (s : Bytes) → ((i : ℕ) → getD s i 0 < 256) → all isByte s ≡ true
+unfolding isByte
+bytes-lent [] h = all-nil isByte
+bytes-lent (b ∷ s) h = all-cons isByte b s (lt-ltb b 256 (h 0)) (bytes-lent s (λ i. h (suc i)))
+
+pub all-lent : (nids : List ℕ) (narena : Bytes) (wids : List ℕ) (warena : Bytes) (rids : List ℕ) (rarena : Bytes) (spans : List ℕ) (bytes : Bytes) (counts : List ℕ)
+    → all isByte narena ≡ true → all isByte warena ≡ true → all isByte rarena ≡ true → all isByte bytes ≡ true → InBytes (overlayOf nids narena wids warena rids rarena spans bytes counts)
+all-lent nids narena wids warena rids rarena spans bytes counts n w r t = record { arenas = arenas; texts = t }
+  where
+    arenas : (k : Kind) → all isByte (shelfOf k (overlayOf nids narena wids warena rids rarena spans bytes counts) .arena) ≡ true
+    arenas Node = n
+    arenas Way = w
+    arenas Relation = r
+
+-- ---- a page over the output
+
+module _ (out page : Bytes) where
+  over-short : length out < length page → notListed out R.ShortOutput ≡ pageOver out page
+  unfolding pageOver
+  over-short h = rw (lt-leb (length page) (length out) h)
+
+  over-whole : length page ≤ length out → record { out = page ++ drop (length page) out; answer = Length (length page) } ≡ pageOver out page
+  unfolding pageOver
+  over-whole h = rw (le-leb (length page) (length out) h)
+
+-- ---- the room that measuring leaves
+
+left-fits : (n l left : ℕ) → Left left ≡ behind (Left n) l → (l ≤ n) × (left ≡ n - l)
+left-fits n l left e =
+    byLe l n
+    (λ h. let w = behind-fits n l h in (h, (cc)))
+    (λ h. let w = behind-past n l h in no (cc))
+
+full-past : (n l : ℕ) → Full ≡ behind (Left n) l → n < l
+full-past n l e =
+    byLe l n
+    (λ h. let w = behind-fits n l h in no (cc))
+    (λ h. h)
+
+-- ---- what the two walks leave
+
+none-of : (s : Bytes) → length s ≡ 0 → s ≡ []
+none-of [] h = refl
+none-of (b ∷ s) h = absurd (omega arith)
+
+-- the end of the output, lent to be measured
+abbrev pub ending : Bytes → Bytes
+ending out = midOf (length out) (length out - length out) out
+
+module _ (out : Bytes) (xs : List Bytes) (x : Bytes) (r : Room) (e : record { out = x; room = r } ≡ print (length out) xs (record { out = ending out; room = Left (length out) })) where
+  -- nothing is written there
+  measured-out : putMid (length out) (length out - length out) out x ≡ out
+  measured-out =
+      let n : length (ending out) ≡ 0 = omega (arith, length-take (length out - length out) (drop (length out) out)) in
+      let a : x ≡ [] = none-of x (ap (λ (p : Printed). length (p .out)) e ∙ (length-print (length out) xs _ ∙ n)) in
+      ap (putMid (length out) (length out - length out) out) (a ∙ sym (none-of (ending out) n)) ∙ put-same (length out) (length out - length out) out
+
+  measured-room : r ≡ behind (Left (length out)) (length (joined xs))
+  measured-room = ap (λ (p : Printed). p .room) e ∙ room-print (length out) xs _
+
+  pub short-listed : Full ≡ r → record { out = putMid (length out) (length out - length out) out x; answer = Refused R.ShortOutput } ≡ pageOver out (joined xs)
+  short-listed f = rw measured-out (over-short out (joined xs) (full-past (length out) (length (joined xs)) (f ∙ measured-room)))
+
+  module _ (l : ℕ) (f : Left l ≡ r) where
+    left-over : (length (joined xs) ≤ length out) × (l ≡ length out - length (joined xs))
+    left-over = left-fits (length out) (length (joined xs)) l (f ∙ measured-room)
+
+    pub room-left : l ≤ length out
+    room-left = omega (arith, left-over .0, left-over .1)
+
+    pub whole-listed : (y : Bytes) (q : Room) → record { out = y; room = q } ≡ print (length out) xs (record { out = putMid (length out) (length out - length out) out x; room = Left (length out) })
+        → record { out = y; answer = Length (length out - l) } ≡ pageOver out (joined xs)
+    whole-listed y q g =
+        let w = left-over in
+        let v = Prints.written xs out (length out) (w .0) (omega arith) in
+        let d : length out - length out ≡ 0 = omega arith in
+        let y-is : y ≡ joined xs ++ drop (length (joined xs)) out = ap (λ (p : Printed). p .out) (rw measured-out at g ∙ v) ∙ rw d (over-start out (joined xs) (w .0)) in
+        let l-is : length out - l ≡ length (joined xs) = omega (arith, w .0, w .1) in
+        rw (y-is, l-is) (over-whole out (joined xs) (w .0))
+
+-- ---- the call: 22, or what the pieces make of the output
+
+module _ (out : Bytes) (o : Overlay) where
+  pub list-22 : isSound o ≡ false → notListed out R.Unsound ≡ listingOn out o
+  unfolding listingOn
+  list-22 t = rw t
+
+  module _ (t : isSound o ≡ true) where
+    pub list-pieces : InBytes o → (z : Output) → z ≡ pageOver out (joined (piecesOf o)) → z ≡ listingOn out o
+    unfolding listingOn
+    list-pieces b z e = rw t (e ∙ ap (pageOver out) (page-pieces o b t))
+
+    pub list-19 : length out < length (pageOf o) → notListed out R.ShortOutput ≡ listingOn out o
+    unfolding listingOn
+    list-19 h = rw t (over-short out (pageOf o) h)
+
+    pub list-length : length (pageOf o) ≤ length out → record { out = pageOf o ++ drop (length (pageOf o)) out; answer = Length (length (pageOf o)) } ≡ listingOn out o
+    unfolding listingOn
+    list-length h = rw t (over-whole out (pageOf o) h)

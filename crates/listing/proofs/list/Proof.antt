@@ -1,0 +1,50 @@
+-- Soundness decides; in sound storage the pieces are the page.
+use mathlib.Core.Path.{sym, _∙_}
+use native.Mathlib.Omega.{arith}
+use denote.Ref.{now}
+use Rattle.overlay.specs.Overlay.{Overlay, overlayOf}
+use Rattle.overlay.specs.Given.{InBytes}
+use Rattle.listing.proofs.Calls.{bytes-lent, all-lent, list-22, list-pieces}
+use borrow.Author.Needs.{needs}
+use Rattle.listing.proofs.list.Statement.{statement}
+use Rattle.listing.proofs.list.Tie as tie
+
+-- what is lent, as an overlay
+abbrev overlayAt : tie.After-is-sound → Overlay
+overlayAt c =
+    let a = c .before .before .before .before .before .before .before .before .before .before .args in
+    overlayOf (now (a .nids)) (now (a .narena)) (now (a .wids)) (now (a .warena)) (now (a .rids)) (now (a .rarena)) (now (a .spans)) (now (a .bytes)) (now (a .counts))
+
+in-bytes : (c : tie.After-is-sound) → InBytes (overlayAt c)
+in-bytes c =
+    let t = c .before .before in
+    let r = t .before .before in
+    let w = r .before .before in
+    let n = w .before .before in
+    let a = n .before .before .args in
+    all-lent (now (a .nids)) (now (a .narena)) (now (a .wids)) (now (a .warena)) (now (a .rids)) (now (a .rarena)) (now (a .spans)) (now (a .bytes)) (now (a .counts))
+    (bytes-lent (now (a .narena)) (λ i. omega (arith, n .shared-slice-known2 .given i)))
+    (bytes-lent (now (a .warena)) (λ i. omega (arith, w .shared-slice-known4 .given i)))
+    (bytes-lent (now (a .rarena)) (λ i. omega (arith, r .shared-slice-known6 .given i)))
+    (bytes-lent (now (a .bytes)) (λ i. omega (arith, t .shared-slice-known8 .given i)))
+
+returns : tie.Need-returns
+returns c =
+    let s = c .before .before .before .before .before in
+    list-pieces (now (s .before .before .before .before .before .before .before .before .before .before .args .out)) (overlayAt s) (sym (s .is-sound .ensures) ∙ c .before .before .before .before .if1 .taken) (in-bytes s) _
+    (c .before .before .put-listing .ensures)
+
+returns-2 : tie.Need-returns-2
+returns-2 c =
+    let s = c .before in
+    list-22 (now (s .before .before .before .before .before .before .before .before .before .before .args .out)) (overlayAt s) (sym (s .is-sound .ensures) ∙ c .if1 .left)
+
+pub list-spec : {M : Type 1} → statement M
+list-spec =
+    tie.close
+    (tie.spec
+    (λ c κs. search needs)
+    (λ c κs. search needs)
+    (λ c. search needs)
+    returns
+    returns-2)

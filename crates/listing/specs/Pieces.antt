@@ -1,0 +1,20 @@
+-- The pieces that the walk prints, in any words and bytes: the lines of each kind. In sound storage they are together the listing of the overlay's table (proofs/Pages).
+use Prim.Native.Nat.{ℕ}
+use mathlib.Core.List.{List, _++_}
+use Rattle.base.specs.Bytes.{Bytes}
+use Rattle.kind.specs.declared.Kind.{Kind}
+use Rattle.kind.specs.declared.Kind.the-variants.{Node, Way, Relation}
+use Rattle.interner.specs.Strings.{Store, usedOf}
+use Rattle.fields.specs.Fields.{heldText}
+use Rattle.overlay.specs.Overlay.{Overlay, shelfOf}
+use Rattle.rows.specs.Lines.{kindPieces}
+
+-- the text of a handle
+abbrev pub textHeld : Store → ℕ → Bytes
+textHeld t = heldText (t .spans) (usedOf t) (t .strings)
+
+abbrev pub linesOf : Kind → Overlay → List Bytes
+linesOf k o = kindPieces (textHeld (o .texts)) k (shelfOf k o)
+
+unfoldable pub piecesOf : Overlay → List Bytes
+piecesOf o = linesOf Node o ++ linesOf Way o ++ linesOf Relation o

@@ -1,0 +1,55 @@
+-- `with_changeset`: a refusal, or the field with its flags.
+use mathlib.Core.Path.{refl, sym, _∙_, ap}
+use mir.Syntax.{w64}
+use Rattle.integer.specs.Integer.{readOf}
+use Rattle.values.proofs.Values.{part, number-text}
+use Rattle.field.proofs.Metadata.{present}
+use Rattle.values.specs.Value.{integerIn}
+use borrow.Author.Needs.{needs}
+use Rattle.metadata.proofs.with_changeset.Statement.{statement}
+use Rattle.metadata.proofs.with_changeset.Tie as tie
+
+sub-read-i64 : tie.Need-sub-read-i64
+sub-read-i64 c = search needs
+
+part-read-i64-start : tie.Need-part-read-i64-start
+part-read-i64-start c = search needs
+
+part-read-i64-end : tie.Need-part-read-i64-end
+part-read-i64-end c = search needs
+
+read-i64-requires : tie.Need-read-i64-requires
+read-i64-requires c κs = search needs
+
+enum-known-b : tie.Need-enum-known-b
+enum-known-b c = search needs
+
+enum-told : tie.Need-enum-told
+enum-told c = search needs
+
+returns : tie.Need-returns
+returns c =
+    let e = ap (integerIn w64) (sym (c .enum-told .given .1)) ∙ number-text w64 _ (c .before .before .read-i64 .ensures ∙ ap (readOf w64) (part (c .before .before .before .before .before .pre .1))) in
+    record { is = rw (← e); held = tt }
+
+mark-requires : tie.Need-mark-requires
+mark-requires c κs = (c .before .before .before .before .before .before .pre .0 .small, (present, refl))
+
+returns-2 : tie.Need-returns-2
+returns-2 c =
+    let e = ap (integerIn w64) (sym (c .before .before .b .given .1)) ∙ number-text w64 _ (c .before .before .before .before .read-i64 .ensures ∙ ap (readOf w64) (part (c .before .before .before .before .before .before .before .pre .1))) in
+    record { is = rw (← e, c .mark .ensures .0); held = record { small = c .mark .ensures .1; user = c .before .before .before .before .before .before .before .pre .0 .user } }
+
+pub with-changeset-spec : {M : Type 1} → statement M
+with-changeset-spec =
+    tie.close
+    (tie.spec
+    sub-read-i64
+    part-read-i64-start
+    part-read-i64-end
+    read-i64-requires
+    enum-known-b
+    enum-told
+    returns
+    mark-requires
+    returns-2)

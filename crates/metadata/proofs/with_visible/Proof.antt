@@ -1,0 +1,56 @@
+-- `with_visible`: only `false` exactly hides.
+use mathlib.Core.Path.{refl, sym, _∙_}
+use Rattle.field.proofs.Metadata.{present, hidden}
+use Rattle.metadata.proofs.Attributes.{false-here}
+use borrow.Author.Needs.{needs}
+use Rattle.metadata.proofs.with_visible.Statement.{statement}
+use Rattle.metadata.proofs.with_visible.Tie as tie
+
+sub-equal : tie.Need-sub-equal
+sub-equal c = search needs
+
+part-equal-start : tie.Need-part-equal-start
+part-equal-start c = search needs
+
+part-equal-end : tie.Need-part-equal-end
+part-equal-end c = search needs
+
+slice-aggregate-equal : tie.Need-slice-aggregate-equal
+slice-aggregate-equal c = search needs
+
+equal-requires : tie.Need-equal-requires
+equal-requires c κs = search needs
+
+mark-requires : tie.Need-mark-requires
+mark-requires c κs = (c .before .before .before .before .before .pre .0 .small, (present, refl))
+
+mark-requires-2 : tie.Need-mark-requires-2
+mark-requires-2 c κs = (c .mark .ensures .1, (hidden, refl))
+
+returns : tie.Need-returns
+returns c =
+    let e = sym (false-here (c .before .before .before .before .before .before .before .pre .1) (c .before .before .before .equal .ensures)) ∙ c .before .before .if1 .taken in
+    record { is = rw (e, c .mark2 .ensures .0, c .before .mark .ensures .0); held = record { small = c .mark2 .ensures .1; user = c .before .before .before .before .before .before .before .pre .0 .user } }
+
+mark-requires-3 : tie.Need-mark-requires-3
+mark-requires-3 c κs = (c .before .before .before .before .before .pre .0 .small, (present, refl))
+
+returns-2 : tie.Need-returns-2
+returns-2 c =
+    let e = sym (false-here (c .before .before .before .before .before .before .pre .1) (c .before .before .equal .ensures)) ∙ c .before .if1 .left in
+    record { is = rw (e, c .mark3 .ensures .0); held = record { small = c .mark3 .ensures .1; user = c .before .before .before .before .before .before .pre .0 .user } }
+
+pub with-visible-spec : {M : Type 1} → statement M
+with-visible-spec =
+    tie.close
+    (tie.spec
+    sub-equal
+    part-equal-start
+    part-equal-end
+    slice-aggregate-equal
+    equal-requires
+    mark-requires
+    mark-requires-2
+    returns
+    mark-requires-3
+    returns-2)

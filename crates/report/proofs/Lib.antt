@@ -1,0 +1,3 @@
+pub mod Reports
+pub mod Refused
+pub mod Fits

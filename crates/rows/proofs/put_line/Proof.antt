@@ -1,0 +1,47 @@
+-- The key, what the row was left with, and the line feed.
+use Prim.Native.Nat.{_^_}
+use mathlib.Core.Path.{_≡_, _∙_, ap}
+use lib.Dec.{ltb}
+use denote.Ref.{now}
+use mir.Facts.{toZ-ofZ}
+use mir.Syntax.{w64}
+use mir.Val.{SFits, toZ, ofZ}
+use Rattle.line.specs.Decimal.{integerText}
+use Rattle.osm_id.specs.Order.{idOf}
+use Rattle.shelf.specs.Shelf.{isLive}
+use Rattle.page.specs.Listing.{kindField, versionField}
+use Rattle.fields.specs.Fields.{heldText}
+use Rattle.rows.specs.Lines.{signOf, lastAt, rowFieldsAt}
+use Rattle.rows.proofs.Walks.{line-printed}
+use borrow.Author.Needs.{needs}
+use Rattle.rows.proofs.put_line.Statement.{statement}
+use Rattle.rows.proofs.put_line.Tie as tie
+
+returns : tie.Need-returns
+unfolding rowFieldsAt isLive
+returns c =
+    let l = c .before .before .before .before .before .before .before in
+    let k = l .before .before .before .before in
+    let v = k .before .before .before in
+    let i = v .before .before in
+    let a = i .before .before .before .before .before .before .args in
+    let r = i .osm-id-of-rank in
+    let f : SFits w64 (r .result) = record { sfits = r .ok } in
+    let e : toZ w64 (v .before .bits-of-i64 .result) ≡ idOf (a .row .rank) = ap (toZ w64) (v .before .bits-of-i64 .ensures ∙ ap (ofZ w64) (toZ-ofZ f)) ∙ (toZ-ofZ f ∙ r .ensures) in
+    rw (← e, ← v .known-version .ensures (a .used))
+    (line-printed (a .cap) (kindField (a .kind)) (integerText (toZ w64 (v .before .bits-of-i64 .result))) (signOf (ltb (a .row .place) (2 ^ 63))) (versionField (v .known-version .result))
+    (lastAt (heldText (now (a .spans)) (now (a .bytes)) (a .strings)) (a .kind) (now (a .arena)) (a .used) (a .row .place)) _ _ _ _ (k .put-key .ensures) (l .put-last .ensures) (c .before .before .put-bytes .ensures))
+
+pub put-line-spec : {M : Type 1} → statement M
+put-line-spec =
+    tie.close
+    (tie.spec
+    (λ c κs. search needs)
+    (λ c κs. search needs)
+    (λ c κs. search needs)
+    (λ c κs. search needs)
+    (λ c κs. search needs)
+    (λ c. search needs)
+    (λ c κs. search needs)
+    (λ c. search needs)
+    returns)

@@ -1,0 +1,166 @@
+// The lines of one kind's rows, printed: "kind; id; `+` live or `-` deleted; known version or `?`", and of a live one its record's fields.
+ghost use mathlib.Core.Path.{_≡_};
+ghost use mathlib.Core.List.{[], _∷_};
+ghost use mir.Syntax.{w64};
+ghost use mir.Val.{toZ};
+ghost use Rattle.line.specs.Decimal.{integerText};
+ghost use Rattle.page.specs.Listing.{kindField, versionField};
+ghost use Rattle.print.specs.Print.{step, print, tabs, linePieces};
+ghost use Rattle.shelf.specs.Shelf.{shelfWith};
+ghost use Rattle.fields.specs.Fields.{heldText};
+ghost use Rattle.rows.specs.Lines.{signOf, lastAt, rowFieldsAt, kindPieces};
+use kind::Kind;
+use print::Room;
+use table::Row;
+use version_floor::Version;
+
+// "Kinds n, w, r"
+fn put_kind(out: &mut [u8], cap: usize, room: Room, kind: Kind) -> Room
+    ensures { λ r. ⌜ record { out = now (out .exit); room = r } ≡ step cap (kindField kind) (record { out = now (out .entry); room = room }) ⌝ }
+{
+    match kind {
+        Kind::Node => print::put_bytes(out, cap, room, b"n"),
+        Kind::Way => print::put_bytes(out, cap, room, b"w"),
+        Kind::Relation => print::put_bytes(out, cap, room, b"r"),
+    }
+}
+
+// "`+` live or `-` deleted"
+fn put_sign(out: &mut [u8], cap: usize, room: Room, live: bool) -> Room
+    ensures { λ r. ⌜ record { out = now (out .exit); room = r } ≡ print cap (tabs (signOf live ∷ [])) (record { out = now (out .entry); room = room }) ⌝ }
+{
+    if live {
+        return print::put_text(out, cap, room, b"+");
+    }
+    print::put_text(out, cap, room, b"-")
+}
+
+// "known version or `?`"
+fn put_version(out: &mut [u8], cap: usize, room: Room, version: Version) -> Room
+    ensures { λ r. ⌜ record { out = now (out .exit); room = r } ≡ print cap (tabs (versionField version ∷ [])) (record { out = now (out .entry); room = room }) ⌝ }
+{
+    let Version::Is(v) = version else {
+        return print::put_text(out, cap, room, b"?");
+    };
+    print::put_integer32(out, cap, room, signed::bits_of_i32(v))
+}
+
+// "kind; id; `+` live or `-` deleted; known version or `?`"
+fn put_key(
+    out: &mut [u8],
+    cap: usize,
+    room: Room,
+    kind: Kind,
+    id: u64,
+    live: bool,
+    version: Version,
+) -> Room
+    ensures { λ r. ⌜ record { out = now (out .exit); room = r }
+        ≡ print cap (kindField kind ∷ tabs (integerText (toZ w64 id) ∷ signOf live ∷ versionField version ∷ [])) (record { out = now (out .entry); room = room }) ⌝ }
+{
+    let room = put_kind(out, cap, room, kind);
+    let room = print::put_integer(out, cap, room, id);
+    let room = put_sign(out, cap, room, live);
+    put_version(out, cap, room, version)
+}
+
+// "A deleted line ends there. A live one goes on"
+fn put_last(
+    out: &mut [u8],
+    cap: usize,
+    room: Room,
+    kind: Kind,
+    arena: &[u8],
+    used: u64,
+    place: u64,
+    spans: &[u64],
+    bytes: &[u8],
+    strings: u64,
+) -> Room
+    ensures { λ r. ⌜ record { out = now (out .exit); room = r }
+        ≡ print cap (tabs (lastAt (heldText (now (spans .entry)) (now (bytes .entry)) strings) kind (now (arena .entry)) used place)) (record { out = now (out .entry); room = room }) ⌝ }
+{
+    if place < 0x8000_0000_0000_0000 {
+        let n = little::lesser(used as usize, arena.len());
+        let at = little::lesser(place as usize, n);
+        return fields::put_record(out, cap, room, kind, &arena[at..n], spans, bytes, strings);
+    }
+    room
+}
+
+// A row's line.
+fn put_line(
+    out: &mut [u8],
+    cap: usize,
+    room: Room,
+    kind: Kind,
+    table: &[u64],
+    ids: u64,
+    arena: &[u8],
+    used: u64,
+    spans: &[u64],
+    bytes: &[u8],
+    strings: u64,
+    row: Row,
+) -> Room
+    ensures { λ r. ⌜ record { out = now (out .exit); room = r }
+        ≡ print cap (linePieces (rowFieldsAt (heldText (now (spans .entry)) (now (bytes .entry)) strings) kind (shelfWith (now (table .entry)) ids (now (arena .entry)) used) row)) (record { out = now (out .entry); room = room }) ⌝ }
+{
+    let id = signed::bits_of_i64(osm_id::osm_id_of_rank(row.rank));
+    let version = shelf::known_version(kind, table, ids, arena, id);
+    let live = row.place < 0x8000_0000_0000_0000;
+    let room = put_key(out, cap, room, kind, id, live, version);
+    let room = put_last(
+        out,
+        cap,
+        room,
+        kind,
+        arena,
+        used,
+        row.place,
+        spans,
+        bytes,
+        strings,
+    );
+    print::put_bytes(out, cap, room, b"\n")
+}
+
+// The lines of a kind's rows: those counted, as far as the words go.
+pub fn put_lines(
+    out: &mut [u8],
+    cap: usize,
+    room: Room,
+    kind: Kind,
+    table: &[u64],
+    ids: u64,
+    arena: &[u8],
+    used: u64,
+    spans: &[u64],
+    bytes: &[u8],
+    strings: u64,
+) -> Room
+    ensures { λ r. ⌜ record { out = now (out .exit); room = r }
+        ≡ print cap (kindPieces (heldText (now (spans .entry)) (now (bytes .entry)) strings) kind (shelfWith (now (table .entry)) ids (now (arena .entry)) used)) (record { out = now (out .entry); room = room }) ⌝ }
+{
+    let n = little::lesser(ids as usize, table.len() / 3);
+    let mut left = room;
+    let mut i: usize = 0;
+    while i < n {
+        left = put_line(
+            out,
+            cap,
+            left,
+            kind,
+            table,
+            ids,
+            arena,
+            used,
+            spans,
+            bytes,
+            strings,
+            table::row_at(table, i),
+        );
+        i += 1;
+    }
+    left
+}

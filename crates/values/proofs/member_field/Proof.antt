@@ -1,0 +1,144 @@
+-- `member_field`: type, then ref, then role.
+use mathlib.Core.Path.{sym, _∙_, ap}
+use denote.Ref.{now}
+use Rattle.base.specs.Ascii.{ascii}
+use Rattle.nesting.specs.Name.{nameOf}
+use Rattle.scan.specs.Scan.{attributesAt}
+use Rattle.field.specs.Field.{typeNamed, memberOf}
+use Rattle.values.specs.Value.{wideField, typeField}
+use Rattle.values.proofs.Raws.{name-raw}
+use Rattle.values.proofs.Values.{part, found-missing, found-at, text-missing, text-got}
+use borrow.Author.Needs.{needs}
+use Rattle.values.proofs.member_field.Statement.{statement}
+use Rattle.values.proofs.member_field.Tie as tie
+
+slice-aggregate-value : tie.Need-slice-aggregate-value
+slice-aggregate-value c = search needs
+
+value-requires : tie.Need-value-requires
+value-requires c κs = search needs
+
+enum-known-from : tie.Need-enum-known-from
+enum-known-from c = search needs
+
+enum-told : tie.Need-enum-told
+enum-told c = search needs
+
+returns : tie.Need-returns
+unfolding memberOf
+returns c =
+    let a = c .before .before .before .before .before .args in
+    let t = now (a .t) in
+    let n = ascii "type" in
+    (rw (← text-missing n (attributesAt t (a .at)) (found-missing t n (a .at) (c .enum-told .given .1) (c .before .before .value .ensures))), tt)
+
+sub-name-of : tie.Need-sub-name-of
+sub-name-of c =
+    let a = c .before .before .before .before .before .before .args in
+    let t = now (a .t) in
+    let n = ascii "type" in
+    let v = found-at t n (a .at) (c .before .from .given .1) (c .before .before .before .value .ensures) in
+    v .0 .order
+
+part-name-of-start : tie.Need-part-name-of-start
+part-name-of-start c =
+    let a = c .before .before .before .before .before .before .args in
+    let t = now (a .t) in
+    let n = ascii "type" in
+    let v = found-at t n (a .at) (c .before .from .given .1) (c .before .before .before .value .ensures) in
+    v .0 .order
+
+part-name-of-end : tie.Need-part-name-of-end
+part-name-of-end c =
+    let a = c .before .before .before .before .before .before .args in
+    let t = now (a .t) in
+    let n = ascii "type" in
+    let v = found-at t n (a .at) (c .before .from .given .1) (c .before .before .before .value .ensures) in
+    v .0 .end
+
+name-of-requires : tie.Need-name-of-requires
+name-of-requires c κs = search needs
+
+type-named-requires : tie.Need-type-named-requires
+type-named-requires c κs = search needs
+
+enum-known-kind : tie.Need-enum-known-kind
+enum-known-kind c = search needs
+
+enum-told-2 : tie.Need-enum-told-2
+enum-told-2 c = search needs
+
+returns-2 : tie.Need-returns-2
+unfolding memberOf
+returns-2 c =
+    let a = c .before .before .before .before .before .before .before .before .before .before .before .args in
+    let t = now (a .t) in
+    let n = ascii "type" in
+    let v = found-at t n (a .at) (c .before .before .before .before .before .before .from .given .1) (c .before .before .before .before .before .before .before .before .value .ensures) in
+    let e = text-got n (attributesAt t (a .at)) _ (v .1) in
+    let k = ap typeField (sym (c .enum-told2 .given .1)) ∙ c .before .before .type-named .ensures ∙ ap typeNamed (c .before .before .before .name-of .ensures ∙ ap nameOf (part (v .0)) ∙ name-raw _) in
+    (rw (← e, ← k), tt)
+
+slice-aggregate-wide-field : tie.Need-slice-aggregate-wide-field
+slice-aggregate-wide-field c = search needs
+
+wide-field-requires : tie.Need-wide-field-requires
+wide-field-requires c κs = search needs
+
+enum-known-r : tie.Need-enum-known-r
+enum-known-r c = search needs
+
+enum-known-reference : tie.Need-enum-known-reference
+enum-known-reference c = search needs
+
+role-requires : tie.Need-role-requires
+role-requires c κs = search needs
+
+returns-3 : tie.Need-returns-3
+unfolding memberOf
+returns-3 c =
+    let a = c .before .before .before .before .before .before .before .before .before .before .before .before .before .before .before .before .before .args in
+    let t = now (a .t) in
+    let n = ascii "type" in
+    let v = found-at t n (a .at) (c .before .before .before .before .before .before .before .before .before .before .before .before .from .given .1) (c .before .before .before .before .before .before .before .before .before .before .before .before .before .before .value .ensures) in
+    let e = text-got n (attributesAt t (a .at)) _ (v .1) in
+    let k = ap typeField (sym (c .before .before .before .before .before .before .kind .given .1)) ∙ c .before .before .before .before .before .before .before .before .type-named .ensures ∙ ap typeNamed (c .before .before .before .before .before .before .before .before .before .name-of .ensures ∙ ap nameOf (part (v .0)) ∙ name-raw _) in
+    let z = ap wideField (sym (c .before .r .given .1)) ∙ c .before .before .before .wide-field .ensures in
+    (rw (← e, ← k, ← z), tt)
+
+returns-4 : tie.Need-returns-4
+unfolding memberOf
+returns-4 c =
+    let a = c .before .before .before .before .before .before .before .before .before .before .before .before .before .before .before .before .before .before .args in
+    let t = now (a .t) in
+    let n = ascii "type" in
+    let v = found-at t n (a .at) (c .before .before .before .before .before .before .before .before .before .before .before .before .before .from .given .1) (c .before .before .before .before .before .before .before .before .before .before .before .before .before .before .before .value .ensures) in
+    let e = text-got n (attributesAt t (a .at)) _ (v .1) in
+    let k = ap typeField (sym (c .before .before .before .before .before .before .before .kind .given .1)) ∙ c .before .before .before .before .before .before .before .before .before .type-named .ensures ∙ ap typeNamed (c .before .before .before .before .before .before .before .before .before .before .name-of .ensures ∙ ap nameOf (part (v .0)) ∙ name-raw _) in
+    let z = ap wideField (sym (c .before .before .reference .given .1)) ∙ c .before .before .before .before .wide-field .ensures in
+    (rw (← e, ← k, ← z, c .role .ensures .0), c .role .ensures .1)
+
+pub member-field-spec : {M : Type 1} → statement M
+member-field-spec =
+    tie.close
+    (tie.spec
+    slice-aggregate-value
+    value-requires
+    enum-known-from
+    enum-told
+    returns
+    sub-name-of
+    part-name-of-start
+    part-name-of-end
+    name-of-requires
+    type-named-requires
+    enum-known-kind
+    enum-told-2
+    returns-2
+    slice-aggregate-wide-field
+    wide-field-requires
+    enum-known-r
+    enum-known-reference
+    role-requires
+    returns-3
+    returns-4)

@@ -1,0 +1,41 @@
+-- `role`: a value, or the empty extent.
+use mathlib.Core.Path.{_∙_}
+use denote.Ref.{now}
+use Rattle.base.specs.Ascii.{ascii}
+use Rattle.values.proofs.Values.{found-missing, found-at, empty-text, empty-within}
+use borrow.Author.Needs.{needs}
+use Rattle.values.proofs.role.Statement.{statement}
+use Rattle.values.proofs.role.Tie as tie
+
+slice-aggregate-value : tie.Need-slice-aggregate-value
+slice-aggregate-value c = search needs
+
+value-requires : tie.Need-value-requires
+value-requires c κs = search needs
+
+enum-known-from : tie.Need-enum-known-from
+enum-known-from c = search needs
+
+enum-told : tie.Need-enum-told
+enum-told c = search needs
+
+returns : tie.Need-returns
+returns c =
+    let a = c .before .before .before .before .before .before .args in
+    let t = now (a .t) in
+    let n = ascii "role" in
+    let v = found-at t n (a .at) (c .before .from .given .1) (c .before .before .before .value .ensures) in
+    (rw (v .1), v .0)
+
+returns-2 : tie.Need-returns-2
+returns-2 c =
+    let a = c .before .before .before .before .before .args in
+    let t = now (a .t) in
+    let n = ascii "role" in
+    let e = found-missing t n (a .at) (c .enum-told .given .1) (c .before .before .value .ensures) in
+    (empty-text t ∙ rw e, empty-within t)
+
+pub role-spec : {M : Type 1} → statement M
+role-spec =
+    tie.close
+    (tie.spec slice-aggregate-value value-requires enum-known-from enum-told returns returns-2)

@@ -1,0 +1,69 @@
+-- `tag_field`: k, then v.
+use mathlib.Core.Path.{sym, _∙_, ap, subst}
+use denote.Ref.{now}
+use Rattle.field.specs.Field.{tagOf}
+use Rattle.values.specs.Value.{extentField, TextLies}
+use borrow.Author.Needs.{needs}
+use Rattle.values.proofs.tag_field.Statement.{statement}
+use Rattle.values.proofs.tag_field.Tie as tie
+
+slice-aggregate-text-field : tie.Need-slice-aggregate-text-field
+slice-aggregate-text-field c = search needs
+
+text-field-requires : tie.Need-text-field-requires
+text-field-requires c κs = search needs
+
+enum-known-r : tie.Need-enum-known-r
+enum-known-r c = search needs
+
+enum-known-key : tie.Need-enum-known-key
+enum-known-key c = search needs
+
+slice-aggregate-text-field-2 : tie.Need-slice-aggregate-text-field-2
+slice-aggregate-text-field-2 c = search needs
+
+text-field-requires-2 : tie.Need-text-field-requires-2
+text-field-requires-2 c κs = search needs
+
+enum-known-r-2 : tie.Need-enum-known-r-2
+enum-known-r-2 c = search needs
+
+enum-known-value : tie.Need-enum-known-value
+enum-known-value c = search needs
+
+returns : tie.Need-returns
+unfolding tagOf
+returns c =
+    let e = ap (extentField (now (c .before .before .before .before .before .before .args .t))) (sym (c .before .r .given .1)) ∙ c .before .before .before .text-field .ensures .0 in
+    (rw (← e), tt)
+
+returns-2 : tie.Need-returns-2
+unfolding tagOf
+returns-2 c =
+    let e = ap (extentField (now (c .before .before .before .before .before .before .before .before .before .before .before .args .t))) (sym (c .before .before .before .before .before .before .key .given .1)) ∙ c .before .before .before .before .before .before .before .before .text-field .ensures .0 in
+    let f = ap (extentField (now (c .before .before .before .before .before .before .before .before .before .before .before .args .t))) (sym (c .before .r2 .given .1)) ∙ c .before .before .before .text-field2 .ensures .0 in
+    (rw (← e, ← f), tt)
+
+returns-3 : tie.Need-returns-3
+unfolding tagOf
+returns-3 c =
+    let t = now (c .before .before .before .before .before .before .before .before .before .before .before .args .t) in
+    let e = ap (extentField (now (c .before .before .before .before .before .before .before .before .before .before .before .args .t))) (sym (c .before .before .before .before .before .before .key .given .1)) ∙ c .before .before .before .before .before .before .before .before .text-field .ensures .0 in
+    let f = ap (extentField (now (c .before .before .before .before .before .before .before .before .before .before .before .args .t))) (sym (c .before .value .given .1)) ∙ c .before .before .before .text-field2 .ensures .0 in
+    (rw (← e, ← f), (subst (TextLies t) (c .before .before .before .before .before .before .key .given .1) (c .before .before .before .before .before .before .before .before .text-field .ensures .1), subst (TextLies t) (c .before .value .given .1) (c .before .before .before .text-field2 .ensures .1)))
+
+pub tag-field-spec : {M : Type 1} → statement M
+tag-field-spec =
+    tie.close
+    (tie.spec
+    slice-aggregate-text-field
+    text-field-requires
+    enum-known-r
+    enum-known-key
+    slice-aggregate-text-field-2
+    text-field-requires-2
+    enum-known-r-2
+    enum-known-value
+    returns
+    returns-2
+    returns-3)
