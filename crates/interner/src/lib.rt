@@ -101,7 +101,7 @@ pub fn find_text(spans: &[u64], bytes: &[u8], count: u64, text: &[u8]) -> Found
 }
 
 // Whether one more string of a length fits what is lent.
-fn fits(words: usize, size: usize, strings: u64, used: u64, len: usize) -> bool
+pub fn fits(words: usize, size: usize, strings: u64, used: u64, len: usize) -> bool
     ensures { λ r. ⌜ r ≡ both (leb (2 * strings + 2) words) (leb (used + len) size) ⌝ }
 {
     if (words / 2) as u64 <= strings {
