@@ -3,7 +3,7 @@ use Prim.Native.Nat.{ℕ, _≤_}
 use mathlib.Core.Path.{_≡_, refl, sym, _∙_, ap}
 use mathlib.Core.Bool.{true}
 use mathlib.Core.List.{List, _++_}
-use lib.ListN.{length, take, drop}
+use lib.ListN.{length, drop}
 use lib.Seq.{take-append-seam, drop-append-seam}
 use Rattle.base.specs.Bytes.{Bytes, all}
 use Rattle.interner.proofs.Interns as Interns
@@ -17,7 +17,7 @@ use Rattle.page.specs.Listing.{listing}
 use Rattle.calls.specs.Ask.{Ask, askFits}
 use Rattle.calls.proofs.Reflects.{page-reflects, ids-reflect}
 use Rattle.calls.proofs.Theorems.{reflects-after, texts-held, regression-push, regression-delete, regression-event}
-use Rattle.condition.specs.Condition3.{Start, storageLeft, worldLeft, acceptedActs, listedAfter, pageLength, PageListed, RegressionRefused, SamePage, Condition3}
+use Rattle.condition.specs.Condition3.{Start, storageLeft, worldLeft, acceptedActs, listedAfter, pageLength, PageListed, RegressionRefused, Condition3}
 
 module _ (o : Overlay) (ps : ℕ → Bytes) (cs : List Ask) (start : Start o ps) (given : all askFits cs ≡ true) where
   -- an output that is long enough gets the page of the accepted acts
