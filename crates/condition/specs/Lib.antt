@@ -1,0 +1,2 @@
+pub mod Condition3
+pub mod Views
