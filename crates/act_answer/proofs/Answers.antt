@@ -51,10 +51,10 @@ same-shelf Way t o = refl
 same-shelf Relation t o = refl
 
 module _ (k : Kind) (id : ℤ) (claim : Version) (t : Store) (o : Overlay) where
-  pub push-texts : (len : ℕ) → pushAnswer k id claim len (withTexts t o) ≡ pushAnswer k id claim len o
+  pub push-beside-texts : (len : ℕ) → pushAnswer k id claim len (withTexts t o) ≡ pushAnswer k id claim len o
   unfolding pushAnswer
-  push-texts len = rw (same-shelf k t o)
+  push-beside-texts len = rw (same-shelf k t o)
 
-  pub delete-texts : deleteAnswer k id claim (withTexts t o) ≡ deleteAnswer k id claim o
+  pub delete-beside-texts : deleteAnswer k id claim (withTexts t o) ≡ deleteAnswer k id claim o
   unfolding deleteAnswer
-  delete-texts = rw (same-shelf k t o)
+  delete-beside-texts = rw (same-shelf k t o)

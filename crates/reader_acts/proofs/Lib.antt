@@ -1,2 +1,4 @@
-pub mod Claims
+pub mod Bits
+pub mod Handles
 pub mod Laws
+pub mod Asked

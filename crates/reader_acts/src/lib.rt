@@ -2,18 +2,21 @@
 // What is refused changes nothing lent: the act's answer is asked first, and only then is the user's text taken in.
 ghost use mathlib.Core.Path.{_≡_};
 ghost use Prim.Native.Nat.{_+_, _<_, _≤_};
-ghost use lib.ListN.{length, take};
+ghost use mathlib.Core.List.{[]};
+ghost use lib.ListN.{length, take, getD};
 ghost use mir.Syntax.{w64};
 ghost use mir.Val.{toZ};
 ghost use Rattle.base.specs.Bytes.{Bytes};
 ghost use Rattle.model.specs.Record.{claimOf};
 ghost use Rattle.compact.specs.Layout.{headLen};
 ghost use Rattle.overlay.specs.Overlay.{lent, left};
-ghost use Rattle.store.specs.Calls.{storePush};
+ghost use Rattle.shelf.specs.declared.Kept.the-variants as K;
+ghost use Rattle.interner.specs.Strings.{storeWith};
+ghost use Rattle.store.specs.Calls.{storePush, storeDelete};
 ghost use Rattle.values.specs.Value.{bodyIn};
-ghost use Rattle.metadata.specs.Metadata.{metaWritten};
+ghost use Rattle.metadata.specs.Metadata.{metaWritten, MetadataLies};
 ghost use Rattle.reader.specs.Step.{metaBits, headFor};
-ghost use Rattle.reader_acts.specs.Acts.{begunBy, pushStagedOn, HandleFits};
+ghost use Rattle.reader_acts.specs.Acts.{begunBy, beginOn, userActOn, userFull, refusalAfter, pushEmptyOn, deleteElementOn, pushStagedOn, ActGiven, HandleFits};
 use compact::ArenaMeta;
 use compact::CompactNode;
 use compact::CompactRelation;
@@ -115,6 +118,79 @@ fn begun_by(meta: Metadata, handle: Handle) -> Begun
     }
 }
 
+// ---- the user that metadata names
+
+// 13, of that user.
+fn user_refused(spans: &[u64], bytes: &[u8], used: &[u64; 9], meta: Metadata, line: &[u8]) -> bool
+    ensures { λ r. ⌜ (MetadataLies (now (line .entry)) meta → length (now (line .entry)) ≤ 16384
+        → r ≡ userFull (metaWritten (now (line .entry)) meta) (storeWith (now (spans .entry)) (now (bytes .entry)) (getD (now (used .entry)) 6 0) (getD (now (used .entry)) 7 0))) ⌝ }
+{
+    if meta.flags / 4 % 2 == 1 {
+        let user = meta.user;
+        return reader_texts::text_refused(spans, bytes, used, line, user);
+    }
+    false
+}
+
+// The answer of an act that is refused: 12 itself, then 13, then 14 or 15.
+fn refused_act(
+    spans: &[u64],
+    bytes: &[u8],
+    used: &[u64; 9],
+    meta: Metadata,
+    line: &[u8],
+    refusal: Refusal,
+) -> Kept
+    ensures { λ r. ⌜ (MetadataLies (now (line .entry)) meta → length (now (line .entry)) ≤ 16384
+        → r ≡ K.Refused (refusalAfter (userFull (metaWritten (now (line .entry)) meta) (storeWith (now (spans .entry)) (now (bytes .entry)) (getD (now (used .entry)) 6 0) (getD (now (used .entry)) 7 0))) refusal)) ⌝ }
+{
+    if refusal::reply_of(refusal).number == 12 {
+        return Kept::Refused(refusal);
+    }
+    if user_refused(spans, bytes, used, meta, line) {
+        return Kept::Refused(Refusal::StringsFull);
+    }
+    Kept::Refused(refusal)
+}
+
+// An element begins: 13, or its metadata with its user's handle.
+pub fn begin_element(
+    nids: &[u64],
+    narena: &[u8],
+    wids: &[u64],
+    warena: &[u8],
+    rids: &[u64],
+    rarena: &[u8],
+    spans: &mut [u64],
+    bytes: &mut [u8],
+    used: &mut [u64; 9],
+    meta: Metadata,
+    line: &[u8],
+) -> Begun
+    ensures { λ r. ⌜ (ActGiven (now (line .entry)) meta (lent nids narena wids warena rids rarena spans bytes used)
+        → record { overlay = left nids narena wids warena rids rarena spans bytes used; answer = r }
+        ≡ beginOn (metaWritten (now (line .entry)) meta) (lent nids narena wids warena rids rarena spans bytes used)) ⌝ }
+{
+    if meta.flags / 4 % 2 == 1 {
+        let user = meta.user;
+        let handle = reader_texts::take_text(
+            nids,
+            narena,
+            wids,
+            warena,
+            rids,
+            rarena,
+            spans,
+            bytes,
+            used,
+            line,
+            user,
+        );
+        return begun_by(meta, handle);
+    }
+    Begun::With(arena_meta(meta, 0))
+}
+
 // ---- an element that ends
 
 fn push_first(
@@ -190,4 +266,227 @@ pub fn push_staged(
         head,
         meta,
     )
+}
+
+// ---- an element that begins and ends at once
+
+// The user is taken in, and the element is pushed.
+fn push_with_user(
+    nids: &mut [u64],
+    narena: &mut [u8],
+    wids: &mut [u64],
+    warena: &mut [u8],
+    rids: &mut [u64],
+    rarena: &mut [u8],
+    spans: &mut [u64],
+    bytes: &mut [u8],
+    used: &mut [u64; 9],
+    kind: Kind,
+    head: PushHead,
+    meta: Metadata,
+    line: &[u8],
+) -> Kept
+    ensures { λ r. ⌜ (ActGiven (now (line .entry)) meta (lent nids narena wids warena rids rarena spans bytes used)
+        → record { overlay = left nids narena wids warena rids rarena spans bytes used; answer = r }
+        ≡ userActOn (metaWritten (now (line .entry)) meta) (λ a q. storePush kind head a [] q) (lent nids narena wids warena rids rarena spans bytes used)) ⌝ }
+{
+    match begin_element(
+        nids,
+        narena,
+        wids,
+        warena,
+        rids,
+        rarena,
+        spans,
+        bytes,
+        used,
+        meta,
+        line,
+    ) {
+        Begun::With(a) => push_first(
+            nids,
+            narena,
+            wids,
+            warena,
+            rids,
+            rarena,
+            spans,
+            bytes,
+            used,
+            line,
+            0,
+            kind,
+            head,
+            a,
+        ),
+        Begun::Refused(r) => Kept::Refused(r),
+    }
+}
+
+// Pushes an empty element: 12, 13, 14, 15, or taken.
+pub fn push_empty(
+    nids: &mut [u64],
+    narena: &mut [u8],
+    wids: &mut [u64],
+    warena: &mut [u8],
+    rids: &mut [u64],
+    rarena: &mut [u8],
+    spans: &mut [u64],
+    bytes: &mut [u8],
+    used: &mut [u64; 9],
+    kind: Kind,
+    id: u64,
+    lat: u32,
+    lon: u32,
+    meta: Metadata,
+    line: &[u8],
+) -> Kept
+    ensures { λ r. ⌜ (ActGiven (now (line .entry)) meta (lent nids narena wids warena rids rarena spans bytes used)
+        → record { overlay = left nids narena wids warena rids rarena spans bytes used; answer = r }
+        ≡ pushEmptyOn (toZ w64 id) (metaWritten (now (line .entry)) meta) (bodyIn kind lat lon) (lent nids narena wids warena rids rarena spans bytes used)) ⌝ }
+{
+    let claim = claimed(meta);
+    let len = empty_len(kind);
+    match act_answer::push_answer(
+        nids,
+        narena,
+        wids,
+        warena,
+        rids,
+        rarena,
+        spans,
+        bytes,
+        used,
+        kind,
+        id,
+        claim,
+        len,
+    ) {
+        Kept::Taken => {
+            let head = head_for(kind, id, lat, lon);
+            push_with_user(
+                nids,
+                narena,
+                wids,
+                warena,
+                rids,
+                rarena,
+                spans,
+                bytes,
+                used,
+                kind,
+                head,
+                meta,
+                line,
+            )
+        }
+        Kept::Refused(r) => refused_act(spans, bytes, used, meta, line, r),
+    }
+}
+
+// ---- a delete
+
+// The user is taken in, and the id is deleted.
+fn delete_with_user(
+    nids: &mut [u64],
+    narena: &mut [u8],
+    wids: &mut [u64],
+    warena: &mut [u8],
+    rids: &mut [u64],
+    rarena: &mut [u8],
+    spans: &mut [u64],
+    bytes: &mut [u8],
+    used: &mut [u64; 9],
+    kind: Kind,
+    id: u64,
+    meta: Metadata,
+    line: &[u8],
+) -> Kept
+    ensures { λ r. ⌜ (ActGiven (now (line .entry)) meta (lent nids narena wids warena rids rarena spans bytes used)
+        → record { overlay = left nids narena wids warena rids rarena spans bytes used; answer = r }
+        ≡ userActOn (metaWritten (now (line .entry)) meta) (λ a q. storeDelete kind (toZ w64 id) (claimOf (metaWritten (now (line .entry)) meta)) q) (lent nids narena wids warena rids rarena spans bytes used)) ⌝ }
+{
+    match begin_element(
+        nids,
+        narena,
+        wids,
+        warena,
+        rids,
+        rarena,
+        spans,
+        bytes,
+        used,
+        meta,
+        line,
+    ) {
+        Begun::With(_) => store::store_delete(
+            nids,
+            narena,
+            wids,
+            warena,
+            rids,
+            rarena,
+            spans,
+            bytes,
+            used,
+            kind,
+            id,
+            claimed(meta),
+        ),
+        Begun::Refused(r) => Kept::Refused(r),
+    }
+}
+
+// Deletes an id: 12, 13, 14, or taken.
+pub fn delete_element(
+    nids: &mut [u64],
+    narena: &mut [u8],
+    wids: &mut [u64],
+    warena: &mut [u8],
+    rids: &mut [u64],
+    rarena: &mut [u8],
+    spans: &mut [u64],
+    bytes: &mut [u8],
+    used: &mut [u64; 9],
+    kind: Kind,
+    id: u64,
+    meta: Metadata,
+    line: &[u8],
+) -> Kept
+    ensures { λ r. ⌜ (ActGiven (now (line .entry)) meta (lent nids narena wids warena rids rarena spans bytes used)
+        → record { overlay = left nids narena wids warena rids rarena spans bytes used; answer = r }
+        ≡ deleteElementOn kind (toZ w64 id) (metaWritten (now (line .entry)) meta) (lent nids narena wids warena rids rarena spans bytes used)) ⌝ }
+{
+    let claim = claimed(meta);
+    match act_answer::delete_answer(
+        nids,
+        narena,
+        wids,
+        warena,
+        rids,
+        rarena,
+        spans,
+        bytes,
+        used,
+        kind,
+        id,
+        claim,
+    ) {
+        Kept::Taken => delete_with_user(
+            nids,
+            narena,
+            wids,
+            warena,
+            rids,
+            rarena,
+            spans,
+            bytes,
+            used,
+            kind,
+            id,
+            meta,
+            line,
+        ),
+        Kept::Refused(r) => refused_act(spans, bytes, used, meta, line, r),
+    }
 }

@@ -4,8 +4,6 @@ use mir.Syntax.{w32, w64}
 use mir.Facts.{ofZ-toZ, fits-of-lt}
 use Rattle.reader_acts.proofs.arena_meta.Statement.{statement}
 use Rattle.reader_acts.proofs.arena_meta.Tie as tie
-use Rattle.reader_acts.proofs.arena_meta.Reads as reads
-use Rattle.reader_acts.proofs.arena_meta.Lts as lts
 
 returns : tie.Need-returns
 returns c = let m = c .args .meta in

@@ -6,10 +6,6 @@ use Rattle.reader_acts.specs.declared.Begun.the-variants as B
 use borrow.Author.Needs.{needs}
 use Rattle.reader_acts.proofs.begun_by.Statement.{statement}
 use Rattle.reader_acts.proofs.begun_by.Tie as tie
-use Rattle.reader_acts.proofs.begun_by.Reads as reads
-use Rattle.reader_acts.proofs.begun_by.Lts as lts
-use Rattle.reader_acts.proofs.arena_meta.Reads as arena-meta-reads
-use Rattle.reader_acts.proofs.narrow.Reads as narrow-reads
 
 enum-known-handle : tie.Need-enum-known-handle
 enum-known-handle c = search needs

@@ -7,14 +7,10 @@ use Rattle.model.specs.Record.{claimOf}
 use Rattle.compact.specs.Held.{metaOf}
 use Rattle.compact.specs.declared.ArenaMeta.{ArenaMeta}
 use Rattle.metadata.specs.Metadata.{metaWritten}
-use Rattle.reader_acts.proofs.Claims.{claim-bits}
+use Rattle.reader_acts.proofs.Bits.{claim-bits}
 use borrow.Author.Needs.{needs}
 use Rattle.reader_acts.proofs.claimed.Statement.{statement}
 use Rattle.reader_acts.proofs.claimed.Tie as tie
-use Rattle.reader_acts.proofs.claimed.Reads as reads
-use Rattle.reader_acts.proofs.claimed.Lts as lts
-use Rattle.compact.proofs.claim.Reads as claim-reads
-use Rattle.reader_acts.proofs.arena_meta.Reads as arena-meta-reads
 
 arena-meta-requires : tie.Need-arena-meta-requires
 arena-meta-requires c κs = search needs

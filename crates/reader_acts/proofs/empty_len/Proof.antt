@@ -2,8 +2,6 @@
 use borrow.Author.Needs.{needs}
 use Rattle.reader_acts.proofs.empty_len.Statement.{statement}
 use Rattle.reader_acts.proofs.empty_len.Tie as tie
-use Rattle.reader_acts.proofs.empty_len.Reads as reads
-use Rattle.reader_acts.proofs.empty_len.Lts as lts
 
 enum-told : tie.Need-enum-told
 enum-told c = search needs

@@ -4,8 +4,6 @@ use mir.Facts.{ofZ-toZ}
 use borrow.Author.Needs.{needs}
 use Rattle.reader_acts.proofs.head_for.Statement.{statement}
 use Rattle.reader_acts.proofs.head_for.Tie as tie
-use Rattle.reader_acts.proofs.head_for.Reads as reads
-use Rattle.reader_acts.proofs.head_for.Lts as lts
 
 enum-told : tie.Need-enum-told
 enum-told c = search needs

@@ -7,10 +7,6 @@ use Rattle.interner.proofs.Takes.{take-min}
 use borrow.Author.Needs.{needs}
 use Rattle.reader_acts.proofs.push_first.Statement.{statement}
 use Rattle.reader_acts.proofs.push_first.Tie as tie
-use Rattle.reader_acts.proofs.push_first.Reads as reads
-use Rattle.reader_acts.proofs.push_first.Lts as lts
-use Rattle.little.proofs.lesser.Reads as lesser-reads
-use Rattle.store.proofs.store_push.Reads as store-push-reads
 
 lesser-requires : tie.Need-lesser-requires
 lesser-requires c κs = search needs
