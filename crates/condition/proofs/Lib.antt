@@ -1,2 +1,4 @@
 pub mod Condition3
 pub mod Views
+pub mod Nesting
+pub mod Documents
