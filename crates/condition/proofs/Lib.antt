@@ -2,3 +2,4 @@ pub mod Condition3
 pub mod Views
 pub mod Nesting
 pub mod Documents
+pub mod Example
