@@ -58,7 +58,7 @@ use Rattle.calls.proofs.Lists.{Agrees, agrees-fine, agrees-calls, lines
 
 module _ (setting : ℕ) (o : Overlay) (sizes : sizesFit largest o ≡ true) (lent : InBytes o) (parts : ℕ → Bytes) (room : PartsGiven parts) where
   -- an empty overlay and fresh readers agree with no calls
-  agrees-started : Agrees setting (started setting o parts) begin []
+  pub agrees-started : Agrees setting (started setting o parts) begin []
   agrees-started =
       let w = reflects-empty setting o sizes lent in
       let e = decides (empty setting o) (w .bytes) .1 (w .sound) in

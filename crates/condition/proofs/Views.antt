@@ -1,6 +1,6 @@
 -- T6, up to the view that is returned: after any list of calls, under either setting, a view reads as the record of the last accepted act on its id.
 use Prim.Native.Nat.{ℕ, _<_}
-use mathlib.Core.Path.{_≡_, refl, sym, _∙_, ap}
+use mathlib.Core.Path.{_≡_, refl, sym, _∙_, ap, subst}
 use mathlib.Core.Bool.{true}
 use mathlib.Core.Option.{Option, none, some}
 use mathlib.Core.List.{List, [], append-nil}
@@ -34,8 +34,9 @@ use Rattle.sound.specs.Sound.{soundRow}
 use Rattle.listed.specs.declared.Side.the-variants.{Live}
 use Rattle.listed.proofs.Views.{view-is, view-bytes}
 use Rattle.overlay.specs.Overlay.{Overlay, shelfOf}
-use Rattle.reading.specs.Reading.{getOn, viewIn}
-use Rattle.reading.proofs.Records.{live-view, deleted-reads, unknown-reads}
+use Rattle.overlay.proofs.Decides.{decides}
+use Rattle.reading.specs.Reading.{viewIn, knownOn}
+use Rattle.reading.proofs.Records.{live-view, live-reads, deleted-reads, unknown-reads}
 use Rattle.reading.proofs.Numbers.{id-signed, record-get}
 use Rattle.reading.proofs.Texts.{text-is, text-bytes}
 use Rattle.reader.proofs.Texts.{legal-agree}
@@ -48,7 +49,7 @@ use Rattle.calls.specs.Ask.{Ask, askFits, storageAfter, replies}
 use Rattle.calls.proofs.Reflects.{Reflects}
 use Rattle.calls.proofs.Theorems.{reflects-after}
 use Rattle.condition.specs.Condition3.{Start}
-use Rattle.condition.specs.Views.{seen, textSeen, seenIn, leftSeen, ReadsLast}
+use Rattle.condition.specs.Views.{seen, textSeen, seenIn, ShowsLeft, ReadsLast, ReadsHighest}
 
 -- the readers and steps read a kept record back
 kept-read : (strings : ℕ) (k : Kind) (x : Kept) → fitsKept k x ≡ true → legal strings (x .held) ≡ true → kindOf (x .held .body) ≡ k → readRecord k (keptBytes x) ≡ some x
@@ -79,35 +80,49 @@ module _ (setting : ℕ) (o : Overlay) (held : List Bytes) (acts : List (Act Byt
           legal-agree n (textOf (textsOf (o .texts))) (textSeen o) text-seen (x .held) l,
         )
 
-    -- what `get` shows of an id is what the overlay tells of it
-    get-seen : (id : ℤ) → SFits w64 id → seenIn o k (getOn k id o) ≡ leftSeen id (lastIn k (shelfOf k o) (textOf held) (find (rank id) (rowsIn (shelfOf k o))))
-    get-seen id f = go (find (rank id) (rowsIn (shelfOf k o))) refl
+    -- what is shown of an id is what the overlay tells of it
+    told-shows : (id : ℤ) → SFits w64 id → ShowsLeft o k id (lastIn k (shelfOf k o) (textOf held) (find (rank id) (rowsIn (shelfOf k o))))
+    told-shows id f = go (find (rank id) (rowsIn (shelfOf k o))) refl
       where
-        go : (q : Option Row) → find (rank id) (rowsIn (shelfOf k o)) ≡ q → seenIn o k (getOn k id o) ≡ leftSeen id (lastIn k (shelfOf k o) (textOf held) q)
-        go none e = ap (seenIn o k) (unknown-reads o (w .bytes) (w .sound) k id f e .1 .1)
+        go : (q : Option Row) → find (rank id) (rowsIn (shelfOf k o)) ≡ q → ShowsLeft o k id (lastIn k (shelfOf k o) (textOf held) q)
+        go none e =
+            let x = unknown-reads o (w .bytes) (w .sound) k id f e in
+            record { get = ap (seenIn o k) (x .1 .1); has = x .0; deleted = x .1 .0 }
         go (some r) e =
             byBool (isLive (r .place))
             (λ t.
             let sw = w .sound .shelves k in
             let x = row-starts (sw .whole .kept) r (find-passes (soundRow (sw .whole .kept)) (rank id) (rowsIn (shelfOf k o)) r (sw .rows) e) t in
             let i : x .0 .id ≡ id = x .1 .1 ∙ (ap idOf (find-rank (rank id) (rowsIn (shelfOf k o)) r e) ∙ id-rank f) in
-            rw (live-view o (w .bytes) (w .sound) k id f r e t, view-seen (r .place) (x .0) (x .1 .0), t, record-read (o .texts .strings) k (shelfOf k o) sw (r .place) (x .0) (x .1 .0), i))
-            (λ t. rw (deleted-reads o (w .bytes) (w .sound) k id f r e t .1 .1, t))
+            let y = live-reads o (w .bytes) (w .sound) k id f r e t in
+            rw (t, record-read (o .texts .strings) k (shelfOf k o) sw (r .place) (x .0) (x .1 .0)) (record {
+              get = rw (live-view o (w .bytes) (w .sound) k id f r e t, view-seen (r .place) (x .0) (x .1 .0), i);
+              has = y .0;
+              deleted = y .1 .0;
+            }))
+            (λ t. let x = deleted-reads o (w .bytes) (w .sound) k id f r e t in rw t (record { get = ap (seenIn o k) (x .1 .1); has = x .0; deleted = x .1 .0 }))
 
-    pub get-last : (id : ℤ) → SFits w64 id → seenIn o k (getOn k id o) ≡ leftSeen id (Summary.known acts (record { kind = k; id = id }) .last)
-    get-last id f = get-seen id f ∙ ap (leftSeen id) (w .tells k .last id f)
+    pub shows-left : (id : ℤ) → SFits w64 id → ShowsLeft o k id (Summary.known acts (record { kind = k; id = id }) .last)
+    shows-left id f = subst (ShowsLeft o k id) (w .tells k .last id f) (told-shows id f)
 
   pub reads-reflect : ReadsLast o acts
   unfolding isRank
   reads-reflect =
       record {
-        get = λ k id f. get-last k (toZ w64 id) (sfits-toZ {w = w64} (fits-of-lt f));
-        number = λ k n id e.
+        asked = λ k id f. shows-left k (toZ w64 id) (sfits-toZ {w = w64} (fits-of-lt f));
+        numbered = λ k n id e.
             ap (seenIn o k) (record-get o (w .bytes) (w .sound) k (w .ranks .rows k) n id e)
-            ∙ get-last k (toZ w64 id) (id-signed o (w .bytes) (w .sound) k Live (w .ranks .rows k) n id e);
+            ∙ shows-left k (toZ w64 id) (id-signed o (w .bytes) (w .sound) k Live (w .ranks .rows k) n id e) .get;
       }
+
+  pub highest-reflect : setting ≡ 0 → ReadsHighest o acts
+  unfolding knownOn
+  highest-reflect z k id f = rw (decides o (w .bytes) .1 (w .sound), w .tells k .high (w .set ∙ z) (toZ w64 id) (sfits-toZ {w = w64} (fits-of-lt f)))
 
 -- after any list of calls
 pub reads-last : (setting : ℕ) (o : Overlay) (ps : ℕ → Bytes) → Start o ps → (cs : List Ask) → all askFits cs ≡ true
     → ReadsLast (storageAfter setting o ps cs .overlay) (actsOf (replies setting o ps cs))
 reads-last setting o ps s cs f = reads-reflect setting _ _ _ (reflects-after setting o (s .sizes) (s .bytes) ps (s .parts) cs f)
+
+pub reads-highest : (o : Overlay) (ps : ℕ → Bytes) → Start o ps → (cs : List Ask) → all askFits cs ≡ true → ReadsHighest (storageAfter 0 o ps cs .overlay) (actsOf (replies 0 o ps cs))
+reads-highest o ps s cs f = highest-reflect 0 _ _ _ (reflects-after 0 o (s .sizes) (s .bytes) ps (s .parts) cs f) refl
