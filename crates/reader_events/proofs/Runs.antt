@@ -205,7 +205,7 @@ module _ (run : Bytes) (s₀ : State) (at : ℕ) (x : EventResult) (w : Running 
         (λ a. rw a (record {
           total = w .total ∙ (ap (λ (ls : List Bytes). eventsOn ls (x .state)) (n .first) ∙ events-on line (linesOf (drop end run)) (x .state) a);
           taken = w .taken ∙ (ap (λ (ls : List Bytes). at + takenBytes ls (x .state)) (n .first)
-          ∙ omega (arith, taken-on line (linesOf (drop end run)) (x .state) a, longs, n .forward));
+              ∙ omega (arith, taken-on line (linesOf (drop end run)) (x .state) a, longs, n .forward));
           within = n .within;
           keeps = λ m. keeping-on (x .state) line (w .keeps refl) a;
         }))

@@ -1,5 +1,4 @@
 // A run of event lines fed to a reader in one call: soundness is tested once, then a step a line.
-mod reader_calls;
 ghost use mathlib.Core.Path.{_≡_};
 ghost use mathlib.Core.Bool.{true, false};
 ghost use Prim.Native.Nat.{_≤_};
@@ -60,14 +59,37 @@ fn line_event(
         → isStopped (reader .stop) ≡ false
         → record { result = record { state = record { overlay = left nids narena wids warena rids rarena spans bytes used; reader = r .reader; parts = now (parts .exit) }; answer = r .answer }; at = r .at; more = r .more }
         ≡ pointAfter at end (eventOn (slice at end (now (run .entry))) (record { overlay = lent nids narena wids warena rids rarena spans bytes used; reader = reader; parts = now (parts .entry) }) .answer)
-            (eventOn (slice at end (now (run .entry))) (record { overlay = lent nids narena wids warena rids rarena spans bytes used; reader = reader; parts = now (parts .entry) }) .state)) ⌝ }
+        (eventOn (slice at end (now (run .entry))) (record { overlay = lent nids narena wids warena rids rarena spans bytes used; reader = reader; parts = now (parts .entry) }) .state)) ⌝ }
 {
-    let done = reader_calls::event_going(nids, narena, wids, warena, rids, rarena, spans, bytes, used, parts, reader, &run[at..end]);
+    let done = reader_calls::event_going(
+        nids,
+        narena,
+        wids,
+        warena,
+        rids,
+        rarena,
+        spans,
+        bytes,
+        used,
+        parts,
+        reader,
+        &run[at..end],
+    );
     let reader = done.reader;
     let answer = done.answer;
     match answer {
-        EventAnswer::Accepted => RunAt { reader, answer, at: end, more: true },
-        EventAnswer::Refused(refusal, line) => RunAt { reader, answer, at, more: false },
+        EventAnswer::Accepted => RunAt {
+            reader,
+            answer,
+            at: end,
+            more: true,
+        },
+        EventAnswer::Refused(refusal, line) => RunAt {
+            reader,
+            answer,
+            at,
+            more: false,
+        },
     }
 }
 
@@ -93,12 +115,37 @@ fn next_event(
         ≡ pointOn (now (run .entry)) at (record { overlay = lent nids narena wids warena rids rarena spans bytes used; reader = reader; parts = now (parts .entry) })) ⌝ }
 {
     let LineEnd::At(end) = lines::line_end(run, at) else {
-        return RunAt { reader, answer: EventAnswer::Accepted, at, more: false };
+        return RunAt {
+            reader,
+            answer: EventAnswer::Accepted,
+            at,
+            more: false,
+        };
     };
     if reader.lines < 18446744073709551615 {
-        return line_event(nids, narena, wids, warena, rids, rarena, spans, bytes, used, parts, reader, run, at, end);
+        return line_event(
+            nids,
+            narena,
+            wids,
+            warena,
+            rids,
+            rarena,
+            spans,
+            bytes,
+            used,
+            parts,
+            reader,
+            run,
+            at,
+            end,
+        );
     }
-    RunAt { reader, answer: EventAnswer::Refused(Refusal::Unsound, 0), at, more: false }
+    RunAt {
+        reader,
+        answer: EventAnswer::Refused(Refusal::Unsound, 0),
+        at,
+        more: false,
+    }
 }
 
 // ---- all lines
@@ -124,15 +171,38 @@ fn going_events(
         ≡ eventsOn (linesOf (now (run .entry))) (record { overlay = lent nids narena wids warena rids rarena spans bytes used; reader = reader; parts = now (parts .entry) }) ⌝ }
     ensures { λ r. ⌜ r .taken ≡ takenBytes (linesOf (now (run .entry))) (record { overlay = lent nids narena wids warena rids rarena spans bytes used; reader = reader; parts = now (parts .entry) }) ⌝ }
 {
-    let mut point = RunAt { reader, answer: EventAnswer::Accepted, at: 0, more: true };
+    let mut point = RunAt {
+        reader,
+        answer: EventAnswer::Accepted,
+        at: 0,
+        more: true,
+    };
     while point.more {
         let reader = point.reader;
         let at = point.at;
-        point = next_event(nids, narena, wids, warena, rids, rarena, spans, bytes, used, parts, reader, run, at);
+        point = next_event(
+            nids,
+            narena,
+            wids,
+            warena,
+            rids,
+            rarena,
+            spans,
+            bytes,
+            used,
+            parts,
+            reader,
+            run,
+            at,
+        );
     }
     let reader = point.reader;
     let answer = point.answer;
-    EventsDone { reader, answer, taken: point.at }
+    EventsDone {
+        reader,
+        answer,
+        taken: point.at,
+    }
 }
 
 // ---- what is tested once
@@ -162,7 +232,19 @@ fn state_tested(
     ensures { λ r. ⌜ StateGiven (record { overlay = lent nids narena wids warena rids rarena spans bytes used; reader = reader; parts = now (parts .entry) }) ⌝ }
 {
     known_bytes(parts);
-    reader_sound::state_sound(nids, narena, wids, warena, rids, rarena, spans, bytes, used, parts, reader)
+    reader_sound::state_sound(
+        nids,
+        narena,
+        wids,
+        warena,
+        rids,
+        rarena,
+        spans,
+        bytes,
+        used,
+        parts,
+        reader,
+    )
 }
 
 // ---- the call
@@ -188,14 +270,51 @@ pub fn events(
     ensures { λ r. ⌜ r .taken ≡ takenBytes (linesOf (now (run .entry))) (record { overlay = lent nids narena wids warena rids rarena spans bytes used; reader = reader; parts = now (parts .entry) }) ⌝ }
 {
     let LineEnd::At(_) = lines::line_end(run, 0) else {
-        return EventsDone { reader, answer: EventAnswer::Accepted, taken: 0 };
+        return EventsDone {
+            reader,
+            answer: EventAnswer::Accepted,
+            taken: 0,
+        };
     };
-    if state_tested(nids, narena, wids, warena, rids, rarena, spans, bytes, used, parts, reader) {
+    if state_tested(
+        nids,
+        narena,
+        wids,
+        warena,
+        rids,
+        rarena,
+        spans,
+        bytes,
+        used,
+        parts,
+        reader,
+    ) {
         let stop = reader.stop;
         let Stop::At(refusal, line) = reader_sound::mark_of(stop) else {
-            return going_events(nids, narena, wids, warena, rids, rarena, spans, bytes, used, parts, reader, run);
+            return going_events(
+                nids,
+                narena,
+                wids,
+                warena,
+                rids,
+                rarena,
+                spans,
+                bytes,
+                used,
+                parts,
+                reader,
+                run,
+            );
         };
-        return EventsDone { reader, answer: EventAnswer::Refused(refusal, line), taken: 0 };
+        return EventsDone {
+            reader,
+            answer: EventAnswer::Refused(refusal, line),
+            taken: 0,
+        };
     }
-    EventsDone { reader, answer: EventAnswer::Refused(Refusal::Unsound, 0), taken: 0 }
+    EventsDone {
+        reader,
+        answer: EventAnswer::Refused(Refusal::Unsound, 0),
+        taken: 0,
+    }
 }
