@@ -13,7 +13,7 @@ use Rattle.reader.specs.State.{State, nextLine, stateSound}
 use Rattle.reader.specs.Event.{refusedAt, endAt, endOn}
 use Rattle.reader.specs.Table.{isDone}
 use Rattle.reader.proofs.Answers.{end-22, end-stopped, end-going}
-use Rattle.reader_sound.specs.Mark.{markOf}
+use Rattle.reader_sound.specs.Mark.{stopMark}
 use Rattle.reader_sound.proofs.Mark.{unmarked, marked}
 
 module _ (s : State) where
@@ -39,10 +39,10 @@ module _ (s : State) where
   end-unsound e = sym (end-22 s e)
 
   module _ (e : stateSound s ≡ true) where
-    pub end-marked : (r : Refusal) (n : ℕ) → markOf (s .reader .stop) ≡ At r n → refusedAt s r n ≡ endOn s
+    pub end-marked : (r : Refusal) (n : ℕ) → stopMark (s .reader .stop) ≡ At r n → refusedAt s r n ≡ endOn s
     end-marked r n g = let m = marked (s .reader .stop) r n g in sym (end-stopped s r n e (m .0) (m .1))
 
-    module _ (g : markOf (s .reader .stop) ≡ Going) where
+    module _ (g : stopMark (s .reader .stop) ≡ Going) where
       pub end-is-done : isDone (s .reader .place .level) ≡ true → record { state = s; answer = E.Accepted } ≡ endOn s
       end-is-done d = done-at (s .reader .place .level) d ∙ sym (end-going s e (unmarked (s .reader .stop) g))
 

@@ -16,7 +16,7 @@ use Rattle.reader.specs.State.{State, stateSound}
 use Rattle.reader.specs.Step.{Step, goes, stops, stepOf}
 use Rattle.reader.specs.Event.{EventResult, refusedAt, stepped, eventOn}
 use Rattle.reader.proofs.Answers.{event-22, event-stopped, event-going}
-use Rattle.reader_sound.specs.Mark.{markOf}
+use Rattle.reader_sound.specs.Mark.{stopMark}
 use Rattle.reader_sound.proofs.Mark.{unmarked, marked}
 use Rattle.reader_sound.proofs.Sound.{sound-used, sound-strings}
 use Rattle.reader_sound.proofs.Line.{short-line}
@@ -59,8 +59,8 @@ module _ (line : Bytes) (s : State) where
   event-unsound e = sym (event-22 line s e)
 
   module _ (e : stateSound s ≡ true) where
-    pub event-marked : (r : Refusal) (n : ℕ) → markOf (s .reader .stop) ≡ At r n → refusedAt s r n ≡ eventOn line s
+    pub event-marked : (r : Refusal) (n : ℕ) → stopMark (s .reader .stop) ≡ At r n → refusedAt s r n ≡ eventOn line s
     event-marked r n g = let m = marked (s .reader .stop) r n g in sym (event-stopped line s r n e (m .0) (m .1))
 
-    pub event-goes-on : markOf (s .reader .stop) ≡ Going → {x : EventResult} → x ≡ stepped s (stepOf (decide line (s .reader .place)) s) → x ≡ eventOn line s
+    pub event-goes-on : stopMark (s .reader .stop) ≡ Going → {x : EventResult} → x ≡ stepped s (stepOf (decide line (s .reader .place)) s) → x ≡ eventOn line s
     event-goes-on g w = w ∙ sym (event-going line s e (unmarked (s .reader .stop) g))

@@ -4,6 +4,6 @@ use Rattle.reader.specs.State.{stopsBy}
 use Rattle.reader.specs.declared.Stop.{Stop}
 use Rattle.reader.specs.declared.Stop.the-variants.{Going, At}
 
-unfoldable pub markOf : Stop → Stop
-markOf Going = Going
-markOf (At r line) = cond (stopsBy r) (At r line) Going
+unfoldable pub stopMark : Stop → Stop
+stopMark Going = Going
+stopMark (At r line) = cond (stopsBy r) (At r line) Going

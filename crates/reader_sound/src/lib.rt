@@ -2,7 +2,7 @@
 ghost use mathlib.Core.Path.{_≡_};
 ghost use Rattle.overlay.specs.Overlay.{lent};
 ghost use Rattle.reader.specs.State.{stopsBy, pendingSound, stateSound};
-ghost use Rattle.reader_sound.specs.Mark.{markOf};
+ghost use Rattle.reader_sound.specs.Mark.{stopMark};
 use compact::ArenaMeta;
 use compact::PushHead;
 use kind::Kind;
@@ -64,7 +64,7 @@ fn stops_by(refusal: Refusal) -> bool
 
 // The mark that stops a reader; a mark that no refused event leaves stops nothing.
 pub fn mark_of(stop: Stop) -> Stop
-    ensures { λ r. ⌜ r ≡ markOf stop ⌝ }
+    ensures { λ r. ⌜ r ≡ stopMark stop ⌝ }
 {
     match stop {
         Stop::Going => Stop::Going,

@@ -40,16 +40,16 @@ pub record StepGiven (line : Bytes) (d : Decided) (s : State) : Type 0 where
 -- ---- by the answers of the calls that it makes
 
 -- a child of the open element
-abbrev pub addedAs : Place → Added → Stepped
-addedAs p (A.Is x) = S.Goes p x
-addedAs p (A.Refused r) = S.Stops r
+abbrev pub childStepped : Place → Added → Stepped
+childStepped p (A.Is x) = S.Goes p x
+childStepped p (A.Refused r) = S.Stops r
 
 -- an act: nothing is staged any more
-abbrev pub clearedAs : Place → Kept → Stepped
-clearedAs p K.Taken = S.Goes p noPending
-clearedAs p (K.Refused r) = S.Stops r
+abbrev pub actStepped : Place → Kept → Stepped
+actStepped p K.Taken = S.Goes p noPending
+actStepped p (K.Refused r) = S.Stops r
 
 -- an element that begins: no part is staged yet
-abbrev pub begunAs : Place → PushHead → Begun → Stepped
-begunAs p h (B.With a) = S.Goes p (record { head = h; meta = a; used = 0 })
-begunAs p h (B.Refused r) = S.Stops r
+abbrev pub beginStepped : Place → PushHead → Begun → Stepped
+beginStepped p h (B.With a) = S.Goes p (record { head = h; meta = a; used = 0 })
+beginStepped p h (B.Refused r) = S.Stops r

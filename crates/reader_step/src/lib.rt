@@ -12,7 +12,7 @@ ghost use Rattle.reader.specs.declared.EventReader.{EventReader};
 ghost use Rattle.reader.specs.State.{noPending};
 ghost use Rattle.reader.specs.Step.{stepOf};
 ghost use Rattle.reader_acts.specs.Acts.{ActGiven};
-ghost use Rattle.reader_step.specs.Done.{StepGiven, doneBy, addedAs, clearedAs, begunAs};
+ghost use Rattle.reader_step.specs.Done.{StepGiven, doneBy, childStepped, actStepped, beginStepped};
 use compact::ArenaMeta;
 use compact::PushHead;
 use decide::Decided;
@@ -35,7 +35,7 @@ pub enum Stepped {
 // ---- the answers of the calls below
 
 fn added(place: Place, answer: Added) -> Stepped
-    ensures { λ r. ⌜ r ≡ addedAs place answer ⌝ }
+    ensures { λ r. ⌜ r ≡ childStepped place answer ⌝ }
 {
     match answer {
         Added::Is(pending) => Stepped::Goes { place, pending },
@@ -70,7 +70,7 @@ fn no_pending() -> Pending
 }
 
 fn cleared(place: Place, answer: Kept) -> Stepped
-    ensures { λ r. ⌜ r ≡ clearedAs place answer ⌝ }
+    ensures { λ r. ⌜ r ≡ actStepped place answer ⌝ }
 {
     match answer {
         Kept::Taken => {
@@ -82,7 +82,7 @@ fn cleared(place: Place, answer: Kept) -> Stepped
 }
 
 fn begun(place: Place, head: PushHead, answer: Begun) -> Stepped
-    ensures { λ r. ⌜ r ≡ begunAs place head answer ⌝ }
+    ensures { λ r. ⌜ r ≡ beginStepped place head answer ⌝ }
 {
     match answer {
         Begun::With(meta) => {

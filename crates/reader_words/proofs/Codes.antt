@@ -17,7 +17,7 @@ use Rattle.refusal.specs.declared.Reply.{Reply}
 use Rattle.refusal.specs.declared.Refusal.{Refusal}
 use Rattle.refusal.specs.declared.Refusal.the-variants.{Regression, Unsound}
 use Rattle.reader_words.specs.declared.MarkWords.{MarkWords}
-use Rattle.reader_words.specs.Words.{levelCodes, sectionCodes, kindCodes, refusalCodes, levelIn, sectionIn, kindIn, refusalIn}
+use Rattle.reader_words.specs.Words.{levelCodes, sectionCodes, kindCodes, refusalCodes, levelIn, sectionIn, kindIn, refusalNumbered}
 
 -- a number that is at least k, and not k
 pub next : {n k : ℕ} → k ≤ n → (n ≡ k → ⊥) → k + 1 ≤ n
@@ -32,8 +32,8 @@ section-past n h = sym (List·getD-eq-default sectionCodes _ {n = n} h)
 pub kind-past : (n : ℕ) → 2 ≤ n → Relation ≡ kindIn n
 kind-past n h = sym (List·getD-eq-default kindCodes _ {n = n} h)
 
-pub refusal-past : (n held : ℕ) → 22 ≤ n → Unsound ≡ refusalIn n held
-unfolding refusalIn
+pub refusal-past : (n held : ℕ) → 22 ≤ n → Unsound ≡ refusalNumbered n held
+unfolding refusalNumbered
 refusal-past n held h = sym (List·getD-eq-default (refusalCodes held) _ {n = n} h)
 
 -- HELD read back from its bits

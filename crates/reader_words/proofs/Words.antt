@@ -31,17 +31,17 @@ use Rattle.reader.specs.Event.{stoppedAt}
 use Rattle.reader.specs.declared.Stop.{Stop}
 use Rattle.reader.specs.declared.Stop.the-variants.{Going, At}
 use Rattle.reader.specs.declared.EventReader.{EventReader}
-use Rattle.reader_words.specs.Words.{levelWord, sectionWord, markNumber, markLine, markHeld, wordsOf, wordAt, levelIn, sectionIn, kindIn, refusalIn, stopIn, readerIn, placeCoded, headCoded, metaCoded, stopCoded, isReader, readerOfWords}
+use Rattle.reader_words.specs.Words.{levelWord, sectionWord, markNumber, markLine, markHeld, wordsOfReader, wordAt, levelIn, sectionIn, kindIn, refusalNumbered, stopIn, readerIn, placeCoded, headCoded, metaCoded, stopCoded, isReader, readerOfWords}
 use Rattle.reader_words.proofs.Fits.{place-of, stop-of, held-within}
 
 -- 19 zeros are a fresh reader
 pub fresh-words : readerOfWords (0 ∷ 0 ∷ 0 ∷ 0 ∷ 0 ∷ 0 ∷ 0 ∷ 0 ∷ 0 ∷ 0 ∷ 0 ∷ 0 ∷ 0 ∷ 0 ∷ 0 ∷ 0 ∷ 0 ∷ 0 ∷ 0 ∷ []) ≡ some freshReader
-unfolding readerOfWords isReader placeCoded headCoded metaCoded stopCoded stopIn refusalIn both either
+unfolding readerOfWords isReader placeCoded headCoded metaCoded stopCoded stopIn refusalNumbered both either
 fresh-words = refl
 
 -- a refused event changes the three words of its stop mark alone
-pub stopped-words : (r : EventReader) (x : Refusal) (line : ℕ) → take 16 (wordsOf (stoppedAt r x line)) ≡ take 16 (wordsOf r)
-unfolding wordsOf
+pub stopped-words : (r : EventReader) (x : Refusal) (line : ℕ) → take 16 (wordsOfReader (stoppedAt r x line)) ≡ take 16 (wordsOfReader r)
+unfolding wordsOfReader
 stopped-words r x line = refl
 
 -- ---- what holds of each number below k, one by one
@@ -66,13 +66,13 @@ kind-code : (n : ℕ) → n ≤ 2 → kindWord (kindIn n) ≡ n
 kind-code n h = below (λ (i : ℕ). kindWord (kindIn i) ≡ i) 3 n (omega arith) (refl, (refl, (refl, tt)))
 
 module _ (held : ℕ) where
-  refusal-code : (n : ℕ) → n < 22 → numberOf (refusalIn (suc n) held) ≡ suc n
-  unfolding refusalIn
-  refusal-code n h = below (λ (i : ℕ). numberOf (refusalIn (suc i) held) ≡ suc i) 22 n h (refl, (refl, (refl, (refl, (refl, (refl, (refl, (refl, (refl, (refl, (refl, (refl, (refl, (refl, (refl, (refl, (refl, (refl, (refl, (refl, (refl, (refl, tt))))))))))))))))))))))
+  refusal-code : (n : ℕ) → n < 22 → numberOf (refusalNumbered (suc n) held) ≡ suc n
+  unfolding refusalNumbered
+  refusal-code n h = below (λ (i : ℕ). numberOf (refusalNumbered (suc i) held) ≡ suc i) 22 n h (refl, (refl, (refl, (refl, (refl, (refl, (refl, (refl, (refl, (refl, (refl, (refl, (refl, (refl, (refl, (refl, (refl, (refl, (refl, (refl, (refl, (refl, tt))))))))))))))))))))))
 
-  held-none : (n : ℕ) → n < 22 → (n ≡ 11 → ⊥) → heldOf (refusalIn (suc n) held) ≡ pos 0
-  unfolding refusalIn
-  held-none n h = below (λ (i : ℕ). (i ≡ 11 → ⊥) → heldOf (refusalIn (suc i) held) ≡ pos 0) 22 n h (λ d. refl, (λ d. refl, (λ d. refl, (λ d. refl, (λ d. refl, (λ d. refl, (λ d. refl, (λ d. refl, (λ d. refl, (λ d. refl, (λ d. absurd (d refl), (λ d. refl, (λ d. refl, (λ d. refl, (λ d. refl, (λ d. refl, (λ d. refl, (λ d. refl, (λ d. refl, (λ d. refl, (λ d. refl, (λ d. refl, tt))))))))))))))))))))))
+  held-none : (n : ℕ) → n < 22 → (n ≡ 11 → ⊥) → heldOf (refusalNumbered (suc n) held) ≡ pos 0
+  unfolding refusalNumbered
+  held-none n h = below (λ (i : ℕ). (i ≡ 11 → ⊥) → heldOf (refusalNumbered (suc i) held) ≡ pos 0) 22 n h (λ d. refl, (λ d. refl, (λ d. refl, (λ d. refl, (λ d. refl, (λ d. refl, (λ d. refl, (λ d. refl, (λ d. refl, (λ d. refl, (λ d. absurd (d refl), (λ d. refl, (λ d. refl, (λ d. refl, (λ d. refl, (λ d. refl, (λ d. refl, (λ d. refl, (λ d. refl, (λ d. refl, (λ d. refl, (λ d. refl, tt))))))))))))))))))))))
 
 -- ---- a mark's words
 
@@ -95,11 +95,11 @@ module _ (number line held : ℕ) (e : stopCoded number line held ≡ true) wher
   unfolding stopCoded either
   held-zero d = eqb-true _ _ (rw (ne-eqb number 12 d) at (both-right _ _ (both-right _ _ (both-right _ _ e))))
 
-  held-twelve : (n : ℕ) → n ≡ 11 → ofZ w32 (heldOf (refusalIn (suc n) held)) ≡ held
-  unfolding refusalIn
+  held-twelve : (n : ℕ) → n ≡ 11 → ofZ w32 (heldOf (refusalNumbered (suc n) held)) ≡ held
+  unfolding refusalNumbered
   held-twelve n g = rw g (ofZ-toZ {w = w32} (record { fits = held-within number line held e }))
 
-  held-word : (n : ℕ) → number ≡ suc n → ofZ w32 (heldOf (refusalIn (suc n) held)) ≡ held
+  held-word : (n : ℕ) → number ≡ suc n → ofZ w32 (heldOf (refusalNumbered (suc n) held)) ≡ held
   held-word n f =
       byEq n 11 (λ g. held-twelve n g) (λ d. rw (held-none held n (omega (arith, number-most)) d) (sym (held-zero (λ g. d (omega arith)))))
 
@@ -158,8 +158,8 @@ nineteen w e =
     )
 
 -- words that are a reader's are its words
-pub words-back : (w : List ℕ) → length w ≡ 19 → isReader w ≡ true → wordsOf (readerIn w) ≡ w
-unfolding wordsOf placeCoded
+pub words-back : (w : List ℕ) → length w ≡ 19 → isReader w ≡ true → wordsOfReader (readerIn w) ≡ w
+unfolding wordsOfReader placeCoded
 words-back w l e =
     let p = place-of w e in
     let m = mark-back (wordAt w 16) (wordAt w 17) (wordAt w 18) (stop-of w e) in
@@ -200,7 +200,7 @@ HeldFits (At r n) = SFits w32 (heldOf r)
 
 refusals-coded : (r : Refusal) (line : ℕ) → SFits w32 (heldOf r)
     → (stopCoded (numberOf r) line (ofZ w32 (heldOf r)) ≡ true) × (stopIn (numberOf r) line (ofZ w32 (heldOf r)) ≡ At r line)
-unfolding stopCoded stopIn refusalIn both either
+unfolding stopCoded stopIn refusalNumbered both either
 refusals-coded R.Size line f = (refl, refl)
 refusals-coded R.LongLine line f = (refl, refl)
 refusals-coded R.NotText line f = (refl, refl)
@@ -236,31 +236,31 @@ pub record ReaderFits (r : EventReader) : Type 0 where
   pub held : HeldFits (r .stop)
 
 module _ (r : EventReader) (f : ReaderFits r) where
-  place-coded : placeCoded (wordsOf r) ≡ true
-  unfolding wordsOf placeCoded
+  place-coded : placeCoded (wordsOfReader r) ≡ true
+  unfolding wordsOfReader placeCoded
   place-coded = both-of (levels-coded (r .place .level) .0) (both-of (sections-coded (r .place .section) .0) (kinds-coded (r .place .kind) .0))
 
-  head-coded : headCoded (wordsOf r) ≡ true
-  unfolding wordsOf headCoded headFits
+  head-coded : headCoded (wordsOfReader r) ≡ true
+  unfolding wordsOfReader headCoded headFits
   head-coded = both-right _ _ (f .head)
 
-  meta-coded : metaCoded (wordsOf r) ≡ true
-  unfolding wordsOf metaCoded metaFits
+  meta-coded : metaCoded (wordsOfReader r) ≡ true
+  unfolding wordsOfReader metaCoded metaFits
   meta-coded =
       let a = f .meta in
       let b = both-right _ _ a in
       both-of (both-left _ _ a) (both-of (both-left _ _ b) (both-right _ _ (both-right _ _ (both-right _ _ b))))
 
-  is-reader : isReader (wordsOf r) ≡ true
-  unfolding isReader wordsOf
+  is-reader : isReader (wordsOfReader r) ≡ true
+  unfolding isReader wordsOfReader
   is-reader = both-of place-coded (both-of head-coded (both-of meta-coded (marks-coded (r .stop) (f .held) .0)))
 
-  reader-in : readerIn (wordsOf r) ≡ r
-  unfolding wordsOf
+  reader-in : readerIn (wordsOfReader r) ≡ r
+  unfolding wordsOfReader
   reader-in =
       rw (levels-coded (r .place .level) .1, sections-coded (r .place .section) .1, kinds-coded (r .place .kind) .1, marks-coded (r .stop) (f .held) .1)
 
   -- a reader's words stand for it
-  pub reader-back : readerOfWords (wordsOf r) ≡ some r
+  pub reader-back : readerOfWords (wordsOfReader r) ≡ some r
   unfolding readerOfWords
   reader-back = rw (is-reader, reader-in)

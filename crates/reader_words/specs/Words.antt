@@ -55,8 +55,8 @@ abbrev pub markHeld : Stop → ℕ
 markHeld Going = 0
 markHeld (At r line) = ofZ w32 (heldOf r)
 
-unfoldable pub wordsOf : EventReader → List ℕ
-wordsOf r =
+unfoldable pub wordsOfReader : EventReader → List ℕ
+wordsOfReader r =
     levelWord (r .place .level) ∷ sectionWord (r .place .section) ∷ kindWord (r .place .kind)
     ∷ r .pending .head .id ∷ r .pending .head .lat ∷ r .pending .head .lon ∷ r .pending .head .count ∷ r .pending .head .tags
     ∷ r .pending .meta .flags ∷ r .pending .meta .version ∷ r .pending .meta .timestamp ∷ r .pending .meta .changeset ∷ r .pending .meta .uid ∷ r .pending .meta .user
@@ -85,8 +85,8 @@ kindCodes = Node ∷ Way ∷ []
 abbrev pub kindIn : ℕ → Kind
 kindIn n = getD kindCodes n Relation
 
-abbrev pub placeIn : List ℕ → Place
-placeIn w = record { level = levelIn (wordAt w 0); section = sectionIn (wordAt w 1); kind = kindIn (wordAt w 2) }
+abbrev pub placeWords : List ℕ → Place
+placeWords w = record { level = levelIn (wordAt w 0); section = sectionIn (wordAt w 1); kind = kindIn (wordAt w 2) }
 
 abbrev pub headWords : List ℕ → PushHead
 headWords w = record { id = wordAt w 3; lat = wordAt w 4; lon = wordAt w 5; count = wordAt w 6; tags = wordAt w 7 }
@@ -103,16 +103,16 @@ refusalCodes held =
     ∷ R.NoSuchNumber ∷ []
 
 -- the refusal of a number, with the bits of HELD
-unfoldable pub refusalIn : ℕ → ℕ → Refusal
-refusalIn n held = getD (refusalCodes held) n R.Unsound
+unfoldable pub refusalNumbered : ℕ → ℕ → Refusal
+refusalNumbered n held = getD (refusalCodes held) n R.Unsound
 
 unfoldable pub stopIn : ℕ → ℕ → ℕ → Stop
-stopIn number line held = cond (eqb number 0) Going (At (refusalIn number held) line)
+stopIn number line held = cond (eqb number 0) Going (At (refusalNumbered number held) line)
 
 abbrev pub readerIn : List ℕ → EventReader
 readerIn w =
     record {
-      place = placeIn w;
+      place = placeWords w;
       pending = record { head = headWords w; meta = metaWords w; used = wordAt w 14 };
       lines = wordAt w 15;
       stop = stopIn (wordAt w 16) (wordAt w 17) (wordAt w 18);

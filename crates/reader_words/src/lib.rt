@@ -3,7 +3,7 @@ ghost use mathlib.Core.Path.{_≡_};
 ghost use mathlib.Core.Bool.{true};
 ghost use Prim.Native.Nat.{_<_};
 ghost use Rattle.kind.specs.Kind.{numberOf as kindWord};
-ghost use Rattle.reader_words.specs.Words.{levelWord, sectionWord, markNumber, markLine, markHeld, wordsOf, levelIn, sectionIn, kindIn, headWords, metaWords, refusalIn, stopIn, readerIn, placeCoded, headCoded, metaCoded, stopCoded, isReader};
+ghost use Rattle.reader_words.specs.Words.{levelWord, sectionWord, markNumber, markLine, markHeld, wordsOfReader, levelIn, sectionIn, kindIn, headWords, metaWords, refusalNumbered, stopIn, readerIn, placeCoded, headCoded, metaCoded, stopCoded, isReader};
 use compact::ArenaMeta;
 use compact::PushHead;
 use kind::Kind;
@@ -135,7 +135,7 @@ fn meta_in(words: &[u64; 19]) -> ArenaMeta
 }
 
 fn refusal_in(number: u64, held: u32) -> Refusal
-    ensures { λ r. ⌜ r ≡ refusalIn number held ⌝ }
+    ensures { λ r. ⌜ r ≡ refusalNumbered number held ⌝ }
 {
     match number {
         1 => Refusal::Size,
@@ -269,7 +269,7 @@ fn mark_words(stop: Stop) -> MarkWords
 
 // Writes a reader's words.
 pub fn put_reader(words: &mut [u64; 19], reader: EventReader)
-    ensures { λ _. ⌜ now (words .exit) ≡ wordsOf reader ⌝ }
+    ensures { λ _. ⌜ now (words .exit) ≡ wordsOfReader reader ⌝ }
 {
     let place = reader.place;
     let level = place.level;

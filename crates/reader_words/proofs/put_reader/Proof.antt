@@ -1,5 +1,5 @@
 -- Each word in its place.
-use Rattle.reader_words.specs.Words.{wordsOf}
+use Rattle.reader_words.specs.Words.{wordsOfReader}
 use borrow.Author.Needs.{needs}
 use Rattle.reader_words.proofs.put_reader.Statement.{statement}
 use Rattle.reader_words.proofs.put_reader.Tie as tie
@@ -41,7 +41,7 @@ cast-t22 : tie.Need-cast-t22
 cast-t22 c = search needs
 
 returns : tie.Need-returns
-unfolding wordsOf
+unfolding wordsOfReader
 returns c = rw (c .before .before .before .before .before .before .before .before .before .before .before .level-word .ensures, c .before .before .before .before .before .before .before .before .before .before .section-word .ensures, c .before .before .before .before .before .before .before .before .before .kind-word .ensures, c .before .before .before .before .before .before .before .before .before .before .before .before .mark-words .ensures)
 
 pub put-reader-spec : {M : Type 1} → statement M
