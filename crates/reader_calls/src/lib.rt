@@ -1,9 +1,9 @@
 // The calls of a reader: an event, and the end of its document.
 ghost use mathlib.Core.Path.{_≡_};
 ghost use mathlib.Core.Bool.{true};
-ghost use Prim.Native.Nat.{_<_};
+ghost use Prim.Native.Nat.{_+_, _<_};
 ghost use Rattle.decision.specs.Decision.{decide};
-ghost use Rattle.overlay.specs.Overlay.{overlayOf, lent, left};
+ghost use Rattle.overlay.specs.Overlay.{lent, left};
 ghost use Rattle.reader.specs.State.{stateSound};
 ghost use Rattle.reader.specs.Step.{stepOf};
 ghost use Rattle.reader.specs.Event.{stepped, eventOn, endOn};
@@ -24,12 +24,21 @@ pub struct EventDone {
     pub answer: EventAnswer,
 }
 
+// The number of the next line, where there is one.
+fn next_line(lines: u64) -> u64
+    ensures { λ r. ⌜ (lines < 18446744073709551615 → r ≡ lines + 1) ⌝ }
+{
+    if lines < 18446744073709551615 {
+        return lines + 1;
+    }
+    lines
+}
+
 // The lines count on, or the reader stops: then only its stop mark changes.
 fn event_done(reader: EventReader, step: Stepped) -> EventDone
-    requires { ⌜ reader .lines < 18446744073709551615 ⌝ }
-    ensures { λ r. ⌜ r ≡ eventDone reader step ⌝ }
+    ensures { λ r. ⌜ (reader .lines < 18446744073709551615 → r ≡ eventDone reader step) ⌝ }
 {
-    let line = reader.lines + 1;
+    let line = next_line(reader.lines);
     match step {
         Stepped::Goes { place, pending } => {
             let reader = EventReader {
@@ -57,8 +66,8 @@ fn event_done(reader: EventReader, step: Stepped) -> EventDone
     }
 }
 
-// An event of a sound state whose reader is not stopped: its step.
-fn sound_event(
+// An event of a state that was found sound, whose reader is not stopped: its step.
+pub fn event_going(
     nids: &mut [u64],
     narena: &mut [u8],
     wids: &mut [u64],
@@ -72,11 +81,11 @@ fn sound_event(
     reader: EventReader,
     line: &[u8],
 ) -> EventDone
-    requires { ⌜ stateSound (record { overlay = overlayOf (now nids) (now narena) (now wids) (now warena) (now rids) (now rarena) (now spans) (now bytes) (now used); reader = reader; parts = now parts }) ≡ true ⌝ }
-    ensures { λ r. ⌜ record { state = record { overlay = left nids narena wids warena rids rarena spans bytes used; reader = r .reader; parts = now (parts .exit) }; answer = r .answer }
+    ensures { λ r. ⌜ (stateSound (record { overlay = lent nids narena wids warena rids rarena spans bytes used; reader = reader; parts = now (parts .entry) }) ≡ true
+        → record { state = record { overlay = left nids narena wids warena rids rarena spans bytes used; reader = r .reader; parts = now (parts .exit) }; answer = r .answer }
         ≡ stepped (record { overlay = lent nids narena wids warena rids rarena spans bytes used; reader = reader; parts = now (parts .entry) })
         (stepOf (decide (now (line .entry)) (reader .place))
-        (record { overlay = lent nids narena wids warena rids rarena spans bytes used; reader = reader; parts = now (parts .entry) })) ⌝ }
+        (record { overlay = lent nids narena wids warena rids rarena spans bytes used; reader = reader; parts = now (parts .entry) }))) ⌝ }
 {
     let place = reader.place;
     let decided = decide::decide(line, place);
@@ -132,7 +141,7 @@ pub fn event(
     ) {
         let stop = reader.stop;
         let Stop::At(refusal, at) = reader_sound::mark_of(stop) else {
-            return sound_event(
+            return event_going(
                 nids,
                 narena,
                 wids,

@@ -9,8 +9,8 @@ use Rattle.scan.proofs.Lines.{judged, judged-part}
 use Rattle.reader_sound.proofs.Sound.{sound-lines}
 use Rattle.reader_calls.proofs.Events.{event-steps}
 use borrow.Author.Needs.{needs}
-use Rattle.reader_calls.proofs.sound_event.Statement.{statement}
-use Rattle.reader_calls.proofs.sound_event.Tie as tie
+use Rattle.reader_calls.proofs.event_going.Statement.{statement}
+use Rattle.reader_calls.proofs.event_going.Tie as tie
 
 -- overlay, reader and parts as they were lent
 abbrev given : tie.Start → State
@@ -37,7 +37,7 @@ step-requires : tie.Need-step-requires
 step-requires c κs = search needs
 
 event-done-requires : tie.Need-event-done-requires
-event-done-requires c κs = sound-lines (given (c .before .before .before .before .before .before .before .before .before .before .before .before .before .before .before .before .before .before .before .before .before .before .before .before .before .before .before .before .before .before .before .before .before .before .before .before .before .before .before .before)) (c .before .before .before .before .before .before .before .before .before .before .before .before .before .before .before .before .before .before .before .before .before .before .before .before .before .before .before .before .before .before .before .before .before .before .before .before .before .before .before .before .pre)
+event-done-requires c κs = search needs
 
 same-length : tie.Need-same-length
 same-length c = search needs
@@ -65,12 +65,13 @@ same-length-8 c = search needs
 
 returns : tie.Need-returns
 returns c =
+    λ e.
     let s = c .before .before .before .before .before .before .before .before .before .before .before .before .before .before .before .before .before .before .before .before .before .before .before .before .before .before .before .before .before .before .before .before .before .before .before .before .before .before .before .before .before in
     let t = now (s .args .line) in
-    event-steps t (given s) (s .pre) _ (judged-part t _ (c .before .before .before .before .before .before .before .before .before .before .before .before .before .before .before .before .before .before .before .before .before .before .before .before .before .before .before .before .before .body-length .ensures)) _ (c .before .before .before .before .before .before .before .before .before .before .before .before .before .before .before .before .before .before .before .before .before .before .before .before .before .before .before .before .before .before .decide .ensures .0) (c .before .before .before .before .before .before .before .before .before .before .before .before .before .before .before .before .before .before .before .before .before .before .before .before .before .before .before .before .before .before .decide .ensures .1) (c .before .before .before .before .before .before .before .before .before .before .before .before .before .before .before .before .before .step .ensures) (c .event-done .ensures)
+    event-steps t (given s) e _ (judged-part t _ (c .before .before .before .before .before .before .before .before .before .before .before .before .before .before .before .before .before .before .before .before .before .before .before .before .before .before .before .before .before .body-length .ensures)) _ (c .before .before .before .before .before .before .before .before .before .before .before .before .before .before .before .before .before .before .before .before .before .before .before .before .before .before .before .before .before .before .decide .ensures .0) (c .before .before .before .before .before .before .before .before .before .before .before .before .before .before .before .before .before .before .before .before .before .before .before .before .before .before .before .before .before .before .decide .ensures .1) (c .before .before .before .before .before .before .before .before .before .before .before .before .before .before .before .before .before .step .ensures) (c .event-done .ensures (sound-lines (given s) e))
 
-pub sound-event-spec : {M : Type 1} → statement M
-sound-event-spec =
+pub event-going-spec : {M : Type 1} → statement M
+event-going-spec =
     tie.close
     (tie.spec
     decide-requires

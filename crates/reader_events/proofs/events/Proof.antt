@@ -1,0 +1,177 @@
+-- Nothing where there is no line; 22, the stop mark, or all lines.
+use denote.Ref.{now}
+use mathlib.Core.Path.{sym, _∙_}
+use Rattle.overlay.specs.Overlay.{overlayOf}
+use Rattle.reader.specs.State.{State}
+use Rattle.reader_events.proofs.Runs.{sound-given, came-none, came-22, came-stopped}
+use borrow.Author.Needs.{needs}
+use Rattle.reader_events.proofs.events.Statement.{statement}
+use Rattle.reader_events.proofs.events.Tie as tie
+
+-- the state as it is lent
+abbrev given : tie.Start → State
+given s =
+    let a = s .args in
+    record {
+      overlay = overlayOf (now (a .nids)) (now (a .narena)) (now (a .wids)) (now (a .warena)) (now (a .rids)) (now (a .rarena)) (now (a .spans)) (now (a .bytes)) (now (a .used));
+      reader = a .reader;
+      parts = now (a .parts);
+    }
+
+line-end-requires : tie.Need-line-end-requires
+line-end-requires c κs = search needs
+
+enum-told : tie.Need-enum-told
+enum-told c = search needs
+
+enum-told-2 : tie.Need-enum-told-2
+enum-told-2 c = search needs
+
+returns : tie.Need-returns
+returns c =
+    let s = c .before .before .before .before .before .before .before .before .before .before .before .before in
+    came-none (now (s .args .run)) (given s) (sym (c .before .before .line-end .ensures) ∙ c .enum-told2 .given .1)
+
+state-tested-requires : tie.Need-state-tested-requires
+state-tested-requires c κs = search needs
+
+mark-of-requires : tie.Need-mark-of-requires
+mark-of-requires c κs = search needs
+
+enum-known-refusal : tie.Need-enum-known-refusal
+enum-known-refusal c = search needs
+
+enum-told-3 : tie.Need-enum-told-3
+enum-told-3 c = search needs
+
+going-events-requires : tie.Need-going-events-requires
+going-events-requires c κs =
+    let s = c .before .before .before .before .before .before .before .before .before .before .before .before .before .before .before .before .before .before .before .before .before .before .before .before .before .before .before .before .before .before .before .before .before .before .before .before .before in
+    let t = c .before .before .before .before .before .before .before .before .before .before .before .before .before .before .state-tested in
+    (sound-given (given s) (sym (t .ensures .0) ∙ c .before .before .before .before .before .before .before .before .before .before .before .before .before .if1 .taken) (sym (c .before .before .before .before .before .before .before .before .before .before .before .before .mark-of .ensures) ∙ c .before .before .before .before .before .before .before .before .before .before .enum-told3 .given .1), t .ensures .1)
+
+same-length : tie.Need-same-length
+same-length c = search needs
+
+same-length-2 : tie.Need-same-length-2
+same-length-2 c = search needs
+
+same-length-3 : tie.Need-same-length-3
+same-length-3 c = search needs
+
+same-length-4 : tie.Need-same-length-4
+same-length-4 c = search needs
+
+same-length-5 : tie.Need-same-length-5
+same-length-5 c = search needs
+
+same-length-6 : tie.Need-same-length-6
+same-length-6 c = search needs
+
+same-length-7 : tie.Need-same-length-7
+same-length-7 c = search needs
+
+same-length-8 : tie.Need-same-length-8
+same-length-8 c = search needs
+
+returns-2 : tie.Need-returns-2
+returns-2 c = search needs
+
+same-length-9 : tie.Need-same-length-9
+same-length-9 c = search needs
+
+same-length-10 : tie.Need-same-length-10
+same-length-10 c = search needs
+
+same-length-11 : tie.Need-same-length-11
+same-length-11 c = search needs
+
+same-length-12 : tie.Need-same-length-12
+same-length-12 c = search needs
+
+same-length-13 : tie.Need-same-length-13
+same-length-13 c = search needs
+
+same-length-14 : tie.Need-same-length-14
+same-length-14 c = search needs
+
+same-length-15 : tie.Need-same-length-15
+same-length-15 c = search needs
+
+same-length-16 : tie.Need-same-length-16
+same-length-16 c = search needs
+
+returns-3 : tie.Need-returns-3
+returns-3 c =
+    let s = c .before .before .before .before .before .before .before .before .before .before .before .before .before .before .before .before .before .before .before .before .before .before .before .before .before .before .before .before in
+    came-stopped (now (s .args .run)) (given s) _ (sym (c .before .before .before .before .before .before .before .before .before .before .before .before .before .before .before .before .before .before .line-end .ensures) ∙ c .before .before .before .before .before .before .before .before .before .before .before .before .before .before .before .before .enum-told .given .1) (sym (c .before .before .before .before .before .state-tested .ensures .0) ∙ c .before .before .before .before .if1 .taken) _ _ (sym (c .before .before .before .mark-of .ensures) ∙ c .before .refusal .given .1)
+
+same-length-17 : tie.Need-same-length-17
+same-length-17 c = search needs
+
+same-length-18 : tie.Need-same-length-18
+same-length-18 c = search needs
+
+same-length-19 : tie.Need-same-length-19
+same-length-19 c = search needs
+
+same-length-20 : tie.Need-same-length-20
+same-length-20 c = search needs
+
+same-length-21 : tie.Need-same-length-21
+same-length-21 c = search needs
+
+same-length-22 : tie.Need-same-length-22
+same-length-22 c = search needs
+
+same-length-23 : tie.Need-same-length-23
+same-length-23 c = search needs
+
+same-length-24 : tie.Need-same-length-24
+same-length-24 c = search needs
+
+returns-4 : tie.Need-returns-4
+returns-4 c =
+    let s = c .before .before .before .before .before .before .before .before .before .before .before .before .before .before .before .before .before .before .before .before .before .before .before .before in
+    came-22 (now (s .args .run)) (given s) _ (sym (c .before .before .before .before .before .before .before .before .before .before .before .before .before .before .line-end .ensures) ∙ c .before .before .before .before .before .before .before .before .before .before .before .before .enum-told .given .1) (sym (c .before .state-tested .ensures .0) ∙ c .if1 .left)
+
+pub events-spec : {M : Type 1} → statement M
+events-spec =
+    tie.close
+    (tie.spec
+    line-end-requires
+    enum-told
+    enum-told-2
+    returns
+    state-tested-requires
+    mark-of-requires
+    enum-known-refusal
+    enum-told-3
+    going-events-requires
+    same-length
+    same-length-2
+    same-length-3
+    same-length-4
+    same-length-5
+    same-length-6
+    same-length-7
+    same-length-8
+    returns-2
+    same-length-9
+    same-length-10
+    same-length-11
+    same-length-12
+    same-length-13
+    same-length-14
+    same-length-15
+    same-length-16
+    returns-3
+    same-length-17
+    same-length-18
+    same-length-19
+    same-length-20
+    same-length-21
+    same-length-22
+    same-length-23
+    same-length-24
+    returns-4)

@@ -1,0 +1,126 @@
+-- The event of the part that is lent.
+use denote.Ref.{now}
+use native.Mathlib.Omega.{arith}
+use Rattle.overlay.specs.Overlay.{overlayOf}
+use Rattle.reader.specs.State.{State}
+use Rattle.reader_events.proofs.Runs.{point-accepted, point-refused}
+use borrow.Author.Needs.{needs}
+use Rattle.reader_events.proofs.line_event.Statement.{statement}
+use Rattle.reader_events.proofs.line_event.Tie as tie
+
+-- the state as it is lent
+abbrev given : tie.Start → State
+given s =
+    let a = s .args in
+    record {
+      overlay = overlayOf (now (a .nids)) (now (a .narena)) (now (a .wids)) (now (a .warena)) (now (a .rids)) (now (a .rarena)) (now (a .spans)) (now (a .bytes)) (now (a .used));
+      reader = a .reader;
+      parts = now (a .parts);
+    }
+
+sub-event-going : tie.Need-sub-event-going
+sub-event-going c = search needs
+
+part-event-going-start : tie.Need-part-event-going-start
+part-event-going-start c = search needs
+
+part-event-going-end : tie.Need-part-event-going-end
+part-event-going-end c = search needs
+
+event-going-requires : tie.Need-event-going-requires
+event-going-requires c κs = search needs
+
+enum-told : tie.Need-enum-told
+enum-told c = search needs
+
+enum-known-answer : tie.Need-enum-known-answer
+enum-known-answer c = search needs
+
+same-length : tie.Need-same-length
+same-length c = search needs
+
+same-length-2 : tie.Need-same-length-2
+same-length-2 c = search needs
+
+same-length-3 : tie.Need-same-length-3
+same-length-3 c = search needs
+
+same-length-4 : tie.Need-same-length-4
+same-length-4 c = search needs
+
+same-length-5 : tie.Need-same-length-5
+same-length-5 c = search needs
+
+same-length-6 : tie.Need-same-length-6
+same-length-6 c = search needs
+
+same-length-7 : tie.Need-same-length-7
+same-length-7 c = search needs
+
+same-length-8 : tie.Need-same-length-8
+same-length-8 c = search needs
+
+returns : tie.Need-returns
+returns c =
+    λ u g.
+    let s = c .before .before .before .before .before .before .before .before .before .before .before .before .before .before .before .before .before .before .before .before .before .before .before .before .before .before .before .before .before .before .before .before .before .before .before .before .before .before .before .before in
+    point-accepted (now (s .args .run)) (s .args .at) (given s) (s .args .end) (omega (arith, s .pre)) u g _ (c .before .before .before .before .before .before .before .before .before .before .before .before .before .before .before .before .before .before .before .event-going .ensures u) (c .enum-told .given .1)
+
+same-length-9 : tie.Need-same-length-9
+same-length-9 c = search needs
+
+same-length-10 : tie.Need-same-length-10
+same-length-10 c = search needs
+
+same-length-11 : tie.Need-same-length-11
+same-length-11 c = search needs
+
+same-length-12 : tie.Need-same-length-12
+same-length-12 c = search needs
+
+same-length-13 : tie.Need-same-length-13
+same-length-13 c = search needs
+
+same-length-14 : tie.Need-same-length-14
+same-length-14 c = search needs
+
+same-length-15 : tie.Need-same-length-15
+same-length-15 c = search needs
+
+same-length-16 : tie.Need-same-length-16
+same-length-16 c = search needs
+
+returns-2 : tie.Need-returns-2
+returns-2 c =
+    λ u g.
+    let s = c .before .before .before .before .before .before .before .before .before .before .before .before .before .before .before .before .before .before .before .before .before .before .before .before .before .before .before .before .before .before .before .before .before .before .before .before .before .before .before .before .before in
+    point-refused (now (s .args .run)) (s .args .at) (given s) (s .args .end) (omega (arith, s .pre)) u g _ (c .before .before .before .before .before .before .before .before .before .before .before .before .before .before .before .before .before .before .before .before .event-going .ensures u) _ _ (c .before .answer .given .1)
+
+pub line-event-spec : {M : Type 1} → statement M
+line-event-spec =
+    tie.close
+    (tie.spec
+    sub-event-going
+    part-event-going-start
+    part-event-going-end
+    event-going-requires
+    enum-told
+    enum-known-answer
+    same-length
+    same-length-2
+    same-length-3
+    same-length-4
+    same-length-5
+    same-length-6
+    same-length-7
+    same-length-8
+    returns
+    same-length-9
+    same-length-10
+    same-length-11
+    same-length-12
+    same-length-13
+    same-length-14
+    same-length-15
+    same-length-16
+    returns-2)
