@@ -8,7 +8,7 @@ use quick_xml::lines::{Line, escape, judge_line};
 use crate::nesting::Place;
 use crate::osc::CompactDiffOverlay;
 use crate::osc::direct;
-use crate::osc::xml_parse::{JudgeSteps, judge_drive};
+use crate::osc::xml_parse::{JudgeStaged, JudgeSteps, judge_drive};
 use crate::osm_id::osm_id_cmp;
 
 pub use crate::kinds::ElementKind as Kind;
@@ -181,72 +181,64 @@ impl Overlay {
     /// Document 01's listing.
     pub fn listing(&self) -> Vec<u8> {
         let mut out = String::new();
-        for (kind, letter) in KINDS.into_iter().zip(["n", "w", "r"]) {
+        for kind in KINDS {
             let sorted = self.sorted(kind);
-            let mut lines: Vec<(i64, Option<&Record>)> = sorted
-                .live
-                .iter()
-                .copied()
-                .zip(sorted.records.iter().map(Some))
-                .chain(sorted.deleted.iter().map(|&id| (id, None)))
-                .collect();
+            let live = sorted.live.iter().copied();
+            let live = live.zip(sorted.records.iter().map(Some));
+            let deleted = sorted.deleted.iter().map(|&id| (id, None));
+            let mut lines: Vec<(i64, Option<&Record>)> = live.chain(deleted).collect();
             lines.sort_by(|a, b| osm_id_cmp(a.0, b.0));
             for (id, record) in lines {
-                self.list_one(&mut out, kind, letter, id, record);
+                list_one(&mut out, kind, id, self.known_version(kind, id), record);
             }
         }
         out.into_bytes()
     }
+}
 
-    fn list_one(
-        &self,
-        out: &mut String,
-        kind: Kind,
-        letter: &str,
-        id: i64,
-        record: Option<&Record>,
-    ) {
-        let known = self
-            .known_version(kind, id)
-            .map_or_else(|| "?".to_owned(), |v| v.to_string());
-        let sign = if record.is_some() { "+" } else { "-" };
-        let mut fields = vec![letter.to_owned(), id.to_string(), sign.to_owned(), known];
-        if let Some(r) = record {
-            assert_eq!(r.id, id);
-            fields.push(r.flags.to_string());
-            fields.push(r.version.to_string());
-            fields.push(r.timestamp.to_string());
-            fields.push(r.changeset.to_string());
-            fields.push(r.uid.to_string());
-            fields.push(escape(&r.user));
-            match kind {
-                Kind::Node => {
-                    let (lat, lon) = r.place.expect("a node has a place");
-                    fields.push(lat.to_string());
-                    fields.push(lon.to_string());
-                }
-                Kind::Way => {
-                    fields.push(r.refs.len().to_string());
-                    fields.extend(r.refs.iter().map(i64::to_string));
-                }
-                Kind::Relation => {
-                    fields.push(r.members.len().to_string());
-                    for (byte, id, role) in &r.members {
-                        fields.push(byte.to_string());
-                        fields.push(id.to_string());
-                        fields.push(escape(role));
-                    }
-                }
+/// One line of the listing.
+pub(crate) fn list_one(
+    out: &mut String,
+    kind: Kind,
+    id: i64,
+    known: Option<i32>,
+    record: Option<&Record>,
+) {
+    let known = known.map_or_else(|| "?".to_owned(), |v| v.to_string());
+    let sign = if record.is_some() { "+" } else { "-" };
+    let letter = ["n", "w", "r"][kind as usize];
+    let mut fields = vec![letter.to_owned(), id.to_string(), sign.to_owned(), known];
+    if let Some(r) = record {
+        assert_eq!(r.id, id);
+        fields.extend([
+            r.flags.to_string(),
+            r.version.to_string(),
+            r.timestamp.to_string(),
+        ]);
+        fields.extend([r.changeset.to_string(), r.uid.to_string(), escape(&r.user)]);
+        match kind {
+            Kind::Node => {
+                let (lat, lon) = r.place.expect("a node has a place");
+                fields.extend([lat.to_string(), lon.to_string()]);
             }
-            fields.push(r.tags.len().to_string());
-            for (key, value) in &r.tags {
-                fields.push(escape(key));
-                fields.push(escape(value));
+            Kind::Way => {
+                fields.push(r.refs.len().to_string());
+                fields.extend(r.refs.iter().map(i64::to_string));
+            }
+            Kind::Relation => {
+                fields.push(r.members.len().to_string());
+                for (byte, id, role) in &r.members {
+                    fields.extend([byte.to_string(), id.to_string(), escape(role)]);
+                }
             }
         }
-        out.push_str(&fields.join("\t"));
-        out.push('\n');
+        fields.push(r.tags.len().to_string());
+        for (key, value) in &r.tags {
+            fields.extend([escape(key), escape(value)]);
+        }
     }
+    out.push_str(&fields.join("\t"));
+    out.push('\n');
 }
 
 fn in_order<V: Copy, S>(map: &HashMap<i64, V, S>) -> Vec<(i64, V)> {
@@ -437,9 +429,9 @@ impl Reader {
         }
     }
 
-    /// Doc 0, Root 1, Other 2, Section 3, Element 4, Leaf 5, Done 6.
-    pub fn level(&self) -> u8 {
-        self.place().level
+    /// What is staged for an element.
+    pub(crate) fn staged(&self) -> Option<&JudgeStaged> {
+        self.steps.staged()
     }
 
     /// Where the published driver stands.

@@ -40,11 +40,42 @@ const GOOD: [&str; 13] = [
     "x",
 ];
 
-/// Every kind of event on which nesting decides: thirteen names opened and empty, with good fields; a
-/// close.
-pub fn nested_events() -> Vec<Bytes> {
-    let mut out = elements(&GOOD);
-    out.push(line("close"));
+/// The spellings; each with a byte changed, more and less at each place; two in one; names at random.
+pub fn close_names(random: &mut Random, times: u64) -> Vec<Bytes> {
+    let spellings: Vec<&str> = GOOD
+        .iter()
+        .map(|g| g.split('|').next().expect("a name"))
+        .collect();
+    let mut out = vec![
+        b"bound".to_vec(),
+        b" node".to_vec(),
+        "wäy".into(),
+        b"\\".to_vec(),
+    ];
+    for spelling in &spellings {
+        let name = spelling.as_bytes();
+        out.extend([name.to_vec(), name.to_ascii_uppercase()]);
+        out.extend(
+            spellings
+                .iter()
+                .map(|other| [name, other.as_bytes()].concat()),
+        );
+        for at in 0..=name.len() {
+            for byte in [b'A', b'a', b's', b'=', b' ', 0x7f] {
+                out.push([&name[..at], &[byte], &name[at..]].concat());
+                out.push([&name[..at], &[byte], &name[(at + 1).min(name.len())..]].concat());
+            }
+            out.push([&name[..at], &name[(at + 1).min(name.len())..]].concat());
+        }
+    }
+    let letters = spellings.concat().into_bytes();
+    for _ in 0..times {
+        out.push(
+            (0..1 + random.below(9))
+                .map(|_| *random.pick(&letters))
+                .collect(),
+        );
+    }
     out
 }
 

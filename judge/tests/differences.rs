@@ -2,8 +2,8 @@
 
 use std::panic::{AssertUnwindSafe, catch_unwind};
 
-use judge::compare::overlay::{DirectPort, JudgeSide, Push};
-use judge::compare::records::parts;
+use judge::compare::call::{Call, Push};
+use judge::compare::rust::Rust;
 use judge::{Kind, Meta, Outcome, Overlay, Sizes, run, run_sized};
 
 const NONE: Meta = Meta {
@@ -16,22 +16,12 @@ const NONE: Meta = Meta {
 };
 
 fn push(kind: Kind) -> Push {
-    Push {
-        kind,
-        id: 1,
-        place: (0, 0),
-        refs: Vec::new(),
-        members: Vec::new(),
-        tags: Vec::new(),
-        meta: NONE,
-    }
+    Push::plain(kind, 1, NONE)
 }
 
-/// The number that document 01 gives for a direct push into a new overlay.
-fn by_words(push: &Push) -> u32 {
-    let (head, parts) = (push.head(), parts(push));
-    let reply = JudgeSide::new().push(push.kind as u8, head, &push.meta, &parts);
-    reply.number
+/// The number that document 01 gives for a direct call on a new overlay.
+fn by_words(call: &Call) -> u32 {
+    Rust::default().call(&Sizes::ROADLIST, call).number()
 }
 
 #[test]
@@ -70,10 +60,10 @@ fn d3_utf8_that_is_no_xml() {
     overlay
         .push_node(1, (0, 0), &[(0, "\u{ffff}")], &NONE)
         .expect("taken by the Rust");
-    assert_eq!(JudgeSide::new().intern(b"\x01"), (3, 0));
+    assert_eq!(by_words(&Call::Intern(b"\x01".to_vec())), 3);
     let mut tagged = push(Kind::Node);
     tagged.tags.push((0, "\u{ffff}".into()));
-    assert_eq!(by_words(&tagged), 3);
+    assert_eq!(by_words(&tagged.call()), 3);
 }
 
 #[test]
@@ -84,7 +74,7 @@ fn d4_coordinates_of_a_direct_push() {
         .expect("taken by the Rust");
     let mut far = push(Kind::Node);
     far.place = (900_000_001, 0);
-    assert_eq!(by_words(&far), 10);
+    assert_eq!(by_words(&far.call()), 10);
 }
 
 #[test]
@@ -104,14 +94,14 @@ fn d5_flags_handles_and_types_of_a_direct_call() {
     assert_eq!((record.flags, record.version), (8, 0));
     let mut flagged = push(Kind::Way);
     flagged.meta = meta;
-    assert_eq!(by_words(&flagged), 17);
+    assert_eq!(by_words(&flagged.call()), 17);
     // A handle not held, and a type byte above 2: taken by the Rust, which panics when it reads them.
     let mut overlay = Overlay::new();
     overlay.push_way(1, &[], &[(1, "v")], &NONE).expect("taken");
     assert!(catch_unwind(AssertUnwindSafe(|| overlay.record(Kind::Way, 1))).is_err());
     let mut keyed = push(Kind::Way);
     keyed.tags.push((1, b"v".to_vec()));
-    assert_eq!(by_words(&keyed), 17);
+    assert_eq!(by_words(&keyed.call()), 17);
     let mut overlay = Overlay::new();
     overlay
         .push_relation(1, &[(1, 3, 0)], &[], &NONE)
@@ -119,7 +109,7 @@ fn d5_flags_handles_and_types_of_a_direct_call() {
     assert!(catch_unwind(AssertUnwindSafe(|| overlay.record(Kind::Relation, 1))).is_err());
     let mut typed = push(Kind::Relation);
     typed.members.push((1, 3, 0));
-    assert_eq!(by_words(&typed), 17);
+    assert_eq!(by_words(&typed.call()), 17);
 }
 
 #[test]

@@ -228,7 +228,7 @@ fn closes() {
     // The level at each line's end, from a document that visits all.
     let mut reader = Reader::new();
     let mut overlay = Overlay::new();
-    let mut levels = vec![reader.level()];
+    let mut levels = vec![reader.place().level];
     for line in [
         "open\tosmChange",
         "open\tx",
@@ -245,9 +245,9 @@ fn closes() {
         reader
             .line(&mut overlay, line.as_bytes(), true, Change::AsRust, None)
             .expect("accepted");
-        levels.push(reader.level());
+        levels.push(reader.place().level);
     }
-    assert_eq!(levels, [0, 1, 2, 1, 3, 4, 5, 4, 3, 1, 6, 6]);
+    assert_eq!(levels, [0, 1, 5, 1, 2, 3, 4, 3, 2, 1, 6, 6]);
 }
 
 #[test]

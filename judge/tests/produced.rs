@@ -107,7 +107,7 @@ fn documents_accumulate() {
 
 #[test]
 fn prefixes_reach_their_levels() {
-    let names = ["Doc", "Root", "Other", "Section", "Element", "Leaf", "Done"];
+    let names = ["Doc", "Root", "Section", "Element", "Leaf", "Other", "Done"];
     let mut seen = [0; 7];
     for (name, lines) in levels() {
         let mut overlay = Overlay::new();
@@ -117,9 +117,9 @@ fn prefixes_reach_their_levels() {
             let reply = reader.line(&mut overlay, line, true, Change::None, None);
             assert_eq!(reply, Ok(()), "{name}");
         }
-        let level = usize::from(reader.level());
+        let level = usize::from(reader.place().level);
         assert!(name.starts_with(names[level]), "{name}");
         seen[level] += 1;
     }
-    assert_eq!(seen, [1, 1, 1, 3, 9, 9, 2]);
+    assert_eq!(seen, [1, 1, 3, 9, 9, 1, 2]);
 }

@@ -1,12 +1,8 @@
 //! The entries of single layers behind the judge's traits.
 
+use judge::compare::call::Head;
 use judge::compare::lookups::LookupPort;
-use judge::compare::nesting::{Answer, NestingPort};
-use judge::compare::overlay::Push;
-use judge::compare::reads::{TagPort, TagStep};
-use judge::compare::records::{Head, Member, RecordPort, Step};
-use judge::compare::strings::{StringPort, Taken};
-use judge::nesting::Place;
+use judge::compare::records::{Member, RecordPort, Step, Tag};
 use judge::{Kind, Meta};
 
 use crate::ffi;
@@ -59,56 +55,6 @@ impl LookupPort for Layers {
     }
 }
 
-impl StringPort for Layers {
-    fn intern(
-        &self,
-        spans: &mut [u64],
-        bytes: &mut [u8],
-        strings: u64,
-        used: u64,
-        text: &[u8],
-    ) -> Taken {
-        let reply = unsafe {
-            ffi::tvl_intern(
-                spans.as_mut_ptr(),
-                spans.len(),
-                bytes.as_mut_ptr(),
-                bytes.len(),
-                strings,
-                used,
-                text.as_ptr(),
-                text.len(),
-            )
-        };
-        Taken {
-            number: reply.number,
-            handle: reply.handle,
-            strings: reply.strings,
-            used: reply.used,
-        }
-    }
-
-    fn resolve(
-        &self,
-        spans: &[u64],
-        bytes: &[u8],
-        strings: u64,
-        handle: u64,
-    ) -> (u32, usize, usize) {
-        let part = unsafe {
-            ffi::tvl_resolve(
-                spans.as_ptr(),
-                spans.len(),
-                bytes.as_ptr(),
-                bytes.len(),
-                strings,
-                handle,
-            )
-        };
-        (part.number, part.start, part.len)
-    }
-}
-
 pub(crate) fn meta_in(meta: &Meta) -> ffi::Meta {
     ffi::Meta {
         flags: meta.flags,
@@ -117,15 +63,6 @@ pub(crate) fn meta_in(meta: &Meta) -> ffi::Meta {
         changeset: meta.changeset.cast_unsigned(),
         uid: meta.uid.cast_unsigned(),
         user: meta.user,
-    }
-}
-
-fn placed(push: &Push) -> ffi::Placed {
-    ffi::Placed {
-        id: push.id.cast_unsigned(),
-        lat: push.place.0.cast_unsigned(),
-        lon: push.place.1.cast_unsigned(),
-        tags: push.tags.len() as u32,
     }
 }
 
@@ -152,9 +89,9 @@ fn given<T: PartialEq>(number: u32, value: T, zeros: T) -> Option<T> {
 fn head(reply: ffi::CountedReply) -> Option<Head> {
     let head = Head {
         id: reply.head.id.cast_signed(),
-        place: (0, 0),
         count: reply.head.count,
         tags: reply.head.tags,
+        ..Head::default()
     };
     given(reply.number, head, Head::default())
 }
@@ -176,25 +113,6 @@ fn step<T: PartialEq>(number: u32, done: u8, at: (T, usize), zeros: (T, usize)) 
 }
 
 impl RecordPort for Layers {
-    fn append(&self, arena: &mut [u8], used: usize, push: &Push, parts: &[u8]) -> (u32, usize) {
-        let (to, len, meta) = (arena.as_mut_ptr(), arena.len(), meta_in(&push.meta));
-        let (from, n) = (parts.as_ptr(), parts.len());
-        let counts = counted(&Head {
-            id: push.id,
-            place: (0, 0),
-            count: (push.refs.len() + push.members.len()) as u32,
-            tags: push.tags.len() as u32,
-        });
-        let reply = unsafe {
-            match push.kind {
-                Kind::Node => ffi::tvl_append_node(to, len, used, placed(push), meta, from, n),
-                Kind::Way => ffi::tvl_append_way(to, len, used, counts, meta, from, n),
-                Kind::Relation => ffi::tvl_append_relation(to, len, used, counts, meta, from, n),
-            }
-        };
-        (reply.number, reply.value)
-    }
-
     fn head(&self, kind: Kind, bytes: &[u8]) -> Option<Head> {
         let (from, n) = (bytes.as_ptr(), bytes.len());
         match kind {
@@ -203,7 +121,8 @@ impl RecordPort for Layers {
                 let node = reply.head;
                 let head = Head {
                     id: node.id.cast_signed(),
-                    place: (node.lat.cast_signed(), node.lon.cast_signed()),
+                    lat: node.lat.cast_signed(),
+                    lon: node.lon.cast_signed(),
                     count: 0,
                     tags: node.tags,
                 };
@@ -238,6 +157,13 @@ impl RecordPort for Layers {
         step(r.number, r.done, (member, r.next), ((0, 0, 0), 0))
     }
 
+    fn tag_step(&self, bytes: &[u8], offset: usize, remaining: u32) -> Step<Tag> {
+        let r = unsafe { ffi::tvl_tag_step(bytes.as_ptr(), bytes.len(), offset, remaining) };
+        let value = bytes[r.start..r.start + r.len].to_vec();
+        let zeros = ((0, Vec::new()), 0);
+        step(r.number, r.done, ((r.key, value), r.start + r.len), zeros)
+    }
+
     fn tags_at(&self, kind: Kind, head: &Head) -> usize {
         match kind {
             // A node's tags follow its metadata.
@@ -245,49 +171,5 @@ impl RecordPort for Layers {
             Kind::Way => unsafe { ffi::tvl_way_tags_at(counted(head)) },
             Kind::Relation => unsafe { ffi::tvl_relation_tags_at(counted(head)) },
         }
-    }
-}
-
-impl TagPort for Layers {
-    fn tag_step(&self, bytes: &[u8], offset: u64, remaining: u32) -> TagStep {
-        let (from, n) = (bytes.as_ptr(), bytes.len());
-        let step = unsafe { ffi::tvl_tag_step(from, n, offset as usize, remaining) };
-        match (step.number, step.done) {
-            (22, 0) => TagStep::Unsound,
-            (0, 1) => TagStep::None,
-            (0, 0) => TagStep::Tag {
-                key: step.key,
-                value: bytes[step.start..step.start + step.len].to_vec(),
-                offset: (step.start + step.len) as u64,
-                remaining: remaining - 1,
-            },
-            _ => panic!("{step:?}"),
-        }
-    }
-}
-
-fn answer(reply: ffi::Nested) -> Answer {
-    Answer {
-        number: reply.number,
-        what: reply.what,
-        item: reply.item,
-        level: reply.level,
-        section: reply.section,
-        kind: reply.kind,
-    }
-}
-
-impl NestingPort for Layers {
-    fn name_of(&self, name: &[u8]) -> u8 {
-        unsafe { ffi::tvl_name_of(name.as_ptr(), name.len()) }
-    }
-
-    fn open_at(&self, at: Place, empty: u8, name: &[u8]) -> Answer {
-        let (from, n) = (name.as_ptr(), name.len());
-        answer(unsafe { ffi::tvl_open_at(at.level, at.section, at.kind, empty, from, n) })
-    }
-
-    fn close_at(&self, at: Place) -> Answer {
-        answer(unsafe { ffi::tvl_close_at(at.level, at.section, at.kind) })
     }
 }

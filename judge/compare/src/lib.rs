@@ -6,9 +6,19 @@ pub mod overlay;
 
 pub use layers::Layers;
 
+use judge::compare::Compared;
 use judge::compare::ground::Ground;
 
-/// The library's calls.
+/// Prints how many answers were compared, or panics at the difference.
+#[track_caller]
+pub fn same(compared: Compared) {
+    match compared {
+        Ok(answers) => println!("{answers} answers are the same"),
+        Err(difference) => panic!("{difference}"),
+    }
+}
+
+/// The library's calls without state.
 #[derive(Clone, Copy, Debug)]
 pub struct Library;
 

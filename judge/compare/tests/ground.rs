@@ -1,42 +1,22 @@
 //! Key order, version floors, integers, stamps and the text check: the library against the judge.
 
-use compare::Library;
-use judge::compare::Compared;
+use compare::{Library, same};
 use judge::compare::ground::{self, Ground};
 use judge::random::seed_and_rounds;
 
-#[track_caller]
-fn same(comparison: fn(&dyn Ground, u64, u64) -> Compared) {
+#[test]
+fn every_call() {
     let (seed, rounds) = seed_and_rounds();
-    match comparison(&Library, seed, rounds) {
-        Ok(answers) => println!("{answers} answers are the same"),
-        Err(difference) => panic!("{difference}"),
+    let comparisons = [
+        ground::ids,
+        ground::versions,
+        ground::integers,
+        ground::stamps,
+        ground::texts,
+    ];
+    for comparison in comparisons {
+        same(comparison(&Library, seed, rounds));
     }
-}
-
-#[test]
-fn ids() {
-    same(ground::ids);
-}
-
-#[test]
-fn versions() {
-    same(ground::versions);
-}
-
-#[test]
-fn integers() {
-    same(ground::integers);
-}
-
-#[test]
-fn stamps() {
-    same(ground::stamps);
-}
-
-#[test]
-fn texts() {
-    same(ground::texts);
 }
 
 /// Document 01's trial rows on these calls.

@@ -1,6 +1,5 @@
-// Beside the published file: the driver by its private name, the same driver one event at a time, and
-// one event at any place.
-use crate::nesting::{Call, Place};
+// Beside the published file: the driver by its private name, and the same driver one event at a time.
+use crate::nesting::Place;
 
 pub(crate) fn judge_drive<R: io::BufRead>(
     reader: &mut Reader<R>,
@@ -121,12 +120,11 @@ impl JudgeSteps {
     }
 
     pub(crate) fn place(&self) -> Place {
-        let state = DriveState {
-            level: self.level,
-            section: self.section,
-            open: self.open,
-        };
-        state.judge_place()
+        Place {
+            level: judge_number(&JUDGE_LEVELS, &self.level),
+            section: judge_number(&JUDGE_SECTIONS, &self.section),
+            kind: judge_number(&JUDGE_KINDS, &self.open),
+        }
     }
 
     pub(crate) fn staged(&self) -> Option<&JudgeStaged> {
@@ -134,14 +132,14 @@ impl JudgeSteps {
     }
 }
 
-// The values in the published order: a place has their numbers.
+// The values in the order of the library's words for them: a place has their numbers.
 const JUDGE_LEVELS: [Level; 7] = [
     Level::Doc,
     Level::Root,
-    Level::Other,
     Level::Section,
     Level::Element,
     Level::Leaf,
+    Level::Other,
     Level::Done,
 ];
 const JUDGE_SECTIONS: [OscAction; 3] = [OscAction::Create, OscAction::Modify, OscAction::Delete];
@@ -150,76 +148,4 @@ const JUDGE_KINDS: [ElementKind; 3] = [ElementKind::Node, ElementKind::Way, Elem
 fn judge_number<T: PartialEq>(values: &[T], value: &T) -> u8 {
     let at = values.iter().position(|v| v == value);
     at.expect("every value is there") as u8
-}
-
-impl DriveState {
-    fn judge_at(place: Place) -> Self {
-        Self {
-            level: JUDGE_LEVELS[usize::from(place.level)],
-            section: JUDGE_SECTIONS[usize::from(place.section)],
-            open: JUDGE_KINDS[usize::from(place.kind)],
-        }
-    }
-
-    fn judge_place(&self) -> Place {
-        Place {
-            level: judge_number(&JUDGE_LEVELS, &self.level),
-            section: judge_number(&JUDGE_SECTIONS, &self.section),
-            kind: judge_number(&JUDGE_KINDS, &self.open),
-        }
-    }
-}
-
-/// A sink that writes down its calls and refuses none.
-struct JudgeCalls(Vec<Call>);
-
-impl OscSink for JudgeCalls {
-    fn begin_element(
-        &mut self,
-        action: OscAction,
-        kind: ElementKind,
-        _: &quick_xml::events::BytesStart<'_>,
-    ) -> ParseResult<()> {
-        self.0.push(Call::Begin {
-            section: judge_number(&JUDGE_SECTIONS, &action),
-            kind: judge_number(&JUDGE_KINDS, &kind),
-        });
-        Ok(())
-    }
-
-    fn tag(&mut self, _: &quick_xml::events::BytesStart<'_>) -> ParseResult<()> {
-        self.0.push(Call::Tag);
-        Ok(())
-    }
-
-    fn nd(&mut self, _: &quick_xml::events::BytesStart<'_>) -> ParseResult<()> {
-        self.0.push(Call::Nd);
-        Ok(())
-    }
-
-    fn member(&mut self, _: &quick_xml::events::BytesStart<'_>) -> ParseResult<()> {
-        self.0.push(Call::Member);
-        Ok(())
-    }
-
-    fn end_element(&mut self) -> ParseResult<()> {
-        self.0.push(Call::End);
-        Ok(())
-    }
-}
-
-/// One turn of `drive_osc`'s loop at any place: the place after it, and the calls of the sink. A close
-/// has no element.
-pub(crate) fn judge_turn(
-    place: Place,
-    element: Option<(&quick_xml::events::BytesStart<'_>, bool)>,
-) -> ParseResult<(Place, Vec<Call>)> {
-    let path = Path::new("events");
-    let mut state = DriveState::judge_at(place);
-    let mut sink = JudgeCalls(Vec::new());
-    match element {
-        Some((e, empty)) => handle_open(e, empty, &mut state, &mut sink, path)?,
-        None => handle_close(&mut state, &mut sink, path)?,
-    }
-    Ok((state.judge_place(), sink.0))
 }

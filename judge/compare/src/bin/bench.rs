@@ -3,8 +3,8 @@
 
 use compare::overlay::Pointers;
 use compare::{Library, entry, ffi};
+use judge::compare::call::Storage;
 use judge::compare::ground::Ground;
-use judge::compare::storage::Storage;
 use judge::{Meta, Overlay};
 use std::hint::black_box;
 use std::time::Instant;
@@ -50,6 +50,7 @@ fn storage(ids: usize, arena: usize, strings: usize, bytes: usize) -> Storage {
         spans: vec![0; 2 * strings],
         bytes: vec![0; bytes],
         counts: [0; 9],
+        readers: Vec::new(),
     }
 }
 
