@@ -1,5 +1,5 @@
 //! Links the built libraries: the files that TORVASKIN_LIB, TORVASKIN_SORTED, TORVASKIN_OVERLAY,
-//! TORVASKIN_READING, TORVASKIN_READER and TORVASKIN_LAYERS name, else those that `rt staticlib` writes. Each is copied
+//! TORVASKIN_READING and TORVASKIN_READER name, else those that `rt staticlib` writes. Each is copied
 //! first, so that none is looked for in the folder of another.
 
 use std::path::{Path, PathBuf};
@@ -16,7 +16,6 @@ fn main() {
         println!("cargo::rustc-cfg=reader_c");
         link(&out, "TORVASKIN_READER", "reader_c");
     }
-    link(&out, "TORVASKIN_LAYERS", "layers");
 }
 
 /// Links the file that a variable names, else that of a crate.

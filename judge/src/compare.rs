@@ -10,7 +10,6 @@ pub mod lookups;
 pub mod overlay;
 pub mod program;
 pub mod reads;
-pub mod records;
 pub mod rust;
 pub mod words;
 mod words_reader;

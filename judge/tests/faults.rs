@@ -7,10 +7,9 @@ use judge::compare::ground::{self, Ground, Judge, NONE};
 use judge::compare::lookups::{self, JudgeLookups, LookupPort};
 use judge::compare::program::{self, Program, edge_numbers_met, expected};
 use judge::compare::reads::{everything, nothing, the_listing};
-use judge::compare::records::{self, Member, RecordPort, Step, Tag, WordsRecords};
 use judge::compare::words::{Words, rows};
-use judge::compare::{Compared, call::Head, direct, overlay};
-use judge::{KINDS, Kind, Meta, Sizes, run_sized};
+use judge::compare::{Compared, direct, overlay};
+use judge::{KINDS, Sizes, run_sized};
 
 /// What a fault makes of a call: what was lent before it, what is lent after it, and its answer.
 type Fault = fn(&Call, &Storage, &mut Storage, &mut Answer);
@@ -418,54 +417,6 @@ impl LookupPort for Lookups1 {
     }
 }
 
-/// Readers of records, with a fault.
-struct Records1(u8);
-
-impl RecordPort for Records1 {
-    fn head(&self, kind: Kind, bytes: &[u8]) -> Option<Head> {
-        let good = WordsRecords.head(kind, bytes);
-        if self.0 == 1 {
-            Some(good.unwrap_or_default())
-        } else {
-            good
-        }
-    }
-
-    fn meta(&self, bytes: &[u8], at: usize) -> Option<Meta> {
-        let good = WordsRecords.meta(bytes, at);
-        good.map(|m| Meta {
-            uid: if self.0 == 2 { m.version } else { m.uid },
-            ..m
-        })
-    }
-
-    fn ref_step(&self, bytes: &[u8], offset: usize, left: u32) -> Step<i64> {
-        WordsRecords.ref_step(bytes, offset, left.max(u32::from(self.0 == 3)))
-    }
-
-    fn member_step(&self, bytes: &[u8], offset: usize, left: u32) -> Step<Member> {
-        let good = WordsRecords.member_step(bytes, offset, left);
-        if self.0 == 4 && good == Step::Unsound {
-            Step::Done
-        } else {
-            good
-        }
-    }
-
-    fn tag_step(&self, bytes: &[u8], offset: usize, left: u32) -> Step<Tag> {
-        let good = WordsRecords.tag_step(bytes, offset, left);
-        if self.0 == 5 && good == Step::Unsound {
-            Step::Done
-        } else {
-            good
-        }
-    }
-
-    fn tags_at(&self, kind: Kind, head: &Head) -> usize {
-        WordsRecords.tags_at(kind, head) - usize::from(self.0 == 6)
-    }
-}
-
 /// A program that lends other sizes.
 struct Program1(Sizes);
 
@@ -484,9 +435,6 @@ fn every_other_fault_is_found() {
             n == 0,
             "{n}"
         );
-    }
-    for n in 0..=6 {
-        assert_eq!(records::readers(&Records1(n), 1, 1).is_ok(), n == 0, "{n}");
     }
     let good = Sizes::ROADLIST;
     let ids = [513; 3];

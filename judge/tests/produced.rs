@@ -3,7 +3,7 @@
 use std::collections::BTreeMap;
 
 use judge::produce::{Documents, Style, levels};
-use judge::{Change, Outcome, Overlay, Reader, drive, run, split_lines};
+use judge::{Change, Outcome, Overlay, Reader, run, split_lines};
 
 /// The documents of one style, each with whether regression is allowed.
 fn each_document(style: Style, count: usize, mut each: impl FnMut(Vec<u8>, bool)) {
@@ -80,28 +80,6 @@ fn steps_are_the_driver() {
             }
             assert_eq!(driven.state(), overlay.state());
         });
-    }
-}
-
-/// A document read into an overlay that others were read into before.
-#[test]
-fn documents_accumulate() {
-    let mut documents = Documents::new(11, Style::VALID);
-    for _ in 0..300 {
-        documents.forget();
-        let mut overlay = Overlay::new();
-        for _ in 0..5 {
-            let input = documents.document().concat();
-            assert_eq!(drive(&input, &mut overlay), Ok(()));
-        }
-        let state = overlay.state();
-        let known: usize = state
-            .kinds
-            .iter()
-            .map(|k| k.live.len() + k.deleted.len())
-            .sum();
-        let listing = overlay.listing();
-        assert_eq!(listing.iter().filter(|&&b| b == b'\n').count(), known);
     }
 }
 

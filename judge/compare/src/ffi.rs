@@ -66,8 +66,7 @@ pub struct Cursor {
 /// A word from here on is no place.
 pub const NO_PLACE: usize = 1 << 63;
 
-// Signed numbers in records are their bits.
-
+/// Signed numbers in metadata and heads are their bits.
 #[repr(C)]
 #[derive(Clone, Copy, Debug, PartialEq, Eq)]
 pub struct Meta {
@@ -79,81 +78,7 @@ pub struct Meta {
     pub user: u32,
 }
 
-/// The head of a node.
-#[repr(C)]
-#[derive(Clone, Copy, Debug, PartialEq, Eq)]
-pub struct Placed {
-    pub id: u64,
-    pub lat: u32,
-    pub lon: u32,
-    pub tags: u32,
-}
-
-/// The head of a way or of a relation.
-#[repr(C)]
-#[derive(Clone, Copy, Debug, PartialEq, Eq)]
-pub struct Counted {
-    pub id: u64,
-    pub count: u32,
-    pub tags: u32,
-}
-
-/// Number 0 with what was read, or 22 with zeros.
-#[repr(C)]
-#[derive(Clone, Copy, Debug, PartialEq, Eq)]
-pub struct PlacedReply {
-    pub number: u32,
-    pub head: Placed,
-}
-
-#[repr(C)]
-#[derive(Clone, Copy, Debug, PartialEq, Eq)]
-pub struct CountedReply {
-    pub number: u32,
-    pub head: Counted,
-}
-
-#[repr(C)]
-#[derive(Clone, Copy, Debug, PartialEq, Eq)]
-pub struct MetaReply {
-    pub number: u32,
-    pub meta: Meta,
-}
-
-/// Number 0 with a ref and the offset of the next; 0 and done 1 where none is left; or 22.
-#[repr(C)]
-#[derive(Clone, Copy, Debug, PartialEq, Eq)]
-pub struct RefReply {
-    pub number: u32,
-    pub done: u8,
-    pub value: u64,
-    pub next: usize,
-}
-
-/// The same with a member.
-#[repr(C)]
-#[derive(Clone, Copy, Debug, PartialEq, Eq)]
-pub struct MemberReply {
-    pub number: u32,
-    pub done: u8,
-    pub reference: u64,
-    pub kind: u8,
-    pub role: u32,
-    pub next: usize,
-}
-
-/// Number 0 with a tag; 0 and done 1 where none is left; or 22.
-#[repr(C)]
-#[derive(Clone, Copy, Debug, PartialEq, Eq)]
-pub struct Step {
-    pub number: u32,
-    pub done: u8,
-    pub key: u32,
-    pub start: usize,
-    pub len: usize,
-}
-
-// The entries of single layers. A list of ids is the bits of its ids.
+// Lookups in lists. A list of ids is the bits of its ids.
 unsafe extern "C" {
     pub fn tvk_range_overlaps(
         live: *const u64,
@@ -165,20 +90,6 @@ unsafe extern "C" {
     ) -> Count;
     pub fn tvk_upsert_range(ids: *const u64, n: usize, first: i64, last: i64) -> Places;
     pub fn tvk_seek_find(ids: *const u64, n: usize, place: usize, id: i64) -> Cursor;
-    pub fn tvl_node(bytes: *const u8, n: usize) -> PlacedReply;
-    pub fn tvl_way(bytes: *const u8, n: usize) -> CountedReply;
-    pub fn tvl_relation(bytes: *const u8, n: usize) -> CountedReply;
-    pub fn tvl_way_tags_at(head: Counted) -> usize;
-    pub fn tvl_relation_tags_at(head: Counted) -> usize;
-    pub fn tvl_meta(bytes: *const u8, n: usize, at: usize) -> MetaReply;
-    pub fn tvl_ref_step(bytes: *const u8, n: usize, offset: usize, remaining: u32) -> RefReply;
-    pub fn tvl_member_step(
-        bytes: *const u8,
-        n: usize,
-        offset: usize,
-        remaining: u32,
-    ) -> MemberReply;
-    pub fn tvl_tag_step(bytes: *const u8, n: usize, offset: usize, remaining: u32) -> Step;
 }
 
 /// The head of a push.

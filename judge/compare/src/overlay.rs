@@ -1,9 +1,9 @@
 //! The C entries on lent storage behind the judge's trait.
 
+use judge::Meta;
 use judge::compare::call::{Answer, Call, Lines, Port, Storage, UNWRITTEN};
 
 use crate::ffi;
-use crate::layers::meta_in;
 
 /// How many elements stand before and past each lent part.
 const GUARD: usize = 16;
@@ -201,6 +201,17 @@ fn reading(p: &Pointers, call: &Call) -> Answer {
         Call::KnownVersion(kind, id) => number(entry!(tvk_known_version, p, kind, id)),
         Call::Text(handle) => part(entry!(tvk_text, p, handle)),
         ref call => panic!("{call:?}"),
+    }
+}
+
+fn meta_in(meta: &Meta) -> ffi::Meta {
+    ffi::Meta {
+        flags: meta.flags,
+        version: meta.version.cast_unsigned(),
+        timestamp: meta.timestamp.cast_unsigned(),
+        changeset: meta.changeset.cast_unsigned(),
+        uid: meta.uid.cast_unsigned(),
+        user: meta.user,
     }
 }
 

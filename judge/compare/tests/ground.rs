@@ -1,7 +1,9 @@
-//! Key order, version floors, integers, stamps and the text check: the library against the judge.
+//! Key order, version floors, integers, stamps, the text check and lookups in lists: the library against
+//! the judge.
 
-use compare::{Library, same};
+use compare::{Library, ffi, same};
 use judge::compare::ground::{self, Ground};
+use judge::compare::lookups::{self, LookupPort};
 use judge::random::seed_and_rounds;
 
 #[test]
@@ -19,6 +21,26 @@ fn every_call() {
     }
 }
 
+#[test]
+fn lists() {
+    let (seed, rounds) = seed_and_rounds();
+    same(lookups::short_lists(&Library));
+    same(lookups::random_lists(&Library, seed, rounds));
+}
+
+/// A word from 2^63 on is a fresh cursor; it comes back as exactly 2^63.
+#[test]
+fn fresh_words() {
+    let find = |ids: &[u64], word| unsafe { ffi::tvk_seek_find(ids.as_ptr(), ids.len(), word, 5) };
+    for word in [ffi::NO_PLACE, ffi::NO_PLACE + 1, usize::MAX] {
+        let found = find(&[0, 3, 5], word);
+        assert_eq!((found.number, found.found, found.place), (0, 2, 2));
+        let refused = find(&[3, 0], word);
+        let none = (20, ffi::NO_PLACE, ffi::NO_PLACE);
+        assert_eq!((refused.number, refused.found, refused.place), none);
+    }
+}
+
 /// Document 01's trial rows on these calls.
 #[test]
 fn trial_rows() {
@@ -33,4 +55,5 @@ fn trial_rows() {
     assert_eq!(Library.read_i32(b"2147483648"), (8, 0));
     assert_eq!(Library.read_i32(b"+7"), (0, 7));
     assert_eq!(Library.read_i32(b"-0"), (0, 0));
+    assert_eq!(Library.range_overlaps(&[-100], &[], -5, 3), (0, true));
 }
