@@ -7,22 +7,15 @@ use quick_xml::lines::{Line, escape, judge_line};
 
 use crate::nesting::Place;
 use crate::osc::CompactDiffOverlay;
-use crate::osc::direct;
 use crate::osc::xml_parse::{JudgeStaged, JudgeSteps, judge_drive};
 use crate::osm_id::osm_id_cmp;
 
 pub use crate::kinds::ElementKind as Kind;
-pub use crate::osc::direct::{Lookups, Meta, Record, Sorted};
+pub use crate::osc::direct::{Lookups, Meta, Overlay, Record};
 pub use crate::refusal::Refusal;
 
 /// The kinds in the listing's order.
 pub const KINDS: [Kind; 3] = [Kind::Node, Kind::Way, Kind::Relation];
-
-/// The published overlay.
-#[derive(Clone)]
-pub struct Overlay {
-    inner: CompactDiffOverlay,
-}
 
 /// The overlay's whole state; ids in OSM order.
 #[derive(Clone, Debug, PartialEq, Eq)]
@@ -59,45 +52,6 @@ impl Overlay {
 
     pub fn allow_version_regression(&mut self, allow: bool) {
         self.inner.allow_version_regression(allow);
-    }
-
-    pub fn intern(&mut self, text: &str) -> u32 {
-        direct::intern(&mut self.inner, text).expect("fewer than 2^32 string bytes")
-    }
-
-    pub fn push_node(
-        &mut self,
-        id: i64,
-        place: (i32, i32),
-        tags: &[(u32, &str)],
-        meta: &Meta,
-    ) -> Result<(), Refusal> {
-        direct::push_node(&mut self.inner, id, place, tags, meta).map_err(|e| Refusal::of(&e))
-    }
-
-    pub fn push_way(
-        &mut self,
-        id: i64,
-        refs: &[i64],
-        tags: &[(u32, &str)],
-        meta: &Meta,
-    ) -> Result<(), Refusal> {
-        direct::push_way(&mut self.inner, id, refs, tags, meta).map_err(|e| Refusal::of(&e))
-    }
-
-    /// A member is ref, type, role handle.
-    pub fn push_relation(
-        &mut self,
-        id: i64,
-        members: &[(i64, u8, u32)],
-        tags: &[(u32, &str)],
-        meta: &Meta,
-    ) -> Result<(), Refusal> {
-        direct::push_relation(&mut self.inner, id, members, tags, meta).map_err(|e| Refusal::of(&e))
-    }
-
-    pub fn delete(&mut self, kind: Kind, id: i64, meta: &Meta) -> Result<(), Refusal> {
-        direct::delete(&mut self.inner, kind, id, meta).map_err(|e| Refusal::of(&e))
     }
 
     pub fn known_version(&self, kind: Kind, id: i64) -> Option<i32> {
@@ -137,23 +91,6 @@ impl Overlay {
         self.inner.deleted_ids(kind).len()
     }
 
-    pub fn record(&self, kind: Kind, id: i64) -> Option<Record> {
-        direct::record(&self.inner, kind, id)
-    }
-
-    pub fn sorted(&self, kind: Kind) -> Sorted {
-        direct::sorted(&self.inner, kind)
-    }
-
-    pub fn sorted_record(&self, kind: Kind, n: usize) -> Record {
-        direct::sorted_record(&self.inner, kind, n)
-    }
-
-    /// Live ids, deleted ids.
-    pub fn sorted_ids(&self, kind: Kind) -> (Vec<i64>, Vec<i64>) {
-        direct::sorted_ids(&self.inner, kind)
-    }
-
     pub fn state(&self) -> State {
         let (spans, string_bytes) = self.inner.judge_spans();
         State {
@@ -182,10 +119,9 @@ impl Overlay {
     pub fn listing(&self) -> Vec<u8> {
         let mut out = String::new();
         for kind in KINDS {
-            let sorted = self.sorted(kind);
-            let live = sorted.live.iter().copied();
-            let live = live.zip(sorted.records.iter().map(Some));
-            let deleted = sorted.deleted.iter().map(|&id| (id, None));
+            let ((live, deleted), records) = (self.sorted_ids(kind), self.sorted_records(kind));
+            let live = live.into_iter().zip(records.iter().map(Some));
+            let deleted = deleted.into_iter().map(|id| (id, None));
             let mut lines: Vec<(i64, Option<&Record>)> = live.chain(deleted).collect();
             lines.sort_by(|a, b| osm_id_cmp(a.0, b.0));
             for (id, record) in lines {
@@ -542,30 +478,5 @@ impl Seek {
     /// The place that the next call begins at; none before the first.
     pub fn place(&self) -> Option<usize> {
         self.0.judge_place()
-    }
-}
-
-impl State {
-    /// The state as text, one fact a line.
-    pub fn dump(&self) -> String {
-        use std::fmt::Write;
-        let mut out = String::new();
-        for (k, letter) in self.kinds.iter().zip(["n", "w", "r"]) {
-            let hex: String = k.arena.iter().map(|b| format!("{b:02x}")).collect();
-            let _ = writeln!(out, "{letter}\tarena\t{hex}");
-            for (id, at) in &k.live {
-                let _ = writeln!(out, "{letter}\tlive\t{id}\t{at}");
-            }
-            for id in &k.deleted {
-                let _ = writeln!(out, "{letter}\tdeleted\t{id}");
-            }
-            for (id, floor) in &k.floors {
-                let _ = writeln!(out, "{letter}\tfloor\t{id}\t{floor}");
-            }
-        }
-        for (handle, text) in self.texts.iter().enumerate() {
-            let _ = writeln!(out, "text\t{handle}\t{}", escape(text));
-        }
-        out
     }
 }

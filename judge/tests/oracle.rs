@@ -14,12 +14,10 @@ fn lines(text: &str) -> Vec<u8> {
 }
 
 /// Inputs and what the Rust prints for them, regression refused.
+#[rustfmt::skip]
 const ANSWERS: [(&str, &str); 74] = [
     // Input A.
-    (
-        "open|osmChange/open|modify/open|node|id=7|version=3|lat7=10|lon7=-20/empty|tag|k=name|v=A/close/close/open|delete/empty|way|id=-4|version=2/close/close",
-        "n|7|+|3|9|3|0|0|0||10|-20|1|name|A/w|-4|-|2",
-    ),
+    ("open|osmChange/open|modify/open|node|id=7|version=3|lat7=10|lon7=-20/empty|tag|k=name|v=A/close/close/open|delete/empty|way|id=-4|version=2/close/close", "n|7|+|3|9|3|0|0|0||10|-20|1|name|A/w|-4|-|2"),
     // "Doc: only `osmChange`; an empty one ends in Done."
     ("empty|osmChange", ""),
     ("open|osmChange/close", ""),
@@ -30,10 +28,7 @@ const ANSWERS: [(&str, &str); 74] = [
     ("close", "refused|18|2|-"),
     // "Root: .. an object there is refused 6; .. other names open Other, or pass if empty."
     ("open|osmChange/empty|create/close", ""),
-    (
-        "open|osmChange/empty|create/empty|way|id=1",
-        "refused|6|3|-",
-    ),
+    ("open|osmChange/empty|create/empty|way|id=1", "refused|6|3|-"),
     ("open|osmChange/empty|node", "refused|6|2|-"),
     ("open|osmChange/open|osmChange", "refused|5|2|-"),
     ("open|osmChange/empty|tag/open|bounds/close/close", ""),
@@ -43,128 +38,47 @@ const ANSWERS: [(&str, &str); 74] = [
     ("delete: open|tag|k=a|v=b", "refused|5|3|-"),
     ("modify: empty|delete", "refused|5|3|-"),
     // "Element: `tag` anywhere, `nd` in a way, `member` in a relation, `bbox` and `bounds` in those two."
-    (
-        "create: open|node|id=1|lat7=0|lon7=0/empty|bbox/close",
-        "refused|5|4|-",
-    ),
-    (
-        "create: open|way|id=1/open|bounds/close/close",
-        "w|1|+|?|0|0|0|0|0||0|0",
-    ),
-    (
-        "create: open|relation|id=1/empty|nd|ref=1/close",
-        "refused|5|4|-",
-    ),
-    (
-        "create: open|way|id=1/empty|member|type=node|ref=1/close",
-        "refused|5|4|-",
-    ),
-    (
-        "create: open|way|id=1/open|nd|ref=3/close/close",
-        "w|1|+|?|0|0|0|0|0||1|3|0",
-    ),
-    (
-        "create: open|way|id=1/open|nd|ref=3/empty|tag|k=a|v=b",
-        "refused|5|5|-",
-    ),
-    (
-        "create: open|way|id=1/empty|tag|k=a|v=b/empty|nd|ref=3/close",
-        "w|1|+|?|0|0|0|0|0||1|3|1|a|b",
-    ),
+    ("create: open|node|id=1|lat7=0|lon7=0/empty|bbox/close", "refused|5|4|-"),
+    ("create: open|way|id=1/open|bounds/close/close", "w|1|+|?|0|0|0|0|0||0|0"),
+    ("create: open|relation|id=1/empty|nd|ref=1/close", "refused|5|4|-"),
+    ("create: open|way|id=1/empty|member|type=node|ref=1/close", "refused|5|4|-"),
+    ("create: open|way|id=1/open|nd|ref=3/close/close", "w|1|+|?|0|0|0|0|0||1|3|0"),
+    ("create: open|way|id=1/open|nd|ref=3/empty|tag|k=a|v=b", "refused|5|5|-"),
+    ("create: open|way|id=1/empty|tag|k=a|v=b/empty|nd|ref=3/close", "w|1|+|?|0|0|0|0|0||1|3|1|a|b"),
     // "In a delete section .. children are checked and dropped."
     ("delete: open|way|id=1/empty|tag|k=a|v=b/close", "w|1|-|?"),
     ("delete: open|way|id=1/empty|nd|ref=x", "refused|8|4|-"),
     ("delete: open|node|id=1/empty|tag|k=a", "refused|7|4|-"),
     ("delete: empty|node|id=1|lat7=x", "n|1|-|?"),
     // "Fields: id; then metadata in line order; then a pushed node's lat7; then lon7."
-    (
-        "create: empty|node|version=x|lat7=0|lon7=0",
-        "refused|7|3|-",
-    ),
+    ("create: empty|node|version=x|lat7=0|lon7=0", "refused|7|3|-"),
     ("create: empty|node|timestamp=x|id=x", "refused|8|3|-"),
-    (
-        "create: empty|node|id=1|timestamp=x|version=x",
-        "refused|9|3|-",
-    ),
-    (
-        "create: empty|node|id=1|version=x|timestamp=x",
-        "refused|8|3|-",
-    ),
-    (
-        "create: empty|node|uid=2147483648|id=1|lat7=0|lon7=0",
-        "refused|8|3|-",
-    ),
+    ("create: empty|node|id=1|timestamp=x|version=x", "refused|9|3|-"),
+    ("create: empty|node|id=1|version=x|timestamp=x", "refused|8|3|-"),
+    ("create: empty|node|uid=2147483648|id=1|lat7=0|lon7=0", "refused|8|3|-"),
     ("create: empty|node|id=1|version=1", "refused|7|3|-"),
-    (
-        "create: empty|node|id=1|lon7=x|lat7=900000001",
-        "refused|10|3|-",
-    ),
-    (
-        "create: empty|node|id=1|lat7=0|lon7=1800000001",
-        "refused|10|3|-",
-    ),
+    ("create: empty|node|id=1|lon7=x|lat7=900000001", "refused|10|3|-"),
+    ("create: empty|node|id=1|lat7=0|lon7=1800000001", "refused|10|3|-"),
     ("create: empty|node|id=1|lat7=1e3|lon7=0", "refused|8|3|-"),
     ("create: empty|node|id=1|lat=1|lon=1", "refused|7|3|-"),
-    (
-        "create: empty|node|id=1|lat=x|lat7=-900000000|lon7=+001800000000",
-        "n|1|+|?|0|0|0|0|0||-900000000|1800000000|0",
-    ),
-    (
-        "create: open|relation|id=1/empty|member|ref=1",
-        "refused|7|4|-",
-    ),
-    (
-        "create: open|relation|id=1/empty|member|type=area|ref=x",
-        "refused|11|4|-",
-    ),
-    (
-        "create: open|relation|id=1/empty|member|type=way|ref=2/close",
-        "r|1|+|?|0|0|0|0|0||1|1|2||0",
-    ),
+    ("create: empty|node|id=1|lat=x|lat7=-900000000|lon7=+001800000000", "n|1|+|?|0|0|0|0|0||-900000000|1800000000|0"),
+    ("create: open|relation|id=1/empty|member|ref=1", "refused|7|4|-"),
+    ("create: open|relation|id=1/empty|member|type=area|ref=x", "refused|11|4|-"),
+    ("create: open|relation|id=1/empty|member|type=way|ref=2/close", "r|1|+|?|0|0|0|0|0||1|1|2||0"),
     // "Any of the six attributes sets flag 1; only `visible=false` exactly sets 2."
     ("create: empty|way|id=1|x=y", "w|1|+|?|0|0|0|0|0||0|0"),
-    (
-        "create: empty|way|id=1|visible=False",
-        "w|1|+|?|1|0|0|0|0||0|0",
-    ),
-    (
-        "create: empty|way|id=1|visible=false",
-        "w|1|+|?|3|0|0|0|0||0|0",
-    ),
+    ("create: empty|way|id=1|visible=False", "w|1|+|?|1|0|0|0|0||0|0"),
+    ("create: empty|way|id=1|visible=false", "w|1|+|?|3|0|0|0|0||0|0"),
     ("create: empty|way|id=1|user=", "w|1|+|?|5|0|0|0|0||0|0"),
-    (
-        "create: empty|way|id=1|user=a\\tb\\\\",
-        "w|1|+|?|5|0|0|0|0|a\\tb\\\\|0|0",
-    ),
-    (
-        "create: empty|way|id=1|version=-3",
-        "w|1|+|-3|9|-3|0|0|0||0|0",
-    ),
-    (
-        "create: empty|way|id=1|uid=-7|timestamp=1970-01-01T00:00:01Z",
-        "w|1|+|?|1|0|1|0|-7||0|0",
-    ),
+    ("create: empty|way|id=1|user=a\\tb\\\\", "w|1|+|?|5|0|0|0|0|a\\tb\\\\|0|0"),
+    ("create: empty|way|id=1|version=-3", "w|1|+|-3|9|-3|0|0|0||0|0"),
+    ("create: empty|way|id=1|uid=-7|timestamp=1970-01-01T00:00:01Z", "w|1|+|?|1|0|1|0|-7||0|0"),
     // "A push with a version is checked against it"; kinds are apart; order of ids.
-    (
-        "create: empty|way|id=5|version=4/empty|way|id=5|version=3",
-        "refused|12|4|4",
-    ),
-    (
-        "create: empty|way|id=5|version=4/open|way|id=5|version=3/empty|nd|ref=1/close",
-        "refused|12|6|4",
-    ),
-    (
-        "create: empty|way|id=5|version=4/empty|way|id=5/empty|way|id=5|version=3",
-        "refused|12|5|4",
-    ),
-    (
-        "create: empty|way|id=5|version=4/empty|relation|id=5|version=1",
-        "w|5|+|4|9|4|0|0|0||0|0/r|5|+|1|9|1|0|0|0||0|0",
-    ),
-    (
-        "delete: empty|way|id=2/empty|way|id=-2/empty|way|id=-1/empty|way|id=0",
-        "w|0|-|?/w|-1|-|?/w|-2|-|?/w|2|-|?",
-    ),
+    ("create: empty|way|id=5|version=4/empty|way|id=5|version=3", "refused|12|4|4"),
+    ("create: empty|way|id=5|version=4/open|way|id=5|version=3/empty|nd|ref=1/close", "refused|12|6|4"),
+    ("create: empty|way|id=5|version=4/empty|way|id=5/empty|way|id=5|version=3", "refused|12|5|4"),
+    ("create: empty|way|id=5|version=4/empty|relation|id=5|version=1", "w|5|+|4|9|4|0|0|0||0|0/r|5|+|1|9|1|0|0|0||0|0"),
+    ("delete: empty|way|id=2/empty|way|id=-2/empty|way|id=-1/empty|way|id=0", "w|0|-|?/w|-1|-|?/w|-2|-|?/w|2|-|?"),
     // "4 not an event line, or an attribute twice", before 5.
     ("open", "refused|4|1|-"),
     ("open|", "refused|4|1|-"),

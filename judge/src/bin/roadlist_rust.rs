@@ -26,7 +26,7 @@ fn main() -> std::io::Result<()> {
     let mut out = std::io::stdout().lock();
     out.write_all(&outcome.print())?;
     if state {
-        out.write_all(overlay.state().dump().as_bytes())?;
+        writeln!(out, "{:x?}", overlay.state())?;
     }
     Ok(())
 }
