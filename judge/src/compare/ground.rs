@@ -84,6 +84,17 @@ impl Ground for Judge {
     }
 }
 
+/// One call on both sides.
+macro_rules! compare {
+    ($tally:expr, $port:expr, $call:ident($($arg:expr),*)) => {
+        $tally.same(
+            || format!(concat!(stringify!($call), " {:?}"), ($($arg,)*)),
+            Judge.$call($($arg),*),
+            $port.$call($($arg),*),
+        )
+    };
+}
+
 /// Ids around 0, the powers of two and the ends of the width.
 pub fn edge_ids() -> Vec<i64> {
     let mut ids: Vec<i64> = (-40..=40).collect();
@@ -121,46 +132,15 @@ pub fn ids(port: &dyn Ground, seed: u64, rounds: u64) -> Compared {
 }
 
 fn one_id(tally: &mut Tally, port: &dyn Ground, id: i64) -> Result<(), String> {
-    tally.same(
-        || format!("osm_id_key {id}"),
-        Judge.osm_id_key(id),
-        port.osm_id_key(id),
-    )?;
-    tally.same(
-        || format!("osm_id_rank {id}"),
-        Judge.osm_id_rank(id),
-        port.osm_id_rank(id),
-    )
+    compare!(tally, port, osm_id_key(id))?;
+    compare!(tally, port, osm_id_rank(id))
 }
 
+/// Both ways round: the ends of a range may come the wrong way round.
 fn two_ids(tally: &mut Tally, port: &dyn Ground, a: i64, b: i64) -> Result<(), String> {
-    let order = Judge.osm_id_cmp(a, b);
-    tally.same(
-        || format!("osm_id_cmp {a} {b}"),
-        order,
-        port.osm_id_cmp(a, b),
-    )?;
-    let by_rank = match port.osm_id_rank(a).cmp(&port.osm_id_rank(b)) {
-        std::cmp::Ordering::Less => 0,
-        std::cmp::Ordering::Equal => 1,
-        std::cmp::Ordering::Greater => 2,
-    };
-    tally.same(
-        || format!("the order of the ranks of {a} {b}"),
-        order,
-        by_rank,
-    )?;
-    // Both ways round: the ends of a range may come the wrong way round.
-    tally.same(
-        || format!("blob_osm_first_key {a} {b}"),
-        Judge.blob_osm_first_key(a, b),
-        port.blob_osm_first_key(a, b),
-    )?;
-    tally.same(
-        || format!("blob_osm_last_key {a} {b}"),
-        Judge.blob_osm_last_key(a, b),
-        port.blob_osm_last_key(a, b),
-    )
+    compare!(tally, port, osm_id_cmp(a, b))?;
+    compare!(tally, port, blob_osm_first_key(a, b))?;
+    compare!(tally, port, blob_osm_last_key(a, b))
 }
 
 /// Version words: edges of the width, and several words for none.
@@ -200,38 +180,20 @@ pub fn versions(port: &dyn Ground, seed: u64, rounds: u64) -> Compared {
     tally.done()
 }
 
+/// A floor that is none and stays none comes back as exactly 2^32.
 fn two_versions(
     tally: &mut Tally,
     port: &dyn Ground,
     floor: u64,
     claim: u64,
 ) -> Result<(), String> {
-    let what = |call: &str| format!("{call} {:?} {:?}", version(floor), version(claim));
-    tally.same(
-        || what("version_admit"),
-        Judge.version_admit(floor, claim),
-        port.version_admit(floor, claim),
-    )?;
-    // A floor that is none and stays none comes back as exactly 2^32.
-    tally.same(
-        || what("version_raise"),
-        Judge.version_raise(floor, claim),
-        port.version_raise(floor, claim),
-    )
+    compare!(tally, port, version_admit(floor, claim))?;
+    compare!(tally, port, version_raise(floor, claim))
 }
 
 fn one_integer(tally: &mut Tally, port: &dyn Ground, s: &[u8]) -> Result<(), String> {
-    let text = || String::from_utf8_lossy(s).into_owned();
-    tally.same(
-        || format!("read_i64 {:?}", text()),
-        Judge.read_i64(s),
-        port.read_i64(s),
-    )?;
-    tally.same(
-        || format!("read_i32 {:?}", text()),
-        Judge.read_i32(s),
-        port.read_i32(s),
-    )
+    compare!(tally, port, read_i64(s))?;
+    compare!(tally, port, read_i32(s))
 }
 
 /// All strings over `symbols` up to a length, the empty one too.
@@ -358,11 +320,7 @@ pub fn random_integer(random: &mut Random) -> Vec<u8> {
 }
 
 fn one_stamp(tally: &mut Tally, port: &dyn Ground, s: &[u8]) -> Result<(), String> {
-    tally.same(
-        || format!("parse_rfc3339_utc {:?}", String::from_utf8_lossy(s)),
-        Judge.stamp(s),
-        port.stamp(s),
-    )
+    compare!(tally, port, stamp(s))
 }
 
 /// Two-character fields, of digits and with signs.
@@ -495,11 +453,7 @@ pub fn random_stamp(random: &mut Random) -> Vec<u8> {
 }
 
 fn one_text(tally: &mut Tally, port: &dyn Ground, s: &[u8]) -> Result<(), String> {
-    tally.same(
-        || format!("is_text {s:02x?}"),
-        Judge.is_text(s),
-        port.is_text(s),
-    )
+    compare!(tally, port, is_text(s))
 }
 
 /// Published vectors: the Unicode standard's table 3-7 by its corners, table 3-8 to 3-11's examples

@@ -113,16 +113,11 @@ fn one_range(
     a: i64,
     b: i64,
 ) -> Result<(), String> {
-    tally.same(
-        || format!("range_overlaps {live:?} {deleted:?} {a} {b}"),
-        JudgeLookups.range_overlaps(live, deleted, a, b),
-        port.range_overlaps(live, deleted, a, b),
-    )?;
-    tally.same(
-        || format!("upsert_range {live:?} {a} {b}"),
-        JudgeLookups.upsert_range(live, a, b),
-        port.upsert_range(live, a, b),
-    )
+    let what = || format!("{live:?} {deleted:?} {a} {b}");
+    let judge = JudgeLookups.range_overlaps(live, deleted, a, b);
+    tally.same(what, judge, port.range_overlaps(live, deleted, a, b))?;
+    let judge = JudgeLookups.upsert_range(live, a, b);
+    tally.same(what, judge, port.upsert_range(live, a, b))
 }
 
 fn one_seek(
