@@ -4,6 +4,7 @@ use std::io::{Read, Write};
 use std::path::PathBuf;
 use std::process::{Command, Stdio};
 
+use compare::same;
 use judge::compare::program::{self, Program};
 use judge::random::seed_and_rounds;
 
@@ -47,17 +48,15 @@ impl Program for Roadlist {
 
 #[test]
 fn limits() {
-    match program::limits(&Roadlist::built()) {
-        Ok(inputs) => println!("{inputs} inputs give the same"),
-        Err(difference) => panic!("{difference}"),
-    }
+    same(program::limits(&Roadlist::built()));
 }
 
 #[test]
 fn documents() {
     let (seed, rounds) = seed_and_rounds();
-    match program::documents(&Roadlist::built(), seed, rounds) {
-        Ok(inputs) => println!("{inputs} inputs give the same"),
-        Err(difference) => panic!("{difference}"),
+    let compared = program::documents(&Roadlist::built(), seed, rounds);
+    if let Ok(inputs) = compared {
+        println!("{inputs} documents");
     }
+    same(compared);
 }
