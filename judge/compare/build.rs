@@ -29,11 +29,7 @@ fn link(out: &Path, variable: &str, built: &str) {
         PathBuf::from,
     );
     println!("cargo::rerun-if-changed={}", lib.display());
-    std::fs::copy(&lib, out.join(format!("lib{built}.a"))).unwrap_or_else(|e| {
-        panic!(
-            "no library at {}: {e}; `rt staticlib {built}` builds it",
-            lib.display()
-        )
-    });
+    std::fs::copy(&lib, out.join(format!("lib{built}.a")))
+        .unwrap_or_else(|e| panic!("no library at {}: {e}; `rt staticlib {built}` builds it", lib.display()));
     println!("cargo::rustc-link-lib=static={built}");
 }

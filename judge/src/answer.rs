@@ -45,9 +45,7 @@ impl Default for Overlay {
 
 impl Overlay {
     pub fn new() -> Self {
-        Self {
-            inner: CompactDiffOverlay::new(),
-        }
+        Self { inner: CompactDiffOverlay::new() }
     }
 
     pub fn allow_version_regression(&mut self, allow: bool) {
@@ -133,24 +131,14 @@ impl Overlay {
 }
 
 /// One line of the listing.
-pub(crate) fn list_one(
-    out: &mut String,
-    kind: Kind,
-    id: i64,
-    known: Option<i32>,
-    record: Option<&Record>,
-) {
+pub(crate) fn list_one(out: &mut String, kind: Kind, id: i64, known: Option<i32>, record: Option<&Record>) {
     let known = known.map_or_else(|| "?".to_owned(), |v| v.to_string());
     let sign = if record.is_some() { "+" } else { "-" };
     let letter = ["n", "w", "r"][kind as usize];
     let mut fields = vec![letter.to_owned(), id.to_string(), sign.to_owned(), known];
     if let Some(r) = record {
         assert_eq!(r.id, id);
-        fields.extend([
-            r.flags.to_string(),
-            r.version.to_string(),
-            r.timestamp.to_string(),
-        ]);
+        fields.extend([r.flags.to_string(), r.version.to_string(), r.timestamp.to_string()]);
         fields.extend([r.changeset.to_string(), r.uid.to_string(), escape(&r.user)]);
         match kind {
             Kind::Node => {
@@ -193,11 +181,7 @@ pub struct Stop {
 
 impl Stop {
     fn at(refusal: Refusal, line: u64) -> Self {
-        Self {
-            number: refusal.number,
-            line,
-            held: refusal.held,
-        }
+        Self { number: refusal.number, line, held: refusal.held }
     }
 }
 
@@ -215,13 +199,8 @@ pub struct Sizes {
 
 impl Sizes {
     /// What `roadlist` lends.
-    pub const ROADLIST: Self = Self {
-        ids: [512; 3],
-        arenas: [8_192; 3],
-        strings: 512,
-        string_bytes: 8_192,
-        output: 65_536,
-    };
+    pub const ROADLIST: Self =
+        Self { ids: [512; 3], arenas: [8_192; 3], strings: 512, string_bytes: 8_192, output: 65_536 };
 
     /// The first of 13, 14 and 15 that the overlay's state would not fit.
     pub(crate) fn exceeded(&self, state: &State) -> Option<u32> {
@@ -270,11 +249,7 @@ impl Default for Reader {
 
 impl Reader {
     pub fn new() -> Self {
-        Self {
-            steps: JudgeSteps::new(),
-            lines: 0,
-            stop: None,
-        }
+        Self { steps: JudgeSteps::new(), lines: 0, stop: None }
     }
 
     /// One line without its line feed; `ended` says whether it had one.
@@ -313,25 +288,13 @@ impl Reader {
         let event = match judge_line(line, ended).map_err(Refusal::plain)? {
             Line::Close => Event::End(BytesEnd),
             Line::Other => Event::Text(BytesText),
-            Line::Open {
-                empty,
-                content,
-                name_len,
-            } => {
+            Line::Open { empty, content, name_len } => {
                 let start = BytesStart::from_content(content, name_len);
-                if empty {
-                    Event::Empty(start)
-                } else {
-                    Event::Start(start)
-                }
+                if empty { Event::Empty(start) } else { Event::Start(start) }
             }
         };
-        let before = (change == Change::None || sizes.is_some())
-            .then(|| (overlay.clone(), self.steps.clone()));
-        let mut reply = self
-            .steps
-            .step(&mut overlay.inner, &event)
-            .map_err(|e| Refusal::of(&e));
+        let before = (change == Change::None || sizes.is_some()).then(|| (overlay.clone(), self.steps.clone()));
+        let mut reply = self.steps.step(&mut overlay.inner, &event).map_err(|e| Refusal::of(&e));
         if let (Ok(()), Some(sizes)) = (reply, sizes) {
             let full = sizes.exceeded(&overlay.state()).or(self.element_over());
             reply = full.map_or(Ok(()), |number| Err(Refusal::plain(number)));

@@ -32,14 +32,7 @@ impl Tally {
         port: T,
     ) -> Result<(), String> {
         self.0 += 1;
-        if judge == port {
-            Ok(())
-        } else {
-            Err(format!(
-                "{}: the judge {judge:?}, the port {port:?}",
-                what()
-            ))
-        }
+        if judge == port { Ok(()) } else { Err(format!("{}: the judge {judge:?}, the port {port:?}", what())) }
     }
 
     pub(crate) fn done(self) -> Compared {

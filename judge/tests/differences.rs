@@ -6,14 +6,7 @@ use judge::compare::call::{Call, Push};
 use judge::compare::rust::Rust;
 use judge::{Kind, Meta, Outcome, Overlay, Sizes, run, run_sized};
 
-const NONE: Meta = Meta {
-    flags: 0,
-    version: 0,
-    timestamp: 0,
-    changeset: 0,
-    uid: 0,
-    user: 0,
-};
+const NONE: Meta = Meta { flags: 0, version: 0, timestamp: 0, changeset: 0, uid: 0, user: 0 };
 
 fn push(kind: Kind) -> Push {
     Push::plain(kind, 1, NONE)
@@ -57,9 +50,7 @@ fn d2_view_to_the_arenas_end() {
 fn d3_utf8_that_is_no_xml() {
     let mut overlay = Overlay::new();
     assert_eq!(overlay.intern("\u{1}"), 1);
-    overlay
-        .push_node(1, (0, 0), &[(0, "\u{ffff}")], &NONE)
-        .expect("taken by the Rust");
+    overlay.push_node(1, (0, 0), &[(0, "\u{ffff}")], &NONE).expect("taken by the Rust");
     assert_eq!(by_words(&Call::Intern(b"\x01".to_vec())), 3);
     let mut tagged = push(Kind::Node);
     tagged.tags.push((0, "\u{ffff}".into()));
@@ -69,9 +60,7 @@ fn d3_utf8_that_is_no_xml() {
 #[test]
 fn d4_coordinates_of_a_direct_push() {
     let mut overlay = Overlay::new();
-    overlay
-        .push_node(1, (900_000_001, i32::MIN), &[], &NONE)
-        .expect("taken by the Rust");
+    overlay.push_node(1, (900_000_001, i32::MIN), &[], &NONE).expect("taken by the Rust");
     let mut far = push(Kind::Node);
     far.place = (900_000_001, 0);
     assert_eq!(by_words(&far.call()), 10);
@@ -80,15 +69,9 @@ fn d4_coordinates_of_a_direct_push() {
 #[test]
 fn d5_flags_handles_and_types_of_a_direct_call() {
     // The version flag without the present flag: the Rust takes it, claims it, and shows no metadata.
-    let meta = Meta {
-        flags: 8,
-        version: 3,
-        ..NONE
-    };
+    let meta = Meta { flags: 8, version: 3, ..NONE };
     let mut overlay = Overlay::new();
-    overlay
-        .push_way(1, &[], &[], &meta)
-        .expect("taken by the Rust");
+    overlay.push_way(1, &[], &[], &meta).expect("taken by the Rust");
     assert_eq!(overlay.known_version(Kind::Way, 1), Some(3));
     let record = overlay.record(Kind::Way, 1).expect("live");
     assert_eq!((record.flags, record.version), (8, 0));
@@ -103,9 +86,7 @@ fn d5_flags_handles_and_types_of_a_direct_call() {
     keyed.tags.push((1, b"v".to_vec()));
     assert_eq!(by_words(&keyed.call()), 17);
     let mut overlay = Overlay::new();
-    overlay
-        .push_relation(1, &[(1, 3, 0)], &[], &NONE)
-        .expect("taken");
+    overlay.push_relation(1, &[(1, 3, 0)], &[], &NONE).expect("taken");
     assert!(catch_unwind(AssertUnwindSafe(|| overlay.record(Kind::Relation, 1))).is_err());
     let mut typed = push(Kind::Relation);
     typed.members.push((1, 3, 0));

@@ -33,16 +33,12 @@ const COMPARISONS: [Comparison; 15] = [
     ("set-ups", |port| direct::set_ups(port, nothing)),
     ("sequences", |port| direct::sequences(port, 2, everything)),
     ("calls", |port| direct::calls(port, 1, 1, everything)),
-    ("long lists", |port| {
-        direct::long_lists(port, 1, 1, the_listing)
-    }),
+    ("long lists", |port| direct::long_lists(port, 1, 1, the_listing)),
     ("orders", direct::orders),
     ("parts", direct::parts_not_as_counted),
     ("nesting", |port| overlay::nesting(port, 2)),
     ("names", |port| overlay::names(port, 1, 1)),
-    ("documents", |port| {
-        overlay::documents(port, 1, 1).map(|n| n.1)
-    }),
+    ("documents", |port| overlay::documents(port, 1, 1).map(|n| n.1)),
     ("readers", |port| overlay::readers(port, 1, 1)),
     ("bytes", |port| damaged::bytes(port, Values::One, true)),
     ("words", |port| damaged::whole_words(port, true)),
@@ -104,21 +100,9 @@ const FAULTS: [(&str, Fault, &[usize]); 24] = [
         },
         &[1, 2, 3, 6, 8, 9],
     ),
-    (
-        "cries full",
-        |_, _, _, answer| swapped(answer, 0, 15),
-        &[1, 2, 3, 6, 8, 9],
-    ),
-    (
-        "swaps 14 and 15",
-        |_, _, _, answer| swapped(answer, 14, 15),
-        &[1, 2, 3, 4, 8, 9],
-    ),
-    (
-        "swaps 5 and 6",
-        |_, _, _, answer| swapped(answer, 6, 5),
-        &[6, 7, 8, 9],
-    ),
+    ("cries full", |_, _, _, answer| swapped(answer, 0, 15), &[1, 2, 3, 6, 8, 9]),
+    ("swaps 14 and 15", |_, _, _, answer| swapped(answer, 14, 15), &[1, 2, 3, 4, 8, 9]),
+    ("swaps 5 and 6", |_, _, _, answer| swapped(answer, 6, 5), &[6, 7, 8, 9]),
     (
         "forgets the version held",
         |_, _, _, answer| {
@@ -191,9 +175,7 @@ const FAULTS: [(&str, Fault, &[usize]); 24] = [
         |call, _, lent, answer| {
             if matches!(call, Call::Push(..)) && answer.number() == 0 {
                 let (rows, _) = lent.tables[1].as_chunks_mut::<3>();
-                rows[..lent.counts[1] as usize]
-                    .iter_mut()
-                    .for_each(|row| row[2] = NO_FLOOR);
+                rows[..lent.counts[1] as usize].iter_mut().for_each(|row| row[2] = NO_FLOOR);
             }
         },
         &[1, 2, 3],
@@ -234,10 +216,7 @@ const FAULTS: [(&str, Fault, &[usize]); 24] = [
     (
         "a listing written on 19",
         |_, _, _, answer| {
-            if let Answer::Listing {
-                number: 19, output, ..
-            } = answer
-            {
+            if let Answer::Listing { number: 19, output, .. } = answer {
                 output.fill(b'n');
             }
         },
@@ -246,11 +225,7 @@ const FAULTS: [(&str, Fault, &[usize]); 24] = [
     (
         "a byte past the listing",
         |_, _, _, answer| {
-            if let Answer::Listing {
-                number: 0,
-                len,
-                output,
-            } = answer
+            if let Answer::Listing { number: 0, len, output } = answer
                 && let Some(byte) = output.get_mut(*len)
             {
                 *byte = 0;
@@ -264,10 +239,7 @@ const FAULTS: [(&str, Fault, &[usize]); 24] = [
             if let (Call::LiveId(kind @ 0..=2, n), 21) = (call, answer.number())
                 && *n == rows(lent, KINDS[usize::from(*kind)]).len() as u64
             {
-                *answer = Answer::Number {
-                    number: 0,
-                    value: 0,
-                };
+                *answer = Answer::Number { number: 0, value: 0 };
             }
         },
         &[1, 2, 10],
@@ -275,16 +247,7 @@ const FAULTS: [(&str, Fault, &[usize]); 24] = [
     (
         "a record to the arena's end",
         |call, _, lent, answer| {
-            if let (
-                Call::Get(kind @ 0..=2, _),
-                Answer::Part {
-                    found: 1,
-                    start,
-                    len,
-                    ..
-                },
-            ) = (call, answer)
-            {
+            if let (Call::Get(kind @ 0..=2, _), Answer::Part { found: 1, start, len, .. }) = (call, answer) {
                 *len = lent.counts[3 + usize::from(*kind)] as usize - *start;
             }
         },
@@ -311,13 +274,7 @@ const FAULTS: [(&str, Fault, &[usize]); 24] = [
     (
         "a word that is no code taken",
         |call, before, lent, answer| {
-            if let (
-                Call::End(n),
-                Answer::Event {
-                    number: number @ 22,
-                    ..
-                },
-            ) = (call, answer)
+            if let (Call::End(n), Answer::Event { number: number @ 22, .. }) = (call, answer)
                 && before.readers[*n].words[1] > 2
             {
                 (*number, *lent) = (18, before.clone());
@@ -368,13 +325,7 @@ through! {
 
 #[test]
 fn every_fault_without_state_is_found() {
-    let comparisons = [
-        ground::ids,
-        ground::versions,
-        ground::integers,
-        ground::stamps,
-        ground::texts,
-    ];
+    let comparisons = [ground::ids, ground::versions, ground::integers, ground::stamps, ground::texts];
     for comparison in comparisons {
         assert!(comparison(&Ground1(255), 1, 1).is_ok_and(|n| n > 100));
     }
@@ -395,25 +346,12 @@ impl LookupPort for Lookups1 {
 
     fn upsert_range(&self, ids: &[i64], first: i64, last: i64) -> (u32, usize, usize) {
         let good = JudgeLookups.upsert_range(ids, first, last);
-        if self.0 == 2 && good.1 == good.2 {
-            (good.0, 0, 0)
-        } else {
-            good
-        }
+        if self.0 == 2 && good.1 == good.2 { (good.0, 0, 0) } else { good }
     }
 
-    fn seek_find(
-        &self,
-        place: Option<usize>,
-        ids: &[i64],
-        id: i64,
-    ) -> (u32, Option<usize>, Option<usize>) {
+    fn seek_find(&self, place: Option<usize>, ids: &[i64], id: i64) -> (u32, Option<usize>, Option<usize>) {
         let good = JudgeLookups.seek_find(place, ids, id);
-        if self.0 == 3 {
-            (good.0, place, good.2)
-        } else {
-            good
-        }
+        if self.0 == 3 { (good.0, place, good.2) } else { good }
     }
 }
 
@@ -430,51 +368,19 @@ impl Program for Program1 {
 fn every_other_fault_is_found() {
     for n in 0..=3 {
         assert_eq!(lookups::short_lists(&Lookups1(n)).is_ok(), n == 0, "{n}");
-        assert_eq!(
-            lookups::random_lists(&Lookups1(n), 1, 1).is_ok(),
-            n == 0,
-            "{n}"
-        );
+        assert_eq!(lookups::random_lists(&Lookups1(n), 1, 1).is_ok(), n == 0, "{n}");
     }
     let good = Sizes::ROADLIST;
     let ids = [513; 3];
     for (sizes, found) in [
         (good, false),
         (Sizes { ids, ..good }, true),
-        (
-            Sizes {
-                arenas: [8_189; 3],
-                ..good
-            },
-            true,
-        ),
-        (
-            Sizes {
-                strings: 511,
-                ..good
-            },
-            true,
-        ),
-        (
-            Sizes {
-                string_bytes: 8_193,
-                ..good
-            },
-            true,
-        ),
-        (
-            Sizes {
-                output: 65_535,
-                ..good
-            },
-            true,
-        ),
+        (Sizes { arenas: [8_189; 3], ..good }, true),
+        (Sizes { strings: 511, ..good }, true),
+        (Sizes { string_bytes: 8_193, ..good }, true),
+        (Sizes { output: 65_535, ..good }, true),
     ] {
-        assert_eq!(
-            program::limits(&Program1(sizes)).is_err(),
-            found,
-            "{sizes:?}"
-        );
+        assert_eq!(program::limits(&Program1(sizes)).is_err(), found, "{sizes:?}");
     }
     assert!(program::documents(&Program1(good), 1, 1).is_ok_and(|n| n == 600));
     assert_eq!(expected(b"close"), b"refused\t4\t1\t-\n");

@@ -4,10 +4,7 @@
 #[test]
 fn kept_list_is_this_list() {
     let folder = std::path::Path::new(env!("CARGO_MANIFEST_DIR")).join("../crates/replay");
-    let made = [
-        ("stdin", judge::fixed_questions()),
-        ("stdout", judge::fixed_list()),
-    ];
+    let made = [("stdin", judge::fixed_questions()), ("stdout", judge::fixed_list())];
     for (name, text) in made {
         let kept = std::fs::read_to_string(folder.join(name)).expect(name);
         assert!(kept == text, "{name}: made anew it differs");

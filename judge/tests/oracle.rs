@@ -139,18 +139,9 @@ fn ends_of_lines() {
 #[test]
 fn regression_allowed() {
     for (input, answer) in [
-        (
-            "create: empty|way|id=5|version=4/empty|way|id=5|version=2",
-            "w|5|+|2|9|2|0|0|0||0|0",
-        ),
-        (
-            "create: empty|way|id=5|version=4/empty|way|id=5",
-            "w|5|+|?|0|0|0|0|0||0|0",
-        ),
-        (
-            "delete: empty|way|id=5|version=4/empty|way|id=5|version=2",
-            "w|5|-|4",
-        ),
+        ("create: empty|way|id=5|version=4/empty|way|id=5|version=2", "w|5|+|2|9|2|0|0|0||0|0"),
+        ("create: empty|way|id=5|version=4/empty|way|id=5", "w|5|+|?|0|0|0|0|0||0|0"),
+        ("delete: empty|way|id=5|version=4/empty|way|id=5|version=2", "w|5|-|4"),
     ] {
         assert_eq!(run(&lines(input), true).0.print(), lines(answer), "{input}");
     }
@@ -163,10 +154,7 @@ fn a_refused_event_keeps_its_user_only_in_the_rust() {
         ("empty|node|id=1|user=u", 1),
         ("empty|node|id=1|user=u|lat7=0|lon7=1800000001", 1),
         ("empty|node|id=1|user=u|version=x", 0),
-        (
-            "empty|way|id=1|version=2/empty|way|id=1|version=1|user=u",
-            1,
-        ),
+        ("empty|way|id=1|version=2/empty|way|id=1|version=1|user=u", 1),
         ("open|relation|id=1/empty|member|type=x|ref=1|role=u", 0),
     ] {
         let input = lines(&format!("create: {inner}"));
@@ -195,16 +183,9 @@ fn readers_share_an_overlay() {
     assert_eq!(take(&mut first, begin), Ok(()));
     let push = "open|osmChange/open|modify/empty|node|id=7|version=5|lat7=1|lon7=1";
     assert_eq!(take(&mut second, push), Ok(()));
-    let stop = Stop {
-        number: 12,
-        line: 4,
-        held: Some(5),
-    };
+    let stop = Stop { number: 12, line: 4, held: Some(5) };
     assert_eq!(take(&mut first, "close"), Err(stop));
-    assert_eq!(
-        take(&mut second, "empty|node|id=7|version=6|lat7=2|lon7=2"),
-        Ok(())
-    );
+    assert_eq!(take(&mut second, "empty|node|id=7|version=6|lat7=2|lon7=2"), Ok(()));
     assert_eq!(take(&mut first, "close"), Err(stop));
     assert_eq!(first.end(), Err(stop));
     assert_eq!(second.end().map_err(|stop| stop.number), Err(18));
@@ -217,60 +198,21 @@ fn readers_share_an_overlay() {
 /// Sizes by document 01: 13 to 16 and 19, each at its first.
 #[test]
 fn sizes_by_document_01() {
-    let small = Sizes {
-        ids: [1; 3],
-        arenas: [45; 3],
-        strings: 2,
-        string_bytes: 1,
-        output: 23,
-    };
-    let many =
-        |n: usize, child: &str| format!("create: open|way|id=1{}", format!("/{child}").repeat(n));
+    let small = Sizes { ids: [1; 3], arenas: [45; 3], strings: 2, string_bytes: 1, output: 23 };
+    let many = |n: usize, child: &str| format!("create: open|way|id=1{}", format!("/{child}").repeat(n));
     for (input, sizes, answer) in [
         ("create: empty|way|id=1", &small, "w|1|+|?|0|0|0|0|0||0|0"),
         ("create: empty|way|id=12", &small, "refused|19|6|-"),
         ("create: empty|way|id=1|user=ab", &small, "refused|13|3|-"),
-        (
-            "create: empty|way|id=1|user=a/empty|way|id=1|user=b",
-            &small,
-            "refused|13|4|-",
-        ),
-        (
-            "create: empty|way|id=1/empty|way|id=2",
-            &small,
-            "refused|14|4|-",
-        ),
-        (
-            "create: empty|way|id=1/empty|way|id=1",
-            &small,
-            "refused|15|4|-",
-        ),
-        (
-            "create: open|way|id=1/empty|nd|ref=1/close",
-            &small,
-            "refused|15|5|-",
-        ),
+        ("create: empty|way|id=1|user=a/empty|way|id=1|user=b", &small, "refused|13|4|-"),
+        ("create: empty|way|id=1/empty|way|id=2", &small, "refused|14|4|-"),
+        ("create: empty|way|id=1/empty|way|id=1", &small, "refused|15|4|-"),
+        ("create: open|way|id=1/empty|nd|ref=1/close", &small, "refused|15|5|-"),
         // A regression comes before full strings at an empty element, after them at an open one.
-        (
-            "create: empty|way|id=1|version=2|user=a/empty|way|id=1|version=1|user=b",
-            &small,
-            "refused|12|4|2",
-        ),
-        (
-            "create: empty|way|id=1|version=2|user=a/open|way|id=1|version=1|user=b",
-            &small,
-            "refused|13|4|-",
-        ),
-        (
-            &many(257, "empty|tag|k=a|v="),
-            &Sizes::ROADLIST,
-            "refused|16|260|-",
-        ),
-        (
-            &many(2_001, "empty|nd|ref=1"),
-            &Sizes::ROADLIST,
-            "refused|16|2004|-",
-        ),
+        ("create: empty|way|id=1|version=2|user=a/empty|way|id=1|version=1|user=b", &small, "refused|12|4|2"),
+        ("create: empty|way|id=1|version=2|user=a/open|way|id=1|version=1|user=b", &small, "refused|13|4|-"),
+        (&many(257, "empty|tag|k=a|v="), &Sizes::ROADLIST, "refused|16|260|-"),
+        (&many(2_001, "empty|nd|ref=1"), &Sizes::ROADLIST, "refused|16|2004|-"),
     ] {
         let (outcome, _) = run_sized(&lines(input), false, sizes);
         assert_eq!(outcome.print(), lines(answer), "{input:.200}");

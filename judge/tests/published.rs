@@ -12,12 +12,7 @@ fn kept() -> PathBuf {
 /// The paths that SUMS names.
 fn sums() -> Vec<String> {
     let sums = fs::read_to_string(kept().join("SUMS")).expect("SUMS");
-    let path = |line: &str| {
-        line.split_once("  ")
-            .expect("sum, two spaces, path")
-            .1
-            .to_owned()
-    };
+    let path = |line: &str| line.split_once("  ").expect("sum, two spaces, path").1.to_owned();
     sums.lines().map(path).collect()
 }
 
@@ -26,9 +21,7 @@ fn kept_files_have_their_sums() {
     let sums = sums();
     assert_eq!(sums.len(), 10);
     let mut check = Command::new("sha256sum");
-    let checked = check
-        .args(["--check", "--quiet", "SUMS"])
-        .current_dir(kept());
+    let checked = check.args(["--check", "--quiet", "SUMS"]).current_dir(kept());
     assert!(checked.status().expect("sha256sum").success());
     if let Some(folder) = std::env::var_os("TORVASKIN_PUBLISHED") {
         for path in &sums {
@@ -47,8 +40,7 @@ fn built_modules_begin_with_the_kept_files() {
             let kept: &[u8] = include_bytes!(concat!("../published/src/", $path));
             let built = judge::built_source($name);
             assert!(built.starts_with(kept), $path);
-            let beside =
-                Path::new(env!("CARGO_MANIFEST_DIR")).join(concat!("src/beside/", $name, ".rs"));
+            let beside = Path::new(env!("CARGO_MANIFEST_DIR")).join(concat!("src/beside/", $name, ".rs"));
             let beside = fs::read(beside).unwrap_or_default();
             assert_eq!(&built[kept.len()..], &beside, $path);
         }};

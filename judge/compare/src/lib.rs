@@ -94,16 +94,8 @@ fn place(word: usize) -> Option<usize> {
 impl LookupPort for Library {
     fn range_overlaps(&self, live: &[i64], deleted: &[i64], min: i64, max: i64) -> (u32, bool) {
         let (live, deleted) = (bits(live), bits(deleted));
-        let reply = unsafe {
-            ffi::tvk_range_overlaps(
-                live.as_ptr(),
-                live.len(),
-                deleted.as_ptr(),
-                deleted.len(),
-                min,
-                max,
-            )
-        };
+        let reply =
+            unsafe { ffi::tvk_range_overlaps(live.as_ptr(), live.len(), deleted.as_ptr(), deleted.len(), min, max) };
         assert!(reply.value <= usize::from(reply.number == 0), "{reply:?}");
         (reply.number, reply.value == 1)
     }
@@ -114,12 +106,7 @@ impl LookupPort for Library {
         (reply.number, reply.from, reply.to)
     }
 
-    fn seek_find(
-        &self,
-        at: Option<usize>,
-        ids: &[i64],
-        id: i64,
-    ) -> (u32, Option<usize>, Option<usize>) {
+    fn seek_find(&self, at: Option<usize>, ids: &[i64], id: i64) -> (u32, Option<usize>, Option<usize>) {
         let ids = bits(ids);
         let word = at.unwrap_or(ffi::NO_PLACE);
         let reply = unsafe { ffi::tvk_seek_find(ids.as_ptr(), ids.len(), word, id) };

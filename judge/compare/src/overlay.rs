@@ -177,12 +177,7 @@ fn number(n: ffi::Number) -> Answer {
 }
 
 fn part(view: ffi::View) -> Answer {
-    Answer::Part {
-        number: view.number,
-        found: view.found,
-        start: view.start,
-        len: view.len,
-    }
+    Answer::Part { number: view.number, found: view.found, start: view.start, len: view.len }
 }
 
 /// A call that only reads.
@@ -256,24 +251,15 @@ impl<L: Lend> Entries<L> {
     #[cfg(reader_c)]
     fn listing(&self, p: &Pointers, size: usize) -> Answer {
         let mut output = vec![UNWRITTEN; size];
-        let listed = self
-            .0
-            .bytes(&mut output, |out| entry!(tvk_listing, p, out, size));
+        let listed = self.0.bytes(&mut output, |out| entry!(tvk_listing, p, out, size));
         let (number, len) = (listed.number, listed.length as usize);
-        Answer::Listing {
-            number,
-            len,
-            output,
-        }
+        Answer::Listing { number, len, output }
     }
 
     /// An event, or without a line the end.
     #[cfg(reader_c)]
     fn event(&self, lent: &mut Storage, n: usize, line: Option<&[u8]>) -> Answer {
-        let Lines {
-            mut words,
-            mut parts,
-        } = lent.readers[n].clone();
+        let Lines { mut words, mut parts } = lent.readers[n].clone();
         let answer = self.0.lend(lent, |p| {
             self.0.words(&mut words, |words| {
                 self.0.bytes(&mut parts, |parts| {

@@ -11,11 +11,7 @@ const LIBRARY: &dyn Port = &Entries(Between);
 #[test]
 fn bytes() {
     let (seed, rounds) = seed_and_rounds();
-    same(damaged::bytes(
-        LIBRARY,
-        Values::of_run(seed, rounds),
-        cfg!(reader_c),
-    ));
+    same(damaged::bytes(LIBRARY, Values::of_run(seed, rounds), cfg!(reader_c)));
 }
 
 #[test]

@@ -9,13 +9,7 @@ use judge::random::seed_and_rounds;
 #[test]
 fn every_call() {
     let (seed, rounds) = seed_and_rounds();
-    let comparisons = [
-        ground::ids,
-        ground::versions,
-        ground::integers,
-        ground::stamps,
-        ground::texts,
-    ];
+    let comparisons = [ground::ids, ground::versions, ground::integers, ground::stamps, ground::texts];
     for comparison in comparisons {
         same(comparison(&Library, seed, rounds));
     }

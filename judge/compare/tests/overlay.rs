@@ -10,11 +10,7 @@ use judge::{Kind, Meta, Sizes};
 
 const LIBRARY: &dyn Port = &Entries(Between);
 const THE_LISTING: After = if cfg!(reader_c) { the_listing } else { nothing };
-const EVERYTHING: After = if cfg!(reader_c) {
-    everything
-} else {
-    every_read
-};
+const EVERYTHING: After = if cfg!(reader_c) { everything } else { every_read };
 
 #[test]
 fn set_ups() {
@@ -74,11 +70,7 @@ fn trial_rows() {
         assert_eq!(LIBRARY.call(&mut lent, &call), *answer);
     }
     for (kind, change, len) in [
-        (
-            Kind::Node,
-            (|p| p.tags = vec![(0, b"yes".into())]) as fn(&mut Push),
-            60,
-        ),
+        (Kind::Node, (|p| p.tags = vec![(0, b"yes".into())]) as fn(&mut Push), 60),
         (Kind::Way, |p| p.refs = vec![1, 2], 61),
         (Kind::Relation, |p| p.members = vec![(1, 0, 0)], 58),
     ] {
@@ -97,32 +89,16 @@ fn differences() {
         change(&mut push);
         LIBRARY.call(&mut empty(), &push.call()).number()
     };
-    assert_eq!(
-        LIBRARY
-            .call(&mut empty(), &Call::Intern(b"\x01".into()))
-            .number(),
-        3
-    );
-    assert_eq!(
-        number(|p| p.tags = vec![(0, "\u{ffff}".into())], Kind::Node),
-        3
-    );
+    assert_eq!(LIBRARY.call(&mut empty(), &Call::Intern(b"\x01".into())).number(), 3);
+    assert_eq!(number(|p| p.tags = vec![(0, "\u{ffff}".into())], Kind::Node), 3);
     assert_eq!(number(|p| p.place.0 = 900_000_001, Kind::Node), 10);
-    assert_eq!(
-        number(|p| (p.meta.flags, p.meta.version) = (8, 3), Kind::Way),
-        17
-    );
+    assert_eq!(number(|p| (p.meta.flags, p.meta.version) = (8, 3), Kind::Way), 17);
     assert_eq!(number(|p| p.tags = vec![(1, b"v".into())], Kind::Way), 17);
     assert_eq!(number(|p| p.members = vec![(1, 3, 0)], Kind::Relation), 17);
-    assert_eq!(
-        number(|p| p.tags = vec![(0, Vec::new()); 257], Kind::Way),
-        16
-    );
+    assert_eq!(number(|p| p.tags = vec![(0, Vec::new()); 257], Kind::Way), 16);
     let mut lent = empty();
     let mut numbers = |calls: &mut dyn Iterator<Item = Call>| -> Vec<u32> {
-        calls
-            .map(|call| LIBRARY.call(&mut lent, &call).number())
-            .collect()
+        calls.map(|call| LIBRARY.call(&mut lent, &call).number()).collect()
     };
     let ids = numbers(&mut (0..513).map(|id| Call::Delete(0, id, Meta::default())));
     assert_eq!((ids[511], ids[512]), (0, 14));
@@ -131,20 +107,9 @@ fn differences() {
     let ways = numbers(&mut (0..183).map(|_| plain(Kind::Way, 1).call()));
     assert_eq!((ways[181], ways[182]), (0, 15));
     let mut lent = empty();
-    assert_eq!(
-        LIBRARY.call(&mut lent, &Call::Record(0, 0)),
-        Answer::part(Err(21))
-    );
+    assert_eq!(LIBRARY.call(&mut lent, &Call::Record(0, 0)), Answer::part(Err(21)));
     for id in [1, 2] {
-        assert_eq!(
-            LIBRARY
-                .call(&mut lent, &plain(Kind::Node, id).call())
-                .number(),
-            0
-        );
+        assert_eq!(LIBRARY.call(&mut lent, &plain(Kind::Node, id).call()).number(), 0);
     }
-    assert_eq!(
-        LIBRARY.call(&mut lent, &Call::Get(0, 1)),
-        Answer::part(Ok(Some((0, 49))))
-    );
+    assert_eq!(LIBRARY.call(&mut lent, &Call::Get(0, 1)), Answer::part(Ok(Some((0, 49)))));
 }

@@ -60,9 +60,7 @@ fn differences() {
     let (answer, lent) = told("open\tosmChange\nopen\tcreate\nempty\tnode\tid=1\tuser=u\n");
     assert_eq!((answer, lent.counts[6]), (refused(7, 3), 1));
     let tags = "empty\ttag\tk=a\tv=b\n".repeat(257);
-    let (answer, _) = told(&format!(
-        "open\tosmChange\nopen\tcreate\nopen\tway\tid=1\n{tags}"
-    ));
+    let (answer, _) = told(&format!("open\tosmChange\nopen\tcreate\nopen\tway\tid=1\n{tags}"));
     assert_eq!(answer, refused(16, 260));
 }
 
@@ -73,10 +71,7 @@ fn input_a() {
         "open\tosmChange\nopen\tmodify\nopen\tnode\tid=7\tversion=3\tlat7=10\tlon7=-20\nempty\ttag\tk=name\tv=A\nclose\nclose\nopen\tdelete\nempty\tway\tid=-4\tversion=2\nclose\nclose\n",
     );
     let (number, held, line) = (0, 0, 0);
-    assert_eq!(
-        LIBRARY.call(&mut lent, &Call::End(0)),
-        Answer::Event { number, held, line }
-    );
+    assert_eq!(LIBRARY.call(&mut lent, &Call::End(0)), Answer::Event { number, held, line });
     let output = b"n\t7\t+\t3\t9\t3\t0\t0\t0\t\t10\t-20\t1\tname\tA\nw\t-4\t-\t2\n";
     let listed = LIBRARY.call(&mut lent, &Call::Listing(output.len()));
     assert_eq!(listed, Answer::listing(output.len(), Ok(output.to_vec())));

@@ -1,10 +1,7 @@
 // Beside the published file: the driver by its private name, and the same driver one event at a time.
 use crate::nesting::Place;
 
-pub(crate) fn judge_drive<R: io::BufRead>(
-    reader: &mut Reader<R>,
-    overlay: &mut CompactDiffOverlay,
-) -> ParseResult<()> {
+pub(crate) fn judge_drive<R: io::BufRead>(reader: &mut Reader<R>, overlay: &mut CompactDiffOverlay) -> ParseResult<()> {
     drive_osc(reader, &mut CompactSink::new(overlay), Path::new("events"))
 }
 
@@ -38,14 +35,7 @@ impl JudgeStaged {
             id: s.id,
             lat: s.lat,
             lon: s.lon,
-            meta: (
-                s.meta.flags,
-                s.meta.version,
-                s.meta.timestamp,
-                s.meta.changeset,
-                s.meta.uid,
-                s.meta.user_id,
-            ),
+            meta: (s.meta.flags, s.meta.version, s.meta.timestamp, s.meta.changeset, s.meta.uid, s.meta.user_id),
             tag_keys: s.tag_keys,
             tag_values: s.tag_values,
             refs: s.refs,
@@ -60,14 +50,7 @@ impl JudgeStaged {
             id: self.id,
             lat: self.lat,
             lon: self.lon,
-            meta: ArenaMeta {
-                flags,
-                version,
-                timestamp,
-                changeset,
-                uid,
-                user_id,
-            },
+            meta: ArenaMeta { flags, version, timestamp, changeset, uid, user_id },
             tag_keys: self.tag_keys,
             tag_values: self.tag_values,
             refs: self.refs,
@@ -79,26 +62,13 @@ impl JudgeStaged {
 impl JudgeSteps {
     /// The state that `drive_osc` begins with.
     pub(crate) fn new() -> Self {
-        Self {
-            level: Level::Doc,
-            section: OscAction::Create,
-            open: ElementKind::Node,
-            staging: None,
-        }
+        Self { level: Level::Doc, section: OscAction::Create, open: ElementKind::Node, staging: None }
     }
 
     /// One turn of `drive_osc`'s loop.
-    pub(crate) fn step(
-        &mut self,
-        overlay: &mut CompactDiffOverlay,
-        event: &Event<'_>,
-    ) -> ParseResult<()> {
+    pub(crate) fn step(&mut self, overlay: &mut CompactDiffOverlay, event: &Event<'_>) -> ParseResult<()> {
         let path = Path::new("events");
-        let mut state = DriveState {
-            level: self.level,
-            section: self.section,
-            open: self.open,
-        };
+        let mut state = DriveState { level: self.level, section: self.section, open: self.open };
         let mut sink = CompactSink::new(overlay);
         sink.staging = self.staging.take().map(JudgeStaged::give);
         let reply = match event {
@@ -133,15 +103,8 @@ impl JudgeSteps {
 }
 
 // The values in the order of the library's words for them: a place has their numbers.
-const JUDGE_LEVELS: [Level; 7] = [
-    Level::Doc,
-    Level::Root,
-    Level::Section,
-    Level::Element,
-    Level::Leaf,
-    Level::Other,
-    Level::Done,
-];
+const JUDGE_LEVELS: [Level; 7] =
+    [Level::Doc, Level::Root, Level::Section, Level::Element, Level::Leaf, Level::Other, Level::Done];
 const JUDGE_SECTIONS: [OscAction; 3] = [OscAction::Create, OscAction::Modify, OscAction::Delete];
 const JUDGE_KINDS: [ElementKind; 3] = [ElementKind::Node, ElementKind::Way, ElementKind::Relation];
 

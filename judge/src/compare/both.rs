@@ -40,15 +40,7 @@ impl<'a> Both<'a> {
     pub(super) fn new(port: &'a dyn Port) -> Self {
         let mut random = Random::new(7);
         let lent = Storage::drawn(&mut random, &super::direct::ROOMY);
-        Self {
-            rust: Rust::default(),
-            port,
-            expected: lent.clone(),
-            lent,
-            random,
-            tally: Tally::new(),
-            log: Vec::new(),
-        }
+        Self { rust: Rust::default(), port, expected: lent.clone(), lent, random, tally: Tally::new(), log: Vec::new() }
     }
 
     /// A call on both sides: the answer, and all that is lent after it. After an accepted call it holds
@@ -61,12 +53,7 @@ impl<'a> Both<'a> {
         self.tally.same(|| shown(log), &number, &port)?;
         let number = number.number();
         match call {
-            Call::SetUp(_)
-            | Call::Allow(_)
-            | Call::Intern(_)
-            | Call::Push(..)
-            | Call::Delete(..)
-            | Call::Event(..)
+            Call::SetUp(_) | Call::Allow(_) | Call::Intern(_) | Call::Push(..) | Call::Delete(..) | Call::Event(..)
                 if number == 0 =>
             {
                 self.expected.hold(&self.rust.overlay.state());
@@ -82,8 +69,7 @@ impl<'a> Both<'a> {
         }
         let written = || self.expected.changes(&self.lent);
         let none: Vec<String> = Vec::new();
-        self.tally
-            .same(|| format!("{}\nlent", shown(log)), none, written())?;
+        self.tally.same(|| format!("{}\nlent", shown(log)), none, written())?;
         Ok(number)
     }
 

@@ -58,10 +58,7 @@ fn drawn_bytes(random: &mut Random, len: usize) -> Vec<u8> {
 impl Lines {
     /// Fresh, in bytes that hold anything.
     pub fn fresh(random: &mut Random) -> Self {
-        Self {
-            words: [0; 19],
-            parts: drawn_bytes(random, STAGED),
-        }
+        Self { words: [0; 19], parts: drawn_bytes(random, STAGED) }
     }
 }
 
@@ -213,15 +210,7 @@ pub struct Push {
 impl Push {
     /// A push of nothing but an id and metadata.
     pub fn plain(kind: Kind, id: i64, meta: Meta) -> Self {
-        Self {
-            kind,
-            id,
-            place: (0, 0),
-            refs: Vec::new(),
-            members: Vec::new(),
-            tags: Vec::new(),
-            meta,
-        }
+        Self { kind, id, place: (0, 0), refs: Vec::new(), members: Vec::new(), tags: Vec::new(), meta }
     }
 
     /// The head that counts exactly these parts.
@@ -261,11 +250,7 @@ impl Push {
 
 /// Metadata that claims a version, or claims none.
 pub fn claiming(version: Option<i32>) -> Meta {
-    Meta {
-        flags: if version.is_some() { 9 } else { 0 },
-        version: version.unwrap_or(0),
-        ..Meta::default()
-    }
+    Meta { flags: if version.is_some() { 9 } else { 0 }, version: version.unwrap_or(0), ..Meta::default() }
 }
 
 /// A call with its arguments; of a push the parts are laid out as in a record.
@@ -369,12 +354,7 @@ impl Answer {
     pub fn part(answer: Result<Option<(u64, u64)>, u32>) -> Self {
         let (number, found) = answer.map_or_else(|number| (number, None), |found| (0, found));
         let (start, len) = found.unwrap_or((0, 0));
-        Self::Part {
-            number,
-            found: u32::from(found.is_some()),
-            start: start as usize,
-            len: len as usize,
-        }
+        Self::Part { number, found: u32::from(found.is_some()), start: start as usize, len: len as usize }
     }
 
     /// A listing or its refusal, in so many bytes: 19 where they are too few.
@@ -388,11 +368,7 @@ impl Answer {
             }
             Err(number) => (number, 0),
         };
-        Self::Listing {
-            number,
-            len,
-            output,
-        }
+        Self::Listing { number, len, output }
     }
 }
 

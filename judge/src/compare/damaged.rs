@@ -22,11 +22,7 @@ pub enum Values {
 impl Values {
     /// In a long run the seeds take all values of a byte by turns.
     pub fn of_run(seed: u64, rounds: u64) -> Self {
-        if rounds == 1 {
-            Self::Few
-        } else {
-            Self::Eighth(seed)
-        }
+        if rounds == 1 { Self::Few } else { Self::Eighth(seed) }
     }
 
     /// The values that the n-th byte is changed to.
@@ -58,22 +54,11 @@ struct Both<'a> {
 
 impl<'a> Both<'a> {
     fn new(port: &'a dyn Port, groups: Vec<Vec<Call>>) -> Self {
-        Self {
-            port,
-            groups,
-            storages: 0,
-            tally: Tally::new(),
-        }
+        Self { port, groups, storages: 0, tally: Tally::new() }
     }
 
     /// Each call on both sides, which are given the storage as it was.
-    fn calls(
-        &mut self,
-        what: impl Fn() -> String,
-        lent: &Storage,
-        told: bool,
-        calls: &[Call],
-    ) -> Result<(), String> {
+    fn calls(&mut self, what: impl Fn() -> String, lent: &Storage, told: bool, calls: &[Call]) -> Result<(), String> {
         let words = Words { told: Some(told) };
         let mut sides = (lent.clone(), lent.clone());
         for call in calls {
@@ -106,21 +91,12 @@ impl<'a> Both<'a> {
     fn changed(&mut self, base: &Storage, lent: &Storage) -> Result<(), String> {
         let (words, setting) = (base.tables[0].len(), base.counts[8]);
         let changes = || base.changes(lent).join("; ");
-        let what = || {
-            format!(
-                "in tables of {words} words, setting {setting}: {}",
-                changes()
-            )
-        };
+        let what = || format!("in tables of {words} words, setting {setting}: {}", changes());
         self.storage(what, lent)
     }
 
     /// Every word that is changed to every value given for it.
-    fn each_word(
-        &mut self,
-        base: &Storage,
-        values: impl Fn(usize, u64) -> Vec<u64>,
-    ) -> Result<(), String> {
+    fn each_word(&mut self, base: &Storage, values: impl Fn(usize, u64) -> Vec<u64>) -> Result<(), String> {
         let mut lent = base.clone();
         let all: Vec<u64> = lent.words().map(|word| *word).collect();
         for (n, &old) in all.iter().enumerate() {
@@ -140,11 +116,7 @@ impl<'a> Both<'a> {
         self.changed(base, base)?;
         let mut lent = base.clone();
         let all: Vec<u8> = lent.bytes().map(|byte| *byte).collect();
-        for (n, &old) in all
-            .iter()
-            .enumerate()
-            .filter(|(n, _)| *n < 3_000 || n % 997 == 0)
-        {
+        for (n, &old) in all.iter().enumerate().filter(|(n, _)| *n < 3_000 || n % 997 == 0) {
             for value in values.of(n, old) {
                 *lent.bytes().nth(n).expect("a byte") = value;
                 self.changed(base, &lent)?;
@@ -241,15 +213,7 @@ pub fn readers(port: &dyn Port, values: Values) -> Compared {
 /// The first numbers, the ends of widths, the other words, each bit of the word.
 fn reader_values(all: &[u64; 19], n: usize) -> Vec<u64> {
     let mut values: Vec<u64> = (0..=33).collect();
-    for edge in [
-        1 << 8,
-        1 << 31,
-        NO_FLOOR,
-        DELETED,
-        44_432,
-        900_000_000,
-        1_800_000_000,
-    ] {
+    for edge in [1 << 8, 1 << 31, NO_FLOOR, DELETED, 44_432, 900_000_000, 1_800_000_000] {
         values.extend([edge - 1, edge, edge + 1]);
     }
     values.extend([u64::MAX, u64::MAX - 1]);
@@ -490,10 +454,7 @@ fn good_acts(kind: Kind) -> [Vec<Call>; 2] {
         (twice, none),
     ];
     let delete = |(id, meta)| Call::Delete(kind as u8, id, meta);
-    [
-        pushes.iter().map(Push::call).collect(),
-        deletes.map(delete).into(),
-    ]
+    [pushes.iter().map(Push::call).collect(), deletes.map(delete).into()]
 }
 
 /// Pushes and deletes that are refused 17, 3, 10 or 16 where the storage is sound.
@@ -503,9 +464,7 @@ fn bad_acts() -> [Vec<Call>; 2] {
         (Kind::Node, |p| p.meta.flags = 8),
         (Kind::Node, |p| p.meta.flags = 1),
         (Kind::Node, |p| p.meta.user = 1),
-        (Kind::Way, |p| {
-            (p.meta.flags, p.meta.version, p.meta.uid) = (0, 0, 1)
-        }),
+        (Kind::Way, |p| (p.meta.flags, p.meta.version, p.meta.uid) = (0, 0, 1)),
         (Kind::Way, |p| (p.meta.flags, p.meta.user) = (13, 99)),
         (Kind::Way, |p| p.tags[0].0 = 99),
         (Kind::Way, |p| p.tags[0].1 = b"\xff".to_vec()),
@@ -513,18 +472,10 @@ fn bad_acts() -> [Vec<Call>; 2] {
         (Kind::Node, |p| p.place.1 = i32::MIN),
         (Kind::Node, |p| p.tags = vec![(0, b"w".to_vec()); 257]),
         // Of several the first in the table's order.
-        (Kind::Way, |p| {
-            p.tags = vec![(1, b"\xff".to_vec()), (99, b"\xff".to_vec())]
-        }),
-        (Kind::Node, |p| {
-            (p.place.0, p.tags[0].1) = (i32::MAX, b"\xff".to_vec())
-        }),
-        (Kind::Node, |p| {
-            (p.place.1, p.tags) = (i32::MAX, vec![(0, b"w".to_vec()); 257])
-        }),
-        (Kind::Node, |p| {
-            (p.id, p.meta.version, p.tags) = (5, 0, vec![(0, b"w".to_vec()); 257])
-        }),
+        (Kind::Way, |p| p.tags = vec![(1, b"\xff".to_vec()), (99, b"\xff".to_vec())]),
+        (Kind::Node, |p| (p.place.0, p.tags[0].1) = (i32::MAX, b"\xff".to_vec())),
+        (Kind::Node, |p| (p.place.1, p.tags) = (i32::MAX, vec![(0, b"w".to_vec()); 257])),
+        (Kind::Node, |p| (p.id, p.meta.version, p.tags) = (5, 0, vec![(0, b"w".to_vec()); 257])),
         (Kind::Relation, |p| p.members[0].1 = 3),
         (Kind::Relation, |p| p.members[0].2 = 99),
     ];
@@ -544,22 +495,10 @@ fn bad_acts() -> [Vec<Call>; 2] {
         Call::Push(255, head, meta, parts.clone()),
         Call::Push(1, head, meta, parts[1..].to_vec()),
         Call::Push(1, head, meta, [&parts[..], &[0]].concat()),
-        Call::Push(
-            1,
-            Head {
-                count: most,
-                ..head
-            },
-            meta,
-            parts.clone(),
-        ),
+        Call::Push(1, Head { count: most, ..head }, meta, parts.clone()),
         Call::Push(1, Head { tags: most, ..head }, meta, parts),
     ]);
-    let flags = |flags, user| Meta {
-        flags,
-        user,
-        ..claiming(Some(0))
-    };
+    let flags = |flags, user| Meta { flags, user, ..claiming(Some(0)) };
     let deletes = vec![
         Call::Delete(3, 5, claiming(Some(9))),
         Call::Delete(0, 5, flags(16, 0)),
@@ -572,12 +511,7 @@ fn bad_acts() -> [Vec<Call>; 2] {
 /// The calls in groups: one for each entry, and for a push and a delete one for each kind.
 fn groups(listing: bool) -> Vec<Vec<Call>> {
     let texts = ["ka", "new", "", "Straße"].map(|text| text.as_bytes().to_vec());
-    let not_texts = [
-        b"\xff".to_vec(),
-        b"a\0".to_vec(),
-        b"\xed\xa0\x80".to_vec(),
-        vec![b'x'; 40],
-    ];
+    let not_texts = [b"\xff".to_vec(), b"a\0".to_vec(), b"\xed\xa0\x80".to_vec(), vec![b'x'; 40]];
     let by_number = |call: fn(u8, u64) -> Call| -> Vec<Call> {
         let numbers = |kind| [0, 1, 2, 3, u64::MAX].map(|n| call(kind, n));
         (0..=3).flat_map(numbers).collect()
@@ -591,11 +525,7 @@ fn groups(listing: bool) -> Vec<Vec<Call>> {
         vec![Call::SetUp(0), Call::SetUp(7)],
         vec![Call::IsSound],
         vec![Call::Allow(0), Call::Allow(1 << 32)],
-        texts
-            .into_iter()
-            .chain(not_texts)
-            .map(Call::Intern)
-            .collect(),
+        texts.into_iter().chain(not_texts).map(Call::Intern).collect(),
         (0..=3).map(Call::LiveCount).collect(),
         (0..=3).map(Call::DeletedCount).collect(),
         vec![Call::IsEmpty],
@@ -673,18 +603,8 @@ fn small(room: bool, setting: u64) -> Storage {
     let mut calls = vec![Call::Allow(setting)];
     // One text begins with another.
     calls.extend(["", "k", "Straße", "€🚚", "ka"].map(|text| Call::Intern(text.into())));
-    let user = Meta {
-        flags: 13,
-        version: 3,
-        timestamp: 1_704_063_600,
-        changeset: -9,
-        uid: 258,
-        user: 3,
-    };
-    let hidden = Meta {
-        flags: 3,
-        ..Meta::default()
-    };
+    let user = Meta { flags: 13, version: 3, timestamp: 1_704_063_600, changeset: -9, uid: 258, user: 3 };
+    let hidden = Meta { flags: 3, ..Meta::default() };
     for kind in KINDS {
         let [live, deleted, twice, _] = IDS[kind as usize];
         calls.extend([
@@ -735,9 +655,7 @@ fn small_readers() -> Vec<Storage> {
     let make = |(n, lines): (usize, String)| {
         let mut lent = small(n % 2 == 1, 0);
         // Room for what the events bring.
-        lent.arenas
-            .iter_mut()
-            .for_each(|arena| arena.resize(arena.len() + 150, 7));
+        lent.arenas.iter_mut().for_each(|arena| arena.resize(arena.len() + 150, 7));
         lent.readers = vec![Lines::fresh(&mut Random::new(5))];
         for line in lines.split_inclusive('\n') {
             let event = Call::Event(0, line.into());
@@ -777,14 +695,7 @@ fn any_storage(random: &mut Random) -> Storage {
     if random.once_in(2) {
         counts[3..6].fill(0);
     }
-    Storage {
-        tables,
-        arenas,
-        spans,
-        bytes,
-        counts,
-        readers: Vec::new(),
-    }
+    Storage { tables, arenas, spans, bytes, counts, readers: Vec::new() }
 }
 
 /// A word, a counter or a byte changed, a word of another place, or two rows exchanged.

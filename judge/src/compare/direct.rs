@@ -6,9 +6,7 @@ use std::collections::BTreeSet;
 use super::Compared;
 use super::both::Both;
 use super::call::{Call, Head, Port, Push, claiming};
-use crate::answer::{
-    KINDS, Kind, MOST_MEMBERS, MOST_REFS, MOST_TAGS, MOST_VALUE_BYTES, Meta, Sizes,
-};
+use crate::answer::{KINDS, Kind, MOST_MEMBERS, MOST_REFS, MOST_TAGS, MOST_VALUE_BYTES, Meta, Sizes};
 use crate::osc::compact::JUDGE_HEADS;
 use crate::produce::Bytes;
 use crate::random::Random;
@@ -20,59 +18,21 @@ const SETTINGS: [u64; 5] = [0, 1, 2, 1 << 32, u64::MAX];
 pub type After = fn(&mut Both<'_>) -> Result<(), String>;
 
 /// Sizes that produced documents and short lists of calls rarely fill.
-pub const ROOMY: Sizes = Sizes {
-    ids: [64, 72, 80],
-    arenas: [60_000, 64_000, 68_000],
-    strings: 256,
-    string_bytes: 16_384,
-    output: 0,
-};
+pub const ROOMY: Sizes =
+    Sizes { ids: [64, 72, 80], arenas: [60_000, 64_000, 68_000], strings: 256, string_bytes: 16_384, output: 0 };
 
 /// Ids and arenas of the three kinds, strings, string bytes.
 fn sizes_of(numbers: [usize; 8]) -> Sizes {
-    let [
-        node,
-        way,
-        relation,
-        nodes,
-        ways,
-        relations,
-        strings,
-        string_bytes,
-    ] = numbers;
-    Sizes {
-        ids: [node, way, relation],
-        arenas: [nodes, ways, relations],
-        strings,
-        string_bytes,
-        output: 0,
-    }
+    let [node, way, relation, nodes, ways, relations, strings, string_bytes] = numbers;
+    Sizes { ids: [node, way, relation], arenas: [nodes, ways, relations], strings, string_bytes, output: 0 }
 }
 
 /// Sizes at and past their ends, two at a time; a refused set-up leaves the overlay as it was.
 pub fn set_ups(port: &dyn Port, after: After) -> Compared {
     let (ids, arena) = ([0, 1, 2, 4_096, 4_097], [0, 1, 2, 1_048_576, 1_048_577]);
-    let ends = [
-        ids,
-        ids,
-        ids,
-        arena,
-        arena,
-        arena,
-        ids,
-        [0, 1, 2, 65_536, 65_537],
-    ];
+    let ends = [ids, ids, ids, arena, arena, arena, ids, [0, 1, 2, 65_536, 65_537]];
     let good = [3, 4, 5, 200, 300, 400, 6, 50];
-    let most = [
-        4_096,
-        4_096,
-        4_096,
-        1 << 20,
-        1 << 20,
-        1 << 20,
-        4_096,
-        1 << 16,
-    ];
+    let most = [4_096, 4_096, 4_096, 1 << 20, 1 << 20, 1 << 20, 4_096, 1 << 16];
     let mut all = vec![most, good];
     for (a, ends_of_a) in ends.into_iter().enumerate() {
         for (b, ends_of_b) in ends.into_iter().enumerate().skip(a + 1) {
@@ -146,12 +106,7 @@ pub fn sequences(port: &dyn Port, depth: usize, after: After) -> Compared {
 }
 
 /// Every sequence up to `depth` from here on; both sides come back to here after each.
-fn every_sequence(
-    both: &mut Both<'_>,
-    calls: &[Call],
-    depth: usize,
-    after: After,
-) -> Result<(), String> {
+fn every_sequence(both: &mut Both<'_>, calls: &[Call], depth: usize, after: After) -> Result<(), String> {
     for call in calls {
         let here = both.here();
         both.call(call)?;
@@ -193,13 +148,7 @@ pub fn long_lists(port: &dyn Port, seed: u64, rounds: u64, after: After) -> Comp
         let ids = [near(240), near(240), near(240)];
         let arenas = [near(24_000), near(24_000), near(24_000)];
         let (strings, string_bytes) = (near(40), near(600));
-        let sizes = Sizes {
-            ids,
-            arenas,
-            strings,
-            string_bytes,
-            output: 0,
-        };
+        let sizes = Sizes { ids, arenas, strings, string_bytes, output: 0 };
         both.set_up(&sizes, SETTINGS[usize::from(n % 4 == 3)])?;
         for call in 0..1_500 {
             numbers.insert(long_call(&mut both, &mut random, call)?);
@@ -356,11 +305,7 @@ fn any_push(random: &mut Random, texts: usize) -> Push {
     let kind = *random.pick(&KINDS);
     let many = random.once_in(150);
     let near = random.below(9) as i64 - 4;
-    let id = if random.once_in(10) {
-        random.id()
-    } else {
-        near
-    };
+    let id = if random.once_in(10) { random.id() } else { near };
     let mut push = Push::plain(kind, id, any_meta(random, texts));
     let count = match many {
         true => 1_999 + random.below(4),
@@ -381,13 +326,8 @@ fn any_push(random: &mut Random, texts: usize) -> Push {
         Kind::Way => push.refs = (0..count).map(|_| random.id()).collect(),
         Kind::Relation => {
             for _ in 0..count {
-                let byte = if random.once_in(2_000) {
-                    3
-                } else {
-                    random.below(3) as u8
-                };
-                push.members
-                    .push((random.id(), byte, random.below(texts) as u32));
+                let byte = if random.once_in(2_000) { 3 } else { random.below(3) as u8 };
+                push.members.push((random.id(), byte, random.below(texts) as u32));
             }
         }
     }
@@ -403,11 +343,7 @@ fn any_push(random: &mut Random, texts: usize) -> Push {
             _ => random.pick(&values).as_bytes().to_vec(),
         };
         let held = random.below(texts) as u32;
-        let key = if tags > 10 {
-            held
-        } else {
-            any_handle(random, texts)
-        };
+        let key = if tags > 10 { held } else { any_handle(random, texts) };
         push.tags.push((key, value));
     }
     push
@@ -452,11 +388,7 @@ const PARTS: [Change; 11] = [
 const TEXTS: [Change; 3] = [
     |_| {},
     |p| p.tags.iter_mut().for_each(|tag| tag.1.push(0xff)),
-    |p| {
-        p.tags
-            .iter_mut()
-            .for_each(|tag| tag.1.extend("\u{ffff}".as_bytes()))
-    },
+    |p| p.tags.iter_mut().for_each(|tag| tag.1.extend("\u{ffff}".as_bytes())),
 ];
 
 /// 16, at the limits and past them.
@@ -485,15 +417,7 @@ fn with_parts(push: &mut Push, count: usize) {
 /// byte short; deletes and texts likewise.
 pub fn orders(port: &dyn Port) -> Compared {
     let mut both = Both::new(port);
-    for text in [
-        &b""[..],
-        b"k",
-        b"kk",
-        b"new",
-        b"\x01",
-        b"k\xff",
-        "\u{fffe}".as_bytes(),
-    ] {
+    for text in [&b""[..], b"k", b"kk", b"new", b"\x01", b"k\xff", "\u{fffe}".as_bytes()] {
         for strings in [2, 3, 4] {
             for string_bytes in 1..6 {
                 both.set_up(&sizes_of([1, 1, 1, 9, 9, 9, strings, string_bytes]), 0)?;
@@ -507,9 +431,7 @@ pub fn orders(port: &dyn Port) -> Compared {
         for change in METAS {
             let mut push = Push::plain(kind, 1, claiming(Some(4)));
             change(&mut push);
-            in_full_storage(&mut both, &push, |id| {
-                Call::Delete(kind as u8, id, push.meta)
-            })?;
+            in_full_storage(&mut both, &push, |id| Call::Delete(kind as u8, id, push.meta))?;
         }
         let metas = METAS.into_iter().map(|change| vec![MANY[0], change]);
         let crossed = MANY.into_iter().flat_map(|many| {
@@ -530,11 +452,7 @@ pub fn orders(port: &dyn Port) -> Compared {
 }
 
 /// A call on an overlay that holds text 1, and id 1 at version 5, where a push fits or not.
-fn in_full_storage(
-    both: &mut Both<'_>,
-    push: &Push,
-    call: impl Fn(i64) -> Call,
-) -> Result<(), String> {
+fn in_full_storage(both: &mut Both<'_>, push: &Push, call: impl Fn(i64) -> Call) -> Result<(), String> {
     let kind = push.kind as usize;
     let end = 2 * JUDGE_HEADS[kind] + push.parts().len();
     for (id, setting) in [(1, 0), (1, 1), (2, 0)] {
@@ -561,8 +479,7 @@ pub fn parts_not_as_counted(port: &dyn Port) -> Compared {
         with_parts(&mut push, 2);
         push.tags = vec![(1, b"yes".to_vec()), (0, "Straße".as_bytes().to_vec())];
         let (number, head, whole) = (kind as u8, push.head(), push.parts());
-        let mut given: Vec<(u8, Head, Bytes)> =
-            (0..=255).map(|n| (n, head, whole.clone())).collect();
+        let mut given: Vec<(u8, Head, Bytes)> = (0..=255).map(|n| (n, head, whole.clone())).collect();
         for len in 0..whole.len() {
             given.push((number, head, whole[..len].to_vec()));
             for byte in [0, 1, 2, 3, 0x7f, 0x80, 0xff] {
@@ -580,24 +497,8 @@ pub fn parts_not_as_counted(port: &dyn Port) -> Compared {
             let tags = count;
             given.push((number, Head { count, ..head }, whole.clone()));
             given.push((number, Head { tags, ..head }, whole.clone()));
-            given.push((
-                number,
-                Head {
-                    count,
-                    tags: 0,
-                    ..head
-                },
-                Vec::new(),
-            ));
-            given.push((
-                number,
-                Head {
-                    tags,
-                    count: 0,
-                    ..head
-                },
-                Vec::new(),
-            ));
+            given.push((number, Head { count, tags: 0, ..head }, Vec::new()));
+            given.push((number, Head { tags, count: 0, ..head }, Vec::new()));
         }
         for (kind, head, parts) in given {
             both.set_up(&sizes_of([2, 3, 4, 210, 220, 230, 2, 1]), 0)?;

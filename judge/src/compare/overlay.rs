@@ -25,13 +25,7 @@ pub fn nesting(port: &dyn Port, depth: usize) -> Compared {
 }
 
 fn to_level(both: &mut Both<'_>, setting: u64, prefix: &[Bytes]) -> Result<(), String> {
-    let sizes = Sizes {
-        ids: [3; 3],
-        arenas: [2_000; 3],
-        strings: 20,
-        string_bytes: 200,
-        output: 0,
-    };
+    let sizes = Sizes { ids: [3; 3], arenas: [2_000; 3], strings: 20, string_bytes: 200, output: 0 };
     both.set_up(&sizes, setting)?;
     both.fresh(0);
     for line in prefix {
@@ -81,10 +75,7 @@ pub fn names(port: &dyn Port, seed: u64, rounds: u64) -> Compared {
 /// large and in small sizes. How many were read comes with the answers.
 pub fn documents(port: &dyn Port, seed: u64, rounds: u64) -> Result<(u64, u64), String> {
     let mut both = Both::new(port);
-    let mut sources = [
-        Documents::new(seed, Style::VALID),
-        Documents::new(seed + 1, Style::DAMAGED),
-    ];
+    let mut sources = [Documents::new(seed, Style::VALID), Documents::new(seed + 1, Style::DAMAGED)];
     let mut read = 0;
     for n in 0..1_500 * rounds {
         let source = &mut sources[(n % 2) as usize];
@@ -124,8 +115,7 @@ pub fn readers(port: &dyn Port, seed: u64, rounds: u64) -> Compared {
         source.forget();
         both.set_up(&some_sizes(&mut random, n), u64::from(n % 8 >= 6))?;
         let count = 1 + random.below(4);
-        let mut left: Vec<std::vec::IntoIter<Bytes>> =
-            (0..count).map(|_| source.document().into_iter()).collect();
+        let mut left: Vec<std::vec::IntoIter<Bytes>> = (0..count).map(|_| source.document().into_iter()).collect();
         for reader in 0..count {
             both.fresh(reader);
         }

@@ -45,27 +45,14 @@ pub fn every_read(both: &mut Both<'_>) -> Result<(), String> {
     }
     for kind in [0, 1, 2, 3, 128, 255] {
         reads.extend([Call::LiveCount(kind), Call::DeletedCount(kind)]);
-        reads.extend([
-            Call::LiveId(kind, 0),
-            Call::DeletedId(kind, 0),
-            Call::Record(kind, 0),
-        ]);
-        reads.extend([
-            Call::Get(kind, 1),
-            Call::Has(kind, 1),
-            Call::IsDeleted(kind, 1),
-        ]);
+        reads.extend([Call::LiveId(kind, 0), Call::DeletedId(kind, 0), Call::Record(kind, 0)]);
+        reads.extend([Call::Get(kind, 1), Call::Has(kind, 1), Call::IsDeleted(kind, 1)]);
         reads.push(Call::KnownVersion(kind, 1));
     }
     let texts = both.rust.texts();
     let held: Vec<u64> = (0..texts).collect();
     let past = [texts, texts + 1, texts + (1 << 32), 1 << 63, u64::MAX];
-    reads.extend(
-        some_of(&mut random, &held)
-            .into_iter()
-            .chain(past)
-            .map(Call::Text),
-    );
+    reads.extend(some_of(&mut random, &held).into_iter().chain(past).map(Call::Text));
     for read in reads {
         both.read(&read)?;
     }

@@ -28,11 +28,7 @@ fn stopped(reply: Result<(), Stop>) -> Answer {
 
 impl Rust {
     /// An act, undone where the state after it does not fit the sizes.
-    fn act<T>(
-        &mut self,
-        sizes: &Sizes,
-        act: impl FnOnce(&mut Overlay) -> Result<T, Refusal>,
-    ) -> Result<T, (u32, i32)> {
+    fn act<T>(&mut self, sizes: &Sizes, act: impl FnOnce(&mut Overlay) -> Result<T, Refusal>) -> Result<T, (u32, i32)> {
         let before = self.overlay.clone();
         let reply = act(&mut self.overlay).map_err(|r| (r.number, r.held.unwrap_or(0)));
         let full = sizes.exceeded(&self.overlay.state());
@@ -53,14 +49,7 @@ impl Rust {
         handle.map_err(|refused| refused.0)
     }
 
-    fn push(
-        &mut self,
-        sizes: &Sizes,
-        kind: u8,
-        head: &Head,
-        meta: &Meta,
-        parts: &[u8],
-    ) -> Result<(), (u32, i32)> {
+    fn push(&mut self, sizes: &Sizes, kind: u8, head: &Head, meta: &Meta, parts: &[u8]) -> Result<(), (u32, i32)> {
         let plain = |number: u32| (number, 0);
         let kind = kind_of(kind).map_err(plain)?;
         let record = pushed(kind, head, meta, parts).ok_or((17, 0))?;
@@ -117,9 +106,7 @@ impl Rust {
     }
 
     fn event(&mut self, sizes: &Sizes, reader: usize, line: &[u8]) -> Answer {
-        let (body, ended) = line
-            .strip_suffix(b"\n")
-            .map_or((line, false), |b| (b, true));
+        let (body, ended) = line.strip_suffix(b"\n").map_or((line, false), |b| (b, true));
         let reader = &mut self.readers[reader];
         stopped(reader.line(&mut self.overlay, body, ended, Change::None, Some(sizes)))
     }
@@ -139,26 +126,20 @@ impl Rust {
                 Answer::reply(Ok(()))
             }
             Call::Intern(text) => Answer::value(self.intern(sizes, text)),
-            Call::Push(kind, head, meta, parts) => {
-                Answer::reply(self.push(sizes, *kind, head, meta, parts))
-            }
+            Call::Push(kind, head, meta, parts) => Answer::reply(self.push(sizes, *kind, head, meta, parts)),
             Call::Delete(kind, id, meta) => Answer::reply(self.delete(sizes, *kind, *id, meta)),
             Call::LiveCount(kind) => self.of_kind(*kind, |k| Ok(overlay.live_count(k) as u64)),
-            Call::DeletedCount(kind) => {
-                self.of_kind(*kind, |k| Ok(overlay.deleted_count(k) as u64))
-            }
+            Call::DeletedCount(kind) => self.of_kind(*kind, |k| Ok(overlay.deleted_count(k) as u64)),
             Call::IsEmpty => Answer::value(Ok(overlay.is_empty().into())),
             Call::LiveId(kind, n) => self.of_kind(*kind, |k| nth(&overlay.sorted_ids(k).0, *n)),
             Call::DeletedId(kind, n) => self.of_kind(*kind, |k| nth(&overlay.sorted_ids(k).1, *n)),
             Call::Record(kind, n) => Answer::part(self.record(*kind, *n)),
             Call::Get(kind, id) => Answer::part(self.get(*kind, *id)),
             Call::Has(kind, id) => self.of_kind(*kind, |k| Ok(overlay.has(k, *id).into())),
-            Call::IsDeleted(kind, id) => {
-                self.of_kind(*kind, |k| Ok(overlay.is_deleted(k, *id).into()))
+            Call::IsDeleted(kind, id) => self.of_kind(*kind, |k| Ok(overlay.is_deleted(k, *id).into())),
+            Call::KnownVersion(kind, id) => {
+                self.of_kind(*kind, |k| Ok(super::ground::word(overlay.known_version(k, *id))))
             }
-            Call::KnownVersion(kind, id) => self.of_kind(*kind, |k| {
-                Ok(super::ground::word(overlay.known_version(k, *id)))
-            }),
             Call::Text(handle) => Answer::part(self.text(*handle)),
             Call::Event(reader, line) => self.event(sizes, *reader, line),
             Call::End(reader) => stopped(self.readers[*reader].end()),
@@ -174,14 +155,7 @@ impl Rust {
         let staged = reader.staged();
         let push = staged.map(|s| {
             let (flags, version, timestamp, changeset, uid, user) = s.meta;
-            let meta = Meta {
-                flags,
-                version,
-                timestamp,
-                changeset,
-                uid,
-                user,
-            };
+            let meta = Meta { flags, version, timestamp, changeset, uid, user };
             let values = s.tag_values.iter().map(|v| v.clone().into_bytes());
             Push {
                 place: (s.lat, s.lon),

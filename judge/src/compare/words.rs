@@ -4,9 +4,7 @@ use std::collections::BTreeSet;
 
 use super::call::{Answer, Call, DELETED, Head, NO_FLOOR, Port, Storage, floor_of, kind_of};
 use super::words_reader;
-use crate::answer::{
-    self, KINDS, Kind, MOST_MEMBERS, MOST_REFS, MOST_TAGS, MOST_VALUE_BYTES, Meta,
-};
+use crate::answer::{self, KINDS, Kind, MOST_MEMBERS, MOST_REFS, MOST_TAGS, MOST_VALUE_BYTES, Meta};
 use crate::ground::is_text;
 use crate::produce::Bytes;
 
@@ -61,10 +59,7 @@ fn first<T>(all: &[T], count: u64) -> &[T] {
 /// The counted rows of a kind, as far as the words go.
 pub fn rows(lent: &Storage, kind: Kind) -> Vec<Row> {
     let (rows, _) = lent.tables[kind as usize].as_chunks::<3>();
-    first(rows, lent.counts[kind as usize])
-        .iter()
-        .map(|&[rank, place, floor]| Row { rank, place, floor })
-        .collect()
+    first(rows, lent.counts[kind as usize]).iter().map(|&[rank, place, floor]| Row { rank, place, floor }).collect()
 }
 
 /// The used bytes of a kind's arena.
@@ -128,13 +123,7 @@ impl<'a> Cut<'a> {
             Kind::Way | Kind::Relation => (0, 0, self.u32()?),
         };
         let tags = self.u32()?;
-        Some(Head {
-            id,
-            lat,
-            lon,
-            count,
-            tags,
-        })
+        Some(Head { id, lat, lon, count, tags })
     }
 
     /// "flags u8, version i32, timestamp i64, changeset i64, uid i32, user handle u32".
@@ -162,13 +151,7 @@ impl<'a> Cut<'a> {
 
     /// "Then refs (i64), or members of 13 bytes .., then tags", as many as the head counts.
     fn parts(&mut self, kind: Kind, head: &Head, meta: Meta) -> Option<Record<'a>> {
-        let mut record = Record {
-            head: *head,
-            meta,
-            refs: Vec::new(),
-            members: Vec::new(),
-            tags: Vec::new(),
-        };
+        let mut record = Record { head: *head, meta, refs: Vec::new(), members: Vec::new(), tags: Vec::new() };
         let count = if kind == Kind::Node { 0 } else { head.count };
         for _ in 0..count {
             match kind {
@@ -238,13 +221,9 @@ pub fn meta_is_legal(meta: &Meta, strings: u64) -> bool {
 pub fn first_fault(kind: Kind, record: &Record, strings: u64) -> Result<(), u32> {
     let held = |handle: u32| u64::from(handle) < strings;
     let (mut members, mut tags) = (record.members.iter(), record.tags.iter());
-    let legal = meta_is_legal(&record.meta, strings)
-        && members.all(|m| m.1 <= 2 && held(m.2))
-        && tags.all(|tag| held(tag.0));
-    let (lat, lon) = (
-        record.head.lat.unsigned_abs(),
-        record.head.lon.unsigned_abs(),
-    );
+    let legal =
+        meta_is_legal(&record.meta, strings) && members.all(|m| m.1 <= 2 && held(m.2)) && tags.all(|tag| held(tag.0));
+    let (lat, lon) = (record.head.lat.unsigned_abs(), record.head.lon.unsigned_abs());
     let value_bytes: usize = record.tags.iter().map(|tag| tag.1.len()).sum();
     if !legal {
         Err(17)
@@ -291,12 +270,10 @@ fn strings_are_sound(lent: &Storage) -> bool {
 /// deleted".
 fn kind_is_sound(lent: &Storage, kind: Kind) -> bool {
     let rows = rows(lent, kind);
-    let starts = |row: &Row, records: &BTreeSet<(u64, i64)>| {
-        !row.is_live() || records.contains(&(row.place, id_of(row.rank)))
-    };
+    let starts =
+        |row: &Row, records: &BTreeSet<(u64, i64)>| !row.is_live() || records.contains(&(row.place, id_of(row.rank)));
     whole_records(lent, kind).is_some_and(|records| {
-        rows.windows(2).all(|pair| pair[0].rank < pair[1].rank)
-            && rows.iter().all(|row| starts(row, &records))
+        rows.windows(2).all(|pair| pair[0].rank < pair[1].rank) && rows.iter().all(|row| starts(row, &records))
     })
 }
 
@@ -384,13 +361,7 @@ fn word(version: Option<i32>) -> u64 {
 
 /// 12, 14, 15; then the record joined to the used bytes and its id live. "A push without one carries
 /// the known version into the floor, only while regression is refused."
-pub fn store_push(
-    lent: &mut Storage,
-    kind: Kind,
-    head: &Head,
-    meta: &Meta,
-    parts: &[u8],
-) -> Result<(), (u32, i32)> {
+pub fn store_push(lent: &mut Storage, kind: Kind, head: &Head, meta: &Meta, parts: &[u8]) -> Result<(), (u32, i32)> {
     admitted(lent, kind, head.id, claim(meta))?;
     has_room(lent, kind, head.id)?;
     let carries = claim(meta).is_none() && refuses_regression(lent);
@@ -412,19 +383,10 @@ pub fn store_push(
 
 /// 12, 14; then the id deleted, its floor "the larger of the known version and its own, or the one
 /// that exists".
-pub fn store_delete(
-    lent: &mut Storage,
-    kind: Kind,
-    id: i64,
-    meta: &Meta,
-) -> Result<(), (u32, i32)> {
+pub fn store_delete(lent: &mut Storage, kind: Kind, id: i64, meta: &Meta) -> Result<(), (u32, i32)> {
     admitted(lent, kind, id, claim(meta))?;
     has_room(lent, kind, id)?;
-    let row = Row {
-        rank: rank(id),
-        place: DELETED,
-        floor: word(known(lent, kind, id).max(claim(meta))),
-    };
+    let row = Row { rank: rank(id), place: DELETED, floor: word(known(lent, kind, id).max(claim(meta))) };
     set_row(lent, kind, row);
     Ok(())
 }
@@ -524,14 +486,7 @@ impl Words {
     }
 
     /// 22; 17, 3, 10, 16; 12, 14, 15.
-    fn push(
-        &self,
-        lent: &mut Storage,
-        kind: u8,
-        head: &Head,
-        meta: &Meta,
-        parts: &[u8],
-    ) -> Result<(), (u32, i32)> {
+    fn push(&self, lent: &mut Storage, kind: u8, head: &Head, meta: &Meta, parts: &[u8]) -> Result<(), (u32, i32)> {
         let plain = |number: u32| (number, 0);
         let kind = self.asked(lent, kind).map_err(plain)?;
         let record = pushed(kind, head, meta, parts).ok_or((17, 0))?;
@@ -558,24 +513,13 @@ impl Words {
     }
 
     /// What is read of a row, or of an id without one.
-    fn of_id(
-        &self,
-        lent: &Storage,
-        kind: u8,
-        id: i64,
-        read: impl FnOnce(Option<Row>) -> bool,
-    ) -> Answer {
+    fn of_id(&self, lent: &Storage, kind: u8, id: i64, read: impl FnOnce(Option<Row>) -> bool) -> Answer {
         let kind = self.asked(lent, kind);
         Answer::value(kind.map(|kind| u64::from(read(row_of(lent, kind, id)))))
     }
 
     fn count(&self, lent: &Storage, kind: u8, live: bool) -> Answer {
-        let counted = |kind| {
-            rows(lent, kind)
-                .iter()
-                .filter(|r| r.is_live() == live)
-                .count()
-        };
+        let counted = |kind| rows(lent, kind).iter().filter(|r| r.is_live() == live).count();
         Answer::value(self.asked(lent, kind).map(|kind| counted(kind) as u64))
     }
 
@@ -588,9 +532,7 @@ impl Words {
     /// "contains no data at all": no id of any kind, live or deleted.
     fn is_empty(&self, lent: &Storage) -> Result<u64, u32> {
         self.checked(lent)?;
-        Ok(u64::from(
-            KINDS.iter().all(|&kind| rows(lent, kind).is_empty()),
-        ))
+        Ok(u64::from(KINDS.iter().all(|&kind| rows(lent, kind).is_empty())))
     }
 
     fn record(&self, lent: &Storage, kind: u8, n: u64) -> Result<Option<(u64, u64)>, u32> {
@@ -627,9 +569,7 @@ impl Port for Words {
                 plain(sound)
             }
             Call::Intern(text) => Answer::value(self.intern(lent, text)),
-            Call::Push(kind, head, meta, parts) => {
-                Answer::reply(self.push(lent, *kind, head, meta, parts))
-            }
+            Call::Push(kind, head, meta, parts) => Answer::reply(self.push(lent, *kind, head, meta, parts)),
             Call::Delete(kind, id, meta) => Answer::reply(self.delete(lent, *kind, *id, meta)),
             Call::LiveCount(kind) => self.count(lent, *kind, true),
             Call::DeletedCount(kind) => self.count(lent, *kind, false),
@@ -639,9 +579,7 @@ impl Port for Words {
             Call::Record(kind, n) => Answer::part(self.record(lent, *kind, *n)),
             Call::Get(kind, id) => Answer::part(self.get(lent, *kind, *id)),
             Call::Has(kind, id) => self.of_id(lent, *kind, *id, |r| r.is_some_and(|r| r.is_live())),
-            Call::IsDeleted(kind, id) => {
-                self.of_id(lent, *kind, *id, |r| r.is_some_and(|r| !r.is_live()))
-            }
+            Call::IsDeleted(kind, id) => self.of_id(lent, *kind, *id, |r| r.is_some_and(|r| !r.is_live())),
             Call::KnownVersion(kind, id) => {
                 let kind = self.asked(lent, *kind);
                 Answer::value(kind.map(|kind| word(known(lent, kind, *id))))
@@ -649,9 +587,7 @@ impl Port for Words {
             Call::Text(handle) => Answer::part(self.text(lent, *handle)),
             Call::Event(reader, line) => words_reader::event(self, lent, *reader, line),
             Call::End(reader) => words_reader::end(self, lent, *reader),
-            Call::Listing(size) => {
-                Answer::listing(*size, self.checked(lent).map(|()| listing(lent)))
-            }
+            Call::Listing(size) => Answer::listing(*size, self.checked(lent).map(|()| listing(lent))),
         }
     }
 }

@@ -1,9 +1,7 @@
 //! An event and an end by document 01's words, on lent storage.
 
 use super::call::{Answer, Head, Lines, Storage};
-use super::words::{
-    Words, admitted, claim, first_fault, pushed, store_delete, store_push, store_text,
-};
+use super::words::{Words, admitted, claim, first_fault, pushed, store_delete, store_push, store_text};
 use crate::answer::{KINDS, Kind, MOST_MEMBERS, MOST_REFS, MOST_TAGS, MOST_VALUE_BYTES, Meta};
 use crate::ground;
 use crate::lines::{Line, judge_line, unescape};
@@ -42,41 +40,14 @@ fn bits(word: u64) -> Option<i32> {
 impl Reading {
     /// None where a word is no code, or does not fit its field.
     pub fn of(words: &[u64; 19]) -> Option<Self> {
-        let [
-            level,
-            section,
-            kind,
-            id,
-            lat,
-            lon,
-            count,
-            tags,
-            flags,
-            version,
-            ..,
-        ] = *words;
-        let [
-            ..,
-            timestamp,
-            changeset,
-            uid,
-            user,
-            used,
-            lines,
-            number,
-            line,
-            held,
-        ] = *words;
+        let [level, section, kind, id, lat, lon, count, tags, flags, version, ..] = *words;
+        let [.., timestamp, changeset, uid, user, used, lines, number, line, held] = *words;
         // A mark has the version held for 12 alone, and none has a line.
         if (number != 12 && held != 0) || (number == 0 && line != 0) {
             return None;
         }
         Some(Self {
-            place: Place {
-                level: code(level, DONE)?,
-                section: code(section, DELETE)?,
-                kind: code(kind, 2)?,
-            },
+            place: Place { level: code(level, DONE)?, section: code(section, DELETE)?, kind: code(kind, 2)? },
             head: Head {
                 id: id.cast_signed(),
                 lat: bits(lat)?,
@@ -132,8 +103,7 @@ impl Reading {
     fn is_sound(&self, parts: &[u8], strings: u64) -> bool {
         let staged = parts.get(..self.used);
         let record = staged.and_then(|p| pushed(self.kind(), &self.head, &self.meta, p));
-        record.is_some_and(|r| first_fault(self.kind(), &r, strings).is_ok())
-            && self.lines < u64::MAX
+        record.is_some_and(|r| first_fault(self.kind(), &r, strings).is_ok()) && self.lines < u64::MAX
     }
 
     /// Nothing is staged.
@@ -203,17 +173,11 @@ fn plain(number: u32) -> (u32, i32) {
 }
 
 fn step(lent: &mut Storage, n: usize, reading: &mut Reading, line: &[u8]) -> Stepped {
-    let (body, ended) = line
-        .strip_suffix(b"\n")
-        .map_or((line, false), |b| (b, true));
+    let (body, ended) = line.strip_suffix(b"\n").map_or((line, false), |b| (b, true));
     match judge_line(body, ended).map_err(plain)? {
         Line::Other => Ok(()),
         Line::Close => close(lent, n, reading),
-        Line::Open {
-            empty,
-            content,
-            name_len,
-        } => {
+        Line::Open { empty, content, name_len } => {
             let fields = content[name_len..].split('\t').skip(1);
             let fields = fields.map(|field| {
                 let (name, value) = field.split_once('=').expect("an event line");
@@ -292,14 +256,7 @@ impl Fields<'_> {
 }
 
 /// The nesting rules at an open: 5, 6, or what is done and the level after it.
-fn open(
-    lent: &mut Storage,
-    n: usize,
-    reading: &mut Reading,
-    empty: bool,
-    name: &str,
-    fields: &Fields,
-) -> Stepped {
+fn open(lent: &mut Storage, n: usize, reading: &mut Reading, empty: bool, name: &str, fields: &Fields) -> Stepped {
     let place = reading.place;
     let number = |names: [&str; 3]| names.iter().position(|n| *n == name).map(|n| n as u8);
     let object = number(["node", "way", "relation"]);
@@ -332,18 +289,9 @@ fn open(
 
 /// "Fields: id; then metadata in line order; then a pushed node's lat7; then lon7." "In a delete
 /// section the delete happens at the opening." 12, 13, 14, 15.
-fn begin(
-    lent: &mut Storage,
-    reading: &mut Reading,
-    empty: bool,
-    kind: u8,
-    fields: &Fields,
-) -> Stepped {
+fn begin(lent: &mut Storage, reading: &mut Reading, empty: bool, kind: u8, fields: &Fields) -> Stepped {
     let deletes = reading.place.section == DELETE;
-    let mut head = Head {
-        id: fields.number("id")?,
-        ..Head::default()
-    };
+    let mut head = Head { id: fields.number("id")?, ..Head::default() };
     let mut meta = fields.meta()?;
     if kind == 0 && !deletes {
         head.lat = fields.coordinate("lat7", 900_000_000)?;
@@ -373,13 +321,7 @@ fn begin(
 
 /// "`tag` anywhere, `nd` in a way, `member` in a relation, `bbox` and `bounds` in those two." In a
 /// delete section "children are checked and dropped".
-fn child(
-    lent: &mut Storage,
-    n: usize,
-    reading: &mut Reading,
-    name: &str,
-    fields: &Fields,
-) -> Stepped {
+fn child(lent: &mut Storage, n: usize, reading: &mut Reading, name: &str, fields: &Fields) -> Stepped {
     let dropped = reading.place.section == DELETE;
     match (name, reading.place.kind) {
         ("tag", _) => {
@@ -394,12 +336,7 @@ fn child(
             if !fits || reading.head.tags as usize > MOST_TAGS {
                 return Err((16, 0));
             }
-            let tag = [
-                &key.to_le_bytes(),
-                &(value.len() as u32).to_le_bytes(),
-                value,
-            ]
-            .concat();
+            let tag = [&key.to_le_bytes(), &(value.len() as u32).to_le_bytes(), value].concat();
             stage(lent, n, reading, reading.used, &tag);
         }
         ("nd", 1) => {
@@ -428,13 +365,7 @@ fn child(
 }
 
 /// One ref or member more, behind those that are there: 16.
-fn counted(
-    lent: &mut Storage,
-    n: usize,
-    reading: &mut Reading,
-    most: usize,
-    part: &[u8],
-) -> Stepped {
+fn counted(lent: &mut Storage, n: usize, reading: &mut Reading, most: usize, part: &[u8]) -> Stepped {
     let at = reading.middle();
     reading.head.count += 1;
     if reading.head.count as usize > most {

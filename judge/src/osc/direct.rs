@@ -4,8 +4,8 @@ use std::collections::HashSet;
 
 use super::CompactDiffOverlay;
 use super::compact::{
-    ArenaMeta, CompactNodeRef, CompactRelationRef, CompactTagIter, CompactWayRef, META_LEN,
-    NODE_META_OFF, RELATION_META_OFF, WAY_META_OFF,
+    ArenaMeta, CompactNodeRef, CompactRelationRef, CompactTagIter, CompactWayRef, META_LEN, NODE_META_OFF,
+    RELATION_META_OFF, WAY_META_OFF,
 };
 use super::interner::StringInterner;
 use super::sorted::{KindTable, SortedDiff};
@@ -47,9 +47,7 @@ pub struct Overlay {
 /// The calls that the published files keep to the `osc` module.
 impl Overlay {
     pub fn intern(&mut self, text: &str) -> u32 {
-        self.inner
-            .intern(text)
-            .expect("fewer than 2^32 string bytes")
+        self.inner.intern(text).expect("fewer than 2^32 string bytes")
     }
 
     pub fn push_node(
@@ -63,13 +61,7 @@ impl Overlay {
         pushed.map_err(|e| Refusal::of(&e))
     }
 
-    pub fn push_way(
-        &mut self,
-        id: i64,
-        refs: &[i64],
-        tags: &[(u32, &str)],
-        meta: &Meta,
-    ) -> Result<(), Refusal> {
+    pub fn push_way(&mut self, id: i64, refs: &[i64], tags: &[(u32, &str)], meta: &Meta) -> Result<(), Refusal> {
         let pushed = self.inner.push_way(id, refs, tags, &meta.arena());
         pushed.map_err(|e| Refusal::of(&e))
     }
@@ -176,10 +168,7 @@ fn way(r: &CompactWayRef<'_>) -> Record {
     let mut out = common(r.id(), r.data, WAY_META_OFF, r.metadata());
     out.refs = r.refs().collect();
     tagged(&mut out, r.tags());
-    assert_eq!(
-        (out.refs.len(), out.tags.len()),
-        (r.ref_count(), r.tag_count())
-    );
+    assert_eq!((out.refs.len(), out.tags.len()), (r.ref_count(), r.tag_count()));
     out
 }
 
@@ -198,19 +187,11 @@ fn relation(r: &CompactRelationRef<'_>) -> Record {
         })
         .collect();
     tagged(&mut out, r.tags());
-    assert_eq!(
-        (out.members.len(), out.tags.len()),
-        (r.member_count(), r.tag_count())
-    );
+    assert_eq!((out.members.len(), out.tags.len()), (r.member_count(), r.tag_count()));
     out
 }
 
-fn common(
-    id: i64,
-    data: &[u8],
-    meta_off: usize,
-    meta: Option<crate::write::block_builder::Metadata<'_>>,
-) -> Record {
+fn common(id: i64, data: &[u8], meta_off: usize, meta: Option<crate::write::block_builder::Metadata<'_>>) -> Record {
     assert!(data.len() >= meta_off + META_LEN);
     let flags = data[meta_off];
     assert_eq!(meta.is_some(), flags & 1 == 1);
@@ -264,9 +245,7 @@ impl Lookups {
 
     /// The first place and one past the last.
     pub fn upsert_range(&self, first: i64, last: i64) -> (usize, usize) {
-        let range = self
-            .diff
-            .upsert_range(ElementKind::Node, first, osm_id_key(last));
+        let range = self.diff.upsert_range(ElementKind::Node, first, osm_id_key(last));
         (range.start, range.end)
     }
 }
