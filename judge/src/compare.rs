@@ -1,5 +1,5 @@
 //! The comparisons, apart from what they compare with: a port is a trait's implementation, by the
-//! built library in the package `compare`, by a faulty copy of the judge in tests/faults.rs.
+//! built library in the package `compare`, by document 01's words with a fault in tests/faults.rs.
 
 pub mod both;
 pub mod call;

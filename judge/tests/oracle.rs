@@ -13,106 +13,182 @@ fn lines(text: &str) -> Vec<u8> {
     (whole.replace('|', "\t").replace('/', "\n") + end).into_bytes()
 }
 
-/// Inputs and what the Rust prints for them, regression refused.
-#[rustfmt::skip]
-const ANSWERS: [(&str, &str); 74] = [
-    // Input A.
-    ("open|osmChange/open|modify/open|node|id=7|version=3|lat7=10|lon7=-20/empty|tag|k=name|v=A/close/close/open|delete/empty|way|id=-4|version=2/close/close", "n|7|+|3|9|3|0|0|0||10|-20|1|name|A/w|-4|-|2"),
-    // "Doc: only `osmChange`; an empty one ends in Done."
-    ("empty|osmChange", ""),
-    ("open|osmChange/close", ""),
-    ("open|OsmChange", "refused|5|1|-"),
-    ("empty|node", "refused|5|1|-"),
-    ("empty|osmChange/empty|x", "refused|5|2|-"),
-    ("close/close/empty|osmChange/close/other", ""),
-    ("close", "refused|18|2|-"),
-    // "Root: .. an object there is refused 6; .. other names open Other, or pass if empty."
-    ("open|osmChange/empty|create/close", ""),
-    ("open|osmChange/empty|create/empty|way|id=1", "refused|6|3|-"),
-    ("open|osmChange/empty|node", "refused|6|2|-"),
-    ("open|osmChange/open|osmChange", "refused|5|2|-"),
-    ("open|osmChange/empty|tag/open|bounds/close/close", ""),
-    ("open|osmChange/open|x/empty|x", "refused|5|3|-"),
-    ("open|osmChange/open|x/close", "refused|18|4|-"),
-    // "Section: `node`, `way`, `relation`."
-    ("delete: open|tag|k=a|v=b", "refused|5|3|-"),
-    ("modify: empty|delete", "refused|5|3|-"),
-    // "Element: `tag` anywhere, `nd` in a way, `member` in a relation, `bbox` and `bounds` in those two."
-    ("create: open|node|id=1|lat7=0|lon7=0/empty|bbox/close", "refused|5|4|-"),
-    ("create: open|way|id=1/open|bounds/close/close", "w|1|+|?|0|0|0|0|0||0|0"),
-    ("create: open|relation|id=1/empty|nd|ref=1/close", "refused|5|4|-"),
-    ("create: open|way|id=1/empty|member|type=node|ref=1/close", "refused|5|4|-"),
-    ("create: open|way|id=1/open|nd|ref=3/close/close", "w|1|+|?|0|0|0|0|0||1|3|0"),
-    ("create: open|way|id=1/open|nd|ref=3/empty|tag|k=a|v=b", "refused|5|5|-"),
-    ("create: open|way|id=1/empty|tag|k=a|v=b/empty|nd|ref=3/close", "w|1|+|?|0|0|0|0|0||1|3|1|a|b"),
-    // "In a delete section .. children are checked and dropped."
-    ("delete: open|way|id=1/empty|tag|k=a|v=b/close", "w|1|-|?"),
-    ("delete: open|way|id=1/empty|nd|ref=x", "refused|8|4|-"),
-    ("delete: open|node|id=1/empty|tag|k=a", "refused|7|4|-"),
-    ("delete: empty|node|id=1|lat7=x", "n|1|-|?"),
-    // "Fields: id; then metadata in line order; then a pushed node's lat7; then lon7."
-    ("create: empty|node|version=x|lat7=0|lon7=0", "refused|7|3|-"),
-    ("create: empty|node|timestamp=x|id=x", "refused|8|3|-"),
-    ("create: empty|node|id=1|timestamp=x|version=x", "refused|9|3|-"),
-    ("create: empty|node|id=1|version=x|timestamp=x", "refused|8|3|-"),
-    ("create: empty|node|uid=2147483648|id=1|lat7=0|lon7=0", "refused|8|3|-"),
-    ("create: empty|node|id=1|version=1", "refused|7|3|-"),
-    ("create: empty|node|id=1|lon7=x|lat7=900000001", "refused|10|3|-"),
-    ("create: empty|node|id=1|lat7=0|lon7=1800000001", "refused|10|3|-"),
-    ("create: empty|node|id=1|lat7=1e3|lon7=0", "refused|8|3|-"),
-    ("create: empty|node|id=1|lat=1|lon=1", "refused|7|3|-"),
-    ("create: empty|node|id=1|lat=x|lat7=-900000000|lon7=+001800000000", "n|1|+|?|0|0|0|0|0||-900000000|1800000000|0"),
-    ("create: open|relation|id=1/empty|member|ref=1", "refused|7|4|-"),
-    ("create: open|relation|id=1/empty|member|type=area|ref=x", "refused|11|4|-"),
-    ("create: open|relation|id=1/empty|member|type=way|ref=2/close", "r|1|+|?|0|0|0|0|0||1|1|2||0"),
-    // "Any of the six attributes sets flag 1; only `visible=false` exactly sets 2."
-    ("create: empty|way|id=1|x=y", "w|1|+|?|0|0|0|0|0||0|0"),
-    ("create: empty|way|id=1|visible=False", "w|1|+|?|1|0|0|0|0||0|0"),
-    ("create: empty|way|id=1|visible=false", "w|1|+|?|3|0|0|0|0||0|0"),
-    ("create: empty|way|id=1|user=", "w|1|+|?|5|0|0|0|0||0|0"),
-    ("create: empty|way|id=1|user=a\\tb\\\\", "w|1|+|?|5|0|0|0|0|a\\tb\\\\|0|0"),
-    ("create: empty|way|id=1|version=-3", "w|1|+|-3|9|-3|0|0|0||0|0"),
-    ("create: empty|way|id=1|uid=-7|timestamp=1970-01-01T00:00:01Z", "w|1|+|?|1|0|1|0|-7||0|0"),
-    // "A push with a version is checked against it"; kinds are apart; order of ids.
-    ("create: empty|way|id=5|version=4/empty|way|id=5|version=3", "refused|12|4|4"),
-    ("create: empty|way|id=5|version=4/open|way|id=5|version=3/empty|nd|ref=1/close", "refused|12|6|4"),
-    ("create: empty|way|id=5|version=4/empty|way|id=5/empty|way|id=5|version=3", "refused|12|5|4"),
-    ("create: empty|way|id=5|version=4/empty|relation|id=5|version=1", "w|5|+|4|9|4|0|0|0||0|0/r|5|+|1|9|1|0|0|0||0|0"),
-    ("delete: empty|way|id=2/empty|way|id=-2/empty|way|id=-1/empty|way|id=0", "w|0|-|?/w|-1|-|?/w|-2|-|?/w|2|-|?"),
-    // "4 not an event line, or an attribute twice", before 5.
-    ("open", "refused|4|1|-"),
-    ("open|", "refused|4|1|-"),
-    ("open||id=1", "refused|4|1|-"),
-    ("close|", "refused|4|1|-"),
-    ("close|x=y", "refused|4|1|-"),
-    ("other|x", "refused|4|1|-"),
-    ("Open|osmChange", "refused|4|1|-"),
-    (" open|osmChange", "refused|4|1|-"),
-    ("open|osmChange|", "refused|4|1|-"),
-    ("open|osmChange|x", "refused|4|1|-"),
-    ("open|osmChange|=x", "refused|4|1|-"),
-    ("open|osmChange|x=\\", "refused|4|1|-"),
-    ("open|osmChange|x=\\x", "refused|4|1|-"),
-    ("open|x|a=1|b=2|a=1", "refused|4|1|-"),
-    ("\u{feff}open|osmChange", "refused|4|1|-"),
-    // Escapes belong to values; the first `=` parts a name from its value.
-    ("empty|osmChange|a\\q=1|a\\=x=y", ""),
-    ("open|osmChange/empty|a=\\q/close", ""),
-    // "3 not text", "a raw carriage return in a line is not text".
-    ("open|osmChange\r", "refused|3|1|-"),
-    ("open|osmChange|x=\u{1}", "refused|3|1|-"),
-    ("open|osmChange|x=\u{fffe}", "refused|3|1|-"),
-];
-
-#[test]
-fn answers() {
-    for (input, answer) in ANSWERS {
+/// What the Rust prints for inputs, regression refused: plain, and one event at a time in `roadlist`'s sizes.
+#[track_caller]
+fn answers(rows: &[(&str, &str)]) {
+    for (input, answer) in rows {
         let input = lines(input);
         let (outcome, _) = run(&input, false);
         assert_eq!(outcome.print(), lines(answer), "{}", input.escape_ascii());
         let (sized, _) = run_sized(&input, false, &Sizes::ROADLIST);
         assert_eq!(outcome, sized, "{}", input.escape_ascii());
     }
+}
+
+/// Input A.
+#[test]
+fn input_a() {
+    answers(&[(
+        "open|osmChange/open|modify/open|node|id=7|version=3|lat7=10|lon7=-20/empty|tag|k=name|v=A/close/close/open|delete/empty|way|id=-4|version=2/close/close",
+        "n|7|+|3|9|3|0|0|0||10|-20|1|name|A/w|-4|-|2",
+    )]);
+}
+
+/// "Doc: only `osmChange`; an empty one ends in Done."
+#[test]
+fn doc_takes_only_the_root() {
+    answers(&[
+        ("empty|osmChange", ""),
+        ("open|osmChange/close", ""),
+        ("open|OsmChange", "refused|5|1|-"),
+        ("empty|node", "refused|5|1|-"),
+        ("empty|osmChange/empty|x", "refused|5|2|-"),
+    ]);
+}
+
+/// "Root: .. an object there is refused 6; .. other names open Other, or pass if empty."
+#[test]
+fn root() {
+    answers(&[
+        ("open|osmChange/empty|create/close", ""),
+        ("open|osmChange/empty|create/empty|way|id=1", "refused|6|3|-"),
+        ("open|osmChange/empty|node", "refused|6|2|-"),
+        ("open|osmChange/open|osmChange", "refused|5|2|-"),
+        ("open|osmChange/empty|tag/open|bounds/close/close", ""),
+        ("open|osmChange/open|x/empty|x", "refused|5|3|-"),
+    ]);
+}
+
+/// "Section: `node`, `way`, `relation`."
+#[test]
+fn section() {
+    answers(&[("delete: open|tag|k=a|v=b", "refused|5|3|-"), ("modify: empty|delete", "refused|5|3|-")]);
+}
+
+/// "Element: `tag` anywhere, `nd` in a way, `member` in a relation, `bbox` and `bounds` in those two."
+#[test]
+fn element_children() {
+    answers(&[
+        ("create: open|node|id=1|lat7=0|lon7=0/empty|bbox/close", "refused|5|4|-"),
+        ("create: open|way|id=1/open|bounds/close/close", "w|1|+|?|0|0|0|0|0||0|0"),
+        ("create: open|relation|id=1/empty|nd|ref=1/close", "refused|5|4|-"),
+        ("create: open|way|id=1/empty|member|type=node|ref=1/close", "refused|5|4|-"),
+        ("create: open|way|id=1/open|nd|ref=3/empty|tag|k=a|v=b", "refused|5|5|-"),
+        ("create: open|way|id=1/empty|tag|k=a|v=b/empty|nd|ref=3/close", "w|1|+|?|0|0|0|0|0||1|3|1|a|b"),
+    ]);
+}
+
+/// "A close goes Leaf to Element to Section to Root to Done, Other to Root; in Doc and Done it changes nothing."
+#[test]
+fn closes() {
+    answers(&[
+        ("close/close/empty|osmChange/close/other", ""),
+        ("close", "refused|18|2|-"),
+        ("open|osmChange/open|x/close", "refused|18|4|-"),
+        ("create: open|way|id=1/open|nd|ref=3/close/close", "w|1|+|?|0|0|0|0|0||1|3|0"),
+    ]);
+}
+
+/// "In a delete section .. children are checked and dropped."
+#[test]
+fn delete_happens_at_the_opening_and_a_push_at_the_end() {
+    answers(&[
+        ("delete: open|way|id=1/empty|tag|k=a|v=b/close", "w|1|-|?"),
+        ("delete: open|way|id=1/empty|nd|ref=x", "refused|8|4|-"),
+        ("delete: open|node|id=1/empty|tag|k=a", "refused|7|4|-"),
+        ("delete: empty|node|id=1|lat7=x", "n|1|-|?"),
+    ]);
+}
+
+/// "Fields: id; then metadata in line order; then a pushed node's lat7; then lon7."
+#[test]
+fn fields_in_their_order() {
+    answers(&[
+        ("create: empty|node|version=x|lat7=0|lon7=0", "refused|7|3|-"),
+        ("create: empty|node|timestamp=x|id=x", "refused|8|3|-"),
+        ("create: empty|node|id=1|timestamp=x|version=x", "refused|9|3|-"),
+        ("create: empty|node|id=1|version=x|timestamp=x", "refused|8|3|-"),
+        ("create: empty|node|uid=2147483648|id=1|lat7=0|lon7=0", "refused|8|3|-"),
+        ("create: empty|node|id=1|version=1", "refused|7|3|-"),
+        ("create: empty|node|id=1|lon7=x|lat7=900000001", "refused|10|3|-"),
+        ("create: empty|node|id=1|lat7=0|lon7=1800000001", "refused|10|3|-"),
+        ("create: empty|node|id=1|lat7=1e3|lon7=0", "refused|8|3|-"),
+        ("create: empty|node|id=1|lat=1|lon=1", "refused|7|3|-"),
+        (
+            "create: empty|node|id=1|lat=x|lat7=-900000000|lon7=+001800000000",
+            "n|1|+|?|0|0|0|0|0||-900000000|1800000000|0",
+        ),
+        ("create: open|relation|id=1/empty|member|ref=1", "refused|7|4|-"),
+        ("create: open|relation|id=1/empty|member|type=area|ref=x", "refused|11|4|-"),
+        ("create: open|relation|id=1/empty|member|type=way|ref=2/close", "r|1|+|?|0|0|0|0|0||1|1|2||0"),
+    ]);
+}
+
+/// "Any of the six attributes sets flag 1; only `visible=false` exactly sets 2."
+#[test]
+fn metadata_flags() {
+    answers(&[
+        ("create: empty|way|id=1|x=y", "w|1|+|?|0|0|0|0|0||0|0"),
+        ("create: empty|way|id=1|visible=False", "w|1|+|?|1|0|0|0|0||0|0"),
+        ("create: empty|way|id=1|visible=false", "w|1|+|?|3|0|0|0|0||0|0"),
+        ("create: empty|way|id=1|user=", "w|1|+|?|5|0|0|0|0||0|0"),
+        ("create: empty|way|id=1|user=a\\tb\\\\", "w|1|+|?|5|0|0|0|0|a\\tb\\\\|0|0"),
+        ("create: empty|way|id=1|version=-3", "w|1|+|-3|9|-3|0|0|0||0|0"),
+        ("create: empty|way|id=1|uid=-7|timestamp=1970-01-01T00:00:01Z", "w|1|+|?|1|0|1|0|-7||0|0"),
+    ]);
+}
+
+/// "A push with a version is checked against it"; kinds are apart; order of ids.
+#[test]
+fn versions() {
+    answers(&[
+        ("create: empty|way|id=5|version=4/empty|way|id=5|version=3", "refused|12|4|4"),
+        ("create: empty|way|id=5|version=4/open|way|id=5|version=3/empty|nd|ref=1/close", "refused|12|6|4"),
+        ("create: empty|way|id=5|version=4/empty|way|id=5/empty|way|id=5|version=3", "refused|12|5|4"),
+        (
+            "create: empty|way|id=5|version=4/empty|relation|id=5|version=1",
+            "w|5|+|4|9|4|0|0|0||0|0/r|5|+|1|9|1|0|0|0||0|0",
+        ),
+        ("delete: empty|way|id=2/empty|way|id=-2/empty|way|id=-1/empty|way|id=0", "w|0|-|?/w|-1|-|?/w|-2|-|?/w|2|-|?"),
+    ]);
+}
+
+/// "4 not an event line, or an attribute twice", before 5.
+#[test]
+fn line_checks() {
+    answers(&[
+        ("open", "refused|4|1|-"),
+        ("open|", "refused|4|1|-"),
+        ("open||id=1", "refused|4|1|-"),
+        ("close|", "refused|4|1|-"),
+        ("close|x=y", "refused|4|1|-"),
+        ("other|x", "refused|4|1|-"),
+        ("Open|osmChange", "refused|4|1|-"),
+        (" open|osmChange", "refused|4|1|-"),
+        ("open|osmChange|", "refused|4|1|-"),
+        ("open|osmChange|x", "refused|4|1|-"),
+        ("open|osmChange|=x", "refused|4|1|-"),
+        ("open|osmChange|x=\\", "refused|4|1|-"),
+        ("open|osmChange|x=\\x", "refused|4|1|-"),
+        ("open|x|a=1|b=2|a=1", "refused|4|1|-"),
+        ("\u{feff}open|osmChange", "refused|4|1|-"),
+    ]);
+}
+
+/// Escapes belong to values; the first `=` parts a name from its value.
+#[test]
+fn escapes() {
+    answers(&[("empty|osmChange|a\\q=1|a\\=x=y", ""), ("open|osmChange/empty|a=\\q/close", "")]);
+}
+
+/// "3 not text", "a raw carriage return in a line is not text".
+#[test]
+fn not_text() {
+    answers(&[
+        ("open|osmChange\r", "refused|3|1|-"),
+        ("open|osmChange|x=\u{1}", "refused|3|1|-"),
+        ("open|osmChange|x=\u{fffe}", "refused|3|1|-"),
+    ]);
 }
 
 /// "2 over 16,384 bytes without its line feed", before 3; "a last line without its line feed, is

@@ -2,23 +2,49 @@
 //! the judge.
 
 use compare::{Library, ffi, same};
+use judge::compare::Compared;
 use judge::compare::ground::{self, Ground};
 use judge::compare::lookups::{self, LookupPort};
 use judge::random::seed_and_rounds;
 
-#[test]
-fn every_call() {
+fn of(comparison: fn(&dyn Ground, u64, u64) -> Compared) {
     let (seed, rounds) = seed_and_rounds();
-    let comparisons = [ground::ids, ground::versions, ground::integers, ground::stamps, ground::texts];
-    for comparison in comparisons {
-        same(comparison(&Library, seed, rounds));
-    }
+    same(comparison(&Library, seed, rounds));
 }
 
 #[test]
-fn lists() {
-    let (seed, rounds) = seed_and_rounds();
+fn ids() {
+    of(ground::ids);
+}
+
+#[test]
+fn versions() {
+    of(ground::versions);
+}
+
+#[test]
+fn integers() {
+    of(ground::integers);
+}
+
+#[test]
+fn stamps() {
+    of(ground::stamps);
+}
+
+#[test]
+fn texts() {
+    of(ground::texts);
+}
+
+#[test]
+fn short_lists() {
     same(lookups::short_lists(&Library));
+}
+
+#[test]
+fn random_lists() {
+    let (seed, rounds) = seed_and_rounds();
     same(lookups::random_lists(&Library, seed, rounds));
 }
 

@@ -20,6 +20,10 @@ fn set_ups() {
 #[test]
 fn sequences() {
     same(direct::sequences(LIBRARY, depth() + 1, THE_LISTING));
+}
+
+#[test]
+fn reads_after_sequences() {
     same(direct::sequences(LIBRARY, depth(), EVERYTHING));
 }
 
@@ -38,6 +42,10 @@ fn long_lists() {
 #[test]
 fn orders() {
     same(direct::orders(LIBRARY));
+}
+
+#[test]
+fn parts_not_as_counted() {
     same(direct::parts_not_as_counted(LIBRARY));
 }
 
@@ -53,9 +61,9 @@ fn plain(kind: Kind, id: i64) -> Push {
     Push::plain(kind, id, Meta::default())
 }
 
-/// Document 01's trial rows of way 5 and of record lengths.
+/// Document 01's trial row of way 5.
 #[test]
-fn trial_rows() {
+fn way_5() {
     let mut lent = empty();
     let at = |version| Push::plain(Kind::Way, 5, claiming(Some(version))).call();
     let delete = |version| Call::Delete(1, 5, claiming(Some(version)));
@@ -69,6 +77,11 @@ fn trial_rows() {
     ] {
         assert_eq!(LIBRARY.call(&mut lent, &call), *answer);
     }
+}
+
+/// Those of record lengths.
+#[test]
+fn record_lengths() {
     for (kind, change, len) in [
         (Kind::Node, (|p| p.tags = vec![(0, b"yes".into())]) as fn(&mut Push), 60),
         (Kind::Way, |p| p.refs = vec![1, 2], 61),
@@ -76,12 +89,12 @@ fn trial_rows() {
     ] {
         let (mut lent, mut push) = (empty(), plain(kind, 1));
         change(&mut push);
-        assert_eq!(LIBRARY.call(&mut lent, &push.call()), taken);
+        assert_eq!(LIBRARY.call(&mut lent, &push.call()).number(), 0);
         assert_eq!(lent.counts[3 + kind as usize], len);
     }
 }
 
-/// The port's side of docs/DIFFERENCES.md: D2 to D6 and D8, as direct calls and reads.
+/// The port's side of docs/DIFFERENCES.md: D3 to D6, as direct calls.
 #[test]
 fn differences() {
     let number = |change: fn(&mut Push), kind: Kind| {
@@ -106,6 +119,11 @@ fn differences() {
     assert_eq!((texts[510], texts[511]), (0, 13));
     let ways = numbers(&mut (0..183).map(|_| plain(Kind::Way, 1).call()));
     assert_eq!((ways[181], ways[182]), (0, 15));
+}
+
+/// D2 and D8, as reads.
+#[test]
+fn read_differences() {
     let mut lent = empty();
     assert_eq!(LIBRARY.call(&mut lent, &Call::Record(0, 0)), Answer::part(Err(21)));
     for id in [1, 2] {

@@ -187,27 +187,32 @@ pub fn readers(port: &dyn Port, values: Values) -> Compared {
     let mut both = Both::new(port, reader_calls());
     let bases = small_readers();
     for base in &bases {
-        both.changed(base, base)?;
-        let Lines { words, parts } = &base.readers[0];
-        let mut lent = base.clone();
-        for n in 0..19 {
-            for value in reader_values(words, n) {
-                lent.readers[0].words[n] = value;
-                both.changed(base, &lent)?;
-            }
-            lent.readers[0].words[n] = words[n];
-        }
-        let past = words[14] as usize + 9;
-        for n in (0..past).chain((past..parts.len()).step_by(4_999)) {
-            for value in values.of(n, parts[n]) {
-                lent.readers[0].parts[n] = value;
-                both.changed(base, &lent)?;
-            }
-            lent.readers[0].parts[n] = parts[n];
-        }
+        one_reader(&mut both, base, values)?;
     }
     both.each_byte(&bases[3], Values::One)?;
     both.done()
+}
+
+fn one_reader(both: &mut Both<'_>, base: &Storage, values: Values) -> Result<(), String> {
+    both.changed(base, base)?;
+    let Lines { words, parts } = &base.readers[0];
+    let mut lent = base.clone();
+    for n in 0..19 {
+        for value in reader_values(words, n).into_iter().step_by(if values == Values::One { 9 } else { 1 }) {
+            lent.readers[0].words[n] = value;
+            both.changed(base, &lent)?;
+        }
+        lent.readers[0].words[n] = words[n];
+    }
+    let past = words[14] as usize + 9;
+    for n in (0..past).chain((past..parts.len()).step_by(4_999)) {
+        for value in values.of(n, parts[n]) {
+            lent.readers[0].parts[n] = value;
+            both.changed(base, &lent)?;
+        }
+        lent.readers[0].parts[n] = parts[n];
+    }
+    Ok(())
 }
 
 /// The first numbers, the ends of widths, the other words, each bit of the word.
@@ -406,6 +411,10 @@ pub fn short(port: &dyn Port, listing: bool) -> Compared {
     }
     sized(&mut both, &[4, 400, 6, 40])?;
     at_random(&mut both, 1, 300)?;
+    both.groups = reader_calls();
+    for base in &small_readers()[1..6] {
+        one_reader(&mut both, base, Values::One)?;
+    }
     both.done()
 }
 
