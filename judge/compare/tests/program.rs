@@ -6,7 +6,7 @@ use std::process::{Command, Stdio};
 
 use compare::same;
 use judge::compare::program::{self, Program};
-use judge::random::seed_and_rounds;
+use judge::random::{Random, seed_and_rounds};
 
 struct Roadlist(PathBuf);
 
@@ -20,23 +20,35 @@ impl Roadlist {
 }
 
 impl Program for Roadlist {
+    /// The input comes in pieces of many lengths. A refusal has a status that is not 0.
     fn print(&self, input: &[u8]) -> Vec<u8> {
         let mut child = Command::new(&self.0)
             .stdin(Stdio::piped())
             .stdout(Stdio::piped())
+            .stderr(Stdio::null())
             .spawn()
             .unwrap_or_else(|e| panic!("{}: {e}", self.0.display()));
         let mut stdin = child.stdin.take().expect("piped");
         let input = input.to_vec();
         // The program may end before it has read all: then the pipe is closed, which is no fault.
         let writer = std::thread::spawn(move || {
-            let _ = stdin.write_all(&input);
+            let mut random = Random::new(input.len() as u64);
+            let mut rest = &input[..];
+            while !rest.is_empty() {
+                let most = *random.pick(&[1, 30, 5_000, 1 << 20]);
+                let (piece, after) = rest.split_at(rest.len().min(1 + random.below(most)));
+                if stdin.write_all(piece).is_err() {
+                    break;
+                }
+                rest = after;
+            }
         });
         let mut output = Vec::new();
         let mut stdout = child.stdout.take().expect("piped");
         stdout.read_to_end(&mut output).expect("its output");
         writer.join().expect("its input");
-        child.wait().expect("its end");
+        let status = child.wait().expect("its end");
+        assert_eq!(status.success(), !output.starts_with(b"refused\t"), "{status}");
         output
     }
 }

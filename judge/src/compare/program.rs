@@ -80,6 +80,12 @@ pub fn edge_inputs() -> Vec<Vec<u8>> {
             }
         }
     }
+    // A document cut at every byte, and with carriage returns.
+    let document = inputs[11].clone();
+    inputs.extend((0..document.len()).map(|len| document[..len].to_vec()));
+    inputs.push(String::from_utf8_lossy(&document).replace('\n', "\r\n").into_bytes());
+    // Some megabytes.
+    inputs.push([b"other\n".repeat(700_000), document].concat());
     // Many short lines: more than a program's buffer holds.
     inputs.push([b"other\n".repeat(50_000), b"empty\tosmChange\n".to_vec()].concat());
     inputs.push(b"other\n".repeat(50_000));
