@@ -282,14 +282,10 @@ impl<L: Lend> Entries<L> {
 impl<L: Lend> Port for Entries<L> {
     fn call(&self, lent: &mut Storage, call: &Call) -> Answer {
         match call {
-            Call::SetUp(_)
-            | Call::Allow(_)
-            | Call::Intern(_)
-            | Call::Push(..)
-            | Call::Delete(..)
-            | Call::Listing(_) => self.changing(lent, call),
             Call::Event(n, line) => self.event(lent, *n, Some(line)),
             Call::End(n) => self.event(lent, *n, None),
+            Call::Listing(_) => self.changing(lent, call),
+            call if call.is_change() => self.changing(lent, call),
             call => self.0.read(lent, |p| reading(p, call)),
         }
     }

@@ -48,28 +48,21 @@ impl<'a> Both<'a> {
     /// refused one it is as before but for the stop mark.
     pub(super) fn call(&mut self, call: &Call) -> Result<u32, String> {
         self.log.push(call.shown());
-        let (log, number) = (&self.log, self.rust.call(&self.lent.sizes(), call));
+        let log = &self.log;
+        let answer = self.rust.call(&self.lent.sizes(), call);
         let port = self.port.call(&mut self.lent, call);
-        self.tally.same(|| shown(log), &number, &port)?;
-        let number = number.number();
-        match call {
-            Call::SetUp(_) | Call::Allow(_) | Call::Intern(_) | Call::Push(..) | Call::Delete(..) | Call::Event(..)
-                if number == 0 =>
-            {
-                self.expected.hold(&self.rust.overlay.state());
-            }
-            _ => {}
+        self.tally.same(|| shown(log), &answer, &port)?;
+        let number = answer.number();
+        if number == 0 && call.is_change() {
+            self.expected.hold(&self.rust.overlay.state());
         }
         match call {
-            Call::SetUp(setting) | Call::Allow(setting) if number == 0 => {
-                self.expected.counts[8] = *setting;
-            }
+            Call::SetUp(setting) | Call::Allow(setting) if number == 0 => self.expected.counts[8] = *setting,
             Call::Event(n, _) => self.rust.hold_reader(*n, &mut self.expected.readers[*n]),
             _ => {}
         }
-        let written = || self.expected.changes(&self.lent);
-        let none: Vec<String> = Vec::new();
-        self.tally.same(|| format!("{}\nlent", shown(log)), none, written())?;
+        let written = self.expected.changes(&self.lent);
+        self.tally.same(|| format!("{}\nlent", shown(log)), Vec::new(), written)?;
         Ok(number)
     }
 

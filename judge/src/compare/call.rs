@@ -281,6 +281,12 @@ pub enum Call {
 }
 
 impl Call {
+    /// Whether it changes the overlay where it is accepted.
+    pub fn is_change(&self) -> bool {
+        use Call::{Allow, Delete, Event, Intern, Push, SetUp};
+        matches!(self, SetUp(_) | Allow(_) | Intern(_) | Push(..) | Delete(..) | Event(..))
+    }
+
     /// For a report.
     pub fn shown(&self) -> String {
         let shown = match self {
