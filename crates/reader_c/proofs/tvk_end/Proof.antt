@@ -1,0 +1,50 @@
+-- The reply is that of `reader_calls::end`, or 22.
+use mathlib.Core.Path.{sym, _∙_}
+use denote.Ref.{now}
+use Rattle.overlay.specs.Overlay.{Overlay, overlayOf}
+use Rattle.reader_c.proofs.Replies.{end-is, end-none}
+use borrow.Author.Needs.{needs}
+use Rattle.reader_c.proofs.tvk_end.Statement.{statement}
+use Rattle.reader_c.proofs.tvk_end.Tie as tie
+
+-- the overlay as it was lent
+abbrev given : tie.Start → Overlay
+given s =
+    let k = s .args in
+    overlayOf (now (k .nids)) (now (k .narena)) (now (k .wids)) (now (k .warena)) (now (k .rids)) (now (k .rarena)) (now (k .spans)) (now (k .bytes)) (now (k .used))
+
+is-reader-requires : tie.Need-is-reader-requires
+is-reader-requires c κs = search needs
+
+reader-in-requires : tie.Need-reader-in-requires
+reader-in-requires c κs = search needs
+
+end-requires : tie.Need-end-requires
+end-requires c κs = search needs
+
+event-reply-requires : tie.Need-event-reply-requires
+event-reply-requires c κs = search needs
+
+returns : tie.Need-returns
+returns c =
+    let s = c .before .before .before .before .before .before .before .before .before .before .before .before .before in
+    let i = sym (c .before .before .before .before .is-reader .ensures) ∙ c .before .before .before .if1 .taken in
+    end-is (given s) (now (s .args .reader)) (now (s .args .parts)) i (c .before .before .reader-in .ensures i) (c .before .end .ensures) (c .event-reply .ensures)
+
+event-reply-requires-2 : tie.Need-event-reply-requires-2
+event-reply-requires-2 c κs = search needs
+
+returns-2 : tie.Need-returns-2
+returns-2 c = let s = c .before .before .before .before .before .before .before .before .before .before .before in end-none (given s) (now (s .args .reader)) (now (s .args .parts)) (sym (c .before .before .is-reader .ensures) ∙ c .before .if1 .left) (c .event-reply2 .ensures)
+
+pub tvk-end-spec : {M : Type 1} → statement M
+tvk-end-spec =
+    tie.close
+    (tie.spec
+    is-reader-requires
+    reader-in-requires
+    end-requires
+    event-reply-requires
+    returns
+    event-reply-requires-2
+    returns-2)

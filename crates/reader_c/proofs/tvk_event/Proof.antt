@@ -1,0 +1,86 @@
+-- What is left and the reply are those of `reader_calls::event`; or nothing changes, and 22 is replied.
+use mathlib.Core.Path.{sym, _∙_}
+use denote.Ref.{now}
+use Rattle.overlay.specs.Overlay.{Overlay, overlayOf}
+use Rattle.reader_c.proofs.Replies.{event-is, event-none}
+use borrow.Author.Needs.{needs}
+use Rattle.reader_c.proofs.tvk_event.Statement.{statement}
+use Rattle.reader_c.proofs.tvk_event.Tie as tie
+
+-- the overlay as it was lent
+abbrev given : tie.Start → Overlay
+given s =
+    let k = s .args in
+    overlayOf (now (k .nids)) (now (k .narena)) (now (k .wids)) (now (k .warena)) (now (k .rids)) (now (k .rarena)) (now (k .spans)) (now (k .bytes)) (now (k .used))
+
+is-reader-requires : tie.Need-is-reader-requires
+is-reader-requires c κs = search needs
+
+reader-in-requires : tie.Need-reader-in-requires
+reader-in-requires c κs = search needs
+
+event-requires : tie.Need-event-requires
+event-requires c κs = search needs
+
+put-reader-requires : tie.Need-put-reader-requires
+put-reader-requires c κs = search needs
+
+event-reply-requires : tie.Need-event-reply-requires
+event-reply-requires c κs = search needs
+
+same-length : tie.Need-same-length
+same-length c = search needs
+
+same-length-2 : tie.Need-same-length-2
+same-length-2 c = search needs
+
+same-length-3 : tie.Need-same-length-3
+same-length-3 c = search needs
+
+same-length-4 : tie.Need-same-length-4
+same-length-4 c = search needs
+
+same-length-5 : tie.Need-same-length-5
+same-length-5 c = search needs
+
+same-length-6 : tie.Need-same-length-6
+same-length-6 c = search needs
+
+same-length-7 : tie.Need-same-length-7
+same-length-7 c = search needs
+
+same-length-8 : tie.Need-same-length-8
+same-length-8 c = search needs
+
+returns : tie.Need-returns
+returns c =
+    let s = c .before .before .before .before .before .before .before .before .before .before .before .before .before .before .before .before .before .before .before .before .before .before .before .before .before .before .before .before .before .before .before .before .before .before .before .before .before .before .before .before .before .before .before .before .before in
+    let i = sym (c .before .before .before .before .before .before .before .before .before .before .before .before .before .before .before .before .before .before .before .before .before .before .before .before .before .before .before .before .before .before .before .before .before .before .is-reader .ensures) ∙ c .before .before .before .before .before .before .before .before .before .before .before .before .before .before .before .before .before .before .before .before .before .before .before .before .before .before .before .before .before .before .before .before .before .if1 .taken in
+    event-is (given s) (now (s .args .reader)) (now (s .args .parts)) i (c .before .before .before .before .before .before .before .before .before .before .before .before .before .before .before .before .before .before .before .before .before .before .before .before .before .before .before .before .before .before .before .reader-in .ensures i) (now (s .args .line)) (c .before .before .before .before .before .before .before .before .before .before .before .before .before .before .before .before .before .before .before .before .event .ensures) (c .before .put-reader .ensures) (c .event-reply .ensures)
+
+event-reply-requires-2 : tie.Need-event-reply-requires-2
+event-reply-requires-2 c κs = search needs
+
+returns-2 : tie.Need-returns-2
+returns-2 c = let s = c .before .before .before .before .before .before .before .before .before .before .before .before .before in event-none (given s) (now (s .args .reader)) (now (s .args .parts)) (sym (c .before .before .is-reader .ensures) ∙ c .before .if1 .left) (c .event-reply2 .ensures) (now (s .args .line))
+
+pub tvk-event-spec : {M : Type 1} → statement M
+tvk-event-spec =
+    tie.close
+    (tie.spec
+    is-reader-requires
+    reader-in-requires
+    event-requires
+    put-reader-requires
+    event-reply-requires
+    same-length
+    same-length-2
+    same-length-3
+    same-length-4
+    same-length-5
+    same-length-6
+    same-length-7
+    same-length-8
+    returns
+    event-reply-requires-2
+    returns-2)
