@@ -1,5 +1,5 @@
 //! Links the built libraries: the files that TORVASKIN_LIB, TORVASKIN_SORTED, TORVASKIN_OVERLAY,
-//! TORVASKIN_READING and TORVASKIN_READER name, else those that `rt staticlib` writes. Each is copied
+//! TORVASKIN_READING, TORVASKIN_LISTING and TORVASKIN_READER name, else those that `rt staticlib` writes. Each is copied
 //! first, so that none is looked for in the folder of another.
 
 use std::path::{Path, PathBuf};
@@ -11,11 +11,8 @@ fn main() {
     link(&out, "TORVASKIN_SORTED", "sorted_c");
     link(&out, "TORVASKIN_OVERLAY", "overlay_c");
     link(&out, "TORVASKIN_READING", "reading_c");
-    println!("cargo::rustc-check-cfg=cfg(reader_c)");
-    if std::path::Path::new("../../target/staticlib/libreader_c.a").exists() {
-        println!("cargo::rustc-cfg=reader_c");
-        link(&out, "TORVASKIN_READER", "reader_c");
-    }
+    link(&out, "TORVASKIN_LISTING", "listing_c");
+    link(&out, "TORVASKIN_READER", "reader_c");
 }
 
 /// Links the file that a variable names, else that of a crate.

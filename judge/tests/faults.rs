@@ -40,10 +40,10 @@ const COMPARISONS: [Comparison; 15] = [
     ("names", |port| overlay::names(port, 1, 1)),
     ("documents", |port| overlay::documents(port, 1, 1).map(|n| n.1)),
     ("readers", |port| overlay::readers(port, 1, 1)),
-    ("bytes", |port| damaged::bytes(port, Values::One, true)),
-    ("words", |port| damaged::whole_words(port, true)),
-    ("sizes", |port| damaged::sizes(port, true)),
-    ("limits", |port| damaged::limits(port, true)),
+    ("bytes", |port| damaged::bytes(port, Values::One)),
+    ("words", damaged::whole_words),
+    ("sizes", damaged::sizes),
+    ("limits", damaged::limits),
     ("lines", |port| damaged::readers(port, Values::One)),
 ];
 

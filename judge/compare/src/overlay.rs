@@ -238,17 +238,6 @@ impl<L: Lend> Entries<L> {
         })
     }
 
-    #[cfg(not(reader_c))]
-    fn listing(&self, _: &Pointers, size: usize) -> Answer {
-        Answer::listing(size, Err(0))
-    }
-
-    #[cfg(not(reader_c))]
-    fn event(&self, _: &mut Storage, _: usize, _: Option<&[u8]>) -> Answer {
-        panic!("no reader_c")
-    }
-
-    #[cfg(reader_c)]
     fn listing(&self, p: &Pointers, size: usize) -> Answer {
         let mut output = vec![UNWRITTEN; size];
         let listed = self.0.bytes(&mut output, |out| entry!(tvk_listing, p, out, size));
@@ -257,7 +246,6 @@ impl<L: Lend> Entries<L> {
     }
 
     /// An event, or without a line the end.
-    #[cfg(reader_c)]
     fn event(&self, lent: &mut Storage, n: usize, line: Option<&[u8]>) -> Answer {
         let Lines { mut words, mut parts } = lent.readers[n].clone();
         let answer = self.0.lend(lent, |p| {

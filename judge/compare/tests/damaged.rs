@@ -11,31 +11,30 @@ const LIBRARY: &dyn Port = &Entries(Between);
 #[test]
 fn bytes() {
     let (seed, rounds) = seed_and_rounds();
-    same(damaged::bytes(LIBRARY, Values::of_run(seed, rounds), cfg!(reader_c)));
+    same(damaged::bytes(LIBRARY, Values::of_run(seed, rounds)));
 }
 
 #[test]
 fn whole_words() {
-    same(damaged::whole_words(LIBRARY, cfg!(reader_c)));
+    same(damaged::whole_words(LIBRARY));
 }
 
 #[test]
 fn sizes() {
-    same(damaged::sizes(LIBRARY, cfg!(reader_c)));
+    same(damaged::sizes(LIBRARY));
 }
 
 #[test]
 fn limits() {
-    same(damaged::limits(LIBRARY, cfg!(reader_c)));
+    same(damaged::limits(LIBRARY));
 }
 
 #[test]
 fn random() {
     let (seed, rounds) = seed_and_rounds();
-    same(damaged::random(LIBRARY, seed, rounds, cfg!(reader_c)));
+    same(damaged::random(LIBRARY, seed, rounds));
 }
 
-#[cfg(reader_c)]
 #[test]
 fn readers() {
     let (seed, rounds) = seed_and_rounds();

@@ -3,40 +3,38 @@
 use compare::overlay::{Between, Entries};
 use compare::same;
 use judge::compare::call::{Answer, Call, Lines, Port, Push, Storage, claiming};
-use judge::compare::direct::{self, After};
-use judge::compare::reads::{every_read, everything, nothing, the_listing};
+use judge::compare::direct;
+use judge::compare::reads::{everything, the_listing};
 use judge::random::{Random, depth, seed_and_rounds};
 use judge::{Kind, Meta, Sizes};
 
 const LIBRARY: &dyn Port = &Entries(Between);
-const THE_LISTING: After = if cfg!(reader_c) { the_listing } else { nothing };
-const EVERYTHING: After = if cfg!(reader_c) { everything } else { every_read };
 
 #[test]
 fn set_ups() {
-    same(direct::set_ups(LIBRARY, THE_LISTING));
+    same(direct::set_ups(LIBRARY, the_listing));
 }
 
 #[test]
 fn sequences() {
-    same(direct::sequences(LIBRARY, depth() + 1, THE_LISTING));
+    same(direct::sequences(LIBRARY, depth() + 1, the_listing));
 }
 
 #[test]
 fn reads_after_sequences() {
-    same(direct::sequences(LIBRARY, depth(), EVERYTHING));
+    same(direct::sequences(LIBRARY, depth(), everything));
 }
 
 #[test]
 fn calls() {
     let (seed, rounds) = seed_and_rounds();
-    same(direct::calls(LIBRARY, seed, rounds, EVERYTHING));
+    same(direct::calls(LIBRARY, seed, rounds, everything));
 }
 
 #[test]
 fn long_lists() {
     let (seed, rounds) = seed_and_rounds();
-    same(direct::long_lists(LIBRARY, seed, rounds, EVERYTHING));
+    same(direct::long_lists(LIBRARY, seed, rounds, everything));
 }
 
 #[test]

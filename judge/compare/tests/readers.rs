@@ -1,7 +1,5 @@
 //! Readers of event lines and the listing: the library against the Rust.
 
-#![cfg(reader_c)]
-
 use compare::overlay::{Between, Entries};
 use compare::same;
 use judge::Sizes;

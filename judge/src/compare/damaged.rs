@@ -165,8 +165,8 @@ impl<'a> Both<'a> {
 }
 
 /// Every byte of small overlays, used or not; in the other setting to one value.
-pub fn bytes(port: &dyn Port, values: Values, listing: bool) -> Compared {
-    let mut both = Both::new(port, groups(listing));
+pub fn bytes(port: &dyn Port, values: Values) -> Compared {
+    let mut both = Both::new(port, groups());
     for (n, base) in small_overlays().iter().enumerate() {
         both.each_byte(base, if n < 2 { values } else { Values::One })?;
     }
@@ -174,8 +174,8 @@ pub fn bytes(port: &dyn Port, values: Values, listing: bool) -> Compared {
 }
 
 /// Every word of small overlays as a whole.
-pub fn whole_words(port: &dyn Port, listing: bool) -> Compared {
-    let mut both = Both::new(port, groups(listing));
+pub fn whole_words(port: &dyn Port) -> Compared {
+    let mut both = Both::new(port, groups());
     for base in small_overlays() {
         both.each_whole_word(&base)?;
     }
@@ -232,8 +232,8 @@ fn reader_values(all: &[u64; 19], n: usize) -> Vec<u64> {
 
 /// Lent sizes at and past their ends, with nothing in use and with the small overlay: no element, too
 /// few for one id or one string, words left over, the most, one more.
-pub fn sizes(port: &dyn Port, listing: bool) -> Compared {
-    let mut both = Both::new(port, groups(listing));
+pub fn sizes(port: &dyn Port) -> Compared {
+    let mut both = Both::new(port, groups());
     sized(&mut both, &[4_096, 1 << 20, 4_096, 65_536])?;
     both.done()
 }
@@ -270,8 +270,8 @@ fn sized(both: &mut Both<'_>, [ids, arena, strings, bytes]: &[usize; 4]) -> Resu
 }
 
 /// Records at and past the limits of an element, pushed and stored; the most ids and strings in use.
-pub fn limits(port: &dyn Port, listing: bool) -> Compared {
-    let mut both = Both::new(port, groups(listing));
+pub fn limits(port: &dyn Port) -> Compared {
+    let mut both = Both::new(port, groups());
     let long = ["é".repeat(4_096), "a".repeat(8_192), "a".repeat(8_193)];
     let whole = ["a".repeat(16_384), "a".repeat(16_385)];
     for (kind, count, tags) in [
@@ -376,8 +376,8 @@ fn most_in_use(both: &mut Both<'_>) -> Result<(), String> {
 }
 
 /// Storages at random: small ones of any elements, and overlays of some calls with several changes.
-pub fn random(port: &dyn Port, seed: u64, rounds: u64, listing: bool) -> Compared {
-    let mut both = Both::new(port, groups(listing));
+pub fn random(port: &dyn Port, seed: u64, rounds: u64) -> Compared {
+    let mut both = Both::new(port, groups());
     at_random(&mut both, seed, 10_000 * rounds)?;
     both.done()
 }
@@ -404,8 +404,8 @@ fn at_random(both: &mut Both<'_>, seed: u64, times: u64) -> Result<(), String> {
 }
 
 /// A short form of all of these, for a run under a slow tool.
-pub fn short(port: &dyn Port, listing: bool) -> Compared {
-    let mut both = Both::new(port, groups(listing));
+pub fn short(port: &dyn Port) -> Compared {
+    let mut both = Both::new(port, groups());
     for base in &small_overlays()[..2] {
         both.each_byte(base, Values::One)?;
     }
@@ -518,7 +518,7 @@ fn bad_acts() -> [Vec<Call>; 2] {
 }
 
 /// The calls in groups: one for each entry, and for a push and a delete one for each kind.
-fn groups(listing: bool) -> Vec<Vec<Call>> {
+fn groups() -> Vec<Vec<Call>> {
     let texts = ["ka", "new", "", "Straße"].map(|text| text.as_bytes().to_vec());
     let not_texts = [b"\xff".to_vec(), b"a\0".to_vec(), b"\xed\xa0\x80".to_vec(), vec![b'x'; 40]];
     let by_number = |call: fn(u8, u64) -> Call| -> Vec<Call> {
@@ -549,9 +549,7 @@ fn groups(listing: bool) -> Vec<Vec<Call>> {
     ];
     groups.extend(bad_acts());
     groups.extend(KINDS.into_iter().flat_map(good_acts));
-    if listing {
-        groups.push([0, 300, 700, 100_000].map(Call::Listing).into());
-    }
+    groups.push([0, 300, 700, 100_000].map(Call::Listing).into());
     groups
 }
 

@@ -5,7 +5,7 @@ use compare::overlay::{Entries, Exact};
 use judge::compare::damaged;
 
 fn main() {
-    match damaged::short(&Entries(Exact), true) {
+    match damaged::short(&Entries(Exact)) {
         Ok(answers) => println!("{answers} answers are the same"),
         Err(difference) => {
             eprintln!("{difference}");
