@@ -20,12 +20,12 @@ impl Roadlist {
 }
 
 impl Program for Roadlist {
-    /// The input comes in pieces of many lengths. A refusal has a status that is not 0.
+    /// The input comes in pieces of many lengths. A refusal has a message on standard error, a listing has none.
     fn print(&self, input: &[u8]) -> Vec<u8> {
         let mut child = Command::new(&self.0)
             .stdin(Stdio::piped())
             .stdout(Stdio::piped())
-            .stderr(Stdio::null())
+            .stderr(Stdio::piped())
             .spawn()
             .unwrap_or_else(|e| panic!("{}: {e}", self.0.display()));
         let mut stdin = child.stdin.take().expect("piped");
@@ -47,8 +47,8 @@ impl Program for Roadlist {
         let mut stdout = child.stdout.take().expect("piped");
         stdout.read_to_end(&mut output).expect("its output");
         writer.join().expect("its input");
-        let status = child.wait().expect("its end");
-        assert_eq!(status.success(), !output.starts_with(b"refused\t"), "{status}");
+        let errors = child.wait_with_output().expect("its end").stderr;
+        assert_eq!(errors.is_empty(), !output.starts_with(b"refused\t"), "{}", errors.escape_ascii());
         output
     }
 }
