@@ -15,7 +15,7 @@ use Rattle.interner.proofs.Held.{take-held, take-new, grown-all, text-stays-all
 use Rattle.model.specs.Act.{Act}
 use Rattle.field.specs.Field.{Field, got, bad}
 use Rattle.acts.specs.Turn.{Reader, fresh, Turn, turn}
-use Rattle.acts.specs.Call.{Call, interns, pushes, deletes, hears, ends, Answered, World, begin, turned, outcome, actsBefore, worldAfter, actsFrom, actsOf}
+use Rattle.acts.specs.Call.{Call, interns, pushes, deletes, hears, ends, Answered, World, begin, turned, outcome, actsBefore, worldAfter, actsFrom, actsOf, heard, linesHeard}
 use Rattle.acts.proofs.Turns.{actIn, KindAgrees, fresh-agrees, turn-agrees}
 
 -- ---- refused calls
@@ -110,18 +110,6 @@ pub own-reader : (w : World) (n : ℕ) (s : Bytes) (t : Turn) → turn s (w .rea
 unfolding outcome
 own-reader w n s t e = rw (e, eq-eqb n n refl)
 
--- the lines that a reader has heard, in order
-abbrev pub heard : ℕ → Call → List Bytes → List Bytes
-heard n (interns t) ls = ls
-heard n (pushes id r) ls = ls
-heard n (deletes k id m) ls = ls
-heard n (hears m s) ls = cond (eqb n m) (s ∷ ls) ls
-heard n (ends m) ls = ls
-
-unfoldable pub linesOf : ℕ → List Answered → List Bytes
-linesOf n [] = []
-linesOf n (c ∷ cs) = cond (c .accepted) (heard n (c .call) (linesOf n cs)) (linesOf n cs)
-
 -- a reader after such lines
 abbrev pub readerLeft : Reader → Field Turn → Reader
 readerLeft r (got t) = t .reader
@@ -148,12 +136,12 @@ heard-left w n (hears m s) ls =
 heard-left w n (ends m) ls = refl
 
 -- where a reader stands goes by its own accepted lines alone
-pub reader-alone : (w : World) (cs : List Answered) (n : ℕ) → worldAfter w cs .readers n ≡ readerAfter (w .readers n) (linesOf n cs)
-unfolding worldAfter readerAfter linesOf
+pub reader-alone : (w : World) (cs : List Answered) (n : ℕ) → worldAfter w cs .readers n ≡ readerAfter (w .readers n) (linesHeard n cs)
+unfolding worldAfter readerAfter linesHeard
 reader-alone w [] n = refl
 reader-alone w (c ∷ cs) n =
     byBool (c .accepted)
-    (λ t. rw t (reader-alone (outcome w (c .call) .world) cs n ∙ heard-left w n (c .call) (linesOf n cs)))
+    (λ t. rw t (reader-alone (outcome w (c .call) .world) cs n ∙ heard-left w n (c .call) (linesHeard n cs)))
     (λ t. rw t (reader-alone w cs n))
 
 -- in every reader the element is of the kind that stands open
@@ -168,7 +156,7 @@ lines-agree r (line ∷ lines) h = lines-agree (readerLeft r (turn line r)) line
 
 -- in every list, and at every place of it
 pub reached-agrees : (cs : List Answered) (n : ℕ) → KindAgrees (worldAfter begin cs .readers n)
-reached-agrees cs n = rw (reader-alone begin cs n) (lines-agree fresh (linesOf n cs) fresh-agrees)
+reached-agrees cs n = rw (reader-alone begin cs n) (lines-agree fresh (linesHeard n cs) fresh-agrees)
 
 -- ---- texts
 

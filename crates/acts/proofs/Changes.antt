@@ -7,7 +7,7 @@ use Rattle.base.specs.Bytes.{Bytes}
 use Rattle.kind.specs.declared.Kind.{Kind}
 use Rattle.nesting.specs.Name.{nameOf}
 use Rattle.nesting.specs.Nesting.{start, opened}
-use Rattle.nesting.specs.Marks.{Mark, opens, empties, closes, taken, step, Change, pushes, deletes, madeAtOpening, madeAtEnd, openedMakes, closedMakes, makes, changesFrom}
+use Rattle.nesting.specs.Marks.{Mark, taken, step, Change, pushes, deletes, madeAtOpening, madeAtEnd, openedMakes, closedMakes, makes, changesFrom}
 use Rattle.nesting.specs.Grammar.{Document, each, events, changes}
 use Rattle.nesting.proofs.Reading.{Leads, stays, goes, joins, making}
 use Rattle.nesting.proofs.Documents.{documents, document-changes}
@@ -21,8 +21,7 @@ use Rattle.nesting.specs.declared.Opened.{Opened}
 use lib.IntN.{ℤ}
 use Rattle.model.specs.Record.{Meta, Body, kindOf}
 use Rattle.model.specs.Act.{Act, push, delete}
-use Rattle.event.specs.Event as E
-use Rattle.event.specs.Event.{Attr, Reading, reads, refused, eventOf}
+use Rattle.event.specs.Event.{Attr, Reading, eventOf}
 use Rattle.field.specs.Field.{Field, got, bad}
 use Rattle.decision.specs.Decision.{Decision, begins, decide}
 use Rattle.decision.proofs.Lawful.{body-first}
@@ -30,21 +29,8 @@ use Rattle.decision.proofs.Decided.{Starts, Decides, decided}
 use Rattle.decision.proofs.Decided as D
 use Rattle.acts.specs.Turn.{Reader, fresh, Turn, turnOf, turn}
 use Rattle.acts.specs.Call.{actsBefore}
+use Rattle.acts.specs.Lines.{markOf, marksIn, lineMarks}
 use Rattle.acts.proofs.Turns.{OfTurn, of-turn, KindAgrees, fresh-agrees, turn-agrees}
-
-abbrev pub markOf : Bool → Name → Mark
-markOf true n = empties n
-markOf false n = opens n
-
--- the mark of a line, if it is one
-abbrev pub marksIn : Reading → List Mark
-marksIn (reads (E.starts e n attrs)) = markOf e (nameOf n) ∷ []
-marksIn (reads E.closes) = closes ∷ []
-marksIn (reads E.others) = []
-marksIn (refused r) = []
-
-abbrev pub lineMarks : Bytes → List Mark
-lineMarks line = marksIn (eventOf line)
 
 -- what an act does
 abbrev pub changeOf : Act Bytes → Change

@@ -80,3 +80,15 @@ actsFrom w (c ∷ cs) = elim (c .accepted) [ true ↦ actsBefore (outcome w (c .
 
 unfoldable pub actsOf : List Answered → List (Act Bytes)
 actsOf cs = actsFrom begin cs
+
+-- the lines that a reader has taken, in order: those of its accepted events
+abbrev pub heard : ℕ → Call → List Bytes → List Bytes
+heard n (interns t) ls = ls
+heard n (pushes id r) ls = ls
+heard n (deletes k id m) ls = ls
+heard n (hears m s) ls = cond (eqb n m) (s ∷ ls) ls
+heard n (ends m) ls = ls
+
+unfoldable pub linesHeard : ℕ → List Answered → List Bytes
+linesHeard n [] = []
+linesHeard n (c ∷ cs) = cond (c .accepted) (heard n (c .call) (linesHeard n cs)) (linesHeard n cs)

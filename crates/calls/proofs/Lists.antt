@@ -34,9 +34,9 @@ use Rattle.interner.specs.declared.Interned.the-variants as I
 use Rattle.shelf.proofs.Claims.{Narrow}
 use Rattle.field.specs.Field.{Field, got}
 use Rattle.acts.specs.Turn.{Turn, turn}
-use Rattle.acts.specs.Call.{Call, Answered, World, outcome, turned, actsBefore, worldAfter, actsFrom}
+use Rattle.acts.specs.Call.{Call, Answered, World, outcome, turned, actsBefore, worldAfter, actsFrom, linesHeard}
 use Rattle.acts.specs.Call as Call
-use Rattle.acts.proofs.Calls.{refusedCall, takenCall, world-append, acts-append, own-reader, other-reader, linesOf, textsFrom, texts-after}
+use Rattle.acts.proofs.Calls.{refusedCall, takenCall, world-append, acts-append, own-reader, other-reader, textsFrom, texts-after}
 use Rattle.overlay.specs.Overlay.{Overlay}
 use Rattle.overlay.specs.Given.{headFits, metaFits}
 use Rattle.direct.specs.Calls.{pushOn, deleteOn, internOn}
@@ -269,21 +269,21 @@ module _ (n : ℕ) where
       (λ r m a. byRefused line s r m a (λ u k j e. rw (a, e)) (λ u t e. rw (a, e)))
 
   pub call-lines : (c : Ask) (l : Storage) (ds : List Answered)
-      → leaves c l .readers n .lines + length (linesOf n ds) ≡ l .readers n .lines + length (linesOf n (answerOf c l ∷ ds))
-  unfolding linesOf
+      → leaves c l .readers n .lines + length (linesHeard n ds) ≡ l .readers n .lines + length (linesHeard n (answerOf c l ∷ ds))
+  unfolding linesHeard
   call-lines (interns t) l ds = byBool (accepts (interns t) l) (λ e. rw e) (λ e. rw e)
   call-lines (pushes k h m parts) l ds = byBool (accepts (pushes k h m parts) l) (λ e. rw e) (λ e. rw e)
   call-lines (deletes k id m) l ds = byBool (accepts (deletes k id m) l) (λ e. rw e) (λ e. rw e)
   call-lines (hears m line) l ds =
       byEq n m
-      (λ q. rw (eq-eqb n m q, q) (event-lines line (stateOf m l) (linesOf m ds)))
+      (λ q. rw (eq-eqb n m q, q) (event-lines line (stateOf m l) (linesHeard m ds)))
       (λ q. rw (ne-eqb n m q) (byBool (accepts (hears m line) l) (λ e. rw e) (λ e. rw e)))
   call-lines (ends m) l ds =
       byEq n m
       (λ q. rw (eq-eqb n m q, end-keeps (stateOf m l), q) (byBool (accepts (ends m) l) (λ e. rw e) (λ e. rw e)))
       (λ q. rw (ne-eqb n m q) (byBool (accepts (ends m) l) (λ e. rw e) (λ e. rw e)))
 
-  pub lines-counted : (cs : List Ask) (l : Storage) → after l cs .readers n .lines ≡ l .readers n .lines + length (linesOf n (answered l cs))
-  unfolding after answered linesOf
+  pub lines-counted : (cs : List Ask) (l : Storage) → after l cs .readers n .lines ≡ l .readers n .lines + length (linesHeard n (answered l cs))
+  unfolding after answered linesHeard
   lines-counted [] l = omega arith
   lines-counted (c ∷ cs) l = lines-counted cs (leaves c l) ∙ call-lines c l (answered (leaves c l) cs)

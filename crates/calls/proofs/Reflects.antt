@@ -38,7 +38,7 @@ use Rattle.compact.specs.Legal.{legal}
 use Rattle.legal.specs.Whole.{keptBytes}
 use Rattle.page.specs.Summary as Summary
 use Rattle.shelf.specs.Shelf.{Shelf, known, checked, pushed, deleted, takenIn}
-use Rattle.shelf.specs.Fair.{Fair}
+use Rattle.shelf.specs.Fair.{rowsIn, Fair}
 use Rattle.shelf.specs.declared.Kept.the-variants.{Taken, Refused}
 use Rattle.shelf.proofs.Answers.{push-regression, delete-regression}
 use Rattle.shelf.proofs.Claims.{Narrow}
@@ -60,6 +60,8 @@ use Rattle.overlay.proofs.Bounds.{over-small}
 use Rattle.overlay.proofs.Shelves.{shelf-same, shelf-other, shelf-texts, shelf-setting, each-shelf, texts-shelf, sized-shelf, sized-texts, put-sized}
 use Rattle.calls.specs.Known.{Regresses}
 use Rattle.listing.specs.Known.{knownIn}
+use Rattle.listing.specs.Table.{isRank, Ranked}
+use Rattle.listing.proofs.Summaries.{ranked-put, ranked-shelf, ranked-texts, ranked-empty}
 use Rattle.calls.proofs.Rows.{fair-sound}
 use Rattle.reader.proofs.Small.{text-small}
 use Rattle.calls.proofs.Small.{record-small}
@@ -78,6 +80,7 @@ pub record Reflects (setting : ℕ) (o : Overlay) (held : List Bytes) (acts : Li
   pub texts : textsOf (o .texts) ≡ held
   pub tells : (k : Kind) → Tells k (o .setting) (shelfOf k o) held acts
   pub ids : all named acts ≡ true
+  pub ranks : Ranked o
 
 arena-short : (s : Shelf) → shelfFits largest s ≡ true → length (s .arena) < 2 ^ 63
 unfolding shelfFits
@@ -108,8 +111,8 @@ module _ (setting : ℕ) (o : Overlay) (held : List Bytes) (acts : List (Act Byt
   module _ (k : Kind) (t : Shelf) (a : Act Bytes) (kind : k ≡ keyOf a .kind) where
     -- the shelf of the kind put anew, where it is sound, of bytes and of its size, and tells of the act
     put-reflects : SoundShelf (o .texts .strings) k t → all isByte (t .arena) ≡ true → length (t .table) ≡ length (shelfOf k o .table) → length (t .arena) ≡ length (shelfOf k o .arena)
-        → Tells k (o .setting) t held (acts ++ (a ∷ [])) → named a ≡ true → Reflects setting (withShelf k t o) held (acts ++ (a ∷ []))
-    put-reflects s b e f told n =
+        → Tells k (o .setting) t held (acts ++ (a ∷ [])) → named a ≡ true → all isRank (rowsIn t) ≡ true → Reflects setting (withShelf k t o) held (acts ++ (a ∷ []))
+    put-reflects s b e f told n r =
         record {
           sound = record {
             sizes = put-sized largest k t o e f (w .sound .sizes);
@@ -127,6 +130,7 @@ module _ (setting : ℕ) (o : Overlay) (held : List Bytes) (acts : List (Act Byt
               (λ q. rw (q, shelf-same k t o, shelf-setting k t o) told)
               (λ q. rw (shelf-other j k t o q, shelf-setting k t o) (tells-other j (o .setting) (shelfOf j o) held acts a (λ z. q (z ∙ sym kind)) (w .tells j)));
           ids = all-append named acts (a ∷ []) (w .ids) (all-cons named a [] n (all-nil named));
+          ranks = ranked-shelf k t o r (w .ranks);
         }
 
   -- an accepted push of a legal record
@@ -145,6 +149,7 @@ module _ (setting : ℕ) (o : Overlay) (held : List Bytes) (acts : List (Act Byt
         (rw (push-arena k (o .setting) s (x .id) c (keptBytes x) taken) (over-small (s .arena) (s .used) (keptBytes x) (w .bytes .arenas k) (record-small strings (x .id) (x .held) lawful)))
         (l .words) (l .size)
         (tells-push strings k (o .setting) s held acts p (fair-of k) (w .tells k) x fits lawful taken) i
+        (rw (l .rows) (ranked-put (x .id) _ _ (signed-fits (x .id) i) (rowsIn s) (w .ranks .rows k)))
 
   -- an accepted delete
   module _ (k : Kind) (id : ℤ) (claim : Version) (fits : fitsSigned w64 id ≡ true) (narrow : Narrow claim) (taken : deleted k (o .setting) (shelfOf k o) id claim .answer ≡ Taken) where
@@ -159,6 +164,7 @@ module _ (setting : ℕ) (o : Overlay) (held : List Bytes) (acts : List (Act Byt
         (rw (delete-arena k (o .setting) s id claim (fair-of k) taken) (w .bytes .arenas k))
         (l .words) (l .size)
         (tells-delete strings k (o .setting) s held acts p (fair-of k) (w .tells k) id claim (signed-fits id fits) narrow taken) fits
+        (rw (l .rows) (ranked-put id _ _ (signed-fits id fits) (rowsIn s) (w .ranks .rows k)))
 
   -- a text taken in: the held handles keep their texts
   pub reflects-text : (t : Bytes) → isText t ≡ true → accepted (intern (o .texts) t .answer) ≡ true
@@ -175,6 +181,7 @@ module _ (setting : ℕ) (o : Overlay) (held : List Bytes) (acts : List (Act Byt
             rw (texts-shelf k (intern (o .texts) t .store) o) (tells-texts (o .texts .strings) k (o .setting) (shelfOf k o) held acts (w .sound .shelves k) (fair-of k) (w .tells k)
             (takeIn held t) (λ h g. sym (text-stays held t h (rw n g))));
         ids = w .ids;
+        ranks = ranked-texts (intern (o .texts) t .store) o (w .ranks);
       }
 
   -- ---- what that comes to
@@ -238,4 +245,5 @@ reflects-empty setting o fit b = bySetUp setting o (λ s e. clash fit s) (λ s e
           texts = Interns.fresh-texts (o .texts .spans) (o .texts .bytes) (span-lent o fit);
           tells = told;
           ids = all-nil named;
+          ranks = ranked-empty setting o;
         }

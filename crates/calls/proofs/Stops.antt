@@ -10,8 +10,7 @@ use Rattle.base.specs.Bytes.{Bytes, both, either, all}
 use Rattle.base.proofs.Split.{byEq, no, clash}
 use Rattle.base.proofs.Lists.{all-head, all-tail}
 use Rattle.model.specs.Act.{Act}
-use Rattle.acts.specs.Call.{World, worldAfter, actsFrom}
-use Rattle.acts.proofs.Calls.{linesOf}
+use Rattle.acts.specs.Call.{World, worldAfter, actsFrom, linesHeard}
 use Rattle.reader.specs.declared.EventAnswer.the-variants as E
 use Rattle.reader.specs.State.{State, isStopped, stateSound}
 use Rattle.reader.specs.Event.{eventOn}
@@ -63,7 +62,7 @@ module _ (n : ℕ) where
   call-stopped (ends m) l e = byEq n m (λ q. rw (eq-eqb n m q, end-keeps (stateOf m l), q) (either-false _)) (λ q. rw (ne-eqb n m q) (either-false _))
 
   pub stopped-calls : (setting : ℕ) (cs : List Ask) (l : Storage) (w : World) (acts : List (Act Bytes)) → all askFits cs ≡ true → Agrees setting l w acts
-      → l .readers n .lines + length (linesOf n (answered l cs)) < 18446744073709551615
+      → l .readers n .lines + length (linesHeard n (answered l cs)) < 18446744073709551615
       → isStopped (after l cs .readers n .stop) ≡ either (isStopped (l .readers n .stop)) (stoppedIn n (answered l cs))
   unfolding after answered stoppedIn
   stopped-calls setting [] l w acts f g h = either-false _

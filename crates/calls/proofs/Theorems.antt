@@ -32,8 +32,7 @@ use Rattle.shelf.specs.Shelf as Shelf
 use Rattle.shelf.specs.declared.Kept.the-variants.{Refused}
 use Rattle.field.specs.Field.{got}
 use Rattle.acts.specs.Turn.{Turn, turn}
-use Rattle.acts.specs.Call.{begin, worldAfter, actsOf}
-use Rattle.acts.proofs.Calls.{linesOf}
+use Rattle.acts.specs.Call.{begin, worldAfter, actsOf, linesHeard}
 use Rattle.overlay.specs.Overlay.{Overlay, shelfOf, largest, sizesFit, empty}
 use Rattle.overlay.specs.Given.{InBytes, headFits}
 use Rattle.overlay.specs.Sound.{isSound}
@@ -59,7 +58,7 @@ use Rattle.calls.proofs.Lists.{Agrees, agrees-fine, agrees-calls, lines
 
 module _ (setting : ℕ) (o : Overlay) (sizes : sizesFit largest o ≡ true) (lent : InBytes o) (parts : ℕ → Bytes) (room : PartsGiven parts) where
   -- an empty overlay and fresh readers agree with no calls
-  agrees-started : Agrees setting (started setting o parts) begin []
+  pub agrees-started : Agrees setting (started setting o parts) begin []
   agrees-started =
       let w = reflects-empty setting o sizes lent in
       let e = decides (empty setting o) (w .bytes) .1 (w .sound) in
@@ -79,11 +78,11 @@ module _ (setting : ℕ) (o : Overlay) (sizes : sizesFit largest o ≡ true) (le
     sound-after = agrees-fine agrees-after .sound
 
     -- the lines that a reader has taken are those of its accepted events
-    pub lines-after : (n : ℕ) → storageAfter setting o parts cs .readers n .lines ≡ length (linesOf n (replies setting o parts cs))
+    pub lines-after : (n : ℕ) → storageAfter setting o parts cs .readers n .lines ≡ length (linesHeard n (replies setting o parts cs))
     lines-after n = lines-counted n cs (started setting o parts) ∙ zero-add _
 
     -- and a reader is stopped exactly where one of its events was refused
-    pub stopped-after : (n : ℕ) → length (linesOf n (replies setting o parts cs)) < 18446744073709551615
+    pub stopped-after : (n : ℕ) → length (linesHeard n (replies setting o parts cs)) < 18446744073709551615
         → isStopped (storageAfter setting o parts cs .readers n .stop) ≡ stoppedIn n (replies setting o parts cs)
     unfolding either
     stopped-after n h = stopped-calls n setting cs (started setting o parts) begin [] given agrees-started (omega arith)
@@ -135,8 +134,8 @@ module _ (o : Overlay) (sizes : sizesFit largest o ≡ true) (lent : InBytes o) 
   -- and so is an act that a reader's event makes, at the line that is one more than those that the reader has taken, unless one of its events was refused before or the count
   -- of its lines is at its largest
   pub regression-event : (n : ℕ) (line : Bytes) (t : Turn) (a : Act Bytes) → stoppedIn n (replies 0 o parts cs) ≡ false
-      → length (linesOf n (replies 0 o parts cs)) < 18446744073709551615 → turn line (worldAfter begin (replies 0 o parts cs) .readers n) ≡ got t → t .act ≡ some a → (v : ℤ)
-      → (eventOn line (stateOf n (storageAfter 0 o parts cs)) .answer ≡ E.Refused (Regression v) (length (linesOf n (replies 0 o parts cs)) + 1))
+      → length (linesHeard n (replies 0 o parts cs)) < 18446744073709551615 → turn line (worldAfter begin (replies 0 o parts cs) .readers n) ≡ got t → t .act ≡ some a → (v : ℤ)
+      → (eventOn line (stateOf n (storageAfter 0 o parts cs)) .answer ≡ E.Refused (Regression v) (length (linesHeard n (replies 0 o parts cs)) + 1))
       ↔ Regresses (actsOf (replies 0 o parts cs)) (keyOf a) (claimedBy a) v
   regression-event n line t a never below h k v =
       let s = stateOf n (storageAfter 0 o parts cs) in

@@ -7,3 +7,5 @@ pub mod Places
 pub mod Steps
 pub mod Answers
 pub mod Back
+pub mod Tags
+pub mod Yields

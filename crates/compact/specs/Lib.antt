@@ -4,3 +4,4 @@ pub mod Fits
 pub mod Legal
 pub mod Held
 pub mod View
+pub mod Tags

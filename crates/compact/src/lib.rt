@@ -3,10 +3,11 @@
 ghost use mathlib.Core.Path.{_≡_};
 ghost use Prim.Native.Nat.{_+_};
 ghost use lib.Dec.{ltb};
-ghost use Rattle.kind.specs.declared.Kind.the-variants.{Way, Relation};
+ghost use Rattle.kind.specs.declared.Kind.the-variants.{Node, Way, Relation};
 ghost use Rattle.model.specs.Record.{claimOf};
 ghost use Rattle.compact.specs.Held.{metaOf};
 ghost use Rattle.compact.specs.View.{nodeAt, wayAt, relationAt, metaAt, refAt, memberAt, tagsAt};
+ghost use Rattle.compact.specs.Tags.{tagPlace, tagTurn, tagsOf, tagNext};
 ghost use Rattle.compact.specs.View.{unsoundNumber, nodeRead, wayRead, relationRead, metaRead, refStep, memberStep, tagStep};
 use kind::Kind;
 use kind::Named;
@@ -109,6 +110,26 @@ pub enum TagStep {
     Tag { key: u32, start: usize, len: usize },
 }
 
+// Where a record's tags begin, and how many remain there.
+pub struct TagPlace {
+    pub offset: usize,
+    pub remaining: u32,
+}
+
+// A tag step and the place that it leaves: past the tag that it yields, else where it was.
+pub struct TagTurn {
+    pub step: TagStep,
+    pub offset: usize,
+    pub remaining: u32,
+}
+
+// "`CompactTagIter` carries the record's bytes with the offset and the tags remaining".
+pub struct CompactTagIter<'a> {
+    pub bytes: &'a [u8],
+    pub offset: usize,
+    pub remaining: u32,
+}
+
 // The version that metadata claims, or none.
 pub fn claim(meta: ArenaMeta) -> Version
     ensures { λ r. ⌜ r ≡ claimOf (metaOf meta) ⌝ }
@@ -117,6 +138,16 @@ pub fn claim(meta: ArenaMeta) -> Version
         Version::Is(signed::i32_of_bits(meta.version))
     } else {
         Version::Absent
+    }
+}
+
+// A place past the bytes with a tag remaining, for a head that is cut short: a step from there answers 22.
+fn cut_short(len: usize) -> TagPlace
+    ensures { λ r. ⌜ r ≡ record { offset = len; remaining = 1 } ⌝ }
+{
+    TagPlace {
+        offset: len,
+        remaining: 1,
     }
 }
 
@@ -156,6 +187,20 @@ impl CompactNode {
         }
         NodeRead::Is(CompactNode::read(bytes))
     }
+
+    // Where the tags of the bytes' record begin.
+    fn tag_place(bytes: &[u8]) -> TagPlace
+        ensures { λ r. ⌜ r ≡ tagPlace Node (now (bytes .entry)) ⌝ }
+    {
+        if bytes.len() < CompactNode::META_OFF {
+            return cut_short(bytes.len());
+        }
+        let node = CompactNode::read(bytes);
+        TagPlace {
+            offset: CompactNode::HEADER_LEN,
+            remaining: node.tag_count,
+        }
+    }
 }
 
 impl CompactWay {
@@ -188,6 +233,20 @@ impl CompactWay {
             return WayRead::Unsound;
         }
         WayRead::Is(CompactWay::read(bytes))
+    }
+
+    // Where the tags of the bytes' record begin.
+    fn tag_place(bytes: &[u8]) -> TagPlace
+        ensures { λ r. ⌜ r ≡ tagPlace Way (now (bytes .entry)) ⌝ }
+    {
+        if bytes.len() < CompactWay::META_OFF {
+            return cut_short(bytes.len());
+        }
+        let way = CompactWay::read(bytes);
+        TagPlace {
+            offset: way.tags_at(),
+            remaining: way.tag_count,
+        }
     }
 }
 
@@ -223,6 +282,20 @@ impl CompactRelation {
             return RelationRead::Unsound;
         }
         RelationRead::Is(CompactRelation::read(bytes))
+    }
+
+    // Where the tags of the bytes' record begin.
+    fn tag_place(bytes: &[u8]) -> TagPlace
+        ensures { λ r. ⌜ r ≡ tagPlace Relation (now (bytes .entry)) ⌝ }
+    {
+        if bytes.len() < CompactRelation::META_OFF {
+            return cut_short(bytes.len());
+        }
+        let relation = CompactRelation::read(bytes);
+        TagPlace {
+            offset: relation.tags_at(),
+            remaining: relation.tag_count,
+        }
     }
 }
 
@@ -352,5 +425,63 @@ pub fn tag_step(bytes: &[u8], offset: usize, remaining: u32) -> TagStep
         }
     } else {
         TagStep::Unsound
+    }
+}
+
+// The tag at an offset, and the place that is left: a walk over a record's tags for callers that hold the place themselves.
+pub fn tag_next(bytes: &[u8], offset: usize, remaining: u32) -> TagTurn
+    ensures { λ r. ⌜ r ≡ tagTurn (now (bytes .entry)) offset remaining ⌝ }
+{
+    let step = tag_step(bytes, offset, remaining);
+    let TagStep::Tag { key: _, start, len } = step else {
+        return TagTurn {
+            step,
+            offset,
+            remaining,
+        };
+    };
+    TagTurn {
+        step,
+        offset: start + len,
+        remaining: remaining - 1,
+    }
+}
+
+// Where the tags of a record of a kind begin.
+pub fn tag_place(kind: Kind, bytes: &[u8]) -> TagPlace
+    ensures { λ r. ⌜ r ≡ tagPlace kind (now (bytes .entry)) ⌝ }
+{
+    match kind {
+        Kind::Node => CompactNode::tag_place(bytes),
+        Kind::Way => CompactWay::tag_place(bytes),
+        Kind::Relation => CompactRelation::tag_place(bytes),
+    }
+}
+
+// ---- the same as an iterator that holds the record's bytes
+// The borrow checker does not cover a function over a struct that holds a reference, so each of the two is thin over a covered one, and is
+// proved by a walk of its own. A caller that wants no walk has `tag_place`, `tag_next` and `tag_step`, with plain parameters.
+
+impl<'a> CompactTagIter<'a> {
+    // Over the tags of a record of a kind.
+    pub fn of(kind: Kind, bytes: &'a [u8]) -> CompactTagIter<'a>
+        ensures { λ r. ⌜ r ≡ tagsOf kind (bytes .entry) ⌝ }
+    {
+        let place = tag_place(kind, bytes);
+        CompactTagIter {
+            bytes,
+            offset: place.offset,
+            remaining: place.remaining,
+        }
+    }
+
+    // The next tag. Where none remains or none stands there (22), the iterator is unchanged.
+    pub fn next(&mut self) -> TagStep
+        ensures { λ r. ⌜ record { step = r; iter = now (self .exit) } ≡ tagNext (now (self .entry)) ⌝ }
+    {
+        let turn = tag_next(self.bytes, self.offset, self.remaining);
+        self.offset = turn.offset;
+        self.remaining = turn.remaining;
+        turn.step
     }
 }

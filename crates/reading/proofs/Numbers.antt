@@ -1,7 +1,7 @@
 -- Ids and records by number, in a sound overlay: ids rise in OSM order, so no two are equal; and 21 is given exactly where the number is not below the count.
-use Prim.Native.Nat.{ℕ, zero, suc, _+_, _*_, _^_, _<_, _≤_}
+use Prim.Native.Nat.{ℕ, zero, suc, _+_, _*_, _<_, _≤_}
 use mathlib.Core.Path.{_≡_, sym, _∙_, ap}
-use mathlib.Core.Bool.{true}
+use mathlib.Core.Bool.{Bool, true}
 use mathlib.Core.Logic.{_↔_}
 use mathlib.Core.Option.{some}
 use mathlib.Core.List.{List}
@@ -10,7 +10,7 @@ use lib.Dec.{ltb}
 use lib.ListN.{length, getD}
 use mir.Facts.{toZ-ofZ, fits-of-lt}
 use mir.Syntax.{w64}
-use mir.Val.{Fits, toZ, ofZ}
+use mir.Val.{Fits, SFits, toZ, ofZ}
 use borrow.Author.Tests.{lt-ltb, ltb-true}
 use Rattle.base.specs.Bytes.{all}
 use Rattle.base.proofs.Split.{byLt, clash, no}
@@ -36,17 +36,25 @@ use Rattle.overlay.specs.Given.{InBytes}
 use Rattle.overlay.specs.Sound.{Sound, isSound}
 use Rattle.overlay.proofs.Decides.{decides}
 use Rattle.reading.specs.declared.Read.the-variants.{Is, Refused}
-use Rattle.reading.specs.Reading.{countOn, idOn, recordOn}
-use Rattle.reading.proofs.Records.{Shows, row-shows}
+use Rattle.reading.specs.Reading.{countOn, idOn, recordOn, getOn}
+use Rattle.reading.proofs.Records.{Shows, row-shows, live-view}
 
 -- the words of a lent table are of 64 bits
 abbrev pub InWords : List ℕ → Type 0
 InWords ws = (i : ℕ) → Fits w64 (getD ws i 0)
 
-ranks-fit : (ws : List ℕ) → InWords ws → (i n : ℕ) → all (λ r. ltb (r .rank) (2 ^ 64)) (rowsFrom ws i n) ≡ true
+-- and so is the rank of each row
+abbrev pub rankFits : Row → Bool
+rankFits r = ltb (r .rank) 18446744073709551616
+
+ranks-from : (ws : List ℕ) → InWords ws → (i n : ℕ) → all rankFits (rowsFrom ws i n) ≡ true
 unfolding rowsFrom
-ranks-fit ws u i zero = all-nil _
-ranks-fit ws u i (suc n) = all-cons _ (rowAt ws i) _ (lt-ltb _ _ (u (3 * i) .fits)) (ranks-fit ws u (suc i) n)
+ranks-from ws u i zero = all-nil _
+ranks-from ws u i (suc n) = all-cons _ (rowAt ws i) _ (lt-ltb _ _ (u (3 * i) .fits)) (ranks-from ws u (suc i) n)
+
+pub ranks-fit : (ws : List ℕ) → InWords ws → (n : ℕ) → all rankFits (rowsOf ws n) ≡ true
+unfolding rowsOf
+ranks-fit ws u n = ranks-from ws u 0 n
 
 module _ (o : Overlay) (b : InBytes o) (w : Sound o) (k : Kind) (side : Side) where
   abbrev rows : List Row
@@ -98,11 +106,9 @@ module _ (o : Overlay) (b : InBytes o) (w : Sound o) (k : Kind) (side : Side) wh
     λ l. id-past n (omega (arith, counted m e)),
   )
 
-  module _ (u : InWords (shelfOf k o .table)) where
+  module _ (u : all rankFits rows ≡ true) where
     rank-fits : (n : ℕ) (d : Row) → n < length list → Fits w64 (getD list n d .rank)
-    unfolding rowsOf
-    rank-fits n d l =
-        fits-of-lt (ltb-true _ _ (find-passes (λ r. ltb (r .rank) (2 ^ 64)) (getD list n d .rank) rows (getD list n d) (ranks-fit (shelfOf k o .table) u 0 (shelfOf k o .ids)) (at-row n d l .0)))
+    rank-fits n d l = fits-of-lt (ltb-true _ _ (find-passes rankFits (getD list n d .rank) rows (getD list n d) u (at-row n d l .0)))
 
     id-is : (n a : ℕ) (d : Row) → idOn k side n o ≡ Is a → toZ w64 a ≡ idOf (getD list n d .rank)
     id-is n a d e =
@@ -110,6 +116,9 @@ module _ (o : Overlay) (b : InBytes o) (w : Sound o) (k : Kind) (side : Side) wh
         let x : Is (ofZ w64 (idOf (getD list n d .rank))) ≡ Is a = sym (id-at n d l) ∙ e in
         let y : ofZ w64 (idOf (getD list n d .rank)) ≡ a = cc in
         ap (toZ w64) (sym y) ∙ toZ-ofZ (id-fits (rank-fits n d l))
+
+    pub id-signed : (n a : ℕ) → idOn k side n o ≡ Is a → SFits w64 (toZ w64 a)
+    id-signed n a e = let d : Row = record { rank = 0; place = 0; floor = 0 } in rw (id-is n a d e) (id-fits (rank-fits n d (id-given n a e)))
 
     -- a later number has a later id
     pub ids-rise : (m n a c : ℕ) → m < n → idOn k side m o ≡ Is a → idOn k side n o ≡ Is c → before (toZ w64 a) (toZ w64 c) ≡ true
@@ -150,8 +159,20 @@ module _ (o : Overlay) (b : InBytes o) (w : Sound o) (k : Kind) where
       rw (tested o b w k Live, all-rows o b w k Live, nth-at (list o b w k Live) n d l)
       (row-shows (o .texts .strings) k (shelfOf k o) (w .shelves k) (getD (list o b w k Live) n d .rank) (getD (list o b w k Live) n d) (r .0) (r .1))
 
-  -- the record of a number is one of the id of that number
-  pub record-shows : InWords (shelfOf k o .table) → (n a : ℕ) → idOn k Live n o ≡ Is a → Shows (shelfOf k o) (w .shelves k .whole .kept) (toZ w64 a) (recordOn k n o)
+  -- the record of a number is that of the id of that number
+  pub record-get : all rankFits (rows o b w k Live) ≡ true → (n a : ℕ) → idOn k Live n o ≡ Is a → recordOn k n o ≡ getOn k (toZ w64 a) o
+  unfolding recordOn
+  record-get u n a e =
+      let d : Row = record { rank = 0; place = 0; floor = 0 } in
+      let l = id-given o b w k Live n a e in
+      let r = at-row o b w k Live n d l in
+      let q : rank (toZ w64 a) ≡ getD (list o b w k Live) n d .rank = ap rank (id-is o b w k Live u n a d e) ∙ rank-id (rank-fits o b w k Live u n d l) in
+      let f = id-signed o b w k Live u n a e in
+      rw (tested o b w k Live, all-rows o b w k Live, nth-at (list o b w k Live) n d l)
+      (sym (live-view o b w k (toZ w64 a) f (getD (list o b w k Live) n d) (rw q (r .0)) (r .1)))
+
+  -- and one of that id
+  pub record-shows : all rankFits (rows o b w k Live) ≡ true → (n a : ℕ) → idOn k Live n o ≡ Is a → Shows (shelfOf k o) (w .shelves k .whole .kept) (toZ w64 a) (recordOn k n o)
   record-shows u n a e =
       let d : Row = record { rank = 0; place = 0; floor = 0 } in
       rw (id-is o b w k Live u n a d e) (record-row n d (id-given o b w k Live n a e))

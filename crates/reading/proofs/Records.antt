@@ -71,6 +71,11 @@ module _ (o : Overlay) (b : InBytes o) (w : Sound o) (k : Kind) (id : ℤ) (f : 
   known : (r : Row) → find (rank id) rows ≡ some r → standingIn (shelfOf k o) id ≡ rowStanding r
   known r e = standing-is (shelfOf k o .table) (shelfOf k o .ids) (w .shelves k .order) id ∙ rw e
 
+  -- the view of a live id is that of its row's place
+  pub live-view : (r : Row) → find (rank id) rows ≡ some r → isLive (r .place) ≡ true → getOn k id o ≡ viewIn (o .texts .strings) k (shelfOf k o) (r .place)
+  unfolding getOn
+  live-view r e t = rw (tested, known r e, row-live r t)
+
   -- T6: a live id has its record
   pub live-reads : (r : Row) → find (rank id) rows ≡ some r → isLive (r .place) ≡ true
       → (hasOn k id o ≡ Is 1) × ((isDeletedOn k id o ≡ Is 0) × Shows (shelfOf k o) (w .shelves k .whole .kept) id (getOn k id o))

@@ -1,4 +1,5 @@
-// The C entries of the library. A slice is a pointer and its length. Signed numbers cross as they are.
+// The C entries of ids, versions, integer and timestamp fields, and text. A slice is a pointer and its length. Signed arguments and `held` cross as they are; a number
+// that was read, and a version, cross in an unsigned word by their bits at their own width: an i32 of -1 is 4,294,967,295.
 ghost use mathlib.Core.Path.{_≡_};
 ghost use mir.Syntax.{w32, w64};
 ghost use Rattle.osm_id.specs.Order.{keyOf, cmpOf, firstKey, lastKey, rank};
@@ -15,7 +16,7 @@ use stamp::Stamp;
 use version_floor::Admit;
 use version_floor::VersionFloor;
 
-// A number that was read: 0 with its bits, or the refusal with 0.
+// A number that was read: 0 with its 64 or 32 bits, or the refusal with 0.
 #[repr(C)]
 pub struct Number {
     pub number: u32,

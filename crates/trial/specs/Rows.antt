@@ -1,19 +1,16 @@
 -- Document 01, "Trial rows († proved)", and its Input A with Output A: one table, from the definitions.
 use Prim.Native.Nat.{ℕ}
 use mathlib.Core.Bool.{Bool, true, false}
-use mathlib.Core.Option.{Option, none, some}
 use mathlib.Core.List.{List, [], _∷_, _++_, map}
 use lib.Dec.{eqb}
 use lib.IntN.{ℤ, pos, negsuc}
-use lib.ListN.{length, replicate}
+use lib.ListN.{length, take, replicate}
 use mir.Syntax.{Width, w32, w64}
 use mir.Val.{toZ}
 use Rattle.base.specs.Ascii.{ascii}
 use Rattle.base.specs.Bytes.{Bytes, both, same}
 use Rattle.kind.specs.declared.Kind.the-variants.{Node, Way}
 use Rattle.osm_id.specs.Order.{sameId, keyOf}
-use Rattle.integer.specs.Integer.{integerOf}
-use Rattle.stamp.specs.Stamp.{stamp}
 use Rattle.model.specs.Record.{Meta, Record, place, refs, members}
 use Rattle.refusal.specs.Refusal.{numberOf, heldOf}
 use Rattle.compact.specs.Layout.{recordBytes}
@@ -28,36 +25,44 @@ use Rattle.store.specs.declared.Handle.the-variants as H
 use Rattle.reader.specs.declared.EventAnswer.{EventAnswer}
 use Rattle.reader.specs.declared.EventAnswer.the-variants as E
 use Rattle.reader.specs.Event.{eventOn, endOn}
-use Rattle.acts.specs.Call.{Call, pushes, deletes, hears, ends, Answered, actsOf}
-use Rattle.page.specs.Summary.{summary}
-use Rattle.page.specs.Listing.{listing}
+use Rattle.event.specs.Event.{Attr}
+use Rattle.field.specs.Field as Field
+use Rattle.field.specs.Field.{Field, got, bad, andThen, integerField}
+use Rattle.listing.specs.declared.Listed.{Listed}
+use Rattle.listing.specs.declared.Listed.the-variants as L
+use Rattle.listing.specs.Call.{Output, listingOn}
 use Rattle.calls.specs.Ask as Ask
-use Rattle.calls.specs.Ask.{Ask, Storage, started, stateOf, leaves}
+use Rattle.calls.specs.Ask.{Ask, Storage, started, stateOf, leaves, after}
 
--- a direct call, and what document 01 says of it: taken, or refused with a number and the version that is held
+-- a call, and what document 01 says of it: taken, or refused with a number and the version that is held
 pub data Told : Type 0 where
   accepts : Ask → Told
   refuses : Ask → ℕ → ℤ → Told
 
+-- what document 01 says of an attribute's value: a number, or the number of its refusal
+pub data Said : Type 0 where
+  is : ℤ → Said
+  refused : ℕ → Said
+
 -- a row: what is asked, and what document 01 says of it
 pub data Row : Type 0 where
   key-of : ℤ → ℕ → ℕ → Row
-  stamp-is : Bytes → Option ℤ → Row
-  integer-is : Width → Bytes → Option ℤ → Row
+  stamp-is : Bytes → Said → Row
+  integer-is : Width → Bytes → Said → Row
   takes : ℤ → Record ℕ → ℕ → Row
-  prints : List Call → Bytes → Row
-  -- direct calls, one after the other, on an overlay that starts empty and refuses regression
-  answers : List Told → Row
+  -- calls, one after the other, on an overlay that starts empty and refuses regression, and the listing after them
+  prints : List Told → Bytes → Row
 
-unfoldable pub sameNumber : Option ℤ → Option ℤ → Bool
-sameNumber none none = true
-sameNumber none (some b) = false
-sameNumber (some a) none = false
-sameNumber (some a) (some b) = sameId a b
+-- a field is what is said
+abbrev pub says : Field ℤ → Said → Bool
+says (got a) (is b) = sameId a b
+says (got a) (refused n) = false
+says (bad r) (is b) = false
+says (bad r) (refused n) = eqb (numberOf r) n
 
--- calls that were all accepted
-abbrev pub taken : List Call → List Answered
-taken cs = map (λ c. record { call = c; accepted = true }) cs
+-- one attribute
+abbrev pub attribute : Bytes → Bytes → List Attr
+attribute n v = record { name = n; value = v } ∷ []
 
 abbrev pub askOf : Told → Ask
 askOf (accepts c) = c
@@ -95,17 +100,24 @@ allAgree l (t ∷ ts) = both (agrees t (answerTo (askOf t) l)) (allAgree (leaves
 abbrev pub zeros : ℕ → Bytes
 zeros n = replicate n 0
 
--- an empty overlay that refuses regression: two ids and 128 arena bytes a kind, two strings, 8 string bytes, nine counters
+-- the listing call's answer is the page's length, and its output begins with the page
+abbrev pub isPage : Bytes → Bytes → Listed → Bool
+isPage page out (L.Length n) = same (take n out) page
+isPage page out (L.Refused r) = false
+
+abbrev pub lists : Bytes → Output → Bool
+lists page x = isPage page (x .out) (x .answer)
+
+-- an empty overlay that refuses regression: four ids and 256 arena bytes a kind, two strings, 8 string bytes, nine counters; fresh readers
 abbrev pub small : Storage
-small = started 0 (overlayOf (zeros 6) (zeros 128) (zeros 6) (zeros 128) (zeros 6) (zeros 128) (zeros 4) (zeros 8) (zeros 9)) (λ n. [])
+small = started 0 (overlayOf (zeros 12) (zeros 256) (zeros 12) (zeros 256) (zeros 12) (zeros 256) (zeros 4) (zeros 8) (zeros 9)) (λ n. zeros 44432)
 
 unfoldable pub right : Row → Bool
 right (key-of id class magnitude) = both (eqb (keyOf id .class) class) (eqb (keyOf id .magnitude) magnitude)
-right (stamp-is s v) = sameNumber (stamp s) v
-right (integer-is w s v) = sameNumber (integerOf w s) v
+right (stamp-is s x) = says (andThen (Field.metaOf (attribute (ascii "timestamp") s)) (λ m. got (m .timestamp))) x
+right (integer-is w s x) = says (integerField w (ascii "lat7") (attribute (ascii "lat7") s)) x
 right (takes id r n) = eqb (length (recordBytes id r)) n
-right (prints cs page) = same (listing (summary (actsOf (taken cs)))) page
-right (answers ts) = allAgree small ts
+right (prints ts page) = both (allAgree small ts) (lists page (listingOn (zeros 256) (after small (map askOf ts) .overlay)))
 
 -- ---- Input A and Output A
 
@@ -123,6 +135,10 @@ inputA =
     ∷ ascii "close\n"
     ∷ []
 
+-- its lines as events of reader 0, and the end
+abbrev pub eventsA : List Told
+eventsA = map (λ line. accepts (Ask.hears 0 line)) inputA ++ (accepts (Ask.ends 0) ∷ [])
+
 abbrev pub outputA : Bytes
 outputA = ascii "n\t7\t+\t3\t9\t3\t0\t0\t0\t\t10\t-20\t1\tname\tA\nw\t-4\t-\t2\n"
 
@@ -130,10 +146,6 @@ outputA = ascii "n\t7\t+\t3\t9\t3\t0\t0\t0\t\t10\t-20\t1\tname\tA\nw\t-4\t-\t2\n
 
 abbrev pub noMeta : Meta ℕ
 noMeta = record { flags = 0; version = pos 0; timestamp = pos 0; changeset = pos 0; uid = pos 0; user = 0 }
-
--- a node at 0, 0 with no metadata and no tags
-abbrev pub bareNode : Record ℕ
-bareNode = record { meta = noMeta; body = place (pos 0) (pos 0); tags = [] }
 
 abbrev pub taggedNode : Record ℕ
 taggedNode = record { meta = noMeta; body = place (pos 0) (pos 0); tags = record { key = 1; value = ascii "yes" } ∷ [] }
@@ -144,10 +156,7 @@ wayOfTwo = record { meta = noMeta; body = refs (pos 1 ∷ pos 2 ∷ []); tags = 
 abbrev pub relationOfOne : Record ℕ
 relationOfOne = record { meta = noMeta; body = members (record { ref = pos 1; type = Node; role = 0 } ∷ []); tags = [] }
 
-abbrev pub version : ℤ → Meta ℕ
-version v = record { flags = 9; version = v; timestamp = pos 0; changeset = pos 0; uid = pos 0; user = 0 }
-
--- ---- calls on way 5, which has no refs and no tags
+-- ---- calls
 
 -- metadata with a version, and without
 abbrev pub at-version : ℕ → ArenaMeta
@@ -156,11 +165,16 @@ at-version v = record { flags = 9; version = v; timestamp = 0; changeset = 0; ui
 abbrev pub unversioned : ArenaMeta
 unversioned = record { flags = 0; version = 0; timestamp = 0; changeset = 0; uid = 0; user = 0 }
 
+-- on way 5, which has no refs and no tags
 abbrev pub pushing : ArenaMeta → Ask
 pushing m = Ask.pushes Way (record { id = 5; lat = 0; lon = 0; count = 0; tags = 0 }) m []
 
 abbrev pub deleting : ArenaMeta → Ask
 deleting m = Ask.deletes Way 5 m
+
+-- a node at 0, 0 with no metadata and no tags
+abbrev pub pushingNode : ℕ → Ask
+pushingNode id = Ask.pushes Node (record { id = id; lat = 0; lon = 0; count = 0; tags = 0 }) unversioned []
 
 -- ---- the table
 
@@ -170,31 +184,30 @@ rows =
     key-of (pos 0) 0 0
     ∷ key-of (negsuc 0) 1 1
     ∷ key-of (pos 1) 2 1
-    ∷ stamp-is (ascii "1970-01-01T00:00:00Z") (some (pos 0))
-    ∷ stamp-is (ascii "2000-02-29T00:00:00Z") (some (pos 951782400))
-    ∷ stamp-is (ascii "1900-02-29T00:00:00Z") none
-    ∷ integer-is w32 (ascii "2147483647") (some (pos 2147483647))
-    ∷ integer-is w32 (ascii "2147483648") none
+    ∷ stamp-is (ascii "1970-01-01T00:00:00Z") (is (pos 0))
+    ∷ stamp-is (ascii "2000-02-29T00:00:00Z") (is (pos 951782400))
+    ∷ stamp-is (ascii "1900-02-29T00:00:00Z") (refused 9)
+    ∷ integer-is w32 (ascii "2147483647") (is (pos 2147483647))
+    ∷ integer-is w32 (ascii "2147483648") (refused 8)
     -- way 5 at version 4, then delete at 3: refused 12, held 4; delete at 4 taken; then an unversioned push taken; then version 3 refused 12, held 4
-    ∷ answers
+    ∷ prints
     (accepts (pushing (at-version 4))
     ∷ refuses (deleting (at-version 3)) 12 (pos 4)
     ∷ accepts (deleting (at-version 4))
     ∷ accepts (pushing unversioned)
     ∷ refuses (pushing (at-version 3)) 12 (pos 4)
     ∷ [])
+    (ascii "w\t5\t+\t4\t0\t0\t0\t0\t0\t\t0\t0\n")
     -- a node with one tag value `yes`, a way with two refs, a relation with one member
     ∷ takes (pos 1) taggedNode 60
     ∷ takes (pos 1) wayOfTwo 61
     ∷ takes (pos 1) relationOfOne 58
     -- Input A gives Output A
-    ∷ prints (map (hears 0) inputA ++ (ends 0 ∷ [])) outputA
+    ∷ prints eventsA outputA
     -- no header; an empty overlay lists as no bytes
     ∷ prints [] []
     -- ids in OSM order
     ∷ prints
-    (pushes (pos 1) (some bareNode) ∷ pushes (negsuc 1) (some bareNode) ∷ pushes (negsuc 0) (some bareNode) ∷ pushes (pos 0) (some bareNode) ∷ [])
+    (accepts (pushingNode 1) ∷ accepts (pushingNode 18446744073709551614) ∷ accepts (pushingNode 18446744073709551615) ∷ accepts (pushingNode 0) ∷ [])
     (ascii "n\t0\t+\t?\t0\t0\t0\t0\t0\t\t0\t0\t0\nn\t-1\t+\t?\t0\t0\t0\t0\t0\t\t0\t0\t0\nn\t-2\t+\t?\t0\t0\t0\t0\t0\t\t0\t0\t0\nn\t1\t+\t?\t0\t0\t0\t0\t0\t\t0\t0\t0\n")
-    -- an unversioned push after a versioned delete keeps the version
-    ∷ prints (deletes Node (pos 5) (version (pos 4)) ∷ pushes (pos 5) (some bareNode) ∷ []) (ascii "n\t5\t+\t4\t0\t0\t0\t0\t0\t\t0\t0\t0\n")
     ∷ []

@@ -62,6 +62,13 @@ impl VersionFloor {
         let highest = self.0;
         VersionFloor(higher_of(highest, claim))
     }
+
+    // The floor that is lent is raised to an admitted claim.
+    pub fn raise(&mut self, claim: Version)
+        ensures { λ _. ⌜ now (self .exit) .0 ≡ higher (now (self .entry) .0) claim ⌝ }
+    {
+        *self = (*self).raised(claim);
+    }
 }
 
 // A version as one word, as the id tables and the C entries hold it: below 2^32 the bits of the number, else none.

@@ -1,0 +1,5 @@
+pub mod Condition3
+pub mod Views
+pub mod Nesting
+pub mod Documents
+pub mod Example

@@ -1,0 +1,3 @@
+pub mod Condition3
+pub mod Views
+pub mod Nesting

@@ -1,0 +1,1 @@
+// Condition 3 over the public calls' definitions: laws alone, no code.
