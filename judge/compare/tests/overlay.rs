@@ -4,7 +4,7 @@ use compare::overlay::{Between, Entries};
 use compare::same;
 use judge::compare::call::{Answer, Call, Lines, Port, Push, Storage, claiming};
 use judge::compare::direct;
-use judge::compare::reads::{everything, the_listing};
+use judge::compare::reads::{everything, nothing, the_listing};
 use judge::random::{Random, depth, seed_and_rounds};
 use judge::{Kind, Meta, Sizes};
 
@@ -17,7 +17,7 @@ fn set_ups() {
 
 #[test]
 fn sequences() {
-    same(direct::sequences(LIBRARY, depth() + 1, the_listing));
+    same(direct::sequences(LIBRARY, depth() + 1, nothing));
 }
 
 #[test]
