@@ -30,15 +30,8 @@ fn main() {
         }
         let target = Path::new(&out).join(format!("{name}.rs"));
         fs::write(&target, source).expect("a module source");
-        let list = if path.starts_with("osc/") {
-            &mut osc
-        } else {
-            &mut root
-        };
-        list.push_str(&format!(
-            "{ALLOW}\n#[path = {:?}]\npub(crate) mod {name};\n",
-            target.display().to_string()
-        ));
+        let list = if path.starts_with("osc/") { &mut osc } else { &mut root };
+        list.push_str(&format!("{ALLOW}\n#[path = {:?}]\npub(crate) mod {name};\n", target.display().to_string()));
     }
     fs::write(Path::new(&out).join("root_modules.rs"), root).expect("the root's module list");
     fs::write(Path::new(&out).join("osc_modules.rs"), osc).expect("osc's module list");

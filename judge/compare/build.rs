@@ -1,5 +1,5 @@
 //! Links the built libraries: the files that TORVASKIN_LIB, TORVASKIN_SORTED, TORVASKIN_OVERLAY,
-//! TORVASKIN_READING, TORVASKIN_LAYERS and TORVASKIN_LEVELS name, else those that `rt staticlib` writes. Each is copied
+//! TORVASKIN_READING, TORVASKIN_LISTING and TORVASKIN_READER name, else those that `rt staticlib` writes. Each is copied
 //! first, so that none is looked for in the folder of another.
 
 use std::path::{Path, PathBuf};
@@ -11,8 +11,8 @@ fn main() {
     link(&out, "TORVASKIN_SORTED", "sorted_c");
     link(&out, "TORVASKIN_OVERLAY", "overlay_c");
     link(&out, "TORVASKIN_READING", "reading_c");
-    link(&out, "TORVASKIN_LAYERS", "layers");
-    link(&out, "TORVASKIN_LEVELS", "levels");
+    link(&out, "TORVASKIN_LISTING", "listing_c");
+    link(&out, "TORVASKIN_READER", "reader_c");
 }
 
 /// Links the file that a variable names, else that of a crate.
@@ -26,11 +26,7 @@ fn link(out: &Path, variable: &str, built: &str) {
         PathBuf::from,
     );
     println!("cargo::rerun-if-changed={}", lib.display());
-    std::fs::copy(&lib, out.join(format!("lib{built}.a"))).unwrap_or_else(|e| {
-        panic!(
-            "no library at {}: {e}; `rt staticlib {built}` builds it",
-            lib.display()
-        )
-    });
+    std::fs::copy(&lib, out.join(format!("lib{built}.a")))
+        .unwrap_or_else(|e| panic!("no library at {}: {e}; `rt staticlib {built}` builds it", lib.display()));
     println!("cargo::rustc-link-lib=static={built}");
 }

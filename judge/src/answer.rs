@@ -7,22 +7,15 @@ use quick_xml::lines::{Line, escape, judge_line};
 
 use crate::nesting::Place;
 use crate::osc::CompactDiffOverlay;
-use crate::osc::direct;
-use crate::osc::xml_parse::{JudgeSteps, judge_drive};
+use crate::osc::xml_parse::{JudgeStaged, JudgeSteps, judge_drive};
 use crate::osm_id::osm_id_cmp;
 
 pub use crate::kinds::ElementKind as Kind;
-pub use crate::osc::direct::{Lookups, Meta, Record, Sorted};
+pub use crate::osc::direct::{Lookups, Meta, Overlay, Record};
 pub use crate::refusal::Refusal;
 
 /// The kinds in the listing's order.
 pub const KINDS: [Kind; 3] = [Kind::Node, Kind::Way, Kind::Relation];
-
-/// The published overlay.
-#[derive(Clone)]
-pub struct Overlay {
-    inner: CompactDiffOverlay,
-}
 
 /// The overlay's whole state; ids in OSM order.
 #[derive(Clone, Debug, PartialEq, Eq)]
@@ -52,52 +45,11 @@ impl Default for Overlay {
 
 impl Overlay {
     pub fn new() -> Self {
-        Self {
-            inner: CompactDiffOverlay::new(),
-        }
+        Self { inner: CompactDiffOverlay::new() }
     }
 
     pub fn allow_version_regression(&mut self, allow: bool) {
         self.inner.allow_version_regression(allow);
-    }
-
-    pub fn intern(&mut self, text: &str) -> u32 {
-        direct::intern(&mut self.inner, text).expect("fewer than 2^32 string bytes")
-    }
-
-    pub fn push_node(
-        &mut self,
-        id: i64,
-        place: (i32, i32),
-        tags: &[(u32, &str)],
-        meta: &Meta,
-    ) -> Result<(), Refusal> {
-        direct::push_node(&mut self.inner, id, place, tags, meta).map_err(|e| Refusal::of(&e))
-    }
-
-    pub fn push_way(
-        &mut self,
-        id: i64,
-        refs: &[i64],
-        tags: &[(u32, &str)],
-        meta: &Meta,
-    ) -> Result<(), Refusal> {
-        direct::push_way(&mut self.inner, id, refs, tags, meta).map_err(|e| Refusal::of(&e))
-    }
-
-    /// A member is ref, type, role handle.
-    pub fn push_relation(
-        &mut self,
-        id: i64,
-        members: &[(i64, u8, u32)],
-        tags: &[(u32, &str)],
-        meta: &Meta,
-    ) -> Result<(), Refusal> {
-        direct::push_relation(&mut self.inner, id, members, tags, meta).map_err(|e| Refusal::of(&e))
-    }
-
-    pub fn delete(&mut self, kind: Kind, id: i64, meta: &Meta) -> Result<(), Refusal> {
-        direct::delete(&mut self.inner, kind, id, meta).map_err(|e| Refusal::of(&e))
     }
 
     pub fn known_version(&self, kind: Kind, id: i64) -> Option<i32> {
@@ -137,23 +89,6 @@ impl Overlay {
         self.inner.deleted_ids(kind).len()
     }
 
-    pub fn record(&self, kind: Kind, id: i64) -> Option<Record> {
-        direct::record(&self.inner, kind, id)
-    }
-
-    pub fn sorted(&self, kind: Kind) -> Sorted {
-        direct::sorted(&self.inner, kind)
-    }
-
-    pub fn sorted_record(&self, kind: Kind, n: usize) -> Record {
-        direct::sorted_record(&self.inner, kind, n)
-    }
-
-    /// Live ids, deleted ids.
-    pub fn sorted_ids(&self, kind: Kind) -> (Vec<i64>, Vec<i64>) {
-        direct::sorted_ids(&self.inner, kind)
-    }
-
     pub fn state(&self) -> State {
         let (spans, string_bytes) = self.inner.judge_spans();
         State {
@@ -181,72 +116,53 @@ impl Overlay {
     /// Document 01's listing.
     pub fn listing(&self) -> Vec<u8> {
         let mut out = String::new();
-        for (kind, letter) in KINDS.into_iter().zip(["n", "w", "r"]) {
-            let sorted = self.sorted(kind);
-            let mut lines: Vec<(i64, Option<&Record>)> = sorted
-                .live
-                .iter()
-                .copied()
-                .zip(sorted.records.iter().map(Some))
-                .chain(sorted.deleted.iter().map(|&id| (id, None)))
-                .collect();
+        for kind in KINDS {
+            let ((live, deleted), records) = (self.sorted_ids(kind), self.sorted_records(kind));
+            let live = live.into_iter().zip(records.iter().map(Some));
+            let deleted = deleted.into_iter().map(|id| (id, None));
+            let mut lines: Vec<(i64, Option<&Record>)> = live.chain(deleted).collect();
             lines.sort_by(|a, b| osm_id_cmp(a.0, b.0));
             for (id, record) in lines {
-                self.list_one(&mut out, kind, letter, id, record);
+                list_one(&mut out, kind, id, self.known_version(kind, id), record);
             }
         }
         out.into_bytes()
     }
+}
 
-    fn list_one(
-        &self,
-        out: &mut String,
-        kind: Kind,
-        letter: &str,
-        id: i64,
-        record: Option<&Record>,
-    ) {
-        let known = self
-            .known_version(kind, id)
-            .map_or_else(|| "?".to_owned(), |v| v.to_string());
-        let sign = if record.is_some() { "+" } else { "-" };
-        let mut fields = vec![letter.to_owned(), id.to_string(), sign.to_owned(), known];
-        if let Some(r) = record {
-            assert_eq!(r.id, id);
-            fields.push(r.flags.to_string());
-            fields.push(r.version.to_string());
-            fields.push(r.timestamp.to_string());
-            fields.push(r.changeset.to_string());
-            fields.push(r.uid.to_string());
-            fields.push(escape(&r.user));
-            match kind {
-                Kind::Node => {
-                    let (lat, lon) = r.place.expect("a node has a place");
-                    fields.push(lat.to_string());
-                    fields.push(lon.to_string());
-                }
-                Kind::Way => {
-                    fields.push(r.refs.len().to_string());
-                    fields.extend(r.refs.iter().map(i64::to_string));
-                }
-                Kind::Relation => {
-                    fields.push(r.members.len().to_string());
-                    for (byte, id, role) in &r.members {
-                        fields.push(byte.to_string());
-                        fields.push(id.to_string());
-                        fields.push(escape(role));
-                    }
-                }
+/// One line of the listing.
+pub(crate) fn list_one(out: &mut String, kind: Kind, id: i64, known: Option<i32>, record: Option<&Record>) {
+    let known = known.map_or_else(|| "?".to_owned(), |v| v.to_string());
+    let sign = if record.is_some() { "+" } else { "-" };
+    let letter = ["n", "w", "r"][kind as usize];
+    let mut fields = vec![letter.to_owned(), id.to_string(), sign.to_owned(), known];
+    if let Some(r) = record {
+        assert_eq!(r.id, id);
+        fields.extend([r.flags.to_string(), r.version.to_string(), r.timestamp.to_string()]);
+        fields.extend([r.changeset.to_string(), r.uid.to_string(), escape(&r.user)]);
+        match kind {
+            Kind::Node => {
+                let (lat, lon) = r.place.expect("a node has a place");
+                fields.extend([lat.to_string(), lon.to_string()]);
             }
-            fields.push(r.tags.len().to_string());
-            for (key, value) in &r.tags {
-                fields.push(escape(key));
-                fields.push(escape(value));
+            Kind::Way => {
+                fields.push(r.refs.len().to_string());
+                fields.extend(r.refs.iter().map(i64::to_string));
+            }
+            Kind::Relation => {
+                fields.push(r.members.len().to_string());
+                for (byte, id, role) in &r.members {
+                    fields.extend([byte.to_string(), id.to_string(), escape(role)]);
+                }
             }
         }
-        out.push_str(&fields.join("\t"));
-        out.push('\n');
+        fields.push(r.tags.len().to_string());
+        for (key, value) in &r.tags {
+            fields.extend([escape(key), escape(value)]);
+        }
     }
+    out.push_str(&fields.join("\t"));
+    out.push('\n');
 }
 
 fn in_order<V: Copy, S>(map: &HashMap<i64, V, S>) -> Vec<(i64, V)> {
@@ -265,11 +181,7 @@ pub struct Stop {
 
 impl Stop {
     fn at(refusal: Refusal, line: u64) -> Self {
-        Self {
-            number: refusal.number,
-            line,
-            held: refusal.held,
-        }
+        Self { number: refusal.number, line, held: refusal.held }
     }
 }
 
@@ -287,13 +199,8 @@ pub struct Sizes {
 
 impl Sizes {
     /// What `roadlist` lends.
-    pub const ROADLIST: Self = Self {
-        ids: [512; 3],
-        arenas: [8_192; 3],
-        strings: 512,
-        string_bytes: 8_192,
-        output: 65_536,
-    };
+    pub const ROADLIST: Self =
+        Self { ids: [512; 3], arenas: [8_192; 3], strings: 512, string_bytes: 8_192, output: 65_536 };
 
     /// The first of 13, 14 and 15 that the overlay's state would not fit.
     pub(crate) fn exceeded(&self, state: &State) -> Option<u32> {
@@ -342,11 +249,7 @@ impl Default for Reader {
 
 impl Reader {
     pub fn new() -> Self {
-        Self {
-            steps: JudgeSteps::new(),
-            lines: 0,
-            stop: None,
-        }
+        Self { steps: JudgeSteps::new(), lines: 0, stop: None }
     }
 
     /// One line without its line feed; `ended` says whether it had one.
@@ -385,25 +288,13 @@ impl Reader {
         let event = match judge_line(line, ended).map_err(Refusal::plain)? {
             Line::Close => Event::End(BytesEnd),
             Line::Other => Event::Text(BytesText),
-            Line::Open {
-                empty,
-                content,
-                name_len,
-            } => {
+            Line::Open { empty, content, name_len } => {
                 let start = BytesStart::from_content(content, name_len);
-                if empty {
-                    Event::Empty(start)
-                } else {
-                    Event::Start(start)
-                }
+                if empty { Event::Empty(start) } else { Event::Start(start) }
             }
         };
-        let before = (change == Change::None || sizes.is_some())
-            .then(|| (overlay.clone(), self.steps.clone()));
-        let mut reply = self
-            .steps
-            .step(&mut overlay.inner, &event)
-            .map_err(|e| Refusal::of(&e));
+        let before = (change == Change::None || sizes.is_some()).then(|| (overlay.clone(), self.steps.clone()));
+        let mut reply = self.steps.step(&mut overlay.inner, &event).map_err(|e| Refusal::of(&e));
         if let (Ok(()), Some(sizes)) = (reply, sizes) {
             let full = sizes.exceeded(&overlay.state()).or(self.element_over());
             reply = full.map_or(Ok(()), |number| Err(Refusal::plain(number)));
@@ -437,9 +328,9 @@ impl Reader {
         }
     }
 
-    /// Doc 0, Root 1, Other 2, Section 3, Element 4, Leaf 5, Done 6.
-    pub fn level(&self) -> u8 {
-        self.place().level
+    /// What is staged for an element.
+    pub(crate) fn staged(&self) -> Option<&JudgeStaged> {
+        self.steps.staged()
     }
 
     /// Where the published driver stands.
@@ -550,30 +441,5 @@ impl Seek {
     /// The place that the next call begins at; none before the first.
     pub fn place(&self) -> Option<usize> {
         self.0.judge_place()
-    }
-}
-
-impl State {
-    /// The state as text, one fact a line.
-    pub fn dump(&self) -> String {
-        use std::fmt::Write;
-        let mut out = String::new();
-        for (k, letter) in self.kinds.iter().zip(["n", "w", "r"]) {
-            let hex: String = k.arena.iter().map(|b| format!("{b:02x}")).collect();
-            let _ = writeln!(out, "{letter}\tarena\t{hex}");
-            for (id, at) in &k.live {
-                let _ = writeln!(out, "{letter}\tlive\t{id}\t{at}");
-            }
-            for id in &k.deleted {
-                let _ = writeln!(out, "{letter}\tdeleted\t{id}");
-            }
-            for (id, floor) in &k.floors {
-                let _ = writeln!(out, "{letter}\tfloor\t{id}\t{floor}");
-            }
-        }
-        for (handle, text) in self.texts.iter().enumerate() {
-            let _ = writeln!(out, "text\t{handle}\t{}", escape(text));
-        }
-        out
     }
 }

@@ -16,22 +16,11 @@ impl std::error::Error for NotAStamp {}
 /// `YYYY-MM-DDTHH:MM:SSZ`, 20 bytes; each field as Rust's integer reader takes it.
 pub fn parse_rfc3339_utc(text: &str) -> Result<i64, NotAStamp> {
     let bytes = text.as_bytes();
-    let separators = [
-        (4, b'-'),
-        (7, b'-'),
-        (10, b'T'),
-        (13, b':'),
-        (16, b':'),
-        (19, b'Z'),
-    ];
+    let separators = [(4, b'-'), (7, b'-'), (10, b'T'), (13, b':'), (16, b':'), (19, b'Z')];
     if bytes.len() != 20 || separators.iter().any(|&(at, b)| bytes[at] != b) {
         return Err(NotAStamp);
     }
-    let field = |from: usize, to: usize| {
-        text.get(from..to)
-            .and_then(|s| s.parse::<i64>().ok())
-            .ok_or(NotAStamp)
-    };
+    let field = |from: usize, to: usize| text.get(from..to).and_then(|s| s.parse::<i64>().ok()).ok_or(NotAStamp);
     let (year, month, day) = (field(0, 4)?, field(5, 7)?, field(8, 10)?);
     let (hour, minute, second) = (field(11, 13)?, field(14, 16)?, field(17, 19)?);
     if !(1..=12).contains(&month) || day == 0 || day > month_len(year, month) {

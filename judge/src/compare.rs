@@ -1,21 +1,18 @@
 //! The comparisons, apart from what they compare with: a port is a trait's implementation, by the
-//! built library in the package `compare`, by a faulty copy of the judge in tests/faults.rs.
+//! built library in the package `compare`, by document 01's words with a fault in tests/faults.rs.
 
-pub(crate) mod both;
+pub mod both;
+pub mod call;
 pub mod damaged;
 pub mod direct;
 pub mod ground;
-pub mod lending;
-pub mod lent;
 pub mod lookups;
-pub mod nesting;
 pub mod overlay;
 pub mod program;
 pub mod reads;
-pub mod records;
-pub mod storage;
-pub mod strings;
-pub mod words_overlay;
+pub mod rust;
+pub mod words;
+mod words_reader;
 
 /// The number of compared answers, or the first difference.
 pub type Compared = Result<u64, String>;
@@ -35,14 +32,7 @@ impl Tally {
         port: T,
     ) -> Result<(), String> {
         self.0 += 1;
-        if judge == port {
-            Ok(())
-        } else {
-            Err(format!(
-                "{}: the judge {judge:?}, the port {port:?}",
-                what()
-            ))
-        }
+        if judge == port { Ok(()) } else { Err(format!("{}: the judge {judge:?}, the port {port:?}", what())) }
     }
 
     pub(crate) fn done(self) -> Compared {

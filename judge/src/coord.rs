@@ -30,10 +30,6 @@ pub(crate) mod coord_pack {
     }
 
     fn within(value: f64, most: f64) -> Result<(), OutOfRange> {
-        if value.abs() <= most {
-            Ok(())
-        } else {
-            Err(OutOfRange)
-        }
+        if value.abs() <= most { Ok(()) } else { Err(OutOfRange) }
     }
 }

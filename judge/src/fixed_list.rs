@@ -4,8 +4,8 @@
 use std::collections::HashSet;
 
 use crate::compare::ground::{
-    EDGE_STAMPS, GOOD_STAMPS, Ground, Judge, edge_ids, edge_integers, edge_versions,
-    random_integer, random_stamp, text_vectors, version,
+    EDGE_STAMPS, GOOD_STAMPS, Ground, Judge, edge_ids, edge_integers, edge_versions, random_integer, random_stamp,
+    text_vectors, version,
 };
 use crate::random::Random;
 
@@ -37,10 +37,7 @@ impl List {
         let Some(text) = Self::field(bytes) else {
             return;
         };
-        for (name, (number, value)) in [
-            ("i64", Judge.read_i64(bytes)),
-            ("i32", Judge.read_i32(bytes)),
-        ] {
+        for (name, (number, value)) in [("i64", Judge.read_i64(bytes)), ("i32", Judge.read_i32(bytes))] {
             self.add(format!("{name}\t{text}"), format!("{number}\t{value}"));
         }
     }
@@ -66,18 +63,10 @@ pub fn fixed_questions() -> String {
 }
 
 fn list() -> List {
-    let mut list = List {
-        lines: Vec::new(),
-        seen: HashSet::new(),
-    };
+    let mut list = List { lines: Vec::new(), seen: HashSet::new() };
     let mut random = Random::new(20_261_105);
     let ids = edge_ids();
-    for id in ids
-        .iter()
-        .step_by(3)
-        .copied()
-        .chain([0, 1, -1, i64::MIN, i64::MAX])
-    {
+    for id in ids.iter().step_by(3).copied().chain([0, 1, -1, i64::MIN, i64::MAX]) {
         let (class, magnitude) = Judge.osm_id_key(id);
         list.add(format!("key\t{id}"), format!("{class}\t{magnitude}"));
     }
@@ -94,9 +83,7 @@ fn list() -> List {
         // One word for none: the list has no words, only versions.
         let all = edge_versions();
         let mut seen = HashSet::new();
-        all.into_iter()
-            .filter(|&w| seen.insert(version(w)))
-            .collect()
+        all.into_iter().filter(|&w| seen.insert(version(w))).collect()
     };
     for &floor in &versions {
         for &claim in &versions {
@@ -152,9 +139,7 @@ fn list() -> List {
             list.stamp(&damaged);
         }
     }
-    for year in [
-        "1972", "1999", "2000", "2001", "2096", "2100", "2400", "-004", "+096", "0000",
-    ] {
+    for year in ["1972", "1999", "2000", "2001", "2096", "2100", "2400", "-004", "+096", "0000"] {
         for date in ["01-31", "02-28", "02-29", "04-30", "04-31", "12-31"] {
             list.stamp(format!("{year}-{date}T23:59:59Z").as_bytes());
         }

@@ -22,7 +22,7 @@ pub mod random;
 /// Direct calls of osm_id.rs and version_floor.rs, which keep no state.
 pub mod ground;
 
-/// Direct calls of xml_parse.rs's nesting.
+/// Where a reader stands.
 pub mod nesting;
 
 // What the published files name by these paths.

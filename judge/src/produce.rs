@@ -14,12 +14,7 @@ fn line(text: &str) -> Bytes {
 
 /// An open and an empty element for each.
 fn elements(tails: &[&str]) -> Vec<Bytes> {
-    let both = |tail| {
-        [
-            line(&format!("open|{tail}")),
-            line(&format!("empty|{tail}")),
-        ]
-    };
+    let both = |tail| [line(&format!("open|{tail}")), line(&format!("empty|{tail}"))];
     tails.iter().flat_map(both).collect()
 }
 
@@ -40,11 +35,26 @@ const GOOD: [&str; 13] = [
     "x",
 ];
 
-/// Every kind of event on which nesting decides: thirteen names opened and empty, with good fields; a
-/// close.
-pub fn nested_events() -> Vec<Bytes> {
-    let mut out = elements(&GOOD);
-    out.push(line("close"));
+/// The spellings; each with a byte changed, more and less at each place; two in one; names at random.
+pub fn close_names(random: &mut Random, times: u64) -> Vec<Bytes> {
+    let spellings: Vec<&str> = GOOD.iter().map(|g| g.split('|').next().expect("a name")).collect();
+    let mut out = vec![b"bound".to_vec(), b" node".to_vec(), "wäy".into(), b"\\".to_vec()];
+    for spelling in &spellings {
+        let name = spelling.as_bytes();
+        out.extend([name.to_vec(), name.to_ascii_uppercase()]);
+        out.extend(spellings.iter().map(|other| [name, other.as_bytes()].concat()));
+        for at in 0..=name.len() {
+            for byte in [b'A', b'a', b's', b'=', b' ', 0x7f] {
+                out.push([&name[..at], &[byte], &name[at..]].concat());
+                out.push([&name[..at], &[byte], &name[(at + 1).min(name.len())..]].concat());
+            }
+            out.push([&name[..at], &name[(at + 1).min(name.len())..]].concat());
+        }
+    }
+    let letters = spellings.concat().into_bytes();
+    for _ in 0..times {
+        out.push((0..1 + random.below(9)).map(|_| *random.pick(&letters)).collect());
+    }
     out
 }
 
@@ -52,10 +62,7 @@ pub fn nested_events() -> Vec<Bytes> {
 /// and one without its coordinates; a close; and another.
 pub fn events() -> Vec<Bytes> {
     let mut out = elements(&GOOD);
-    out.extend(elements(&[
-        "node|id=1|version=0|lat7=3|lon7=-4|user=w",
-        "node|id=1|version=3|user=z",
-    ]));
+    out.extend(elements(&["node|id=1|version=0|lat7=3|lon7=-4|user=w", "node|id=1|version=3|user=z"]));
     out.push(line("close"));
     out.push(line("other"));
     out
@@ -76,10 +83,7 @@ pub fn levels() -> Vec<(String, Vec<Bytes>)> {
         let inside = then(&root, &format!("open|{section}"));
         out.push((format!("Section {section}"), inside.clone()));
         for kind in ["node", "way", "relation"] {
-            let element = then(
-                &inside,
-                &format!("open|{kind}|id=1|lat7=0|lon7=0|version=1"),
-            );
+            let element = then(&inside, &format!("open|{kind}|id=1|lat7=0|lon7=0|version=1"));
             let leaf = then(&element, "open|tag|k=c|v=d");
             out.push((format!("Element {section} {kind}"), element));
             out.push((format!("Leaf {section} {kind}"), leaf));
@@ -124,16 +128,8 @@ pub struct Style {
 }
 
 impl Style {
-    pub const VALID: Self = Self {
-        damage: 0,
-        sections: 5,
-        objects: 6,
-        ids: 4,
-    };
-    pub const DAMAGED: Self = Self {
-        damage: 30,
-        ..Self::VALID
-    };
+    pub const VALID: Self = Self { damage: 0, sections: 5, objects: 6, ids: 4 };
+    pub const DAMAGED: Self = Self { damage: 30, ..Self::VALID };
 }
 
 /// Documents at random. It remembers the versions that it gave, so that most acts are accepted.
@@ -145,11 +141,7 @@ pub struct Documents {
 
 impl Documents {
     pub fn new(seed: u64, style: Style) -> Self {
-        Self {
-            random: Random::new(seed),
-            style,
-            given: std::collections::HashMap::new(),
-        }
+        Self { random: Random::new(seed), style, given: std::collections::HashMap::new() }
     }
 
     /// Forget the versions: the next document goes into a new overlay.
@@ -190,10 +182,7 @@ impl Documents {
         self.damage(&mut out);
         // Damage may have brought in a line feed.
         let whole = out.concat();
-        whole
-            .split_inclusive(|&b| b == b'\n')
-            .map(<[u8]>::to_vec)
-            .collect()
+        whole.split_inclusive(|&b| b == b'\n').map(<[u8]>::to_vec).collect()
     }
 
     fn noise(&mut self, out: &mut Vec<Bytes>) {
@@ -251,11 +240,7 @@ impl Documents {
 
     /// An integer as text, at times with a sign or zeros that mean nothing.
     fn number(&mut self, n: i64) -> String {
-        let zeros = "0".repeat(if self.random.once_in(10) {
-            self.random.below(25)
-        } else {
-            0
-        });
+        let zeros = "0".repeat(if self.random.once_in(10) { self.random.below(25) } else { 0 });
         let sign = match n {
             n if n < 0 => "-",
             _ if self.random.once_in(10) => "+",
@@ -275,11 +260,7 @@ impl Documents {
         };
         let highest = known.map_or(version, |v| v.max(version));
         // Without damage no regression is wanted.
-        let version = if self.style.damage == 0 {
-            highest
-        } else {
-            version
-        };
+        let version = if self.style.damage == 0 { highest } else { version };
         self.given.insert((kind, id), highest);
         version
     }
@@ -311,12 +292,7 @@ impl Documents {
             list.push(format!("user={}", self.text()));
         }
         if self.random.once_in(4) {
-            list.push(
-                (*self
-                    .random
-                    .pick(&["visible=false", "visible=true", "visible="]))
-                .to_owned(),
-            );
+            list.push((*self.random.pick(&["visible=false", "visible=true", "visible="])).to_owned());
         }
         let coordinates = kind == "node" && !delete;
         if coordinates || self.random.once_in(10) {
@@ -330,9 +306,7 @@ impl Documents {
             }
         }
         if self.random.once_in(5) {
-            let odd = [
-                "lat=x", "lon=1e3", "Id=2", "a\\b=c", "v==", "ref=x", "é=", "k=\\\\",
-            ];
+            let odd = ["lat=x", "lon=1e3", "Id=2", "a\\b=c", "v==", "ref=x", "é=", "k=\\\\"];
             list.push((*self.random.pick(&odd)).to_owned());
         }
         self.shuffled(list)
@@ -352,10 +326,7 @@ impl Documents {
             (1 | 2, "relation") => {
                 let id = self.random.id();
                 list.push(format!("ref={}", self.number(id)));
-                list.push(format!(
-                    "type={}",
-                    self.random.pick(&["node", "way", "relation"])
-                ));
+                list.push(format!("type={}", self.random.pick(&["node", "way", "relation"])));
                 if !self.random.once_in(3) {
                     list.push(format!("role={}", self.text()));
                 }
@@ -445,9 +416,7 @@ impl Documents {
             }
             5 => {
                 let mut fields = fields;
-                let word = *self
-                    .random
-                    .pick(&["open", "empty", "close", "other", "Open", ""]);
+                let word = *self.random.pick(&["open", "empty", "close", "other", "Open", ""]);
                 fields[0] = word.into();
                 line = join(&fields);
             }

@@ -37,11 +37,7 @@ impl Random {
             1 => {
                 let power = 1u64 << self.below(64);
                 let near = power.wrapping_add(self.draw() % 5).wrapping_sub(2) as i64;
-                if self.once_in(2) {
-                    near.wrapping_neg()
-                } else {
-                    near
-                }
+                if self.once_in(2) { near.wrapping_neg() } else { near }
             }
             _ => self.below(21) as i64 - 10,
         }
@@ -51,10 +47,7 @@ impl Random {
 /// The seed and the length of a run: TORVASKIN_SEED (1 where unset), and TORVASKIN_ROUNDS, which
 /// multiplies the number of random inputs (1 where unset).
 pub fn seed_and_rounds() -> (u64, u64) {
-    (
-        number("TORVASKIN_SEED").unwrap_or(1),
-        number("TORVASKIN_ROUNDS").unwrap_or(1),
-    )
+    (number("TORVASKIN_SEED").unwrap_or(1), number("TORVASKIN_ROUNDS").unwrap_or(1))
 }
 
 /// The longest event sequence from a level: TORVASKIN_DEPTH, 3 where unset.

@@ -21,14 +21,8 @@ impl Refusal {
 
     pub(crate) fn of(err: &Error) -> Self {
         match err.kind() {
-            ErrorKind::VersionRegression { held, .. } => Self {
-                number: 12,
-                held: Some(*held),
-            },
-            ErrorKind::InvalidData {
-                source: Some(cause),
-                ..
-            } => {
+            ErrorKind::VersionRegression { held, .. } => Self { number: 12, held: Some(*held) },
+            ErrorKind::InvalidData { source: Some(cause), .. } => {
                 if let Some(quick_xml::Error::Line(number)) = cause.downcast_ref() {
                     Self::plain(*number)
                 } else if cause.is::<ParseIntError>() || cause.is::<ParseFloatError>() {
@@ -49,9 +43,7 @@ impl Refusal {
 /// the input puts into them stands further on.
 fn by_message(msg: &str) -> u32 {
     let outside = |kind: &str| {
-        msg.strip_prefix(kind).is_some_and(|rest| {
-            rest.contains(" appears outside any <create>, <modify> or <delete>")
-        })
+        msg.strip_prefix(kind).is_some_and(|rest| rest.contains(" appears outside any <create>, <modify> or <delete>"))
     };
     if msg.starts_with("OSC element <") {
         5

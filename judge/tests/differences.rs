@@ -2,36 +2,19 @@
 
 use std::panic::{AssertUnwindSafe, catch_unwind};
 
-use judge::compare::overlay::{DirectPort, JudgeSide, Push};
-use judge::compare::records::parts;
+use judge::compare::call::{Call, Push};
+use judge::compare::rust::Rust;
 use judge::{Kind, Meta, Outcome, Overlay, Sizes, run, run_sized};
 
-const NONE: Meta = Meta {
-    flags: 0,
-    version: 0,
-    timestamp: 0,
-    changeset: 0,
-    uid: 0,
-    user: 0,
-};
+const NONE: Meta = Meta { flags: 0, version: 0, timestamp: 0, changeset: 0, uid: 0, user: 0 };
 
 fn push(kind: Kind) -> Push {
-    Push {
-        kind,
-        id: 1,
-        place: (0, 0),
-        refs: Vec::new(),
-        members: Vec::new(),
-        tags: Vec::new(),
-        meta: NONE,
-    }
+    Push::plain(kind, 1, NONE)
 }
 
-/// The number that document 01 gives for a direct push into a new overlay.
-fn by_words(push: &Push) -> u32 {
-    let (head, parts) = (push.head(), parts(push));
-    let reply = JudgeSide::new().push(push.kind as u8, head, &push.meta, &parts);
-    reply.number
+/// The number that document 01 gives for a direct call on a new overlay.
+fn by_words(call: &Call) -> u32 {
+    Rust::default().call(&Sizes::ROADLIST, call).number()
 }
 
 #[test]
@@ -67,59 +50,47 @@ fn d2_view_to_the_arenas_end() {
 fn d3_utf8_that_is_no_xml() {
     let mut overlay = Overlay::new();
     assert_eq!(overlay.intern("\u{1}"), 1);
-    overlay
-        .push_node(1, (0, 0), &[(0, "\u{ffff}")], &NONE)
-        .expect("taken by the Rust");
-    assert_eq!(JudgeSide::new().intern(b"\x01"), (3, 0));
+    overlay.push_node(1, (0, 0), &[(0, "\u{ffff}")], &NONE).expect("taken by the Rust");
+    assert_eq!(by_words(&Call::Intern(b"\x01".to_vec())), 3);
     let mut tagged = push(Kind::Node);
     tagged.tags.push((0, "\u{ffff}".into()));
-    assert_eq!(by_words(&tagged), 3);
+    assert_eq!(by_words(&tagged.call()), 3);
 }
 
 #[test]
 fn d4_coordinates_of_a_direct_push() {
     let mut overlay = Overlay::new();
-    overlay
-        .push_node(1, (900_000_001, i32::MIN), &[], &NONE)
-        .expect("taken by the Rust");
+    overlay.push_node(1, (900_000_001, i32::MIN), &[], &NONE).expect("taken by the Rust");
     let mut far = push(Kind::Node);
     far.place = (900_000_001, 0);
-    assert_eq!(by_words(&far), 10);
+    assert_eq!(by_words(&far.call()), 10);
 }
 
 #[test]
 fn d5_flags_handles_and_types_of_a_direct_call() {
     // The version flag without the present flag: the Rust takes it, claims it, and shows no metadata.
-    let meta = Meta {
-        flags: 8,
-        version: 3,
-        ..NONE
-    };
+    let meta = Meta { flags: 8, version: 3, ..NONE };
     let mut overlay = Overlay::new();
-    overlay
-        .push_way(1, &[], &[], &meta)
-        .expect("taken by the Rust");
+    overlay.push_way(1, &[], &[], &meta).expect("taken by the Rust");
     assert_eq!(overlay.known_version(Kind::Way, 1), Some(3));
     let record = overlay.record(Kind::Way, 1).expect("live");
     assert_eq!((record.flags, record.version), (8, 0));
     let mut flagged = push(Kind::Way);
     flagged.meta = meta;
-    assert_eq!(by_words(&flagged), 17);
+    assert_eq!(by_words(&flagged.call()), 17);
     // A handle not held, and a type byte above 2: taken by the Rust, which panics when it reads them.
     let mut overlay = Overlay::new();
     overlay.push_way(1, &[], &[(1, "v")], &NONE).expect("taken");
     assert!(catch_unwind(AssertUnwindSafe(|| overlay.record(Kind::Way, 1))).is_err());
     let mut keyed = push(Kind::Way);
     keyed.tags.push((1, b"v".to_vec()));
-    assert_eq!(by_words(&keyed), 17);
+    assert_eq!(by_words(&keyed.call()), 17);
     let mut overlay = Overlay::new();
-    overlay
-        .push_relation(1, &[(1, 3, 0)], &[], &NONE)
-        .expect("taken");
+    overlay.push_relation(1, &[(1, 3, 0)], &[], &NONE).expect("taken");
     assert!(catch_unwind(AssertUnwindSafe(|| overlay.record(Kind::Relation, 1))).is_err());
     let mut typed = push(Kind::Relation);
     typed.members.push((1, 3, 0));
-    assert_eq!(by_words(&typed), 17);
+    assert_eq!(by_words(&typed.call()), 17);
 }
 
 #[test]

@@ -1,619 +1,392 @@
-//! Every comparison can fail: a copy of the judge with one fault is told from the judge.
+//! Document 01's words, as a library, are told from the Rust in nothing; every comparison can fail: the
+//! words with one fault are told from it.
 
-use judge::compare::Compared;
-use judge::compare::ground::{self, Ground, Judge, NONE, version, word};
+use judge::compare::call::{Answer, Call, NO_FLOOR, Port, Storage};
+use judge::compare::damaged::{self, Values};
+use judge::compare::ground::{self, Ground, Judge, NONE};
+use judge::compare::lookups::{self, JudgeLookups, LookupPort};
+use judge::compare::program::{self, Program, edge_numbers_met, expected};
+use judge::compare::reads::{everything, nothing, the_listing};
+use judge::compare::words::{Words, rows};
+use judge::compare::{Compared, direct, overlay};
+use judge::{KINDS, Sizes, run_sized};
 
-/// A copy of the judge whose answers pass through a fault.
-#[derive(Clone, Copy)]
-struct Faulty {
-    fault: Fault,
+/// What a fault makes of a call: what was lent before it, what is lent after it, and its answer.
+type Fault = fn(&Call, &Storage, &mut Storage, &mut Answer);
+
+/// The words with a fault.
+struct Faulty(Fault);
+
+impl Port for Faulty {
+    fn call(&self, lent: &mut Storage, call: &Call) -> Answer {
+        let before = lent.clone();
+        let mut answer = Words::default().call(lent, call);
+        (self.0)(call, &before, lent, &mut answer);
+        answer
+    }
 }
 
-/// From the input and the judge's answer.
-type Read = fn(&[u8], (u32, i64)) -> (u32, i64);
+/// A comparison by its name.
+type Comparison = (&'static str, fn(&dyn Port) -> Compared);
 
-#[derive(Clone, Copy)]
-enum Fault {
-    None,
-    Key(fn(i64, (u8, u64)) -> (u8, u64)),
-    Cmp(fn(i64, i64, u8) -> u8),
-    First(fn(i64, i64, (u8, u64)) -> (u8, u64)),
-    Last(fn(i64, i64, (u8, u64)) -> (u8, u64)),
-    Rank(fn(i64, u64) -> u64),
-    Admit(fn(u64, u64, (u32, i32)) -> (u32, i32)),
-    Raise(fn(u64, u64, u64) -> u64),
-    I64(Read),
-    I32(Read),
-    Stamp(Read),
-    Text(fn(&[u8], u8) -> u8),
+const COMPARISONS: [Comparison; 15] = [
+    ("set-ups", |port| direct::set_ups(port, nothing)),
+    ("sequences", |port| direct::sequences(port, 2, everything)),
+    ("calls", |port| direct::calls(port, 1, 1, everything)),
+    ("long lists", |port| direct::long_lists(port, 1, 1, the_listing)),
+    ("orders", direct::orders),
+    ("parts", direct::parts_not_as_counted),
+    ("nesting", |port| overlay::nesting(port, 2)),
+    ("names", |port| overlay::names(port, 1, 1)),
+    ("documents", |port| overlay::documents(port, 1, 1).map(|n| n.1)),
+    ("readers", |port| overlay::readers(port, 1, 1)),
+    ("bytes", |port| damaged::bytes(port, Values::One)),
+    ("words", damaged::whole_words),
+    ("sizes", damaged::sizes),
+    ("limits", damaged::limits),
+    ("lines", |port| damaged::readers(port, Values::One)),
+];
+
+#[test]
+fn the_words_equal_the_rust() {
+    for (name, comparison) in &COMPARISONS[..10] {
+        let start = std::time::Instant::now();
+        let compared = comparison(&Words::default());
+        let answers = compared.unwrap_or_else(|difference| panic!("{name}: {difference}"));
+        println!("{name}: {answers} answers, {:?}", start.elapsed());
+        assert!(answers > 2_000, "{name}: {answers}");
+    }
 }
+
+/// A wrong number in place of another.
+fn swapped(answer: &mut Answer, from: u32, to: u32) {
+    match answer {
+        Answer::Reply { number, .. } | Answer::Event { number, .. } if *number == from => {
+            *number = to;
+        }
+        _ => {}
+    }
+}
+
+fn is_change(call: &Call) -> bool {
+    matches!(call, Call::Push(..) | Call::Delete(..) | Call::Event(..))
+}
+
+/// Each fault, with the comparisons that must find it, by their numbers above.
+const FAULTS: [(&str, Fault, &[usize]); 24] = [
+    (
+        "refuses all",
+        |_, before, lent, answer| {
+            *lent = before.clone();
+            swapped(answer, 0, 17);
+        },
+        &[0, 1, 2, 3, 4, 5, 6, 8, 9],
+    ),
+    (
+        "stores nothing",
+        |call, before, lent, _| {
+            if is_change(call) {
+                *lent = before.clone();
+            }
+        },
+        &[0, 1, 2, 3, 4, 5, 6, 8, 9],
+    ),
+    (
+        "invents used bytes",
+        |call, _, lent, _| {
+            if is_change(call) && lent.counts[4] > 0 {
+                lent.counts[4] += 1;
+            }
+        },
+        &[1, 2, 3, 6, 8, 9],
+    ),
+    ("cries full", |_, _, _, answer| swapped(answer, 0, 15), &[1, 2, 3, 6, 8, 9]),
+    ("swaps 14 and 15", |_, _, _, answer| swapped(answer, 14, 15), &[1, 2, 3, 4, 8, 9]),
+    ("swaps 5 and 6", |_, _, _, answer| swapped(answer, 6, 5), &[6, 7, 8, 9]),
+    (
+        "forgets the version held",
+        |_, _, _, answer| {
+            if let Answer::Reply { held, .. } | Answer::Event { held, .. } = answer {
+                *held = 0;
+            }
+        },
+        &[1, 2, 3, 6, 8, 9],
+    ),
+    (
+        "forgets the line",
+        |_, _, _, answer| {
+            if let Answer::Event { line, .. } = answer {
+                *line = (*line).min(1);
+            }
+        },
+        &[6, 8, 9],
+    ),
+    (
+        "writes past the record",
+        |call, _, lent, _| {
+            let end = lent.counts[4] as usize;
+            if let (true, Some(byte)) = (is_change(call), lent.arenas[1].get_mut(end)) {
+                *byte = !*byte;
+            }
+        },
+        &[1, 2, 3, 5, 6, 8, 9, 10],
+    ),
+    (
+        "writes past the rows",
+        |call, _, lent, _| {
+            let end = 3 * lent.counts[1] as usize;
+            if let (true, Some(word)) = (is_change(call), lent.tables[1].get_mut(end)) {
+                *word = !*word;
+            }
+        },
+        &[1, 2, 3, 5, 6, 8, 9, 10],
+    ),
+    (
+        "writes past the staged parts",
+        |call, _, lent, _| {
+            if let Call::Event(n, _) = call {
+                let reader = &mut lent.readers[*n];
+                let end = reader.words[14] as usize;
+                reader.parts[end] = !reader.parts[end];
+            }
+        },
+        &[6, 8, 9, 14],
+    ),
+    (
+        "clears the arenas at set-up",
+        |call, _, lent, answer| {
+            if matches!(call, Call::SetUp(_)) && answer.number() == 0 {
+                lent.arenas.iter_mut().for_each(|arena| arena.fill(0));
+            }
+        },
+        &[0, 1, 10],
+    ),
+    (
+        "keeps one bit of the setting",
+        |call, _, lent, _| {
+            if let Call::Allow(_) = call {
+                lent.counts[8] &= 1;
+            }
+        },
+        &[1, 2, 3, 10],
+    ),
+    (
+        "a floor dropped",
+        |call, _, lent, answer| {
+            if matches!(call, Call::Push(..)) && answer.number() == 0 {
+                let (rows, _) = lent.tables[1].as_chunks_mut::<3>();
+                rows[..lent.counts[1] as usize].iter_mut().for_each(|row| row[2] = NO_FLOOR);
+            }
+        },
+        &[1, 2, 3],
+    ),
+    (
+        "an equal version refused",
+        |call, before, lent, answer| {
+            if let Call::Push(kind @ 0..=2, head, meta, _) = call {
+                let known = Call::KnownVersion(*kind, head.id);
+                let known = Words::default().call(&mut before.clone(), &known);
+                let value = u64::from(meta.version.cast_unsigned());
+                if meta.flags & 8 != 0 && known == (Answer::Number { number: 0, value }) {
+                    *lent = before.clone();
+                    swapped(answer, 0, 12);
+                }
+            }
+        },
+        &[1, 2, 3],
+    ),
+    (
+        "a stop mark forgotten",
+        |call, before, lent, answer| {
+            if let (Call::Event(n, _), true) = (call, answer.number() > 0) {
+                lent.readers[*n] = before.readers[*n].clone();
+            }
+        },
+        &[6, 8, 9, 14],
+    ),
+    (
+        "an end that stops",
+        |call, _, lent, answer| {
+            if let (Call::End(n), 18) = (call, answer.number()) {
+                lent.readers[*n].words[16] = 18;
+            }
+        },
+        &[6, 8, 9, 14],
+    ),
+    (
+        "a listing written on 19",
+        |_, _, _, answer| {
+            if let Answer::Listing { number: 19, output, .. } = answer {
+                output.fill(b'n');
+            }
+        },
+        &[1, 2, 3, 6, 8, 9],
+    ),
+    (
+        "a byte past the listing",
+        |_, _, _, answer| {
+            if let Answer::Listing { number: 0, len, output } = answer
+                && let Some(byte) = output.get_mut(*len)
+            {
+                *byte = 0;
+            }
+        },
+        &[1, 2, 3, 6, 8, 9],
+    ),
+    (
+        "a number one past its list",
+        |call, _, lent, answer| {
+            if let (Call::LiveId(kind @ 0..=2, n), 21) = (call, answer.number())
+                && *n == rows(lent, KINDS[usize::from(*kind)]).len() as u64
+            {
+                *answer = Answer::Number { number: 0, value: 0 };
+            }
+        },
+        &[1, 2, 10],
+    ),
+    (
+        "a record to the arena's end",
+        |call, _, lent, answer| {
+            if let (Call::Get(kind @ 0..=2, _), Answer::Part { found: 1, start, len, .. }) = (call, answer) {
+                *len = lent.counts[3 + usize::from(*kind)] as usize - *start;
+            }
+        },
+        &[1, 2, 10],
+    ),
+    (
+        "22 of no kind answered 17",
+        |call, _, _, answer| {
+            if let Call::Push(3.., ..) = call {
+                swapped(answer, 22, 17);
+            }
+        },
+        &[10, 11, 12],
+    ),
+    (
+        "one more id than the most",
+        |call, _, lent, answer| {
+            if matches!(call, Call::IsSound) && lent.tables[2].len() / 3 == 4_097 {
+                swapped(answer, 22, 0);
+            }
+        },
+        &[12],
+    ),
+    (
+        "a word that is no code taken",
+        |call, before, lent, answer| {
+            if let (Call::End(n), Answer::Event { number: number @ 22, .. }) = (call, answer)
+                && before.readers[*n].words[1] > 2
+            {
+                (*number, *lent) = (18, before.clone());
+            }
+        },
+        &[14],
+    ),
+];
+
+#[test]
+fn every_fault_is_found() {
+    for (name, fault, finders) in FAULTS {
+        for finder in finders {
+            let (comparison, compare) = COMPARISONS[*finder];
+            assert!(compare(&Faulty(fault)).is_err(), "{name} by {comparison}");
+        }
+    }
+}
+
+/// The calls without state, with a fault in one of them.
+struct Ground1(u8);
 
 macro_rules! through {
-    ($name:ident($($arg:ident: $ty:ty),*) -> $out:ty, $fault:ident) => {
-        fn $name(&self, $($arg: $ty),*) -> $out {
-            let good = Judge.$name($($arg),*);
-            match self.fault {
-                Fault::$fault(f) => f($($arg,)* good),
-                _ => good,
-            }
+    ($($n:literal $name:ident($($arg:ident: $ty:ty),*) -> $out:ty, $wrong:expr;)*) => {
+        impl Ground for Ground1 {
+            $(fn $name(&self, $($arg: $ty),*) -> $out {
+                let good = Judge.$name($($arg),*);
+                let wrong: fn($($ty,)* $out) -> $out = $wrong;
+                if self.0 == $n { wrong($($arg,)* good) } else { good }
+            })*
         }
     };
 }
 
-impl Ground for Faulty {
-    through!(osm_id_key(id: i64) -> (u8, u64), Key);
-    through!(osm_id_cmp(a: i64, b: i64) -> u8, Cmp);
-    through!(blob_osm_first_key(min: i64, max: i64) -> (u8, u64), First);
-    through!(blob_osm_last_key(min: i64, max: i64) -> (u8, u64), Last);
-    through!(osm_id_rank(id: i64) -> u64, Rank);
-    through!(version_admit(floor: u64, claim: u64) -> (u32, i32), Admit);
-    through!(version_raise(floor: u64, claim: u64) -> u64, Raise);
-    through!(read_i64(s: &[u8]) -> (u32, i64), I64);
-    through!(read_i32(s: &[u8]) -> (u32, i64), I32);
-    through!(stamp(s: &[u8]) -> (u32, i64), Stamp);
-    through!(is_text(s: &[u8]) -> u8, Text);
+through! {
+    0 osm_id_key(id: i64) -> (u8, u64), |id, g| if id == i64::MIN { (1, i64::MAX as u64) } else { g };
+    1 osm_id_cmp(a: i64, b: i64) -> u8, |a, b, _| 1 + (a > b) as u8 - (a < b) as u8;
+    2 blob_osm_first_key(min: i64, max: i64) -> (u8, u64), |a, b, g| if a > b { (0, 0) } else { g };
+    3 blob_osm_last_key(min: i64, max: i64) -> (u8, u64), |a, b, g| if b == 0 && a < 0 { (0, 0) } else { g };
+    4 osm_id_rank(id: i64) -> u64, |id, g| if id > 0 { g - 1 } else { g };
+    5 version_admit(floor: u64, claim: u64) -> (u32, i32), |f, c, g| if f == c && f < NONE { (12, 0) } else { g };
+    6 version_raise(floor: u64, claim: u64) -> u64, |f, _, g| if g == NONE { f } else { g };
+    7 read_i64(s: &[u8]) -> (u32, i64), |s, g| if s.len() > 20 { (8, 0) } else { g };
+    8 read_i32(s: &[u8]) -> (u32, i64), |s, g| if s == b"-2147483649" { (0, 0) } else { g };
+    9 stamp(s: &[u8]) -> (u32, i64), |s, g| if s.starts_with(b"2000-02-29") { (9, 0) } else { g };
+    10 is_text(s: &[u8]) -> u8, |s, g| g | u8::from(s == "\u{fffe}".as_bytes());
 }
 
-type Comparison = fn(&dyn Ground, u64, u64) -> Compared;
-
-#[track_caller]
-fn found(comparison: Comparison, faults: &[(&str, Fault)]) {
-    let good = comparison(&Faulty { fault: Fault::None }, 1, 1);
-    assert!(good.is_ok_and(|n| n > 100), "the judge differs from itself");
-    for (name, fault) in faults {
-        let reply = comparison(&Faulty { fault: *fault }, 1, 0);
-        assert!(reply.is_err(), "not found: {name}");
+#[test]
+fn every_fault_without_state_is_found() {
+    let comparisons = [ground::ids, ground::versions, ground::integers, ground::stamps, ground::texts];
+    for comparison in comparisons {
+        assert!(comparison(&Ground1(255), 1, 1).is_ok_and(|n| n > 100));
+    }
+    for n in 0..=10 {
+        let finder = comparisons[[0, 0, 0, 0, 0, 1, 1, 2, 2, 3, 4][usize::from(n)]];
+        assert!(finder(&Ground1(n), 1, 0).is_err(), "{n}");
     }
 }
 
-fn taken(s: &[u8], good: (u32, i64)) -> i64 {
-    assert_eq!(good.0, 0, "{s:?}");
-    good.1
+/// Lookups in lists, with a fault.
+struct Lookups1(u8);
+
+impl LookupPort for Lookups1 {
+    fn range_overlaps(&self, live: &[i64], deleted: &[i64], min: i64, max: i64) -> (u32, bool) {
+        let deleted = if self.0 == 1 { &[] } else { deleted };
+        JudgeLookups.range_overlaps(live, deleted, min, max)
+    }
+
+    fn upsert_range(&self, ids: &[i64], first: i64, last: i64) -> (u32, usize, usize) {
+        let good = JudgeLookups.upsert_range(ids, first, last);
+        if self.0 == 2 && good.1 == good.2 { (good.0, 0, 0) } else { good }
+    }
+
+    fn seek_find(&self, place: Option<usize>, ids: &[i64], id: i64) -> (u32, Option<usize>, Option<usize>) {
+        let good = JudgeLookups.seek_find(place, ids, id);
+        if self.0 == 3 { (good.0, place, good.2) } else { good }
+    }
+}
+
+/// A program that lends other sizes.
+struct Program1(Sizes);
+
+impl Program for Program1 {
+    fn print(&self, input: &[u8]) -> Vec<u8> {
+        run_sized(input, false, &self.0).0.print()
+    }
 }
 
 #[test]
-fn faults_in_ids() {
-    found(
-        ground::ids,
-        &[
-            (
-                "plain order",
-                Fault::Cmp(|a, b, _| 1 + (a > b) as u8 - (a < b) as u8),
-            ),
-            (
-                "order of the least id",
-                Fault::Cmp(|a, b, g| {
-                    if a == i64::MIN && b == -i64::MAX {
-                        1
-                    } else {
-                        g
-                    }
-                }),
-            ),
-            (
-                "saturated magnitude",
-                Fault::Key(|id, g| {
-                    if id == i64::MIN {
-                        (1, i64::MAX as u64)
-                    } else {
-                        g
-                    }
-                }),
-            ),
-            (
-                "class of zero",
-                Fault::Key(|id, g| if id == 0 { (1, 0) } else { g }),
-            ),
-            (
-                "class of negatives",
-                Fault::Key(|id, g| if id < 0 { (2, g.1) } else { g }),
-            ),
-            (
-                "first of a mixed range",
-                Fault::First(|min, max, g| {
-                    if min < 0 && max > 0 {
-                        Judge.osm_id_key(-1)
-                    } else {
-                        g
-                    }
-                }),
-            ),
-            (
-                "first of negatives",
-                Fault::First(|min, max, g| if max < 0 { Judge.osm_id_key(min) } else { g }),
-            ),
-            (
-                "first, ends the wrong way round",
-                Fault::First(|min, max, g| if min > max { Judge.osm_id_key(max) } else { g }),
-            ),
-            (
-                "last of a mixed range",
-                Fault::Last(|min, max, g| {
-                    if min < 0 && max > 0 {
-                        Judge.osm_id_key(min)
-                    } else {
-                        g
-                    }
-                }),
-            ),
-            (
-                "last up to zero",
-                Fault::Last(|min, max, g| if max == 0 && min < 0 { (0, 0) } else { g }),
-            ),
-            (
-                "rank of the least id",
-                Fault::Rank(|id, g| if id == i64::MIN { g - 1 } else { g }),
-            ),
-            (
-                "rank of positives",
-                Fault::Rank(|id, g| if id > 0 { g - 1 } else { g }),
-            ),
-        ],
-    );
-}
-
-#[test]
-fn faults_in_versions() {
-    found(
-        ground::versions,
-        &[
-            (
-                "an equal version refused",
-                Fault::Admit(|f, c, g| {
-                    if f == c && f < NONE {
-                        (12, version(f).unwrap_or(0))
-                    } else {
-                        g
-                    }
-                }),
-            ),
-            ("held forgotten", Fault::Admit(|_, _, g| (g.0, 0))),
-            (
-                "held on an admitted claim",
-                Fault::Admit(|f, _, g| {
-                    if g.0 == 0 {
-                        (0, version(f).unwrap_or(0))
-                    } else {
-                        g
-                    }
-                }),
-            ),
-            (
-                "no claim read as 0",
-                Fault::Admit(|f, c, g| {
-                    if c >= NONE {
-                        Judge.version_admit(f, 0)
-                    } else {
-                        g
-                    }
-                }),
-            ),
-            (
-                "no floor read as 0",
-                Fault::Admit(|f, c, g| {
-                    if f >= NONE {
-                        Judge.version_admit(0, c)
-                    } else {
-                        g
-                    }
-                }),
-            ),
-            (
-                "unsigned comparison",
-                Fault::Admit(|f, c, g| {
-                    if f < NONE && c < NONE && c < f {
-                        (12, version(f).unwrap_or(0))
-                    } else {
-                        g
-                    }
-                }),
-            ),
-            (
-                "only 2^32 is none",
-                Fault::Admit(|f, c, g| {
-                    if f > NONE {
-                        Judge.version_admit(f - NONE, c)
-                    } else {
-                        g
-                    }
-                }),
-            ),
-            (
-                "raise lowers",
-                Fault::Raise(|_, c, g| if c < NONE { c } else { g }),
-            ),
-            (
-                "raise forgets the floor",
-                Fault::Raise(|_, c, g| if c >= NONE { NONE } else { g }),
-            ),
-            (
-                "none raised to 0",
-                Fault::Raise(|_, _, g| if g == NONE { 0 } else { g }),
-            ),
-            (
-                "none as it was lent",
-                Fault::Raise(|f, _, g| if g == NONE { f } else { g }),
-            ),
-            (
-                "raise never lowers below 0",
-                Fault::Raise(|_, _, g| {
-                    if version(g).is_some_and(|v| v < 0) {
-                        word(Some(0))
-                    } else {
-                        g
-                    }
-                }),
-            ),
-        ],
-    );
-}
-
-#[test]
-fn faults_in_integers() {
-    found(
-        ground::integers,
-        &[
-            (
-                "empty taken",
-                Fault::I64(|s, g| if s.is_empty() { (0, 0) } else { g }),
-            ),
-            (
-                "a sign alone taken",
-                Fault::I64(|s, g| if s == b"-" { (0, 0) } else { g }),
-            ),
-            (
-                "plus refused",
-                Fault::I64(|s, g| if s.first() == Some(&b'+') { (8, 0) } else { g }),
-            ),
-            (
-                "two signs taken",
-                Fault::I64(|s, g| {
-                    if s.starts_with(b"+-") && s.len() > 2 {
-                        Judge.read_i64(&s[1..])
-                    } else {
-                        g
-                    }
-                }),
-            ),
-            (
-                "the least refused",
-                Fault::I64(|_, g| if g == (0, i64::MIN) { (8, 0) } else { g }),
-            ),
-            (
-                "the least of i32 refused",
-                Fault::I32(|_, g| {
-                    if g == (0, i64::from(i32::MIN)) {
-                        (8, 0)
-                    } else {
-                        g
-                    }
-                }),
-            ),
-            (
-                "one past i32 taken",
-                Fault::I32(|s, g| {
-                    if s == b"2147483648" {
-                        (0, 2_147_483_648)
-                    } else {
-                        g
-                    }
-                }),
-            ),
-            (
-                "one below i32 taken",
-                Fault::I32(|s, g| {
-                    if s == b"-2147483649" {
-                        (0, -2_147_483_649)
-                    } else {
-                        g
-                    }
-                }),
-            ),
-            (
-                "i32 wraps",
-                Fault::I32(|s, g| {
-                    if g.0 == 8 {
-                        let (n, v) = Judge.read_i64(s);
-                        (n, i64::from(v as i32))
-                    } else {
-                        g
-                    }
-                }),
-            ),
-            (
-                "one past i64 taken",
-                Fault::I64(|s, g| {
-                    if s == b"9223372036854775808" {
-                        (0, i64::MIN)
-                    } else {
-                        g
-                    }
-                }),
-            ),
-            (
-                "2^64 wraps",
-                Fault::I64(|s, g| {
-                    if s == b"18446744073709551616" {
-                        (0, 0)
-                    } else {
-                        g
-                    }
-                }),
-            ),
-            (
-                "twenty digits at most",
-                Fault::I64(|s, g| if s.len() > 20 { (8, 0) } else { g }),
-            ),
-            (
-                "a hundred digits at most",
-                Fault::I32(|s, g| if s.len() > 100 { (8, 0) } else { g }),
-            ),
-            (
-                "the byte before 0",
-                Fault::I64(|s, g| if s == b"/" { (0, -1) } else { g }),
-            ),
-            (
-                "the byte after 9",
-                Fault::I64(|s, g| if s == b"1:" { (0, 20) } else { g }),
-            ),
-            (
-                "a trailing space",
-                Fault::I64(|s, g| {
-                    if s.ends_with(b" ") {
-                        Judge.read_i64(&s[..s.len() - 1])
-                    } else {
-                        g
-                    }
-                }),
-            ),
-            (
-                "a value with the refusal",
-                Fault::I64(|s, g| if g.0 == 8 { (8, s.len() as i64) } else { g }),
-            ),
-            (
-                "another number",
-                Fault::I32(|_, g| if g.0 == 8 { (9, 0) } else { g }),
-            ),
-            (
-                "the sign lost",
-                Fault::I64(|s, g| {
-                    if g.0 == 0 {
-                        (0, taken(s, g).wrapping_abs())
-                    } else {
-                        g
-                    }
-                }),
-            ),
-        ],
-    );
-}
-
-#[test]
-fn faults_in_stamps() {
-    found(
-        ground::stamps,
-        &[
-            (
-                "day 0 taken",
-                Fault::Stamp(|s, g| {
-                    if s == b"2024-01-00T00:00:00Z" {
-                        (0, 0)
-                    } else {
-                        g
-                    }
-                }),
-            ),
-            (
-                "negative days refused",
-                Fault::Stamp(|s, g| if s.get(8) == Some(&b'-') { (9, 0) } else { g }),
-            ),
-            (
-                "second 60 taken",
-                Fault::Stamp(|s, g| {
-                    if s == b"2016-12-31T23:59:60Z" {
-                        (0, 1_483_228_800)
-                    } else {
-                        g
-                    }
-                }),
-            ),
-            (
-                "small t taken",
-                Fault::Stamp(|s, g| {
-                    if s == b"2024-01-01t00:00:00Z" {
-                        (0, 1_704_067_200)
-                    } else {
-                        g
-                    }
-                }),
-            ),
-            (
-                "small z taken",
-                Fault::Stamp(|s, g| {
-                    if s == b"2024-01-01T00:00:00z" {
-                        (0, 1_704_067_200)
-                    } else {
-                        g
-                    }
-                }),
-            ),
-            (
-                "1900 a leap year",
-                Fault::Stamp(|s, g| {
-                    if s.starts_with(b"1900-02-29") {
-                        (0, -2_203_891_200)
-                    } else {
-                        g
-                    }
-                }),
-            ),
-            (
-                "2000 no leap year",
-                Fault::Stamp(|s, g| {
-                    if s.starts_with(b"2000-02-29") {
-                        (9, 0)
-                    } else {
-                        g
-                    }
-                }),
-            ),
-            (
-                "2100 off by a day",
-                Fault::Stamp(|_, g| {
-                    if g.0 == 0 && g.1 >= 4_107_542_400 {
-                        (0, g.1 + 86_400)
-                    } else {
-                        g
-                    }
-                }),
-            ),
-            (
-                "years before 0 truncated",
-                Fault::Stamp(|s, g| {
-                    if g.0 == 0 && s.first() == Some(&b'-') {
-                        (0, g.1 + 86_400)
-                    } else {
-                        g
-                    }
-                }),
-            ),
-            (
-                "signs refused",
-                Fault::Stamp(|s, g| if s.contains(&b'+') { (9, 0) } else { g }),
-            ),
-            (
-                "negative hours refused",
-                Fault::Stamp(|s, g| if s.get(11) == Some(&b'-') { (9, 0) } else { g }),
-            ),
-            (
-                "hour 24 taken",
-                Fault::Stamp(|s, g| {
-                    if s.len() == 20 && &s[11..13] == b"24" {
-                        (0, 0)
-                    } else {
-                        g
-                    }
-                }),
-            ),
-            (
-                "month 13 taken",
-                Fault::Stamp(|s, g| {
-                    if s.len() == 20 && &s[5..7] == b"13" {
-                        (0, 0)
-                    } else {
-                        g
-                    }
-                }),
-            ),
-            (
-                "a longer text taken",
-                Fault::Stamp(|s, g| {
-                    if s.len() == 21 {
-                        Judge.stamp(&s[..20])
-                    } else {
-                        g
-                    }
-                }),
-            ),
-            (
-                "8 instead of 9",
-                Fault::Stamp(|_, g| if g.0 == 9 { (8, 0) } else { g }),
-            ),
-            (
-                "June has 31 days",
-                Fault::Stamp(|s, g| {
-                    if s.len() == 20 && &s[5..10] == b"06-31" {
-                        (0, 0)
-                    } else {
-                        g
-                    }
-                }),
-            ),
-        ],
-    );
-}
-
-#[test]
-fn faults_in_texts() {
-    let lossy: fn(&[u8], u8) -> u8 = |s, _| u8::from(std::str::from_utf8(s).is_ok());
-    found(
-        ground::texts,
-        &[
-            ("UTF-8 that XML excludes", Fault::Text(lossy)),
-            (
-                "only U+0000 taken",
-                Fault::Text(|s, g| g | u8::from(s == [0])),
-            ),
-            (
-                "U+FFFE taken",
-                Fault::Text(|s, g| g | u8::from(s == "\u{fffe}".as_bytes())),
-            ),
-            (
-                "U+FFFF taken",
-                Fault::Text(|s, g| g | u8::from(s == "\u{ffff}".as_bytes())),
-            ),
-            (
-                "a surrogate taken",
-                Fault::Text(|s, g| g | u8::from(s == [0xed, 0xa0, 0x80])),
-            ),
-            (
-                "an overlong NUL taken",
-                Fault::Text(|s, g| g | u8::from(s == [0xc0, 0x80])),
-            ),
-            (
-                "an overlong slash taken",
-                Fault::Text(|s, g| g | u8::from(s == [0xc1, 0xbf])),
-            ),
-            (
-                "overlong three bytes",
-                Fault::Text(|s, g| g | u8::from(s == [0xe0, 0x9f, 0xbf])),
-            ),
-            (
-                "overlong four bytes",
-                Fault::Text(|s, g| g | u8::from(s == [0xf0, 0x8f, 0xbf, 0xbf])),
-            ),
-            (
-                "past U+10FFFF",
-                Fault::Text(|s, g| g | u8::from(s == [0xf4, 0x90, 0x80, 0x80])),
-            ),
-            (
-                "F5 taken",
-                Fault::Text(|s, g| g | u8::from(s == [0xf5, 0x80, 0x80, 0x80])),
-            ),
-            (
-                "a cut character",
-                Fault::Text(|s, g| g | u8::from(s == [0xf0, 0x90, 0x80])),
-            ),
-            (
-                "U+007F refused",
-                Fault::Text(|s, g| g & u8::from(!s.contains(&0x7f))),
-            ),
-            (
-                "U+0085 refused",
-                Fault::Text(|s, g| g & u8::from(s != "\u{85}".as_bytes())),
-            ),
-            (
-                "U+FDD0 refused",
-                Fault::Text(|s, g| g & u8::from(s != "\u{fdd0}".as_bytes())),
-            ),
-            (
-                "U+1FFFE refused",
-                Fault::Text(|s, g| g & u8::from(s != "\u{1fffe}".as_bytes())),
-            ),
-            (
-                "the mark refused",
-                Fault::Text(|s, g| g & u8::from(s != "\u{feff}".as_bytes())),
-            ),
-            ("tab refused", Fault::Text(|s, g| g & u8::from(s != b"\t"))),
-            (
-                "return refused",
-                Fault::Text(|s, g| g & u8::from(s != b"\r")),
-            ),
-            (
-                "empty refused",
-                Fault::Text(|s, g| g & u8::from(!s.is_empty())),
-            ),
-            ("2 for 1", Fault::Text(|_, g| g * 2)),
-        ],
-    );
+fn every_other_fault_is_found() {
+    for n in 0..=3 {
+        assert_eq!(lookups::short_lists(&Lookups1(n)).is_ok(), n == 0, "{n}");
+        assert_eq!(lookups::random_lists(&Lookups1(n), 1, 1).is_ok(), n == 0, "{n}");
+    }
+    let good = Sizes::ROADLIST;
+    let ids = [513; 3];
+    for (sizes, found) in [
+        (good, false),
+        (Sizes { ids, ..good }, true),
+        (Sizes { arenas: [8_189; 3], ..good }, true),
+        (Sizes { strings: 511, ..good }, true),
+        (Sizes { string_bytes: 8_193, ..good }, true),
+        (Sizes { output: 65_535, ..good }, true),
+    ] {
+        assert_eq!(program::limits(&Program1(sizes)).is_err(), found, "{sizes:?}");
+    }
+    assert!(program::documents(&Program1(good), 1, 1).is_ok_and(|n| n == 600));
+    assert_eq!(expected(b"close"), b"refused\t4\t1\t-\n");
+    let (numbers, plain) = edge_numbers_met();
+    for number in [0, 2, 3, 4, 12, 13, 14, 15, 16, 18, 19] {
+        assert!(numbers.contains(&number), "{number} of {numbers:?}");
+    }
+    assert!(plain > 30, "{plain}");
 }

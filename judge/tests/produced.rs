@@ -3,7 +3,7 @@
 use std::collections::BTreeMap;
 
 use judge::produce::{Documents, Style, levels};
-use judge::{Change, Outcome, Overlay, Reader, drive, run, split_lines};
+use judge::{Change, Outcome, Overlay, Reader, run, split_lines};
 
 /// The documents of one style, each with whether regression is allowed.
 fn each_document(style: Style, count: usize, mut each: impl FnMut(Vec<u8>, bool)) {
@@ -83,31 +83,9 @@ fn steps_are_the_driver() {
     }
 }
 
-/// A document read into an overlay that others were read into before.
-#[test]
-fn documents_accumulate() {
-    let mut documents = Documents::new(11, Style::VALID);
-    for _ in 0..300 {
-        documents.forget();
-        let mut overlay = Overlay::new();
-        for _ in 0..5 {
-            let input = documents.document().concat();
-            assert_eq!(drive(&input, &mut overlay), Ok(()));
-        }
-        let state = overlay.state();
-        let known: usize = state
-            .kinds
-            .iter()
-            .map(|k| k.live.len() + k.deleted.len())
-            .sum();
-        let listing = overlay.listing();
-        assert_eq!(listing.iter().filter(|&&b| b == b'\n').count(), known);
-    }
-}
-
 #[test]
 fn prefixes_reach_their_levels() {
-    let names = ["Doc", "Root", "Other", "Section", "Element", "Leaf", "Done"];
+    let names = ["Doc", "Root", "Section", "Element", "Leaf", "Other", "Done"];
     let mut seen = [0; 7];
     for (name, lines) in levels() {
         let mut overlay = Overlay::new();
@@ -117,9 +95,9 @@ fn prefixes_reach_their_levels() {
             let reply = reader.line(&mut overlay, line, true, Change::None, None);
             assert_eq!(reply, Ok(()), "{name}");
         }
-        let level = usize::from(reader.level());
+        let level = usize::from(reader.place().level);
         assert!(name.starts_with(names[level]), "{name}");
         seen[level] += 1;
     }
-    assert_eq!(seen, [1, 1, 1, 3, 9, 9, 2]);
+    assert_eq!(seen, [1, 1, 3, 9, 9, 1, 2]);
 }

@@ -66,27 +66,7 @@ pub struct Cursor {
 /// A word from here on is no place.
 pub const NO_PLACE: usize = 1 << 63;
 
-/// Number 0 with a handle, or 13 with 0; then the counts.
-#[repr(C)]
-#[derive(Clone, Copy, Debug, PartialEq, Eq)]
-pub struct Strings {
-    pub number: u32,
-    pub handle: u64,
-    pub strings: u64,
-    pub used: u64,
-}
-
-/// Number 0 with where a text lies, or 22 with 0 and 0.
-#[repr(C)]
-#[derive(Clone, Copy, Debug, PartialEq, Eq)]
-pub struct Part {
-    pub number: u32,
-    pub start: usize,
-    pub len: usize,
-}
-
-// Signed numbers in records are their bits.
-
+/// Signed numbers in metadata and heads are their bits.
 #[repr(C)]
 #[derive(Clone, Copy, Debug, PartialEq, Eq)]
 pub struct Meta {
@@ -98,81 +78,7 @@ pub struct Meta {
     pub user: u32,
 }
 
-/// The head of a node.
-#[repr(C)]
-#[derive(Clone, Copy, Debug, PartialEq, Eq)]
-pub struct Placed {
-    pub id: u64,
-    pub lat: u32,
-    pub lon: u32,
-    pub tags: u32,
-}
-
-/// The head of a way or of a relation.
-#[repr(C)]
-#[derive(Clone, Copy, Debug, PartialEq, Eq)]
-pub struct Counted {
-    pub id: u64,
-    pub count: u32,
-    pub tags: u32,
-}
-
-/// Number 0 with what was read, or 22 with zeros.
-#[repr(C)]
-#[derive(Clone, Copy, Debug, PartialEq, Eq)]
-pub struct PlacedReply {
-    pub number: u32,
-    pub head: Placed,
-}
-
-#[repr(C)]
-#[derive(Clone, Copy, Debug, PartialEq, Eq)]
-pub struct CountedReply {
-    pub number: u32,
-    pub head: Counted,
-}
-
-#[repr(C)]
-#[derive(Clone, Copy, Debug, PartialEq, Eq)]
-pub struct MetaReply {
-    pub number: u32,
-    pub meta: Meta,
-}
-
-/// Number 0 with a ref and the offset of the next; 0 and done 1 where none is left; or 22.
-#[repr(C)]
-#[derive(Clone, Copy, Debug, PartialEq, Eq)]
-pub struct RefReply {
-    pub number: u32,
-    pub done: u8,
-    pub value: u64,
-    pub next: usize,
-}
-
-/// The same with a member.
-#[repr(C)]
-#[derive(Clone, Copy, Debug, PartialEq, Eq)]
-pub struct MemberReply {
-    pub number: u32,
-    pub done: u8,
-    pub reference: u64,
-    pub kind: u8,
-    pub role: u32,
-    pub next: usize,
-}
-
-/// Number 0 with a tag; 0 and done 1 where none is left; or 22.
-#[repr(C)]
-#[derive(Clone, Copy, Debug, PartialEq, Eq)]
-pub struct Step {
-    pub number: u32,
-    pub done: u8,
-    pub key: u32,
-    pub start: usize,
-    pub len: usize,
-}
-
-// The entries of single layers. A list of ids is the bits of its ids.
+// Lookups in lists. A list of ids is the bits of its ids.
 unsafe extern "C" {
     pub fn tvk_range_overlaps(
         live: *const u64,
@@ -184,91 +90,6 @@ unsafe extern "C" {
     ) -> Count;
     pub fn tvk_upsert_range(ids: *const u64, n: usize, first: i64, last: i64) -> Places;
     pub fn tvk_seek_find(ids: *const u64, n: usize, place: usize, id: i64) -> Cursor;
-    pub fn tvl_intern(
-        spans: *mut u64,
-        words: usize,
-        bytes: *mut u8,
-        size: usize,
-        strings: u64,
-        used: u64,
-        text: *const u8,
-        n: usize,
-    ) -> Strings;
-    pub fn tvl_resolve(
-        spans: *const u64,
-        words: usize,
-        bytes: *const u8,
-        size: usize,
-        strings: u64,
-        handle: u64,
-    ) -> Part;
-    pub fn tvl_append_node(
-        arena: *mut u8,
-        len: usize,
-        used: usize,
-        head: Placed,
-        meta: Meta,
-        parts: *const u8,
-        n: usize,
-    ) -> Count;
-    pub fn tvl_append_way(
-        arena: *mut u8,
-        len: usize,
-        used: usize,
-        head: Counted,
-        meta: Meta,
-        parts: *const u8,
-        n: usize,
-    ) -> Count;
-    pub fn tvl_append_relation(
-        arena: *mut u8,
-        len: usize,
-        used: usize,
-        head: Counted,
-        meta: Meta,
-        parts: *const u8,
-        n: usize,
-    ) -> Count;
-    pub fn tvl_node(bytes: *const u8, n: usize) -> PlacedReply;
-    pub fn tvl_way(bytes: *const u8, n: usize) -> CountedReply;
-    pub fn tvl_relation(bytes: *const u8, n: usize) -> CountedReply;
-    pub fn tvl_way_tags_at(head: Counted) -> usize;
-    pub fn tvl_relation_tags_at(head: Counted) -> usize;
-    pub fn tvl_meta(bytes: *const u8, n: usize, at: usize) -> MetaReply;
-    pub fn tvl_ref_step(bytes: *const u8, n: usize, offset: usize, remaining: u32) -> RefReply;
-    pub fn tvl_member_step(
-        bytes: *const u8,
-        n: usize,
-        offset: usize,
-        remaining: u32,
-    ) -> MemberReply;
-    pub fn tvl_tag_step(bytes: *const u8, n: usize, offset: usize, remaining: u32) -> Step;
-}
-
-/// Number 0 with what an event does and the place after it, or a refusal with zeros.
-#[repr(C)]
-#[derive(Clone, Copy, Debug, PartialEq, Eq)]
-pub struct Nested {
-    pub number: u32,
-    pub what: u8,
-    pub item: u8,
-    pub level: u8,
-    pub section: u8,
-    pub kind: u8,
-}
-
-// The entries of the nesting machine.
-unsafe extern "C" {
-    pub fn tvl_name_of(s: *const u8, n: usize) -> u8;
-    pub fn tvl_open_at(
-        level: u8,
-        section: u8,
-        kind: u8,
-        empty: u8,
-        s: *const u8,
-        n: usize,
-    ) -> Nested;
-    pub fn tvl_close_at(level: u8, section: u8, kind: u8) -> Nested;
 }
 
 /// The head of a push.
@@ -298,6 +119,23 @@ pub struct View {
     pub found: u32,
     pub start: usize,
     pub len: usize,
+}
+
+/// What an event or an end answers: number 0 with zeros, or the refusal with the version held for 12 and its line.
+#[repr(C)]
+#[derive(Clone, Copy, Debug, PartialEq, Eq)]
+pub struct EventReply {
+    pub number: u32,
+    pub held: i32,
+    pub line: u64,
+}
+
+/// Number 0 with how long the listing is, or a refusal with 0.
+#[repr(C)]
+#[derive(Clone, Copy, Debug, PartialEq, Eq)]
+pub struct Listed {
+    pub number: u32,
+    pub length: usize,
 }
 
 /// Entries on an overlay: the lent parts, the nine counters, then a call's own arguments.
@@ -346,4 +184,7 @@ overlay_entries! {
     tvk_is_deleted(kind: u8, id: i64) -> Number;
     tvk_known_version(kind: u8, id: i64) -> Number;
     tvk_text(handle: u64) -> View;
+    tvk_event(reader: *mut u64, parts: *mut u8, line: *const u8, n: usize) -> EventReply;
+    tvk_end(reader: *const u64, parts: *const u8) -> EventReply;
+    tvk_listing(output: *mut u8, n: usize) -> Listed;
 }

@@ -1,14 +1,22 @@
 //! The built libraries behind the judge's traits.
 
 pub mod ffi;
-mod layers;
 pub mod overlay;
 
-pub use layers::Layers;
-
+use judge::compare::Compared;
 use judge::compare::ground::Ground;
+use judge::compare::lookups::LookupPort;
 
-/// The library's calls.
+/// Prints how many answers were compared, or panics at the difference.
+#[track_caller]
+pub fn same(compared: Compared) {
+    match compared {
+        Ok(answers) => println!("{answers} answers are the same"),
+        Err(difference) => panic!("{difference}"),
+    }
+}
+
+/// The library's calls without state.
 #[derive(Clone, Copy, Debug)]
 pub struct Library;
 
@@ -72,5 +80,36 @@ impl Ground for Library {
 
     fn is_text(&self, s: &[u8]) -> u8 {
         unsafe { ffi::tvk_is_text(s.as_ptr(), s.len()) }
+    }
+}
+
+fn bits(ids: &[i64]) -> Vec<u64> {
+    ids.iter().map(|id| id.cast_unsigned()).collect()
+}
+
+fn place(word: usize) -> Option<usize> {
+    (word < ffi::NO_PLACE).then_some(word)
+}
+
+impl LookupPort for Library {
+    fn range_overlaps(&self, live: &[i64], deleted: &[i64], min: i64, max: i64) -> (u32, bool) {
+        let (live, deleted) = (bits(live), bits(deleted));
+        let reply =
+            unsafe { ffi::tvk_range_overlaps(live.as_ptr(), live.len(), deleted.as_ptr(), deleted.len(), min, max) };
+        assert!(reply.value <= usize::from(reply.number == 0), "{reply:?}");
+        (reply.number, reply.value == 1)
+    }
+
+    fn upsert_range(&self, ids: &[i64], first: i64, last: i64) -> (u32, usize, usize) {
+        let ids = bits(ids);
+        let reply = unsafe { ffi::tvk_upsert_range(ids.as_ptr(), ids.len(), first, last) };
+        (reply.number, reply.from, reply.to)
+    }
+
+    fn seek_find(&self, at: Option<usize>, ids: &[i64], id: i64) -> (u32, Option<usize>, Option<usize>) {
+        let ids = bits(ids);
+        let word = at.unwrap_or(ffi::NO_PLACE);
+        let reply = unsafe { ffi::tvk_seek_find(ids.as_ptr(), ids.len(), word, id) };
+        (reply.number, place(reply.place), place(reply.found))
     }
 }

@@ -1,23 +1,15 @@
-//! The overlay's C entries behind the judge's trait of calls on lent storage.
+//! The C entries on lent storage behind the judge's trait.
 
 use judge::Meta;
-use judge::compare::overlay::Reply;
-use judge::compare::storage::{Head, Part, Storage, StoragePort};
+use judge::compare::call::{Answer, Call, Lines, Port, Storage, UNWRITTEN};
 
 use crate::ffi;
-use crate::layers::meta_in;
 
 /// How many elements stand before and past each lent part.
 const GUARD: usize = 16;
 
-/// Lent parts between elements that no call may touch.
-struct Guarded {
-    tables: [Vec<u64>; 3],
-    arenas: [Vec<u8>; 3],
-    spans: Vec<u64>,
-    bytes: Vec<u8>,
-    counts: Vec<u64>,
-}
+const WORD: u64 = 0xa5a5_a5a5_a5a5_a5a5;
+const BYTE: u8 = 0xa5;
 
 fn guarded<T: Copy>(part: &[T], guard: T) -> Vec<T> {
     let mut all = vec![guard; part.len() + 2 * GUARD];
@@ -25,43 +17,18 @@ fn guarded<T: Copy>(part: &[T], guard: T) -> Vec<T> {
     all
 }
 
+/// A part without its guards.
+fn inside<T>((from, len): (*mut T, usize)) -> (*mut T, usize) {
+    (unsafe { from.add(GUARD) }, len - 2 * GUARD)
+}
+
 /// Takes a part back; a guard that was touched is a fault of the library.
 fn back<T: Copy + PartialEq>(part: &mut [T], all: &[T], guard: T) {
     let (before, rest) = all.split_at(GUARD);
     let (inside, past) = rest.split_at(part.len());
-    let guards = before.iter().chain(past);
-    assert!(
-        guards.copied().all(|g| g == guard),
-        "written outside a part"
-    );
+    let mut guards = before.iter().chain(past);
+    assert!(guards.all(|g| *g == guard), "written outside a part");
     part.copy_from_slice(inside);
-}
-
-const WORD: u64 = 0xa5a5_a5a5_a5a5_a5a5;
-const BYTE: u8 = 0xa5;
-
-impl Guarded {
-    fn of(lent: &Storage) -> Self {
-        Self {
-            tables: lent.tables.each_ref().map(|table| guarded(table, WORD)),
-            arenas: lent.arenas.each_ref().map(|arena| guarded(arena, BYTE)),
-            spans: guarded(&lent.spans, WORD),
-            bytes: guarded(&lent.bytes, BYTE),
-            counts: guarded(&lent.counts, WORD),
-        }
-    }
-
-    fn back(&self, lent: &mut Storage) {
-        for (table, all) in lent.tables.iter_mut().zip(&self.tables) {
-            back(table, all, WORD);
-        }
-        for (arena, all) in lent.arenas.iter_mut().zip(&self.arenas) {
-            back(arena, all, BYTE);
-        }
-        back(&mut lent.spans, &self.spans, WORD);
-        back(&mut lent.bytes, &self.bytes, BYTE);
-        back(&mut lent.counts, &self.counts, WORD);
-    }
 }
 
 /// The lent parts as the C entries take them: pointers and lengths.
@@ -103,186 +70,211 @@ macro_rules! entry {
     }};
 }
 
-/// How storage is lent to a call.
+/// How storage is lent to a call that may change it.
 pub trait Lend {
-    fn changing<R>(&self, lent: &mut Storage, call: impl FnOnce(&Pointers) -> R) -> R;
-    fn reading<R>(&self, lent: &Storage, call: impl FnOnce(&Pointers) -> R) -> R;
+    fn lend(&self, lent: &mut Storage, call: impl FnOnce(&Pointers) -> Answer) -> Answer;
+    /// To one that only reads: the parts themselves.
+    fn read(&self, lent: &mut Storage, call: impl FnOnce(&Pointers) -> Answer) -> Answer {
+        call(&Pointers::of(lent))
+    }
+    /// A reader's words and parts, or a listing's output.
+    fn words<R>(&self, words: &mut [u64], call: impl FnOnce(*mut u64) -> R) -> R;
+    fn bytes<R>(&self, bytes: &mut [u8], call: impl FnOnce(*mut u8) -> R) -> R;
 }
 
-/// Between guards where a call may change it; a reading gets the parts themselves.
+/// Between guards.
 #[derive(Clone, Copy)]
 pub struct Between;
 
 impl Lend for Between {
-    fn changing<R>(&self, lent: &mut Storage, call: impl FnOnce(&Pointers) -> R) -> R {
-        let mut all = Guarded::of(lent);
-        let pointers = Pointers {
-            tables: std::array::from_fn(|k| {
-                (all.tables[k][GUARD..].as_mut_ptr(), lent.tables[k].len())
-            }),
-            arenas: std::array::from_fn(|k| {
-                (all.arenas[k][GUARD..].as_mut_ptr(), lent.arenas[k].len())
-            }),
-            spans: (all.spans[GUARD..].as_mut_ptr(), lent.spans.len()),
-            bytes: (all.bytes[GUARD..].as_mut_ptr(), lent.bytes.len()),
-            counts: all.counts[GUARD..].as_mut_ptr(),
+    fn lend(&self, lent: &mut Storage, call: impl FnOnce(&Pointers) -> Answer) -> Answer {
+        let mut all = Storage {
+            tables: lent.tables.each_ref().map(|table| guarded(table, WORD)),
+            arenas: lent.arenas.each_ref().map(|arena| guarded(arena, BYTE)),
+            spans: guarded(&lent.spans, WORD),
+            bytes: guarded(&lent.bytes, BYTE),
+            counts: [0; 9],
+            readers: Vec::new(),
         };
-        let reply = call(&pointers);
-        all.back(lent);
-        reply
+        let mut counts = guarded(&lent.counts, WORD);
+        let mut pointers = Pointers::of(&mut all);
+        pointers.tables = pointers.tables.map(inside);
+        pointers.arenas = pointers.arenas.map(inside);
+        (pointers.spans, pointers.bytes) = (inside(pointers.spans), inside(pointers.bytes));
+        pointers.counts = counts[GUARD..].as_mut_ptr();
+        let answer = call(&pointers);
+        for k in 0..3 {
+            back(&mut lent.tables[k], &all.tables[k], WORD);
+            back(&mut lent.arenas[k], &all.arenas[k], BYTE);
+        }
+        back(&mut lent.spans, &all.spans, WORD);
+        back(&mut lent.bytes, &all.bytes, BYTE);
+        back(&mut lent.counts, &counts, WORD);
+        answer
     }
 
-    fn reading<R>(&self, lent: &Storage, call: impl FnOnce(&Pointers) -> R) -> R {
-        let words = |part: &[u64]| (part.as_ptr().cast_mut(), part.len());
-        let bytes = |part: &[u8]| (part.as_ptr().cast_mut(), part.len());
-        call(&Pointers {
-            tables: lent.tables.each_ref().map(|t| words(t)),
-            arenas: lent.arenas.each_ref().map(|a| bytes(a)),
-            spans: words(&lent.spans),
-            bytes: bytes(&lent.bytes),
-            counts: lent.counts.as_ptr().cast_mut(),
-        })
+    fn words<R>(&self, words: &mut [u64], call: impl FnOnce(*mut u64) -> R) -> R {
+        let mut all = guarded(words, WORD);
+        let answer = call(all[GUARD..].as_mut_ptr());
+        back(words, &all, WORD);
+        answer
+    }
+
+    fn bytes<R>(&self, bytes: &mut [u8], call: impl FnOnce(*mut u8) -> R) -> R {
+        let mut all = guarded(bytes, BYTE);
+        let answer = call(all[GUARD..].as_mut_ptr());
+        back(bytes, &all, BYTE);
+        answer
     }
 }
 
 /// Each part in memory of its own, of exactly its length, for a tool that sees accesses outside: the
-/// vectors of a copied storage are as long as their memory, and the counters are moved into a box.
+/// vectors of a copied storage are as long as their memory, and arrays are moved into boxes.
 #[derive(Clone, Copy)]
 pub struct Exact;
 
 impl Lend for Exact {
-    fn changing<R>(&self, lent: &mut Storage, call: impl FnOnce(&Pointers) -> R) -> R {
+    fn lend(&self, lent: &mut Storage, call: impl FnOnce(&Pointers) -> Answer) -> Answer {
         let mut counts = Box::new(lent.counts);
         let mut pointers = Pointers::of(lent);
         pointers.counts = counts.as_mut_ptr();
-        let reply = call(&pointers);
+        let answer = call(&pointers);
         lent.counts = *counts;
-        reply
+        answer
     }
 
-    fn reading<R>(&self, lent: &Storage, call: impl FnOnce(&Pointers) -> R) -> R {
-        let mut copy = lent.clone();
-        let reply = self.changing(&mut copy, call);
-        assert!(copy == *lent, "a reading has changed what is lent");
-        reply
+    fn read(&self, lent: &mut Storage, call: impl FnOnce(&Pointers) -> Answer) -> Answer {
+        self.lend(lent, call)
+    }
+
+    fn words<R>(&self, words: &mut [u64], call: impl FnOnce(*mut u64) -> R) -> R {
+        let mut exact: Box<[u64]> = words.into();
+        let answer = call(exact.as_mut_ptr());
+        words.copy_from_slice(&exact);
+        answer
+    }
+
+    fn bytes<R>(&self, bytes: &mut [u8], call: impl FnOnce(*mut u8) -> R) -> R {
+        let mut exact: Box<[u8]> = (&*bytes).into();
+        let answer = call(exact.as_mut_ptr());
+        bytes.copy_from_slice(&exact);
+        answer
     }
 }
 
-/// The overlay's C entries, with storage lent in one of these ways.
+/// The C entries, with storage lent in one of these ways.
 #[derive(Clone, Copy)]
 pub struct Entries<L>(pub L);
 
-fn reply(r: ffi::Reply) -> Reply {
-    Reply {
-        number: r.number,
-        held: r.held,
+fn reply(r: ffi::Reply) -> Answer {
+    let (number, held) = (r.number, r.held);
+    Answer::Reply { number, held }
+}
+
+fn number(n: ffi::Number) -> Answer {
+    let (number, value) = (n.number, n.value);
+    Answer::Number { number, value }
+}
+
+fn part(view: ffi::View) -> Answer {
+    Answer::Part { number: view.number, found: view.found, start: view.start, len: view.len }
+}
+
+/// A call that only reads.
+fn reading(p: &Pointers, call: &Call) -> Answer {
+    match *call {
+        Call::IsSound => reply(entry!(tvk_is_sound, p)),
+        Call::LiveCount(kind) => number(entry!(tvk_live_count, p, kind)),
+        Call::DeletedCount(kind) => number(entry!(tvk_deleted_count, p, kind)),
+        Call::IsEmpty => number(entry!(tvk_is_empty, p)),
+        Call::LiveId(kind, n) => number(entry!(tvk_live_id, p, kind, n)),
+        Call::DeletedId(kind, n) => number(entry!(tvk_deleted_id, p, kind, n)),
+        Call::Record(kind, n) => part(entry!(tvk_record, p, kind, n)),
+        Call::Get(kind, id) => part(entry!(tvk_get, p, kind, id)),
+        Call::Has(kind, id) => number(entry!(tvk_has, p, kind, id)),
+        Call::IsDeleted(kind, id) => number(entry!(tvk_is_deleted, p, kind, id)),
+        Call::KnownVersion(kind, id) => number(entry!(tvk_known_version, p, kind, id)),
+        Call::Text(handle) => part(entry!(tvk_text, p, handle)),
+        ref call => panic!("{call:?}"),
     }
 }
 
-fn number(n: ffi::Number) -> (u32, u64) {
-    (n.number, n.value)
-}
-
-fn part(view: ffi::View) -> Part {
-    Part {
-        number: view.number,
-        found: view.found,
-        start: view.start,
-        len: view.len,
+fn meta_in(meta: &Meta) -> ffi::Meta {
+    ffi::Meta {
+        flags: meta.flags,
+        version: meta.version.cast_unsigned(),
+        timestamp: meta.timestamp.cast_unsigned(),
+        changeset: meta.changeset.cast_unsigned(),
+        uid: meta.uid.cast_unsigned(),
+        user: meta.user,
     }
 }
 
-impl<L: Lend> StoragePort for Entries<L> {
-    fn set_up(&self, lent: &mut Storage, setting: u64) -> Reply {
-        reply(self.0.changing(lent, |p| entry!(tvk_set_up, p, setting)))
+impl<L: Lend> Entries<L> {
+    /// A call that changes the overlay, or fills an output.
+    fn changing(&self, lent: &mut Storage, call: &Call) -> Answer {
+        self.0.lend(lent, |p| match call {
+            Call::SetUp(setting) => reply(entry!(tvk_set_up, p, *setting)),
+            Call::Allow(setting) => reply(entry!(tvk_allow_version_regression, p, *setting)),
+            Call::Intern(text) => {
+                let text = entry!(tvk_intern, p, text.as_ptr(), text.len());
+                let (number, value) = (text.number, text.handle);
+                Answer::Number { number, value }
+            }
+            Call::Push(kind, head, meta, parts) => {
+                let head = ffi::Head {
+                    id: head.id.cast_unsigned(),
+                    lat: head.lat.cast_unsigned(),
+                    lon: head.lon.cast_unsigned(),
+                    count: head.count,
+                    tags: head.tags,
+                };
+                let (from, n) = (parts.as_ptr(), parts.len());
+                reply(entry!(tvk_push, p, *kind, head, meta_in(meta), from, n))
+            }
+            Call::Delete(kind, id, meta) => reply(entry!(tvk_delete, p, *kind, *id, meta_in(meta))),
+            Call::Listing(size) => self.listing(p, *size),
+            call => panic!("{call:?}"),
+        })
     }
 
-    fn is_sound(&self, lent: &Storage) -> Reply {
-        reply(self.0.reading(lent, |p| entry!(tvk_is_sound, p)))
+    fn listing(&self, p: &Pointers, size: usize) -> Answer {
+        let mut output = vec![UNWRITTEN; size];
+        let listed = self.0.bytes(&mut output, |out| entry!(tvk_listing, p, out, size));
+        let (number, len) = (listed.number, listed.length as usize);
+        Answer::Listing { number, len, output }
     }
 
-    fn allow_version_regression(&self, lent: &mut Storage, setting: u64) -> Reply {
-        reply(
-            self.0
-                .changing(lent, |p| entry!(tvk_allow_version_regression, p, setting)),
-        )
+    /// An event, or without a line the end.
+    fn event(&self, lent: &mut Storage, n: usize, line: Option<&[u8]>) -> Answer {
+        let Lines { mut words, mut parts } = lent.readers[n].clone();
+        let answer = self.0.lend(lent, |p| {
+            self.0.words(&mut words, |words| {
+                self.0.bytes(&mut parts, |parts| {
+                    let event = match line {
+                        Some(line) => {
+                            entry!(tvk_event, p, words, parts, line.as_ptr(), line.len())
+                        }
+                        None => entry!(tvk_end, p, words, parts),
+                    };
+                    let (number, held, line) = (event.number, event.held, event.line);
+                    Answer::Event { number, held, line }
+                })
+            })
+        });
+        lent.readers[n] = Lines { words, parts };
+        answer
     }
+}
 
-    fn intern(&self, lent: &mut Storage, text: &[u8]) -> (u32, u64) {
-        let taken = self
-            .0
-            .changing(lent, |p| entry!(tvk_intern, p, text.as_ptr(), text.len()));
-        (taken.number, taken.handle)
-    }
-
-    fn push(&self, lent: &mut Storage, kind: u8, head: Head, meta: &Meta, parts: &[u8]) -> Reply {
-        let head = ffi::Head {
-            id: head.id.cast_unsigned(),
-            lat: head.lat.cast_unsigned(),
-            lon: head.lon.cast_unsigned(),
-            count: head.count,
-            tags: head.tags,
-        };
-        let (from, n) = (parts.as_ptr(), parts.len());
-        reply(self.0.changing(lent, |p| {
-            entry!(tvk_push, p, kind, head, meta_in(meta), from, n)
-        }))
-    }
-
-    fn delete(&self, lent: &mut Storage, kind: u8, id: i64, meta: &Meta) -> Reply {
-        reply(
-            self.0
-                .changing(lent, |p| entry!(tvk_delete, p, kind, id, meta_in(meta))),
-        )
-    }
-
-    fn live_count(&self, lent: &Storage, kind: u8) -> (u32, u64) {
-        number(self.0.reading(lent, |p| entry!(tvk_live_count, p, kind)))
-    }
-
-    fn deleted_count(&self, lent: &Storage, kind: u8) -> (u32, u64) {
-        number(self.0.reading(lent, |p| entry!(tvk_deleted_count, p, kind)))
-    }
-
-    fn is_empty(&self, lent: &Storage) -> (u32, u64) {
-        number(self.0.reading(lent, |p| entry!(tvk_is_empty, p)))
-    }
-
-    fn live_id(&self, lent: &Storage, kind: u8, n: u64) -> (u32, u64) {
-        number(self.0.reading(lent, |p| entry!(tvk_live_id, p, kind, n)))
-    }
-
-    fn deleted_id(&self, lent: &Storage, kind: u8, n: u64) -> (u32, u64) {
-        number(self.0.reading(lent, |p| entry!(tvk_deleted_id, p, kind, n)))
-    }
-
-    fn record(&self, lent: &Storage, kind: u8, n: u64) -> Part {
-        part(self.0.reading(lent, |p| entry!(tvk_record, p, kind, n)))
-    }
-
-    fn get(&self, lent: &Storage, kind: u8, id: i64) -> Part {
-        part(self.0.reading(lent, |p| entry!(tvk_get, p, kind, id)))
-    }
-
-    fn has(&self, lent: &Storage, kind: u8, id: i64) -> (u32, u64) {
-        number(self.0.reading(lent, |p| entry!(tvk_has, p, kind, id)))
-    }
-
-    fn is_deleted(&self, lent: &Storage, kind: u8, id: i64) -> (u32, u64) {
-        number(
-            self.0
-                .reading(lent, |p| entry!(tvk_is_deleted, p, kind, id)),
-        )
-    }
-
-    fn known_version(&self, lent: &Storage, kind: u8, id: i64) -> (u32, u64) {
-        number(
-            self.0
-                .reading(lent, |p| entry!(tvk_known_version, p, kind, id)),
-        )
-    }
-
-    fn text(&self, lent: &Storage, handle: u64) -> Part {
-        part(self.0.reading(lent, |p| entry!(tvk_text, p, handle)))
+impl<L: Lend> Port for Entries<L> {
+    fn call(&self, lent: &mut Storage, call: &Call) -> Answer {
+        match call {
+            Call::Event(n, line) => self.event(lent, *n, Some(line)),
+            Call::End(n) => self.event(lent, *n, None),
+            Call::Listing(_) => self.changing(lent, call),
+            call if call.is_change() => self.changing(lent, call),
+            call => self.0.read(lent, |p| reading(p, call)),
+        }
     }
 }

@@ -1,46 +1,42 @@
 //! Damaged storage: the library against document 01's words.
 
 use compare::overlay::{Between, Entries};
-use judge::compare::Compared;
+use compare::same;
+use judge::compare::call::Port;
 use judge::compare::damaged::{self, Values};
 use judge::random::seed_and_rounds;
 
-#[track_caller]
-fn same(compared: Compared) {
-    match compared {
-        Ok(answers) => println!("{answers} answers are the same"),
-        Err(difference) => panic!("{difference}"),
-    }
-}
+const LIBRARY: &dyn Port = &Entries(Between);
 
-/// In a long run the seeds take all values of a byte by turns.
 #[test]
 fn bytes() {
     let (seed, rounds) = seed_and_rounds();
-    let values = match rounds {
-        1 => Values::Few,
-        _ => Values::Eighth(seed),
-    };
-    same(damaged::bytes(&Entries(Between), values));
+    same(damaged::bytes(LIBRARY, Values::of_run(seed, rounds)));
 }
 
 #[test]
 fn whole_words() {
-    same(damaged::whole_words(&Entries(Between)));
+    same(damaged::whole_words(LIBRARY));
 }
 
 #[test]
 fn sizes() {
-    same(damaged::sizes(&Entries(Between)));
+    same(damaged::sizes(LIBRARY));
 }
 
 #[test]
 fn limits() {
-    same(damaged::limits(&Entries(Between)));
+    same(damaged::limits(LIBRARY));
 }
 
 #[test]
 fn random() {
     let (seed, rounds) = seed_and_rounds();
-    same(damaged::random(&Entries(Between), seed, rounds));
+    same(damaged::random(LIBRARY, seed, rounds));
+}
+
+#[test]
+fn readers() {
+    let (seed, rounds) = seed_and_rounds();
+    same(damaged::readers(LIBRARY, Values::of_run(seed, rounds)));
 }

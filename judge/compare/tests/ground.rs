@@ -1,42 +1,64 @@
-//! Key order, version floors, integers, stamps and the text check: the library against the judge.
+//! Key order, version floors, integers, stamps, the text check and lookups in lists: the library against
+//! the judge.
 
-use compare::Library;
+use compare::{Library, ffi, same};
 use judge::compare::Compared;
 use judge::compare::ground::{self, Ground};
+use judge::compare::lookups::{self, LookupPort};
 use judge::random::seed_and_rounds;
 
-#[track_caller]
-fn same(comparison: fn(&dyn Ground, u64, u64) -> Compared) {
+fn of(comparison: fn(&dyn Ground, u64, u64) -> Compared) {
     let (seed, rounds) = seed_and_rounds();
-    match comparison(&Library, seed, rounds) {
-        Ok(answers) => println!("{answers} answers are the same"),
-        Err(difference) => panic!("{difference}"),
-    }
+    same(comparison(&Library, seed, rounds));
 }
 
 #[test]
 fn ids() {
-    same(ground::ids);
+    of(ground::ids);
 }
 
 #[test]
 fn versions() {
-    same(ground::versions);
+    of(ground::versions);
 }
 
 #[test]
 fn integers() {
-    same(ground::integers);
+    of(ground::integers);
 }
 
 #[test]
 fn stamps() {
-    same(ground::stamps);
+    of(ground::stamps);
 }
 
 #[test]
 fn texts() {
-    same(ground::texts);
+    of(ground::texts);
+}
+
+#[test]
+fn short_lists() {
+    same(lookups::short_lists(&Library));
+}
+
+#[test]
+fn random_lists() {
+    let (seed, rounds) = seed_and_rounds();
+    same(lookups::random_lists(&Library, seed, rounds));
+}
+
+/// A word from 2^63 on is a fresh cursor; it comes back as exactly 2^63.
+#[test]
+fn fresh_words() {
+    let find = |ids: &[u64], word| unsafe { ffi::tvk_seek_find(ids.as_ptr(), ids.len(), word, 5) };
+    for word in [ffi::NO_PLACE, ffi::NO_PLACE + 1, usize::MAX] {
+        let found = find(&[0, 3, 5], word);
+        assert_eq!((found.number, found.found, found.place), (0, 2, 2));
+        let refused = find(&[3, 0], word);
+        let none = (20, ffi::NO_PLACE, ffi::NO_PLACE);
+        assert_eq!((refused.number, refused.found, refused.place), none);
+    }
 }
 
 /// Document 01's trial rows on these calls.
@@ -53,4 +75,5 @@ fn trial_rows() {
     assert_eq!(Library.read_i32(b"2147483648"), (8, 0));
     assert_eq!(Library.read_i32(b"+7"), (0, 7));
     assert_eq!(Library.read_i32(b"-0"), (0, 0));
+    assert_eq!(Library.range_overlaps(&[-100], &[], -5, 3), (0, true));
 }

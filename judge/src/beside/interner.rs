@@ -2,9 +2,7 @@
 impl StringInterner {
     /// The texts by handle.
     pub(super) fn judge_texts(&self) -> Vec<String> {
-        (0..self.strings.table.len())
-            .map(|n| self.strings.resolve(n as u32).to_owned())
-            .collect()
+        (0..self.strings.table.len()).map(|n| self.strings.resolve(n as u32).to_owned()).collect()
     }
 
     /// The spans by handle, and the string bytes.
@@ -16,10 +14,7 @@ impl StringInterner {
 impl Clone for StringInterner {
     fn clone(&self) -> Self {
         Self {
-            strings: StringTable {
-                data: self.strings.data.clone(),
-                table: self.strings.table.clone(),
-            },
+            strings: StringTable { data: self.strings.data.clone(), table: self.strings.table.clone() },
             lookup: self.lookup.clone(),
         }
     }

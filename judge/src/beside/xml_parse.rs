@@ -1,11 +1,7 @@
-// Beside the published file: the driver by its private name, the same driver one event at a time, and
-// one event at any place.
-use crate::nesting::{Call, Place};
+// Beside the published file: the driver by its private name, and the same driver one event at a time.
+use crate::nesting::Place;
 
-pub(crate) fn judge_drive<R: io::BufRead>(
-    reader: &mut Reader<R>,
-    overlay: &mut CompactDiffOverlay,
-) -> ParseResult<()> {
+pub(crate) fn judge_drive<R: io::BufRead>(reader: &mut Reader<R>, overlay: &mut CompactDiffOverlay) -> ParseResult<()> {
     drive_osc(reader, &mut CompactSink::new(overlay), Path::new("events"))
 }
 
@@ -39,14 +35,7 @@ impl JudgeStaged {
             id: s.id,
             lat: s.lat,
             lon: s.lon,
-            meta: (
-                s.meta.flags,
-                s.meta.version,
-                s.meta.timestamp,
-                s.meta.changeset,
-                s.meta.uid,
-                s.meta.user_id,
-            ),
+            meta: (s.meta.flags, s.meta.version, s.meta.timestamp, s.meta.changeset, s.meta.uid, s.meta.user_id),
             tag_keys: s.tag_keys,
             tag_values: s.tag_values,
             refs: s.refs,
@@ -61,14 +50,7 @@ impl JudgeStaged {
             id: self.id,
             lat: self.lat,
             lon: self.lon,
-            meta: ArenaMeta {
-                flags,
-                version,
-                timestamp,
-                changeset,
-                uid,
-                user_id,
-            },
+            meta: ArenaMeta { flags, version, timestamp, changeset, uid, user_id },
             tag_keys: self.tag_keys,
             tag_values: self.tag_values,
             refs: self.refs,
@@ -80,26 +62,13 @@ impl JudgeStaged {
 impl JudgeSteps {
     /// The state that `drive_osc` begins with.
     pub(crate) fn new() -> Self {
-        Self {
-            level: Level::Doc,
-            section: OscAction::Create,
-            open: ElementKind::Node,
-            staging: None,
-        }
+        Self { level: Level::Doc, section: OscAction::Create, open: ElementKind::Node, staging: None }
     }
 
     /// One turn of `drive_osc`'s loop.
-    pub(crate) fn step(
-        &mut self,
-        overlay: &mut CompactDiffOverlay,
-        event: &Event<'_>,
-    ) -> ParseResult<()> {
+    pub(crate) fn step(&mut self, overlay: &mut CompactDiffOverlay, event: &Event<'_>) -> ParseResult<()> {
         let path = Path::new("events");
-        let mut state = DriveState {
-            level: self.level,
-            section: self.section,
-            open: self.open,
-        };
+        let mut state = DriveState { level: self.level, section: self.section, open: self.open };
         let mut sink = CompactSink::new(overlay);
         sink.staging = self.staging.take().map(JudgeStaged::give);
         let reply = match event {
@@ -121,12 +90,11 @@ impl JudgeSteps {
     }
 
     pub(crate) fn place(&self) -> Place {
-        let state = DriveState {
-            level: self.level,
-            section: self.section,
-            open: self.open,
-        };
-        state.judge_place()
+        Place {
+            level: judge_number(&JUDGE_LEVELS, &self.level),
+            section: judge_number(&JUDGE_SECTIONS, &self.section),
+            kind: judge_number(&JUDGE_KINDS, &self.open),
+        }
     }
 
     pub(crate) fn staged(&self) -> Option<&JudgeStaged> {
@@ -134,92 +102,13 @@ impl JudgeSteps {
     }
 }
 
-// The values in the published order: a place has their numbers.
-const JUDGE_LEVELS: [Level; 7] = [
-    Level::Doc,
-    Level::Root,
-    Level::Other,
-    Level::Section,
-    Level::Element,
-    Level::Leaf,
-    Level::Done,
-];
+// The values in the order of the library's words for them: a place has their numbers.
+const JUDGE_LEVELS: [Level; 7] =
+    [Level::Doc, Level::Root, Level::Section, Level::Element, Level::Leaf, Level::Other, Level::Done];
 const JUDGE_SECTIONS: [OscAction; 3] = [OscAction::Create, OscAction::Modify, OscAction::Delete];
 const JUDGE_KINDS: [ElementKind; 3] = [ElementKind::Node, ElementKind::Way, ElementKind::Relation];
 
 fn judge_number<T: PartialEq>(values: &[T], value: &T) -> u8 {
     let at = values.iter().position(|v| v == value);
     at.expect("every value is there") as u8
-}
-
-impl DriveState {
-    fn judge_at(place: Place) -> Self {
-        Self {
-            level: JUDGE_LEVELS[usize::from(place.level)],
-            section: JUDGE_SECTIONS[usize::from(place.section)],
-            open: JUDGE_KINDS[usize::from(place.kind)],
-        }
-    }
-
-    fn judge_place(&self) -> Place {
-        Place {
-            level: judge_number(&JUDGE_LEVELS, &self.level),
-            section: judge_number(&JUDGE_SECTIONS, &self.section),
-            kind: judge_number(&JUDGE_KINDS, &self.open),
-        }
-    }
-}
-
-/// A sink that writes down its calls and refuses none.
-struct JudgeCalls(Vec<Call>);
-
-impl OscSink for JudgeCalls {
-    fn begin_element(
-        &mut self,
-        action: OscAction,
-        kind: ElementKind,
-        _: &quick_xml::events::BytesStart<'_>,
-    ) -> ParseResult<()> {
-        self.0.push(Call::Begin {
-            section: judge_number(&JUDGE_SECTIONS, &action),
-            kind: judge_number(&JUDGE_KINDS, &kind),
-        });
-        Ok(())
-    }
-
-    fn tag(&mut self, _: &quick_xml::events::BytesStart<'_>) -> ParseResult<()> {
-        self.0.push(Call::Tag);
-        Ok(())
-    }
-
-    fn nd(&mut self, _: &quick_xml::events::BytesStart<'_>) -> ParseResult<()> {
-        self.0.push(Call::Nd);
-        Ok(())
-    }
-
-    fn member(&mut self, _: &quick_xml::events::BytesStart<'_>) -> ParseResult<()> {
-        self.0.push(Call::Member);
-        Ok(())
-    }
-
-    fn end_element(&mut self) -> ParseResult<()> {
-        self.0.push(Call::End);
-        Ok(())
-    }
-}
-
-/// One turn of `drive_osc`'s loop at any place: the place after it, and the calls of the sink. A close
-/// has no element.
-pub(crate) fn judge_turn(
-    place: Place,
-    element: Option<(&quick_xml::events::BytesStart<'_>, bool)>,
-) -> ParseResult<(Place, Vec<Call>)> {
-    let path = Path::new("events");
-    let mut state = DriveState::judge_at(place);
-    let mut sink = JudgeCalls(Vec::new());
-    match element {
-        Some((e, empty)) => handle_open(e, empty, &mut state, &mut sink, path)?,
-        None => handle_close(&mut state, &mut sink, path)?,
-    }
-    Ok((state.judge_place(), sink.0))
 }

@@ -18,15 +18,12 @@ fn main() -> std::io::Result<()> {
     }
     let mut input = Vec::new();
     std::io::stdin().read_to_end(&mut input)?;
-    let (outcome, overlay) = if sized {
-        judge::run_sized(&input, allow, &judge::Sizes::ROADLIST)
-    } else {
-        judge::run(&input, allow)
-    };
+    let (outcome, overlay) =
+        if sized { judge::run_sized(&input, allow, &judge::Sizes::ROADLIST) } else { judge::run(&input, allow) };
     let mut out = std::io::stdout().lock();
     out.write_all(&outcome.print())?;
     if state {
-        out.write_all(overlay.state().dump().as_bytes())?;
+        writeln!(out, "{:x?}", overlay.state())?;
     }
     Ok(())
 }

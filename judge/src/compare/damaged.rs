@@ -1,22 +1,12 @@
-//! Damaged storage: each byte, word and counter of a small overlay changed in turn, lent sizes at and
-//! past their ends, records at and past their limits, and storages at random. Each answer, and all
-//! that is lent after it, is compared with document 01's words.
+//! Damaged storage: each byte, word and counter of small overlays and readers changed in turn, lent sizes
+//! at and past their ends, records at and past their limits, and storages at random. Each answer, and
+//! all that is lent after it, is compared with document 01's words.
 
-mod calls;
-mod storages;
-
-use super::overlay::Push;
-use super::records::parts;
-use super::storage::{Storage, StoragePort};
-use super::words_overlay::{DELETED, NO_FLOOR, Rules, Words, rank, record_bytes};
+use super::call::{Call, DELETED, Head, Lines, NO_FLOOR, Port, Push, Storage, claiming};
+use super::words::{Words, is_sound, rank, record_bytes};
 use super::{Compared, Tally};
-use crate::answer::Kind;
+use crate::answer::{KINDS, Kind, Meta};
 use crate::random::Random;
-use calls::{Call, IDS, groups, head, push, version};
-use storages::{
-    any_storage, bytes_in, change_any, changes, lend, likely_storage, most, small, small_overlays,
-    text_of, words,
-};
 
 /// Which values a byte is changed to.
 #[derive(Clone, Copy, Debug, PartialEq, Eq)]
@@ -30,6 +20,11 @@ pub enum Values {
 }
 
 impl Values {
+    /// In a long run the seeds take all values of a byte by turns.
+    pub fn of_run(seed: u64, rounds: u64) -> Self {
+        if rounds == 1 { Self::Few } else { Self::Eighth(seed) }
+    }
+
     /// The values that the n-th byte is changed to.
     fn of(self, n: usize, byte: u8) -> Vec<u8> {
         let mut values = match self {
@@ -48,87 +43,120 @@ impl Values {
     }
 }
 
-/// The words, told once whether a storage is sound: each call is given the same.
-struct Told(bool);
-
-impl Rules for Told {
-    fn sound(&self, _: &Storage) -> bool {
-        self.0
-    }
-}
-
-/// Each call on both sides, which are given the storage as it was.
-fn compare(
-    tally: &mut Tally,
-    port: &dyn StoragePort,
-    what: &dyn Fn() -> String,
-    lent: &Storage,
-    calls: &[&Call],
-) -> Result<(), String> {
-    let words = Told(Words.sound(lent));
-    let mut sides = (lent.clone(), lent.clone());
-    for call in calls {
-        let what = || format!("{call:?}, {}", what());
-        let answers = (call.on(&words, &mut sides.0), call.on(port, &mut sides.1));
-        tally.same(what, answers.0, answers.1)?;
-        tally.same(what, Vec::new(), changes(&sides.0, &sides.1))?;
-        if sides.0 != *lent {
-            sides = (lent.clone(), lent.clone());
-        }
-    }
-    Ok(())
-}
-
 /// Document 01's words and a port, given the same storages and calls.
 struct Both<'a> {
-    port: &'a dyn StoragePort,
+    port: &'a dyn Port,
+    /// One group for each entry, and for a push and a delete one for each kind.
     groups: Vec<Vec<Call>>,
     storages: usize,
     tally: Tally,
 }
 
 impl<'a> Both<'a> {
-    fn new(port: &'a dyn StoragePort) -> Self {
-        Self {
-            port,
-            groups: groups(),
-            storages: 0,
-            tally: Tally::new(),
+    fn new(port: &'a dyn Port, groups: Vec<Vec<Call>>) -> Self {
+        Self { port, groups, storages: 0, tally: Tally::new() }
+    }
+
+    /// Each call on both sides, which are given the storage as it was.
+    fn calls(&mut self, what: impl Fn() -> String, lent: &Storage, told: bool, calls: &[Call]) -> Result<(), String> {
+        let words = Words { told: Some(told) };
+        let mut sides = (lent.clone(), lent.clone());
+        for call in calls {
+            let what = || format!("{}, {}", call.shown(), what());
+            let answer = words.call(&mut sides.0, call);
+            let port = self.port.call(&mut sides.1, call);
+            self.tally.same(what, answer, port)?;
+            let none: Vec<String> = Vec::new();
+            self.tally.same(what, none, sides.0.changes(&sides.1))?;
+            if sides.0 != *lent {
+                sides = (lent.clone(), lent.clone());
+            }
         }
+        Ok(())
     }
 
     /// Every call on a sound storage; on an unsound one a call of each group, by turns.
     fn storage(&mut self, what: impl Fn() -> String, lent: &Storage) -> Result<(), String> {
         self.storages += 1;
-        let (sound, turn) = (Words.sound(lent), self.storages);
-        let calls: Vec<&Call> = self
-            .groups
-            .iter()
-            .flat_map(|group| match sound {
-                true => &group[..],
-                false => &group[turn % group.len()..][..1],
-            })
-            .collect();
-        compare(&mut self.tally, self.port, &what, lent, &calls)
-    }
-
-    fn calls(
-        &mut self,
-        what: impl Fn() -> String,
-        lent: &Storage,
-        calls: &[&Call],
-    ) -> Result<(), String> {
-        compare(&mut self.tally, self.port, &what, lent, calls)
+        let (sound, turn) = (is_sound(lent), self.storages);
+        let of_group = |group: &Vec<Call>| match sound {
+            true => group.clone(),
+            false => group[turn % group.len()..][..1].to_vec(),
+        };
+        let calls: Vec<Call> = self.groups.iter().flat_map(of_group).collect();
+        self.calls(what, lent, sound, &calls)
     }
 
     /// A storage that was made from another by a change.
     fn changed(&mut self, base: &Storage, lent: &Storage) -> Result<(), String> {
         let (words, setting) = (base.tables[0].len(), base.counts[8]);
-        let what = || {
-            let changes = changes(base, lent).join("; ");
-            format!("in tables of {words} words, setting {setting}: {changes}")
-        };
+        let changes = || base.changes(lent).join("; ");
+        let what = || format!("in tables of {words} words, setting {setting}: {}", changes());
         self.storage(what, lent)
+    }
+
+    /// Every word that is changed to every value given for it.
+    fn each_word(&mut self, base: &Storage, values: impl Fn(usize, u64) -> Vec<u64>) -> Result<(), String> {
+        let mut lent = base.clone();
+        let all: Vec<u64> = lent.words().map(|word| *word).collect();
+        for (n, &old) in all.iter().enumerate() {
+            for value in values(n, old) {
+                if value != old {
+                    *lent.words().nth(n).expect("a word") = value;
+                    self.changed(base, &lent)?;
+                }
+            }
+            *lent.words().nth(n).expect("a word") = old;
+        }
+        Ok(())
+    }
+
+    /// Every byte that is lent, those of words and counters too; of the unused parts of an element a few.
+    fn each_byte(&mut self, base: &Storage, values: Values) -> Result<(), String> {
+        self.changed(base, base)?;
+        let mut lent = base.clone();
+        let all: Vec<u8> = lent.bytes().map(|byte| *byte).collect();
+        for (n, &old) in all.iter().enumerate().filter(|(n, _)| *n < 3_000 || n % 997 == 0) {
+            for value in values.of(n, old) {
+                *lent.bytes().nth(n).expect("a byte") = value;
+                self.changed(base, &lent)?;
+            }
+            *lent.bytes().nth(n).expect("a byte") = old;
+        }
+        self.each_word(base, |n, old| {
+            let bytes = old.to_le_bytes();
+            let at = |place: usize| {
+                let of = move |value| {
+                    let mut bytes = bytes;
+                    bytes[place] = value;
+                    u64::from_le_bytes(bytes)
+                };
+                values.of(n + place, bytes[place]).into_iter().map(of)
+            };
+            (0..8).flat_map(at).collect()
+        })
+    }
+
+    /// Every word as a whole: to the first numbers, to the ends of widths and to the other words; places
+    /// and the used bytes of arenas to every number up to one past the arena.
+    fn each_whole_word(&mut self, base: &Storage) -> Result<(), String> {
+        let all: Vec<u64> = base.clone().words().map(|word| *word).collect();
+        let table = base.tables[0].len();
+        let counters = all.len() - 9 - 19 * base.readers.len();
+        let longest = base.arenas.iter().map(Vec::len).max().unwrap_or(0) as u64;
+        let mut edges = vec![255, 256, u64::MAX - 1, u64::MAX];
+        for edge in [1 << 31, NO_FLOOR, 1 << 62, DELETED] {
+            edges.extend([edge - 1, edge, edge + 1]);
+        }
+        edges.extend(&all);
+        edges.sort_unstable();
+        edges.dedup();
+        self.each_word(base, |n, _| {
+            let is_place = n < 3 * table && [1, 4, 7].contains(&(n % table));
+            let is_used = (counters + 3..counters + 6).contains(&n);
+            let most = if is_place || is_used { longest } else { 32 };
+            (0..=most + 1).chain(edges.iter().copied()).collect()
+        })
     }
 
     fn done(self) -> Compared {
@@ -136,97 +164,84 @@ impl<'a> Both<'a> {
     }
 }
 
-/// Every byte that is lent changed in turn, used or not, those of words and counters too; in the other
-/// setting to one value.
-pub fn bytes(port: &dyn StoragePort, values: Values) -> Compared {
-    let mut both = Both::new(port);
-    let [full, room, other_full, other_room] = small_overlays();
-    for base in [full, room] {
-        each_byte(&mut both, &base, values)?;
-    }
-    for base in [other_full, other_room] {
-        each_byte(&mut both, &base, Values::One)?;
+/// Every byte of small overlays, used or not; in the other setting to one value.
+pub fn bytes(port: &dyn Port, values: Values) -> Compared {
+    let mut both = Both::new(port, groups());
+    for (n, base) in small_overlays().iter().enumerate() {
+        both.each_byte(base, if n < 2 { values } else { Values::One })?;
     }
     both.done()
 }
 
-fn each_byte(both: &mut Both<'_>, base: &Storage, values: Values) -> Result<(), String> {
-    both.changed(base, base)?;
-    let mut lent = base.clone();
-    let all: Vec<u8> = bytes_in(&mut lent).map(|byte| *byte).collect();
-    for (n, &old) in all.iter().enumerate() {
-        for value in values.of(n, old) {
-            *bytes_in(&mut lent).nth(n).expect("a byte") = value;
-            both.changed(base, &lent)?;
-        }
-        *bytes_in(&mut lent).nth(n).expect("a byte") = old;
-    }
-    let all: Vec<u64> = words(&mut lent).map(|word| *word).collect();
-    for (n, &old) in all.iter().enumerate() {
-        for place in 0..8 {
-            let mut word = old.to_le_bytes();
-            for value in values.of(n + place, word[place]) {
-                word[place] = value;
-                *words(&mut lent).nth(n).expect("a word") = u64::from_le_bytes(word);
-                both.changed(base, &lent)?;
-            }
-        }
-        *words(&mut lent).nth(n).expect("a word") = old;
-    }
-    Ok(())
-}
-
-/// Every word and counter changed as a whole: to the first numbers, to the ends of widths and to the
-/// other words; places and the used bytes of arenas to every number up to one past the arena.
-pub fn whole_words(port: &dyn StoragePort) -> Compared {
-    let mut both = Both::new(port);
+/// Every word of small overlays as a whole.
+pub fn whole_words(port: &dyn Port) -> Compared {
+    let mut both = Both::new(port, groups());
     for base in small_overlays() {
-        each_word(&mut both, &base)?;
+        both.each_whole_word(&base)?;
     }
     both.done()
 }
 
-fn each_word(both: &mut Both<'_>, base: &Storage) -> Result<(), String> {
-    let mut lent = base.clone();
-    let all: Vec<u64> = words(&mut lent).map(|word| *word).collect();
-    let (table, counters) = (base.tables[0].len(), all.len() - 9);
-    let longest = base.arenas.iter().map(Vec::len).max().unwrap_or(0) as u64;
-    let mut edges = vec![u64::MAX - 1, u64::MAX];
-    for edge in [1 << 31, NO_FLOOR, 1 << 62, DELETED] {
-        edges.extend([edge - 1, edge, edge + 1]);
+/// Every word of readers and every staged byte; then every byte of the overlay that one reads into.
+pub fn readers(port: &dyn Port, values: Values) -> Compared {
+    let mut both = Both::new(port, reader_calls());
+    let bases = small_readers();
+    for base in &bases {
+        one_reader(&mut both, base, values)?;
     }
-    edges.extend(&all);
-    for (n, &old) in all.iter().enumerate() {
-        let is_place = n < 3 * table && [1, 4, 7].contains(&(n % table));
-        let is_used = (counters + 3..counters + 6).contains(&n);
-        let most = if is_place || is_used { longest } else { 32 };
-        let mut values: Vec<u64> = (0..=most + 1).chain(edges.iter().copied()).collect();
-        values.sort_unstable();
-        values.dedup();
-        for &value in values.iter().filter(|&&value| value != old) {
-            *words(&mut lent).nth(n).expect("a word") = value;
+    both.each_byte(&bases[3], Values::One)?;
+    both.done()
+}
+
+fn one_reader(both: &mut Both<'_>, base: &Storage, values: Values) -> Result<(), String> {
+    both.changed(base, base)?;
+    let Lines { words, parts } = &base.readers[0];
+    let mut lent = base.clone();
+    for n in 0..19 {
+        for value in reader_values(words, n).into_iter().step_by(if values == Values::One { 9 } else { 1 }) {
+            lent.readers[0].words[n] = value;
             both.changed(base, &lent)?;
         }
-        *words(&mut lent).nth(n).expect("a word") = old;
+        lent.readers[0].words[n] = words[n];
+    }
+    let past = words[14] as usize + 9;
+    for n in (0..past).chain((past..parts.len()).step_by(4_999)) {
+        for value in values.of(n, parts[n]) {
+            lent.readers[0].parts[n] = value;
+            both.changed(base, &lent)?;
+        }
+        lent.readers[0].parts[n] = parts[n];
     }
     Ok(())
+}
+
+/// The first numbers, the ends of widths, the other words, each bit of the word.
+fn reader_values(all: &[u64; 19], n: usize) -> Vec<u64> {
+    let mut values: Vec<u64> = (0..=33).collect();
+    for edge in [1 << 8, 1 << 31, NO_FLOOR, DELETED, 44_432, 900_000_000, 1_800_000_000] {
+        values.extend([edge - 1, edge, edge + 1]);
+    }
+    values.extend([u64::MAX, u64::MAX - 1]);
+    values.extend((0..64).map(|bit| all[n] ^ (1 << bit)));
+    values.extend(all);
+    values.sort_unstable();
+    values.dedup();
+    values.retain(|value| *value != all[n]);
+    values
 }
 
 /// Lent sizes at and past their ends, with nothing in use and with the small overlay: no element, too
 /// few for one id or one string, words left over, the most, one more.
-pub fn sizes(port: &dyn StoragePort) -> Compared {
-    let mut both = Both::new(port);
+pub fn sizes(port: &dyn Port) -> Compared {
+    let mut both = Both::new(port, groups());
     sized(&mut both, &[4_096, 1 << 20, 4_096, 65_536])?;
     both.done()
 }
 
 /// The sizes given, and one more: ids, arena, strings, string bytes.
 fn sized(both: &mut Both<'_>, [ids, arena, strings, bytes]: &[usize; 4]) -> Result<(), String> {
-    let empty = lend(3, 0, 2, 0);
     let (rows, pairs) = (3 * ids, 2 * strings);
-    let tables = [0, 1, 2, 3, 4, 8, 9, 10, rows, rows + 2, rows + 3];
-    let spans = [0, 1, 2, 3, 4, 9, 10, 11, pairs, pairs + 1, pairs + 2];
-    for base in [empty, small(false, 0)] {
+    for base in [lend(3, 0, 2, 0), small(false, 0)] {
         let mut lents = Vec::new();
         let mut change = |change: &dyn Fn(&mut Storage)| {
             let mut lent = base.clone();
@@ -234,14 +249,14 @@ fn sized(both: &mut Both<'_>, [ids, arena, strings, bytes]: &[usize; 4]) -> Resu
             lents.push(lent);
         };
         for kind in 0..3 {
-            for len in tables {
+            for len in [0, 1, 2, 3, 4, 8, 9, 10, rows, rows + 2, rows + 3] {
                 change(&|lent| lent.tables[kind].resize(len, 7));
             }
             for len in [0, 1, 7, *arena, arena + 1] {
                 change(&|lent| lent.arenas[kind].resize(len, 7));
             }
         }
-        for len in spans {
+        for len in [0, 1, 2, 3, 4, 9, 10, 11, pairs, pairs + 1, pairs + 2] {
             change(&|lent| lent.spans.resize(len, 7));
         }
         for len in [0, 1, 7, *bytes, bytes + 1] {
@@ -255,15 +270,13 @@ fn sized(both: &mut Both<'_>, [ids, arena, strings, bytes]: &[usize; 4]) -> Resu
 }
 
 /// Records at and past the limits of an element, pushed and stored; the most ids and strings in use.
-pub fn limits(port: &dyn StoragePort) -> Compared {
-    let mut both = Both::new(port);
+pub fn limits(port: &dyn Port) -> Compared {
+    let mut both = Both::new(port, groups());
     let long = ["é".repeat(4_096), "a".repeat(8_192), "a".repeat(8_193)];
     let whole = ["a".repeat(16_384), "a".repeat(16_385)];
     for (kind, count, tags) in [
         (Kind::Node, 0, vec![(0, ""); 256]),
         (Kind::Node, 0, vec![(0, ""); 257]),
-        (Kind::Relation, 0, vec![(1, "é"); 256]),
-        (Kind::Relation, 0, vec![(1, "é"); 257]),
         (Kind::Way, 2_000, vec![]),
         (Kind::Way, 2_001, vec![(1, "v")]),
         (Kind::Relation, 2_000, vec![]),
@@ -273,7 +286,7 @@ pub fn limits(port: &dyn StoragePort) -> Compared {
         (Kind::Way, 1, vec![(1, &long[0]), (0, &long[1])]),
         (Kind::Way, 1, vec![(1, &long[0]), (0, &long[2])]),
     ] {
-        let push = push(kind, IDS[kind as usize][0], count, &tags, version(1));
+        let push = push(kind, IDS[kind as usize][0], count, &tags, claiming(Some(1)));
         one_limit(&mut both, &push)?;
     }
     most_in_use(&mut both)?;
@@ -282,19 +295,15 @@ pub fn limits(port: &dyn StoragePort) -> Compared {
 
 /// A record pushed into an arena of exactly its length, and of one byte less; then stored.
 fn one_limit(both: &mut Both<'_>, push: &Push) -> Result<(), String> {
-    let (kind, call) = (push.kind as usize, Call::pushing(push));
-    let record = record_bytes(push.kind, &head(push), &push.meta, &parts(push));
+    let (kind, call) = (push.kind as usize, [push.call()]);
+    let record = record_bytes(push.kind, &push.head(), &push.meta, &push.parts());
     let mut lent = lend(6, record.len(), 4, 1);
-    Words.intern(&mut lent, b"k");
-    let what = || {
-        let (refs, members, tags) = (&push.refs, &push.members, &push.tags);
-        let counts = [refs.len(), members.len(), tags.len()];
-        format!("refs, members, tags {counts:?} in {} bytes", record.len())
-    };
-    both.calls(what, &lent, &[&call])?;
+    Words::default().call(&mut lent, &Call::Intern(b"k".to_vec()));
+    let what = || format!("{:?} in {} bytes", push.head(), record.len());
+    both.calls(what, &lent, true, &call)?;
     let mut short = lent.clone();
     short.arenas[kind].pop();
-    both.calls(what, &short, &[&call])?;
+    both.calls(what, &short, true, &call)?;
     lent.arenas[kind].copy_from_slice(&record);
     lent.counts[3 + kind] = record.len() as u64;
     lent.tables[kind][..3].copy_from_slice(&[rank(push.id), 0, NO_FLOOR]);
@@ -302,9 +311,38 @@ fn one_limit(both: &mut Both<'_>, push: &Push) -> Result<(), String> {
     both.storage(what, &lent)
 }
 
-/// As many ids and strings in use as document 01 allows, then the last of each damaged.
+/// The text of a handle where the most are in use: 65,536 bytes in all.
+fn text_of(handle: usize) -> String {
+    match handle {
+        0 => String::new(),
+        4_095 => format!("{handle:032}"),
+        _ => format!("{handle:016}"),
+    }
+}
+
+/// As many ids and strings in use as document 01 allows (4,096 live nodes, 4,096 deleted ways, 4,096
+/// strings), then the last of each damaged.
 fn most_in_use(both: &mut Both<'_>) -> Result<(), String> {
-    let base = most();
+    let record = |id| {
+        let push = push(Kind::Node, id, 0, &[], Meta::default());
+        record_bytes(Kind::Node, &push.head(), &push.meta, &[])
+    };
+    let table = |place: fn(u64) -> u64| -> Vec<u64> {
+        let row = |n| [rank(n as i64 + 1), place(n), NO_FLOOR];
+        (0..4_096).flat_map(row).collect()
+    };
+    let span = |handle: usize| {
+        let start = 16 * handle.saturating_sub(1);
+        [start as u64, text_of(handle).len() as u64]
+    };
+    let base = Storage {
+        tables: [table(|n| 49 * n), table(|_| DELETED), vec![0; 3]],
+        arenas: [(1..=4_096).flat_map(record).collect(), vec![], vec![]],
+        spans: (0..4_096).flat_map(span).collect(),
+        bytes: (0..4_096).map(text_of).collect::<String>().into_bytes(),
+        counts: [4_096, 4_096, 0, 49 * 4_096, 0, 0, 4_096, 65_536, 0],
+        readers: Vec::new(),
+    };
     let last = 4_095;
     let mut lents = vec![base.clone()];
     let mut change = |change: &dyn Fn(&mut Storage)| {
@@ -315,35 +353,31 @@ fn most_in_use(both: &mut Both<'_>) -> Result<(), String> {
     change(&|lent| lent.spans.copy_within(2..4, 2 * last));
     change(&|lent| lent.spans[2 * last + 1] += 1);
     change(&|lent| lent.bytes[65_535] = 0);
-    for kind in 0..2 {
-        change(&|lent| lent.tables[kind][3 * last] -= 1);
-    }
+    change(&|lent| lent.tables[0][3 * last] -= 1);
+    change(&|lent| lent.tables[1][3 * last] -= 1);
     change(&|lent| lent.tables[0][3 * last + 1] -= 49);
     change(&|lent| *lent.arenas[0].last_mut().expect("a byte") = 1);
-    let new = push(Kind::Node, 9_999, 0, &[], version(1));
     let calls = [
         Call::IsSound,
-        Call::Intern((*b"new").into()),
-        Call::Intern(text_of(last).into_bytes().into()),
-        Call::pushing(&new),
-        Call::Delete(1, 9_999, version(1)),
-        Call::Delete(1, 4_096, version(1)),
+        Call::Intern(b"new".to_vec()),
+        Call::Intern(text_of(last).into_bytes()),
+        push(Kind::Node, 9_999, 0, &[], claiming(Some(1))).call(),
+        Call::Delete(1, 9_999, claiming(Some(1))),
+        Call::Delete(1, 4_096, claiming(Some(1))),
         Call::LiveId(0, 4_095),
         Call::Record(0, 4_095),
         Call::Text(4_095),
     ];
-    let calls: Vec<&Call> = calls.iter().collect();
     for lent in lents {
-        let what = || format!("the most in use: {:?}", changes(&base, &lent));
-        both.calls(what, &lent, &calls)?;
+        let what = || format!("the most in use: {:?}", base.changes(&lent));
+        both.calls(what, &lent, is_sound(&lent), &calls)?;
     }
     Ok(())
 }
 
-/// Storages at random: small ones of any elements, ones whose parts mostly fit, and small overlays
-/// with several changes.
-pub fn random(port: &dyn StoragePort, seed: u64, rounds: u64) -> Compared {
-    let mut both = Both::new(port);
+/// Storages at random: small ones of any elements, and overlays of some calls with several changes.
+pub fn random(port: &dyn Port, seed: u64, rounds: u64) -> Compared {
+    let mut both = Both::new(port, groups());
     at_random(&mut both, seed, 10_000 * rounds)?;
     both.done()
 }
@@ -351,29 +385,343 @@ pub fn random(port: &dyn StoragePort, seed: u64, rounds: u64) -> Compared {
 fn at_random(both: &mut Both<'_>, seed: u64, times: u64) -> Result<(), String> {
     let mut random = Random::new(seed);
     let bases = small_overlays();
-    for _ in 0..times {
+    for n in 0..times {
         let lent = any_storage(&mut random);
         both.storage(|| format!("{lent:?}"), &lent)?;
-        let lent = likely_storage(&mut random);
-        both.storage(|| format!("{lent:?}"), &lent)?;
-        let base = random.pick(&bases);
+        let mut base = bases[n as usize % 4].clone();
+        for call in both.groups.concat() {
+            if random.once_in(40) {
+                Words { told: Some(true) }.call(&mut base, &call);
+            }
+        }
         let mut lent = base.clone();
-        for _ in 0..1 + random.below(4) {
+        for _ in 0..random.below(4) {
             change_any(&mut random, &mut lent);
         }
-        both.changed(base, &lent)?;
+        both.changed(&base, &lent)?;
     }
     Ok(())
 }
 
 /// A short form of all of these, for a run under a slow tool.
-pub fn short(port: &dyn StoragePort) -> Compared {
-    let mut both = Both::new(port);
-    let [full, room, ..] = small_overlays();
-    for base in [full, room] {
-        each_byte(&mut both, &base, Values::One)?;
+pub fn short(port: &dyn Port) -> Compared {
+    let mut both = Both::new(port, groups());
+    for base in &small_overlays()[..2] {
+        both.each_byte(base, Values::One)?;
     }
     sized(&mut both, &[4, 400, 6, 40])?;
     at_random(&mut both, 1, 300)?;
+    both.groups = reader_calls();
+    for base in &small_readers()[1..6] {
+        one_reader(&mut both, base, Values::One)?;
+    }
     both.done()
+}
+
+// ---- the calls
+
+/// Of each kind an id that is live, one that is deleted, one that was pushed twice, one that is new.
+const IDS: [[i64; 4]; 3] = [[5, -4, 0, -3], [-1, 1, i64::MIN, 0], [i64::MAX, 2, -3, 1]];
+
+/// A push of so many refs or members, and of tags; a node at the ends of its range.
+fn push(kind: Kind, id: i64, count: usize, tags: &[(u32, &str)], meta: Meta) -> Push {
+    let mut push = Push::plain(kind, id, meta);
+    push.tags = tags.iter().map(|&(key, text)| (key, text.into())).collect();
+    match kind {
+        Kind::Node => push.place = (900_000_000, -1_800_000_000),
+        Kind::Way => push.refs.extend(0..count as i64),
+        Kind::Relation => {
+            let member = |n: usize| (n as i64 - 1, (n % 3) as u8, (n % 2) as u32);
+            push.members.extend((0..count).map(member));
+        }
+    }
+    push
+}
+
+/// Good pushes and deletes of a kind: of a new id and of known ones, with several versions and without.
+fn good_acts(kind: Kind) -> [Vec<Call>; 2] {
+    let [live, deleted, twice, new] = IDS[kind as usize];
+    let (none, at) = (Meta::default(), |version| claiming(Some(version)));
+    let pushes = [
+        push(kind, new, 1, &[(1, "é")], at(1)),
+        push(kind, live, 0, &[], at(4)),
+        push(kind, live, 2, &[(0, "")], at(2)),
+        push(kind, live, 0, &[], none),
+        push(kind, deleted, 0, &[(2, "a"), (1, "b")], none),
+        push(kind, deleted, 1, &[], at(1)),
+        push(kind, twice, 0, &[], at(2)),
+        push(kind, twice, 0, &[], none),
+    ];
+    let deletes = [
+        (new, at(1)),
+        (live, none),
+        (live, at(2)),
+        (live, at(7)),
+        (deleted, at(1)),
+        (deleted, none),
+        (twice, at(-1)),
+        (twice, none),
+    ];
+    let delete = |(id, meta)| Call::Delete(kind as u8, id, meta);
+    [pushes.iter().map(Push::call).collect(), deletes.map(delete).into()]
+}
+
+/// Pushes and deletes that are refused 17, 3, 10 or 16 where the storage is sound.
+fn bad_acts() -> [Vec<Call>; 2] {
+    let changes: [(Kind, fn(&mut Push)); 17] = [
+        (Kind::Node, |p| p.meta.flags = 16),
+        (Kind::Node, |p| p.meta.flags = 8),
+        (Kind::Node, |p| p.meta.flags = 1),
+        (Kind::Node, |p| p.meta.user = 1),
+        (Kind::Way, |p| (p.meta.flags, p.meta.version, p.meta.uid) = (0, 0, 1)),
+        (Kind::Way, |p| (p.meta.flags, p.meta.user) = (13, 99)),
+        (Kind::Way, |p| p.tags[0].0 = 99),
+        (Kind::Way, |p| p.tags[0].1 = b"\xff".to_vec()),
+        (Kind::Node, |p| p.place.0 = 900_000_001),
+        (Kind::Node, |p| p.place.1 = i32::MIN),
+        (Kind::Node, |p| p.tags = vec![(0, b"w".to_vec()); 257]),
+        // Of several the first in the table's order.
+        (Kind::Way, |p| p.tags = vec![(1, b"\xff".to_vec()), (99, b"\xff".to_vec())]),
+        (Kind::Node, |p| (p.place.0, p.tags[0].1) = (i32::MAX, b"\xff".to_vec())),
+        (Kind::Node, |p| (p.place.1, p.tags) = (i32::MAX, vec![(0, b"w".to_vec()); 257])),
+        (Kind::Node, |p| (p.id, p.meta.version, p.tags) = (5, 0, vec![(0, b"w".to_vec()); 257])),
+        (Kind::Relation, |p| p.members[0].1 = 3),
+        (Kind::Relation, |p| p.members[0].2 = 99),
+    ];
+    let mut pushes: Vec<Call> = changes
+        .iter()
+        .map(|(kind, change)| {
+            let mut push = push(*kind, 1, 1, &[(1, "v")], claiming(Some(9)));
+            change(&mut push);
+            push.call()
+        })
+        .collect();
+    let way = push(Kind::Way, 1, 1, &[(1, "v")], claiming(Some(9)));
+    let (head, parts, meta) = (way.head(), way.parts(), way.meta);
+    let most = u32::MAX;
+    pushes.extend([
+        Call::Push(3, head, meta, parts.clone()),
+        Call::Push(255, head, meta, parts.clone()),
+        Call::Push(1, head, meta, parts[1..].to_vec()),
+        Call::Push(1, head, meta, [&parts[..], &[0]].concat()),
+        Call::Push(1, Head { count: most, ..head }, meta, parts.clone()),
+        Call::Push(1, Head { tags: most, ..head }, meta, parts),
+    ]);
+    let flags = |flags, user| Meta { flags, user, ..claiming(Some(0)) };
+    let deletes = vec![
+        Call::Delete(3, 5, claiming(Some(9))),
+        Call::Delete(0, 5, flags(16, 0)),
+        Call::Delete(1, 5, flags(8, 0)),
+        Call::Delete(2, 5, flags(5, 99)),
+    ];
+    [pushes, deletes]
+}
+
+/// The calls in groups: one for each entry, and for a push and a delete one for each kind.
+fn groups() -> Vec<Vec<Call>> {
+    let texts = ["ka", "new", "", "Straße"].map(|text| text.as_bytes().to_vec());
+    let not_texts = [b"\xff".to_vec(), b"a\0".to_vec(), b"\xed\xa0\x80".to_vec(), vec![b'x'; 40]];
+    let by_number = |call: fn(u8, u64) -> Call| -> Vec<Call> {
+        let numbers = |kind| [0, 1, 2, 3, u64::MAX].map(|n| call(kind, n));
+        (0..=3).flat_map(numbers).collect()
+    };
+    let by_id = |call: fn(u8, i64) -> Call| -> Vec<Call> {
+        let known = (0..3u8).flat_map(|kind| IDS[kind as usize].map(|id| call(kind, id)));
+        known.chain([call(3, 5)]).collect()
+    };
+    let handles = [0, 1, 2, 4, 5, 6, 1 << 32, u64::MAX];
+    let mut groups = vec![
+        vec![Call::SetUp(0), Call::SetUp(7)],
+        vec![Call::IsSound],
+        vec![Call::Allow(0), Call::Allow(1 << 32)],
+        texts.into_iter().chain(not_texts).map(Call::Intern).collect(),
+        (0..=3).map(Call::LiveCount).collect(),
+        (0..=3).map(Call::DeletedCount).collect(),
+        vec![Call::IsEmpty],
+        by_number(Call::LiveId),
+        by_number(Call::DeletedId),
+        by_number(Call::Record),
+        by_id(Call::Get),
+        by_id(Call::Has),
+        by_id(Call::IsDeleted),
+        by_id(Call::KnownVersion),
+        handles.map(Call::Text).into(),
+    ];
+    groups.extend(bad_acts());
+    groups.extend(KINDS.into_iter().flat_map(good_acts));
+    groups.push([0, 300, 700, 100_000].map(Call::Listing).into());
+    groups
+}
+
+/// What a reader is asked: an event of each kind, and its end.
+fn reader_calls() -> Vec<Vec<Call>> {
+    let lines = [
+        "close\n",
+        "other\n",
+        "close",
+        "bad\n",
+        "empty\ttag\tk=new\tv=yes\n",
+        "open\ttag\tk=ka\tv=\n",
+        "empty\tnd\tref=-5\n",
+        "empty\tmember\ttype=way\tref=5\trole=ka\n",
+        "empty\tnode\tid=5\tversion=9\tlat7=1\tlon7=2\tuser=u\n",
+        "open\tway\tid=-1\tversion=2\n",
+        "open\tosmChange\n",
+        "open\tdelete\n",
+    ];
+    let event = |line: &str| vec![Call::Event(0, line.as_bytes().to_vec())];
+    let mut calls: Vec<Vec<Call>> = lines.into_iter().map(event).collect();
+    calls.push(vec![Call::End(0)]);
+    calls
+}
+
+// ---- the storages
+
+/// An empty overlay in so many words and bytes, all drawn.
+fn lend(table: usize, arena: usize, spans: usize, bytes: usize) -> Storage {
+    let mut random = Random::new(1);
+    let mut words = |len: usize| -> Vec<u64> { (0..len).map(|_| random.draw()).collect() };
+    let (tables, spans) = ([table; 3].map(&mut words), words(spans));
+    let mut draw = |len: usize| -> Vec<u8> { (0..len).map(|_| random.draw() as u8).collect() };
+    let mut lent = Storage {
+        tables,
+        arenas: [arena; 3].map(&mut draw),
+        spans,
+        bytes: draw(bytes),
+        counts: [0; 9],
+        readers: Vec::new(),
+    };
+    Words::default().call(&mut lent, &Call::SetUp(0));
+    lent
+}
+
+/// Calls that are taken.
+fn taken(lent: &mut Storage, calls: &[Call]) {
+    for call in calls {
+        let answer = Words::default().call(lent, call);
+        assert_eq!(answer.number(), 0, "{}", call.shown());
+    }
+}
+
+/// A small overlay of three ids a kind, one of them deleted, one pushed twice, and of five texts. All
+/// that is lent is in use, or there is room: for two ids, for some pushes, for two texts.
+fn small(room: bool, setting: u64) -> Storage {
+    let mut lent = lend(17, 400, 15, 30);
+    let mut calls = vec![Call::Allow(setting)];
+    // One text begins with another.
+    calls.extend(["", "k", "Straße", "€🚚", "ka"].map(|text| Call::Intern(text.into())));
+    let user = Meta { flags: 13, version: 3, timestamp: 1_704_063_600, changeset: -9, uid: 258, user: 3 };
+    let hidden = Meta { flags: 3, ..Meta::default() };
+    for kind in KINDS {
+        let [live, deleted, twice, _] = IDS[kind as usize];
+        calls.extend([
+            push(kind, live, 2, &[(1, "é")], user).call(),
+            push(kind, deleted, 0, &[], Meta::default()).call(),
+            push(kind, twice, 1, &[(4, "")], claiming(Some(1))).call(),
+            push(kind, twice, 0, &[(2, "yes"), (1, "a\tb")], hidden).call(),
+            Call::Delete(kind as u8, deleted, claiming(Some(2))),
+        ]);
+    }
+    taken(&mut lent, &calls);
+    let used = lent.counts.map(|count| count as usize);
+    for kind in 0..3 {
+        let rest = if room { 60 } else { 0 };
+        lent.arenas[kind].truncate(used[3 + kind] + rest);
+        if !room {
+            lent.tables[kind].truncate(3 * used[kind]);
+        }
+    }
+    if !room {
+        lent.spans.truncate(2 * used[6]);
+        lent.bytes.truncate(used[7]);
+    }
+    lent
+}
+
+/// Small overlays: full, with room, and both in the other setting.
+fn small_overlays() -> [Storage; 4] {
+    let settings = [(false, 0), (true, 1 << 32), (false, 1), (true, 0)];
+    settings.map(|(room, setting)| small(room, setting))
+}
+
+/// Small overlays with a reader: fresh, in elements of each kind with parts, in a leaf, in a delete
+/// section, between elements, at the end, stopped.
+fn small_readers() -> Vec<Storage> {
+    let way = "open\tway\tid=-1\tversion=4\tuser=ka\nempty\tnd\tref=7\nempty\ttag\tk=k\tv=é\nempty\tnd\tref=-8\n";
+    let lists = [
+        String::new(),
+        "open\tosmChange\nopen\tcreate\nopen\tnode\tid=9\tlat7=5\tlon7=-6\nempty\ttag\tk=ka\tv=yes\n".into(),
+        format!("open\tosmChange\nopen\tmodify\n{way}"),
+        format!("open\tosmChange\nopen\tcreate\n{way}open\ttag\tk=ka\tv=\n"),
+        "open\tosmChange\nopen\tcreate\nopen\trelation\tid=3\nempty\tmember\ttype=way\tref=7\trole=k\nempty\ttag\tk=k\tv=b\n".into(),
+        "open\tosmChange\nopen\tdelete\nopen\tway\tid=-1\tversion=4\n".into(),
+        format!("open\tosmChange\nopen\tcreate\n{way}close\n"),
+        "open\tosmChange\nclose\n".into(),
+        "open\tosmChange\nopen\tmodify\nempty\tway\tid=1\tversion=1\n".into(),
+    ];
+    let make = |(n, lines): (usize, String)| {
+        let mut lent = small(n % 2 == 1, 0);
+        // Room for what the events bring.
+        lent.arenas.iter_mut().for_each(|arena| arena.resize(arena.len() + 150, 7));
+        lent.readers = vec![Lines::fresh(&mut Random::new(5))];
+        for line in lines.split_inclusive('\n') {
+            let event = Call::Event(0, line.into());
+            let number = Words::default().call(&mut lent, &event).number();
+            assert!(number == 0 || (n, number) == (8, 12), "{n} {number} {line}");
+        }
+        lent
+    };
+    lists.into_iter().enumerate().map(make).collect()
+}
+
+/// A small number, an end of a width, or any.
+fn any_word(random: &mut Random) -> u64 {
+    match random.below(4) {
+        0 => random.draw(),
+        1 => *random.pick(&[NO_FLOOR - 1, NO_FLOOR, DELETED - 1, DELETED, u64::MAX]),
+        _ => random.below(8) as u64,
+    }
+}
+
+/// A small storage of any elements, its counters mostly small.
+fn any_storage(random: &mut Random) -> Storage {
+    let mut words = |most: usize| -> Vec<u64> {
+        let len = random.below(most);
+        (0..len).map(|_| any_word(random)).collect()
+    };
+    let (tables, spans) = ([13; 3].map(&mut words), words(13));
+    let mut bytes = |most: usize| -> Vec<u8> {
+        let len = random.below(most);
+        (0..len).map(|_| any_word(random) as u8).collect()
+    };
+    let (arenas, bytes) = ([120; 3].map(&mut bytes), bytes(12));
+    let mut counts = [0; 9].map(|_: u64| match random.below(8) {
+        0 => any_word(random),
+        _ => random.below(3) as u64,
+    });
+    if random.once_in(2) {
+        counts[3..6].fill(0);
+    }
+    Storage { tables, arenas, spans, bytes, counts, readers: Vec::new() }
+}
+
+/// A word, a counter or a byte changed, a word of another place, or two rows exchanged.
+fn change_any(random: &mut Random, lent: &mut Storage) {
+    let (len, any) = (lent.words().count(), any_word(random));
+    let (from, to) = (random.below(len), random.below(len));
+    let other = *lent.words().nth(from).expect("a word");
+    match random.below(5) {
+        0 => *lent.words().nth(to).expect("a word") = other,
+        1 => *lent.words().nth(to).expect("a word") = any,
+        2 => lent.counts[random.below(9)] = any,
+        3 => {
+            let (table, row) = (random.below(3), 3 * random.below(2));
+            lent.tables[table][row..row + 6].rotate_left(3);
+        }
+        _ => {
+            let len = lent.bytes().count();
+            let byte = lent.bytes().nth(random.below(len)).expect("a byte");
+            *byte = *random.pick(&[0, 1, 255, byte.wrapping_add(1), byte.wrapping_sub(1)]);
+        }
+    }
 }

@@ -5,12 +5,8 @@ use std::collections::BTreeSet;
 
 use super::Compared;
 use super::both::Both;
-use super::overlay::{DirectPort, LARGE, PortState, Push, ROOMY};
-use super::records::parts;
-use super::storage::Head;
-use crate::answer::{
-    KINDS, Kind, MOST_MEMBERS, MOST_REFS, MOST_TAGS, MOST_VALUE_BYTES, Meta, Sizes,
-};
+use super::call::{Call, Head, Port, Push, claiming};
+use crate::answer::{KINDS, Kind, MOST_MEMBERS, MOST_REFS, MOST_TAGS, MOST_VALUE_BYTES, Meta, Sizes};
 use crate::osc::compact::JUDGE_HEADS;
 use crate::produce::Bytes;
 use crate::random::Random;
@@ -18,103 +14,58 @@ use crate::random::Random;
 /// Settings: 0 refuses regression, each other word allows it.
 const SETTINGS: [u64; 5] = [0, 1, 2, 1 << 32, u64::MAX];
 
-/// What is compared after calls.
-pub(super) type After<P> = fn(&mut Both<'_, P>) -> Result<(), String>;
+/// What is asked after calls: the reads, the listing, or nothing.
+pub type After = fn(&mut Both<'_>) -> Result<(), String>;
+
+/// Sizes that produced documents and short lists of calls rarely fill.
+pub const ROOMY: Sizes =
+    Sizes { ids: [64, 72, 80], arenas: [60_000, 64_000, 68_000], strings: 256, string_bytes: 16_384, output: 0 };
+
+/// Ids and arenas of the three kinds, strings, string bytes.
+fn sizes_of(numbers: [usize; 8]) -> Sizes {
+    let [node, way, relation, nodes, ways, relations, strings, string_bytes] = numbers;
+    Sizes { ids: [node, way, relation], arenas: [nodes, ways, relations], strings, string_bytes, output: 0 }
+}
 
 /// Sizes at and past their ends, two at a time; a refused set-up leaves the overlay as it was.
-pub fn set_ups(port: &mut dyn DirectPort) -> Compared {
-    set_ups_then(port, |both| both.state())
-}
-
-/// The ends of each size: ids and arenas of the three kinds, strings, string bytes.
-const ENDS: [&[usize]; 8] = [
-    &[0, 1, 2, 4_096, 4_097],
-    &[0, 1, 2, 4_096, 4_097],
-    &[0, 1, 2, 4_096, 4_097],
-    &[0, 1, 1_048_576, 1_048_577],
-    &[0, 1, 1_048_576, 1_048_577],
-    &[0, 1, 1_048_576, 1_048_577],
-    &[0, 1, 2, 4_096, 4_097],
-    &[0, 1, 65_536, 65_537],
-];
-
-fn sizes_of(numbers: [usize; 8]) -> Sizes {
-    let [node, way, relation, nodes, ways, relations, strings, bytes] = numbers;
-    Sizes {
-        ids: [node, way, relation],
-        arenas: [nodes, ways, relations],
-        strings,
-        string_bytes: bytes,
-        output: 0,
-    }
-}
-
-pub(super) fn set_ups_then<P: DirectPort + ?Sized>(port: &mut P, after: After<P>) -> Compared {
+pub fn set_ups(port: &dyn Port, after: After) -> Compared {
+    let (ids, arena) = ([0, 1, 2, 4_096, 4_097], [0, 1, 2, 1_048_576, 1_048_577]);
+    let ends = [ids, ids, ids, arena, arena, arena, ids, [0, 1, 2, 65_536, 65_537]];
     let good = [3, 4, 5, 200, 300, 400, 6, 50];
-    let mut all = vec![LARGE, sizes_of(good)];
-    for (a, ends) in ENDS.into_iter().enumerate() {
-        for (b, others) in ENDS.into_iter().enumerate().skip(a + 1) {
-            for &end in ends {
-                for &other in others {
+    let most = [4_096, 4_096, 4_096, 1 << 20, 1 << 20, 1 << 20, 4_096, 1 << 16];
+    let mut all = vec![most, good];
+    for (a, ends_of_a) in ends.into_iter().enumerate() {
+        for (b, ends_of_b) in ends.into_iter().enumerate().skip(a + 1) {
+            for end in ends_of_a {
+                for other in ends_of_b {
                     let mut numbers = good;
                     (numbers[a], numbers[b]) = (end, other);
-                    all.push(sizes_of(numbers));
+                    all.push(numbers);
                 }
             }
         }
     }
     let mut both = Both::new(port);
-    for (n, sizes) in all.iter().enumerate() {
+    for (n, sizes) in all.into_iter().enumerate() {
         both.set_up(&sizes_of(good), 0)?;
         both.intern(b"a")?;
-        both.set_up(sizes, SETTINGS[n % 5])?;
-        after(&mut both)?;
-        both.sound()?;
+        both.set_up(&sizes_of(sizes), SETTINGS[n % 5])?;
+        both.call(&Call::IsSound)?;
         both.intern(b"b")?;
-        both.push(&plain_push(KINDS[n % 3], 7, Some(1)))?;
+        both.push(&Push::plain(KINDS[n % 3], 7, claiming(Some(1))))?;
         after(&mut both)?;
     }
     both.tally.done()
 }
 
-/// Metadata that claims a version, or claims none.
-fn claiming(version: Option<i32>) -> Meta {
-    Meta {
-        flags: if version.is_some() { 9 } else { 0 },
-        version: version.unwrap_or(0),
-        ..Meta::default()
-    }
-}
-
-/// A push of nothing but an id and a version.
-fn plain_push(kind: Kind, id: i64, version: Option<i32>) -> Push {
-    Push {
-        kind,
-        id,
-        place: (0, 0),
-        refs: Vec::new(),
-        members: Vec::new(),
-        tags: Vec::new(),
-        meta: claiming(version),
-    }
-}
-
-/// A call of the short sequences.
-#[derive(Clone, Copy, Debug)]
-enum Step {
-    Push(Kind, i64, Option<i32>),
-    Delete(Kind, i64, Option<i32>),
-    Setting(u64),
-}
-
 /// Pushes and deletes of every kind, id and version given.
-fn steps(kinds: &[Kind], ids: &[i64], versions: &[Option<i32>]) -> Vec<Step> {
+fn steps(kinds: &[Kind], ids: &[i64], versions: &[Option<i32>]) -> Vec<Call> {
     let mut steps = Vec::new();
     for &kind in kinds {
         for &id in ids {
             for &version in versions {
-                steps.push(Step::Push(kind, id, version));
-                steps.push(Step::Delete(kind, id, version));
+                steps.push(Push::plain(kind, id, claiming(version)).call());
+                steps.push(Call::Delete(kind as u8, id, claiming(version)));
             }
         }
     }
@@ -124,100 +75,61 @@ fn steps(kinds: &[Kind], ids: &[i64], versions: &[Option<i32>]) -> Vec<Step> {
 /// Every sequence of direct calls up to `depth` on two ids of one kind and on one id of each kind, in
 /// both settings, with the setting changed in between; of one call less in sizes that are soon full, of
 /// one call more on one id.
-pub fn sequences<P: DirectPort + Clone>(port: &P, depth: usize) -> Compared {
-    sequences_then(port, depth, |both| {
-        both.state()?;
-        both.sound()
-    })
-}
-
-pub(super) fn sequences_then<P: DirectPort + Clone>(
-    port: &P,
-    depth: usize,
-    after: After<P>,
-) -> Compared {
+pub fn sequences(port: &dyn Port, depth: usize, after: After) -> Compared {
     // In OSM order -1 comes before -2.
     let ids = [-2, -1];
     let versions = [None, Some(1), Some(2), Some(3)];
     let roomy = sizes_of([2, 3, 4, 500, 600, 700, 1, 0]);
     // Ids of one node, two ways, one relation; two nodes, two ways and, but for a byte, two relations.
     let tight = sizes_of([1, 2, 1, 98, 90, 89, 1, 0]);
-    let settings = [Step::Setting(0), Step::Setting(u64::MAX)];
-    let mut port = port.clone();
-    let mut both = Both::new(&mut port);
+    let settings = [Call::Allow(0), Call::Allow(u64::MAX)];
     let shallow = depth.saturating_sub(1).max(2);
+    let mut lists = Vec::new();
     for kind in KINDS {
         let calls = steps(&[kind], &ids, &versions);
-        let with_settings = [&calls[..], &settings].concat();
-        both.set_up(&roomy, 0)?;
-        every_sequence(&mut both, &with_settings, depth, after)?;
-        both.set_up(&roomy, 1)?;
-        every_sequence(&mut both, &calls, depth, after)?;
-        both.set_up(&tight, 0)?;
-        every_sequence(&mut both, &calls, shallow, after)?;
+        lists.push((&roomy, 0, [&calls[..], &settings].concat(), depth));
+        lists.push((&roomy, 1, calls.clone(), depth));
+        lists.push((&tight, 0, calls, shallow));
     }
-    let calls = steps(&KINDS, &[5], &[None, Some(1), Some(2)]);
+    let calls = steps(&KINDS, &[5], &versions[..3]);
     for (sizes, setting, depth) in [(&roomy, 0, depth), (&roomy, 2, depth), (&tight, 0, shallow)] {
+        lists.push((sizes, setting, calls.clone(), depth));
+    }
+    let one_id = [&steps(&[Kind::Relation], &[9], &versions)[..], &settings].concat();
+    lists.push((&roomy, 0, one_id, depth + 1));
+    let mut both = Both::new(port);
+    for (sizes, setting, calls, depth) in lists {
         both.set_up(sizes, setting)?;
         every_sequence(&mut both, &calls, depth, after)?;
     }
-    let one_id = [&steps(&[Kind::Relation], &[9], &versions)[..], &settings].concat();
-    both.set_up(&roomy, 0)?;
-    every_sequence(&mut both, &one_id, depth + 1, after)?;
     both.tally.done()
 }
 
 /// Every sequence up to `depth` from here on; both sides come back to here after each.
-fn every_sequence<P: DirectPort + Clone>(
-    both: &mut Both<'_, P>,
-    steps: &[Step],
-    depth: usize,
-    after: After<P>,
-) -> Result<(), String> {
-    for &step in steps {
-        let here = (both.judge.clone(), both.port.clone());
-        match step {
-            Step::Push(kind, id, version) => both.push(&plain_push(kind, id, version))?,
-            Step::Delete(kind, id, version) => both.delete(kind as u8, id, &claiming(version))?,
-            Step::Setting(setting) => both.setting(setting).map(|()| 0)?,
-        };
+fn every_sequence(both: &mut Both<'_>, calls: &[Call], depth: usize, after: After) -> Result<(), String> {
+    for call in calls {
+        let here = both.here();
+        both.call(call)?;
         after(both)?;
         if depth > 1 {
-            every_sequence(both, steps, depth - 1, after)?;
+            every_sequence(both, calls, depth - 1, after)?;
         }
-        both.log.pop();
-        (both.judge, *both.port) = here;
+        both.back(here);
     }
     Ok(())
 }
 
 /// Lists of direct calls at random, good and bad, on few ids, in roomy and in small sizes.
-pub fn calls(port: &mut dyn DirectPort, seed: u64, rounds: u64) -> Compared {
-    call_lists(port, seed, rounds, |both| both.state())
-}
-
-pub(super) fn call_lists<P: DirectPort + ?Sized>(
-    port: &mut P,
-    seed: u64,
-    rounds: u64,
-    after: After<P>,
-) -> Compared {
+pub fn calls(port: &dyn Port, seed: u64, rounds: u64, after: After) -> Compared {
     let mut both = Both::new(port);
     let mut random = Random::new(seed);
-    for n in 0..800 * rounds {
-        let sizes = if n % 4 == 3 {
-            small_sizes(&mut random)
-        } else {
-            ROOMY
-        };
-        both.set_up(&sizes, *random.pick(&SETTINGS[..2]))?;
+    for n in 0..500 * rounds {
+        both.set_up(&some_sizes(&mut random, n), *random.pick(&SETTINGS[..2]))?;
         for _ in 0..1 + random.below(60) {
             random_call(&mut both, &mut random)?;
-            if random.once_in(12) {
+            if random.once_in(20) {
                 after(&mut both)?;
-                both.sound()?;
-            } else {
-                both.state()?;
+                both.call(&Call::IsSound)?;
             }
         }
         after(&mut both)?;
@@ -227,17 +139,24 @@ pub(super) fn call_lists<P: DirectPort + ?Sized>(
 
 /// Long lists of direct calls at random, on several hundred ids of each kind, with tags, refs, members
 /// and users, in sizes that fill towards the end. Every refusal of a direct call must occur.
-pub fn long_lists(port: &mut dyn DirectPort, seed: u64, rounds: u64) -> Compared {
+pub fn long_lists(port: &dyn Port, seed: u64, rounds: u64, after: After) -> Compared {
     let mut both = Both::new(port);
     let mut random = Random::new(seed);
     let mut numbers = BTreeSet::new();
     for n in 0..4 * rounds {
-        both.set_up(&long_sizes(&mut random), SETTINGS[usize::from(n % 4 == 3)])?;
+        let mut near = |n: usize| n + random.below(n / 2);
+        let ids = [near(240), near(240), near(240)];
+        let arenas = [near(24_000), near(24_000), near(24_000)];
+        let (strings, string_bytes) = (near(40), near(600));
+        let sizes = Sizes { ids, arenas, strings, string_bytes, output: 0 };
+        both.set_up(&sizes, SETTINGS[usize::from(n % 4 == 3)])?;
         for call in 0..1_500 {
             numbers.insert(long_call(&mut both, &mut random, call)?);
-            both.state()?;
+            if call % 150 == 149 {
+                after(&mut both)?;
+            }
         }
-        both.sound()?;
+        both.call(&Call::IsSound)?;
     }
     let direct = [0, 3, 10, 12, 13, 14, 15, 16, 17];
     let missing = direct.iter().find(|n| !numbers.contains(n));
@@ -245,28 +164,9 @@ pub fn long_lists(port: &mut dyn DirectPort, seed: u64, rounds: u64) -> Compared
     both.tally.done()
 }
 
-/// Sizes of a long list: each kind's ids, arenas and the strings are full at some time.
-pub(super) fn long_sizes(random: &mut Random) -> Sizes {
-    let mut near = |n: usize| n + random.below(n / 2);
-    sizes_of([
-        near(240),
-        near(240),
-        near(240),
-        near(24_000),
-        near(24_000),
-        near(24_000),
-        near(40),
-        near(600),
-    ])
-}
-
 /// The `n`-th call of a long list: versions rise with it, ids come from some hundreds.
-pub(super) fn long_call<P: DirectPort + ?Sized>(
-    both: &mut Both<'_, P>,
-    random: &mut Random,
-    n: usize,
-) -> Result<u32, String> {
-    let texts = both.judge.texts();
+fn long_call(both: &mut Both<'_>, random: &mut Random, n: usize) -> Result<u32, String> {
+    let texts = both.rust.texts() as usize;
     let id = random.below(441) as i64 - 220;
     let mut meta = any_meta(random, texts);
     if meta.flags & 8 != 0 && !random.once_in(40) {
@@ -274,113 +174,90 @@ pub(super) fn long_call<P: DirectPort + ?Sized>(
     }
     match random.below(40) {
         0..=2 => both.intern(&any_text(random)),
-        3 => {
-            both.setting(*random.pick(&SETTINGS))?;
-            Ok(0)
-        }
-        4..=11 => both.delete(random.below(3) as u8, id, &meta),
+        3 => both.call(&Call::Allow(*random.pick(&SETTINGS))),
+        4..=11 => both.call(&Call::Delete(random.below(3) as u8, id, meta)),
         _ => {
-            let push = Push {
-                id,
-                meta,
-                ..any_push(random, texts)
-            };
-            both.push(&push)
+            let push = any_push(random, texts);
+            both.push(&Push { id, meta, ..push })
         }
     }
 }
 
-/// Small sizes, in which lists of calls meet 13, 14 and 15.
-pub(super) fn small_sizes(random: &mut Random) -> Sizes {
-    let mut ids = || 1 + random.below(6);
-    let ids = [ids(), ids(), ids()];
-    let mut arena = || random.below(600);
+/// Roomy sizes; at each fourth number small ones, in which lists of calls meet 13, 14 and 15.
+pub(super) fn some_sizes(random: &mut Random, n: u64) -> Sizes {
+    if n % 4 != 3 {
+        return ROOMY;
+    }
+    let mut below = |n: usize| random.below(n);
     Sizes {
-        ids,
-        arenas: [arena(), arena(), arena()],
-        strings: 1 + random.below(8),
-        string_bytes: random.below(60),
+        ids: [1 + below(6), 1 + below(6), 1 + below(6)],
+        arenas: [below(600), below(600), below(600)],
+        strings: 1 + below(8),
+        string_bytes: below(60),
         output: 0,
     }
 }
 
 /// Sizes that hold a state, with nothing left, with room for one record without parts, or with more.
-fn other_sizes(random: &mut Random, state: &PortState) -> Sizes {
+fn other_sizes(both: &Both<'_>, random: &mut Random) -> Sizes {
+    let state = both.rust.overlay.state();
     let mut more = |used: usize, rest: &[usize], most: usize| (used + random.pick(rest)).min(most);
-    let mut sizes = LARGE;
+    let mut sizes = ROOMY;
     for (k, kind) in state.kinds.iter().enumerate() {
         let known = kind.live.len() + kind.deleted.len();
-        sizes.ids[k] = more(known, &[0, 1, 2, 40], sizes.ids[k]).max(1);
+        sizes.ids[k] = more(known, &[0, 1, 2, 40], 4_096).max(1);
         let rest = [0, 44, 45, 48, 49, 60, 30_000];
-        sizes.arenas[k] = more(kind.arena.len(), &rest, sizes.arenas[k]);
+        sizes.arenas[k] = more(kind.arena.len(), &rest, 1 << 20);
     }
-    sizes.strings = more(state.texts.len(), &[0, 1, 40], sizes.strings);
-    sizes.string_bytes = more(
-        state.string_bytes.len(),
-        &[0, 1, 4, 400],
-        sizes.string_bytes,
-    );
+    sizes.strings = more(state.texts.len(), &[0, 1, 40], 4_096);
+    sizes.string_bytes = more(state.string_bytes.len(), &[0, 1, 4, 400], 1 << 16);
     sizes
 }
 
 /// One direct call at random.
-pub(super) fn random_call<P: DirectPort + ?Sized>(
-    both: &mut Both<'_, P>,
-    random: &mut Random,
-) -> Result<(), String> {
-    let texts = both.judge.texts();
+pub(super) fn random_call(both: &mut Both<'_>, random: &mut Random) -> Result<u32, String> {
+    let texts = both.rust.texts() as usize;
+    let kind = match random.below(60) {
+        0 => random.draw() as u8,
+        _ => random.below(3) as u8,
+    };
     match random.below(40) {
-        0..=11 => both.intern(&any_text(random)).map(drop),
-        12 => both.setting(*random.pick(&SETTINGS)),
+        0..=11 => both.intern(&any_text(random)),
+        12 => both.call(&Call::Allow(*random.pick(&SETTINGS))),
         13 if random.once_in(4) => {
-            let sizes = other_sizes(random, &both.judge.state());
+            let sizes = other_sizes(both, random);
             both.lend(&sizes);
-            Ok(())
+            Ok(0)
         }
         13..=19 => {
-            let kind = any_kind(random);
             let id = random.below(9) as i64 - 4;
-            both.delete(kind, id, &any_meta(random, texts)).map(drop)
+            both.call(&Call::Delete(kind, id, any_meta(random, texts)))
         }
         _ => {
             let push = any_push(random, texts);
-            let (mut kind, mut head, mut parts) = (push.kind as u8, push.head(), parts(&push));
+            let (mut kind, mut head, mut parts) = (push.kind as u8, push.head(), push.parts());
+            let count = *random.pick(&[1, 2, u32::MAX, 1 << 29, 1 << 30, 1 << 31]);
             match random.below(160) {
                 0 => kind = random.draw() as u8,
                 1 => parts.truncate(random.below(parts.len() + 1)),
                 2 => parts.push(random.draw() as u8),
-                3 => head.tags = head.tags.wrapping_add(any_count(random)),
-                4 => head.count = head.count.wrapping_add(any_count(random)),
+                3 => head.tags = head.tags.wrapping_add(count),
+                4 => head.count = head.count.wrapping_add(count),
                 5 if !parts.is_empty() => {
                     let at = random.below(parts.len());
                     parts[at] = random.draw() as u8;
                 }
                 _ => {}
             }
-            both.push_parts(kind, head, &push.meta, &parts).map(drop)
+            both.call(&Call::Push(kind, head, push.meta, parts))
         }
     }
 }
 
-/// A kind's number, at times one that means none.
-fn any_kind(random: &mut Random) -> u8 {
-    if random.once_in(60) {
-        random.draw() as u8
-    } else {
-        random.below(3) as u8
-    }
-}
-
-fn any_count(random: &mut Random) -> u32 {
-    *random.pick(&[1, 2, u32::MAX, 1 << 29, 1 << 30, 1 << 31])
-}
-
 fn any_text(random: &mut Random) -> Bytes {
+    let texts = ["", "a", "b", "name", "é", "x\ty"];
     match random.below(3) {
-        0 => random
-            .pick(&["", "a", "b", "name", "é", "x\ty"])
-            .as_bytes()
-            .to_vec(),
+        0 => random.pick(&texts).as_bytes().to_vec(),
         1 => format!("t{}", random.below(40)).into_bytes(),
         _ => super::ground::random_text(random),
     }
@@ -399,7 +276,7 @@ fn any_meta(random: &mut Random, texts: usize) -> Meta {
     if random.once_in(4) {
         return meta;
     }
-    meta.flags = 1;
+    meta.flags = if random.once_in(5) { 3 } else { 1 };
     if !random.once_in(3) {
         meta.flags |= 8;
         meta.version = match random.below(20) {
@@ -412,22 +289,14 @@ fn any_meta(random: &mut Random, texts: usize) -> Meta {
         meta.flags |= 4;
         meta.user = any_handle(random, texts);
     }
-    if random.once_in(5) {
-        meta.flags |= 2;
-    }
     if random.once_in(2) {
-        meta.timestamp = random.id();
-        meta.changeset = random.id();
+        (meta.timestamp, meta.changeset) = (random.id(), random.id());
         meta.uid = random.id() as i32;
     }
     if random.once_in(25) {
         // Flags and fields that do not go together.
-        match random.below(4) {
-            0 => meta.flags = random.draw() as u8,
-            1 => meta.flags &= !1,
-            2 => meta.flags &= !8,
-            _ => meta.flags &= !4,
-        }
+        meta.flags &= *random.pick(&[!1, !8, !4]);
+        meta.flags |= *random.pick(&[0, 2, 16, 128]);
     }
     meta
 }
@@ -435,18 +304,12 @@ fn any_meta(random: &mut Random, texts: usize) -> Meta {
 fn any_push(random: &mut Random, texts: usize) -> Push {
     let kind = *random.pick(&KINDS);
     let many = random.once_in(150);
-    let mut push = Push {
-        kind,
-        id: if random.once_in(10) {
-            random.id()
-        } else {
-            random.below(9) as i64 - 4
-        },
-        place: (0, 0),
-        refs: Vec::new(),
-        members: Vec::new(),
-        tags: Vec::new(),
-        meta: any_meta(random, texts),
+    let near = random.below(9) as i64 - 4;
+    let id = if random.once_in(10) { random.id() } else { near };
+    let mut push = Push::plain(kind, id, any_meta(random, texts));
+    let count = match many {
+        true => 1_999 + random.below(4),
+        false => random.below(5),
     };
     match kind {
         Kind::Node => {
@@ -460,55 +323,30 @@ fn any_push(random: &mut Random, texts: usize) -> Push {
             };
             push.place = (coordinate(900_000_000), coordinate(1_800_000_000));
         }
-        Kind::Way => {
-            let count = if many {
-                1_999 + random.below(4)
-            } else {
-                random.below(5)
-            };
-            push.refs = (0..count).map(|_| random.id()).collect();
-        }
+        Kind::Way => push.refs = (0..count).map(|_| random.id()).collect(),
         Kind::Relation => {
-            let count = if many {
-                1_999 + random.below(4)
-            } else {
-                random.below(5)
-            };
             for _ in 0..count {
-                let byte = if random.once_in(2_000) {
-                    3
-                } else {
-                    random.below(3) as u8
-                };
-                let role = random.below(texts) as u32;
-                push.members.push((random.id(), byte, role));
+                let byte = if random.once_in(2_000) { 3 } else { random.below(3) as u8 };
+                push.members.push((random.id(), byte, random.below(texts) as u32));
             }
         }
     }
-    let count = if many && random.once_in(2) {
-        255 + random.below(4)
-    } else {
-        random.below(4)
+    let tags = match many && random.once_in(2) {
+        true => 255 + random.below(4),
+        false => random.below(4),
     };
-    for _ in 0..count {
+    for _ in 0..tags {
+        let values = ["", "yes", "no", "7.5", "a\tb\\c\r\n", "Straße", "🚚"];
         let value = match random.below(40) {
             0 => super::ground::random_text(random),
             1 if many => vec![b'v'; 16_380 + random.below(8)],
-            _ => any_value(random),
+            _ => random.pick(&values).as_bytes().to_vec(),
         };
-        let key = if count > 10 {
-            random.below(texts) as u32
-        } else {
-            any_handle(random, texts)
-        };
+        let held = random.below(texts) as u32;
+        let key = if tags > 10 { held } else { any_handle(random, texts) };
         push.tags.push((key, value));
     }
     push
-}
-
-fn any_value(random: &mut Random) -> Bytes {
-    let value = *random.pick(&["", "yes", "no", "7.5", "a\tb\\c\r\n", "Straße", "🚚"]);
-    value.as_bytes().to_vec()
 }
 
 /// A push changed in one way.
@@ -531,40 +369,26 @@ const METAS: [Change; 13] = [
     |p| (p.meta.timestamp, p.meta.changeset, p.meta.uid) = (-1, i64::MIN, -1),
 ];
 
-/// 17 in members and tags.
-const HANDLES: [Change; 6] = [
+/// 17 in metadata, members and tags; 10 at the limits and past them.
+const PARTS: [Change; 11] = [
     |_| {},
-    |p| set_last(&mut p.tags, |tag| tag.0 = 2),
-    |p| set_last(&mut p.tags, |tag| tag.0 = u32::MAX),
-    |p| set_last(&mut p.members, |member| member.1 = 3),
-    |p| set_last(&mut p.members, |member| member.2 = 2),
-    |p| set_last(&mut p.members, |member| member.2 = 1),
-];
-
-fn set_last<T>(list: &mut [T], change: impl FnOnce(&mut T)) {
-    if let Some(last) = list.last_mut() {
-        change(last);
-    }
-}
-
-/// 3 in a tag value.
-const TEXTS: [Change; 3] = [
-    |_| {},
-    |p| set_last(&mut p.tags, |tag| tag.1.push(0xff)),
-    |p| {
-        set_last(&mut p.tags, |tag| {
-            tag.1.extend("\u{ffff}".as_bytes());
-        });
-    },
-];
-
-/// 10, at the limits and past them.
-const PLACES: [Change; 5] = [
-    |_| {},
+    |p| p.meta.flags |= 16,
+    |p| p.tags.iter_mut().for_each(|tag| tag.0 = 2),
+    |p| p.tags.iter_mut().for_each(|tag| tag.0 = u32::MAX),
+    |p| p.members.iter_mut().for_each(|member| member.1 = 3),
+    |p| p.members.iter_mut().for_each(|member| member.2 = 2),
+    |p| p.members.iter_mut().for_each(|member| member.2 = 1),
     |p| p.place = (900_000_000, -1_800_000_000),
     |p| p.place = (900_000_001, 0),
     |p| p.place = (0, -1_800_000_001),
     |p| p.place = (i32::MIN, i32::MIN),
+];
+
+/// 3 in a tag value.
+const TEXTS: [Change; 3] = [
+    |_| {},
+    |p| p.tags.iter_mut().for_each(|tag| tag.1.push(0xff)),
+    |p| p.tags.iter_mut().for_each(|tag| tag.1.extend("\u{ffff}".as_bytes())),
 ];
 
 /// 16, at the limits and past them.
@@ -588,117 +412,58 @@ fn with_parts(push: &mut Push, count: usize) {
     }
 }
 
-/// The order of the checks. Pushes that meet any choice of 17, 3, 10 and 16, with an id that is known
-/// at a higher version or new, where ids are full or not, in an arena that is exactly long enough or one
+/// The order of the checks: pushes that meet any choice of 17, 3, 10 and 16, of an id that is known at
+/// a higher version or new, where ids are full or not, in an arena that is exactly long enough or one
 /// byte short; deletes and texts likewise.
-pub fn orders(port: &mut dyn DirectPort) -> Compared {
+pub fn orders(port: &dyn Port) -> Compared {
     let mut both = Both::new(port);
-    texts_in_full_storage(&mut both)?;
-    for kind in KINDS {
-        for change in METAS {
-            let mut push = plain_push(kind, 1, Some(4));
-            change(&mut push);
-            deleted_in_full_storage(&mut both, &push)?;
+    for text in [&b""[..], b"k", b"kk", b"new", b"\x01", b"k\xff", "\u{fffe}".as_bytes()] {
+        for strings in [2, 3, 4] {
+            for string_bytes in 1..6 {
+                both.set_up(&sizes_of([1, 1, 1, 9, 9, 9, strings, string_bytes]), 0)?;
+                for text in [b"k", text, b"z", text] {
+                    both.intern(text)?;
+                }
+            }
         }
     }
-    for many in MANY {
-        for text in TEXTS {
-            for kind in KINDS {
-                for change in METAS.into_iter().chain(HANDLES) {
-                    pushed_as(&mut both, kind, &[many, change, text])?;
-                }
+    for kind in KINDS {
+        for change in METAS {
+            let mut push = Push::plain(kind, 1, claiming(Some(4)));
+            change(&mut push);
+            in_full_storage(&mut both, &push, |id| Call::Delete(kind as u8, id, push.meta))?;
+        }
+        let metas = METAS.into_iter().map(|change| vec![MANY[0], change]);
+        let crossed = MANY.into_iter().flat_map(|many| {
+            let texts = move |text| PARTS.map(|change| vec![many, change, text]);
+            TEXTS.into_iter().flat_map(texts)
+        });
+        for changes in metas.chain(crossed) {
+            let mut push = Push::plain(kind, 1, claiming(Some(4)));
+            with_parts(&mut push, 1);
+            for change in changes {
+                change(&mut push);
             }
-            for place in PLACES {
-                for change in &METAS[..2] {
-                    pushed_as(&mut both, Kind::Node, &[many, *change, text, place])?;
-                }
-            }
+            let call = |id| Push { id, ..push.clone() }.call();
+            in_full_storage(&mut both, &push, call)?;
         }
     }
     both.tally.done()
 }
 
-/// A push with these changes, into an overlay that is full or not.
-fn pushed_as(
-    both: &mut Both<'_, dyn DirectPort + '_>,
-    kind: Kind,
-    changes: &[Change],
-) -> Result<(), String> {
-    let mut push = plain_push(kind, 1, Some(4));
-    with_parts(&mut push, 1);
-    for change in changes {
-        change(&mut push);
-    }
-    in_full_storage(both, &push)
-}
-
-/// Sizes of one kind, with two strings of one byte; the other kinds have room.
-fn sizes_for(kind: Kind, ids: usize, arena: usize) -> Sizes {
-    let mut sizes = sizes_of([3, 3, 3, 900, 900, 900, 2, 1]);
-    sizes.ids[kind as usize] = ids;
-    sizes.arenas[kind as usize] = arena;
-    sizes
-}
-
-/// A push to an overlay that holds text 1, and id 1 at version 5.
-fn in_full_storage(both: &mut Both<'_, dyn DirectPort + '_>, push: &Push) -> Result<(), String> {
-    let first = JUDGE_HEADS[push.kind as usize];
-    let end = 2 * first + parts(push).len();
+/// A call on an overlay that holds text 1, and id 1 at version 5, where a push fits or not.
+fn in_full_storage(both: &mut Both<'_>, push: &Push, call: impl Fn(i64) -> Call) -> Result<(), String> {
+    let kind = push.kind as usize;
+    let end = 2 * JUDGE_HEADS[kind] + push.parts().len();
     for (id, setting) in [(1, 0), (1, 1), (2, 0)] {
         for ids in [1, 2] {
             for arena in [end, end - 1] {
-                both.set_up(&sizes_for(push.kind, ids, arena), setting)?;
+                let mut sizes = sizes_of([3, 3, 3, 9, 9, 9, 2, 1]);
+                (sizes.ids[kind], sizes.arenas[kind]) = (ids, arena);
+                both.set_up(&sizes, setting)?;
                 both.intern(b"k")?;
-                both.push(&plain_push(push.kind, 1, Some(5)))?;
-                both.push(&Push { id, ..push.clone() })?;
-                both.state()?;
-            }
-        }
-    }
-    Ok(())
-}
-
-/// A delete from the same overlay.
-fn deleted_in_full_storage(
-    both: &mut Both<'_, dyn DirectPort + '_>,
-    push: &Push,
-) -> Result<(), String> {
-    let kind = push.kind;
-    for (id, setting) in [(1, 0), (1, 1), (2, 0)] {
-        for ids in [1, 2] {
-            both.set_up(&sizes_for(kind, ids, 100), setting)?;
-            both.intern(b"k")?;
-            both.push(&plain_push(kind, 1, Some(5)))?;
-            both.delete(kind as u8, id, &push.meta)?;
-            both.state()?;
-        }
-    }
-    Ok(())
-}
-
-/// Texts that are held, new, or no text, where strings or string bytes are full or not.
-fn texts_in_full_storage(both: &mut Both<'_, dyn DirectPort + '_>) -> Result<(), String> {
-    let texts: [&[u8]; 7] = [
-        b"",
-        b"k",
-        b"kk",
-        b"new",
-        b"\x01",
-        b"k\xff",
-        "\u{fffe}".as_bytes(),
-    ];
-    for text in texts {
-        for strings in [2, 3, 4] {
-            for string_bytes in 1..6 {
-                let mut sizes = sizes_for(Kind::Way, 1, 100);
-                (sizes.strings, sizes.string_bytes) = (strings, string_bytes);
-                both.set_up(&sizes, 0)?;
-                both.intern(b"k")?;
-                both.intern(text)?;
-                both.state()?;
-                both.intern(b"z")?;
-                both.intern(text)?;
-                both.state()?;
+                both.push(&Push::plain(push.kind, 1, claiming(Some(5))))?;
+                both.call(&call(id))?;
             }
         }
     }
@@ -707,69 +472,39 @@ fn texts_in_full_storage(both: &mut Both<'_, dyn DirectPort + '_>) -> Result<(),
 
 /// Parts cut short at every length, longer than counted, damaged at each byte; counts that are not the
 /// parts', near 2^32 too; every number of a kind.
-pub fn parts_not_as_counted(port: &mut dyn DirectPort) -> Compared {
+pub fn parts_not_as_counted(port: &dyn Port) -> Compared {
     let mut both = Both::new(port);
     for kind in KINDS {
-        let mut push = plain_push(kind, 9, None);
+        let mut push = Push::plain(kind, 9, Meta::default());
         with_parts(&mut push, 2);
         push.tags = vec![(1, b"yes".to_vec()), (0, "Straße".as_bytes().to_vec())];
-        let (head, whole) = (push.head(), parts(&push));
-        let mut given = vec![(kind as u8, head, whole.clone())];
+        let (number, head, whole) = (kind as u8, push.head(), push.parts());
+        let mut given: Vec<(u8, Head, Bytes)> = (0..=255).map(|n| (n, head, whole.clone())).collect();
         for len in 0..whole.len() {
-            given.push((kind as u8, head, whole[..len].to_vec()));
+            given.push((number, head, whole[..len].to_vec()));
+            for byte in [0, 1, 2, 3, 0x7f, 0x80, 0xff] {
+                let mut damaged = whole.clone();
+                damaged[len] = byte;
+                given.push((number, head, damaged));
+            }
         }
         for more in [1, 4, 8, 12, 13, 24] {
             for byte in [0, 1, 0xff] {
-                let longer = [&whole[..], &vec![byte; more]].concat();
-                given.push((kind as u8, head, longer));
-            }
-        }
-        for at in 0..whole.len() {
-            for byte in [0, 1, 2, 3, 0x7f, 0x80, 0xff] {
-                let mut damaged = whole.clone();
-                damaged[at] = byte;
-                given.push((kind as u8, head, damaged));
+                given.push((number, head, [&whole[..], &vec![byte; more]].concat()));
             }
         }
         for count in counts(2) {
-            given.push((kind as u8, Head { count, ..head }, whole.clone()));
-            given.push((
-                kind as u8,
-                Head {
-                    tags: count,
-                    ..head
-                },
-                whole.clone(),
-            ));
-            given.push((
-                kind as u8,
-                Head {
-                    count,
-                    tags: 0,
-                    ..head
-                },
-                Vec::new(),
-            ));
-            given.push((
-                kind as u8,
-                Head {
-                    tags: count,
-                    count: 0,
-                    ..head
-                },
-                Vec::new(),
-            ));
+            let tags = count;
+            given.push((number, Head { count, ..head }, whole.clone()));
+            given.push((number, Head { tags, ..head }, whole.clone()));
+            given.push((number, Head { count, tags: 0, ..head }, Vec::new()));
+            given.push((number, Head { tags, count: 0, ..head }, Vec::new()));
         }
-        for number in 0..=255 {
-            given.push((number, head, whole.clone()));
-        }
-        for (kind, head, parts) in &given {
+        for (kind, head, parts) in given {
             both.set_up(&sizes_of([2, 3, 4, 210, 220, 230, 2, 1]), 0)?;
             both.intern(b"k")?;
-            both.push_parts(*kind, *head, &push.meta, parts)?;
-            both.state()?;
-            both.delete(*kind, head.id, &push.meta)?;
-            both.state()?;
+            both.call(&Call::Push(kind, head, push.meta, parts))?;
+            both.call(&Call::Delete(kind, head.id, push.meta))?;
         }
     }
     both.tally.done()

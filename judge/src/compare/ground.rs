@@ -84,6 +84,17 @@ impl Ground for Judge {
     }
 }
 
+/// One call on both sides.
+macro_rules! compare {
+    ($tally:expr, $port:expr, $call:ident($($arg:expr),*)) => {
+        $tally.same(
+            || format!(concat!(stringify!($call), " {:?}"), ($($arg,)*)),
+            Judge.$call($($arg),*),
+            $port.$call($($arg),*),
+        )
+    };
+}
+
 /// Ids around 0, the powers of two and the ends of the width.
 pub fn edge_ids() -> Vec<i64> {
     let mut ids: Vec<i64> = (-40..=40).collect();
@@ -121,59 +132,21 @@ pub fn ids(port: &dyn Ground, seed: u64, rounds: u64) -> Compared {
 }
 
 fn one_id(tally: &mut Tally, port: &dyn Ground, id: i64) -> Result<(), String> {
-    tally.same(
-        || format!("osm_id_key {id}"),
-        Judge.osm_id_key(id),
-        port.osm_id_key(id),
-    )?;
-    tally.same(
-        || format!("osm_id_rank {id}"),
-        Judge.osm_id_rank(id),
-        port.osm_id_rank(id),
-    )
+    compare!(tally, port, osm_id_key(id))?;
+    compare!(tally, port, osm_id_rank(id))
 }
 
+/// Both ways round: the ends of a range may come the wrong way round.
 fn two_ids(tally: &mut Tally, port: &dyn Ground, a: i64, b: i64) -> Result<(), String> {
-    let order = Judge.osm_id_cmp(a, b);
-    tally.same(
-        || format!("osm_id_cmp {a} {b}"),
-        order,
-        port.osm_id_cmp(a, b),
-    )?;
-    let by_rank = match port.osm_id_rank(a).cmp(&port.osm_id_rank(b)) {
-        std::cmp::Ordering::Less => 0,
-        std::cmp::Ordering::Equal => 1,
-        std::cmp::Ordering::Greater => 2,
-    };
-    tally.same(
-        || format!("the order of the ranks of {a} {b}"),
-        order,
-        by_rank,
-    )?;
-    // Both ways round: the ends of a range may come the wrong way round.
-    tally.same(
-        || format!("blob_osm_first_key {a} {b}"),
-        Judge.blob_osm_first_key(a, b),
-        port.blob_osm_first_key(a, b),
-    )?;
-    tally.same(
-        || format!("blob_osm_last_key {a} {b}"),
-        Judge.blob_osm_last_key(a, b),
-        port.blob_osm_last_key(a, b),
-    )
+    compare!(tally, port, osm_id_cmp(a, b))?;
+    compare!(tally, port, blob_osm_first_key(a, b))?;
+    compare!(tally, port, blob_osm_last_key(a, b))
 }
 
 /// Version words: edges of the width, and several words for none.
 pub fn edge_versions() -> Vec<u64> {
     let mut words: Vec<u64> = vec![NONE, NONE + 1, NONE + 5, 1 << 33, 1 << 63, u64::MAX];
-    for v in (-3..=3).chain([
-        i32::MAX - 1,
-        i32::MAX,
-        i32::MIN,
-        i32::MIN + 1,
-        12,
-        1_000_000,
-    ]) {
+    for v in (-3..=3).chain([i32::MAX - 1, i32::MAX, i32::MIN, i32::MIN + 1, 12, 1_000_000]) {
         words.push(word(Some(v)));
     }
     words
@@ -200,38 +173,15 @@ pub fn versions(port: &dyn Ground, seed: u64, rounds: u64) -> Compared {
     tally.done()
 }
 
-fn two_versions(
-    tally: &mut Tally,
-    port: &dyn Ground,
-    floor: u64,
-    claim: u64,
-) -> Result<(), String> {
-    let what = |call: &str| format!("{call} {:?} {:?}", version(floor), version(claim));
-    tally.same(
-        || what("version_admit"),
-        Judge.version_admit(floor, claim),
-        port.version_admit(floor, claim),
-    )?;
-    // A floor that is none and stays none comes back as exactly 2^32.
-    tally.same(
-        || what("version_raise"),
-        Judge.version_raise(floor, claim),
-        port.version_raise(floor, claim),
-    )
+/// A floor that is none and stays none comes back as exactly 2^32.
+fn two_versions(tally: &mut Tally, port: &dyn Ground, floor: u64, claim: u64) -> Result<(), String> {
+    compare!(tally, port, version_admit(floor, claim))?;
+    compare!(tally, port, version_raise(floor, claim))
 }
 
 fn one_integer(tally: &mut Tally, port: &dyn Ground, s: &[u8]) -> Result<(), String> {
-    let text = || String::from_utf8_lossy(s).into_owned();
-    tally.same(
-        || format!("read_i64 {:?}", text()),
-        Judge.read_i64(s),
-        port.read_i64(s),
-    )?;
-    tally.same(
-        || format!("read_i32 {:?}", text()),
-        Judge.read_i32(s),
-        port.read_i32(s),
-    )
+    compare!(tally, port, read_i64(s))?;
+    compare!(tally, port, read_i32(s))
 }
 
 /// All strings over `symbols` up to a length, the empty one too.
@@ -312,9 +262,7 @@ pub fn edge_integers() -> Vec<Vec<u8>> {
 pub fn integers(port: &dyn Ground, seed: u64, rounds: u64) -> Compared {
     let mut tally = Tally::new();
     strings_over(b"+-0179 a", 6, &mut |s| one_integer(&mut tally, port, s))?;
-    strings_over(b"+-05/:\0\xb9", 4, &mut |s| {
-        one_integer(&mut tally, port, s)
-    })?;
+    strings_over(b"+-05/:\0\xb9", 4, &mut |s| one_integer(&mut tally, port, s))?;
     let all: Vec<u8> = (0..=255).collect();
     strings_over(&all, 2, &mut |s| one_integer(&mut tally, port, s))?;
     for s in edge_integers() {
@@ -358,11 +306,7 @@ pub fn random_integer(random: &mut Random) -> Vec<u8> {
 }
 
 fn one_stamp(tally: &mut Tally, port: &dyn Ground, s: &[u8]) -> Result<(), String> {
-    tally.same(
-        || format!("parse_rfc3339_utc {:?}", String::from_utf8_lossy(s)),
-        Judge.stamp(s),
-        port.stamp(s),
-    )
+    compare!(tally, port, stamp(s))
 }
 
 /// Two-character fields, of digits and with signs.
@@ -424,13 +368,8 @@ pub fn stamps(port: &dyn Ground, seed: u64, rounds: u64) -> Compared {
             }
         }
     }
-    let mut each = |year: &str, date: &str, time: &str| {
-        one_stamp(
-            &mut tally,
-            port,
-            format!("{year}-{date}T{time}Z").as_bytes(),
-        )
-    };
+    let mut each =
+        |year: &str, date: &str, time: &str| one_stamp(&mut tally, port, format!("{year}-{date}T{time}Z").as_bytes());
     // Every year, with and without signs, at its February and its ends.
     let mut years: Vec<String> = (0..=9_999).map(|y| format!("{y:04}")).collect();
     for y in 0..=999 {
@@ -445,8 +384,8 @@ pub fn stamps(port: &dyn Ground, seed: u64, rounds: u64) -> Compared {
     // Every month and day, in leap and other years.
     let two = two();
     for year in [
-        "2023", "2024", "1900", "2000", "2100", "0000", "0004", "0100", "-001", "-004", "-100",
-        "-400", "+004", "+100", "-000",
+        "2023", "2024", "1900", "2000", "2100", "0000", "0004", "0100", "-001", "-004", "-100", "-400", "+004", "+100",
+        "-000",
     ] {
         for month in &two {
             for day in &two {
@@ -457,11 +396,7 @@ pub fn stamps(port: &dyn Ground, seed: u64, rounds: u64) -> Compared {
     // Every hour, minute and second, two at a time.
     for a in &two {
         for b in &two {
-            for time in [
-                format!("{a}:{b}:07"),
-                format!("{a}:08:{b}"),
-                format!("09:{a}:{b}"),
-            ] {
+            for time in [format!("{a}:{b}:07"), format!("{a}:08:{b}"), format!("09:{a}:{b}")] {
                 each("2024", "02-29", &time)?;
             }
         }
@@ -495,11 +430,7 @@ pub fn random_stamp(random: &mut Random) -> Vec<u8> {
 }
 
 fn one_text(tally: &mut Tally, port: &dyn Ground, s: &[u8]) -> Result<(), String> {
-    tally.same(
-        || format!("is_text {s:02x?}"),
-        Judge.is_text(s),
-        port.is_text(s),
-    )
+    compare!(tally, port, is_text(s))
 }
 
 /// Published vectors: the Unicode standard's table 3-7 by its corners, table 3-8 to 3-11's examples
@@ -515,10 +446,9 @@ pub fn text_vectors() -> Vec<Vec<u8>> {
         vec![0xef, 0xbb, 0xbf],
     ];
     for c in [
-        0u32, 8, 9, 0xa, 0xb, 0xc, 0xd, 0xe, 0x1f, 0x20, 0x7e, 0x7f, 0x80, 0x85, 0x9f, 0xa0, 0x7ff,
-        0x800, 0xfff, 0x1000, 0xcfff, 0xd000, 0xd7ff, 0xe000, 0xfdcf, 0xfdd0, 0xfdef, 0xfeff,
-        0xfffd, 0xfffe, 0xffff, 0x1_0000, 0x1_fffe, 0x3_ffff, 0x4_0000, 0xf_ffff, 0x10_0000,
-        0x10_fffd, 0x10_ffff,
+        0u32, 8, 9, 0xa, 0xb, 0xc, 0xd, 0xe, 0x1f, 0x20, 0x7e, 0x7f, 0x80, 0x85, 0x9f, 0xa0, 0x7ff, 0x800, 0xfff,
+        0x1000, 0xcfff, 0xd000, 0xd7ff, 0xe000, 0xfdcf, 0xfdd0, 0xfdef, 0xfeff, 0xfffd, 0xfffe, 0xffff, 0x1_0000,
+        0x1_fffe, 0x3_ffff, 0x4_0000, 0xf_ffff, 0x10_0000, 0x10_fffd, 0x10_ffff,
     ] {
         let c = char::from_u32(c).expect("a scalar value");
         let one = c.to_string().into_bytes();
@@ -549,10 +479,7 @@ pub fn texts(port: &dyn Ground, seed: u64, rounds: u64) -> Compared {
         }
     }
     // Four bytes: every pair of first bytes, then the ends of the classes.
-    let ends = [
-        0x00, 0x41, 0x7f, 0x80, 0x81, 0x8f, 0x90, 0x9f, 0xa0, 0xbd, 0xbe, 0xbf, 0xc0, 0xc2, 0xe0,
-        0xff,
-    ];
+    let ends = [0x00, 0x41, 0x7f, 0x80, 0x81, 0x8f, 0x90, 0x9f, 0xa0, 0xbd, 0xbe, 0xbf, 0xc0, 0xc2, 0xe0, 0xff];
     for a in 0..=255u8 {
         for b in 0..=255u8 {
             for &c in &ends {

@@ -12,12 +12,7 @@ pub trait LookupPort {
     fn upsert_range(&self, ids: &[i64], first: i64, last: i64) -> (u32, usize, usize);
     /// A seek at its beginning has no place. The place after the call, and where the id was found;
     /// on a refusal the place as it was, and none.
-    fn seek_find(
-        &self,
-        place: Option<usize>,
-        ids: &[i64],
-        id: i64,
-    ) -> (u32, Option<usize>, Option<usize>);
+    fn seek_find(&self, place: Option<usize>, ids: &[i64], id: i64) -> (u32, Option<usize>, Option<usize>);
 }
 
 /// The last place that a cursor can be lent at: a word from 2^63 on is none.
@@ -47,12 +42,7 @@ impl LookupPort for JudgeLookups {
         (0, start, end)
     }
 
-    fn seek_find(
-        &self,
-        place: Option<usize>,
-        ids: &[i64],
-        id: i64,
-    ) -> (u32, Option<usize>, Option<usize>) {
+    fn seek_find(&self, place: Option<usize>, ids: &[i64], id: i64) -> (u32, Option<usize>, Option<usize>) {
         if !is_ordered(ids) {
             return (20, place, None);
         }
@@ -89,15 +79,7 @@ pub fn short_lists(port: &dyn LookupPort) -> Compared {
                 one_range(&mut tally, port, list, &[], a, b)?;
                 one_range(&mut tally, port, &[], list, a, b)?;
             }
-            for place in [
-                None,
-                Some(0),
-                Some(1),
-                Some(2),
-                Some(3),
-                Some(9),
-                Some(LAST_PLACE),
-            ] {
+            for place in [None, Some(0), Some(1), Some(2), Some(3), Some(9), Some(LAST_PLACE)] {
                 one_seek(&mut tally, port, place, list, a)?;
             }
         }
@@ -113,16 +95,11 @@ fn one_range(
     a: i64,
     b: i64,
 ) -> Result<(), String> {
-    tally.same(
-        || format!("range_overlaps {live:?} {deleted:?} {a} {b}"),
-        JudgeLookups.range_overlaps(live, deleted, a, b),
-        port.range_overlaps(live, deleted, a, b),
-    )?;
-    tally.same(
-        || format!("upsert_range {live:?} {a} {b}"),
-        JudgeLookups.upsert_range(live, a, b),
-        port.upsert_range(live, a, b),
-    )
+    let what = || format!("{live:?} {deleted:?} {a} {b}");
+    let judge = JudgeLookups.range_overlaps(live, deleted, a, b);
+    tally.same(what, judge, port.range_overlaps(live, deleted, a, b))?;
+    let judge = JudgeLookups.upsert_range(live, a, b);
+    tally.same(what, judge, port.upsert_range(live, a, b))
 }
 
 fn one_seek(
@@ -133,11 +110,7 @@ fn one_seek(
     id: i64,
 ) -> Result<Option<usize>, String> {
     let judge = JudgeLookups.seek_find(place, ids, id);
-    tally.same(
-        || format!("seek_find {place:?} {ids:?} {id}"),
-        judge,
-        port.seek_find(place, ids, id),
-    )?;
+    tally.same(|| format!("seek_find {place:?} {ids:?} {id}"), judge, port.seek_find(place, ids, id))?;
     Ok(judge.1)
 }
 
@@ -156,11 +129,7 @@ pub fn random_lists(port: &dyn LookupPort, seed: u64, rounds: u64) -> Compared {
         let mut place = None;
         for _ in 0..random.below(20) {
             let id = near(&mut random, &live);
-            let shorter = if random.once_in(8) {
-                &live[..random.below(live.len() + 1)]
-            } else {
-                &live
-            };
+            let shorter = if random.once_in(8) { &live[..random.below(live.len() + 1)] } else { &live };
             place = one_seek(&mut tally, port, place, shorter, id)?;
         }
     }

@@ -3,9 +3,8 @@
 use std::collections::HashSet;
 
 use super::CompactDiffOverlay;
-use super::ParseResult;
 use super::compact::{
-    ArenaMeta, CompactNodeRef, CompactRelationRef, CompactWayRef, META_LEN, NODE_META_OFF,
+    ArenaMeta, CompactNodeRef, CompactRelationRef, CompactTagIter, CompactWayRef, META_LEN, NODE_META_OFF,
     RELATION_META_OFF, WAY_META_OFF,
 };
 use super::interner::StringInterner;
@@ -13,6 +12,7 @@ use super::sorted::{KindTable, SortedDiff};
 use crate::ElementKind;
 use crate::osm_id::osm_id_key;
 use crate::read::elements::MemberType;
+use crate::refusal::Refusal;
 
 /// Metadata as it stands in a record.
 #[derive(Clone, Copy, Debug, Default, PartialEq, Eq)]
@@ -38,50 +38,92 @@ impl Meta {
     }
 }
 
-pub(crate) fn intern(overlay: &mut CompactDiffOverlay, text: &str) -> ParseResult<u32> {
-    overlay.intern(text)
+/// The published overlay.
+#[derive(Clone)]
+pub struct Overlay {
+    pub(crate) inner: CompactDiffOverlay,
 }
 
-pub(crate) fn push_node(
-    overlay: &mut CompactDiffOverlay,
-    id: i64,
-    place: (i32, i32),
-    tags: &[(u32, &str)],
-    meta: &Meta,
-) -> ParseResult<()> {
-    overlay.push_node(id, place.0, place.1, tags, &meta.arena())
+/// The calls that the published files keep to the `osc` module.
+impl Overlay {
+    pub fn intern(&mut self, text: &str) -> u32 {
+        self.inner.intern(text).expect("fewer than 2^32 string bytes")
+    }
+
+    pub fn push_node(
+        &mut self,
+        id: i64,
+        (lat, lon): (i32, i32),
+        tags: &[(u32, &str)],
+        meta: &Meta,
+    ) -> Result<(), Refusal> {
+        let pushed = self.inner.push_node(id, lat, lon, tags, &meta.arena());
+        pushed.map_err(|e| Refusal::of(&e))
+    }
+
+    pub fn push_way(&mut self, id: i64, refs: &[i64], tags: &[(u32, &str)], meta: &Meta) -> Result<(), Refusal> {
+        let pushed = self.inner.push_way(id, refs, tags, &meta.arena());
+        pushed.map_err(|e| Refusal::of(&e))
+    }
+
+    /// A member is ref, type, role handle.
+    pub fn push_relation(
+        &mut self,
+        id: i64,
+        members: &[(i64, u8, u32)],
+        tags: &[(u32, &str)],
+        meta: &Meta,
+    ) -> Result<(), Refusal> {
+        let pushed = self.inner.push_relation(id, members, tags, &meta.arena());
+        pushed.map_err(|e| Refusal::of(&e))
+    }
+
+    pub fn delete(&mut self, kind: ElementKind, id: i64, meta: &Meta) -> Result<(), Refusal> {
+        let meta = &meta.arena();
+        let deleted = match kind {
+            ElementKind::Node => self.inner.delete_node(id, meta),
+            ElementKind::Way => self.inner.delete_way(id, meta),
+            ElementKind::Relation => self.inner.delete_relation(id, meta),
+        };
+        deleted.map_err(|e| Refusal::of(&e))
+    }
+
+    pub fn record(&self, kind: ElementKind, id: i64) -> Option<Record> {
+        match kind {
+            ElementKind::Node => self.inner.get_node(id).map(|r| node(&r)),
+            ElementKind::Way => self.inner.get_way(id).map(|r| way(&r)),
+            ElementKind::Relation => self.inner.get_relation(id).map(|r| relation(&r)),
+        }
+    }
+
+    fn sorted(&self) -> SortedDiff {
+        self.inner.clone().into_sorted()
+    }
+
+    /// The ids in OSM order, as sorted.rs gives them: live, deleted.
+    pub fn sorted_ids(&self, kind: ElementKind) -> (Vec<i64>, Vec<i64>) {
+        let diff = self.sorted();
+        (diff.upserts(kind).to_vec(), diff.deleted(kind).to_vec())
+    }
+
+    /// The records of the live ids, in their order.
+    pub fn sorted_records(&self, kind: ElementKind) -> Vec<Record> {
+        let diff = self.sorted();
+        let count = diff.upserts(kind).len();
+        (0..count).map(|n| nth(&diff, kind, n)).collect()
+    }
+
+    /// The record by its number in the live list; the published read panics past the list.
+    pub fn sorted_record(&self, kind: ElementKind, n: usize) -> Record {
+        nth(&self.sorted(), kind, n)
+    }
 }
 
-pub(crate) fn push_way(
-    overlay: &mut CompactDiffOverlay,
-    id: i64,
-    refs: &[i64],
-    tags: &[(u32, &str)],
-    meta: &Meta,
-) -> ParseResult<()> {
-    overlay.push_way(id, refs, tags, &meta.arena())
-}
-
-pub(crate) fn push_relation(
-    overlay: &mut CompactDiffOverlay,
-    id: i64,
-    members: &[(i64, u8, u32)],
-    tags: &[(u32, &str)],
-    meta: &Meta,
-) -> ParseResult<()> {
-    overlay.push_relation(id, members, tags, &meta.arena())
-}
-
-pub(crate) fn delete(
-    overlay: &mut CompactDiffOverlay,
-    kind: ElementKind,
-    id: i64,
-    meta: &Meta,
-) -> ParseResult<()> {
+fn nth(diff: &SortedDiff, kind: ElementKind, n: usize) -> Record {
     match kind {
-        ElementKind::Node => overlay.delete_node(id, &meta.arena()),
-        ElementKind::Way => overlay.delete_way(id, &meta.arena()),
-        ElementKind::Relation => overlay.delete_relation(id, &meta.arena()),
+        ElementKind::Node => node(&diff.node(n)),
+        ElementKind::Way => way(&diff.way(n)),
+        ElementKind::Relation => relation(&diff.relation(n)),
     }
 }
 
@@ -108,23 +150,16 @@ pub struct Record {
     pub len: usize,
 }
 
-pub(crate) fn record(overlay: &CompactDiffOverlay, kind: ElementKind, id: i64) -> Option<Record> {
-    match kind {
-        ElementKind::Node => overlay.get_node(id).map(|r| node(&r)),
-        ElementKind::Way => overlay.get_way(id).map(|r| way(&r)),
-        ElementKind::Relation => overlay.get_relation(id).map(|r| relation(&r)),
-    }
+fn tagged(out: &mut Record, mut tags: CompactTagIter<'_>) {
+    let owned = |(k, v): (&str, &str)| (k.to_owned(), v.to_owned());
+    out.tags = tags.by_ref().map(owned).collect();
+    out.len = tags.judge_at();
 }
 
 fn node(r: &CompactNodeRef<'_>) -> Record {
     let mut out = common(r.id(), r.data, NODE_META_OFF, r.metadata());
     out.place = Some((r.decimicro_lat(), r.decimicro_lon()));
-    let mut tags = r.tags();
-    out.tags = tags
-        .by_ref()
-        .map(|(k, v)| (k.to_owned(), v.to_owned()))
-        .collect();
-    out.len = tags.judge_at();
+    tagged(&mut out, r.tags());
     assert_eq!(out.tags.len(), r.tag_count());
     out
 }
@@ -132,16 +167,8 @@ fn node(r: &CompactNodeRef<'_>) -> Record {
 fn way(r: &CompactWayRef<'_>) -> Record {
     let mut out = common(r.id(), r.data, WAY_META_OFF, r.metadata());
     out.refs = r.refs().collect();
-    let mut tags = r.tags();
-    out.tags = tags
-        .by_ref()
-        .map(|(k, v)| (k.to_owned(), v.to_owned()))
-        .collect();
-    out.len = tags.judge_at();
-    assert_eq!(
-        (out.refs.len(), out.tags.len()),
-        (r.ref_count(), r.tag_count())
-    );
+    tagged(&mut out, r.tags());
+    assert_eq!((out.refs.len(), out.tags.len()), (r.ref_count(), r.tag_count()));
     out
 }
 
@@ -159,25 +186,12 @@ fn relation(r: &CompactRelationRef<'_>) -> Record {
             (byte, id, role.to_owned())
         })
         .collect();
-    let mut tags = r.tags();
-    out.tags = tags
-        .by_ref()
-        .map(|(k, v)| (k.to_owned(), v.to_owned()))
-        .collect();
-    out.len = tags.judge_at();
-    assert_eq!(
-        (out.members.len(), out.tags.len()),
-        (r.member_count(), r.tag_count())
-    );
+    tagged(&mut out, r.tags());
+    assert_eq!((out.members.len(), out.tags.len()), (r.member_count(), r.tag_count()));
     out
 }
 
-fn common(
-    id: i64,
-    data: &[u8],
-    meta_off: usize,
-    meta: Option<crate::write::block_builder::Metadata<'_>>,
-) -> Record {
+fn common(id: i64, data: &[u8], meta_off: usize, meta: Option<crate::write::block_builder::Metadata<'_>>) -> Record {
     assert!(data.len() >= meta_off + META_LEN);
     let flags = data[meta_off];
     assert_eq!(meta.is_some(), flags & 1 == 1);
@@ -196,47 +210,6 @@ fn common(
         tags: Vec::new(),
         view: data.to_vec(),
         len: 0,
-    }
-}
-
-/// The overlay's ids in OSM order, as sorted.rs gives them, with each live record by its number.
-#[derive(Clone, Debug, PartialEq, Eq)]
-pub struct Sorted {
-    pub live: Vec<i64>,
-    pub deleted: Vec<i64>,
-    pub records: Vec<Record>,
-}
-
-pub(crate) fn sorted(overlay: &CompactDiffOverlay, kind: ElementKind) -> Sorted {
-    let diff = overlay.clone().into_sorted();
-    let live = diff.upserts(kind).to_vec();
-    let records = (0..live.len())
-        .map(|i| match kind {
-            ElementKind::Node => node(&diff.node(i)),
-            ElementKind::Way => way(&diff.way(i)),
-            ElementKind::Relation => relation(&diff.relation(i)),
-        })
-        .collect();
-    Sorted {
-        live,
-        deleted: diff.deleted(kind).to_vec(),
-        records,
-    }
-}
-
-/// The ids alone: live, deleted.
-pub(crate) fn sorted_ids(overlay: &CompactDiffOverlay, kind: ElementKind) -> (Vec<i64>, Vec<i64>) {
-    let diff = overlay.clone().into_sorted();
-    (diff.upserts(kind).to_vec(), diff.deleted(kind).to_vec())
-}
-
-/// The record by its number in the live list; the published read panics past the list.
-pub(crate) fn sorted_record(overlay: &CompactDiffOverlay, kind: ElementKind, n: usize) -> Record {
-    let diff = overlay.clone().into_sorted();
-    match kind {
-        ElementKind::Node => node(&diff.node(n)),
-        ElementKind::Way => way(&diff.way(n)),
-        ElementKind::Relation => relation(&diff.relation(n)),
     }
 }
 
@@ -272,9 +245,7 @@ impl Lookups {
 
     /// The first place and one past the last.
     pub fn upsert_range(&self, first: i64, last: i64) -> (usize, usize) {
-        let range = self
-            .diff
-            .upsert_range(ElementKind::Node, first, osm_id_key(last));
+        let range = self.diff.upsert_range(ElementKind::Node, first, osm_id_key(last));
         (range.start, range.end)
     }
 }

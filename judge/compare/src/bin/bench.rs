@@ -3,8 +3,8 @@
 
 use compare::overlay::Pointers;
 use compare::{Library, entry, ffi};
+use judge::compare::call::Storage;
 use judge::compare::ground::Ground;
-use judge::compare::storage::Storage;
 use judge::{Meta, Overlay};
 use std::hint::black_box;
 use std::time::Instant;
@@ -37,10 +37,7 @@ fn over<A>(inputs: &[A], f: &dyn Fn(&A) -> u64) {
 }
 
 fn parse<T: std::str::FromStr + Into<i64>>(s: &[u8]) -> u64 {
-    std::str::from_utf8(s)
-        .ok()
-        .and_then(|t| t.parse::<T>().ok())
-        .map_or(0, |n| n.into().cast_unsigned())
+    std::str::from_utf8(s).ok().and_then(|t| t.parse::<T>().ok()).map_or(0, |n| n.into().cast_unsigned())
 }
 
 fn storage(ids: usize, arena: usize, strings: usize, bytes: usize) -> Storage {
@@ -50,6 +47,7 @@ fn storage(ids: usize, arena: usize, strings: usize, bytes: usize) -> Storage {
         spans: vec![0; 2 * strings],
         bytes: vec![0; bytes],
         counts: [0; 9],
+        readers: Vec::new(),
     }
 }
 
@@ -65,36 +63,14 @@ fn pushes(lent: &mut Storage, ways: i64, refs: &[i64]) {
             count: u32::try_from(refs.len()).expect("few refs"),
             tags: 0,
         };
-        let meta = ffi::Meta {
-            flags: 9,
-            version: 1,
-            timestamp: 0,
-            changeset: 0,
-            uid: 0,
-            user: 0,
-        };
-        let reply = entry!(
-            tvk_push,
-            &Pointers::of(lent),
-            1,
-            head,
-            meta,
-            parts.as_ptr(),
-            parts.len()
-        );
+        let meta = ffi::Meta { flags: 9, version: 1, timestamp: 0, changeset: 0, uid: 0, user: 0 };
+        let reply = entry!(tvk_push, &Pointers::of(lent), 1, head, meta, parts.as_ptr(), parts.len());
         assert_eq!(reply.number, 0);
     }
 }
 
 fn overlays() {
-    let meta = Meta {
-        flags: 9,
-        version: 1,
-        timestamp: 0,
-        changeset: 0,
-        uid: 0,
-        user: 0,
-    };
+    let meta = Meta { flags: 9, version: 1, timestamp: 0, changeset: 0, uid: 0, user: 0 };
     for (ways, refs) in [(100, 4), (4_096, 26)] {
         let mut lent = storage(4_096, 1_048_576, 4_096, 65_536);
         let refs: Vec<i64> = (1..=refs).collect();
@@ -110,35 +86,22 @@ fn overlays() {
                 black_box(&overlay);
             },
         );
-        let sound = least(1, || {
-            assert_eq!(entry!(tvk_is_sound, &Pointers::of(&mut lent)).number, 0)
-        });
-        println!(
-            "soundness after it, {} bytes\t{sound:.0} ns",
-            lent.counts[4]
-        );
+        let sound = least(1, || assert_eq!(entry!(tvk_is_sound, &Pointers::of(&mut lent)).number, 0));
+        println!("soundness after it, {} bytes\t{sound:.0} ns", lent.counts[4]);
     }
 }
 
 fn main() {
     println!("what\tport\tRust\tratio");
-    let numbers: Vec<Vec<u8>> = (0..100_000u64)
-        .map(|i| {
-            i.wrapping_mul(0x9e37_79b9_7f4a_7c15)
-                .cast_signed()
-                .to_string()
-                .into_bytes()
-        })
-        .collect();
+    let numbers: Vec<Vec<u8>> =
+        (0..100_000u64).map(|i| i.wrapping_mul(0x9e37_79b9_7f4a_7c15).cast_signed().to_string().into_bytes()).collect();
     row(
         "i64, up to 20 bytes",
         numbers.len(),
         || over(&numbers, &|s| Library.read_i64(s).1.cast_unsigned()),
         || over(&numbers, &|s| parse::<i64>(s)),
     );
-    let small: Vec<Vec<u8>> = (0..100_000i32)
-        .map(|i| (i - 50_000).to_string().into_bytes())
-        .collect();
+    let small: Vec<Vec<u8>> = (0..100_000i32).map(|i| (i - 50_000).to_string().into_bytes()).collect();
     row(
         "i32, up to 6 bytes",
         small.len(),

@@ -28,10 +28,7 @@ pub struct BytesStart<'a> {
 
 impl<'a> BytesStart<'a> {
     pub fn from_content(content: impl Into<Cow<'a, str>>, name_len: usize) -> Self {
-        Self {
-            content: content.into(),
-            name_len,
-        }
+        Self { content: content.into(), name_len }
     }
 
     pub fn name(&self) -> QName<'_> {
@@ -113,21 +110,14 @@ pub mod attributes {
         fn next(&mut self) -> Option<Self::Item> {
             loop {
                 let (name, raw) = self.fields.next()?.split_once('=')?;
-                let text = if raw.contains('\\') {
-                    Cow::Owned(unescape(raw)?)
-                } else {
-                    Cow::Borrowed(raw)
-                };
+                let text = if raw.contains('\\') { Cow::Owned(unescape(raw)?) } else { Cow::Borrowed(raw) };
                 let (name, value) = match name {
                     "lat" | "lon" => continue,
                     "lat7" => ("lat", coordinate(&text)),
                     "lon7" => ("lon", coordinate(&text)),
                     _ => (name, text),
                 };
-                return Some(Ok(Attribute {
-                    key: QName(name),
-                    value,
-                }));
+                return Some(Ok(Attribute { key: QName(name), value }));
             }
         }
     }

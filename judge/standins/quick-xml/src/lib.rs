@@ -51,11 +51,7 @@ pub struct Reader<R> {
 
 impl<R> Reader<R> {
     pub fn from_reader(input: R) -> Self {
-        Self {
-            input,
-            config: Config,
-            lines: 0,
-        }
+        Self { input, config: Config, lines: 0 }
     }
 
     pub fn config_mut(&mut self) -> &mut Config {
@@ -76,17 +72,9 @@ impl<R: BufRead> Reader<R> {
         }
         self.lines += 1;
         match lines::judge_line(buf, ended).map_err(Error::Line)? {
-            Line::Open {
-                empty,
-                content,
-                name_len,
-            } => {
+            Line::Open { empty, content, name_len } => {
                 let start = BytesStart::from_content(content, name_len);
-                Ok(if empty {
-                    Event::Empty(start)
-                } else {
-                    Event::Start(start)
-                })
+                Ok(if empty { Event::Empty(start) } else { Event::Start(start) })
             }
             Line::Close => Ok(Event::End(BytesEnd)),
             Line::Other => Ok(Event::Text(BytesText)),

@@ -11,9 +11,7 @@ pub fn is_xml_char(c: char) -> bool {
 
 /// Well-formed UTF-8 of XML 1.0 characters.
 pub fn text(bytes: &[u8]) -> Option<&str> {
-    std::str::from_utf8(bytes)
-        .ok()
-        .filter(|s| s.chars().all(is_xml_char))
+    std::str::from_utf8(bytes).ok().filter(|s| s.chars().all(is_xml_char))
 }
 
 /// A line that passed the line checks.
@@ -62,11 +60,7 @@ pub fn judge_line(bytes: &[u8], ended: bool) -> Result<Line<'_>, u32> {
             return Err(4);
         }
     }
-    Ok(Line::Open {
-        empty,
-        content,
-        name_len,
-    })
+    Ok(Line::Open { empty, content, name_len })
 }
 
 /// The text that a value stands for; none where an escape is not one of the four.

@@ -1,0 +1,394 @@
+//! The calls on lent storage, as a C caller makes them, and what is lent to them.
+
+use super::ground::{Ground, Judge, version, word};
+use crate::answer::{KINDS, Kind, KindState, Meta, Sizes, State};
+use crate::produce::Bytes;
+use crate::random::Random;
+
+/// What is lent to the library, as its caller holds it.
+#[derive(Clone, Debug, PartialEq, Eq)]
+pub struct Storage {
+    /// For each kind three words a row: rank, place or 2^63 and above for deleted, floor or 2^32 and
+    /// above for none.
+    pub tables: [Vec<u64>; 3],
+    pub arenas: [Vec<u8>; 3],
+    /// Two words a string: start, length.
+    pub spans: Vec<u64>,
+    pub bytes: Vec<u8>,
+    /// Used ids of the three kinds, used arena bytes of the same, held strings, used string bytes, the
+    /// regression setting (0 refuses).
+    pub counts: [u64; 9],
+    pub readers: Vec<Lines>,
+}
+
+/// What is lent for a reader of event lines.
+#[derive(Clone, Debug, PartialEq, Eq)]
+pub struct Lines {
+    /// Level, section, kind; the head, the metadata and the used bytes of the element that is put
+    /// together; the accepted lines; the stop mark's number, line and version held. Fresh: zeros.
+    pub words: [u64; 19],
+    /// The parts of that element.
+    pub parts: Vec<u8>,
+}
+
+/// How many bytes are lent for the parts of an element.
+pub const STAGED: usize = 44_432;
+
+/// A place from here on is that of a deleted id.
+pub const DELETED: u64 = 1 << 63;
+
+/// A floor from here on means none.
+pub const NO_FLOOR: u64 = 1 << 32;
+
+/// Writes over the front, as far as it goes.
+pub(super) fn write_front<T: Copy>(all: &mut [T], front: &[T]) {
+    let len = front.len().min(all.len());
+    all[..len].copy_from_slice(&front[..len]);
+}
+
+fn drawn_bytes(random: &mut Random, len: usize) -> Vec<u8> {
+    let mut bytes = Vec::with_capacity(len + 8);
+    while bytes.len() < len {
+        bytes.extend((random.draw() & random.draw()).to_le_bytes());
+    }
+    bytes.truncate(len);
+    bytes
+}
+
+impl Lines {
+    /// Fresh, in bytes that hold anything.
+    pub fn fresh(random: &mut Random) -> Self {
+        Self { words: [0; 19], parts: drawn_bytes(random, STAGED) }
+    }
+}
+
+impl Storage {
+    /// Lent parts of these sizes that hold any words and bytes, with words past the last whole row or
+    /// span at times, and any counters.
+    pub fn drawn(random: &mut Random, sizes: &Sizes) -> Self {
+        let words = |random: &mut Random, len: usize| -> Vec<u64> {
+            let word = |r: &mut Random| match r.below(4) {
+                0 => r.below(200) as u64,
+                1 => DELETED + r.below(9) as u64,
+                2 => 1 << r.below(64),
+                _ => r.draw(),
+            };
+            (0..len).map(|_| word(random)).collect()
+        };
+        let spare = [(); 4].map(|()| random.below(3));
+        let counts = words(random, 9);
+        Self {
+            tables: std::array::from_fn(|k| words(random, 3 * sizes.ids[k] + spare[k])),
+            arenas: std::array::from_fn(|k| drawn_bytes(random, sizes.arenas[k])),
+            spans: words(random, 2 * sizes.strings + spare[3] % 2),
+            bytes: drawn_bytes(random, sizes.string_bytes),
+            counts: std::array::from_fn(|n| counts[n]),
+            readers: Vec::new(),
+        }
+    }
+
+    pub fn sizes(&self) -> Sizes {
+        Sizes {
+            ids: self.tables.each_ref().map(|table| table.len() / 3),
+            arenas: self.arenas.each_ref().map(Vec::len),
+            strings: self.spans.len() / 2,
+            string_bytes: self.bytes.len(),
+            output: 0,
+        }
+    }
+
+    /// Writes a state over the used parts and their counters; everything else stays.
+    pub fn hold(&mut self, state: &State) {
+        for (k, kind) in state.kinds.iter().enumerate() {
+            let rows = rows_of(kind);
+            self.counts[k] = rows.len() as u64;
+            self.counts[3 + k] = kind.arena.len() as u64;
+            write_front(&mut self.tables[k], rows.as_flattened());
+            write_front(&mut self.arenas[k], &kind.arena);
+        }
+        let spans = state.spans.iter();
+        let spans: Vec<u64> = spans.flat_map(|s| [s.0.into(), s.1.into()]).collect();
+        write_front(&mut self.spans, &spans);
+        write_front(&mut self.bytes, &state.string_bytes);
+        self.counts[6] = state.spans.len() as u64;
+        self.counts[7] = state.string_bytes.len() as u64;
+    }
+
+    /// The words that are lent: tables, spans, counters, readers.
+    pub fn words(&mut self) -> impl Iterator<Item = &mut u64> {
+        let readers = self.readers.iter_mut().flat_map(|r| &mut r.words);
+        let tables = self.tables.iter_mut().flatten();
+        let counted = tables.chain(&mut self.spans).chain(&mut self.counts);
+        counted.chain(readers)
+    }
+
+    /// The bytes that are lent: arenas, string bytes, the parts of elements.
+    pub fn bytes(&mut self) -> impl Iterator<Item = &mut u8> {
+        let readers = self.readers.iter_mut().flat_map(|r| &mut r.parts);
+        let arenas = self.arenas.iter_mut().flatten();
+        arenas.chain(&mut self.bytes).chain(readers)
+    }
+
+    /// The parts by name, as numbers.
+    fn named(&self) -> Vec<(String, Vec<u64>)> {
+        let numbers = |bytes: &[u8]| bytes.iter().copied().map(u64::from).collect();
+        let mut parts = vec![
+            ("counters".into(), self.counts.into()),
+            ("spans".into(), self.spans.clone()),
+            ("string bytes".into(), numbers(&self.bytes)),
+        ];
+        for kind in KINDS {
+            let (table, arena) = (&self.tables[kind as usize], &self.arenas[kind as usize]);
+            parts.push((format!("table of {kind}s"), table.clone()));
+            parts.push((format!("arena of {kind}s"), numbers(arena)));
+        }
+        for (n, reader) in self.readers.iter().enumerate() {
+            parts.push((format!("words of reader {n}"), reader.words.into()));
+            parts.push((format!("parts of reader {n}"), numbers(&reader.parts)));
+        }
+        parts
+    }
+
+    /// Where another storage differs from this one, and how.
+    pub fn changes(&self, to: &Self) -> Vec<String> {
+        let mut changes = Vec::new();
+        if self == to {
+            return changes;
+        }
+        for ((name, from), (_, to)) in self.named().into_iter().zip(to.named()) {
+            if from.len() != to.len() {
+                changes.push(format!("{name}: {} long for {}", to.len(), from.len()));
+            }
+            for (n, (from, to)) in from.iter().zip(&to).enumerate() {
+                if from != to {
+                    changes.push(format!("{name} [{n}]: {to} for {from}"));
+                }
+            }
+        }
+        changes.truncate(9);
+        changes
+    }
+}
+
+/// The rows of a kind: rank, place, floor, by rising rank.
+fn rows_of(kind: &KindState) -> Vec<[u64; 3]> {
+    let live = kind.live.iter().map(|&(id, place)| (id, place as u64));
+    let deleted = kind.deleted.iter().map(|&id| (id, DELETED));
+    let floors: std::collections::HashMap<i64, i32> = kind.floors.iter().copied().collect();
+    let row = |(id, place)| [Judge.osm_id_rank(id), place, word(floors.get(&id).copied())];
+    let mut rows: Vec<[u64; 3]> = live.chain(deleted).map(row).collect();
+    rows.sort_unstable();
+    rows
+}
+
+/// A record's head as a direct push gives it.
+#[derive(Clone, Copy, Debug, Default, PartialEq, Eq)]
+pub struct Head {
+    pub id: i64,
+    pub lat: i32,
+    pub lon: i32,
+    pub count: u32,
+    pub tags: u32,
+}
+
+/// A direct push by its parts. Tag values are bytes: they need not be text.
+#[derive(Clone, Debug, PartialEq, Eq)]
+pub struct Push {
+    pub kind: Kind,
+    pub id: i64,
+    /// Of a node.
+    pub place: (i32, i32),
+    /// Of a way.
+    pub refs: Vec<i64>,
+    /// Of a relation: ref, type byte, role handle.
+    pub members: Vec<(i64, u8, u32)>,
+    /// Key handle, value.
+    pub tags: Vec<(u32, Bytes)>,
+    pub meta: Meta,
+}
+
+impl Push {
+    /// A push of nothing but an id and metadata.
+    pub fn plain(kind: Kind, id: i64, meta: Meta) -> Self {
+        Self { kind, id, place: (0, 0), refs: Vec::new(), members: Vec::new(), tags: Vec::new(), meta }
+    }
+
+    /// The head that counts exactly these parts.
+    pub fn head(&self) -> Head {
+        Head {
+            id: self.id,
+            lat: self.place.0,
+            lon: self.place.1,
+            count: (self.refs.len() + self.members.len()) as u32,
+            tags: self.tags.len() as u32,
+        }
+    }
+
+    /// Refs or members, then tags, as document 01 lays them out.
+    pub fn parts(&self) -> Bytes {
+        let mut out = Vec::new();
+        for id in &self.refs {
+            out.extend(id.to_le_bytes());
+        }
+        for (id, byte, role) in &self.members {
+            out.extend(id.to_le_bytes());
+            out.push(*byte);
+            out.extend(role.to_le_bytes());
+        }
+        for (key, value) in &self.tags {
+            out.extend(key.to_le_bytes());
+            out.extend((value.len() as u32).to_le_bytes());
+            out.extend(value);
+        }
+        out
+    }
+
+    pub fn call(&self) -> Call {
+        Call::Push(self.kind as u8, self.head(), self.meta, self.parts())
+    }
+}
+
+/// Metadata that claims a version, or claims none.
+pub fn claiming(version: Option<i32>) -> Meta {
+    Meta { flags: if version.is_some() { 9 } else { 0 }, version: version.unwrap_or(0), ..Meta::default() }
+}
+
+/// A call with its arguments; of a push the parts are laid out as in a record.
+#[derive(Clone, Debug)]
+pub enum Call {
+    SetUp(u64),
+    IsSound,
+    Allow(u64),
+    Intern(Bytes),
+    Push(u8, Head, Meta, Bytes),
+    Delete(u8, i64, Meta),
+    LiveCount(u8),
+    DeletedCount(u8),
+    IsEmpty,
+    LiveId(u8, u64),
+    DeletedId(u8, u64),
+    Record(u8, u64),
+    Get(u8, i64),
+    Has(u8, i64),
+    IsDeleted(u8, i64),
+    KnownVersion(u8, i64),
+    Text(u64),
+    /// One line with its line feed, or a tail without one, to a reader by its number.
+    Event(usize, Bytes),
+    End(usize),
+    /// Into so many bytes.
+    Listing(usize),
+}
+
+impl Call {
+    /// Whether it changes the overlay where it is accepted.
+    pub fn is_change(&self) -> bool {
+        use Call::{Allow, Delete, Event, Intern, Push, SetUp};
+        matches!(self, SetUp(_) | Allow(_) | Intern(_) | Push(..) | Delete(..) | Event(..))
+    }
+
+    /// For a report.
+    pub fn shown(&self) -> String {
+        let shown = match self {
+            Self::Event(reader, line) => {
+                let line = String::from_utf8_lossy(&line[..line.len().min(300)]);
+                format!("reader {reader}: {line:?}")
+            }
+            call => format!("{call:02x?}"),
+        };
+        shown.chars().take(1_200).collect()
+    }
+}
+
+/// What a call answers: the number first, 0 or a refusal with zeros.
+#[derive(Clone, Debug, PartialEq, Eq)]
+pub enum Answer {
+    /// Of 12 the known version.
+    Reply {
+        number: u32,
+        held: i32,
+    },
+    /// A handle, a count, the bits of an id, a version or 2^32 for none, 1 or 0.
+    Number {
+        number: u32,
+        value: u64,
+    },
+    /// Found 1 with where something lies, or found 0.
+    Part {
+        number: u32,
+        found: u32,
+        start: usize,
+        len: usize,
+    },
+    Event {
+        number: u32,
+        held: i32,
+        line: u64,
+    },
+    /// How long the listing is, and all of the output.
+    Listing {
+        number: u32,
+        len: usize,
+        output: Bytes,
+    },
+}
+
+/// What an output holds before a listing.
+pub const UNWRITTEN: u8 = 0xa5;
+
+impl Answer {
+    pub fn number(&self) -> u32 {
+        match *self {
+            Self::Reply { number, .. }
+            | Self::Number { number, .. }
+            | Self::Part { number, .. }
+            | Self::Event { number, .. }
+            | Self::Listing { number, .. } => number,
+        }
+    }
+
+    pub fn reply(answer: Result<(), (u32, i32)>) -> Self {
+        let (number, held) = answer.err().unwrap_or((0, 0));
+        Self::Reply { number, held }
+    }
+
+    pub fn value(answer: Result<u64, u32>) -> Self {
+        let (number, value) = answer.map_or_else(|number| (number, 0), |value| (0, value));
+        Self::Number { number, value }
+    }
+
+    pub fn part(answer: Result<Option<(u64, u64)>, u32>) -> Self {
+        let (number, found) = answer.map_or_else(|number| (number, None), |found| (0, found));
+        let (start, len) = found.unwrap_or((0, 0));
+        Self::Part { number, found: u32::from(found.is_some()), start: start as usize, len: len as usize }
+    }
+
+    /// A listing or its refusal, in so many bytes: 19 where they are too few.
+    pub fn listing(size: usize, listing: Result<Bytes, u32>) -> Self {
+        let mut output = vec![UNWRITTEN; size];
+        let listing = listing.and_then(|l| if l.len() > size { Err(19) } else { Ok(l) });
+        let (number, len) = match listing {
+            Ok(listing) => {
+                write_front(&mut output, &listing);
+                (0, listing.len())
+            }
+            Err(number) => (number, 0),
+        };
+        Self::Listing { number, len, output }
+    }
+}
+
+/// The library's calls.
+pub trait Port {
+    fn call(&self, lent: &mut Storage, call: &Call) -> Answer;
+}
+
+/// A floor's word as a version.
+pub fn floor_of(word: u64) -> Option<i32> {
+    version(word)
+}
+
+/// A kind by its number; one above 2 is 17.
+pub fn kind_of(number: u8) -> Result<Kind, u32> {
+    KINDS.get(usize::from(number)).copied().ok_or(17)
+}
