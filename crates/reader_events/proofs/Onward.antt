@@ -83,6 +83,44 @@ taken-within (l ∷ ls) s =
     (λ a. omega (arith, taken-on l ls s a, taken-within ls (eventOn l s .state), length-append l (flatten ls)))
     (λ r n a. omega (arith, taken-off l ls s r n a))
 
+-- where one is refused, those before it: they are accepted, and its event is the last
+pub record RefusedLine (ls : List Bytes) (s : State) : Type 0 where
+  pub before : List Bytes
+  pub line : Bytes
+  pub behind : List Bytes
+  pub are : ls ≡ before ++ (line ∷ behind)
+  pub accepted : eventsOn before s .answer ≡ E.Accepted
+  pub bytes : takenBytes ls s ≡ length (flatten before)
+  pub last : eventsOn ls s ≡ eventOn line (eventsOn before s .state)
+
+pub taken-before : (ls : List Bytes) (s : State) (r : Refusal) (n : ℕ) → eventsOn ls s .answer ≡ E.Refused r n → RefusedLine ls s
+unfolding flatten
+taken-before [] s r n e = let z = sym (ap (λ (z : EventResult). z .answer) (events-none s)) ∙ e in no (cc)
+taken-before (l ∷ ls) s r n e =
+    byAnswer (eventOn l s .answer)
+    (λ a. let w = events-on l ls s a in
+    let q = taken-before ls (eventOn l s .state) r n (sym (ap (λ (z : EventResult). z .answer) w) ∙ e) in
+    let k = events-on l (q .before) s a in
+    record {
+      before = l ∷ q .before;
+      line = q .line;
+      behind = q .behind;
+      are = ap (l ∷_) (q .are);
+      accepted = ap (λ (z : EventResult). z .answer) k ∙ q .accepted;
+      bytes = taken-on l ls s a ∙ (ap (length l +_) (q .bytes) ∙ sym (length-append l (flatten (q .before))));
+      last = w ∙ (q .last ∙ ap (λ (z : EventResult). eventOn (q .line) (z .state)) (sym k));
+    })
+    (λ x m a. let k = events-none s in
+    record {
+      before = [];
+      line = l;
+      behind = ls;
+      are = refl;
+      accepted = ap (λ (z : EventResult). z .answer) k;
+      bytes = taken-off l ls s x m a;
+      last = events-off l ls s x m a ∙ ((λ i. record { state = eventOn l s .state; answer = sym a i }) ∙ ap (λ (z : EventResult). eventOn l (z .state)) (sym k));
+    })
+
 -- ---- a run that a caller reads piece by piece
 
 module _ (run : Bytes) (s : State) where

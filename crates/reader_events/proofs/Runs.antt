@@ -35,7 +35,7 @@ use Rattle.reader.specs.Event.{EventResult, refusedAt, stepped, eventOn}
 use Rattle.reader.proofs.Answers.{stepAt, byAnswer, event-22, event-stopped, event-going, event-counts}
 use Rattle.reader.proofs.Acts.{Fine}
 use Rattle.reader.proofs.Keeps.{ReadyIn, event-fine, event-ready}
-use Rattle.reader_sound.specs.Mark.{markOf}
+use Rattle.reader_sound.specs.Mark.{stopMark}
 use Rattle.reader_sound.proofs.Mark.{unmarked, marked}
 use Rattle.reader_events.specs.Events.{eventsOn, takenBytes}
 use Rattle.reader_events.specs.Runs.{RunPoint, pointAfter, pointOn, RunGiven}
@@ -44,7 +44,7 @@ use Rattle.reader_events.proofs.Onward.{events-on, taken-on, events-off
 -- ---- what is tested once
 
 module _ (s : State) where
-  pub sound-given : stateSound s ≡ true → markOf (s .reader .stop) ≡ S.Going → RunGiven s
+  pub sound-given : stateSound s ≡ true → stopMark (s .reader .stop) ≡ S.Going → RunGiven s
   unfolding stateSound readerSound
   sound-given e g = record { overlay = both-left _ _ e; pending = both-left _ _ (both-right _ _ e); going = unmarked (s .reader .stop) g }
 
@@ -141,7 +141,7 @@ module _ (run : Bytes) (s : State) where
     pub came-22 : stateSound s ≡ false → Came s (E.Refused R.Unsound 0) 0
     came-22 u = came-refused R.Unsound 0 (event-22 (slice 0 end run) s u)
 
-    pub came-stopped : stateSound s ≡ true → (r : Refusal) (n : ℕ) → markOf (s .reader .stop) ≡ S.At r n → Came s (E.Refused r n) 0
+    pub came-stopped : stateSound s ≡ true → (r : Refusal) (n : ℕ) → stopMark (s .reader .stop) ≡ S.At r n → Came s (E.Refused r n) 0
     came-stopped u r n g = let m = marked (s .reader .stop) r n g in came-refused r n (event-stopped (slice 0 end run) s r n u (m .0) (m .1))
 
 -- ---- all lines
