@@ -9,7 +9,7 @@ use Rattle.version_floor.specs.declared.Version.{Version}
 use Rattle.version_floor.specs.declared.Admit.{Admit}
 use Rattle.version_floor.specs.declared.Admit.the-variants.{Admitted, Below}
 use Rattle.refusal.specs.declared.Refusal.the-variants.{Regression, IdsFull, ArenaFull}
-use Rattle.shelf.specs.Shelf.{Shelf, known, checked, room}
+use Rattle.shelf.specs.Shelf.{Shelf, known, checked, idRoom}
 use Rattle.shelf.specs.declared.Kept.{Kept}
 use Rattle.shelf.specs.declared.Kept.the-variants.{Taken, Refused}
 use Rattle.overlay.specs.Overlay.{Overlay, shelfOf}
@@ -25,7 +25,7 @@ roomAnswer ids fits = cond ids (cond fits Taken (Refused ArenaFull)) (Refused Id
 
 -- an act on one kind
 unfoldable pub shelfAnswer : Kind → ℕ → Shelf → ℤ → Version → Bool → Kept
-shelfAnswer k setting s id claim fits = admitAnswer (checked setting (known k s id) claim) (roomAnswer (room s id) fits)
+shelfAnswer k setting s id claim fits = admitAnswer (checked setting (known k s id) claim) (roomAnswer (idRoom s id) fits)
 
 -- "15 record longer than the arena's unused bytes"
 abbrev pub recordFits : Shelf → ℕ → Bool

@@ -6,7 +6,7 @@ ghost use lib.ListN.{length};
 ghost use mir.Syntax.{w64};
 ghost use mir.Val.{toZ};
 ghost use Rattle.base.specs.Bytes.{Bytes};
-ghost use Rattle.shelf.specs.Shelf.{shelfWith, known, checked, room};
+ghost use Rattle.shelf.specs.Shelf.{shelfWith, known, checked, idRoom};
 ghost use Rattle.overlay.specs.Overlay.{lent};
 ghost use Rattle.store.specs.Lent.{shelfLent, settingIn};
 ghost use Rattle.act_answer.specs.Answer.{roomAnswer, shelfAnswer, pushAnswer, deleteAnswer};
@@ -39,7 +39,7 @@ fn claim_admit(
 
 // 14: whether the id is known, or one more has room.
 fn has_id_room(table: &[u64], ids: u64, id: u64) -> bool
-    ensures { λ r. ⌜ ((arena : Bytes) (used : ℕ) → r ≡ room (shelfWith (now (table .entry)) ids arena used) (toZ w64 id)) ⌝ }
+    ensures { λ r. ⌜ ((arena : Bytes) (used : ℕ) → r ≡ idRoom (shelfWith (now (table .entry)) ids arena used) (toZ w64 id)) ⌝ }
 {
     match table::find_row(table, ids, osm_id::osm_id_rank(signed::i64_of_bits(id))) {
         Found::At(_) => true,

@@ -7,8 +7,8 @@ use Rattle.base.specs.Bytes.{Bytes}
 use Rattle.kind.specs.declared.Kind.{Kind}
 use Rattle.nesting.specs.Name.{nameOf}
 use Rattle.nesting.specs.Nesting.{start, opened}
-use Rattle.nesting.specs.Marks.{Mark, taken, step, Change, pushes, deletes, madeAtOpening, madeAtEnd, openedMakes, closedMakes, makes, changesFrom}
-use Rattle.nesting.specs.Grammar.{Document, each, events, changes}
+use Rattle.nesting.specs.Marks.{Mark, placeTaken, markStep, Change, pushes, deletes, madeAtOpening, madeAtEnd, openedMakes, closedMakes, makes, changesFrom}
+use Rattle.nesting.specs.Grammar.{Document, eachGives, events, changes}
 use Rattle.nesting.proofs.Reading.{Leads, stays, goes, joins, making}
 use Rattle.nesting.proofs.Documents.{documents, document-changes}
 use Rattle.nesting.specs.declared.Name.{Name}
@@ -43,8 +43,8 @@ changesBy (some a) = changeOf a ∷ []
 
 -- ---- one line
 
-mark-step : (e : Bool) (n : Name) (p : Place) → step p (markOf e n) ≡ taken (opened e n p)
-unfolding step
+mark-step : (e : Bool) (n : Name) (p : Place) → markStep p (markOf e n) ≡ placeTaken (opened e n p)
+unfolding markStep
 mark-step true n p = refl
 mark-step false n p = refl
 
@@ -54,7 +54,7 @@ mark-makes true n p = refl
 mark-makes false n p = refl
 
 -- one mark, by where it leads and what it makes
-one-mark : {p q : Place} {m : Mark} {cs : List Change} → step p m ≡ some q → makes p m ≡ cs → Leads p (m ∷ []) cs q
+one-mark : {p q : Place} {m : Mark} {cs : List Change} → markStep p m ≡ some q → makes p m ≡ cs → Leads p (m ∷ []) cs q
 one-mark {q = q} e h = making (goes e (stays q)) (append-nil _ ∙ h)
 
 -- a line leads where its mark does, and its act is what the mark makes
@@ -90,8 +90,8 @@ module _ (r : Reader) where
 
   -- where an open or an empty element leads, and what it makes
   start-makes : (e : Bool) (attrs : List Attr) {o : Opened} {d : Decision} → Starts (r .place) e attrs o d
-      → OfTurn (λ t. (taken o ≡ some (t .reader .place)) × (openedMakes e (r .place .section) o ≡ changesBy (t .act))) (turnOf d r)
-  unfolding turnOf taken openedMakes madeAtOpening
+      → OfTurn (λ t. (placeTaken o ≡ some (t .reader .place)) × (openedMakes e (r .place .section) o ≡ changesBy (t .act))) (turnOf d r)
+  unfolding turnOf placeTaken openedMakes madeAtOpening
   start-makes e attrs (D.refuse x) = tt
   start-makes e attrs D.goes = (refl, refl)
   start-makes e attrs (D.begin {k = k} {q = q} {id = id} {m = m} {b = b} s i j x) = begun-makes e k q id m b (r .place .section) s (body-first attrs k x .1)
@@ -106,7 +106,7 @@ module _ (r : Reader) where
   led-by (bad x) P h g = tt
 
   line-leads : {x : Reading} {d : Decision} → KindAgrees r → Decides (r .place) x d → Led (marksIn x) (turnOf d r)
-  unfolding turnOf step makes closedMakes
+  unfolding turnOf markStep makes closedMakes
   line-leads h D.bad-line = tt
   line-leads h (D.start {e = e} {n = n} {attrs = attrs} {d = d} s) =
       led-by (turnOf d r) _ (start-makes e attrs s) (λ t g. one-mark (mark-step e (nameOf n) (r .place) ∙ g .0) (mark-makes e (nameOf n) (r .place) ∙ g .1))
@@ -126,20 +126,20 @@ changes-before : (o : Option (Act Bytes)) (acts : List (Act Bytes)) → map chan
 changes-before none acts = refl
 changes-before (some a) acts = refl
 
-pub lines-lead : {r q : Reader} {lines : List Bytes} {acts : List (Act Bytes)} → KindAgrees r → Takes r lines acts q → Leads (r .place) (each lineMarks lines) (map changeOf acts) (q .place)
-unfolding each turn decide
+pub lines-lead : {r q : Reader} {lines : List Bytes} {acts : List (Act Bytes)} → KindAgrees r → Takes r lines acts q → Leads (r .place) (eachGives lineMarks lines) (map changeOf acts) (q .place)
+unfolding eachGives turn decide
 lines-lead {r} h done = stays (r .place)
 lines-lead {r} {lines = line ∷ lines} h (more {acts = acts} t e k) =
     let l : Leads (r .place) (lineMarks line) (changesBy (t .act)) (t .reader .place) = of-turn _ (line-leads r h (decided (r .place) (eventOf line))) e in
     making (joins l (lines-lead (turn-agrees line r h e) k)) (sym (changes-before (t .act) acts))
 
 -- a fresh reader that takes the lines of a document makes the acts that the document says, of the kinds that it says, in its order
-pub document-acts : (d : Document) {lines : List Bytes} {acts : List (Act Bytes)} {q : Reader} → each lineMarks lines ≡ events d → Takes fresh lines acts q → map changeOf acts ≡ changes d
+pub document-acts : (d : Document) {lines : List Bytes} {acts : List (Act Bytes)} {q : Reader} → eachGives lineMarks lines ≡ events d → Takes fresh lines acts q → map changeOf acts ≡ changes d
 document-acts d e k = sym (lines-lead fresh-agrees k .does) ∙ (ap (changesFrom start) e ∙ document-changes d)
 
 -- and whatever a fresh reader takes up to an accepted end is the lines of a document
 pub taken-document : {lines : List Bytes} {acts : List (Act Bytes)} {q : Reader} → Takes fresh lines acts q → q .place .level ≡ L.Done
-    → (d : Document) × ((events d ≡ each lineMarks lines) × (map changeOf acts ≡ changes d))
+    → (d : Document) × ((events d ≡ eachGives lineMarks lines) × (map changeOf acts ≡ changes d))
 taken-document {lines} {q = q} k l =
-    let x = documents (each lineMarks lines) .0 (q .place, lines-lead fresh-agrees k .runs, l) in
+    let x = documents (eachGives lineMarks lines) .0 (q .place, lines-lead fresh-agrees k .runs, l) in
     (x .0, (x .1, document-acts (x .0) (sym (x .1)) k))

@@ -22,7 +22,7 @@ use Rattle.nesting.specs.declared.Opened.the-variants as O
 use Rattle.model.specs.Record.{Meta, Member, Body, place, refs, members, flagged, claimOf, kindOf}
 use Rattle.model.specs.Act.{Act, push, delete}
 use Rattle.event.specs.Event.{Attr, starts, closes, others, Reading, reads, refused, eventOf, valueOf, orEmpty}
-use Rattle.field.specs.Field.{Field, got, bad, idOf, metaOf, bodyFor}
+use Rattle.field.specs.Field.{Field, got, bad, idField, metadataOf, bodyFor}
 use Rattle.field.proofs.Fields.{value-all, tag-got, member-got}
 use Rattle.field.proofs.Metadata.{meta-user}
 use Rattle.decision.specs.Decision.{Decision, refuses, moves, begins, deletes, tags, refers, joins, ends, decideReading, decide}
@@ -78,14 +78,14 @@ pub data Made (r : Reader) : Reading → Act Bytes → Type 0 where
   at-close : r .place .level ≡ L.Element → Pushing (r .place) → Made r (reads closes) (push (r .staged .id) (r .staged .held))
   -- an empty element there
   at-empty : {n : Bytes} {attrs : List Attr} {k : Kind} {q : Place} {id : ℤ} {m : Meta Bytes} {b : Body Bytes} → opened true (nameOf n) (r .place) ≡ O.Begins k q → Pushing (r .place)
-      → idOf attrs ≡ got id → metaOf attrs ≡ got m → bodyFor k attrs ≡ got b → Made r (reads (starts true n attrs)) (push id (first m b))
+      → idField attrs ≡ got id → metadataOf attrs ≡ got m → bodyFor k attrs ≡ got b → Made r (reads (starts true n attrs)) (push id (first m b))
   -- the opening of an element, empty or not, in a `delete` section
   at-opening : {e : Bool} {n : Bytes} {attrs : List Attr} {k : Kind} {q : Place} {id : ℤ} {m : Meta Bytes} → opened e (nameOf n) (r .place) ≡ O.Begins k q → r .place .section ≡ A.Delete
-      → idOf attrs ≡ got id → metaOf attrs ≡ got m → Made r (reads (starts e n attrs)) (delete k id (claimOf m))
+      → idField attrs ≡ got id → metadataOf attrs ≡ got m → Made r (reads (starts e n attrs)) (delete k id (claimOf m))
 
 module _ (r : Reader) {a : Act Bytes} where
   begin-makes : (e : Bool) {n : Bytes} {attrs : List Attr} {k : Kind} {q : Place} (id : ℤ) (m : Meta Bytes) (b : Body Bytes) → opened e (nameOf n) (r .place) ≡ O.Begins k q → Pushing (r .place)
-      → idOf attrs ≡ got id → metaOf attrs ≡ got m → bodyFor k attrs ≡ got b → actIn (turnOf (begins e q id m b) r) ≡ some a → Made r (reads (starts e n attrs)) a
+      → idField attrs ≡ got id → metadataOf attrs ≡ got m → bodyFor k attrs ≡ got b → actIn (turnOf (begins e q id m b) r) ≡ some a → Made r (reads (starts e n attrs)) a
   unfolding turnOf
   begin-makes true id m b o h i j x e = let s : push id (first m b) ≡ a = cc in rw (← s) (at-empty o h i j x)
   begin-makes false id m b o h i j x e = no (cc)

@@ -17,7 +17,7 @@ use Rattle.compact.specs.Layout.{Head}
 use Rattle.compact.specs.Cut.{pushedRecord}
 use Rattle.compact.specs.Fits.{fitsHead, fitsMeta}
 use Rattle.compact.specs.Legal.{legalTexts}
-use Rattle.append.specs.Append.{written, After, append}
+use Rattle.append.specs.Append.{recordWritten, ArenaAfter, append}
 use Rattle.append.proofs.Writes.{fits-is, full-is}
 use Rattle.compact.proofs.Cuts.{pushed-bytes}
 use Rattle.compact.proofs.Back.{Found, read-record}
@@ -48,28 +48,28 @@ module _ (s : Bytes) (used : ℕ) (t a : Bytes) where
 
   pub appended : (end : ℕ) → append s used t ≡ record { arena = a; answer = End end } → Joined s used t a end
   appended end e =
-      let x = ap (λ (z : After). z .arena) e in
-      let y = ap (λ (z : After). z .answer) e in
+      let x = ap (λ (z : ArenaAfter). z .arena) e in
+      let y = ap (λ (z : ArenaAfter). z .answer) e in
       byLe (used + length t) (length s)
-      (λ h. let v : over s used t ≡ a = sym (ap (λ (z : After). z .arena) (fits-is s used t h)) ∙ x in
-      let w : End (used + length t) ≡ End end = sym (ap (λ (z : After). z .answer) (fits-is s used t h)) ∙ y in
+      (λ h. let v : over s used t ≡ a = sym (ap (λ (z : ArenaAfter). z .arena) (fits-is s used t h)) ∙ x in
+      let w : End (used + length t) ≡ End end = sym (ap (λ (z : ArenaAfter). z .answer) (fits-is s used t h)) ∙ y in
       let u : used + length t ≡ end = cc in rw (← v, ← u) (joined-over h))
-      (λ h. let w : Full ≡ End end = sym (ap (λ (z : After). z .answer) (full-is s used t h)) ∙ y in no cc)
+      (λ h. let w : Full ≡ End end = sym (ap (λ (z : ArenaAfter). z .answer) (full-is s used t h)) ∙ y in no cc)
 
   -- 15: nothing has changed, and there was no room
   pub refused : append s used t ≡ record { arena = a; answer = Full } → (a ≡ s) × (length s < used + length t)
   refused e =
-      let x = ap (λ (z : After). z .arena) e in
-      let y = ap (λ (z : After). z .answer) e in
+      let x = ap (λ (z : ArenaAfter). z .arena) e in
+      let y = ap (λ (z : ArenaAfter). z .answer) e in
       byLe (used + length t) (length s)
-      (λ h. let w : End (used + length t) ≡ Full = sym (ap (λ (z : After). z .answer) (fits-is s used t h)) ∙ y in no cc)
-      (λ h. (sym x ∙ ap (λ (z : After). z .arena) (full-is s used t h), h))
+      (λ h. let w : End (used + length t) ≡ Full = sym (ap (λ (z : ArenaAfter). z .answer) (fits-is s used t h)) ∙ y in no cc)
+      (λ h. (sym x ∙ ap (λ (z : ArenaAfter). z .arena) (full-is s used t h), h))
 
 -- T6 through the view: the record that a push's head, metadata and parts make is read from the bytes that its append wrote
 pub read-view : (k : Kind) (h : Head) (m : Meta ℕ) (parts : Bytes) (r : Record ℕ) (s : Bytes) (used : ℕ) (a : Bytes) (end : ℕ)
     → all isByte parts ≡ true → fitsHead k h ≡ true → fitsMeta m ≡ true → pushedRecord k h m parts ≡ some r → legalTexts r ≡ true
-    → append s used (written k h m parts) ≡ record { arena = a; answer = End end } → Found (h .id) r (take (end - used) (drop used a))
+    → append s used (recordWritten k h m parts) ≡ record { arena = a; answer = End end } → Found (h .id) r (take (end - used) (drop used a))
 read-view k h m parts r s used a end b f g p l e =
     let w = pushed-bytes k h m parts r b f g p in
-    let j = appended s used (written k h m parts) a end e in
+    let j = appended s used (recordWritten k h m parts) a end e in
     rw (j .view, w .0) (rw append-nil at (read-record (h .id) r [] (w .1) l))

@@ -12,7 +12,7 @@ use Rattle.little.specs.Little.{le, over}
 use Rattle.little.proofs.Littles.{length-le}
 use Rattle.little.proofs.Overs.{over-nothing, over-over, over-lent-start}
 use Rattle.append.specs.declared.Appended.the-variants.{End, Full}
-use Rattle.append.specs.Append.{After, append}
+use Rattle.append.specs.Append.{ArenaAfter, append}
 
 -- ---- one after another: n bytes t are written over the start of s₀
 
@@ -44,5 +44,5 @@ module _ (s : Bytes) (used : ℕ) (t : Bytes) where
 
   -- the arena was lent from its used bytes on, and `last` is what the writer left there
   pub append-end : (last : Bytes) (end : ℕ) → used + length t ≤ length s → end ≡ used + length t → last ≡ over (midOf used (length s - used) s) 0 t
-      → _≡_ {A = After} (record { arena = putMid used (length s - used) s last; answer = End end }) (append s used t)
+      → _≡_ {A = ArenaAfter} (record { arena = putMid used (length s - used) s last; answer = End end }) (append s used t)
   append-end last end h e w = rw (fits-is h, e, over-lent-start s last used t (omega arith) w)

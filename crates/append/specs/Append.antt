@@ -13,15 +13,15 @@ use Rattle.append.specs.declared.Appended.{Appended}
 use Rattle.append.specs.declared.Appended.the-variants.{End, Full}
 
 -- what is written of a record: its head, its metadata and its parts, which are given as bytes
-abbrev pub written : Kind → Head → Meta ℕ → Bytes → Bytes
-written k h m parts = headBytes k h ++ metaBytes m ++ parts
+abbrev pub recordWritten : Kind → Head → Meta ℕ → Bytes → Bytes
+recordWritten k h m parts = headBytes k h ++ metaBytes m ++ parts
 
 -- what an append leaves: the arena, and where its used bytes end
-pub record After : Type 0 where
+pub record ArenaAfter : Type 0 where
   pub arena : Bytes
   pub answer : Appended
 
-unfoldable pub append : Bytes → ℕ → Bytes → After
+unfoldable pub append : Bytes → ℕ → Bytes → ArenaAfter
 append s used t =
     cond (leb (used + length t) (length s))
     (record { arena = over s used t; answer = End (used + length t) })

@@ -6,7 +6,7 @@ ghost use Rattle.kind.specs.declared.Kind.the-variants.{Node, Way, Relation};
 ghost use Rattle.little.specs.Little.{over};
 ghost use Rattle.compact.specs.Layout.{metaBytes, headBytes};
 ghost use Rattle.compact.specs.Held.{metaOf, nodeHead, countsHead, wayHead, relationHead};
-ghost use Rattle.append.specs.Append.{written, append};
+ghost use Rattle.append.specs.Append.{recordWritten, append};
 use compact::ArenaMeta;
 use compact::CompactNode;
 use compact::CompactRelation;
@@ -71,7 +71,7 @@ fn put_counts(out: &mut [u8], id: u64, count: u32, tags: u32)
 }
 
 fn put_node(out: &mut [u8], head: CompactNode, meta: ArenaMeta, parts: &[u8])
-    ensures { λ _. ⌜ now (out .exit) ≡ over (now (out .entry)) 0 (written Node (nodeHead head) (metaOf meta) (now (parts .entry))) ⌝ }
+    ensures { λ _. ⌜ now (out .exit) ≡ over (now (out .entry)) 0 (recordWritten Node (nodeHead head) (metaOf meta) (now (parts .entry))) ⌝ }
 {
     put_place(out, head);
     put_meta_at(out, CompactNode::META_OFF, meta);
@@ -79,7 +79,7 @@ fn put_node(out: &mut [u8], head: CompactNode, meta: ArenaMeta, parts: &[u8])
 }
 
 fn put_counted(out: &mut [u8], id: u64, count: u32, tags: u32, meta: ArenaMeta, parts: &[u8])
-    ensures { λ _. ⌜ now (out .exit) ≡ over (now (out .entry)) 0 (written Way (countsHead id count tags) (metaOf meta) (now (parts .entry))) ⌝ }
+    ensures { λ _. ⌜ now (out .exit) ≡ over (now (out .entry)) 0 (recordWritten Way (countsHead id count tags) (metaOf meta) (now (parts .entry))) ⌝ }
 {
     put_counts(out, id, count, tags);
     put_meta_at(out, CompactWay::META_OFF, meta);
@@ -95,7 +95,7 @@ pub fn append_node(
     meta: ArenaMeta,
     parts: &[u8],
 ) -> Appended
-    ensures { λ r. ⌜ record { arena = now (arena .exit); answer = r } ≡ append (now (arena .entry)) used (written Node (nodeHead head) (metaOf meta) (now (parts .entry))) ⌝ }
+    ensures { λ r. ⌜ record { arena = now (arena .exit); answer = r } ≡ append (now (arena .entry)) used (recordWritten Node (nodeHead head) (metaOf meta) (now (parts .entry))) ⌝ }
 {
     if lacks(arena.len(), used, CompactNode::HEADER_LEN, parts.len()) {
         return Appended::Full;
@@ -114,7 +114,7 @@ fn append_counted(
     meta: ArenaMeta,
     parts: &[u8],
 ) -> Appended
-    ensures { λ r. ⌜ record { arena = now (arena .exit); answer = r } ≡ append (now (arena .entry)) used (written Way (countsHead id count tags) (metaOf meta) (now (parts .entry))) ⌝ }
+    ensures { λ r. ⌜ record { arena = now (arena .exit); answer = r } ≡ append (now (arena .entry)) used (recordWritten Way (countsHead id count tags) (metaOf meta) (now (parts .entry))) ⌝ }
 {
     if lacks(arena.len(), used, CompactWay::HEADER_LEN, parts.len()) {
         return Appended::Full;
@@ -130,7 +130,7 @@ pub fn append_way(
     meta: ArenaMeta,
     parts: &[u8],
 ) -> Appended
-    ensures { λ r. ⌜ record { arena = now (arena .exit); answer = r } ≡ append (now (arena .entry)) used (written Way (wayHead head) (metaOf meta) (now (parts .entry))) ⌝ }
+    ensures { λ r. ⌜ record { arena = now (arena .exit); answer = r } ≡ append (now (arena .entry)) used (recordWritten Way (wayHead head) (metaOf meta) (now (parts .entry))) ⌝ }
 {
     append_counted(
         arena,
@@ -150,7 +150,7 @@ pub fn append_relation(
     meta: ArenaMeta,
     parts: &[u8],
 ) -> Appended
-    ensures { λ r. ⌜ record { arena = now (arena .exit); answer = r } ≡ append (now (arena .entry)) used (written Relation (relationHead head) (metaOf meta) (now (parts .entry))) ⌝ }
+    ensures { λ r. ⌜ record { arena = now (arena .exit); answer = r } ≡ append (now (arena .entry)) used (recordWritten Relation (relationHead head) (metaOf meta) (now (parts .entry))) ⌝ }
 {
     append_counted(
         arena,

@@ -1,2 +1,3 @@
 pub mod Bytes
 pub mod Ascii
+pub mod Chars

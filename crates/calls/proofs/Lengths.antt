@@ -11,13 +11,13 @@ use Rattle.model.specs.Record.{Tag, Body, place, refs, members, Record}
 use Rattle.model.specs.Act.{Act}
 use Rattle.model.specs.Swap.{swapMember, swapTag, swapBody, swapRecord}
 use Rattle.model.proofs.Swaps.{body-kind}
-use Rattle.compact.specs.Layout.{i64, memberBytes, tagBytes, joined, bodyBytes, partsBytes, recordBytes}
+use Rattle.compact.specs.Layout.{i64, memberBytes, tagBytes, joinedBytes, bodyBytes, partsBytes, recordBytes}
 use Rattle.compact.proofs.Lengths.{length-i64, length-member, length-tag, length-joined, length-record}
 use Rattle.calls.specs.Known.{tagsLength, bodyLength, recordLength, pushedBy, pushedBytes}
 
 module _ {S : Type 0} (f : ℕ → S) where
-  tags-length : (ts : List (Tag ℕ)) → tagsLength (map (swapTag f) ts) ≡ length (joined tagBytes ts)
-  unfolding tagsLength joined
+  tags-length : (ts : List (Tag ℕ)) → tagsLength (map (swapTag f) ts) ≡ length (joinedBytes tagBytes ts)
+  unfolding tagsLength joinedBytes
   tags-length [] = refl
   tags-length (t ∷ ts) = rw (tags-length ts, length-append, length-tag t)
 

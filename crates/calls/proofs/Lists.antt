@@ -26,7 +26,7 @@ use Rattle.compact.specs.Held.{metaOf, headIn}
 use Rattle.compact.specs.Fits.{fitsSigned, fitsMeta}
 use Rattle.compact.specs.declared.ArenaMeta.{ArenaMeta}
 use Rattle.compact.specs.declared.PushHead.{PushHead}
-use Rattle.interner.specs.Texts.{accepted, takeAll}
+use Rattle.interner.specs.Texts.{internAccepted, takeAll}
 use Rattle.interner.specs.Strings.{intern}
 use Rattle.interner.specs.Sound.{textsOf}
 use Rattle.interner.specs.declared.Interned.{Interned}
@@ -75,7 +75,7 @@ given-claim m h x e =
     (λ t. no (cc (rw t at e)))
 
 -- a handle that is answered was not refused 13
-is-held : (i : Interned) (n : ℕ) → handleIn i ≡ H.Is n → accepted i ≡ true
+is-held : (i : Interned) (n : ℕ) → handleIn i ≡ H.Is n → internAccepted i ≡ true
 is-held (I.Held h) n e = refl
 is-held (I.New h) n e = refl
 is-held I.Full n e = no cc

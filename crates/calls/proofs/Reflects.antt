@@ -24,7 +24,7 @@ use Rattle.version_floor.specs.Version.{admitOf}
 use Rattle.version_floor.specs.declared.Admit.the-variants.{Below}
 use Rattle.version_floor.proofs.Versions.{below-is}
 use Rattle.refusal.specs.declared.Refusal.the-variants.{Regression}
-use Rattle.interner.specs.Texts.{textOf, takeIn, noTexts, accepted}
+use Rattle.interner.specs.Texts.{textOf, takeIn, noTexts, internAccepted}
 use Rattle.interner.specs.Strings.{intern}
 use Rattle.interner.specs.Sound.{textsOf}
 use Rattle.interner.proofs.Held.{text-stays}
@@ -48,7 +48,7 @@ use Rattle.sound.proofs.Keeps as Sounds
 use Rattle.overlay.specs.Overlay.{Overlay, shelfOf, withShelf, withTexts, largest, sizesFit, shelfFits, textsFit, empty}
 use Rattle.overlay.specs.Given.{InBytes}
 use Rattle.overlay.specs.Sound.{Sound}
-use Rattle.overlay.specs.Calls.{After, setUp}
+use Rattle.overlay.specs.Calls.{OverlayAfter, setUp}
 use Rattle.store.specs.Calls.{Interning}
 use Rattle.direct.specs.Calls.{internOn}
 use Rattle.overlay.proofs.Decides.{decides}
@@ -167,7 +167,7 @@ module _ (setting : ℕ) (o : Overlay) (held : List Bytes) (acts : List (Act Byt
         (rw (l .rows) (ranked-put id _ _ (signed-fits id fits) (rowsIn s) (w .ranks .rows k)))
 
   -- a text taken in: the held handles keep their texts
-  pub reflects-text : (t : Bytes) → isText t ≡ true → accepted (intern (o .texts) t .answer) ≡ true
+  pub reflects-text : (t : Bytes) → isText t ≡ true → internAccepted (intern (o .texts) t .answer) ≡ true
       → Reflects setting (withTexts (intern (o .texts) t .store) o) (takeIn held t) acts
   reflects-text t l a =
       let e : internOn t o .overlay ≡ withTexts (intern (o .texts) t .store) o = ap (λ (z : Interning). z .overlay) (intern-store t o (decides o (w .bytes) .1 (w .sound)) l) in
@@ -229,7 +229,7 @@ module _ (setting : ℕ) (o : Overlay) (held : List Bytes) (acts : List (Act Byt
 -- ---- an empty overlay stands for no act
 
 pub reflects-empty : (setting : ℕ) (o : Overlay) → sizesFit largest o ≡ true → InBytes o → Reflects setting (empty setting o) noTexts []
-reflects-empty setting o fit b = bySetUp setting o (λ s e. clash fit s) (λ s e. go (ap (λ (z : After). z .answer) e) (ap (λ (z : After). z .overlay) e))
+reflects-empty setting o fit b = bySetUp setting o (λ s e. clash fit s) (λ s e. go (ap (λ (z : OverlayAfter). z .answer) e) (ap (λ (z : OverlayAfter). z .overlay) e))
   where
     told : (k : Kind) → Tells k setting (shelfOf k (empty setting o)) noTexts []
     told Node = tells-nothing Node setting (o .nodes .table) (o .nodes .arena) noTexts

@@ -19,7 +19,7 @@ use Rattle.version_floor.specs.declared.Version.{Version}
 use Rattle.model.specs.Record.{claimOf}
 use Rattle.model.specs.Act.{Left, gone, live}
 use Rattle.model.specs.Swap.{swapRecord}
-use Rattle.compact.specs.Layout.{joined}
+use Rattle.compact.specs.Layout.{joinedBytes}
 use Rattle.compact.specs.Cut.{Kept}
 use Rattle.compact.specs.Fits.{fitsKept}
 use Rattle.compact.specs.Legal.{legal}
@@ -115,7 +115,7 @@ module _ (strings : ℕ) (k : Kind) (setting : ℕ) (s : Shelf) (x : Kept) (fits
   pub push-last : length (s .arena) < 2 ^ 63 → lastOf k after f (x .id) ≡ some (live (swapRecord f (x .held)))
   unfolding isLive
   push-last short =
-      let n : length (joined keptBytes (w .whole .kept)) ≡ s .used = sym (ap length (w .whole .same)) ∙ length-take-le (s .used) (s .arena) (w .fits) in
+      let n : length (joinedBytes keptBytes (w .whole .kept)) ≡ s .used = sym (ap length (w .whole .same)) ∙ length-take-le (s .used) (s .arena) (w .fits) in
       let l : isLive (s .used) ≡ true = lt-ltb (s .used) (2 ^ 63) (omega (arith, w .fits)) in
       last-own strings k s w after (x .id) (s .used) floor laid read-stays f ∙ rw (l, read-after (s .used) x (rw n at (record-last (w .whole .kept) x)))
 

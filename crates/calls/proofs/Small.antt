@@ -12,15 +12,15 @@ use Rattle.little.proofs.Littles.{bytes-le}
 use Rattle.text.specs.Check.{isText}
 use Rattle.reader.proofs.Small.{text-small}
 use Rattle.model.specs.Record.{Member, Tag, Body, place, refs, members, Record}
-use Rattle.compact.specs.Layout.{i64, memberBytes, tagBytes, joined, bodyBytes, partsBytes, recordBytes}
+use Rattle.compact.specs.Layout.{i64, memberBytes, tagBytes, joinedBytes, bodyBytes, partsBytes, recordBytes}
 use Rattle.compact.specs.Legal.{legalTexts, legal}
 use Rattle.overlay.proofs.Bounds.{written-small}
 
 -- elements that are bytes each, one after the other
-joined-small : {A : Type 0} (p : A → Bool) (bytes : A → Bytes) → ((a : A) → p a ≡ true → all isByte (bytes a) ≡ true) → (xs : List A) → all p xs ≡ true → all isByte (joined bytes xs) ≡ true
-unfolding joined
+joined-small : {A : Type 0} (p : A → Bool) (bytes : A → Bytes) → ((a : A) → p a ≡ true → all isByte (bytes a) ≡ true) → (xs : List A) → all p xs ≡ true → all isByte (joinedBytes bytes xs) ≡ true
+unfolding joinedBytes
 joined-small p bytes f [] h = all-nil isByte
-joined-small p bytes f (x ∷ xs) h = all-append isByte (bytes x) (joined bytes xs) (f x (all-head p x xs h)) (joined-small p bytes f xs (all-tail p x xs h))
+joined-small p bytes f (x ∷ xs) h = all-append isByte (bytes x) (joinedBytes bytes xs) (f x (all-head p x xs h)) (joined-small p bytes f xs (all-tail p x xs h))
 
 all-of : {A : Type 0} (xs : List A) → all (λ (x : A). true) xs ≡ true
 all-of [] = all-nil (λ x. true)
@@ -44,5 +44,5 @@ pub record-small : (strings : ℕ) (id : ℤ) (r : Record ℕ) → legal strings
 unfolding recordBytes partsBytes legal legalTexts
 record-small strings id r h =
     written-small _ _ (r .meta) _
-    (all-append isByte (bodyBytes (r .body)) (joined tagBytes (r .tags)) (body-small (r .body))
+    (all-append isByte (bodyBytes (r .body)) (joinedBytes tagBytes (r .tags)) (body-small (r .body))
     (joined-small (λ (t : Tag ℕ). isText (t .value)) tagBytes tag-small (r .tags) (both-left _ _ (both-right _ _ h))))

@@ -36,7 +36,7 @@ use Rattle.acts.specs.Call.{begin, worldAfter, actsOf, linesHeard}
 use Rattle.overlay.specs.Overlay.{Overlay, shelfOf, largest, sizesFit, empty}
 use Rattle.overlay.specs.Given.{InBytes, headFits}
 use Rattle.overlay.specs.Sound.{isSound}
-use Rattle.overlay.specs.Calls.{After}
+use Rattle.overlay.specs.Calls.{OverlayAfter}
 use Rattle.direct.specs.Calls.{pushOn, deleteOn, internOn}
 use Rattle.store.specs.declared.Handle.the-variants as H
 use Rattle.direct.proofs.Answers.{push-store, delete-store}
@@ -120,7 +120,7 @@ module _ (o : Overlay) (sizes : sizesFit largest o ≡ true) (lent : InBytes o) 
       ↔ Regresses (actsOf (replies 0 o parts cs)) (record { kind = k; id = toZ w64 (h .id) }) (claimOf (metaOf m)) v
   regression-push k h m bytes f l v =
       let q = storageAfter 0 o parts cs .overlay in
-      let e = ap (λ (z : After). z .answer) (push-store k h m bytes q (agrees-fine agrees .sound) l) in
+      let e = ap (λ (z : OverlayAfter). z .answer) (push-store k h m bytes q (agrees-fine agrees .sound) l) in
       rw e (push-regresses 0 q _ _ (agrees .overlay) refl k (toZ w64 (h .id)) (id-given h f) (claimOf (metaOf m)) v _)
 
   pub regression-delete : (k : Kind) (id : ℕ) (m : ArenaMeta) → id < 2 ^ 64 → legalMeta (storageAfter 0 o parts cs .overlay .texts .strings) (metaOf m) ≡ true → (v : ℤ)
@@ -128,7 +128,7 @@ module _ (o : Overlay) (sizes : sizesFit largest o ≡ true) (lent : InBytes o) 
       ↔ Regresses (actsOf (replies 0 o parts cs)) (record { kind = k; id = toZ w64 id }) (claimOf (metaOf m)) v
   regression-delete k id m f l v =
       let q = storageAfter 0 o parts cs .overlay in
-      let e = ap (λ (z : After). z .answer) (delete-store k (toZ w64 id) (metaOf m) q (agrees-fine agrees .sound) l) in
+      let e = ap (λ (z : OverlayAfter). z .answer) (delete-store k (toZ w64 id) (metaOf m) q (agrees-fine agrees .sound) l) in
       rw e (delete-regresses 0 q _ _ (agrees .overlay) refl k (toZ w64 id) (sfits-toZ {w = w64} (fits-of-lt f)) (claimOf (metaOf m)) v)
 
   -- and so is an act that a reader's event makes, at the line that is one more than those that the reader has taken, unless one of its events was refused before or the count

@@ -21,7 +21,7 @@ use Rattle.compact.specs.declared.MemberStep.the-variants as member
 use Rattle.compact.specs.declared.TagStep.the-variants as tag
 use Rattle.compact.specs.Layout.{headLen}
 use Rattle.compact.specs.Cut.{Cut, found, cutI64, cutMeta, cutMember, cutHead}
-use Rattle.compact.specs.View.{unsoundNumber, answer, nodeRead, wayRead, relationRead, metaRead, step, refStep, memberStep, cutText, tagStep}
+use Rattle.compact.specs.View.{unsoundNumber, answerCut, nodeRead, wayRead, relationRead, metaRead, stepBy, refStep, memberStep, cutText, tagStep}
 use Rattle.compact.proofs.Places.{Sized, sized-none, i64-sized, member-sized, meta-sized, head-whole, head-short}
 use Rattle.compact.proofs.Steps.{step-done, step-none, step-some}
 
@@ -36,7 +36,7 @@ pub record Exactly (P Q : Type 0) : Type 0 where
 
 -- ---- heads and metadata
 
-answer-22 : {A B : Type 0} (unsound : B) (is : A → Bytes → B) → ((a : A) (r : Bytes) → is a r ≡ unsound → ⊥) → (o : Option (Cut A)) → Exactly (answer unsound is o ≡ unsound) (o ≡ none)
+answer-22 : {A B : Type 0} (unsound : B) (is : A → Bytes → B) → ((a : A) (r : Bytes) → is a r ≡ unsound → ⊥) → (o : Option (Cut A)) → Exactly (answerCut unsound is o ≡ unsound) (o ≡ none)
 answer-22 unsound is apart none = record { to = λ e. refl; from = λ e. refl }
 answer-22 unsound is apart (some c) = record { to = λ e. absurd (apart (c .item) (c .rest) e); from = λ e. no cc }
 
@@ -66,7 +66,7 @@ pub record Lacks {A : Type 0} (cut : Bytes → Option (Cut A)) (s : Bytes) (offs
 
 module _ {A B : Type 0} (done unsound : B) (yields : A → ℕ → B) (others : done ≡ unsound → ⊥) (apart : (a : A) (n : ℕ) → yields a n ≡ unsound → ⊥) (cut : Bytes → Option (Cut A))
     (s : Bytes) (offset remaining : ℕ) where
-  step-22 : Exactly (step done unsound yields cut s offset remaining ≡ unsound) (Lacks cut s offset remaining)
+  step-22 : Exactly (stepBy done unsound yields cut s offset remaining ≡ unsound) (Lacks cut s offset remaining)
   step-22 =
       record {
         to = λ e. byEq remaining 0
@@ -75,7 +75,7 @@ module _ {A B : Type 0} (done unsound : B) (yields : A → ℕ → B) (others : 
         from = λ l. step-none done unsound yields cut s offset remaining (l .more) (l .none-there);
       }
     where
-      go : (remaining ≡ 0 → ⊥) → (o : Option (Cut A)) → cut (drop offset s) ≡ o → step done unsound yields cut s offset remaining ≡ unsound → cut (drop offset s) ≡ none
+      go : (remaining ≡ 0 → ⊥) → (o : Option (Cut A)) → cut (drop offset s) ≡ o → stepBy done unsound yields cut s offset remaining ≡ unsound → cut (drop offset s) ≡ none
       go z none q e = q
       go z (some c) q e = absurd (apart (c .item) _ (sym (step-some done unsound yields cut s offset remaining z (c .item) (c .rest) q) ∙ e))
 

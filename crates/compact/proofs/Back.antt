@@ -18,16 +18,16 @@ use Rattle.base.proofs.Lists.{all-head, all-tail, all-nil, all-cons}
 use Rattle.little.specs.Little.{le, valueAt}
 use Rattle.little.proofs.Littles.{length-le, value-back}
 use Rattle.text.specs.Check.{isText}
-use Rattle.kind.specs.Kind.{numberOf}
+use Rattle.kind.specs.Kind.{kindNumber}
 use Rattle.kind.proofs.Numbers.{number-back}
 use Rattle.model.specs.Record.{Meta, Member, Tag, Body, place, refs, members, Record, kindOf}
-use Rattle.compact.specs.Layout.{u32, i32, i64, metaBytes, memberBytes, tagBytes, joined, Head, headBytes, headOf, headLen, bodyBytes, partsBytes, recordBytes}
-use Rattle.compact.specs.Cut.{andThen, found, cutI64, cutMember}
+use Rattle.compact.specs.Layout.{u32, i32, i64, metaBytes, memberBytes, tagBytes, joinedBytes, Head, headBytes, headOf, headLen, bodyBytes, partsBytes, recordBytes}
+use Rattle.compact.specs.Cut.{thenCut, found, cutI64, cutMember}
 use Rattle.compact.specs.Fits.{fitsNumber, fitsSigned, fitsMeta, fitsMember, fitsTag, fitsHead, fitsBody, fitting}
 use Rattle.compact.specs.Legal.{legalTexts}
-use Rattle.compact.specs.Held.{metaOf, metaBits, nodeHead, countsHead, wayHead, relationHead, nodeBits, wayBits, relationBits, memberOf}
+use Rattle.compact.specs.Held.{metaOf, metaBits, nodeHead, countsHead, wayHead, relationHead, nodeBits, wayBits, relationBits, memberHeld}
 use Rattle.compact.specs.View.{nodeAt, wayAt, relationAt, metaAt, refAt, memberAt, tagsAt, headAt}
-use Rattle.compact.specs.View.{nodeRead, wayRead, relationRead, headRead, metaGiven, metaRead, Step, done, yields, refStep, refGiven, memberStep, memberGiven, cutText, tagStep, tagGiven, stepped, refsFrom, membersFrom, tagsFrom, bodyRead, readRecord}
+use Rattle.compact.specs.View.{nodeRead, wayRead, relationRead, headRead, metaGiven, metaRead, ReadStep, done, yields, refStep, refGiven, memberStep, memberGiven, cutText, tagStep, tagGiven, stepsFrom, refsFrom, membersFrom, tagsFrom, bodyRead, readRecord}
 use Rattle.compact.proofs.Format.{signed-again, i64-format}
 use Rattle.compact.proofs.Cuts.{type-fits, meta-format, member-format, tag-format, head-back as head-cut, head-id, head-tags}
 use Rattle.compact.proofs.Steps.{step-done, step-some}
@@ -107,12 +107,12 @@ module _ {A : Type 0} (s : Bytes) (f : ℕ → Option A) (bytes : A → Bytes) (
     (long : (a : A) → length (bytes a) ≡ width)
     (here : (i : ℕ) (a : A) (r : Bytes) → fits a ≡ true → drop (base + width * i) s ≡ bytes a ++ r → f i ≡ some a) where
   -- the j-th of those that begin with number i
-  element : (xs : List A) (i j : ℕ) (d : A) (r : Bytes) → all fits xs ≡ true → drop (base + width * i) s ≡ joined bytes xs ++ r → j < length xs → f (i + j) ≡ some (getD xs j d)
-  unfolding joined
+  element : (xs : List A) (i j : ℕ) (d : A) (r : Bytes) → all fits xs ≡ true → drop (base + width * i) s ≡ joinedBytes bytes xs ++ r → j < length xs → f (i + j) ≡ some (getD xs j d)
+  unfolding joinedBytes
   element [] i j d r h e l = absurd (omega arith)
   element (x ∷ xs) i zero d r h e l = rw add-zero (here i x _ (all-head fits x xs h) (rw append-assoc at e))
   element (x ∷ xs) i (suc j) d r h e l =
-      let w : Lie s (base + width * i) (bytes x ∷ joined bytes xs ∷ []) r = record { is = rw append-assoc at e } in
+      let w : Lie s (base + width * i) (bytes x ∷ joinedBytes bytes xs ∷ []) r = record { is = rw append-assoc at e } in
       let n = later width (base + width * suc i) (long x) (omega arith) w in
       rw (add-suc, ← suc-add) (element xs (suc i) j d r (all-tail fits x xs h) (n .is) (omega arith))
 
@@ -120,19 +120,19 @@ ref-back : (s : Bytes) (i : ℕ) (z : ℤ) (r : Bytes) → fitsSigned w64 z ≡ 
 unfolding refAt
 ref-back s i z r h e = let w : Lie s (45 + 8 * i) (i64 z ∷ []) r = record { is = e } in rw (i64-at z h w)
 
-member-back : (s : Bytes) (i : ℕ) (m : Member ℕ) (r : Bytes) → fitsMember m ≡ true → drop (45 + 13 * i) s ≡ memberBytes m ++ r → memberOf (memberAt s i) ≡ some m
-unfolding memberOf memberAt memberBytes fitsMember
+member-back : (s : Bytes) (i : ℕ) (m : Member ℕ) (r : Bytes) → fitsMember m ≡ true → drop (45 + 13 * i) s ≡ memberBytes m ++ r → memberHeld (memberAt s i) ≡ some m
+unfolding memberHeld memberAt memberBytes fitsMember
 member-back s i m r h e =
-    let w1 : Lie s (45 + 13 * i) (i64 (m .ref) ∷ le 1 (numberOf (m .type)) ∷ u32 (m .role) ∷ []) r = record { is = simp append-assoc at e } in
+    let w1 : Lie s (45 + 13 * i) (i64 (m .ref) ∷ le 1 (kindNumber (m .type)) ∷ u32 (m .role) ∷ []) r = record { is = simp append-assoc at e } in
     let w2 = later 8 (45 + 13 * i + 8) (length-le 8 _) refl w1 in
     let w3 = later 1 (45 + 13 * i + 9) (length-le 1 _) (omega arith) w2 in
-    rw (i64-at (m .ref) (both-left _ _ h) w1, number-at 1 (numberOf (m .type)) (type-fits (m .type)) w2, number-at 4 (m .role) (both-right _ _ h) w3, number-back (m .type))
+    rw (i64-at (m .ref) (both-left _ _ h) w1, number-at 1 (kindNumber (m .type)) (type-fits (m .type)) w2, number-at 4 (m .role) (both-right _ _ h) w3, number-back (m .type))
 
-refs-back : (s : Bytes) (rs : List ℤ) (r : Bytes) → all (fitsSigned w64) rs ≡ true → drop 45 s ≡ joined i64 rs ++ r → (i : ℕ) → i < length rs → some (toZ w64 (refAt s i)) ≡ some (getD rs i (pos 0))
+refs-back : (s : Bytes) (rs : List ℤ) (r : Bytes) → all (fitsSigned w64) rs ≡ true → drop 45 s ≡ joinedBytes i64 rs ++ r → (i : ℕ) → i < length rs → some (toZ w64 (refAt s i)) ≡ some (getD rs i (pos 0))
 refs-back s rs r h e i l = rw zero-add at (element s (λ i. some (toZ w64 (refAt s i))) i64 (fitsSigned w64) 8 45 length-i64 (ref-back s) rs 0 i (pos 0) r h e l)
 
-members-back : (s : Bytes) (ms : List (Member ℕ)) (r : Bytes) → all fitsMember ms ≡ true → drop 45 s ≡ joined memberBytes ms ++ r → (i : ℕ) (d : Member ℕ) → i < length ms → memberOf (memberAt s i) ≡ some (getD ms i d)
-members-back s ms r h e i d l = rw zero-add at (element s (λ i. memberOf (memberAt s i)) memberBytes fitsMember 13 45 length-member (member-back s) ms 0 i d r h e l)
+members-back : (s : Bytes) (ms : List (Member ℕ)) (r : Bytes) → all fitsMember ms ≡ true → drop 45 s ≡ joinedBytes memberBytes ms ++ r → (i : ℕ) (d : Member ℕ) → i < length ms → memberHeld (memberAt s i) ≡ some (getD ms i d)
+members-back s ms r h e i d l = rw zero-add at (element s (λ i. memberHeld (memberAt s i)) memberBytes fitsMember 13 45 length-member (member-back s) ms 0 i d r h e l)
 
 -- ---- heads and metadata, by a user's readers
 
@@ -175,14 +175,14 @@ value-at s at t r e =
     rw (w3 .is) (take-append-seam (t .value) r)
 
 -- steps that yield each element where its bytes stand
-module _ {A : Type 0} (s : Bytes) (f : ℕ → ℕ → Step A) (bytes : A → Bytes) (fits : A → Bool)
+module _ {A : Type 0} (s : Bytes) (f : ℕ → ℕ → ReadStep A) (bytes : A → Bytes) (fits : A → Bool)
     (last : (at : ℕ) → f at 0 ≡ done)
     (here : (at n : ℕ) (a : A) (r : Bytes) → at ≤ length s → fits a ≡ true → drop at s ≡ bytes a ++ r → f at (suc n) ≡ yields a (length s - length r)) where
-  steps-back : (xs : List A) (at : ℕ) (r : Bytes) → at ≤ length s → all fits xs ≡ true → drop at s ≡ joined bytes xs ++ r → stepped f at (length xs) ≡ some xs
-  unfolding stepped joined
+  steps-back : (xs : List A) (at : ℕ) (r : Bytes) → at ≤ length s → all fits xs ≡ true → drop at s ≡ joinedBytes bytes xs ++ r → stepsFrom f at (length xs) ≡ some xs
+  unfolding stepsFrom joinedBytes
   steps-back [] at r l h e = rw (last at)
   steps-back (x ∷ xs) at r l h e =
-      let q = joined bytes xs ++ r in
+      let q = joinedBytes bytes xs ++ r in
       let w : drop at s ≡ bytes x ++ q = rw append-assoc at e in
       let g = rest-starts s at (bytes x) q l w in
       let m : length s - length q ≤ length s = omega arith in
@@ -205,7 +205,7 @@ module _ (s : Bytes) where
       rw (step-some _ _ _ _ s at (suc n) (more n) m r c, signed-again w64 8 refl (m .ref) (both-left _ _ h) .0)
 
   tag-here : (at n : ℕ) (t : Tag ℕ) (r : Bytes) → at ≤ length s → both (fitsTag t) (isText (t .value)) ≡ true → drop at s ≡ tagBytes t ++ r → tagGiven s (tagStep s at (suc n)) ≡ yields t (length s - length r)
-  unfolding tagStep cutText andThen
+  unfolding tagStep cutText thenCut
   tag-here at n t r l h e =
       let c : cutText (drop at s) ≡ found t r = rw (e, tag-format .back t r (both-left _ _ h), both-right (fitsTag t) _ h) in
       let g = rest-starts s at (tagBytes t) r l e in
@@ -214,15 +214,15 @@ module _ (s : Bytes) where
       let q : at + 8 + length (t .value) ≡ length s - length r = omega arith in
       rw (step-some _ _ _ _ s at (suc n) (more n) t r c, p, q, value-at s at t r e)
 
-  refs-from : (rs : List ℤ) (at : ℕ) (r : Bytes) → at ≤ length s → all (fitsSigned w64) rs ≡ true → drop at s ≡ joined i64 rs ++ r → refsFrom s at (length rs) ≡ some rs
+  refs-from : (rs : List ℤ) (at : ℕ) (r : Bytes) → at ≤ length s → all (fitsSigned w64) rs ≡ true → drop at s ≡ joinedBytes i64 rs ++ r → refsFrom s at (length rs) ≡ some rs
   unfolding refsFrom refStep
   refs-from = steps-back s (λ o m. refGiven (refStep s o m)) i64 (fitsSigned w64) (λ at. rw (step-done _ _ _ _ s at 0 refl)) ref-here
 
-  members-from : (ms : List (Member ℕ)) (at : ℕ) (r : Bytes) → at ≤ length s → all fitsMember ms ≡ true → drop at s ≡ joined memberBytes ms ++ r → membersFrom s at (length ms) ≡ some ms
+  members-from : (ms : List (Member ℕ)) (at : ℕ) (r : Bytes) → at ≤ length s → all fitsMember ms ≡ true → drop at s ≡ joinedBytes memberBytes ms ++ r → membersFrom s at (length ms) ≡ some ms
   unfolding membersFrom memberStep
   members-from = steps-back s (λ o m. memberGiven (memberStep s o m)) memberBytes fitsMember (λ at. rw (step-done _ _ _ _ s at 0 refl)) member-here
 
-  tags-from : (ts : List (Tag ℕ)) (at : ℕ) (r : Bytes) → at ≤ length s → all (λ t. both (fitsTag t) (isText (t .value))) ts ≡ true → drop at s ≡ joined tagBytes ts ++ r → tagsFrom s at (length ts) ≡ some ts
+  tags-from : (ts : List (Tag ℕ)) (at : ℕ) (r : Bytes) → at ≤ length s → all (λ t. both (fitsTag t) (isText (t .value))) ts ≡ true → drop at s ≡ joinedBytes tagBytes ts ++ r → tagsFrom s at (length ts) ≡ some ts
   unfolding tagsFrom tagStep
   tags-from = steps-back s (λ o m. tagGiven s (tagStep s o m)) tagBytes (λ t. both (fitsTag t) (isText (t .value))) (λ at. rw (step-done _ _ _ _ s at 0 refl)) tag-here
 
@@ -253,7 +253,7 @@ refs-of (refs xs) s r h e rs i q l = let z : xs ≡ rs = cc in let x = refs-back
 refs-of (members ms) s r h e rs i q l = no cc
 
 members-of : (b : Body ℕ) (s r : Bytes) → fitsBody b ≡ true → drop (headLen (kindOf b) + 29) s ≡ bodyBytes b ++ r
-    → (ms : List (Member ℕ)) (i : ℕ) (d : Member ℕ) → b ≡ members ms → i < length ms → memberOf (memberAt s i) ≡ some (getD ms i d)
+    → (ms : List (Member ℕ)) (i : ℕ) (d : Member ℕ) → b ≡ members ms → i < length ms → memberHeld (memberAt s i) ≡ some (getD ms i d)
 unfolding fitsBody bodyBytes
 members-of (place lat lon) s r h e ms i d q l = no cc
 members-of (refs rs) s r h e ms i d q l = no cc
@@ -264,7 +264,7 @@ pub record Found (id : ℤ) (r : Record ℕ) (s : Bytes) : Type 0 where
   pub head : headAt (kindOf (r .body)) s ≡ headOf id (r .body) (length (r .tags))
   pub meta : metaOf (metaAt s (headLen (kindOf (r .body)))) ≡ r .meta
   pub refs-at : (rs : List ℤ) (i : ℕ) → r .body ≡ refs rs → i < length rs → toZ w64 (refAt s i) ≡ getD rs i (pos 0)
-  pub members-at : (ms : List (Member ℕ)) (i : ℕ) (d : Member ℕ) → r .body ≡ members ms → i < length ms → memberOf (memberAt s i) ≡ some (getD ms i d)
+  pub members-at : (ms : List (Member ℕ)) (i : ℕ) (d : Member ℕ) → r .body ≡ members ms → i < length ms → memberHeld (memberAt s i) ≡ some (getD ms i d)
   pub head-read : headRead (kindOf (r .body)) s ≡ some (headOf id (r .body) (length (r .tags)))
   pub meta-read : metaGiven (metaRead s (headLen (kindOf (r .body)))) ≡ some (r .meta)
   pub body-read : bodyRead (kindOf (r .body)) (headOf id (r .body) (length (r .tags))) s ≡ some (r .body)
@@ -279,7 +279,7 @@ unfolding readRecord bind
 all-of-it id r s hd m b t = rw (hd, m, b, head-tags id (r .body) (length (r .tags)), t, head-id id (r .body) (length (r .tags)))
 
 found-there : (id : ℤ) (r : Record ℕ) (s q : Bytes) → fitting id r ≡ true → legalTexts r ≡ true
-    → Lie s 0 (headBytes (kindOf (r .body)) (headOf id (r .body) (length (r .tags))) ∷ metaBytes (r .meta) ∷ bodyBytes (r .body) ∷ joined tagBytes (r .tags) ∷ []) q → Found id r s
+    → Lie s 0 (headBytes (kindOf (r .body)) (headOf id (r .body) (length (r .tags))) ∷ metaBytes (r .meta) ∷ bodyBytes (r .body) ∷ joinedBytes tagBytes (r .tags) ∷ []) q → Found id r s
 unfolding fitting legalTexts
 found-there id r s q h1 g w1 =
     let h2 = both-right _ _ h1 in let h3 = both-right _ _ h2 in

@@ -10,17 +10,17 @@ use mir.Syntax.{w64}
 use Rattle.base.specs.Bytes.{Bytes, both, all}
 use Rattle.base.proofs.Split.{both-left, both-right, both-of, no}
 use Rattle.little.specs.Little.{isByte, le}
-use Rattle.kind.specs.Kind.{numberOf, ofNumber}
+use Rattle.kind.specs.Kind.{kindNumber, ofNumber}
 use Rattle.kind.proofs.Numbers.{number-back as kind-back, same-refl, same-yes}
 use Rattle.kind.specs.declared.Kind.{Kind}
 use Rattle.kind.specs.declared.Kind.the-variants.{Node, Way, Relation}
 use Rattle.model.specs.Record.{Meta, Member, Tag, Body, place, refs, members, Record, kindOf}
-use Rattle.compact.specs.Layout.{u32, i64, metaBytes, memberBytes, tagBytes, joined, Head, headBytes, headOf, bodyBytes, partsBytes, recordBytes}
-use Rattle.compact.specs.Cut.{Cut, andThen, found, cutMeta, memberAs, cutMember, cutTag, cutBody, cutParts, usedUp, whole, pushedRecord, cutCounts, cutHead, Kept, cutRecord}
+use Rattle.compact.specs.Layout.{u32, i64, metaBytes, memberBytes, tagBytes, joinedBytes, Head, headBytes, headOf, bodyBytes, partsBytes, recordBytes}
+use Rattle.compact.specs.Cut.{Cut, thenCut, found, cutMeta, memberAs, cutMember, cutTag, cutBody, cutParts, usedUp, whole, pushedRecord, cutCounts, cutHead, Kept, cutRecord}
 use Rattle.compact.specs.Fits.{fitsNumber, fitsSigned, fitsMeta, fitsMember, fitsTag, fitsHead, fitsBody, fitting, fitsKept}
 use Rattle.compact.proofs.Format.{Format, Starts, small-rest, first, begin, glue, of-cut, ends, bytes-back, bytes-forth, number, i32-format, i64-format, counted-of, counted-is, list}
 
-pub type-fits : (k : Kind) → fitsNumber 1 (numberOf k) ≡ true
+pub type-fits : (k : Kind) → fitsNumber 1 (kindNumber k) ≡ true
 unfolding fitsNumber
 type-fits Node = refl
 type-fits Way = refl
@@ -29,7 +29,7 @@ type-fits Relation = refl
 -- ---- metadata
 
 meta-back : (m : Meta ℕ) (r : Bytes) → fitsMeta m ≡ true → cutMeta (metaBytes m ++ r) ≡ found m r
-unfolding cutMeta metaBytes fitsMeta andThen
+unfolding cutMeta metaBytes fitsMeta thenCut
 meta-back m r h1 =
     let h2 = both-right _ _ h1 in let h3 = both-right _ _ h2 in let h4 = both-right _ _ h3 in let h5 = both-right _ _ h4 in
     simp append-assoc
@@ -57,10 +57,10 @@ meta-format = record { back = meta-back; forth = meta-forth }
 -- ---- members
 
 member-back : (m : Member ℕ) (r : Bytes) → fitsMember m ≡ true → cutMember (memberBytes m ++ r) ≡ found m r
-unfolding cutMember memberBytes fitsMember andThen
+unfolding cutMember memberBytes fitsMember thenCut
 member-back m r h =
     simp append-assoc
-    (rw (i64-format .back (m .ref) _ (both-left _ _ h), number 1 .back (numberOf (m .type)) _ (type-fits (m .type)), number 4 .back (m .role) _ (both-right _ _ h), kind-back (m .type)))
+    (rw (i64-format .back (m .ref) _ (both-left _ _ h), number 1 .back (kindNumber (m .type)) _ (type-fits (m .type)), number 4 .back (m .role) _ (both-right _ _ h), kind-back (m .type)))
 
 -- a type byte that names a kind is the kind's
 member-ends : (ref : ℤ) (n role : ℕ) {s r : Bytes} {c : Cut (Member ℕ)} → memberAs ref (ofNumber n) role r ≡ some c → Starts s (i64 ref ++ le 1 n ++ u32 role) r
@@ -83,7 +83,7 @@ member-format = record { back = member-back; forth = member-forth }
 -- ---- tags
 
 tag-back : (t : Tag ℕ) (r : Bytes) → fitsTag t ≡ true → cutTag (tagBytes t ++ r) ≡ found t r
-unfolding cutTag tagBytes fitsTag andThen
+unfolding cutTag tagBytes fitsTag thenCut
 tag-back t r h =
     simp append-assoc
     (rw (number 4 .back (t .key) _ (both-left _ _ h), number 4 .back (length (t .value)) _ (both-right _ _ h), bytes-back (length (t .value)) (t .value) r refl))
@@ -102,7 +102,7 @@ tag-format = record { back = tag-back; forth = tag-forth }
 
 module _ (id : ℤ) (tags : ℕ) (r : Bytes) where
   pub head-back : (b : Body ℕ) → fitsHead (kindOf b) (headOf id b tags) ≡ true → cutHead (kindOf b) (headBytes (kindOf b) (headOf id b tags) ++ r) ≡ found (headOf id b tags) r
-  unfolding cutHead cutCounts headBytes headOf fitsHead andThen
+  unfolding cutHead cutCounts headBytes headOf fitsHead thenCut
   head-back (place lat lon) h1 =
       let h2 = both-right _ _ h1 in let h3 = both-right _ _ h2 in
       simp append-assoc
@@ -136,7 +136,7 @@ head-forth Relation s c b h = counts-forth Relation (λ h. refl) (λ h. refl) s 
 -- ---- refs or members, and tags
 
 body-back : (id : ℤ) (b : Body ℕ) (tags : ℕ) (r : Bytes) → fitsBody b ≡ true → cutBody (kindOf b) (headOf id b tags) (bodyBytes b ++ r) ≡ found b r
-unfolding cutBody headOf bodyBytes fitsBody andThen
+unfolding cutBody headOf bodyBytes fitsBody thenCut
 body-back id (place lat lon) tags r h = refl
 body-back id (refs rs) tags r h = rw (list i64-format (length rs) .back rs r (counted-of (fitsSigned w64) rs h))
 body-back id (members ms) tags r h = rw (list member-format (length ms) .back ms r (counted-of fitsMember ms h))
@@ -173,11 +173,11 @@ head-tags id (members ms) n = refl
 
 parts-back : (id : ℤ) (r : Record ℕ) (q : Bytes) → both (fitsBody (r .body)) (all fitsTag (r .tags)) ≡ true
     → cutParts (kindOf (r .body)) (headOf id (r .body) (length (r .tags))) (r .meta) (partsBytes r ++ q) ≡ found r q
-unfolding cutParts partsBytes andThen
+unfolding cutParts partsBytes thenCut
 parts-back id r q h =
     rw (
       append-assoc,
-      body-back id (r .body) (length (r .tags)) (joined tagBytes (r .tags) ++ q) (both-left _ _ h),
+      body-back id (r .body) (length (r .tags)) (joinedBytes tagBytes (r .tags) ++ q) (both-left _ _ h),
       head-tags id (r .body) (length (r .tags)),
       list tag-format (length (r .tags)) .back (r .tags) q (counted-of fitsTag (r .tags) (both-right _ _ h)),
     )
@@ -208,7 +208,7 @@ parts-forth k h m s c b e =
 -- ---- records
 
 pub record-back : (id : ℤ) (r : Record ℕ) (q : Bytes) → fitting id r ≡ true → cutRecord (kindOf (r .body)) (recordBytes id r ++ q) ≡ found (record { id = id; held = r }) q
-unfolding cutRecord recordBytes fitting andThen
+unfolding cutRecord recordBytes fitting thenCut
 record-back id r q h =
     let n = length (r .tags) in
     let h2 = both-right _ _ h in

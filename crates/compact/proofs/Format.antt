@@ -18,8 +18,8 @@ use Rattle.base.proofs.Split.{byLe, both-left, both-right, both-of, no}
 use Rattle.base.proofs.Lists.{all-left, all-right, all-nil, all-cons, all-head, all-tail}
 use Rattle.little.specs.Little.{isByte, le, value}
 use Rattle.little.proofs.Littles.{length-le, value-back, le-value, value-within}
-use Rattle.compact.specs.Layout.{i32, i64, joined}
-use Rattle.compact.specs.Cut.{Cut, andThen, found, cutBytes, cutNumber, cutI32, cutI64, times}
+use Rattle.compact.specs.Layout.{i32, i64, joinedBytes}
+use Rattle.compact.specs.Cut.{Cut, thenCut, found, cutBytes, cutNumber, cutI32, cutI64, times}
 use Rattle.compact.specs.Fits.{fitsNumber, fitsSigned}
 
 pub record Format {A : Type 0} (fits : A → Bool) (bytes : A → Bytes) (cut : Bytes → Option (Cut A)) : Type 0 where
@@ -41,11 +41,11 @@ small-rest {s} {x} {r} p b = all-right isByte x r (rw (← p .is) b)
 
 -- a part that was cut off, of which P is known, and the parts after it
 pub first : {A B C : Type 0} (P : A → Bytes → Type 0) {o : Option (Cut A)} {g : A → Bytes → Option (Cut B)} {c : Cut B}
-    → ((x : Cut A) → o ≡ some x → P (x .item) (x .rest)) → andThen o g ≡ some c → ((a : A) (r : Bytes) → P a r → g a r ≡ some c → C) → C
-unfolding andThen
+    → ((x : Cut A) → o ≡ some x → P (x .item) (x .rest)) → thenCut o g ≡ some c → ((a : A) (r : Bytes) → P a r → g a r ≡ some c → C) → C
+unfolding thenCut
 first {A} {B} {C} P {o} {g} {c} f h k = go o refl h
   where
-    go : (x : Option (Cut A)) → o ≡ x → andThen x g ≡ some c → C
+    go : (x : Option (Cut A)) → o ≡ x → thenCut x g ≡ some c → C
     go none e t = no cc
     go (some a) e t = k (a .item) (a .rest) (f a e) t
 
@@ -59,7 +59,7 @@ pub record Begun {A B : Type 0} (fits : A → Bool) (bytes : A → Bytes) (g : A
   pub then : g item rest ≡ some c
 
 module _ {A B C : Type 0} {fits : A → Bool} {bytes : A → Bytes} {cut : Bytes → Option (Cut A)} where
-  pub begin : Format fits bytes cut → {g : A → Bytes → Option (Cut B)} {s : Bytes} {c : Cut B} → all isByte s ≡ true → andThen (cut s) g ≡ some c
+  pub begin : Format fits bytes cut → {g : A → Bytes → Option (Cut B)} {s : Bytes} {c : Cut B} → all isByte s ≡ true → thenCut (cut s) g ≡ some c
       → (Begun fits bytes g s c → C) → C
   begin f {g} {s} {c} b h k =
       first (λ a r. (s ≡ bytes a ++ r) × (fits a ≡ true)) (λ x e. f .forth s x b e) h
@@ -97,7 +97,7 @@ bytes-forth n s c h =
     (λ l. let e : none ≡ some c = sym (cut-short n s l) ∙ h in no cc)
 
 number-back : (n v : ℕ) (r : Bytes) → fitsNumber n v ≡ true → cutNumber n (le n v ++ r) ≡ found v r
-unfolding cutNumber andThen fitsNumber
+unfolding cutNumber thenCut fitsNumber
 number-back n v r h = rw (bytes-back n (le n v) r (length-le n v), value-back n v (ltb-true v (256 ^ n) h))
 
 number-forth : (n : ℕ) (s : Bytes) (c : Cut ℕ) → all isByte s ≡ true → cutNumber n s ≡ some c → (s ≡ le n (c .item) ++ c .rest) × (fitsNumber n (c .item) ≡ true)
@@ -117,15 +117,15 @@ module _ {A B : Type 0} {fits : A → Bool} {bytes : A → Bytes} {cut : Bytes �
     (fitsB : B → Bool) (to : A → B) (of : B → A)
     (there : (a : A) → fits a ≡ true → (of (to a) ≡ a) × (fitsB (to a) ≡ true))
     (again : (b : B) → fitsB b ≡ true → (to (of b) ≡ b) × (fits (of b) ≡ true)) where
-  as-back : (b : B) (r : Bytes) → fitsB b ≡ true → andThen (cut (bytes (of b) ++ r)) (λ a q. found (to a) q) ≡ found b r
-  unfolding andThen
+  as-back : (b : B) (r : Bytes) → fitsB b ≡ true → thenCut (cut (bytes (of b) ++ r)) (λ a q. found (to a) q) ≡ found b r
+  unfolding thenCut
   as-back b r h = let g = again b h in rw (f .back (of b) r (g .1), g .0)
 
-  as-forth : (s : Bytes) (c : Cut B) → all isByte s ≡ true → andThen (cut s) (λ a q. found (to a) q) ≡ some c → (s ≡ bytes (of (c .item)) ++ c .rest) × (fitsB (c .item) ≡ true)
+  as-forth : (s : Bytes) (c : Cut B) → all isByte s ≡ true → thenCut (cut s) (λ a q. found (to a) q) ≡ some c → (s ≡ bytes (of (c .item)) ++ c .rest) × (fitsB (c .item) ≡ true)
   as-forth s c b h =
       begin f b h (λ o. let g = there (o .item) (o .fit) in ends fitsB (λ b. bytes (of b)) (o .then) (record { is = rw (g .0) (o .here .is) }) (g .1))
 
-  pub read-as : Format fitsB (λ b. bytes (of b)) (λ s. andThen (cut s) (λ a q. found (to a) q))
+  pub read-as : Format fitsB (λ b. bytes (of b)) (λ s. thenCut (cut s) (λ a q. found (to a) q))
   read-as = record { back = as-back; forth = as-forth }
 
 -- signed numbers
@@ -152,10 +152,10 @@ i64-format = read-as (number 8) (fitsSigned w64) (toZ w64) (ofZ w64) (signed-the
 -- ---- a counted list
 
 -- one element more
-pub joined-last : {A : Type 0} (bytes : A → Bytes) (xs : List A) (x : A) → joined bytes (xs ++ (x ∷ [])) ≡ joined bytes xs ++ bytes x
-unfolding joined
+pub joined-last : {A : Type 0} (bytes : A → Bytes) (xs : List A) (x : A) → joinedBytes bytes (xs ++ (x ∷ [])) ≡ joinedBytes bytes xs ++ bytes x
+unfolding joinedBytes
 joined-last bytes [] x = append-nil (bytes x)
-joined-last bytes (y ∷ xs) x = rw (joined-last bytes xs x) (sym (append-assoc (bytes y) (joined bytes xs) (bytes x)))
+joined-last bytes (y ∷ xs) x = rw (joined-last bytes xs x) (sym (append-assoc (bytes y) (joinedBytes bytes xs) (bytes x)))
 
 unfoldable pub counted : {A : Type 0} → (A → Bool) → ℕ → List A → Bool
 counted fits n xs = both (eqb (length xs) n) (all fits xs)
@@ -169,23 +169,23 @@ unfolding counted
 counted-is fits n xs h = (eqb-true (length xs) n (both-left _ _ h), both-right _ _ h)
 
 module _ {A : Type 0} {fits : A → Bool} {bytes : A → Bytes} {cut : Bytes → Option (Cut A)} (f : Format fits bytes cut) where
-  times-back : (xs : List A) (r : Bytes) → all fits xs ≡ true → times cut (length xs) (joined bytes xs ++ r) ≡ found xs r
-  unfolding times joined andThen
+  times-back : (xs : List A) (r : Bytes) → all fits xs ≡ true → times cut (length xs) (joinedBytes bytes xs ++ r) ≡ found xs r
+  unfolding times joinedBytes thenCut
   times-back [] r h = refl
   times-back (x ∷ xs) r h =
-      rw (append-assoc, f .back x (joined bytes xs ++ r) (all-head fits x xs h), times-back xs r (all-tail fits x xs h))
+      rw (append-assoc, f .back x (joinedBytes bytes xs ++ r) (all-head fits x xs h), times-back xs r (all-tail fits x xs h))
 
-  times-again : (n : ℕ) (xs : List A) (r : Bytes) → counted fits n xs ≡ true → times cut n (joined bytes xs ++ r) ≡ found xs r
+  times-again : (n : ℕ) (xs : List A) (r : Bytes) → counted fits n xs ≡ true → times cut n (joinedBytes bytes xs ++ r) ≡ found xs r
   times-again n xs r h = let k = counted-is fits n xs h in rw (← k .0) (times-back xs r (k .1))
 
-  times-forth : (n : ℕ) (s : Bytes) (c : Cut (List A)) → all isByte s ≡ true → times cut n s ≡ some c → (s ≡ joined bytes (c .item) ++ c .rest) × (counted fits n (c .item) ≡ true)
-  unfolding times joined counted
-  times-forth zero s c b h = ends (counted fits 0) (joined bytes) h (record { is = refl }) (counted-of fits [] (all-nil fits))
+  times-forth : (n : ℕ) (s : Bytes) (c : Cut (List A)) → all isByte s ≡ true → times cut n s ≡ some c → (s ≡ joinedBytes bytes (c .item) ++ c .rest) × (counted fits n (c .item) ≡ true)
+  unfolding times joinedBytes counted
+  times-forth zero s c b h = ends (counted fits 0) (joinedBytes bytes) h (record { is = refl }) (counted-of fits [] (all-nil fits))
   times-forth (suc n) s c b h =
       begin f b h (λ o. begin (record { back = times-again n; forth = times-forth n }) (o .small) (o .then) (λ q.
       let k = counted-is fits n (q .item) (q .fit) in
-      ends (counted fits (suc n)) (joined bytes) (q .then) (glue (o .here) (q .here))
+      ends (counted fits (suc n)) (joinedBytes bytes) (q .then) (glue (o .here) (q .here))
       (both-of (eq-eqb _ _ (ap suc (k .0))) (all-cons fits (o .item) (q .item) (o .fit) (k .1)))))
 
-  pub list : (n : ℕ) → Format (counted fits n) (joined bytes) (times cut n)
+  pub list : (n : ℕ) → Format (counted fits n) (joinedBytes bytes) (times cut n)
   list n = record { back = times-again n; forth = times-forth n }

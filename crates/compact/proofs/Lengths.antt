@@ -13,7 +13,7 @@ use Rattle.kind.specs.declared.Kind.{Kind}
 use Rattle.kind.specs.declared.Kind.the-variants.{Node, Way, Relation}
 use Rattle.model.specs.Record.{Meta, Member, Tag, Record, kindOf}
 use Rattle.compact.specs.Legal.{valueBytes}
-use Rattle.compact.specs.Layout.{i64, metaBytes, memberBytes, tagBytes, joined, Head, headBytes, partsBytes, recordBytes, headLen}
+use Rattle.compact.specs.Layout.{i64, metaBytes, memberBytes, tagBytes, joinedBytes, Head, headBytes, partsBytes, recordBytes, headLen}
 
 pub length-i64 : (z : ℤ) → length (i64 z) ≡ 8
 length-i64 z = length-le 8 (ofZ w64 z)
@@ -31,14 +31,14 @@ unfolding tagBytes
 length-tag t = simp (length-append, length-le)
 
 -- elements of one length
-pub length-joined : {A : Type 0} (bytes : A → Bytes) (n : ℕ) → ((a : A) → length (bytes a) ≡ n) → (xs : List A) → length (joined bytes xs) ≡ n * length xs
-unfolding joined
+pub length-joined : {A : Type 0} (bytes : A → Bytes) (n : ℕ) → ((a : A) → length (bytes a) ≡ n) → (xs : List A) → length (joinedBytes bytes xs) ≡ n * length xs
+unfolding joinedBytes
 length-joined bytes n f [] = omega arith
 length-joined bytes n f (x ∷ xs) = rw (length-append, f x, length-joined bytes n f xs) (omega arith)
 
 -- 8 bytes and a value each
-pub length-tags : (ts : List (Tag ℕ)) → length (joined tagBytes ts) ≡ 8 * length ts + valueBytes ts
-unfolding joined valueBytes
+pub length-tags : (ts : List (Tag ℕ)) → length (joinedBytes tagBytes ts) ≡ 8 * length ts + valueBytes ts
+unfolding joinedBytes valueBytes
 length-tags [] = refl
 length-tags (t ∷ ts) = rw (length-append, length-tag t, length-tags ts) (omega arith)
 

@@ -19,8 +19,8 @@ use Rattle.kind.specs.declared.Named.{Named}
 use Rattle.kind.specs.declared.Named.the-variants.{Is, Unknown}
 use Rattle.model.specs.Record.{Member, Tag}
 use Rattle.compact.specs.Layout.{headLen}
-use Rattle.compact.specs.Cut.{Cut, andThen, found, cutBytes, cutNumber, cutI32, cutI64, times, cutMeta, memberAs, cutMember, cutTag, cutCounts, cutHead}
-use Rattle.compact.specs.Held.{metaOf, nodeHead, countsHead, wayHead, relationHead, named}
+use Rattle.compact.specs.Cut.{Cut, thenCut, found, cutBytes, cutNumber, cutI32, cutI64, times, cutMeta, memberAs, cutMember, cutTag, cutCounts, cutHead}
+use Rattle.compact.specs.Held.{metaOf, nodeHead, countsHead, wayHead, relationHead, memberNamed}
 use Rattle.compact.specs.View.{nodeAt, wayAt, relationAt, metaAt, headAt}
 use Rattle.compact.proofs.Format.{first, of-cut, cut-short, cut-whole}
 
@@ -125,7 +125,7 @@ pub next-is : (s : Bytes) (e : ℕ) → e ≤ length s → length s - length (dr
 next-is s e h = omega (arith, length-drop e s)
 
 pub number-sized : (n : ℕ) → Sized (cutNumber n) n (λ s at. some (valueAt n s at))
-unfolding cutNumber andThen valueAt
+unfolding cutNumber thenCut valueAt
 number-sized n =
     record {
       whole = λ s at h. rw (cut-whole n (drop at s) (omega (arith, length-drop at s)), drop-drop);
@@ -142,8 +142,8 @@ last-sized o =
 
 -- one part after the other
 module _ {A B : Type 0} {cut : Bytes → Option (Cut A)} {n m : ℕ} {to : Bytes → ℕ → A} {next : A → Bytes → Option (Cut B)} {on : A → Bytes → ℕ → Option B} where
-  pub then-sized : Sized cut n (λ s at. some (to s at)) → ((a : A) → Sized (next a) m (on a)) → Sized (λ s. andThen (cut s) next) (n + m) (λ s at. on (to s at) s (at + n))
-  unfolding andThen
+  pub then-sized : Sized cut n (λ s at. some (to s at)) → ((a : A) → Sized (next a) m (on a)) → Sized (λ s. thenCut (cut s) next) (n + m) (λ s at. on (to s at) s (at + n))
+  unfolding thenCut
   then-sized f g =
       record {
         whole = λ s at h. let e : at + (n + m) ≡ at + n + m = omega arith in
@@ -161,11 +161,11 @@ pub i64-sized : Sized cutI64 8 (λ s at. some (toZ w64 (valueAt 8 s at)))
 unfolding cutI64
 i64-sized = then-sized (number-sized 8) (λ v. last-sized (some (toZ w64 v)))
 
-member-as : (ref : ℤ) (x : Named) (role : ℕ) → Sized (memberAs ref x role) 0 (λ s at. named ref x role)
+member-as : (ref : ℤ) (x : Named) (role : ℕ) → Sized (memberAs ref x role) 0 (λ s at. memberNamed ref x role)
 member-as ref (Is k) role = last-sized (some (record { ref = ref; type = k; role = role }))
 member-as ref Unknown role = last-sized none
 
-pub member-sized : Sized cutMember 13 (λ s at. named (toZ w64 (valueAt 8 s at)) (ofNumber (valueAt 1 s (at + 8))) (valueAt 4 s (at + 8 + 1)))
+pub member-sized : Sized cutMember 13 (λ s at. memberNamed (toZ w64 (valueAt 8 s at)) (ofNumber (valueAt 1 s (at + 8))) (valueAt 4 s (at + 8 + 1)))
 unfolding cutMember
 member-sized = then-sized i64-sized (λ ref. then-sized (number-sized 1) (λ type. then-sized (number-sized 4) (λ role. member-as ref (ofNumber type) role)))
 
@@ -197,26 +197,26 @@ meta-there s at h =
 module _ (s : Bytes) (at : ℕ) where
   -- fewer than 8 bytes hold no tag
   pub tag-short : length s < at + 8 → cutTag (drop at s) ≡ none
-  unfolding cutTag andThen
+  unfolding cutTag thenCut
   tag-short h =
       byLe (at + 4) (length s)
       (λ k. rw (number-sized 4 .whole s at k, number-sized 4 .short s (at + 4) k (omega arith)))
       (λ k. rw (sized-none (number-sized 4) (omega arith) s at k))
 
   module _ (room : at + 8 ≤ length s) where
-    tag-value : cutTag (drop at s) ≡ andThen (cutBytes (valueAt 4 s (at + 4)) (drop (at + 8) s)) (λ v r. found (record { key = valueAt 4 s at; value = v }) r)
-    unfolding cutTag andThen
+    tag-value : cutTag (drop at s) ≡ thenCut (cutBytes (valueAt 4 s (at + 4)) (drop (at + 8) s)) (λ v r. found (record { key = valueAt 4 s at; value = v }) r)
+    unfolding cutTag thenCut
     tag-value =
         let e : at + 4 + 4 ≡ at + 8 = omega arith in
         rw (number-sized 4 .whole s at (omega arith), number-sized 4 .whole s (at + 4) (omega arith), e)
 
     pub tag-long : (n : ℕ) → n ≡ valueAt 4 s (at + 4) → length s < at + 8 + n → cutTag (drop at s) ≡ none
-    unfolding andThen
+    unfolding thenCut
     tag-long n e h = rw (tag-value, ← e, cut-short n (drop (at + 8) s) (omega (arith, length-drop (at + 8) s)))
 
     pub tag-whole : (n : ℕ) → n ≡ valueAt 4 s (at + 4) → at + 8 + n ≤ length s
         → cutTag (drop at s) ≡ found (record { key = valueAt 4 s at; value = take n (drop (at + 8) s) }) (drop (at + 8 + n) s)
-    unfolding andThen
+    unfolding thenCut
     tag-whole n e h = rw (tag-value, ← e, cut-whole n (drop (at + 8) s) (omega (arith, length-drop (at + 8) s)), drop-drop)
 
 -- ---- heads

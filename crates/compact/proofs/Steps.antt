@@ -26,8 +26,8 @@ use Rattle.compact.specs.declared.MetaRead.the-variants as meta
 use Rattle.compact.specs.declared.RefStep.the-variants as ref
 use Rattle.compact.specs.declared.MemberStep.the-variants as member
 use Rattle.compact.specs.declared.TagStep.the-variants as tag
-use Rattle.compact.specs.Cut.{Cut, andThen, found, cutMember}
-use Rattle.compact.specs.View.{nodeAt, wayAt, relationAt, metaAt, headAt, nodeRead, wayRead, relationRead, metaRead, step, refStep, memberStep, cutText, tagStep}
+use Rattle.compact.specs.Cut.{Cut, thenCut, found, cutMember}
+use Rattle.compact.specs.View.{nodeAt, wayAt, relationAt, metaAt, headAt, nodeRead, wayRead, relationRead, metaRead, stepBy, refStep, memberStep, cutText, tagStep}
 use Rattle.compact.proofs.Holds.{MetaHeld, meta-again, NodeHeld, node-again, way-again, relation-again}
 use Rattle.compact.proofs.Places.{sized-none, next-is, i64-sized, member-sized, meta-sized, meta-there, head-whole, head-short, tag-short, tag-long, tag-whole}
 
@@ -85,17 +85,17 @@ module _ (s : Bytes) (small : all isByte s ≡ true) where
 -- ---- a step, by what is cut off at its offset
 
 module _ {A B : Type 0} (done unsound : B) (yields : A → ℕ → B) (cut : Bytes → Option (Cut A)) (s : Bytes) (offset remaining : ℕ) where
-  pub step-done : remaining ≡ 0 → step done unsound yields cut s offset remaining ≡ done
-  unfolding step
+  pub step-done : remaining ≡ 0 → stepBy done unsound yields cut s offset remaining ≡ done
+  unfolding stepBy
   step-done e = rw e
 
   module _ (more : remaining ≡ 0 → ⊥) where
-    pub step-none : cut (drop offset s) ≡ none → step done unsound yields cut s offset remaining ≡ unsound
-    unfolding step
+    pub step-none : cut (drop offset s) ≡ none → stepBy done unsound yields cut s offset remaining ≡ unsound
+    unfolding stepBy
     step-none e = rw (ne-eqb remaining 0 more, e)
 
-    pub step-some : (a : A) (r : Bytes) → cut (drop offset s) ≡ found a r → step done unsound yields cut s offset remaining ≡ yields a (length s - length r)
-    unfolding step
+    pub step-some : (a : A) (r : Bytes) → cut (drop offset s) ≡ found a r → stepBy done unsound yields cut s offset remaining ≡ yields a (length s - length r)
+    unfolding stepBy
     step-some a r e = rw (ne-eqb remaining 0 more, e)
 
 -- ---- refs, members and tags
@@ -142,12 +142,12 @@ module _ (s : Bytes) (offset remaining : ℕ) where
 
     -- fewer than 8 bytes hold no tag, from whatever place on
     pub tag-past : length s < offset + 8 → tag.Unsound ≡ tagStep s offset remaining
-    unfolding tagStep cutText andThen
+    unfolding tagStep cutText thenCut
     tag-past h = sym (step-none _ _ _ _ s offset remaining more (rw (tag-short s offset h)))
 
     module _ (room : offset + 8 ≤ length s) (n : ℕ) (e : n ≡ valueAt 4 s (offset + 4)) where
       pub tag-over : length s < offset + 8 + n → tag.Unsound ≡ tagStep s offset remaining
-      unfolding tagStep cutText andThen
+      unfolding tagStep cutText thenCut
       tag-over h = sym (step-none _ _ _ _ s offset remaining more (rw (tag-long s offset room n e h)))
 
       module _ (fit : offset + 8 + n ≤ length s) where
@@ -155,7 +155,7 @@ module _ (s : Bytes) (offset remaining : ℕ) where
         value = take n (drop (offset + 8) s)
 
         tag-text : isText value ≡ true → tag.Tag (valueAt 4 s offset) (offset + 8) n ≡ tagStep s offset remaining
-        unfolding tagStep cutText andThen
+        unfolding tagStep cutText thenCut
         tag-text t =
             let w : cutText (drop offset s) ≡ found (record { key = valueAt 4 s offset; value = value }) (drop (offset + 8 + n) s) = rw (tag-whole s offset room n e fit, t) in
             let l : length value ≡ n = length-take-le n (drop (offset + 8) s) (omega (arith, length-drop (offset + 8) s)) in
@@ -163,7 +163,7 @@ module _ (s : Bytes) (offset remaining : ℕ) where
             rw (step-some _ _ _ _ s offset remaining more _ _ w, next-is s (offset + 8 + n) fit, l, m)
 
         tag-bad : isText value ≡ false → tag.Unsound ≡ tagStep s offset remaining
-        unfolding tagStep cutText andThen
+        unfolding tagStep cutText thenCut
         tag-bad t = sym (step-none _ _ _ _ s offset remaining more (rw (tag-whole s offset room n e fit, t)))
 
         pub tag-judged : cond (isText value) (tag.Tag (valueAt 4 s offset) (offset + 8) n) tag.Unsound ≡ tagStep s offset remaining

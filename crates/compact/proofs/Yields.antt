@@ -16,7 +16,7 @@ use Rattle.compact.specs.declared.CompactTagIter.{CompactTagIter}
 use Rattle.compact.specs.Layout.{headLen, headOf, recordBytes}
 use Rattle.compact.specs.Fits.{fitting}
 use Rattle.compact.specs.Legal.{legalTexts}
-use Rattle.compact.specs.View.{headAt, tagStep, tagGiven, onward, stepped, tagsFrom}
+use Rattle.compact.specs.View.{headAt, tagStep, tagGiven, stepsOnward, stepsFrom, tagsFrom}
 use Rattle.compact.specs.Tags.{tagsOf, tagNext, yielded, allTags}
 use Rattle.compact.proofs.Lengths.{length-head}
 use Rattle.compact.proofs.Cuts.{head-tags}
@@ -33,11 +33,11 @@ module _ (b : RefT (List ℕ)) where
 
   -- what `next` yields is what the steps yield from the iterator's place on
   pub yields-from : (n o : ℕ) → yielded n (it o n) ≡ tagsFrom (now b) o n
-  unfolding yielded tagsFrom stepped
+  unfolding yielded tagsFrom stepsFrom
   yields-from zero o = rw (next-step (it o 0))
   yields-from (suc n) o = rw (next-step (it o (suc n))) (go (λ at. yields-from n at) (tagStep (now b) o (suc n)) refl)
     where
-      go : ((at : ℕ) → yielded n (it at n) ≡ tagsFrom (now b) at n) → (t : TagStep) → tagStep (now b) o (suc n) ≡ t → onward (tagGiven (now b) t) (λ at. yielded n (tagNext (it o (suc n)) .iter)) ≡ onward (tagGiven (now b) t) (λ at. tagsFrom (now b) at n)
+      go : ((at : ℕ) → yielded n (it at n) ≡ tagsFrom (now b) at n) → (t : TagStep) → tagStep (now b) o (suc n) ≡ t → stepsOnward (tagGiven (now b) t) (λ at. yielded n (tagNext (it o (suc n)) .iter)) ≡ stepsOnward (tagGiven (now b) t) (λ at. tagsFrom (now b) at n)
       go later tag.Done e = refl
       go later tag.Unsound e = refl
       go later (tag.Tag key start len) e =

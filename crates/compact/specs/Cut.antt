@@ -23,9 +23,9 @@ pub record Cut (A : Type 0) : Type 0 where
   pub item : A
   pub rest : Bytes
 
-unfoldable pub andThen : {A B : Type 0} → Option (Cut A) → (A → Bytes → Option (Cut B)) → Option (Cut B)
-andThen none f = none
-andThen (some c) f = f (c .item) (c .rest)
+unfoldable pub thenCut : {A B : Type 0} → Option (Cut A) → (A → Bytes → Option (Cut B)) → Option (Cut B)
+thenCut none f = none
+thenCut (some c) f = f (c .item) (c .rest)
 
 abbrev pub found : {A : Type 0} → A → Bytes → Option (Cut A)
 found a r = some (record { item = a; rest = r })
@@ -36,23 +36,23 @@ cutBytes n s = cond (leb n (length s)) (found (take n s) (drop n s)) none
 
 -- a number of n bytes
 unfoldable pub cutNumber : ℕ → Bytes → Option (Cut ℕ)
-cutNumber n s = andThen (cutBytes n s) (λ bs r. found (value bs) r)
+cutNumber n s = thenCut (cutBytes n s) (λ bs r. found (value bs) r)
 
 unfoldable pub cutI32 : Bytes → Option (Cut ℤ)
-cutI32 s = andThen (cutNumber 4 s) (λ n r. found (toZ w32 n) r)
+cutI32 s = thenCut (cutNumber 4 s) (λ n r. found (toZ w32 n) r)
 
 unfoldable pub cutI64 : Bytes → Option (Cut ℤ)
-cutI64 s = andThen (cutNumber 8 s) (λ n r. found (toZ w64 n) r)
+cutI64 s = thenCut (cutNumber 8 s) (λ n r. found (toZ w64 n) r)
 
 -- n of a sort, one after the other
 unfoldable pub times : {A : Type 0} → (Bytes → Option (Cut A)) → ℕ → Bytes → Option (Cut (List A))
 times f zero s = found [] s
-times f (suc n) s = andThen (f s) (λ a r. andThen (times f n r) (λ xs q. found (a ∷ xs) q))
+times f (suc n) s = thenCut (f s) (λ a r. thenCut (times f n r) (λ xs q. found (a ∷ xs) q))
 
 unfoldable pub cutMeta : Bytes → Option (Cut (Meta ℕ))
 cutMeta s =
-    andThen (cutNumber 1 s) (λ flags s1. andThen (cutI32 s1) (λ version s2. andThen (cutI64 s2) (λ timestamp s3.
-    andThen (cutI64 s3) (λ changeset s4. andThen (cutI32 s4) (λ uid s5. andThen (cutNumber 4 s5) (λ user r.
+    thenCut (cutNumber 1 s) (λ flags s1. thenCut (cutI32 s1) (λ version s2. thenCut (cutI64 s2) (λ timestamp s3.
+    thenCut (cutI64 s3) (λ changeset s4. thenCut (cutI32 s4) (λ uid s5. thenCut (cutNumber 4 s5) (λ user r.
     found (record { flags = flags; version = version; timestamp = timestamp; changeset = changeset; uid = uid; user = user }) r))))))
 
 abbrev pub memberAs : ℤ → Named → ℕ → Bytes → Option (Cut (Member ℕ))
@@ -60,20 +60,20 @@ memberAs ref (Is k) role r = found (record { ref = ref; type = k; role = role })
 memberAs ref Unknown role r = none
 
 unfoldable pub cutMember : Bytes → Option (Cut (Member ℕ))
-cutMember s = andThen (cutI64 s) (λ ref s1. andThen (cutNumber 1 s1) (λ type s2. andThen (cutNumber 4 s2) (λ role r. memberAs ref (ofNumber type) role r)))
+cutMember s = thenCut (cutI64 s) (λ ref s1. thenCut (cutNumber 1 s1) (λ type s2. thenCut (cutNumber 4 s2) (λ role r. memberAs ref (ofNumber type) role r)))
 
 unfoldable pub cutTag : Bytes → Option (Cut (Tag ℕ))
-cutTag s = andThen (cutNumber 4 s) (λ key s1. andThen (cutNumber 4 s1) (λ n s2. andThen (cutBytes n s2) (λ value r. found (record { key = key; value = value }) r)))
+cutTag s = thenCut (cutNumber 4 s) (λ key s1. thenCut (cutNumber 4 s1) (λ n s2. thenCut (cutBytes n s2) (λ value r. found (record { key = key; value = value }) r)))
 
 -- ---- the parts of a record: refs or members, then tags, of the counts that its head gives
 
 unfoldable pub cutBody : Kind → Head → Bytes → Option (Cut (Body ℕ))
 cutBody Node h s = found (place (h .lat) (h .lon)) s
-cutBody Way h s = andThen (times cutI64 (h .count) s) (λ rs r. found (refs rs) r)
-cutBody Relation h s = andThen (times cutMember (h .count) s) (λ ms r. found (members ms) r)
+cutBody Way h s = thenCut (times cutI64 (h .count) s) (λ rs r. found (refs rs) r)
+cutBody Relation h s = thenCut (times cutMember (h .count) s) (λ ms r. found (members ms) r)
 
 unfoldable pub cutParts : Kind → Head → Meta ℕ → Bytes → Option (Cut (Record ℕ))
-cutParts k h m s = andThen (cutBody k h s) (λ b s1. andThen (times cutTag (h .tags) s1) (λ ts r. found (record { meta = m; body = b; tags = ts }) r))
+cutParts k h m s = thenCut (cutBody k h s) (λ b s1. thenCut (times cutTag (h .tags) s1) (λ ts r. found (record { meta = m; body = b; tags = ts }) r))
 
 -- "A direct push whose parts are cut short, or not as many as it counts, is refused 17 too.": the parts are used up to the last byte
 abbrev pub usedUp : {A : Type 0} → A → Bytes → Option A
@@ -91,12 +91,12 @@ pushedRecord k h m parts = whole (cutParts k h m parts)
 
 unfoldable pub cutCounts : Bytes → Option (Cut Head)
 cutCounts s =
-    andThen (cutI64 s) (λ id s1. andThen (cutNumber 4 s1) (λ count s2. andThen (cutNumber 4 s2) (λ tags r.
+    thenCut (cutI64 s) (λ id s1. thenCut (cutNumber 4 s1) (λ count s2. thenCut (cutNumber 4 s2) (λ tags r.
     found (record { id = id; lat = pos 0; lon = pos 0; count = count; tags = tags }) r)))
 
 unfoldable pub cutHead : Kind → Bytes → Option (Cut Head)
 cutHead Node s =
-    andThen (cutI64 s) (λ id s1. andThen (cutI32 s1) (λ lat s2. andThen (cutI32 s2) (λ lon s3. andThen (cutNumber 4 s3) (λ tags r.
+    thenCut (cutI64 s) (λ id s1. thenCut (cutI32 s1) (λ lat s2. thenCut (cutI32 s2) (λ lon s3. thenCut (cutNumber 4 s3) (λ tags r.
     found (record { id = id; lat = lat; lon = lon; count = 0; tags = tags }) r))))
 cutHead Way s = cutCounts s
 cutHead Relation s = cutCounts s
@@ -108,5 +108,5 @@ pub record Kept : Type 0 where
 
 unfoldable pub cutRecord : Kind → Bytes → Option (Cut Kept)
 cutRecord k s =
-    andThen (cutHead k s) (λ h s1. andThen (cutMeta s1) (λ m s2. andThen (cutParts k h m s2) (λ r q.
+    thenCut (cutHead k s) (λ h s1. thenCut (cutMeta s1) (λ m s2. thenCut (cutParts k h m s2) (λ r q.
     found (record { id = h .id; held = r }) q)))

@@ -64,13 +64,13 @@ wayBits h = record { id = ofZ w64 (h .id); «ref_count» = h .count; «tag_count
 unfoldable pub relationBits : Head → CompactRelation
 relationBits h = record { id = ofZ w64 (h .id); «member_count» = h .count; «tag_count» = h .tags }
 
-abbrev pub named : ℤ → Named → ℕ → Option (Member ℕ)
-named ref (Is k) role = some (record { ref = ref; type = k; role = role })
-named ref Unknown role = none
+abbrev pub memberNamed : ℤ → Named → ℕ → Option (Member ℕ)
+memberNamed ref (Is k) role = some (record { ref = ref; type = k; role = role })
+memberNamed ref Unknown role = none
 
 -- a member, or none where its type byte names no kind
-unfoldable pub memberOf : CompactMember → Option (Member ℕ)
-memberOf m = named (toZ w64 (m .reference)) (ofNumber (m .kind)) (m .role)
+unfoldable pub memberHeld : CompactMember → Option (Member ℕ)
+memberHeld m = memberNamed (toZ w64 (m .reference)) (ofNumber (m .kind)) (m .role)
 
 -- the head that a direct push gives: a node has a place and no count, a way and a relation a count and no place
 unfoldable pub headIn : Kind → PushHead → Head

@@ -8,7 +8,7 @@ use mir.Syntax.{w32, w64}
 use mir.Val.{ofZ}
 use Rattle.base.specs.Bytes.{Bytes}
 use Rattle.little.specs.Little.{le}
-use Rattle.kind.specs.Kind.{numberOf}
+use Rattle.kind.specs.Kind.{kindNumber}
 use Rattle.kind.specs.declared.Kind.{Kind}
 use Rattle.kind.specs.declared.Kind.the-variants.{Node, Way, Relation}
 use Rattle.model.specs.Record.{Meta, Member, Tag, Body, place, refs, members, Record, kindOf}
@@ -28,16 +28,16 @@ metaBytes m = le 1 (m .flags) ++ i32 (m .version) ++ i64 (m .timestamp) ++ i64 (
 
 -- "members of 13 bytes (ref i64, type u8 with 0 node, 1 way, 2 relation, role handle u32)"
 unfoldable pub memberBytes : Member ℕ → Bytes
-memberBytes m = i64 (m .ref) ++ le 1 (numberOf (m .type)) ++ u32 (m .role)
+memberBytes m = i64 (m .ref) ++ le 1 (kindNumber (m .type)) ++ u32 (m .role)
 
 -- "tags (key handle u32, length u32, bytes)"
 unfoldable pub tagBytes : Tag ℕ → Bytes
 tagBytes t = u32 (t .key) ++ u32 (length (t .value)) ++ t .value
 
 -- the bytes of each element, one after the other
-unfoldable pub joined : {A : Type 0} → (A → Bytes) → List A → Bytes
-joined f [] = []
-joined f (a ∷ xs) = f a ++ joined f xs
+unfoldable pub joinedBytes : {A : Type 0} → (A → Bytes) → List A → Bytes
+joinedBytes f [] = []
+joinedBytes f (a ∷ xs) = f a ++ joinedBytes f xs
 
 -- what a head says: an id, a node's place or a count of refs or members, and how many tags
 pub record Head : Type 0 where
@@ -68,12 +68,12 @@ headOf id (members ms) tags = record { id = id; lat = pos 0; lon = pos 0; count 
 -- refs or members; a node has neither
 unfoldable pub bodyBytes : Body ℕ → Bytes
 bodyBytes (place lat lon) = []
-bodyBytes (refs rs) = joined i64 rs
-bodyBytes (members ms) = joined memberBytes ms
+bodyBytes (refs rs) = joinedBytes i64 rs
+bodyBytes (members ms) = joinedBytes memberBytes ms
 
 -- what follows the metadata
 unfoldable pub partsBytes : Record ℕ → Bytes
-partsBytes r = bodyBytes (r .body) ++ joined tagBytes (r .tags)
+partsBytes r = bodyBytes (r .body) ++ joinedBytes tagBytes (r .tags)
 
 unfoldable pub recordBytes : ℤ → Record ℕ → Bytes
 recordBytes id r = headBytes (kindOf (r .body)) (headOf id (r .body) (length (r .tags))) ++ metaBytes (r .meta) ++ partsBytes r

@@ -13,11 +13,11 @@ use Rattle.compact.specs.declared.TagTurn.{TagTurn}
 use Rattle.compact.specs.declared.CompactTagIter.{CompactTagIter}
 use Rattle.model.specs.Record as model
 use Rattle.compact.specs.Cut.{cutHead}
-use Rattle.compact.specs.View.{answer, tagsAt, tagStep, tagGiven, onward}
+use Rattle.compact.specs.View.{answerCut, tagsAt, tagStep, tagGiven, stepsOnward}
 
 -- behind the head, the metadata and the refs or members, with the head's count of tags remaining. Of a head that is cut short: at the bytes' end with a tag remaining, so that the first step answers 22
 unfoldable pub tagPlace : Kind → Bytes → TagPlace
-tagPlace k s = answer (record { offset = length s; remaining = 1 }) (λ h r. record { offset = tagsAt k (h .count); remaining = h .tags }) (cutHead k s)
+tagPlace k s = answerCut (record { offset = length s; remaining = 1 }) (λ h r. record { offset = tagsAt k (h .count); remaining = h .tags }) (cutHead k s)
 
 -- past the tag that a step yields, with one tag less remaining; where it yields none the walk stays where it was
 unfoldable pub turnBy : TagStep → ℕ → ℕ → TagTurn
@@ -50,8 +50,8 @@ tagNext it = nextBy (it .bytes) (tagTurn (now (it .bytes)) (it .offset) (it .rem
 
 -- what `next` yields, call after call, until none remain
 unfoldable pub yielded : ℕ → CompactTagIter → Option (List (model.Tag ℕ))
-yielded zero it = onward (tagGiven (now (it .bytes)) (tagNext it .step)) (λ at. none)
-yielded (suc n) it = onward (tagGiven (now (it .bytes)) (tagNext it .step)) (λ at. yielded n (tagNext it .iter))
+yielded zero it = stepsOnward (tagGiven (now (it .bytes)) (tagNext it .step)) (λ at. none)
+yielded (suc n) it = stepsOnward (tagGiven (now (it .bytes)) (tagNext it .step)) (λ at. yielded n (tagNext it .iter))
 
 abbrev pub allTags : CompactTagIter → Option (List (model.Tag ℕ))
 allTags it = yielded (it .remaining) it

@@ -36,7 +36,7 @@ use Rattle.compact.specs.declared.MemberStep.the-variants as member
 use Rattle.compact.specs.declared.TagStep.{TagStep}
 use Rattle.compact.specs.declared.TagStep.the-variants as tag
 use Rattle.compact.specs.Layout.{Head, headLen}
-use Rattle.compact.specs.Cut.{Cut, andThen, found, cutI64, cutMeta, cutMember, cutTag, cutHead, Kept}
+use Rattle.compact.specs.Cut.{Cut, thenCut, found, cutI64, cutMeta, cutMember, cutTag, cutHead, Kept}
 use Rattle.compact.specs.Held.{metaOf, metaBits, nodeHead, wayHead, relationHead, nodeBits, wayBits, relationBits}
 
 -- ---- fields at their places, for the library's own code on bytes that it has checked: bytes that are missing read as 0. A user gets the readers below.
@@ -89,44 +89,44 @@ headAt Relation s = relationHead (relationAt s)
 abbrev pub unsoundNumber : ℕ
 unsoundNumber = numberOf refused.Unsound
 
-abbrev pub answer : {A B : Type 0} → B → (A → Bytes → B) → Option (Cut A) → B
-answer unsound is none = unsound
-answer unsound is (some c) = is (c .item) (c .rest)
+abbrev pub answerCut : {A B : Type 0} → B → (A → Bytes → B) → Option (Cut A) → B
+answerCut unsound is none = unsound
+answerCut unsound is (some c) = is (c .item) (c .rest)
 
 unfoldable pub nodeRead : Bytes → NodeRead
-nodeRead s = answer node.Unsound (λ h r. node.Is (nodeBits h)) (cutHead Node s)
+nodeRead s = answerCut node.Unsound (λ h r. node.Is (nodeBits h)) (cutHead Node s)
 
 unfoldable pub wayRead : Bytes → WayRead
-wayRead s = answer way.Unsound (λ h r. way.Is (wayBits h)) (cutHead Way s)
+wayRead s = answerCut way.Unsound (λ h r. way.Is (wayBits h)) (cutHead Way s)
 
 unfoldable pub relationRead : Bytes → RelationRead
-relationRead s = answer relation.Unsound (λ h r. relation.Is (relationBits h)) (cutHead Relation s)
+relationRead s = answerCut relation.Unsound (λ h r. relation.Is (relationBits h)) (cutHead Relation s)
 
 unfoldable pub metaRead : Bytes → ℕ → MetaRead
-metaRead s at = answer meta.Unsound (λ m r. meta.Is (metaBits m)) (cutMeta (drop at s))
+metaRead s at = answerCut meta.Unsound (λ m r. meta.Is (metaBits m)) (cutMeta (drop at s))
 
 -- ---- a user's steps, "one step a call": "none at 0 remaining, else 22 for a tag past the bytes or not text"
 
 -- over any element: done at 0 remaining, else what is cut off at the offset and the offset of the next one, where the rest begins
-unfoldable pub step : {A B : Type 0} → B → B → (A → ℕ → B) → (Bytes → Option (Cut A)) → Bytes → ℕ → ℕ → B
-step done unsound yields cut s offset remaining =
-    cond (eqb remaining 0) done (answer unsound (λ a r. yields a (length s - length r)) (cut (drop offset s)))
+unfoldable pub stepBy : {A B : Type 0} → B → B → (A → ℕ → B) → (Bytes → Option (Cut A)) → Bytes → ℕ → ℕ → B
+stepBy done unsound yields cut s offset remaining =
+    cond (eqb remaining 0) done (answerCut unsound (λ a r. yields a (length s - length r)) (cut (drop offset s)))
 
 unfoldable pub refStep : Bytes → ℕ → ℕ → RefStep
-refStep s offset remaining = step ref.Done ref.Unsound (λ z next. ref.Ref (ofZ w64 z) next) cutI64 s offset remaining
+refStep s offset remaining = stepBy ref.Done ref.Unsound (λ z next. ref.Ref (ofZ w64 z) next) cutI64 s offset remaining
 
 unfoldable pub memberStep : Bytes → ℕ → ℕ → MemberStep
 memberStep s offset remaining =
-    step member.Done member.Unsound (λ m next. member.Member (ofZ w64 (m .ref)) (m .type) (m .role) next) cutMember s offset remaining
+    stepBy member.Done member.Unsound (λ m next. member.Member (ofZ w64 (m .ref)) (m .type) (m .role) next) cutMember s offset remaining
 
 -- a tag whose value is text
 unfoldable pub cutText : Bytes → Option (Cut (Tag ℕ))
-cutText s = andThen (cutTag s) (λ t r. cond (isText (t .value)) (found t r) none)
+cutText s = thenCut (cutTag s) (λ t r. cond (isText (t .value)) (found t r) none)
 
 -- "it yields the key's handle, unresolved"; the value lies up to the next tag
 unfoldable pub tagStep : Bytes → ℕ → ℕ → TagStep
 tagStep s offset remaining =
-    step tag.Done tag.Unsound (λ t next. tag.Tag (t .key) (next - length (t .value)) (length (t .value))) cutText s offset remaining
+    stepBy tag.Done tag.Unsound (λ t next. tag.Tag (t .key) (next - length (t .value)) (length (t .value))) cutText s offset remaining
 
 -- ---- what a user makes of the answers
 
@@ -151,23 +151,23 @@ abbrev pub metaGiven : MetaRead → Option (Meta ℕ)
 metaGiven (meta.Is m) = some (metaOf m)
 metaGiven meta.Unsound = none
 
-pub data Step (A : Type 0) : Type 0 where
-  done : Step A
-  unsound : Step A
-  yields : A → ℕ → Step A
+pub data ReadStep (A : Type 0) : Type 0 where
+  done : ReadStep A
+  unsound : ReadStep A
+  yields : A → ℕ → ReadStep A
 
-abbrev pub refGiven : RefStep → Step ℤ
+abbrev pub refGiven : RefStep → ReadStep ℤ
 refGiven ref.Done = done
 refGiven ref.Unsound = unsound
 refGiven (ref.Ref v next) = yields (toZ w64 v) next
 
-abbrev pub memberGiven : MemberStep → Step (Member ℕ)
+abbrev pub memberGiven : MemberStep → ReadStep (Member ℕ)
 memberGiven member.Done = done
 memberGiven member.Unsound = unsound
 memberGiven (member.Member v k role next) = yields (record { ref = toZ w64 v; type = k; role = role }) next
 
 -- the value is the view's bytes at its place
-abbrev pub tagGiven : Bytes → TagStep → Step (Tag ℕ)
+abbrev pub tagGiven : Bytes → TagStep → ReadStep (Tag ℕ)
 tagGiven s tag.Done = done
 tagGiven s tag.Unsound = unsound
 tagGiven s (tag.Tag key start len) = yields (record { key = key; value = take len (drop start s) }) (start + len)
@@ -175,24 +175,24 @@ tagGiven s (tag.Tag key start len) = yields (record { key = key; value = take le
 -- ---- a record, read by the readers and steps alone
 
 -- an element and those from the next offset on
-abbrev pub onward : {A : Type 0} → Step A → (ℕ → Option (List A)) → Option (List A)
-onward done more = some []
-onward unsound more = none
-onward (yields a next) more = Option·map (a ∷_) (more next)
+abbrev pub stepsOnward : {A : Type 0} → ReadStep A → (ℕ → Option (List A)) → Option (List A)
+stepsOnward done more = some []
+stepsOnward unsound more = none
+stepsOnward (yields a next) more = Option·map (a ∷_) (more next)
 
 -- step after step, from an offset on, until none remain
-unfoldable pub stepped : {A : Type 0} → (ℕ → ℕ → Step A) → ℕ → ℕ → Option (List A)
-stepped f at zero = onward (f at 0) (λ next. none)
-stepped f at (suc n) = onward (f at (suc n)) (λ next. stepped f next n)
+unfoldable pub stepsFrom : {A : Type 0} → (ℕ → ℕ → ReadStep A) → ℕ → ℕ → Option (List A)
+stepsFrom f at zero = stepsOnward (f at 0) (λ next. none)
+stepsFrom f at (suc n) = stepsOnward (f at (suc n)) (λ next. stepsFrom f next n)
 
 unfoldable pub refsFrom : Bytes → ℕ → ℕ → Option (List ℤ)
-refsFrom s at n = stepped (λ o m. refGiven (refStep s o m)) at n
+refsFrom s at n = stepsFrom (λ o m. refGiven (refStep s o m)) at n
 
 unfoldable pub membersFrom : Bytes → ℕ → ℕ → Option (List (Member ℕ))
-membersFrom s at n = stepped (λ o m. memberGiven (memberStep s o m)) at n
+membersFrom s at n = stepsFrom (λ o m. memberGiven (memberStep s o m)) at n
 
 unfoldable pub tagsFrom : Bytes → ℕ → ℕ → Option (List (Tag ℕ))
-tagsFrom s at n = stepped (λ o m. tagGiven s (tagStep s o m)) at n
+tagsFrom s at n = stepsFrom (λ o m. tagGiven s (tagStep s o m)) at n
 
 -- refs or members stand after the head and the metadata
 unfoldable pub bodyRead : Kind → Head → Bytes → Option (Body ℕ)

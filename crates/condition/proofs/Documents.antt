@@ -12,7 +12,7 @@ use Rattle.base.proofs.Lists.{all-nil, all-cons, all-head, all-tail}
 use Rattle.little.specs.Little.{isByte}
 use Rattle.refusal.specs.declared.Refusal.the-variants as R
 use Rattle.nesting.specs.Marks.{Mark, run}
-use Rattle.nesting.specs.Grammar.{each}
+use Rattle.nesting.specs.Grammar.{eachGives}
 use Rattle.nesting.specs.declared.Level.the-variants as L
 use Rattle.nesting.specs.declared.Place.{Place}
 use Rattle.nesting.proofs.Documents.{documents}
@@ -52,7 +52,7 @@ RunsToEnd p ms = (q : Place) × (run p ms ≡ some q) × (q .level ≡ L.Done)
 module _ (s : State) (given : StateGiven s) (kind : KindAgrees (readerOf s)) (going : isStopped (s .reader .stop) ≡ false) where
   -- an event, and the marks of what follows
   line-taken : (line : Bytes) (rest : List Mark) → eventOn line s .answer ≡ E.Accepted → run (s .reader .place) (lineMarks line ++ rest) ≡ run (eventOn line s .state .reader .place) rest
-  unfolding readerOf each
+  unfolding readerOf eachGives
   line-taken line rest a =
       let x = event-accepted line s given a in
       let r : run (s .reader .place) (lineMarks line) ≡ some (x .comes .reader .place) = rw append-nil at (lines-lead kind (more (x .comes) (x .is) done) .runs) in
@@ -78,8 +78,8 @@ abbrev Exactly : State → List EventAnswer → List Mark → Type 0
 Exactly t xs ms = (all eventTaken xs ≡ true) ↔ RunsToEnd (t .reader .place) ms
 
 pub lines-exactly : (lines : List Bytes) (s : State) → StateGiven s → KindAgrees (readerOf s) → isStopped (s .reader .stop) ≡ false → AllByNesting (answersTo s lines)
-    → Exactly s (answersTo s lines) (each lineMarks lines)
-unfolding answersTo AllByNesting each run stopsBy both
+    → Exactly s (answersTo s lines) (eachGives lineMarks lines)
+unfolding answersTo AllByNesting eachGives run stopsBy both
 lines-exactly [] s given kind going h =
     let x = end-exactly s given kind going (h .0) in (
       λ t. (s .reader .place, refl, x .0 (taken-is _ (all-head eventTaken _ [] t))),
@@ -94,18 +94,18 @@ lines-exactly (line ∷ lines) s given kind going h = go (h .0) (λ g k i. lines
 
     go : ByNesting (eventOn line s .answer)
         → (StateGiven (eventOn line s .state) → KindAgrees (readerOf (eventOn line s .state)) → isStopped (eventOn line s .state .reader .stop) ≡ false
-        → Exactly (eventOn line s .state) (answersTo (eventOn line s .state) lines) (each lineMarks lines))
-        → Exactly s (eventOn line s .answer ∷ answersTo (eventOn line s .state) lines) (lineMarks line ++ each lineMarks lines)
+        → Exactly (eventOn line s .state) (answersTo (eventOn line s .state) lines) (eachGives lineMarks lines))
+        → Exactly s (eventOn line s .answer ∷ answersTo (eventOn line s .state) lines) (lineMarks line ++ eachGives lineMarks lines)
     go (is-accepted a) f =
         let x = event-accepted line s given a in
         let i = f (x .given) (rw (x .reader) (turn-agrees line (readerOf s) kind (x .is))) (rw (event-counts line s a .1)) in
-        let e = line-taken s given kind going line (each lineMarks lines) a in (
+        let e = line-taken s given kind going line (eachGives lineMarks lines) a in (
           λ t. let y = i .0 (all-tail eventTaken _ _ t) in (y .0, e ∙ y .1, y .2),
           λ y. all-cons eventTaken _ _ (rw a) (i .1 (y .0, sym e ∙ y .1, y .2)),
         )
     go (is-misnested m a) f = (
       λ t. absurd (stopped m a (taken-is _ (all-head eventTaken _ _ t))),
-      λ y. let z : none ≡ some (y .0) = sym (line-refused s given kind going line (each lineMarks lines) m a) ∙ y .1 in no cc,
+      λ y. let z : none ≡ some (y .0) = sym (line-refused s given kind going line (eachGives lineMarks lines) m a) ∙ y .1 in no cc,
     )
     -- no event is refused 18
     go (is-unfinished m a) f = byRefused line s R.Unfinished m a (λ u k j w. no cc) (λ u t w. clash t refl)
@@ -115,5 +115,5 @@ pub document-lines : (o : Overlay) → InBytes o → isSound o ≡ true → (par
 document-lines o b u parts c room lines h =
     let g : StateGiven (freshState o parts) = record { overlay = b; reader = fresh-ready o u parts c room .given } in
     let x = lines-exactly lines (freshState o parts) g (rw (fresh-means o u parts) fresh-agrees) refl h in
-    let y = documents (each lineMarks lines) in
+    let y = documents (eachGives lineMarks lines) in
     (λ t. y .0 (x .0 t), λ d. x .1 (y .1 d))

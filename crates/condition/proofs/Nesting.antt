@@ -20,7 +20,7 @@ use Rattle.refusal.specs.declared.Refusal.{Refusal}
 use Rattle.refusal.specs.declared.Refusal.the-variants as R
 use Rattle.nesting.specs.Name.{nameOf}
 use Rattle.nesting.specs.Nesting.{start, opened, openedAt, inDoc, closed, closedTo}
-use Rattle.nesting.specs.Marks.{Mark, empties, closes, taken, step, run}
+use Rattle.nesting.specs.Marks.{Mark, empties, closes, placeTaken, markStep, run}
 use Rattle.nesting.specs.declared.Name.{Name}
 use Rattle.nesting.specs.declared.Name.the-variants as N
 use Rattle.nesting.specs.declared.Action.{Action}
@@ -67,7 +67,7 @@ use Rattle.condition.specs.Nesting.{IsDocument, BeginsDocument, NestingR
 pub run-stops : (p : Place) (xs ys : List Mark) → run p xs ≡ none → run p (xs ++ ys) ≡ none
 unfolding run bind
 run-stops p [] ys h = no cc
-run-stops p (m ∷ xs) ys h = go (step p m) (λ q. run-stops q xs ys) h
+run-stops p (m ∷ xs) ys h = go (markStep p m) (λ q. run-stops q xs ys) h
   where
     go : (o : Option Place) → ((q : Place) → run q xs ≡ none → run q (xs ++ ys) ≡ none) → bind o (λ q. run q xs) ≡ none → bind o (λ q. run q (xs ++ ys)) ≡ none
     go none f e = refl
@@ -77,7 +77,7 @@ run-stops p (m ∷ xs) ys h = go (step p m) (λ q. run-stops q xs ys) h
 pub run-after : (p q : Place) (xs ys : List Mark) → run p xs ≡ some q → run p (xs ++ ys) ≡ run q ys
 unfolding run bind
 run-after p q [] ys e = let z : p ≡ q = cc in rw z
-run-after p q (m ∷ xs) ys e = go (step p m) (λ r. run-after r q xs ys) e
+run-after p q (m ∷ xs) ys e = go (markStep p m) (λ r. run-after r q xs ys) e
   where
     go : (o : Option Place) → ((r : Place) → run r xs ≡ some q → run r (xs ++ ys) ≡ run q ys) → bind o (λ r. run r xs) ≡ some q → bind o (λ r. run r (xs ++ ys)) ≡ run q ys
     go none g h = no cc
@@ -91,7 +91,7 @@ pub record Ends (p : Place) : Type 0 where
   pub level : place .level ≡ L.Done
 
 ends-from : (l : Level) (a : Action) (k : Kind) → Ends (record { level = l; section = a; kind = k })
-unfolding run bind step closed closedTo taken opened openedAt inDoc
+unfolding run bind markStep closed closedTo placeTaken opened openedAt inDoc
 ends-from L.Doc a k = record { rest = empties N.OsmChange ∷ []; place = record { level = L.Done; section = a; kind = k }; runs = refl; level = refl }
 ends-from L.Root a k = record { rest = closes ∷ []; place = record { level = L.Done; section = a; kind = k }; runs = refl; level = refl }
 ends-from L.Section a k = record { rest = closes ∷ closes ∷ []; place = record { level = L.Done; section = a; kind = k }; runs = refl; level = refl }
@@ -120,20 +120,20 @@ bind-some none = refl
 bind-some (some q) = refl
 
 module _ (line : Bytes) (p : Place) where
-  mark-run : (e : Bool) (n : Name) → run p (markOf e n ∷ []) ≡ taken (opened e n p)
-  unfolding run step
-  mark-run true n = bind-some (taken (opened true n p))
-  mark-run false n = bind-some (taken (opened false n p))
+  mark-run : (e : Bool) (n : Name) → run p (markOf e n ∷ []) ≡ placeTaken (opened e n p)
+  unfolding run markStep
+  mark-run true n = bind-some (placeTaken (opened true n p))
+  mark-run false n = bind-some (placeTaken (opened false n p))
 
   -- a line that leads nowhere
-  opens-nowhere : (o : Opened) → taken o ≡ none → Opens line p o → run p (lineMarks line) ≡ none
-  opens-nowhere o e x = rw (x .reading) (mark-run (x .empty) (nameOf (x .name)) ∙ (ap taken (x .leads-to) ∙ e))
+  opens-nowhere : (o : Opened) → placeTaken o ≡ none → Opens line p o → run p (lineMarks line) ≡ none
+  opens-nowhere o e x = rw (x .reading) (mark-run (x .empty) (nameOf (x .name)) ∙ (ap placeTaken (x .leads-to) ∙ e))
 
   by-nowhere : {C : Type 0} → run p (lineMarks line) ≡ none → (Opens line p O.Misplaced → C) → (Opens line p O.OutsideSection → C) → C
-  unfolding taken run step bind
+  unfolding placeTaken run markStep bind
   by-nowhere {C} h f g = go (eventOf line) refl h
     where
-      leads : (e : Bool) (n : Bytes) (attrs : List Attr) → eventOf line ≡ reads (Event.starts e n attrs) → (o : Opened) → opened e (nameOf n) p ≡ o → taken o ≡ none → C
+      leads : (e : Bool) (n : Bytes) (attrs : List Attr) → eventOf line ≡ reads (Event.starts e n attrs) → (o : Opened) → opened e (nameOf n) p ≡ o → placeTaken o ≡ none → C
       leads e n attrs r O.Misplaced l t = f (record { empty = e; name = n; attrs = attrs; reading = r; leads-to = l })
       leads e n attrs r O.OutsideSection l t = g (record { empty = e; name = n; attrs = attrs; reading = r; leads-to = l })
       leads e n attrs r (O.Goes q) l t = no cc
@@ -169,7 +169,7 @@ module _ (line : Bytes) (s : State) (sound : stateSound s ≡ true) (going : isS
   refuses-event r l = let x = event-11 line s sound going r l in (λ a. turn-refuses line (readerOf s) r (x .0 a), λ e. x .1 (rw e))
 
   pub nowhere-exactly : NestingRefused (eventOn line s .answer) (nextLine s) ↔ (run (s .reader .place) (lineMarks line) ≡ none)
-  unfolding taken
+  unfolding placeTaken
   nowhere-exactly = (to, from)
     where
       to : NestingRefused (eventOn line s .answer) (nextLine s) → run (s .reader .place) (lineMarks line) ≡ none

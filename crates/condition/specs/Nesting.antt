@@ -9,7 +9,7 @@ use lib.ListN.{length}
 use Rattle.base.specs.Bytes.{Bytes, all}
 use Rattle.refusal.specs.declared.Refusal.the-variants as R
 use Rattle.nesting.specs.Marks.{Mark}
-use Rattle.nesting.specs.Grammar.{Document, each, events}
+use Rattle.nesting.specs.Grammar.{Document, eachGives, events}
 use Rattle.acts.specs.Lines.{lineMarks}
 use Rattle.acts.specs.Call.{linesHeard}
 use Rattle.overlay.specs.Overlay.{Overlay}
@@ -39,7 +39,7 @@ module _ (setting : ℕ) (o : Overlay) (ps : ℕ → Bytes) (cs : List Ask) (n :
 
   -- the marks of the lines that it has taken
   abbrev pub marksHeard : List Mark
-  marksHeard = each lineMarks (linesHeard n (replies setting o ps cs))
+  marksHeard = eachGives lineMarks (linesHeard n (replies setting o ps cs))
 
   -- the line of its next event
   abbrev pub lineHeard : ℕ
@@ -75,4 +75,4 @@ freshState o parts = record { overlay = o; reader = freshReader; parts = parts }
 
 -- where nothing but the nesting refuses any of it, all is accepted exactly when the lines are a document
 abbrev pub AcceptsDocuments : Overlay → Bytes → Type 0
-AcceptsDocuments o parts = (lines : List Bytes) → AllByNesting (answersTo (freshState o parts) lines) → (all eventTaken (answersTo (freshState o parts) lines) ≡ true) ↔ IsDocument (each lineMarks lines)
+AcceptsDocuments o parts = (lines : List Bytes) → AllByNesting (answersTo (freshState o parts) lines) → (all eventTaken (answersTo (freshState o parts) lines) ≡ true) ↔ IsDocument (eachGives lineMarks lines)

@@ -10,7 +10,7 @@ use Rattle.nesting.specs.declared.Action.the-variants as A
 use Rattle.nesting.specs.declared.Place.{Place}
 use Rattle.model.specs.Record.{Meta}
 use Rattle.event.specs.Event.{Attr}
-use Rattle.field.specs.Field.{idOf, metaOf}
+use Rattle.field.specs.Field.{idField, metadataOf}
 use Rattle.decision.specs.Decision.{Decision, onField, refuses, moves, begins, deletes, tags, refers, joins, ends}
 use Rattle.values.specs.Value.{textAt, ExtentLies, bodyIn}
 use Rattle.metadata.specs.Metadata.{metaWritten, MetadataLies}
@@ -52,7 +52,7 @@ onHead t (H.Bad r) f = refuses r
 
 -- an answer stands for the id and the metadata of attributes
 abbrev pub Heads : Bytes → List Attr → HeadField → Type 0
-Heads t attrs r = (f : ℤ → Meta Bytes → Decision) → onHead t r f ≡ onField (idOf attrs) (λ id. onField (metaOf attrs) (λ m. f id m))
+Heads t attrs r = (f : ℤ → Meta Bytes → Decision) → onHead t r f ≡ onField (idField attrs) (λ id. onField (metadataOf attrs) (λ m. f id m))
 
 abbrev pub HeadLies : Bytes → HeadField → Type 0
 HeadLies t (H.Is id m) = MetadataLies t m

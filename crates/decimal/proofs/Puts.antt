@@ -15,7 +15,7 @@ use Rattle.base.proofs.Split.{byLe, no}
 use Rattle.line.specs.Decimal.{numberText, integerText}
 use Rattle.little.specs.Little.{over}
 use Rattle.little.proofs.Overs.{over-here, over-later, over-nothing}
-use Rattle.decimal.specs.Put.{Wrote, put}
+use Rattle.decimal.specs.Put.{Wrote, putText}
 use Rattle.decimal.specs.declared.Written.the-variants.{End, Full}
 use Rattle.decimal.proofs.Numbers.{lowDigits, low-more, length-low}
 
@@ -38,21 +38,21 @@ digit-stored s at k n h =
 -- ---- what is written, whole or not at all
 
 module _ (s t : Bytes) where
-  pub put-whole : length t ≤ length s → put s t ≡ record { bytes = over s 0 t; answer = End (length t) }
-  unfolding put
+  pub put-whole : length t ≤ length s → putText s t ≡ record { bytes = over s 0 t; answer = End (length t) }
+  unfolding putText
   put-whole h = rw (le-leb (length t) (length s) h)
 
-  pub put-nothing : length s < length t → put s t ≡ record { bytes = s; answer = Full }
-  unfolding put
+  pub put-nothing : length s < length t → putText s t ≡ record { bytes = s; answer = Full }
+  unfolding putText
   put-nothing h = rw (lt-leb (length t) (length s) h)
 
   -- of a writer that left the bytes `left`
   module _ (left : Bytes) where
-    pub whole : (n : ℕ) → n ≤ length s → n ≡ length t → left ≡ over s 0 t → _≡_ {A = Wrote} (record { bytes = left; answer = End n }) (put s t)
+    pub whole : (n : ℕ) → n ≤ length s → n ≡ length t → left ≡ over s 0 t → _≡_ {A = Wrote} (record { bytes = left; answer = End n }) (putText s t)
     whole n h e f = rw (put-whole (rw e at h)) (cc)
 
     -- what its answer says
-    pub at-end : (n : ℕ) → _≡_ {A = Wrote} (record { bytes = left; answer = End n }) (put s t) → (n ≤ length s) × ((n ≡ length t) × (left ≡ over s 0 t))
+    pub at-end : (n : ℕ) → _≡_ {A = Wrote} (record { bytes = left; answer = End n }) (putText s t) → (n ≤ length s) × ((n ≡ length t) × (left ≡ over s 0 t))
     at-end n e =
         byLe (length t) (length s)
         (λ h. let q : End n ≡ End (length t) = ap (λ (w : Wrote). w .answer) (e ∙ put-whole h) in
@@ -60,7 +60,7 @@ module _ (s t : Bytes) where
         (omega arith, (m, ap (λ (w : Wrote). w .bytes) (e ∙ put-whole h))))
         (λ h. let q : End n ≡ Full = ap (λ (w : Wrote). w .answer) (e ∙ put-nothing h) in no (cc))
 
-    pub at-full : _≡_ {A = Wrote} (record { bytes = left; answer = Full }) (put s t) → (length s < length t) × (left ≡ s)
+    pub at-full : _≡_ {A = Wrote} (record { bytes = left; answer = Full }) (putText s t) → (length s < length t) × (left ≡ s)
     at-full e =
         byLe (length t) (length s)
         (λ h. let q : Full ≡ End (length t) = ap (λ (w : Wrote). w .answer) (e ∙ put-whole h) in no (cc))

@@ -13,5 +13,5 @@ pub record Wrote : Type 0 where
   pub answer : Written
 
 -- a text at the start of the bytes s, where they are long enough; else nothing is changed
-unfoldable pub put : Bytes → Bytes → Wrote
-put s t = cond (leb (length t) (length s)) (record { bytes = over s 0 t; answer = End (length t) }) (record { bytes = s; answer = Full })
+unfoldable pub putText : Bytes → Bytes → Wrote
+putText s t = cond (leb (length t) (length s)) (record { bytes = over s 0 t; answer = End (length t) }) (record { bytes = s; answer = Full })

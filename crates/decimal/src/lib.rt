@@ -7,7 +7,7 @@ ghost use mir.Syntax.{w32, w64};
 ghost use mir.Val.{toZ};
 ghost use Rattle.line.specs.Decimal.{numberText, integerText};
 ghost use Rattle.little.specs.Little.{over};
-ghost use Rattle.decimal.specs.Put.{put};
+ghost use Rattle.decimal.specs.Put.{putText};
 
 // Where what was written ends, or that there was no room for it.
 pub enum Written {
@@ -44,7 +44,7 @@ fn put_digits(out: &mut [u8], at: usize, n: usize, v: u64)
 
 // A number at the start of what is lent, where it fits.
 pub fn put_number(out: &mut [u8], v: u64) -> Written
-    ensures { λ r. ⌜ record { bytes = now (out .exit); answer = r } ≡ put (now (out .entry)) (numberText v) ⌝ }
+    ensures { λ r. ⌜ record { bytes = now (out .exit); answer = r } ≡ putText (now (out .entry)) (numberText v) ⌝ }
 {
     let n = number_length(v);
     if n <= out.len() {
@@ -56,7 +56,7 @@ pub fn put_number(out: &mut [u8], v: u64) -> Written
 
 // The minus sign, and then a number.
 fn put_minus(out: &mut [u8], v: u64) -> Written
-    ensures { λ r. ⌜ record { bytes = now (out .exit); answer = r } ≡ put (now (out .entry)) (45 ∷ numberText v) ⌝ }
+    ensures { λ r. ⌜ record { bytes = now (out .exit); answer = r } ≡ putText (now (out .entry)) (45 ∷ numberText v) ⌝ }
 {
     let n = number_length(v);
     if n < out.len() {
@@ -69,7 +69,7 @@ fn put_minus(out: &mut [u8], v: u64) -> Written
 
 // An integer of 64 bits, given by its bits.
 pub fn put_integer(out: &mut [u8], bits: u64) -> Written
-    ensures { λ r. ⌜ record { bytes = now (out .exit); answer = r } ≡ put (now (out .entry)) (integerText (toZ w64 bits)) ⌝ }
+    ensures { λ r. ⌜ record { bytes = now (out .exit); answer = r } ≡ putText (now (out .entry)) (integerText (toZ w64 bits)) ⌝ }
 {
     if bits < 0x8000_0000_0000_0000 {
         return put_number(out, bits);
@@ -79,7 +79,7 @@ pub fn put_integer(out: &mut [u8], bits: u64) -> Written
 
 // An integer of 32 bits, given by its bits.
 pub fn put_integer32(out: &mut [u8], bits: u32) -> Written
-    ensures { λ r. ⌜ record { bytes = now (out .exit); answer = r } ≡ put (now (out .entry)) (integerText (toZ w32 bits)) ⌝ }
+    ensures { λ r. ⌜ record { bytes = now (out .exit); answer = r } ≡ putText (now (out .entry)) (integerText (toZ w32 bits)) ⌝ }
 {
     if bits < 0x8000_0000 {
         return put_number(out, bits as u64);

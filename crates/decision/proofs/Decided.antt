@@ -22,7 +22,7 @@ use Rattle.nesting.specs.declared.Opened.{Opened}
 use Rattle.nesting.specs.declared.Opened.the-variants as O
 use Rattle.model.specs.Record.{Meta, Member, Tag, Body}
 use Rattle.event.specs.Event.{Attr, starts, closes, others, Reading, reads, refused, eventOf}
-use Rattle.field.specs.Field.{Field, got, bad, idOf, metaOf, bodyFor, tagOf, refOf, memberOf}
+use Rattle.field.specs.Field.{Field, got, bad, idField, metadataOf, bodyFor, tagOf, refOf, memberOf}
 use Rattle.decision.specs.Decision.{Decision, refuses, moves, begins, deletes, tags, refers, joins, ends, onField, pushBegins, elementBegins, unlessDelete, childOf, decideOpened, decideClosed, decideEvent, decideReading, decide}
 
 -- a `create` or a `modify` section
@@ -39,9 +39,9 @@ pub data Checked (attrs : List Attr) : Child → Type 0 where
 pub data Refuses (p : Place) (attrs : List Attr) : Opened → Refusal → Type 0 where
   misplaced : Refuses p attrs O.Misplaced R.Misplaced
   outside : Refuses p attrs O.OutsideSection R.OutsideSection
-  bad-id : {k : Kind} {q : Place} {r : Refusal} → idOf attrs ≡ bad r → Refuses p attrs (O.Begins k q) r
-  bad-meta : {k : Kind} {q : Place} {id : ℤ} {r : Refusal} → idOf attrs ≡ got id → metaOf attrs ≡ bad r → Refuses p attrs (O.Begins k q) r
-  bad-body : {k : Kind} {q : Place} {id : ℤ} {m : Meta Bytes} {r : Refusal} → Pushing p → idOf attrs ≡ got id → metaOf attrs ≡ got m → bodyFor k attrs ≡ bad r
+  bad-id : {k : Kind} {q : Place} {r : Refusal} → idField attrs ≡ bad r → Refuses p attrs (O.Begins k q) r
+  bad-meta : {k : Kind} {q : Place} {id : ℤ} {r : Refusal} → idField attrs ≡ got id → metadataOf attrs ≡ bad r → Refuses p attrs (O.Begins k q) r
+  bad-body : {k : Kind} {q : Place} {id : ℤ} {m : Meta Bytes} {r : Refusal} → Pushing p → idField attrs ≡ got id → metadataOf attrs ≡ got m → bodyFor k attrs ≡ bad r
       → Refuses p attrs (O.Begins k q) r
   bad-tag : {q : Place} {r : Refusal} → tagOf attrs ≡ bad r → Refuses p attrs (O.Holds C.Tag q) r
   bad-ref : {q : Place} {r : Refusal} → refOf attrs ≡ bad r → Refuses p attrs (O.Holds C.Nd q) r
@@ -53,10 +53,10 @@ pub data Starts (p : Place) (e : Bool) (attrs : List Attr) : Opened → Decision
   -- neither an object nor a child that is kept
   goes : {q : Place} → Starts p e attrs (O.Goes q) (moves q)
   -- an object
-  begin : {k : Kind} {q : Place} {id : ℤ} {m : Meta Bytes} {b : Body Bytes} → Pushing p → idOf attrs ≡ got id → metaOf attrs ≡ got m → bodyFor k attrs ≡ got b
+  begin : {k : Kind} {q : Place} {id : ℤ} {m : Meta Bytes} {b : Body Bytes} → Pushing p → idField attrs ≡ got id → metadataOf attrs ≡ got m → bodyFor k attrs ≡ got b
       → Starts p e attrs (O.Begins k q) (begins e q id m b)
   -- "In a delete section the delete happens at the opening"
-  delete : {k : Kind} {q : Place} {id : ℤ} {m : Meta Bytes} → p .section ≡ A.Delete → idOf attrs ≡ got id → metaOf attrs ≡ got m
+  delete : {k : Kind} {q : Place} {id : ℤ} {m : Meta Bytes} → p .section ≡ A.Delete → idField attrs ≡ got id → metadataOf attrs ≡ got m
       → Starts p e attrs (O.Begins k q) (deletes k q id m)
   -- a child
   tag : {q : Place} {t : Tag Bytes} → Pushing p → tagOf attrs ≡ got t → Starts p e attrs (O.Holds C.Tag q) (tags q t)

@@ -23,7 +23,7 @@ use Rattle.nesting.specs.declared.Opened.{Opened}
 use Rattle.model.specs.Record.{Meta, Body, place, refs, members, kindOf}
 use Rattle.event.specs.Event.{Attr, Reading, eventOf, valueOf, orEmpty}
 use Rattle.event.proofs.Events.{values-text}
-use Rattle.field.specs.Field.{Field, got, idOf, latitude, longitude, metaOf, bodyFor}
+use Rattle.field.specs.Field.{Field, got, idField, latitude, longitude, metadataOf, bodyFor}
 use Rattle.field.proofs.Fields.{then-got, value-all, tag-got, member-got, integer-fits, ref-fits, member-fits, latitude-fits, longitude-fits}
 use Rattle.field.proofs.Metadata.{Legal, meta-legal, meta-user}
 use Rattle.decision.specs.Decision.{Decision, refuses, moves, begins, deletes, tags, refers, joins, ends, decide}
@@ -65,8 +65,8 @@ body-first attrs K.Way e = got-first e (refl, refl)
 body-first attrs K.Relation e = got-first e (refl, refl)
 
 module _ (attrs : List Attr) (h : all (λ (a : Attr). isText (a .value)) attrs ≡ true) where
-  given : {id : ℤ} {m : Meta Bytes} → idOf attrs ≡ got id → metaOf attrs ≡ got m → Given id m
-  unfolding idOf
+  given : {id : ℤ} {m : Meta Bytes} → idField attrs ≡ got id → metadataOf attrs ≡ got m → Given id m
+  unfolding idField
   given a b = record { fits = integer-fits (ascii "id") attrs w64 a; legal = meta-legal attrs b; user = meta-user isText attrs text-nil h b }
 
   role-text : (o : Option Bytes) → valueOf (ascii "role") attrs ≡ o → isText (orEmpty o) ≡ true

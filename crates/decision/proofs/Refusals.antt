@@ -11,7 +11,7 @@ use borrow.Author.Tests.{leb-true}
 use Rattle.base.specs.Bytes.{Bytes, both, all}
 use Rattle.base.proofs.Split.{byBool, no, both-left, both-right}
 use Rattle.base.proofs.Lists.{all-head, all-tail}
-use Rattle.refusal.specs.First.{Row, firstOf}
+use Rattle.refusal.specs.First.{ConditionRow, firstOf}
 use Rattle.refusal.specs.Refusal.{numberOf}
 use Rattle.refusal.specs.declared.Refusal.{Refusal}
 use Rattle.refusal.specs.declared.Refusal.the-variants as R
@@ -33,7 +33,7 @@ use Rattle.decision.proofs.Decided.{decided}
 use Rattle.decision.proofs.Table.{start-first, close-taken}
 
 -- what each row of a table gives, the first gives
-first-gives : {A : Type 0} (P : A → Bool) (rows : List (Row A)) {a : A} → all (λ r. P (r .gives)) rows ≡ true → firstOf rows ≡ some a → P a ≡ true
+first-gives : {A : Type 0} (P : A → Bool) (rows : List (ConditionRow A)) {a : A} → all (λ r. P (r .gives)) rows ≡ true → firstOf rows ≡ some a → P a ≡ true
 unfolding firstOf
 first-gives P [] h e = no (cc)
 first-gives P (r ∷ rows) {a} h e =
@@ -45,10 +45,10 @@ first-gives P (r ∷ rows) {a} h e =
 abbrev isField : Refusal → Bool
 isField r = both (leb 7 (numberOf r)) (leb (numberOf r) 11)
 
-abbrev fieldsGive : List (Row Refusal) → Bool
+abbrev fieldsGive : List (ConditionRow Refusal) → Bool
 fieldsGive rows = all (λ r. isField (r .gives)) rows
 
-meta-give : (attrs : List Attr) (rows : List (Row Refusal)) → fieldsGive rows ≡ true → fieldsGive (metaRows attrs ++ rows) ≡ true
+meta-give : (attrs : List Attr) (rows : List (ConditionRow Refusal)) → fieldsGive rows ≡ true → fieldsGive (metaRows attrs ++ rows) ≡ true
 unfolding metaRows all both
 meta-give [] rows h = h
 meta-give (a ∷ attrs) rows h = meta-give attrs rows h
@@ -95,7 +95,7 @@ module _ (line : Bytes) (p : Place) where
       by : (2 ≤ numberOf r) × (numberOf r ≤ 4) → RefusedAt line p r
       by h = at-line e (h .0) (h .1)
 
-  field-refused : (rows : List (Row Refusal)) {r : Refusal} → fieldsGive rows ≡ true → firstOf rows ≡ some r → RefusedAt line p r
+  field-refused : (rows : List (ConditionRow Refusal)) {r : Refusal} → fieldsGive rows ≡ true → firstOf rows ≡ some r → RefusedAt line p r
   field-refused rows {r} h e =
       let k = first-gives isField rows h e in
       at-field (leb-true 7 (numberOf r) (both-left _ _ k)) (leb-true (numberOf r) 11 (both-right _ _ k))

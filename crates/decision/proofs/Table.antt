@@ -12,7 +12,7 @@ use Rattle.base.specs.Ascii.{ascii}
 use Rattle.base.specs.Bytes.{Bytes, both, either, same}
 use Rattle.base.proofs.Split.{byBool, byLe, clash, no}
 use Rattle.base.proofs.Lists.{same-yes}
-use Rattle.refusal.specs.First.{Row, row, firstOf}
+use Rattle.refusal.specs.First.{ConditionRow, row, firstOf}
 use Rattle.refusal.proofs.First.{first-more}
 use Rattle.refusal.specs.declared.Refusal.{Refusal}
 use Rattle.refusal.specs.declared.Refusal.the-variants as R
@@ -32,7 +32,7 @@ use Rattle.model.specs.Record.{Meta}
 use Rattle.event.specs.Event.{Attr, named, valueOf, Event, starts, closes, others, reads, body}
 use Rattle.event.proofs.Refusals.{by-line}
 use Rattle.event.proofs.Events.{judged-legal}
-use Rattle.field.specs.Field.{Field, got, bad, andThen, orElse, textField, integerField, within, coordinate, latitude, longitude, idOf, metaWith, metaFrom, metaOf, noMeta, bodyFor, tagOf, refOf, typeNamed, memberOf}
+use Rattle.field.specs.Field.{Field, got, bad, andThen, orElse, textField, integerField, coordinateWithin, coordinate, latitude, longitude, idField, metaWith, metaFrom, metadataOf, noMeta, bodyFor, tagOf, refOf, typeNamed, memberOf}
 use Rattle.field.proofs.Fields.{value-none, byField, text-got, integer-got, type-got, type-bad, wordOf}
 use Rattle.field.proofs.Metadata.{Took, Fault, present, sets, with-got, with-bad}
 use Rattle.field.proofs.Metadata as M
@@ -49,12 +49,12 @@ refusalOf (got a) = none
 refusalOf (bad r) = some r
 
 -- "each field is checked whole before the next"
-then-first : {A B : Type 0} (f : Field A) (g : A → Field B) (xs ys : List (Row Refusal)) → refusalOf f ≡ firstOf xs → ((a : A) → f ≡ got a → refusalOf (g a) ≡ firstOf ys)
+then-first : {A B : Type 0} (f : Field A) (g : A → Field B) (xs ys : List (ConditionRow Refusal)) → refusalOf f ≡ firstOf xs → ((a : A) → f ≡ got a → refusalOf (g a) ≡ firstOf ys)
     → refusalOf (andThen f g) ≡ firstOf (xs ++ ys)
 then-first (got a) g xs ys h k = rw (first-more xs ys, ← h) (k a refl)
 then-first (bad r) g xs ys h k = rw (first-more xs ys, ← h)
 
-on-first : {A : Type 0} (f : Field A) (g : A → Decision) (xs ys : List (Row Refusal)) → refusalOf f ≡ firstOf xs → ((a : A) → f ≡ got a → refusalIn (g a) ≡ firstOf ys)
+on-first : {A : Type 0} (f : Field A) (g : A → Decision) (xs ys : List (ConditionRow Refusal)) → refusalOf f ≡ firstOf xs → ((a : A) → f ≡ got a → refusalIn (g a) ≡ firstOf ys)
     → refusalIn (onField f g) ≡ firstOf (xs ++ ys)
 on-first (got a) g xs ys h k = rw (first-more xs ys, ← h) (k a refl)
 on-first (bad r) g xs ys h k = rw (first-more xs ys, ← h)
@@ -89,7 +89,7 @@ module _ (n : Bytes) (attrs : List Attr) where
   coordinate-first : (limit : ℕ) → refusalOf (coordinate n limit attrs) ≡ firstOf (coordinateRows n attrs limit)
   unfolding firstOf
   coordinate-first limit =
-      then-first (integerField w32 n attrs) (within limit) (integerRows n attrs w32) (row R.CoordinateRange (exceeds limit (integerOf w32 (valueOrEmpty n attrs))) ∷ []) (integer-first w32)
+      then-first (integerField w32 n attrs) (coordinateWithin limit) (integerRows n attrs w32) (row R.CoordinateRange (exceeds limit (integerOf w32 (valueOrEmpty n attrs))) ∷ []) (integer-first w32)
       (λ z e. let g = integer-got n attrs w32 z .0 e in
       rw (g .1 .0, g .1 .1) (byLe (natAbs z) limit (λ h. rw (le-leb (natAbs z) limit h, le-ltb limit (natAbs z) h)) (λ h. rw (lt-leb (natAbs z) limit h, lt-ltb limit (natAbs z) h))))
 
@@ -176,26 +176,26 @@ unless-taken A.Modify p d h = h
 unless-taken A.Delete p d h = refl
 
 module _ (attrs : List Attr) where
-  id-first : refusalOf (idOf attrs) ≡ firstOf (integerRows (ascii "id") attrs w64)
-  unfolding idOf
+  id-first : refusalOf (idField attrs) ≡ firstOf (integerRows (ascii "id") attrs w64)
+  unfolding idField
   id-first = integer-first (ascii "id") attrs w64
 
-  meta-first : refusalOf (metaOf attrs) ≡ firstOf (metaRows attrs)
-  unfolding metaOf
+  meta-first : refusalOf (metadataOf attrs) ≡ firstOf (metaRows attrs)
+  unfolding metadataOf
   meta-first = from-first noMeta attrs
 
   push-first : (e : Bool) (k : Kind) (p : Place) → refusalIn (pushBegins e k p attrs) ≡ firstOf (elementRows A.Create k attrs)
   push-first e k p =
-      on-first (idOf attrs) _ (integerRows (ascii "id") attrs w64) (metaRows attrs ++ placeRows k attrs) id-first
-      (λ id i. on-first (metaOf attrs) _ (metaRows attrs) (placeRows k attrs) meta-first (λ m j. field-first (bodyFor k attrs) _ (λ b. refl) ∙ place-first k attrs))
+      on-first (idField attrs) _ (integerRows (ascii "id") attrs w64) (metaRows attrs ++ placeRows k attrs) id-first
+      (λ id i. on-first (metadataOf attrs) _ (metaRows attrs) (placeRows k attrs) meta-first (λ m j. field-first (bodyFor k attrs) _ (λ b. refl) ∙ place-first k attrs))
 
   element-first : (a : Action) (e : Bool) (k : Kind) (p : Place) → refusalIn (elementBegins a e k p attrs) ≡ firstOf (elementRows a k attrs)
   unfolding firstOf
   element-first A.Create e k p = push-first e k p
   element-first A.Modify e k p = push-first e k p
   element-first A.Delete e k p =
-      on-first (idOf attrs) _ (integerRows (ascii "id") attrs w64) (metaRows attrs ++ []) id-first
-      (λ id i. on-first (metaOf attrs) _ (metaRows attrs) [] meta-first (λ m j. refl))
+      on-first (idField attrs) _ (integerRows (ascii "id") attrs w64) (metaRows attrs ++ []) id-first
+      (λ id i. on-first (metadataOf attrs) _ (metaRows attrs) [] meta-first (λ m j. refl))
 
   child-first : (c : Child) (a : Action) (p : Place) → refusalIn (childOf c a p attrs) ≡ firstOf (childRows c attrs)
   unfolding tagOf refOf memberOf firstOf
@@ -205,7 +205,7 @@ module _ (attrs : List Attr) where
       (λ k e. last-first (textField (ascii "v") attrs) _ ∙ text-first _ attrs)
   child-first C.Nd a p = field-first (refOf attrs) _ (λ z. unless-taken a p _ refl) ∙ integer-first _ attrs w64
   child-first C.Member a p =
-      let typed : Row Refusal = row R.MemberType (not (isKindWord (valueOrEmpty (ascii "type") attrs))) in
+      let typed : ConditionRow Refusal = row R.MemberType (not (isKindWord (valueOrEmpty (ascii "type") attrs))) in
       field-first (memberOf attrs) _ (λ m. unless-taken a p _ refl)
       ∙ then-first (textField (ascii "type") attrs) _ (missingRow (ascii "type") attrs ∷ []) (typed ∷ integerRows (ascii "ref") attrs w64) (text-first _ attrs)
       (λ t e. then-first (typeNamed (nameOf t)) _ (typed ∷ []) (integerRows (ascii "ref") attrs w64) (rw (text-got _ attrs t .0 e) (type-first t))

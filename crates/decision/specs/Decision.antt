@@ -20,7 +20,7 @@ use Rattle.nesting.specs.declared.Opened.{Opened}
 use Rattle.nesting.specs.declared.Opened.the-variants as O
 use Rattle.model.specs.Record.{Meta, Member, Tag, Body}
 use Rattle.event.specs.Event.{Attr, Event, starts, closes, others, Reading, reads, refused, eventOf}
-use Rattle.field.specs.Field.{Field, got, bad, idOf, metaOf, bodyFor, tagOf, refOf, memberOf}
+use Rattle.field.specs.Field.{Field, got, bad, idField, metadataOf, bodyFor, tagOf, refOf, memberOf}
 
 -- what an event is to do; each but a refusal says where its reader stands after it
 pub data Decision : Type 0 where
@@ -48,11 +48,11 @@ onField (bad r) f = refuses r
 
 -- "Fields: id; then metadata in line order; then a pushed node's lat7; then lon7."
 abbrev pub pushBegins : Bool → Kind → Place → List Attr → Decision
-pushBegins empty k p attrs = onField (idOf attrs) (λ id. onField (metaOf attrs) (λ m. onField (bodyFor k attrs) (λ b. begins empty p id m b)))
+pushBegins empty k p attrs = onField (idField attrs) (λ id. onField (metadataOf attrs) (λ m. onField (bodyFor k attrs) (λ b. begins empty p id m b)))
 
 -- "In a delete section the delete happens at the opening"
 abbrev pub deleteBegins : Kind → Place → List Attr → Decision
-deleteBegins k p attrs = onField (idOf attrs) (λ id. onField (metaOf attrs) (λ m. deletes k p id m))
+deleteBegins k p attrs = onField (idField attrs) (λ id. onField (metadataOf attrs) (λ m. deletes k p id m))
 
 abbrev pub elementBegins : Action → Bool → Kind → Place → List Attr → Decision
 elementBegins A.Create empty k p attrs = pushBegins empty k p attrs

@@ -10,7 +10,7 @@ use lib.ListN.{length}
 use mir.Syntax.{Width, w32, w64}
 use Rattle.base.specs.Ascii.{ascii}
 use Rattle.base.specs.Bytes.{Bytes, both, either, same}
-use Rattle.refusal.specs.First.{Row, row}
+use Rattle.refusal.specs.First.{ConditionRow, row}
 use Rattle.refusal.specs.declared.Refusal.{Refusal}
 use Rattle.refusal.specs.declared.Refusal.the-variants as R
 use Rattle.integer.specs.Integer.{integerOf}
@@ -54,15 +54,15 @@ module _ (n : Bytes) (attrs : List Attr) where
   abbrev pub valueOrEmpty : Bytes
   valueOrEmpty = orEmpty (valueOf n attrs)
 
-  abbrev pub missingRow : Row Refusal
+  abbrev pub missingRow : ConditionRow Refusal
   missingRow = row R.Missing (not (named n attrs))
 
   -- 7, 8
-  abbrev pub integerRows : Width → List (Row Refusal)
+  abbrev pub integerRows : Width → List (ConditionRow Refusal)
   integerRows w = missingRow ∷ row R.NotInteger (isNone (integerOf w valueOrEmpty)) ∷ []
 
   -- 7, 8, 10
-  abbrev pub coordinateRows : ℕ → List (Row Refusal)
+  abbrev pub coordinateRows : ℕ → List (ConditionRow Refusal)
   coordinateRows limit = integerRows w32 ++ (row R.CoordinateRange (exceeds limit (integerOf w32 valueOrEmpty)) ∷ [])
 
 -- "Version, uid .. are i32; .. changeset i64"
@@ -76,35 +76,35 @@ abbrev pub badStamp : Attr → Bool
 badStamp a = both (same (a .name) (ascii "timestamp")) (isNone (stamp (a .value)))
 
 -- "then metadata in line order": 8 or 9 an attribute
-unfoldable pub metaRows : List Attr → List (Row Refusal)
+unfoldable pub metaRows : List Attr → List (ConditionRow Refusal)
 metaRows [] = []
 metaRows (a ∷ attrs) = row R.NotInteger (badInteger a) ∷ row R.NotTimestamp (badStamp a) ∷ metaRows attrs
 
 -- "then a pushed node's lat7; then lon7"
-abbrev pub placeRows : Kind → List Attr → List (Row Refusal)
+abbrev pub placeRows : Kind → List Attr → List (ConditionRow Refusal)
 placeRows K.Node attrs = coordinateRows (ascii "lat7") attrs 900000000 ++ coordinateRows (ascii "lon7") attrs 1800000000
 placeRows K.Way attrs = []
 placeRows K.Relation attrs = []
 
-abbrev pub ifPushed : Action → List (Row Refusal) → List (Row Refusal)
+abbrev pub ifPushed : Action → List (ConditionRow Refusal) → List (ConditionRow Refusal)
 ifPushed A.Create rows = rows
 ifPushed A.Modify rows = rows
 ifPushed A.Delete rows = []
 
 -- "Fields: id; then metadata in line order; then a pushed node's lat7; then lon7."
-abbrev pub elementRows : Action → Kind → List Attr → List (Row Refusal)
+abbrev pub elementRows : Action → Kind → List Attr → List (ConditionRow Refusal)
 elementRows a k attrs = integerRows (ascii "id") attrs w64 ++ (metaRows attrs ++ ifPushed a (placeRows k attrs))
 
 abbrev pub isKindWord : Bytes → Bool
 isKindWord v = either (same v (ascii "node")) (either (same v (ascii "way")) (same v (ascii "relation")))
 
 -- "Tag: k, v. Member: type, ref, role (optional, else empty)."
-abbrev pub childRows : Child → List Attr → List (Row Refusal)
+abbrev pub childRows : Child → List Attr → List (ConditionRow Refusal)
 childRows C.Tag attrs = missingRow (ascii "k") attrs ∷ missingRow (ascii "v") attrs ∷ []
 childRows C.Nd attrs = integerRows (ascii "ref") attrs w64
 childRows C.Member attrs = missingRow (ascii "type") attrs ∷ row R.MemberType (not (isKindWord (valueOrEmpty (ascii "type") attrs))) ∷ integerRows (ascii "ref") attrs w64
 
-abbrev pub fieldRows : Opened → Action → List Attr → List (Row Refusal)
+abbrev pub fieldRows : Opened → Action → List Attr → List (ConditionRow Refusal)
 fieldRows O.Misplaced a attrs = []
 fieldRows O.OutsideSection a attrs = []
 fieldRows (O.Goes p) a attrs = []
@@ -127,10 +127,10 @@ isOutsideSection (O.Goes p) = false
 isOutsideSection (O.Begins k p) = false
 isOutsideSection (O.Holds c p) = false
 
-abbrev pub startRows : Opened → Action → List Attr → List (Row Refusal)
+abbrev pub startRows : Opened → Action → List Attr → List (ConditionRow Refusal)
 startRows o a attrs = row R.Misplaced (isMisplaced o) ∷ row R.OutsideSection (isOutsideSection o) ∷ fieldRows o a attrs
 
-abbrev pub eventRows : Reading → Place → List (Row Refusal)
+abbrev pub eventRows : Reading → Place → List (ConditionRow Refusal)
 eventRows (reads (starts e n attrs)) p = startRows (opened e (nameOf n) p) (p .section) attrs
 eventRows (reads closes) p = []
 eventRows (reads others) p = []
@@ -142,8 +142,8 @@ abbrev pub isEvent : Reading → Bool
 isEvent (reads e) = true
 isEvent (refused r) = false
 
-abbrev pub lineRows : Bytes → List (Row Refusal)
+abbrev pub lineRows : Bytes → List (ConditionRow Refusal)
 lineRows line = row R.LongLine (ltb 16384 (length (body line))) ∷ row R.NotText (not (legalLine (body line))) ∷ row R.NotEventLine (not (isEvent (eventIn (unended line)))) ∷ []
 
-unfoldable pub decideTable : Bytes → Place → List (Row Refusal)
+unfoldable pub decideTable : Bytes → Place → List (ConditionRow Refusal)
 decideTable line p = lineRows line ++ eventRows (eventOf line) p

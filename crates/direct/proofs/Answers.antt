@@ -29,7 +29,7 @@ use Rattle.shelf.specs.Shelf.{takenIn}
 use Rattle.shelf.specs.declared.Kept.the-variants.{Taken, Refused}
 use Rattle.overlay.specs.Overlay.{Overlay, shelfOf, withShelf, withTexts}
 use Rattle.overlay.specs.Sound.{isSound}
-use Rattle.overlay.specs.Calls.{After, refused}
+use Rattle.overlay.specs.Calls.{OverlayAfter, overlayRefused}
 use Rattle.store.specs.Calls.{bytesOf, storePush, storeDelete, Interning, handleIn, storeText}
 use Rattle.direct.specs.Calls.{pushAs, pushOn, deleteOn, notInterned, internOn}
 use Rattle.store.specs.declared.Handle.{Handle}
@@ -63,7 +63,7 @@ module _ (k : Kind) (h : PushHead) (m : ArenaMeta) (parts : Bytes) (o : Overlay)
   pushFault = faultFor (o .texts .strings) (pushedRecord k (headIn k h) (metaOf m) parts)
 
   -- what the store does with it: 12, 14, 15
-  abbrev pub pushStored : Shelf.After
+  abbrev pub pushStored : Shelf.ShelfAfter
   pushStored = Shelf.pushed k (o .setting) (shelfOf k o) (toZ w64 (h .id)) (claimOf (metaOf m)) (bytesOf k h m parts)
 
   as-fault : (f : Fault) → isSound o ≡ true → pushFault ≡ f → pushOn k h m parts o ≡ pushAs f k h m parts o
@@ -71,8 +71,8 @@ module _ (k : Kind) (h : PushHead) (m : ArenaMeta) (parts : Bytes) (o : Overlay)
   as-fault f e g = rw (e, g)
 
   pub byPushOn : {C : Type 0}
-      → (isSound o ≡ false → pushOn k h m parts o ≡ refused o R.Unsound → C)
-      → ((r : Refusal) → isSound o ≡ true → pushFault ≡ F.Refused r → pushOn k h m parts o ≡ refused o r → C)
+      → (isSound o ≡ false → pushOn k h m parts o ≡ overlayRefused o R.Unsound → C)
+      → ((r : Refusal) → isSound o ≡ true → pushFault ≡ F.Refused r → pushOn k h m parts o ≡ overlayRefused o r → C)
       → (isSound o ≡ true → pushFault ≡ F.Legal → pushOn k h m parts o ≡ storePush k h m parts o → C) → C
   unfolding pushOn
   byPushOn {C} unsound fault legal = byBool (isSound o) (λ e. go e pushFault refl) (λ e. unsound e (rw e))
@@ -84,16 +84,16 @@ module _ (k : Kind) (h : PushHead) (m : ArenaMeta) (parts : Bytes) (o : Overlay)
   -- a refusal changes nothing
   pub push-refused : (r : Refusal) → pushOn k h m parts o .answer ≡ Refused r → pushOn k h m parts o .overlay ≡ o
   push-refused r e =
-      byPushOn (λ s w. ap (λ (z : After). z .overlay) w) (λ x s g w. ap (λ (z : After). z .overlay) w)
-      (λ s g w. ap (λ (z : After). z .overlay) w ∙ store-push-refused o k h m parts r (answered w e))
+      byPushOn (λ s w. ap (λ (z : OverlayAfter). z .overlay) w) (λ x s g w. ap (λ (z : OverlayAfter). z .overlay) w)
+      (λ s g w. ap (λ (z : OverlayAfter). z .overlay) w ∙ store-push-refused o k h m parts r (answered w e))
 
   -- ---- 22, then 17, 3, 10, 16, then 12, 14, 15
 
   pub push-22 : isSound o ≡ false → pushOn k h m parts o .answer ≡ Refused R.Unsound
-  push-22 e = byPushOn (λ s w. ap (λ (z : After). z .answer) w) (λ x s g w. clash s e) (λ s g w. clash s e)
+  push-22 e = byPushOn (λ s w. ap (λ (z : OverlayAfter). z .answer) w) (λ x s g w. clash s e) (λ s g w. clash s e)
 
   pub push-fault : (r : Refusal) → isSound o ≡ true → pushFault ≡ F.Refused r → pushOn k h m parts o .answer ≡ Refused r
-  push-fault r e g = ap (λ (z : After). z .answer) (as-fault (F.Refused r) e g)
+  push-fault r e g = ap (λ (z : OverlayAfter). z .answer) (as-fault (F.Refused r) e g)
 
   pub push-store : isSound o ≡ true → pushFault ≡ F.Legal → pushOn k h m parts o ≡ storePush k h m parts o
   push-store e g = as-fault F.Legal e g
@@ -103,7 +103,7 @@ module _ (k : Kind) (h : PushHead) (m : ArenaMeta) (parts : Bytes) (o : Overlay)
       → (isSound o ≡ true) × ((pushFault ≡ F.Legal) × ((pushStored .answer ≡ Taken) × (pushOn k h m parts o .overlay ≡ withShelf k (pushStored .shelf) o)))
   push-taken e =
       byPushOn (λ s w. let z : false ≡ true = taken-as w e in no (cc)) (λ x s g w. let z : false ≡ true = taken-as w e in no (cc))
-      (λ s g w. (s, (g, (is-taken (pushStored .answer) (taken-as w e), ap (λ (z : After). z .overlay) w))))
+      (λ s g w. (s, (g, (is-taken (pushStored .answer) (taken-as w e), ap (λ (z : OverlayAfter). z .overlay) w))))
 
   -- a refusal is of the first place that refuses
   pub push-refusal : {C : Type 0} (r : Refusal) → pushOn k h m parts o .answer ≡ Refused r
@@ -125,12 +125,12 @@ module _ (k : Kind) (h : PushHead) (m : ArenaMeta) (parts : Bytes) (o : Overlay)
 
 module _ (k : Kind) (id : ℤ) (m : Meta ℕ) (o : Overlay) where
   -- what the store does: 12, 14
-  abbrev pub deleteStored : Shelf.After
+  abbrev pub deleteStored : Shelf.ShelfAfter
   deleteStored = Shelf.deleted k (o .setting) (shelfOf k o) id (claimOf m)
 
   pub byDeleteOn : {C : Type 0}
-      → (isSound o ≡ false → deleteOn k id m o ≡ refused o R.Unsound → C)
-      → (isSound o ≡ true → legalMeta (o .texts .strings) m ≡ false → deleteOn k id m o ≡ refused o R.BadRecord → C)
+      → (isSound o ≡ false → deleteOn k id m o ≡ overlayRefused o R.Unsound → C)
+      → (isSound o ≡ true → legalMeta (o .texts .strings) m ≡ false → deleteOn k id m o ≡ overlayRefused o R.BadRecord → C)
       → (isSound o ≡ true → legalMeta (o .texts .strings) m ≡ true → deleteOn k id m o ≡ storeDelete k id (claimOf m) o → C) → C
   unfolding deleteOn
   byDeleteOn unsound bad legal =
@@ -139,16 +139,16 @@ module _ (k : Kind) (id : ℤ) (m : Meta ℕ) (o : Overlay) where
   -- a refusal changes nothing
   pub delete-refused : (r : Refusal) → deleteOn k id m o .answer ≡ Refused r → deleteOn k id m o .overlay ≡ o
   delete-refused r e =
-      byDeleteOn (λ s w. ap (λ (z : After). z .overlay) w) (λ s g w. ap (λ (z : After). z .overlay) w)
-      (λ s g w. ap (λ (z : After). z .overlay) w ∙ store-delete-refused o k id (claimOf m) r (answered w e))
+      byDeleteOn (λ s w. ap (λ (z : OverlayAfter). z .overlay) w) (λ s g w. ap (λ (z : OverlayAfter). z .overlay) w)
+      (λ s g w. ap (λ (z : OverlayAfter). z .overlay) w ∙ store-delete-refused o k id (claimOf m) r (answered w e))
 
   -- ---- 22, then 17, then 12, 14
 
   pub delete-22 : isSound o ≡ false → deleteOn k id m o .answer ≡ Refused R.Unsound
-  delete-22 e = byDeleteOn (λ s w. ap (λ (z : After). z .answer) w) (λ s g w. clash s e) (λ s g w. clash s e)
+  delete-22 e = byDeleteOn (λ s w. ap (λ (z : OverlayAfter). z .answer) w) (λ s g w. clash s e) (λ s g w. clash s e)
 
   pub delete-17 : isSound o ≡ true → legalMeta (o .texts .strings) m ≡ false → deleteOn k id m o .answer ≡ Refused R.BadRecord
-  delete-17 e g = byDeleteOn (λ s w. clash e s) (λ s x w. ap (λ (z : After). z .answer) w) (λ s x w. clash x g)
+  delete-17 e g = byDeleteOn (λ s w. clash e s) (λ s x w. ap (λ (z : OverlayAfter). z .answer) w) (λ s x w. clash x g)
 
   pub delete-store : isSound o ≡ true → legalMeta (o .texts .strings) m ≡ true → deleteOn k id m o ≡ storeDelete k id (claimOf m) o
   delete-store e g = byDeleteOn (λ s w. clash e s) (λ s x w. clash g x) (λ s x w. w)
@@ -158,7 +158,7 @@ module _ (k : Kind) (id : ℤ) (m : Meta ℕ) (o : Overlay) where
       → (isSound o ≡ true) × ((legalMeta (o .texts .strings) m ≡ true) × ((deleteStored .answer ≡ Taken) × (deleteOn k id m o .overlay ≡ withShelf k (deleteStored .shelf) o)))
   delete-taken e =
       byDeleteOn (λ s w. let z : false ≡ true = taken-as w e in no (cc)) (λ s g w. let z : false ≡ true = taken-as w e in no (cc))
-      (λ s g w. (s, (g, (is-taken (deleteStored .answer) (taken-as w e), ap (λ (z : After). z .overlay) w))))
+      (λ s g w. (s, (g, (is-taken (deleteStored .answer) (taken-as w e), ap (λ (z : OverlayAfter). z .overlay) w))))
 
   -- a refusal is of the first place that refuses
   pub delete-refusal : {C : Type 0} (r : Refusal) → deleteOn k id m o .answer ≡ Refused r

@@ -17,17 +17,17 @@ use Rattle.compact.specs.Held.{metaOf, headIn}
 use Rattle.compact.specs.Legal.{legalHandles, legalTexts, inRange, withinLimits, limits, faultOf}
 use Rattle.compact.specs.declared.ArenaMeta.{ArenaMeta}
 use Rattle.compact.specs.declared.PushHead.{PushHead}
-use Rattle.legal.specs.Judge.{answered, faultFor}
+use Rattle.legal.specs.Judge.{faultAnswer, faultFor}
 use Rattle.legal.specs.declared.Fault.the-variants as F
 use Rattle.shelf.specs.declared.Kept.the-variants.{Refused}
 use Rattle.overlay.specs.Overlay.{Overlay, shelfOf}
 use Rattle.overlay.specs.Sound.{isSound}
 use Rattle.store.specs.Calls.{bytesOf}
 use Rattle.direct.specs.Calls.{pushOn, deleteOn, internOn}
-use Rattle.refusal.specs.First.{Row, firstOf}
+use Rattle.refusal.specs.First.{ConditionRow, firstOf}
 use Rattle.overlay.specs.First.{keptBy}
 use Rattle.direct.specs.First.{recordRows, checkRows, storeRows, pushTable, deleteTable, internTable}
-use Rattle.store.specs.First.{refusalIn}
+use Rattle.store.specs.First.{handleRefusal}
 use Rattle.overlay.proofs.Answers.{strings-sound}
 use Rattle.direct.proofs.Answers.{byPushOn, byDeleteOn, byInternOn}
 use Rattle.refusal.proofs.First.{before, first-more}
@@ -36,7 +36,7 @@ use Rattle.overlay.proofs.First.{unsound-first, sound-first}
 
 -- ---- what is pushed: 17, 3, 10, 16
 
-fault-first : (strings : ℕ) (x : Option (Record ℕ)) → faultFor strings x ≡ answered (firstOf (recordRows strings x))
+fault-first : (strings : ℕ) (x : Option (Record ℕ)) → faultFor strings x ≡ faultAnswer (firstOf (recordRows strings x))
 unfolding firstOf faultFor faultOf
 fault-first strings none = refl
 fault-first strings (some r) =
@@ -48,19 +48,19 @@ fault-first strings (some r) =
 
 -- ---- direct push and delete
 
-is-none : (x : Option Refusal) → answered x ≡ F.Legal → x ≡ none
+is-none : (x : Option Refusal) → faultAnswer x ≡ F.Legal → x ≡ none
 is-none none e = refl
 is-none (some r) e = no (cc)
 
-is-some : (x : Option Refusal) (r : Refusal) → answered x ≡ F.Refused r → x ≡ some r
+is-some : (x : Option Refusal) (r : Refusal) → faultAnswer x ≡ F.Refused r → x ≡ some r
 is-some none r e = no (cc)
 is-some (some x) r e = cc
 
 module _ (k : Kind) (h : PushHead) (m : ArenaMeta) (parts : Bytes) (o : Overlay) where
-  abbrev check : List (Row Refusal)
+  abbrev check : List (ConditionRow Refusal)
   check = checkRows k h m parts o
 
-  abbrev store : List (Row Refusal)
+  abbrev store : List (ConditionRow Refusal)
   store = storeRows k h m parts o
 
   by-check : (x : Option Refusal) → isSound o ≡ true → firstOf check ≡ x → firstOf (pushTable k h m parts o) ≡ before x (firstOf store)
@@ -85,7 +85,7 @@ module _ (k : Kind) (id : ℤ) (m : Meta ℕ) (o : Overlay) where
 -- ---- intern: 22, 3, 13
 
 module _ (t : Bytes) (o : Overlay) where
-  pub intern-first : refusalIn (internOn t o .answer) ≡ firstOf (internTable t o)
+  pub intern-first : handleRefusal (internOn t o .answer) ≡ firstOf (internTable t o)
   unfolding firstOf
   intern-first =
       byInternOn t o (λ s w. rw (w, s)) (λ s g w. rw (w, s, g)) (λ s g w. rw (w, s, g) (interned-first (o .texts) t (strings-sound o s)))

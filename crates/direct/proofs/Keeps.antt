@@ -83,8 +83,8 @@ module _ (k : Kind) (h : PushHead) (m : ArenaMeta) (parts : Bytes) (o : Overlay)
         fits = y .1;
         bytes = y .0;
         same = q;
-        stored = sym (ap (λ (z : Shelf.After). z .answer) q) ∙ t .1 .1 .0;
-        left = t .1 .1 .1 ∙ ap (λ (z : Shelf.After). withShelf k (z .shelf) o) q;
+        stored = sym (ap (λ (z : Shelf.ShelfAfter). z .answer) q) ∙ t .1 .1 .0;
+        left = t .1 .1 .1 ∙ ap (λ (z : Shelf.ShelfAfter). withShelf k (z .shelf) o) q;
       }
 
 -- an accepted delete
@@ -107,7 +107,7 @@ pub record InternKept (t : Bytes) (o : Overlay) (n : ℕ) : Type 0 where
   pub text : textOf (textsOf (intern (o .texts) t .store)) n ≡ t
 
 -- the handle that an accepted answer gives
-is-handle : (i : Interned) (n : ℕ) → handleIn i ≡ H.Is n → (Texts.accepted i ≡ true) × (Texts.handleIn i ≡ some n)
+is-handle : (i : Interned) (n : ℕ) → handleIn i ≡ H.Is n → (Texts.internAccepted i ≡ true) × (Texts.handleAnswered i ≡ some n)
 is-handle (I.Held h) n e = (refl, cc)
 is-handle (I.New h) n e = (refl, cc)
 is-handle I.Full n e = no (cc)

@@ -17,7 +17,7 @@ use Rattle.legal.specs.Judge.{faultFor}
 use Rattle.legal.specs.declared.Fault.{Fault}
 use Rattle.overlay.specs.Overlay.{Overlay}
 use Rattle.overlay.specs.Sound.{isSound}
-use Rattle.overlay.specs.Calls.{After, refused}
+use Rattle.overlay.specs.Calls.{OverlayAfter, overlayRefused}
 use Rattle.store.specs.Calls.{storeDelete, Interning, storeText}
 use Rattle.direct.specs.Calls.{pushAs, pushOn, deleteOn, notInterned, internOn}
 
@@ -36,24 +36,24 @@ module _ (o : Overlay) where
     intern-text e f x w = rw (e, f) w
 
   module _ (k : Kind) (h : PushHead) (m : ArenaMeta) (parts : Bytes) where
-    pub push-unsound : isSound o ≡ false → refused o R.Unsound ≡ pushOn k h m parts o
+    pub push-unsound : isSound o ≡ false → overlayRefused o R.Unsound ≡ pushOn k h m parts o
     unfolding pushOn
     push-unsound e = rw e
 
     pub push-judged : isSound o ≡ true → (f : Fault) → faultFor (o .texts .strings) (pushedRecord k (headIn k h) (metaOf m) parts) ≡ f
-        → (x : After) → x ≡ pushAs f k h m parts o → x ≡ pushOn k h m parts o
+        → (x : OverlayAfter) → x ≡ pushAs f k h m parts o → x ≡ pushOn k h m parts o
     unfolding pushOn
     push-judged e f g x w = rw (e, g) w
 
   module _ (k : Kind) (id : ℤ) (m : Meta ℕ) where
-    pub delete-unsound : isSound o ≡ false → refused o R.Unsound ≡ deleteOn k id m o
+    pub delete-unsound : isSound o ≡ false → overlayRefused o R.Unsound ≡ deleteOn k id m o
     unfolding deleteOn
     delete-unsound e = rw e
 
-    pub delete-illegal : isSound o ≡ true → legalMeta (o .texts .strings) m ≡ false → refused o R.BadRecord ≡ deleteOn k id m o
+    pub delete-illegal : isSound o ≡ true → legalMeta (o .texts .strings) m ≡ false → overlayRefused o R.BadRecord ≡ deleteOn k id m o
     unfolding deleteOn
     delete-illegal e f = rw (e, f)
 
-    pub delete-legal : isSound o ≡ true → legalMeta (o .texts .strings) m ≡ true → (x : After) → x ≡ storeDelete k id (claimOf m) o → x ≡ deleteOn k id m o
+    pub delete-legal : isSound o ≡ true → legalMeta (o .texts .strings) m ≡ true → (x : OverlayAfter) → x ≡ storeDelete k id (claimOf m) o → x ≡ deleteOn k id m o
     unfolding deleteOn
     delete-legal e f x w = rw (e, f) w

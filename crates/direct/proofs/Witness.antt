@@ -13,7 +13,7 @@ use Rattle.kind.specs.declared.Kind.the-variants.{Node, Way, Relation}
 use Rattle.osm_id.specs.Order.{rank, sameId}
 use Rattle.version_floor.specs.Version.{admitOf}
 use Rattle.model.specs.Record.{claimOf, flagged}
-use Rattle.compact.specs.Cut.{andThen, times, cutBody, cutParts, pushedRecord}
+use Rattle.compact.specs.Cut.{thenCut, times, cutBody, cutParts, pushedRecord}
 use Rattle.compact.specs.Held.{metaOf, headIn, nodeHead}
 use Rattle.compact.specs.Layout.{headBytes, metaBytes}
 use Rattle.compact.specs.Legal.{legalMeta, legalHandles, bodyHandles, legalTexts, inRange, withinLimits, valueBytes, faultOf}
@@ -23,13 +23,13 @@ use Rattle.legal.specs.Judge.{faultFor}
 use Rattle.legal.specs.declared.Fault.the-variants as F
 use Rattle.table.specs.Words.{held, halve, answerAt, lookup, stored, storedAt, countAfter}
 use Rattle.append.specs.Append.{append}
-use Rattle.shelf.specs.Shelf.{known, checked, room, rowed, joined, pushed, takenIn}
+use Rattle.shelf.specs.Shelf.{known, checked, idRoom, rowed, recordJoined, pushed, takenIn}
 use Rattle.shelf.specs.declared.Kept.the-variants.{Taken}
 use Rattle.shelf.proofs.Shelves.{push-used}
 use Rattle.overlay.specs.Overlay.{Overlay, overlayOf, shelfOf, sizesFit, shelfFits, textsFit, empty}
 use Rattle.overlay.specs.Given.{headFits, metaFits, InBytes}
 use Rattle.overlay.specs.Sound.{Sound}
-use Rattle.overlay.specs.Calls.{After, setUp}
+use Rattle.overlay.specs.Calls.{OverlayAfter, setUp}
 use Rattle.store.specs.Calls.{bytesOf, storePush}
 use Rattle.direct.specs.Calls.{pushOn}
 use Rattle.overlay.proofs.Decides.{decides}
@@ -73,18 +73,18 @@ abbrev meta : ArenaMeta
 meta = record { flags = 9; version = 3; timestamp = 0; changeset = 0; uid = 0; user = 0 }
 
 legal-node : pushFault Node head meta [] begun ≡ F.Legal
-unfolding faultFor pushedRecord cutParts cutBody andThen times headIn nodeHead metaOf faultOf legalHandles legalMeta bodyHandles legalTexts inRange withinLimits valueBytes both either all flagged sameId
+unfolding faultFor pushedRecord cutParts cutBody thenCut times headIn nodeHead metaOf faultOf legalHandles legalMeta bodyHandles legalTexts inRange withinLimits valueBytes both either all flagged sameId
 legal-node = refl
 
 stored-node : pushStored Node head meta [] begun .answer ≡ Taken
-unfolding pushed known lookup held halve answerAt both checked admitOf room joined append headIn nodeHead metaOf headBytes metaBytes claimOf flagged rank le
+unfolding pushed known lookup held halve answerAt both checked admitOf idRoom recordJoined append headIn nodeHead metaOf headBytes metaBytes claimOf flagged rank le
 stored-node = refl
 
 taken-node : pushOn Node head meta [] begun ≡ storePush Node head meta [] begun
 taken-node = push-store Node head meta [] begun (decides begun begun-bytes .1 begun-sound) legal-node
 
 counted-node : pushStored Node head meta [] begun .shelf .ids ≡ 1
-unfolding pushed known lookup held halve answerAt both checked admitOf room joined append headIn nodeHead metaOf headBytes metaBytes claimOf flagged rank le rowed stored storedAt countAfter
+unfolding pushed known lookup held halve answerAt both checked admitOf idRoom recordJoined append headIn nodeHead metaOf headBytes metaBytes claimOf flagged rank le rowed stored storedAt countAfter
 counted-node = refl
 
 -- a sound overlay with a node of 49 bytes, which a push has left
@@ -95,8 +95,8 @@ beyond-empty = (
   (
     push-sound Node head meta [] begun refl refl (all-nil isByte) begun-sound,
     (
-      ap (λ (z : After). z .overlay .nodes .ids) taken-node ∙ counted-node,
-      ap (λ (z : After). z .overlay .nodes .used) taken-node
+      ap (λ (z : OverlayAfter). z .overlay .nodes .ids) taken-node ∙ counted-node,
+      ap (λ (z : OverlayAfter). z .overlay .nodes .used) taken-node
           ∙ push-used Node 0 (begun .nodes) (toZ w64 7) (claimOf (metaOf meta)) (bytesOf Node head meta []) stored-node,
     ),
   ),

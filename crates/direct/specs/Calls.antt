@@ -18,7 +18,7 @@ use Rattle.legal.specs.declared.Fault.{Fault}
 use Rattle.legal.specs.declared.Fault.the-variants as F
 use Rattle.overlay.specs.Overlay.{Overlay}
 use Rattle.overlay.specs.Sound.{isSound}
-use Rattle.overlay.specs.Calls.{After, refused, checked}
+use Rattle.overlay.specs.Calls.{OverlayAfter, overlayRefused, ifSound}
 use Rattle.store.specs.Calls.{Interning, storeText, storePush, storeDelete}
 use Rattle.store.specs.declared.Handle.the-variants as H
 
@@ -32,14 +32,14 @@ internOn t o = cond (isSound o) (cond (isText t) (storeText t o) (notInterned o 
 
 -- ---- direct push: 22; 17, 3, 10, 16; then 12, 14, 15
 
-abbrev pub pushAs : Fault → Kind → PushHead → ArenaMeta → Bytes → Overlay → After
+abbrev pub pushAs : Fault → Kind → PushHead → ArenaMeta → Bytes → Overlay → OverlayAfter
 pushAs F.Legal k h m parts o = storePush k h m parts o
-pushAs (F.Refused r) k h m parts o = refused o r
+pushAs (F.Refused r) k h m parts o = overlayRefused o r
 
-unfoldable pub pushOn : Kind → PushHead → ArenaMeta → Bytes → Overlay → After
-pushOn k h m parts o = checked o (pushAs (faultFor (o .texts .strings) (pushedRecord k (headIn k h) (metaOf m) parts)) k h m parts o)
+unfoldable pub pushOn : Kind → PushHead → ArenaMeta → Bytes → Overlay → OverlayAfter
+pushOn k h m parts o = ifSound o (pushAs (faultFor (o .texts .strings) (pushedRecord k (headIn k h) (metaOf m) parts)) k h m parts o)
 
 -- ---- direct delete: 22; 17 of its metadata; then 12, 14
 
-unfoldable pub deleteOn : Kind → ℤ → Meta ℕ → Overlay → After
-deleteOn k id m o = checked o (cond (legalMeta (o .texts .strings) m) (storeDelete k id (claimOf m) o) (refused o R.BadRecord))
+unfoldable pub deleteOn : Kind → ℤ → Meta ℕ → Overlay → OverlayAfter
+deleteOn k id m o = ifSound o (cond (legalMeta (o .texts .strings) m) (storeDelete k id (claimOf m) o) (overlayRefused o R.BadRecord))

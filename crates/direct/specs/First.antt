@@ -9,7 +9,7 @@ use mir.Val.{toZ}
 use Rattle.base.specs.Bytes.{Bytes}
 use Rattle.text.specs.Check.{isText}
 use Rattle.kind.specs.declared.Kind.{Kind}
-use Rattle.refusal.specs.First.{Row, row}
+use Rattle.refusal.specs.First.{ConditionRow, row}
 use Rattle.refusal.specs.declared.Refusal.{Refusal}
 use Rattle.refusal.specs.declared.Refusal.the-variants as R
 use Rattle.model.specs.Record.{Meta, Record, claimOf}
@@ -25,7 +25,7 @@ use Rattle.store.specs.First.{textRows, deleteRows, pushRows}
 
 -- ---- intern: 22, 3, 13
 
-abbrev pub internTable : Bytes → Overlay → List (Row Refusal)
+abbrev pub internTable : Bytes → Overlay → List (ConditionRow Refusal)
 internTable t o = unsoundRow o ∷ row R.NotText (not (isText t)) ∷ textRows (o .texts) t
 
 -- ---- what is pushed: 17, 3, 10, 16. Parts that make no record are 17.
@@ -34,7 +34,7 @@ abbrev pub passes : (Record ℕ → Bool) → Option (Record ℕ) → Bool
 passes p none = false
 passes p (some r) = p r
 
-abbrev pub recordRows : ℕ → Option (Record ℕ) → List (Row Refusal)
+abbrev pub recordRows : ℕ → Option (Record ℕ) → List (ConditionRow Refusal)
 recordRows strings x =
     row R.BadRecord (not (passes (legalHandles strings) x)) ∷ row R.NotText (not (passes legalTexts x))
     ∷ row R.CoordinateRange (not (passes (λ r. inRange (r .body)) x)) ∷ row R.TooManyParts (not (passes (withinLimits limits) x)) ∷ []
@@ -42,23 +42,23 @@ recordRows strings x =
 -- ---- direct push and delete
 
 module _ (k : Kind) (h : PushHead) (m : ArenaMeta) (parts : Bytes) (o : Overlay) where
-  abbrev pub checkRows : List (Row Refusal)
+  abbrev pub checkRows : List (ConditionRow Refusal)
   checkRows = recordRows (o .texts .strings) (pushedRecord k (headIn k h) (metaOf m) parts)
 
-  abbrev pub storeRows : List (Row Refusal)
+  abbrev pub storeRows : List (ConditionRow Refusal)
   storeRows = pushRows k (o .setting) (shelfOf k o) (toZ w64 (h .id)) (claimOf (metaOf m)) (bytesOf k h m parts)
 
   -- after 22: 17, 3, 10, 16; 12, 14, 15
-  abbrev pub restOfPush : List (Row Refusal)
+  abbrev pub restOfPush : List (ConditionRow Refusal)
   restOfPush = checkRows ++ storeRows
 
-  abbrev pub pushTable : List (Row Refusal)
+  abbrev pub pushTable : List (ConditionRow Refusal)
   pushTable = unsoundRow o ∷ restOfPush
 
 module _ (k : Kind) (id : ℤ) (m : Meta ℕ) (o : Overlay) where
   -- after 22: 17; 12, 14
-  abbrev pub restOfDelete : List (Row Refusal)
+  abbrev pub restOfDelete : List (ConditionRow Refusal)
   restOfDelete = row R.BadRecord (not (legalMeta (o .texts .strings) m)) ∷ deleteRows k (o .setting) (shelfOf k o) id (claimOf m)
 
-  abbrev pub deleteTable : List (Row Refusal)
+  abbrev pub deleteTable : List (ConditionRow Refusal)
   deleteTable = unsoundRow o ∷ restOfDelete

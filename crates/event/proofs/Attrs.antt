@@ -14,9 +14,9 @@ use Rattle.text.specs.Escape.{escape, unescape, breaks}
 use Rattle.text.proofs.Escapes.{escape-clean, escape-text, escape-unescape, unescape-escape, unescape-text}
 use Rattle.text.proofs.Texts.{text-append, text-ascii, cut-left, cut-right}
 use Rattle.text.proofs.Xml.{legal-low}
-use Rattle.line.specs.Line.{plain}
+use Rattle.line.specs.Line.{plainField}
 use Rattle.line.proofs.Lines.{lacks, lacks-cons, lacks-head, lacks-nil, lacks-tail}
-use Rattle.event.specs.Event.{Attr, Parted, ontoLeft, parted, isEmpty, attrFrom, attrWith, attrOf, beside, attrsOf, attrField, attrFields, named, distinct}
+use Rattle.event.specs.Event.{Attr, Parted, ontoLeft, parted, isEmpty, attrFrom, attrWith, attrOf, beside, attrsOf, attrField, attrFields, named, noneTwice}
 use Rattle.event.specs.Legal.{legalField, legalName, legalAttr}
 
 -- ---- the first `=`
@@ -63,17 +63,17 @@ equals-plain = refl
 
 -- a field with an `=` in it is legal exactly when both sides are
 pub field-join : (n v : Bytes) → legalField n ≡ true → legalField v ≡ true → legalField (n ++ (61 ∷ v)) ≡ true
-unfolding legalField plain
+unfolding legalField plainField
 field-join n v h k =
     both-of (all-append _ n (61 ∷ v) (both-left _ _ h) (all-cons _ 61 v (ap not equals-plain) (both-left _ _ k)))
     (text-append n (61 ∷ v) (both-right _ _ h) (equals-text v ∙ both-right _ _ k))
 
 pub field-left : (n v : Bytes) → legalField (n ++ (61 ∷ v)) ≡ true → legalField n ≡ true
-unfolding legalField plain
+unfolding legalField plainField
 field-left n v h = both-of (all-left _ n (61 ∷ v) (both-left _ _ h)) (cut-left n v 61 (omega arith) (both-right _ _ h))
 
 pub field-right : (n v : Bytes) → legalField (n ++ (61 ∷ v)) ≡ true → legalField v ≡ true
-unfolding legalField plain
+unfolding legalField plainField
 field-right n v h = both-of (all-tail _ 61 v (all-right _ n (61 ∷ v) (both-left _ _ h))) (cut-right n v 61 (omega arith) (both-right _ _ h))
 
 -- ---- one attribute
@@ -92,7 +92,7 @@ module _ (a : Attr) (h : legalAttr a ≡ true) where
   value-text = both-right _ _ (both-right _ _ h)
 
   pub attr-legal : legalField (attrField a) ≡ true
-  unfolding legalName legalField plain
+  unfolding legalName legalField plainField
   attr-legal =
       field-join (a .name) (escape (a .value)) (both-right _ _ name-legal)
       (both-of (escape-clean (a .value)) (escape-text (a .value) value-text))
@@ -114,7 +114,7 @@ attrWith-some n (some v) a e = record { name = cc; value = cc }
 
 attrFrom-back : (f : Bytes) (p : Parted) (a : Attr) → legalField f ≡ true → Field f (p .left) (p .right) → attrFrom (some p) ≡ some a
     → (attrField a ≡ f) × (legalAttr a ≡ true)
-unfolding legalAttr legalName legalField plain lacks
+unfolding legalAttr legalName legalField plainField lacks
 attrFrom-back f p a h w e =
     byBool (isEmpty (p .left))
     (λ t. let z : none ≡ some a = rw t at e in no (cc))
@@ -181,8 +181,8 @@ named-in n (x ∷ xs) ys b e =
     (λ t. rw t (named-in n xs ys b e))
 
 -- two attributes at two places of a list have two names
-pub once : (xs ys zs : List Attr) (a b : Attr) → distinct (xs ++ (a ∷ (ys ++ (b ∷ zs)))) ≡ true → a .name ≡ b .name → ⊥
-unfolding distinct
+pub once : (xs ys zs : List Attr) (a b : Attr) → noneTwice (xs ++ (a ∷ (ys ++ (b ∷ zs)))) ≡ true → a .name ≡ b .name → ⊥
+unfolding noneTwice
 once [] ys zs a b h e = clash (named-in (a .name) ys zs b e) (not-true _ (both-left _ _ h))
 once (x ∷ xs) ys zs a b h e = once xs ys zs a b (both-right _ _ h) e
 
@@ -214,8 +214,8 @@ pub record Twice (as1 : List Attr) : Type 0 where
   pub is : first .name ≡ second .name
 
 -- a list that is not distinct has two
-pub twice : (as1 : List Attr) → distinct as1 ≡ false → Twice as1
-unfolding distinct both
+pub twice : (as1 : List Attr) → noneTwice as1 ≡ false → Twice as1
+unfolding noneTwice both
 twice [] h = clash refl h
 twice (a ∷ as1) h =
     byBool (named (a .name) as1)

@@ -14,9 +14,9 @@ use Rattle.base.proofs.Split.{byBool, byLt, no, both-left, both-right, both-of}
 use Rattle.refusal.specs.declared.Refusal.the-variants.{LongLine, NotText, NotEventLine}
 use Rattle.text.specs.Check.{isText}
 use Rattle.text.proofs.Texts.{all-imp}
-use Rattle.line.specs.Line.{plain, fields, tabbed, line}
+use Rattle.line.specs.Line.{plainField, fields, tabbed, line}
 use Rattle.line.proofs.Lines.{fields-line, tabbed-fields}
-use Rattle.event.specs.Event.{Attr, Event, starts, closes, others, Reading, reads, refused, unended, body, legalLine, isEmpty, attrFields, distinct, eventIn, eventOf, wordOf, eventFields, lineOf}
+use Rattle.event.specs.Event.{Attr, Event, starts, closes, others, Reading, reads, refused, unended, body, legalLine, isEmpty, attrFields, noneTwice, eventIn, eventOf, startWord, eventFields, lineOf}
 use Rattle.event.specs.Legal.{legalField, legalName, legalAttr, legalParts, legalEvent}
 use Rattle.event.proofs.Parts.{unended-line, unended-some, unbroken, fields-legal, tabbed-legal}
 use Rattle.event.proofs.Fields.{event-legal, fields-read, fields-back}
@@ -49,12 +49,12 @@ judge s f g k =
 
 -- ---- an event that is written
 
-fields-event : (e : Event) → all plain (eventFields e) ≡ true → fields (tabbed (eventFields e)) ≡ eventFields e
-fields-event (starts empty n as1) h = fields-line (wordOf empty) (n ∷ attrFields as1) h
+fields-event : (e : Event) → all plainField (eventFields e) ≡ true → fields (tabbed (eventFields e)) ≡ eventFields e
+fields-event (starts empty n as1) h = fields-line (startWord empty) (n ∷ attrFields as1) h
 fields-event closes h = fields-line (ascii "close") [] h
 fields-event others h = fields-line (ascii "other") [] h
 
-field-plain : (f : Bytes) → legalField f ≡ true → plain f ≡ true
+field-plain : (f : Bytes) → legalField f ≡ true → plainField f ≡ true
 unfolding legalField
 field-plain f h = both-left _ _ h
 
@@ -73,7 +73,7 @@ reads-back e h =
     let l = event-legal e p in
     let b = tabbed-legal (eventFields e) l in
     judged-legal (lineOf e) (rw (body-event e) (leb-true (length (tabbed (eventFields e))) 16384 (both-right _ _ h))) (rw (body-event e) (both-left _ _ b))
-    ∙ rw (unended-event e, both-right (legalLine (tabbed (eventFields e))) _ b, fields-event e (all-imp legalField plain field-plain (eventFields e) l))
+    ∙ rw (unended-event e, both-right (legalLine (tabbed (eventFields e))) _ b, fields-event e (all-imp legalField plainField field-plain (eventFields e) l))
     (fields-read e p)
 
 -- ---- a line that is read
@@ -131,7 +131,7 @@ module _ (s : Bytes) (empty : Bool) (n : Bytes) (as1 : List Attr) (q : eventOf s
   unfolding legalName
   name-some = not-true (isEmpty n) (both-left _ _ name-legal)
 
-  pub name-plain : plain n ≡ true
+  pub name-plain : plainField n ≡ true
   unfolding legalName legalField
   name-plain = both-left _ _ (both-right _ _ name-legal)
 
@@ -144,14 +144,14 @@ module _ (s : Bytes) (empty : Bool) (n : Bytes) (as1 : List Attr) (q : eventOf s
   unfolding legalParts
   attrs-legal = both-left _ _ (both-right _ _ parts-legal)
 
-  pub attrs-once : distinct as1 ≡ true
+  pub attrs-once : noneTwice as1 ≡ true
   unfolding legalParts
   attrs-once = both-right _ _ (both-right _ _ parts-legal)
 
   -- each attribute's name is plain and text, and its value is text
-  pub attr-names-plain : all (λ a. plain (a .name)) as1 ≡ true
+  pub attr-names-plain : all (λ a. plainField (a .name)) as1 ≡ true
   unfolding legalAttr legalName legalField
-  attr-names-plain = all-imp legalAttr (λ a. plain (a .name)) (λ a h. both-left _ _ (both-right _ _ (both-left _ _ h))) as1 attrs-legal
+  attr-names-plain = all-imp legalAttr (λ a. plainField (a .name)) (λ a h. both-left _ _ (both-right _ _ (both-left _ _ h))) as1 attrs-legal
 
   pub attr-names-text : all (λ a. isText (a .name)) as1 ≡ true
   unfolding legalAttr legalName legalField

@@ -1,4 +1,4 @@
--- Lines and what they are, by computation: one for each clause of reading 7 that is refused 4, and their neighbours.
+-- Lines and what they are, by computation: one for each form that is refused 4, and their neighbours.
 use mathlib.Core.Path.{_≡_, refl}
 use mathlib.Core.Bool.{true, false}
 use mathlib.Core.List.{List, [], _∷_, map}
@@ -6,10 +6,10 @@ use Rattle.base.specs.Ascii.{ascii}
 use Rattle.base.specs.Bytes.{Bytes, both, either, all, same}
 use Rattle.refusal.specs.declared.Refusal.the-variants.{NotText, NotEventLine}
 use Rattle.text.specs.Char.{from-to, xmlChar, utf8}
-use Rattle.text.specs.Check.{joined, decoded, begins, charLen, textAfter, isText}
-use Rattle.text.specs.Escape.{meaning, before, unescapeFrom}
+use Rattle.text.specs.Check.{joinedBits, decoded, begins, charLen, textAfter, isText}
+use Rattle.text.specs.Escape.{meaning, byteBefore, unescapeFrom}
 use Rattle.line.specs.Line.{onto, fields}
-use Rattle.event.specs.Event.{Attr, starts, closes, others, Reading, reads, refused, unended, legalLine, parted, attrOf, attrsOf, named, distinct, eventOf}
+use Rattle.event.specs.Event.{Attr, starts, closes, others, Reading, reads, refused, unended, legalLine, parted, attrOf, attrsOf, named, noneTwice, eventOf}
 
 pub record Row : Type 0 where
   pub bytes : Bytes
@@ -74,5 +74,5 @@ rows =
     ∷ []
 
 pub claim : map (λ r. eventOf (r .bytes)) rows ≡ map (λ r. r .reading) rows
-unfolding both either all same from-to xmlChar utf8 joined decoded begins charLen textAfter isText meaning before unescapeFrom onto fields unended legalLine parted attrOf attrsOf named distinct eventOf
+unfolding both either all same from-to xmlChar utf8 joinedBits decoded begins charLen textAfter isText meaning byteBefore unescapeFrom onto fields unended legalLine parted attrOf attrsOf named noneTwice eventOf
 claim = refl

@@ -13,28 +13,28 @@ use Rattle.text.specs.Char.{from-to, xmlChar}
 use Rattle.text.specs.Check as Check
 use Rattle.text.specs.Escape.{breaks}
 use Rattle.text.proofs.Texts.{text-plain}
-use Rattle.line.specs.Line.{plain}
-use Rattle.event.specs.Event.{Attr, Event, starts, closes, others, reads, refused, isEmpty, attrsOf, attrFields, distinct, startsWith, startsFrom, alone, eventFrom, wordOf, eventFields}
+use Rattle.line.specs.Line.{plainField}
+use Rattle.event.specs.Event.{Attr, Event, starts, closes, others, reads, refused, isEmpty, attrsOf, attrFields, noneTwice, startsWith, startsFrom, alone, eventFrom, startWord, eventFields}
 use Rattle.event.specs.Legal.{legalField, legalName, legalAttr, legalParts}
 use Rattle.event.proofs.Attrs.{attrs-legal, attrs-read, attrs-back}
 
 -- ---- words
 
-word-legal : (w : Bytes) → plain w ≡ true → all Check.plain w ≡ true → legalField w ≡ true
+word-legal : (w : Bytes) → plainField w ≡ true → all Check.plainAscii w ≡ true → legalField w ≡ true
 unfolding legalField
 word-legal w p t = both-of p (text-plain w t)
 
-start-legal : (empty : Bool) → legalField (wordOf empty) ≡ true
-unfolding plain all both either breaks Check.plain xmlChar from-to
+start-legal : (empty : Bool) → legalField (startWord empty) ≡ true
+unfolding plainField all both either breaks Check.plainAscii xmlChar from-to
 start-legal false = word-legal (ascii "open") refl refl
 start-legal true = word-legal (ascii "empty") refl refl
 
 close-legal : legalField (ascii "close") ≡ true
-unfolding plain all both either breaks Check.plain xmlChar from-to
+unfolding plainField all both either breaks Check.plainAscii xmlChar from-to
 close-legal = word-legal (ascii "close") refl refl
 
 other-legal : legalField (ascii "other") ≡ true
-unfolding plain all both either breaks Check.plain xmlChar from-to
+unfolding plainField all both either breaks Check.plainAscii xmlChar from-to
 other-legal = word-legal (ascii "other") refl refl
 
 -- ---- from an event to its fields and back
@@ -42,7 +42,7 @@ other-legal = word-legal (ascii "other") refl refl
 pub event-legal : (e : Event) → legalParts e ≡ true → all legalField (eventFields e) ≡ true
 unfolding legalParts legalName
 event-legal (starts empty n as1) h =
-    all-cons legalField (wordOf empty) (n ∷ attrFields as1) (start-legal empty)
+    all-cons legalField (startWord empty) (n ∷ attrFields as1) (start-legal empty)
     (all-cons legalField n (attrFields as1) (both-right _ _ (both-left _ _ h)) (attrs-legal as1 (both-left _ _ (both-right _ _ h))))
 event-legal closes h = all-cons legalField (ascii "close") [] close-legal (all-nil legalField)
 event-legal others h = all-cons legalField (ascii "other") [] other-legal (all-nil legalField)
@@ -68,18 +68,18 @@ Back fs e = (eventFields e ≡ fs) × (legalParts e ≡ true)
 
 startsWith-back : (empty : Bool) (n : Bytes) (fs : List Bytes) (o : Option (List Attr)) (e : Event) → legalName n ≡ true
     → ((as1 : List Attr) → o ≡ some as1 → (attrFields as1 ≡ fs) × (all legalAttr as1 ≡ true))
-    → startsWith empty n o ≡ reads e → Back (wordOf empty ∷ n ∷ fs) e
+    → startsWith empty n o ≡ reads e → Back (startWord empty ∷ n ∷ fs) e
 unfolding Back legalParts
 startsWith-back empty n fs none e h k q = no (cc)
 startsWith-back empty n fs (some as1) e h k q =
-    byBool (distinct as1)
+    byBool (noneTwice as1)
     (λ t. let z : reads (starts empty n as1) ≡ reads e = rw t at q in
     let i : e ≡ starts empty n as1 = cc in
     let w = k as1 refl in
-    rw i (ap (λ (x : List Bytes). wordOf empty ∷ n ∷ x) (w .0), both-of h (both-of (w .1) t)))
+    rw i (ap (λ (x : List Bytes). startWord empty ∷ n ∷ x) (w .0), both-of h (both-of (w .1) t)))
     (λ t. let z : refused NotEventLine ≡ reads e = rw t at q in no (cc))
 
-startsFrom-back : (empty : Bool) (fs : List Bytes) (e : Event) → all legalField fs ≡ true → startsFrom empty fs ≡ reads e → Back (wordOf empty ∷ fs) e
+startsFrom-back : (empty : Bool) (fs : List Bytes) (e : Event) → all legalField fs ≡ true → startsFrom empty fs ≡ reads e → Back (startWord empty ∷ fs) e
 unfolding legalName
 startsFrom-back empty [] e h q = no (cc)
 startsFrom-back empty (n ∷ fs) e h q =

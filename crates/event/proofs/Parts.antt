@@ -16,7 +16,7 @@ use Rattle.text.specs.Escape.{breaks}
 use Rattle.text.proofs.Escapes.{line-breaks, return-breaks}
 use Rattle.text.proofs.Texts.{all-imp, text-ascii, text-cut}
 use Rattle.text.proofs.Theorem.{text-nil}
-use Rattle.line.specs.Line.{plain, fields, tabbed}
+use Rattle.line.specs.Line.{plainField, fields, tabbed}
 use Rattle.line.proofs.Lines.{lacks, lacks-head, lacks-tail, plain-nil, plain-cons, plain-lacks, fields-lack, tabbed-fields}
 use Rattle.event.specs.Event.{unended, body, legalLine}
 use Rattle.event.specs.Legal.{legalField}
@@ -113,7 +113,7 @@ cuts-unbroken : Cuts unbroken
 unfolding unbroken legalLine
 cuts-unbroken = cuts-both (cuts-both cuts-text (cuts-all _ refl)) (cuts-all _ refl)
 
-plain-of : (f : Bytes) → lacks 9 f ≡ true → lacks 10 f ≡ true → lacks 13 f ≡ true → plain f ≡ true
+plain-of : (f : Bytes) → lacks 9 f ≡ true → lacks 10 f ≡ true → lacks 13 f ≡ true → plainField f ≡ true
 unfolding breaks either
 plain-of [] t l r = plain-nil
 plain-of (b ∷ f) t l r =

@@ -14,7 +14,7 @@ use Rattle.base.proofs.Split.{no, clash}
 use Rattle.refusal.specs.declared.Refusal.{Refusal}
 use Rattle.refusal.specs.declared.Refusal.the-variants.{LongLine, NotText, NotEventLine}
 use Rattle.line.specs.Line.{fields}
-use Rattle.event.specs.Event.{Attr, Event, closes, others, Reading, reads, refused, unended, body, legalLine, isEmpty, attrsOf, distinct, startsWith, startsFrom, alone, eventFrom, eventIn, eventOf, lineOf}
+use Rattle.event.specs.Event.{Attr, Event, closes, others, Reading, reads, refused, unended, body, legalLine, isEmpty, attrsOf, noneTwice, startsWith, startsFrom, alone, eventFrom, eventIn, eventOf, lineOf}
 use Rattle.event.specs.Legal.{legalEvent}
 use Rattle.event.proofs.Events.{judge, judged-long, judged-illegal, reads-back, writes-back}
 
@@ -30,7 +30,7 @@ by-cond false x y = y
 
 startsWith-fourth : (empty : Bool) (n : Bytes) (o : Option (List Attr)) → Fourth (startsWith empty n o)
 startsWith-fourth empty n none = is-none
-startsWith-fourth empty n (some as1) = by-cond (distinct as1) (is-event _) is-none
+startsWith-fourth empty n (some as1) = by-cond (noneTwice as1) (is-event _) is-none
 
 startsFrom-fourth : (empty : Bool) (fs : List Bytes) → Fourth (startsFrom empty fs)
 startsFrom-fourth empty [] = is-none

@@ -7,6 +7,7 @@ use lib.Dec.{ltb, eqb}
 use lib.ListN.{length}
 use Rattle.base.specs.Ascii.{ascii}
 use Rattle.base.specs.Bytes.{Bytes, both, all, same}
+use Rattle.base.specs.Chars.{lineFeed, carriageReturn, equalsSign}
 use Rattle.refusal.specs.declared.Refusal.{Refusal}
 use Rattle.refusal.specs.declared.Refusal.the-variants.{LongLine, NotText, NotEventLine}
 use Rattle.text.specs.Check.{isText}
@@ -34,7 +35,7 @@ pub data Reading : Type 0 where
 -- a line without its line feed; none where the line feed is missing
 unfoldable pub unended : Bytes → Option Bytes
 unended [] = none
-unended (b ∷ []) = cond (eqb b 10) (some []) none
+unended (b ∷ []) = cond (eqb b lineFeed) (some []) none
 unended (b ∷ d ∷ ds) = Option·map (b ∷_) (unended (d ∷ ds))
 
 -- what is measured and judged: the line without its line feed, or all of it where that is missing
@@ -47,7 +48,7 @@ body s = bodyOf s (unended s)
 
 -- "a raw carriage return in a line is not text"
 unfoldable pub legalLine : Bytes → Bool
-legalLine t = both (isText t) (all (λ b. not (eqb b 13)) t)
+legalLine t = both (isText t) (all (λ b. not (eqb b carriageReturn)) t)
 
 -- ---- attributes
 
@@ -62,7 +63,7 @@ ontoLeft b (some p) = some (record { left = b ∷ p .left; right = p .right })
 
 unfoldable pub parted : Bytes → Option Parted
 parted [] = none
-parted (b ∷ bs) = cond (eqb b 61) (some (record { left = []; right = bs })) (ontoLeft b (parted bs))
+parted (b ∷ bs) = cond (eqb b equalsSign) (some (record { left = []; right = bs })) (ontoLeft b (parted bs))
 
 abbrev pub isEmpty : Bytes → Bool
 isEmpty [] = true
@@ -93,9 +94,9 @@ named n [] = false
 named n (a ∷ as1) = cond (same n (a .name)) true (named n as1)
 
 -- "or an attribute twice"
-unfoldable pub distinct : List Attr → Bool
-distinct [] = true
-distinct (a ∷ as1) = both (not (named (a .name) as1)) (distinct as1)
+unfoldable pub noneTwice : List Attr → Bool
+noneTwice [] = true
+noneTwice (a ∷ as1) = both (not (named (a .name) as1)) (noneTwice as1)
 
 -- the value of the attribute of a name, if there is one
 unfoldable pub valueOf : Bytes → List Attr → Option Bytes
@@ -111,7 +112,7 @@ orEmpty (some v) = v
 
 abbrev pub startsWith : Bool → Bytes → Option (List Attr) → Reading
 startsWith empty n none = refused NotEventLine
-startsWith empty n (some as1) = cond (distinct as1) (reads (starts empty n as1)) (refused NotEventLine)
+startsWith empty n (some as1) = cond (noneTwice as1) (reads (starts empty n as1)) (refused NotEventLine)
 
 abbrev pub startsFrom : Bool → List Bytes → Reading
 startsFrom empty [] = refused NotEventLine
@@ -133,7 +134,7 @@ eventFrom (w ∷ fs) =
 -- "Another escape, or a last line without its line feed, is refused 4."
 abbrev pub eventIn : Option Bytes → Reading
 eventIn none = refused NotEventLine
-eventIn (some t) = cond (all (λ b. not (eqb b 10)) t) (eventFrom (fields t)) (refused NotEventLine)
+eventIn (some t) = cond (all (λ b. not (eqb b lineFeed)) t) (eventFrom (fields t)) (refused NotEventLine)
 
 -- "2 over 16,384 bytes without its line feed; 3 not text; 4 not an event line, or an attribute twice"
 unfoldable pub eventOf : Bytes → Reading
@@ -145,19 +146,19 @@ eventOf s =
 -- ---- an event as a line
 
 abbrev pub attrField : Attr → Bytes
-attrField a = a .name ++ (61 ∷ escape (a .value))
+attrField a = a .name ++ (equalsSign ∷ escape (a .value))
 
 unfoldable pub attrFields : List Attr → List Bytes
 attrFields [] = []
 attrFields (a ∷ as1) = attrField a ∷ attrFields as1
 
 -- the word of an open or, where the test is true, an empty element
-abbrev pub wordOf : Bool → Bytes
-wordOf false = ascii "open"
-wordOf true = ascii "empty"
+abbrev pub startWord : Bool → Bytes
+startWord false = ascii "open"
+startWord true = ascii "empty"
 
 abbrev pub eventFields : Event → List Bytes
-eventFields (starts empty n as1) = wordOf empty ∷ n ∷ attrFields as1
+eventFields (starts empty n as1) = startWord empty ∷ n ∷ attrFields as1
 eventFields closes = ascii "close" ∷ []
 eventFields others = ascii "other" ∷ []
 

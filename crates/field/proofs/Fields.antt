@@ -25,7 +25,7 @@ use Rattle.nesting.specs.declared.Name.the-variants as N
 use Rattle.nesting.specs.Name.{Spelling, spellings, nameIn, nameOf}
 use Rattle.model.specs.Record.{Member, Tag}
 use Rattle.event.specs.Event.{Attr, named, valueOf, orEmpty}
-use Rattle.field.specs.Field.{Field, got, bad, andThen, orElse, textField, integerField, within, coordinate, latitude, longitude, tagOf, refOf, typeNamed, memberOf}
+use Rattle.field.specs.Field.{Field, got, bad, andThen, orElse, textField, integerField, coordinateWithin, coordinate, latitude, longitude, tagOf, refOf, typeNamed, memberOf}
 
 -- ---- one field, then another
 
@@ -132,14 +132,14 @@ module _ (n : Bytes) (attrs : List Attr) where
 -- ---- coordinates
 
 module _ (limit : ℕ) (z : ℤ) where
-  within-got : (x : ℤ) → (within limit z ≡ got x) ↔ ((z ≡ x) × (natAbs z ≤ limit))
+  within-got : (x : ℤ) → (coordinateWithin limit z ≡ got x) ↔ ((z ≡ x) × (natAbs z ≤ limit))
   within-got x = go (leb (natAbs z) limit) refl
     where
       go : (t : Bool) → leb (natAbs z) limit ≡ t → (cond t (got z) (bad CoordinateRange) ≡ got x) ↔ ((z ≡ x) × (natAbs z ≤ limit))
       go true e = (λ h. (cc, leb-true (natAbs z) limit e), λ h. ap got (h .0))
       go false e = (λ h. no (cc), λ h. clash (le-leb (natAbs z) limit (h .1)) e)
 
-  within-bad : (r : Refusal) → (within limit z ≡ bad r) ↔ ((limit < natAbs z) × (r ≡ CoordinateRange))
+  within-bad : (r : Refusal) → (coordinateWithin limit z ≡ bad r) ↔ ((limit < natAbs z) × (r ≡ CoordinateRange))
   within-bad r = go (leb (natAbs z) limit) refl
     where
       go : (t : Bool) → leb (natAbs z) limit ≡ t → (cond t (got z) (bad CoordinateRange) ≡ bad r) ↔ ((limit < natAbs z) × (r ≡ CoordinateRange))

@@ -27,7 +27,7 @@ use Rattle.stamp.proofs.Bounds.{stamp-fits}
 use Rattle.version_floor.specs.declared.Version.the-variants.{Absent, Is}
 use Rattle.model.specs.Record.{Meta, flagged, claimOf}
 use Rattle.event.specs.Event.{Attr, named}
-use Rattle.field.specs.Field.{Field, got, bad, andThen, orElse, noMeta, mark, withVersion, withTimestamp, withChangeset, withUid, withUser, withVisible, metaWith, metaFrom, metaOf}
+use Rattle.field.specs.Field.{Field, got, bad, andThen, orElse, noMeta, mark, withVersion, withTimestamp, withChangeset, withUid, withUser, withVisible, metaWith, metaFrom, metadataOf}
 use Rattle.field.proofs.Fields.{then-got, then-bad, byField}
 
 -- ---- flags
@@ -255,8 +255,8 @@ from-bad m (a ∷ attrs) r = (
       (first-fault t),
 )
 
-pub meta-bad : (attrs : List Attr) (r : Refusal) → (metaOf attrs ≡ bad r) ↔ FirstFault attrs r
-unfolding metaOf
+pub meta-bad : (attrs : List Attr) (r : Refusal) → (metadataOf attrs ≡ bad r) ↔ FirstFault attrs r
+unfolding metadataOf
 meta-bad attrs r = from-bad noMeta attrs r
 
 -- what each attribute that is taken keeps, all of them keep
@@ -355,8 +355,8 @@ legal-step m n a (visible {v = v}) l =
     (l .version-fits) (l .timestamp-fits) (l .changeset-fits) (l .uid-fits)
 legal-step m n a (other h) l = l
 
-pub meta-legal : (attrs : List Attr) {m : Meta Bytes} → metaOf attrs ≡ got m → Legal m
-unfolding metaOf
+pub meta-legal : (attrs : List Attr) {m : Meta Bytes} → metadataOf attrs ≡ got m → Legal m
+unfolding metadataOf
 meta-legal attrs e = from-keeps Legal legal-step noMeta attrs e no-legal
 
 -- ---- which flags are set
@@ -388,8 +388,8 @@ from-flags m (a ∷ attrs) h e b =
     from-flags (t .0) attrs (small-step k h) (t .1 .1) b ∙ ap (either (any (sets b) attrs)) (flag-step k h b) ∙ either-swap (any (sets b) attrs) (sets b a) _
 
 -- a flag is set exactly when an attribute sets it
-pub meta-flags : (attrs : List Attr) {m : Meta Bytes} → metaOf attrs ≡ got m → (b : Flag) → flagged (bitOf b) (m .flags) ≡ any (sets b) attrs
-unfolding metaOf flagged
+pub meta-flags : (attrs : List Attr) {m : Meta Bytes} → metadataOf attrs ≡ got m → (b : Flag) → flagged (bitOf b) (m .flags) ≡ any (sets b) attrs
+unfolding metadataOf flagged
 meta-flags attrs e b = from-flags noMeta attrs (omega arith) e b ∙ ap (either (any (sets b) attrs)) (none-set b) ∙ either-none (any (sets b) attrs)
   where
     none-set : (b : Flag) → flagged (bitOf b) 0 ≡ false
@@ -407,13 +407,13 @@ any-named n [] = refl
 any-named n (a ∷ attrs) = rw (same-swap (a .name) n) (byBool (same n (a .name)) (λ t. rw t) (λ t. rw t (any-named n attrs)))
 
 -- "It claims the version it gives": a version is claimed exactly when there is an attribute `version`
-pub meta-claim : (attrs : List Attr) {m : Meta Bytes} → metaOf attrs ≡ got m → claimOf m ≡ cond (named (ascii "version") attrs) (Is (m .version)) Absent
+pub meta-claim : (attrs : List Attr) {m : Meta Bytes} → metadataOf attrs ≡ got m → claimOf m ≡ cond (named (ascii "version") attrs) (Is (m .version)) Absent
 unfolding claimOf
 meta-claim attrs {m} e = ap (λ (t : Bool). cond t (Is (m .version)) Absent) (meta-flags attrs e hasVersion ∙ any-named (ascii "version") attrs)
 
 -- what holds of every attribute's value, and of the empty text, holds of the user
-pub meta-user : (p : Bytes → Bool) (attrs : List Attr) {m : Meta Bytes} → p [] ≡ true → all (λ a. p (a .value)) attrs ≡ true → metaOf attrs ≡ got m → p (m .user) ≡ true
-unfolding metaOf metaFrom
+pub meta-user : (p : Bytes → Bool) (attrs : List Attr) {m : Meta Bytes} → p [] ≡ true → all (λ a. p (a .value)) attrs ≡ true → metadataOf attrs ≡ got m → p (m .user) ≡ true
+unfolding metadataOf metaFrom
 meta-user p attrs h k e = go noMeta attrs h k e
   where
     step : {m n : Meta Bytes} {a : Attr} → Took m a n → p (a .value) ≡ true → p (m .user) ≡ true → p (n .user) ≡ true

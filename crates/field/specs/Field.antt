@@ -53,18 +53,18 @@ integerField w n attrs = andThen (textField n attrs) (λ v. anInteger (integerOf
 
 -- ---- an element's id
 
-unfoldable pub idOf : List Attr → Field ℤ
-idOf attrs = integerField w64 (ascii "id") attrs
+unfoldable pub idField : List Attr → Field ℤ
+idField attrs = integerField w64 (ascii "id") attrs
 
 -- ---- coordinates of a pushed node
 
 -- "1e-7 degree, at most 900,000,000 and 1,800,000,000 either side of 0"; "10 coordinate range"
-abbrev pub within : ℕ → ℤ → Field ℤ
-within limit z = cond (leb (natAbs z) limit) (got z) (bad CoordinateRange)
+abbrev pub coordinateWithin : ℕ → ℤ → Field ℤ
+coordinateWithin limit z = cond (leb (natAbs z) limit) (got z) (bad CoordinateRange)
 
 -- a coordinate: the attribute of a name, within a limit
 abbrev pub coordinate : Bytes → ℕ → List Attr → Field ℤ
-coordinate n limit attrs = andThen (integerField w32 n attrs) (within limit)
+coordinate n limit attrs = andThen (integerField w32 n attrs) (coordinateWithin limit)
 
 unfoldable pub latitude : List Attr → Field ℤ
 latitude attrs = coordinate (ascii "lat7") 900000000 attrs
@@ -131,8 +131,8 @@ unfoldable pub metaFrom : Meta Bytes → List Attr → Field (Meta Bytes)
 metaFrom m [] = got m
 metaFrom m (a ∷ attrs) = andThen (metaWith m a) (λ n. metaFrom n attrs)
 
-unfoldable pub metaOf : List Attr → Field (Meta Bytes)
-metaOf attrs = metaFrom noMeta attrs
+unfoldable pub metadataOf : List Attr → Field (Meta Bytes)
+metadataOf attrs = metaFrom noMeta attrs
 
 -- ---- children
 

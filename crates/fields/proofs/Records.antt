@@ -12,7 +12,7 @@ use mir.Val.{toZ}
 use borrow.Author.Tests.{le-ltb}
 use Rattle.base.specs.Bytes.{Bytes}
 use Rattle.base.proofs.Split.{byLt, no}
-use Rattle.kind.specs.Kind.{numberOf, ofNumber}
+use Rattle.kind.specs.Kind.{kindNumber, ofNumber}
 use Rattle.kind.specs.declared.Kind.{Kind}
 use Rattle.kind.specs.declared.Kind.the-variants.{Node, Way, Relation}
 use Rattle.kind.specs.declared.Named.{Named}
@@ -25,8 +25,8 @@ use Rattle.interner.proofs.Interns.{Sound, resolved, text-at, length-texts}
 use Rattle.model.specs.Record.{Member, Tag, Body, place, refs, members, Record, kindOf}
 use Rattle.model.specs.Swap.{swapMember, swapTag, swapBody, swapRecord}
 use Rattle.compact.specs.Layout.{headOf}
-use Rattle.compact.specs.Held.{named, memberOf}
-use Rattle.compact.specs.View.{refAt, memberAt, step, tagStep, tagGiven, onward, stepped, tagsFrom}
+use Rattle.compact.specs.Held.{memberNamed, memberHeld}
+use Rattle.compact.specs.View.{refAt, memberAt, stepBy, tagStep, tagGiven, stepsOnward, stepsFrom, tagsFrom}
 use Rattle.compact.specs.declared.CompactMember.{CompactMember}
 use Rattle.compact.specs.declared.TagStep.{TagStep}
 use Rattle.compact.specs.declared.TagStep.the-variants as step
@@ -64,29 +64,29 @@ unfolding counted
 counted-map f g xs = rw (length-map xs g, each-map f g xs)
 
 -- a number that names a kind is its number
-number-is : (n : ℕ) (k : Kind) → ofNumber n ≡ Is k → n ≡ numberOf k
+number-is : (n : ℕ) (k : Kind) → ofNumber n ≡ Is k → n ≡ kindNumber k
 unfolding ofNumber
-number-is zero k e = let q : Node ≡ k = cc in ap numberOf q
-number-is (suc zero) k e = let q : Way ≡ k = cc in ap numberOf q
-number-is (suc (suc zero)) k e = let q : Relation ≡ k = cc in ap numberOf q
+number-is zero k e = let q : Node ≡ k = cc in ap kindNumber q
+number-is (suc zero) k e = let q : Way ≡ k = cc in ap kindNumber q
+number-is (suc (suc zero)) k e = let q : Relation ≡ k = cc in ap kindNumber q
 number-is (suc (suc (suc n))) k e = no (cc)
 
-member-is : (f : ℕ → Bytes) (x : CompactMember) (m : Member ℕ) → memberOf x ≡ some m → heldMember f x ≡ memberFields (swapMember f m)
-unfolding memberOf
+member-is : (f : ℕ → Bytes) (x : CompactMember) (m : Member ℕ) → memberHeld x ≡ some m → heldMember f x ≡ memberFields (swapMember f m)
+unfolding memberHeld
 member-is f x m e = go (ofNumber (x .kind)) refl
   where
     go : (n : Named) → ofNumber (x .kind) ≡ n → heldMember f x ≡ memberFields (swapMember f m)
     go (Is k) q =
-        let w : some (record { ref = toZ w64 (x .reference); type = k; role = x .role }) ≡ some m = sym (ap (λ n. named (toZ w64 (x .reference)) n (x .role)) q) ∙ e in
+        let w : some (record { ref = toZ w64 (x .reference); type = k; role = x .role }) ≡ some m = sym (ap (λ n. memberNamed (toZ w64 (x .reference)) n (x .role)) q) ∙ e in
         let v : record { ref = toZ w64 (x .reference); type = k; role = x .role } ≡ m = cc in
         rw (← v, number-is (x .kind) k q)
-    go Unknown q = let w : none ≡ some m = sym (ap (λ n. named (toZ w64 (x .reference)) n (x .role)) q) ∙ e in no (cc)
+    go Unknown q = let w : none ≡ some m = sym (ap (λ n. memberNamed (toZ w64 (x .reference)) n (x .role)) q) ∙ e in no (cc)
 
 module _ (f : ℕ → Bytes) (s : Bytes) where
   -- ---- tags
 
   onward-is : (n : ℕ) (more : ℕ → Option (List (Tag ℕ))) (mine : ℕ → List Bytes) → ((at : ℕ) (ts : List (Tag ℕ)) → more at ≡ some ts → mine at ≡ each (λ t. tagFields (swapTag f t)) ts)
-      → (t : TagStep) (ts : List (Tag ℕ)) → onward (tagGiven s t) more ≡ some ts → stepFields f s t mine ≡ each (λ t. tagFields (swapTag f t)) ts
+      → (t : TagStep) (ts : List (Tag ℕ)) → stepsOnward (tagGiven s t) more ≡ some ts → stepFields f s t mine ≡ each (λ t. tagFields (swapTag f t)) ts
   unfolding each
   onward-is n more mine h step.Done ts e = let q : [] ≡ ts = cc in rw (← q)
   onward-is n more mine h step.Unsound ts e = no (cc)
@@ -100,7 +100,7 @@ module _ (f : ℕ → Bytes) (s : Bytes) where
           rw (← v, h (start + len) us q)
 
   tags-are : (n at : ℕ) (ts : List (Tag ℕ)) → tagsFrom s at n ≡ some ts → tagFieldsFrom f s at n ≡ each (λ t. tagFields (swapTag f t)) ts
-  unfolding tagsFrom stepped step tagFieldsFrom tagStep each
+  unfolding tagsFrom stepsFrom stepBy tagFieldsFrom tagStep each
   tags-are zero at ts e = let q : [] ≡ ts = cc in rw (← q)
   tags-are (suc n) at ts e = onward-is n (λ next. tagsFrom s next n) (λ next. tagFieldsFrom f s next n) (tags-are n) (tagStep s at (suc n)) ts e
 
@@ -110,7 +110,7 @@ module _ (f : ℕ → Bytes) (s : Bytes) where
   none-held = record { ref = pos 0; type = Node; role = 0 }
 
   body-is : (id : ℤ) (b : Body ℕ) (n : ℕ) → ((rs : List ℤ) (i : ℕ) → b ≡ refs rs → i < length rs → toZ w64 (refAt s i) ≡ getD rs i (pos 0))
-      → ((ms : List (Member ℕ)) (i : ℕ) (d : Member ℕ) → b ≡ members ms → i < length ms → memberOf (memberAt s i) ≡ some (getD ms i d))
+      → ((ms : List (Member ℕ)) (i : ℕ) (d : Member ℕ) → b ≡ members ms → i < length ms → memberHeld (memberAt s i) ≡ some (getD ms i d))
       → bodyFieldsAt f (kindOf b) (headOf id b n) s ≡ bodyFields (swapBody f b)
   unfolding bodyFieldsAt bodyFields headOf counted
   body-is id (place lat lon) n r m = refl

@@ -20,7 +20,7 @@ use Rattle.base.specs.Bytes.{Bytes, isDigit, all}
 use Rattle.base.proofs.Split.{no, byBool, byLt, byLe, byEq}
 use Rattle.base.proofs.Lists.{all-head}
 use Rattle.integer.proofs.Digits.{digit-is, digits-of, digits-below}
-use Rattle.integer.specs.Integer.{decimal, digits, integer, holds, ofWidth, integerOf, answer, readOf}
+use Rattle.integer.specs.Integer.{decimal, digits, integer, holds, ofWidth, integerOf, integerAnswer, readOf}
 use Rattle.integer.specs.Bounded.{atMost, bitsOf, readBits}
 use Rattle.integer.specs.declared.Integer.{Integer}
 use Rattle.integer.specs.declared.Integer.the-variants.{Is, Not}
@@ -90,8 +90,8 @@ at-most {most} {n} (some k) e =
     (λ h. let w : Is n ≡ Not = rw (lt-leb k most h) at e in no (cc))
 
 -- at a width's largest number and its bits all set, that reader reads the width's integers
-in-width : (w : Width) (z : Option ℤ) → bitsOf (2 ^ hbits w - 1) (2 ^ bits w - 1) z ≡ answer w (ofWidth w z)
-unfolding bitsOf answer ofWidth holds
+in-width : (w : Width) (z : Option ℤ) → bitsOf (2 ^ hbits w - 1) (2 ^ bits w - 1) z ≡ integerAnswer w (ofWidth w z)
+unfolding bitsOf integerAnswer ofWidth holds
 in-width w none = refl
 in-width w (some (pos n)) =
     byLt n (2 ^ hbits w)
@@ -126,8 +126,8 @@ unfolding integerOf ofWidth holds
 integer-of w s {z} e f = rw (e, lt-ltb (mag z) (2 ^ hbits w) (f .sfits))
 
 -- an answer that is a number: its bits fit, and it is the integer of the text
-answer-is : (w : Width) (m : Option ℤ) {b : ℕ} → answer w m ≡ Is b → (z : ℤ) × ((m ≡ some z) × (ofZ w z ≡ b))
-unfolding answer
+answer-is : (w : Width) (m : Option ℤ) {b : ℕ} → integerAnswer w m ≡ Is b → (z : ℤ) × ((m ≡ some z) × (ofZ w z ≡ b))
+unfolding integerAnswer
 answer-is w none e = no (cc)
 answer-is w (some z) e = (z, (refl, cc))
 
@@ -139,7 +139,7 @@ read-is w s {b} e =
     (rw (← a .1 .1, toZ-ofZ (p .1)) (p .0), rw (a .1 .1) at (fits-ofZ (p .1)))
 
 pub read-of : (w : Width) (s : Bytes) {z : ℤ} → integer s ≡ some z → SFits w z → readOf w s ≡ Is (ofZ w z)
-unfolding readOf answer
+unfolding readOf integerAnswer
 read-of w s e f = rw (integer-of w s e f)
 
 -- back from the bits
@@ -148,14 +148,14 @@ read-back w s {b} e f = read-of w s e (toZ-fits w b f) ∙ ap Is (ofZ-toZ f)
 
 -- a text that is no integer of the width has no answer
 pub read-none : (w : Width) (s : Bytes) → integerOf w s ≡ none → readOf w s ≡ Not
-unfolding readOf answer
+unfolding readOf integerAnswer
 read-none w s e = rw e
 
 pub read-not : (w : Width) (s : Bytes) → readOf w s ≡ Not → integerOf w s ≡ none
-unfolding readOf answer
+unfolding readOf integerAnswer
 read-not w s e = go (integerOf w s) e
   where
-    go : (m : Option ℤ) → answer w m ≡ Not → m ≡ none
+    go : (m : Option ℤ) → integerAnswer w m ≡ Not → m ≡ none
     go none q = refl
     go (some z) q = no (cc)
 

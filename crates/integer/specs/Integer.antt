@@ -9,13 +9,14 @@ use lib.Signed.{mag}
 use mir.Syntax.{Width}
 use mir.Val.{ofZ, hbits}
 use Rattle.base.specs.Bytes.{Bytes, isDigit, all}
+use Rattle.base.specs.Chars.{plusSign, minusSign, zeroDigit}
 use Rattle.integer.specs.declared.Integer.{Integer}
 use Rattle.integer.specs.declared.Integer.the-variants.{Is, Not}
 
 -- the number that digits write after digits worth n
 unfoldable pub decimal : ℕ → Bytes → ℕ
 decimal n [] = n
-decimal n (b ∷ bs) = decimal (n * 10 + (b - 48)) bs
+decimal n (b ∷ bs) = decimal (n * 10 + (b - zeroDigit)) bs
 
 -- the number of one or more digits
 unfoldable pub digits : Bytes → Option ℕ
@@ -26,8 +27,8 @@ digits (b ∷ bs) = cond (all isDigit (b ∷ bs)) (some (decimal 0 (b ∷ bs))) 
 unfoldable pub integer : Bytes → Option ℤ
 integer [] = none
 integer (b ∷ bs) =
-    cond (eqb b 43) (Option·map pos (digits bs))
-    (cond (eqb b 45) (Option·map (λ n. negℤ (pos n)) (digits bs))
+    cond (eqb b plusSign) (Option·map pos (digits bs))
+    (cond (eqb b minusSign) (Option·map (λ n. negℤ (pos n)) (digits bs))
     (Option·map pos (digits (b ∷ bs))))
 
 -- a number that the width holds
@@ -43,9 +44,9 @@ unfoldable pub integerOf : Width → Bytes → Option ℤ
 integerOf w s = ofWidth w (integer s)
 
 -- the reader's answer: the number's bits
-unfoldable pub answer : Width → Option ℤ → Integer
-answer w none = Not
-answer w (some z) = Is (ofZ w z)
+unfoldable pub integerAnswer : Width → Option ℤ → Integer
+integerAnswer w none = Not
+integerAnswer w (some z) = Is (ofZ w z)
 
 unfoldable pub readOf : Width → Bytes → Integer
-readOf w s = answer w (integerOf w s)
+readOf w s = integerAnswer w (integerOf w s)

@@ -14,7 +14,7 @@ use Rattle.text.specs.Check.{isText}
 use Rattle.interner.specs.declared.Span.the-variants.{Missing}
 use Rattle.interner.specs.Texts.{handleOf}
 use Rattle.interner.specs.Strings.{startOf, lengthOf, spanned, bytesAt, spanAt, findIn, Store, usedOf}
-use Rattle.interner.specs.Sound.{handles, textsIn, textsOf, counted, within, differs, distinct, soundUpTo, firstEmpty, soundStrings}
+use Rattle.interner.specs.Sound.{handles, textsIn, textsOf, countsWithin, spanWithin, differs, distinct, soundUpTo, firstEmpty, soundStrings}
 use Rattle.interner.specs.Check.{isNot, newAt}
 use Rattle.interner.proofs.Finds.{Lies, lies-not, spanned-bytes}
 use Rattle.interner.proofs.Handles.{all-handles, each-handle, all-made, each-made}
@@ -50,17 +50,17 @@ module _ (spans : List ℕ) (bytes : Bytes) where
     pub differ : (j k : ℕ) → j < k → k < n → same (bytesAt spans bytes j) (bytesAt spans bytes k) ≡ false
 
   pub upto-parts : (n : ℕ) → soundUpTo spans bytes n ≡ true → UpTo n
-  unfolding soundUpTo within textsIn
+  unfolding soundUpTo spanWithin textsIn
   upto-parts n e =
-      let d = both-right (within spans bytes n) _ e in
+      let d = both-right (spanWithin spans bytes n) _ e in
       record {
-        lies = λ k h. each-handle (spanned spans bytes) n 0 (both-left (within spans bytes n) _ e) k (omega arith) (omega arith);
+        lies = λ k h. each-handle (spanned spans bytes) n 0 (both-left (spanWithin spans bytes n) _ e) k (omega arith) (omega arith);
         legal = λ k h. each-made isText (bytesAt spans bytes) n 0 (both-left _ _ d) k (omega arith) (omega arith);
         differ = λ j k g h. distinct-each (bytesAt spans bytes) n 0 (both-right _ _ d) j k (omega arith) g (omega arith);
       }
 
   pub upto-of : (n : ℕ) → UpTo n → soundUpTo spans bytes n ≡ true
-  unfolding soundUpTo within textsIn
+  unfolding soundUpTo spanWithin textsIn
   upto-of n p =
       both-of (all-handles (spanned spans bytes) n 0 (λ k a b. p .lies k (omega arith)))
       (both-of (all-made isText (bytesAt spans bytes) n 0 (λ k a b. p .legal k (omega arith)))
@@ -167,9 +167,9 @@ first-length s p =
 -- with the counts within and an empty first string, the strings decide
 pub strings-decide : (s : Store) → 2 * s .strings ≤ length (s .spans) → s .used ≤ length (s .bytes) → 0 < s .strings → lengthOf (s .spans) 0 ≡ 0
     → soundStrings s ≡ soundUpTo (s .spans) (usedOf s) (s .strings)
-unfolding soundStrings counted
+unfolding soundStrings countsWithin
 strings-decide s p q n e =
     let f : firstEmpty (textsOf s) ≡ true = first-text (s .spans) (usedOf s) (s .strings) n ∙ rw e (same-refl []) in
     same-test (soundStrings s) (soundUpTo (s .spans) (usedOf s) (s .strings))
-    (λ h. both-left (soundUpTo (s .spans) (usedOf s) (s .strings)) _ (both-right (counted s) _ h))
+    (λ h. both-left (soundUpTo (s .spans) (usedOf s) (s .strings)) _ (both-right (countsWithin s) _ h))
     (λ h. both-of (both-of (le-leb _ _ p) (le-leb _ _ q)) (both-of h f))

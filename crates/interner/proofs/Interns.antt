@@ -21,9 +21,9 @@ use Rattle.interner.specs.declared.Found.{Found}
 use Rattle.interner.specs.declared.Found.the-variants.{At, Not}
 use Rattle.interner.specs.declared.Span.the-variants.{Part, Missing}
 use Rattle.interner.specs.declared.Interned.the-variants.{Held, Full}
-use Rattle.interner.specs.Texts.{handleOf, takeIn, takeAll, noTexts, answerAs, accepted, handleIn, textOf}
-use Rattle.interner.specs.Strings.{startOf, lengthOf, spanned, bytesAt, isAt, findFrom, findIn, Store, usedOf, room, added, taken, intern, internAll, acceptedOf, spanOf}
-use Rattle.interner.specs.Sound.{handles, textsIn, textsOf, counted, within, soundUpTo, differs, distinct, firstEmpty, soundStrings, fresh}
+use Rattle.interner.specs.Texts.{handleOf, takeIn, takeAll, noTexts, answerAs, internAccepted, handleAnswered, textOf}
+use Rattle.interner.specs.Strings.{startOf, lengthOf, spanned, bytesAt, isAt, findFrom, findIn, Store, usedOf, textRoom, added, textTaken, intern, internAll, acceptedOf, spanOf}
+use Rattle.interner.specs.Sound.{handles, textsIn, textsOf, countsWithin, spanWithin, soundUpTo, differs, distinct, firstEmpty, soundStrings, freshStore}
 use Rattle.interner.proofs.Finds.{spanned-yes, spanned-bytes, find-none, find-here, find-on, part}
 use Rattle.interner.proofs.Takes.{held, new, full, room-words, room-bytes}
 use Rattle.interner.proofs.Handles.{length-handles, handles-more, all-handles, each-handle, map-handles, made-at}
@@ -40,23 +40,23 @@ pub record Sound (s : Store) : Type 0 where
   pub empty : firstEmpty (textsOf s) ≡ true
 
 pub sound-parts : (s : Store) → soundStrings s ≡ true → Sound s
-unfolding soundStrings counted soundUpTo within
+unfolding soundStrings countsWithin soundUpTo spanWithin
 sound-parts s e =
-    let a = both-left (counted s) _ e in
-    let b = both-right (counted s) _ e in
+    let a = both-left (countsWithin s) _ e in
+    let b = both-right (countsWithin s) _ e in
     let u = both-left (soundUpTo (s .spans) (usedOf s) (s .strings)) _ b in
-    let d = both-right (within (s .spans) (usedOf s) (s .strings)) _ u in
+    let d = both-right (spanWithin (s .spans) (usedOf s) (s .strings)) _ u in
     record {
       words = leb-true _ _ (both-left _ _ a);
       bytes = leb-true _ _ (both-right _ _ a);
-      spans = λ k h. each-handle (spanned (s .spans) (usedOf s)) (s .strings) 0 (both-left (within (s .spans) (usedOf s) (s .strings)) _ u) k (omega arith) (omega arith);
+      spans = λ k h. each-handle (spanned (s .spans) (usedOf s)) (s .strings) 0 (both-left (spanWithin (s .spans) (usedOf s) (s .strings)) _ u) k (omega arith) (omega arith);
       legal = both-left _ _ d;
       differ = both-right _ _ d;
       empty = both-right _ _ b;
     }
 
 pub sound-of : (s : Store) → Sound s → soundStrings s ≡ true
-unfolding soundStrings counted soundUpTo within
+unfolding soundStrings countsWithin soundUpTo spanWithin
 sound-of s p =
     both-of (both-of (le-leb _ _ (p .words)) (le-leb _ _ (p .bytes)))
     (both-of
@@ -119,7 +119,7 @@ span-stays : (u t : Bytes) (a n : ℕ) → a + n ≤ length u → take n (drop a
 span-stays u t a n h =
     rw (drop-append-le a u t (omega arith)) (take-append-le n (drop a u) t (omega (arith, length-drop a u)))
 
-module _ (s : Store) (t : Bytes) (p : Sound s) (r : room s t ≡ true) where
+module _ (s : Store) (t : Bytes) (p : Sound s) (r : textRoom s t ≡ true) where
   words-left : 2 * s .strings + 2 ≤ length (s .spans)
   words-left = room-words s t r
 
@@ -200,21 +200,21 @@ module _ (s : Store) (t : Bytes) (p : Sound s) where
   pub does-held : (h : ℕ) → handleOf t (textsOf s) ≡ some h → intern s t ≡ record { store = s; answer = Held h }
   does-held h e = held s t h (finds s t p ∙ rw (e, zero-add))
 
-  pub does-new : handleOf t (textsOf s) ≡ none → room s t ≡ true → intern s t ≡ taken s t
+  pub does-new : handleOf t (textsOf s) ≡ none → textRoom s t ≡ true → intern s t ≡ textTaken s t
   does-new e r = new s t (finds s t p ∙ rw e) r
 
-  pub does-full : handleOf t (textsOf s) ≡ none → room s t ≡ false → intern s t ≡ record { store = s; answer = Full }
+  pub does-full : handleOf t (textsOf s) ≡ none → textRoom s t ≡ false → intern s t ≡ record { store = s; answer = Full }
   does-full e r = full s t (finds s t p ∙ rw e) r
 
-  by-case : {C : Type 0} → ((h : ℕ) → handleOf t (textsOf s) ≡ some h → C) → (handleOf t (textsOf s) ≡ none → room s t ≡ true → C) → (handleOf t (textsOf s) ≡ none → room s t ≡ false → C) → C
+  by-case : {C : Type 0} → ((h : ℕ) → handleOf t (textsOf s) ≡ some h → C) → (handleOf t (textsOf s) ≡ none → textRoom s t ≡ true → C) → (handleOf t (textsOf s) ≡ none → textRoom s t ≡ false → C) → C
   by-case {C} f g k = go (handleOf t (textsOf s)) refl
     where
       go : (o : Option ℕ) → handleOf t (textsOf s) ≡ o → C
       go (some h) e = f h e
-      go none e = byBool (room s t) (g e) (k e)
+      go none e = byBool (textRoom s t) (g e) (k e)
 
   -- "`intern` returns the handle of an equal text already held, else the next one", 13 where there is no room for it
-  pub answers : intern s t .answer ≡ answerAs (room s t) (textsOf s) (handleOf t (textsOf s))
+  pub answers : intern s t .answer ≡ answerAs (textRoom s t) (textsOf s) (handleOf t (textsOf s))
   unfolding answerAs
   answers =
       by-case
@@ -223,21 +223,21 @@ module _ (s : Store) (t : Bytes) (p : Sound s) where
       (λ e r. rw (does-full e r, e, r))
 
   -- full exactly where the text is not held and there is no room
-  pub full-only : intern s t .answer ≡ Full → (handleOf t (textsOf s) ≡ none) × (room s t ≡ false)
+  pub full-only : intern s t .answer ≡ Full → (handleOf t (textsOf s) ≡ none) × (textRoom s t ≡ false)
   full-only q =
       by-case
       (λ h e. let z = does-held h e in no (cc))
       (λ e r. let z = does-new e r in no (cc))
       (λ e r. (e, r))
 
-  pub full-when : handleOf t (textsOf s) ≡ none → room s t ≡ false → intern s t .answer ≡ Full
+  pub full-when : handleOf t (textsOf s) ≡ none → textRoom s t ≡ false → intern s t .answer ≡ Full
   full-when e r = rw (does-full e r)
 
   -- a refusal changes nothing
   pub full-same : intern s t .answer ≡ Full → intern s t .store ≡ s
   full-same q = let n = full-only q in rw (does-full (n .0) (n .1))
 
-  full-store : accepted (intern s t .answer) ≡ false → textsOf (intern s t .store) ≡ textsOf s
+  full-store : internAccepted (intern s t .answer) ≡ false → textsOf (intern s t .store) ≡ textsOf s
   full-store q =
       by-case
       (λ h e. clash refl (rw (does-held h e) at q))
@@ -245,7 +245,7 @@ module _ (s : Store) (t : Bytes) (p : Sound s) where
       (λ e r. rw (does-full e r))
 
   -- the texts after it
-  pub texts-after : accepted (intern s t .answer) ≡ true → textsOf (intern s t .store) ≡ takeIn (textsOf s) t
+  pub texts-after : internAccepted (intern s t .answer) ≡ true → textsOf (intern s t .store) ≡ takeIn (textsOf s) t
   texts-after q =
       by-case
       (λ h e. rw (does-held h e, take-held (textsOf s) t h e))
@@ -253,7 +253,7 @@ module _ (s : Store) (t : Bytes) (p : Sound s) where
       (λ e r. clash (rw (does-full e r) at q) refl)
 
   -- the handle answered is the place of the text
-  pub handle-after : (h : ℕ) → handleIn (intern s t .answer) ≡ some h → handleOf t (textsOf (intern s t .store)) ≡ some h
+  pub handle-after : (h : ℕ) → handleAnswered (intern s t .answer) ≡ some h → handleOf t (textsOf (intern s t .store)) ≡ some h
   handle-after h q =
       by-case
       (λ k e. let i : some k ≡ some h = rw (does-held k e) at q in rw (does-held k e) (e ∙ i))
@@ -262,7 +262,7 @@ module _ (s : Store) (t : Bytes) (p : Sound s) where
       rw (does-new e r, texts-added s t p r) (handle-new t (textsOf s) e ∙ (rw length-texts i)))
       (λ e r. let i : none ≡ some h = rw (does-full e r) at q in no (cc))
 
-  pub text-answered : (h : ℕ) → handleIn (intern s t .answer) ≡ some h → textOf (textsOf (intern s t .store)) h ≡ t
+  pub text-answered : (h : ℕ) → handleAnswered (intern s t .answer) ≡ some h → textOf (textsOf (intern s t .store)) h ≡ t
   text-answered h q = holds t (textsOf (intern s t .store)) h (handle-after h q) .text
 
   pub keeps : isText t ≡ true → Sound (intern s t .store)
@@ -282,11 +282,11 @@ accepted-none : (s : Store) → acceptedOf s [] ≡ []
 unfolding acceptedOf
 accepted-none s = refl
 
-accepted-yes : (s : Store) (t : Bytes) (ts : List Bytes) → accepted (intern s t .answer) ≡ true → acceptedOf s (t ∷ ts) ≡ t ∷ acceptedOf (intern s t .store) ts
+accepted-yes : (s : Store) (t : Bytes) (ts : List Bytes) → internAccepted (intern s t .answer) ≡ true → acceptedOf s (t ∷ ts) ≡ t ∷ acceptedOf (intern s t .store) ts
 unfolding acceptedOf
 accepted-yes s t ts q = rw q
 
-accepted-no : (s : Store) (t : Bytes) (ts : List Bytes) → accepted (intern s t .answer) ≡ false → acceptedOf s (t ∷ ts) ≡ acceptedOf (intern s t .store) ts
+accepted-no : (s : Store) (t : Bytes) (ts : List Bytes) → internAccepted (intern s t .answer) ≡ false → acceptedOf s (t ∷ ts) ≡ acceptedOf (intern s t .store) ts
 unfolding acceptedOf
 accepted-no s t ts q = rw q
 
@@ -297,7 +297,7 @@ texts-all s [] p l = sym (ap (takeAll (textsOf s)) (accepted-none s))
 texts-all s (t ∷ ts) p l =
     let i = texts-all (intern s t .store) ts (keeps s t p (all-head isText t ts l)) (all-tail isText t ts l) in
     let a = acceptedOf (intern s t .store) ts in
-    byBool (accepted (intern s t .answer))
+    byBool (internAccepted (intern s t .answer))
     (λ q. i ∙ (ap (λ (x : List Bytes). takeAll x a) (texts-after s t p q) ∙ ap (takeAll (textsOf s)) (sym (accepted-yes s t ts q))))
     (λ q. i ∙ (ap (λ (x : List Bytes). takeAll x a) (full-store s t p q) ∙ ap (takeAll (textsOf s)) (sym (accepted-no s t ts q))))
 
@@ -315,7 +315,7 @@ module _ (spans : List ℕ) (bytes : Bytes) (h : 2 ≤ length spans) where
   fresh-length : lengthOf (over spans 0 (0 ∷ 0 ∷ [])) 0 ≡ 0
   fresh-length = getD-over spans 0 (0 ∷ 0 ∷ []) 1 0 (omega arith) (omega arith)
 
-  pub fresh-texts : textsOf (fresh spans bytes) ≡ noTexts
+  pub fresh-texts : textsOf (freshStore spans bytes) ≡ noTexts
   unfolding textsIn handles
   fresh-texts = rw fresh-length
 
@@ -325,7 +325,7 @@ module _ (spans : List ℕ) (bytes : Bytes) (h : 2 ≤ length spans) where
       rw z
       (spanned-yes (over spans 0 (0 ∷ 0 ∷ [])) [] 0 (omega (arith, length-over spans 0 (0 ∷ 0 ∷ []))) (omega (arith, fresh-start, fresh-length)))
 
-  pub fresh-sound : Sound (fresh spans bytes)
+  pub fresh-sound : Sound (freshStore spans bytes)
   unfolding firstEmpty
   fresh-sound =
       record {
@@ -337,5 +337,5 @@ module _ (spans : List ℕ) (bytes : Bytes) (h : 2 ≤ length spans) where
         empty = rw fresh-texts (same-refl []);
       }
 
-  pub fresh-all : (ts : List Bytes) → all isText ts ≡ true → textsOf (internAll (fresh spans bytes) ts) ≡ takeAll noTexts (acceptedOf (fresh spans bytes) ts)
-  fresh-all ts l = rw fresh-texts at (texts-all (fresh spans bytes) ts fresh-sound l)
+  pub fresh-all : (ts : List Bytes) → all isText ts ≡ true → textsOf (internAll (freshStore spans bytes) ts) ≡ takeAll noTexts (acceptedOf (freshStore spans bytes) ts)
+  fresh-all ts l = rw fresh-texts at (texts-all (freshStore spans bytes) ts fresh-sound l)

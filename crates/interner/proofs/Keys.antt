@@ -13,7 +13,7 @@ use Rattle.base.proofs.Split.{byBool, byEq, both-right, both-no-right, clash}
 use Rattle.base.proofs.Lists.{same-yes, all-head, all-tail}
 use Rattle.interner.specs.declared.Found.the-variants.{Not}
 use Rattle.interner.specs.Strings.{bytesAt, isAt, findIn}
-use Rattle.interner.specs.Check.{keyFrom, keyOf, other, Keyed}
+use Rattle.interner.specs.Check.{keyFrom, textKey, other, Keyed}
 use Rattle.interner.proofs.Finds.{find-nowhere}
 
 pub key-on : (k i : ℕ) (t : Bytes) → i < length t → keyFrom ((k * 31 + getD t i 0) % 4294967296) (drop (i + 1) t) ≡ keyFrom k (drop i t)
@@ -62,22 +62,22 @@ next-yes k keys i h n = all-next (other k) keys i h ∙ both-yes _ (other-yes k 
 -- ---- keys of strings
 
 module _ (spans : List ℕ) (bytes : Bytes) where
-  pub none-keyed : (keys : List ℕ) (h : ℕ) (t : Bytes) → Keyed spans bytes keys h → h ≤ length keys → all (other (keyOf t)) (take h keys) ≡ true → findIn spans bytes h t ≡ Not
+  pub none-keyed : (keys : List ℕ) (h : ℕ) (t : Bytes) → Keyed spans bytes keys h → h ≤ length keys → all (other (textKey t)) (take h keys) ≡ true → findIn spans bytes h t ≡ Not
   unfolding findIn isAt
   none-keyed keys h t d n e =
       find-nowhere spans bytes t h 0
       (λ j a b.
       byBool (isAt spans bytes t j)
       (λ p.
-      let q : keyOf t ≡ getD (take h keys) j 0 =
-      ap keyOf (same-yes t (bytesAt spans bytes j) (both-right _ _ p)) ∙ (sym (d j (omega arith) (omega arith)) ∙ sym (getD-take h keys j 0 (omega arith))) in
-      clash (all-at (other (keyOf t)) (take h keys) e j (omega (arith, length-take h keys))) (other-no (keyOf t) (getD (take h keys) j 0) (sym q)))
+      let q : textKey t ≡ getD (take h keys) j 0 =
+      ap textKey (same-yes t (bytesAt spans bytes j) (both-right _ _ p)) ∙ (sym (d j (omega arith) (omega arith)) ∙ sym (getD-take h keys j 0 (omega arith))) in
+      clash (all-at (other (textKey t)) (take h keys) e j (omega (arith, length-take h keys))) (other-no (textKey t) (getD (take h keys) j 0) (sym q)))
       (λ p. p))
 
   pub keyed-none : (keys : List ℕ) → Keyed spans bytes keys 0
   keyed-none keys j a b = absurd (omega arith)
 
-  pub keyed-more : (keys : List ℕ) (h k : ℕ) → Keyed spans bytes keys h → k ≡ keyOf (bytesAt spans bytes h) → Keyed spans bytes (set keys h k) (h + 1)
+  pub keyed-more : (keys : List ℕ) (h k : ℕ) → Keyed spans bytes keys h → k ≡ textKey (bytesAt spans bytes h) → Keyed spans bytes (set keys h k) (h + 1)
   keyed-more keys h k d e j a b =
       let b′ : j < length keys = omega (arith, length-set keys h k) in
       byEq j h

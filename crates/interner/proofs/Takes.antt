@@ -11,31 +11,31 @@ use Rattle.base.specs.Bytes.{Bytes}
 use Rattle.base.proofs.Split.{byLe, both-left, both-right, both-of}
 use Rattle.interner.specs.declared.Found.the-variants.{At, Not}
 use Rattle.interner.specs.declared.Interned.the-variants.{Held, Full}
-use Rattle.interner.specs.Strings.{findIn, Store, usedOf, room, taken, takenAs, intern}
+use Rattle.interner.specs.Strings.{findIn, Store, usedOf, textRoom, textTaken, takenAs, intern}
 
 module _ (s : Store) (t : Bytes) where
   pub held : (h : ℕ) → findIn (s .spans) (usedOf s) (s .strings) t ≡ At h → intern s t ≡ record { store = s; answer = Held h }
   unfolding intern takenAs
   held h e = rw e
 
-  pub new : findIn (s .spans) (usedOf s) (s .strings) t ≡ Not → room s t ≡ true → intern s t ≡ taken s t
+  pub new : findIn (s .spans) (usedOf s) (s .strings) t ≡ Not → textRoom s t ≡ true → intern s t ≡ textTaken s t
   unfolding intern takenAs
   new e r = rw (e, r)
 
-  pub full : findIn (s .spans) (usedOf s) (s .strings) t ≡ Not → room s t ≡ false → intern s t ≡ record { store = s; answer = Full }
+  pub full : findIn (s .spans) (usedOf s) (s .strings) t ≡ Not → textRoom s t ≡ false → intern s t ≡ record { store = s; answer = Full }
   unfolding intern takenAs
   full e r = rw (e, r)
 
-  pub room-words : room s t ≡ true → 2 * (s .strings) + 2 ≤ length (s .spans)
-  unfolding room
+  pub room-words : textRoom s t ≡ true → 2 * (s .strings) + 2 ≤ length (s .spans)
+  unfolding textRoom
   room-words e = leb-true _ _ (both-left _ _ e)
 
-  pub room-bytes : room s t ≡ true → s .used + length t ≤ length (s .bytes)
-  unfolding room
+  pub room-bytes : textRoom s t ≡ true → s .used + length t ≤ length (s .bytes)
+  unfolding textRoom
   room-bytes e = leb-true _ _ (both-right _ _ e)
 
-  pub room-yes : 2 * (s .strings) + 2 ≤ length (s .spans) → s .used + length t ≤ length (s .bytes) → room s t ≡ true
-  unfolding room
+  pub room-yes : 2 * (s .strings) + 2 ≤ length (s .spans) → s .used + length t ≤ length (s .bytes) → textRoom s t ≡ true
+  unfolding textRoom
   room-yes p q = both-of (le-leb _ _ p) (le-leb _ _ q)
 
 -- as many elements as there are, at most

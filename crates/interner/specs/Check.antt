@@ -25,12 +25,12 @@ unfoldable pub keyFrom : ℕ → Bytes → ℕ
 keyFrom k [] = k
 keyFrom k (b ∷ bs) = keyFrom ((k * 31 + b) % 4294967296) bs
 
-abbrev pub keyOf : Bytes → ℕ
-keyOf t = keyFrom 0 t
+abbrev pub textKey : Bytes → ℕ
+textKey t = keyFrom 0 t
 
 unfoldable pub other : ℕ → ℕ → Bool
 other k x = not (eqb x k)
 
 -- the keys of the strings before a handle, as far as there are keys
 abbrev pub Keyed : List ℕ → Bytes → List ℕ → ℕ → Type 0
-Keyed spans bytes keys h = (j : ℕ) → j < h → j < length keys → getD keys j 0 ≡ keyOf (bytesAt spans bytes j)
+Keyed spans bytes keys h = (j : ℕ) → j < h → j < length keys → getD keys j 0 ≡ textKey (bytesAt spans bytes j)

@@ -24,12 +24,12 @@ abbrev pub textsOf : Store → List Bytes
 textsOf s = textsIn (s .spans) (usedOf s) (s .strings)
 
 -- "counts within lent sizes"
-unfoldable pub counted : Store → Bool
-counted s = both (leb (2 * (s .strings)) (length (s .spans))) (leb (s .used) (length (s .bytes)))
+unfoldable pub countsWithin : Store → Bool
+countsWithin s = both (leb (2 * (s .strings)) (length (s .spans))) (leb (s .used) (length (s .bytes)))
 
 -- "string spans within the used bytes"
-unfoldable pub within : List ℕ → Bytes → ℕ → Bool
-within spans bytes n = all (spanned spans bytes) (handles n 0)
+unfoldable pub spanWithin : List ℕ → Bytes → ℕ → Bool
+spanWithin spans bytes n = all (spanned spans bytes) (handles n 0)
 
 unfoldable pub differs : Bytes → Bytes → Bool
 differs t u = not (same t u)
@@ -42,7 +42,7 @@ distinct (t ∷ ts) = both (all (differs t) ts) (distinct ts)
 -- "string spans within the used bytes, legal text, no two texts equal", of the first n handles
 unfoldable pub soundUpTo : List ℕ → Bytes → ℕ → Bool
 soundUpTo spans bytes n =
-    both (within spans bytes n) (both (all isText (textsIn spans bytes n)) (distinct (textsIn spans bytes n)))
+    both (spanWithin spans bytes n) (both (all isText (textsIn spans bytes n)) (distinct (textsIn spans bytes n)))
 
 -- "handle 0 empty"
 unfoldable pub firstEmpty : List Bytes → Bool
@@ -50,11 +50,11 @@ firstEmpty [] = false
 firstEmpty (t ∷ ts) = same t []
 
 unfoldable pub soundStrings : Store → Bool
-soundStrings s = both (counted s) (both (soundUpTo (s .spans) (usedOf s) (s .strings)) (firstEmpty (textsOf s)))
+soundStrings s = both (countsWithin s) (both (soundUpTo (s .spans) (usedOf s) (s .strings)) (firstEmpty (textsOf s)))
 
 -- the strings of an empty overlay: handle 0 alone
 abbrev pub freshSpans : List ℕ → List ℕ
 freshSpans spans = over spans 0 (0 ∷ 0 ∷ [])
 
-abbrev pub fresh : List ℕ → Bytes → Store
-fresh spans bytes = storeWith (freshSpans spans) bytes 1 0
+abbrev pub freshStore : List ℕ → Bytes → Store
+freshStore spans bytes = storeWith (freshSpans spans) bytes 1 0

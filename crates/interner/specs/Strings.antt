@@ -6,7 +6,7 @@ use lib.Dec.{ltb, leb}
 use lib.ListN.{length, getD, take, drop}
 use Rattle.base.specs.Bytes.{Bytes, both, same}
 use Rattle.little.specs.Little.{over}
-use Rattle.interner.specs.Texts.{accepted}
+use Rattle.interner.specs.Texts.{internAccepted}
 use Rattle.interner.specs.declared.Found.{Found}
 use Rattle.interner.specs.declared.Found.the-variants.{At, Not}
 use Rattle.interner.specs.declared.Span.{Span}
@@ -65,32 +65,32 @@ storeWith spans bytes strings used = record { spans = spans; bytes = bytes; stri
 abbrev pub usedOf : Store → Bytes
 usedOf s = take (s .used) (s .bytes)
 
-pub record After : Type 0 where
+pub record StoreAfter : Type 0 where
   pub store : Store
   pub answer : Interned
 
 -- what is lent as a call leaves it, with its answer and counts
-abbrev pub after : List ℕ → Bytes → Taken → After
-after spans bytes r = record { store = storeWith spans bytes (r .strings) (r .used); answer = r .answer }
+abbrev pub storeAfter : List ℕ → Bytes → Taken → StoreAfter
+storeAfter spans bytes r = record { store = storeWith spans bytes (r .strings) (r .used); answer = r .answer }
 
 -- "13 strings or string bytes full"
-unfoldable pub room : Store → Bytes → Bool
-room s t = both (leb (2 * (s .strings) + 2) (length (s .spans))) (leb (s .used + length t) (length (s .bytes)))
+unfoldable pub textRoom : Store → Bytes → Bool
+textRoom s t = both (leb (2 * (s .strings) + 2) (length (s .spans))) (leb (s .used + length t) (length (s .bytes)))
 
 -- the text behind the used bytes, its span behind those of the held strings
 unfoldable pub added : Store → Bytes → Store
 added s t =
     storeWith (over (s .spans) (2 * (s .strings)) (s .used ∷ length t ∷ [])) (over (s .bytes) (s .used) t) (s .strings + 1) (s .used + length t)
 
-abbrev pub taken : Store → Bytes → After
-taken s t = record { store = added s t; answer = New (s .strings) }
+abbrev pub textTaken : Store → Bytes → StoreAfter
+textTaken s t = record { store = added s t; answer = New (s .strings) }
 
-unfoldable pub takenAs : Store → Bytes → Found → After
+unfoldable pub takenAs : Store → Bytes → Found → StoreAfter
 takenAs s t (At h) = record { store = s; answer = Held h }
-takenAs s t Not = cond (room s t) (taken s t) (record { store = s; answer = Full })
+takenAs s t Not = cond (textRoom s t) (textTaken s t) (record { store = s; answer = Full })
 
 -- the store and the answer after `intern`
-unfoldable pub intern : Store → Bytes → After
+unfoldable pub intern : Store → Bytes → StoreAfter
 intern s t = takenAs s t (findIn (s .spans) (usedOf s) (s .strings) t)
 
 -- the store after a list of texts, and those of them that were accepted
@@ -100,4 +100,4 @@ internAll s (t ∷ ts) = internAll (intern s t .store) ts
 
 unfoldable pub acceptedOf : Store → List Bytes → List Bytes
 acceptedOf s [] = []
-acceptedOf s (t ∷ ts) = cond (accepted (intern s t .answer)) (t ∷ acceptedOf (intern s t .store) ts) (acceptedOf (intern s t .store) ts)
+acceptedOf s (t ∷ ts) = cond (internAccepted (intern s t .answer)) (t ∷ acceptedOf (intern s t .store) ts) (acceptedOf (intern s t .store) ts)

@@ -40,13 +40,13 @@ answerAs room held (some h) = Held h
 answerAs room held none = cond room (New (length held)) Full
 
 -- accepted unless refused
-abbrev pub accepted : Interned → Bool
-accepted (Held h) = true
-accepted (New h) = true
-accepted Full = false
+abbrev pub internAccepted : Interned → Bool
+internAccepted (Held h) = true
+internAccepted (New h) = true
+internAccepted Full = false
 
 -- the handle that an answer gives
-abbrev pub handleIn : Interned → Option ℕ
-handleIn (Held h) = some h
-handleIn (New h) = some h
-handleIn Full = none
+abbrev pub handleAnswered : Interned → Option ℕ
+handleAnswered (Held h) = some h
+handleAnswered (New h) = some h
+handleAnswered Full = none

@@ -7,9 +7,9 @@ ghost use lib.ListN.{length, take, set};
 ghost use lib.Dec.{leb};
 ghost use Rattle.base.specs.Bytes.{both, all, same};
 ghost use Rattle.little.specs.Little.{over};
-ghost use Rattle.interner.specs.Strings.{spanAt, spanOf, isAt, findIn, storeWith, after, taken, intern};
+ghost use Rattle.interner.specs.Strings.{spanAt, spanOf, isAt, findIn, storeWith, storeAfter, textTaken, intern};
 ghost use Rattle.interner.specs.Sound.{soundUpTo, soundStrings, freshSpans};
-ghost use Rattle.interner.specs.Check.{keyOf, other, Keyed, isNot, newAt};
+ghost use Rattle.interner.specs.Check.{textKey, other, Keyed, isNot, newAt};
 
 // The handle of an equal text, or that none is held.
 pub enum Found {
@@ -137,7 +137,7 @@ pub fn empty_strings(spans: &mut [u64])
 // Adds a text for which there is room: its span behind those of the held strings, its bytes behind the used ones.
 fn add(spans: &mut [u64], bytes: &mut [u8], strings: u64, used: u64, text: &[u8]) -> Taken
     requires { ⌜ (2 * strings + 2 ≤ length (now spans)) × (used + length (now text) ≤ length (now bytes)) ⌝ }
-    ensures { λ r. ⌜ after (now (spans .exit)) (now (bytes .exit)) r ≡ taken (storeWith (now (spans .entry)) (now (bytes .entry)) strings used) (now (text .entry)) ⌝ }
+    ensures { λ r. ⌜ storeAfter (now (spans .exit)) (now (bytes .exit)) r ≡ textTaken (storeWith (now (spans .entry)) (now (bytes .entry)) strings used) (now (text .entry)) ⌝ }
 {
     let next = 2 * strings as usize;
     let at = used as usize;
@@ -152,7 +152,7 @@ fn add(spans: &mut [u64], bytes: &mut [u8], strings: u64, used: u64, text: &[u8]
 
 // Takes a text in: the handle of an equal one that is held, else the next handle, if there is room.
 pub fn intern(spans: &mut [u64], bytes: &mut [u8], strings: u64, used: u64, text: &[u8]) -> Taken
-    ensures { λ r. ⌜ after (now (spans .exit)) (now (bytes .exit)) r ≡ intern (storeWith (now (spans .entry)) (now (bytes .entry)) strings used) (now (text .entry)) ⌝ }
+    ensures { λ r. ⌜ storeAfter (now (spans .exit)) (now (bytes .exit)) r ≡ intern (storeWith (now (spans .entry)) (now (bytes .entry)) strings used) (now (text .entry)) ⌝ }
 {
     let seen = little::lesser(used as usize, bytes.len());
     if let Found::At(h) = find_text(spans, &bytes[..seen], strings, text) {
@@ -175,7 +175,7 @@ pub fn intern(spans: &mut [u64], bytes: &mut [u8], strings: u64, used: u64, text
 
 // A number that equal texts share, so that most others are told apart without their bytes.
 fn key_of(t: &[u8]) -> u32
-    ensures { λ r. ⌜ r ≡ keyOf (now (t .entry)) ⌝ }
+    ensures { λ r. ⌜ r ≡ textKey (now (t .entry)) ⌝ }
 {
     let mut k: u64 = 0;
     let mut i: usize = 0;
@@ -214,7 +214,7 @@ fn put_key(keys: &mut [u32], h: usize, k: u32)
 
 // Whether no handle before h has the text, whose key is k: by the keys, and where one is the same by the texts.
 fn is_first(spans: &[u64], bytes: &[u8], keys: &[u32], h: usize, t: &[u8], k: u32) -> bool
-    requires { ⌜ Keyed (now spans) (now bytes) (now keys) h × (k ≡ keyOf (now t)) ⌝ }
+    requires { ⌜ Keyed (now spans) (now bytes) (now keys) h × (k ≡ textKey (now t)) ⌝ }
     ensures { λ r. ⌜ r ≡ isNot (findIn (now (spans .entry)) (now (bytes .entry)) h (now (t .entry))) ⌝ }
 {
     if no_key(keys, h, k) {

@@ -6,7 +6,7 @@ use native.Mathlib.Omega.{arith}
 use lib.Dec.{eqb}
 use borrow.Author.Tests.{eqb-true}
 use Rattle.base.proofs.Split.{clash}
-use Rattle.kind.specs.Kind.{numberOf, ofNumber, sameKind}
+use Rattle.kind.specs.Kind.{kindNumber, ofNumber, sameKind}
 use Rattle.kind.specs.declared.Kind.{Kind}
 use Rattle.kind.specs.declared.Kind.the-variants.{Node, Way, Relation}
 use Rattle.kind.specs.declared.Named.the-variants.{Is, Unknown}
@@ -18,7 +18,7 @@ above (suc zero) a b d = absurd (b refl)
 above (suc (suc zero)) a b d = absurd (d refl)
 above (suc (suc (suc n))) a b d = refl
 
-pub number-back : (k : Kind) → ofNumber (numberOf k) ≡ Is k
+pub number-back : (k : Kind) → ofNumber (kindNumber k) ≡ Is k
 unfolding ofNumber
 number-back Node = refl
 number-back Way = refl

@@ -7,10 +7,10 @@ use Rattle.kind.specs.declared.Kind.the-variants.{Node, Way, Relation}
 use Rattle.kind.specs.declared.Named.{Named}
 use Rattle.kind.specs.declared.Named.the-variants.{Is, Unknown}
 
-abbrev pub numberOf : Kind → ℕ
-numberOf Node = 0
-numberOf Way = 1
-numberOf Relation = 2
+abbrev pub kindNumber : Kind → ℕ
+kindNumber Node = 0
+kindNumber Way = 1
+kindNumber Relation = 2
 
 unfoldable pub ofNumber : ℕ → Named
 ofNumber zero = Is Node
@@ -19,4 +19,4 @@ ofNumber (suc (suc zero)) = Is Relation
 ofNumber (suc (suc (suc n))) = Unknown
 
 unfoldable pub sameKind : Kind → Kind → Bool
-sameKind a b = eqb (numberOf a) (numberOf b)
+sameKind a b = eqb (kindNumber a) (kindNumber b)

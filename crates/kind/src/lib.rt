@@ -1,6 +1,6 @@
 // The three kinds of element, and their numbers: 0 node, 1 way, 2 relation.
 ghost use mathlib.Core.Path.{_≡_};
-ghost use Rattle.kind.specs.Kind.{numberOf, ofNumber};
+ghost use Rattle.kind.specs.Kind.{kindNumber, ofNumber};
 
 pub enum Kind {
     Node,
@@ -15,7 +15,7 @@ pub enum Named {
 }
 
 pub fn kind_number(k: Kind) -> u8
-    ensures { λ r. ⌜ r ≡ numberOf k ⌝ }
+    ensures { λ r. ⌜ r ≡ kindNumber k ⌝ }
 {
     match k {
         Kind::Node => 0,

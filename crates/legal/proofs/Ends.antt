@@ -8,7 +8,7 @@ use native.Mathlib.Omega.{arith}
 use lib.ListN.{length, drop, length-drop}
 use Rattle.base.specs.Bytes.{Bytes, both, all}
 use Rattle.base.proofs.Split.{byBool, no}
-use Rattle.compact.specs.Cut.{Cut, andThen, found, times, cutMember, cutTag}
+use Rattle.compact.specs.Cut.{Cut, thenCut, found, times, cutMember, cutTag}
 use Rattle.legal.specs.Judge.{endOf, partEnd, partsEnd}
 use Rattle.legal.specs.declared.End.{End}
 use Rattle.legal.specs.declared.End.the-variants.{At, Bad}
@@ -61,13 +61,13 @@ module _ {A : Type 0} (cut : Bytes → Option (Cut A)) (p : A → Bool) (long : 
   many n at = endOf (all p) (length s) (times cut n (drop at s))
 
   -- a first element that passes changes nothing, and one that fails spoils all
-  more : (a : A) (o : Option (Cut (List A))) → p a ≡ true → endOf (all p) (length s) (andThen o (λ xs q. found (a ∷ xs) q)) ≡ endOf (all p) (length s) o
-  unfolding endOf andThen all both
+  more : (a : A) (o : Option (Cut (List A))) → p a ≡ true → endOf (all p) (length s) (thenCut o (λ xs q. found (a ∷ xs) q)) ≡ endOf (all p) (length s) o
+  unfolding endOf thenCut all both
   more a none t = refl
   more a (some c) t = rw t
 
-  fails : (a : A) (o : Option (Cut (List A))) → p a ≡ false → endOf (all p) (length s) (andThen o (λ xs q. found (a ∷ xs) q)) ≡ Bad
-  unfolding endOf andThen all both
+  fails : (a : A) (o : Option (Cut (List A))) → p a ≡ false → endOf (all p) (length s) (thenCut o (λ xs q. found (a ∷ xs) q)) ≡ Bad
+  unfolding endOf thenCut all both
   fails a none t = refl
   fails a (some c) t = rw t
 
@@ -76,10 +76,10 @@ module _ {A : Type 0} (cut : Bytes → Option (Cut A)) (p : A → Bool) (long : 
   many-none at h = end-found (all p) s [] at h
 
   many-bad : (n at : ℕ) → one at ≡ Bad → many (suc n) at ≡ Bad
-  unfolding times andThen
+  unfolding times thenCut
   many-bad n at h = go (cut (drop at s)) h
     where
-      go : (o : Option (Cut A)) → endOf p (length s) o ≡ Bad → endOf (all p) (length s) (andThen o (λ a r. andThen (times cut n r) (λ xs q. found (a ∷ xs) q))) ≡ Bad
+      go : (o : Option (Cut A)) → endOf p (length s) o ≡ Bad → endOf (all p) (length s) (thenCut o (λ a r. thenCut (times cut n r) (λ xs q. found (a ∷ xs) q))) ≡ Bad
       go none t = end-none (all p) (length s)
       go (some c) t =
           byBool (p (c .item))
@@ -87,7 +87,7 @@ module _ {A : Type 0} (cut : Bytes → Option (Cut A)) (p : A → Bool) (long : 
           (λ y. fails (c .item) (times cut n (c .rest)) y)
 
   many-at : (n at e : ℕ) → at ≤ length s → one at ≡ At e → (many (suc n) at ≡ many n e) × ((at ≤ e) × (e ≤ length s))
-  unfolding times andThen
+  unfolding times thenCut
   many-at n at e h t =
       let x = ends-at p s at long h (cut (drop at s)) e (off (drop at s)) t in
       (rw (x .cut) (more (x .item) (times cut n (drop e s)) (x .passes)), (x .from, x .to))

@@ -13,7 +13,7 @@ use Rattle.kind.specs.declared.Kind.{Kind}
 use Rattle.refusal.specs.declared.Refusal.the-variants.{NotText, CoordinateRange, TooManyParts, BadRecord}
 use Rattle.model.specs.Record.{Meta, Tag, Record}
 use Rattle.compact.specs.Layout.{Head, headLen}
-use Rattle.compact.specs.Cut.{Cut, andThen, found, cutTag, cutParts, Kept, cutRecord}
+use Rattle.compact.specs.Cut.{Cut, thenCut, found, cutTag, cutParts, Kept, cutRecord}
 use Rattle.compact.specs.Held.{metaOf}
 use Rattle.compact.specs.View.{metaAt, headAt}
 use Rattle.compact.proofs.Format.{first, of-cut}
@@ -35,15 +35,15 @@ rest-of s at = take-all (length s - at) (drop at s) (omega (arith, length-drop a
 
 module _ (k : Kind) (s : Bytes) where
   pub record-short : length s < headLen k + 29 → cutRecord k s ≡ none
-  unfolding cutRecord andThen
+  unfolding cutRecord thenCut
   record-short h =
       byLe (headLen k) (length s)
       (λ l. rw (head-whole k s l, meta-sized .short s (headLen k) l h))
       (λ l. rw (head-short k s l))
 
   pub record-is : headLen k + 29 ≤ length s
-      → cutRecord k s ≡ andThen (cutParts k (headAt k s) (metaOf (metaAt s (headLen k))) (drop (headLen k + 29) s)) (λ r q. found (record { id = headAt k s .id; held = r }) q)
-  unfolding cutRecord andThen
+      → cutRecord k s ≡ thenCut (cutParts k (headAt k s) (metaOf (metaAt s (headLen k))) (drop (headLen k + 29) s)) (λ r q. found (record { id = headAt k s .id; held = r }) q)
+  unfolding cutRecord thenCut
   record-is h = rw (head-whole k s (omega arith), meta-there s (headLen k) h)
 
 -- ---- how far a record goes
@@ -81,13 +81,13 @@ judged-end true false range few e = refl
 judged-end false texts range few e = refl
 
 module _ (strings : ℕ) where
-  none-end : (len : ℕ) (id : Record ℕ → Kept) → endOf (λ (x : Kept). legal strings (x .held)) len (andThen none (λ r q. found (id r) q)) ≡ toEnd (verdictOf strings true len none)
-  unfolding endOf andThen verdictOf
+  none-end : (len : ℕ) (id : Record ℕ → Kept) → endOf (λ (x : Kept). legal strings (x .held)) len (thenCut none (λ r q. found (id r) q)) ≡ toEnd (verdictOf strings true len none)
+  unfolding endOf thenCut verdictOf
   none-end len id = refl
 
   some-end : (len : ℕ) (id : ℤ) (c : Cut (Record ℕ))
-      → endOf (λ (x : Kept). legal strings (x .held)) len (andThen (some c) (λ r q. found (record { id = id; held = r }) q)) ≡ toEnd (verdictOf strings true len (some c))
-  unfolding endOf andThen verdictOf either legal faultOf
+      → endOf (λ (x : Kept). legal strings (x .held)) len (thenCut (some c) (λ r q. found (record { id = id; held = r }) q)) ≡ toEnd (verdictOf strings true len (some c))
+  unfolding endOf thenCut verdictOf either legal faultOf
   some-end len id c = judged-end (legalHandles strings (c .item)) (legalTexts (c .item)) (inRange (c .item .body)) (withinLimits limits (c .item)) (len - length (c .rest))
 
 module _ (strings : ℕ) (k : Kind) where
@@ -105,7 +105,7 @@ module _ (strings : ℕ) (k : Kind) where
   front-is s v h e =
       rw (e, record-is k s h) (sym (go (cutParts k (headAt k s) (metaOf (metaAt s (headLen k))) (drop (headLen k + 29) s))))
     where
-      go : (o : Option (Cut (Record ℕ))) → endOf isLegal (length s) (andThen o (λ r q. found (record { id = headAt k s .id; held = r }) q)) ≡ toEnd (verdictOf strings true (length s) o)
+      go : (o : Option (Cut (Record ℕ))) → endOf isLegal (length s) (thenCut o (λ r q. found (record { id = headAt k s .id; held = r }) q)) ≡ toEnd (verdictOf strings true (length s) o)
       go none = none-end strings (length s) (λ r. record { id = headAt k s .id; held = r })
       go (some c) = some-end strings (length s) (headAt k s .id) c
 

@@ -17,10 +17,10 @@ use Rattle.kind.specs.declared.Kind.{Kind}
 use Rattle.kind.specs.declared.Kind.the-variants.{Node, Way, Relation}
 use Rattle.refusal.specs.declared.Refusal.the-variants.{NotText, CoordinateRange, TooManyParts, BadRecord}
 use Rattle.model.specs.Record.{Meta, Tag, Body, Record}
-use Rattle.compact.specs.Cut.{Cut, andThen, found, times, cutTag, cutBody, cutParts}
+use Rattle.compact.specs.Cut.{Cut, thenCut, found, times, cutTag, cutBody, cutParts}
 use Rattle.compact.specs.Held.{nodeHead, countsHead}
 use Rattle.compact.specs.Legal.{limits, handle, legalMeta, bodyHandles, legalHandles, legalTexts, inRange, valueBytes, withinLimits, faultOf}
-use Rattle.legal.specs.Judge.{endOf, judged, verdictOf, partsEnd, bodyEnd, ended, placed, countWithin, few, chosen}
+use Rattle.legal.specs.Judge.{endOf, judged, verdictOf, partsEnd, bodyEnd, ended, placeInRange, countWithin, few, chosen}
 use Rattle.compact.specs.Held.{headIn}
 use Rattle.compact.specs.declared.PushHead.{PushHead}
 use Rattle.legal.specs.declared.End.the-variants.{At, Bad}
@@ -57,8 +57,8 @@ head-tags Node h = refl
 head-tags Way h = refl
 head-tags Relation h = refl
 
-head-place : (k : Kind) (h : PushHead) → placed k (headIn k h .lat) (headIn k h .lon) ≡ placed k (toZ w32 (h .lat)) (toZ w32 (h .lon))
-unfolding headIn nodeHead countsHead placed
+head-place : (k : Kind) (h : PushHead) → placeInRange k (headIn k h .lat) (headIn k h .lon) ≡ placeInRange k (toZ w32 (h .lat)) (toZ w32 (h .lon))
+unfolding headIn nodeHead countsHead placeInRange
 head-place Node h = refl
 head-place Way h = refl
 head-place Relation h = refl
@@ -88,16 +88,16 @@ ended-is false e = refl
 module _ (strings : ℕ) (k : Kind) (head : PushHead) (m : Meta ℕ) (s : Bytes) (at : ℕ) (within : at ≤ length s) (more : Bool) where
   -- no body, or a role that is not held
   pub body-refused : bodyEnd strings k (headIn k head) s at ≡ Bad → Refused BadRecord ≡ verdictOf strings more (length s) (cutParts k (headIn k head) m (drop at s))
-  unfolding bodyEnd cutParts andThen endOf verdictOf legalHandles
+  unfolding bodyEnd cutParts thenCut endOf verdictOf legalHandles
   body-refused h = go (cutBody k (headIn k head) (drop at s)) h
     where
       last : (b : Body ℕ) → bodyHandles strings b ≡ false → (o : Option (Cut (List (Tag ℕ))))
-          → Refused BadRecord ≡ verdictOf strings more (length s) (andThen o (λ ts r. found (record { meta = m; body = b; tags = ts }) r))
+          → Refused BadRecord ≡ verdictOf strings more (length s) (thenCut o (λ ts r. found (record { meta = m; body = b; tags = ts }) r))
       last b t none = refl
       last b t (some c) = refused strings more (length s) _ (c .rest) (both-no-right (legalMeta strings m) (both-no-left (bodyHandles strings b) _ t))
 
       go : (o : Option (Cut (Body ℕ))) → endOf (bodyHandles strings) (length s) o ≡ Bad
-          → Refused BadRecord ≡ verdictOf strings more (length s) (andThen o (λ b s1. andThen (times cutTag (headIn k head .tags) s1) (λ ts r. found (record { meta = m; body = b; tags = ts }) r)))
+          → Refused BadRecord ≡ verdictOf strings more (length s) (thenCut o (λ b s1. thenCut (times cutTag (headIn k head .tags) s1) (λ ts r. found (record { meta = m; body = b; tags = ts }) r)))
       go none t = refl
       go (some c) t =
           byBool (bodyHandles strings (c .item))
@@ -112,17 +112,17 @@ module _ (strings : ℕ) (k : Kind) (head : PushHead) (m : Meta ℕ) (s : Bytes)
     pub body-within : t ≤ length s
     body-within = body-ends .to
 
-    parts-are : cutParts k (headIn k head) m (drop at s) ≡ andThen (times cutTag (head .tags) (drop t s)) (λ ts r. found (record { meta = m; body = body-ends .item; tags = ts }) r)
-    unfolding cutParts andThen
+    parts-are : cutParts k (headIn k head) m (drop at s) ≡ thenCut (times cutTag (head .tags) (drop t s)) (λ ts r. found (record { meta = m; body = body-ends .item; tags = ts }) r)
+    unfolding cutParts thenCut
     parts-are = rw (body-ends .cut, head-tags)
 
     -- no tags, or a key that is not held
     pub tags-refused : partsEnd Key strings (head .tags) s t ≡ Bad → Refused BadRecord ≡ verdictOf strings more (length s) (cutParts k (headIn k head) m (drop at s))
-    unfolding partsEnd endOf verdictOf andThen legalHandles
+    unfolding partsEnd endOf verdictOf thenCut legalHandles
     tags-refused h = rw parts-are (go (times cutTag (head .tags) (drop t s)) h)
       where
         go : (o : Option (Cut (List (Tag ℕ)))) → endOf (all (λ (t : Tag ℕ). handle strings (t .key))) (length s) o ≡ Bad
-            → Refused BadRecord ≡ verdictOf strings more (length s) (andThen o (λ ts r. found (record { meta = m; body = body-ends .item; tags = ts }) r))
+            → Refused BadRecord ≡ verdictOf strings more (length s) (thenCut o (λ ts r. found (record { meta = m; body = body-ends .item; tags = ts }) r))
         go none h = refl
         go (some c) h =
             byBool (all (λ (t : Tag ℕ). handle strings (t .key)) (c .item))
@@ -176,13 +176,13 @@ module _ (strings : ℕ) (k : Kind) (head : PushHead) (m : Meta ℕ) (s : Bytes)
 
       pub judged-is : verdictOf strings more (length s) (cutParts k (headIn k head) m (drop at s))
           ≡ chosen (both (legalMeta strings m) (either more (eqb e (length s)))) (ended (partsEnd Value strings (head .tags) s t))
-          (placed k (toZ w32 (head .lat)) (toZ w32 (head .lon))) (few k (head .count) (head .tags) (e - t - 8 * head .tags)) e
-      unfolding verdictOf faultOf andThen
+          (placeInRange k (toZ w32 (head .lat)) (toZ w32 (head .lon))) (few k (head .count) (head .tags) (e - t - 8 * head .tags)) e
+      unfolding verdictOf faultOf thenCut
       judged-is =
           let w = tags-end .to in
           let l = length-drop e s in
           let q : eqb (length (drop e s)) 0 ≡ eqb e (length s) =
           same-test _ _ (λ z. eq-eqb e (length s) (omega (arith, eqb-true (length (drop e s)) 0 z))) (λ z. eq-eqb (length (drop e s)) 0 (omega (arith, eqb-true e (length s) z))) in
           let f : length s - length (drop e s) ≡ e = omega arith in
-          let g : inRange (body-ends .item) ≡ placed k (toZ w32 (head .lat)) (toZ w32 (head .lon)) = body-cut k (headIn k head) (drop at s) _ (body-ends .cut) .range ∙ head-place k head in
+          let g : inRange (body-ends .item) ≡ placeInRange k (toZ w32 (head .lat)) (toZ w32 (head .lon)) = body-cut k (headIn k head) (drop at s) _ (body-ends .cut) .range ∙ head-place k head in
           rw (parts-are, tags-end .cut, q, f, handles-are, texts-are, g, limits-are) (in-order _ _ _ _ _ e)

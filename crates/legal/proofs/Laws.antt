@@ -20,7 +20,7 @@ use Rattle.compact.specs.Cut.{Kept, pushedRecord}
 use Rattle.compact.specs.Fits.{fitsHead, fitsMeta, fitsKept}
 use Rattle.compact.proofs.Cuts.{Parts, pushed, pushed-bytes}
 use Rattle.compact.specs.Legal.{handle, legalMeta, bodyHandles, legalHandles, legalTexts, inRange, withinLimits, limits, faultOf, legal}
-use Rattle.legal.specs.Judge.{answered, faultFor}
+use Rattle.legal.specs.Judge.{faultAnswer, faultFor}
 use Rattle.legal.specs.Whole.{Whole}
 use Rattle.legal.specs.declared.Fault.the-variants as fault
 use Rattle.legal.proofs.Wholes.{append-whole}
@@ -90,7 +90,7 @@ module _ (n m : ℕ) (more : n ≤ m) where
 
 -- ---- what a direct push appends
 
-answered-legal : (f : Option Refusal) → answered f ≡ fault.Legal → f ≡ none
+answered-legal : (f : Option Refusal) → faultAnswer f ≡ fault.Legal → f ≡ none
 answered-legal none h = refl
 answered-legal (some x) h = no cc
 

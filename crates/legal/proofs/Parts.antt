@@ -17,7 +17,7 @@ use Rattle.kind.specs.Kind.{ofNumber}
 use Rattle.text.specs.Check.{isText}
 use Rattle.model.specs.Record.{Member, Tag}
 use Rattle.compact.specs.Cut.{Cut, found, cutTag}
-use Rattle.compact.specs.Held.{named}
+use Rattle.compact.specs.Held.{memberNamed}
 use Rattle.compact.specs.Legal.{handle}
 use Rattle.legal.specs.Judge.{endOf, partEnd, tagEnd}
 use Rattle.legal.specs.declared.End.the-variants.{At, Bad}
@@ -39,7 +39,7 @@ module _ (strings : ℕ) (s : Bytes) (at : ℕ) (within : at ≤ length s) where
   member-bad h = rw (member-sized .short s at within h) (sym (end-none _ (length s)))
 
   type-and-role : (ref : ℤ) (n role e : ℕ) → e ≤ length s
-      → endOf (λ m. handle strings (m .role)) (length s) (leaving (named ref (ofNumber n) role) (drop e s)) ≡ cond (both (ltb n 3) (ltb role strings)) (At e) Bad
+      → endOf (λ m. handle strings (m .role)) (length s) (leaving (memberNamed ref (ofNumber n) role) (drop e s)) ≡ cond (both (ltb n 3) (ltb role strings)) (At e) Bad
   unfolding ofNumber both
   type-and-role ref zero role e h = end-found (λ (m : Member ℕ). handle strings (m .role)) s _ e h
   type-and-role ref (suc zero) role e h = end-found (λ (m : Member ℕ). handle strings (m .role)) s _ e h

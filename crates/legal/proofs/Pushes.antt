@@ -14,7 +14,7 @@ use Rattle.model.specs.Record.{Meta, Record}
 use Rattle.compact.specs.Layout.{Head}
 use Rattle.compact.specs.Cut.{Cut, cutParts, whole, pushedRecord}
 use Rattle.compact.specs.Legal.{faultOf}
-use Rattle.legal.specs.Judge.{answered, faultFor, judged, verdictOf}
+use Rattle.legal.specs.Judge.{faultAnswer, faultFor, judged, verdictOf}
 use Rattle.legal.specs.declared.Fault.{Fault}
 use Rattle.legal.specs.declared.Fault.the-variants as fault
 use Rattle.legal.specs.declared.Verdict.{Verdict}
@@ -25,7 +25,7 @@ abbrev pub toFault : Verdict → Fault
 toFault (Legal e) = fault.Legal
 toFault (Refused x) = fault.Refused x
 
-judged-fault : (e : ℕ) (f : Option Refusal) → toFault (judged e f) ≡ answered f
+judged-fault : (e : ℕ) (f : Option Refusal) → toFault (judged e f) ≡ faultAnswer f
 judged-fault e none = refl
 judged-fault e (some x) = refl
 

@@ -17,7 +17,7 @@ use Rattle.kind.specs.declared.Kind.{Kind}
 use Rattle.osm_id.specs.Order.{sameId}
 use Rattle.osm_id.proofs.Orders.{same-is}
 use Rattle.model.specs.Record.{Meta, Record, claimOf}
-use Rattle.compact.specs.Layout.{joined, Head, headLen}
+use Rattle.compact.specs.Layout.{joinedBytes, Head, headLen}
 use Rattle.compact.specs.Cut.{Cut, found, Kept, cutParts, cutRecord}
 use Rattle.compact.specs.Held.{metaOf}
 use Rattle.compact.specs.View.{metaAt, headAt}
@@ -71,16 +71,16 @@ record-passes p at (y ∷ xs) x h e =
     (λ u. record-passes p (at - length (keptBytes y)) xs x (all-tail p y xs h) (rw (t, u) at e)))
 
 -- the record that is appended starts where the bytes ended
-pub record-last : (xs : List Kept) (x : Kept) → recordAt (length (joined keptBytes xs)) (xs ++ x ∷ []) ≡ some x
-unfolding recordAt joined
+pub record-last : (xs : List Kept) (x : Kept) → recordAt (length (joinedBytes keptBytes xs)) (xs ++ x ∷ []) ≡ some x
+unfolding recordAt joinedBytes
 record-last [] x = refl
 record-last (y ∷ xs) x =
     let n = kept-long y in
-    let l = length-append (keptBytes y) (joined keptBytes xs) in
-    let e : length (keptBytes y ++ joined keptBytes xs) - length (keptBytes y) ≡ length (joined keptBytes xs) = omega arith in
-    rw (ne-eqb (length (keptBytes y ++ joined keptBytes xs)) 0 (λ z. omega arith), le-ltb (length (keptBytes y ++ joined keptBytes xs)) (length (keptBytes y)) (omega arith), e) (record-last xs x)
+    let l = length-append (keptBytes y) (joinedBytes keptBytes xs) in
+    let e : length (keptBytes y ++ joinedBytes keptBytes xs) - length (keptBytes y) ≡ length (joinedBytes keptBytes xs) = omega arith in
+    rw (ne-eqb (length (keptBytes y ++ joinedBytes keptBytes xs)) 0 (λ z. omega arith), le-ltb (length (keptBytes y ++ joinedBytes keptBytes xs)) (length (keptBytes y)) (omega arith), e) (record-last xs x)
 
-pub starts-last : (id : ℤ) (xs : List Kept) (x : Kept) → sameId (x .id) id ≡ true → startsAt id (length (joined keptBytes xs)) (xs ++ x ∷ []) ≡ true
+pub starts-last : (id : ℤ) (xs : List Kept) (x : Kept) → sameId (x .id) id ≡ true → startsAt id (length (joinedBytes keptBytes xs)) (xs ++ x ∷ []) ≡ true
 unfolding startsAt
 starts-last id xs x h = rw (record-last xs x) h
 
@@ -89,36 +89,36 @@ starts-last id xs x h = rw (record-last xs x) h
 module _ (k : Kind) where
   -- the bytes from a start on begin with its record's
   pub bytes-there : (at : ℕ) (xs : List Kept) (x : Kept) → all (fitsKept k) xs ≡ true → recordAt at xs ≡ some x
-      → (q : Bytes) × ((drop at (joined keptBytes xs) ≡ keptBytes x ++ q) × (fitsKept k x ≡ true))
-  unfolding recordAt joined
+      → (q : Bytes) × ((drop at (joinedBytes keptBytes xs) ≡ keptBytes x ++ q) × (fitsKept k x ≡ true))
+  unfolding recordAt joinedBytes
   bytes-there at [] x f h = no cc
   bytes-there at (y ∷ xs) x f h =
       byBool (eqb at 0)
       (λ t. let z : some y ≡ some x = rw t at h in
       let w : y ≡ x = cc in
       let a : at ≡ 0 = eqb-true at 0 t in
-      (joined keptBytes xs, (rw (a, ← w), rw (← w) (all-head (fitsKept k) y xs f))))
+      (joinedBytes keptBytes xs, (rw (a, ← w), rw (← w) (all-head (fitsKept k) y xs f))))
       (λ t. byBool (ltb at (length (keptBytes y)))
       (λ u. let z : none ≡ some x = rw (t, u) at h in no cc)
       (λ u. let g = ltb-false at (length (keptBytes y)) u in
       let a : at ≡ length (keptBytes y) + (at - length (keptBytes y)) = omega arith in
-      let d : drop at (keptBytes y ++ joined keptBytes xs) ≡ drop (at - length (keptBytes y)) (joined keptBytes xs) =
-      ap (λ n. drop n (keptBytes y ++ joined keptBytes xs)) a ∙ drop-append-add (keptBytes y) (joined keptBytes xs) (at - length (keptBytes y)) in
+      let d : drop at (keptBytes y ++ joinedBytes keptBytes xs) ≡ drop (at - length (keptBytes y)) (joinedBytes keptBytes xs) =
+      ap (λ n. drop n (keptBytes y ++ joinedBytes keptBytes xs)) a ∙ drop-append-add (keptBytes y) (joinedBytes keptBytes xs) (at - length (keptBytes y)) in
       rw d (bytes-there (at - length (keptBytes y)) xs x (all-tail (fitsKept k) y xs f) (rw (t, u) at h))))
 
-  pub record-there : (at : ℕ) (xs : List Kept) (x : Kept) → all (fitsKept k) xs ≡ true → recordAt at xs ≡ some x → (q : Bytes) × (cutRecord k (drop at (joined keptBytes xs)) ≡ found x q)
+  pub record-there : (at : ℕ) (xs : List Kept) (x : Kept) → all (fitsKept k) xs ≡ true → recordAt at xs ≡ some x → (q : Bytes) × (cutRecord k (drop at (joinedBytes keptBytes xs)) ≡ found x q)
   record-there at xs x f h = let y = bytes-there at xs x f h in (y .0, rw (y .1 .0) (record-format k .back x (y .0) (y .1 .1)))
 
   -- a legal record ends as many bytes past its start as it has
   pub start-ends : (strings at : ℕ) (xs : List Kept) (x : Kept) → all (fitsKept k) xs ≡ true → recordAt at xs ≡ some x → legal strings (x .held) ≡ true
-      → recordEnd strings k (joined keptBytes xs) at ≡ At (at + length (keptBytes x))
+      → recordEnd strings k (joinedBytes keptBytes xs) at ≡ At (at + length (keptBytes x))
   unfolding recordEnd endOf
   start-ends strings at xs x f h l =
       let y = bytes-there at xs x f h in
-      let c : cutRecord k (drop at (joined keptBytes xs)) ≡ found x (y .0) = rw (y .1 .0) (record-format k .back x (y .0) (y .1 .1)) in
+      let c : cutRecord k (drop at (joinedBytes keptBytes xs)) ≡ found x (y .0) = rw (y .1 .0) (record-format k .back x (y .0) (y .1 .1)) in
       let n = kept-long x in
-      let d : length (joined keptBytes xs) - at ≡ length (keptBytes x) + length (y .0) = sym (length-drop at (joined keptBytes xs)) ∙ (ap length (y .1 .0) ∙ length-append (keptBytes x) (y .0)) in
-      let e : length (joined keptBytes xs) - length (y .0) ≡ at + length (keptBytes x) = omega arith in
+      let d : length (joinedBytes keptBytes xs) - at ≡ length (keptBytes x) + length (y .0) = sym (length-drop at (joinedBytes keptBytes xs)) ∙ (ap length (y .1 .0) ∙ length-append (keptBytes x) (y .0)) in
+      let e : length (joinedBytes keptBytes xs) - length (y .0) ≡ at + length (keptBytes x) = omega arith in
       rw (c, l, e)
 
   parts-meta : (h : Head) (m : Meta ℕ) (s : Bytes) (c : Cut (Record ℕ)) → cutParts k h m s ≡ some c → c .item .meta ≡ m
@@ -136,5 +136,5 @@ module _ (k : Kind) where
 
   -- the version claimed at a start is that of its record
   pub claim-there : (at : ℕ) (xs : List Kept) (x : Kept) → all (fitsKept k) xs ≡ true → recordAt at xs ≡ some x
-      → claimOf (metaOf (metaAt (drop at (joined keptBytes xs)) (headLen k))) ≡ claimOf (x .held .meta)
-  claim-there at xs x f h = let y = record-there at xs x f h in ap claimOf (meta-there (drop at (joined keptBytes xs)) _ (y .1))
+      → claimOf (metaOf (metaAt (drop at (joinedBytes keptBytes xs)) (headLen k))) ≡ claimOf (x .held .meta)
+  claim-there at xs x f h = let y = record-there at xs x f h in ap claimOf (meta-there (drop at (joinedBytes keptBytes xs)) _ (y .1))

@@ -11,7 +11,7 @@ use Rattle.base.proofs.Split.{byBool, no, clash}
 use Rattle.base.proofs.Lists.{all-nil, all-cons, all-head, all-tail, all-append, all-right}
 use Rattle.little.specs.Little.{isByte}
 use Rattle.kind.specs.declared.Kind.{Kind}
-use Rattle.compact.specs.Layout.{joined}
+use Rattle.compact.specs.Layout.{joinedBytes}
 use Rattle.compact.specs.Cut.{Cut, found, Kept, cutRecord}
 use Rattle.compact.specs.Fits.{fitsKept}
 use Rattle.compact.proofs.Cuts.{record-format}
@@ -103,13 +103,13 @@ module _ (strings : ℕ) (k : Kind) where
 
 -- ---- the test decides `Whole`
 
-joined-append : (xs ys : List Kept) → joined keptBytes (xs ++ ys) ≡ joined keptBytes xs ++ joined keptBytes ys
-unfolding joined
+joined-append : (xs ys : List Kept) → joinedBytes keptBytes (xs ++ ys) ≡ joinedBytes keptBytes xs ++ joinedBytes keptBytes ys
+unfolding joinedBytes
 joined-append [] ys = refl
-joined-append (x ∷ xs) ys = rw (joined-append xs ys) (sym (append-assoc (keptBytes x) (joined keptBytes xs) (joined keptBytes ys)))
+joined-append (x ∷ xs) ys = rw (joined-append xs ys) (sym (append-assoc (keptBytes x) (joinedBytes keptBytes xs) (joinedBytes keptBytes ys)))
 
-joined-snoc : (xs : List Kept) (x : Kept) → joined keptBytes (xs ++ x ∷ []) ≡ joined keptBytes xs ++ keptBytes x
-unfolding joined
+joined-snoc : (xs : List Kept) (x : Kept) → joinedBytes keptBytes (xs ++ x ∷ []) ≡ joinedBytes keptBytes xs ++ keptBytes x
+unfolding joinedBytes
 joined-snoc xs x = joined-append xs (x ∷ []) ∙ rw append-nil
 
 -- a record has bytes
@@ -117,28 +117,28 @@ pub kept-long : (x : Kept) → 0 < length (keptBytes x)
 kept-long x = omega (arith, length-record (x .id) (x .held))
 
 -- the bytes tell the records
-pub kept-unique : (k : Kind) (xs ys : List Kept) → all (fitsKept k) xs ≡ true → all (fitsKept k) ys ≡ true → joined keptBytes xs ≡ joined keptBytes ys → xs ≡ ys
-unfolding joined
+pub kept-unique : (k : Kind) (xs ys : List Kept) → all (fitsKept k) xs ≡ true → all (fitsKept k) ys ≡ true → joinedBytes keptBytes xs ≡ joinedBytes keptBytes ys → xs ≡ ys
+unfolding joinedBytes
 kept-unique k [] [] f g e = refl
-kept-unique k [] (y ∷ ys) f g e = let n = kept-long y in let l = ap length e ∙ length-append (keptBytes y) (joined keptBytes ys) in absurd (omega arith)
-kept-unique k (x ∷ xs) [] f g e = let n = kept-long x in let l = sym (ap length e) ∙ length-append (keptBytes x) (joined keptBytes xs) in absurd (omega arith)
+kept-unique k [] (y ∷ ys) f g e = let n = kept-long y in let l = ap length e ∙ length-append (keptBytes y) (joinedBytes keptBytes ys) in absurd (omega arith)
+kept-unique k (x ∷ xs) [] f g e = let n = kept-long x in let l = sym (ap length e) ∙ length-append (keptBytes x) (joinedBytes keptBytes xs) in absurd (omega arith)
 kept-unique k (x ∷ xs) (y ∷ ys) f g e =
-    let p = record-format k .back x (joined keptBytes xs) (all-head (fitsKept k) x xs f) in
-    let q = record-format k .back y (joined keptBytes ys) (all-head (fitsKept k) y ys g) in
-    let c : found x (joined keptBytes xs) ≡ found y (joined keptBytes ys) = sym p ∙ (ap (cutRecord k) e ∙ q) in
-    let a : (x ≡ y) × (joined keptBytes xs ≡ joined keptBytes ys) = of-cut (λ z r. (x ≡ z) × (joined keptBytes xs ≡ r)) c (refl, refl) in
+    let p = record-format k .back x (joinedBytes keptBytes xs) (all-head (fitsKept k) x xs f) in
+    let q = record-format k .back y (joinedBytes keptBytes ys) (all-head (fitsKept k) y ys g) in
+    let c : found x (joinedBytes keptBytes xs) ≡ found y (joinedBytes keptBytes ys) = sym p ∙ (ap (cutRecord k) e ∙ q) in
+    let a : (x ≡ y) × (joinedBytes keptBytes xs ≡ joinedBytes keptBytes ys) = of-cut (λ z r. (x ≡ z) × (joinedBytes keptBytes xs ≡ r)) c (refl, refl) in
     let h : x ≡ y = a .0 in
     let t : xs ≡ ys = kept-unique k xs ys (all-tail (fitsKept k) x xs f) (all-tail (fitsKept k) y ys g) (a .1) in
     cc
 
 module _ (strings : ℕ) (k : Kind) where
   pub nothing-whole : Whole strings k []
-  unfolding joined
+  unfolding joinedBytes
   nothing-whole = record { kept = []; fits = all-nil (fitsKept k); legals = all-nil (λ (x : Kept). legal strings (x .held)); same = refl }
 
   -- a record before whole records
   before-whole : (s : Bytes) (c : Cut Kept) → s ≡ keptBytes (c .item) ++ c .rest → fitsKept k (c .item) ≡ true → legal strings (c .item .held) ≡ true → Whole strings k (c .rest) → Whole strings k s
-  unfolding joined
+  unfolding joinedBytes
   before-whole s c e f g w =
       record {
         kept = c .item ∷ w .kept;
@@ -168,12 +168,12 @@ module _ (strings : ℕ) (k : Kind) where
   unfolding wholeRecords
   sound s b t = sound-by (length s) s b t
 
-  complete-of : (xs : List Kept) → all (fitsKept k) xs ≡ true → all (λ (x : Kept). legal strings (x .held)) xs ≡ true → wholeRecords strings k (joined keptBytes xs) ≡ true
-  unfolding joined
+  complete-of : (xs : List Kept) → all (fitsKept k) xs ≡ true → all (λ (x : Kept). legal strings (x .held)) xs ≡ true → wholeRecords strings k (joinedBytes keptBytes xs) ≡ true
+  unfolding joinedBytes
   complete-of [] f l = whole-nil strings k
   complete-of (x ∷ xs) f l =
-      let c : cutRecord k (keptBytes x ++ joined keptBytes xs) ≡ found x (joined keptBytes xs) = record-format k .back x (joined keptBytes xs) (all-head (fitsKept k) x xs f) in
-      whole-next strings k (keptBytes x ++ joined keptBytes xs) (joined keptBytes xs) (after-of strings k (keptBytes x ++ joined keptBytes xs) _ c (all-head (λ (x : Kept). legal strings (x .held)) x xs l))
+      let c : cutRecord k (keptBytes x ++ joinedBytes keptBytes xs) ≡ found x (joinedBytes keptBytes xs) = record-format k .back x (joinedBytes keptBytes xs) (all-head (fitsKept k) x xs f) in
+      whole-next strings k (keptBytes x ++ joinedBytes keptBytes xs) (joinedBytes keptBytes xs) (after-of strings k (keptBytes x ++ joinedBytes keptBytes xs) _ c (all-head (λ (x : Kept). legal strings (x .held)) x xs l))
       ∙ complete-of xs (all-tail (fitsKept k) x xs f) (all-tail (λ (x : Kept). legal strings (x .held)) x xs l)
 
   pub complete : (s : Bytes) → Whole strings k s → wholeRecords strings k s ≡ true

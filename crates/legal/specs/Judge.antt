@@ -27,14 +27,14 @@ use Rattle.legal.specs.declared.Verdict.the-variants as verdict
 use Rattle.legal.specs.declared.Part.{Part}
 use Rattle.legal.specs.declared.Part.the-variants.{Role, Key, Value}
 
-abbrev pub answered : Option Refusal → Fault
-answered none = fault.Legal
-answered (some x) = fault.Refused x
+abbrev pub faultAnswer : Option Refusal → Fault
+faultAnswer none = fault.Legal
+faultAnswer (some x) = fault.Refused x
 
 -- the answer to a direct push: 17 where its parts are not exactly as it counts, else the first fault of its record
 unfoldable pub faultFor : ℕ → Option (Record ℕ) → Fault
 faultFor strings none = fault.Refused BadRecord
-faultFor strings (some r) = answered (faultOf strings r)
+faultFor strings (some r) = faultAnswer (faultOf strings r)
 
 -- where something ends that was cut off bytes of a length and passes a test
 unfoldable pub endOf : {A : Type 0} → (A → Bool) → ℕ → Option (Cut A) → End
@@ -81,10 +81,10 @@ ended (At e) = true
 ended Bad = false
 
 -- a place in range; only a node has one
-unfoldable pub placed : Kind → ℤ → ℤ → Bool
-placed Node lat lon = inRange (place lat lon)
-placed Way lat lon = true
-placed Relation lat lon = true
+unfoldable pub placeInRange : Kind → ℤ → ℤ → Bool
+placeInRange Node lat lon = inRange (place lat lon)
+placeInRange Way lat lon = true
+placeInRange Relation lat lon = true
 
 -- so many refs or members, tags and bytes of tag values
 abbrev pub countWithin : Limits → Kind → ℕ → Bool

@@ -11,7 +11,7 @@ use lib.ListN.{length}
 use Rattle.base.specs.Bytes.{Bytes, all}
 use Rattle.osm_id.specs.Order.{sameId}
 use Rattle.kind.specs.declared.Kind.{Kind}
-use Rattle.compact.specs.Layout.{joined, recordBytes}
+use Rattle.compact.specs.Layout.{joinedBytes, recordBytes}
 use Rattle.compact.specs.Cut.{Cut, Kept, cutRecord}
 use Rattle.compact.specs.Fits.{fitsKept}
 use Rattle.compact.specs.Legal.{legal}
@@ -24,7 +24,7 @@ pub record Whole (strings : ℕ) (k : Kind) (s : Bytes) : Type 0 where
   pub kept : List Kept
   pub fits : all (fitsKept k) kept ≡ true
   pub legals : all (λ x. legal strings (x .held)) kept ≡ true
-  pub same : s ≡ joined keptBytes kept
+  pub same : s ≡ joinedBytes keptBytes kept
 
 -- the same as a test: what a legal record at the front leaves, until nothing is left; each record takes a byte, so the length is fuel enough
 abbrev pub legalRest : ℕ → Option (Cut Kept) → Option Bytes

@@ -12,7 +12,7 @@ ghost use Rattle.compact.specs.Held.{metaOf};
 ghost use Rattle.compact.specs.View.{headAt};
 ghost use Rattle.compact.specs.Layout.{headLen};
 ghost use Rattle.compact.specs.Legal.{legalMeta};
-ghost use Rattle.legal.specs.Judge.{faultFor, recordEnd, verdictOf, partEnd, partsEnd, tagEnd, bodyEnd, ended, placed, few, chosen};
+ghost use Rattle.legal.specs.Judge.{faultFor, recordEnd, verdictOf, partEnd, partsEnd, tagEnd, bodyEnd, ended, placeInRange, few, chosen};
 ghost use Rattle.compact.specs.Held.{headIn};
 use compact::ArenaMeta;
 use compact::PushHead;
@@ -188,7 +188,7 @@ fn within(bits: u32, bound: u32) -> bool
 }
 
 fn in_place(kind: Kind, lat: u32, lon: u32) -> bool
-    ensures { λ r. ⌜ r ≡ placed kind (toZ w32 lat) (toZ w32 lon) ⌝ }
+    ensures { λ r. ⌜ r ≡ placeInRange kind (toZ w32 lat) (toZ w32 lon) ⌝ }
 {
     match kind {
         Kind::Node => within(lat, 900_000_000) & within(lon, 1_800_000_000),

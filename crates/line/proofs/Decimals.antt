@@ -15,7 +15,7 @@ use Rattle.integer.specs.Integer.{decimal, digits, integer}
 use Rattle.integer.proofs.Digits.{digit-of, digit-is, digits-of, decimal-nil}
 use Rattle.integer.proofs.Integers.{integer-digits}
 use Rattle.text.specs.Escape.{breaks}
-use Rattle.line.specs.Line.{plain}
+use Rattle.line.specs.Line.{plainField}
 use Rattle.line.specs.Decimal.{digitsBefore, numberText, integerText}
 use Rattle.line.proofs.Lines.{plain-nil, plain-cons}
 
@@ -130,14 +130,14 @@ digit-plain b h =
     let d = digit-is b h in
     rw (ne-eqb b 9 (λ e. omega arith), ne-eqb b 10 (λ e. omega arith), ne-eqb b 13 (λ e. omega arith))
 
-digits-plain : (s : Bytes) → all isDigit s ≡ true → plain s ≡ true
+digits-plain : (s : Bytes) → all isDigit s ≡ true → plainField s ≡ true
 digits-plain [] h = plain-nil
 digits-plain (b ∷ s) h = plain-cons b s (digit-plain b (all-head isDigit b s h)) (digits-plain s (all-tail isDigit b s h))
 
-pub number-plain : (n : ℕ) → plain (numberText n) ≡ true
+pub number-plain : (n : ℕ) → plainField (numberText n) ≡ true
 number-plain n = digits-plain (numberText n) (number-digits n)
 
-pub integer-plain : (z : ℤ) → plain (integerText z) ≡ true
+pub integer-plain : (z : ℤ) → plainField (integerText z) ≡ true
 unfolding integerText breaks either
 integer-plain (pos n) = number-plain n
 integer-plain (negsuc n) = plain-cons 45 (numberText (suc n)) refl (number-plain (suc n))

@@ -11,7 +11,7 @@ use Rattle.base.proofs.Split.{byEq, clash}
 use Rattle.base.proofs.Lists.{all-append, all-cons, all-head, all-nil, all-tail}
 use Rattle.text.specs.Escape.{breaks}
 use Rattle.text.proofs.Escapes.{spans, tab-breaks, line-breaks}
-use Rattle.line.specs.Line.{plain, onto, fields, tabbed, line}
+use Rattle.line.specs.Line.{plainField, onto, fields, tabbed, line}
 
 -- ---- a byte that a run of bytes lacks
 
@@ -49,30 +49,30 @@ module _ (c : ℕ) where
 
 -- ---- plain fields
 
-pub plain-nil : plain [] ≡ true
-unfolding plain
+pub plain-nil : plainField [] ≡ true
+unfolding plainField
 plain-nil = all-nil _
 
-pub plain-cons : (b : ℕ) (f : Bytes) → breaks b ≡ false → plain f ≡ true → plain (b ∷ f) ≡ true
-unfolding plain
+pub plain-cons : (b : ℕ) (f : Bytes) → breaks b ≡ false → plainField f ≡ true → plainField (b ∷ f) ≡ true
+unfolding plainField
 plain-cons b f n h = all-cons _ b f (rw n) h
 
-pub plain-append : (f g : Bytes) → plain f ≡ true → plain g ≡ true → plain (f ++ g) ≡ true
-unfolding plain
+pub plain-append : (f g : Bytes) → plainField f ≡ true → plainField g ≡ true → plainField (f ++ g) ≡ true
+unfolding plainField
 plain-append f g h k = all-append _ f g h k
 
 -- a plain field lacks each byte that breaks a line: tab, line feed, carriage return
-pub plain-lacks : (c : ℕ) → breaks c ≡ true → (f : Bytes) → plain f ≡ true → lacks c f ≡ true
-unfolding plain
+pub plain-lacks : (c : ℕ) → breaks c ≡ true → (f : Bytes) → plainField f ≡ true → lacks c f ≡ true
+unfolding plainField
 plain-lacks c t [] h = lacks-nil c
 plain-lacks c t (b ∷ f) h =
     lacks-cons c b f
     (λ e. clash {t = breaks b} (rw e t) (not-true (breaks b) (all-head _ b f h)))
     (plain-lacks c t f (all-tail _ b f h))
 
-all-lack : (c : ℕ) → breaks c ≡ true → (fs : List Bytes) → all plain fs ≡ true → all (lacks c) fs ≡ true
+all-lack : (c : ℕ) → breaks c ≡ true → (fs : List Bytes) → all plainField fs ≡ true → all (lacks c) fs ≡ true
 all-lack c t [] h = all-nil (lacks c)
-all-lack c t (f ∷ fs) h = all-cons (lacks c) f fs (plain-lacks c t f (all-head plain f fs h)) (all-lack c t fs (all-tail plain f fs h))
+all-lack c t (f ∷ fs) h = all-cons (lacks c) f fs (plain-lacks c t f (all-head plainField f fs h)) (all-lack c t fs (all-tail plainField f fs h))
 
 -- ---- fields that tabs part
 
@@ -146,11 +146,11 @@ tabbed-lacks c n (f ∷ g ∷ fs) h =
     (lacks-cons c 9 _ n (tabbed-lacks c n (g ∷ fs) (all-tail (lacks c) f (g ∷ fs) h)))
 
 -- a line of plain fields holds no line feed but its last byte
-pub line-body : (fs : List Bytes) → all plain fs ≡ true → lacks 10 (tabbed fs) ≡ true
+pub line-body : (fs : List Bytes) → all plainField fs ≡ true → lacks 10 (tabbed fs) ≡ true
 line-body fs h = tabbed-lacks 10 (λ e. omega arith) fs (all-lack 10 line-breaks fs h)
 
 -- the fields of a line of plain fields are read back
-pub fields-line : (f : Bytes) (fs : List Bytes) → all plain (f ∷ fs) ≡ true → fields (tabbed (f ∷ fs)) ≡ f ∷ fs
+pub fields-line : (f : Bytes) (fs : List Bytes) → all plainField (f ∷ fs) ≡ true → fields (tabbed (f ∷ fs)) ≡ f ∷ fs
 fields-line f fs h = fields-tabbed f fs (all-lack 9 tab-breaks (f ∷ fs) h)
 
 pub line-ends : (fs : List Bytes) (r : Bytes) → line fs ++ r ≡ tabbed fs ++ (10 ∷ r)
@@ -158,7 +158,7 @@ unfolding line
 line-ends fs r = append-assoc (tabbed fs) (10 ∷ []) r
 
 -- lines are a prefix code: where a line ends, and what it holds, can be told from the bytes alone
-pub line-code : (f g : Bytes) (fs gs : List Bytes) (r s : Bytes) → all plain (f ∷ fs) ≡ true → all plain (g ∷ gs) ≡ true
+pub line-code : (f g : Bytes) (fs gs : List Bytes) (r s : Bytes) → all plainField (f ∷ fs) ≡ true → all plainField (g ∷ gs) ≡ true
     → line (f ∷ fs) ++ r ≡ line (g ∷ gs) ++ s → (f ∷ fs ≡ g ∷ gs) × (r ≡ s)
 line-code f g fs gs r s h k e =
     let p = parts 10 (tabbed (f ∷ fs)) (tabbed (g ∷ gs)) r s (line-body (f ∷ fs) h) (line-body (g ∷ gs) k) (sym (line-ends (f ∷ fs) r) ∙ e ∙ line-ends (g ∷ gs) s) in

@@ -4,6 +4,7 @@ use mathlib.Core.Bool.{cond, not}
 use mathlib.Core.List.{List, [], _∷_, _++_}
 use lib.Dec.{eqb}
 use Rattle.base.specs.Bytes.{Bytes, all}
+use Rattle.base.specs.Chars.{lineFeed}
 
 -- a byte before the first of some lines; before none it begins no line
 abbrev pub ontoFirst : ℕ → List Bytes → List Bytes
@@ -13,12 +14,12 @@ ontoFirst b (l ∷ ls) = (b ∷ l) ∷ ls
 -- the whole lines of a run of bytes, each with its line feed
 unfoldable pub linesOf : Bytes → List Bytes
 linesOf [] = []
-linesOf (b ∷ bs) = cond (eqb b 10) ((b ∷ []) ∷ linesOf bs) (ontoFirst b (linesOf bs))
+linesOf (b ∷ bs) = cond (eqb b lineFeed) ((b ∷ []) ∷ linesOf bs) (ontoFirst b (linesOf bs))
 
 -- what follows the last line feed; all where there is none
 unfoldable pub restOf : Bytes → Bytes
 restOf [] = []
-restOf (b ∷ bs) = cond (all (λ c. not (eqb c 10)) (b ∷ bs)) (b ∷ bs) (restOf bs)
+restOf (b ∷ bs) = cond (all (λ c. not (eqb c lineFeed)) (b ∷ bs)) (b ∷ bs) (restOf bs)
 
 -- a line more, where there is anything in it
 abbrev pub lastLine : Bytes → List Bytes

@@ -17,11 +17,11 @@ use Rattle.table.proofs.Maps.{from-head, from-tail, from-cons, from-rising, fin
 use Rattle.listed.specs.declared.Side.{Side}
 use Rattle.listed.specs.declared.Side.the-variants.{Live, Deleted}
 use Rattle.listed.specs.declared.Nth.the-variants.{At, Missing}
-use Rattle.listed.specs.Listed.{rowsIn, isOn, rowsOn, nth}
+use Rattle.listed.specs.Listed.{rowsRead, isOn, rowsOn, nth}
 use Rattle.listed.proofs.Walks.{on-more, on-other}
 
 -- in a sound table the rows that are read are all its rows
-pub rows-all : (table : List ℕ) (ids : ℕ) → soundTable table ids ≡ true → rowsIn table ids ≡ rowsOf table ids
+pub rows-all : (table : List ℕ) (ids : ℕ) → soundTable table ids ≡ true → rowsRead table ids ≡ rowsOf table ids
 rows-all table ids h = ap (rowsOf table) (held-all table ids (sound-fits table ids h))
 
 -- ---- both lists are in OSM order

@@ -29,8 +29,8 @@ use Rattle.listed.specs.declared.View.the-variants as view
 -- ---- by number
 
 -- the rows that are read: those counted, as far as the words go
-abbrev pub rowsIn : List ℕ → ℕ → List Row
-rowsIn table ids = rowsOf table (held table ids)
+abbrev pub rowsRead : List ℕ → ℕ → List Row
+rowsRead table ids = rowsOf table (held table ids)
 
 -- a row is on the live list or on the deleted list
 abbrev pub isOn : Side → Row → Bool

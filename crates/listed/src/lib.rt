@@ -3,7 +3,7 @@ ghost use mathlib.Core.Path.{_≡_};
 ghost use lib.ListN.{length};
 ghost use mir.Syntax.{w64};
 ghost use mir.Val.{toZ};
-ghost use Rattle.listed.specs.Listed.{rowsIn, isOn, rowsOn, nth, rowStanding, standingOf, viewAt};
+ghost use Rattle.listed.specs.Listed.{rowsRead, isOn, rowsOn, nth, rowStanding, standingOf, viewAt};
 use kind::Kind;
 use legal::End;
 use refusal::Refusal;
@@ -48,7 +48,7 @@ fn is_on(side: Side, row: Row) -> bool
 
 // How many rows are on a list.
 pub fn count_on(side: Side, table: &[u64], ids: u64) -> u64
-    ensures { λ r. ⌜ r ≡ length (rowsOn side (rowsIn (now (table .entry)) ids)) ⌝ }
+    ensures { λ r. ⌜ r ≡ length (rowsOn side (rowsRead (now (table .entry)) ids)) ⌝ }
 {
     let n = little::lesser(ids as usize, table.len() / 3);
     let mut count: u64 = 0;
@@ -64,7 +64,7 @@ pub fn count_on(side: Side, table: &[u64], ids: u64) -> u64
 
 // The row of a number on a list.
 pub fn row_on(side: Side, table: &[u64], ids: u64, n: u64) -> Nth
-    ensures { λ r. ⌜ r ≡ nth (rowsOn side (rowsIn (now (table .entry)) ids)) n ⌝ }
+    ensures { λ r. ⌜ r ≡ nth (rowsOn side (rowsRead (now (table .entry)) ids)) n ⌝ }
 {
     let end = little::lesser(ids as usize, table.len() / 3);
     let mut left = n;

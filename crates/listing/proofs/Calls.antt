@@ -17,7 +17,7 @@ use Rattle.kind.specs.declared.Kind.the-variants.{Node, Way, Relation}
 use Rattle.refusal.specs.declared.Refusal.the-variants as R
 use Rattle.print.specs.declared.Room.{Room}
 use Rattle.print.specs.declared.Room.the-variants.{Left, Full}
-use Rattle.print.specs.Print.{Printed, print, joined}
+use Rattle.print.specs.Print.{Printed, print, joinedPieces}
 use Rattle.print.specs.Piece.{behind}
 use Rattle.print.proofs.Prints as Prints
 use Rattle.print.proofs.Prints.{print-append, behind-fits, behind-past, room-print, length-print}
@@ -91,28 +91,28 @@ module _ (out : Bytes) (xs : List Bytes) (x : Bytes) (r : Room) (e : record { ou
       let a : x ≡ [] = none-of x (ap (λ (p : Printed). length (p .out)) e ∙ (length-print (length out) xs _ ∙ n)) in
       ap (putMid (length out) (length out - length out) out) (a ∙ sym (none-of (ending out) n)) ∙ put-same (length out) (length out - length out) out
 
-  measured-room : r ≡ behind (Left (length out)) (length (joined xs))
+  measured-room : r ≡ behind (Left (length out)) (length (joinedPieces xs))
   measured-room = ap (λ (p : Printed). p .room) e ∙ room-print (length out) xs _
 
-  pub short-listed : Full ≡ r → record { out = putMid (length out) (length out - length out) out x; answer = Refused R.ShortOutput } ≡ pageOver out (joined xs)
-  short-listed f = rw measured-out (over-short out (joined xs) (full-past (length out) (length (joined xs)) (f ∙ measured-room)))
+  pub short-listed : Full ≡ r → record { out = putMid (length out) (length out - length out) out x; answer = Refused R.ShortOutput } ≡ pageOver out (joinedPieces xs)
+  short-listed f = rw measured-out (over-short out (joinedPieces xs) (full-past (length out) (length (joinedPieces xs)) (f ∙ measured-room)))
 
   module _ (l : ℕ) (f : Left l ≡ r) where
-    left-over : (length (joined xs) ≤ length out) × (l ≡ length out - length (joined xs))
-    left-over = left-fits (length out) (length (joined xs)) l (f ∙ measured-room)
+    left-over : (length (joinedPieces xs) ≤ length out) × (l ≡ length out - length (joinedPieces xs))
+    left-over = left-fits (length out) (length (joinedPieces xs)) l (f ∙ measured-room)
 
     pub room-left : l ≤ length out
     room-left = omega (arith, left-over .0, left-over .1)
 
     pub whole-listed : (y : Bytes) (q : Room) → record { out = y; room = q } ≡ print (length out) xs (record { out = putMid (length out) (length out - length out) out x; room = Left (length out) })
-        → record { out = y; answer = Length (length out - l) } ≡ pageOver out (joined xs)
+        → record { out = y; answer = Length (length out - l) } ≡ pageOver out (joinedPieces xs)
     whole-listed y q g =
         let w = left-over in
         let v = Prints.written xs out (length out) (w .0) (omega arith) in
         let d : length out - length out ≡ 0 = omega arith in
-        let y-is : y ≡ joined xs ++ drop (length (joined xs)) out = ap (λ (p : Printed). p .out) (rw measured-out at g ∙ v) ∙ rw d (over-start out (joined xs) (w .0)) in
-        let l-is : length out - l ≡ length (joined xs) = omega (arith, w .0, w .1) in
-        rw (y-is, l-is) (over-whole out (joined xs) (w .0))
+        let y-is : y ≡ joinedPieces xs ++ drop (length (joinedPieces xs)) out = ap (λ (p : Printed). p .out) (rw measured-out at g ∙ v) ∙ rw d (over-start out (joinedPieces xs) (w .0)) in
+        let l-is : length out - l ≡ length (joinedPieces xs) = omega (arith, w .0, w .1) in
+        rw (y-is, l-is) (over-whole out (joinedPieces xs) (w .0))
 
 -- ---- the call: 22, or what the pieces make of the output
 
@@ -122,7 +122,7 @@ module _ (out : Bytes) (o : Overlay) where
   list-22 t = rw t
 
   module _ (t : isSound o ≡ true) where
-    pub list-pieces : InBytes o → (z : Output) → z ≡ pageOver out (joined (piecesOf o)) → z ≡ listingOn out o
+    pub list-pieces : InBytes o → (z : Output) → z ≡ pageOver out (joinedPieces (piecesOf o)) → z ≡ listingOn out o
     unfolding listingOn
     list-pieces b z e = rw t (e ∙ ap (pageOver out) (page-pieces o b t))
 

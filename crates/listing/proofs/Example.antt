@@ -16,10 +16,10 @@ use Rattle.line.specs.Line.{tabbed, line}
 use Rattle.line.specs.Decimal.{digitsBefore, numberText, integerText}
 use Rattle.interner.specs.Strings.{spanned}
 use Rattle.interner.specs.Sound as Strings
-use Rattle.interner.specs.Sound.{handles, textsIn, soundStrings, soundUpTo, within, distinct, differs, firstEmpty}
+use Rattle.interner.specs.Sound.{handles, textsIn, soundStrings, soundUpTo, spanWithin, distinct, differs, firstEmpty}
 use Rattle.refusal.specs.declared.Refusal.the-variants as R
 use Rattle.model.specs.Record.{flagged, claimOf}
-use Rattle.compact.specs.Cut.{andThen, cutBytes, cutNumber, cutI32, cutI64, times, cutMeta, cutTag, cutBody, cutParts, cutHead, cutRecord}
+use Rattle.compact.specs.Cut.{thenCut, cutBytes, cutNumber, cutI32, cutI64, times, cutMeta, cutTag, cutBody, cutParts, cutHead, cutRecord}
 use Rattle.compact.specs.Held.{metaOf}
 use Rattle.compact.specs.View.{metaAt}
 use Rattle.compact.specs.Legal.{legal, legalHandles, legalMeta, bodyHandles, legalTexts, inRange, withinLimits, valueBytes}
@@ -28,7 +28,7 @@ use Rattle.legal.specs.Whole.{wholeRecords, wholeBy, afterLegal}
 use Rattle.table.specs.Rows.{rising, risingFrom}
 use Rattle.table.specs.Words.{soundTable, rowsFrom, rowsOf, held, halve, answerAt, lookup}
 use Rattle.shelf.specs.Shelf.{isLive, versionAt, liveVersion, knownOf, known}
-use Rattle.sound.specs.Check.{soundShelf, soundUsed, passes, recordThere, idThere, comesTo}
+use Rattle.sound.specs.Check.{soundShelf, soundUsed, rowPasses, recordThere, idThere, comesTo}
 use Rattle.overlay.specs.Overlay.{Overlay, overlayOf, sizesFit, shelfFits, textsFit}
 use Rattle.overlay.specs.Sound.{isSound, shelvesSound}
 use Rattle.page.specs.Listing.{kindField, versionField, each, counted, bodyFields, recordFields, rowFields, listing}
@@ -55,12 +55,12 @@ outputA =
     119 ∷ 9 ∷ 45 ∷ 52 ∷ 9 ∷ 45 ∷ 9 ∷ 50 ∷ 10 ∷ []
 
 pub stored-page : pageOf storedA ≡ outputA
-unfolding tableOf kindTable rowsOf rowsFrom leftAt isLive recordIn cutRecord cutHead cutMeta cutI32 cutI64 cutNumber cutBytes andThen value valueAt cutParts cutBody times cutTag textsIn handles known lookup held halve answerAt both knownOf liveVersion versionAt metaOf metaAt claimOf flagged higher ofWord rank idOf rowFields kindField versionField recordFields bodyFields counted each listing numberText digitsBefore integerText line tabbed escape escaped
+unfolding tableOf kindTable rowsOf rowsFrom leftAt isLive recordIn cutRecord cutHead cutMeta cutI32 cutI64 cutNumber cutBytes thenCut value valueAt cutParts cutBody times cutTag textsIn handles known lookup held halve answerAt both knownOf liveVersion versionAt metaOf metaAt claimOf flagged higher ofWord rank idOf rowFields kindField versionField recordFields bodyFields counted each listing numberText digitsBefore integerText line tabbed escape escaped
 stored-page = refl
 
 -- that storage is sound
 pub stored-sound : isSound storedA ≡ true
-unfolding isSound sizesFit shelfFits textsFit both either all same soundStrings Strings.counted soundUpTo within spanned textsIn handles distinct differs firstEmpty isText textAfter charLen begins decoded utf8 xmlChar from-to shelvesSound soundShelf soundUsed wholeRecords wholeBy afterLegal legal legalHandles legalMeta bodyHandles legalTexts inRange withinLimits valueBytes flagged sameId soundTable rising risingFrom rowsOf rowsFrom passes isLive recordThere idThere comesTo recordEnd endOf cutRecord cutHead cutMeta cutI32 cutI64 cutNumber cutBytes andThen value valueAt cutParts cutBody times cutTag idOf
+unfolding isSound sizesFit shelfFits textsFit both either all same soundStrings Strings.countsWithin soundUpTo spanWithin spanned textsIn handles distinct differs firstEmpty isText textAfter charLen begins decoded utf8 xmlChar from-to shelvesSound soundShelf soundUsed wholeRecords wholeBy afterLegal legal legalHandles legalMeta bodyHandles legalTexts inRange withinLimits valueBytes flagged sameId soundTable rising risingFrom rowsOf rowsFrom rowPasses isLive recordThere idThere comesTo recordEnd endOf cutRecord cutHead cutMeta cutI32 cutI64 cutNumber cutBytes thenCut value valueAt cutParts cutBody times cutTag idOf
 stored-sound = refl
 
 -- the call: an output of 46 bytes gets the page and keeps its last two, one of 44 is enough, and one of 43 gets 19 and keeps all

@@ -19,9 +19,9 @@ use Rattle.table.proofs.Tables.{sound-fits, held-all}
 use Rattle.shelf.specs.Shelf.{Shelf, isLive}
 use Rattle.shelf.specs.Fair.{rowsIn}
 use Rattle.sound.specs.Sound.{SoundShelf, soundRow}
-use Rattle.page.specs.Summary.{Row, Table}
+use Rattle.page.specs.Summary.{PageRow, Table}
 use Rattle.page.specs.Listing.{kindField, rowFields, listing}
-use Rattle.print.specs.Print.{joined, linePieces}
+use Rattle.print.specs.Print.{joinedPieces, linePieces}
 use Rattle.print.proofs.Prints.{joined-append, line-pieces}
 use Rattle.fields.proofs.Records.{held-text, fields-are}
 use Rattle.overlay.specs.Overlay.{Overlay}
@@ -56,18 +56,18 @@ module _ (strings : ℕ) (k : Kind) (s : Shelf) (w : SoundShelf strings k s) (f 
   row-fields r h = byBool (isLive (r .place)) (row-live r h) (row-gone r)
 
   -- its line
-  row-line : (r : table.Row) → joined (linePieces (rowFields (rowOf k s f r))) ≡ line (rowFields (rowOf k s f r))
+  row-line : (r : table.Row) → joinedPieces (linePieces (rowFields (rowOf k s f r))) ≡ line (rowFields (rowOf k s f r))
   unfolding rowFields
   row-line r = line-pieces (kindField k) _
 
-  rows-listed : (rs : List table.Row) → all (soundRow (w .whole .kept)) rs ≡ true → joined (rowPieces f k s rs) ≡ listing (map (rowOf k s f) rs)
-  unfolding rowPieces listing joined
+  rows-listed : (rs : List table.Row) → all (soundRow (w .whole .kept)) rs ≡ true → joinedPieces (rowPieces f k s rs) ≡ listing (map (rowOf k s f) rs)
+  unfolding rowPieces listing joinedPieces
   rows-listed [] h = refl
   rows-listed (r ∷ rs) h =
       rw (joined-append (linePieces (rowFieldsAt f k s r)) (rowPieces f k s rs), row-fields r (all-head (soundRow (w .whole .kept)) r rs h), row-line r, rows-listed rs (all-tail (soundRow (w .whole .kept)) r rs h))
 
   -- the rows of a kind
-  pub kind-listed : joined (kindPieces f k s) ≡ listing (kindTable k s f)
+  pub kind-listed : joinedPieces (kindPieces f k s) ≡ listing (kindTable k s f)
   unfolding kindTable
   kind-listed = rw (held-all (s .table) (s .ids) (sound-fits (s .table) (s .ids) (w .order))) (rows-listed (rowsIn s) (w .rows))
 
@@ -75,7 +75,7 @@ module _ (strings : ℕ) (k : Kind) (s : Shelf) (w : SoundShelf strings k s) (f 
 texts-held : (o : Overlay) → Sound o → textHeld (o .texts) ≡ textOf (textsOf (o .texts))
 texts-held o w = λ i h. held-text (o .texts) (Interns.sound-parts (o .texts) (w .strings)) h i
 
-pub page-sound : (o : Overlay) → Sound o → joined (piecesOf o) ≡ pageOf o
+pub page-sound : (o : Overlay) → Sound o → joinedPieces (piecesOf o) ≡ pageOf o
 unfolding piecesOf tableOf
 page-sound o w =
     let t = textOf (textsOf (o .texts)) in
@@ -92,5 +92,5 @@ page-sound o w =
     )
 
 -- the same, by the test
-pub page-pieces : (o : Overlay) → InBytes o → isSound o ≡ true → joined (piecesOf o) ≡ pageOf o
+pub page-pieces : (o : Overlay) → InBytes o → isSound o ≡ true → joinedPieces (piecesOf o) ≡ pageOf o
 page-pieces o b t = page-sound o (decides o b .0 t)

@@ -15,7 +15,7 @@ use borrow.Author.Tests.{lt-ltb, ltb-true}
 use Rattle.base.specs.Bytes.{Bytes, all}
 use Rattle.base.proofs.Split.{byBool, byEq, both-left, both-right, clash, no}
 use Rattle.base.proofs.Lists.{all-nil, all-cons, all-head, all-tail}
-use Rattle.kind.specs.Kind.{numberOf}
+use Rattle.kind.specs.Kind.{kindNumber}
 use Rattle.kind.specs.declared.Kind.{Kind}
 use Rattle.kind.specs.declared.Kind.the-variants.{Node, Way, Relation}
 use Rattle.osm_id.specs.Order.{rank, idOf}
@@ -39,7 +39,7 @@ use Rattle.overlay.specs.Overlay.{Overlay, shelfOf, withShelf, withTexts, empty
 use Rattle.overlay.specs.Sound.{Sound}
 use Rattle.overlay.proofs.Shelves.{each-shelf, texts-shelf}
 use Rattle.page.specs.Summary as Summary
-use Rattle.page.specs.Summary.{Row, Table, find, summary}
+use Rattle.page.specs.Summary.{PageRow, Table, findKey, summary}
 use Rattle.page.proofs.Tables.{Every, Above, Sorted, find-nil, find-here, find-later, same-table, summary-sorted, rowIn, find-summary}
 use Rattle.listing.specs.Known.{lastIn, knownIn}
 use Rattle.listing.specs.Table.{leftAt, rowOf, kindTable, tableOf, isRank, Ranked}
@@ -51,7 +51,7 @@ rank-below r h = ltb-true _ _ h
 
 -- ---- a sorted table
 
-every-append : (P : Row → Type 0) (xs ys : Table) → Every P xs → Every P ys → Every P (xs ++ ys)
+every-append : (P : PageRow → Type 0) (xs ys : Table) → Every P xs → Every P ys → Every P (xs ++ ys)
 unfolding Every
 every-append P [] ys h g = g
 every-append P (x ∷ xs) ys h g = (h .0, every-append P xs ys (h .1) g)
@@ -84,7 +84,7 @@ module _ (k : Kind) (s : Shelf) (f : ℕ → Bytes) where
       (above-rows (r .rank) (r .rank) rs (rank-below r (all-head isRank r rs a)) (omega arith) (all-tail isRank r rs a) h, sorted-rows rs (all-tail isRank r rs a) (Maps.from-rising (r .rank) rs h))
 
   -- the rows of an earlier kind come first
-  above-kind : (key : Key) → numberOf (key .kind) < numberOf k → (rs : List table.Row) → Above key (rowed rs)
+  above-kind : (key : Key) → kindNumber (key .kind) < kindNumber k → (rs : List table.Row) → Above key (rowed rs)
   unfolding Every
   above-kind key h [] = tt
   above-kind key h (r ∷ rs) = (kinds-order key _ h, above-kind key h rs)
@@ -96,7 +96,7 @@ module _ (k : Kind) (s : Shelf) (f : ℕ → Bytes) where
 
   -- ---- what is found among the rows of a kind
 
-  find-rows : (id : ℤ) → SFits w64 id → (rs : List table.Row) → all isRank rs ≡ true → find (record { kind = k; id = id }) (rowed rs) ≡ Option·map (rowOf k s f) (Rows.find (rank id) rs)
+  find-rows : (id : ℤ) → SFits w64 id → (rs : List table.Row) → all isRank rs ≡ true → findKey (record { kind = k; id = id }) (rowed rs) ≡ Option·map (rowOf k s f) (Rows.find (rank id) rs)
   unfolding Rows.find
   find-rows id g [] a = find-nil _
   find-rows id g (r ∷ rs) a =
@@ -108,23 +108,23 @@ module _ (k : Kind) (s : Shelf) (f : ℕ → Bytes) where
       (λ d. find-later (record { kind = k; id = id }) (rowOf k s f r) (rowed rs) (λ e. d (ap (λ (z : Key). rank (z .id)) e ∙ rank-id fr))
       ∙ (find-rows id g rs (all-tail isRank r rs a) ∙ sym (ap (Option·map (rowOf k s f)) (Maps.find-other (rank id) r rs d))))
 
-  find-none : (key : Key) → ((n : ℕ) → n < 2 ^ 64 → key ≡ record { kind = k; id = idOf n } → ⊥) → (rs : List table.Row) → all isRank rs ≡ true → find key (rowed rs) ≡ none
+  find-none : (key : Key) → ((n : ℕ) → n < 2 ^ 64 → key ≡ record { kind = k; id = idOf n } → ⊥) → (rs : List table.Row) → all isRank rs ≡ true → findKey key (rowed rs) ≡ none
   find-none key h [] a = find-nil key
   find-none key h (r ∷ rs) a =
       find-later key (rowOf k s f r) (rowed rs) (h (r .rank) (rank-below r (all-head isRank r rs a))) ∙ find-none key h rs (all-tail isRank r rs a)
 
 -- ---- three kinds
 
-abbrev first : Option Row → Option Row → Option Row
+abbrev first : Option PageRow → Option PageRow → Option PageRow
 first none y = y
 first (some r) y = some r
 
-first-none : (x : Option Row) → first x none ≡ x
+first-none : (x : Option PageRow) → first x none ≡ x
 first-none none = refl
 first-none (some r) = refl
 
-find-append : (k : Key) (xs ys : Table) → find k (xs ++ ys) ≡ first (find k xs) (find k ys)
-unfolding find
+find-append : (k : Key) (xs ys : Table) → findKey k (xs ++ ys) ≡ first (findKey k xs) (findKey k ys)
+unfolding findKey
 find-append k [] ys = refl
 find-append k (x ∷ xs) ys = byBool (sameKey k (x .key)) (λ t. rw t) (λ t. rw t (find-append k xs ys))
 
@@ -157,20 +157,20 @@ module _ (o : Overlay) (w : Sound o) (n : Ranked o) where
   part k = kindTable k (shelfOf k o) (heldTexts o)
 
   -- a key finds what it finds among the rows of its kind
-  in-kind : (j : Kind) (id : ℤ) → ((k : Kind) → (k ≡ j → ⊥) → find (record { kind = j; id = id }) (part k) ≡ none)
-      → find (record { kind = j; id = id }) (tableOf o) ≡ find (record { kind = j; id = id }) (part j)
+  in-kind : (j : Kind) (id : ℤ) → ((k : Kind) → (k ≡ j → ⊥) → findKey (record { kind = j; id = id }) (part k) ≡ none)
+      → findKey (record { kind = j; id = id }) (tableOf o) ≡ findKey (record { kind = j; id = id }) (part j)
   unfolding tableOf
   in-kind Node id h =
       let key : Key = record { kind = Node; id = id } in
-      rw (find-append key (part Node ++ part Way) (part Relation), find-append key (part Node) (part Way), h Way (λ e. no (cc)), h Relation (λ e. no (cc)), first-none (find key (part Node)), first-none (find key (part Node)))
+      rw (find-append key (part Node ++ part Way) (part Relation), find-append key (part Node) (part Way), h Way (λ e. no (cc)), h Relation (λ e. no (cc)), first-none (findKey key (part Node)), first-none (findKey key (part Node)))
   in-kind Way id h =
       let key : Key = record { kind = Way; id = id } in
-      rw (find-append key (part Node ++ part Way) (part Relation), find-append key (part Node) (part Way), h Node (λ e. no (cc)), h Relation (λ e. no (cc)), first-none (find key (part Way)))
+      rw (find-append key (part Node ++ part Way) (part Relation), find-append key (part Node) (part Way), h Node (λ e. no (cc)), h Relation (λ e. no (cc)), first-none (findKey key (part Way)))
   in-kind Relation id h =
       let key : Key = record { kind = Relation; id = id } in
       rw (find-append key (part Node ++ part Way) (part Relation), find-append key (part Node) (part Way), h Node (λ e. no (cc)), h Way (λ e. no (cc)))
 
-  part-none : (key : Key) (k : Kind) → ((m : ℕ) → m < 2 ^ 64 → key ≡ record { kind = k; id = idOf m } → ⊥) → find key (part k) ≡ none
+  part-none : (key : Key) (k : Kind) → ((m : ℕ) → m < 2 ^ 64 → key ≡ record { kind = k; id = idOf m } → ⊥) → findKey key (part k) ≡ none
   unfolding kindTable
   part-none key k h = find-none k (shelfOf k o) (heldTexts o) key h (rowsIn (shelfOf k o)) (n .rows k)
 
@@ -190,7 +190,7 @@ module _ (o : Overlay) (w : Sound o) (n : Ranked o) where
       (λ l. rw (i, l))
 
   -- a key finds what the overlay knows of it
-  pub table-find : (key : Key) → SFits w64 (key .id) → find key (tableOf o) ≡ rowIn key (knownIn o key)
+  pub table-find : (key : Key) → SFits w64 (key .id) → findKey key (tableOf o) ≡ rowIn key (knownIn o key)
   unfolding knownIn kindTable
   table-find key g =
       let k = key .kind in
@@ -199,10 +199,10 @@ module _ (o : Overlay) (w : Sound o) (n : Ranked o) where
       ∙ (find-rows k s (heldTexts o) (key .id) g (rowsIn s) (n .rows k) ∙ row-known key g (Rows.find (rank (key .id)) (rowsIn s)) refl)
 
   -- an id that has not 64 bits has no row
-  pub table-none : (key : Key) → (SFits w64 (key .id) → ⊥) → find key (tableOf o) ≡ none
+  pub table-none : (key : Key) → (SFits w64 (key .id) → ⊥) → findKey key (tableOf o) ≡ none
   unfolding tableOf
   table-none key g =
-      let gone : (k : Kind) → find key (part k) ≡ none = λ k. part-none key k (λ m f e. g (subst (SFits w64) (sym (ap (λ (z : Key). z .id) e)) (id-fits (fits-of-lt f)))) in
+      let gone : (k : Kind) → findKey key (part k) ≡ none = λ k. part-none key k (λ m f e. g (subst (SFits w64) (sym (ap (λ (z : Key). z .id) e)) (id-fits (fits-of-lt f)))) in
       rw (find-append key (part Node ++ part Way) (part Relation), find-append key (part Node) (part Way), gone Node, gone Way, gone Relation)
 
   -- ---- the bridge to the page

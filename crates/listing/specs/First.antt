@@ -7,13 +7,13 @@ use Rattle.base.specs.Bytes.{Bytes}
 use Rattle.refusal.specs.declared.Refusal.{Refusal}
 use Rattle.refusal.specs.declared.Refusal.the-variants as R
 use Rattle.overlay.specs.Overlay.{Overlay}
-use Rattle.refusal.specs.First.{Row, row}
+use Rattle.refusal.specs.First.{ConditionRow, row}
 use Rattle.overlay.specs.First.{unsoundRow}
 use Rattle.listing.specs.Call.{pageOf}
 use Rattle.listing.specs.declared.Listed.{Listed}
 use Rattle.listing.specs.declared.Listed.the-variants.{Length, Refused}
 
-abbrev pub listingTable : Bytes → Overlay → List (Row Refusal)
+abbrev pub listingTable : Bytes → Overlay → List (ConditionRow Refusal)
 listingTable out o = unsoundRow o ∷ row R.ShortOutput (ltb (length out) (length (pageOf o))) ∷ []
 
 -- the refusal of an answer, if it is one

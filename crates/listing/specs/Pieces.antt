@@ -13,8 +13,8 @@ use Rattle.rows.specs.Lines.{kindPieces}
 abbrev pub textHeld : Store → ℕ → Bytes
 textHeld t = heldText (t .spans) (usedOf t) (t .strings)
 
-abbrev pub linesOf : Kind → Overlay → List Bytes
-linesOf k o = kindPieces (textHeld (o .texts)) k (shelfOf k o)
+abbrev pub kindLines : Kind → Overlay → List Bytes
+kindLines k o = kindPieces (textHeld (o .texts)) k (shelfOf k o)
 
 unfoldable pub piecesOf : Overlay → List Bytes
-piecesOf o = linesOf Node o ++ linesOf Way o ++ linesOf Relation o
+piecesOf o = kindLines Node o ++ kindLines Way o ++ kindLines Relation o

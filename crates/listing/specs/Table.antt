@@ -18,7 +18,7 @@ use Rattle.table.specs.declared.Row as table
 use Rattle.shelf.specs.Shelf.{Shelf, isLive, known}
 use Rattle.shelf.specs.Fair.{rowsIn}
 use Rattle.overlay.specs.Overlay.{Overlay, shelfOf}
-use Rattle.page.specs.Summary.{Row, Table}
+use Rattle.page.specs.Summary.{PageRow, Table}
 use Rattle.listing.specs.Known.{recordIn}
 
 -- live with a record, its texts as texts; a place at which no record starts is unsound
@@ -31,7 +31,7 @@ unfoldable pub leftAt : Kind → Shelf → (ℕ → Bytes) → table.Row → Lef
 leftAt k s f r = cond (isLive (r .place)) (leftWith f (recordIn k s (r .place))) gone
 
 -- "kind; id; `+` live or `-` deleted; known version or `?`"
-abbrev pub rowOf : Kind → Shelf → (ℕ → Bytes) → table.Row → Row
+abbrev pub rowOf : Kind → Shelf → (ℕ → Bytes) → table.Row → PageRow
 rowOf k s f r = record { key = record { kind = k; id = idOf (r .rank) }; high = known k s (idOf (r .rank)); last = leftAt k s f r }
 
 -- the known ids of a kind, in the table's order, which is OSM order

@@ -1,6 +1,6 @@
 // The listing of an overlay into lent bytes: one walk that measures, and the same walk that writes.
 ghost use mathlib.Core.Path.{_≡_};
-ghost use Rattle.print.specs.Print.{print, joined};
+ghost use Rattle.print.specs.Print.{print, joinedPieces};
 ghost use Rattle.print.specs.declared.Room.the-variants.{Left};
 ghost use Rattle.overlay.specs.Overlay.{lent};
 ghost use Rattle.listing.specs.Pieces.{piecesOf};
@@ -90,7 +90,7 @@ fn put_listing(
     out: &mut [u8],
 ) -> Listed
     ensures { λ r. ⌜ record { out = now (out .exit); answer = r }
-        ≡ pageOver (now (out .entry)) (joined (piecesOf (lent nids narena wids warena rids rarena spans bytes counts))) ⌝ }
+        ≡ pageOver (now (out .entry)) (joinedPieces (piecesOf (lent nids narena wids warena rids rarena spans bytes counts))) ⌝ }
 {
     let end = out.len();
     let Room::Left(left) = put_page(

@@ -13,7 +13,7 @@ use Rattle.base.proofs.Split.{byBool, byLt}
 use Rattle.refusal.specs.declared.Refusal.{Refusal}
 use Rattle.model.specs.Record.{Meta, flagged}
 use Rattle.event.specs.Event.{Attr}
-use Rattle.scan.specs.Piece.{textOf}
+use Rattle.scan.specs.Piece.{valueText}
 use Rattle.scan.specs.Scan.{attributesAt}
 use Rattle.scan.proofs.Places.{Stands}
 use Rattle.scan.proofs.Attributes.{attributes-step}
@@ -57,7 +57,7 @@ named-as m a =
     byBool (same (a .name) (ascii "visible")) (λ e. rw e) (λ e6. rw e6)))))))))))
 
 -- the word `false` is read as it is written
-pub false-here : {t : Bytes} {from to : ℕ} → Inside t from to → {b : Bool} → b ≡ same (midOf from (to - from) t) (ascii "false") → b ≡ same (textOf (slice from to t)) (ascii "false")
+pub false-here : {t : Bytes} {from to : ℕ} → Inside t from to → {b : Bool} → b ≡ same (midOf from (to - from) t) (ascii "false") → b ≡ same (valueText (slice from to t)) (ascii "false")
 false-here {t} {from} {to} v e = e ∙ ap (λ (s : Bytes). same s (ascii "false")) (part v) ∙ false-raw (slice from to t)
 
 -- ---- attributes in line order
@@ -78,13 +78,13 @@ module _ {t : Bytes} {at eq to : ℕ} (d : Stands t at eq to) where
   module _ (m : Meta Bytes) where
     -- the attribute here, then those behind it
     meta-step : metaFrom m (attributesAt t at)
-        ≡ andThen (metaAs (metaName (slice at eq t)) m (textOf (slice (cond (ltb eq to) (eq + 1) to) to t))) (λ n. metaFrom n (attributesAt t (to + 1)))
+        ≡ andThen (metaAs (metaName (slice at eq t)) m (valueText (slice (cond (ltb eq to) (eq + 1) to) to t))) (λ n. metaFrom n (attributesAt t (to + 1)))
     unfolding metaFrom
-    meta-step = rw (attributes-step d, named-as m (record { name = slice at eq t; value = textOf (slice (eq + 1) to t) }), behind-same)
+    meta-step = rw (attributes-step d, named-as m (record { name = slice at eq t; value = valueText (slice (eq + 1) to t) }), behind-same)
 
-    pub meta-on : (n : Meta Bytes) → got n ≡ metaAs (metaName (slice at eq t)) m (textOf (slice (cond (ltb eq to) (eq + 1) to) to t))
+    pub meta-on : (n : Meta Bytes) → got n ≡ metaAs (metaName (slice at eq t)) m (valueText (slice (cond (ltb eq to) (eq + 1) to) to t))
         → metaFrom n (attributesAt t (to + 1)) ≡ metaFrom m (attributesAt t at)
     meta-on n e = sym (meta-step ∙ rw (← e))
 
-    pub meta-stops : (r : Refusal) → bad r ≡ metaAs (metaName (slice at eq t)) m (textOf (slice (cond (ltb eq to) (eq + 1) to) to t)) → bad r ≡ metaFrom m (attributesAt t at)
+    pub meta-stops : (r : Refusal) → bad r ≡ metaAs (metaName (slice at eq t)) m (valueText (slice (cond (ltb eq to) (eq + 1) to) to t)) → bad r ≡ metaFrom m (attributesAt t at)
     meta-stops r e = sym (meta-step ∙ rw (← e))

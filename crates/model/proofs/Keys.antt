@@ -8,7 +8,7 @@ use borrow.Author.Tests.{lt-ltb, le-ltb, eq-eqb}
 use Rattle.base.specs.Bytes.{both}
 use Rattle.base.proofs.Split.{byBool, byLt, clash, both-left, both-right, both-of}
 use Rattle.base.proofs.Strict.{Strict, byOrder}
-use Rattle.kind.specs.Kind.{numberOf, sameKind}
+use Rattle.kind.specs.Kind.{kindNumber, sameKind}
 use Rattle.kind.specs.declared.Kind.{Kind}
 use Rattle.kind.proofs.Numbers as Numbers
 use Rattle.osm_id.specs.Order.{before}
@@ -42,25 +42,25 @@ byKey a b f g = byBool (sameKey a b) (λ t. f (same-yes a b t)) (λ t. g (λ e. 
 -- ids of one kind are in OSM order
 pub ids-order : (a b : Key) → a .kind ≡ b .kind → keyBefore a b ≡ before (a .id) (b .id)
 unfolding keyBefore both
-ids-order a b e = rw (e, le-ltb (numberOf (b .kind)) (numberOf (b .kind)) (omega arith), Numbers.same-refl (b .kind))
+ids-order a b e = rw (e, le-ltb (kindNumber (b .kind)) (kindNumber (b .kind)) (omega arith), Numbers.same-refl (b .kind))
 
 module _ (a b : Key) where
   -- an id of an earlier kind comes first
-  pub kinds-order : numberOf (a .kind) < numberOf (b .kind) → keyBefore a b ≡ true
+  pub kinds-order : kindNumber (a .kind) < kindNumber (b .kind) → keyBefore a b ≡ true
   unfolding keyBefore
-  kinds-order h = rw (lt-ltb (numberOf (a .kind)) (numberOf (b .kind)) h)
+  kinds-order h = rw (lt-ltb (kindNumber (a .kind)) (kindNumber (b .kind)) h)
 
   -- and there is no other way to come first
-  pub byKeys : {C : Type 0} → keyBefore a b ≡ true → (numberOf (a .kind) < numberOf (b .kind) → C) → (a .kind ≡ b .kind → before (a .id) (b .id) ≡ true → C) → C
+  pub byKeys : {C : Type 0} → keyBefore a b ≡ true → (kindNumber (a .kind) < kindNumber (b .kind) → C) → (a .kind ≡ b .kind → before (a .id) (b .id) ≡ true → C) → C
   unfolding keyBefore
   byKeys t f g =
-      byLt (numberOf (a .kind)) (numberOf (b .kind)) f
-      (λ h. let u : both (sameKind (a .kind) (b .kind)) (before (a .id) (b .id)) ≡ true = rw (le-ltb (numberOf (a .kind)) (numberOf (b .kind)) h) at t in
+      byLt (kindNumber (a .kind)) (kindNumber (b .kind)) f
+      (λ h. let u : both (sameKind (a .kind) (b .kind)) (before (a .id) (b .id)) ≡ true = rw (le-ltb (kindNumber (a .kind)) (kindNumber (b .kind)) h) at t in
       g (Numbers.same-yes (a .kind) (b .kind) (both-left _ _ u)) (both-right _ _ u))
 
-pub same-kind : (a b : Kind) → numberOf a ≡ numberOf b → a ≡ b
+pub same-kind : (a b : Kind) → kindNumber a ≡ kindNumber b → a ≡ b
 unfolding sameKind
-same-kind a b e = Numbers.same-yes a b (eq-eqb (numberOf a) (numberOf b) e)
+same-kind a b e = Numbers.same-yes a b (eq-eqb (kindNumber a) (kindNumber b) e)
 
 pub keys : Strict keyBefore
 keys = record {
@@ -69,14 +69,14 @@ keys = record {
       byKeys a b s
       (λ h. byKeys b c t
       (λ k. kinds-order a c (omega arith))
-      (λ e u. kinds-order a c (omega (arith, ap numberOf e))))
+      (λ e u. kinds-order a c (omega (arith, ap kindNumber e))))
       (λ d u. byKeys b c t
-      (λ k. kinds-order a c (omega (arith, ap numberOf d)))
+      (λ k. kinds-order a c (omega (arith, ap kindNumber d)))
       (λ e v. ids-order a c (d ∙ e) ∙ order .transitive (a .id) (b .id) (c .id) u v));
   total = λ a b.
-      byLt (numberOf (a .kind)) (numberOf (b .kind))
+      byLt (kindNumber (a .kind)) (kindNumber (b .kind))
       (λ h. inl (kinds-order a b h))
-      (λ h. byLt (numberOf (b .kind)) (numberOf (a .kind))
+      (λ h. byLt (kindNumber (b .kind)) (kindNumber (a .kind))
       (λ k. inr (inr (kinds-order b a k)))
       (λ k. let e : a .kind ≡ b .kind = same-kind (a .kind) (b .kind) (omega arith) in
       byOrder order (a .id) (b .id)

@@ -3,11 +3,11 @@ use mathlib.Core.Path.{_≡_, refl, ap}
 use mathlib.Core.List.{List, [], _∷_, _++_, map, map-id, map-map, map-append}
 use Rattle.model.specs.Record.{Member, Tag, Body, place, refs, members, Record, claimOf, kindOf}
 use Rattle.model.specs.Act.{Act, push, delete, keyOf, claimedBy}
-use Rattle.model.specs.Swap.{swapMeta, swapMember, swapTag, swapBody, swapRecord, swapAct, rolesOf, keysOf, bodyTexts, textsOf}
+use Rattle.model.specs.Swap.{swapMeta, swapMember, swapTag, swapBody, swapRecord, swapAct, rolesOf, keysOf, bodyTexts, recordTexts}
 
 -- the texts of an act: a deletion has none
 abbrev pub textsIn : {S : Type 0} → Act S → List S
-textsIn (push id r) = textsOf r
+textsIn (push id r) = recordTexts r
 textsIn (delete k id claim) = []
 
 -- ---- each text for itself
@@ -71,7 +71,7 @@ module _ {S U : Type 0} (f g : S → U) where
   body-agree (refs rs) e = refl
   body-agree (members ms) e = ap members (members-agree ms e)
 
-  pub record-agree : (r : Record S) → map f (textsOf r) ≡ map g (textsOf r) → swapRecord f r ≡ swapRecord g r
+  pub record-agree : (r : Record S) → map f (recordTexts r) ≡ map g (recordTexts r) → swapRecord f r ≡ swapRecord g r
   record-agree r e =
       let q : map f (bodyTexts (r .body) ++ keysOf (r .tags)) ≡ map g (bodyTexts (r .body) ++ keysOf (r .tags)) = cc in
       let h = both-parts (bodyTexts (r .body)) (keysOf (r .tags)) q in
@@ -97,7 +97,7 @@ module _ {S U : Type 0} (f : S → U) where
   body-swap (refs rs) = refl
   body-swap (members ms) = roles-swap ms
 
-  pub record-texts : (r : Record S) → textsOf (swapRecord f r) ≡ map f (textsOf r)
+  pub record-texts : (r : Record S) → recordTexts (swapRecord f r) ≡ map f (recordTexts r)
   record-texts r = rw (body-swap (r .body), keys-swap (r .tags), map-append)
 
   pub act-texts : (a : Act S) → textsIn (swapAct f a) ≡ map f (textsIn a)

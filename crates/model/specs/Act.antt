@@ -3,7 +3,7 @@ use mathlib.Core.Bool.{Bool, true, cond}
 use lib.Dec.{ltb}
 use lib.IntN.{ℤ}
 use Rattle.base.specs.Bytes.{both}
-use Rattle.kind.specs.Kind.{numberOf, sameKind}
+use Rattle.kind.specs.Kind.{kindNumber, sameKind}
 use Rattle.kind.specs.declared.Kind.{Kind}
 use Rattle.osm_id.specs.Order.{before, sameId}
 use Rattle.version_floor.specs.declared.Version.{Version}
@@ -19,7 +19,7 @@ sameKey a b = both (sameKind (a .kind) (b .kind)) (sameId (a .id) (b .id))
 
 -- "Kinds n, w, r in that order, ids in OSM order"
 unfoldable pub keyBefore : Key → Key → Bool
-keyBefore a b = cond (ltb (numberOf (a .kind)) (numberOf (b .kind))) true (both (sameKind (a .kind) (b .kind)) (before (a .id) (b .id)))
+keyBefore a b = cond (ltb (kindNumber (a .kind)) (kindNumber (b .kind))) true (both (sameKind (a .kind) (b .kind)) (before (a .id) (b .id)))
 
 pub data Act (S : Type 0) : Type 0 where
   push : ℤ → Record S → Act S

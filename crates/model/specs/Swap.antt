@@ -39,5 +39,5 @@ module _ {S : Type 0} where
   bodyTexts (refs rs) = []
   bodyTexts (members ms) = rolesOf ms
 
-  abbrev pub textsOf : Record S → List S
-  textsOf r = r .meta .user ∷ (bodyTexts (r .body) ++ keysOf (r .tags))
+  abbrev pub recordTexts : Record S → List S
+  recordTexts r = r .meta .user ∷ (bodyTexts (r .body) ++ keysOf (r .tags))

@@ -9,7 +9,7 @@ use Rattle.nesting.specs.declared.Action.the-variants as A
 use Rattle.nesting.specs.declared.Level.the-variants.{Done}
 use Rattle.nesting.specs.Nesting.{start}
 use Rattle.nesting.specs.Marks.{Mark, opens, empties, closes, Accepted, pushes, deletes, changesFrom}
-use Rattle.nesting.specs.Grammar.{Document, empty, full, tag, object, block, each, written, partMarks, objectMarks, itemMarks, strays, events, becomes, objectChanges, inside, itemChanges, changes}
+use Rattle.nesting.specs.Grammar.{Document, empty, full, tag, object, block, eachGives, written, partMarks, objectMarks, itemMarks, strays, events, becomes, objectChanges, inside, itemChanges, changes}
 use Rattle.nesting.proofs.Taken.{place, document-leads}
 use Rattle.nesting.proofs.Parsed.{parsed}
 
@@ -34,9 +34,9 @@ input-a = record {
 
 input-a-marks : events input-a
     ≡ opens N.OsmChange ∷ opens N.Modify ∷ opens N.Node ∷ empties N.Tag ∷ closes ∷ closes ∷ opens N.Delete ∷ empties N.Way ∷ closes ∷ closes ∷ []
-unfolding input-a events strays each written itemMarks objectMarks partMarks
+unfolding input-a events strays eachGives written itemMarks objectMarks partMarks
 input-a-marks = refl
 
 input-a-changes : changesFrom start (events input-a) ≡ pushes K.Node ∷ deletes K.Way ∷ []
-unfolding input-a changes inside each itemChanges objectChanges becomes
+unfolding input-a changes inside eachGives itemChanges objectChanges becomes
 input-a-changes = document-changes input-a

@@ -14,8 +14,8 @@ use Rattle.nesting.specs.declared.Level.{Level}
 use Rattle.nesting.specs.declared.Level.the-variants.{Doc, Root, Section, Element, Leaf, Other, Done}
 use Rattle.nesting.specs.declared.Place.{Place}
 use Rattle.nesting.specs.Nesting.{at, unless, sectionOf, beginsAs, inDoc, inRoot, inSection, inElement, openedAt, opened, closedTo, closed}
-use Rattle.nesting.specs.Marks.{Mark, opens, empties, closes, taken, step, run}
-use Rattle.nesting.specs.Grammar.{empty, full, Bare, Part, tag, nd, member, wayBounds, relationBounds, Object, object, Foreign, foreignTag, foreignNd, foreignMember, foreignBounds, foreignUnknown, Item, block, foreign, Document, each, written, bare, partMarks, kindName, objectMarks, actionName, foreignName, itemMarks, strays, events}
+use Rattle.nesting.specs.Marks.{Mark, opens, empties, closes, placeTaken, markStep, run}
+use Rattle.nesting.specs.Grammar.{empty, full, Bare, Part, tag, nd, member, wayBounds, relationBounds, Object, object, Foreign, foreignTag, foreignNd, foreignMember, foreignBounds, foreignUnknown, Item, block, foreign, Document, eachGives, written, bare, partMarks, kindName, objectMarks, actionName, foreignName, itemMarks, strays, events}
 use Rattle.nesting.proofs.Taken.{place}
 
 -- what is left of a document at a level, for an open object of kind k
@@ -30,13 +30,13 @@ Rest Done k = ℕ
 
 -- its marks
 abbrev rootTail : List Item × ℕ → List Mark
-rootTail r = each itemMarks (r .0) ++ (closes ∷ strays (r .1))
+rootTail r = eachGives itemMarks (r .0) ++ (closes ∷ strays (r .1))
 
 abbrev sectionTail : List Object × (List Item × ℕ) → List Mark
-sectionTail r = each objectMarks (r .0) ++ (closes ∷ rootTail (r .1))
+sectionTail r = eachGives objectMarks (r .0) ++ (closes ∷ rootTail (r .1))
 
 abbrev elementTail : (k : Kind) → List (Part k) × (List Object × (List Item × ℕ)) → List Mark
-elementTail k r = each partMarks (r .0) ++ (closes ∷ sectionTail (r .1))
+elementTail k r = eachGives partMarks (r .0) ++ (closes ∷ sectionTail (r .1))
 
 abbrev tail : (l : Level) (k : Kind) → Rest l k → List Mark
 tail Doc k d = events d
@@ -65,12 +65,12 @@ next m e = ap {B = List Mark} (λ zs. m ∷ zs) e
 -- One mark more in front, level by level: an open or an empty element that is taken there begins a piece of the document.
 module _ (a : Action) {ms : List Mark} where
   part-back : {k : Kind} (n : Name) (x : Bare → Part k) → ((w : Bare) → partMarks (x w) ≡ bare n w) → (e : Bool) → After (some (unless e Leaf (place Element a k))) ms → Left Element k (mark e n ∷ ms)
-  unfolding each written
+  unfolding eachGives written
   part-back n x s true h = ((x empty ∷ (h .0 .0), h .0 .1), rw (s empty) (next _ (h .1)))
   part-back n x s false h = ((x (full tt) ∷ (h .0 .0), h .0 .1), rw (s (full tt)) (next _ (h .1)))
 
-  element-back : (k : Kind) (e : Bool) (n : Name) → After (taken (inElement e n (place Element a k))) ms → Left Element k (mark e n ∷ ms)
-  unfolding taken inElement partMarks
+  element-back : (k : Kind) (e : Bool) (n : Name) → After (placeTaken (inElement e n (place Element a k))) ms → Left Element k (mark e n ∷ ms)
+  unfolding placeTaken inElement partMarks
   element-back k e N.OsmChange h = absurd h
   element-back k e N.Create h = absurd h
   element-back k e N.Modify h = absurd h
@@ -90,13 +90,13 @@ module _ (a : Action) {ms : List Mark} where
   element-back K.Relation e N.Bounds h = part-back N.Bounds relationBounds (λ w. refl) e h
   element-back k e N.Unknown h = absurd h
 
-  object-back : (k₀ k : Kind) (e : Bool) → After (taken (beginsAs e k (place Section a k₀))) ms → Left Section k₀ (mark e (kindName k) ∷ ms)
-  unfolding taken each objectMarks written
+  object-back : (k₀ k : Kind) (e : Bool) → After (placeTaken (beginsAs e k (place Section a k₀))) ms → Left Section k₀ (mark e (kindName k) ∷ ms)
+  unfolding placeTaken eachGives objectMarks written
   object-back k₀ k true h = ((object k empty ∷ (h .0 .0), h .0 .1), next _ (h .1))
   object-back k₀ k false h = ((object k (full (h .0 .0)) ∷ (h .0 .1 .0), h .0 .1 .1), rw append-assoc (rw append-assoc (next _ (h .1))))
 
-  section-back : (k : Kind) (e : Bool) (n : Name) → After (taken (inSection e n (place Section a k))) ms → Left Section k (mark e n ∷ ms)
-  unfolding taken inSection
+  section-back : (k : Kind) (e : Bool) (n : Name) → After (placeTaken (inSection e n (place Section a k))) ms → Left Section k (mark e n ∷ ms)
+  unfolding placeTaken inSection
   section-back k e N.OsmChange h = absurd h
   section-back k e N.Create h = absurd h
   section-back k e N.Modify h = absurd h
@@ -110,18 +110,18 @@ module _ (a : Action) {ms : List Mark} where
   section-back k e N.Bounds h = absurd h
   section-back k e N.Unknown h = absurd h
 
-  block-back : (k : Kind) (b : Action) (e : Bool) → After (taken (sectionOf e b (place Root a k))) ms → Left Root k (mark e (actionName b) ∷ ms)
-  unfolding taken each itemMarks written
+  block-back : (k : Kind) (b : Action) (e : Bool) → After (placeTaken (sectionOf e b (place Root a k))) ms → Left Root k (mark e (actionName b) ∷ ms)
+  unfolding placeTaken eachGives itemMarks written
   block-back k b true h = ((block b empty ∷ (h .0 .0), h .0 .1), next _ (h .1))
   block-back k b false h = ((block b (full (h .0 .0)) ∷ (h .0 .1 .0), h .0 .1 .1), rw append-assoc (rw append-assoc (next _ (h .1))))
 
   foreign-back : (k : Kind) (f : Foreign) (e : Bool) → After (some (unless e Other (place Root a k))) ms → Left Root k (mark e (foreignName f) ∷ ms)
-  unfolding taken each itemMarks written
+  unfolding placeTaken eachGives itemMarks written
   foreign-back k f true h = ((foreign f empty ∷ (h .0 .0), h .0 .1), next _ (h .1))
   foreign-back k f false h = ((foreign f (full tt) ∷ (h .0 .0), h .0 .1), next _ (h .1))
 
-  root-back : (k : Kind) (e : Bool) (n : Name) → After (taken (inRoot e n (place Root a k))) ms → Left Root k (mark e n ∷ ms)
-  unfolding taken inRoot
+  root-back : (k : Kind) (e : Bool) (n : Name) → After (placeTaken (inRoot e n (place Root a k))) ms → Left Root k (mark e n ∷ ms)
+  unfolding placeTaken inRoot
   root-back k e N.OsmChange h = absurd h
   root-back k e N.Create h = block-back k A.Create e h
   root-back k e N.Modify h = block-back k A.Modify e h
@@ -140,8 +140,8 @@ module _ (a : Action) {ms : List Mark} where
   document-back k true h = (record { before = 0; root = empty; after = h .0 }, next _ (h .1))
   document-back k false h = (record { before = 0; root = full (h .0 .0); after = h .0 .1 }, rw append-assoc (next _ (h .1)))
 
-  doc-back : (k : Kind) (e : Bool) (n : Name) → After (taken (inDoc e n (place Doc a k))) ms → Left Doc k (mark e n ∷ ms)
-  unfolding taken inDoc
+  doc-back : (k : Kind) (e : Bool) (n : Name) → After (placeTaken (inDoc e n (place Doc a k))) ms → Left Doc k (mark e n ∷ ms)
+  unfolding placeTaken inDoc
   doc-back k e N.OsmChange h = document-back k e h
   doc-back k e N.Create h = absurd h
   doc-back k e N.Modify h = absurd h
@@ -155,8 +155,8 @@ module _ (a : Action) {ms : List Mark} where
   doc-back k e N.Bounds h = absurd h
   doc-back k e N.Unknown h = absurd h
 
-  opened-back : (l : Level) (k : Kind) (e : Bool) (n : Name) → After (taken (opened e n (place l a k))) ms → Left l k (mark e n ∷ ms)
-  unfolding taken opened openedAt
+  opened-back : (l : Level) (k : Kind) (e : Bool) (n : Name) → After (placeTaken (opened e n (place l a k))) ms → Left l k (mark e n ∷ ms)
+  unfolding placeTaken opened openedAt
   opened-back Doc k e n h = doc-back k e n h
   opened-back Root k e n h = root-back k e n h
   opened-back Section k e n h = section-back k e n h
@@ -167,7 +167,7 @@ module _ (a : Action) {ms : List Mark} where
 
   -- a close ends a piece, or is a stray
   closed-back : (l : Level) (k : Kind) → After (some (closed (place l a k))) ms → Left l k (closes ∷ ms)
-  unfolding closed closedTo each strays events
+  unfolding closed closedTo eachGives strays events
   closed-back Doc k h = (record { before = suc (h .0 .before); root = h .0 .root; after = h .0 .after }, next _ (h .1))
   closed-back Root k h = (([], h .0), next _ (h .1))
   closed-back Section k h = (([], h .0), next _ (h .1))
@@ -176,8 +176,8 @@ module _ (a : Action) {ms : List Mark} where
   closed-back Other k h = (h .0, next _ (h .1))
   closed-back Done k h = (suc (h .0), next _ (h .1))
 
-back : (p : Place) (m : Mark) {ms : List Mark} → After (step p m) ms → Left (p .level) (p .kind) (m ∷ ms)
-unfolding step
+back : (p : Place) (m : Mark) {ms : List Mark} → After (markStep p m) ms → Left (p .level) (p .kind) (m ∷ ms)
+unfolding markStep
 back p (opens n) h = opened-back (p .section) (p .level) (p .kind) false n h
 back p (empties n) h = opened-back (p .section) (p .level) (p .kind) true n h
 back p closes h = closed-back (p .section) (p .level) (p .kind) h
@@ -189,7 +189,7 @@ ended l k e = subst (λ (x : Level). Left x k []) (sym e) (0, refl)
 pub parsed : (ms : List Mark) (p q : Place) → run p ms ≡ some q → q .level ≡ Done → Left (p .level) (p .kind) ms
 unfolding run bind
 parsed [] p q e d = ended _ _ (ap (λ (x : Place). x .level) (Option·some-injective p q e) ∙ d)
-parsed (m ∷ ms) p q e d = back p m (go (step p m) e (λ x i. parsed ms x q i d))
+parsed (m ∷ ms) p q e d = back p m (go (markStep p m) e (λ x i. parsed ms x q i d))
   where
     go : (o : Option Place) → bind o (λ x. run x ms) ≡ some q → ((x : Place) → run x ms ≡ some q → Left (x .level) (x .kind) ms) → After o ms
     go none i f = Option·none-ne-some q i

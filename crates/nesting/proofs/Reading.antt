@@ -5,12 +5,12 @@ use mathlib.Core.Option.{Option, none, some, bind, Option·elim}
 use Rattle.nesting.specs.declared.Name.{Name}
 use Rattle.nesting.specs.declared.Place.{Place}
 use Rattle.nesting.specs.Nesting.{closed}
-use Rattle.nesting.specs.Marks.{Mark, opens, empties, closes, Change, step, run, makes, changesFrom}
+use Rattle.nesting.specs.Marks.{Mark, opens, empties, closes, Change, markStep, run, makes, changesFrom}
 
 run-append : (p : Place) (xs ys : List Mark) → run p (xs ++ ys) ≡ bind (run p xs) (λ q. run q ys)
 unfolding run bind
 run-append p [] ys = refl
-run-append p (m ∷ xs) ys = go (step p m) (λ q. run-append q xs ys)
+run-append p (m ∷ xs) ys = go (markStep p m) (λ q. run-append q xs ys)
   where
     go : (o : Option Place) → ((q : Place) → run q (xs ++ ys) ≡ bind (run q xs) (λ r. run r ys)) → bind o (λ q. run q (xs ++ ys)) ≡ bind (bind o (λ q. run q xs)) (λ q. run q ys)
     go none f = refl
@@ -19,7 +19,7 @@ run-append p (m ∷ xs) ys = go (step p m) (λ q. run-append q xs ys)
 changes-append : (p : Place) (xs ys : List Mark) → changesFrom p (xs ++ ys) ≡ changesFrom p xs ++ Option·elim (run p xs) [] (λ q. changesFrom q ys)
 unfolding changesFrom run bind Option·elim
 changes-append p [] ys = refl
-changes-append p (m ∷ xs) ys = go (step p m) (λ q. changes-append q xs ys)
+changes-append p (m ∷ xs) ys = go (markStep p m) (λ q. changes-append q xs ys)
   where
     go : (o : Option Place) → ((q : Place) → changesFrom q (xs ++ ys) ≡ changesFrom q xs ++ Option·elim (run q xs) [] (λ r. changesFrom r ys))
         → makes p m ++ Option·elim o [] (λ q. changesFrom q (xs ++ ys))
@@ -36,7 +36,7 @@ pub stays : (p : Place) → Leads p [] [] p
 unfolding run changesFrom
 stays p = record { runs = refl; does = refl }
 
-pub goes : {p q r : Place} {m : Mark} {ms : List Mark} {cs : List Change} → step p m ≡ some q → Leads q ms cs r → Leads p (m ∷ ms) (makes p m ++ cs) r
+pub goes : {p q r : Place} {m : Mark} {ms : List Mark} {cs : List Change} → markStep p m ≡ some q → Leads q ms cs r → Leads p (m ∷ ms) (makes p m ++ cs) r
 unfolding run changesFrom bind Option·elim
 goes e l = record { runs = rw e (l .runs); does = rw (e, l .does) }
 
@@ -48,14 +48,14 @@ pub making : {p q : Place} {ms : List Mark} {cs ds : List Change} → Leads p ms
 making l e = record { runs = l .runs; does = l .does ∙ e }
 
 -- an empty element
-pub alone : {p q : Place} {n : Name} → step p (empties n) ≡ some q → Leads p (empties n ∷ []) (makes p (empties n)) q
+pub alone : {p q : Place} {n : Name} → markStep p (empties n) ≡ some q → Leads p (empties n ∷ []) (makes p (empties n)) q
 alone {p} {q} {n} e = making (goes e (stays q)) (append-nil _)
 
-closing : (r : Place) → step r closes ≡ some (closed r)
-unfolding step
+closing : (r : Place) → markStep r closes ≡ some (closed r)
+unfolding markStep
 closing r = refl
 
 -- an element with something in it
-pub around : {p q r : Place} {n : Name} {ms : List Mark} {cs : List Change} → step p (opens n) ≡ some q → Leads q ms cs r
+pub around : {p q r : Place} {n : Name} {ms : List Mark} {cs : List Change} → markStep p (opens n) ≡ some q → Leads q ms cs r
     → Leads p (opens n ∷ (ms ++ (closes ∷ []))) (makes p (opens n) ++ (cs ++ makes r closes)) (closed r)
 around {p} {q} {r} {n} {ms} {cs} e l = goes e (joins l (making (goes (closing r) (stays _)) (append-nil _)))

@@ -56,9 +56,9 @@ pub record Document : Type 0 where
   pub after : ℕ
 
 -- what each of a list gives, in order
-unfoldable pub each : {A B : Type 0} → (A → List B) → List A → List B
-each f [] = []
-each f (x ∷ xs) = f x ++ each f xs
+unfoldable pub eachGives : {A B : Type 0} → (A → List B) → List A → List B
+eachGives f [] = []
+eachGives f (x ∷ xs) = f x ++ eachGives f xs
 
 -- the marks of an element, by its name and the marks of what it holds
 unfoldable pub written : {A : Type 0} → Name → (A → List Mark) → Written A → List Mark
@@ -81,7 +81,7 @@ kindName K.Way = N.Way
 kindName K.Relation = N.Relation
 
 unfoldable pub objectMarks : Object → List Mark
-objectMarks (object k w) = written (kindName k) (each partMarks) w
+objectMarks (object k w) = written (kindName k) (eachGives partMarks) w
 
 abbrev pub actionName : Action → Name
 actionName A.Create = N.Create
@@ -96,7 +96,7 @@ foreignName foreignBounds = N.Bounds
 foreignName foreignUnknown = N.Unknown
 
 unfoldable pub itemMarks : Item → List Mark
-itemMarks (block a w) = written (actionName a) (each objectMarks) w
+itemMarks (block a w) = written (actionName a) (eachGives objectMarks) w
 itemMarks (foreign f w) = bare (foreignName f) w
 
 unfoldable pub strays : ℕ → List Mark
@@ -105,7 +105,7 @@ strays (suc n) = closes ∷ strays n
 
 -- a document as it is written
 unfoldable pub events : Document → List Mark
-events d = strays (d .before) ++ (written N.OsmChange (each itemMarks) (d .root) ++ strays (d .after))
+events d = strays (d .before) ++ (written N.OsmChange (eachGives itemMarks) (d .root) ++ strays (d .after))
 
 -- what an object of a kind becomes: in `create` and `modify` a push, in `delete` a deletion
 unfoldable pub becomes : Action → Kind → Change
@@ -122,9 +122,9 @@ inside f empty = []
 inside f (full a) = f a
 
 unfoldable pub itemChanges : Item → List Change
-itemChanges (block a w) = inside (each (objectChanges a)) w
+itemChanges (block a w) = inside (eachGives (objectChanges a)) w
 itemChanges (foreign f w) = []
 
 -- what a document changes, in its order
 unfoldable pub changes : Document → List Change
-changes d = inside (each itemChanges) (d .root)
+changes d = inside (eachGives itemChanges) (d .root)

@@ -20,22 +20,22 @@ pub data Mark : Type 0 where
   closes : Mark
 
 -- the place after an open or an empty element; none where it is refused 5 or 6
-unfoldable pub taken : Opened → Option Place
-taken Misplaced = none
-taken OutsideSection = none
-taken (Goes p) = some p
-taken (Begins k p) = some p
-taken (Holds c p) = some p
+unfoldable pub placeTaken : Opened → Option Place
+placeTaken Misplaced = none
+placeTaken OutsideSection = none
+placeTaken (Goes p) = some p
+placeTaken (Begins k p) = some p
+placeTaken (Holds c p) = some p
 
-unfoldable pub step : Place → Mark → Option Place
-step p (opens n) = taken (opened false n p)
-step p (empties n) = taken (opened true n p)
-step p closes = some (closed p)
+unfoldable pub markStep : Place → Mark → Option Place
+markStep p (opens n) = placeTaken (opened false n p)
+markStep p (empties n) = placeTaken (opened true n p)
+markStep p closes = some (closed p)
 
 -- the place after a list of marks; none where one is refused
 unfoldable pub run : Place → List Mark → Option Place
 run p [] = some p
-run p (m ∷ ms) = bind (step p m) (λ q. run q ms)
+run p (m ∷ ms) = bind (markStep p m) (λ q. run q ms)
 
 -- the levels take the whole list, and its end too: "18 level is not Done"
 abbrev pub Accepted : List Mark → Type 0
@@ -81,4 +81,4 @@ makes p closes = closedMakes (p .level) (p .section) (p .kind)
 -- the changes of a list of marks, in order
 unfoldable pub changesFrom : Place → List Mark → List Change
 changesFrom p [] = []
-changesFrom p (m ∷ ms) = makes p m ++ Option·elim (step p m) [] (λ q. changesFrom q ms)
+changesFrom p (m ∷ ms) = makes p m ++ Option·elim (markStep p m) [] (λ q. changesFrom q ms)

@@ -12,7 +12,7 @@ use mir.Val.{Fits, SFits}
 use borrow.Author.Tests.{lt-ltb, le-ltb, ltb-true, le-leb, leb-true, eq-eqb, eqb-true}
 use Rattle.base.proofs.Split.{byBool, byLe, byEq, clash, no, same-test}
 use Rattle.base.proofs.Strict.{Strict, byOrder, asymmetric, by-places}
-use Rattle.osm_id.specs.Order.{before, sameId, keyOf, cmpOf, keyBefore, rank, idOf, firstKey, lastKey, EndKey}
+use Rattle.osm_id.specs.Order.{before, sameId, osmKeyOf, cmpOf, idKeyBefore, rank, idOf, firstKey, lastKey, EndKey}
 use Rattle.osm_id.specs.declared.Ordering.the-variants.{Less, Equal, Greater}
 
 -- the rank, and the id of a rank, with room for h negatives instead of 2 ^ 63: any ids have such places for an h that is large enough
@@ -98,8 +98,8 @@ module _ (a b : ℤ) where
 
 -- ---- keys
 
-pub key-before : (a b : ℤ) → keyBefore (keyOf a) (keyOf b) ≡ before a b
-unfolding keyBefore keyOf before
+pub key-before : (a b : ℤ) → idKeyBefore (osmKeyOf a) (osmKeyOf b) ≡ before a b
+unfolding idKeyBefore osmKeyOf before
 key-before (pos zero) (pos zero) = refl
 key-before (pos zero) (negsuc n) = refl
 key-before (pos zero) (pos (suc n)) = refl
@@ -110,7 +110,7 @@ key-before (pos (suc m)) (pos zero) = refl
 key-before (pos (suc m)) (negsuc n) = refl
 key-before (pos (suc m)) (pos (suc n)) = leb·suc-suc (suc m) n
 
-pub key-injective : (a b : ℤ) → keyOf a ≡ keyOf b → a ≡ b
+pub key-injective : (a b : ℤ) → osmKeyOf a ≡ osmKeyOf b → a ≡ b
 key-injective a b e =
     byOrder order a b
     (λ t. clash t (cc (key-before a b, key-before b b, order .irreflexive b)))

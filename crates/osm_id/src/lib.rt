@@ -1,6 +1,6 @@
 // OSM element ids: their canonical order, their keys, and their rank in that order (osm_id.rs).
 ghost use mathlib.Core.Path.{_≡_};
-ghost use Rattle.osm_id.specs.Order.{keyOf, cmpOf, firstKey, lastKey, rank, idOf};
+ghost use Rattle.osm_id.specs.Order.{osmKeyOf, cmpOf, firstKey, lastKey, rank, idOf};
 
 // The canonical-order key: class 0 for zero, 1 for a negative id, 2 for a positive one; and the magnitude.
 #[repr(C)]
@@ -16,7 +16,7 @@ pub enum Ordering {
 }
 
 pub fn osm_id_key(id: i64) -> OsmIdKey
-    ensures { λ r. ⌜ r ≡ keyOf id ⌝ }
+    ensures { λ r. ⌜ r ≡ osmKeyOf id ⌝ }
 {
     let bits = signed::bits_of_i64(id);
     if bits == 0 {

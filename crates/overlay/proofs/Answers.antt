@@ -18,7 +18,7 @@ use Rattle.shelf.specs.declared.Kept.{Kept}
 use Rattle.shelf.specs.declared.Kept.the-variants.{Taken, Refused}
 use Rattle.overlay.specs.Overlay.{Overlay, overlayOf, countsOf, shelfOf, withShelf, withSetting, largest, sizesFit, empty}
 use Rattle.overlay.specs.Sound.{isSound}
-use Rattle.overlay.specs.Calls.{After, refused, setUp, allowOn}
+use Rattle.overlay.specs.Calls.{OverlayAfter, overlayRefused, setUp, allowOn}
 
 -- ---- the parts of an overlay
 
@@ -55,53 +55,53 @@ is-taken Taken e = refl
 is-taken (Refused r) e = no (cc)
 
 -- an answer, by what the whole is
-pub answered : {a : After} {t : Overlay} {x y : Kept} → a ≡ record { overlay = t; answer = x } → a .answer ≡ y → x ≡ y
-answered {a} e f = sym (ap (λ (z : After). z .answer) e) ∙ f
+pub answered : {a : OverlayAfter} {t : Overlay} {x y : Kept} → a ≡ record { overlay = t; answer = x } → a .answer ≡ y → x ≡ y
+answered {a} e f = sym (ap (λ (z : OverlayAfter). z .answer) e) ∙ f
 
-pub taken-as : {a : After} {t : Overlay} {x : Kept} → a ≡ record { overlay = t; answer = x } → takenIn (a .answer) ≡ true → takenIn x ≡ true
-taken-as {a} e f = sym (ap (λ (z : After). takenIn (z .answer)) e) ∙ f
+pub taken-as : {a : OverlayAfter} {t : Overlay} {x : Kept} → a ≡ record { overlay = t; answer = x } → takenIn (a .answer) ≡ true → takenIn x ≡ true
+taken-as {a} e f = sym (ap (λ (z : OverlayAfter). takenIn (z .answer)) e) ∙ f
 
 -- ---- set-up
 
 module _ (setting : ℕ) (o : Overlay) where
   -- set-up is refused 1, or taken
   pub bySetUp : {C : Type 0}
-      → (sizesFit largest o ≡ false → setUp setting o ≡ refused o R.Size → C)
+      → (sizesFit largest o ≡ false → setUp setting o ≡ overlayRefused o R.Size → C)
       → (sizesFit largest o ≡ true → setUp setting o ≡ record { overlay = empty setting o; answer = Taken } → C) → C
   unfolding setUp
   bySetUp f g = byBool (sizesFit largest o) (λ e. g e (rw e)) (λ e. f e (rw e))
 
   -- a refusal changes nothing
   pub setup-refused : (r : Refusal) → setUp setting o .answer ≡ Refused r → setUp setting o .overlay ≡ o
-  setup-refused r e = bySetUp (λ s w. ap (λ (z : After). z .overlay) w) (λ s w. let z = answered w e in no (cc))
+  setup-refused r e = bySetUp (λ s w. ap (λ (z : OverlayAfter). z .overlay) w) (λ s w. let z = answered w e in no (cc))
 
   -- 1 exactly where a lent size is outside, and no other refusal
   pub setup-1 : sizesFit largest o ≡ false → setUp setting o .answer ≡ Refused R.Size
-  setup-1 e = bySetUp (λ s w. ap (λ (z : After). z .answer) w) (λ s w. clash s e)
+  setup-1 e = bySetUp (λ s w. ap (λ (z : OverlayAfter). z .answer) w) (λ s w. clash s e)
 
   pub setup-1-only : (r : Refusal) → setUp setting o .answer ≡ Refused r → (r ≡ R.Size) × (sizesFit largest o ≡ false)
   setup-1-only r e = bySetUp (λ s w. let z = answered w e in (cc, s)) (λ s w. let z = answered w e in no (cc))
 
   pub setup-taken : takenIn (setUp setting o .answer) ≡ true → (sizesFit largest o ≡ true) × (setUp setting o .overlay ≡ empty setting o)
-  setup-taken e = bySetUp (λ s w. let z : false ≡ true = taken-as w e in no (cc)) (λ s w. (s, ap (λ (z : After). z .overlay) w))
+  setup-taken e = bySetUp (λ s w. let z : false ≡ true = taken-as w e in no (cc)) (λ s w. (s, ap (λ (z : OverlayAfter). z .overlay) w))
 
 -- ---- the regression setting
 
 module _ (setting : ℕ) (o : Overlay) where
   -- it is refused 22, or taken
   pub byAllow : {C : Type 0}
-      → (isSound o ≡ false → allowOn setting o ≡ refused o R.Unsound → C)
+      → (isSound o ≡ false → allowOn setting o ≡ overlayRefused o R.Unsound → C)
       → (isSound o ≡ true → allowOn setting o ≡ record { overlay = withSetting setting o; answer = Taken } → C) → C
   unfolding allowOn
   byAllow f g = byBool (isSound o) (λ e. g e (rw e)) (λ e. f e (rw e))
 
   -- a refusal changes nothing
   pub allow-refused : (r : Refusal) → allowOn setting o .answer ≡ Refused r → allowOn setting o .overlay ≡ o
-  allow-refused r e = byAllow (λ s w. ap (λ (z : After). z .overlay) w) (λ s w. let z = answered w e in no (cc))
+  allow-refused r e = byAllow (λ s w. ap (λ (z : OverlayAfter). z .overlay) w) (λ s w. let z = answered w e in no (cc))
 
   -- 22 exactly where the overlay is unsound, and no other refusal
   pub allow-22 : isSound o ≡ false → allowOn setting o .answer ≡ Refused R.Unsound
-  allow-22 e = byAllow (λ s w. ap (λ (z : After). z .answer) w) (λ s w. clash s e)
+  allow-22 e = byAllow (λ s w. ap (λ (z : OverlayAfter). z .answer) w) (λ s w. clash s e)
 
   pub allow-22-only : (r : Refusal) → allowOn setting o .answer ≡ Refused r → (r ≡ R.Unsound) × (isSound o ≡ false)
   allow-22-only r e = byAllow (λ s w. let z = answered w e in (cc, s)) (λ s w. let z = answered w e in no (cc))
@@ -109,7 +109,7 @@ module _ (setting : ℕ) (o : Overlay) where
   -- an accepted one stores the setting, and nothing else changes
   pub allow-taken : takenIn (allowOn setting o .answer) ≡ true → (isSound o ≡ true) × (allowOn setting o .overlay ≡ withSetting setting o)
   allow-taken e =
-      byAllow (λ s w. let z : false ≡ true = taken-as w e in no (cc)) (λ s w. (s, ap (λ (z : After). z .overlay) w))
+      byAllow (λ s w. let z : false ≡ true = taken-as w e in no (cc)) (λ s w. (s, ap (λ (z : OverlayAfter). z .overlay) w))
 
 -- ---- the strings
 

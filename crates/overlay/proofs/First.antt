@@ -9,7 +9,7 @@ use Rattle.refusal.specs.declared.Refusal.the-variants as R
 use Rattle.overlay.specs.Overlay.{Overlay}
 use Rattle.overlay.specs.Sound.{isSound}
 use Rattle.overlay.specs.Calls.{setUp, allowOn}
-use Rattle.refusal.specs.First.{Row, firstOf}
+use Rattle.refusal.specs.First.{ConditionRow, firstOf}
 use Rattle.overlay.specs.First.{keptBy, setUpTable, unsoundRow, allowTable}
 use Rattle.overlay.proofs.Answers.{bySetUp, byAllow}
 
@@ -27,7 +27,7 @@ allow-first setting o = byAllow setting o (λ s w. rw (w, s)) (λ s w. rw (w, s)
 
 -- ---- 22 before other rows
 
-module _ (o : Overlay) (rs : List (Row Refusal)) where
+module _ (o : Overlay) (rs : List (ConditionRow Refusal)) where
   pub unsound-first : isSound o ≡ false → firstOf (unsoundRow o ∷ rs) ≡ some R.Unsound
   unfolding firstOf
   unsound-first e = rw e

@@ -13,7 +13,7 @@ use Rattle.kind.specs.declared.Kind.{Kind}
 use Rattle.kind.specs.declared.Kind.the-variants.{Node, Way, Relation}
 use Rattle.legal.proofs.Laws.{whole-more}
 use Rattle.legal.proofs.Wholes.{kept-unique}
-use Rattle.interner.specs.Sound.{fresh}
+use Rattle.interner.specs.Sound.{freshStore}
 use Rattle.interner.proofs.Interns as Interns
 use Rattle.shelf.specs.Shelf.{Shelf, takenIn}
 use Rattle.sound.specs.Sound.{SoundShelf}
@@ -45,7 +45,7 @@ module _ (setting : ℕ) (o : Overlay) where
             sized-of largest (empty setting o)
             (emptied-shelf (λ k s. shelfFits largest s ≡ true) (λ k. shelf-sized largest (shelfOf k o) (emptied (shelfOf k o)) refl refl (sized-shelf largest o h k)))
             (texts-sized largest (o .texts) (empty setting o .texts) (length-over (o .texts .spans) 0 _) refl (sized-texts largest o h));
-        strings = Interns.sound-of (fresh (o .texts .spans) (o .texts .bytes)) (Interns.fresh-sound (o .texts .spans) (o .texts .bytes) (span-lent h));
+        strings = Interns.sound-of (freshStore (o .texts .spans) (o .texts .bytes)) (Interns.fresh-sound (o .texts .spans) (o .texts .bytes) (span-lent h));
         shelves = emptied-shelf (SoundShelf 1) (λ k. Sounds.empty-sound 1 k (shelfOf k o .table) (shelfOf k o .arena));
       }
 

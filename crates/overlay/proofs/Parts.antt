@@ -14,7 +14,7 @@ use Rattle.legal.proofs.Bits.{and-both}
 use Rattle.shelf.specs.declared.Kept.the-variants.{Taken as Done}
 use Rattle.overlay.specs.Overlay.{Overlay, overlayOf}
 use Rattle.overlay.specs.Sound.{isSound}
-use Rattle.overlay.specs.Calls.{refused, allowOn}
+use Rattle.overlay.specs.Calls.{overlayRefused, allowOn}
 
 -- four tests, each made whatever the others say
 pub all-four : (a b c d : Bool) → (a && (b && (c && d))) ≡ both a (both b (both c d))
@@ -22,7 +22,7 @@ all-four a b c d = simp and-both
 
 -- ---- the setting
 
-pub allow-unsound : (setting : ℕ) (o : Overlay) → isSound o ≡ false → refused o R.Unsound ≡ allowOn setting o
+pub allow-unsound : (setting : ℕ) (o : Overlay) → isSound o ≡ false → overlayRefused o R.Unsound ≡ allowOn setting o
 unfolding allowOn
 allow-unsound setting o s = rw s
 

@@ -9,23 +9,23 @@ use Rattle.overlay.specs.Overlay.{Overlay, withSetting, largest, sizesFi
 use Rattle.overlay.specs.Sound.{isSound}
 
 -- an overlay and the answer that a call gives
-pub record After : Type 0 where
+pub record OverlayAfter : Type 0 where
   pub overlay : Overlay
   pub answer : Kept
 
-abbrev pub refused : Overlay → Refusal → After
-refused o r = record { overlay = o; answer = Refused r }
+abbrev pub overlayRefused : Overlay → Refusal → OverlayAfter
+overlayRefused o r = record { overlay = o; answer = Refused r }
 
 -- ---- set-up: 1, or an empty overlay with its regression setting
 
-unfoldable pub setUp : ℕ → Overlay → After
-setUp setting o = cond (sizesFit largest o) (record { overlay = empty setting o; answer = Taken }) (refused o R.Size)
+unfoldable pub setUp : ℕ → Overlay → OverlayAfter
+setUp setting o = cond (sizesFit largest o) (record { overlay = empty setting o; answer = Taken }) (overlayRefused o R.Size)
 
 -- ---- "each call but lookups in lists, first: 22 unsound storage"
 
-abbrev pub checked : Overlay → After → After
-checked o a = cond (isSound o) a (refused o R.Unsound)
+abbrev pub ifSound : Overlay → OverlayAfter → OverlayAfter
+ifSound o a = cond (isSound o) a (overlayRefused o R.Unsound)
 
 -- `allow_version_regression`: 22, or the setting is stored
-unfoldable pub allowOn : ℕ → Overlay → After
-allowOn setting o = checked o (record { overlay = withSetting setting o; answer = Taken })
+unfoldable pub allowOn : ℕ → Overlay → OverlayAfter
+allowOn setting o = ifSound o (record { overlay = withSetting setting o; answer = Taken })

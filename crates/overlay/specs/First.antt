@@ -8,7 +8,7 @@ use Rattle.kind.specs.Kind.{ofNumber}
 use Rattle.kind.specs.declared.Kind.{Kind}
 use Rattle.kind.specs.declared.Named.{Named}
 use Rattle.kind.specs.declared.Named.the-variants.{Is, Unknown}
-use Rattle.refusal.specs.First.{Row, row}
+use Rattle.refusal.specs.First.{ConditionRow, row}
 use Rattle.refusal.specs.Refusal.{numberOf, replyOf}
 use Rattle.refusal.specs.declared.Reply.{Reply}
 use Rattle.refusal.specs.declared.Refusal.{Refusal}
@@ -24,26 +24,26 @@ keptBy none = Taken
 keptBy (some r) = Refused r
 
 -- set-up: 1
-abbrev pub setUpTable : Overlay → List (Row Refusal)
+abbrev pub setUpTable : Overlay → List (ConditionRow Refusal)
 setUpTable o = row R.Size (not (sizesFit largest o)) ∷ []
 
 -- "each call but lookups in lists, first: 22 unsound storage"
-abbrev pub unsoundRow : Overlay → Row Refusal
+abbrev pub unsoundRow : Overlay → ConditionRow Refusal
 unsoundRow o = row R.Unsound (not (isSound o))
 
 -- `allow_version_regression`: 22
-abbrev pub allowTable : Overlay → List (Row Refusal)
+abbrev pub allowTable : Overlay → List (ConditionRow Refusal)
 allowTable o = unsoundRow o ∷ []
 
 -- ---- at the C boundary
 
 -- a kind goes by its number: 17 for one that means no kind, else the rows of that kind
-abbrev pub kindRows : Named → (Kind → List (Row Refusal)) → List (Row Refusal)
+abbrev pub kindRows : Named → (Kind → List (ConditionRow Refusal)) → List (ConditionRow Refusal)
 kindRows (Is k) rows = rows k
 kindRows Unknown rows = row R.BadRecord true ∷ []
 
-abbrev pub kindTable : ℕ → (Kind → List (Row Refusal)) → Overlay → List (Row Refusal)
-kindTable kind rows o = unsoundRow o ∷ kindRows (ofNumber kind) rows
+abbrev pub kindCallTable : ℕ → (Kind → List (ConditionRow Refusal)) → Overlay → List (ConditionRow Refusal)
+kindCallTable kind rows o = unsoundRow o ∷ kindRows (ofNumber kind) rows
 
 -- the number of a reply by its refusal, if there is one, and the whole reply
 abbrev pub numberBy : Option Refusal → ℕ

@@ -18,9 +18,9 @@ use Rattle.compact.specs.declared.ArenaMeta.{ArenaMeta}
 use Rattle.compact.specs.declared.PushHead.{PushHead}
 use Rattle.overlay.specs.Overlay.{Overlay}
 use Rattle.overlay.specs.Sound.{isSound}
-use Rattle.overlay.specs.First.{keptBy, setUpTable, allowTable, unsoundRow, kindRows, kindTable, numberBy, replyBy}
+use Rattle.overlay.specs.First.{keptBy, setUpTable, allowTable, unsoundRow, kindRows, kindCallTable, numberBy, replyBy}
 use Rattle.overlay.proofs.First.{setup-first, allow-first}
-use Rattle.store.specs.First.{refusalIn}
+use Rattle.store.specs.First.{handleRefusal}
 use Rattle.store.specs.declared.Handle.{Handle}
 use Rattle.store.specs.declared.Handle.the-variants as H
 use Rattle.direct.specs.Calls.{internOn}
@@ -43,7 +43,7 @@ module _ (setting : ℕ) (o : Overlay) where
   unfolding allowReply
   allow-reply-first = ap keptReply (allow-first setting o) ∙ kept-reply (firstOf (allowTable o))
 
-handle-number : (x : Handle) → handleText x .number ≡ numberBy (refusalIn x)
+handle-number : (x : Handle) → handleText x .number ≡ numberBy (handleRefusal x)
 handle-number (H.Is n) = refl
 handle-number (H.Refused r) = refl
 
@@ -63,7 +63,7 @@ module _ (o : Overlay) where
     named-push (K.Is k) = ap keptReply (push-first k h m parts o) ∙ kept-reply (firstOf (pushTable k h m parts o))
     named-push K.Unknown = unknown-first
 
-    pub push-reply-first : (kind : ℕ) → pushReply kind h m parts o .reply ≡ replyBy (firstOf (kindTable kind (λ k. restOfPush k h m parts o) o))
+    pub push-reply-first : (kind : ℕ) → pushReply kind h m parts o .reply ≡ replyBy (firstOf (kindCallTable kind (λ k. restOfPush k h m parts o) o))
     unfolding pushReply
     push-reply-first kind = named-push (ofNumber kind)
 
@@ -72,6 +72,6 @@ module _ (o : Overlay) where
     named-delete (K.Is k) = ap keptReply (delete-first k id m o) ∙ kept-reply (firstOf (deleteTable k id m o))
     named-delete K.Unknown = unknown-first
 
-    pub delete-reply-first : (kind : ℕ) → deleteReply kind id m o .reply ≡ replyBy (firstOf (kindTable kind (λ k. restOfDelete k id m o) o))
+    pub delete-reply-first : (kind : ℕ) → deleteReply kind id m o .reply ≡ replyBy (firstOf (kindCallTable kind (λ k. restOfDelete k id m o) o))
     unfolding deleteReply
     delete-reply-first kind = named-delete (ofNumber kind)

@@ -11,7 +11,7 @@ use Rattle.refusal.specs.declared.Refusal.the-variants as R
 use Rattle.shelf.specs.declared.Kept.{Kept}
 use Rattle.overlay.specs.Overlay.{Overlay}
 use Rattle.overlay.specs.Sound.{isSound}
-use Rattle.overlay.specs.Calls.{After, refused}
+use Rattle.overlay.specs.Calls.{OverlayAfter, overlayRefused}
 use Rattle.store.specs.Calls.{Interning}
 use Rattle.store.specs.declared.Handle.{Handle}
 use Rattle.overlay_c.specs.Entries.{replied, keptReply, unknownReply, unknown, interned, handleText}
@@ -21,14 +21,14 @@ use Rattle.overlay_c.specs.declared.Text.{Text}
 pub id-is : {id : ℤ} {bits : ℕ} → SFits w64 id → bits ≡ ofZ w64 (toZ w64 (ofZ w64 id)) → toZ w64 bits ≡ id
 id-is f e = rw (e, toZ-ofZ f, toZ-ofZ f)
 
-pub replied-is : {x : Overlay} {a : Kept} {r : Reply} {y : After} → r ≡ keptReply a → record { overlay = x; answer = a } ≡ y → record { overlay = x; reply = r } ≡ replied y
+pub replied-is : {x : Overlay} {a : Kept} {r : Reply} {y : OverlayAfter} → r ≡ keptReply a → record { overlay = x; answer = a } ≡ y → record { overlay = x; reply = r } ≡ replied y
 replied-is told e = rw (told, ← e)
 
 pub interned-is : {x : Overlay} {a : Handle} {r : Text} {y : Interning} → r ≡ handleText a → record { overlay = x; answer = a } ≡ y → record { overlay = x; reply = r } ≡ interned y
 interned-is told e = rw (told, ← e)
 
 -- 22, else 17, and nothing lent changes
-no-kind : (o : Overlay) (b : Bool) → record { overlay = o; reply = unknownReply b } ≡ replied (cond b (refused o R.BadRecord) (refused o R.Unsound))
+no-kind : (o : Overlay) (b : Bool) → record { overlay = o; reply = unknownReply b } ≡ replied (cond b (overlayRefused o R.BadRecord) (overlayRefused o R.Unsound))
 no-kind o true = refl
 no-kind o false = refl
 

@@ -15,7 +15,7 @@ use Rattle.compact.specs.declared.PushHead.{PushHead}
 use Rattle.shelf.specs.declared.Kept.{Kept}
 use Rattle.shelf.specs.declared.Kept.the-variants.{Taken, Refused}
 use Rattle.overlay.specs.Overlay.{Overlay}
-use Rattle.overlay.specs.Calls.{After, checked, refused, setUp, allowOn}
+use Rattle.overlay.specs.Calls.{OverlayAfter, ifSound, overlayRefused, setUp, allowOn}
 use Rattle.direct.specs.Calls.{pushOn, deleteOn, internOn}
 use Rattle.store.specs.Calls.{Interning}
 use Rattle.store.specs.declared.Handle.{Handle}
@@ -32,7 +32,7 @@ abbrev pub keptReply : Kept → Reply
 keptReply Taken = record { number = 0; held = pos 0 }
 keptReply (Refused r) = replyOf r
 
-abbrev pub replied : After → Replied
+abbrev pub replied : OverlayAfter → Replied
 replied a = record { overlay = a .overlay; reply = keptReply (a .answer) }
 
 unfoldable pub setUpReply : ℕ → Overlay → Replied
@@ -51,17 +51,17 @@ abbrev pub unknownReply : Bool → Reply
 unknownReply true = replyOf R.BadRecord
 unknownReply false = replyOf R.Unsound
 
-abbrev pub unknown : Overlay → After
-unknown o = checked o (refused o R.BadRecord)
+abbrev pub unknown : Overlay → OverlayAfter
+unknown o = ifSound o (overlayRefused o R.BadRecord)
 
-abbrev pub pushNamed : Named → PushHead → ArenaMeta → Bytes → Overlay → After
+abbrev pub pushNamed : Named → PushHead → ArenaMeta → Bytes → Overlay → OverlayAfter
 pushNamed (Is k) h m parts o = pushOn k h m parts o
 pushNamed Unknown h m parts o = unknown o
 
 unfoldable pub pushReply : ℕ → PushHead → ArenaMeta → Bytes → Overlay → Replied
 pushReply kind h m parts o = replied (pushNamed (ofNumber kind) h m parts o)
 
-abbrev pub deleteNamed : Named → ℤ → Meta ℕ → Overlay → After
+abbrev pub deleteNamed : Named → ℤ → Meta ℕ → Overlay → OverlayAfter
 deleteNamed (Is k) id m o = deleteOn k id m o
 deleteNamed Unknown id m o = unknown o
 

@@ -12,10 +12,10 @@ use Rattle.base.proofs.Split.{no}
 use Rattle.base.proofs.Lists.{all-append, all-cons, all-nil}
 use Rattle.text.specs.Escape.{escape, breaks}
 use Rattle.text.proofs.Escapes.{escape-clean, escape-injective}
-use Rattle.line.specs.Line.{plain}
+use Rattle.line.specs.Line.{plainField}
 use Rattle.line.specs.Decimal.{numberText, integerText}
 use Rattle.line.proofs.Decimals.{number-plain, number-injective, integer-plain, integer-injective, never-alone}
-use Rattle.kind.specs.Kind.{numberOf}
+use Rattle.kind.specs.Kind.{kindNumber}
 use Rattle.kind.specs.declared.Kind.{Kind}
 use Rattle.kind.specs.declared.Kind.the-variants.{Node, Way, Relation}
 use Rattle.version_floor.specs.declared.Version.{Version}
@@ -23,7 +23,7 @@ use Rattle.version_floor.specs.declared.Version.the-variants.{Absent, Is}
 use Rattle.model.specs.Record.{Body, place, refs, members, Record, kindOf}
 use Rattle.model.specs.Act.{Left, gone, live}
 use Rattle.model.proofs.Keys.{same-kind}
-use Rattle.page.specs.Summary.{Row}
+use Rattle.page.specs.Summary.{PageRow}
 use Rattle.page.specs.Listing.{kindField, versionField, each, counted, refFields, memberFields, tagFields, metaFields, bodyFields, recordFields, signField, lastFields, rowFields}
 
 -- the fields of a are told from those of b, whatever follows
@@ -31,15 +31,15 @@ abbrev pub Told : {A : Type 0} → (A → List Bytes) → A → A → Type 0
 Told f a b = (r s : List Bytes) → f a ++ r ≡ f b ++ s → (a ≡ b) × (r ≡ s)
 
 pub record Code {A : Type 0} (f : A → List Bytes) : Type 0 where
-  pub allPlain : (a : A) → all plain (f a) ≡ true
+  pub allPlain : (a : A) → all plainField (f a) ≡ true
   pub told : (a b : A) → Told f a b
 
 -- ---- codes of one field
 
 -- a plain field from which what it writes can be told
-pub one : {A : Type 0} (w : A → Bytes) → ((a : A) → plain (w a) ≡ true) → ((a b : A) → w a ≡ w b → a ≡ b) → Code (λ a. w a ∷ [])
+pub one : {A : Type 0} (w : A → Bytes) → ((a : A) → plainField (w a) ≡ true) → ((a b : A) → w a ≡ w b → a ≡ b) → Code (λ a. w a ∷ [])
 one w p i = record {
-  allPlain = λ a. all-cons plain (w a) [] (p a) (all-nil plain);
+  allPlain = λ a. all-cons plainField (w a) [] (p a) (all-nil plainField);
   told = λ a b r s e. (i a b (head-eq-of-cons-eq e), tail-eq-of-cons-eq e);
 }
 
@@ -49,8 +49,8 @@ number-code = one numberText number-plain number-injective
 pub integer-code : Code (λ z. integerText z ∷ [])
 integer-code = one integerText integer-plain integer-injective
 
-pub escape-plain : (t : Bytes) → plain (escape t) ≡ true
-unfolding plain
+pub escape-plain : (t : Bytes) → plainField (escape t) ≡ true
+unfolding plainField
 escape-plain t = escape-clean t
 
 pub text-code : Code (λ t. escape t ∷ [])
@@ -60,8 +60,8 @@ text-code = one escape escape-plain escape-injective
 apart : {C : Type 0} {m n : ℕ} {x y : Bytes} → eqb m n ≡ false → Path Bytes (m ∷ x) (n ∷ y) → C
 apart {m} {n} t e = absurd (eqb-false m n t (head-eq-of-cons-eq e))
 
-kind-plain : (k : Kind) → plain (kindField k) ≡ true
-unfolding kindField plain all both breaks either
+kind-plain : (k : Kind) → plainField (kindField k) ≡ true
+unfolding kindField plainField all both breaks either
 kind-plain Node = refl
 kind-plain Way = refl
 kind-plain Relation = refl
@@ -81,8 +81,8 @@ kind-injective Relation Relation e = refl
 pub kind-code : Code (λ k. kindField k ∷ [])
 kind-code = one kindField kind-plain kind-injective
 
-version-plain : (v : Version) → plain (versionField v) ≡ true
-unfolding versionField plain all both breaks either
+version-plain : (v : Version) → plainField (versionField v) ≡ true
+unfolding versionField plainField all both breaks either
 version-plain Absent = refl
 version-plain (Is v) = integer-plain v
 
@@ -100,10 +100,10 @@ version-code = one versionField version-plain version-injective
 -- ---- counted lists
 
 module _ {A : Type 0} (f : A → List Bytes) (c : Code f) where
-  each-plain : (xs : List A) → all plain (each f xs) ≡ true
+  each-plain : (xs : List A) → all plainField (each f xs) ≡ true
   unfolding each
-  each-plain [] = all-nil plain
-  each-plain (a ∷ xs) = all-append plain (f a) (each f xs) (c .allPlain a) (each-plain xs)
+  each-plain [] = all-nil plainField
+  each-plain (a ∷ xs) = all-append plainField (f a) (each f xs) (c .allPlain a) (each-plain xs)
 
   each-told : (xs ys : List A) (r s : List Bytes) → length xs ≡ length ys → each f xs ++ r ≡ each f ys ++ s → (xs ≡ ys) × (r ≡ s)
   unfolding each
@@ -131,7 +131,7 @@ unfolding all both
 member-code = record {
   allPlain = λ m. simp (number-plain, integer-plain, escape-plain);
   told = λ a b r s e.
-      let h1 = number-code .told (numberOf (a .type)) (numberOf (b .type)) _ _ e in
+      let h1 = number-code .told (kindNumber (a .type)) (kindNumber (b .type)) _ _ e in
       let h2 = integer-code .told (a .ref) (b .ref) _ _ (h1 .1) in
       let h3 = text-code .told (a .role) (b .role) r s (h2 .1) in
       let k = same-kind (a .type) (b .type) (h1 .0) in
@@ -173,7 +173,7 @@ tags-code = counted-code tagFields tag-code
 
 -- ---- bodies, records and rows: what is written shows the kind of a row, and a body is told from others of its kind
 
-pub body-plain : (b : Body Bytes) → all plain (bodyFields b) ≡ true
+pub body-plain : (b : Body Bytes) → all plainField (bodyFields b) ≡ true
 unfolding bodyFields all both
 body-plain (place lat lon) = simp integer-plain
 body-plain (refs rs) = refs-code .allPlain rs
@@ -194,11 +194,11 @@ body-told (refs xs) (members ys) k r s e = no (cc)
 body-told (members xs) (place z w) k r s e = no (cc)
 body-told (members xs) (refs ys) k r s e = no (cc)
 
-pub record-plain : (x : Record Bytes) → all plain (recordFields x) ≡ true
+pub record-plain : (x : Record Bytes) → all plainField (recordFields x) ≡ true
 unfolding recordFields
 record-plain x =
-    all-append plain (metaFields (x .meta) ++ bodyFields (x .body)) (counted tagFields (x .tags))
-    (all-append plain (metaFields (x .meta)) (bodyFields (x .body)) (meta-code .allPlain (x .meta)) (body-plain (x .body)))
+    all-append plainField (metaFields (x .meta) ++ bodyFields (x .body)) (counted tagFields (x .tags))
+    (all-append plainField (metaFields (x .meta)) (bodyFields (x .body)) (meta-code .allPlain (x .meta)) (body-plain (x .body)))
     (tags-code .allPlain (x .tags))
 
 pub record-told : (a b : Record Bytes) → kindOf (a .body) ≡ kindOf (b .body) → Told recordFields a b
@@ -214,23 +214,23 @@ abbrev pub Fits : Kind → Left Bytes → Type 0
 Fits k gone = Unit {0}
 Fits k (live x) = kindOf (x .body) ≡ k
 
-abbrev pub Fitting : Row → Type 0
+abbrev pub Fitting : PageRow → Type 0
 Fitting r = Fits (r .key .kind) (r .last)
 
-sign-plain : (l : Left Bytes) → plain (signField l) ≡ true
-unfolding plain all both breaks either
+sign-plain : (l : Left Bytes) → plainField (signField l) ≡ true
+unfolding plainField all both breaks either
 sign-plain gone = refl
 sign-plain (live x) = refl
 
-last-plain : (l : Left Bytes) → all plain (lastFields l) ≡ true
-last-plain gone = all-nil plain
+last-plain : (l : Left Bytes) → all plainField (lastFields l) ≡ true
+last-plain gone = all-nil plainField
 last-plain (live x) = record-plain x
 
-pub row-plain : (r : Row) → all plain (rowFields r) ≡ true
+pub row-plain : (r : PageRow) → all plainField (rowFields r) ≡ true
 unfolding rowFields all both
 row-plain r = simp (kind-plain, integer-plain, sign-plain, version-plain, last-plain)
 
-pub row-told : (a b : Row) → Fitting a → Fitting b → Told rowFields a b
+pub row-told : (a b : PageRow) → Fitting a → Fitting b → Told rowFields a b
 unfolding rowFields
 row-told a b f g r s e =
     let h1 = kind-code .told (a .key .kind) (b .key .kind) _ _ e in

@@ -13,7 +13,7 @@ use Rattle.line.specs.Line.{tabbed, line}
 use Rattle.line.specs.Decimal.{digitsBefore, numberText, integerText}
 use Rattle.model.specs.Record.{Body, place, refs, Record, flagged, claimOf}
 use Rattle.model.specs.Act.{Act, push, delete, live, sameKey, keyBefore}
-use Rattle.page.specs.Summary.{find, put, summaryFrom, summary}
+use Rattle.page.specs.Summary.{findKey, putRow, summaryFrom, summary}
 use Rattle.page.specs.Listing.{kindField, versionField, each, counted, bodyFields, recordFields, rowFields, listing}
 
 -- a record without metadata or tags
@@ -29,13 +29,13 @@ abbrev pushed : ℤ → Act Bytes
 pushed id = push id (bare (place (pos 0) (pos 0)))
 
 pub osm-order : map (λ r. r .key .id) (summary (pushed (pos 1) ∷ pushed (negsuc 1) ∷ pushed (pos 0) ∷ pushed (negsuc 0) ∷ [])) ≡ pos 0 ∷ negsuc 0 ∷ negsuc 1 ∷ pos 1 ∷ []
-unfolding summary summaryFrom find put sameKey keyBefore sameKind both before sameId
+unfolding summary summaryFrom findKey putRow sameKey keyBefore sameKind both before sameId
 osm-order = refl
 
 -- after a delete of way -4 at version 2, a push without a version: the way is live, and version 2 is still known
 pub version-kept : summary (delete Way (negsuc 3) (Is (pos 2)) ∷ push (negsuc 3) (bare (refs [])) ∷ [])
     ≡ record { key = record { kind = Way; id = negsuc 3 }; high = Is (pos 2); last = live (bare (refs [])) } ∷ []
-unfolding summary summaryFrom find put sameKey keyBefore sameKind both before sameId higher claimOf flagged
+unfolding summary summaryFrom findKey putRow sameKey keyBefore sameKind both before sameId higher claimOf flagged
 version-kept = refl
 
 -- the acts of input A, and output A
@@ -55,5 +55,5 @@ outputA =
     119 ∷ 9 ∷ 45 ∷ 52 ∷ 9 ∷ 45 ∷ 9 ∷ 50 ∷ 10 ∷ []
 
 pub output-a : listing (summary inputA) ≡ outputA
-unfolding summary summaryFrom find put sameKey keyBefore sameKind both before sameId higher claimOf flagged listing rowFields kindField versionField recordFields bodyFields counted each line tabbed escape escaped integerText numberText digitsBefore
+unfolding summary summaryFrom findKey putRow sameKey keyBefore sameKind both before sameId higher claimOf flagged listing rowFields kindField versionField recordFields bodyFields counted each line tabbed escape escaped integerText numberText digitsBefore
 output-a = refl

@@ -7,13 +7,13 @@ use Rattle.base.specs.Bytes.{Bytes}
 use Rattle.line.specs.Line.{line}
 use Rattle.line.proofs.Lines.{line-code, line-some}
 use Rattle.model.specs.Act.{Act, push, delete, Key}
-use Rattle.page.specs.Summary.{known, Row, Table, find, rowAfter, summaryFrom, summary}
+use Rattle.page.specs.Summary.{known, PageRow, Table, findKey, rowAfter, summaryFrom, summary}
 use Rattle.page.specs.Listing.{rowFields, listing}
 use Rattle.page.proofs.Tables.{Every, every-summary, same-table, summary-sorted, known-summary, find-summary, knownIn, rowIn}
 use Rattle.page.proofs.Codes.{Fitting, row-plain, row-told}
 
 -- every row of a summary fits its kind
-row-fits : (a : Act Bytes) (r : Option Row) → Fitting (rowAfter a r)
+row-fits : (a : Act Bytes) (r : Option PageRow) → Fitting (rowAfter a r)
 row-fits (push id x) r = refl
 row-fits (delete k id claim) r = tt
 
@@ -32,7 +32,7 @@ unfolding summary summaryFrom listing
 empty-page = refl
 
 -- a row's line
-row-line : (a b : Row) → Fitting a → Fitting b → (r s : Bytes) → line (rowFields a) ++ r ≡ line (rowFields b) ++ s → (a ≡ b) × (r ≡ s)
+row-line : (a b : PageRow) → Fitting a → Fitting b → (r s : Bytes) → line (rowFields a) ++ r ≡ line (rowFields b) ++ s → (a ≡ b) × (r ≡ s)
 unfolding rowFields
 row-line a b f g r s e =
     let h = line-code _ _ _ _ r s (row-plain a) (row-plain b) e in
@@ -58,7 +58,7 @@ same-page acts bcts = (to, from)
     to : listing (summary acts) ≡ listing (summary bcts) → (k : Key) → known acts k ≡ known bcts k
     to e k =
         let t = listing-injective (summary acts) (summary bcts) (summary-fitting acts) (summary-fitting bcts) e in
-        known-summary acts k ∙ ap (λ x. knownIn (find k x)) t ∙ sym (known-summary bcts k)
+        known-summary acts k ∙ ap (λ x. knownIn (findKey k x)) t ∙ sym (known-summary bcts k)
 
     from : ((k : Key) → known acts k ≡ known bcts k) → listing (summary acts) ≡ listing (summary bcts)
     from h =

@@ -2,8 +2,9 @@
 use mathlib.Core.List.{List, [], _∷_, _++_}
 use lib.IntN.{ℤ}
 use lib.ListN.{length}
+use Rattle.base.specs.Ascii.{ascii}
 use Rattle.base.specs.Bytes.{Bytes}
-use Rattle.kind.specs.Kind.{numberOf}
+use Rattle.kind.specs.Kind.{kindNumber}
 use Rattle.kind.specs.declared.Kind.{Kind}
 use Rattle.kind.specs.declared.Kind.the-variants.{Node, Way, Relation}
 use Rattle.version_floor.specs.declared.Version.{Version}
@@ -13,17 +14,17 @@ use Rattle.line.specs.Line.{line}
 use Rattle.line.specs.Decimal.{numberText, integerText}
 use Rattle.model.specs.Record.{Meta, Member, Tag, Body, place, refs, members, Record}
 use Rattle.model.specs.Act.{Left, gone, live}
-use Rattle.page.specs.Summary.{Row, Table}
+use Rattle.page.specs.Summary.{PageRow, Table}
 
 -- "Kinds n, w, r"
 unfoldable pub kindField : Kind → Bytes
-kindField Node = 110 ∷ []
-kindField Way = 119 ∷ []
-kindField Relation = 114 ∷ []
+kindField Node = ascii "n"
+kindField Way = ascii "w"
+kindField Relation = ascii "r"
 
 -- "known version or `?`"
 unfoldable pub versionField : Version → Bytes
-versionField Absent = 63 ∷ []
+versionField Absent = ascii "?"
 versionField (Is v) = integerText v
 
 -- the fields of each element of a list, one after the other
@@ -40,7 +41,7 @@ refFields r = integerText r ∷ []
 
 -- "type (0 to 2), ref, role each"
 abbrev pub memberFields : Member Bytes → List Bytes
-memberFields m = numberText (numberOf (m .type)) ∷ integerText (m .ref) ∷ escape (m .role) ∷ []
+memberFields m = numberText (kindNumber (m .type)) ∷ integerText (m .ref) ∷ escape (m .role) ∷ []
 
 -- "each key and value"; "Texts use the escapes above."
 abbrev pub tagFields : Tag Bytes → List Bytes
@@ -62,14 +63,14 @@ unfoldable pub recordFields : Record Bytes → List Bytes
 recordFields r = metaFields (r .meta) ++ bodyFields (r .body) ++ counted tagFields (r .tags)
 
 abbrev pub signField : Left Bytes → Bytes
-signField gone = 45 ∷ []
-signField (live r) = 43 ∷ []
+signField gone = ascii "-"
+signField (live r) = ascii "+"
 
 abbrev pub lastFields : Left Bytes → List Bytes
 lastFields gone = []
 lastFields (live r) = recordFields r
 
-unfoldable pub rowFields : Row → List Bytes
+unfoldable pub rowFields : PageRow → List Bytes
 rowFields r = kindField (r .key .kind) ∷ integerText (r .key .id) ∷ signField (r .last) ∷ versionField (r .high) ∷ lastFields (r .last)
 
 -- "No header; an empty overlay lists as no bytes": a line for each row

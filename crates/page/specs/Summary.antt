@@ -29,33 +29,33 @@ unfoldable pub known : List (Act Bytes) → Key → Known
 known acts key = knownFrom nothing acts key
 
 -- the same as a table: a row for each key that was named, kinds in order and ids in OSM order
-pub record Row : Type 0 where
+pub record PageRow : Type 0 where
   pub key : Key
   pub high : Version
   pub last : Left Bytes
 
 abbrev pub Table : Type 0
-Table = List Row
+Table = List PageRow
 
-unfoldable pub find : Key → Table → Option Row
-find k [] = none
-find k (r ∷ rs) = cond (sameKey k (r .key)) (some r) (find k rs)
+unfoldable pub findKey : Key → Table → Option PageRow
+findKey k [] = none
+findKey k (r ∷ rs) = cond (sameKey k (r .key)) (some r) (findKey k rs)
 
-unfoldable pub put : Row → Table → Table
-put n [] = n ∷ []
-put n (r ∷ rs) = cond (keyBefore (n .key) (r .key)) (n ∷ r ∷ rs) (cond (sameKey (n .key) (r .key)) (n ∷ rs) (r ∷ put n rs))
+unfoldable pub putRow : PageRow → Table → Table
+putRow n [] = n ∷ []
+putRow n (r ∷ rs) = cond (keyBefore (n .key) (r .key)) (n ∷ r ∷ rs) (cond (sameKey (n .key) (r .key)) (n ∷ rs) (r ∷ putRow n rs))
 
-abbrev pub highIn : Option Row → Version
+abbrev pub highIn : Option PageRow → Version
 highIn none = Absent
 highIn (some r) = r .high
 
 -- the row that an act leaves
-abbrev pub rowAfter : Act Bytes → Option Row → Row
+abbrev pub rowAfter : Act Bytes → Option PageRow → PageRow
 rowAfter a r = record { key = keyOf a; high = higher (highIn r) (claimedBy a); last = leftBy a }
 
 unfoldable pub summaryFrom : Table → List (Act Bytes) → Table
 summaryFrom t [] = t
-summaryFrom t (a ∷ acts) = summaryFrom (put (rowAfter a (find (keyOf a) t)) t) acts
+summaryFrom t (a ∷ acts) = summaryFrom (putRow (rowAfter a (findKey (keyOf a) t)) t) acts
 
 unfoldable pub summary : List (Act Bytes) → Table
 summary acts = summaryFrom [] acts

@@ -18,41 +18,41 @@ use Rattle.base.proofs.Split.{byLe}
 use Rattle.text.specs.Escape.{escaped, escape}
 use Rattle.little.specs.Little.{over}
 use Rattle.little.proofs.Overs.{over-past, over-step, over-lent-start}
-use Rattle.decimal.specs.Put.{Wrote as Put, put}
+use Rattle.decimal.specs.Put.{Wrote as Put, putText}
 use Rattle.decimal.specs.declared.Written.{Written}
 use Rattle.decimal.proofs.Puts.{put-whole, put-nothing}
 use Rattle.print.specs.declared.Room.{Room}
 use Rattle.print.specs.declared.Room.the-variants.{Left, Full}
-use Rattle.print.specs.Print.{Printed, step, print}
-use Rattle.print.specs.Piece.{behind, placeOf, lettered, Advance}
+use Rattle.print.specs.Print.{Printed, printStep, print}
+use Rattle.print.specs.Piece.{behind, outputPlace, escapedBy, Advance}
 use Rattle.print.proofs.Prints.{behind-fits, behind-past, behind-full, placed-within, placed-past, step-fits, step-past, step-full}
 
 -- ---- the place of a piece
 
 module _ (cap len : ℕ) where
-  pub place-within : (r l : ℕ) → cap - r + (r - l) ≤ len → placeOf cap (Left r) (Left l) len ≡ cap - r
-  unfolding placeOf
+  pub place-within : (r l : ℕ) → cap - r + (r - l) ≤ len → outputPlace cap (Left r) (Left l) len ≡ cap - r
+  unfolding outputPlace
   place-within r l h = rw (le-leb (cap - r + (r - l)) len h)
 
-  pub place-past : (r l : ℕ) → len < cap - r + (r - l) → placeOf cap (Left r) (Left l) len ≡ len
-  unfolding placeOf
+  pub place-past : (r l : ℕ) → len < cap - r + (r - l) → outputPlace cap (Left r) (Left l) len ≡ len
+  unfolding outputPlace
   place-past r l h = rw (lt-leb (cap - r + (r - l)) len h)
 
-  pub place-full : (room : Room) → placeOf cap room Full len ≡ len
-  unfolding placeOf
+  pub place-full : (room : Room) → outputPlace cap room Full len ≡ len
+  unfolding outputPlace
   place-full (Left r) = refl
   place-full Full = refl
 
-  pub place-none : (left : Room) → placeOf cap Full left len ≡ len
-  unfolding placeOf
+  pub place-none : (left : Room) → outputPlace cap Full left len ≡ len
+  unfolding outputPlace
   place-none left = refl
 
   -- the place and the length as a function computed them, with the test that it made
   module _ (r l at n : ℕ) (p : at ≡ cap - r) (q : n ≡ r - l) where
-    pub place-taken : leb (at + n) len ≡ true → (at ≡ placeOf cap (Left r) (Left l) len) × (at ≤ len)
+    pub place-taken : leb (at + n) len ≡ true → (at ≡ outputPlace cap (Left r) (Left l) len) × (at ≤ len)
     place-taken t = let h = leb-true (at + n) len t in (p ∙ sym (place-within r l (omega arith)), omega arith)
 
-    pub place-left : leb (at + n) len ≡ false → (len ≡ placeOf cap (Left r) (Left l) len) × (len ≤ len)
+    pub place-left : leb (at + n) len ≡ false → (len ≡ outputPlace cap (Left r) (Left l) len) × (len ≤ len)
     place-left t = let h = leb-false (at + n) len t in (sym (place-past r l (omega arith)), omega arith)
 
 -- a piece is whole within the output, or goes to its end
@@ -61,10 +61,10 @@ pub record Placing (n len at : ℕ) : Type 0 where
   pub whole : at < len → at + n ≤ len
 
 module _ (cap : ℕ) (n len : ℕ) where
-  past : (room : Room) (at : ℕ) → placeOf cap room (behind room n) len ≡ len → at ≡ placeOf cap room (behind room n) len → Placing n len at
+  past : (room : Room) (at : ℕ) → outputPlace cap room (behind room n) len ≡ len → at ≡ outputPlace cap room (behind room n) len → Placing n len at
   past room at p e = let q : at ≡ len = e ∙ p in record { start = omega arith; whole = λ h. absurd (omega arith) }
 
-  pub placing : (room : Room) (at : ℕ) → at ≡ placeOf cap room (behind room n) len → Placing n len at
+  pub placing : (room : Room) (at : ℕ) → at ≡ outputPlace cap room (behind room n) len → Placing n len at
   placing Full at e = past Full at (place-none cap len _) e
   placing (Left r) at e =
       byLe n r
@@ -76,8 +76,8 @@ module _ (cap : ℕ) (n len : ℕ) where
       (λ h. past (Left r) at (rw (behind-past r n h, place-full)) e)
 
 -- a step writes its piece there
-pub step-is : (cap : ℕ) (room : Room) (x out : Bytes) → step cap x (record { out = out; room = room })
-    ≡ record { out = over out (placeOf cap room (behind room (length x)) (length out)) x; room = behind room (length x) }
+pub step-is : (cap : ℕ) (room : Room) (x out : Bytes) → printStep cap x (record { out = out; room = room })
+    ≡ record { out = over out (outputPlace cap room (behind room (length x)) (length out)) x; room = behind room (length x) }
 step-is cap Full x out = rw (behind-full, place-none, over-past out (length out) x (omega arith)) (step-full cap x out)
 step-is cap (Left r) x out =
     let len = length out in
@@ -90,17 +90,17 @@ step-is cap (Left r) x out =
     (λ h. rw (behind-past r (length x) h, place-full, over-past out len x (omega arith)) (step-past cap x out r h))
 
 -- a writer was lent the rest from that place on
-pub piece-written : (cap : ℕ) (room left : Room) (x out last : Bytes) (at : ℕ) → left ≡ behind room (length x) → at ≡ placeOf cap room left (length out)
+pub piece-written : (cap : ℕ) (room left : Room) (x out last : Bytes) (at : ℕ) → left ≡ behind room (length x) → at ≡ outputPlace cap room left (length out)
     → last ≡ over (midOf at (length out - at) out) 0 x
-    → _≡_ {A = Printed} (record { out = putMid at (length out - at) out last; room = left }) (step cap x (record { out = out; room = room }))
+    → _≡_ {A = Printed} (record { out = putMid at (length out - at) out last; room = left }) (printStep cap x (record { out = out; room = room }))
 piece-written cap room left x out last at b p e =
     let w = placing cap (length x) (length out) room at (rw (← b) p) in
     rw (step-is cap room x out, ← b, ← p, ← over-lent-start out last at x (w .start) e)
 
 -- the same of a writer of numbers, which writes whole numbers only
-pub number-written : (cap : ℕ) (room left : Room) (x out last : Bytes) (w : Written) (at : ℕ) → left ≡ behind room (length x) → at ≡ placeOf cap room left (length out)
-    → _≡_ {A = Put} (record { bytes = last; answer = w }) (put (midOf at (length out - at) out) x)
-    → _≡_ {A = Printed} (record { out = putMid at (length out - at) out last; room = left }) (step cap x (record { out = out; room = room }))
+pub number-written : (cap : ℕ) (room left : Room) (x out last : Bytes) (w : Written) (at : ℕ) → left ≡ behind room (length x) → at ≡ outputPlace cap room left (length out)
+    → _≡_ {A = Put} (record { bytes = last; answer = w }) (putText (midOf at (length out - at) out) x)
+    → _≡_ {A = Printed} (record { out = putMid at (length out - at) out last; room = left }) (printStep cap x (record { out = out; room = room }))
 number-written cap room left x out last w at b p e =
     let lent = midOf at (length out - at) out in
     let n : length lent ≡ length out - at = simp (length-take, length-drop) (omega arith) in
@@ -123,7 +123,7 @@ wide-large b h g =
 
 -- ---- escapes
 
-pub letter-some : (b m : ℕ) → (m ≡ 0 → ⊥) → lettered b m ≡ 92 ∷ m ∷ []
+pub letter-some : (b m : ℕ) → (m ≡ 0 → ⊥) → escapedBy b m ≡ 92 ∷ m ∷ []
 letter-some b zero h = absurd (h refl)
 letter-some b (suc m) h = refl
 
@@ -147,6 +147,6 @@ pub wrote-both : {s x s' y s'' : Bytes} {at m n : ℕ} → Advance s at x s' m �
 wrote-both {x = x} {y = y} p q = record { next = λ z. q .next z ∙ p .next (y ++ z) ∙ rw append-assoc }
 
 -- two pieces
-pub two-printed : (cap : ℕ) (x y : Bytes) (p q s : Printed) → q ≡ step cap x p → s ≡ step cap y q → s ≡ print cap (x ∷ y ∷ []) p
+pub two-printed : (cap : ℕ) (x y : Bytes) (p q s : Printed) → q ≡ printStep cap x p → s ≡ printStep cap y q → s ≡ print cap (x ∷ y ∷ []) p
 unfolding print
 two-printed cap x y p q s e f = rw (← e) f

@@ -12,7 +12,7 @@ use Rattle.little.specs.Little.{over}
 use Rattle.little.proofs.Overs.{over-none, over-nothing, over-over, length-over}
 use Rattle.print.specs.declared.Room.{Room}
 use Rattle.print.specs.declared.Room.the-variants.{Left, Full}
-use Rattle.print.specs.Print.{Printed, placed, step, print, joined, tab, tabs, linePieces}
+use Rattle.print.specs.Print.{Printed, placedAt, printStep, print, joinedPieces, tab, tabs, linePieces}
 use Rattle.print.specs.Piece.{behind}
 
 -- ---- the room behind a piece
@@ -46,37 +46,37 @@ behind-both (Left r) m n =
 
 -- ---- one piece
 
-pub placed-within : (out : Bytes) (at : ℕ) (x : Bytes) → at + length x ≤ length out → placed out at x ≡ over out at x
-unfolding placed
+pub placed-within : (out : Bytes) (at : ℕ) (x : Bytes) → at + length x ≤ length out → placedAt out at x ≡ over out at x
+unfolding placedAt
 placed-within out at x h = rw (le-leb (at + length x) (length out) h)
 
-pub placed-past : (out : Bytes) (at : ℕ) (x : Bytes) → length out < at + length x → placed out at x ≡ out
-unfolding placed
+pub placed-past : (out : Bytes) (at : ℕ) (x : Bytes) → length out < at + length x → placedAt out at x ≡ out
+unfolding placedAt
 placed-past out at x h = rw (lt-leb (at + length x) (length out) h)
 
-placed-none : (at : ℕ) (x : Bytes) → placed [] at x ≡ []
+placed-none : (at : ℕ) (x : Bytes) → placedAt [] at x ≡ []
 placed-none at x = byLe (at + length x) 0 (λ h. placed-within [] at x h ∙ over-none at x) (λ h. placed-past [] at x h)
 
-length-placed : (out : Bytes) (at : ℕ) (x : Bytes) → length (placed out at x) ≡ length out
+length-placed : (out : Bytes) (at : ℕ) (x : Bytes) → length (placedAt out at x) ≡ length out
 length-placed out at x =
     byLe (at + length x) (length out)
     (λ h. ap length (placed-within out at x h) ∙ length-over out at x)
     (λ h. ap length (placed-past out at x h))
 
 module _ (cap : ℕ) (x out : Bytes) where
-  pub step-fits : (r : ℕ) → length x ≤ r → step cap x (record { out = out; room = Left r }) ≡ record { out = placed out (cap - r) x; room = Left (r - length x) }
-  unfolding step
+  pub step-fits : (r : ℕ) → length x ≤ r → printStep cap x (record { out = out; room = Left r }) ≡ record { out = placedAt out (cap - r) x; room = Left (r - length x) }
+  unfolding printStep
   step-fits r h = rw (le-leb (length x) r h)
 
-  pub step-past : (r : ℕ) → r < length x → step cap x (record { out = out; room = Left r }) ≡ record { out = out; room = Full }
-  unfolding step
+  pub step-past : (r : ℕ) → r < length x → printStep cap x (record { out = out; room = Left r }) ≡ record { out = out; room = Full }
+  unfolding printStep
   step-past r h = rw (lt-leb (length x) r h)
 
-  pub step-full : step cap x (record { out = out; room = Full }) ≡ record { out = out; room = Full }
-  unfolding step
+  pub step-full : printStep cap x (record { out = out; room = Full }) ≡ record { out = out; room = Full }
+  unfolding printStep
   step-full = refl
 
-  pub length-step : (room : Room) → length (step cap x (record { out = out; room = room }) .out) ≡ length out
+  pub length-step : (room : Room) → length (printStep cap x (record { out = out; room = room }) .out) ≡ length out
   length-step Full = rw step-full
   length-step (Left r) =
       byLe (length x) r
@@ -84,7 +84,7 @@ module _ (cap : ℕ) (x out : Bytes) where
       (λ h. rw (step-past r h))
 
   -- the room does not go by the output
-  pub room-step : (room : Room) → step cap x (record { out = out; room = room }) .room ≡ behind room (length x)
+  pub room-step : (room : Room) → printStep cap x (record { out = out; room = room }) .room ≡ behind room (length x)
   room-step Full = rw (step-full, behind-full)
   room-step (Left r) =
       byLe (length x) r
@@ -97,14 +97,14 @@ pub print-none : (cap : ℕ) (p : Printed) → print cap [] p ≡ p
 unfolding print
 print-none cap p = refl
 
-pub print-more : (cap : ℕ) (x : Bytes) (xs : List Bytes) (p : Printed) → print cap (x ∷ xs) p ≡ print cap xs (step cap x p)
+pub print-more : (cap : ℕ) (x : Bytes) (xs : List Bytes) (p : Printed) → print cap (x ∷ xs) p ≡ print cap xs (printStep cap x p)
 unfolding print
 print-more cap x xs p = refl
 
 pub print-append : (cap : ℕ) (xs ys : List Bytes) (p : Printed) → print cap (xs ++ ys) p ≡ print cap ys (print cap xs p)
 unfolding print
 print-append cap [] ys p = refl
-print-append cap (x ∷ xs) ys p = print-append cap xs ys (step cap x p)
+print-append cap (x ∷ xs) ys p = print-append cap xs ys (printStep cap x p)
 
 -- once a piece did not fit, nothing more is written
 pub print-full : (cap : ℕ) (xs : List Bytes) (out : Bytes) → print cap xs (record { out = out; room = Full }) ≡ record { out = out; room = Full }
@@ -115,59 +115,59 @@ print-full cap (x ∷ xs) out = rw (step-full cap x out) (print-full cap xs out)
 pub length-print : (cap : ℕ) (xs : List Bytes) (p : Printed) → length (print cap xs p .out) ≡ length (p .out)
 unfolding print
 length-print cap [] p = refl
-length-print cap (x ∷ xs) p = length-print cap xs (step cap x p) ∙ length-step cap x (p .out) (p .room)
+length-print cap (x ∷ xs) p = length-print cap xs (printStep cap x p) ∙ length-step cap x (p .out) (p .room)
 
-pub joined-append : (xs ys : List Bytes) → joined (xs ++ ys) ≡ joined xs ++ joined ys
-unfolding joined
+pub joined-append : (xs ys : List Bytes) → joinedPieces (xs ++ ys) ≡ joinedPieces xs ++ joinedPieces ys
+unfolding joinedPieces
 joined-append [] ys = refl
-joined-append (x ∷ xs) ys = rw (joined-append xs ys) (sym (append-assoc x (joined xs) (joined ys)))
+joined-append (x ∷ xs) ys = rw (joined-append xs ys) (sym (append-assoc x (joinedPieces xs) (joinedPieces ys)))
 
 -- the room that is left goes by the length alone
-pub room-print : (cap : ℕ) (xs : List Bytes) (p : Printed) → print cap xs p .room ≡ behind (p .room) (length (joined xs))
-unfolding print joined
+pub room-print : (cap : ℕ) (xs : List Bytes) (p : Printed) → print cap xs p .room ≡ behind (p .room) (length (joinedPieces xs))
+unfolding print joinedPieces
 room-print cap [] p = sym (behind-nothing (p .room))
 room-print cap (x ∷ xs) p =
-    rw (room-print cap xs (step cap x p), room-step cap x (p .out) (p .room), behind-both, length-append)
+    rw (room-print cap xs (printStep cap x p), room-step cap x (p .out) (p .room), behind-both, length-append)
 
 -- ---- lent no bytes: the length is measured
 
-step-none : (cap : ℕ) (x : Bytes) (room : Room) → step cap x (record { out = []; room = room }) ≡ record { out = []; room = behind room (length x) }
+step-none : (cap : ℕ) (x : Bytes) (room : Room) → printStep cap x (record { out = []; room = room }) ≡ record { out = []; room = behind room (length x) }
 step-none cap x Full = rw (step-full, behind-full)
 step-none cap x (Left r) =
     byLe (length x) r
     (λ h. rw (step-fits cap x [] r h, behind-fits r (length x) h, placed-none))
     (λ h. rw (step-past cap x [] r h, behind-past r (length x) h))
 
-pub measured : (cap : ℕ) (xs : List Bytes) (room : Room) → print cap xs (record { out = []; room = room }) ≡ record { out = []; room = behind room (length (joined xs)) }
-unfolding print joined
+pub measured : (cap : ℕ) (xs : List Bytes) (room : Room) → print cap xs (record { out = []; room = room }) ≡ record { out = []; room = behind room (length (joinedPieces xs)) }
+unfolding print joinedPieces
 measured cap [] room = rw behind-nothing
 measured cap (x ∷ xs) room = rw (step-none cap x room, measured cap xs (behind room (length x)), behind-both, length-append)
 
-pub measured-fits : (cap : ℕ) (xs : List Bytes) (r : ℕ) → length (joined xs) ≤ r
-    → print cap xs (record { out = []; room = Left r }) ≡ record { out = []; room = Left (r - length (joined xs)) }
-measured-fits cap xs r h = rw (measured cap xs (Left r), behind-fits r (length (joined xs)) h)
+pub measured-fits : (cap : ℕ) (xs : List Bytes) (r : ℕ) → length (joinedPieces xs) ≤ r
+    → print cap xs (record { out = []; room = Left r }) ≡ record { out = []; room = Left (r - length (joinedPieces xs)) }
+measured-fits cap xs r h = rw (measured cap xs (Left r), behind-fits r (length (joinedPieces xs)) h)
 
-pub measured-full : (cap : ℕ) (xs : List Bytes) (r : ℕ) → r < length (joined xs)
+pub measured-full : (cap : ℕ) (xs : List Bytes) (r : ℕ) → r < length (joinedPieces xs)
     → print cap xs (record { out = []; room = Left r }) ≡ record { out = []; room = Full }
-measured-full cap xs r h = rw (measured cap xs (Left r), behind-past r (length (joined xs)) h)
+measured-full cap xs r h = rw (measured cap xs (Left r), behind-past r (length (joinedPieces xs)) h)
 
 -- ---- lent the output: what fits is written
 
-written-of : (cap : ℕ) (xs : List Bytes) (out : Bytes) (r : ℕ) → cap ≡ length out → length (joined xs) ≤ r → r ≤ cap
-    → print cap xs (record { out = out; room = Left r }) ≡ record { out = over out (cap - r) (joined xs); room = Left (r - length (joined xs)) }
-unfolding print joined
+written-of : (cap : ℕ) (xs : List Bytes) (out : Bytes) (r : ℕ) → cap ≡ length out → length (joinedPieces xs) ≤ r → r ≤ cap
+    → print cap xs (record { out = out; room = Left r }) ≡ record { out = over out (cap - r) (joinedPieces xs); room = Left (r - length (joinedPieces xs)) }
+unfolding print joinedPieces
 written-of cap [] out r c h g = let d : r - 0 ≡ r = omega arith in rw (over-nothing, d)
 written-of cap (x ∷ xs) out r c h g =
-    let l : length x + length (joined xs) ≤ r = rw length-append at h in
+    let l : length x + length (joinedPieces xs) ≤ r = rw length-append at h in
     let at = cap - r in
-    let p : placed out at x ≡ over out at x = placed-within out at x (omega arith) in
+    let p : placedAt out at x ≡ over out at x = placed-within out at x (omega arith) in
     let n : cap ≡ length (over out at x) = rw length-over c in
     let a : cap - (r - length x) ≡ at + length x = omega arith in
-    let d : r - length x - length (joined xs) ≡ r - (length x + length (joined xs)) = omega arith in
+    let d : r - length x - length (joinedPieces xs) ≡ r - (length x + length (joinedPieces xs)) = omega arith in
     rw (step-fits cap x out r (omega arith), p, written-of cap xs (over out at x) (r - length x) n (omega arith) (omega arith), a, over-over, length-append, d)
 
-pub written : (xs : List Bytes) (out : Bytes) (r : ℕ) → length (joined xs) ≤ r → r ≤ length out
-    → print (length out) xs (record { out = out; room = Left r }) ≡ record { out = over out (length out - r) (joined xs); room = Left (r - length (joined xs)) }
+pub written : (xs : List Bytes) (out : Bytes) (r : ℕ) → length (joinedPieces xs) ≤ r → r ≤ length out
+    → print (length out) xs (record { out = out; room = Left r }) ≡ record { out = over out (length out - r) (joinedPieces xs); room = Left (r - length (joinedPieces xs)) }
 written xs out r h g = written-of (length out) xs out r refl h g
 
 -- ---- the pieces of a line
@@ -189,11 +189,11 @@ pub line-parts : (f : Bytes) (fs : List Bytes) → linePieces (f ∷ fs) ≡ f �
 unfolding linePieces
 line-parts f fs = refl
 
-joined-tabs : (f : Bytes) (fs : List Bytes) → f ++ joined (tabs fs) ≡ tabbed (f ∷ fs)
-unfolding joined tabs tabbed
+joined-tabs : (f : Bytes) (fs : List Bytes) → f ++ joinedPieces (tabs fs) ≡ tabbed (f ∷ fs)
+unfolding joinedPieces tabs tabbed
 joined-tabs f [] = append-nil f
 joined-tabs f (g ∷ fs) = ap (λ (t : Bytes). f ++ (9 ∷ t)) (joined-tabs g fs)
 
-pub line-pieces : (f : Bytes) (fs : List Bytes) → joined (linePieces (f ∷ fs)) ≡ line (f ∷ fs)
-unfolding joined linePieces line
-line-pieces f fs = rw (joined-append (tabs fs) ((10 ∷ []) ∷ []), ← append-assoc f (joined (tabs fs)) (10 ∷ []), joined-tabs f fs)
+pub line-pieces : (f : Bytes) (fs : List Bytes) → joinedPieces (linePieces (f ∷ fs)) ≡ line (f ∷ fs)
+unfolding joinedPieces linePieces line
+line-pieces f fs = rw (joined-append (tabs fs) ((10 ∷ []) ∷ []), ← append-assoc f (joinedPieces (tabs fs)) (10 ∷ []), joined-tabs f fs)

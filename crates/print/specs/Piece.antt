@@ -5,6 +5,7 @@ use mathlib.Core.Bool.{cond}
 use mathlib.Core.List.{[], _∷_, _++_}
 use lib.Dec.{leb}
 use Rattle.base.specs.Bytes.{Bytes}
+use Rattle.base.specs.Chars.{backslash}
 use Rattle.little.specs.Little.{over}
 use Rattle.print.specs.declared.Room.{Room}
 use Rattle.print.specs.declared.Room.the-variants.{Left, Full}
@@ -16,15 +17,15 @@ behind Full n = Full
 
 -- where a piece goes in an output of `len` bytes, by the room before and behind it: after the pieces before it where it lies within the output, else to
 -- the output's end, where nothing is written
-unfoldable pub placeOf : ℕ → Room → Room → ℕ → ℕ
-placeOf cap (Left r) (Left l) len = cond (leb (cap - r + (r - l)) len) (cap - r) len
-placeOf cap (Left r) Full len = len
-placeOf cap Full left len = len
+unfoldable pub outputPlace : ℕ → Room → Room → ℕ → ℕ
+outputPlace cap (Left r) (Left l) len = cond (leb (cap - r + (r - l)) len) (cap - r) len
+outputPlace cap (Left r) Full len = len
+outputPlace cap Full left len = len
 
 -- a byte as it is escaped by a letter; with 0 for its letter it stands for itself
-abbrev pub lettered : ℕ → ℕ → Bytes
-lettered b zero = b ∷ []
-lettered b (suc m) = 92 ∷ suc m ∷ []
+abbrev pub escapedBy : ℕ → ℕ → Bytes
+escapedBy b zero = b ∷ []
+escapedBy b (suc m) = backslash ∷ suc m ∷ []
 
 -- a writer wrote x from a place of s on, and left s' and the place where the next goes on
 pub record Advance (s : Bytes) (at : ℕ) (x s' : Bytes) (end : ℕ) : Type 0 where

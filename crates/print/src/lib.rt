@@ -9,8 +9,8 @@ ghost use mir.Val.{toZ};
 ghost use Rattle.text.specs.Escape.{escaped, escape};
 ghost use Rattle.line.specs.Decimal.{numberText, integerText};
 ghost use Rattle.little.specs.Little.{over};
-ghost use Rattle.print.specs.Print.{step, print, tab};
-ghost use Rattle.print.specs.Piece.{behind, placeOf, lettered, Advance};
+ghost use Rattle.print.specs.Print.{printStep, print, tab};
+ghost use Rattle.print.specs.Piece.{behind, outputPlace, escapedBy, Advance};
 
 // How much room is left, or that a piece did not fit.
 pub enum Room {
@@ -50,7 +50,7 @@ fn within(at: usize, n: usize, len: usize) -> bool
 
 // Where a piece goes, by the room before and behind it: to the output's end where nothing of it is written.
 fn place(cap: usize, room: Room, left: Room, len: usize) -> usize
-    ensures { λ r. ⌜ (r ≡ placeOf cap room left len) × (r ≤ len) ⌝ }
+    ensures { λ r. ⌜ (r ≡ outputPlace cap room left len) × (r ≤ len) ⌝ }
 {
     let Room::Left(r) = room else {
         return len;
@@ -67,7 +67,7 @@ fn place(cap: usize, room: Room, left: Room, len: usize) -> usize
 
 // A piece of bytes.
 pub fn put_bytes(out: &mut [u8], cap: usize, room: Room, piece: &[u8]) -> Room
-    ensures { λ r. ⌜ record { out = now (out .exit); room = r } ≡ step cap (now (piece .entry)) (record { out = now (out .entry); room = room }) ⌝ }
+    ensures { λ r. ⌜ record { out = now (out .exit); room = r } ≡ printStep cap (now (piece .entry)) (record { out = now (out .entry); room = room }) ⌝ }
 {
     let left = behind_bytes(room, piece.len());
     let at = place(cap, room, left, out.len());
@@ -77,7 +77,7 @@ pub fn put_bytes(out: &mut [u8], cap: usize, room: Room, piece: &[u8]) -> Room
 
 // A tab.
 fn put_tab(out: &mut [u8], cap: usize, room: Room) -> Room
-    ensures { λ r. ⌜ record { out = now (out .exit); room = r } ≡ step cap tab (record { out = now (out .entry); room = room }) ⌝ }
+    ensures { λ r. ⌜ record { out = now (out .exit); room = r } ≡ printStep cap tab (record { out = now (out .entry); room = room }) ⌝ }
 {
     put_bytes(out, cap, room, b"\t")
 }
@@ -86,7 +86,7 @@ fn put_tab(out: &mut [u8], cap: usize, room: Room) -> Room
 
 // The digits of a number.
 fn number_piece(out: &mut [u8], cap: usize, room: Room, v: u64) -> Room
-    ensures { λ r. ⌜ record { out = now (out .exit); room = r } ≡ step cap (numberText v) (record { out = now (out .entry); room = room }) ⌝ }
+    ensures { λ r. ⌜ record { out = now (out .exit); room = r } ≡ printStep cap (numberText v) (record { out = now (out .entry); room = room }) ⌝ }
 {
     let left = behind_bytes(room, decimal::number_length(v));
     let at = place(cap, room, left, out.len());
@@ -117,7 +117,7 @@ fn behind_integer(room: Room, bits: u64) -> Room
 
 // An integer with its minus sign.
 fn integer_piece(out: &mut [u8], cap: usize, room: Room, bits: u64) -> Room
-    ensures { λ r. ⌜ record { out = now (out .exit); room = r } ≡ step cap (integerText (toZ w64 bits)) (record { out = now (out .entry); room = room }) ⌝ }
+    ensures { λ r. ⌜ record { out = now (out .exit); room = r } ≡ printStep cap (integerText (toZ w64 bits)) (record { out = now (out .entry); room = room }) ⌝ }
 {
     let left = behind_integer(room, bits);
     let at = place(cap, room, left, out.len());
@@ -154,7 +154,7 @@ pub fn put_integer32(out: &mut [u8], cap: usize, room: Room, bits: u32) -> Room
 
 // The letter that stands for a byte after a backslash, 0 for a byte that stands for itself.
 fn letter(b: u8) -> u8
-    ensures { λ r. ⌜ escaped b ≡ lettered b r ⌝ }
+    ensures { λ r. ⌜ escaped b ≡ escapedBy b r ⌝ }
 {
     if b == b'\t' {
         return b't';
@@ -228,7 +228,7 @@ fn put_escape(out: &mut [u8], text: &[u8])
 
 // The escape of a text.
 fn text_piece(out: &mut [u8], cap: usize, room: Room, text: &[u8]) -> Room
-    ensures { λ r. ⌜ record { out = now (out .exit); room = r } ≡ step cap (escape (now (text .entry))) (record { out = now (out .entry); room = room }) ⌝ }
+    ensures { λ r. ⌜ record { out = now (out .exit); room = r } ≡ printStep cap (escape (now (text .entry))) (record { out = now (out .entry); room = room }) ⌝ }
 {
     let left = behind_bytes(behind_bytes(room, text.len()), text_longer(text));
     let at = place(cap, room, left, out.len());

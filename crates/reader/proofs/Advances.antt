@@ -39,7 +39,7 @@ use Rattle.shelf.specs.declared.Kept.the-variants.{Taken}
 use Rattle.overlay.specs.Overlay.{Overlay, shelfOf}
 use Rattle.overlay.specs.Sound.{isSound}
 use Rattle.overlay.specs.Given.{headFits, metaFits}
-use Rattle.overlay.specs.Calls.{After}
+use Rattle.overlay.specs.Calls.{OverlayAfter}
 use Rattle.store.specs.Calls.{storePush, storeDelete}
 use Rattle.direct.specs.Calls.{deleteOn}
 use Rattle.direct.proofs.Answers.{push-store, delete-store}
@@ -52,7 +52,7 @@ use Rattle.acts.specs.Turn as Turn
 use Rattle.reader.specs.declared.Pending.{Pending}
 use Rattle.reader.specs.State.{State, pendingRecord, readerSound, stateSound, moreTags, moreParts}
 use Rattle.reader.specs.Given.{StateGiven}
-use Rattle.reader.specs.Step.{Advanced, goes, clearsTo, metaBits, headFor, memberBits, tagWithin, partWithin, partPlace, stepOf}
+use Rattle.reader.specs.Step.{Advanced, goes, clearsTo, bitsWithUser, headFor, memberBits, tagWithin, partWithin, partPlace, stepOf}
 use Rattle.reader.specs.Means.{stagedOf, readerOf}
 use Rattle.reader.proofs.Texts.{legal-agree}
 use Rattle.reader.proofs.Element.{stages-back, way-body, relation-body, PartStaged, tag-limit, ref-limit, member-limit, tag-grows, ref-grows, member-grows}
@@ -82,9 +82,9 @@ held-acts k parts x o v e b a =
     let bytes = take (x .used) parts in
     let p = stages-back k (x .head) (x .meta) bytes (v .held) (v .stages) in
     let s = push-store k (x .head) (x .meta) bytes o e (ap (faultFor (o .texts .strings)) p ∙ fault-legal (o .texts .strings) (v .held) (v .lawful)) in
-    let i = a-push k (x .head) (x .meta) bytes (v .held) (v .head) (v .meta) (bytes-take (x .used) parts b) p (ap (λ (z : After). takenIn (z .answer)) s ∙ ap takenIn a) in
+    let i = a-push k (x .head) (x .meta) bytes (v .held) (v .head) (v .meta) (bytes-take (x .used) parts b) p (ap (λ (z : OverlayAfter). takenIn (z .answer)) s ∙ ap takenIn a) in
     subst (λ (y : Staged). Acts o (some (push (y .id) (y .held))) (storePush k (x .head) (x .meta) bytes o .overlay)) (sym (held-means (o .texts .strings) k parts x v (textsOf (o .texts))))
-    (rw (ap (λ (z : After). z .overlay) s) at i)
+    (rw (ap (λ (z : OverlayAfter). z .overlay) s) at i)
 
 -- an element that begins behind its user's text
 module _ (o : Overlay) (w : Fine o) (id : ℤ) (m : Meta Bytes) (g : Decided.Given id m) (h : ℕ) (q : Overlay) (t : TakenAs o (userText m) q h (m .user))
@@ -92,40 +92,40 @@ module _ (o : Overlay) (w : Fine o) (id : ℤ) (m : Meta Bytes) (g : Decided.Giv
   named-fine : Fine q
   named-fine = takes-fine w (t .takes)
 
-  named-legal : legalMeta (q .texts .strings) (metaOf (metaBits m h)) ≡ true
+  named-legal : legalMeta (q .texts .strings) (metaOf (bitsWithUser m h)) ≡ true
   named-legal = legal-meta m (g .legal) h (q .texts .strings) (t .held) z
 
   named-small : h ≤ 4096
   named-small = omega (arith, t .held, strings-few q (named-fine .sound))
 
-  named-fits : metaFits (metaBits m h) ≡ true
+  named-fits : metaFits (bitsWithUser m h) ≡ true
   named-fits = meta-fits m (g .legal) h named-small
 
   -- what is staged of an element that begins
-  named-held : (b : Body Bytes) → Decided.First b → (parts : Bytes) → Held (q .texts .strings) (kindOf b) parts (record { head = headFor id b; meta = metaBits m h; used = 0 })
+  named-held : (b : Body Bytes) → Decided.First b → (parts : Bytes) → Held (q .texts .strings) (kindOf b) parts (record { head = headFor id b; meta = bitsWithUser m h; used = 0 })
   named-held b f parts = begun-held id m b (g .fits) (g .legal) f (q .texts .strings) h (t .held) named-small z parts
 
   named-means : (b : Body Bytes) (f : Decided.First b) (parts : Bytes)
-      → stagedOf (textsOf (q .texts)) (kindOf b) parts (record { head = headFor id b; meta = metaBits m h; used = 0 }) ≡ record { id = id; held = first m b }
+      → stagedOf (textsOf (q .texts)) (kindOf b) parts (record { head = headFor id b; meta = bitsWithUser m h; used = 0 }) ≡ record { id = id; held = first m b }
   named-means b f parts =
       held-means (q .texts .strings) (kindOf b) parts _ (begun-held id m b (g .fits) (g .legal) f (q .texts .strings) h (t .held) named-small z parts) (textsOf (q .texts))
       ∙ begun-means id m b (g .fits) (g .legal) f (q .texts .strings) h (t .held) named-small z (textsOf (q .texts)) (t .text)
 
-  first-acts : (b : Body Bytes) → Decided.First b → storePush (kindOf b) (headFor id b) (metaBits m h) [] q .answer ≡ Taken
-      → Acts q (some (push id (first m b))) (storePush (kindOf b) (headFor id b) (metaBits m h) [] q .overlay)
+  first-acts : (b : Body Bytes) → Decided.First b → storePush (kindOf b) (headFor id b) (bitsWithUser m h) [] q .answer ≡ Taken
+      → Acts q (some (push id (first m b))) (storePush (kindOf b) (headFor id b) (bitsWithUser m h) [] q .overlay)
   first-acts b f a =
-      subst (λ (y : Staged). Acts q (some (push (y .id) (y .held))) (storePush (kindOf b) (headFor id b) (metaBits m h) [] q .overlay)) (named-means b f [])
-      (held-acts (kindOf b) [] (record { head = headFor id b; meta = metaBits m h; used = 0 }) q (named-held b f []) (named-fine .sound) (all-nil isByte) a)
+      subst (λ (y : Staged). Acts q (some (push (y .id) (y .held))) (storePush (kindOf b) (headFor id b) (bitsWithUser m h) [] q .overlay)) (named-means b f [])
+      (held-acts (kindOf b) [] (record { head = headFor id b; meta = bitsWithUser m h; used = 0 }) q (named-held b f []) (named-fine .sound) (all-nil isByte) a)
 
   delete-acts : (k : Kind) → storeDelete k id (claimOf m) q .answer ≡ Taken → Acts q (some (delete k id (claimOf m))) (storeDelete k id (claimOf m) q .overlay)
   delete-acts k a =
-      let x = metaBits m h in
+      let x = bitsWithUser m h in
       let i : toZ w64 (ofZ w64 id) ≡ id = toZ-ofZ (g .fits) in
       let c = claim-same m (g .legal) h in
       let s : deleteOn k (toZ w64 (ofZ w64 id)) (metaOf x) q ≡ storeDelete k id (claimOf m) q = rw (i, ← c) (delete-store k id (metaOf x) q (named-fine .sound) named-legal) in
       let d : Acts q (some (delete k (toZ w64 (ofZ w64 id)) (claimOf (metaOf x)))) (deleteOn k (toZ w64 (ofZ w64 id)) (metaOf x) q .overlay) =
-      a-delete k (ofZ w64 id) x (fits-ofZ (g .fits) .fits) named-fits (ap (λ (z : After). takenIn (z .answer)) s ∙ ap takenIn a) in
-      rw (ap (λ (z : After). z .overlay) s, i, c) at d
+      a-delete k (ofZ w64 id) x (fits-ofZ (g .fits) .fits) named-fits (ap (λ (z : OverlayAfter). takenIn (z .answer)) s ∙ ap takenIn a) in
+      rw (ap (λ (z : OverlayAfter). z .overlay) s, i, c) at d
 
 -- the texts of a record with one part more
 module _ (f g : ℕ → Bytes) (r : Record ℕ) (e : swapRecord g r ≡ swapRecord f r) where
@@ -250,12 +250,12 @@ module _ (s : State) (g : StateGiven s) (e : stateSound s ≡ true) where
   advances (begins true p id m b) w =
       each-admit (admit (kindOf b) id m) _
       (each-user (s .overlay) (fine .sound) m _ (w .0 .legal) (w .0 .user) (λ h q t z.
-      each-after (storePush (kindOf b) (headFor id b) (metaBits m h) [] q) (clearsTo s p) (λ a.
+      each-after (storePush (kindOf b) (headFor id b) (bitsWithUser m h) [] q) (clearsTo s p) (λ a.
       cleared (begins true p id m b) p _ (userText m) (push id (first m b)) refl
       (record { between = q; taken = t .takes; acted = first-acts (s .overlay) fine id m (w .0) h q t z b (w .1 .0) a }))))
   advances (begins false p id m b) w =
       each-user (s .overlay) (fine .sound) m _ (w .0 .legal) (w .0 .user) (λ h q t z.
-      let y : Pending = record { head = headFor id b; meta = metaBits m h; used = 0 } in
+      let y : Pending = record { head = headFor id b; meta = bitsWithUser m h; used = 0 } in
       let v : Held (q .texts .strings) (p .kind) (s .parts) y = rw (w .1 .1) (named-held (s .overlay) fine id m (w .0) h q t z b (w .1 .0) (s .parts)) in
       leaves (record {
         comes = record { reader = record { place = p; staged = record { id = id; held = first m b } }; texts = userText m; act = none };

@@ -11,7 +11,7 @@ use borrow.Author.Tests.{le-leb}
 use Rattle.base.specs.Bytes.{Bytes, both}
 use Rattle.base.proofs.Split.{byBool, both-of, no, clash}
 use Rattle.refusal.specs.Refusal.{numberOf}
-use Rattle.refusal.specs.First.{Row, firstOf}
+use Rattle.refusal.specs.First.{ConditionRow, firstOf}
 use Rattle.refusal.proofs.First.{before}
 use Rattle.refusal.specs.declared.Refusal.{Refusal}
 use Rattle.refusal.specs.declared.Refusal.the-variants as R
@@ -82,11 +82,11 @@ module _ (line : Bytes) (s : State) (g : StateGiven s) where
 -- ---- the refusals of a step: 2 to 11 of its decision, 12 to 16 of the store
 
 -- each row that holds gives a refusal whose number is from lo to hi
-abbrev pub Among : ℕ → ℕ → List (Row Refusal) → Type 0
+abbrev pub Among : ℕ → ℕ → List (ConditionRow Refusal) → Type 0
 Among lo hi [] = Unit {0}
 Among lo hi (x ∷ rows) = ((lo ≤ numberOf (x .gives)) × (numberOf (x .gives) ≤ hi)) × Among lo hi rows
 
-pub first-among : (lo hi : ℕ) (rows : List (Row Refusal)) (r : Refusal) → Among lo hi rows → firstOf rows ≡ some r → (lo ≤ numberOf r) × (numberOf r ≤ hi)
+pub first-among : (lo hi : ℕ) (rows : List (ConditionRow Refusal)) (r : Refusal) → Among lo hi rows → firstOf rows ≡ some r → (lo ≤ numberOf r) × (numberOf r ≤ hi)
 unfolding firstOf
 first-among lo hi [] r w e = no (cc)
 first-among lo hi (x ∷ rows) r w e = byBool (x .holds) (λ t. let z : x .gives ≡ r = cc (rw t at e) in rw (← z) (w .0)) (λ t. first-among lo hi rows r (w .1) (rw t at e))

@@ -19,12 +19,12 @@ use Rattle.kind.specs.declared.Kind.{Kind}
 use Rattle.model.specs.Record.{Tag, Body, refs, members, Record, kindOf}
 use Rattle.model.specs.Swap.{swapRecord}
 use Rattle.compact.specs.Held.{metaOf, headIn}
-use Rattle.compact.specs.Layout.{headOf, bodyBytes, partsBytes, joined}
+use Rattle.compact.specs.Layout.{headOf, bodyBytes, partsBytes, joinedBytes}
 use Rattle.compact.specs.Fits.{fitsBody, fitsTag}
 use Rattle.compact.specs.Legal.{limits, handle, valueBytes, legalMeta, bodyHandles, legalHandles, legalTexts, inRange, bodyWithin, withinLimits, legal}
 use Rattle.compact.specs.declared.ArenaMeta.{ArenaMeta}
 use Rattle.compact.specs.declared.PushHead.{PushHead}
-use Rattle.legal.specs.Judge.{answered, faultFor}
+use Rattle.legal.specs.Judge.{faultAnswer, faultFor}
 use Rattle.legal.specs.declared.Fault.{Fault}
 use Rattle.legal.specs.declared.Fault.the-variants as F
 use Rattle.legal.proofs.Laws.{legal-is, legal-more, push-legal}
@@ -47,7 +47,7 @@ pub record Held (strings : ℕ) (k : Kind) (parts : Bytes) (x : Pending) : Type 
 
 pub fault-legal : (n : ℕ) (r : Record ℕ) → legal n r ≡ true → faultFor n (some r) ≡ F.Legal
 unfolding faultFor
-fault-legal n r l = ap answered (legal-is n r .0 l)
+fault-legal n r l = ap faultAnswer (legal-is n r .0 l)
 
 is-legal : (f : Fault) → isLegal f ≡ true → f ≡ F.Legal
 is-legal F.Legal e = refl
@@ -113,7 +113,7 @@ bareRecord a b = record { meta = metaOf a; body = b; tags = [] }
 
 module _ {k : Kind} {h : PushHead} {b : Body ℕ} (w : Partless k h b) where
   pub bare-stages : (a : ArenaMeta) → Stages k h a [] (bareRecord a b)
-  unfolding partsBytes joined
+  unfolding partsBytes joinedBytes
   bare-stages a = record { kind = w .kind; head = w .head; meta = refl; fit = both-of (w .fit) (all-nil fitsTag); bytes = rw (w .parts) }
 
   pub bare-legal : (n : ℕ) (a : ArenaMeta) → legalMeta n (metaOf a) ≡ true → legal n (bareRecord a b) ≡ true

@@ -23,12 +23,12 @@ use Rattle.kind.specs.declared.Kind.the-variants as K
 use Rattle.model.specs.Record.{Meta, Member, Tag, Body, place, refs, members, Record, kindOf, flagged, claimOf}
 use Rattle.model.specs.Swap.{swapMeta, swapBody}
 use Rattle.compact.specs.Held.{metaOf, headIn, nodeHead, countsHead}
-use Rattle.compact.specs.Layout.{headOf, bodyBytes, joined}
+use Rattle.compact.specs.Layout.{headOf, bodyBytes, joinedBytes}
 use Rattle.compact.specs.Fits.{fitsBody, fitsSigned, fitsMember}
 use Rattle.compact.specs.Legal.{limits, handle, legalMeta, bodyHandles, legalHandles, legalTexts, inRange, withinLimits, legal}
 use Rattle.compact.specs.declared.CompactMember.{CompactMember}
 use Rattle.compact.specs.declared.PushHead.{PushHead}
-use Rattle.stage.specs.Stage.{inserted, staged, refPart, memberPart, tagPart}
+use Rattle.stage.specs.Stage.{insertedAt, staged, refPart, memberPart, tagPart}
 use Rattle.stage.proofs.Parts.{withRef, withMember, withTag}
 use Rattle.overlay.specs.Given.{headFits, metaFits}
 use Rattle.overlay.proofs.Bounds.{over-small}
@@ -40,7 +40,7 @@ use Rattle.acts.specs.Turn.{noBody, noElement, first}
 use Rattle.reader.specs.declared.Pending.{Pending}
 use Rattle.reader.specs.State.{noPending, moreTags, moreParts}
 use Rattle.reader.specs.Means.{stagedOf}
-use Rattle.reader.specs.Step.{metaBits, headFor}
+use Rattle.reader.specs.Step.{bitsWithUser, headFor}
 use Rattle.reader.proofs.Small.{text-small}
 use Rattle.reader.proofs.Held.{Partless, Held, held-means, elementAs, bareRecord, bare-held}
 
@@ -50,7 +50,7 @@ unless : (b c : Bool) → (b ≡ false → c ≡ true) → either b c ≡ true
 unless b c f = byBool b (λ e. either-left b c e) (λ e. either-right b (f e))
 
 module _ (m : Meta Bytes) (w : Legal m) (u : ℕ) where
-  pub legal-meta : (n : ℕ) → u < n → (flagged 4 (m .flags) ≡ false → u ≡ 0) → legalMeta n (metaOf (metaBits m u)) ≡ true
+  pub legal-meta : (n : ℕ) → u < n → (flagged 4 (m .flags) ≡ false → u ≡ 0) → legalMeta n (metaOf (bitsWithUser m u)) ≡ true
   unfolding legalMeta metaOf
   legal-meta n h z =
       rw (toZ-ofZ (w .version-fits), toZ-ofZ (w .timestamp-fits), toZ-ofZ (w .changeset-fits), toZ-ofZ (w .uid-fits))
@@ -59,7 +59,7 @@ module _ (m : Meta Bytes) (w : Legal m) (u : ℕ) where
       (both-of (unless _ _ (λ e. both-of (same-is (m .timestamp) (pos 0) .1 (w .timestamp e)) (both-of (same-is (m .changeset) (pos 0) .1 (w .changeset e)) (same-is (m .uid) (pos 0) .1 (w .uid e)))))
       (both-of (unless _ _ (λ e. eq-eqb u 0 (z e))) (lt-ltb u n h)))))
 
-  pub meta-fits : u ≤ 4096 → metaFits (metaBits m u) ≡ true
+  pub meta-fits : u ≤ 4096 → metaFits (bitsWithUser m u) ≡ true
   unfolding metaFits
   meta-fits l =
       both-of (lt-ltb (m .flags) 256 (omega (arith, w .small)))
@@ -69,12 +69,12 @@ module _ (m : Meta Bytes) (w : Legal m) (u : ℕ) where
       (both-of (lt-ltb (ofZ w32 (m .uid)) 4294967296 (fits-ofZ (w .uid-fits) .fits)) (lt-ltb u 4294967296 (omega arith))))))
 
   -- it claims the version that the event gives
-  pub claim-same : claimOf (metaOf (metaBits m u)) ≡ claimOf m
+  pub claim-same : claimOf (metaOf (bitsWithUser m u)) ≡ claimOf m
   unfolding claimOf metaOf
   claim-same = rw (toZ-ofZ (w .version-fits))
 
   -- and comes back from its bits, with its user's text
-  pub meta-comes : (f : ℕ → Bytes) → f u ≡ m .user → swapMeta f (metaOf (metaBits m u)) ≡ m
+  pub meta-comes : (f : ℕ → Bytes) → f u ≡ m .user → swapMeta f (metaOf (bitsWithUser m u)) ≡ m
   unfolding metaOf
   meta-comes f e =
       rw (toZ-ofZ (w .version-fits), toZ-ofZ (w .timestamp-fits), toZ-ofZ (w .changeset-fits), toZ-ofZ (w .uid-fits))
@@ -93,7 +93,7 @@ body-comes f (refs rs) w = rw w
 body-comes f (members ms) w = rw w
 
 pub begun : (id : ℤ) (b : Body Bytes) → First b → Partless (kindOf b) (headFor id b) (bodyIn b)
-unfolding headOf headIn nodeHead countsHead fitsBody bodyBytes bodyHandles inRange joined
+unfolding headOf headIn nodeHead countsHead fitsBody bodyBytes bodyHandles inRange joinedBytes
 begun id (place lat lon) w =
     record {
       kind = refl;
@@ -127,12 +127,12 @@ bits-id id (members ms) f = toZ-ofZ f
 module _ (id : ℤ) (m : Meta Bytes) (b : Body Bytes) (fits : SFits w64 id) (w : Legal m) (f : First b) (n u : ℕ) (held : u < n) (small : u ≤ 4096)
     (none-named : flagged 4 (m .flags) ≡ false → u ≡ 0) where
   abbrev pub begunAs : Pending
-  begunAs = record { head = headFor id b; meta = metaBits m u; used = 0 }
+  begunAs = record { head = headFor id b; meta = bitsWithUser m u; used = 0 }
 
   abbrev pub begun-held : (parts : Bytes) → Held n (kindOf b) parts begunAs
-  begun-held parts = bare-held (begun id b f) n (metaBits m u) parts (legal-meta m w u n held none-named) (head-fits id b fits f) (meta-fits m w u small)
+  begun-held parts = bare-held (begun id b f) n (bitsWithUser m u) parts (legal-meta m w u n held none-named) (head-fits id b fits f) (meta-fits m w u small)
 
-  pub begun-means : (texts : List Bytes) → textOf texts u ≡ m .user → elementAs texts (headFor id b) (bareRecord (metaBits m u) (bodyIn b)) ≡ record { id = id; held = first m b }
+  pub begun-means : (texts : List Bytes) → textOf texts u ≡ m .user → elementAs texts (headFor id b) (bareRecord (bitsWithUser m u) (bodyIn b)) ≡ record { id = id; held = first m b }
   begun-means texts e =
       let x = bits-id id b fits in
       let y = meta-comes m w u (textOf texts) e in
@@ -213,7 +213,7 @@ pub staged-small : (parts : Bytes) (used at : ℕ) (x : Bytes) → all isByte pa
 unfolding staged
 staged-small parts used at x p q =
     let u = bytes-take used parts p in
-    let i : all isByte (inserted at x (take used parts)) ≡ true =
+    let i : all isByte (insertedAt at x (take used parts)) ≡ true =
     all-append isByte (take at (take used parts)) _ (bytes-take at _ u) (all-append isByte x _ q (bytes-drop at _ u)) in
     byBool (both (leb at used) (leb (used + length x) (length parts))) (λ t. rw t (over-small parts 0 _ p i)) (λ t. rw t p)
 

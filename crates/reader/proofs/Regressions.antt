@@ -11,7 +11,7 @@ use mir.Syntax.{w64}
 use mir.Val.{SFits, toZ}
 use Rattle.base.specs.Bytes.{Bytes}
 use Rattle.base.proofs.Split.{no}
-use Rattle.refusal.specs.First.{Row, row, firstOf}
+use Rattle.refusal.specs.First.{ConditionRow, row, firstOf}
 use Rattle.refusal.specs.declared.Refusal.{Refusal}
 use Rattle.refusal.specs.declared.Refusal.the-variants as R
 use Rattle.version_floor.specs.declared.Admit.{Admit}
@@ -48,12 +48,12 @@ use Rattle.reader.proofs.Events.{Among, first-among, event-stops}
 abbrev pub admitAs : Overlay → Act Bytes → Admit
 admitAs o a = checked (o .setting) (known (keyOf a .kind) (shelfOf (keyOf a .kind) o) (keyOf a .id)) (claimedBy a)
 
-abbrev rowOf : Overlay → Act Bytes → Row Refusal
+abbrev rowOf : Overlay → Act Bytes → ConditionRow Refusal
 rowOf o a = regressionRow o (keyOf a .kind) (keyOf a .id) (claimedBy a)
 
 -- the rows of a decision that makes an act
 record Makes (d : Decision) (s : State) (a : Act Bytes) : Type 0 where
-  rest : List (Row Refusal)
+  rest : List (ConditionRow Refusal)
   rows : storeRowsOf d s ≡ rowOf (s .overlay) a ∷ rest
   decided : refusalIn d ≡ none
   others : Among 13 16 rest
@@ -99,12 +99,12 @@ module _ (s : State) (g : StateGiven s) (e : stateSound s ≡ true) where
       let z : push (readerOf s .staged .id) (readerOf s .staged .held) ≡ a = cc (got-act h k) in
       let x = s .reader .pending in
       let j = s .reader .place .kind in
-      let r : List (Row Refusal) = idsRow (s .overlay) j (toZ w64 (x .head .id)) ∷ arenaRow (s .overlay) j (x .used) ∷ [] in
-      rw (← z) (record { rest = r; rows = ap (λ (y : Row Refusal). y ∷ r) (sym ended); decided = refl; others = ((omega arith, omega arith), ((omega arith, omega arith), tt)); fits = ended-fits })
+      let r : List (ConditionRow Refusal) = idsRow (s .overlay) j (toZ w64 (x .head .id)) ∷ arenaRow (s .overlay) j (x .used) ∷ [] in
+      rw (← z) (record { rest = r; rows = ap (λ (y : ConditionRow Refusal). y ∷ r) (sym ended); decided = refl; others = ((omega arith, omega arith), ((omega arith, omega arith), tt)); fits = ended-fits })
 
 -- ---- the first row
 
-by-first : (c : Admit) (rest : List (Row Refusal)) (v : ℤ) → Among 13 16 rest → (firstOf (row (R.Regression (heldBy c)) (isBelow c) ∷ rest) ≡ some (R.Regression v)) ↔ (c ≡ Below v)
+by-first : (c : Admit) (rest : List (ConditionRow Refusal)) (v : ℤ) → Among 13 16 rest → (firstOf (row (R.Regression (heldBy c)) (isBelow c) ∷ rest) ≡ some (R.Regression v)) ↔ (c ≡ Below v)
 unfolding firstOf
 by-first Admitted rest v w = (λ e. let n : ⊥ = omega (arith, first-among 13 16 rest (R.Regression v) w e .0) in absurd n, λ e. no (cc))
 by-first (Below x) rest v w = (λ e. cc, λ e. cc)

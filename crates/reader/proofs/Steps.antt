@@ -23,7 +23,7 @@ use Rattle.shelf.specs.declared.Kept.{Kept}
 use Rattle.shelf.specs.declared.Kept.the-variants as K
 use Rattle.overlay.specs.Overlay.{Overlay, withTexts}
 use Rattle.overlay.specs.Sound.{isSound}
-use Rattle.overlay.specs.Calls.{After}
+use Rattle.overlay.specs.Calls.{OverlayAfter}
 use Rattle.store.specs.Calls.{Interning, handleIn}
 use Rattle.direct.specs.Calls.{internOn}
 use Rattle.store.specs.declared.Handle.the-variants as H
@@ -32,7 +32,7 @@ use Rattle.direct.proofs.Answers.{intern-store}
 use Rattle.direct.proofs.Keeps.{intern-kept}
 use Rattle.field.proofs.Metadata.{Legal}
 use Rattle.acts.specs.Turn.{userText}
-use Rattle.reader.specs.Step.{Advanced, Step, goes, stops, unlessBelow, onHandle, withText, metaBits, withUser, onKept, onAfter}
+use Rattle.reader.specs.Step.{Advanced, Step, goes, stops, unlessBelow, onHandle, withText, bitsWithUser, takingUser, onKept, onAfter}
 use Rattle.reader.proofs.Acts.{TakesIn, no-text, a-text}
 
 -- a step is refused, or P holds of what it leaves
@@ -79,11 +79,11 @@ module _ (o : Overlay) (e : isSound o ≡ true) where
 
     -- a user, where metadata names one; where it names none the handle is 0
     pub each-user : (m : Meta Bytes) (f : ArenaMeta → Overlay → Step) → Legal m → isText (m .user) ≡ true
-        → ((h : ℕ) (q : Overlay) → TakenAs o (userText m) q h (m .user) → (flagged 4 (m .flags) ≡ false → h ≡ 0) → EachStep P (f (metaBits m h) q)) → EachStep P (withUser m o f)
-    unfolding withUser
+        → ((h : ℕ) (q : Overlay) → TakenAs o (userText m) q h (m .user) → (flagged 4 (m .flags) ≡ false → h ≡ 0) → EachStep P (f (bitsWithUser m h) q)) → EachStep P (takingUser m o f)
+    unfolding takingUser
     each-user m f w l h =
         byBool (flagged 4 (m .flags))
-        (λ t. rw t (each-text (m .user) (λ n q. f (metaBits m n) q) l (λ n q k. h n q (rw t k) (λ z. clash t z))))
+        (λ t. rw t (each-text (m .user) (λ n q. f (bitsWithUser m n) q) l (λ n q k. h n q (rw t k) (λ z. clash t z))))
         (λ t. let z = empty-text o e in
         let k : TakenAs o (userText m) o 0 (m .user) = rw t (record { takes = no-text; text = z .0 ∙ sym (w .user t); held = z .1 }) in
         rw t (h 0 o k (λ x. refl)))
@@ -99,7 +99,7 @@ module _ {P : Advanced → Type 0} where
   each-kept K.Taken x h = h refl
   each-kept (K.Refused r) x h = stopped
 
-  pub each-after : (a : After) (f : Overlay → Step) → (a .answer ≡ K.Taken → EachStep P (f (a .overlay))) → EachStep P (onAfter a f)
+  pub each-after : (a : OverlayAfter) (f : Overlay → Step) → (a .answer ≡ K.Taken → EachStep P (f (a .overlay))) → EachStep P (onAfter a f)
   each-after a f h = each-kept (a .answer) (f (a .overlay)) h
 
   pub each-within : (t : Bool) (l : Advanced) (r : Refusal) → (t ≡ true → P l) → EachStep P (cond t (goes l) (stops r))

@@ -12,7 +12,7 @@ use mir.Val.{toZ, ofZ}
 use borrow.Author.Tests.{leb-true, lt-ltb, le-ltb}
 use Rattle.base.specs.Bytes.{Bytes, both}
 use Rattle.base.proofs.Split.{byBool, both-left, both-right}
-use Rattle.refusal.specs.First.{Row, row, firstOf}
+use Rattle.refusal.specs.First.{ConditionRow, row, firstOf}
 use Rattle.refusal.proofs.First.{before, first-more}
 use Rattle.refusal.specs.declared.Refusal.{Refusal}
 use Rattle.refusal.specs.declared.Refusal.the-variants as R
@@ -33,11 +33,11 @@ use Rattle.interner.specs.Strings as Strings
 use Rattle.interner.specs.Texts.{handleOf, answerAs}
 use Rattle.interner.specs.Sound.{textsOf}
 use Rattle.interner.proofs.Interns as Interns
-use Rattle.shelf.specs.Shelf.{known, checked, room}
+use Rattle.shelf.specs.Shelf.{known, checked, idRoom}
 use Rattle.shelf.proofs.Answers as Shelves
 use Rattle.overlay.specs.Overlay.{Overlay, shelfOf, withTexts}
 use Rattle.overlay.specs.Sound.{isSound}
-use Rattle.store.specs.First.{isNone, isBelow, heldBy}
+use Rattle.store.specs.First.{notHeld, isBelow, heldBy}
 use Rattle.store.specs.Calls.{bytesOf, storePush, storeDelete}
 use Rattle.overlay.proofs.Answers.{strings-sound}
 use Rattle.overlay.proofs.Shelves.{texts-shelf}
@@ -49,7 +49,7 @@ use Rattle.reader.specs.declared.Stop.{Stop}
 use Rattle.reader.specs.declared.Stop.the-variants.{Going, At}
 use Rattle.stage.specs.Stage.{refPart, memberPart, tagPart}
 use Rattle.reader.specs.State.{State, nextLine, stopsBy, isStopped, pendingSound, readerSound, stateSound, moreTags, moreParts}
-use Rattle.reader.specs.Step.{Advanced, Step, goes, stops, unlessBelow, onHandle, withText, metaBits, withUser, onAfter, clearsTo, stages, headFor, memberBits, tagWithin, partWithin, partPlace, stepOf}
+use Rattle.reader.specs.Step.{Advanced, Step, goes, stops, unlessBelow, onHandle, withText, bitsWithUser, takingUser, onAfter, clearsTo, stages, headFor, memberBits, tagWithin, partWithin, partPlace, stepOf}
 use Rattle.reader.specs.Event.{EventResult, stepped, eventOn, endAt, endOn}
 use Rattle.reader.specs.Table.{RefusalAt, refusalAt, answerBy, atLine, regressionRow, textRow, userRow, idsRow, arenaRow, limitRow, storeRowsOf, unsoundStateRow, stopRows, eventTable, isDone, endTable}
 use Rattle.reader.proofs.Answers.{byEvent, byEnd}
@@ -61,7 +61,7 @@ refusalBy (goes l) = none
 refusalBy (stops r) = some r
 
 -- a step is refused by the first of these rows
-pub record By (rows : List (Row Refusal)) (x : Step) : Type 0 where
+pub record By (rows : List (ConditionRow Refusal)) (x : Step) : Type 0 where
   pub first : refusalBy x ≡ firstOf rows
 
 -- ---- row by row
@@ -71,14 +71,14 @@ unfolding firstOf
 goes-first l = record { first = refl }
 
 -- by what the decision refuses, else by the first of the store's rows
-pub record Behind (x : Option Refusal) (rows : List (Row Refusal)) (y : Step) : Type 0 where
+pub record Behind (x : Option Refusal) (rows : List (ConditionRow Refusal)) (y : Step) : Type 0 where
   pub first : refusalBy y ≡ before x (firstOf rows)
 
-behind : {rows : List (Row Refusal)} {y : Step} → By rows y → Behind none rows y
+behind : {rows : List (ConditionRow Refusal)} {y : Step} → By rows y → Behind none rows y
 behind h = record { first = h .first }
 
 -- 12
-by-admit : (a : Admit) (rows : List (Row Refusal)) (x : Step) → (a ≡ Admitted → By rows x) → By (row (R.Regression (heldBy a)) (isBelow a) ∷ rows) (unlessBelow a x)
+by-admit : (a : Admit) (rows : List (ConditionRow Refusal)) (x : Step) → (a ≡ Admitted → By rows x) → By (row (R.Regression (heldBy a)) (isBelow a) ∷ rows) (unlessBelow a x)
 unfolding firstOf
 by-admit Admitted rows x h = record { first = h refl .first }
 by-admit (Below v) rows x h = record { first = refl }
@@ -92,21 +92,21 @@ beside : (o : Overlay) (x : Strings.Store) → Beside o (withTexts x o)
 beside o x = record { shelf = λ k. texts-shelf k x o; setting = refl }
 
 -- 13
-module _ (o : Overlay) (e : isSound o ≡ true) (rows : List (Row Refusal)) where
+module _ (o : Overlay) (e : isSound o ≡ true) (rows : List (ConditionRow Refusal)) where
   by-text : (t : Bytes) (f : ℕ → Overlay → Step) → ((h : ℕ) (q : Overlay) → Beside o q → By rows (f h q)) → By (textRow o t ∷ rows) (withText t o f)
   unfolding firstOf answerAs both
-  by-text t f h = rw (Interns.answers (o .texts) t (strings-sound o e)) (go (handleOf t (textsOf (o .texts))) (Strings.room (o .texts) t))
+  by-text t f h = rw (Interns.answers (o .texts) t (strings-sound o e)) (go (handleOf t (textsOf (o .texts))) (Strings.textRoom (o .texts) t))
     where
-      go : (x : Option ℕ) (r : Bool) → By (row R.StringsFull (both (isNone x) (not r)) ∷ rows) (onHandle (answerAs r (textsOf (o .texts)) x) (λ n. f n (withTexts (Strings.intern (o .texts) t .store) o)))
+      go : (x : Option ℕ) (r : Bool) → By (row R.StringsFull (both (notHeld x) (not r)) ∷ rows) (onHandle (answerAs r (textsOf (o .texts)) x) (λ n. f n (withTexts (Strings.intern (o .texts) t .store) o)))
       go (some n) r = record { first = h n _ (beside o _) .first }
       go none true = record { first = h (length (textsOf (o .texts))) _ (beside o _) .first }
       go none false = record { first = refl }
 
-  by-user : (m : Meta Bytes) (f : ArenaMeta → Overlay → Step) → ((h : ℕ) (q : Overlay) → Beside o q → By rows (f (metaBits m h) q)) → By (userRow o m ∷ rows) (withUser m o f)
-  unfolding firstOf withUser both
+  by-user : (m : Meta Bytes) (f : ArenaMeta → Overlay → Step) → ((h : ℕ) (q : Overlay) → Beside o q → By rows (f (bitsWithUser m h) q)) → By (userRow o m ∷ rows) (takingUser m o f)
+  unfolding firstOf takingUser both
   by-user m f h =
       byBool (flagged 4 (m .flags))
-      (λ t. rw t (by-text (m .user) (λ n q. f (metaBits m n) q) (λ n q w. h n q w)))
+      (λ t. rw t (by-text (m .user) (λ n q. f (bitsWithUser m n) q) (λ n q w. h n q w)))
       (λ t. record { first = rw t (h 0 o (beside o (o .texts)) .first) })
 
 -- 16
@@ -138,7 +138,7 @@ module _ (s : State) (p : Place) (k : Kind) (o q : Overlay) (w : Beside o q) whe
       (λ v c x. record { first = rw (← y, ← z, x, c) }) (λ c r x. record { first = rw (← y, ← z, x, c, r) }) (λ c r x. record { first = rw (← y, ← z, x, c, r) })
 
 -- where 12 was passed
-passed : (a : Admit) (rows : List (Row Refusal)) (x : Step) → a ≡ Admitted → By (row (R.Regression (heldBy a)) (isBelow a) ∷ rows) x → By rows x
+passed : (a : Admit) (rows : List (ConditionRow Refusal)) (x : Step) → a ≡ Admitted → By (row (R.Regression (heldBy a)) (isBelow a) ∷ rows) x → By rows x
 unfolding firstOf
 passed a rows x c h = record { first = rw c at (h .first) }
 
@@ -164,7 +164,7 @@ module _ (s : State) (e : stateSound s ≡ true) where
       behind (by-admit (admit (kindOf b) id m) _ _ (λ c.
       by-user (s .overlay) overlay-sound _ m _ (λ h q y.
       passed (admit (kindOf b) id m) _ _ c
-      (by-push s p (kindOf b) (s .overlay) q y (headFor id b) (metaBits m h) [] id (claimOf m) (bits-id id b (w .0 .fits)) (claim-same m (w .0 .legal) h)))))
+      (by-push s p (kindOf b) (s .overlay) q y (headFor id b) (bitsWithUser m h) [] id (claimOf m) (bits-id id b (w .0 .fits)) (claim-same m (w .0 .legal) h)))))
   step-first (begins false p id m b) w = behind (by-user (s .overlay) overlay-sound [] m _ (λ h q y. goes-first _))
   step-first (deletes k p id m) w =
       behind (by-admit (admit k id m) _ _ (λ c.
@@ -184,14 +184,14 @@ abbrev refusalAtLine : ℕ → Option Refusal → Option RefusalAt
 refusalAtLine n none = none
 refusalAtLine n (some r) = some (refusalAt r n)
 
-first-at : (n : ℕ) (rows : List (Row Refusal)) → firstOf (atLine n rows) ≡ refusalAtLine n (firstOf rows)
+first-at : (n : ℕ) (rows : List (ConditionRow Refusal)) → firstOf (atLine n rows) ≡ refusalAtLine n (firstOf rows)
 unfolding firstOf
 first-at n [] = refl
 first-at n (x ∷ rows) = byBool (x .holds) (λ t. rw t) (λ t. rw t (first-at n rows))
 
 -- 22, then the stop mark
-module _ (s : State) (rows : List (Row RefusalAt)) where
-  abbrev table : List (Row RefusalAt)
+module _ (s : State) (rows : List (ConditionRow RefusalAt)) where
+  abbrev table : List (ConditionRow RefusalAt)
   table = unsoundStateRow s ∷ (stopRows (s .reader .stop) ++ rows)
 
   table-22 : stateSound s ≡ false → firstOf table ≡ some (refusalAt R.Unsound 0)

@@ -10,7 +10,7 @@ use mir.Val.{ofZ}
 use Rattle.base.specs.Bytes.{Bytes, both}
 use Rattle.refusal.specs.declared.Refusal.{Refusal}
 use Rattle.refusal.specs.declared.Refusal.the-variants as R
-use Rattle.kind.specs.Kind.{numberOf}
+use Rattle.kind.specs.Kind.{kindNumber}
 use Rattle.kind.specs.declared.Kind.{Kind}
 use Rattle.nesting.specs.declared.Place.{Place}
 use Rattle.version_floor.specs.declared.Version.{Version}
@@ -29,7 +29,7 @@ use Rattle.shelf.specs.Shelf.{known, checked}
 use Rattle.shelf.specs.declared.Kept.{Kept}
 use Rattle.shelf.specs.declared.Kept.the-variants as K
 use Rattle.overlay.specs.Overlay.{Overlay, shelfOf, withTexts}
-use Rattle.overlay.specs.Calls.{After}
+use Rattle.overlay.specs.Calls.{OverlayAfter}
 use Rattle.store.specs.Calls.{storePush, storeDelete}
 use Rattle.decision.specs.Decision.{Decision, refuses, moves, begins, deletes, tags, refers, joins, ends}
 use Rattle.reader.specs.declared.Pending.{Pending}
@@ -75,8 +75,8 @@ abbrev pub withText : Bytes → Overlay → (ℕ → Overlay → Step) → Step
 withText t o f = onHandle (Strings.intern (o .texts) t .answer) (λ h. f h (withTexts (Strings.intern (o .texts) t .store) o))
 
 -- metadata in bits, with its user's handle
-abbrev pub metaBits : Meta Bytes → ℕ → ArenaMeta
-metaBits m user =
+abbrev pub bitsWithUser : Meta Bytes → ℕ → ArenaMeta
+bitsWithUser m user =
     record {
       flags = m .flags;
       version = ofZ w32 (m .version);
@@ -87,15 +87,15 @@ metaBits m user =
     }
 
 -- the user that metadata names is taken in; where it names none the handle is 0
-unfoldable pub withUser : Meta Bytes → Overlay → (ArenaMeta → Overlay → Step) → Step
-withUser m o f = cond (flagged 4 (m .flags)) (withText (m .user) o (λ h q. f (metaBits m h) q)) (f (metaBits m 0) o)
+unfoldable pub takingUser : Meta Bytes → Overlay → (ArenaMeta → Overlay → Step) → Step
+takingUser m o f = cond (flagged 4 (m .flags)) (withText (m .user) o (λ h q. f (bitsWithUser m h) q)) (f (bitsWithUser m 0) o)
 
 -- 14 and 15, of an act
 abbrev pub onKept : Kept → Step → Step
 onKept K.Taken f = f
 onKept (K.Refused r) f = stops r
 
-abbrev pub onAfter : After → (Overlay → Step) → Step
+abbrev pub onAfter : OverlayAfter → (Overlay → Step) → Step
 onAfter a f = onKept (a .answer) (f (a .overlay))
 
 -- 16: "A reader gives 16 at the child that passes the limit"; one part more, where the limits allow it
@@ -118,7 +118,7 @@ headFor id (refs rs) = record { id = ofZ w64 id; lat = 0; lon = 0; count = 0; ta
 headFor id (members ms) = record { id = ofZ w64 id; lat = 0; lon = 0; count = 0; tags = 0 }
 
 abbrev pub memberBits : Member Bytes → ℕ → CompactMember
-memberBits x role = record { reference = ofZ w64 (x .ref); kind = numberOf (x .type); role = role }
+memberBits x role = record { reference = ofZ w64 (x .ref); kind = kindNumber (x .type); role = role }
 
 -- one tag more, and its value, are within the limits
 abbrev pub tagWithin : State → Tag Bytes → Bool
@@ -141,12 +141,12 @@ stepOf (refuses r) s = stops r
 stepOf (moves p) s = goesTo s p (s .overlay)
 stepOf (begins true p id m b) s =
     unlessRegression (s .overlay) (kindOf b) id (claimOf m)
-    (withUser m (s .overlay) (λ a o. onAfter (storePush (kindOf b) (headFor id b) a [] o) (clearsTo s p)))
+    (takingUser m (s .overlay) (λ a o. onAfter (storePush (kindOf b) (headFor id b) a [] o) (clearsTo s p)))
 stepOf (begins false p id m b) s =
-    withUser m (s .overlay) (λ a o. goes (record { overlay = o; place = p; pending = record { head = headFor id b; meta = a; used = 0 }; parts = s .parts }))
+    takingUser m (s .overlay) (λ a o. goes (record { overlay = o; place = p; pending = record { head = headFor id b; meta = a; used = 0 }; parts = s .parts }))
 stepOf (deletes k p id m) s =
     unlessRegression (s .overlay) k id (claimOf m)
-    (withUser m (s .overlay) (λ a o. onAfter (storeDelete k id (claimOf m) o) (clearsTo s p)))
+    (takingUser m (s .overlay) (λ a o. onAfter (storeDelete k id (claimOf m) o) (clearsTo s p)))
 stepOf (tags p t) s =
     withText (t .key) (s .overlay) (λ key o.
     stages (tagWithin s t) s o p (moreTags (s .reader .pending .head)) (s .reader .pending .used) (tagPart key (t .value)))

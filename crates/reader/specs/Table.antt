@@ -10,7 +10,7 @@ use lib.ListN.{length}
 use mir.Syntax.{w64}
 use mir.Val.{toZ}
 use Rattle.base.specs.Bytes.{Bytes, both}
-use Rattle.refusal.specs.First.{Row, row}
+use Rattle.refusal.specs.First.{ConditionRow, row}
 use Rattle.refusal.specs.declared.Refusal.{Refusal}
 use Rattle.refusal.specs.declared.Refusal.the-variants as R
 use Rattle.kind.specs.declared.Kind.{Kind}
@@ -21,7 +21,7 @@ use Rattle.model.specs.Record.{Meta, kindOf, flagged, claimOf}
 use Rattle.compact.specs.Held.{metaOf}
 use Rattle.compact.specs.Layout.{headLen}
 use Rattle.compact.specs.Legal.{limits}
-use Rattle.shelf.specs.Shelf.{known, checked, room}
+use Rattle.shelf.specs.Shelf.{known, checked, idRoom}
 use Rattle.overlay.specs.Overlay.{Overlay, shelfOf}
 use Rattle.store.specs.First.{isBelow, heldBy, fullFor}
 use Rattle.decision.specs.Decision.{Decision, refuses, moves, begins, deletes, tags, refers, joins, ends, decide}
@@ -46,39 +46,39 @@ answerBy none = E.Accepted
 answerBy (some t) = E.Refused (t .refusal) (t .line)
 
 -- rows that are given at a line
-abbrev pub atLine : ℕ → List (Row Refusal) → List (Row RefusalAt)
-atLine n rows = map (λ (r : Row Refusal). row (refusalAt (r .gives) n) (r .holds)) rows
+abbrev pub atLine : ℕ → List (ConditionRow Refusal) → List (ConditionRow RefusalAt)
+atLine n rows = map (λ (r : ConditionRow Refusal). row (refusalAt (r .gives) n) (r .holds)) rows
 
 -- ---- the store: "12 regression; 13 strings or string bytes full; 14 new id, ids full; 15 record longer than the arena's unused bytes; 16 .."
 
 module _ (o : Overlay) where
   -- 12 of an act on an id of a kind, with the known version
-  abbrev pub regressionRow : Kind → ℤ → Version → Row Refusal
+  abbrev pub regressionRow : Kind → ℤ → Version → ConditionRow Refusal
   regressionRow k id claim =
       row (R.Regression (heldBy (checked (o .setting) (known k (shelfOf k o) id) claim))) (isBelow (checked (o .setting) (known k (shelfOf k o) id) claim))
 
   -- 13 of a text
-  abbrev pub textRow : Bytes → Row Refusal
+  abbrev pub textRow : Bytes → ConditionRow Refusal
   textRow t = row R.StringsFull (fullFor (o .texts) t)
 
   -- 13 of the user that metadata names
-  abbrev pub userRow : Meta Bytes → Row Refusal
+  abbrev pub userRow : Meta Bytes → ConditionRow Refusal
   userRow m = row R.StringsFull (both (flagged 4 (m .flags)) (fullFor (o .texts) (m .user)))
 
   -- 14 of an id of a kind
-  abbrev pub idsRow : Kind → ℤ → Row Refusal
-  idsRow k id = row R.IdsFull (not (room (shelfOf k o) id))
+  abbrev pub idsRow : Kind → ℤ → ConditionRow Refusal
+  idsRow k id = row R.IdsFull (not (idRoom (shelfOf k o) id))
 
   -- 15 of a record of a kind: its head, its metadata, and so many bytes of parts
-  abbrev pub arenaRow : Kind → ℕ → Row Refusal
+  abbrev pub arenaRow : Kind → ℕ → ConditionRow Refusal
   arenaRow k parts = row R.ArenaFull (ltb (length (shelfOf k o .arena)) (shelfOf k o .used + (headLen k + 29 + parts)))
 
 -- 16: "A reader gives 16 at the child that passes the limit"
-abbrev pub limitRow : Bool → Row Refusal
+abbrev pub limitRow : Bool → ConditionRow Refusal
 limitRow within = row R.TooManyParts (not within)
 
 -- the store's row of what is decided
-unfoldable pub storeRowsOf : Decision → State → List (Row Refusal)
+unfoldable pub storeRowsOf : Decision → State → List (ConditionRow Refusal)
 storeRowsOf (refuses r) s = []
 storeRowsOf (moves p) s = []
 storeRowsOf (begins true p id m b) s =
@@ -95,15 +95,15 @@ storeRowsOf (ends p) s =
 -- ---- an event and an end
 
 -- "each call but lookups in lists, first": it names no line
-abbrev pub unsoundStateRow : State → Row RefusalAt
+abbrev pub unsoundStateRow : State → ConditionRow RefusalAt
 unsoundStateRow s = row (refusalAt R.Unsound 0) (not (stateSound s))
 
 -- "later events and the end repeat that number, line and HELD"
-abbrev pub stopRows : Stop → List (Row RefusalAt)
+abbrev pub stopRows : Stop → List (ConditionRow RefusalAt)
 stopRows Going = []
 stopRows (At r n) = row (refusalAt r n) (stopsBy r) ∷ []
 
-unfoldable pub eventTable : Bytes → State → List (Row RefusalAt)
+unfoldable pub eventTable : Bytes → State → List (ConditionRow RefusalAt)
 eventTable line s =
     unsoundStateRow s ∷ (stopRows (s .reader .stop)
     ++ atLine (nextLine s) (decideTable line (s .reader .place) ++ storeRowsOf (decide line (s .reader .place)) s))
@@ -118,5 +118,5 @@ isDone L.Leaf = false
 isDone L.Other = false
 
 -- "18 level is not Done"
-unfoldable pub endTable : State → List (Row RefusalAt)
+unfoldable pub endTable : State → List (ConditionRow RefusalAt)
 endTable s = unsoundStateRow s ∷ (stopRows (s .reader .stop) ++ (row (refusalAt R.Unfinished (nextLine s)) (not (isDone (s .reader .place .level))) ∷ []))

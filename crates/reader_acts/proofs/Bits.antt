@@ -10,9 +10,9 @@ use Rattle.kind.specs.declared.Kind.the-variants.{Node, Way, Relation}
 use Rattle.model.specs.Record.{Meta, kindOf, claimOf}
 use Rattle.compact.specs.Held.{metaOf}
 use Rattle.values.specs.Value.{bodyIn}
-use Rattle.reader.specs.Step.{metaBits}
+use Rattle.reader.specs.Step.{bitsWithUser}
 
-pub claim-bits : (m : Meta Bytes) (user : ℕ) → SFits w32 (m .version) → claimOf (metaOf (metaBits m user)) ≡ claimOf m
+pub claim-bits : (m : Meta Bytes) (user : ℕ) → SFits w32 (m .version) → claimOf (metaOf (bitsWithUser m user)) ≡ claimOf m
 unfolding claimOf metaOf
 claim-bits m user f = rw (toZ-ofZ f)
 

@@ -5,7 +5,7 @@ use mathlib.Core.List.{List}
 use native.Mathlib.Omega.{arith}
 use Rattle.base.specs.Bytes.{Bytes}
 use Rattle.base.proofs.Split.{byBool, no}
-use Rattle.interner.specs.Strings.{Store, isAt, findFrom, findIn, usedOf, room, intern}
+use Rattle.interner.specs.Strings.{Store, isAt, findFrom, findIn, usedOf, textRoom, intern}
 use Rattle.interner.specs.declared.Found.{Found}
 use Rattle.interner.specs.declared.Found.the-variants as F
 use Rattle.interner.specs.declared.Interned.the-variants as I
@@ -32,7 +32,7 @@ byIntern {C} s t f g h = go (findIn (s .spans) (usedOf s) (s .strings) t) refl
   where
     go : (x : Found) → findIn (s .spans) (usedOf s) (s .strings) t ≡ x → C
     go (F.At j) p = f j (let l = found-below (s .spans) (usedOf s) t (s .strings) 0 j p in omega arith) (Takes.held s t j p)
-    go F.Not p = byBool (room s t) (λ r. g _ (Takes.new s t p r)) (λ r. h (Takes.full s t p r))
+    go F.Not p = byBool (textRoom s t) (λ r. g _ (Takes.new s t p r)) (λ r. h (Takes.full s t p r))
 
 pub handle-fits : (t : Bytes) (o : Overlay) → o .texts .strings < 4294967296 → HandleFits (storeText t o .answer)
 handle-fits t o l =

@@ -21,14 +21,14 @@ use Rattle.shelf.specs.Shelf.{known, checked}
 use Rattle.shelf.specs.declared.Kept.{Kept}
 use Rattle.shelf.specs.declared.Kept.the-variants as K
 use Rattle.overlay.specs.Overlay.{Overlay, shelfOf, withTexts}
-use Rattle.overlay.specs.Calls.{After, refused}
+use Rattle.overlay.specs.Calls.{OverlayAfter, overlayRefused}
 use Rattle.store.specs.Calls.{Interning, handleIn, storeText}
 use Rattle.store.specs.declared.Handle.{Handle}
 use Rattle.store.proofs.Answers.{store-push-refused}
 use Rattle.decision.specs.Decision.{begins, deletes, ends}
 use Rattle.reader.specs.declared.Pending.{Pending}
 use Rattle.reader.specs.State.{State}
-use Rattle.reader.specs.Step.{Step, goes, stops, onHandle, withUser, metaBits, headFor, unlessBelow, onKept, onAfter, unlessRegression, clearsTo, stepOf}
+use Rattle.reader.specs.Step.{Step, goes, stops, onHandle, takingUser, bitsWithUser, headFor, unlessBelow, onKept, onAfter, unlessRegression, clearsTo, stepOf}
 use Rattle.reader_acts.specs.Acts.{AfterBegun, begunBy, beginOn, byBegun, admitted, actKeptAs, actKept, actOn, userActOn, userFull, pushEmptyOn, deleteElementOn, pushStagedOn, HandleFits}
 use Rattle.reader_acts.specs.declared.Begun.{Begun}
 use Rattle.reader_acts.specs.declared.Begun.the-variants as B
@@ -39,7 +39,7 @@ use Rattle.reader_acts.proofs.Handles.{byIntern, handle-fits}
 -- 13 changes nothing; else the metadata has its user's handle, and only texts came in
 pub byBeginning : {C : Type 0} (m : Meta Bytes) (o : Overlay)
     → (userFull m (o .texts) ≡ true → beginOn m o ≡ record { overlay = o; answer = B.Refused StringsFull } → C)
-    → ((n : ℕ) (t : Store) → userFull m (o .texts) ≡ false → beginOn m o ≡ record { overlay = withTexts t o; answer = B.With (metaBits m n) } → C) → C
+    → ((n : ℕ) (t : Store) → userFull m (o .texts) ≡ false → beginOn m o ≡ record { overlay = withTexts t o; answer = B.With (bitsWithUser m n) } → C) → C
 unfolding beginOn
 byBeginning m o f g =
     byBool (flagged 4 (m .flags))
@@ -60,22 +60,22 @@ module _ (m : Meta Bytes) (o : Overlay) where
       begunOf : Interning → AfterBegun
       begunOf z = record { overlay = z .overlay; answer = begunBy m (z .answer) }
 
-  pub begin-unnamed : flagged 4 (m .flags) ≡ false → {a : ArenaMeta} → a ≡ metaBits m 0 → record { overlay = o; answer = B.With a } ≡ beginOn m o
+  pub begin-unnamed : flagged 4 (m .flags) ≡ false → {a : ArenaMeta} → a ≡ bitsWithUser m 0 → record { overlay = o; answer = B.With a } ≡ beginOn m o
   unfolding beginOn
   begin-unnamed t e = rw (t, e)
 
-  with-user : (f : ArenaMeta → Overlay → Step) → withUser m o f ≡ byBegun stops (λ a. f a (beginOn m o .overlay)) (beginOn m o .answer)
-  unfolding beginOn withUser
+  with-user : (f : ArenaMeta → Overlay → Step) → takingUser m o f ≡ byBegun stops (λ a. f a (beginOn m o .overlay)) (beginOn m o .answer)
+  unfolding beginOn takingUser
   with-user f = byBool (flagged 4 (m .flags)) (λ t. rw t (go (intern (o .texts) (m .user) .answer))) (λ t. rw t)
     where
-      go : (i : Interned) → onHandle i (λ h. f (metaBits m h) (storeText (m .user) o .overlay)) ≡ byBegun stops (λ a. f a (storeText (m .user) o .overlay)) (begunBy m (handleIn i))
+      go : (i : Interned) → onHandle i (λ h. f (bitsWithUser m h) (storeText (m .user) o .overlay)) ≡ byBegun stops (λ a. f a (storeText (m .user) o .overlay)) (begunBy m (handleIn i))
       go (I.Held h) = refl
       go (I.New h) = refl
       go I.Full = refl
 
 -- what follows it, where it is known to be taken
-module _ (m : Meta Bytes) (act : ArenaMeta → Overlay → After) (o : Overlay) {q : Overlay} {b : Begun} (begun : record { overlay = q; answer = b } ≡ beginOn m o) where
-  pub user-acted : (a : ArenaMeta) → b ≡ B.With a → {x : After} → x ≡ act a q → x ≡ userActOn m act o
+module _ (m : Meta Bytes) (act : ArenaMeta → Overlay → OverlayAfter) (o : Overlay) {q : Overlay} {b : Begun} (begun : record { overlay = q; answer = b } ≡ beginOn m o) where
+  pub user-acted : (a : ArenaMeta) → b ≡ B.With a → {x : OverlayAfter} → x ≡ act a q → x ≡ userActOn m act o
   user-acted a e f = rw (← begun, e) f
 
   pub user-not : (r : Refusal) → b ≡ B.Refused r → record { overlay = q; answer = K.Refused r } ≡ userActOn m act o
@@ -96,13 +96,13 @@ taken-refused : (o q : Overlay) (x : Kept) (r : Refusal) → actKeptAs o q x .an
 taken-refused o q K.Taken r e = no (cc)
 taken-refused o q (K.Refused y) r e = refl
 
-module _ (k : Kind) (id : ℤ) (m : Meta Bytes) (act : ArenaMeta → Overlay → After) (o : Overlay) where
+module _ (k : Kind) (id : ℤ) (m : Meta Bytes) (act : ArenaMeta → Overlay → OverlayAfter) (o : Overlay) where
   act-refused : (r : Refusal) → actOn k id m act o .answer ≡ K.Refused r → actOn k id m act o .overlay ≡ o
   unfolding actOn
   act-refused r e = go (checked (o .setting) (known k (shelfOf k o) id) (claimOf m)) (beginOn m o .answer) e
     where
-      go : (a : Admit) (b : Begun) → admitted o a (byBegun (refused o) (λ x. actKept o (act x (beginOn m o .overlay))) b) .answer ≡ K.Refused r
-          → admitted o a (byBegun (refused o) (λ x. actKept o (act x (beginOn m o .overlay))) b) .overlay ≡ o
+      go : (a : Admit) (b : Begun) → admitted o a (byBegun (overlayRefused o) (λ x. actKept o (act x (beginOn m o .overlay))) b) .answer ≡ K.Refused r
+          → admitted o a (byBegun (overlayRefused o) (λ x. actKept o (act x (beginOn m o .overlay))) b) .overlay ≡ o
       go (Below v) b z = refl
       go Admitted (B.Refused y) z = refl
       go Admitted (B.With x) z = taken-refused o (act x (beginOn m o .overlay) .overlay) (act x (beginOn m o .overlay) .answer) r z
@@ -111,11 +111,11 @@ module _ (k : Kind) (id : ℤ) (m : Meta Bytes) (act : ArenaMeta → Overlay →
   kept-step f q K.Taken = refl
   kept-step f q (K.Refused r) = refl
 
-  act-step : (f : Overlay → Step) → unlessRegression o k id (claimOf m) (withUser m o (λ a q. onAfter (act a q) f)) ≡ onAfter (actOn k id m act o) f
+  act-step : (f : Overlay → Step) → unlessRegression o k id (claimOf m) (takingUser m o (λ a q. onAfter (act a q) f)) ≡ onAfter (actOn k id m act o) f
   unfolding actOn
   act-step f = rw (with-user m o (λ a q. onAfter (act a q) f)) (go (checked (o .setting) (known k (shelfOf k o) id) (claimOf m)) (beginOn m o .answer))
     where
-      go : (a : Admit) (b : Begun) → unlessBelow a (byBegun stops (λ x. onAfter (act x (beginOn m o .overlay)) f) b) ≡ onAfter (admitted o a (byBegun (refused o) (λ x. actKept o (act x (beginOn m o .overlay))) b)) f
+      go : (a : Admit) (b : Begun) → unlessBelow a (byBegun stops (λ x. onAfter (act x (beginOn m o .overlay)) f) b) ≡ onAfter (admitted o a (byBegun (overlayRefused o) (λ x. actKept o (act x (beginOn m o .overlay))) b)) f
       go (Below v) b = refl
       go Admitted (B.Refused r) = refl
       go Admitted (B.With x) = kept-step f (act x (beginOn m o .overlay) .overlay) (act x (beginOn m o .overlay) .answer)

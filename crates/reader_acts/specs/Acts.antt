@@ -19,7 +19,7 @@ use Rattle.shelf.specs.Shelf.{known, checked}
 use Rattle.shelf.specs.declared.Kept.{Kept}
 use Rattle.shelf.specs.declared.Kept.the-variants as K
 use Rattle.overlay.specs.Overlay.{Overlay, shelfOf}
-use Rattle.overlay.specs.Calls.{After, refused}
+use Rattle.overlay.specs.Calls.{OverlayAfter, overlayRefused}
 use Rattle.store.specs.Calls.{storeText, storePush, storeDelete}
 use Rattle.store.specs.declared.Handle.{Handle}
 use Rattle.store.specs.declared.Handle.the-variants as H
@@ -27,7 +27,7 @@ use Rattle.metadata.specs.Metadata.{MetadataLies}
 use Rattle.metadata.specs.declared.Metadata.{Metadata}
 use Rattle.reader_texts.specs.Texts.{refusedFor}
 use Rattle.reader.specs.declared.Pending.{Pending}
-use Rattle.reader.specs.Step.{metaBits, headFor}
+use Rattle.reader.specs.Step.{bitsWithUser, headFor}
 use Rattle.reader_acts.specs.declared.Begun.{Begun}
 use Rattle.reader_acts.specs.declared.Begun.the-variants as B
 
@@ -39,7 +39,7 @@ pub record AfterBegun : Type 0 where
   pub answer : Begun
 
 abbrev pub begunBy : Meta Bytes → Handle → Begun
-begunBy m (H.Is h) = B.With (metaBits m h)
+begunBy m (H.Is h) = B.With (bitsWithUser m h)
 begunBy m (H.Refused r) = B.Refused r
 
 -- 13, or the metadata; where it names no user the handle is 0
@@ -47,7 +47,7 @@ unfoldable pub beginOn : Meta Bytes → Overlay → AfterBegun
 beginOn m o =
     cond (flagged 4 (m .flags))
     (record { overlay = storeText (m .user) o .overlay; answer = begunBy m (storeText (m .user) o .answer) })
-    (record { overlay = o; answer = B.With (metaBits m 0) })
+    (record { overlay = o; answer = B.With (bitsWithUser m 0) })
 
 -- what follows, by its refusal or by the metadata
 abbrev pub byBegun : {A : Type 0} → (Refusal → A) → (ArenaMeta → A) → Begun → A
@@ -57,26 +57,26 @@ byBegun g f (B.Refused r) = g r
 -- ---- an act
 
 -- 12, or what follows
-abbrev pub admitted : Overlay → Admit → After → After
-admitted o (Below v) a = refused o (Regression v)
+abbrev pub admitted : Overlay → Admit → OverlayAfter → OverlayAfter
+admitted o (Below v) a = overlayRefused o (Regression v)
 admitted o Admitted a = a
 
 -- 14 and 15: not even the text before them is kept
-abbrev pub actKeptAs : Overlay → Overlay → Kept → After
+abbrev pub actKeptAs : Overlay → Overlay → Kept → OverlayAfter
 actKeptAs o q K.Taken = record { overlay = q; answer = K.Taken }
-actKeptAs o q (K.Refused r) = refused o r
+actKeptAs o q (K.Refused r) = overlayRefused o r
 
-abbrev pub actKept : Overlay → After → After
+abbrev pub actKept : Overlay → OverlayAfter → OverlayAfter
 actKept o a = actKeptAs o (a .overlay) (a .answer)
 
-unfoldable pub actOn : Kind → ℤ → Meta Bytes → (ArenaMeta → Overlay → After) → Overlay → After
+unfoldable pub actOn : Kind → ℤ → Meta Bytes → (ArenaMeta → Overlay → OverlayAfter) → Overlay → OverlayAfter
 actOn k id m act o =
     admitted o (checked (o .setting) (known k (shelfOf k o) id) (claimOf m))
-    (byBegun (refused o) (λ a. actKept o (act a (beginOn m o .overlay))) (beginOn m o .answer))
+    (byBegun (overlayRefused o) (λ a. actKept o (act a (beginOn m o .overlay))) (beginOn m o .answer))
 
 -- the same where the act is known to be taken: 13, or the act
-abbrev pub userActOn : Meta Bytes → (ArenaMeta → Overlay → After) → Overlay → After
-userActOn m act o = byBegun (refused (beginOn m o .overlay)) (λ a. act a (beginOn m o .overlay)) (beginOn m o .answer)
+abbrev pub userActOn : Meta Bytes → (ArenaMeta → Overlay → OverlayAfter) → Overlay → OverlayAfter
+userActOn m act o = byBegun (overlayRefused (beginOn m o .overlay)) (λ a. act a (beginOn m o .overlay)) (beginOn m o .answer)
 
 -- 13 of the user that metadata names
 abbrev pub userFull : Meta Bytes → Store → Bool
@@ -87,15 +87,15 @@ abbrev pub refusalAfter : Bool → Refusal → Refusal
 refusalAfter full r = cond (eqb (numberOf r) 12) r (cond full StringsFull r)
 
 -- an element that begins and ends at once is pushed: 12, 13, 14, 15
-abbrev pub pushEmptyOn : ℤ → Meta Bytes → Body Bytes → Overlay → After
+abbrev pub pushEmptyOn : ℤ → Meta Bytes → Body Bytes → Overlay → OverlayAfter
 pushEmptyOn id m b o = actOn (kindOf b) id m (λ a q. storePush (kindOf b) (headFor id b) a [] q) o
 
 -- an id is deleted: 12, 13, 14
-abbrev pub deleteElementOn : Kind → ℤ → Meta Bytes → Overlay → After
+abbrev pub deleteElementOn : Kind → ℤ → Meta Bytes → Overlay → OverlayAfter
 deleteElementOn k id m o = actOn k id m (λ a q. storeDelete k id (claimOf m) q) o
 
 -- an element that ends is pushed with the parts that are staged: 12, 14, 15
-abbrev pub pushStagedOn : Kind → Pending → Bytes → Overlay → After
+abbrev pub pushStagedOn : Kind → Pending → Bytes → Overlay → OverlayAfter
 pushStagedOn k x parts o = storePush k (x .head) (x .meta) (take (x .used) parts) o
 
 -- ---- what is given

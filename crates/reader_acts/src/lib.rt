@@ -15,7 +15,7 @@ ghost use Rattle.interner.specs.Strings.{storeWith};
 ghost use Rattle.store.specs.Calls.{storePush, storeDelete};
 ghost use Rattle.values.specs.Value.{bodyIn};
 ghost use Rattle.metadata.specs.Metadata.{metaWritten, MetadataLies};
-ghost use Rattle.reader.specs.Step.{metaBits, headFor};
+ghost use Rattle.reader.specs.Step.{bitsWithUser, headFor};
 ghost use Rattle.reader_acts.specs.Acts.{begunBy, beginOn, userActOn, userFull, refusalAfter, pushEmptyOn, deleteElementOn, pushStagedOn, ActGiven, HandleFits};
 use compact::ArenaMeta;
 use compact::CompactNode;
@@ -69,7 +69,7 @@ pub fn head_for(kind: Kind, id: u64, lat: u32, lon: u32) -> PushHead
 
 // Metadata with its user's handle.
 fn arena_meta(meta: Metadata, user: u32) -> ArenaMeta
-    ensures { λ r. ⌜ ((line : Bytes) → r ≡ metaBits (metaWritten line meta) user) ⌝ }
+    ensures { λ r. ⌜ ((line : Bytes) → r ≡ bitsWithUser (metaWritten line meta) user) ⌝ }
 {
     ArenaMeta {
         flags: meta.flags,

@@ -18,7 +18,7 @@ use Rattle.stage.specs.Stage.{staged}
 use Rattle.interner.specs.declared.Found.{Found}
 use Rattle.interner.specs.declared.Found.the-variants as F
 use Rattle.interner.specs.declared.Interned.the-variants as I
-use Rattle.interner.specs.Strings.{Store, usedOf, isAt, findFrom, findIn, room, taken, intern}
+use Rattle.interner.specs.Strings.{Store, usedOf, isAt, findFrom, findIn, textRoom, textTaken, intern}
 use Rattle.interner.proofs.Finds.{find-none, find-here, find-on}
 use Rattle.interner.proofs.Takes.{held, new, full}
 use Rattle.overlay.specs.Overlay.{Overlay}
@@ -50,7 +50,7 @@ found-below spans bytes t (suc n) h k e =
 
 module _ (s : Store) (t : Bytes) {C : Type 0} where
   pub byIntern : ((h : ℕ) → h < s .strings → intern s t ≡ record { store = s; answer = I.Held h } → C)
-      → (intern s t ≡ taken s t → C)
+      → (intern s t ≡ textTaken s t → C)
       → (intern s t ≡ record { store = s; answer = I.Full } → C)
       → C
   unfolding findIn
@@ -58,7 +58,7 @@ module _ (s : Store) (t : Bytes) {C : Type 0} where
     where
       go : (x : Found) → findIn (s .spans) (usedOf s) (s .strings) t ≡ x → C
       go (F.At h) e = let b = found-below (s .spans) (usedOf s) t (s .strings) 0 h e in f h (omega arith) (held s t h e)
-      go F.Not e = byBool (room s t) (λ r. g (new s t e r)) (λ r. z (full s t e r))
+      go F.Not e = byBool (textRoom s t) (λ r. g (new s t e r)) (λ r. z (full s t e r))
 
 -- ---- a text taken in
 

@@ -17,7 +17,7 @@ use Rattle.compact.specs.declared.PushHead.{PushHead}
 use Rattle.shelf.specs.declared.Kept.{Kept}
 use Rattle.shelf.specs.declared.Kept.the-variants as K
 use Rattle.overlay.specs.Overlay.{Overlay}
-use Rattle.overlay.specs.Calls.{After}
+use Rattle.overlay.specs.Calls.{OverlayAfter}
 use Rattle.values.specs.declared.Extent.{Extent}
 use Rattle.values.specs.Value.{textAt, ExtentLies, bodyIn}
 use Rattle.metadata.specs.Metadata.{metaWritten, MetadataLies}
@@ -43,7 +43,7 @@ use Rattle.reader_step.specs.Done.{StepDone, doneBy, StepGiven, childSte
 module _ (s : State) (p : Place) where
   -- ---- by the answer of an act, of a child, of an element that begins
 
-  act-done : (d : Decision) {q : Overlay} {k : Kept} {r : Stepped} {a : After} → stepOf d s ≡ onAfter a (clearsTo s p)
+  act-done : (d : Decision) {q : Overlay} {k : Kept} {r : Stepped} {a : OverlayAfter} → stepOf d s ≡ onAfter a (clearsTo s p)
       → ((x : Refusal) → a .answer ≡ K.Refused x → a .overlay ≡ s .overlay) → record { overlay = q; answer = k } ≡ a → r ≡ actStepped p k
       → record { overlay = q; parts = s .parts; answer = r } ≡ doneBy s (stepOf d s)
   act-done d {q} {k} {a} step kept e f = rw (step, f) (go k e)
@@ -51,7 +51,7 @@ module _ (s : State) (p : Place) where
       go : (k : Kept) → record { overlay = q; answer = k } ≡ a → record { overlay = q; parts = s .parts; answer = actStepped p k } ≡ doneBy s (onAfter a (clearsTo s p))
       go K.Taken e = rw (← e)
       go (K.Refused x) e =
-          let h : q ≡ s .overlay = ap (λ (z : After). z .overlay) e ∙ kept x (sym (ap (λ (z : After). z .answer) e)) in
+          let h : q ≡ s .overlay = ap (λ (z : OverlayAfter). z .overlay) e ∙ kept x (sym (ap (λ (z : OverlayAfter). z .answer) e)) in
           rw (← e) (ap (λ (z : Overlay). record { overlay = z; parts = s .parts; answer = S.Stops x }) h)
 
   child-done : (d : Decision) {q : Overlay} {ps : Bytes} {b : Added} {r : Stepped} {a : Adding} → ChildStep d s p a

@@ -13,12 +13,12 @@ use Rattle.base.specs.Bytes.{Bytes}
 use Rattle.base.proofs.Split.{byBool}
 use Rattle.little.specs.Little.{over}
 use Rattle.little.proofs.Overs.{read-back}
-use Rattle.text.specs.Escape.{before, meaning, unescapeFrom}
+use Rattle.text.specs.Escape.{byteBefore, meaning, unescapeFrom}
 use Rattle.event.specs.Event.{orEmpty}
-use Rattle.scan.specs.Piece.{textOf}
+use Rattle.scan.specs.Piece.{valueText}
 use Rattle.scan.proofs.Places.{lent-is}
 use Rattle.interner.specs.declared.Found.the-variants.{At, Not}
-use Rattle.interner.specs.Strings.{findIn, Store, usedOf, room}
+use Rattle.interner.specs.Strings.{findIn, Store, usedOf, textRoom}
 use Rattle.interner.proofs.Takes.{held, new, full}
 use Rattle.values.specs.Value.{textAt, ExtentLies}
 use Rattle.values.specs.declared.Extent.{Extent}
@@ -26,8 +26,8 @@ use Rattle.reader_texts.specs.Texts.{refusedFor}
 
 -- ---- a text is no longer than the value that writes it
 
-one-more : (m : Option ℕ) (x : Option Bytes) (n : ℕ) → length (orEmpty x) ≤ n → length (orEmpty (before m x)) ≤ suc n
-unfolding before
+one-more : (m : Option ℕ) (x : Option Bytes) (n : ℕ) → length (orEmpty x) ≤ n → length (orEmpty (byteBefore m x)) ≤ suc n
+unfolding byteBefore
 one-more none x n h = omega arith
 one-more (some b) none n h = omega arith
 one-more (some b) (some t) n h = omega arith
@@ -42,8 +42,8 @@ shorter (b ∷ v) false =
     (λ e. let h = shorter v true in rw (e, unescapeFrom) (omega arith))
     (λ e. rw (e, unescapeFrom) (one-more (some b) (unescapeFrom false v) (length v) (shorter v false)))
 
-pub text-shorter : (v : Bytes) → length (textOf v) ≤ length v
-unfolding textOf
+pub text-shorter : (v : Bytes) → length (valueText v) ≤ length v
+unfolding valueText
 text-shorter v = shorter v false
 
 module _ (line : Bytes) (at : Extent) (lies : ExtentLies line at) where
@@ -71,8 +71,8 @@ module _ (s : Store) (t : Bytes) where
   pub held-not-refused : (h : ℕ) → findIn (s .spans) (usedOf s) (s .strings) t ≡ At h → refusedFor s t ≡ false
   held-not-refused h e = rw (held s t h e)
 
-  pub room-not-refused : findIn (s .spans) (usedOf s) (s .strings) t ≡ Not → room s t ≡ true → refusedFor s t ≡ false
+  pub room-not-refused : findIn (s .spans) (usedOf s) (s .strings) t ≡ Not → textRoom s t ≡ true → refusedFor s t ≡ false
   room-not-refused e r = rw (new s t e r)
 
-  pub full-refused : findIn (s .spans) (usedOf s) (s .strings) t ≡ Not → room s t ≡ false → refusedFor s t ≡ true
+  pub full-refused : findIn (s .spans) (usedOf s) (s .strings) t ≡ Not → textRoom s t ≡ false → refusedFor s t ≡ true
   full-refused e r = rw (full s t e r)

@@ -13,7 +13,7 @@ use Rattle.base.specs.Bytes.{both, either}
 use Rattle.refusal.specs.Refusal.{numberOf, heldOf}
 use Rattle.refusal.specs.declared.Refusal.{Refusal}
 use Rattle.refusal.specs.declared.Refusal.the-variants as R
-use Rattle.kind.specs.Kind.{numberOf as kindWord}
+use Rattle.kind.specs.Kind.{kindNumber as kindWord}
 use Rattle.kind.specs.declared.Kind.{Kind}
 use Rattle.kind.specs.declared.Kind.the-variants.{Node, Way, Relation}
 use Rattle.nesting.specs.declared.Action.{Action}

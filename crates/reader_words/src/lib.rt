@@ -2,7 +2,7 @@
 ghost use mathlib.Core.Path.{_≡_};
 ghost use mathlib.Core.Bool.{true};
 ghost use Prim.Native.Nat.{_<_};
-ghost use Rattle.kind.specs.Kind.{numberOf as kindWord};
+ghost use Rattle.kind.specs.Kind.{kindNumber as kindWord};
 ghost use Rattle.reader_words.specs.Words.{levelWord, sectionWord, markNumber, markLine, markHeld, wordsOfReader, levelIn, sectionIn, kindIn, headWords, metaWords, refusalNumbered, stopIn, readerIn, placeCoded, headCoded, metaCoded, stopCoded, isReader};
 use compact::ArenaMeta;
 use compact::PushHead;

@@ -17,7 +17,7 @@ use Rattle.listed.specs.declared.Side.{Side}
 use Rattle.listed.specs.declared.Side.the-variants.{Live}
 use Rattle.listed.specs.declared.View.{View}
 use Rattle.listed.specs.declared.View.the-variants as view
-use Rattle.listed.specs.Listed.{rowsIn, rowsOn}
+use Rattle.listed.specs.Listed.{rowsRead, rowsOn}
 use Rattle.listed.proofs.Lists.{nth-at, missing-is}
 use Rattle.overlay.specs.Overlay.{Overlay, shelfOf}
 use Rattle.overlay.specs.Given.{InBytes}
@@ -81,7 +81,7 @@ module _ (o : Overlay) where
   pub id-first : (k : Kind) (side : Side) (n : ℕ) → readRefusal (idOn k side n o) ≡ firstOf (numberTable n (countIn side (shelfOf k o)) o)
   unfolding firstOf idOn
   id-first k side n =
-      let list = rowsOn side (rowsIn (shelfOf k o .table) (shelfOf k o .ids)) in
+      let list = rowsOn side (rowsRead (shelfOf k o .table) (shelfOf k o .ids)) in
       byBool (isSound o)
       (λ s. byLt n (length list)
       (λ l. rw (s, nth-at list n (record { rank = 0; place = 0; floor = 0 }) l, lt-ltb n (length list) l))

@@ -29,7 +29,7 @@ use Rattle.table.proofs.Tables.{sound-rises}
 use Rattle.listed.specs.declared.Side.{Side}
 use Rattle.listed.specs.declared.Side.the-variants.{Live, Deleted}
 use Rattle.listed.specs.declared.View.the-variants as view
-use Rattle.listed.specs.Listed.{rowsIn, isOn, rowsOn}
+use Rattle.listed.specs.Listed.{rowsRead, isOn, rowsOn}
 use Rattle.listed.proofs.Lists.{rows-all, lists-all, on-rising, on-found, nth-at, missing-is}
 use Rattle.overlay.specs.Overlay.{Overlay, shelfOf}
 use Rattle.overlay.specs.Given.{InBytes}
@@ -67,7 +67,7 @@ module _ (o : Overlay) (b : InBytes o) (w : Sound o) (k : Kind) (side : Side) wh
   tested : isSound o ≡ true
   tested = decides o b .1 w
 
-  all-rows : rowsIn (shelfOf k o .table) (shelfOf k o .ids) ≡ rows
+  all-rows : rowsRead (shelfOf k o .table) (shelfOf k o .ids) ≡ rows
   all-rows = rows-all (shelfOf k o .table) (shelfOf k o .ids) (w .shelves k .order)
 
   rises : rising rows ≡ true

@@ -4,7 +4,7 @@ use mathlib.Core.Bool.{not}
 use mathlib.Core.Option.{Option, none, some}
 use mathlib.Core.List.{List, [], _∷_}
 use lib.Dec.{ltb}
-use Rattle.refusal.specs.First.{Row, row}
+use Rattle.refusal.specs.First.{ConditionRow, row}
 use Rattle.refusal.specs.declared.Refusal.{Refusal}
 use Rattle.refusal.specs.declared.Refusal.the-variants as R
 use Rattle.listed.specs.declared.View.{View}
@@ -25,13 +25,13 @@ viewRefusal view.Nothing = none
 viewRefusal (view.Refused r) = some r
 
 -- 21, of a number on a list of so many
-abbrev pub numberRows : ℕ → ℕ → List (Row Refusal)
+abbrev pub numberRows : ℕ → ℕ → List (ConditionRow Refusal)
 numberRows n count = row R.NoSuchNumber (not (ltb n count)) ∷ []
 
 -- counts, `is_empty`, `get`, `has`, `is_deleted` and the known version: 22
-abbrev pub readTable : Overlay → List (Row Refusal)
+abbrev pub readTable : Overlay → List (ConditionRow Refusal)
 readTable o = unsoundRow o ∷ []
 
 -- an id, a record or a text by its number: 22, 21
-abbrev pub numberTable : ℕ → ℕ → Overlay → List (Row Refusal)
+abbrev pub numberTable : ℕ → ℕ → Overlay → List (ConditionRow Refusal)
 numberTable n count o = unsoundRow o ∷ numberRows n count

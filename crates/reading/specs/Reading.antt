@@ -16,7 +16,7 @@ use Rattle.interner.specs.Strings.{usedOf, spanOf}
 use Rattle.interner.specs.declared.Span as interner
 use Rattle.interner.specs.declared.Span.the-variants as P
 use Rattle.shelf.specs.Shelf.{Shelf, known}
-use Rattle.listed.specs.Listed.{rowsIn, rowsOn, nth, standingOf, viewAt}
+use Rattle.listed.specs.Listed.{rowsRead, rowsOn, nth, standingOf, viewAt}
 use Rattle.listed.specs.declared.Side.{Side}
 use Rattle.listed.specs.declared.Side.the-variants.{Live}
 use Rattle.listed.specs.declared.Nth.{Nth}
@@ -45,7 +45,7 @@ yes false = Is 0
 -- ---- counts
 
 abbrev pub countIn : Side → Shelf → ℕ
-countIn side s = length (rowsOn side (rowsIn (s .table) (s .ids)))
+countIn side s = length (rowsOn side (rowsRead (s .table) (s .ids)))
 
 unfoldable pub countOn : Kind → Side → Overlay → Read
 countOn k side o = checkedRead o (Is (countIn side (shelfOf k o)))
@@ -66,7 +66,7 @@ idRead N.Missing = Refused R.NoSuchNumber
 
 -- the row of a number
 abbrev pub rowIn : Side → ℕ → Shelf → Nth
-rowIn side n s = nth (rowsOn side (rowsIn (s .table) (s .ids))) n
+rowIn side n s = nth (rowsOn side (rowsRead (s .table) (s .ids))) n
 
 unfoldable pub idOn : Kind → Side → ℕ → Overlay → Read
 idOn k side n o = checkedRead o (idRead (rowIn side n (shelfOf k o)))

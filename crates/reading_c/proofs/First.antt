@@ -13,7 +13,7 @@ use Rattle.kind.specs.Kind.{ofNumber}
 use Rattle.kind.specs.declared.Kind.{Kind}
 use Rattle.kind.specs.declared.Named.{Named}
 use Rattle.kind.specs.declared.Named.the-variants as K
-use Rattle.refusal.specs.First.{Row, row, firstOf}
+use Rattle.refusal.specs.First.{ConditionRow, row, firstOf}
 use Rattle.refusal.specs.declared.Refusal.{Refusal}
 use Rattle.refusal.specs.declared.Refusal.the-variants as R
 use Rattle.listed.specs.declared.Side.{Side}
@@ -23,7 +23,7 @@ use Rattle.listed.specs.declared.View.the-variants as view
 use Rattle.overlay.specs.Overlay.{Overlay, shelfOf}
 use Rattle.overlay.specs.Given.{InBytes}
 use Rattle.overlay.specs.Sound.{isSound}
-use Rattle.overlay.specs.First.{unsoundRow, kindRows, kindTable, numberBy}
+use Rattle.overlay.specs.First.{unsoundRow, kindRows, kindCallTable, numberBy}
 use Rattle.reading.specs.declared.Read.{Read}
 use Rattle.reading.specs.declared.Read.the-variants.{Is, Refused}
 use Rattle.reading.specs.Reading.{countIn, countOn, isEmptyOn, idOn, recordOn, getOn, hasOn, isDeletedOn, knownOn, textOn}
@@ -47,7 +47,7 @@ module _ (o : Overlay) where
   unfolding firstOf
   unknown-first = byBool (isSound o) (λ s. rw s) (λ s. rw s)
 
-  module _ (rows : Kind → List (Row Refusal)) where
+  module _ (rows : Kind → List (ConditionRow Refusal)) where
     named-number : (f : Kind → Read) → ((k : Kind) → readRefusal (f k) ≡ firstOf (unsoundRow o ∷ rows k))
         → (n : Named) → numberFor n f o .number ≡ numberBy (firstOf (unsoundRow o ∷ kindRows n rows))
     named-number f h (K.Is k) = read-number (f k) ∙ ap numberBy (h k)
@@ -60,34 +60,34 @@ module _ (o : Overlay) where
 
   -- ---- 22, 17
 
-  pub count-number-first : (kind : ℕ) (side : Side) → countNumber kind side o .number ≡ numberBy (firstOf (kindTable kind (λ k. []) o))
+  pub count-number-first : (kind : ℕ) (side : Side) → countNumber kind side o .number ≡ numberBy (firstOf (kindCallTable kind (λ k. []) o))
   unfolding countNumber
   count-number-first kind side = named-number (λ k. []) (λ k. countOn k side o) (λ k. count-first o k side) (ofNumber kind)
 
-  pub has-number-first : (kind : ℕ) (id : ℤ) → hasNumber kind id o .number ≡ numberBy (firstOf (kindTable kind (λ k. []) o))
+  pub has-number-first : (kind : ℕ) (id : ℤ) → hasNumber kind id o .number ≡ numberBy (firstOf (kindCallTable kind (λ k. []) o))
   unfolding hasNumber
   has-number-first kind id = named-number (λ k. []) (λ k. hasOn k id o) (λ k. has-first o k id) (ofNumber kind)
 
-  pub is-deleted-number-first : (kind : ℕ) (id : ℤ) → isDeletedNumber kind id o .number ≡ numberBy (firstOf (kindTable kind (λ k. []) o))
+  pub is-deleted-number-first : (kind : ℕ) (id : ℤ) → isDeletedNumber kind id o .number ≡ numberBy (firstOf (kindCallTable kind (λ k. []) o))
   unfolding isDeletedNumber
   is-deleted-number-first kind id = named-number (λ k. []) (λ k. isDeletedOn k id o) (λ k. is-deleted-first o k id) (ofNumber kind)
 
-  pub known-number-first : (kind : ℕ) (id : ℤ) → knownNumber kind id o .number ≡ numberBy (firstOf (kindTable kind (λ k. []) o))
+  pub known-number-first : (kind : ℕ) (id : ℤ) → knownNumber kind id o .number ≡ numberBy (firstOf (kindCallTable kind (λ k. []) o))
   unfolding knownNumber
   known-number-first kind id = named-number (λ k. []) (λ k. knownOn k id o) (λ k. known-first o k id) (ofNumber kind)
 
-  pub get-part-first : InBytes o → (kind : ℕ) (id : ℤ) → SFits w64 id → getPart kind id o .number ≡ numberBy (firstOf (kindTable kind (λ k. []) o))
+  pub get-part-first : InBytes o → (kind : ℕ) (id : ℤ) → SFits w64 id → getPart kind id o .number ≡ numberBy (firstOf (kindCallTable kind (λ k. []) o))
   unfolding getPart
   get-part-first b kind id f = named-part (λ k. []) (λ k. getOn k id o) (λ k. get-first o b k id f) (ofNumber kind)
 
   -- ---- 22, 17, 21
 
-  pub id-number-first : (kind : ℕ) (side : Side) (n : ℕ) → idNumber kind side n o .number ≡ numberBy (firstOf (kindTable kind (λ k. numberRows n (countIn side (shelfOf k o))) o))
+  pub id-number-first : (kind : ℕ) (side : Side) (n : ℕ) → idNumber kind side n o .number ≡ numberBy (firstOf (kindCallTable kind (λ k. numberRows n (countIn side (shelfOf k o))) o))
   unfolding idNumber
   id-number-first kind side n =
       named-number (λ k. numberRows n (countIn side (shelfOf k o))) (λ k. idOn k side n o) (λ k. id-first o k side n) (ofNumber kind)
 
-  pub record-part-first : InBytes o → (kind n : ℕ) → recordPart kind n o .number ≡ numberBy (firstOf (kindTable kind (λ k. numberRows n (countIn Live (shelfOf k o))) o))
+  pub record-part-first : InBytes o → (kind n : ℕ) → recordPart kind n o .number ≡ numberBy (firstOf (kindCallTable kind (λ k. numberRows n (countIn Live (shelfOf k o))) o))
   unfolding recordPart
   record-part-first b kind n =
       named-part (λ k. numberRows n (countIn Live (shelfOf k o))) (λ k. recordOn k n o) (λ k. record-first o b k n) (ofNumber kind)

@@ -3,7 +3,7 @@ use mathlib.Core.Path.{_≡_, refl}
 use mathlib.Core.Bool.{Bool, true, false, cond}
 use mathlib.Core.Option.{Option, none, some}
 use mathlib.Core.List.{List, [], _∷_, _++_}
-use Rattle.refusal.specs.First.{Row, firstOf}
+use Rattle.refusal.specs.First.{ConditionRow, firstOf}
 
 -- what comes first, if there is anything, else what comes next
 abbrev pub before : {A : Type 0} → Option A → Option A → Option A
@@ -15,7 +15,7 @@ module _ {A : Type 0} where
   after-row true a x y z e = refl
   after-row false a x y z e = e
 
-  pub first-more : (xs ys : List (Row A)) → firstOf (xs ++ ys) ≡ before (firstOf xs) (firstOf ys)
+  pub first-more : (xs ys : List (ConditionRow A)) → firstOf (xs ++ ys) ≡ before (firstOf xs) (firstOf ys)
   unfolding firstOf
   first-more [] ys = refl
   first-more (x ∷ xs) ys = after-row (x .holds) (x .gives) _ _ _ (first-more xs ys)

@@ -5,14 +5,14 @@ use mathlib.Core.Option.{Option, none, some}
 use mathlib.Core.List.{List, [], _∷_}
 
 -- what a row of a table gives, and whether its condition holds
-pub record Row (A : Type 0) : Type 0 where
+pub record ConditionRow (A : Type 0) : Type 0 where
   pub gives : A
   pub holds : Bool
 
-abbrev pub row : {A : Type 0} → A → Bool → Row A
+abbrev pub row : {A : Type 0} → A → Bool → ConditionRow A
 row gives holds = record { gives = gives; holds = holds }
 
 -- what the first row gives whose condition holds
-unfoldable pub firstOf : {A : Type 0} → List (Row A) → Option A
+unfoldable pub firstOf : {A : Type 0} → List (ConditionRow A) → Option A
 firstOf [] = none
 firstOf (r ∷ rs) = cond (r .holds) (some (r .gives)) (firstOf rs)

@@ -6,6 +6,6 @@ use lib.Dec.{eqb}
 use Rattle.base.specs.Bytes.{Bytes}
 
 -- how many bytes stand before the first byte b; all, where there is none
-unfoldable pub before : ℕ → Bytes → ℕ
-before b [] = 0
-before b (x ∷ s) = cond (eqb x b) 0 (suc (before b s))
+unfoldable pub bytesBefore : ℕ → Bytes → ℕ
+bytesBefore b [] = 0
+bytesBefore b (x ∷ s) = cond (eqb x b) 0 (suc (bytesBefore b s))

@@ -4,11 +4,11 @@ ghost use Prim.Native.Nat.{_+_, _<_};
 ghost use lib.ListN.{getD, take, drop};
 ghost use mathlib.Core.List.{[]};
 ghost use Rattle.line.specs.Line.{fields};
-ghost use Rattle.replay.specs.Seek.{before};
+ghost use Rattle.replay.specs.Seek.{bytesBefore};
 
 // The place of the first byte b from a place on, or the end; a place past the end is returned as it is.
 pub fn seek(s: &[u8], from: usize, b: u8) -> usize
-    ensures { λ r. ⌜ r ≡ from + before b (drop from (now (s .entry))) ⌝ }
+    ensures { λ r. ⌜ r ≡ from + bytesBefore b (drop from (now (s .entry))) ⌝ }
 {
     let mut i = from;
     while i < s.len() {

@@ -16,13 +16,13 @@ use Rattle.text.specs.Escape.{breaks}
 use Rattle.refusal.specs.Refusal.{numberOf, heldOf}
 use Rattle.refusal.specs.declared.Refusal.{Refusal}
 use Rattle.refusal.specs.declared.Refusal.the-variants.{Size, LongLine, NotText, NotEventLine, Misplaced, OutsideSection, Missing, NotInteger, NotTimestamp, CoordinateRange, MemberType, Regression, StringsFull, IdsFull, ArenaFull, TooManyParts, BadRecord, Unfinished, ShortOutput, NotInOrder, NoSuchNumber, Unsound}
-use Rattle.line.specs.Line.{plain, fields, tabbed, line}
+use Rattle.line.specs.Line.{plainField, fields, tabbed, line}
 use Rattle.line.specs.Decimal.{digitsBefore, numberText, integerText}
 use Rattle.line.proofs.Lines.{fields-line, line-code}
 use Rattle.line.proofs.Decimals.{number-plain, number-injective, integer-plain, integer-injective, never-alone}
 use Rattle.kind.specs.declared.Kind.{Kind}
 use Rattle.kind.specs.declared.Kind.the-variants.{Node, Way, Relation}
-use Rattle.page.specs.Summary.{Row, Table}
+use Rattle.page.specs.Summary.{PageRow, Table}
 use Rattle.page.specs.Listing.{kindField, rowFields, listing}
 use Rattle.report.specs.Report.{heldField, refusedFields, refusedLine}
 
@@ -68,8 +68,8 @@ pub held-exactly : (r : Refusal) → (heldField r ≡ 45 ∷ []) ↔ (numberOf r
 unfolding isDigit both
 held-exactly r = ((λ h e. never-alone (heldOf r) 45 refl (sym (held-known r e) ∙ h)), held-none r)
 
-held-plain : (r : Refusal) → plain (heldField r) ≡ true
-unfolding plain all both breaks either
+held-plain : (r : Refusal) → plainField (heldField r) ≡ true
+unfolding plainField all both breaks either
 held-plain r =
     byEq (numberOf r) 12
     (λ e. rw (held-known r e) (integer-plain (heldOf r)))
@@ -83,17 +83,17 @@ held-told r s e h =
 
 -- ---- the line
 
-word-plain : plain (ascii "refused") ≡ true
-unfolding plain all both breaks either
+word-plain : plainField (ascii "refused") ≡ true
+unfolding plainField all both breaks either
 word-plain = refl
 
 module _ (r : Refusal) (n : ℕ) where
-  fields-plain : all plain (refusedFields r n) ≡ true
+  fields-plain : all plainField (refusedFields r n) ≡ true
   fields-plain =
-      all-cons plain _ _ word-plain
-      (all-cons plain _ _ (number-plain (numberOf r))
-      (all-cons plain _ _ (number-plain n)
-      (all-cons plain _ _ (held-plain r) (all-nil plain))))
+      all-cons plainField _ _ word-plain
+      (all-cons plainField _ _ (number-plain (numberOf r))
+      (all-cons plainField _ _ (number-plain n)
+      (all-cons plainField _ _ (held-plain r) (all-nil plainField))))
 
   -- its four fields are read back
   pub refused-fields : fields (tabbed (refusedFields r n)) ≡ refusedFields r n
@@ -112,7 +112,7 @@ refused-told r s m n x y e =
 -- ---- a listing
 
 -- every line of a listing begins with its kind and a tab: `n⇥`, `w⇥` or `r⇥`
-pub row-begins : (row : Row) → (rest : Bytes) × (line (rowFields row) ≡ kindField (row .key .kind) ++ (9 ∷ rest))
+pub row-begins : (row : PageRow) → (rest : Bytes) × (line (rowFields row) ≡ kindField (row .key .kind) ++ (9 ∷ rest))
 unfolding line rowFields tabbed
 row-begins row = (_, append-assoc (kindField (row .key .kind)) _ (10 ∷ []))
 

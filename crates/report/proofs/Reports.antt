@@ -21,7 +21,7 @@ use Rattle.little.specs.Little.{over}
 use Rattle.little.proofs.Overs.{over-nothing, over-lent-start}
 use Rattle.print.specs.declared.Room.{Room}
 use Rattle.print.specs.declared.Room.the-variants.{Left, Full}
-use Rattle.print.specs.Print.{Printed, step, print, joined, tab, tabs, linePieces}
+use Rattle.print.specs.Print.{Printed, printStep, print, joinedPieces, tab, tabs, linePieces}
 use Rattle.print.specs.Piece.{behind}
 use Rattle.print.proofs.Pieces.{two-printed}
 use Rattle.print.proofs.Prints.{behind-fits, behind-past, measured, written, line-pieces}
@@ -45,25 +45,25 @@ module _ (r : Refusal) (y : Reply) (e : y ≡ replyOf r) where
       let z : toZ w32 b ≡ heldOf r = ap (toZ w32) d ∙ (toZ-ofZ f ∙ held-is) in
       rw (held-known r (sym number-is ∙ n), ← z) h
 
-  pub none-printed : (cap : ℕ) (p q s : Printed) → (y .number ≡ 12 → ⊥) → q ≡ step cap tab p → s ≡ step cap (45 ∷ []) q → s ≡ print cap (tab ∷ heldField r ∷ []) p
+  pub none-printed : (cap : ℕ) (p q s : Printed) → (y .number ≡ 12 → ⊥) → q ≡ printStep cap tab p → s ≡ printStep cap (45 ∷ []) q → s ≡ print cap (tab ∷ heldField r ∷ []) p
   none-printed cap p q s n g h = rw (held-none r (λ x. n (number-is ∙ x))) (two-printed cap tab (45 ∷ []) p q s g h)
 
 -- ---- the pieces
 
 pub line-printed : (cap : ℕ) (r : Refusal) (n : ℕ) (y : Reply) → y ≡ replyOf r → (p a b c d q : Printed)
-    → a ≡ step cap (ascii "refused") p → b ≡ print cap (tab ∷ numberText (y .number) ∷ []) a → c ≡ print cap (tab ∷ numberText n ∷ []) b
-    → d ≡ print cap (tab ∷ heldField r ∷ []) c → q ≡ step cap (10 ∷ []) d → q ≡ print cap (linePieces (refusedFields r n)) p
+    → a ≡ printStep cap (ascii "refused") p → b ≡ print cap (tab ∷ numberText (y .number) ∷ []) a → c ≡ print cap (tab ∷ numberText n ∷ []) b
+    → d ≡ print cap (tab ∷ heldField r ∷ []) c → q ≡ printStep cap (10 ∷ []) d → q ≡ print cap (linePieces (refusedFields r n)) p
 unfolding print linePieces tabs
 line-printed cap r n y e p a b c d q f g h i j =
     let m : numberText (y .number) ≡ numberText (numberOf r) = ap numberText (number-is r y e) in
     let k : b ≡ print cap (tab ∷ numberText (numberOf r) ∷ []) a = g ∙ ap (λ (t : Bytes). print cap (tab ∷ t ∷ []) a) m in
-    j ∙ ap (step cap (10 ∷ [])) (i
+    j ∙ ap (printStep cap (10 ∷ [])) (i
     ∙ ap (print cap (tab ∷ heldField r ∷ [])) (h ∙ ap (print cap (tab ∷ numberText n ∷ [])) (k ∙ ap (print cap (tab ∷ numberText (numberOf r) ∷ [])) f)))
 
 -- ---- measured, and then written
 
 module _ (s : Bytes) (r : Refusal) (n : ℕ) where
-  pieces-joined : joined (linePieces (refusedFields r n)) ≡ refusedLine r n
+  pieces-joined : joinedPieces (linePieces (refusedFields r n)) ≡ refusedLine r n
   unfolding refusedLine
   pieces-joined = line-pieces (ascii "refused") (numberText (numberOf r) ∷ numberText n ∷ heldField r ∷ [])
 
@@ -103,7 +103,7 @@ module _ (s : Bytes) (r : Refusal) (n : ℕ) where
     line-written out room d =
         let h = room-left .0 in
         let x = length (refusedLine r n) in
-        let j : length (joined (linePieces (refusedFields r n))) ≤ length s = rw pieces-joined h in
+        let j : length (joinedPieces (linePieces (refusedFields r n))) ≤ length s = rw pieces-joined h in
         let w = d ∙ written (linePieces (refusedFields r n)) s (length s) j (omega arith) in
         let z : length s - length s ≡ 0 = omega arith in
         let o : out ≡ over s 0 (refusedLine r n) = rw (z, pieces-joined) at (ap (λ (p : Printed). p .out) w) in

@@ -14,7 +14,7 @@ use Rattle.integer.specs.Integer.{decimal}
 use Rattle.calendar.specs.Calendar.{leap, monthDays, monthsDays, yearsDays, yearStart}
 use Rattle.calendar.proofs.Months.{month-bounds}
 use Rattle.calendar.proofs.Difference.{plus, times, unit}
-use Rattle.stamp.specs.Stamp.{shaped, nonzero, taken, daysOf, secondsOf, moment, accepted, stamp}
+use Rattle.stamp.specs.Stamp.{shaped, nonzero, takenMoment, daysOf, secondsOf, moment, acceptedMoment, stamp}
 use Rattle.rfc3339.specs.Rfc3339.{upper, lower, utc, east, west, DateTime, dateTime, offsetMinutes, Ranges, fromYear0, sinceEpoch, fraction, IsDateTime}
 use Rattle.rfc3339.specs.Form.{KeepsForm, AllDigits}
 use Rattle.rfc3339.proofs.Texts.{Shape, Places, number, numbers, unmarked, signed, shape, reads, year-numbers, spelled, unmarked-shape, written-digits, unmarked-moment}
@@ -37,8 +37,8 @@ nonzero-is (suc n) e = omega arith
 
 module _ (t : DateTime) where
   -- the reader takes what is within the ranges, but for second 60
-  ranges-taken : Ranges t → t .second ≤ 59 → taken (signed t) ≡ true
-  unfolding taken signed both
+  ranges-taken : Ranges t → t .second ≤ 59 → takenMoment (signed t) ≡ true
+  unfolding takenMoment signed both
   ranges-taken r l =
       rw (
         le-leb 1 (t .month) (r .month1),
@@ -51,8 +51,8 @@ module _ (t : DateTime) where
       )
 
   -- and of a year of four digits nothing else
-  taken-ranges : t .year ≤ 9999 → taken (signed t) ≡ true → Ranges (unmarked t) × (t .second ≤ 59)
-  unfolding taken signed
+  taken-ranges : t .year ≤ 9999 → takenMoment (signed t) ≡ true → Ranges (unmarked t) × (t .second ≤ 59)
+  unfolding takenMoment signed
   taken-ranges y h =
       let h1 = both-right _ _ h in
       let h2 = both-right _ _ h1 in
@@ -91,8 +91,8 @@ module _ (t : DateTime) where
 -- ---- the theorem
 
 -- the answer at a text of the shape whose fields are a date-time's numbers
-answers : (s : Bytes) (t : DateTime) → shaped s ≡ true → moment s ≡ some (signed t) → stamp s ≡ cond (taken (signed t)) (some (secondsOf (signed t))) none
-unfolding stamp accepted
+answers : (s : Bytes) (t : DateTime) → shaped s ≡ true → moment s ≡ some (signed t) → stamp s ≡ cond (takenMoment (signed t)) (some (secondsOf (signed t))) none
+unfolding stamp acceptedMoment
 answers s t h m = rw (h, m)
 
 unshaped : (s : Bytes) → shaped s ≡ false → stamp s ≡ none
@@ -117,7 +117,7 @@ module _ (s : Bytes) (v : ℤ) where
       (λ h. let u = shape s h in
       let t : DateTime = numbers s in
       let a = answers s t h (reads s u d) in
-      byBool (taken (signed t))
+      byBool (takenMoment (signed t))
       (λ l. let w : some (secondsOf (signed t)) ≡ some v = sym (rw l at a) ∙ e in
       let z : secondsOf (signed t) ≡ v = cc in
       let r = taken-ranges t (year-numbers s u d) l in

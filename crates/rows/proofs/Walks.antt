@@ -10,7 +10,7 @@ use Rattle.base.proofs.Split.{byLe}
 use Rattle.kind.specs.declared.Kind.{Kind}
 use Rattle.table.specs.Words.{rowAt, rowsFrom, rowsOf}
 use Rattle.shelf.specs.Shelf.{Shelf}
-use Rattle.print.specs.Print.{Printed, step, print, tabs, linePieces}
+use Rattle.print.specs.Print.{Printed, printStep, print, tabs, linePieces}
 use Rattle.print.proofs.Prints.{print-append}
 use Rattle.rows.specs.Lines.{rowFieldsAt, rowPieces}
 
@@ -47,7 +47,7 @@ view-from arena used place n at e f =
 
 -- ---- a line
 
-pub line-printed : (cap : ℕ) (k i s v : Bytes) (ls : List Bytes) (p q r t : Printed) → q ≡ print cap (k ∷ tabs (i ∷ s ∷ v ∷ [])) p → r ≡ print cap (tabs ls) q → t ≡ step cap (10 ∷ []) r
+pub line-printed : (cap : ℕ) (k i s v : Bytes) (ls : List Bytes) (p q r t : Printed) → q ≡ print cap (k ∷ tabs (i ∷ s ∷ v ∷ [])) p → r ≡ print cap (tabs ls) q → t ≡ printStep cap (10 ∷ []) r
     → t ≡ print cap (linePieces (k ∷ i ∷ s ∷ v ∷ ls)) p
 unfolding linePieces tabs print
 line-printed cap k i s v ls p q r t e1 e2 e3 = rw (print-append cap (tabs ls) ((10 ∷ []) ∷ []), ← e1, ← e2) e3

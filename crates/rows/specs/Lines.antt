@@ -3,6 +3,7 @@ use Prim.Native.Nat.{ℕ}
 use mathlib.Core.Bool.{Bool, true, false, cond}
 use mathlib.Core.List.{List, [], _∷_, _++_}
 use lib.ListN.{take, drop}
+use Rattle.base.specs.Ascii.{ascii}
 use Rattle.base.specs.Bytes.{Bytes}
 use Rattle.line.specs.Decimal.{integerText}
 use Rattle.kind.specs.declared.Kind.{Kind}
@@ -16,8 +17,8 @@ use Rattle.fields.specs.Fields.{recordFieldsAt}
 
 -- "`+` live or `-` deleted"
 abbrev pub signOf : Bool → Bytes
-signOf true = 43 ∷ []
-signOf false = 45 ∷ []
+signOf true = ascii "+"
+signOf false = ascii "-"
 
 -- "A deleted line ends there. A live one goes on"
 abbrev pub lastAt : (ℕ → Bytes) → Kind → Bytes → ℕ → ℕ → List Bytes

@@ -5,7 +5,7 @@ ghost use mir.Syntax.{w64};
 ghost use mir.Val.{toZ};
 ghost use Rattle.line.specs.Decimal.{integerText};
 ghost use Rattle.page.specs.Listing.{kindField, versionField};
-ghost use Rattle.print.specs.Print.{step, print, tabs, linePieces};
+ghost use Rattle.print.specs.Print.{printStep, print, tabs, linePieces};
 ghost use Rattle.shelf.specs.Shelf.{shelfWith};
 ghost use Rattle.fields.specs.Fields.{heldText};
 ghost use Rattle.rows.specs.Lines.{signOf, lastAt, rowFieldsAt, kindPieces};
@@ -16,7 +16,7 @@ use version_floor::Version;
 
 // "Kinds n, w, r"
 fn put_kind(out: &mut [u8], cap: usize, room: Room, kind: Kind) -> Room
-    ensures { λ r. ⌜ record { out = now (out .exit); room = r } ≡ step cap (kindField kind) (record { out = now (out .entry); room = room }) ⌝ }
+    ensures { λ r. ⌜ record { out = now (out .exit); room = r } ≡ printStep cap (kindField kind) (record { out = now (out .entry); room = room }) ⌝ }
 {
     match kind {
         Kind::Node => print::put_bytes(out, cap, room, b"n"),

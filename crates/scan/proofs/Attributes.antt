@@ -12,8 +12,8 @@ use Rattle.event.specs.Event.{valueOf, attrsOf}
 use Rattle.scan.specs.declared.Attribute.the-variants as A
 use Rattle.scan.specs.declared.Value.{Value}
 use Rattle.scan.specs.declared.Value.the-variants as F
-use Rattle.scan.specs.Piece.{textOf}
-use Rattle.scan.specs.Scan.{fieldsAt, attrsAt, Good, attributesOf, attributesAt, attributeAt, valueIn, valueAt}
+use Rattle.scan.specs.Piece.{valueText}
+use Rattle.scan.specs.Scan.{fieldsAt, attrsAt, Good, attributesOf, attributesAt, attributeAt, valueIn, attributeValue}
 use Rattle.scan.proofs.Places.{Stands, stands-here, attribute-here, ended, fields-past}
 use Rattle.scan.proofs.Walks.{Step, attrs-step}
 
@@ -22,29 +22,29 @@ unfolding attributesAt attributesOf
 attributes-end t at e = rw (ended t at e)
 
 pub attributes-step : {t : Bytes} {at eq to : ℕ} → Stands t at eq to
-    → attributesAt t at ≡ record { name = slice at eq t; value = textOf (slice (eq + 1) to t) } ∷ attributesAt t (to + 1)
+    → attributesAt t at ≡ record { name = slice at eq t; value = valueText (slice (eq + 1) to t) } ∷ attributesAt t (to + 1)
 unfolding attributesAt attributesOf
 attributes-step d = rw (d .rest, d .name, d .value)
 
 -- what a search tells of the value of a name; a field without `=` ends before its value would begin
 abbrev pub Searched : Bytes → Value → Option Bytes → Type 0
 Searched t F.Missing o = o ≡ none
-Searched t (F.At from to) o = (from ≤ to + 1) × ((to ≤ length t) × (o ≡ some (textOf (slice from to t))))
+Searched t (F.At from to) o = (from ≤ to + 1) × ((to ≤ length t) × (o ≡ some (valueText (slice from to t))))
 
 module _ (t : Bytes) where
   module _ (name : Bytes) where
-    told-none : (at : ℕ) → fieldsAt t at ≡ [] → Searched t (valueAt t name at) (valueOf name (attributesAt t at))
-    unfolding valueAt valueIn valueOf attributesAt attributesOf
+    told-none : (at : ℕ) → fieldsAt t at ≡ [] → Searched t (attributeValue t name at) (valueOf name (attributesAt t at))
+    unfolding attributeValue valueIn valueOf attributesAt attributesOf
     told-none at e = rw e
 
-    told-step : {at eq to : ℕ} → Stands t at eq to → Searched t (valueAt t name (to + 1)) (valueOf name (attributesAt t (to + 1))) → Searched t (valueAt t name at) (valueOf name (attributesAt t at))
+    told-step : {at eq to : ℕ} → Stands t at eq to → Searched t (attributeValue t name (to + 1)) (valueOf name (attributesAt t (to + 1))) → Searched t (attributeValue t name at) (valueOf name (attributesAt t at))
     unfolding valueOf
     told-step {at} {eq} {to} d ih =
         byBool (same name (slice at eq t))
         (λ h. rw (d .valued name, attributes-step d, h) (omega (arith, d .equals), (d .end, refl)))
         (λ h. rw (d .valued name, attributes-step d, h) ih)
 
-    told-from : (fs : List Bytes) (at : ℕ) → fieldsAt t at ≡ fs → Searched t (valueAt t name at) (valueOf name (attributesAt t at))
+    told-from : (fs : List Bytes) (at : ℕ) → fieldsAt t at ≡ fs → Searched t (attributeValue t name at) (valueOf name (attributesAt t at))
     told-from [] at e = told-none at e
     told-from (f ∷ fs) at e =
         byLe at (length t)
@@ -53,7 +53,7 @@ module _ (t : Bytes) where
         told-step d (told-from fs _ (cc)))
         (λ h. let z : [] ≡ f ∷ fs = sym (fields-past t at h) ∙ e in no (cc))
 
-    pub value-told : (at : ℕ) → Searched t (valueAt t name at) (valueOf name (attributesAt t at))
+    pub value-told : (at : ℕ) → Searched t (attributeValue t name at) (valueOf name (attributesAt t at))
     value-told at = told-from (fieldsAt t at) at refl
 
   good-none : (at : ℕ) → fieldsAt t at ≡ [] → attributesAt t at ≡ attrsAt t at
@@ -61,7 +61,7 @@ module _ (t : Bytes) where
   good-none at e = rw e
 
   good-step : {at eq to : ℕ} → Stands t at eq to → Step t at eq to → attributesAt t (to + 1) ≡ attrsAt t (to + 1) → attributesAt t at ≡ attrsAt t at
-  unfolding textOf
+  unfolding valueText
   good-step d s ih = attributes-step d ∙ rw (s .value, ih) (sym (s .whole))
 
   good-from : (fs : List Bytes) (at : ℕ) → fieldsAt t at ≡ fs → Good t at → attributesAt t at ≡ attrsAt t at

@@ -12,7 +12,7 @@ use Rattle.base.specs.Ascii.{ascii}
 use Rattle.base.specs.Bytes.{Bytes, all, same}
 use Rattle.refusal.specs.declared.Refusal.the-variants.{LongLine, NotText, NotEventLine}
 use Rattle.line.specs.Line.{fields}
-use Rattle.event.specs.Event.{Attr, Reading, reads, refused, starts, unended, body, isEmpty, attrsOf, distinct, startsWith, startsFrom, eventFrom, eventIn, eventOf, legalLine}
+use Rattle.event.specs.Event.{Attr, Reading, reads, refused, starts, unended, body, isEmpty, attrsOf, noneTwice, startsWith, startsFrom, eventFrom, eventIn, eventOf, legalLine}
 use Rattle.event.proofs.Parts.{unended-line, unended-some}
 use Rattle.event.proofs.Events.{judged-long, judged-illegal, judged-legal}
 use Rattle.scan.specs.declared.Scanned.{Scanned}
@@ -73,7 +73,7 @@ stand-none empty n (some as1) h = rw h
 
 stand-some : (empty : Bool) (n : Bytes) (o : Option (List Attr)) (as1 : List Attr) → o ≡ some as1 → stand o ≡ true → startsWith empty n o ≡ reads (starts empty n as1)
 unfolding stand
-stand-some empty n o as1 e h = let k : distinct as1 ≡ true = rw e at h in rw (e, k)
+stand-some empty n o as1 e h = let k : noneTwice as1 ≡ true = rw e at h in rw (e, k)
 
 -- nothing follows the first word
 pub starts-alone : (t : Bytes) (empty : Bool) (at : ℕ) → at ≡ length t → startsFrom empty (fieldsAt t (at + 1)) ≡ refused NotEventLine

@@ -11,12 +11,12 @@ use lib.Seq.{drop-cons, drop-drop, set-out}
 use borrow.Author.Tests.{eq-eqb, ne-eqb}
 use Rattle.base.specs.Bytes.{Bytes}
 use Rattle.base.proofs.Split.{byEq, byLt, no, clash}
-use Rattle.text.specs.Escape.{meaning, before, unescapeFrom, unescape}
+use Rattle.text.specs.Escape.{meaning, byteBefore, unescapeFrom, unescape}
 use Rattle.text.proofs.Escapes.{read-byte}
 use Rattle.event.specs.Event.{orEmpty}
 use Rattle.little.proofs.Overs.{Writing, stored, over-past}
 use Rattle.scan.specs.declared.Piece.the-variants as P
-use Rattle.scan.specs.Piece.{there, lettered, pieceIn, textOf}
+use Rattle.scan.specs.Piece.{there, lettered, pieceIn, valueText}
 
 -- ---- what stands at a place
 
@@ -41,7 +41,7 @@ module _ (v : Bytes) (at : ℕ) (h : at < length v) where
 pub record Begins (s : Bytes) (b n : ℕ) : Type 0 where
   pub some-bytes : 0 < n
   pub within : n ≤ length s
-  pub is : unescape s ≡ before (some b) (unescape (drop n s))
+  pub is : unescape s ≡ byteBefore (some b) (unescape (drop n s))
 
 escaped-is : (m : ℕ) (s : Bytes) (o : Option ℕ) (b n : ℕ) → meaning m ≡ o → lettered o ≡ P.Is b n → Begins (92 ∷ m ∷ s) b n
 unfolding unescapeFrom
@@ -52,7 +52,7 @@ escaped-is m s (some x) b n p e =
     rw (q, k) (record { some-bytes = omega arith; within = omega arith; is = rw p })
 
 escaped-not : (m : ℕ) (s : Bytes) (o : Option ℕ) → meaning m ≡ o → lettered o ≡ P.Not → unescape (92 ∷ m ∷ s) ≡ none
-unfolding unescapeFrom before
+unfolding unescapeFrom byteBefore
 escaped-not m s none p e = rw p
 escaped-not m s (some x) p e = no (cc)
 
@@ -88,13 +88,13 @@ piece-not (x ∷ m ∷ s) h e =
 
 -- ---- the text of the rest
 
-there-before : (b : ℕ) (o : Option Bytes) → there (before (some b) o) ≡ there o
-unfolding there before
+there-before : (b : ℕ) (o : Option Bytes) → there (byteBefore (some b) o) ≡ there o
+unfolding there byteBefore
 there-before b none = refl
 there-before b (some t) = refl
 
-text-before : (b : ℕ) (o : Option Bytes) → there o ≡ true → orEmpty (before (some b) o) ≡ b ∷ orEmpty o
-unfolding there before
+text-before : (b : ℕ) (o : Option Bytes) → there o ≡ true → orEmpty (byteBefore (some b) o) ≡ b ∷ orEmpty o
+unfolding there byteBefore
 text-before b none h = clash h refl
 text-before b (some t) h = refl
 
@@ -103,17 +103,17 @@ pub record Turn (v : Bytes) (i b n : ℕ) : Type 0 where
   pub forward : 0 < n
   pub within : i + n ≤ length v
   pub right : there (unescape (drop (i + n) v)) ≡ there (unescape (drop i v))
-  pub text : there (unescape (drop i v)) ≡ true → textOf (drop i v) ≡ b ∷ textOf (drop (i + n) v)
+  pub text : there (unescape (drop i v)) ≡ true → valueText (drop i v) ≡ b ∷ valueText (drop (i + n) v)
 
 module _ (v : Bytes) (i b n : ℕ) (w : Begins (drop i v) b n) where
-  next : unescape (drop i v) ≡ before (some b) (unescape (drop (i + n) v))
+  next : unescape (drop i v) ≡ byteBefore (some b) (unescape (drop (i + n) v))
   next = w .is ∙ rw (drop-drop n i v)
 
   right-on : there (unescape (drop (i + n) v)) ≡ there (unescape (drop i v))
   right-on = rw next (sym (there-before b (unescape (drop (i + n) v))))
 
-  text-on : there (unescape (drop i v)) ≡ true → textOf (drop i v) ≡ b ∷ textOf (drop (i + n) v)
-  unfolding textOf
+  text-on : there (unescape (drop i v)) ≡ true → valueText (drop i v) ≡ b ∷ valueText (drop (i + n) v)
+  unfolding valueText
   text-on h = rw next (text-before b (unescape (drop (i + n) v)) (right-on ∙ h))
 
 pub turn : (v : Bytes) (i b n : ℕ) → pieceIn (drop i v) ≡ P.Is b n → Turn v i b n
@@ -129,12 +129,12 @@ pub right-end : (v : Bytes) (i : ℕ) → length v ≤ i → there (unescape (dr
 unfolding there unescapeFrom
 right-end v i h = rw (drop-of-length-le v h)
 
-pub text-end : (v : Bytes) (i : ℕ) → length v ≤ i → textOf (drop i v) ≡ []
-unfolding textOf unescapeFrom
+pub text-end : (v : Bytes) (i : ℕ) → length v ≤ i → valueText (drop i v) ≡ []
+unfolding valueText unescapeFrom
 text-end v i h = rw (drop-of-length-le v h)
 
-pub text-none : (v : Bytes) → there (unescape v) ≡ false → textOf v ≡ []
-unfolding textOf there
+pub text-none : (v : Bytes) → there (unescape v) ≡ false → valueText v ≡ []
+unfolding valueText there
 text-none v h = go (unescape v) h
   where
     go : (o : Option Bytes) → there o ≡ false → orEmpty o ≡ []

@@ -19,7 +19,7 @@ use Rattle.line.specs.Line.{onto, fields}
 use Rattle.event.specs.Event.{parted, isEmpty, attrWith, attrOf}
 use Rattle.scan.specs.declared.Attribute.the-variants as A
 use Rattle.scan.specs.declared.Value.the-variants as F
-use Rattle.scan.specs.Scan.{fieldsAt, upTo, attributeAt, valueIn, valueAt}
+use Rattle.scan.specs.Scan.{fieldsAt, upTo, attributeAt, valueIn, attributeValue}
 
 -- ---- the first of a byte
 
@@ -171,8 +171,8 @@ module _ (t : Bytes) (at : ℕ) (h : at ≤ length t) where
       drop-drop (suc (upTo 61 (slice at to t))) at (take to t) ∙ ap (λ (n : ℕ). slice n to t) e
 
   valued-here : (name : Bytes)
-      → valueAt t name at ≡ cond (same name (slice at (equalsAt t at) t)) (F.At (equalsAt t at + 1) (tabAt t at)) (valueAt t name (tabAt t at + 1))
-  unfolding valueAt valueIn
+      → attributeValue t name at ≡ cond (same name (slice at (equalsAt t at) t)) (F.At (equalsAt t at + 1) (tabAt t at)) (attributeValue t name (tabAt t at + 1))
+  unfolding attributeValue valueIn
   valued-here name =
       let e : at + (tabAt t at - at) ≡ tabAt t at = omega arith in
       rw (field-here, field-length, e, name-here)
@@ -212,7 +212,7 @@ pub record Stands (t : Bytes) (at eq to : ℕ) : Type 0 where
   pub rest : fieldsAt t at ≡ slice at to t ∷ fieldsAt t (to + 1)
   pub name : take (upTo 61 (slice at to t)) (slice at to t) ≡ slice at eq t
   pub value : drop (suc (upTo 61 (slice at to t))) (slice at to t) ≡ slice (eq + 1) to t
-  pub valued : (name : Bytes) → valueAt t name at ≡ cond (same name (slice at eq t)) (F.At (eq + 1) to) (valueAt t name (to + 1))
+  pub valued : (name : Bytes) → attributeValue t name at ≡ cond (same name (slice at eq t)) (F.At (eq + 1) to) (attributeValue t name (to + 1))
   pub attr : at < eq → eq < to → attrOf (slice at to t) ≡ attrWith (slice at eq t) (unescape (slice (eq + 1) to t))
   pub nameless : eq ≡ at → attrOf (slice at to t) ≡ none
   pub whole : eq ≡ to → attrOf (slice at to t) ≡ none
@@ -247,6 +247,6 @@ ended t at e =
     (λ h. let z : A.At (equalsAt t at) (tabAt t at) ≡ A.End = sym (attribute-here t at h) ∙ e in no (cc))
     (λ h. fields-past t at h)
 
-pub value-past : (t name : Bytes) (at : ℕ) → attributeAt t at ≡ A.End → valueAt t name at ≡ F.Missing
-unfolding valueAt valueIn
+pub value-past : (t name : Bytes) (at : ℕ) → attributeAt t at ≡ A.End → attributeValue t name at ≡ F.Missing
+unfolding attributeValue valueIn
 value-past t name at e = rw (ended t at e)

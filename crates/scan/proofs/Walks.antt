@@ -11,14 +11,14 @@ use Rattle.base.specs.Bytes.{Bytes, both, same}
 use Rattle.base.proofs.Split.{byBool, byEq, byLe, byLt, no, clash}
 use Rattle.text.specs.Escape.{unescape}
 use Rattle.line.specs.Line.{fields}
-use Rattle.event.specs.Event.{Attr, attrWith, attrOf, beside, attrsOf, named, distinct}
+use Rattle.event.specs.Event.{Attr, attrWith, attrOf, beside, attrsOf, named, noneTwice}
 use Rattle.event.proofs.Attrs.{attrWith-some, listed}
 use Rattle.event.specs.Event.{valueOf}
 use Rattle.scan.specs.declared.Attribute.the-variants as A
 use Rattle.scan.specs.declared.Value.{Value}
 use Rattle.scan.specs.declared.Value.the-variants as F
 use Rattle.scan.specs.Piece.{there}
-use Rattle.scan.specs.Scan.{fieldsAt, attrsAt, Good, stand, attributeAt, valueIn, valueAt, textIn}
+use Rattle.scan.specs.Scan.{fieldsAt, attrsAt, Good, stand, attributeAt, valueIn, attributeValue, textIn}
 use Rattle.scan.proofs.Places.{Stands, stands, stands-here, ended, fields-past, fields-within}
 
 -- ---- fields that are attributes
@@ -122,12 +122,12 @@ found (F.At from to) = true
 
 -- the search finds the attribute that has the name
 pub record Found (t name : Bytes) (at : ℕ) : Type 0 where
-  pub text : textIn t (valueAt t name at) ≡ valueOf name (attrsAt t at)
-  pub is : found (valueAt t name at) ≡ named name (attrsAt t at)
+  pub text : textIn t (attributeValue t name at) ≡ valueOf name (attrsAt t at)
+  pub is : found (attributeValue t name at) ≡ named name (attrsAt t at)
 
 module _ (t name : Bytes) where
   none-found : (at : ℕ) → fieldsAt t at ≡ [] → Found t name at
-  unfolding valueAt valueIn valueOf attrsAt attrsOf named
+  unfolding attributeValue valueIn valueOf attrsAt attrsOf named
   none-found at e = record { text = rw e; is = rw e }
 
   found-step : {at eq to : ℕ} → Stands t at eq to → Step t at eq to → Found t name (to + 1) → Found t name at
@@ -150,22 +150,22 @@ module _ (t name : Bytes) where
   pub find-name : (at : ℕ) → Good t at → Found t name at
   find-name at g = found-from (fieldsAt t at) at refl g
 
-pub value-is : (t name : Bytes) (at : ℕ) → Good t at → textIn t (valueAt t name at) ≡ valueOf name (attrsAt t at)
+pub value-is : (t name : Bytes) (at : ℕ) → Good t at → textIn t (attributeValue t name at) ≡ valueOf name (attrsAt t at)
 value-is t name at g = find-name t name at g .text
 
 -- ---- no attribute twice
 
 module _ {t : Bytes} {at eq to : ℕ} (s : Step t at eq to) where
-  pub once-stops : named (slice at eq t) (attrsAt t (to + 1)) ≡ true → distinct (attrsAt t at) ≡ false
-  unfolding distinct both
+  pub once-stops : named (slice at eq t) (attrsAt t (to + 1)) ≡ true → noneTwice (attrsAt t at) ≡ false
+  unfolding noneTwice both
   once-stops h = rw (s .whole, h)
 
-  pub once-on : named (slice at eq t) (attrsAt t (to + 1)) ≡ false → distinct (attrsAt t (to + 1)) ≡ distinct (attrsAt t at)
-  unfolding distinct both
+  pub once-on : named (slice at eq t) (attrsAt t (to + 1)) ≡ false → noneTwice (attrsAt t (to + 1)) ≡ noneTwice (attrsAt t at)
+  unfolding noneTwice both
   once-on h = rw (s .whole, h)
 
-pub once-ends : (t : Bytes) (at : ℕ) → attributeAt t at ≡ A.End → distinct (attrsAt t at) ≡ true
-unfolding distinct
+pub once-ends : (t : Bytes) (at : ℕ) → attributeAt t at ≡ A.End → noneTwice (attrsAt t at) ≡ true
+unfolding noneTwice
 once-ends t at e = rw (attrs-end t at e)
 
 -- ---- both tests
@@ -175,7 +175,7 @@ unfolding there stand
 stand-bad none h = refl
 stand-bad (some as1) h = clash refl h
 
-pub stand-good : (t : Bytes) (at : ℕ) → Good t at → stand (attrsOf (fieldsAt t at)) ≡ distinct (attrsAt t at)
+pub stand-good : (t : Bytes) (at : ℕ) → Good t at → stand (attrsOf (fieldsAt t at)) ≡ noneTwice (attrsAt t at)
 unfolding stand
 stand-good t at g = rw g
 

@@ -5,6 +5,7 @@ use mathlib.Core.Option.{Option, none, some}
 use mathlib.Core.List.{[], _∷_}
 use lib.Dec.{eqb}
 use Rattle.base.specs.Bytes.{Bytes}
+use Rattle.base.specs.Chars.{backslash}
 use Rattle.text.specs.Escape.{meaning, unescape}
 use Rattle.event.specs.Event.{orEmpty}
 use Rattle.scan.specs.declared.Piece.{Piece}
@@ -26,8 +27,8 @@ escapeIn (m ∷ bs) = lettered (meaning m)
 
 unfoldable pub pieceIn : Bytes → Piece
 pieceIn [] = P.Not
-pieceIn (b ∷ bs) = cond (eqb b 92) (escapeIn bs) (P.Is b 1)
+pieceIn (b ∷ bs) = cond (eqb b backslash) (escapeIn bs) (P.Is b 1)
 
 -- the text of a value, nothing where it has none
-unfoldable pub textOf : Bytes → Bytes
-textOf v = orEmpty (unescape v)
+unfoldable pub valueText : Bytes → Bytes
+valueText v = orEmpty (unescape v)

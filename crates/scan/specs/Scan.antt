@@ -9,11 +9,12 @@ use lib.ListN.{length, take, drop}
 use lib.Seq.{slice}
 use Rattle.base.specs.Ascii.{ascii}
 use Rattle.base.specs.Bytes.{Bytes, same}
+use Rattle.base.specs.Chars.{equalsSign}
 use Rattle.refusal.specs.declared.Refusal.the-variants.{NotEventLine}
 use Rattle.text.specs.Escape.{unescape}
 use Rattle.line.specs.Line.{fields}
-use Rattle.event.specs.Event.{Attr, starts, closes, others, Reading, reads, refused, attrsOf, distinct}
-use Rattle.scan.specs.Piece.{textOf}
+use Rattle.event.specs.Event.{Attr, starts, closes, others, Reading, reads, refused, attrsOf, noneTwice}
+use Rattle.scan.specs.Piece.{valueText}
 use Rattle.scan.specs.declared.Scanned.{Scanned}
 use Rattle.scan.specs.declared.Scanned.the-variants as S
 use Rattle.scan.specs.declared.Attribute.{Attribute}
@@ -42,7 +43,7 @@ Good t at = attrsOf (fieldsAt t at) ≡ some (attrsAt t at)
 -- whether they are, and no name is there twice
 unfoldable pub stand : Option (List Attr) → Bool
 stand none = false
-stand (some as1) = distinct as1
+stand (some as1) = noneTwice as1
 
 -- ---- events
 
@@ -74,7 +75,7 @@ upTo c (b ∷ bs) = cond (eqb b c) 0 (suc (upTo c bs))
 -- the attribute that stands at a place: its name up to the first `=`, its value from there to the field's end
 abbrev pub attributeIn : ℕ → List Bytes → Attribute
 attributeIn at [] = A.End
-attributeIn at (f ∷ fs) = A.At (at + upTo 61 f) (at + length f)
+attributeIn at (f ∷ fs) = A.At (at + upTo equalsSign f) (at + length f)
 
 unfoldable pub attributeAt : Bytes → ℕ → Attribute
 attributeAt t at = attributeIn at (fieldsAt t at)
@@ -84,16 +85,16 @@ attributeAt t at = attributeIn at (fieldsAt t at)
 unfoldable pub valueIn : Bytes → ℕ → List Bytes → Value
 valueIn name at [] = F.Missing
 valueIn name at (f ∷ fs) =
-    cond (same name (take (upTo 61 f) f)) (F.At (at + upTo 61 f + 1) (at + length f)) (valueIn name (at + length f + 1) fs)
+    cond (same name (take (upTo equalsSign f) f)) (F.At (at + upTo equalsSign f + 1) (at + length f)) (valueIn name (at + length f + 1) fs)
 
-unfoldable pub valueAt : Bytes → Bytes → ℕ → Value
-valueAt t name at = valueIn name at (fieldsAt t at)
+unfoldable pub attributeValue : Bytes → Bytes → ℕ → Value
+attributeValue t name at = valueIn name at (fieldsAt t at)
 
 -- ---- any fields as attributes
 
 -- a field as an attribute: its name goes to the first `=`, its value stands behind it. Where there is no `=`, or another escape in the value, its text is empty
 abbrev pub attributeOf : Bytes → Attr
-attributeOf f = record { name = take (upTo 61 f) f; value = textOf (drop (suc (upTo 61 f)) f) }
+attributeOf f = record { name = take (upTo equalsSign f) f; value = valueText (drop (suc (upTo equalsSign f)) f) }
 
 unfoldable pub attributesOf : List Bytes → List Attr
 attributesOf [] = []

@@ -7,11 +7,11 @@ ghost use lib.ListN.{length, drop, set};
 ghost use lib.Seq.{slice};
 ghost use Rattle.base.specs.Bytes.{same, all};
 ghost use Rattle.line.specs.Line.{fields};
-ghost use Rattle.event.specs.Event.{body, legalLine, eventOf, eventFrom, startsFrom, attrOf, attrsOf, named, distinct};
+ghost use Rattle.event.specs.Event.{body, legalLine, eventOf, eventFrom, startsFrom, attrOf, attrsOf, named, noneTwice};
 ghost use Rattle.little.specs.Little.{over};
 ghost use Rattle.text.specs.Escape.{meaning, unescape};
-ghost use Rattle.scan.specs.Piece.{there, lettered, pieceIn, textOf};
-ghost use Rattle.scan.specs.Scan.{fieldsAt, attrsAt, Good, stand, means, lone, Lies, upTo, attributeAt, valueAt};
+ghost use Rattle.scan.specs.Piece.{there, lettered, pieceIn, valueText};
+ghost use Rattle.scan.specs.Scan.{fieldsAt, attrsAt, Good, stand, means, lone, Lies, upTo, attributeAt, attributeValue};
 ghost use Rattle.scan.specs.declared.Attribute.the-variants as attribute;
 use refusal::Refusal;
 
@@ -71,7 +71,7 @@ pub fn attribute_at(t: &[u8], at: usize) -> Attribute
 
 // The value of a name, from a place on.
 pub fn value_at(t: &[u8], name: &[u8], at: usize) -> Value
-    ensures { λ r. ⌜ r ≡ valueAt (now (t .entry)) (now (name .entry)) at ⌝ }
+    ensures { λ r. ⌜ r ≡ attributeValue (now (t .entry)) (now (name .entry)) at ⌝ }
 {
     let mut p = at;
     loop {
@@ -170,7 +170,7 @@ fn put(out: &mut [u8], at: usize, b: u8)
 // The text of a value whose escapes are right.
 fn write(out: &mut [u8], v: &[u8]) -> usize
     requires { ⌜ there (unescape (now v)) ≡ true ⌝ }
-    ensures { λ r. ⌜ (now (out .exit) ≡ over (now (out .entry)) 0 (textOf (now (v .entry)))) × (r ≡ length (textOf (now (v .entry)))) ⌝ }
+    ensures { λ r. ⌜ (now (out .exit) ≡ over (now (out .entry)) 0 (valueText (now (v .entry)))) × (r ≡ length (valueText (now (v .entry)))) ⌝ }
 {
     let mut i: usize = 0;
     let mut n: usize = 0;
@@ -191,7 +191,7 @@ fn write(out: &mut [u8], v: &[u8]) -> usize
 
 // The text of a value at the start of what is lent, as far as there is room; its whole length is answered. A value with another escape has none.
 pub fn unescape_into(out: &mut [u8], value: &[u8]) -> usize
-    ensures { λ r. ⌜ (now (out .exit) ≡ over (now (out .entry)) 0 (textOf (now (value .entry)))) × (r ≡ length (textOf (now (value .entry)))) ⌝ }
+    ensures { λ r. ⌜ (now (out .exit) ≡ over (now (out .entry)) 0 (valueText (now (value .entry)))) × (r ≡ length (valueText (now (value .entry)))) ⌝ }
 {
     if escapes_right(value) {
         return write(out, value);
@@ -247,7 +247,7 @@ fn again(t: &[u8], name: &[u8], at: usize) -> bool
 // Whether no two of the attributes from a place on have one name: each name is compared with those behind it.
 fn once(t: &[u8], at: usize) -> bool
     requires { ⌜ Good (now t) at ⌝ }
-    ensures { λ r. ⌜ r ≡ distinct (attrsAt (now (t .entry)) at) ⌝ }
+    ensures { λ r. ⌜ r ≡ noneTwice (attrsAt (now (t .entry)) at) ⌝ }
 {
     let mut p = at;
     loop {

@@ -30,7 +30,7 @@ use Rattle.table.specs.declared.Found.the-variants.{At, Place}
 use Rattle.table.specs.declared.Put.{Put}
 use Rattle.table.proofs.Tables.{stored-known, stored-full}
 use Rattle.shelf.specs.declared.Kept.the-variants.{Taken, Refused}
-use Rattle.shelf.specs.Shelf.{Shelf, shelfWith, known, knownAt, floorOf, floorAt, floorAfter, checked, room, roomAt, refused, gone, rowed, joined, pushedAs, pushed, deletedAs, deleted}
+use Rattle.shelf.specs.Shelf.{Shelf, shelfWith, known, knownAt, floorOf, floorAt, floorAfter, checked, idRoom, roomAt, shelfRefused, gone, rowed, recordJoined, pushedAs, pushed, deletedAs, deleted}
 
 -- a row that was inserted had room
 pub inserted-room : (ws : List ℕ) (count : ℕ) (row : Row) → stored ws count row .answer ≡ answers.Inserted → 3 * suc count ≤ length ws
@@ -69,15 +69,15 @@ head-most Relation = omega arith
 
 module _ (s : Shelf) (id : ℤ) (floor : ℕ) (bytes : Bytes) where
   pub join-full : (a : Bytes) → record { arena = a; answer = Full } ≡ append (s .arena) (s .used) bytes
-      → record { shelf = shelfWith (s .table) (s .ids) a (s .used); answer = Refused ArenaFull } ≡ joined s id floor bytes
-  unfolding joined
+      → record { shelf = shelfWith (s .table) (s .ids) a (s .used); answer = Refused ArenaFull } ≡ recordJoined s id floor bytes
+  unfolding recordJoined
   join-full a e = rw (← e, joins.refused (s .arena) (s .used) bytes a (sym e) .0)
 
   pub join-end : (a : Bytes) (e : ℕ) (t : List ℕ) (n : ℕ) → record { arena = a; answer = End e } ≡ append (s .arena) (s .used) bytes
       → t ≡ stored (s .table) (s .ids) (record { rank = rank id; place = s .used; floor = floor }) .words
       → n ≡ countAfter (stored (s .table) (s .ids) (record { rank = rank id; place = s .used; floor = floor }) .answer) (s .ids)
-      → record { shelf = shelfWith t n a e; answer = Taken } ≡ joined s id floor bytes
-  unfolding joined rowed
+      → record { shelf = shelfWith t n a e; answer = Taken } ≡ recordJoined s id floor bytes
+  unfolding recordJoined rowed
   join-end a e t n w p q = rw (← w, p, q)
 
 -- ---- an act, by what was found and by the answer of its checks
@@ -95,8 +95,8 @@ module _ (k : Kind) (s : Shelf) (id : ℤ) where
     unfolding floorOf
     floor-as e = rw found at e
 
-    pub room-as : {t b : Bool} → t ≡ roomAt (s .table) (s .ids) f → t ≡ b → room s id ≡ b
-    unfolding room
+    pub room-as : {t b : Bool} → t ≡ roomAt (s .table) (s .ids) f → t ≡ b → idRoom s id ≡ b
+    unfolding idRoom
     room-as e g = sym (rw found at e) ∙ g
 
   module _ (setting : ℕ) (claim : Version) where
@@ -111,11 +111,11 @@ module _ (k : Kind) (s : Shelf) (id : ℤ) where
     unfolding pushed
     pushed-as bytes b e = rw e
 
-    pub push-room : (bytes : Bytes) → room s id ≡ true
-        → pushedAs k setting s id claim bytes Admitted ≡ joined s id (floorAfter setting (known k s id) claim (floorOf s id)) bytes
+    pub push-room : (bytes : Bytes) → idRoom s id ≡ true
+        → pushedAs k setting s id claim bytes Admitted ≡ recordJoined s id (floorAfter setting (known k s id) claim (floorOf s id)) bytes
     push-room bytes e = rw e
 
-    pub push-full : (bytes : Bytes) → room s id ≡ false → pushedAs k setting s id claim bytes Admitted ≡ refused s IdsFull
+    pub push-full : (bytes : Bytes) → idRoom s id ≡ false → pushedAs k setting s id claim bytes Admitted ≡ shelfRefused s IdsFull
     push-full bytes e = rw e
 
     pub deleted-as : (b : Admit) → checked setting (known k s id) claim ≡ b → deleted k setting s id claim ≡ deletedAs k s id claim b
@@ -123,12 +123,12 @@ module _ (k : Kind) (s : Shelf) (id : ℤ) where
     deleted-as b e = rw e
 
   module _ (claim : Version) where
-    pub delete-room : (t : List ℕ) (n : ℕ) {v x : Version} {f : ℕ} → room s id ≡ true → v ≡ known k s id → x ≡ higher v claim → f ≡ wordOf x
+    pub delete-room : (t : List ℕ) (n : ℕ) {v x : Version} {f : ℕ} → idRoom s id ≡ true → v ≡ known k s id → x ≡ higher v claim → f ≡ wordOf x
         → t ≡ stored (s .table) (s .ids) (record { rank = rank id; place = gone; floor = f }) .words
         → n ≡ countAfter (stored (s .table) (s .ids) (record { rank = rank id; place = gone; floor = f }) .answer) (s .ids)
         → record { shelf = shelfWith t n (s .arena) (s .used); answer = Taken } ≡ deletedAs k s id claim Admitted
     unfolding rowed
     delete-room t n r e x f p q = rw (r, ← e, ← x, ← f, p, q)
 
-    pub delete-full : room s id ≡ false → deletedAs k s id claim Admitted ≡ refused s IdsFull
+    pub delete-full : idRoom s id ≡ false → deletedAs k s id claim Admitted ≡ shelfRefused s IdsFull
     delete-full e = rw e

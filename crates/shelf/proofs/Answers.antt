@@ -19,7 +19,7 @@ use Rattle.refusal.specs.declared.Refusal.the-variants.{Regression, IdsFull, Ar
 use Rattle.append.proofs.Writes.{fits-is, full-is}
 use Rattle.shelf.specs.declared.Kept.{Kept}
 use Rattle.shelf.specs.declared.Kept.the-variants.{Taken, Refused}
-use Rattle.shelf.specs.Shelf.{Shelf, After, shelfWith, gone, known, floorOf, floorAfter, checked, room, refused, rowed, joined, pushed, deleted}
+use Rattle.shelf.specs.Shelf.{Shelf, ShelfAfter, shelfWith, gone, known, floorOf, floorAfter, checked, idRoom, shelfRefused, rowed, recordJoined, pushed, deleted}
 use Rattle.shelf.proofs.Acts.{pushed-as, push-room, push-full, deleted-as, delete-full}
 
 -- ---- the answers
@@ -38,13 +38,13 @@ module _ (k : Kind) (setting : ℕ) (s : Shelf) (id : ℤ) (claim : Version) whe
 
   -- a delete is refused 12 or 14, or taken
   pub byDelete : {C : Type 0}
-      → ((v : ℤ) → checked setting (known k s id) claim ≡ Below v → deleted k setting s id claim ≡ refused s (Regression v) → C)
-      → (checked setting (known k s id) claim ≡ Admitted → room s id ≡ false → deleted k setting s id claim ≡ refused s IdsFull → C)
-      → (checked setting (known k s id) claim ≡ Admitted → room s id ≡ true → deleted k setting s id claim ≡ record { shelf = dropped; answer = Taken } → C) → C
+      → ((v : ℤ) → checked setting (known k s id) claim ≡ Below v → deleted k setting s id claim ≡ shelfRefused s (Regression v) → C)
+      → (checked setting (known k s id) claim ≡ Admitted → idRoom s id ≡ false → deleted k setting s id claim ≡ shelfRefused s IdsFull → C)
+      → (checked setting (known k s id) claim ≡ Admitted → idRoom s id ≡ true → deleted k setting s id claim ≡ record { shelf = dropped; answer = Taken } → C) → C
   byDelete f g h =
       checks
       (λ v e. f v e (deleted-as k s id setting claim (Below v) e))
-      (λ e. byBool (room s id)
+      (λ e. byBool (idRoom s id)
       (λ r. h e r (deleted-as k s id setting claim Admitted e ∙ rw r))
       (λ r. g e r (deleted-as k s id setting claim Admitted e ∙ delete-full k s id claim r)))
 
@@ -56,16 +56,16 @@ module _ (k : Kind) (setting : ℕ) (s : Shelf) (id : ℤ) (claim : Version) whe
 
     -- a push is refused 12, 14 or 15, in that order, or taken
     pub byPush : {C : Type 0}
-        → ((v : ℤ) → checked setting (known k s id) claim ≡ Below v → pushed k setting s id claim bytes ≡ refused s (Regression v) → C)
-        → (checked setting (known k s id) claim ≡ Admitted → room s id ≡ false → pushed k setting s id claim bytes ≡ refused s IdsFull → C)
-        → (checked setting (known k s id) claim ≡ Admitted → room s id ≡ true → length (s .arena) < s .used + length bytes → pushed k setting s id claim bytes ≡ refused s ArenaFull → C)
-        → (checked setting (known k s id) claim ≡ Admitted → room s id ≡ true → s .used + length bytes ≤ length (s .arena)
+        → ((v : ℤ) → checked setting (known k s id) claim ≡ Below v → pushed k setting s id claim bytes ≡ shelfRefused s (Regression v) → C)
+        → (checked setting (known k s id) claim ≡ Admitted → idRoom s id ≡ false → pushed k setting s id claim bytes ≡ shelfRefused s IdsFull → C)
+        → (checked setting (known k s id) claim ≡ Admitted → idRoom s id ≡ true → length (s .arena) < s .used + length bytes → pushed k setting s id claim bytes ≡ shelfRefused s ArenaFull → C)
+        → (checked setting (known k s id) claim ≡ Admitted → idRoom s id ≡ true → s .used + length bytes ≤ length (s .arena)
         → pushed k setting s id claim bytes ≡ record { shelf = laid; answer = Taken } → C) → C
-    unfolding joined
+    unfolding recordJoined
     byPush f g h t =
         checks
         (λ v e. f v e (pushed-as k s id setting claim bytes (Below v) e))
-        (λ e. byBool (room s id)
+        (λ e. byBool (idRoom s id)
         (λ r. let x = pushed-as k s id setting claim bytes Admitted e ∙ push-room k s id setting claim bytes r in
         byLe (s .used + length bytes) (length (s .arena))
         (λ l. t e r l (x ∙ rw (fits-is (s .arena) (s .used) bytes l)))
@@ -75,20 +75,20 @@ module _ (k : Kind) (setting : ℕ) (s : Shelf) (id : ℤ) (claim : Version) whe
 -- ---- refusals
 
 -- an answer, by what the whole is
-pub answered : {a : After} {t : Shelf} {x y : Kept} → a ≡ record { shelf = t; answer = x } → a .answer ≡ y → x ≡ y
-answered {a} e f = sym (ap (λ (z : After). z .answer) e) ∙ f
+pub answered : {a : ShelfAfter} {t : Shelf} {x y : Kept} → a ≡ record { shelf = t; answer = x } → a .answer ≡ y → x ≡ y
+answered {a} e f = sym (ap (λ (z : ShelfAfter). z .answer) e) ∙ f
 
 module _ (k : Kind) (setting : ℕ) (s : Shelf) (id : ℤ) (claim : Version) where
   -- a refusal changes nothing
   pub delete-refused : (x : Refusal) → deleted k setting s id claim .answer ≡ Refused x → deleted k setting s id claim .shelf ≡ s
   delete-refused x e =
-      byDelete k setting s id claim (λ v c w. ap (λ (z : After). z .shelf) w) (λ c r w. ap (λ (z : After). z .shelf) w)
+      byDelete k setting s id claim (λ v c w. ap (λ (z : ShelfAfter). z .shelf) w) (λ c r w. ap (λ (z : ShelfAfter). z .shelf) w)
       (λ c r w. let z = answered w e in no (cc))
 
   pub push-refused : (bytes : Bytes) (x : Refusal) → pushed k setting s id claim bytes .answer ≡ Refused x → pushed k setting s id claim bytes .shelf ≡ s
   push-refused bytes x e =
-      byPush k setting s id claim bytes (λ v c w. ap (λ (z : After). z .shelf) w) (λ c r w. ap (λ (z : After). z .shelf) w)
-      (λ c r l w. ap (λ (z : After). z .shelf) w) (λ c r l w. let z = answered w e in no (cc))
+      byPush k setting s id claim bytes (λ v c w. ap (λ (z : ShelfAfter). z .shelf) w) (λ c r w. ap (λ (z : ShelfAfter). z .shelf) w)
+      (λ c r l w. ap (λ (z : ShelfAfter). z .shelf) w) (λ c r l w. let z = answered w e in no (cc))
 
   -- 12, exactly where the check refuses, and with the version that it names
   pub delete-12 : (v : ℤ) → (deleted k setting s id claim .answer ≡ Refused (Regression v)) ↔ (checked setting (known k s id) claim ≡ Below v)
@@ -96,7 +96,7 @@ module _ (k : Kind) (setting : ℕ) (s : Shelf) (id : ℤ) (claim : Version) whe
     λ e. byDelete k setting s id claim
         (λ x c w. let z = answered w e in let q : x ≡ v = cc in rw q at c)
         (λ c r w. let z = answered w e in no (cc)) (λ c r w. let z = answered w e in no (cc)),
-    λ e. ap (λ (z : After). z .answer) (deleted-as k s id setting claim (Below v) e),
+    λ e. ap (λ (z : ShelfAfter). z .answer) (deleted-as k s id setting claim (Below v) e),
   )
 
   pub push-12 : (bytes : Bytes) (v : ℤ) → (pushed k setting s id claim bytes .answer ≡ Refused (Regression v)) ↔ (checked setting (known k s id) claim ≡ Below v)
@@ -104,7 +104,7 @@ module _ (k : Kind) (setting : ℕ) (s : Shelf) (id : ℤ) (claim : Version) whe
     λ e. byPush k setting s id claim bytes
         (λ x c w. let z = answered w e in let q : x ≡ v = cc in rw q at c)
         (λ c r w. let z = answered w e in no (cc)) (λ c r l w. let z = answered w e in no (cc)) (λ c r l w. let z = answered w e in no (cc)),
-    λ e. ap (λ (z : After). z .answer) (pushed-as k s id setting claim bytes (Below v) e),
+    λ e. ap (λ (z : ShelfAfter). z .answer) (pushed-as k s id setting claim bytes (Below v) e),
   )
 
 pub check-refused : (v c : Version) → checked 0 v c ≡ admitOf v c

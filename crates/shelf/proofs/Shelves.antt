@@ -34,7 +34,7 @@ use Rattle.table.specs.Words.{rowAt, rowsFrom, rowsOf, lookup, stored, soundTab
 use Rattle.table.proofs.Maps.{find-put-same, find-put-other}
 use Rattle.table.proofs.Tables.{sound-of, stored-known, stored-new, found-row, found-none, rows-stored, sound-stored, length-stored}
 use Rattle.shelf.specs.declared.Kept.the-variants.{Taken}
-use Rattle.shelf.specs.Shelf.{Shelf, After, shelfWith, isLive, gone, versionAt, liveVersion, knownOf, known, floorOf, floorAfter, checked, room, refused, rowed, pushed, deleted}
+use Rattle.shelf.specs.Shelf.{Shelf, ShelfAfter, shelfWith, isLive, gone, versionAt, liveVersion, knownOf, known, floorOf, floorAfter, checked, idRoom, shelfRefused, rowed, pushed, deleted}
 use Rattle.shelf.specs.Fair.{rowsIn, Fair}
 use Rattle.shelf.proofs.Answers.{dropped, laid, byDelete, byPush, answered, check-refused}
 use Rattle.shelf.proofs.Claims.{version-same, version-joined, Narrow, narrow-none, narrow-higher, narrow-at}
@@ -78,9 +78,9 @@ pub record Laid (s : Shelf) (id : ℤ) (place floor : ℕ) (t : Shelf) : Type 0 
   pub before : take (s .used) (t .arena) ≡ take (s .used) (s .arena)
 
 -- where there is room, the row is stored
-module _ (s : Shelf) (id : ℤ) (place floor : ℕ) (sound : soundTable (s .table) (s .ids) ≡ true) (roomy : room s id ≡ true) where
+module _ (s : Shelf) (id : ℤ) (place floor : ℕ) (sound : soundTable (s .table) (s .ids) ≡ true) (roomy : idRoom s id ≡ true) where
   not-full : stored (s .table) (s .ids) (record { rank = rank id; place = place; floor = floor }) .answer ≡ answers.Full → ⊥
-  unfolding room
+  unfolding idRoom
   not-full e = go (lookup (s .table) (s .ids) (rank id)) refl
     where
       row : Row
@@ -193,7 +193,7 @@ module _ (k : Kind) (setting : ℕ) (s : Shelf) (id : ℤ) (claim : Version) (fa
   deleted-is : deleted k setting s id claim .shelf ≡ dropped k setting s id claim
   deleted-is =
       byDelete k setting s id claim (λ v c w. let z = answered w taken in no (cc)) (λ c r w. let z = answered w taken in no (cc))
-      (λ c r w. ap (λ (z : After). z .shelf) w)
+      (λ c r w. ap (λ (z : ShelfAfter). z .shelf) w)
 
   -- T8: the arena and its used count stay
   pub delete-arena : deleted k setting s id claim .shelf .arena ≡ s .arena
@@ -227,7 +227,7 @@ module _ (k : Kind) (setting : ℕ) (s : Shelf) (id : ℤ) (claim : Version) (by
   is-taken f =
       byPush k setting s id claim bytes
       (λ v c w. let z = answered w taken in no (cc)) (λ c r w. let z = answered w taken in no (cc)) (λ c r l w. let z = answered w taken in no (cc))
-      (λ c r l w. f c l (ap (λ (z : After). z .shelf) w))
+      (λ c r l w. f c l (ap (λ (z : ShelfAfter). z .shelf) w))
 
   pub push-admitted : checked setting (known k s id) claim ≡ Admitted
   push-admitted = is-taken (λ c l w. c)

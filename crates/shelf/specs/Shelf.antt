@@ -90,8 +90,8 @@ abbrev pub roomAt : List ℕ → ℕ → Found → Bool
 roomAt table ids (At i) = true
 roomAt table ids (Place p) = leb (3 * suc ids) (length table)
 
-unfoldable pub room : Shelf → ℤ → Bool
-room s id = roomAt (s .table) (s .ids) (lookup (s .table) (s .ids) (rank id))
+unfoldable pub idRoom : Shelf → ℤ → Bool
+idRoom s id = roomAt (s .table) (s .ids) (lookup (s .table) (s .ids) (rank id))
 
 -- ---- what an act leaves
 
@@ -100,12 +100,12 @@ abbrev pub takenIn : Kept → Bool
 takenIn Taken = true
 takenIn (Refused r) = false
 
-pub record After : Type 0 where
+pub record ShelfAfter : Type 0 where
   pub shelf : Shelf
   pub answer : Kept
 
-abbrev pub refused : Shelf → Refusal → After
-refused s r = record { shelf = s; answer = Refused r }
+abbrev pub shelfRefused : Shelf → Refusal → ShelfAfter
+shelfRefused s r = record { shelf = s; answer = Refused r }
 
 -- the table and the count that storing a row leaves
 abbrev pub withRow : Shelf → Stored → Shelf
@@ -121,28 +121,28 @@ floorAfter setting known (Is v) floor = floor
 floorAfter setting known Absent floor = cond (eqb setting 0) (wordOf known) floor
 
 -- the record joined to the used bytes, and the row of its id at its place
-abbrev pub joinedAs : Shelf → ℤ → ℕ → Bytes → Appended → After
+abbrev pub joinedAs : Shelf → ℤ → ℕ → Bytes → Appended → ShelfAfter
 joinedAs s id floor arena (End e) = record { shelf = rowed (shelfWith (s .table) (s .ids) arena e) id (s .used) floor; answer = Taken }
-joinedAs s id floor arena Full = refused s ArenaFull
+joinedAs s id floor arena Full = shelfRefused s ArenaFull
 
-unfoldable pub joined : Shelf → ℤ → ℕ → Bytes → After
-joined s id floor bytes = joinedAs s id floor (append (s .arena) (s .used) bytes .arena) (append (s .arena) (s .used) bytes .answer)
+unfoldable pub recordJoined : Shelf → ℤ → ℕ → Bytes → ShelfAfter
+recordJoined s id floor bytes = joinedAs s id floor (append (s .arena) (s .used) bytes .arena) (append (s .arena) (s .used) bytes .answer)
 
 -- a push of a record's bytes, after the checks that need no storage: 12, 14, 15, or taken
-abbrev pub pushedAs : Kind → ℕ → Shelf → ℤ → Version → Bytes → Admit → After
-pushedAs k setting s id claim bytes (Below v) = refused s (Regression v)
+abbrev pub pushedAs : Kind → ℕ → Shelf → ℤ → Version → Bytes → Admit → ShelfAfter
+pushedAs k setting s id claim bytes (Below v) = shelfRefused s (Regression v)
 pushedAs k setting s id claim bytes Admitted =
-    cond (room s id) (joined s id (floorAfter setting (known k s id) claim (floorOf s id)) bytes) (refused s IdsFull)
+    cond (idRoom s id) (recordJoined s id (floorAfter setting (known k s id) claim (floorOf s id)) bytes) (shelfRefused s IdsFull)
 
-unfoldable pub pushed : Kind → ℕ → Shelf → ℤ → Version → Bytes → After
+unfoldable pub pushed : Kind → ℕ → Shelf → ℤ → Version → Bytes → ShelfAfter
 pushed k setting s id claim bytes = pushedAs k setting s id claim bytes (checked setting (known k s id) claim)
 
 -- "A delete, in both settings, raises the floor to the larger of the known version and its own, or the one that exists .., drops the id from live
 -- and adds it to deleted."
-abbrev pub deletedAs : Kind → Shelf → ℤ → Version → Admit → After
-deletedAs k s id claim (Below v) = refused s (Regression v)
+abbrev pub deletedAs : Kind → Shelf → ℤ → Version → Admit → ShelfAfter
+deletedAs k s id claim (Below v) = shelfRefused s (Regression v)
 deletedAs k s id claim Admitted =
-    cond (room s id) (record { shelf = rowed s id gone (wordOf (higher (known k s id) claim)); answer = Taken }) (refused s IdsFull)
+    cond (idRoom s id) (record { shelf = rowed s id gone (wordOf (higher (known k s id) claim)); answer = Taken }) (shelfRefused s IdsFull)
 
-unfoldable pub deleted : Kind → ℕ → Shelf → ℤ → Version → After
+unfoldable pub deleted : Kind → ℕ → Shelf → ℤ → Version → ShelfAfter
 deleted k setting s id claim = deletedAs k s id claim (checked setting (known k s id) claim)

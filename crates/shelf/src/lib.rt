@@ -11,7 +11,7 @@ ghost use Rattle.compact.specs.Held.{metaOf, headIn};
 ghost use Rattle.append.specs.Append.{append};
 ghost use Rattle.version_floor.specs.declared.Admit.the-variants.{Admitted};
 ghost use Rattle.table.specs.Words.{lookup, stored, countAfter};
-ghost use Rattle.shelf.specs.Shelf.{shelfWith, liveVersion, knownOf, knownAt, known, floorAt, checked, roomAt, floorAfter, joined, pushedAs, pushed, deletedAs, deleted};
+ghost use Rattle.shelf.specs.Shelf.{shelfWith, liveVersion, knownOf, knownAt, known, floorAt, checked, roomAt, floorAfter, recordJoined, pushedAs, pushed, deletedAs, deleted};
 use append::Appended;
 use compact::ArenaMeta;
 use compact::CompactNode;
@@ -207,7 +207,7 @@ fn join(
     meta: ArenaMeta,
     parts: &[u8],
 ) -> Outcome
-    ensures { λ r. ⌜ record { shelf = shelfWith (now (table .exit)) (r .ids) (now (arena .exit)) (r .used); answer = r .answer } ≡ joined (shelfWith (now (table .entry)) ids (now (arena .entry)) used) (toZ w64 (head .id)) floor (headBytes kind (headIn kind head) ++ metaBytes (metaOf meta) ++ now (parts .entry)) ⌝ }
+    ensures { λ r. ⌜ record { shelf = shelfWith (now (table .exit)) (r .ids) (now (arena .exit)) (r .used); answer = r .answer } ≡ recordJoined (shelfWith (now (table .entry)) ids (now (arena .entry)) used) (toZ w64 (head .id)) floor (headBytes kind (headIn kind head) ++ metaBytes (metaOf meta) ++ now (parts .entry)) ⌝ }
 {
     let Appended::End(end) = append_record(kind, arena, used as usize, head, meta, parts) else {
         return Outcome {

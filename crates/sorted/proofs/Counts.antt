@@ -9,11 +9,11 @@ use lib.IntN.{ℤ}
 use lib.ListN.{length}
 use borrow.Author.Tests.{lt-ltb, le-ltb}
 use Rattle.base.proofs.Split.{byBool, clash, both-left, both-right}
-use Rattle.sorted.specs.Lookup.{idAt, count, risingFrom, inOrder}
+use Rattle.sorted.specs.Lookup.{idAt, count, idsRisingFrom, inOrder}
 use Rattle.sorted.proofs.Keys.{Closed}
 
-pub tail : (a : ℤ) (ids : List ℤ) → risingFrom a ids ≡ true → inOrder ids ≡ true
-unfolding risingFrom inOrder
+pub tail : (a : ℤ) (ids : List ℤ) → idsRisingFrom a ids ≡ true → inOrder ids ≡ true
+unfolding idsRisingFrom inOrder
 tail a [] r = refl
 tail a (b ∷ ids) r = both-right _ _ r
 
@@ -24,8 +24,8 @@ count-le t (a ∷ ids) = byBool (t a) (λ y. rw y (omega (arith, count-le t ids)
 
 module _ {t : ℤ → Bool} (closed : Closed t) where
   -- after an id that fails, every id fails
-  none : (a : ℤ) (ids : List ℤ) → risingFrom a ids ≡ true → t a ≡ false → count t ids ≡ 0
-  unfolding risingFrom count
+  none : (a : ℤ) (ids : List ℤ) → idsRisingFrom a ids ≡ true → t a ≡ false → count t ids ≡ 0
+  unfolding idsRisingFrom count
   none a [] r f = refl
   none a (b ∷ ids) r f =
       let g : t b ≡ false = byBool (t b) (λ y. clash (closed a b (both-left _ _ r) y) f) (λ n. n) in

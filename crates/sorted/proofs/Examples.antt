@@ -3,10 +3,10 @@ use mathlib.Core.Path.{_≡_, refl}
 use mathlib.Core.List.{[], _∷_}
 use lib.IntN.{pos, negsuc}
 use Rattle.base.specs.Bytes.{both, either}
-use Rattle.osm_id.specs.Order.{keyOf, keyBefore, firstKey, lastKey}
-use Rattle.sorted.specs.Lookup.{some, risingFrom, inOrder, keyWithin, overlaps, overlapOf}
+use Rattle.osm_id.specs.Order.{osmKeyOf, idKeyBefore, firstKey, lastKey}
+use Rattle.sorted.specs.Lookup.{some, idsRisingFrom, inOrder, keyWithin, overlaps, overlapOf}
 use Rattle.sorted.specs.declared.Overlap.the-variants as O
 
 pub trial : overlapOf (negsuc 99 ∷ []) [] (negsuc 4) (pos 3) ≡ O.Yes
-unfolding overlapOf overlaps some risingFrom inOrder keyWithin keyOf keyBefore firstKey lastKey both either
+unfolding overlapOf overlaps some idsRisingFrom inOrder keyWithin osmKeyOf idKeyBefore firstKey lastKey both either
 trial = refl

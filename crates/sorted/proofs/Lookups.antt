@@ -12,11 +12,11 @@ use borrow.Author.Tests.{lt-ltb, le-ltb, ltb-true, ltb-false, le-leb, lt-leb, no
 use Rattle.base.specs.Bytes.{both, either}
 use Rattle.base.proofs.Split.{byBool, byLt, clash, no, both-left, both-right, both-of, either-left, either-right, by-either, same-test}
 use Rattle.base.proofs.Strict.{byOrder, not-less}
-use Rattle.osm_id.specs.Order.{before, sameId, keyOf, firstKey, lastKey}
+use Rattle.osm_id.specs.Order.{before, sameId, osmKeyOf, firstKey, lastKey}
 use Rattle.osm_id.specs.declared.OsmIdKey.{OsmIdKey}
 use Rattle.osm_id.proofs.Orders.{order, same-is, key-before}
-use Rattle.sorted.specs.Lookup.{idAt, count, some, risingFrom, inOrder, keyWithin, anyWithin, overlaps, under, smaller, upTo, isAt, spanOf}
-use Rattle.sorted.specs.Asked.{memberOf, between}
+use Rattle.sorted.specs.Lookup.{idAt, count, some, idsRisingFrom, inOrder, keyWithin, anyWithin, overlaps, under, idsBefore, idsUpTo, standsAt, rangeOf}
+use Rattle.sorted.specs.Asked.{isMember, between}
 use Rattle.sorted.specs.declared.Span.the-variants as S
 use Rattle.sorted.proofs.Keys.{under-closed}
 use Rattle.sorted.proofs.Counts.{tail, count-le, splits}
@@ -40,8 +40,8 @@ some-place t (a ∷ ids) e =
     (λ y. (0, omega arith, y))
     (λ y. let p = some-place t ids y in (suc (p .0), omega (arith, p .1), p .2))
 
-pub some-is : (t : ℤ → Bool) (ids : List ℤ) → (some t ids ≡ true) ↔ ((id : ℤ) × (memberOf id ids ≡ true) × (t id ≡ true))
-unfolding memberOf
+pub some-is : (t : ℤ → Bool) (ids : List ℤ) → (some t ids ≡ true) ↔ ((id : ℤ) × (isMember id ids ≡ true) × (t id ≡ true))
+unfolding isMember
 some-is t ids = (
   (λ e. let p = some-place t ids e in (idAt ids (p .0), some-at (sameId _) ids (p .0) (p .1) (same-is _ _ .1 refl), p .2)),
   (λ w. let p = some-place (sameId (w .0)) ids (w .1) in some-at t ids (p .0) (p .1) (rw (← same-is _ _ .0 (p .2)) (w .2))),
@@ -49,8 +49,8 @@ some-is t ids = (
 
 -- ---- an id of a list in order comes before every later one
 
-after : (a : ℤ) (ids : List ℤ) → risingFrom a ids ≡ true → (k : ℕ) → k < length ids → before a (idAt ids k) ≡ true
-unfolding risingFrom
+after : (a : ℤ) (ids : List ℤ) → idsRisingFrom a ids ≡ true → (k : ℕ) → k < length ids → before a (idAt ids k) ≡ true
+unfolding idsRisingFrom
 after a [] r k h = absurd (omega arith)
 after a (b ∷ ids) r zero h = both-left _ _ r
 after a (b ∷ ids) r (suc k) h = order .transitive a b _ (both-left _ _ r) (after b ids (both-right _ _ r) k (omega arith))
@@ -65,43 +65,43 @@ later (a ∷ ids) r (suc j) (suc k) l h = later ids (tail a ids r) j k (omega ar
 -- ---- positions: the number of ids with a smaller key, or with a key that is not larger
 
 module _ (id : ℤ) (ids : List ℤ) where
-  pub smaller-keys : smaller id ids ≡ count (under false (keyOf id)) ids
-  unfolding smaller under
+  pub smaller-keys : idsBefore id ids ≡ count (under false (osmKeyOf id)) ids
+  unfolding idsBefore under
   smaller-keys = ap (λ t. count t ids) (fun-ext (λ a. sym (key-before a id)))
 
-  pub upTo-keys : upTo id ids ≡ count (under true (keyOf id)) ids
-  unfolding upTo under
+  pub upTo-keys : idsUpTo id ids ≡ count (under true (osmKeyOf id)) ids
+  unfolding idsUpTo under
   upTo-keys = ap (λ t. count t ids) (fun-ext (λ a. ap not (sym (key-before id a))))
 
-  pub smaller-le : smaller id ids ≤ length ids
-  unfolding smaller
+  pub smaller-le : idsBefore id ids ≤ length ids
+  unfolding idsBefore
   smaller-le = count-le _ ids
 
-  pub upTo-le : upTo id ids ≤ length ids
-  unfolding upTo
+  pub upTo-le : idsUpTo id ids ≤ length ids
+  unfolding idsUpTo
   upTo-le = count-le _ ids
 
   module _ (o : inOrder ids ≡ true) where
     module _ (k : ℕ) (h : k < length ids) where
       -- an id of the list comes before an id exactly where its place lies below that number
-      pub at-smaller : before (idAt ids k) id ≡ ltb k (smaller id ids)
+      pub at-smaller : before (idAt ids k) id ≡ ltb k (idsBefore id ids)
       unfolding under
-      at-smaller = rw (smaller-keys, ← key-before) (splits (under-closed false (keyOf id)) ids o k h)
+      at-smaller = rw (smaller-keys, ← key-before) (splits (under-closed false (osmKeyOf id)) ids o k h)
 
-      pub at-upTo : not (before id (idAt ids k)) ≡ ltb k (upTo id ids)
+      pub at-upTo : not (before id (idAt ids k)) ≡ ltb k (idsUpTo id ids)
       unfolding under
-      at-upTo = rw (upTo-keys, ← key-before) (splits (under-closed true (keyOf id)) ids o k h)
+      at-upTo = rw (upTo-keys, ← key-before) (splits (under-closed true (osmKeyOf id)) ids o k h)
 
     -- from the id's own place on, the id stands at a place exactly where the place lies below the number of ids up to the id
-    pub at-is : (p : ℕ) → smaller id ids ≤ p → isAt id p ids ≡ ltb p (upTo id ids)
-    unfolding isAt
+    pub at-is : (p : ℕ) → idsBefore id ids ≤ p → standsAt id p ids ≡ ltb p (idsUpTo id ids)
+    unfolding standsAt
     at-is p g =
         same-test _ _
         (λ e.
         let h : p < length ids = ltb-true _ _ (both-left _ _ e) in
         sym (at-upTo p h) ∙ rw (← same-is id (idAt ids p) .0 (both-right _ _ e), order .irreflexive id))
         (λ e.
-        let u : p < upTo id ids = ltb-true _ _ e in
+        let u : p < idsUpTo id ids = ltb-true _ _ e in
         let h : p < length ids = omega (arith, upTo-le) in
         both-of (lt-ltb _ _ h) (byOrder order id (idAt ids p)
         (λ b. clash b (not-true _ (at-upTo p h ∙ e)))
@@ -110,42 +110,42 @@ module _ (id : ℤ) (ids : List ℤ) where
 
 module _ (ids : List ℤ) (o : inOrder ids ≡ true) where
   -- an id of the list stands at the number of smaller ids, and the ids up to it end there
-  pub stands : (k : ℕ) → k < length ids → smaller (idAt ids k) ids ≡ k
+  pub stands : (k : ℕ) → k < length ids → idsBefore (idAt ids k) ids ≡ k
   stands k h =
       let a = idAt ids k in
-      let g : smaller a ids ≤ k = ltb-false _ _ (sym (at-smaller a ids o k h) ∙ order .irreflexive a) in
-      byLt (smaller a ids) k
-      (λ l. clash (later ids o (smaller a ids) k l h) (at-smaller a ids o (smaller a ids) (omega arith) ∙ not-below (smaller a ids)))
+      let g : idsBefore a ids ≤ k = ltb-false _ _ (sym (at-smaller a ids o k h) ∙ order .irreflexive a) in
+      byLt (idsBefore a ids) k
+      (λ l. clash (later ids o (idsBefore a ids) k l h) (at-smaller a ids o (idsBefore a ids) (omega arith) ∙ not-below (idsBefore a ids)))
       (λ l. omega arith)
 
-  pub ends : (k : ℕ) → k < length ids → upTo (idAt ids k) ids ≡ suc k
+  pub ends : (k : ℕ) → k < length ids → idsUpTo (idAt ids k) ids ≡ suc k
   ends k h =
       let a = idAt ids k in
-      let g : k < upTo a ids = ltb-true _ _ (sym (at-upTo a ids o k h) ∙ ap not (order .irreflexive a)) in
-      byLt (suc k) (upTo a ids)
+      let g : k < idsUpTo a ids = ltb-true _ _ (sym (at-upTo a ids o k h) ∙ ap not (order .irreflexive a)) in
+      byLt (suc k) (idsUpTo a ids)
       (λ l.
       let m : suc k < length ids = omega (arith, upTo-le a ids) in
       clash (later ids o k (suc k) (omega arith) m) (not-true _ (at-upTo a ids o (suc k) m ∙ lt-ltb _ _ l)))
       (λ l. omega arith)
 
   -- an id is in the list exactly where it stands at that number
-  pub member : (id : ℤ) → isAt id (smaller id ids) ids ≡ memberOf id ids
-  unfolding isAt memberOf
+  pub member : (id : ℤ) → standsAt id (idsBefore id ids) ids ≡ isMember id ids
+  unfolding standsAt isMember
   member id =
       same-test _ _
-      (λ e. some-at (sameId id) ids (smaller id ids) (ltb-true _ _ (both-left _ _ e)) (both-right _ _ e))
+      (λ e. some-at (sameId id) ids (idsBefore id ids) (ltb-true _ _ (both-left _ _ e)) (both-right _ _ e))
       (λ e.
       let p = some-place (sameId id) ids e in
       let q : idAt ids (p .0) ≡ id = sym (same-is id (idAt ids (p .0)) .0 (p .2)) in
-      let s : smaller id ids ≡ p .0 = rw q at (stands (p .0) (p .1)) in
+      let s : idsBefore id ids ≡ p .0 = rw q at (stands (p .0) (p .1)) in
       rw s (both-of (lt-ltb _ _ (p .1)) (p .2)))
 
   -- the number of smaller ids does not fall along the order
-  pub smaller-rises : (a b : ℤ) → before b a ≡ false → smaller a ids ≤ smaller b ids
+  pub smaller-rises : (a b : ℤ) → before b a ≡ false → idsBefore a ids ≤ idsBefore b ids
   smaller-rises a b f =
-      byLt (smaller b ids) (smaller a ids)
+      byLt (idsBefore b ids) (idsBefore a ids)
       (λ l.
-      let k = smaller b ids in
+      let k = idsBefore b ids in
       let h : k < length ids = omega (arith, smaller-le a ids) in
       clash (at-smaller a ids o k h ∙ lt-ltb _ _ l)
       (not-less order (idAt ids k) b a (at-smaller b ids o k h ∙ not-below k) f))
@@ -183,39 +183,39 @@ within s u k =
 
 module _ (ids : List ℤ) (first last : ℤ) where
   -- the span of a list in order, by the two numbers
-  span-of : {s e : ℕ} → spanOf ids first last ≡ S.From s e →
-      (inOrder ids ≡ true) × (s ≡ smaller first ids) × (e ≡ cond (ltb (upTo last ids) (smaller first ids)) (smaller first ids) (upTo last ids))
-  unfolding spanOf
+  span-of : {s e : ℕ} → rangeOf ids first last ≡ S.From s e →
+      (inOrder ids ≡ true) × (s ≡ idsBefore first ids) × (e ≡ cond (ltb (idsUpTo last ids) (idsBefore first ids)) (idsBefore first ids) (idsUpTo last ids))
+  unfolding rangeOf
   span-of {s} {e} q =
       byBool (inOrder ids)
       (λ o.
-      let r : S.From (smaller first ids) (cond (ltb (upTo last ids) (smaller first ids)) (smaller first ids) (upTo last ids)) ≡ S.From s e = rw o at q in
+      let r : S.From (idsBefore first ids) (cond (ltb (idsUpTo last ids) (idsBefore first ids)) (idsBefore first ids) (idsUpTo last ids)) ≡ S.From s e = rw o at q in
       (o, cc, cc))
       (λ n. no (cc))
 
-  pub span-is : {s e : ℕ} → spanOf ids first last ≡ S.From s e → (k : ℕ) → k < length ids → between first last (idAt ids k) ≡ both (leb s k) (ltb k e)
+  pub span-is : {s e : ℕ} → rangeOf ids first last ≡ S.From s e → (k : ℕ) → k < length ids → between first last (idAt ids k) ≡ both (leb s k) (ltb k e)
   unfolding between
   span-is q k h =
       let p = span-of q in
-      rw (p .1, p .2, at-smaller first ids (p .0) k h, at-upTo last ids (p .0) k h) (within (smaller first ids) (upTo last ids) k)
+      rw (p .1, p .2, at-smaller first ids (p .0) k h, at-upTo last ids (p .0) k h) (within (idsBefore first ids) (idsUpTo last ids) k)
 
   -- the span lies in the list
-  pub span-fits : {s e : ℕ} → spanOf ids first last ≡ S.From s e → (s ≤ e) × (e ≤ length ids)
+  pub span-fits : {s e : ℕ} → rangeOf ids first last ≡ S.From s e → (s ≤ e) × (e ≤ length ids)
   span-fits q =
       let p = span-of q in
-      rw (p .1, p .2) (byLt (upTo last ids) (smaller first ids)
+      rw (p .1, p .2) (byLt (idsUpTo last ids) (idsBefore first ids)
       (λ l. rw (lt-ltb _ _ l) (omega arith, smaller-le first ids))
       (λ l. rw (le-ltb _ _ l) (l, upTo-le last ids)))
 
   -- "an empty range at the place of the first", where last comes before first
-  pub span-none : inOrder ids ≡ true → before last first ≡ true → spanOf ids first last ≡ S.From (smaller first ids) (smaller first ids)
-  unfolding spanOf
+  pub span-none : inOrder ids ≡ true → before last first ≡ true → rangeOf ids first last ≡ S.From (idsBefore first ids) (idsBefore first ids)
+  unfolding rangeOf
   span-none o b =
-      rw o (byLt (upTo last ids) (smaller first ids)
+      rw o (byLt (idsUpTo last ids) (idsBefore first ids)
       (λ l. rw (lt-ltb _ _ l))
-      (λ l. rw (le-ltb _ _ l) (ap (S.From (smaller first ids)) (byLt (smaller first ids) (upTo last ids)
+      (λ l. rw (le-ltb _ _ l) (ap (S.From (idsBefore first ids)) (byLt (idsBefore first ids) (idsUpTo last ids)
       (λ m.
-      let k = smaller first ids in
+      let k = idsBefore first ids in
       let h : k < length ids = omega (arith, upTo-le last ids) in
       clash b (not-less order last (idAt ids k) first (not-true _ (at-upTo last ids o k h ∙ lt-ltb _ _ m)) (at-smaller first ids o k h ∙ not-below k)))
       (λ m. omega arith)))))
@@ -223,7 +223,7 @@ module _ (ids : List ℤ) (first last : ℤ) where
 -- ---- range_overlaps: some id of either list has its key in the span
 
 pub overlaps-is : (live deleted : List ℤ) (lo hi : ℤ) → (overlaps live deleted lo hi ≡ true) ↔
-    ((id : ℤ) × (either (memberOf id live) (memberOf id deleted) ≡ true) × (keyWithin (firstKey lo hi) (lastKey lo hi) id ≡ true))
+    ((id : ℤ) × (either (isMember id live) (isMember id deleted) ≡ true) × (keyWithin (firstKey lo hi) (lastKey lo hi) id ≡ true))
 unfolding overlaps
 overlaps-is live deleted lo hi =
     let t = keyWithin (firstKey lo hi) (lastKey lo hi) in (

@@ -14,10 +14,10 @@ use mir.Facts.{toZ-ofZ}
 use borrow.Author.Tests.{ltb-true, ltb-false}
 use Rattle.base.specs.Bytes.{both}
 use Rattle.base.proofs.Split.{both-no-left}
-use Rattle.osm_id.specs.Order.{before, keyOf, keyBefore}
+use Rattle.osm_id.specs.Order.{before, osmKeyOf, idKeyBefore}
 use Rattle.osm_id.specs.declared.OsmIdKey.{OsmIdKey}
 use Rattle.osm_id.proofs.Orders.{key-before}
-use Rattle.sorted.specs.Lookup.{idsOf, idAt, count, risingFrom, inOrder, under, smaller, upTo}
+use Rattle.sorted.specs.Lookup.{idsOf, idAt, count, idsRisingFrom, inOrder, under, idsBefore, idsUpTo}
 use Rattle.sorted.proofs.Keys.{under-closed}
 use Rattle.sorted.proofs.Counts.{splits}
 use Rattle.sorted.proofs.Lookups.{smaller-keys, upTo-keys}
@@ -31,24 +31,24 @@ word-id ws i = List·getD-map (toZ w64) ws i 0
 -- ---- the order check: the ids from i on rise from the one before them
 
 abbrev pub restRises : List ℤ → ℕ → Bool
-restRises ids i = risingFrom (idAt ids (i - 1)) (drop i ids)
+restRises ids i = idsRisingFrom (idAt ids (i - 1)) (drop i ids)
 
 pub rises-start : (ids : List ℤ) → restRises ids 1 ≡ inOrder ids
-unfolding risingFrom inOrder
+unfolding idsRisingFrom inOrder
 rises-start [] = refl
 rises-start (a ∷ ids) = refl
 
 pub rises-end : (ids : List ℤ) (i : ℕ) → length ids ≤ i → restRises ids i ≡ true
-unfolding risingFrom
+unfolding idsRisingFrom
 rises-end ids i h = rw (drop-of-length-le ids h)
 
 module _ (ids : List ℤ) (i : ℕ) (h : i < length ids) where
-  step : restRises ids i ≡ both (before (idAt ids (i - 1)) (idAt ids i)) (risingFrom (idAt ids i) (drop (suc i) ids))
-  unfolding risingFrom
+  step : restRises ids i ≡ both (before (idAt ids (i - 1)) (idAt ids i)) (idsRisingFrom (idAt ids i) (drop (suc i) ids))
+  unfolding idsRisingFrom
   step = rw (drop-cons ids i (pos 0) h)
 
   -- the test of two neighbours, as the code makes it on their keys
-  module _ {x y : OsmIdKey} {t : Bool} (p : x ≡ keyOf (idAt ids (i - 1))) (q : y ≡ keyOf (idAt ids i)) (r : t ≡ keyBefore x y) where
+  module _ {x y : OsmIdKey} {t : Bool} (p : x ≡ osmKeyOf (idAt ids (i - 1))) (q : y ≡ osmKeyOf (idAt ids i)) (r : t ≡ idKeyBefore x y) where
     neighbours : t ≡ before (idAt ids (i - 1)) (idAt ids i)
     neighbours = rw (r, p, q) (key-before _ _)
 
@@ -71,12 +71,12 @@ module _ (through : Bool) (key : OsmIdKey) (ids : List ℤ) (o : inOrder ids ≡
 
 -- ---- a search for the key of an id: a signed argument reaches the callee by its bits, so the id stands in what the call ensures as it is read back from them
 
-module _ {id : ℤ} (f : SFits w64 id) {key : OsmIdKey} (k : key ≡ keyOf (toZ w64 (ofZ w64 id))) where
-  key-is : key ≡ keyOf id
+module _ {id : ℤ} (f : SFits w64 id) {key : OsmIdKey} (k : key ≡ osmKeyOf (toZ w64 (ofZ w64 id))) where
+  key-is : key ≡ osmKeyOf id
   key-is = rw (toZ-ofZ f) at k
 
-  pub smaller-counted : (ids : List ℤ) {n : ℕ} → n ≡ count (under false key) ids → n ≡ smaller id ids
+  pub smaller-counted : (ids : List ℤ) {n : ℕ} → n ≡ count (under false key) ids → n ≡ idsBefore id ids
   smaller-counted ids e = e ∙ ap (λ x. count (under false x) ids) key-is ∙ sym (smaller-keys id ids)
 
-  pub upTo-counted : (ids : List ℤ) {n : ℕ} → n ≡ count (under true key) ids → n ≡ upTo id ids
+  pub upTo-counted : (ids : List ℤ) {n : ℕ} → n ≡ count (under true key) ids → n ≡ idsUpTo id ids
   upTo-counted ids e = e ∙ ap (λ x. count (under true x) ids) key-is ∙ sym (upTo-keys id ids)

@@ -4,14 +4,14 @@ use mathlib.Core.List.{List, [], _∷_}
 use lib.IntN.{ℤ}
 use Rattle.base.specs.Bytes.{both}
 use Rattle.osm_id.specs.Order.{before, sameId}
-use Rattle.sorted.specs.Lookup.{some, smaller, foundOf}
+use Rattle.sorted.specs.Lookup.{some, idsBefore, foundOf}
 use Rattle.sorted.specs.declared.Place.{Place}
 use Rattle.sorted.specs.declared.Sought.{Sought}
 use Rattle.sorted.specs.declared.Sought.the-variants as F
 
 -- an id is in a list
-unfoldable pub memberOf : ℤ → List ℤ → Bool
-memberOf id ids = some (sameId id) ids
+unfoldable pub isMember : ℤ → List ℤ → Bool
+isMember id ids = some (sameId id) ids
 
 -- an id from first to last in OSM order, both included
 unfoldable pub between : ℤ → ℤ → ℤ → Bool
@@ -19,7 +19,7 @@ between first last id = both (not (before id first)) (not (before last id))
 
 -- an id's place, if it is in a list
 unfoldable pub placeIn : List ℤ → ℤ → Sought
-placeIn ids id = cond (memberOf id ids) (F.At (smaller id ids)) F.Nowhere
+placeIn ids id = cond (isMember id ids) (F.At (idsBefore id ids)) F.Nowhere
 
 -- the answers of a cursor that is asked for one id after the other
 unfoldable pub answers : Place → List ℤ → List ℤ → List Sought

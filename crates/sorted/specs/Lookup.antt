@@ -8,7 +8,7 @@ use lib.ListN.{length, drop, getD}
 use mir.Syntax.{w64}
 use mir.Val.{toZ}
 use Rattle.base.specs.Bytes.{both, either}
-use Rattle.osm_id.specs.Order.{before, sameId, keyOf, keyBefore, firstKey, lastKey}
+use Rattle.osm_id.specs.Order.{before, sameId, osmKeyOf, idKeyBefore, firstKey, lastKey}
 use Rattle.osm_id.specs.declared.OsmIdKey.{OsmIdKey}
 use Rattle.sorted.specs.declared.Overlap.{Overlap}
 use Rattle.sorted.specs.declared.Overlap.the-variants as O
@@ -40,20 +40,20 @@ some t (a ∷ ids) = either (t a) (some t ids)
 -- ---- 20
 
 -- every id after the first comes after the one before it
-unfoldable pub risingFrom : ℤ → List ℤ → Bool
-risingFrom a [] = true
-risingFrom a (b ∷ ids) = both (before a b) (risingFrom b ids)
+unfoldable pub idsRisingFrom : ℤ → List ℤ → Bool
+idsRisingFrom a [] = true
+idsRisingFrom a (b ∷ ids) = both (before a b) (idsRisingFrom b ids)
 
 -- "ids strictly in OSM order"
 unfoldable pub inOrder : List ℤ → Bool
 inOrder [] = true
-inOrder (a ∷ ids) = risingFrom a ids
+inOrder (a ∷ ids) = idsRisingFrom a ids
 
 -- ---- range_overlaps
 
 -- a key from first to last, both included
 unfoldable pub keyWithin : OsmIdKey → OsmIdKey → ℤ → Bool
-keyWithin first last id = both (not (keyBefore (keyOf id) first)) (not (keyBefore last (keyOf id)))
+keyWithin first last id = both (not (idKeyBefore (osmKeyOf id) first)) (not (idKeyBefore last (osmKeyOf id)))
 
 abbrev pub anyWithin : OsmIdKey → OsmIdKey → List ℤ → Bool
 anyWithin first last ids = some (keyWithin first last) ids
@@ -68,22 +68,22 @@ overlapOf live deleted lo hi = cond (both (inOrder live) (inOrder deleted)) (con
 -- ---- positions
 
 -- how many ids come before an id: its place, or the place where it would stand
-unfoldable pub smaller : ℤ → List ℤ → ℕ
-smaller id ids = count (λ a. before a id) ids
+unfoldable pub idsBefore : ℤ → List ℤ → ℕ
+idsBefore id ids = count (λ a. before a id) ids
 
 -- how many ids do not come after an id
-unfoldable pub upTo : ℤ → List ℤ → ℕ
-upTo id ids = count (λ a. not (before id a)) ids
+unfoldable pub idsUpTo : ℤ → List ℤ → ℕ
+idsUpTo id ids = count (λ a. not (before id a)) ids
 
 -- an id's key is smaller than a key or, with true, not larger: what a search counts
 unfoldable pub under : Bool → OsmIdKey → ℤ → Bool
-under false key id = keyBefore (keyOf id) key
-under true key id = not (keyBefore key (keyOf id))
+under false key id = idKeyBefore (osmKeyOf id) key
+under true key id = not (idKeyBefore key (osmKeyOf id))
 
 -- upsert_range: the places of the ids from first to last; none, at the place of the first, where last comes before first
-unfoldable pub spanOf : List ℤ → ℤ → ℤ → Span
-spanOf ids first last =
-    cond (inOrder ids) (S.From (smaller first ids) (cond (ltb (upTo last ids) (smaller first ids)) (smaller first ids) (upTo last ids)))
+unfoldable pub rangeOf : List ℤ → ℤ → ℤ → Span
+rangeOf ids first last =
+    cond (inOrder ids) (S.From (idsBefore first ids) (cond (ltb (idsUpTo last ids) (idsBefore first ids)) (idsBefore first ids) (idsUpTo last ids)))
     S.NotInOrder
 
 -- ---- Seek::find
@@ -95,7 +95,7 @@ advance id p (a ∷ ids) = cond (before a id) (advance id (suc p) ids) p
 
 -- where a cursor stands once it is asked: where it stood, or at first where the id belongs
 abbrev pub standing : Place → ℤ → List ℤ → ℕ
-standing P.Fresh id ids = smaller id ids
+standing P.Fresh id ids = idsBefore id ids
 standing (P.At p) id ids = p
 
 -- the cursor moves forward alone, up to the id; "an id behind its place is answered none"
@@ -103,11 +103,11 @@ abbrev pub reached : Place → ℤ → List ℤ → ℕ
 reached p id ids = advance id (standing p id ids) (drop (standing p id ids) ids)
 
 -- the id stands at a place
-unfoldable pub isAt : ℤ → ℕ → List ℤ → Bool
-isAt id p ids = both (ltb p (length ids)) (sameId id (idAt ids p))
+unfoldable pub standsAt : ℤ → ℕ → List ℤ → Bool
+standsAt id p ids = both (ltb p (length ids)) (sameId id (idAt ids p))
 
 unfoldable pub foundOf : Place → List ℤ → ℤ → Found
 foundOf p ids id =
     cond (inOrder ids)
-    (record { place = P.At (reached p id ids); answer = cond (isAt id (reached p id ids) ids) (F.At (reached p id ids)) F.Nowhere })
+    (record { place = P.At (reached p id ids); answer = cond (standsAt id (reached p id ids) ids) (F.At (reached p id ids)) F.Nowhere })
     (record { place = p; answer = F.NotInOrder })

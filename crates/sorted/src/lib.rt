@@ -3,8 +3,8 @@ ghost use mathlib.Core.Path.{_≡_};
 ghost use mathlib.Core.Bool.{true};
 ghost use Prim.Native.Nat.{_<_};
 ghost use lib.ListN.{length};
-ghost use Rattle.osm_id.specs.Order.{keyOf, keyBefore};
-ghost use Rattle.sorted.specs.Lookup.{idsOf, idAt, count, inOrder, anyWithin, overlaps, overlapOf, under, spanOf, reached, foundOf};
+ghost use Rattle.osm_id.specs.Order.{osmKeyOf, idKeyBefore};
+ghost use Rattle.sorted.specs.Lookup.{idsOf, idAt, count, inOrder, anyWithin, overlaps, overlapOf, under, rangeOf, reached, foundOf};
 use osm_id::OsmIdKey;
 
 // Whether ids overlap a range. NotInOrder, here and below, is 20.
@@ -41,7 +41,7 @@ pub struct Found {
 
 // Whether a key is smaller than another: by class, then by magnitude.
 fn key_before(a: OsmIdKey, b: OsmIdKey) -> bool
-    ensures { λ r. ⌜ r ≡ keyBefore a b ⌝ }
+    ensures { λ r. ⌜ r ≡ idKeyBefore a b ⌝ }
 {
     if a.class < b.class {
         return true;
@@ -55,7 +55,7 @@ fn key_before(a: OsmIdKey, b: OsmIdKey) -> bool
 // The key of the id at a place.
 fn key_at(ids: &[u64], i: usize) -> OsmIdKey
     requires { ⌜ i < length (now ids) ⌝ }
-    ensures { λ r. ⌜ r ≡ keyOf (idAt (idsOf (now (ids .entry))) i) ⌝ }
+    ensures { λ r. ⌜ r ≡ osmKeyOf (idAt (idsOf (now (ids .entry))) i) ⌝ }
 {
     osm_id::osm_id_key(signed::i64_of_bits(ids[i]))
 }
@@ -144,7 +144,7 @@ pub fn range_overlaps(live: &[u64], deleted: &[u64], min_id: i64, max_id: i64) -
 
 // The places of the ids from first to last, in OSM order.
 pub fn upsert_range(ids: &[u64], first: i64, last: i64) -> Span
-    ensures { λ r. ⌜ r ≡ spanOf (idsOf (now (ids .entry))) first last ⌝ }
+    ensures { λ r. ⌜ r ≡ rangeOf (idsOf (now (ids .entry))) first last ⌝ }
 {
     if in_order(ids) {
         let start = count_under(ids, osm_id::osm_id_key(first), false);

@@ -32,8 +32,8 @@ spanPlaces S.NotInOrder = record { number = numberOf refused.NotInOrder; from = 
 abbrev pub noPlace : ℕ
 noPlace = 9223372036854775808
 
-abbrev pub placeOf : ℕ → Place
-placeOf w = cond (ltb w noPlace) (P.At w) P.Fresh
+abbrev pub seekPlace : ℕ → Place
+seekPlace w = cond (ltb w noPlace) (P.At w) P.Fresh
 
 abbrev pub placeWord : Place → ℕ
 placeWord P.Fresh = noPlace

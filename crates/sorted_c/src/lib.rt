@@ -1,7 +1,7 @@
 // The C entries of the lookups in lists (sorted.rs). A slice is a pointer and its length. The ids of a list cross as their bits.
 ghost use mathlib.Core.Path.{_≡_};
-ghost use Rattle.sorted.specs.Lookup.{idsOf, overlapOf, spanOf, foundOf};
-ghost use Rattle.sorted_c.specs.Entries.{overlapNumber, spanPlaces, placeOf, placeWord, soughtCursor, foundCursor};
+ghost use Rattle.sorted.specs.Lookup.{idsOf, overlapOf, rangeOf, foundOf};
+ghost use Rattle.sorted_c.specs.Entries.{overlapNumber, spanPlaces, seekPlace, placeWord, soughtCursor, foundCursor};
 use sorted::Overlap;
 use sorted::Place;
 use sorted::Seek;
@@ -78,13 +78,13 @@ fn span_places(answer: sorted::Span) -> Places
 
 #[no_mangle]
 pub extern "C" fn tvk_upsert_range(ids: &[u64], first: i64, last: i64) -> Places
-    ensures { λ r. ⌜ r ≡ spanPlaces (spanOf (idsOf (now (ids .entry))) first last) ⌝ }
+    ensures { λ r. ⌜ r ≡ spanPlaces (rangeOf (idsOf (now (ids .entry))) first last) ⌝ }
 {
     span_places(sorted::upsert_range(ids, first, last))
 }
 
 fn place_of(word: usize) -> Place
-    ensures { λ r. ⌜ r ≡ placeOf word ⌝ }
+    ensures { λ r. ⌜ r ≡ seekPlace word ⌝ }
 {
     if word < NO_PLACE {
         return Place::At(word);
@@ -126,7 +126,7 @@ fn sought_cursor(answer: Sought, place: usize) -> Cursor
 // A cursor at a place is asked for an id.
 #[no_mangle]
 pub extern "C" fn tvk_seek_find(ids: &[u64], place: usize, id: i64) -> Cursor
-    ensures { λ r. ⌜ r ≡ foundCursor (foundOf (placeOf place) (idsOf (now (ids .entry))) id) ⌝ }
+    ensures { λ r. ⌜ r ≡ foundCursor (foundOf (seekPlace place) (idsOf (now (ids .entry))) id) ⌝ }
 {
     let stands = place_of(place);
     let found = Seek { place: stands }.find(ids, id);

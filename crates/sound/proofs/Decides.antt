@@ -20,7 +20,7 @@ use Rattle.kind.specs.declared.Kind.{Kind}
 use Rattle.kind.specs.declared.Kind.the-variants.{Node, Way, Relation}
 use Rattle.osm_id.specs.Order.{idOf}
 use Rattle.model.specs.Record.{Record}
-use Rattle.compact.specs.Layout.{joined, headLen}
+use Rattle.compact.specs.Layout.{joinedBytes, headLen}
 use Rattle.compact.specs.Cut.{Cut, found, Kept, cutRecord}
 use Rattle.compact.specs.Held.{nodeHead, wayHead, relationHead, countsHead}
 use Rattle.compact.specs.View.{headAt, nodeAt, wayAt, relationAt}
@@ -37,7 +37,7 @@ use Rattle.table.specs.Words.{rowsOf}
 use Rattle.table.specs.declared.Row.{Row}
 use Rattle.shelf.specs.Shelf.{Shelf}
 use Rattle.sound.specs.Sound.{soundRow, SoundShelf}
-use Rattle.sound.specs.Check.{comesTo, idThere, recordThere, passes, soundUsed, soundShelf}
+use Rattle.sound.specs.Check.{comesTo, idThere, recordThere, rowPasses, soundUsed, soundShelf}
 use Rattle.sound.proofs.Walks.{arrived, steps}
 
 both-true : (t : Bool) → both (both true t) true ≡ t
@@ -62,35 +62,35 @@ cut-id k s c e =
 
 module _ (strings : ℕ) (k : Kind) (s : Bytes) where
   -- a record at a place, with the records after it
-  there : (at : ℕ) (x : Kept) (xs : List Kept) → fitsKept k x ≡ true → drop at s ≡ keptBytes x ++ joined keptBytes xs → cutRecord k (drop at s) ≡ found x (joined keptBytes xs)
-  there at x xs f e = rw e (record-format k .back x (joined keptBytes xs) f)
+  there : (at : ℕ) (x : Kept) (xs : List Kept) → fitsKept k x ≡ true → drop at s ≡ keptBytes x ++ joinedBytes keptBytes xs → cutRecord k (drop at s) ≡ found x (joinedBytes keptBytes xs)
+  there at x xs f e = rw e (record-format k .back x (joinedBytes keptBytes xs) f)
 
-  id-at : (at : ℕ) (x : Kept) (xs : List Kept) → fitsKept k x ≡ true → drop at s ≡ keptBytes x ++ joined keptBytes xs → toZ w64 (valueAt 8 s at) ≡ x .id
+  id-at : (at : ℕ) (x : Kept) (xs : List Kept) → fitsKept k x ≡ true → drop at s ≡ keptBytes x ++ joinedBytes keptBytes xs → toZ w64 (valueAt 8 s at) ≡ x .id
   unfolding valueAt
   id-at at x xs f e = sym (cut-id k (drop at s) _ (there at x xs f e))
 
-  long : (at : ℕ) (x : Kept) (xs : List Kept) → drop at s ≡ keptBytes x ++ joined keptBytes xs → at + length (keptBytes x) + length (joined keptBytes xs) ≡ length s
+  long : (at : ℕ) (x : Kept) (xs : List Kept) → drop at s ≡ keptBytes x ++ joinedBytes keptBytes xs → at + length (keptBytes x) + length (joinedBytes keptBytes xs) ≡ length s
   long at x xs e =
       let n = kept-long x in
-      let d : length s - at ≡ length (keptBytes x) + length (joined keptBytes xs) = sym (length-drop at s) ∙ (ap length e ∙ length-append (keptBytes x) (joined keptBytes xs)) in
+      let d : length s - at ≡ length (keptBytes x) + length (joinedBytes keptBytes xs) = sym (length-drop at s) ∙ (ap length e ∙ length-append (keptBytes x) (joinedBytes keptBytes xs)) in
       omega arith
 
-  end-is : (at : ℕ) (x : Kept) (xs : List Kept) → fitsKept k x ≡ true → legal strings (x .held) ≡ true → drop at s ≡ keptBytes x ++ joined keptBytes xs
+  end-is : (at : ℕ) (x : Kept) (xs : List Kept) → fitsKept k x ≡ true → legal strings (x .held) ≡ true → drop at s ≡ keptBytes x ++ joinedBytes keptBytes xs
       → recordEnd strings k s at ≡ At (at + length (keptBytes x))
   unfolding recordEnd endOf
   end-is at x xs f l e =
-      let n : length s - length (joined keptBytes xs) ≡ at + length (keptBytes x) = omega (arith, long at x xs e) in
+      let n : length s - length (joinedBytes keptBytes xs) ≡ at + length (keptBytes x) = omega (arith, long at x xs e) in
       rw (there at x xs f e, l, n)
 
-  after : (at : ℕ) (x : Kept) (xs : List Kept) → drop at s ≡ keptBytes x ++ joined keptBytes xs → drop (at + length (keptBytes x)) s ≡ joined keptBytes xs
-  after at x xs e = sym (drop-drop (length (keptBytes x)) at s) ∙ rw e (drop-append-seam (keptBytes x) (joined keptBytes xs))
+  after : (at : ℕ) (x : Kept) (xs : List Kept) → drop at s ≡ keptBytes x ++ joinedBytes keptBytes xs → drop (at + length (keptBytes x)) s ≡ joinedBytes keptBytes xs
+  after at x xs e = sym (drop-drop (length (keptBytes x)) at s) ∙ rw e (drop-append-seam (keptBytes x) (joinedBytes keptBytes xs))
 
   -- ---- the walk comes to the starts, and to nothing else
 
   module _ (id place : ℕ) where
-    walk : (xs : List Kept) (f at : ℕ) → all (fitsKept k) xs ≡ true → all (λ (x : Kept). legal strings (x .held)) xs ≡ true → drop at s ≡ joined keptBytes xs → at ≤ length s → at ≤ place → place ≤ at + f
+    walk : (xs : List Kept) (f at : ℕ) → all (fitsKept k) xs ≡ true → all (λ (x : Kept). legal strings (x .held)) xs ≡ true → drop at s ≡ joinedBytes keptBytes xs → at ≤ length s → at ≤ place → place ≤ at + f
         → both (idThere s id place) (comesTo strings k s place f at) ≡ startsAt (idOf id) (place - at) xs
-    unfolding joined startsAt recordAt idThere
+    unfolding joinedBytes startsAt recordAt idThere
     walk [] f at p q e h a b =
         let n : length s ≤ at = omega (arith, sym (length-drop at s) ∙ ap length e) in
         both-no-left _ _ (both-no-left _ _ (le-ltb place (length s) (omega arith)))
@@ -128,12 +128,12 @@ module _ (strings : ℕ) (k : Kind) (s : Bytes) (w : Whole strings k s) where
       let z : place - 0 ≡ place = omega arith in
       rw z at (walk strings k s id place (w .kept) place 0 (w .fits) (w .legals) (w .same) (omega arith) (omega arith) (omega arith))
 
-  pub passes-is : (r : Row) → passes strings k s r ≡ soundRow (w .kept) r
-  unfolding passes soundRow
+  pub passes-is : (r : Row) → rowPasses strings k s r ≡ soundRow (w .kept) r
+  unfolding rowPasses soundRow
   passes-is r = rw (there-is (r .rank) (r .place))
 
-  pub rows-are : (rs : List Row) → all (passes strings k s) rs ≡ all (soundRow (w .kept)) rs
-  rows-are rs = all-same (passes strings k s) (soundRow (w .kept)) passes-is rs
+  pub rows-are : (rs : List Row) → all (rowPasses strings k s) rs ≡ all (soundRow (w .kept)) rs
+  rows-are rs = all-same (rowPasses strings k s) (soundRow (w .kept)) passes-is rs
 
 -- ---- the shelf
 

@@ -17,7 +17,7 @@ use Rattle.table.specs.declared.Row.{Row}
 use Rattle.table.specs.declared.Found.the-variants.{At, Place}
 use Rattle.table.proofs.Maps.{find-rank}
 use Rattle.table.proofs.Tables.{sound-rises, found-row, found-none}
-use Rattle.sound.specs.Count.{one, count, pointsAt}
+use Rattle.sound.specs.Count.{one, howMany, pointsAt}
 use Rattle.sound.proofs.Counts.{count-none, count-found}
 
 -- a rank is that of its id, of any size
@@ -51,10 +51,10 @@ module _ (table : List ℕ) (ids : ℕ) (s : Bytes) (at k : ℕ) (sound : soundT
   others : (r : Row) → (k ≡ r .rank → ⊥) → pointsAt s at r ≡ false
   others r d = points-other s at r (λ e. d (there ∙ e))
 
-  pub hit-none : (p : ℕ) → lookup table ids k ≡ Place p → count (pointsAt s at) (rowsOf table ids) ≡ 0
+  pub hit-none : (p : ℕ) → lookup table ids k ≡ Place p → howMany (pointsAt s at) (rowsOf table ids) ≡ 0
   hit-none p e = count-none k (pointsAt s at) others (rowsOf table ids) (found-none table ids sound k p e .0)
 
-  pub hit-found : (i : ℕ) → lookup table ids k ≡ At i → (count (pointsAt s at) (rowsOf table ids) ≡ one (pointsAt s at (rowAt table i))) × (rowAt table i .rank ≡ k)
+  pub hit-found : (i : ℕ) → lookup table ids k ≡ At i → (howMany (pointsAt s at) (rowsOf table ids) ≡ one (pointsAt s at (rowAt table i))) × (rowAt table i .rank ≡ k)
   hit-found i e =
       let f = found-row table ids sound k i e .1 in
       (count-found k (pointsAt s at) others (rowsOf table ids) (rowAt table i) (sound-rises table ids sound) f, find-rank k (rowsOf table ids) (rowAt table i) f)

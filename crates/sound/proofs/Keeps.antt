@@ -20,7 +20,7 @@ use Rattle.version_floor.specs.Version.{higher, wordOf}
 use Rattle.append.proofs.Writes.{fits-is}
 use Rattle.append.proofs.Joins.{appended}
 use Rattle.little.specs.Little.{over}
-use Rattle.compact.specs.Layout.{joined}
+use Rattle.compact.specs.Layout.{joinedBytes}
 use Rattle.compact.specs.Fits.{fitsKept}
 use Rattle.compact.specs.Legal.{legal}
 use Rattle.compact.specs.Cut.{Kept}
@@ -109,7 +109,7 @@ module _ (strings : ℕ) (k : Kind) (setting : ℕ) (s : Shelf) (claim : Version
   new-row : (floor : ℕ) → soundRow (w .whole .kept ++ x ∷ []) (record { rank = rank (x .id); place = s .used; floor = floor }) ≡ true
   unfolding soundRow
   new-row floor =
-      let n : length (joined keptBytes (w .whole .kept)) ≡ s .used = sym (ap length (w .whole .same)) ∙ length-take-le (s .used) (s .arena) (w .fits) in
+      let n : length (joinedBytes keptBytes (w .whole .kept)) ≡ s .used = sym (ap length (w .whole .same)) ∙ length-take-le (s .used) (s .arena) (w .fits) in
       either-right _ (rw (id-rank i, ← n) (starts-last (x .id) (w .whole .kept) x (same-is (x .id) (x .id) .1 refl)))
 
   pub push-sound : SoundShelf strings k (pushed k setting s (x .id) claim (keptBytes x) .shelf)

@@ -17,8 +17,8 @@ use Rattle.legal.proofs.Wholes.{whole-nil, walk-on, walk-stops}
 use Rattle.table.specs.Words.{rowsOf, soundTable}
 use Rattle.table.specs.declared.Row.{Row}
 use Rattle.shelf.specs.Shelf.{isLive}
-use Rattle.sound.specs.Check.{comesTo, idThere, recordThere, passes, soundUsed}
-use Rattle.sound.specs.Count.{one, count, live, pointsAt, pointsRight, walkOf}
+use Rattle.sound.specs.Check.{comesTo, idThere, recordThere, rowPasses, soundUsed}
+use Rattle.sound.specs.Count.{one, howMany, live, pointsAt, pointsRight, walkOf}
 use Rattle.sound.specs.declared.Walked.the-variants as walked
 use Rattle.sound.proofs.Ids.{points-off}
 use Rattle.sound.proofs.Counts.{count-same, count-not, count-parts, count-le, count-all}
@@ -102,11 +102,11 @@ module _ (strings : ℕ) (k : Kind) (s : Bytes) where
           (λ i. rw (le-ltb (r .place) at l, lt-ltb (r .place) e m, right-inside r l m i, points-off s at r (λ z. i (sym z)))))
           (λ m. rw (le-ltb (r .place) at l, le-ltb (r .place) e m, points-off s at r (λ z. omega arith))))
 
-      pub count-next : (rs : List Row) → count (pointsBefore strings k s e) rs ≡ count (pointsBefore strings k s at) rs + count (pointsAt s at) rs
+      pub count-next : (rs : List Row) → howMany (pointsBefore strings k s e) rs ≡ howMany (pointsBefore strings k s at) rs + howMany (pointsAt s at) rs
       count-next rs = count-parts (pointsBefore strings k s e) (pointsBefore strings k s at) (pointsAt s at) parts rs
 
   -- no record starts before the first, and none past the last
-  pub count-first : (rs : List Row) → count (pointsBefore strings k s 0) rs ≡ 0
+  pub count-first : (rs : List Row) → howMany (pointsBefore strings k s 0) rs ≡ 0
   unfolding pointsBefore
   count-first rs = count-not (pointsBefore strings k s 0) (λ r. both-no-left _ _ (le-ltb (r .place) 0 (omega arith))) rs
 
@@ -114,7 +114,7 @@ module _ (strings : ℕ) (k : Kind) (s : Bytes) where
   unfolding pointsRight recordThere idThere
   right-past r h = both-no-right _ (both-no-left _ _ (both-no-left _ _ (le-ltb (r .place) (length s) h)))
 
-  pub count-last : (at : ℕ) → length s ≤ at → (rs : List Row) → count (pointsBefore strings k s at) rs ≡ count (pointsRight strings k s) rs
+  pub count-last : (at : ℕ) → length s ≤ at → (rs : List Row) → howMany (pointsBefore strings k s at) rs ≡ howMany (pointsRight strings k s) rs
   unfolding pointsBefore both
   count-last at h rs =
       count-same (pointsBefore strings k s at) (pointsRight strings k s)
@@ -130,7 +130,7 @@ pub record Walking (strings : ℕ) (k : Kind) (rs : List Row) (s : Bytes) (at n 
   pub inside : at ≤ length s
   pub whole : wholeRecords strings k (drop at s) ≡ wholeRecords strings k s
   pub reached : Reached strings k s at
-  pub hits : n ≡ count (pointsBefore strings k s at) rs
+  pub hits : n ≡ howMany (pointsBefore strings k s at) rs
 
 module _ (strings : ℕ) (k : Kind) (rs : List Row) (s : Bytes) where
   pub walk-first : Walking strings k rs s 0 0
@@ -138,11 +138,11 @@ module _ (strings : ℕ) (k : Kind) (rs : List Row) (s : Bytes) where
 
   module _ (at n : ℕ) (w : Walking strings k rs s at n) where
     -- a record more
-    pub walk-next : length s < 2 ^ 63 → (e m : ℕ) → At e ≡ recordEnd strings k s at → m ≡ count (pointsAt s at) rs → (at < e) × Walking strings k rs s e (n + m)
+    pub walk-next : length s < 2 ^ 63 → (e m : ℕ) → At e ≡ recordEnd strings k s at → m ≡ howMany (pointsAt s at) rs → (at < e) × Walking strings k rs s e (n + m)
     walk-next small e m t h =
         let o = walk-on strings k s at e (w .inside) t in
         let l = o .1 .0 in
-        let g : n + m ≡ count (pointsBefore strings k s e) rs = rw (w .hits, h) (sym (count-next strings k s at e (w .reached) t l (o .1 .1) small rs)) in
+        let g : n + m ≡ howMany (pointsBefore strings k s e) rs = rw (w .hits, h) (sym (count-next strings k s at e (w .reached) t l (o .1 .1) small rs)) in
         (l, record { inside = o .1 .1; whole = sym (o .0) ∙ w .whole; reached = reached-next strings k s at e (w .reached) t l; hits = g })
 
     -- no more than the rows
@@ -152,7 +152,7 @@ module _ (strings : ℕ) (k : Kind) (rs : List Row) (s : Bytes) where
     pub walk-bad : at < length s → Bad ≡ recordEnd strings k s at → wholeRecords strings k s ≡ false
     walk-bad h t = sym (w .whole) ∙ walk-stops strings k s at h t
 
-    pub walk-last : length s ≤ at → (wholeRecords strings k s ≡ true) × (n ≡ count (pointsRight strings k s) rs)
+    pub walk-last : length s ≤ at → (wholeRecords strings k s ≡ true) × (n ≡ howMany (pointsRight strings k s) rs)
     walk-last h =
         (sym (w .whole) ∙ rw (drop-of-length-le s {i = at} h) (whole-nil strings k), w .hits ∙ count-last strings k s at h rs)
 
@@ -163,15 +163,15 @@ module _ (strings : ℕ) (k : Kind) (table : List ℕ) (ids : ℕ) (s : Bytes) w
   unfolding soundUsed walkOf
   used-bad e =
       byBool (wholeRecords strings k s)
-      (λ t. let z : walked.Bad ≡ walked.Hits (count (pointsRight strings k s) (rowsOf table ids)) = rw t at e in no cc)
+      (λ t. let z : walked.Bad ≡ walked.Hits (howMany (pointsRight strings k s) (rowsOf table ids)) = rw t at e in no cc)
       (λ t. both-no-left _ _ t)
 
   -- as many live rows point right as there are live rows, exactly when every live row does
-  pub used-hits : (n m : ℕ) → walked.Hits n ≡ walkOf strings k table ids s → soundTable table ids ≡ true → m ≡ count live (rowsOf table ids) → eqb n m ≡ soundUsed strings k table ids s
-  unfolding soundUsed walkOf passes pointsRight both
+  pub used-hits : (n m : ℕ) → walked.Hits n ≡ walkOf strings k table ids s → soundTable table ids ≡ true → m ≡ howMany live (rowsOf table ids) → eqb n m ≡ soundUsed strings k table ids s
+  unfolding soundUsed walkOf rowPasses pointsRight both
   used-hits n m e h l =
       byBool (wholeRecords strings k s)
-      (λ t. let z : walked.Hits n ≡ walked.Hits (count (pointsRight strings k s) (rowsOf table ids)) = rw t at e in
-      let c : n ≡ count (pointsRight strings k s) (rowsOf table ids) = cc in
+      (λ t. let z : walked.Hits n ≡ walked.Hits (howMany (pointsRight strings k s) (rowsOf table ids)) = rw t at e in
+      let c : n ≡ howMany (pointsRight strings k s) (rowsOf table ids) = cc in
       rw (t, h, c, l) (count-all live (λ (r : Row). recordThere strings k s (r .rank) (r .place)) (rowsOf table ids)))
       (λ t. let z : walked.Hits n ≡ walked.Bad = rw t at e in no cc)

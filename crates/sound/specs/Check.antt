@@ -36,12 +36,12 @@ unfoldable pub recordThere : ℕ → Kind → Bytes → ℕ → ℕ → Bool
 recordThere strings k s rank place = both (idThere s rank place) (comesTo strings k s place place 0)
 
 -- "live with an offset where a record of that id starts, or deleted"
-unfoldable pub passes : ℕ → Kind → Bytes → Row → Bool
-passes strings k s r = either (not (isLive (r .place))) (recordThere strings k s (r .rank) (r .place))
+unfoldable pub rowPasses : ℕ → Kind → Bytes → Row → Bool
+rowPasses strings k s r = either (not (isLive (r .place))) (recordThere strings k s (r .rank) (r .place))
 
 -- "used bytes whole records ..; known ids strictly in OSM order, each .."
 unfoldable pub soundUsed : ℕ → Kind → List ℕ → ℕ → Bytes → Bool
-soundUsed strings k table ids s = both (wholeRecords strings k s) (both (soundTable table ids) (all (passes strings k s) (rowsOf table ids)))
+soundUsed strings k table ids s = both (wholeRecords strings k s) (both (soundTable table ids) (all (rowPasses strings k s) (rowsOf table ids)))
 
 -- "counts within lent sizes", then what is used of the arena
 unfoldable pub soundShelf : ℕ → Kind → Shelf → Bool

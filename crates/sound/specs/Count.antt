@@ -22,9 +22,9 @@ abbrev pub one : Bool → ℕ
 one t = cond t 1 0
 
 -- how many pass a test
-unfoldable pub count : {A : Type 0} → (A → Bool) → List A → ℕ
-count p [] = 0
-count p (x ∷ xs) = one (p x) + count p xs
+unfoldable pub howMany : {A : Type 0} → (A → Bool) → List A → ℕ
+howMany p [] = 0
+howMany p (x ∷ xs) = one (p x) + howMany p xs
 
 abbrev pub live : Row → Bool
 live r = isLive (r .place)
@@ -39,4 +39,4 @@ pointsRight strings k s r = both (live r) (recordThere strings k s (r .rank) (r 
 
 -- how many rows point right, where the bytes are whole records
 unfoldable pub walkOf : ℕ → Kind → List ℕ → ℕ → Bytes → Walked
-walkOf strings k table ids s = cond (wholeRecords strings k s) (Hits (count (pointsRight strings k s) (rowsOf table ids))) Bad
+walkOf strings k table ids s = cond (wholeRecords strings k s) (Hits (howMany (pointsRight strings k s) (rowsOf table ids))) Bad

@@ -8,7 +8,7 @@ ghost use Rattle.osm_id.specs.Order.{rank, idOf};
 ghost use Rattle.table.specs.Words.{rowsOf, soundTable};
 ghost use Rattle.shelf.specs.Shelf.{shelfWith};
 ghost use Rattle.sound.specs.Check.{soundUsed, soundShelf};
-ghost use Rattle.sound.specs.Count.{one, count, live, pointsAt, walkOf};
+ghost use Rattle.sound.specs.Count.{one, howMany, live, pointsAt, walkOf};
 use kind::Kind;
 use legal::End;
 use table::Found;
@@ -30,7 +30,7 @@ fn rank_there(bytes: &[u8], place: usize) -> u64
 // 1 where the row of the id that stands at a place has that place, else 0.
 fn hit(table: &[u64], ids: u64, bytes: &[u8], at: usize) -> usize
     requires { ⌜ soundTable (now table) ids ≡ true ⌝ }
-    ensures { λ r. ⌜ r ≡ count (pointsAt (now (bytes .entry)) at) (rowsOf (now (table .entry)) ids) ⌝ }
+    ensures { λ r. ⌜ r ≡ howMany (pointsAt (now (bytes .entry)) at) (rowsOf (now (table .entry)) ids) ⌝ }
 {
     let Found::At(i) = table::find_row(table, ids, rank_there(bytes, at)) else {
         return 0;
@@ -72,7 +72,7 @@ fn live_row(row: Row) -> usize
 
 // How many rows are those of live ids.
 fn live_rows(table: &[u64], ids: u64) -> usize
-    ensures { λ r. ⌜ r ≡ count live (rowsOf (now (table .entry)) ids) ⌝ }
+    ensures { λ r. ⌜ r ≡ howMany live (rowsOf (now (table .entry)) ids) ⌝ }
 {
     let n = ids as usize;
     let mut i: usize = 0;

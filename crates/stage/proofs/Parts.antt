@@ -16,14 +16,14 @@ use Rattle.base.specs.Bytes.{Bytes, both}
 use Rattle.base.proofs.Split.{byBool, both-left, both-right, both-of}
 use Rattle.little.specs.Little.{over}
 use Rattle.little.proofs.Overs.{length-over, used-over}
-use Rattle.kind.specs.Kind.{numberOf}
+use Rattle.kind.specs.Kind.{kindNumber}
 use Rattle.model.specs.Record.{Member, Tag, Body, place, refs, members, Record}
 use Rattle.compact.specs.declared.CompactMember.{CompactMember}
-use Rattle.compact.specs.Layout.{i64, memberBytes, tagBytes, joined, bodyBytes, partsBytes}
+use Rattle.compact.specs.Layout.{i64, memberBytes, tagBytes, joinedBytes, bodyBytes, partsBytes}
 use Rattle.compact.specs.Legal.{valueBytes, limits, bodyWithin, withinLimits}
 use Rattle.compact.proofs.Format.{joined-last}
 use Rattle.compact.proofs.Lengths.{length-i64, length-member, length-tag, length-joined, length-tags}
-use Rattle.stage.specs.Stage.{inserted, staged, refPart, memberPart, tagPart}
+use Rattle.stage.specs.Stage.{insertedAt, staged, refPart, memberPart, tagPart}
 
 -- ---- the bytes of a part are those of its record
 
@@ -32,7 +32,7 @@ ref-part z = refl
 
 -- a member in bits
 abbrev pub inBits : Member ℕ → CompactMember
-inBits m = record { reference = ofZ w64 (m .ref); kind = numberOf (m .type); role = m .role }
+inBits m = record { reference = ofZ w64 (m .ref); kind = kindNumber (m .type); role = m .role }
 
 pub member-part : (m : Member ℕ) → memberPart (inBits m) ≡ memberBytes m
 unfolding memberBytes
@@ -54,28 +54,28 @@ abbrev pub withTag : Record ℕ → Tag ℕ → Record ℕ
 withTag r t = record { meta = r .meta; body = r .body; tags = r .tags ++ (t ∷ []) }
 
 -- what is put in between two runs
-between : (n : ℕ) (a x b : Bytes) → length a ≡ n → a ++ x ++ b ≡ inserted n x (a ++ b)
+between : (n : ℕ) (a x b : Bytes) → length a ≡ n → a ++ x ++ b ≡ insertedAt n x (a ++ b)
 between n a x b e = rw (take-at a b n e, drop-at a b n e, append-assoc)
 
-pub ref-parts : (r : Record ℕ) (rs : List ℤ) (z : ℤ) → r .body ≡ refs rs → partsBytes (withRef r rs z) ≡ inserted (8 * length rs) (i64 z) (partsBytes r)
+pub ref-parts : (r : Record ℕ) (rs : List ℤ) (z : ℤ) → r .body ≡ refs rs → partsBytes (withRef r rs z) ≡ insertedAt (8 * length rs) (i64 z) (partsBytes r)
 unfolding partsBytes bodyBytes
-ref-parts r rs z e = rw (e, joined-last i64 rs z) (between (8 * length rs) (joined i64 rs) (i64 z) (joined tagBytes (r .tags)) (length-joined i64 8 length-i64 rs))
+ref-parts r rs z e = rw (e, joined-last i64 rs z) (between (8 * length rs) (joinedBytes i64 rs) (i64 z) (joinedBytes tagBytes (r .tags)) (length-joined i64 8 length-i64 rs))
 
 pub member-parts : (r : Record ℕ) (ms : List (Member ℕ)) (m : Member ℕ) → r .body ≡ members ms
-    → partsBytes (withMember r ms m) ≡ inserted (13 * length ms) (memberBytes m) (partsBytes r)
+    → partsBytes (withMember r ms m) ≡ insertedAt (13 * length ms) (memberBytes m) (partsBytes r)
 unfolding partsBytes bodyBytes
 member-parts r ms m e =
-    rw (e, joined-last memberBytes ms m) (between (13 * length ms) (joined memberBytes ms) (memberBytes m) (joined tagBytes (r .tags)) (length-joined memberBytes 13 length-member ms))
+    rw (e, joined-last memberBytes ms m) (between (13 * length ms) (joinedBytes memberBytes ms) (memberBytes m) (joinedBytes tagBytes (r .tags)) (length-joined memberBytes 13 length-member ms))
 
 pub tag-parts : (r : Record ℕ) (t : Tag ℕ) → partsBytes (withTag r t) ≡ partsBytes r ++ tagBytes t
 unfolding partsBytes
-tag-parts r t = rw (joined-last tagBytes (r .tags) t) (sym (append-assoc (bodyBytes (r .body)) (joined tagBytes (r .tags)) (tagBytes t)))
+tag-parts r t = rw (joined-last tagBytes (r .tags) t) (sym (append-assoc (bodyBytes (r .body)) (joinedBytes tagBytes (r .tags)) (tagBytes t)))
 
 -- at the end
-pub inserted-last : (s x : Bytes) → inserted (length s) x s ≡ s ++ x
+pub inserted-last : (s x : Bytes) → insertedAt (length s) x s ≡ s ++ x
 inserted-last s x = rw (take-length, drop-length, append-nil)
 
-pub length-inserted : (at : ℕ) (x s : Bytes) → length (inserted at x s) ≡ length s + length x
+pub length-inserted : (at : ℕ) (x s : Bytes) → length (insertedAt at x s) ≡ length s + length x
 length-inserted at x s =
     let e = ap length (take-append-drop at s) in
     simp length-append (omega (arith, length-append (take at s) (drop at s)))
@@ -86,14 +86,14 @@ pub length-staged : (parts : Bytes) (used at : ℕ) (x : Bytes) → length (stag
 unfolding staged
 length-staged parts used at x =
     byBool (both (leb at used) (leb (used + length x) (length parts)))
-    (λ t. rw t (length-over parts 0 (inserted at x (take used parts))))
+    (λ t. rw t (length-over parts 0 (insertedAt at x (take used parts))))
     (λ t. rw t)
 
 pub staged-used : (parts : Bytes) (used at : ℕ) (x : Bytes) → at ≤ used → used + length x ≤ length parts
-    → take (used + length x) (staged parts used at x) ≡ inserted at x (take used parts)
+    → take (used + length x) (staged parts used at x) ≡ insertedAt at x (take used parts)
 unfolding staged
 staged-used parts used at x h g =
-    let y = inserted at x (take used parts) in
+    let y = insertedAt at x (take used parts) in
     let n : length y ≡ used + length x = length-inserted at x (take used parts) ∙ rw (length-take-le used parts (omega arith)) in
     let u : take (length y) (over parts 0 y) ≡ y = rw zero-add at (used-over parts 0 y (omega arith)) in
     rw (both-of (le-leb at used h) (le-leb (used + length x) (length parts) g), ← n) u
@@ -134,7 +134,7 @@ module _ (parts : Bytes) (used : ℕ) (r : Record ℕ) (e : take used parts ≡ 
   used-length h = rw (← e) (length-take-le used parts h)
 
   -- a part x of n bytes, put in at a place
-  module _ (at n : ℕ) (x : Bytes) (next : Record ℕ) (l : length x ≡ n) (p : partsBytes next ≡ inserted at x (partsBytes r)) where
+  module _ (at n : ℕ) (x : Bytes) (next : Record ℕ) (l : length x ≡ n) (p : partsBytes next ≡ insertedAt at x (partsBytes r)) where
     next-staged : at ≤ length (partsBytes r) → used + n ≤ length parts → take (used + n) (staged parts used at x) ≡ partsBytes next
     next-staged h g =
         let k = used-length (omega arith) in

@@ -9,12 +9,12 @@ use Rattle.little.specs.Little.{le, over}
 use Rattle.compact.specs.declared.CompactMember.{CompactMember}
 
 -- bytes put in at a place, those behind it moved up
-abbrev pub inserted : ℕ → Bytes → Bytes → Bytes
-inserted at x s = take at s ++ (x ++ drop at s)
+abbrev pub insertedAt : ℕ → Bytes → Bytes → Bytes
+insertedAt at x s = take at s ++ (x ++ drop at s)
 
 -- the same among the first `used` bytes of what is lent; where there is no such place or no room, nothing changes
 unfoldable pub staged : Bytes → ℕ → ℕ → Bytes → Bytes
-staged parts used at x = cond (both (leb at used) (leb (used + length x) (length parts))) (over parts 0 (inserted at x (take used parts))) parts
+staged parts used at x = cond (both (leb at used) (leb (used + length x) (length parts))) (over parts 0 (insertedAt at x (take used parts))) parts
 
 -- the bytes of a ref, a member and a tag, in bits and handles
 abbrev pub refPart : ℕ → Bytes

@@ -13,7 +13,7 @@ use Rattle.base.specs.Bytes.{Bytes}
 use Rattle.base.proofs.Split.{byLt, byBool, no}
 use Rattle.integer.proofs.Integers.{Within, integer-within}
 use Rattle.calendar.specs.Calendar.{leap, monthsDays, yearsDays}
-use Rattle.stamp.specs.Stamp.{Moment, stampField, shaped, moment, taken, secondsOf, accepted, stamp, answer, stampOf}
+use Rattle.stamp.specs.Stamp.{Moment, stampField, shaped, moment, takenMoment, secondsOf, acceptedMoment, stamp, stampAnswer, stampOf}
 use Rattle.stamp.specs.Raised.{lowered, momentOf, Small, Dated, epoch}
 use Rattle.stamp.specs.declared.Raised.{Raised}
 use Rattle.stamp.specs.declared.Stamp.the-variants.{At, Not}
@@ -99,11 +99,11 @@ seconds-fit m d =
     rw (seconds-are m (y + k + m .day) (days-are m y k (d .first) refl refl)) (fits-near ((y + k + m .day) * 86400 + m .hour * 3600 + m .minute * 60 + m .second) (omega arith))
 
 -- a moment that is read and taken: its seconds
-accepted-fits : (s : Bytes) (o : Option Moment) {z : ℤ} → moment s ≡ o → accepted o ≡ some z → SFits w64 z
-unfolding accepted
+accepted-fits : (s : Bytes) (o : Option Moment) {z : ℤ} → moment s ≡ o → acceptedMoment o ≡ some z → SFits w64 z
+unfolding acceptedMoment
 accepted-fits s none p q = no (cc)
 accepted-fits s (some t) {z} p q =
-    byBool (taken t)
+    byBool (takenMoment t)
     (λ h. let v : some (secondsOf t) ≡ some z = rw h at q in
     let l = lifted s t (moment-is s t p) in
     let d = in-month (l .m) (rw (l .is) at h) in
@@ -115,13 +115,13 @@ pub stamp-fits : (s : Bytes) {z : ℤ} → stamp s ≡ some z → SFits w64 z
 unfolding stamp
 stamp-fits s {z} e =
     byBool (shaped s)
-    (λ h. let v : accepted (moment s) ≡ some z = rw h at e in accepted-fits s (moment s) refl v)
+    (λ h. let v : acceptedMoment (moment s) ≡ some z = rw h at e in accepted-fits s (moment s) refl v)
     (λ h. let v : none ≡ some z = rw h at e in no (cc))
 
 -- ---- what an answer says
 
-answer-at : (o : Option ℤ) {b : ℕ} → answer o ≡ At b → (z : ℤ) × ((o ≡ some z) × (ofZ w64 z ≡ b))
-unfolding answer
+answer-at : (o : Option ℤ) {b : ℕ} → stampAnswer o ≡ At b → (z : ℤ) × ((o ≡ some z) × (ofZ w64 z ≡ b))
+unfolding stampAnswer
 answer-at none e = no (cc)
 answer-at (some z) e = (z, (refl, cc))
 
@@ -133,17 +133,17 @@ stamp-at s {b} e =
     (rw (← a .1 .1, toZ-ofZ f) (a .1 .0), rw (a .1 .1) at (fits-ofZ f))
 
 pub stamp-of : (s : Bytes) {z : ℤ} → stamp s ≡ some z → stampOf s ≡ At (ofZ w64 z)
-unfolding stampOf answer
+unfolding stampOf stampAnswer
 stamp-of s e = rw e
 
 pub stamp-none : (s : Bytes) → stamp s ≡ none → stampOf s ≡ Not
-unfolding stampOf answer
+unfolding stampOf stampAnswer
 stamp-none s e = rw e
 
 pub stamp-not : (s : Bytes) → stampOf s ≡ Not → stamp s ≡ none
-unfolding stampOf answer
+unfolding stampOf stampAnswer
 stamp-not s e = go (stamp s) e
   where
-    go : (o : Option ℤ) → answer o ≡ Not → o ≡ none
+    go : (o : Option ℤ) → stampAnswer o ≡ Not → o ≡ none
     go none q = refl
     go (some z) q = no (cc)

@@ -9,6 +9,7 @@ use lib.Signed.{leZ}
 use mir.Syntax.{w64}
 use mir.Val.{ofZ}
 use Rattle.base.specs.Bytes.{Bytes, both}
+use Rattle.base.specs.Chars.{minusSign, colon, letterT, letterZ}
 use Rattle.integer.specs.Integer.{integer}
 use Rattle.calendar.specs.Calendar.{leap, monthDays, monthsDays, yearsDays, yearStart}
 use Rattle.stamp.specs.declared.Stamp.{Stamp}
@@ -21,12 +22,12 @@ stampField s from count = integer (take count (drop from s))
 -- RFC 3339's separators in a text of 20 bytes: ....-..-..T..:..:..Z
 unfoldable pub separated : Bytes → Bool
 separated s =
-    both (eqb (getD s 4 0) 45)
-    (both (eqb (getD s 7 0) 45)
-    (both (eqb (getD s 10 0) 84)
-    (both (eqb (getD s 13 0) 58)
-    (both (eqb (getD s 16 0) 58)
-    (eqb (getD s 19 0) 90)))))
+    both (eqb (getD s 4 0) minusSign)
+    (both (eqb (getD s 7 0) minusSign)
+    (both (eqb (getD s 10 0) letterT)
+    (both (eqb (getD s 13 0) colon)
+    (both (eqb (getD s 16 0) colon)
+    (eqb (getD s 19 0) letterZ)))))
 
 -- "takes 20 bytes, RFC 3339's separators"
 unfoldable pub shaped : Bytes → Bool
@@ -46,8 +47,8 @@ nonzero (pos (suc n)) = true
 nonzero (negsuc n) = true
 
 -- "only hour, minute, second above 23, 59, 59, day 0, day above the month's length and month outside 1 to 12 are refused"
-unfoldable pub taken : Moment → Bool
-taken t =
+unfoldable pub takenMoment : Moment → Bool
+takenMoment t =
     both (both (leZ (pos 1) (t .month)) (leZ (t .month) (pos 12)))
     (both (both (nonzero (t .day)) (leZ (t .day) (pos (monthDays (leap (natAbs (t .year))) (natAbs (t .month))))))
     (both (leZ (t .hour) (pos 23))
@@ -74,17 +75,17 @@ moment s =
     bind (stampField s 17 2) (λ x.
     some (record { year = y; month = m; day = d; hour = h; minute = i; second = x })))))))
 
-unfoldable pub accepted : Option Moment → Option ℤ
-accepted none = none
-accepted (some t) = cond (taken t) (some (secondsOf t)) none
+unfoldable pub acceptedMoment : Option Moment → Option ℤ
+acceptedMoment none = none
+acceptedMoment (some t) = cond (takenMoment t) (some (secondsOf t)) none
 
 unfoldable pub stamp : Bytes → Option ℤ
-stamp s = cond (shaped s) (accepted (moment s)) none
+stamp s = cond (shaped s) (acceptedMoment (moment s)) none
 
 -- the reader's answer: the bits of the seconds
-unfoldable pub answer : Option ℤ → Stamp
-answer none = Not
-answer (some z) = At (ofZ w64 z)
+unfoldable pub stampAnswer : Option ℤ → Stamp
+stampAnswer none = Not
+stampAnswer (some z) = At (ofZ w64 z)
 
 unfoldable pub stampOf : Bytes → Stamp
-stampOf s = answer (stamp s)
+stampOf s = stampAnswer (stamp s)

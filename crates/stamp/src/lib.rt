@@ -6,7 +6,7 @@ ghost use lib.ListN.{length};
 ghost use lib.IntN.{pos, _-ℤ_};
 ghost use mir.Syntax.{w64};
 ghost use mir.Val.{ofZ};
-ghost use Rattle.stamp.specs.Stamp.{stampField, separated, shaped, moment, taken, secondsOf, accepted, answer, stampOf};
+ghost use Rattle.stamp.specs.Stamp.{stampField, separated, shaped, moment, takenMoment, secondsOf, acceptedMoment, stampAnswer, stampOf};
 ghost use Rattle.stamp.specs.Raised.{ReadField, ReadSix, momentOf, Small, Dated, Days, epoch};
 use integer::Integer;
 
@@ -95,7 +95,7 @@ fn read_six(s: &[u8]) -> Six
 // Year -1200 is year 0 for the calendar, which repeats after 400 years.
 fn taken(m: Raised) -> bool
     requires { ⌜ Small m ⌝ }
-    ensures { λ r. ⌜ r ≡ taken (momentOf m) ⌝ }
+    ensures { λ r. ⌜ r ≡ takenMoment (momentOf m) ⌝ }
 {
     if m.month < 1001 {
         return false;
@@ -139,7 +139,7 @@ fn seconds(m: Raised) -> u64
 
 fn accepted(s: &[u8]) -> Stamp
     requires { ⌜ length (now s) ≡ 20 ⌝ }
-    ensures { λ r. ⌜ r ≡ answer (accepted (moment (now (s .entry)))) ⌝ }
+    ensures { λ r. ⌜ r ≡ stampAnswer (acceptedMoment (moment (now (s .entry)))) ⌝ }
 {
     let Six::Are(m) = read_six(s) else {
         return Stamp::Not;

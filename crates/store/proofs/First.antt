@@ -11,7 +11,7 @@ use Rattle.base.specs.Bytes.{Bytes, both}
 use Rattle.kind.specs.declared.Kind.{Kind}
 use Rattle.version_floor.specs.declared.Version.{Version}
 use Rattle.refusal.specs.declared.Refusal.the-variants as R
-use Rattle.interner.specs.Strings.{Store, room}
+use Rattle.interner.specs.Strings.{Store, textRoom}
 use Rattle.interner.specs.Texts.{handleOf, answerAs}
 use Rattle.interner.specs.Sound.{textsOf}
 use Rattle.interner.proofs.Interns as Interns
@@ -21,20 +21,20 @@ use Rattle.shelf.proofs.Answers as Acts
 use Rattle.store.specs.Calls.{handleIn}
 use Rattle.refusal.specs.First.{row, firstOf}
 use Rattle.overlay.specs.First.{keptBy}
-use Rattle.store.specs.First.{deleteRows, pushRows, isNone, refusalIn}
+use Rattle.store.specs.First.{deleteRows, pushRows, notHeld, handleRefusal}
 use Rattle.interner.specs.Strings.{intern}
 use Rattle.store.specs.First.{textRows}
 
 -- ---- a text: 13
 
-answer-first : (held : List Bytes) (roomy : Bool) (x : Option ℕ) → refusalIn (handleIn (answerAs roomy held x)) ≡ firstOf (row R.StringsFull (both (isNone x) (not roomy)) ∷ [])
+answer-first : (held : List Bytes) (roomy : Bool) (x : Option ℕ) → handleRefusal (handleIn (answerAs roomy held x)) ≡ firstOf (row R.StringsFull (both (notHeld x) (not roomy)) ∷ [])
 unfolding firstOf answerAs both
 answer-first held roomy (some h) = refl
 answer-first held true none = refl
 answer-first held false none = refl
 
-pub interned-first : (s : Store) (t : Bytes) → Interns.Sound s → refusalIn (handleIn (intern s t .answer)) ≡ firstOf (textRows s t)
-interned-first s t p = rw (Interns.answers s t p) (answer-first (textsOf s) (room s t) (handleOf t (textsOf s)))
+pub interned-first : (s : Store) (t : Bytes) → Interns.Sound s → handleRefusal (handleIn (intern s t .answer)) ≡ firstOf (textRows s t)
+interned-first s t p = rw (Interns.answers s t p) (answer-first (textsOf s) (textRoom s t) (handleOf t (textsOf s)))
 
 -- ---- a delete: 12, 14; a push: 12, 14, 15
 

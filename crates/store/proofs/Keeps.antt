@@ -25,7 +25,7 @@ use Rattle.compact.specs.declared.PushHead.{PushHead}
 use Rattle.compact.proofs.Cuts.{pushed, pushed-bytes}
 use Rattle.legal.specs.Whole.{keptBytes}
 use Rattle.interner.specs.Strings as Strings
-use Rattle.interner.specs.Strings.{Store, intern, added, room}
+use Rattle.interner.specs.Strings.{Store, intern, added, textRoom}
 use Rattle.interner.specs.Texts.{handleOf}
 use Rattle.interner.specs.Sound.{textsOf}
 use Rattle.interner.proofs.Interns as Interns
@@ -45,7 +45,7 @@ abbrev pub keptAs : PushHead → Record ℕ → Kept
 keptAs h r = record { id = toZ w64 (h .id); held = r }
 
 -- what the store does with a record
-abbrev pub storedAs : Kind → Overlay → Kept → Shelf.After
+abbrev pub storedAs : Kind → Overlay → Kept → Shelf.ShelfAfter
 storedAs k o x = Shelf.pushed k (o .setting) (shelfOf k o) (x .id) (claimOf (x .held .meta)) (keptBytes x)
 
 -- what a push gives for a record is that record's bytes, under the id given
@@ -78,11 +78,11 @@ module _ (s : Store) (t : Bytes) (p : Interns.Sound s) where
   by-intern {C} f g = go (handleOf t (textsOf s)) refl
     where
       go : (x : Option ℕ) → handleOf t (textsOf s) ≡ x → C
-      go (some h) e = f (ap (λ (z : Strings.After). z .store) (Interns.does-held s t p h e))
+      go (some h) e = f (ap (λ (z : Strings.StoreAfter). z .store) (Interns.does-held s t p h e))
       go none e =
-          byBool (room s t)
-          (λ r. g (ap (λ (z : Strings.After). z .store) (Interns.does-new s t p e r)))
-          (λ r. f (ap (λ (z : Strings.After). z .store) (Interns.does-full s t p e r)))
+          byBool (textRoom s t)
+          (λ r. g (ap (λ (z : Strings.StoreAfter). z .store) (Interns.does-new s t p e r)))
+          (λ r. f (ap (λ (z : Strings.StoreAfter). z .store) (Interns.does-full s t p e r)))
 
   pub grown : Grown s (intern s t .store)
   unfolding added

@@ -15,7 +15,7 @@ use Rattle.interner.specs.declared.Taken.{Taken}
 use Rattle.shelf.specs.Shelf as Shelf
 use Rattle.shelf.specs.declared.Kept.{Kept}
 use Rattle.overlay.specs.Overlay.{overlayOf}
-use Rattle.overlay.specs.Calls.{After}
+use Rattle.overlay.specs.Calls.{OverlayAfter}
 use Rattle.store.specs.Calls.{onShelf, handleIn, storeText}
 use Rattle.store.specs.declared.Handle.{Handle}
 
@@ -41,7 +41,7 @@ module _ (c : List ℕ) (n : ℕ) (long : length c ≡ n) (i j a b : ℕ) where
 
 -- a kind's counters hold what its shelf counts
 pub counted-at : (c : List ℕ) → length c ≡ 9 → (at : ℕ) → at < 3 → (d : List ℕ) (ids used : ℕ) → d ≡ set (set c at ids) (at + 3) used
-    → (table : List ℕ) (arena : Bytes) (r : Kept) (x : Shelf.After) → record { shelf = Shelf.shelfWith table ids arena used; answer = r } ≡ x
+    → (table : List ℕ) (arena : Bytes) (r : Kept) (x : Shelf.ShelfAfter) → record { shelf = Shelf.shelfWith table ids arena used; answer = r } ≡ x
     → (record { shelf = Shelf.shelfWith table (getD d at 0) arena (getD d (at + 3) 0); answer = r } ≡ x) × Others at (at + 3) c d
 counted-at c long at h d ids used e table arena r x f =
     rw (e, first-stored c 9 long at (at + 3) ids used (omega arith) (λ q. omega (arith, q)), second-stored c 9 long at (at + 3) ids used (omega arith))
@@ -50,7 +50,7 @@ counted-at c long at h d ids used e table arena r x f =
 -- ---- one kind changed
 
 module _ (nids : List ℕ) (narena : Bytes) (wids : List ℕ) (warena : Bytes) (rids : List ℕ) (rarena : Bytes) (spans : List ℕ) (bytes : Bytes) (c d : List ℕ)
-    (table : List ℕ) (arena : Bytes) (r : Kept) (x : Shelf.After) where
+    (table : List ℕ) (arena : Bytes) (r : Kept) (x : Shelf.ShelfAfter) where
   pub nodes-after : (record { shelf = Shelf.shelfWith table (getD d 0 0) arena (getD d 3 0); answer = r } ≡ x) × Others 0 3 c d
       → record { overlay = overlayOf table arena wids warena rids rarena spans bytes d; answer = r } ≡ onShelf Node (overlayOf nids narena wids warena rids rarena spans bytes c) x
   nodes-after h =
@@ -73,7 +73,7 @@ module _ (nids : List ℕ) (narena : Bytes) (wids : List ℕ) (warena : Bytes) (
 
 module _ (nids : List ℕ) (narena : Bytes) (wids : List ℕ) (warena : Bytes) (rids : List ℕ) (rarena : Bytes) (spans : List ℕ) (bytes : Bytes) (c d : List ℕ) (long : length c ≡ 9) where
   pub texts-after : (newSpans : List ℕ) (newBytes : Bytes) (k : Taken) (r : Handle) (t : Bytes)
-      → Strings.after newSpans newBytes k ≡ Strings.intern (Strings.storeWith spans bytes (getD c 6 0) (getD c 7 0)) t
+      → Strings.storeAfter newSpans newBytes k ≡ Strings.intern (Strings.storeWith spans bytes (getD c 6 0) (getD c 7 0)) t
       → d ≡ set (set c 6 (k .strings)) 7 (k .used) → r ≡ handleIn (k .answer)
       → record { overlay = overlayOf nids narena wids warena rids rarena newSpans newBytes d; answer = r } ≡ storeText t (overlayOf nids narena wids warena rids rarena spans bytes c)
   texts-after newSpans newBytes k r t e f g =

@@ -11,10 +11,10 @@ use Rattle.kind.specs.declared.Kind.{Kind}
 use Rattle.version_floor.specs.declared.Version.{Version}
 use Rattle.version_floor.specs.declared.Admit.{Admit}
 use Rattle.version_floor.specs.declared.Admit.the-variants.{Admitted, Below}
-use Rattle.refusal.specs.First.{Row, row}
+use Rattle.refusal.specs.First.{ConditionRow, row}
 use Rattle.refusal.specs.declared.Refusal.{Refusal}
 use Rattle.refusal.specs.declared.Refusal.the-variants as R
-use Rattle.interner.specs.Strings.{Store, room}
+use Rattle.interner.specs.Strings.{Store, textRoom}
 use Rattle.interner.specs.Texts.{handleOf}
 use Rattle.interner.specs.Sound.{textsOf}
 use Rattle.shelf.specs.Shelf.{Shelf, known, checked}
@@ -25,19 +25,19 @@ use Rattle.store.specs.declared.Handle.the-variants as H
 -- ---- a text: 13
 
 -- "13 strings or string bytes full", for a text that is not held
-abbrev pub isNone : Option ℕ → Bool
-isNone none = true
-isNone (some h) = false
+abbrev pub notHeld : Option ℕ → Bool
+notHeld none = true
+notHeld (some h) = false
 
 abbrev pub fullFor : Store → Bytes → Bool
-fullFor s t = both (isNone (handleOf t (textsOf s))) (not (room s t))
+fullFor s t = both (notHeld (handleOf t (textsOf s))) (not (textRoom s t))
 
-abbrev pub textRows : Store → Bytes → List (Row Refusal)
+abbrev pub textRows : Store → Bytes → List (ConditionRow Refusal)
 textRows s t = row R.StringsFull (fullFor s t) ∷ []
 
-abbrev pub refusalIn : Handle → Option Refusal
-refusalIn (H.Is n) = none
-refusalIn (H.Refused r) = some r
+abbrev pub handleRefusal : Handle → Option Refusal
+handleRefusal (H.Is n) = none
+handleRefusal (H.Refused r) = some r
 
 -- ---- a delete: 12, 14; a push: 12, 14, 15
 
@@ -50,10 +50,10 @@ abbrev pub heldBy : Admit → ℤ
 heldBy Admitted = pos 0
 heldBy (Below v) = v
 
-abbrev pub deleteRows : Kind → ℕ → Shelf → ℤ → Version → List (Row Refusal)
+abbrev pub deleteRows : Kind → ℕ → Shelf → ℤ → Version → List (ConditionRow Refusal)
 deleteRows k setting s id claim =
-    row (R.Regression (heldBy (checked setting (known k s id) claim))) (isBelow (checked setting (known k s id) claim)) ∷ row R.IdsFull (not (Shelf.room s id)) ∷ []
+    row (R.Regression (heldBy (checked setting (known k s id) claim))) (isBelow (checked setting (known k s id) claim)) ∷ row R.IdsFull (not (Shelf.idRoom s id)) ∷ []
 
-abbrev pub pushRows : Kind → ℕ → Shelf → ℤ → Version → Bytes → List (Row Refusal)
+abbrev pub pushRows : Kind → ℕ → Shelf → ℤ → Version → Bytes → List (ConditionRow Refusal)
 pushRows k setting s id claim bytes =
     deleteRows k setting s id claim ++ (row R.ArenaFull (ltb (length (s .arena)) (s .used + length bytes)) ∷ [])

@@ -6,7 +6,7 @@ use native.Mathlib.Omega.{arith}
 use lib.ListN.{length, getD, take, drop, set, take-append-drop, List·getD-append}
 use lib.Seq.{take-append-le, take-take, drop-at, slice, slice-empty, slice-cons, take-suc, append-snoc, set-at, sets-eq, length-take-le, getD-take}
 use Rattle.table.specs.declared.Row.{Row}
-use Rattle.table.specs.Words.{wordsOf, over, gap, inserted}
+use Rattle.table.specs.Words.{wordsOf, rowOver, gap, inserted}
 
 module _ (ws : List ℕ) (used : ℕ) where
   pub gap-closed : gap ws used used ≡ ws
@@ -46,8 +46,8 @@ module _ (ws : List ℕ) (used : ℕ) where
   gap-behind at h = drop-at (take (at + 3) ws) (slice at used ws ++ drop (used + 3) ws) (at + 3) (length-take-le (at + 3) ws h)
 
 -- a row stored word by word
-pub row-stored : (ws : List ℕ) (i : ℕ) (row : Row) → 3 * i + 3 ≤ length ws → set (set (set ws (3 * i) (row .rank)) (3 * i + 1) (row .place)) (3 * i + 2) (row .floor) ≡ over ws i row
-unfolding over wordsOf
+pub row-stored : (ws : List ℕ) (i : ℕ) (row : Row) → 3 * i + 3 ≤ length ws → set (set (set ws (3 * i) (row .rank)) (3 * i + 1) (row .place)) (3 * i + 2) (row .floor) ≡ rowOver ws i row
+unfolding rowOver wordsOf
 row-stored ws i row h =
     let x : 3 * i + 1 ≡ suc (3 * i) = omega arith in
     let y : 3 * i + 2 ≡ suc (suc (3 * i)) = omega arith in
@@ -55,6 +55,6 @@ row-stored ws i row h =
     rw (x, y) (sets-eq new ws (3 * i) h ∙ append-assoc (take (3 * i) ws) new (drop (3 * i + 3) ws))
 
 -- a row stored in the gap
-pub gap-filled : (ws : List ℕ) (p n : ℕ) (row : Row) → p ≤ n → 3 * n + 3 ≤ length ws → over (gap ws (3 * p) (3 * n)) p row ≡ inserted ws p n row
-unfolding over inserted
+pub gap-filled : (ws : List ℕ) (p n : ℕ) (row : Row) → p ≤ n → 3 * n + 3 ≤ length ws → rowOver (gap ws (3 * p) (3 * n)) p row ≡ inserted ws p n row
+unfolding rowOver inserted
 gap-filled ws p n row h fits = rw (gap-before ws (3 * n) (3 * p) (omega arith), gap-behind ws (3 * n) (3 * p) (omega arith))

@@ -6,7 +6,7 @@ use native.Mathlib.Omega.{arith}
 use lib.ListN.{length, getD, take, drop, length-append, length-take, length-drop, take-append-drop}
 use lib.Seq.{take-take, take-nil, drop-nil, drop-append-le, length-take-le, slice}
 use Rattle.table.specs.declared.Row.{Row}
-use Rattle.table.specs.Words.{rowAt, rowsFrom, rowsOf, wordsOf, over, inserted}
+use Rattle.table.specs.Words.{rowAt, rowsFrom, rowsOf, wordsOf, rowOver, inserted}
 
 -- ---- rows of words
 
@@ -108,8 +108,8 @@ module _ (ws : List ℕ) (n : ℕ) (row : Row) (fits : 3 * n ≤ length ws) wher
   around p q h =
       rw (words-append, words-take, words-drop, words-rows ws n, take-take (3 * p) (3 * n) ws (omega arith))
 
-  pub words-over : (p : ℕ) → p < n → over ws p row ≡ wordsOf (take p (rowsOf ws n) ++ (row ∷ drop (suc p) (rowsOf ws n))) ++ drop (3 * n) ws
-  unfolding over
+  pub words-over : (p : ℕ) → p < n → rowOver ws p row ≡ wordsOf (take p (rowsOf ws n) ++ (row ∷ drop (suc p) (rowsOf ws n))) ++ drop (3 * n) ws
+  unfolding rowOver
   words-over p h =
       let e : 3 * p + 3 ≡ 3 * suc p = omega arith in
       rw (around p (suc p) (omega arith), e, ← parts (3 * suc p) (3 * n) ws (omega arith) fits)
@@ -121,8 +121,8 @@ module _ (ws : List ℕ) (n : ℕ) (row : Row) (fits : 3 * n ≤ length ws) wher
       let e : 3 * n + 3 ≡ 3 * suc n = omega arith in
       rw (around p p h, e) (simp append-assoc)
 
-  pub length-over : (p : ℕ) → p < n → length (over ws p row) ≡ length ws
-  unfolding over wordsOf
+  pub length-over : (p : ℕ) → p < n → length (rowOver ws p row) ≡ length ws
+  unfolding rowOver wordsOf
   length-over p h = simp (length-append, length-take, length-drop) (omega arith)
 
   pub length-inserted : (p : ℕ) → p ≤ n → 3 * suc n ≤ length ws → length (inserted ws p n row) ≡ length ws

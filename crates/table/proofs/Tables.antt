@@ -15,7 +15,7 @@ use Rattle.table.specs.declared.Found.the-variants.{At, Place}
 use Rattle.table.specs.declared.Put.the-variants.{Replaced, Inserted, Full}
 use Rattle.table.specs.declared.Put.{Put}
 use Rattle.table.specs.Rows.{rising, find, put, smaller, positionOf}
-use Rattle.table.specs.Words.{rankAt, rowAt, rowsFrom, rowsOf, wordsOf, soundTable, held, lookup, over, inserted, Stored, storedAt, stored, countAfter}
+use Rattle.table.specs.Words.{rankAt, rowAt, rowsFrom, rowsOf, wordsOf, soundTable, held, lookup, rowOver, inserted, Stored, storedAt, stored, countAfter}
 use Rattle.table.proofs.Maps.{climbs, smaller-le, find-place, put-known, put-new, length-known, length-new, rising-put}
 use Rattle.table.proofs.Spans.{rows-length, rows-at, rows-words, words-length, words-over, words-inserted, length-over, length-inserted}
 use Rattle.table.proofs.Halves.{searched, lookup-at, lookup-place, position-known, position-new}
@@ -55,7 +55,7 @@ sound-empty ws = sound-of ws 0 (omega arith) refl
 -- ---- what was stored, by what the search found
 
 module _ (ws : List ℕ) (count : ℕ) (row : Row) where
-  pub stored-known : (i : ℕ) → lookup ws count (row .rank) ≡ At i → stored ws count row ≡ record { words = over ws i row; answer = Replaced }
+  pub stored-known : (i : ℕ) → lookup ws count (row .rank) ≡ At i → stored ws count row ≡ record { words = rowOver ws i row; answer = Replaced }
   unfolding stored storedAt
   stored-known i e = rw e
 

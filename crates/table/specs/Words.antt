@@ -61,8 +61,8 @@ lookup ws count rank = answerAt ws (held ws count) rank (halve (held ws count) w
 -- ---- a row stored
 
 -- a row over the i-th
-unfoldable pub over : List ℕ → ℕ → Row → List ℕ
-over ws i row = take (3 * i) ws ++ (wordsOf (row ∷ []) ++ drop (3 * i + 3) ws)
+unfoldable pub rowOver : List ℕ → ℕ → Row → List ℕ
+rowOver ws i row = take (3 * i) ws ++ (wordsOf (row ∷ []) ++ drop (3 * i + 3) ws)
 
 -- what stands from the word `at` up to the word `used`, three words further on
 unfoldable pub gap : List ℕ → ℕ → ℕ → List ℕ
@@ -78,7 +78,7 @@ pub record Stored : Type 0 where
   pub answer : Put
 
 unfoldable pub storedAt : List ℕ → ℕ → Row → Found → Stored
-storedAt ws count row (At i) = record { words = over ws i row; answer = Replaced }
+storedAt ws count row (At i) = record { words = rowOver ws i row; answer = Replaced }
 storedAt ws count row (Place p) =
     cond (leb (3 * suc count) (length ws))
     (record { words = inserted ws p count row; answer = Inserted })

@@ -2,7 +2,7 @@
 ghost use mathlib.Core.Path.{_≡_};
 ghost use Prim.Native.Nat.{ℕ, _+_, _*_, _≤_, _<_};
 ghost use lib.ListN.{length, getD};
-ghost use Rattle.table.specs.Words.{rowAt, soundTable, held, halve, lookup, over, gap, inserted, stored};
+ghost use Rattle.table.specs.Words.{rowAt, soundTable, held, halve, lookup, rowOver, gap, inserted, stored};
 
 // A row: the id's rank in OSM order; where its record starts, or that it is deleted; its floor. Every word means something.
 pub struct Row {
@@ -126,7 +126,7 @@ fn open_gap(table: &mut [u64], at: usize, used: usize)
 // A row over the i-th.
 fn store_row(table: &mut [u64], i: usize, row: Row)
     requires { ⌜ 3 * i + 3 ≤ length (now table) ⌝ }
-    ensures { λ _. ⌜ now (table .exit) ≡ over (now (table .entry)) i row ⌝ }
+    ensures { λ _. ⌜ now (table .exit) ≡ rowOver (now (table .entry)) i row ⌝ }
 {
     let at = 3 * i;
     table[at] = row.rank;

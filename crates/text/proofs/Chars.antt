@@ -11,7 +11,7 @@ use Rattle.base.specs.Bytes.{Bytes, all}
 use Rattle.base.proofs.Split.{byLt, no}
 use Rattle.base.proofs.Lists.{all-nil, all-cons}
 use Rattle.text.specs.Char.{utf8}
-use Rattle.text.specs.Check.{byteAt, joined, decoded}
+use Rattle.text.specs.Check.{byteAt, joinedBits, decoded}
 use Rattle.text.proofs.Xml.{from-to-yes, from-to-below, from-to-above}
 
 -- the encoding by the number of its bytes
@@ -36,31 +36,31 @@ module _ (c : ℕ) where
   by-size f1 f2 f3 f4 = byLt c 0x80 f1 (λ a. byLt c 0x800 (f2 a) (λ b. byLt c 0x10000 (f3 b) f4))
 
 module _ (v b : ℕ) where
-  pub join-yes : 0x80 ≤ b → b < 0xc0 → joined v b ≡ v * 64 + (b - 0x80)
-  unfolding joined
+  pub join-yes : 0x80 ≤ b → b < 0xc0 → joinedBits v b ≡ v * 64 + (b - 0x80)
+  unfolding joinedBits
   join-yes l h = rw (from-to-yes 0x80 0xbf b l (omega arith))
 
-  pub join-below : b < 0x80 → joined v b ≡ 0
-  unfolding joined
+  pub join-below : b < 0x80 → joinedBits v b ≡ 0
+  unfolding joinedBits
   join-below h = rw (from-to-below 0x80 0xbf b h)
 
-  pub join-above : 0xc0 ≤ b → joined v b ≡ 0
-  unfolding joined
+  pub join-above : 0xc0 ≤ b → joinedBits v b ≡ 0
+  unfolding joinedBits
   join-above h = rw (from-to-above 0x80 0xbf b (omega arith) (omega arith))
 
   -- the byte continues a character
   pub record Tail : Type 0 where
     pub low : 0x80 ≤ b
     pub high : b < 0xc0
-    pub value : joined v b ≡ v * 64 + (b - 0x80)
+    pub value : joinedBits v b ≡ v * 64 + (b - 0x80)
 
-  pub tail-of : 0 < joined v b → Tail
+  pub tail-of : 0 < joinedBits v b → Tail
   tail-of h =
       byLt b 0x80 (λ l. no (omega (arith, join-below l)))
       (λ l. byLt b 0xc0 (λ u. record { low = l; high = u; value = join-yes l u }) (λ u. no (omega (arith, join-above u))))
 
-  pub join-most : joined v b ≤ v * 64 + 63
-  join-most = byLt 0 (joined v b) (λ h. omega (arith, tail-of h .low, tail-of h .high, tail-of h .value)) (λ h. omega arith)
+  pub join-most : joinedBits v b ≤ v * 64 + 63
+  join-most = byLt 0 (joinedBits v b) (λ h. omega (arith, tail-of h .low, tail-of h .high, tail-of h .value)) (λ h. omega arith)
 
 -- what the first byte says of the code point
 module _ (s : Bytes) where
@@ -68,20 +68,20 @@ module _ (s : Bytes) where
   unfolding decoded
   point-1 h = rw (lt-ltb (byteAt s 0) 0x80 h)
 
-  pub point-2 : 0x80 ≤ byteAt s 0 → byteAt s 0 < 0xe0 → decoded s ≡ joined (byteAt s 0 - 0xc0) (byteAt s 1)
+  pub point-2 : 0x80 ≤ byteAt s 0 → byteAt s 0 < 0xe0 → decoded s ≡ joinedBits (byteAt s 0 - 0xc0) (byteAt s 1)
   unfolding decoded
   point-2 l h = rw (le-ltb (byteAt s 0) 0x80 l, lt-ltb (byteAt s 0) 0xe0 h)
 
-  pub point-3 : 0xe0 ≤ byteAt s 0 → byteAt s 0 < 0xf0 → decoded s ≡ joined (joined (byteAt s 0 - 0xe0) (byteAt s 1)) (byteAt s 2)
+  pub point-3 : 0xe0 ≤ byteAt s 0 → byteAt s 0 < 0xf0 → decoded s ≡ joinedBits (joinedBits (byteAt s 0 - 0xe0) (byteAt s 1)) (byteAt s 2)
   unfolding decoded
   point-3 l h = rw (le-ltb (byteAt s 0) 0x80 (omega arith), le-ltb (byteAt s 0) 0xe0 l, lt-ltb (byteAt s 0) 0xf0 h)
 
-  pub point-4 : 0xf0 ≤ byteAt s 0 → decoded s ≡ joined (joined (joined (byteAt s 0 - 0xf0) (byteAt s 1)) (byteAt s 2)) (byteAt s 3)
+  pub point-4 : 0xf0 ≤ byteAt s 0 → decoded s ≡ joinedBits (joinedBits (joinedBits (byteAt s 0 - 0xf0) (byteAt s 1)) (byteAt s 2)) (byteAt s 3)
   unfolding decoded
   point-4 l = rw (le-ltb (byteAt s 0) 0x80 (omega arith), le-ltb (byteAt s 0) 0xe0 (omega arith), le-ltb (byteAt s 0) 0xf0 l)
 
 -- a byte of an encoding after the first
-join-rest : (v c : ℕ) → joined v (0x80 + c % 64) ≡ v * 64 + c % 64
+join-rest : (v c : ℕ) → joinedBits v (0x80 + c % 64) ≡ v * 64 + c % 64
 join-rest v c = join-yes v (0x80 + c % 64) (omega arith) (omega arith) ∙ omega arith
 
 -- a code point is read from its encoding, whatever follows

@@ -12,7 +12,7 @@ use borrow.Author.Tests.{lt-ltb, le-ltb}
 use Rattle.base.specs.Bytes.{Bytes}
 use Rattle.base.proofs.Split.{byLt, byBool, no}
 use Rattle.text.specs.Char.{xmlChar, utf8}
-use Rattle.text.specs.Check.{byteAt, joined, decoded, charLen, sized, classOf, Starting}
+use Rattle.text.specs.Check.{byteAt, joinedBits, decoded, charLen, sized, classOf, Starting}
 use Rattle.text.proofs.Xml.{legal-low, legal-middle, legal-high, legal-top}
 use Rattle.text.proofs.Chars.{utf8-1, utf8-2, utf8-3, utf8-4, by-size, join-most, point-1, point-2, point-3, point-4}
 use Rattle.text.proofs.Lengths.{char-len, sized-low, len-illegal, len-2, len-3, len-4, len-beyond}
@@ -163,7 +163,7 @@ at-none {s} {at} h e = len-none (drop at s) (rw (first h) (cc (h .class)))
 pub at-1 : {s : Bytes} {at b k : ℕ} → Starting s at b k → k ≡ 1 → charLen (drop at s) ≡ 1
 at-1 {s} {at} h e = rw (drop-cons s at 0 (h .inside)) (len-one (byteAt s at) (drop (suc at) s) (cc (h .byte, h .class)))
 
-pub at-2 : {s : Bytes} {at b : ℕ} → Starting s at b 2 → charLen (drop at s) ≡ sized 2 0x80 (joined (b % 32) (byteAt s (at + 1)))
+pub at-2 : {s : Bytes} {at b : ℕ} → Starting s at b 2 → charLen (drop at s) ≡ sized 2 0x80 (joinedBits (b % 32) (byteAt s (at + 1)))
 at-2 {s} {at} {b} h =
     let r = class-range b 2 (h .class) (omega arith) in
     let m : b - 0xc0 ≡ b % 32 = omega arith in
@@ -171,7 +171,7 @@ at-2 {s} {at} {b} h =
     let u : byteAt (drop at s) 0 < 0xe0 = rw (first h) (omega arith) in
     len-2 (drop at s) l u ∙ ap (sized 2 0x80) (point-2 (drop at s) l u ∙ rw (first h, there s at 1, m))
 
-pub at-3 : {s : Bytes} {at b : ℕ} → Starting s at b 3 → charLen (drop at s) ≡ sized 3 0x800 (joined (joined (b % 16) (byteAt s (at + 1))) (byteAt s (at + 2)))
+pub at-3 : {s : Bytes} {at b : ℕ} → Starting s at b 3 → charLen (drop at s) ≡ sized 3 0x800 (joinedBits (joinedBits (b % 16) (byteAt s (at + 1))) (byteAt s (at + 2)))
 at-3 {s} {at} {b} h =
     let r = class-range b 3 (h .class) (omega arith) in
     let m : b - 0xe0 ≡ b % 16 = omega arith in
@@ -180,7 +180,7 @@ at-3 {s} {at} {b} h =
     len-3 (drop at s) l u ∙ ap (sized 3 0x800) (point-3 (drop at s) l u ∙ rw (first h, there s at 1, there s at 2, m))
 
 pub at-4 : {s : Bytes} {at b : ℕ} → Starting s at b 4
-    → charLen (drop at s) ≡ sized 4 0x10000 (joined (joined (joined (b % 8) (byteAt s (at + 1))) (byteAt s (at + 2))) (byteAt s (at + 3)))
+    → charLen (drop at s) ≡ sized 4 0x10000 (joinedBits (joinedBits (joinedBits (b % 8) (byteAt s (at + 1))) (byteAt s (at + 2))) (byteAt s (at + 3)))
 at-4 {s} {at} {b} h =
     let r = class-range b 4 (h .class) (omega arith) in
     let m : b - 0xf0 ≡ b % 8 = omega arith in

@@ -15,7 +15,7 @@ use Rattle.base.proofs.Lists.{all-nil, all-cons, all-head, all-tail, all-append
 use Rattle.text.specs.Char.{from-to, xmlChar, utf8}
 use Rattle.text.specs.Text.{encoded}
 use Rattle.text.specs.Check.{isText}
-use Rattle.text.specs.Escape.{escaped, escape, meaning, before, unescapeFrom, unescape, breaks}
+use Rattle.text.specs.Escape.{escaped, escape, meaning, byteBefore, unescapeFrom, unescape, breaks}
 use Rattle.text.proofs.Xml.{legal-low}
 use Rattle.text.proofs.Chars.{utf8-1, utf8-high, utf8-some}
 use Rattle.text.proofs.Theorem.{text-nil, sound}
@@ -92,28 +92,28 @@ escape-append [] b = refl
 escape-append (x ∷ a) b = rw (escape-append a b) (sym (append-assoc (escaped x) (escape a) (escape b)))
 
 -- a byte that is no backslash stands for itself
-pub read-byte : (b : ℕ) (r : Bytes) → eqb b 92 ≡ false → unescape (b ∷ r) ≡ before (some b) (unescape r)
+pub read-byte : (b : ℕ) (r : Bytes) → eqb b 92 ≡ false → unescape (b ∷ r) ≡ byteBefore (some b) (unescape r)
 unfolding unescapeFrom
 read-byte b r e = rw (e, unescapeFrom)
 
-unescape-escaped : (b : ℕ) (r : Bytes) → unescape (escaped b ++ r) ≡ before (some b) (unescape r)
+unescape-escaped : (b : ℕ) (r : Bytes) → unescape (escaped b ++ r) ≡ byteBefore (some b) (unescape r)
 unfolding unescapeFrom
 unescape-escaped b r = by-escaped b (λ m d. rw (d .pair, d .back)) (λ d. rw (d .alone) (read-byte b r (d .other)))
 
 -- what is escaped is read back
 pub unescape-escape : (t : Bytes) → unescape (escape t) ≡ some t
-unfolding unescapeFrom escape before
+unfolding unescapeFrom escape byteBefore
 unescape-escape [] = refl
 unescape-escape (b ∷ t) = unescape-escaped b (escape t) ∙ rw (unescape-escape t)
 
 -- a backslash that ends a value is refused, and so is another escape
 pub backslash-last : (t : Bytes) → unescape (escape t ++ (92 ∷ [])) ≡ none
-unfolding unescapeFrom escape before
+unfolding unescapeFrom escape byteBefore
 backslash-last [] = refl
 backslash-last (b ∷ t) = rw (append-assoc (escaped b) (escape t) (92 ∷ [])) (unescape-escaped b (escape t ++ (92 ∷ [])) ∙ rw (backslash-last t))
 
 pub other-escape : (t : Bytes) (m : ℕ) (r : Bytes) → meaning m ≡ none → unescape (escape t ++ (92 ∷ m ∷ r)) ≡ none
-unfolding unescapeFrom escape before
+unfolding unescapeFrom escape byteBefore
 other-escape [] m r h = rw h
 other-escape (b ∷ t) m r h = rw (append-assoc (escaped b) (escape t) (92 ∷ m ∷ r)) (unescape-escaped b (escape t ++ (92 ∷ m ∷ r)) ∙ rw (other-escape t m r h))
 
@@ -190,8 +190,8 @@ record First (o : Option ℕ) (x : Option Bytes) (t : Bytes) : Type 0 where
   then : x ≡ some rest
   whole : t ≡ byte ∷ rest
 
-first : (o : Option ℕ) (x : Option Bytes) (t : Bytes) → before o x ≡ some t → First o x t
-unfolding before
+first : (o : Option ℕ) (x : Option Bytes) (t : Bytes) → byteBefore o x ≡ some t → First o x t
+unfolding byteBefore
 first none x t e = none-some e
 first (some b) none t e = none-some e
 first (some b) (some r) t e = record { byte = b; rest = r; is = refl; then = refl; whole = cc }

@@ -11,7 +11,7 @@ use Rattle.base.specs.Bytes.{Bytes, both}
 use Rattle.base.proofs.Split.{byLt, byBool, no, both-left, both-right, both-no-right}
 use Rattle.base.proofs.Lists.{same-yes, same-refl}
 use Rattle.text.specs.Char.{xmlChar, utf8}
-use Rattle.text.specs.Check.{byteAt, joined, decoded, begins, charLen, sized}
+use Rattle.text.specs.Check.{byteAt, joinedBits, decoded, begins, charLen, sized}
 use Rattle.text.proofs.Xml.{none-above}
 use Rattle.text.proofs.Chars.{utf8-2, utf8-3, utf8-4, utf8-some, first-1, first-2, first-3, tail-of, point-2, point-3, point-4, decoded-utf8}
 
@@ -92,7 +92,7 @@ module _ (s : Bytes) where
   len-3 l u = byLt (decoded s) 0x800
       (λ h. low 3 0x800 h (omega (arith, first-2 (decoded s) h)))
       (λ h. let d = point-3 s l u in
-      let p = tail-of (joined (byteAt s 0 - 0xe0) (byteAt s 1)) (byteAt s 2) (omega arith) in
+      let p = tail-of (joinedBits (byteAt s 0 - 0xe0) (byteAt s 1)) (byteAt s 2) (omega arith) in
       let q = tail-of (byteAt s 0 - 0xe0) (byteAt s 1) (omega arith) in
       let x : 0xe0 + decoded s / 4096 ≡ byteAt s 0 = omega arith in
       let y : 0x80 + decoded s / 64 % 64 ≡ byteAt s 1 = omega arith in
@@ -106,8 +106,8 @@ module _ (s : Bytes) where
   len-4 l = byLt (decoded s) 0x10000
       (λ h. low 4 0x10000 h (omega (arith, first-3 (decoded s) h)))
       (λ h. let d = point-4 s l in
-      let p = tail-of (joined (joined (byteAt s 0 - 0xf0) (byteAt s 1)) (byteAt s 2)) (byteAt s 3) (omega arith) in
-      let q = tail-of (joined (byteAt s 0 - 0xf0) (byteAt s 1)) (byteAt s 2) (omega arith) in
+      let p = tail-of (joinedBits (joinedBits (byteAt s 0 - 0xf0) (byteAt s 1)) (byteAt s 2)) (byteAt s 3) (omega arith) in
+      let q = tail-of (joinedBits (byteAt s 0 - 0xf0) (byteAt s 1)) (byteAt s 2) (omega arith) in
       let r = tail-of (byteAt s 0 - 0xf0) (byteAt s 1) (omega arith) in
       let w : 0xf0 + decoded s / 262144 ≡ byteAt s 0 = omega arith in
       let x : 0x80 + decoded s / 4096 % 64 ≡ byteAt s 1 = omega arith in
@@ -124,7 +124,7 @@ module _ (s : Bytes) where
       byLt (decoded s) 0x10000
       (λ h. len-4 (omega arith) ∙ sized-low 4 0x10000 (decoded s) h)
       (λ h. let d = point-4 s (omega arith) in
-      let p = tail-of (joined (joined (byteAt s 0 - 0xf0) (byteAt s 1)) (byteAt s 2)) (byteAt s 3) (omega arith) in
-      let q = tail-of (joined (byteAt s 0 - 0xf0) (byteAt s 1)) (byteAt s 2) (omega arith) in
+      let p = tail-of (joinedBits (joinedBits (byteAt s 0 - 0xf0) (byteAt s 1)) (byteAt s 2)) (byteAt s 3) (omega arith) in
+      let q = tail-of (joinedBits (byteAt s 0 - 0xf0) (byteAt s 1)) (byteAt s 2) (omega arith) in
       let r = tail-of (byteAt s 0 - 0xf0) (byteAt s 1) (omega arith) in
       len-illegal (none-above (decoded s) (omega arith)))

@@ -13,7 +13,7 @@ use Rattle.base.proofs.Split.{byBool, byLt, no, both-left, both-right, both-of,
 use Rattle.base.proofs.Lists.{all-nil, all-cons, all-head, all-tail, all-append}
 use Rattle.text.specs.Char.{xmlChar, utf8}
 use Rattle.text.specs.Text.{encoded}
-use Rattle.text.specs.Check.{byteAt, isText, plain}
+use Rattle.text.specs.Check.{byteAt, isText, plainAscii}
 use Rattle.text.proofs.Xml.{legal-low}
 use Rattle.text.proofs.Chars.{utf8-1, utf8-high, utf8-some, point-1, decoded-utf8}
 use Rattle.text.proofs.Lengths.{char-len, len-illegal}
@@ -62,15 +62,15 @@ text-ascii b r h =
     (λ x. rw x (stops (b ∷ r) (omega arith) (len-illegal (b ∷ r) (rw (point-1 (b ∷ r) h) x))))
 
 -- a run of plain bytes is text
-pub text-plain : (s : Bytes) → all plain s ≡ true → isText s ≡ true
-unfolding plain
+pub text-plain : (s : Bytes) → all plainAscii s ≡ true → isText s ≡ true
+unfolding plainAscii
 text-plain [] h = text-nil
 text-plain (b ∷ s) h =
-    let p = all-head plain b s h in
-    text-ascii b s (ltb-true b 0x80 (both-left _ _ p)) ∙ both-of (both-right _ _ p) (text-plain s (all-tail plain b s h))
+    let p = all-head plainAscii b s h in
+    text-ascii b s (ltb-true b 0x80 (both-left _ _ p)) ∙ both-of (both-right _ _ p) (text-plain s (all-tail plainAscii b s h))
 
-pub plain-of : (b : ℕ) → 0x20 ≤ b → b < 0x80 → plain b ≡ true
-unfolding plain
+pub plain-of : (b : ℕ) → 0x20 ≤ b → b < 0x80 → plainAscii b ≡ true
+unfolding plainAscii
 plain-of b l h = both-of (lt-ltb b 0x80 h) (legal-low b l (omega arith))
 
 -- a run of decimal digits is text
@@ -78,7 +78,7 @@ pub text-digits : (s : Bytes) → all isDigit s ≡ true → isText s ≡ true
 unfolding isDigit
 text-digits s h =
     text-plain s
-    (all-imp isDigit plain
+    (all-imp isDigit plainAscii
     (λ b d. plain-of b (omega (arith, leb-true 48 b (both-left _ _ d))) (omega (arith, leb-true b 57 (both-right _ _ d)))) s h)
 
 -- p has no ASCII byte: where `p ++ r` is `s ++ (b ∷ t)` with an ASCII byte b, all of p lies in s

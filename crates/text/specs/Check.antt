@@ -24,16 +24,16 @@ abbrev pub byteAt : Bytes → ℕ → ℕ
 byteAt s i = getD s i 0
 
 -- the bits v and the six of a byte that continues a character (table 3-6, 10xxxxxx); 0 where the byte continues none
-unfoldable pub joined : ℕ → ℕ → ℕ
-joined v b = cond (from-to 0x80 0xbf b) (v * 64 + (b - 0x80)) 0
+unfoldable pub joinedBits : ℕ → ℕ → ℕ
+joinedBits v b = cond (from-to 0x80 0xbf b) (v * 64 + (b - 0x80)) 0
 
 -- table 3-6 from right to left: the one code point whose encoding a run of bytes can begin with
 unfoldable pub decoded : Bytes → ℕ
 decoded s =
     cond (ltb (byteAt s 0) 0x80) (byteAt s 0)
-    (cond (ltb (byteAt s 0) 0xe0) (joined (byteAt s 0 - 0xc0) (byteAt s 1))
-    (cond (ltb (byteAt s 0) 0xf0) (joined (joined (byteAt s 0 - 0xe0) (byteAt s 1)) (byteAt s 2))
-    (joined (joined (joined (byteAt s 0 - 0xf0) (byteAt s 1)) (byteAt s 2)) (byteAt s 3))))
+    (cond (ltb (byteAt s 0) 0xe0) (joinedBits (byteAt s 0 - 0xc0) (byteAt s 1))
+    (cond (ltb (byteAt s 0) 0xf0) (joinedBits (joinedBits (byteAt s 0 - 0xe0) (byteAt s 1)) (byteAt s 2))
+    (joinedBits (joinedBits (joinedBits (byteAt s 0 - 0xf0) (byteAt s 1)) (byteAt s 2)) (byteAt s 3))))
 
 -- a run of bytes begins with another
 unfoldable pub begins : Bytes → Bytes → Bool
@@ -54,8 +54,8 @@ unfoldable pub isText : Bytes → Bool
 isText s = textAfter 0 s
 
 -- an ASCII character of XML 1.0
-unfoldable pub plain : ℕ → Bool
-plain b = both (ltb b 0x80) (xmlChar b)
+unfoldable pub plainAscii : ℕ → Bool
+plainAscii b = both (ltb b 0x80) (xmlChar b)
 
 -- What the contracts of the private functions cite.
 

@@ -3,7 +3,7 @@ ghost use mathlib.Core.Path.{_≡_};
 ghost use Prim.Native.Nat.{_+_, _*_, _<_, _≤_};
 ghost use lib.ListN.{drop};
 ghost use Rattle.text.specs.Char.{xmlChar};
-ghost use Rattle.text.specs.Check.{classOf, byteAt, joined, charLen, sized, Starting, isText};
+ghost use Rattle.text.specs.Check.{classOf, byteAt, joinedBits, charLen, sized, Starting, isText};
 
 // The class of each first byte: how many bytes a legal character has that starts with it, 0 where none does.
 // A row has sixteen first bytes.
@@ -35,7 +35,7 @@ fn byte(s: &[u8], at: usize) -> u8
 // The bits of a character so far with the six of a byte that continues it, 0 where it continues none.
 fn join(v: u32, b: u8) -> u32
     requires { ⌜ v < 0x10000 ⌝ }
-    ensures { λ r. ⌜ (r ≡ joined v b) × (r ≤ v * 64 + 63) ⌝ }
+    ensures { λ r. ⌜ (r ≡ joinedBits v b) × (r ≤ v * 64 + 63) ⌝ }
 {
     if b < 0x80 {
         return 0;

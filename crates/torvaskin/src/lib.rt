@@ -2,7 +2,7 @@
 // that was read, and a version, cross in an unsigned word by their bits at their own width: an i32 of -1 is 4,294,967,295.
 ghost use mathlib.Core.Path.{_≡_};
 ghost use mir.Syntax.{w32, w64};
-ghost use Rattle.osm_id.specs.Order.{keyOf, cmpOf, firstKey, lastKey, rank};
+ghost use Rattle.osm_id.specs.Order.{osmKeyOf, cmpOf, firstKey, lastKey, rank};
 ghost use Rattle.version_floor.specs.Version.{admitOf, higher, wordOf, ofWord};
 ghost use Rattle.integer.specs.Integer.{readOf};
 ghost use Rattle.stamp.specs.Stamp.{stampOf};
@@ -25,7 +25,7 @@ pub struct Number {
 
 #[no_mangle]
 pub extern "C" fn tvk_osm_id_key(id: i64) -> OsmIdKey
-    ensures { λ r. ⌜ r ≡ keyOf id ⌝ }
+    ensures { λ r. ⌜ r ≡ osmKeyOf id ⌝ }
 {
     osm_id::osm_id_key(id)
 }

@@ -10,7 +10,7 @@ use mir.Val.{toZ}
 use Rattle.base.specs.Ascii.{ascii}
 use Rattle.base.specs.Bytes.{Bytes, both, same}
 use Rattle.kind.specs.declared.Kind.the-variants.{Node, Way}
-use Rattle.osm_id.specs.Order.{sameId, keyOf}
+use Rattle.osm_id.specs.Order.{sameId, osmKeyOf}
 use Rattle.model.specs.Record.{Meta, Record, place, refs, members}
 use Rattle.refusal.specs.Refusal.{numberOf, heldOf}
 use Rattle.compact.specs.Layout.{recordBytes}
@@ -45,13 +45,13 @@ pub data Said : Type 0 where
   refused : ℕ → Said
 
 -- a row: what is asked, and what document 01 says of it
-pub data Row : Type 0 where
-  key-of : ℤ → ℕ → ℕ → Row
-  stamp-is : Bytes → Said → Row
-  integer-is : Width → Bytes → Said → Row
-  takes : ℤ → Record ℕ → ℕ → Row
+pub data TrialRow : Type 0 where
+  key-of : ℤ → ℕ → ℕ → TrialRow
+  stamp-is : Bytes → Said → TrialRow
+  integer-is : Width → Bytes → Said → TrialRow
+  takes : ℤ → Record ℕ → ℕ → TrialRow
   -- calls, one after the other, on an overlay that starts empty and refuses regression, and the listing after them
-  prints : List Told → Bytes → Row
+  prints : List Told → Bytes → TrialRow
 
 -- a field is what is said
 abbrev pub says : Field ℤ → Said → Bool
@@ -112,9 +112,9 @@ lists page x = isPage page (x .out) (x .answer)
 abbrev pub small : Storage
 small = started 0 (overlayOf (zeros 12) (zeros 256) (zeros 12) (zeros 256) (zeros 12) (zeros 256) (zeros 4) (zeros 8) (zeros 9)) (λ n. zeros 44432)
 
-unfoldable pub right : Row → Bool
-right (key-of id class magnitude) = both (eqb (keyOf id .class) class) (eqb (keyOf id .magnitude) magnitude)
-right (stamp-is s x) = says (andThen (Field.metaOf (attribute (ascii "timestamp") s)) (λ m. got (m .timestamp))) x
+unfoldable pub right : TrialRow → Bool
+right (key-of id class magnitude) = both (eqb (osmKeyOf id .class) class) (eqb (osmKeyOf id .magnitude) magnitude)
+right (stamp-is s x) = says (andThen (Field.metadataOf (attribute (ascii "timestamp") s)) (λ m. got (m .timestamp))) x
 right (integer-is w s x) = says (integerField w (ascii "lat7") (attribute (ascii "lat7") s)) x
 right (takes id r n) = eqb (length (recordBytes id r)) n
 right (prints ts page) = both (allAgree small ts) (lists page (listingOn (zeros 256) (after small (map askOf ts) .overlay)))
@@ -144,17 +144,17 @@ outputA = ascii "n\t7\t+\t3\t9\t3\t0\t0\t0\t\t10\t-20\t1\tname\tA\nw\t-4\t-\t2\n
 
 -- ---- records
 
-abbrev pub noMeta : Meta ℕ
-noMeta = record { flags = 0; version = pos 0; timestamp = pos 0; changeset = pos 0; uid = pos 0; user = 0 }
+abbrev pub bareMeta : Meta ℕ
+bareMeta = record { flags = 0; version = pos 0; timestamp = pos 0; changeset = pos 0; uid = pos 0; user = 0 }
 
 abbrev pub taggedNode : Record ℕ
-taggedNode = record { meta = noMeta; body = place (pos 0) (pos 0); tags = record { key = 1; value = ascii "yes" } ∷ [] }
+taggedNode = record { meta = bareMeta; body = place (pos 0) (pos 0); tags = record { key = 1; value = ascii "yes" } ∷ [] }
 
 abbrev pub wayOfTwo : Record ℕ
-wayOfTwo = record { meta = noMeta; body = refs (pos 1 ∷ pos 2 ∷ []); tags = [] }
+wayOfTwo = record { meta = bareMeta; body = refs (pos 1 ∷ pos 2 ∷ []); tags = [] }
 
 abbrev pub relationOfOne : Record ℕ
-relationOfOne = record { meta = noMeta; body = members (record { ref = pos 1; type = Node; role = 0 } ∷ []); tags = [] }
+relationOfOne = record { meta = bareMeta; body = members (record { ref = pos 1; type = Node; role = 0 } ∷ []); tags = [] }
 
 -- ---- calls
 
@@ -178,7 +178,7 @@ pushingNode id = Ask.pushes Node (record { id = id; lat = 0; lon = 0; count = 0;
 
 -- ---- the table
 
-abbrev pub rows : List Row
+abbrev pub rows : List TrialRow
 rows =
     -- key of 0 is (0, 0), of -1 (1, 1), of 1 (2, 1)
     key-of (pos 0) 0 0

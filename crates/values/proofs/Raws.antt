@@ -15,15 +15,15 @@ use Rattle.base.specs.Ascii.{ascii}
 use Rattle.base.specs.Bytes.{Bytes, both, either, isDigit, all, same}
 use Rattle.base.proofs.Split.{byBool, byEq, no, clash, both-left, both-right, either-right}
 use Rattle.base.proofs.Lists.{all-head, all-tail, same-yes}
-use Rattle.text.specs.Escape.{unescape, unescapeFrom, before, breaks}
+use Rattle.text.specs.Escape.{unescape, unescapeFrom, byteBefore, breaks}
 use Rattle.text.proofs.Escapes.{bare, bare-nil, bare-cons, bare-append, read-byte, raw-reads, plain-raw}
 use Rattle.integer.specs.Integer.{digits, integer, ofWidth, integerOf}
 use Rattle.integer.proofs.Digits.{digit-is, digits-is}
 use Rattle.integer.proofs.Integers.{integer-of-is}
-use Rattle.stamp.specs.Stamp.{stampField, separated, shaped, Moment, moment, accepted, stamp}
+use Rattle.stamp.specs.Stamp.{stampField, separated, shaped, Moment, moment, acceptedMoment, stamp}
 use Rattle.stamp.proofs.Reading.{no-year, no-month, no-day, no-hour, no-minute, no-second}
 use Rattle.event.specs.Event.{orEmpty}
-use Rattle.scan.specs.Piece.{textOf}
+use Rattle.scan.specs.Piece.{valueText}
 use Rattle.nesting.specs.Name.{Spelling, spellings, nameIn, nameOf}
 
 -- ---- readers of texts without escapes
@@ -33,13 +33,13 @@ plain-byte b h = byBool (eqb b 92) (λ e. clash (sym (ap not (either-right (brea
 
 -- such a text is its own value
 bare-own : (v : Bytes) → bare v ≡ true → unescape v ≡ some v
-unfolding bare unescapeFrom before
+unfolding bare unescapeFrom byteBefore
 bare-own [] h = refl
 bare-own (b ∷ v) h = read-byte b v (plain-byte b (all-head _ b v h)) ∙ rw (bare-own v (all-tail _ b v h))
 
 -- a reader of bare texts alone reads a value as it reads its text, whatever the escapes
-text-reads : {B : Type 0} (f : Bytes → Option B) → ((s : Bytes) (z : B) → f s ≡ some z → bare s ≡ true) → f [] ≡ none → (v : Bytes) → f v ≡ f (textOf v)
-unfolding textOf
+text-reads : {B : Type 0} (f : Bytes → Option B) → ((s : Bytes) (z : B) → f s ≡ some z → bare s ≡ true) → f [] ≡ none → (v : Bytes) → f v ≡ f (valueText v)
+unfolding valueText
 text-reads {B} f h n v = go (unescape v) refl
   where
     nothing : unescape v ≡ none → (o : Option B) → f v ≡ o → f v ≡ none
@@ -51,8 +51,8 @@ text-reads {B} f h n v = go (unescape v) refl
     go none e = nothing e (f v) refl ∙ sym n
 
 -- and so is a bare word that is not empty
-text-same : (w v : Bytes) → bare w ≡ true → same [] w ≡ false → same v w ≡ same (textOf v) w
-unfolding textOf
+text-same : (w v : Bytes) → bare w ≡ true → same [] w ≡ false → same v w ≡ same (valueText v) w
+unfolding valueText
 text-same w v h n = go (unescape v) refl
   where
     go : (o : Option Bytes) → unescape v ≡ o → same v w ≡ same (orEmpty o) w
@@ -91,7 +91,7 @@ integer-bare (b ∷ s) z e =
     (λ q. rw q (bare-cons 45 s refl (mapped-bare (λ n. negℤ (pos n)) s z (rw (ne-eqb b 43 p, eq-eqb b 45 q) at e))))
     (λ q. mapped-bare pos (b ∷ s) z (rw (ne-eqb b 43 p, ne-eqb b 45 q) at e)))
 
-pub integer-raw : (w : Width) (v : Bytes) → integerOf w v ≡ integerOf w (textOf v)
+pub integer-raw : (w : Width) (v : Bytes) → integerOf w v ≡ integerOf w (valueText v)
 unfolding integerOf ofWidth integer
 integer-raw w v = text-reads (integerOf w) (λ s z p. integer-bare s z (integer-of-is w s p .0)) refl v
 
@@ -133,17 +133,17 @@ moment-bare s m e h =
     (rw (drop-of-length-le s {i = 20} (omega arith)) bare-nil))))))
 
 stamp-bare : (s : Bytes) (z : ℤ) → stamp s ≡ some z → bare s ≡ true
-unfolding stamp accepted
+unfolding stamp acceptedMoment
 stamp-bare s z e =
     byBool (shaped s)
     (λ h. read (moment s) h refl (rw h at e))
     (λ h. let q : none ≡ some z = rw h at e in no (cc))
   where
-    read : (o : Option Moment) → shaped s ≡ true → moment s ≡ o → accepted o ≡ some z → bare s ≡ true
+    read : (o : Option Moment) → shaped s ≡ true → moment s ≡ o → acceptedMoment o ≡ some z → bare s ≡ true
     read none h p q = no (cc)
     read (some m) h p q = moment-bare s m p h
 
-pub stamp-raw : (v : Bytes) → stamp v ≡ stamp (textOf v)
+pub stamp-raw : (v : Bytes) → stamp v ≡ stamp (valueText v)
 unfolding stamp shaped both
 stamp-raw v = text-reads stamp stamp-bare refl v
 
@@ -153,19 +153,19 @@ stamp-raw v = text-reads stamp stamp-bare refl v
 abbrev worded : Spelling → Bool
 worded p = both (bare (p .bytes)) (not (same [] (p .bytes)))
 
-all-spelled : (ps : List Spelling) → all worded ps ≡ true → (v : Bytes) → nameIn ps v ≡ nameIn ps (textOf v)
+all-spelled : (ps : List Spelling) → all worded ps ≡ true → (v : Bytes) → nameIn ps v ≡ nameIn ps (valueText v)
 unfolding nameIn
 all-spelled [] h v = refl
 all-spelled (p ∷ ps) h v =
     let w = all-head worded p ps h in
     rw (text-same (p .bytes) v (both-left _ _ w) (not-true _ (both-right _ _ w)), all-spelled ps (all-tail worded p ps h) v)
 
-pub name-raw : (v : Bytes) → nameOf v ≡ nameOf (textOf v)
+pub name-raw : (v : Bytes) → nameOf v ≡ nameOf (valueText v)
 unfolding nameOf spellings bare all both breaks either same
 name-raw v = all-spelled spellings refl v
 
 -- ---- "only `visible=false` exactly sets 2"
 
-pub false-raw : (v : Bytes) → same v (ascii "false") ≡ same (textOf v) (ascii "false")
+pub false-raw : (v : Bytes) → same v (ascii "false") ≡ same (valueText v) (ascii "false")
 unfolding bare all both breaks either same
 false-raw v = text-same (ascii "false") v refl refl

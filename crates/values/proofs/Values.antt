@@ -16,7 +16,7 @@ use Rattle.base.specs.Bytes.{Bytes}
 use Rattle.base.proofs.Split.{byLt}
 use Rattle.refusal.specs.declared.Refusal.the-variants.{Missing, CoordinateRange}
 use Rattle.text.specs.Escape.{unescapeFrom}
-use Rattle.integer.specs.Integer.{integerOf, answer, readOf}
+use Rattle.integer.specs.Integer.{integerOf, integerAnswer, readOf}
 use Rattle.integer.specs.declared.Integer.{Integer}
 use Rattle.integer.specs.declared.Integer.the-variants as I
 use Rattle.integer.proofs.Integers.{integer-of-is, read-is}
@@ -26,38 +26,38 @@ use Rattle.stamp.proofs.Bounds.{stamp-fits}
 use Rattle.event.specs.Event.{Attr, valueOf}
 use Rattle.scan.specs.declared.Value.{Value}
 use Rattle.scan.specs.declared.Value.the-variants as U
-use Rattle.scan.specs.Piece.{textOf}
+use Rattle.scan.specs.Piece.{valueText}
 use Rattle.scan.specs.Scan.{attributesAt}
 use Rattle.scan.proofs.Places.{lent-is}
 use Rattle.scan.proofs.Attributes.{Searched}
-use Rattle.field.specs.Field.{got, bad, anInteger, within, textField, integerField}
+use Rattle.field.specs.Field.{got, bad, anInteger, coordinateWithin, textField, integerField}
 use Rattle.values.specs.Value.{Inside, Located, integerIn, stampIn}
 use Rattle.values.proofs.Raws.{integer-raw, stamp-raw}
 
 -- ---- answers in bits
 
 read-number : (w : Width) (s : Bytes) → integerIn w (readOf w s) ≡ integerOf w s
-unfolding readOf answer
+unfolding readOf integerAnswer
 read-number w s = go (integerOf w s) refl
   where
-    go : (o : Option ℤ) → integerOf w s ≡ o → integerIn w (answer w o) ≡ o
+    go : (o : Option ℤ) → integerOf w s ≡ o → integerIn w (integerAnswer w o) ≡ o
     go none e = refl
     go (some z) e = ap some (toZ-ofZ (integer-of-is w s e .1))
 
 read-moment : (s : Bytes) → stampIn (S.stampOf s) ≡ S.stamp s
-unfolding S.stampOf S.answer
+unfolding S.stampOf S.stampAnswer
 read-moment s = go (S.stamp s) refl
   where
-    go : (o : Option ℤ) → S.stamp s ≡ o → stampIn (S.answer o) ≡ o
+    go : (o : Option ℤ) → S.stamp s ≡ o → stampIn (S.stampAnswer o) ≡ o
     go none e = refl
     go (some z) e = ap some (toZ-ofZ (stamp-fits s e))
 
 -- ---- a value
 
-pub number-text : (w : Width) (v : Bytes) {r : Integer} → r ≡ readOf w v → integerIn w r ≡ integerOf w (textOf v)
+pub number-text : (w : Width) (v : Bytes) {r : Integer} → r ≡ readOf w v → integerIn w r ≡ integerOf w (valueText v)
 number-text w v e = ap (integerIn w) e ∙ read-number w v ∙ integer-raw w v
 
-pub moment-text : (v : Bytes) {r : Stamp} → r ≡ S.stampOf v → stampIn r ≡ S.stamp (textOf v)
+pub moment-text : (v : Bytes) {r : Stamp} → r ≡ S.stampOf v → stampIn r ≡ S.stamp (valueText v)
 moment-text v e = ap stampIn e ∙ read-moment v ∙ stamp-raw v
 
 -- the bits of a 32-bit integer are 32
@@ -69,8 +69,8 @@ pub part : {t : Bytes} {from to : ℕ} → Inside t from to → midOf from (to -
 part {t} {from} {to} v = lent-is from to t (v .order)
 
 -- the empty extent stands for the empty text
-pub empty-text : (t : Bytes) → textOf (slice 0 0 t) ≡ []
-unfolding textOf unescapeFrom
+pub empty-text : (t : Bytes) → valueText (slice 0 0 t) ≡ []
+unfolding valueText unescapeFrom
 empty-text t = rw (slice-empty 0 t)
 
 pub empty-within : (t : Bytes) → Inside t 0 0
@@ -88,13 +88,13 @@ told-found t from to o h e = (record { order = h; end = e .1 .0 }, e .1 .1)
 -- where a field has no `=`
 pub told-behind : (t : Bytes) (from to : ℕ) (o : Option Bytes) → to < from → Searched t (U.At from to) o → Located t (U.At to to) o
 told-behind t from to o h e =
-    (record { order = omega arith; end = e .1 .0 }, e .1 .1 ∙ ap (λ (s : Bytes). some (textOf s)) (none-behind from to t (omega arith) (e .1 .0) ∙ sym (none-behind to to t (omega arith) (e .1 .0))))
+    (record { order = omega arith; end = e .1 .0 }, e .1 .1 ∙ ap (λ (s : Bytes). some (valueText s)) (none-behind from to t (omega arith) (e .1 .0) ∙ sym (none-behind to to t (omega arith) (e .1 .0))))
 
 module _ (t n : Bytes) (at : ℕ) {r : Value} where
   pub found-missing : r ≡ U.Missing → Located t r (valueOf n (attributesAt t at)) → valueOf n (attributesAt t at) ≡ none
   found-missing e f = subst (λ (r : Value). Located t r (valueOf n (attributesAt t at))) e f
 
-  pub found-at : {from to : ℕ} → r ≡ U.At from to → Located t r (valueOf n (attributesAt t at)) → Inside t from to × (valueOf n (attributesAt t at) ≡ some (textOf (slice from to t)))
+  pub found-at : {from to : ℕ} → r ≡ U.At from to → Located t r (valueOf n (attributesAt t at)) → Inside t from to × (valueOf n (attributesAt t at) ≡ some (valueText (slice from to t)))
   found-at e f = subst (λ (r : Value). Located t r (valueOf n (attributesAt t at))) e f
 
 module _ (n : Bytes) (attrs : List Attr) where
@@ -124,12 +124,12 @@ module _ (limit b : ℕ) (h : limit ≤ 1800000000) where
   size-high : 2 ^ hbits w32 ≤ b → natAbs (toZ w32 b) ≡ suc (4294967296 - suc b)
   size-high k = rw (le-ltb b (2 ^ hbits w32) k)
 
-  pub within-low : b ≤ limit → within limit (toZ w32 b) ≡ got (toZ w32 b)
+  pub within-low : b ≤ limit → coordinateWithin limit (toZ w32 b) ≡ got (toZ w32 b)
   within-low k = rw (le-leb (natAbs (toZ w32 b)) limit (rw (size-low (omega arith)) k))
 
-  pub within-high : b < 4294967296 → 4294967295 - limit < b → within limit (toZ w32 b) ≡ got (toZ w32 b)
+  pub within-high : b < 4294967296 → 4294967295 - limit < b → coordinateWithin limit (toZ w32 b) ≡ got (toZ w32 b)
   within-high f k = rw (le-leb (natAbs (toZ w32 b)) limit (rw (size-high (omega arith)) (omega arith)))
 
-  pub within-out : limit < b → b ≤ 4294967295 - limit → within limit (toZ w32 b) ≡ bad CoordinateRange
+  pub within-out : limit < b → b ≤ 4294967295 - limit → coordinateWithin limit (toZ w32 b) ≡ bad CoordinateRange
   within-out f k =
       rw (lt-leb (natAbs (toZ w32 b)) limit (byLt b (2 ^ hbits w32) (λ l. rw (size-low l) f) (λ l. rw (size-high l) (omega arith))))

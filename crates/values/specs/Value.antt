@@ -18,7 +18,7 @@ use Rattle.stamp.specs.declared.Stamp.the-variants as S
 use Rattle.kind.specs.declared.Kind.{Kind}
 use Rattle.kind.specs.declared.Kind.the-variants as K
 use Rattle.model.specs.Record.{Member, Tag, Body, place, refs, members}
-use Rattle.scan.specs.Piece.{textOf}
+use Rattle.scan.specs.Piece.{valueText}
 use Rattle.scan.specs.declared.Value.{Value}
 use Rattle.scan.specs.declared.Value.the-variants as F
 use Rattle.field.specs.Field.{Field, got, bad}
@@ -49,7 +49,7 @@ pub record Inside (t : Bytes) (from to : ℕ) : Type 0 where
 
 -- the text that an extent of a line stands for
 abbrev pub textAt : Bytes → Extent → Bytes
-textAt t e = textOf (slice (e .from) (e .to) t)
+textAt t e = valueText (slice (e .from) (e .to) t)
 
 abbrev pub ExtentLies : Bytes → Extent → Type 0
 ExtentLies t e = Inside t (e .from) (e .to)
@@ -57,7 +57,7 @@ ExtentLies t e = Inside t (e .from) (e .to)
 -- a value that may be missing: where it lies, and its text
 abbrev pub Located : Bytes → Value → Option Bytes → Type 0
 Located t F.Missing o = o ≡ none
-Located t (F.At from to) o = Inside t from to × (o ≡ some (textOf (slice from to t)))
+Located t (F.At from to) o = Inside t from to × (o ≡ some (valueText (slice from to t)))
 
 -- ---- numbers
 

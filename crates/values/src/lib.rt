@@ -7,7 +7,7 @@ ghost use Rattle.base.specs.Ascii.{ascii};
 ghost use Rattle.kind.specs.declared.Kind.the-variants as kinds;
 ghost use Rattle.integer.specs.Integer.{integerOf};
 ghost use Rattle.event.specs.Event.{valueOf, orEmpty};
-ghost use Rattle.scan.specs.Piece.{textOf};
+ghost use Rattle.scan.specs.Piece.{valueText};
 ghost use Rattle.scan.specs.Scan.{attributesAt};
 ghost use Rattle.field.specs.Field.{integerField, coordinate, bodyFor, tagOf, typeNamed, memberOf};
 ghost use Rattle.field.specs.Field as F;
@@ -33,7 +33,7 @@ pub enum Narrow {
 }
 
 pub fn integer_32(v: &[u8]) -> Narrow
-    ensures { λ r. ⌜ narrowIn r ≡ integerOf w32 (textOf (now (v .entry))) ⌝ }
+    ensures { λ r. ⌜ narrowIn r ≡ integerOf w32 (valueText (now (v .entry))) ⌝ }
 {
     let Integer::Is(b) = integer::read_i32(v) else {
         return Narrow::Not;

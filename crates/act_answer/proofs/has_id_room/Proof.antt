@@ -8,7 +8,7 @@ use lib.ListN.{length}
 use denote.Ref.{now}
 use Rattle.osm_id.specs.Order.{rank}
 use Rattle.table.specs.Words.{lookup}
-use Rattle.shelf.specs.Shelf.{room}
+use Rattle.shelf.specs.Shelf.{idRoom}
 use Rattle.shelf.proofs.Acts.{rows-held}
 use borrow.Author.Needs.{needs}
 use Rattle.act_answer.proofs.has_id_room.Statement.{statement}
@@ -36,11 +36,11 @@ enum-told-2 : tie.Need-enum-told-2
 enum-told-2 c = search needs
 
 returns : tie.Need-returns
-unfolding room
+unfolding idRoom
 returns c = λ arena used. rw (row-is (c .before .before), c .enum-told .given .1)
 
 returns-2 : tie.Need-returns-2
-unfolding room
+unfolding idRoom
 returns-2 c = let k = c .before .before .before .before .before .before .args in λ arena used. rw (row-is (c .before .before), c .enum-told2 .given .1) (rows-held (k .ids) (length (now (k .table))))
 
 pub has-id-room-spec : {M : Type 1} → statement M

@@ -8,7 +8,7 @@ use borrow.Author.Tests.{ltb-true, ltb-false}
 use Rattle.kind.specs.declared.Kind.the-variants.{Node}
 use Rattle.compact.specs.Held.{metaOf, nodeHead}
 use Rattle.compact.proofs.Lengths.{length-written}
-use Rattle.append.specs.Append.{written}
+use Rattle.append.specs.Append.{recordWritten}
 use Rattle.append.proofs.Writes.{full-is, append-end}
 use borrow.Author.Needs.{needs}
 use Rattle.append.proofs.append_node.Statement.{statement}
@@ -24,7 +24,7 @@ lacks-requires c κs = search needs
 returns : tie.Need-returns
 returns c =
     let a = c .before .before .before .before .args in
-    let t = written Node (nodeHead (a .head)) (metaOf (a .meta)) (now (a .parts)) in
+    let t = recordWritten Node (nodeHead (a .head)) (metaOf (a .meta)) (now (a .parts)) in
     let n : length t ≡ 49 + length (now (a .parts)) = length-written Node (nodeHead (a .head)) (metaOf (a .meta)) (now (a .parts)) in
     sym (full-is (now (a .arena)) (a .used) t (omega (arith, n, ltb-true (length (now (a .arena))) _ (sym (c .before .lacks .ensures) ∙ c .if1 .taken))))
 
@@ -52,7 +52,7 @@ same-length c = search needs
 returns-2 : tie.Need-returns-2
 returns-2 c =
     let a = c .before .before .before .before .before .before .before .before .args in
-    let t = written Node (nodeHead (a .head)) (metaOf (a .meta)) (now (a .parts)) in
+    let t = recordWritten Node (nodeHead (a .head)) (metaOf (a .meta)) (now (a .parts)) in
     let n : length t ≡ 49 + length (now (a .parts)) = length-written Node (nodeHead (a .head)) (metaOf (a .meta)) (now (a .parts)) in
     append-end (now (a .arena)) (a .used) t _ _ (omega (arith, n, room (c .before .before .before .before))) (omega (arith, n)) (c .before .before .put-node .ensures)
 

@@ -1,7 +1,7 @@
 -- `head_field`: the id, then the metadata.
 use mathlib.Core.Path.{sym, _∙_, ap, subst}
 use denote.Ref.{now}
-use Rattle.field.specs.Field.{idOf}
+use Rattle.field.specs.Field.{idField}
 use Rattle.values.specs.Value.{wideField}
 use Rattle.metadata.specs.Metadata.{metaField, MetaFieldLies}
 use borrow.Author.Needs.{needs}
@@ -30,20 +30,20 @@ enum-known-meta : tie.Need-enum-known-meta
 enum-known-meta c = search needs
 
 returns : tie.Need-returns
-unfolding idOf
+unfolding idField
 returns c =
     let e = ap wideField (sym (c .before .r .given .1)) ∙ c .before .before .before .wide-field .ensures in
     (λ f. rw (← e), tt)
 
 returns-2 : tie.Need-returns-2
-unfolding idOf
+unfolding idField
 returns-2 c =
     let e = ap wideField (sym (c .before .before .before .before .before .id .given .1)) ∙ c .before .before .before .before .before .before .before .wide-field .ensures in
     let m = ap (metaField (now (c .before .before .before .before .before .before .before .before .before .before .args .t))) (sym (c .before .r2 .given .1)) ∙ c .before .before .before .meta-field .ensures .0 in
     (λ f. rw (← e, ← m), tt)
 
 returns-3 : tie.Need-returns-3
-unfolding idOf
+unfolding idField
 returns-3 c =
     let e = ap wideField (sym (c .before .before .before .before .before .id .given .1)) ∙ c .before .before .before .before .before .before .before .wide-field .ensures in
     let m = ap (metaField (now (c .before .before .before .before .before .before .before .before .before .before .args .t))) (sym (c .before .meta .given .1)) ∙ c .before .before .before .meta-field .ensures .0 in

@@ -6,7 +6,7 @@ use denote.Ref.{now}
 use lib.ListN.{take}
 use lib.Seq.{length-take-le}
 use Rattle.interner.specs.declared.Found.the-variants.{Not}
-use Rattle.interner.specs.Strings.{storeWith, findIn, room}
+use Rattle.interner.specs.Strings.{storeWith, findIn, textRoom}
 use Rattle.interner.proofs.Takes.{held, new, full, room-words, room-bytes, take-min}
 use borrow.Author.Needs.{needs}
 use Rattle.interner.proofs.intern.Statement.{statement}
@@ -64,8 +64,8 @@ fits-requires c κs = search needs
 -- the test for room held
 roomy : (c : tie.Then1)
     → let a = c .before .before .before .before .before .before .before .before .before .before .before .args in
-    room (storeWith (now (a .spans)) (now (a .bytes)) (a .strings) (a .used)) (now (a .text)) ≡ true
-unfolding room
+    textRoom (storeWith (now (a .spans)) (now (a .bytes)) (a .strings) (a .used)) (now (a .text)) ≡ true
+unfolding textRoom
 roomy c = sym (c .before .fits2 .ensures) ∙ c .if1 .taken
 
 add-requires : tie.Need-add-requires
@@ -96,12 +96,12 @@ same-length-6 : tie.Need-same-length-6
 same-length-6 c = search needs
 
 returns-3 : tie.Need-returns-3
-unfolding room
+unfolding textRoom
 returns-3 c =
     let f = c .before .before in
     let a = f .before .before .before .before .before .before .before .before .before .args in
     let s = storeWith (now (a .spans)) (now (a .bytes)) (a .strings) (a .used) in
-    let r : room s (now (a .text)) ≡ false = rw (← c .before .fits2 .ensures) (c .if1 .left) in
+    let r : textRoom s (now (a .text)) ≡ false = rw (← c .before .fits2 .ensures) (c .if1 .left) in
     rw (full s (now (a .text)) (not-found f) r)
 
 pub intern-spec : {M : Type 1} → statement M

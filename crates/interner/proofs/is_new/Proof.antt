@@ -9,7 +9,7 @@ use Rattle.base.specs.Bytes.{both}
 use Rattle.base.proofs.Split.{both-of, both-no-left, both-no-right, clash}
 use Rattle.text.specs.Check.{isText}
 use Rattle.interner.specs.Strings.{bytesAt, findIn}
-use Rattle.interner.specs.Check.{keyOf, isNot, newAt}
+use Rattle.interner.specs.Check.{textKey, isNot, newAt}
 use Rattle.interner.proofs.Finds.{Lies, lies, within-bytes}
 use Rattle.interner.proofs.Keys.{keyed-more}
 use Rattle.interner.proofs.Checks.{new-missing, lies-bytes, new-lies}
@@ -83,8 +83,8 @@ returns-2 c =
     let t = f .before .before .before .before .before in
     let a = t .before .before .before .before .before .before .before .before .args in
     let g = t .before .before .start .given .0 in
-    let k : f .before .before .key-of .result ≡ keyOf (bytesAt (now (a .spans)) (now (a .bytes)) (a .h)) =
-    f .before .before .key-of .ensures ∙ ap keyOf (lies-bytes (now (a .spans)) (now (a .bytes)) (a .h) (g .0) (g .1 .0) (lain (t .before .before))) in
+    let k : f .before .before .key-of .result ≡ textKey (bytesAt (now (a .spans)) (now (a .bytes)) (a .h)) =
+    f .before .before .key-of .ensures ∙ ap textKey (lies-bytes (now (a .spans)) (now (a .bytes)) (a .h) (g .0) (g .1 .0) (lain (t .before .before))) in
     let y : isText (take (g .0 + g .1 .0 - g .0) (drop (g .0) (now (a .bytes)))) ≡ true = sym (f .before .before .before .before .is-text .ensures) ∙ f .before .before .before .if1 .taken in (
       sym (left t ∙ both-of y (rw (← f .is-first .ensures) (c .before .before .before .before .if2 .taken))),
       λ q. rw (c .before .before .put-key .ensures)

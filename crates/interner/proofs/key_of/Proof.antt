@@ -4,13 +4,13 @@ use mathlib.Core.Path.{_≡_, refl, sym, _∙_}
 use native.Mathlib.Omega.{arith}
 use denote.Ref.{now}
 use lib.ListN.{length, drop}
-use Rattle.interner.specs.Check.{keyFrom, keyOf}
+use Rattle.interner.specs.Check.{keyFrom, textKey}
 use Rattle.interner.proofs.Keys.{key-on, key-end}
 use Rattle.interner.proofs.key_of.Statement.{statement}
 use Rattle.interner.proofs.key_of.Tie as tie
 
 abbrev Inv-loop : tie.InvT-loop
-Inv-loop t k₀ i₀ k i = (i ≤ length t) × ((k < 4294967296) × (keyFrom k (drop i t) ≡ keyOf t))
+Inv-loop t k₀ i₀ k i = (i ≤ length t) × ((k < 4294967296) × (keyFrom k (drop i t) ≡ textKey t))
 
 abbrev μ-loop : tie.MeasureT-loop
 μ-loop t k₀ i₀ k i = length t - i

@@ -1,6 +1,6 @@
 -- A node's place is in range; a way and a relation have none.
 use Rattle.compact.specs.Legal.{inRange}
-use Rattle.legal.specs.Judge.{placed}
+use Rattle.legal.specs.Judge.{placeInRange}
 use Rattle.legal.proofs.Bits.{and-both}
 use borrow.Author.Needs.{needs}
 use Rattle.legal.proofs.in_place.Statement.{statement}
@@ -22,15 +22,15 @@ enum-told-3 : tie.Need-enum-told-3
 enum-told-3 c = search needs
 
 returns : tie.Need-returns
-unfolding placed inRange
+unfolding placeInRange inRange
 returns c = rw (and-both, c .before .within .ensures, c .within2 .ensures, c .before .before .enum-told .given .1)
 
 returns-2 : tie.Need-returns-2
-unfolding placed
+unfolding placeInRange
 returns-2 c = search needs
 
 returns-3 : tie.Need-returns-3
-unfolding placed
+unfolding placeInRange
 returns-3 c = search needs
 
 pub in-place-spec : {M : Type 1} → statement M

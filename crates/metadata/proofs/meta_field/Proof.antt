@@ -8,11 +8,11 @@ use lib.Dec.{ltb}
 use lib.ListN.{length}
 use lib.Seq.{slice}
 use borrow.Author.Needs.{needs}
-use Rattle.scan.specs.Piece.{textOf}
+use Rattle.scan.specs.Piece.{valueText}
 use Rattle.scan.specs.Scan.{attributesAt}
 use Rattle.scan.proofs.Places.{Stands, stands, lent-is}
 use Rattle.scan.proofs.Attributes.{attributes-end}
-use Rattle.field.specs.Field.{metaFrom, metaOf}
+use Rattle.field.specs.Field.{metaFrom, metadataOf}
 use Rattle.values.proofs.Values.{empty-text, empty-within}
 use Rattle.metadata.specs.Metadata.{metaWritten, metaField, MetadataLies, MetaFieldLies, metaName, metaAs}
 use Rattle.metadata.proofs.Attributes.{behind-within, meta-on, meta-stops}
@@ -20,13 +20,13 @@ use Rattle.metadata.proofs.meta_field.Statement.{statement}
 use Rattle.metadata.proofs.meta_field.Tie as tie
 
 abbrev Inv-loop : tie.InvT-loop
-Inv-loop t at m₀ p₀ m p = MetadataLies t m × (metaFrom (metaWritten t m) (attributesAt t p) ≡ metaOf (attributesAt t at))
+Inv-loop t at m₀ p₀ m p = MetadataLies t m × (metaFrom (metaWritten t m) (attributesAt t p) ≡ metadataOf (attributesAt t at))
 
 abbrev μ-loop : tie.MeasureT-loop
 μ-loop t at m₀ p₀ m p = suc (length t) - p
 
 loop-holds : tie.Need-loop-holds Inv-loop μ-loop
-unfolding metaOf
+unfolding metadataOf
 loop-holds c = (record { small = omega arith; user = empty-within (now (c .before .args .t)) }, rw (empty-text (now (c .before .args .t))))
 
 attribute-at-requires : tie.Need-attribute-at-requires Inv-loop μ-loop
@@ -71,7 +71,7 @@ with-attribute-requires c κs = (c .before .before .before .before .before .befo
 met : (c : tie.After-with-attribute Inv-loop μ-loop)
     → let t = now (c .before .before .before .before .before .before .before .before .before .before .args .t) in
     let g = c .before .before .before .before .before .eq .given .0 in
-    metaField t (c .with-attribute .result) ≡ metaAs (metaName (slice (c .before .before .before .before .before .before .before .before .loop .p) (g .0) t)) (metaWritten t (c .before .before .before .before .before .before .before .before .loop .m)) (textOf (slice (cond (ltb (g .0) (g .1 .0)) (g .0 + 1) (g .1 .0)) (g .1 .0) t))
+    metaField t (c .with-attribute .result) ≡ metaAs (metaName (slice (c .before .before .before .before .before .before .before .before .loop .p) (g .0) t)) (metaWritten t (c .before .before .before .before .before .before .before .before .loop .m)) (valueText (slice (cond (ltb (g .0) (g .1 .0)) (g .0 + 1) (g .1 .0)) (g .1 .0) t))
 met c =
     let t = now (c .before .before .before .before .before .before .before .before .before .before .args .t) in
     let l = c .before .before .before .before .before .before .before .before .loop in

@@ -3,7 +3,7 @@ use Prim.Native.Nat.{suc, _+_, _-_, _^_}
 use mathlib.Core.Path.{_≡_}
 use native.Mathlib.Omega.{arith}
 use borrow.Author.Needs.{needs}
-use Rattle.osm_id.specs.Order.{keyOf}
+use Rattle.osm_id.specs.Order.{osmKeyOf}
 use Rattle.osm_id.proofs.Steps.{is-zero, is-positive, is-negative}
 use Rattle.osm_id.proofs.osm_id_key.Statement.{statement}
 use Rattle.osm_id.proofs.osm_id_key.Tie as tie
@@ -12,11 +12,11 @@ bits-of-i64-requires : tie.Need-bits-of-i64-requires
 bits-of-i64-requires c κs = search needs
 
 returns : tie.Need-returns
-unfolding keyOf
+unfolding osmKeyOf
 returns c = rw (is-zero (c .before .before .fits .id) (c .before .bits-of-i64 .ensures) (c .if1 .taken))
 
 returns-2 : tie.Need-returns-2
-unfolding keyOf
+unfolding osmKeyOf
 returns-2 c =
     let b = c .before .before .bits-of-i64 in
     let e : suc (b .result - 1) ≡ b .result = omega arith in
@@ -29,7 +29,7 @@ add-t5 : tie.Need-add-t5
 add-t5 c = search needs
 
 returns-3 : tie.Need-returns-3
-unfolding keyOf
+unfolding osmKeyOf
 returns-3 c =
     let b = c .before .before .bits-of-i64 in
     let e : suc (2 ^ 64 - suc (b .result)) ≡ 2 ^ 64 - 1 - b .result + 1 = omega arith in

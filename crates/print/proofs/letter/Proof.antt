@@ -1,5 +1,4 @@
 -- `letter` asks for the escaped bytes in turn.
-use borrow.Author.Needs.{needs}
 use borrow.Author.Tests.{ne-eqb}
 use Rattle.text.specs.Escape.{escaped}
 use Rattle.print.proofs.letter.Statement.{statement}
@@ -7,19 +6,19 @@ use Rattle.print.proofs.letter.Tie as tie
 
 returns : tie.Need-returns
 unfolding escaped
-returns c = search needs
+returns c = rw (c .if1 .taken)
 
 returns-2 : tie.Need-returns-2
 unfolding escaped
-returns-2 c = search needs
+returns-2 c = rw (c .if2 .taken)
 
 returns-3 : tie.Need-returns-3
 unfolding escaped
-returns-3 c = search needs
+returns-3 c = rw (c .if3 .taken)
 
 returns-4 : tie.Need-returns-4
 unfolding escaped
-returns-4 c = search needs
+returns-4 c = rw (c .if4 .taken)
 
 returns-5 : tie.Need-returns-5
 unfolding escaped

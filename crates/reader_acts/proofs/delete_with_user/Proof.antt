@@ -8,7 +8,7 @@ use Rattle.store.specs.Calls.{storeDelete}
 use Rattle.base.specs.Bytes.{Bytes}
 use Rattle.model.specs.Record.{Meta, claimOf}
 use Rattle.compact.specs.declared.ArenaMeta.{ArenaMeta}
-use Rattle.overlay.specs.Calls.{After}
+use Rattle.overlay.specs.Calls.{OverlayAfter}
 use Rattle.reader_acts.proofs.Laws.{user-acted, user-not}
 use borrow.Author.Needs.{needs}
 use Rattle.reader_acts.proofs.delete_with_user.Statement.{statement}
@@ -25,7 +25,7 @@ abbrev meta : tie.Start → Meta Bytes
 meta s = metaWritten (now (s .args .line)) (s .args .meta)
 
 -- the act that follows
-abbrev act : tie.Start → ArenaMeta → Overlay → After
+abbrev act : tie.Start → ArenaMeta → Overlay → OverlayAfter
 act s a q = storeDelete (s .args .kind) (toZ w64 (s .args .id)) (claimOf (meta s)) q
 
 begin-element-requires : tie.Need-begin-element-requires

@@ -5,7 +5,7 @@ use Rattle.overlay.specs.Overlay.{Overlay, overlayOf}
 use Rattle.metadata.specs.Metadata.{metaWritten}
 use Rattle.store.specs.Calls.{storePush}
 use Rattle.compact.specs.declared.ArenaMeta.{ArenaMeta}
-use Rattle.overlay.specs.Calls.{After}
+use Rattle.overlay.specs.Calls.{OverlayAfter}
 use Rattle.base.specs.Bytes.{Bytes}
 use Rattle.model.specs.Record.{Meta}
 use Rattle.reader_acts.proofs.Laws.{user-acted, user-not}
@@ -24,7 +24,7 @@ abbrev meta : tie.Start → Meta Bytes
 meta s = metaWritten (now (s .args .line)) (s .args .meta)
 
 -- the act that follows
-abbrev act : tie.Start → ArenaMeta → Overlay → After
+abbrev act : tie.Start → ArenaMeta → Overlay → OverlayAfter
 act s a q = storePush (s .args .kind) (s .args .head) a [] q
 
 begin-element-requires : tie.Need-begin-element-requires

@@ -4,7 +4,7 @@ use native.Mathlib.Omega.{arith}
 use denote.Ref.{now}
 use lib.ListN.{take}
 use lib.Seq.{length-take-le}
-use Rattle.interner.specs.Strings.{storeWith, findIn, room}
+use Rattle.interner.specs.Strings.{storeWith, findIn, textRoom}
 use Rattle.interner.proofs.Takes.{take-min}
 use Rattle.reader_texts.proofs.Resolved.{held-not-refused, room-not-refused, full-refused}
 use borrow.Author.Needs.{needs}
@@ -44,14 +44,14 @@ returns c =
     sym (held-not-refused s (now (a .text)) _ (sym (found (c .before .before)) ∙ c .enum-told .given .1))
 
 returns-2 : tie.Need-returns-2
-unfolding room
+unfolding textRoom
 returns-2 c =
     let a = c .before .before .before .before .before .before .before .before .before .before .args in
     let s = storeWith (now (a .spans)) (now (a .bytes)) (a .strings) (a .used) in
     sym (room-not-refused s (now (a .text)) (sym (found (c .before .before .before .before)) ∙ c .before .before .enum-told2 .given .1) (sym (c .before .fits2 .ensures) ∙ c .if1 .taken))
 
 returns-3 : tie.Need-returns-3
-unfolding room
+unfolding textRoom
 returns-3 c =
     let a = c .before .before .before .before .before .before .before .before .before .before .args in
     let s = storeWith (now (a .spans)) (now (a .bytes)) (a .strings) (a .used) in

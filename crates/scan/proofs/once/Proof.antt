@@ -6,7 +6,7 @@ use denote.Ref.{now}
 use lib.ListN.{length}
 use lib.Seq.{slice}
 use borrow.Author.Needs.{needs}
-use Rattle.event.specs.Event.{named, distinct}
+use Rattle.event.specs.Event.{named, noneTwice}
 use Rattle.scan.specs.Scan.{attrsAt, Good}
 use Rattle.scan.proofs.Places.{lent-is}
 use Rattle.scan.proofs.Walks.{Step, attrs-step, once-on, once-stops, once-ends}
@@ -14,7 +14,7 @@ use Rattle.scan.proofs.once.Statement.{statement}
 use Rattle.scan.proofs.once.Tie as tie
 
 abbrev Inv-loop : tie.InvT-loop
-Inv-loop t at p₀ p = Good t p × (distinct (attrsAt t p) ≡ distinct (attrsAt t at))
+Inv-loop t at p₀ p = Good t p × (noneTwice (attrsAt t p) ≡ noneTwice (attrsAt t at))
 
 abbrev μ-loop : tie.MeasureT-loop
 μ-loop t at p₀ p = suc (length t) - p

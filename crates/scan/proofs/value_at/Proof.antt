@@ -7,13 +7,13 @@ use lib.ListN.{length}
 use lib.Seq.{slice}
 use borrow.Author.Needs.{needs}
 use Rattle.base.specs.Bytes.{same}
-use Rattle.scan.specs.Scan.{valueAt}
+use Rattle.scan.specs.Scan.{attributeValue}
 use Rattle.scan.proofs.Places.{Stands, stands, lent-is, value-past}
 use Rattle.scan.proofs.value_at.Statement.{statement}
 use Rattle.scan.proofs.value_at.Tie as tie
 
 abbrev Inv-loop : tie.InvT-loop
-Inv-loop t name at p₀ p = valueAt t name p ≡ valueAt t name at
+Inv-loop t name at p₀ p = attributeValue t name p ≡ attributeValue t name at
 
 abbrev μ-loop : tie.MeasureT-loop
 μ-loop t name at p₀ p = suc (length t) - p

@@ -10,14 +10,14 @@ use borrow.Author.Needs.{needs}
 use Rattle.base.proofs.Split.{clash}
 use Rattle.text.specs.Escape.{unescape}
 use Rattle.little.proofs.Overs.{Writing, begun, written}
-use Rattle.scan.specs.Piece.{there, textOf}
+use Rattle.scan.specs.Piece.{there, valueText}
 use Rattle.scan.proofs.Pieces.{Turn, turn, text-end, wrong-here, put-on}
 use Rattle.scan.proofs.write.Statement.{statement}
 use Rattle.scan.proofs.write.Tie as tie
 
 abbrev Inv-loop : tie.InvT-loop
 Inv-loop out₀ v i₀ n₀ out i n =
-    (n ≤ i) × (i ≤ length v) × (there (unescape (drop i v)) ≡ true) × Writing out₀ (textOf v) out n (textOf (drop i v)) × (n + length (textOf (drop i v)) ≡ length (textOf v))
+    (n ≤ i) × (i ≤ length v) × (there (unescape (drop i v)) ≡ true) × Writing out₀ (valueText v) out n (valueText (drop i v)) × (n + length (valueText (drop i v)) ≡ length (valueText v))
 
 abbrev μ-loop : tie.MeasureT-loop
 μ-loop out₀ v i₀ n₀ out i n = length v - i

@@ -2,7 +2,7 @@
 use borrow.Author.Needs.{needs}
 use mathlib.Core.Path.{sym, _∙_}
 use borrow.Author.Tests.{lt-ltb, le-ltb}
-use Rattle.sorted.specs.Lookup.{idsOf, spanOf}
+use Rattle.sorted.specs.Lookup.{idsOf, rangeOf}
 use Rattle.sorted.proofs.Steps.{smaller-counted, upTo-counted}
 use Rattle.sorted.proofs.upsert_range.Statement.{statement}
 use Rattle.sorted.proofs.upsert_range.Tie as tie
@@ -23,7 +23,7 @@ count-under-requires-2 : tie.Need-count-under-requires-2
 count-under-requires-2 c κs = sym (c .before .before .before .before .in-order .ensures) ∙ c .before .before .before .if1 .taken
 
 returns : tie.Need-returns
-unfolding spanOf
+unfolding rangeOf
 returns c =
     let k = c .before .before .before .before .before .before .before .before in
     let ids = idsOf (k .args .ids .now) in
@@ -32,7 +32,7 @@ returns c =
     rw (← c .before .before .before .before .before .before .in-order .ensures, c .before .before .before .before .before .if1 .taken, ← e, ← u, lt-ltb _ _ (c .if2 .taken))
 
 returns-2 : tie.Need-returns-2
-unfolding spanOf
+unfolding rangeOf
 returns-2 c =
     let k = c .before .before .before .before .before .before .before .before in
     let ids = idsOf (k .args .ids .now) in
@@ -41,7 +41,7 @@ returns-2 c =
     rw (← c .before .before .before .before .before .before .in-order .ensures, c .before .before .before .before .before .if1 .taken, ← e, ← u, le-ltb _ _ (c .if2 .left))
 
 returns-3 : tie.Need-returns-3
-unfolding spanOf
+unfolding rangeOf
 returns-3 c = rw (← c .before .in-order .ensures, c .if1 .left)
 
 pub upsert-range-spec : {M : Type 1} → statement M

@@ -7,7 +7,7 @@ use borrow.Author.Needs.{needs}
 use Rattle.little.specs.Little.{valueAt}
 use Rattle.osm_id.specs.Order.{idOf}
 use Rattle.table.specs.Words.{rowsOf}
-use Rattle.sound.specs.Count.{one, count, pointsAt}
+use Rattle.sound.specs.Count.{one, howMany, pointsAt}
 use Rattle.sound.proofs.Ids.{points-at, points-off, hit-none, hit-found}
 use Rattle.sound.proofs.hit.Statement.{statement}
 use Rattle.sound.proofs.hit.Tie as tie
@@ -36,7 +36,7 @@ row-at-requires c κs = search needs
 
 -- the row that was found
 found : (c : tie.After-row-at) → let a = c .before .before .before .before .before .before .before .before .args in
-    (count (pointsAt (now (a .bytes)) (a .at)) (rowsOf (now (a .table)) (a .ids)) ≡ one (pointsAt (now (a .bytes)) (a .at) (c .row-at .result)))
+    (howMany (pointsAt (now (a .bytes)) (a .at)) (rowsOf (now (a .table)) (a .ids)) ≡ one (pointsAt (now (a .bytes)) (a .at) (c .row-at .result)))
     × (idOf (c .row-at .result .rank) ≡ toZ w64 (valueAt 8 (now (a .bytes)) (a .at)))
 found c =
     let a = c .before .before .before .before .before .before .before .before .args in

@@ -6,13 +6,13 @@ use native.Mathlib.Omega.{arith}
 use borrow.Author.Needs.{needs}
 use Rattle.table.specs.Words.{rowAt, rowsOf}
 use Rattle.table.specs.declared.Row.{Row}
-use Rattle.sound.specs.Count.{one, count, live}
+use Rattle.sound.specs.Count.{one, howMany, live}
 use Rattle.sound.proofs.Counts.{one-le, rest, rest-starts, rest-next, rest-ends}
 use Rattle.sound.proofs.live_rows.Statement.{statement}
 use Rattle.sound.proofs.live_rows.Tie as tie
 
 abbrev Inv-loop : tie.InvT-loop
-Inv-loop table ids n i₀ lives₀ i lives = (lives ≤ i) × (lives + rest live table ids i ≡ count live (rowsOf table ids))
+Inv-loop table ids n i₀ lives₀ i lives = (lives ≤ i) × (lives + rest live table ids i ≡ howMany live (rowsOf table ids))
 
 abbrev μ-loop : tie.MeasureT-loop
 μ-loop table ids n i₀ lives₀ i lives = n - i

@@ -8,7 +8,7 @@ use mir.Syntax.{w32}
 use Rattle.base.specs.Bytes.{Bytes}
 use Rattle.integer.specs.Integer.{integerOf}
 use Rattle.event.specs.Event.{valueOf}
-use Rattle.scan.specs.Piece.{textOf}
+use Rattle.scan.specs.Piece.{valueText}
 use Rattle.scan.specs.Scan.{attributesAt}
 use Rattle.field.specs.Field.{anInteger, integerField}
 use Rattle.values.specs.Value.{Inside, narrowIn}
@@ -37,7 +37,7 @@ returns c =
 found : (c : tie.After-known-told)
     → let a = c .before .before .before .before .before .before .args in
     let g = c .before .from .given .0 in
-    Inside (now (a .t)) (g .0) (g .1 .0) × (valueOf (now (a .name)) (attributesAt (now (a .t)) (a .at)) ≡ some (textOf (slice (g .0) (g .1 .0) (now (a .t)))))
+    Inside (now (a .t)) (g .0) (g .1 .0) × (valueOf (now (a .name)) (attributesAt (now (a .t)) (a .at)) ≡ some (valueText (slice (g .0) (g .1 .0) (now (a .t)))))
 found c =
     let a = c .before .before .before .before .before .before .args in
     found-at (now (a .t)) (now (a .name)) (a .at) (c .before .from .given .1) (c .before .before .before .value .ensures)
@@ -67,7 +67,7 @@ read : (c : tie.After-integer-32)
 read c =
     let a = c .before .before .before .before .before .before .before .before .args in
     let v = found (c .before .before) in
-    integer-got (now (a .name)) (attributesAt (now (a .t)) (a .at)) w32 _ _ (v .1) (c .integer-32 .ensures ∙ ap (λ (s : Bytes). integerOf w32 (textOf s)) (part (v .0)))
+    integer-got (now (a .name)) (attributesAt (now (a .t)) (a .at)) w32 _ _ (v .1) (c .integer-32 .ensures ∙ ap (λ (s : Bytes). integerOf w32 (valueText s)) (part (v .0)))
 
 returns-2 : tie.Need-returns-2
 returns-2 c = rw (← read (c .before .before), c .enum-told2 .given .1)

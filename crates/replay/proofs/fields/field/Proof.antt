@@ -7,7 +7,7 @@ use denote.Ref.{now}
 use lib.ListN.{length, getD, take, drop}
 use borrow.Author.Needs.{needs}
 use Rattle.line.specs.Line.{fields}
-use Rattle.replay.specs.Seek.{before}
+use Rattle.replay.specs.Seek.{bytesBefore}
 use Rattle.replay.proofs.Tabs.{found-within, field-here, field-after, field-missing}
 use Rattle.replay.proofs.fields.field.Statement.{statement}
 use Rattle.replay.proofs.fields.field.Tie as tie

@@ -4,13 +4,13 @@ use mathlib.Core.Path.{_≡_, refl}
 use native.Mathlib.Omega.{arith}
 use denote.Ref.{now}
 use lib.ListN.{length, drop}
-use Rattle.replay.specs.Seek.{before}
+use Rattle.replay.specs.Seek.{bytesBefore}
 use Rattle.replay.proofs.Tabs.{stops, passes, ends}
 use Rattle.replay.proofs.fields.seek.Statement.{statement}
 use Rattle.replay.proofs.fields.seek.Tie as tie
 
 abbrev Inv-loop : tie.InvT-loop
-Inv-loop s from b i₀ i = i + before b (drop i s) ≡ from + before b (drop from s)
+Inv-loop s from b i₀ i = i + bytesBefore b (drop i s) ≡ from + bytesBefore b (drop from s)
 
 abbrev μ-loop : tie.MeasureT-loop
 μ-loop s from b i₀ i = length s - i
