@@ -1,0 +1,4 @@
+pub mod Stops
+pub mod Pieces
+pub mod Walks
+pub mod Ends
