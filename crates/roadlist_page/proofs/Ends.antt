@@ -30,7 +30,7 @@ use Rattle.reader.specs.State.{State, freshReader, stateSound, readerSound}
 use Rattle.reader.specs.declared.EventAnswer.{EventAnswer}
 use Rattle.reader.specs.declared.EventAnswer.the-variants as E
 use Rattle.reader.specs.Event.{EventResult, eventOn, endOn}
-use Rattle.reader.proofs.Answers.{byEnd, answer-is}
+use Rattle.reader.proofs.Answers.{byEnd, end-22, answer-is}
 use Rattle.roadlist_page.specs.Roadlist.{startOn, afterEvent, refusedEnding, pageEnding, endingAt}
 use Rattle.roadlist_page.specs.Feed.{Intake, keptLine, stateAtEnd, EndOutput, endOutput, Finished, finishOn}
 
@@ -117,6 +117,11 @@ module _ (s : State) (r : EventAnswer) (e : _≡_ {A = EventResult} (record { st
   pub ends-refused : (x : Refusal) (n : ℕ) → r ≡ E.Refused x n → refusedEnding x n ≡ endingAt s
   unfolding endingAt
   ends-refused x n a = rw (← e, a)
+
+-- in unsound storage, as where the line count is at its largest, 22 is told, which names no line
+pub ends-22 : (s : State) → stateSound s ≡ false → endingAt s ≡ refusedEnding R.Unsound 0
+unfolding endingAt
+ends-22 s e = rw (end-22 s e)
 
 pub finished-by : (f : Intake) (s : State) (out : Bytes) (x : EndOutput) → s ≡ stateAtEnd f → x ≡ endOutput out (endingAt s)
     → _≡_ {A = Finished} (record { overlay = s .overlay; parts = s .parts; output = x }) (finishOn out f)

@@ -2,3 +2,4 @@ pub mod Stops
 pub mod Pieces
 pub mod Walks
 pub mod Ends
+pub mod Starts
