@@ -1,0 +1,49 @@
+-- The kind chooses its table, its arena and its counters.
+use Rattle.act_answer.specs.Answer.{deleteAnswer}
+use borrow.Author.Needs.{needs}
+use Rattle.act_answer.proofs.delete_answer.Statement.{statement}
+use Rattle.act_answer.proofs.delete_answer.Tie as tie
+
+enum-told : tie.Need-enum-told
+enum-told c = search needs
+
+answer-at-requires : tie.Need-answer-at-requires
+answer-at-requires c κs = search needs
+
+enum-told-2 : tie.Need-enum-told-2
+enum-told-2 c = search needs
+
+answer-at-requires-2 : tie.Need-answer-at-requires-2
+answer-at-requires-2 c κs = search needs
+
+enum-told-3 : tie.Need-enum-told-3
+enum-told-3 c = search needs
+
+answer-at-requires-3 : tie.Need-answer-at-requires-3
+answer-at-requires-3 c κs = search needs
+
+returns : tie.Need-returns
+unfolding deleteAnswer
+returns c = let e = c .before .enum-told .given .1 in rw e (rw e at (c .answer-at .ensures))
+
+returns-2 : tie.Need-returns-2
+unfolding deleteAnswer
+returns-2 c = let e = c .before .enum-told2 .given .1 in rw e (rw e at (c .answer-at2 .ensures))
+
+returns-3 : tie.Need-returns-3
+unfolding deleteAnswer
+returns-3 c = let e = c .before .enum-told3 .given .1 in rw e (rw e at (c .answer-at3 .ensures))
+
+pub delete-answer-spec : {M : Type 1} → statement M
+delete-answer-spec =
+    tie.close
+    (tie.spec
+    enum-told
+    answer-at-requires
+    enum-told-2
+    answer-at-requires-2
+    enum-told-3
+    answer-at-requires-3
+    returns
+    returns-2
+    returns-3)

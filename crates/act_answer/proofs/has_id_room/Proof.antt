@@ -1,0 +1,56 @@
+-- An id that was found, or a third of the words that is not used up.
+use lib.IntN.{ℤ}
+use mir.Syntax.{w64}
+use mir.Val.{toZ, ofZ}
+use mir.Facts.{toZ-ofZ, sfits-toZ}
+use mathlib.Core.Path.{_≡_, sym, _∙_, ap}
+use lib.ListN.{length}
+use denote.Ref.{now}
+use Rattle.osm_id.specs.Order.{rank}
+use Rattle.table.specs.Words.{lookup}
+use Rattle.shelf.specs.Shelf.{room}
+use Rattle.shelf.proofs.Acts.{rows-held}
+use borrow.Author.Needs.{needs}
+use Rattle.act_answer.proofs.has_id_room.Statement.{statement}
+use Rattle.act_answer.proofs.has_id_room.Tie as tie
+
+-- the row of the id is what was found
+row-is : (c : tie.After-find-row) → lookup (now (c .before .before .before .before .args .table)) (c .before .before .before .before .args .ids) (rank (toZ w64 (c .before .before .before .before .args .id))) ≡ c .find-row .result
+row-is c =
+    let r = c .before .osm-id-rank .ensures ∙ ap (λ (z : ℤ). rank (toZ w64 (ofZ w64 z))) (c .before .before .i64-of-bits .ensures) ∙ ap rank (toZ-ofZ (sfits-toZ {w = w64} (c .before .before .before .before .fits .id))) in
+    sym (rw r at (c .find-row .ensures))
+
+i64-of-bits-requires : tie.Need-i64-of-bits-requires
+i64-of-bits-requires c κs = search needs
+
+osm-id-rank-requires : tie.Need-osm-id-rank-requires
+osm-id-rank-requires c κs = search needs
+
+find-row-requires : tie.Need-find-row-requires
+find-row-requires c κs = search needs
+
+enum-told : tie.Need-enum-told
+enum-told c = search needs
+
+enum-told-2 : tie.Need-enum-told-2
+enum-told-2 c = search needs
+
+returns : tie.Need-returns
+unfolding room
+returns c = λ arena used. rw (row-is (c .before .before), c .enum-told .given .1)
+
+returns-2 : tie.Need-returns-2
+unfolding room
+returns-2 c = let k = c .before .before .before .before .before .before .args in λ arena used. rw (row-is (c .before .before), c .enum-told2 .given .1) (rows-held (k .ids) (length (now (k .table))))
+
+pub has-id-room-spec : {M : Type 1} → statement M
+has-id-room-spec =
+    tie.close
+    (tie.spec
+    i64-of-bits-requires
+    osm-id-rank-requires
+    find-row-requires
+    enum-told
+    enum-told-2
+    returns
+    returns-2)

@@ -1,0 +1,151 @@
+// What the store would answer to an act: 12, 14, 15 or taken for a push, 12, 14 or taken for a delete. Nothing lent changes.
+ghost use mathlib.Core.Path.{_≡_};
+ghost use Prim.Native.Nat.{ℕ, _+_, _<_};
+ghost use lib.Dec.{leb};
+ghost use lib.ListN.{length};
+ghost use mir.Syntax.{w64};
+ghost use mir.Val.{toZ};
+ghost use Rattle.base.specs.Bytes.{Bytes};
+ghost use Rattle.shelf.specs.Shelf.{shelfWith, known, checked, room};
+ghost use Rattle.overlay.specs.Overlay.{lent};
+ghost use Rattle.store.specs.Lent.{shelfLent, settingIn};
+ghost use Rattle.act_answer.specs.Answer.{roomAnswer, shelfAnswer, pushAnswer, deleteAnswer};
+use kind::Kind;
+use refusal::Refusal;
+use shelf::Kept;
+use table::Found;
+use version_floor::Admit;
+use version_floor::Version;
+use version_floor::VersionFloor;
+
+// 12: while regression is refused (setting 0) a claim is checked against the known version.
+fn claim_admit(
+    kind: Kind,
+    setting: u64,
+    table: &[u64],
+    ids: u64,
+    arena: &[u8],
+    id: u64,
+    claim: Version,
+) -> Admit
+    ensures { λ r. ⌜ ((used : ℕ) → r ≡ checked setting (known kind (shelfWith (now (table .entry)) ids (now (arena .entry)) used) (toZ w64 id)) claim) ⌝ }
+{
+    if setting == 0 {
+        let known = shelf::known_version(kind, table, ids, arena, id);
+        return VersionFloor::new(known).admit(claim);
+    }
+    Admit::Admitted
+}
+
+// 14: whether the id is known, or one more has room.
+fn has_id_room(table: &[u64], ids: u64, id: u64) -> bool
+    ensures { λ r. ⌜ ((arena : Bytes) (used : ℕ) → r ≡ room (shelfWith (now (table .entry)) ids arena used) (toZ w64 id)) ⌝ }
+{
+    match table::find_row(table, ids, osm_id::osm_id_rank(signed::i64_of_bits(id))) {
+        Found::At(_) => true,
+        Found::Place(_) => (ids as usize) < table.len() / 3,
+    }
+}
+
+// 15: whether a record fits behind the used bytes.
+fn record_fits(arena: &[u8], used: u64, len: usize) -> bool
+    ensures { λ r. ⌜ r ≡ leb (used + len) (length (now (arena .entry))) ⌝ }
+{
+    let end = used as usize;
+    if end <= arena.len() {
+        return len <= arena.len() - end;
+    }
+    false
+}
+
+// An act that passed 12: 14, 15 or taken.
+fn room_answer(ids: bool, fits: bool) -> Kept
+    ensures { λ r. ⌜ r ≡ roomAnswer ids fits ⌝ }
+{
+    if ids {
+        if fits {
+            return Kept::Taken;
+        }
+        return Kept::Refused(Refusal::ArenaFull);
+    }
+    Kept::Refused(Refusal::IdsFull)
+}
+
+// An act on the kind whose counters stand at `at` and three behind it.
+fn answer_at(
+    at: usize,
+    kind: Kind,
+    table: &[u64],
+    arena: &[u8],
+    used: &[u64; 9],
+    id: u64,
+    claim: Version,
+    fits: bool,
+) -> Kept
+    requires { ⌜ at < 3 ⌝ }
+    ensures { λ r. ⌜ r ≡ shelfAnswer kind (settingIn used) (shelfLent at table arena used) (toZ w64 id) claim fits ⌝ }
+{
+    let ids = used[at];
+    let Admit::Below(held) = claim_admit(kind, used[8], table, ids, arena, id, claim) else {
+        return room_answer(has_id_room(table, ids, id), fits);
+    };
+    Kept::Refused(Refusal::Regression(held))
+}
+
+// A push of a record of so many bytes: 12, 14, 15 or taken.
+pub fn push_answer(
+    nids: &[u64],
+    narena: &[u8],
+    wids: &[u64],
+    warena: &[u8],
+    rids: &[u64],
+    rarena: &[u8],
+    spans: &[u64],
+    bytes: &[u8],
+    used: &[u64; 9],
+    kind: Kind,
+    id: u64,
+    claim: Version,
+    len: usize,
+) -> Kept
+    ensures { λ r. ⌜ r ≡ pushAnswer kind (toZ w64 id) claim len (lent nids narena wids warena rids rarena spans bytes used) ⌝ }
+{
+    match kind {
+        Kind::Node => {
+            let fits = record_fits(narena, used[3], len);
+            answer_at(0, kind, nids, narena, used, id, claim, fits)
+        }
+        Kind::Way => {
+            let fits = record_fits(warena, used[4], len);
+            answer_at(1, kind, wids, warena, used, id, claim, fits)
+        }
+        Kind::Relation => {
+            let fits = record_fits(rarena, used[5], len);
+            answer_at(2, kind, rids, rarena, used, id, claim, fits)
+        }
+    }
+}
+
+// A delete: 12, 14 or taken.
+pub fn delete_answer(
+    nids: &[u64],
+    narena: &[u8],
+    wids: &[u64],
+    warena: &[u8],
+    rids: &[u64],
+    rarena: &[u8],
+    spans: &[u64],
+    bytes: &[u8],
+    used: &[u64; 9],
+    kind: Kind,
+    id: u64,
+    claim: Version,
+) -> Kept
+    ensures { λ r. ⌜ r ≡ deleteAnswer kind (toZ w64 id) claim (lent nids narena wids warena rids rarena spans bytes used) ⌝ }
+{
+    match kind {
+        Kind::Node => answer_at(0, kind, nids, narena, used, id, claim, true),
+        Kind::Way => answer_at(1, kind, wids, warena, used, id, claim, true),
+        Kind::Relation => answer_at(2, kind, rids, rarena, used, id, claim, true),
+    }
+}

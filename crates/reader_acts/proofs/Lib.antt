@@ -1,0 +1,4 @@
+pub mod Bits
+pub mod Handles
+pub mod Laws
+pub mod Asked

@@ -1,0 +1,58 @@
+-- The user that metadata names is taken in; without one the handle is 0.
+use borrow.Author.Tests.{eq-eqb, ne-eqb}
+use denote.Ref.{now}
+use Rattle.model.specs.Record.{Meta, flagged}
+use Rattle.base.specs.Bytes.{Bytes}
+use Rattle.overlay.specs.Overlay.{Overlay, overlayOf}
+use Rattle.metadata.specs.Metadata.{metaWritten}
+use Rattle.reader_acts.proofs.Laws.{begin-named, begin-unnamed}
+use borrow.Author.Needs.{needs}
+use Rattle.reader_acts.proofs.begin_element.Statement.{statement}
+use Rattle.reader_acts.proofs.begin_element.Tie as tie
+
+-- the overlay as it was lent
+abbrev given : tie.Start → Overlay
+given s =
+    let k = s .args in
+    overlayOf (now (k .nids)) (now (k .narena)) (now (k .wids)) (now (k .warena)) (now (k .rids)) (now (k .rarena)) (now (k .spans)) (now (k .bytes)) (now (k .used))
+
+-- the metadata as it is written
+abbrev meta : tie.Start → Meta Bytes
+meta s = metaWritten (now (s .args .line)) (s .args .meta)
+
+take-text-requires : tie.Need-take-text-requires
+take-text-requires c κs = search needs
+
+begun-by-requires : tie.Need-begun-by-requires
+begun-by-requires c κs = search needs
+
+same-length : tie.Need-same-length
+same-length c = search needs
+
+same-length-2 : tie.Need-same-length-2
+same-length-2 c = search needs
+
+returns : tie.Need-returns
+unfolding flagged
+returns c = let s = c .before .before .before .before .before .before .before .before .before .before .before .before .before .before .before .before .before .before .before .before .before in
+    λ g. begin-named (meta s) (given s) (eq-eqb _ _ (c .before .before .before .before .before .before .before .before .before .before .if1 .taken)) (g .few) (c .before .before .before .before .before .take-text .ensures (g .lies .user) (g .short)) (c .begun-by .ensures (now (s .args .line)))
+
+arena-meta-requires : tie.Need-arena-meta-requires
+arena-meta-requires c κs = search needs
+
+returns-2 : tie.Need-returns-2
+unfolding flagged
+returns-2 c = let s = c .before .before .before .before .before .before .before .before .before .before .before .before in
+    λ g. begin-unnamed (meta s) (given s) (ne-eqb _ _ (c .before .if1 .left)) (c .arena-meta .ensures (now (s .args .line)))
+
+pub begin-element-spec : {M : Type 1} → statement M
+begin-element-spec =
+    tie.close
+    (tie.spec
+    take-text-requires
+    begun-by-requires
+    same-length
+    same-length-2
+    returns
+    arena-meta-requires
+    returns-2)

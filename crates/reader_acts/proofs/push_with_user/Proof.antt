@@ -1,0 +1,123 @@
+-- 13, or the push of the store with no parts.
+use mathlib.Core.List.{[]}
+use denote.Ref.{now}
+use Rattle.overlay.specs.Overlay.{Overlay, overlayOf}
+use Rattle.metadata.specs.Metadata.{metaWritten}
+use Rattle.store.specs.Calls.{storePush}
+use Rattle.compact.specs.declared.ArenaMeta.{ArenaMeta}
+use Rattle.overlay.specs.Calls.{After}
+use Rattle.base.specs.Bytes.{Bytes}
+use Rattle.model.specs.Record.{Meta}
+use Rattle.reader_acts.proofs.Laws.{user-acted, user-not}
+use borrow.Author.Needs.{needs}
+use Rattle.reader_acts.proofs.push_with_user.Statement.{statement}
+use Rattle.reader_acts.proofs.push_with_user.Tie as tie
+
+-- the overlay as it was lent
+abbrev given : tie.Start → Overlay
+given s =
+    let k = s .args in
+    overlayOf (now (k .nids)) (now (k .narena)) (now (k .wids)) (now (k .warena)) (now (k .rids)) (now (k .rarena)) (now (k .spans)) (now (k .bytes)) (now (k .used))
+
+-- the metadata as it is written
+abbrev meta : tie.Start → Meta Bytes
+meta s = metaWritten (now (s .args .line)) (s .args .meta)
+
+-- the act that follows
+abbrev act : tie.Start → ArenaMeta → Overlay → After
+act s a q = storePush (s .args .kind) (s .args .head) a [] q
+
+begin-element-requires : tie.Need-begin-element-requires
+begin-element-requires c κs = search needs
+
+enum-known-a : tie.Need-enum-known-a
+enum-known-a c = search needs
+
+push-first-requires : tie.Need-push-first-requires
+push-first-requires c κs = search needs
+
+enum-known-r : tie.Need-enum-known-r
+enum-known-r c = search needs
+
+same-length : tie.Need-same-length
+same-length c = search needs
+
+same-length-2 : tie.Need-same-length-2
+same-length-2 c = search needs
+
+same-length-3 : tie.Need-same-length-3
+same-length-3 c = search needs
+
+same-length-4 : tie.Need-same-length-4
+same-length-4 c = search needs
+
+same-length-5 : tie.Need-same-length-5
+same-length-5 c = search needs
+
+same-length-6 : tie.Need-same-length-6
+same-length-6 c = search needs
+
+same-length-7 : tie.Need-same-length-7
+same-length-7 c = search needs
+
+same-length-8 : tie.Need-same-length-8
+same-length-8 c = search needs
+
+returns : tie.Need-returns
+returns c = let s = c .before .before .before .before .before .before .before .before .before .before .before .before .before .before .before .before .before .before .before .before .before .before .before .before .before .before .before .before .before .before .before .before .before .before .before .before .before .before .before .before .before .before .before .before .before .before .before .before in
+    λ g. user-acted (meta s) (act s) (given s) (c .before .before .before .before .before .before .before .before .before .before .before .before .before .before .before .before .before .before .before .before .before .before .before .before .before .before .before .before .before .begin-element .ensures g) _ (c .before .before .before .before .before .before .before .before .before .before .before .before .before .before .before .before .before .before .before .before .before .before .before .a .given .1) (c .before .before .before .before .before .before .before .before .before .before .before .before .push-first .ensures)
+
+same-length-9 : tie.Need-same-length-9
+same-length-9 c = search needs
+
+same-length-10 : tie.Need-same-length-10
+same-length-10 c = search needs
+
+same-length-11 : tie.Need-same-length-11
+same-length-11 c = search needs
+
+same-length-12 : tie.Need-same-length-12
+same-length-12 c = search needs
+
+same-length-13 : tie.Need-same-length-13
+same-length-13 c = search needs
+
+same-length-14 : tie.Need-same-length-14
+same-length-14 c = search needs
+
+same-length-15 : tie.Need-same-length-15
+same-length-15 c = search needs
+
+same-length-16 : tie.Need-same-length-16
+same-length-16 c = search needs
+
+returns-2 : tie.Need-returns-2
+returns-2 c = let s = c .before .before .before .before .before .before .before .before .before .before .before .before .before .before .before .before .before .before .before .before .before .before .before .before .before .before in
+    λ g. user-not (meta s) (act s) (given s) (c .before .before .before .before .before .before .before .begin-element .ensures g) _ (c .before .r .given .1)
+
+pub push-with-user-spec : {M : Type 1} → statement M
+push-with-user-spec =
+    tie.close
+    (tie.spec
+    begin-element-requires
+    enum-known-a
+    push-first-requires
+    enum-known-r
+    same-length
+    same-length-2
+    same-length-3
+    same-length-4
+    same-length-5
+    same-length-6
+    same-length-7
+    same-length-8
+    returns
+    same-length-9
+    same-length-10
+    same-length-11
+    same-length-12
+    same-length-13
+    same-length-14
+    same-length-15
+    same-length-16
+    returns-2)

@@ -1,0 +1,112 @@
+-- Document 01, the acts of an event: "12 .. 13 .. 14 .. 15 ..", and the first of them is answered. "Nothing lent changes" at a refusal.
+use Prim.Native.Nat.{ℕ, _<_, _≤_}
+use mathlib.Core.Bool.{Bool, false, cond}
+use mathlib.Core.List.{[]}
+use lib.Dec.{eqb}
+use lib.IntN.{ℤ}
+use lib.ListN.{length, take}
+use Rattle.base.specs.Bytes.{Bytes}
+use Rattle.refusal.specs.declared.Refusal.{Refusal}
+use Rattle.refusal.specs.declared.Refusal.the-variants.{Regression, StringsFull}
+use Rattle.refusal.specs.Refusal.{numberOf}
+use Rattle.kind.specs.declared.Kind.{Kind}
+use Rattle.version_floor.specs.declared.Admit.{Admit}
+use Rattle.version_floor.specs.declared.Admit.the-variants.{Admitted, Below}
+use Rattle.model.specs.Record.{Meta, Body, kindOf, flagged, claimOf}
+use Rattle.compact.specs.declared.ArenaMeta.{ArenaMeta}
+use Rattle.interner.specs.Strings.{Store}
+use Rattle.shelf.specs.Shelf.{known, checked}
+use Rattle.shelf.specs.declared.Kept.{Kept}
+use Rattle.shelf.specs.declared.Kept.the-variants as K
+use Rattle.overlay.specs.Overlay.{Overlay, shelfOf}
+use Rattle.overlay.specs.Calls.{After, refused}
+use Rattle.store.specs.Calls.{storeText, storePush, storeDelete}
+use Rattle.store.specs.declared.Handle.{Handle}
+use Rattle.store.specs.declared.Handle.the-variants as H
+use Rattle.metadata.specs.Metadata.{MetadataLies}
+use Rattle.metadata.specs.declared.Metadata.{Metadata}
+use Rattle.reader_texts.specs.Texts.{refusedFor}
+use Rattle.reader.specs.declared.Pending.{Pending}
+use Rattle.reader.specs.Step.{metaBits, headFor}
+use Rattle.reader_acts.specs.declared.Begun.{Begun}
+use Rattle.reader_acts.specs.declared.Begun.the-variants as B
+
+-- ---- an element begins: the user that its metadata names is taken in
+
+-- what that leaves, and the metadata with its user's handle
+pub record AfterBegun : Type 0 where
+  pub overlay : Overlay
+  pub answer : Begun
+
+abbrev pub begunBy : Meta Bytes → Handle → Begun
+begunBy m (H.Is h) = B.With (metaBits m h)
+begunBy m (H.Refused r) = B.Refused r
+
+-- 13, or the metadata; where it names no user the handle is 0
+unfoldable pub beginOn : Meta Bytes → Overlay → AfterBegun
+beginOn m o =
+    cond (flagged 4 (m .flags))
+    (record { overlay = storeText (m .user) o .overlay; answer = begunBy m (storeText (m .user) o .answer) })
+    (record { overlay = o; answer = B.With (metaBits m 0) })
+
+-- what follows, by its refusal or by the metadata
+abbrev pub byBegun : {A : Type 0} → (Refusal → A) → (ArenaMeta → A) → Begun → A
+byBegun g f (B.With a) = f a
+byBegun g f (B.Refused r) = g r
+
+-- ---- an act
+
+-- 12, or what follows
+abbrev pub admitted : Overlay → Admit → After → After
+admitted o (Below v) a = refused o (Regression v)
+admitted o Admitted a = a
+
+-- 14 and 15: not even the text before them is kept
+abbrev pub actKeptAs : Overlay → Overlay → Kept → After
+actKeptAs o q K.Taken = record { overlay = q; answer = K.Taken }
+actKeptAs o q (K.Refused r) = refused o r
+
+abbrev pub actKept : Overlay → After → After
+actKept o a = actKeptAs o (a .overlay) (a .answer)
+
+unfoldable pub actOn : Kind → ℤ → Meta Bytes → (ArenaMeta → Overlay → After) → Overlay → After
+actOn k id m act o =
+    admitted o (checked (o .setting) (known k (shelfOf k o) id) (claimOf m))
+    (byBegun (refused o) (λ a. actKept o (act a (beginOn m o .overlay))) (beginOn m o .answer))
+
+-- the same where the act is known to be taken: 13, or the act
+abbrev pub userActOn : Meta Bytes → (ArenaMeta → Overlay → After) → Overlay → After
+userActOn m act o = byBegun (refused (beginOn m o .overlay)) (λ a. act a (beginOn m o .overlay)) (beginOn m o .answer)
+
+-- 13 of the user that metadata names
+abbrev pub userFull : Meta Bytes → Store → Bool
+userFull m texts = cond (flagged 4 (m .flags)) (refusedFor texts (m .user)) false
+
+-- the answer of an act that is refused: 12 itself, then 13, then 14 or 15
+abbrev pub refusalAfter : Bool → Refusal → Refusal
+refusalAfter full r = cond (eqb (numberOf r) 12) r (cond full StringsFull r)
+
+-- an element that begins and ends at once is pushed: 12, 13, 14, 15
+abbrev pub pushEmptyOn : ℤ → Meta Bytes → Body Bytes → Overlay → After
+pushEmptyOn id m b o = actOn (kindOf b) id m (λ a q. storePush (kindOf b) (headFor id b) a [] q) o
+
+-- an id is deleted: 12, 13, 14
+abbrev pub deleteElementOn : Kind → ℤ → Meta Bytes → Overlay → After
+deleteElementOn k id m o = actOn k id m (λ a q. storeDelete k id (claimOf m) q) o
+
+-- an element that ends is pushed with the parts that are staged: 12, 14, 15
+abbrev pub pushStagedOn : Kind → Pending → Bytes → Overlay → After
+pushStagedOn k x parts o = storePush k (x .head) (x .meta) (take (x .used) parts) o
+
+-- ---- what is given
+
+-- the user lies in the line, and the handles of the overlay fit the metadata's field
+pub record ActGiven (line : Bytes) (m : Metadata) (o : Overlay) : Type 0 where
+  pub lies : MetadataLies line m
+  pub short : length line ≤ 16384
+  pub few : o .texts .strings < 4294967296
+
+-- a handle fits the metadata's field
+abbrev pub HandleFits : Handle → Type 0
+HandleFits (H.Is n) = n < 4294967296
+HandleFits (H.Refused r) = Unit {0}

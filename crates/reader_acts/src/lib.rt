@@ -1,0 +1,492 @@
+// The acts of an event, over the nine lent parts: an element that begins, the push of an empty element or of one whose parts are staged, a delete.
+// What is refused changes nothing lent: the act's answer is asked first, and only then is the user's text taken in.
+ghost use mathlib.Core.Path.{_≡_};
+ghost use Prim.Native.Nat.{_+_, _<_, _≤_};
+ghost use mathlib.Core.List.{[]};
+ghost use lib.ListN.{length, take, getD};
+ghost use mir.Syntax.{w64};
+ghost use mir.Val.{toZ};
+ghost use Rattle.base.specs.Bytes.{Bytes};
+ghost use Rattle.model.specs.Record.{claimOf};
+ghost use Rattle.compact.specs.Layout.{headLen};
+ghost use Rattle.overlay.specs.Overlay.{lent, left};
+ghost use Rattle.shelf.specs.declared.Kept.the-variants as K;
+ghost use Rattle.interner.specs.Strings.{storeWith};
+ghost use Rattle.store.specs.Calls.{storePush, storeDelete};
+ghost use Rattle.values.specs.Value.{bodyIn};
+ghost use Rattle.metadata.specs.Metadata.{metaWritten, MetadataLies};
+ghost use Rattle.reader.specs.Step.{metaBits, headFor};
+ghost use Rattle.reader_acts.specs.Acts.{begunBy, beginOn, userActOn, userFull, refusalAfter, pushEmptyOn, deleteElementOn, pushStagedOn, ActGiven, HandleFits};
+use compact::ArenaMeta;
+use compact::CompactNode;
+use compact::CompactRelation;
+use compact::CompactWay;
+use compact::PushHead;
+use kind::Kind;
+use metadata::Metadata;
+use reader::Pending;
+use refusal::Refusal;
+use shelf::Kept;
+use store::Handle;
+use version_floor::Version;
+
+// What an element begins with: its metadata with its user's handle, or 13.
+pub enum Begun {
+    With(ArenaMeta),
+    Refused(Refusal),
+}
+
+// ---- in bits
+
+// The head of an element that begins; only a node has a place.
+pub fn head_for(kind: Kind, id: u64, lat: u32, lon: u32) -> PushHead
+    ensures { λ r. ⌜ r ≡ headFor (toZ w64 id) (bodyIn kind lat lon) ⌝ }
+{
+    match kind {
+        Kind::Node => PushHead {
+            id,
+            lat,
+            lon,
+            count: 0,
+            tags: 0,
+        },
+        Kind::Way => PushHead {
+            id,
+            lat: 0,
+            lon: 0,
+            count: 0,
+            tags: 0,
+        },
+        Kind::Relation => PushHead {
+            id,
+            lat: 0,
+            lon: 0,
+            count: 0,
+            tags: 0,
+        },
+    }
+}
+
+// Metadata with its user's handle.
+fn arena_meta(meta: Metadata, user: u32) -> ArenaMeta
+    ensures { λ r. ⌜ ((line : Bytes) → r ≡ metaBits (metaWritten line meta) user) ⌝ }
+{
+    ArenaMeta {
+        flags: meta.flags,
+        version: meta.version,
+        timestamp: meta.timestamp,
+        changeset: meta.changeset,
+        uid: meta.uid,
+        user,
+    }
+}
+
+// The version that metadata claims.
+fn claimed(meta: Metadata) -> Version
+    ensures { λ r. ⌜ ((line : Bytes) → r ≡ claimOf (metaWritten line meta)) ⌝ }
+{
+    compact::claim(arena_meta(meta, 0))
+}
+
+// How long the record of an empty element is.
+fn empty_len(kind: Kind) -> usize
+    ensures { λ r. ⌜ r ≡ headLen kind + 29 ⌝ }
+{
+    match kind {
+        Kind::Node => CompactNode::HEADER_LEN,
+        Kind::Way => CompactWay::HEADER_LEN,
+        Kind::Relation => CompactRelation::HEADER_LEN,
+    }
+}
+
+// A handle of sound storage fits; another becomes 0.
+fn narrow(handle: u64) -> u32
+    ensures { λ r. ⌜ (handle < 4294967296 → r ≡ handle) ⌝ }
+{
+    if handle < 0x1_0000_0000 {
+        return handle as u32;
+    }
+    0
+}
+
+fn begun_by(meta: Metadata, handle: Handle) -> Begun
+    ensures { λ r. ⌜ ((line : Bytes) → HandleFits handle → r ≡ begunBy (metaWritten line meta) handle) ⌝ }
+{
+    match handle {
+        Handle::Is(n) => Begun::With(arena_meta(meta, narrow(n))),
+        Handle::Refused(r) => Begun::Refused(r),
+    }
+}
+
+// ---- the user that metadata names
+
+// 13, of that user.
+fn user_refused(spans: &[u64], bytes: &[u8], used: &[u64; 9], meta: Metadata, line: &[u8]) -> bool
+    ensures { λ r. ⌜ (MetadataLies (now (line .entry)) meta → length (now (line .entry)) ≤ 16384
+        → r ≡ userFull (metaWritten (now (line .entry)) meta) (storeWith (now (spans .entry)) (now (bytes .entry)) (getD (now (used .entry)) 6 0) (getD (now (used .entry)) 7 0))) ⌝ }
+{
+    if meta.flags / 4 % 2 == 1 {
+        let user = meta.user;
+        return reader_texts::text_refused(spans, bytes, used, line, user);
+    }
+    false
+}
+
+// The answer of an act that is refused: 12 itself, then 13, then 14 or 15.
+fn refused_act(
+    spans: &[u64],
+    bytes: &[u8],
+    used: &[u64; 9],
+    meta: Metadata,
+    line: &[u8],
+    refusal: Refusal,
+) -> Kept
+    ensures { λ r. ⌜ (MetadataLies (now (line .entry)) meta → length (now (line .entry)) ≤ 16384
+        → r ≡ K.Refused (refusalAfter (userFull (metaWritten (now (line .entry)) meta) (storeWith (now (spans .entry)) (now (bytes .entry)) (getD (now (used .entry)) 6 0) (getD (now (used .entry)) 7 0))) refusal)) ⌝ }
+{
+    if refusal::reply_of(refusal).number == 12 {
+        return Kept::Refused(refusal);
+    }
+    if user_refused(spans, bytes, used, meta, line) {
+        return Kept::Refused(Refusal::StringsFull);
+    }
+    Kept::Refused(refusal)
+}
+
+// An element begins: 13, or its metadata with its user's handle.
+pub fn begin_element(
+    nids: &[u64],
+    narena: &[u8],
+    wids: &[u64],
+    warena: &[u8],
+    rids: &[u64],
+    rarena: &[u8],
+    spans: &mut [u64],
+    bytes: &mut [u8],
+    used: &mut [u64; 9],
+    meta: Metadata,
+    line: &[u8],
+) -> Begun
+    ensures { λ r. ⌜ (ActGiven (now (line .entry)) meta (lent nids narena wids warena rids rarena spans bytes used)
+        → record { overlay = left nids narena wids warena rids rarena spans bytes used; answer = r }
+        ≡ beginOn (metaWritten (now (line .entry)) meta) (lent nids narena wids warena rids rarena spans bytes used)) ⌝ }
+{
+    if meta.flags / 4 % 2 == 1 {
+        let user = meta.user;
+        let handle = reader_texts::take_text(
+            nids,
+            narena,
+            wids,
+            warena,
+            rids,
+            rarena,
+            spans,
+            bytes,
+            used,
+            line,
+            user,
+        );
+        return begun_by(meta, handle);
+    }
+    Begun::With(arena_meta(meta, 0))
+}
+
+// ---- an element that ends
+
+fn push_first(
+    nids: &mut [u64],
+    narena: &mut [u8],
+    wids: &mut [u64],
+    warena: &mut [u8],
+    rids: &mut [u64],
+    rarena: &mut [u8],
+    spans: &[u64],
+    bytes: &[u8],
+    used: &mut [u64; 9],
+    parts: &[u8],
+    n: usize,
+    kind: Kind,
+    head: PushHead,
+    meta: ArenaMeta,
+) -> Kept
+    ensures { λ r. ⌜ record { overlay = left nids narena wids warena rids rarena spans bytes used; answer = r }
+        ≡ storePush kind head meta (take n (now (parts .entry))) (lent nids narena wids warena rids rarena spans bytes used) ⌝ }
+{
+    let end = little::lesser(n, parts.len());
+    store::store_push(
+        nids,
+        narena,
+        wids,
+        warena,
+        rids,
+        rarena,
+        spans,
+        bytes,
+        used,
+        kind,
+        head,
+        meta,
+        &parts[..end],
+    )
+}
+
+// Pushes the element whose parts are staged: 12, 14, 15, or taken.
+pub fn push_staged(
+    nids: &mut [u64],
+    narena: &mut [u8],
+    wids: &mut [u64],
+    warena: &mut [u8],
+    rids: &mut [u64],
+    rarena: &mut [u8],
+    spans: &[u64],
+    bytes: &[u8],
+    used: &mut [u64; 9],
+    parts: &[u8; 44432],
+    kind: Kind,
+    pending: Pending,
+) -> Kept
+    ensures { λ r. ⌜ record { overlay = left nids narena wids warena rids rarena spans bytes used; answer = r }
+        ≡ pushStagedOn kind pending (now (parts .entry)) (lent nids narena wids warena rids rarena spans bytes used) ⌝ }
+{
+    let head = pending.head;
+    let meta = pending.meta;
+    push_first(
+        nids,
+        narena,
+        wids,
+        warena,
+        rids,
+        rarena,
+        spans,
+        bytes,
+        used,
+        parts,
+        pending.used,
+        kind,
+        head,
+        meta,
+    )
+}
+
+// ---- an element that begins and ends at once
+
+// The user is taken in, and the element is pushed.
+fn push_with_user(
+    nids: &mut [u64],
+    narena: &mut [u8],
+    wids: &mut [u64],
+    warena: &mut [u8],
+    rids: &mut [u64],
+    rarena: &mut [u8],
+    spans: &mut [u64],
+    bytes: &mut [u8],
+    used: &mut [u64; 9],
+    kind: Kind,
+    head: PushHead,
+    meta: Metadata,
+    line: &[u8],
+) -> Kept
+    ensures { λ r. ⌜ (ActGiven (now (line .entry)) meta (lent nids narena wids warena rids rarena spans bytes used)
+        → record { overlay = left nids narena wids warena rids rarena spans bytes used; answer = r }
+        ≡ userActOn (metaWritten (now (line .entry)) meta) (λ a q. storePush kind head a [] q) (lent nids narena wids warena rids rarena spans bytes used)) ⌝ }
+{
+    match begin_element(
+        nids,
+        narena,
+        wids,
+        warena,
+        rids,
+        rarena,
+        spans,
+        bytes,
+        used,
+        meta,
+        line,
+    ) {
+        Begun::With(a) => push_first(
+            nids,
+            narena,
+            wids,
+            warena,
+            rids,
+            rarena,
+            spans,
+            bytes,
+            used,
+            line,
+            0,
+            kind,
+            head,
+            a,
+        ),
+        Begun::Refused(r) => Kept::Refused(r),
+    }
+}
+
+// Pushes an empty element: 12, 13, 14, 15, or taken.
+pub fn push_empty(
+    nids: &mut [u64],
+    narena: &mut [u8],
+    wids: &mut [u64],
+    warena: &mut [u8],
+    rids: &mut [u64],
+    rarena: &mut [u8],
+    spans: &mut [u64],
+    bytes: &mut [u8],
+    used: &mut [u64; 9],
+    kind: Kind,
+    id: u64,
+    lat: u32,
+    lon: u32,
+    meta: Metadata,
+    line: &[u8],
+) -> Kept
+    ensures { λ r. ⌜ (ActGiven (now (line .entry)) meta (lent nids narena wids warena rids rarena spans bytes used)
+        → record { overlay = left nids narena wids warena rids rarena spans bytes used; answer = r }
+        ≡ pushEmptyOn (toZ w64 id) (metaWritten (now (line .entry)) meta) (bodyIn kind lat lon) (lent nids narena wids warena rids rarena spans bytes used)) ⌝ }
+{
+    let claim = claimed(meta);
+    let len = empty_len(kind);
+    match act_answer::push_answer(
+        nids,
+        narena,
+        wids,
+        warena,
+        rids,
+        rarena,
+        spans,
+        bytes,
+        used,
+        kind,
+        id,
+        claim,
+        len,
+    ) {
+        Kept::Taken => {
+            let head = head_for(kind, id, lat, lon);
+            push_with_user(
+                nids,
+                narena,
+                wids,
+                warena,
+                rids,
+                rarena,
+                spans,
+                bytes,
+                used,
+                kind,
+                head,
+                meta,
+                line,
+            )
+        }
+        Kept::Refused(r) => refused_act(spans, bytes, used, meta, line, r),
+    }
+}
+
+// ---- a delete
+
+// The user is taken in, and the id is deleted.
+fn delete_with_user(
+    nids: &mut [u64],
+    narena: &mut [u8],
+    wids: &mut [u64],
+    warena: &mut [u8],
+    rids: &mut [u64],
+    rarena: &mut [u8],
+    spans: &mut [u64],
+    bytes: &mut [u8],
+    used: &mut [u64; 9],
+    kind: Kind,
+    id: u64,
+    meta: Metadata,
+    line: &[u8],
+) -> Kept
+    ensures { λ r. ⌜ (ActGiven (now (line .entry)) meta (lent nids narena wids warena rids rarena spans bytes used)
+        → record { overlay = left nids narena wids warena rids rarena spans bytes used; answer = r }
+        ≡ userActOn (metaWritten (now (line .entry)) meta) (λ a q. storeDelete kind (toZ w64 id) (claimOf (metaWritten (now (line .entry)) meta)) q) (lent nids narena wids warena rids rarena spans bytes used)) ⌝ }
+{
+    match begin_element(
+        nids,
+        narena,
+        wids,
+        warena,
+        rids,
+        rarena,
+        spans,
+        bytes,
+        used,
+        meta,
+        line,
+    ) {
+        Begun::With(_) => store::store_delete(
+            nids,
+            narena,
+            wids,
+            warena,
+            rids,
+            rarena,
+            spans,
+            bytes,
+            used,
+            kind,
+            id,
+            claimed(meta),
+        ),
+        Begun::Refused(r) => Kept::Refused(r),
+    }
+}
+
+// Deletes an id: 12, 13, 14, or taken.
+pub fn delete_element(
+    nids: &mut [u64],
+    narena: &mut [u8],
+    wids: &mut [u64],
+    warena: &mut [u8],
+    rids: &mut [u64],
+    rarena: &mut [u8],
+    spans: &mut [u64],
+    bytes: &mut [u8],
+    used: &mut [u64; 9],
+    kind: Kind,
+    id: u64,
+    meta: Metadata,
+    line: &[u8],
+) -> Kept
+    ensures { λ r. ⌜ (ActGiven (now (line .entry)) meta (lent nids narena wids warena rids rarena spans bytes used)
+        → record { overlay = left nids narena wids warena rids rarena spans bytes used; answer = r }
+        ≡ deleteElementOn kind (toZ w64 id) (metaWritten (now (line .entry)) meta) (lent nids narena wids warena rids rarena spans bytes used)) ⌝ }
+{
+    let claim = claimed(meta);
+    match act_answer::delete_answer(
+        nids,
+        narena,
+        wids,
+        warena,
+        rids,
+        rarena,
+        spans,
+        bytes,
+        used,
+        kind,
+        id,
+        claim,
+    ) {
+        Kept::Taken => delete_with_user(
+            nids,
+            narena,
+            wids,
+            warena,
+            rids,
+            rarena,
+            spans,
+            bytes,
+            used,
+            kind,
+            id,
+            meta,
+            line,
+        ),
+        Kept::Refused(r) => refused_act(spans, bytes, used, meta, line, r),
+    }
+}

@@ -1,0 +1,66 @@
+-- 22, the stop mark, then the level.
+use mathlib.Core.Path.{sym, _∙_}
+use native.Mathlib.Omega.{arith}
+use denote.Ref.{now}
+use Rattle.overlay.specs.Overlay.{overlayOf}
+use Rattle.reader.specs.State.{State}
+use Rattle.reader_sound.proofs.Sound.{sound-lines}
+use Rattle.reader_calls.proofs.Ends.{end-unsound, end-marked, end-is-done, end-unfinished}
+use borrow.Author.Needs.{needs}
+use Rattle.reader_calls.proofs.end.Statement.{statement}
+use Rattle.reader_calls.proofs.end.Tie as tie
+
+-- overlay, reader and parts as they were lent
+abbrev given : tie.Start → State
+given s =
+    let k = s .args in
+    record {
+      overlay = overlayOf (now (k .nids)) (now (k .narena)) (now (k .wids)) (now (k .warena)) (now (k .rids)) (now (k .rarena)) (now (k .spans)) (now (k .bytes)) (now (k .used));
+      reader = k .reader;
+      parts = now (k .parts);
+    }
+
+state-sound-requires : tie.Need-state-sound-requires
+state-sound-requires c κs = search needs
+
+mark-of-requires : tie.Need-mark-of-requires
+mark-of-requires c κs = search needs
+
+enum-known-refusal : tie.Need-enum-known-refusal
+enum-known-refusal c = search needs
+
+enum-told : tie.Need-enum-told
+enum-told c = search needs
+
+is-done-requires : tie.Need-is-done-requires
+is-done-requires c κs = search needs
+
+returns : tie.Need-returns
+returns c = end-is-done (given (c .before .before .before .before .before .before .before .before .before .before .before .before .before .before .before .before)) (sym (c .before .before .before .before .before .before .before .state-sound .ensures) ∙ c .before .before .before .before .before .before .if1 .taken) (sym (c .before .before .before .before .before .mark-of .ensures) ∙ c .before .before .before .enum-told .given .1) (sym (c .before .is-done .ensures) ∙ c .if2 .taken)
+
+add-t21 : tie.Need-add-t21
+add-t21 c = let l = sound-lines (given (c .before .before .before .before .before .before .before .before .before .before .before .before .before .before .before .before .before)) (sym (c .before .before .before .before .before .before .before .before .state-sound .ensures) ∙ c .before .before .before .before .before .before .before .if1 .taken) in omega arith
+
+returns-2 : tie.Need-returns-2
+returns-2 c = end-unfinished (given (c .before .before .before .before .before .before .before .before .before .before .before .before .before .before .before .before .before)) (sym (c .before .before .before .before .before .before .before .before .state-sound .ensures) ∙ c .before .before .before .before .before .before .before .if1 .taken) (sym (c .before .before .before .before .before .before .mark-of .ensures) ∙ c .before .before .before .before .enum-told .given .1) (sym (c .before .before .is-done .ensures) ∙ c .before .if2 .left)
+
+returns-3 : tie.Need-returns-3
+returns-3 c = end-marked (given (c .before .before .before .before .before .before .before .before .before .before .before .before .before .before)) (sym (c .before .before .before .before .before .state-sound .ensures) ∙ c .before .before .before .before .if1 .taken) _ _ (sym (c .before .before .before .mark-of .ensures) ∙ c .before .refusal .given .1)
+
+returns-4 : tie.Need-returns-4
+returns-4 c = end-unsound (given (c .before .before .before .before .before .before .before .before .before .before)) (sym (c .before .state-sound .ensures) ∙ c .if1 .left)
+
+pub end-spec : {M : Type 1} → statement M
+end-spec =
+    tie.close
+    (tie.spec
+    state-sound-requires
+    mark-of-requires
+    enum-known-refusal
+    enum-told
+    is-done-requires
+    returns
+    add-t21
+    returns-2
+    returns-3
+    returns-4)

@@ -1,0 +1,89 @@
+-- What is decided of the line, done.
+use mathlib.Core.Path.{sym, _∙_}
+use denote.Ref.{now}
+use Rattle.overlay.specs.Overlay.{overlayOf}
+use Rattle.reader.specs.State.{State}
+use native.Mathlib.Omega.{arith}
+use lib.Seq.{length-take-le}
+use Rattle.scan.proofs.Lines.{judged, judged-part}
+use Rattle.reader_sound.proofs.Sound.{sound-lines}
+use Rattle.reader_calls.proofs.Events.{event-steps}
+use borrow.Author.Needs.{needs}
+use Rattle.reader_calls.proofs.sound_event.Statement.{statement}
+use Rattle.reader_calls.proofs.sound_event.Tie as tie
+
+-- overlay, reader and parts as they were lent
+abbrev given : tie.Start → State
+given s =
+    let k = s .args in
+    record {
+      overlay = overlayOf (now (k .nids)) (now (k .narena)) (now (k .wids)) (now (k .warena)) (now (k .rids)) (now (k .rarena)) (now (k .spans)) (now (k .bytes)) (now (k .used));
+      reader = k .reader;
+      parts = now (k .parts);
+    }
+
+decide-requires : tie.Need-decide-requires
+decide-requires c κs = search needs
+
+body-length-requires : tie.Need-body-length-requires
+body-length-requires c κs = search needs
+
+slice-aggregate-step : tie.Need-slice-aggregate-step
+slice-aggregate-step c =
+    let s = now (c .before .before .before .before .before .before .before .before .before .before .before .before .before .before .before .before .before .before .before .before .before .before .before .args .line) in
+    sym (length-take-le (c .before .before .before .before .before .before .before .before .before .before .before .body-length .result) s (omega (arith, c .before .before .before .before .before .before .before .before .before .before .before .body-length .ensures, judged s .within)))
+
+step-requires : tie.Need-step-requires
+step-requires c κs = search needs
+
+event-done-requires : tie.Need-event-done-requires
+event-done-requires c κs = sound-lines (given (c .before .before .before .before .before .before .before .before .before .before .before .before .before .before .before .before .before .before .before .before .before .before .before .before .before .before .before .before .before .before .before .before .before .before .before .before .before .before .before .before)) (c .before .before .before .before .before .before .before .before .before .before .before .before .before .before .before .before .before .before .before .before .before .before .before .before .before .before .before .before .before .before .before .before .before .before .before .before .before .before .before .before .pre)
+
+same-length : tie.Need-same-length
+same-length c = search needs
+
+same-length-2 : tie.Need-same-length-2
+same-length-2 c = search needs
+
+same-length-3 : tie.Need-same-length-3
+same-length-3 c = search needs
+
+same-length-4 : tie.Need-same-length-4
+same-length-4 c = search needs
+
+same-length-5 : tie.Need-same-length-5
+same-length-5 c = search needs
+
+same-length-6 : tie.Need-same-length-6
+same-length-6 c = search needs
+
+same-length-7 : tie.Need-same-length-7
+same-length-7 c = search needs
+
+same-length-8 : tie.Need-same-length-8
+same-length-8 c = search needs
+
+returns : tie.Need-returns
+returns c =
+    let s = c .before .before .before .before .before .before .before .before .before .before .before .before .before .before .before .before .before .before .before .before .before .before .before .before .before .before .before .before .before .before .before .before .before .before .before .before .before .before .before .before .before in
+    let t = now (s .args .line) in
+    event-steps t (given s) (s .pre) _ (judged-part t _ (c .before .before .before .before .before .before .before .before .before .before .before .before .before .before .before .before .before .before .before .before .before .before .before .before .before .before .before .before .before .body-length .ensures)) _ (c .before .before .before .before .before .before .before .before .before .before .before .before .before .before .before .before .before .before .before .before .before .before .before .before .before .before .before .before .before .before .decide .ensures .0) (c .before .before .before .before .before .before .before .before .before .before .before .before .before .before .before .before .before .before .before .before .before .before .before .before .before .before .before .before .before .before .decide .ensures .1) (c .before .before .before .before .before .before .before .before .before .before .before .before .before .before .before .before .before .step .ensures) (c .event-done .ensures)
+
+pub sound-event-spec : {M : Type 1} → statement M
+sound-event-spec =
+    tie.close
+    (tie.spec
+    decide-requires
+    body-length-requires
+    slice-aggregate-step
+    step-requires
+    event-done-requires
+    same-length
+    same-length-2
+    same-length-3
+    same-length-4
+    same-length-5
+    same-length-6
+    same-length-7
+    same-length-8
+    returns)

@@ -1,0 +1,386 @@
+// Children of the element that a reader is putting together: one tag, ref or member more. A refused child changes nothing, so the limits are asked before a text is taken in.
+ghost use mathlib.Core.Path.{_≡_};
+ghost use Prim.Native.Nat.{_+_, _≤_, _<_};
+ghost use lib.ListN.{length, getD, take};
+ghost use mir.Syntax.{w64};
+ghost use mir.Val.{toZ};
+ghost use Rattle.stage.specs.Stage.{staged, refPart, memberPart, tagPart};
+ghost use Rattle.interner.specs.Strings.{storeWith};
+ghost use Rattle.values.specs.Value.{textAt, ExtentLies};
+ghost use Rattle.overlay.specs.Overlay.{Overlay, lent, left};
+ghost use Rattle.reader.specs.State.{middle, valuesIn, moreTags, moreParts};
+ghost use Rattle.reader_texts.specs.Texts.{refusedFor};
+ghost use Rattle.reader_parts.specs.Parts.{ChildGiven, tagFits, partFits, refusalOver, pendingWith, addTag, addRef, addMember};
+ghost use Rattle.reader_parts.specs.declared.Added.the-variants as added;
+use compact::CompactMember;
+use compact::PushHead;
+use kind::Kind;
+use reader::Pending;
+use refusal::Refusal;
+use store::Handle;
+use values::Extent;
+
+// What a child is answered: the element with it, or a refusal.
+pub enum Added {
+    Is(Pending),
+    Refused(Refusal),
+}
+
+// ---- the limits: 16
+
+// How many bytes the refs or members take.
+fn middle_size(kind: Kind, count: u32) -> usize
+    ensures { λ r. ⌜ r ≡ middle kind count ⌝ }
+{
+    match kind {
+        Kind::Node => 0,
+        Kind::Way => 8 * count as usize,
+        Kind::Relation => 13 * count as usize,
+    }
+}
+
+// How many the tag values take.
+fn values_size(kind: Kind, head: PushHead, used: usize) -> usize
+    ensures { λ r. ⌜ r ≡ valuesIn kind head used ⌝ }
+{
+    let before = middle_size(kind, head.count) + 8 * head.tags as usize;
+    if before < used { used - before } else { 0 }
+}
+
+// Whether one tag more, with so many value bytes, is within the limits.
+fn tag_fits(kind: Kind, pending: Pending, len: usize) -> bool
+    ensures { λ r. ⌜ r ≡ tagFits kind pending len ⌝ }
+{
+    let head = pending.head;
+    if head.tags < 256 {
+        let held = values_size(kind, head, pending.used);
+        if held <= 16384 {
+            return len <= 16384 - held;
+        }
+        return false;
+    }
+    false
+}
+
+// Whether one ref or member more is.
+fn part_fits(pending: Pending, limit: u32) -> bool
+    ensures { λ r. ⌜ r ≡ partFits pending limit ⌝ }
+{
+    let head = pending.head;
+    head.count < limit
+}
+
+// What a child with a text is answered that is not within them: 13 if its text would be refused, else 16.
+fn over_limit(spans: &[u64], bytes: &[u8], used: &[u64; 9], line: &[u8], text: Extent) -> Added
+    ensures { λ r. ⌜ (ExtentLies (now (line .entry)) text → length (now (line .entry)) ≤ 16384
+        → r ≡ added.Refused (refusalOver (refusedFor (storeWith (now (spans .entry)) (now (bytes .entry)) (getD (now (used .entry)) 6 0) (getD (now (used .entry)) 7 0)) (textAt (now (line .entry)) text)))) ⌝ }
+{
+    if reader_texts::text_refused(spans, bytes, used, line, text) {
+        return Added::Refused(Refusal::StringsFull);
+    }
+    Added::Refused(Refusal::TooManyParts)
+}
+
+// ---- a part staged, and the element with it
+
+// A handle in 32 bits, where it fits them.
+fn narrow(handle: u64) -> u32
+    ensures { λ r. ⌜ (handle < 4294967296 → r ≡ handle) ⌝ }
+{
+    if handle < 4294967296 {
+        return handle as u32;
+    }
+    0
+}
+
+fn with_tag(parts: &mut [u8], pending: Pending, key: u64, value: &[u8]) -> Pending
+    requires { ⌜ (pending .head .tags < 256) × (length (now value) ≤ 16384) ⌝ }
+    ensures { λ r. ⌜ (key < 4294967296 → pending .used ≤ length (now (parts .entry))
+        → (now (parts .exit) ≡ staged (now (parts .entry)) (pending .used) (pending .used) (tagPart key (now (value .entry))))
+        × (r ≡ pendingWith (moreTags (pending .head)) (tagPart key (now (value .entry))) pending)) ⌝ }
+{
+    let used = little::lesser(pending.used, parts.len());
+    stage::stage_tag(parts, used, narrow(key), value);
+    let mut head = pending.head;
+    head.tags += 1;
+    let meta = pending.meta;
+    Pending {
+        head,
+        meta,
+        used: used + (8 + value.len()),
+    }
+}
+
+// The element with one ref or member more, up to where its parts are used now.
+fn with_part(pending: Pending, used: usize) -> Pending
+    requires { ⌜ pending .head .count < 2000 ⌝ }
+    ensures { λ r. ⌜ r ≡ record { head = moreParts (pending .head); meta = pending .meta; used = used } ⌝ }
+{
+    let mut head = pending.head;
+    head.count += 1;
+    let meta = pending.meta;
+    Pending { head, meta, used }
+}
+
+fn with_ref(parts: &mut [u8], kind: Kind, pending: Pending, reference: u64) -> Pending
+    requires { ⌜ pending .head .count < 2000 ⌝ }
+    ensures { λ r. ⌜ (pending .used ≤ length (now (parts .entry))
+        → (now (parts .exit) ≡ staged (now (parts .entry)) (pending .used) (middle kind (pending .head .count)) (refPart reference))
+        × (r ≡ pendingWith (moreParts (pending .head)) (refPart reference) pending)) ⌝ }
+{
+    let used = little::lesser(pending.used, parts.len());
+    let head = pending.head;
+    stage::stage_ref(parts, used, middle_size(kind, head.count), reference);
+    with_part(pending, used + 8)
+}
+
+fn with_member(parts: &mut [u8], kind: Kind, pending: Pending, member: CompactMember) -> Pending
+    requires { ⌜ pending .head .count < 2000 ⌝ }
+    ensures { λ r. ⌜ (pending .used ≤ length (now (parts .entry))
+        → (now (parts .exit) ≡ staged (now (parts .entry)) (pending .used) (middle kind (pending .head .count)) (memberPart member))
+        × (r ≡ pendingWith (moreParts (pending .head)) (memberPart member) pending)) ⌝ }
+{
+    let used = little::lesser(pending.used, parts.len());
+    let head = pending.head;
+    stage::stage_member(parts, used, middle_size(kind, head.count), member);
+    with_part(pending, used + 13)
+}
+
+// ---- a tag
+
+// With its value's text.
+fn tag_with(
+    nids: &[u64],
+    narena: &[u8],
+    wids: &[u64],
+    warena: &[u8],
+    rids: &[u64],
+    rarena: &[u8],
+    spans: &mut [u64],
+    bytes: &mut [u8],
+    used: &mut [u64; 9],
+    parts: &mut [u8],
+    kind: Kind,
+    pending: Pending,
+    line: &[u8],
+    key: Extent,
+    value: &[u8],
+) -> Added
+    ensures { λ r. ⌜ (ChildGiven (lent nids narena wids warena rids rarena spans bytes used) pending (now (parts .entry)) (now (line .entry)) → ExtentLies (now (line .entry)) key
+        → record { overlay = left nids narena wids warena rids rarena spans bytes used; parts = now (parts .exit); answer = r }
+        ≡ addTag kind pending (record { key = textAt (now (line .entry)) key; value = now (value .entry) }) (now (parts .entry)) (lent nids narena wids warena rids rarena spans bytes used)) ⌝ }
+{
+    if tag_fits(kind, pending, value.len()) {
+        return match reader_texts::take_text(
+            nids,
+            narena,
+            wids,
+            warena,
+            rids,
+            rarena,
+            spans,
+            bytes,
+            used,
+            line,
+            key,
+        ) {
+            Handle::Is(handle) => Added::Is(with_tag(parts, pending, handle, value)),
+            Handle::Refused(refusal) => Added::Refused(refusal),
+        };
+    }
+    over_limit(spans, bytes, used, line, key)
+}
+
+// The first n of some bytes are its value's text.
+fn tag_first(
+    nids: &[u64],
+    narena: &[u8],
+    wids: &[u64],
+    warena: &[u8],
+    rids: &[u64],
+    rarena: &[u8],
+    spans: &mut [u64],
+    bytes: &mut [u8],
+    used: &mut [u64; 9],
+    parts: &mut [u8],
+    kind: Kind,
+    pending: Pending,
+    line: &[u8],
+    key: Extent,
+    room: &[u8],
+    n: usize,
+) -> Added
+    ensures { λ r. ⌜ (ChildGiven (lent nids narena wids warena rids rarena spans bytes used) pending (now (parts .entry)) (now (line .entry)) → ExtentLies (now (line .entry)) key
+        → record { overlay = left nids narena wids warena rids rarena spans bytes used; parts = now (parts .exit); answer = r }
+        ≡ addTag kind pending (record { key = textAt (now (line .entry)) key; value = take n (now (room .entry)) }) (now (parts .entry)) (lent nids narena wids warena rids rarena spans bytes used)) ⌝ }
+{
+    let end = little::lesser(n, room.len());
+    tag_with(
+        nids,
+        narena,
+        wids,
+        warena,
+        rids,
+        rarena,
+        spans,
+        bytes,
+        used,
+        parts,
+        kind,
+        pending,
+        line,
+        key,
+        &room[..end],
+    )
+}
+
+// By an array that holds its value's text.
+fn tag_through(
+    nids: &[u64],
+    narena: &[u8],
+    wids: &[u64],
+    warena: &[u8],
+    rids: &[u64],
+    rarena: &[u8],
+    spans: &mut [u64],
+    bytes: &mut [u8],
+    used: &mut [u64; 9],
+    parts: &mut [u8],
+    kind: Kind,
+    pending: Pending,
+    line: &[u8],
+    key: Extent,
+    value: Extent,
+    room: &mut [u8; 16384],
+) -> Added
+    ensures { λ r. ⌜ (ChildGiven (lent nids narena wids warena rids rarena spans bytes used) pending (now (parts .entry)) (now (line .entry)) → ExtentLies (now (line .entry)) key → ExtentLies (now (line .entry)) value
+        → record { overlay = left nids narena wids warena rids rarena spans bytes used; parts = now (parts .exit); answer = r }
+        ≡ addTag kind pending (record { key = textAt (now (line .entry)) key; value = textAt (now (line .entry)) value }) (now (parts .entry)) (lent nids narena wids warena rids rarena spans bytes used)) ⌝ }
+{
+    let n = reader_texts::text_into(room, line, value);
+    tag_first(
+        nids,
+        narena,
+        wids,
+        warena,
+        rids,
+        rarena,
+        spans,
+        bytes,
+        used,
+        parts,
+        kind,
+        pending,
+        line,
+        key,
+        room,
+        n,
+    )
+}
+
+// A tag more: 13 of its key, 16, or the tag staged.
+pub fn add_tag(
+    nids: &[u64],
+    narena: &[u8],
+    wids: &[u64],
+    warena: &[u8],
+    rids: &[u64],
+    rarena: &[u8],
+    spans: &mut [u64],
+    bytes: &mut [u8],
+    used: &mut [u64; 9],
+    parts: &mut [u8; 44432],
+    kind: Kind,
+    pending: Pending,
+    line: &[u8],
+    key: Extent,
+    value: Extent,
+) -> Added
+    ensures { λ r. ⌜ (ChildGiven (lent nids narena wids warena rids rarena spans bytes used) pending (now (parts .entry)) (now (line .entry)) → ExtentLies (now (line .entry)) key → ExtentLies (now (line .entry)) value
+        → record { overlay = left nids narena wids warena rids rarena spans bytes used; parts = now (parts .exit); answer = r }
+        ≡ addTag kind pending (record { key = textAt (now (line .entry)) key; value = textAt (now (line .entry)) value }) (now (parts .entry)) (lent nids narena wids warena rids rarena spans bytes used)) ⌝ }
+{
+    let mut room = [0u8; 16384];
+    tag_through(
+        nids,
+        narena,
+        wids,
+        warena,
+        rids,
+        rarena,
+        spans,
+        bytes,
+        used,
+        parts,
+        kind,
+        pending,
+        line,
+        key,
+        value,
+        &mut room,
+    )
+}
+
+// ---- a ref and a member
+
+// A ref more: 16, or the ref staged. It leaves an overlay as it is.
+pub fn add_ref(parts: &mut [u8; 44432], kind: Kind, pending: Pending, reference: u64) -> Added
+    ensures { λ r. ⌜ ((o : Overlay) → pending .used ≤ length (now (parts .entry))
+        → record { overlay = o; parts = now (parts .exit); answer = r } ≡ addRef kind pending (toZ w64 reference) (now (parts .entry)) o) ⌝ }
+{
+    if part_fits(pending, 2000) {
+        return Added::Is(with_ref(parts, kind, pending, reference));
+    }
+    Added::Refused(Refusal::TooManyParts)
+}
+
+// A member more: 13 of its role, 16, or the member staged.
+pub fn add_member(
+    nids: &[u64],
+    narena: &[u8],
+    wids: &[u64],
+    warena: &[u8],
+    rids: &[u64],
+    rarena: &[u8],
+    spans: &mut [u64],
+    bytes: &mut [u8],
+    used: &mut [u64; 9],
+    parts: &mut [u8; 44432],
+    kind: Kind,
+    pending: Pending,
+    line: &[u8],
+    reference: u64,
+    member_kind: Kind,
+    role: Extent,
+) -> Added
+    ensures { λ r. ⌜ (ChildGiven (lent nids narena wids warena rids rarena spans bytes used) pending (now (parts .entry)) (now (line .entry)) → ExtentLies (now (line .entry)) role
+        → record { overlay = left nids narena wids warena rids rarena spans bytes used; parts = now (parts .exit); answer = r }
+        ≡ addMember kind pending (record { ref = toZ w64 reference; type = «member_kind»; role = textAt (now (line .entry)) role }) (now (parts .entry)) (lent nids narena wids warena rids rarena spans bytes used)) ⌝ }
+{
+    if part_fits(pending, 2000) {
+        return match reader_texts::take_text(
+            nids,
+            narena,
+            wids,
+            warena,
+            rids,
+            rarena,
+            spans,
+            bytes,
+            used,
+            line,
+            role,
+        ) {
+            Handle::Is(handle) => {
+                let member = CompactMember {
+                    reference,
+                    kind: kind::kind_number(member_kind),
+                    role: narrow(handle),
+                };
+                Added::Is(with_member(parts, kind, pending, member))
+            }
+            Handle::Refused(refusal) => Added::Refused(refusal),
+        };
+    }
+    over_limit(spans, bytes, used, line, role)
+}

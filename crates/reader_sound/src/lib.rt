@@ -1,0 +1,78 @@
+// What an event and an end test first: whether overlay and reader are sound (22), and whether the reader's stop mark stops it.
+ghost use mathlib.Core.Path.{_≡_};
+ghost use Rattle.overlay.specs.Overlay.{lent};
+ghost use Rattle.reader.specs.State.{stopsBy, pendingSound, stateSound};
+ghost use Rattle.reader_sound.specs.Mark.{markOf};
+use compact::ArenaMeta;
+use compact::PushHead;
+use kind::Kind;
+use legal::Fault;
+use reader::EventReader;
+use reader::Pending;
+use reader::Stop;
+use refusal::Refusal;
+
+// Whether the staged parts lie within the lent bytes, and the push that they will make passes 17, 3, 10 and 16.
+fn pending_sound(strings: u64, kind: Kind, parts: &[u8], pending: Pending) -> bool
+    ensures { λ r. ⌜ r ≡ pendingSound strings kind (now (parts .entry)) pending ⌝ }
+{
+    let used = pending.used;
+    if used <= parts.len() {
+        let head = pending.head;
+        let meta = pending.meta;
+        return match legal::push_fault(kind, head, meta, &parts[..used], strings) {
+            Fault::Legal => true,
+            Fault::Refused(_) => false,
+        };
+    }
+    false
+}
+
+// Whether overlay and reader are sound.
+pub fn state_sound(
+    nids: &[u64],
+    narena: &[u8],
+    wids: &[u64],
+    warena: &[u8],
+    rids: &[u64],
+    rarena: &[u8],
+    spans: &[u64],
+    bytes: &[u8],
+    used: &[u64; 9],
+    parts: &[u8; 44432],
+    reader: EventReader,
+) -> bool
+    ensures { λ r. ⌜ r ≡ stateSound (record { overlay = lent nids narena wids warena rids rarena spans bytes used; reader = reader; parts = now (parts .entry) }) ⌝ }
+{
+    if overlay::is_sound(nids, narena, wids, warena, rids, rarena, spans, bytes, used) {
+        let place = reader.place;
+        let kind = place.kind;
+        let pending = reader.pending;
+        let staged = pending_sound(used[6], kind, parts, pending);
+        return staged & (reader.lines < 18446744073709551615);
+    }
+    false
+}
+
+// Whether a refusal stops the reader of its event: 2 to 16.
+fn stops_by(refusal: Refusal) -> bool
+    ensures { λ r. ⌜ r ≡ stopsBy refusal ⌝ }
+{
+    let reply = refusal::reply_of(refusal);
+    (2 <= reply.number) & (reply.number <= 16)
+}
+
+// The mark that stops a reader; a mark that no refused event leaves stops nothing.
+pub fn mark_of(stop: Stop) -> Stop
+    ensures { λ r. ⌜ r ≡ markOf stop ⌝ }
+{
+    match stop {
+        Stop::Going => Stop::Going,
+        Stop::At(refusal, line) => {
+            if stops_by(refusal) {
+                return Stop::At(refusal, line);
+            }
+            Stop::Going
+        }
+    }
+}

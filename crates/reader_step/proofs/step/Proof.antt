@@ -1,0 +1,310 @@
+-- One call a decision.
+use denote.Ref.{now}
+use mir.Syntax.{w64}
+use mir.Val.{toZ}
+use Rattle.overlay.specs.Overlay.{overlayOf}
+use Rattle.reader.specs.State.{State}
+use Rattle.reader_step.proofs.Steps.{refuses-done, moves-done, begins-given, deletes-done, tags-done, refers-done, joins-done, ends-done}
+use borrow.Author.Needs.{needs}
+use Rattle.reader_step.proofs.step.Statement.{statement}
+use Rattle.reader_step.proofs.step.Tie as tie
+
+-- overlay, reader and parts as they were lent
+abbrev given : tie.Start → State
+given s =
+    let k = s .args in
+    record {
+      overlay = overlayOf (now (k .nids)) (now (k .narena)) (now (k .wids)) (now (k .warena)) (now (k .rids)) (now (k .rarena)) (now (k .spans)) (now (k .bytes)) (now (k .used));
+      reader = k .reader;
+      parts = now (k .parts);
+    }
+
+enum-known-decided : tie.Need-enum-known-decided
+enum-known-decided c = search needs
+
+enum-known-decided-2 : tie.Need-enum-known-decided-2
+enum-known-decided-2 c = search needs
+
+enum-known-decided-3 : tie.Need-enum-known-decided-3
+enum-known-decided-3 c = search needs
+
+begin-requires : tie.Need-begin-requires
+begin-requires c κs = search needs
+
+enum-known-decided-4 : tie.Need-enum-known-decided-4
+enum-known-decided-4 c = search needs
+
+delete-element-requires : tie.Need-delete-element-requires
+delete-element-requires c κs = search needs
+
+cleared-requires : tie.Need-cleared-requires
+cleared-requires c κs = search needs
+
+enum-known-decided-5 : tie.Need-enum-known-decided-5
+enum-known-decided-5 c = search needs
+
+add-tag-requires : tie.Need-add-tag-requires
+add-tag-requires c κs = search needs
+
+added-requires : tie.Need-added-requires
+added-requires c κs = search needs
+
+enum-known-decided-6 : tie.Need-enum-known-decided-6
+enum-known-decided-6 c = search needs
+
+add-ref-requires : tie.Need-add-ref-requires
+add-ref-requires c κs = search needs
+
+added-requires-2 : tie.Need-added-requires-2
+added-requires-2 c κs = search needs
+
+enum-known-decided-7 : tie.Need-enum-known-decided-7
+enum-known-decided-7 c = search needs
+
+add-member-requires : tie.Need-add-member-requires
+add-member-requires c κs = search needs
+
+added-requires-3 : tie.Need-added-requires-3
+added-requires-3 c κs = search needs
+
+enum-known-decided-8 : tie.Need-enum-known-decided-8
+enum-known-decided-8 c = search needs
+
+push-staged-requires : tie.Need-push-staged-requires
+push-staged-requires c κs = search needs
+
+cleared-requires-2 : tie.Need-cleared-requires-2
+cleared-requires-2 c κs = search needs
+
+returns : tie.Need-returns
+returns c = let s = c .before .before .before .before .before .before .before .before .before .before .before .before .before .before in rw (c .before .decided .given .1) (λ g. refuses-done (given s) (now (s .args .line)) _)
+
+returns-2 : tie.Need-returns-2
+returns-2 c = let s = c .before .before .before .before .before .before .before .before .before .before .before .before .before .before in rw (c .before .decided2 .given .1) (λ g. moves-done (given s) _ (now (s .args .line)))
+
+same-length : tie.Need-same-length
+same-length c = search needs
+
+same-length-2 : tie.Need-same-length-2
+same-length-2 c = search needs
+
+same-length-3 : tie.Need-same-length-3
+same-length-3 c = search needs
+
+same-length-4 : tie.Need-same-length-4
+same-length-4 c = search needs
+
+same-length-5 : tie.Need-same-length-5
+same-length-5 c = search needs
+
+same-length-6 : tie.Need-same-length-6
+same-length-6 c = search needs
+
+same-length-7 : tie.Need-same-length-7
+same-length-7 c = search needs
+
+same-length-8 : tie.Need-same-length-8
+same-length-8 c = search needs
+
+returns-3 : tie.Need-returns-3
+returns-3 c =
+    let s = c .before .before .before .before .before .before .before .before .before .before .before .before .before .before .before .before .before .before .before .before .before .before .before .before .before .before .before .before .before .before .before .before .before .before .before .before .before .before .before .before in
+    let d = c .before .before .before .before .before .before .before .before .before .before .before .before .before .before .before .before .before .before .before .before .before .before .before .before .before .before .before .decided3 .given in
+    rw (d .1) (λ g. c .before .before .before .before .before .before .before .before .before .before .before .before .before .before .before .before .begin .ensures (s .args .reader) (now (s .args .parts)) (begins-given (given s) _ (d .0 .0) (d .0 .1 .0) (d .0 .1 .1 .1 .0) (d .0 .1 .1 .1 .1 .0) (d .0 .1 .1 .1 .1 .1 .0) (d .0 .1 .1 .1 .1 .1 .1 .0) g))
+
+same-length-9 : tie.Need-same-length-9
+same-length-9 c = search needs
+
+same-length-10 : tie.Need-same-length-10
+same-length-10 c = search needs
+
+same-length-11 : tie.Need-same-length-11
+same-length-11 c = search needs
+
+same-length-12 : tie.Need-same-length-12
+same-length-12 c = search needs
+
+same-length-13 : tie.Need-same-length-13
+same-length-13 c = search needs
+
+same-length-14 : tie.Need-same-length-14
+same-length-14 c = search needs
+
+same-length-15 : tie.Need-same-length-15
+same-length-15 c = search needs
+
+same-length-16 : tie.Need-same-length-16
+same-length-16 c = search needs
+
+returns-4 : tie.Need-returns-4
+returns-4 c =
+    let s = c .before .before .before .before .before .before .before .before .before .before .before .before .before .before .before .before .before .before .before .before .before .before .before .before .before .before .before .before .before .before .before .before .before .before .before .before .before .before .before .before .before in
+    let d = c .before .before .before .before .before .before .before .before .before .before .before .before .before .before .before .before .before .before .before .before .before .before .before .before .before .before .before .before .decided4 .given in
+    rw (d .1) (deletes-done (given s) _ (d .0 .0) (d .0 .1 .1 .0) (d .0 .1 .1 .1 .0) (c .before .before .before .before .before .before .before .before .before .before .before .before .before .before .before .before .before .delete-element .ensures) (c .cleared .ensures))
+
+same-length-17 : tie.Need-same-length-17
+same-length-17 c = search needs
+
+same-length-18 : tie.Need-same-length-18
+same-length-18 c = search needs
+
+same-length-19 : tie.Need-same-length-19
+same-length-19 c = search needs
+
+same-length-20 : tie.Need-same-length-20
+same-length-20 c = search needs
+
+same-length-21 : tie.Need-same-length-21
+same-length-21 c = search needs
+
+same-length-22 : tie.Need-same-length-22
+same-length-22 c = search needs
+
+same-length-23 : tie.Need-same-length-23
+same-length-23 c = search needs
+
+same-length-24 : tie.Need-same-length-24
+same-length-24 c = search needs
+
+returns-5 : tie.Need-returns-5
+returns-5 c =
+    let s = c .before .before .before .before .before .before .before .before .before .before .before .before .before .before .before .before .before .before .before .before .before .before .before .before .before .before .before .before .before .before in
+    let d = c .before .before .before .before .before .before .before .before .before .before .before .before .before .before .before .before .before .decided5 .given in
+    rw (d .1) (tags-done (given s) _ (d .0 .1 .0) (d .0 .1 .1 .0) (c .before .before .before .before .before .add-tag .ensures) (c .added .ensures))
+
+returns-6 : tie.Need-returns-6
+returns-6 c =
+    let s = c .before .before .before .before .before .before .before .before .before .before .before .before .before .before .before .before .before in
+    let d = c .before .before .before .before .decided6 .given in
+    rw (d .1) (refers-done (given s) _ (d .0 .1 .0) (c .before .add-ref .ensures) (c .added2 .ensures))
+
+same-length-25 : tie.Need-same-length-25
+same-length-25 c = search needs
+
+same-length-26 : tie.Need-same-length-26
+same-length-26 c = search needs
+
+same-length-27 : tie.Need-same-length-27
+same-length-27 c = search needs
+
+same-length-28 : tie.Need-same-length-28
+same-length-28 c = search needs
+
+same-length-29 : tie.Need-same-length-29
+same-length-29 c = search needs
+
+same-length-30 : tie.Need-same-length-30
+same-length-30 c = search needs
+
+same-length-31 : tie.Need-same-length-31
+same-length-31 c = search needs
+
+same-length-32 : tie.Need-same-length-32
+same-length-32 c = search needs
+
+returns-7 : tie.Need-returns-7
+returns-7 c =
+    let s = c .before .before .before .before .before .before .before .before .before .before .before .before .before .before .before .before .before .before .before .before .before .before .before .before .before .before .before .before .before .before in
+    let d = c .before .before .before .before .before .before .before .before .before .before .before .before .before .before .before .before .before .decided7 .given in
+    rw (d .1) (joins-done (given s) _ (d .0 .1 .0) (d .0 .1 .1 .0) (d .0 .1 .1 .1 .0) (c .before .before .before .before .before .add-member .ensures) (c .added3 .ensures))
+
+same-length-33 : tie.Need-same-length-33
+same-length-33 c = search needs
+
+same-length-34 : tie.Need-same-length-34
+same-length-34 c = search needs
+
+same-length-35 : tie.Need-same-length-35
+same-length-35 c = search needs
+
+same-length-36 : tie.Need-same-length-36
+same-length-36 c = search needs
+
+same-length-37 : tie.Need-same-length-37
+same-length-37 c = search needs
+
+same-length-38 : tie.Need-same-length-38
+same-length-38 c = search needs
+
+same-length-39 : tie.Need-same-length-39
+same-length-39 c = search needs
+
+same-length-40 : tie.Need-same-length-40
+same-length-40 c = search needs
+
+returns-8 : tie.Need-returns-8
+returns-8 c =
+    let s = c .before .before .before .before .before .before .before .before .before .before .before .before .before .before .before .before .before .before .before .before .before .before .before .before .before .before .before .before .before .before .before .before .before .before .before .before .before .before in
+    rw (c .before .before .before .before .before .before .before .before .before .before .before .before .before .before .before .before .before .before .before .before .before .before .before .before .before .decided8 .given .1) (λ g. ends-done (given s) _ (now (s .args .line)) (c .before .before .before .before .before .before .before .before .before .before .before .before .before .push-staged .ensures) (c .cleared2 .ensures))
+
+pub step-spec : {M : Type 1} → statement M
+step-spec =
+    tie.close
+    (tie.spec
+    enum-known-decided
+    enum-known-decided-2
+    enum-known-decided-3
+    begin-requires
+    enum-known-decided-4
+    delete-element-requires
+    cleared-requires
+    enum-known-decided-5
+    add-tag-requires
+    added-requires
+    enum-known-decided-6
+    add-ref-requires
+    added-requires-2
+    enum-known-decided-7
+    add-member-requires
+    added-requires-3
+    enum-known-decided-8
+    push-staged-requires
+    cleared-requires-2
+    returns
+    returns-2
+    same-length
+    same-length-2
+    same-length-3
+    same-length-4
+    same-length-5
+    same-length-6
+    same-length-7
+    same-length-8
+    returns-3
+    same-length-9
+    same-length-10
+    same-length-11
+    same-length-12
+    same-length-13
+    same-length-14
+    same-length-15
+    same-length-16
+    returns-4
+    same-length-17
+    same-length-18
+    same-length-19
+    same-length-20
+    same-length-21
+    same-length-22
+    same-length-23
+    same-length-24
+    returns-5
+    returns-6
+    same-length-25
+    same-length-26
+    same-length-27
+    same-length-28
+    same-length-29
+    same-length-30
+    same-length-31
+    same-length-32
+    returns-7
+    same-length-33
+    same-length-34
+    same-length-35
+    same-length-36
+    same-length-37
+    same-length-38
+    same-length-39
+    same-length-40
+    returns-8)

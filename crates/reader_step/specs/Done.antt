@@ -1,0 +1,55 @@
+-- What a step of a reader leaves of overlay and lent bytes, with where the reader stands after it, or its refusal: "Nothing lent changes" then.
+use Prim.Native.Nat.{_≤_, _<_}
+use mathlib.Core.Path.{_≡_}
+use lib.ListN.{length}
+use Rattle.base.specs.Bytes.{Bytes}
+use Rattle.refusal.specs.declared.Refusal.the-variants.{LongLine}
+use Rattle.decision.specs.Decision.{refuses}
+use Rattle.decide.specs.Decided.{meansDecided, DecidedLies}
+use Rattle.decide.specs.declared.Decided.{Decided}
+use Rattle.overlay.specs.Overlay.{Overlay}
+use Rattle.compact.specs.declared.PushHead.{PushHead}
+use Rattle.nesting.specs.declared.Place.{Place}
+use Rattle.shelf.specs.declared.Kept.{Kept}
+use Rattle.shelf.specs.declared.Kept.the-variants as K
+use Rattle.reader.specs.State.{State, noPending}
+use Rattle.reader.specs.Step.{Step, goes, stops}
+use Rattle.reader_acts.specs.declared.Begun.{Begun}
+use Rattle.reader_acts.specs.declared.Begun.the-variants as B
+use Rattle.reader_parts.specs.declared.Added.{Added}
+use Rattle.reader_parts.specs.declared.Added.the-variants as A
+use Rattle.reader_step.specs.declared.Stepped.{Stepped}
+use Rattle.reader_step.specs.declared.Stepped.the-variants as S
+
+pub record StepDone : Type 0 where
+  pub overlay : Overlay
+  pub parts : Bytes
+  pub answer : Stepped
+
+abbrev pub doneBy : State → Step → StepDone
+doneBy s (goes l) = record { overlay = l .overlay; parts = l .parts; answer = S.Goes (l .place) (l .pending) }
+doneBy s (stops r) = record { overlay = s .overlay; parts = s .parts; answer = S.Stops r }
+
+-- what a sound state and a decided line give: a handle fits 32 bits, what is staged lies within the lent bytes, the line is no longer than it may be, its texts lie in it
+pub record StepGiven (line : Bytes) (d : Decided) (s : State) : Type 0 where
+  pub strings : s .overlay .texts .strings < 4294967296
+  pub used : s .reader .pending .used ≤ length (s .parts)
+  pub short : (meansDecided line d ≡ refuses LongLine → ⊥) → length line ≤ 16384
+  pub lies : DecidedLies line d
+
+-- ---- by the answers of the calls that it makes
+
+-- a child of the open element
+abbrev pub addedAs : Place → Added → Stepped
+addedAs p (A.Is x) = S.Goes p x
+addedAs p (A.Refused r) = S.Stops r
+
+-- an act: nothing is staged any more
+abbrev pub clearedAs : Place → Kept → Stepped
+clearedAs p K.Taken = S.Goes p noPending
+clearedAs p (K.Refused r) = S.Stops r
+
+-- an element that begins: no part is staged yet
+abbrev pub begunAs : Place → PushHead → Begun → Stepped
+begunAs p h (B.With a) = S.Goes p (record { head = h; meta = a; used = 0 })
+begunAs p h (B.Refused r) = S.Stops r

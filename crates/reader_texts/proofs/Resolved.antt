@@ -1,0 +1,78 @@
+-- The text of an extent: no longer than its line, so an array of a line's largest length holds it whole; and what `intern` would answer it, by its cases.
+use Prim.Native.Nat.{ℕ, suc, _-_, _≤_, min}
+use mathlib.Core.Path.{_≡_}
+use mathlib.Core.Bool.{Bool, true, false}
+use mathlib.Core.Option.{Option, none, some}
+use mathlib.Core.List.{[], _∷_}
+use native.Mathlib.Omega.{arith}
+use lib.ListN.{length, take}
+use lib.Dec.{eqb}
+use lib.Seq.{slice, length-slice}
+use borrow.Rule.Slice.PartMut.{midOf}
+use Rattle.base.specs.Bytes.{Bytes}
+use Rattle.base.proofs.Split.{byBool}
+use Rattle.little.specs.Little.{over}
+use Rattle.little.proofs.Overs.{read-back}
+use Rattle.text.specs.Escape.{before, meaning, unescapeFrom}
+use Rattle.event.specs.Event.{orEmpty}
+use Rattle.scan.specs.Piece.{textOf}
+use Rattle.scan.proofs.Places.{lent-is}
+use Rattle.interner.specs.declared.Found.the-variants.{At, Not}
+use Rattle.interner.specs.Strings.{findIn, Store, usedOf, room}
+use Rattle.interner.proofs.Takes.{held, new, full}
+use Rattle.values.specs.Value.{textAt, ExtentLies}
+use Rattle.values.specs.declared.Extent.{Extent}
+use Rattle.reader_texts.specs.Texts.{refusedFor}
+
+-- ---- a text is no longer than the value that writes it
+
+one-more : (m : Option ℕ) (x : Option Bytes) (n : ℕ) → length (orEmpty x) ≤ n → length (orEmpty (before m x)) ≤ suc n
+unfolding before
+one-more none x n h = omega arith
+one-more (some b) none n h = omega arith
+one-more (some b) (some t) n h = omega arith
+
+shorter : (v : Bytes) (marked : Bool) → length (orEmpty (unescapeFrom marked v)) ≤ length v
+unfolding unescapeFrom
+shorter [] false = omega arith
+shorter [] true = omega arith
+shorter (b ∷ v) true = one-more (meaning b) (unescapeFrom false v) (length v) (shorter v false)
+shorter (b ∷ v) false =
+    byBool (eqb b 92)
+    (λ e. let h = shorter v true in rw (e, unescapeFrom) (omega arith))
+    (λ e. rw (e, unescapeFrom) (one-more (some b) (unescapeFrom false v) (length v) (shorter v false)))
+
+pub text-shorter : (v : Bytes) → length (textOf v) ≤ length v
+unfolding textOf
+text-shorter v = shorter v false
+
+module _ (line : Bytes) (at : Extent) (lies : ExtentLies line at) where
+  pub extent-shorter : length (textAt line at) ≤ length line
+  extent-shorter =
+      let h = text-shorter (slice (at .from) (at .to) line) in
+      let k = length-slice (at .from) (at .to) line (lies .end) in
+      let e = lies .end in
+      omega arith
+
+  -- the part of the line that is lent: both places lie within it
+  pub extent-lent : (from to : ℕ) → to ≡ min (at .to) (length line) → from ≡ min (at .from) to → midOf from (to - from) line ≡ slice (at .from) (at .to) line
+  extent-lent from to e g =
+      let p : to ≡ at .to = omega (arith, lies .end) in
+      let q : from ≡ at .from = omega (arith, lies .order) in
+      rw (p, q) (lent-is (at .from) (at .to) line (lies .order))
+
+  -- enough bytes hold it whole
+  pub extent-whole : (s last : Bytes) (n : ℕ) → length line ≤ length s → (last ≡ over s 0 (textAt line at)) × (n ≡ length (textAt line at)) → take n last ≡ textAt line at
+  extent-whole s last n h e = let k = extent-shorter in rw (e .0, e .1) (read-back s 0 (textAt line at) (omega arith))
+
+-- ---- what `intern` would answer
+
+module _ (s : Store) (t : Bytes) where
+  pub held-not-refused : (h : ℕ) → findIn (s .spans) (usedOf s) (s .strings) t ≡ At h → refusedFor s t ≡ false
+  held-not-refused h e = rw (held s t h e)
+
+  pub room-not-refused : findIn (s .spans) (usedOf s) (s .strings) t ≡ Not → room s t ≡ true → refusedFor s t ≡ false
+  room-not-refused e r = rw (new s t e r)
+
+  pub full-refused : findIn (s .spans) (usedOf s) (s .strings) t ≡ Not → room s t ≡ false → refusedFor s t ≡ true
+  full-refused e r = rw (full s t e r)

@@ -1,0 +1,24 @@
+-- The array holds the text whole.
+use native.Mathlib.Omega.{arith}
+use denote.Ref.{now}
+use Rattle.reader_texts.proofs.Resolved.{extent-whole}
+use borrow.Author.Needs.{needs}
+use Rattle.reader_texts.proofs.refused_through.Statement.{statement}
+use Rattle.reader_texts.proofs.refused_through.Tie as tie
+
+text-into-requires : tie.Need-text-into-requires
+text-into-requires c κs = search needs
+
+first-refused-requires : tie.Need-first-refused-requires
+first-refused-requires c κs = search needs
+
+returns : tie.Need-returns
+returns c =
+    λ lies short.
+    let i = c .before .before .before in
+    let a = c .before .before .before .before .before .before .before .before .args in
+    let e = extent-whole (now (a .line)) (a .at) lies (now (a .room)) _ _ (omega (arith, i .before .text-into-arg .given .0 .1)) (i .text-into .ensures lies) in
+    rw e at (c .first-refused .ensures)
+
+pub refused-through-spec : {M : Type 1} → statement M
+refused-through-spec = tie.close (tie.spec text-into-requires first-refused-requires returns)

@@ -1,0 +1,31 @@
+-- The array holds the text whole.
+use native.Mathlib.Omega.{arith}
+use denote.Ref.{now}
+use Rattle.reader_texts.proofs.Resolved.{extent-whole}
+use borrow.Author.Needs.{needs}
+use Rattle.reader_texts.proofs.take_through.Statement.{statement}
+use Rattle.reader_texts.proofs.take_through.Tie as tie
+
+text-into-requires : tie.Need-text-into-requires
+text-into-requires c κs = search needs
+
+take-first-requires : tie.Need-take-first-requires
+take-first-requires c κs = search needs
+
+same-length : tie.Need-same-length
+same-length c = search needs
+
+same-length-2 : tie.Need-same-length-2
+same-length-2 c = search needs
+
+returns : tie.Need-returns
+returns c =
+    λ lies short.
+    let i = c .before .before .before .before .before .before .before .before .before .before in
+    let a = c .before .before .before .before .before .before .before .before .before .before .before .before .before .before .before .before .before .before .before .before .before .args in
+    let e = extent-whole (now (a .line)) (a .at) lies (now (a .room)) _ _ (omega (arith, i .before .text-into-arg .given .0 .1)) (i .text-into .ensures lies) in
+    rw e at (c .before .before .before .before .take-first .ensures)
+
+pub take-through-spec : {M : Type 1} → statement M
+take-through-spec =
+    tie.close (tie.spec text-into-requires take-first-requires same-length same-length-2 returns)

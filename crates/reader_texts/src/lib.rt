@@ -1,0 +1,178 @@
+// A text that stands in an event's line, its escapes resolved: taken in, or only asked for. A line has at most 16,384 bytes, so an array of that size holds each of its texts.
+ghost use mathlib.Core.Path.{_≡_};
+ghost use Prim.Native.Nat.{_≤_};
+ghost use lib.ListN.{length, take, getD};
+ghost use Rattle.little.specs.Little.{over};
+ghost use Rattle.interner.specs.Strings.{storeWith};
+ghost use Rattle.values.specs.Value.{textAt, ExtentLies};
+ghost use Rattle.overlay.specs.Overlay.{lent, left};
+ghost use Rattle.store.specs.Calls.{storeText};
+ghost use Rattle.reader_texts.specs.Texts.{refusedFor};
+use interner::Found;
+use store::Handle;
+use values::Extent;
+
+// The text of an extent at the start of what is lent, as far as there is room; its whole length is answered.
+pub fn text_into(out: &mut [u8], line: &[u8], at: Extent) -> usize
+    ensures { λ r. ⌜ (ExtentLies (now (line .entry)) at
+        → (now (out .exit) ≡ over (now (out .entry)) 0 (textAt (now (line .entry)) at)) × (r ≡ length (textAt (now (line .entry)) at))) ⌝ }
+{
+    let to = little::lesser(at.to, line.len());
+    let from = little::lesser(at.from, to);
+    scan::unescape_into(out, &line[from..to])
+}
+
+// ---- a text taken in
+
+// The text that the first n of some bytes are.
+fn take_first(
+    nids: &[u64],
+    narena: &[u8],
+    wids: &[u64],
+    warena: &[u8],
+    rids: &[u64],
+    rarena: &[u8],
+    spans: &mut [u64],
+    bytes: &mut [u8],
+    used: &mut [u64; 9],
+    room: &[u8],
+    n: usize,
+) -> Handle
+    ensures { λ r. ⌜ record { overlay = left nids narena wids warena rids rarena spans bytes used; answer = r }
+        ≡ storeText (take n (now (room .entry))) (lent nids narena wids warena rids rarena spans bytes used) ⌝ }
+{
+    let end = little::lesser(n, room.len());
+    store::store_text(
+        nids,
+        narena,
+        wids,
+        warena,
+        rids,
+        rarena,
+        spans,
+        bytes,
+        used,
+        &room[..end],
+    )
+}
+
+// The text of an extent, by an array that holds it.
+fn take_through(
+    nids: &[u64],
+    narena: &[u8],
+    wids: &[u64],
+    warena: &[u8],
+    rids: &[u64],
+    rarena: &[u8],
+    spans: &mut [u64],
+    bytes: &mut [u8],
+    used: &mut [u64; 9],
+    line: &[u8],
+    at: Extent,
+    room: &mut [u8; 16384],
+) -> Handle
+    ensures { λ r. ⌜ (ExtentLies (now (line .entry)) at → length (now (line .entry)) ≤ 16384
+        → record { overlay = left nids narena wids warena rids rarena spans bytes used; answer = r }
+        ≡ storeText (textAt (now (line .entry)) at) (lent nids narena wids warena rids rarena spans bytes used)) ⌝ }
+{
+    let n = text_into(room, line, at);
+    take_first(
+        nids,
+        narena,
+        wids,
+        warena,
+        rids,
+        rarena,
+        spans,
+        bytes,
+        used,
+        room,
+        n,
+    )
+}
+
+// Takes the text of an extent in: 13, or its handle.
+pub fn take_text(
+    nids: &[u64],
+    narena: &[u8],
+    wids: &[u64],
+    warena: &[u8],
+    rids: &[u64],
+    rarena: &[u8],
+    spans: &mut [u64],
+    bytes: &mut [u8],
+    used: &mut [u64; 9],
+    line: &[u8],
+    at: Extent,
+) -> Handle
+    ensures { λ r. ⌜ (ExtentLies (now (line .entry)) at → length (now (line .entry)) ≤ 16384
+        → record { overlay = left nids narena wids warena rids rarena spans bytes used; answer = r }
+        ≡ storeText (textAt (now (line .entry)) at) (lent nids narena wids warena rids rarena spans bytes used)) ⌝ }
+{
+    let mut room = [0u8; 16384];
+    take_through(
+        nids,
+        narena,
+        wids,
+        warena,
+        rids,
+        rarena,
+        spans,
+        bytes,
+        used,
+        line,
+        at,
+        &mut room,
+    )
+}
+
+// ---- whether a text would be refused: 13
+
+// Whether no equal text is held, and there is no room for it.
+fn is_refused(spans: &[u64], bytes: &[u8], strings: u64, used: u64, text: &[u8]) -> bool
+    ensures { λ r. ⌜ r ≡ refusedFor (storeWith (now (spans .entry)) (now (bytes .entry)) strings used) (now (text .entry)) ⌝ }
+{
+    let seen = little::lesser(used as usize, bytes.len());
+    match interner::find_text(spans, &bytes[..seen], strings, text) {
+        Found::At(_) => false,
+        Found::Not => {
+            if interner::fits(spans.len(), bytes.len(), strings, used, text.len()) {
+                false
+            } else {
+                true
+            }
+        }
+    }
+}
+
+// That of the first n of some bytes, with the counters.
+fn first_refused(spans: &[u64], bytes: &[u8], used: &[u64; 9], room: &[u8], n: usize) -> bool
+    ensures { λ r. ⌜ r ≡ refusedFor (storeWith (now (spans .entry)) (now (bytes .entry)) (getD (now (used .entry)) 6 0) (getD (now (used .entry)) 7 0)) (take n (now (room .entry))) ⌝ }
+{
+    let end = little::lesser(n, room.len());
+    is_refused(spans, bytes, used[6], used[7], &room[..end])
+}
+
+fn refused_through(
+    spans: &[u64],
+    bytes: &[u8],
+    used: &[u64; 9],
+    line: &[u8],
+    at: Extent,
+    room: &mut [u8; 16384],
+) -> bool
+    ensures { λ r. ⌜ (ExtentLies (now (line .entry)) at → length (now (line .entry)) ≤ 16384
+        → r ≡ refusedFor (storeWith (now (spans .entry)) (now (bytes .entry)) (getD (now (used .entry)) 6 0) (getD (now (used .entry)) 7 0)) (textAt (now (line .entry)) at)) ⌝ }
+{
+    let n = text_into(room, line, at);
+    first_refused(spans, bytes, used, room, n)
+}
+
+// Whether the text of an extent would be refused.
+pub fn text_refused(spans: &[u64], bytes: &[u8], used: &[u64; 9], line: &[u8], at: Extent) -> bool
+    ensures { λ r. ⌜ (ExtentLies (now (line .entry)) at → length (now (line .entry)) ≤ 16384
+        → r ≡ refusedFor (storeWith (now (spans .entry)) (now (bytes .entry)) (getD (now (used .entry)) 6 0) (getD (now (used .entry)) 7 0)) (textAt (now (line .entry)) at)) ⌝ }
+{
+    let mut room = [0u8; 16384];
+    refused_through(spans, bytes, used, line, at, &mut room)
+}

@@ -1,0 +1,3 @@
+pub mod Codes
+pub mod Fits
+pub mod Words
