@@ -1,5 +1,4 @@
 // What the program `roadlist` does with its input: pieces taken in line by line, and at the end the listing or the `refused` line.
-mod reader_calls;
 
 ghost use mathlib.Core.Path.{_≡_};
 ghost use mathlib.Core.Bool.{true};
