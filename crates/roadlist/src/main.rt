@@ -37,14 +37,14 @@ fn is_going(reading: Reading) -> bool {
 
 // One read, and what it brought.
 fn read_piece(
-    nids: &mut [u64],
-    narena: &mut [u8],
-    wids: &mut [u64],
-    warena: &mut [u8],
-    rids: &mut [u64],
-    rarena: &mut [u8],
-    spans: &mut [u64],
-    bytes: &mut [u8],
+    nids: &mut [u64; 1536],
+    narena: &mut [u8; 8192],
+    wids: &mut [u64; 1536],
+    warena: &mut [u8; 8192],
+    rids: &mut [u64; 1536],
+    rarena: &mut [u8; 8192],
+    spans: &mut [u64; 1024],
+    bytes: &mut [u8; 8192],
     used: &mut [u64; 9],
     parts: &mut [u8; 44432],
     buffer: &mut [u8; 81920],
@@ -96,16 +96,16 @@ fn read_piece(
     }
 }
 
-// Pieces up to the end of the input, or to the first refusal. A proved loop has to end, and nothing says that an input does: so it counts down from a number that no run uses up.
+// Pieces up to the end of the input, or to the first refusal. A proved loop has to end, and nothing says that an input does: so it counts down from a number that no run uses up (a read takes time).
 fn read_all(
-    nids: &mut [u64],
-    narena: &mut [u8],
-    wids: &mut [u64],
-    warena: &mut [u8],
-    rids: &mut [u64],
-    rarena: &mut [u8],
-    spans: &mut [u64],
-    bytes: &mut [u8],
+    nids: &mut [u64; 1536],
+    narena: &mut [u8; 8192],
+    wids: &mut [u64; 1536],
+    warena: &mut [u8; 8192],
+    rids: &mut [u64; 1536],
+    rarena: &mut [u8; 8192],
+    spans: &mut [u64; 1024],
+    bytes: &mut [u8; 8192],
     used: &mut [u64; 9],
     parts: &mut [u8; 44432],
     buffer: &mut [u8; 81920],
@@ -120,6 +120,7 @@ fn read_all(
     let mut turns = u64::MAX;
     let mut going = true;
     while turns > 0 && going {
+        turns -= 1;
         run = read_piece(
             nids,
             narena,
@@ -137,7 +138,6 @@ fn read_all(
         );
         let reading = run.reading;
         going = is_going(reading);
-        turns -= 1;
     }
     run
 }
@@ -157,7 +157,7 @@ fn write_out(out: &[u8], written: usize, number: u32) {
     }
 }
 
-fn run(
+fn read_and_print(
     nids: &mut [u64; 1536],
     narena: &mut [u8; 8192],
     wids: &mut [u64; 1536],
@@ -200,7 +200,8 @@ fn run(
         reader,
     );
     let reader = run.reader;
-    let Reading::Ended = run.reading else {
+    let reading = run.reading;
+    let Reading::Ended = reading else {
         return;
     };
     let ended = roadlist_page::finish(
@@ -236,7 +237,7 @@ fn main() {
     let mut buffer = [0u8; 81920];
     let mut piece = [0u8; 65536];
     let mut out = [0u8; 65536];
-    run(
+    read_and_print(
         &mut nids,
         &mut narena,
         &mut wids,
