@@ -1,4 +1,4 @@
-// The program: event lines from standard input, the listing or the `refused` line to standard output. What it prints is proved in `roadlist_page`; here is what
+// The program: event lines from standard input, the listing or the `refused` line to standard output. What it takes in and prints is proved in `intake` and `roadlist_page`; here is what
 // it lends, and what it reads and writes.
 use libc::STDERR_FILENO;
 use libc::STDIN_FILENO;
@@ -70,7 +70,7 @@ fn read_piece(
         };
     }
     let n = io::count(got, piece);
-    let fed = roadlist_page::feed(
+    let fed = intake::feed(
         nids,
         narena,
         wids,

@@ -31,8 +31,9 @@ use Rattle.reader.specs.declared.EventAnswer.{EventAnswer}
 use Rattle.reader.specs.declared.EventAnswer.the-variants as E
 use Rattle.reader.specs.Event.{EventResult, eventOn, endOn}
 use Rattle.reader.proofs.Answers.{byEnd, end-22, answer-is}
-use Rattle.roadlist_page.specs.Roadlist.{startOn, afterEvent, refusedEnding, pageEnding, endingAt}
-use Rattle.roadlist_page.specs.Feed.{Intake, keptLine, stateAtEnd, EndOutput, endOutput, Finished, finishOn}
+use Rattle.roadlist_page.specs.Roadlist.{startOn, refusedEnding, pageEnding, endingAt}
+use Rattle.intake.specs.Feed.{Intake, keptLine, stateAtEnd}
+use Rattle.roadlist_page.specs.Finish.{EndOutput, endOutput, Finished, finishOn}
 
 pub started-by : (o : Overlay) (parts : Bytes) (q : Overlay) (k : Kept) → _≡_ {A = After} (record { overlay = q; answer = k }) (setUp 0 o)
     → _≡_ {A = State} (record { overlay = q; reader = freshReader; parts = parts }) (startOn o parts)

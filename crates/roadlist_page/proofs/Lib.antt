@@ -1,5 +1,3 @@
-pub mod Stops
-pub mod Pieces
-pub mod Walks
 pub mod Ends
+pub mod Printed
 pub mod Starts

@@ -30,7 +30,8 @@ use Rattle.reader.proofs.Answers.{byAnswer, byEnd, byLevel, answer-is, event-co
 use Rattle.reader.proofs.Events.{byRefused, unsound-stops-not}
 use Rattle.reader.proofs.Keeps.{ReadyIn, event-fine, event-ready, ready-sound, fresh-ready}
 use Rattle.reader.specs.State.{stopsBy}
-use Rattle.roadlist_page.specs.Roadlist.{programLends, startOn, programStart, afterEvent}
+use Rattle.intake.specs.Feed.{afterEvent}
+use Rattle.roadlist_page.specs.Roadlist.{programLends, startOn, programStart}
 
 -- ---- the start
 

@@ -1,2 +1,2 @@
 pub mod Roadlist
-pub mod Feed
+pub mod Finish

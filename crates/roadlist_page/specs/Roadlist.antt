@@ -16,7 +16,8 @@ use Rattle.report.specs.Report.{refusedLine}
 use Rattle.reader.specs.State.{State, freshReader}
 use Rattle.reader.specs.declared.EventAnswer.{EventAnswer}
 use Rattle.reader.specs.declared.EventAnswer.the-variants as E
-use Rattle.reader.specs.Event.{eventOn, endOn}
+use Rattle.reader.specs.Event.{endOn}
+use Rattle.intake.specs.Feed.{afterEvent}
 
 -- what is lent, all of it 0 at first: three words an id, two a string, nine counters
 unfoldable pub programLends : Overlay
@@ -30,10 +31,6 @@ startOn o parts = record { overlay = setUp 0 o .overlay; reader = freshReader; p
 
 unfoldable pub programStart : State
 programStart = startOn programLends (replicate 44432 0)
-
--- a line is an event
-abbrev pub afterEvent : State → Bytes → State
-afterEvent s line = eventOn line s .state
 
 -- what is printed, and the number of the refusal that it tells, 0 where it is the listing
 pub record Ending : Type 0 where

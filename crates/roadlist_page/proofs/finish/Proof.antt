@@ -4,7 +4,7 @@ use mathlib.Core.Path.{_∙_, ap}
 use denote.Ref.{now}
 use Rattle.overlay.specs.Overlay.{overlayOf}
 use Rattle.reader.specs.State.{State}
-use Rattle.roadlist_page.specs.Feed.{finishOn}
+use Rattle.roadlist_page.specs.Finish.{finishOn}
 use Rattle.roadlist_page.proofs.Ends.{finished-by}
 use borrow.Author.Needs.{needs}
 use Rattle.roadlist_page.proofs.finish.Statement.{statement}

@@ -3,7 +3,7 @@ use mathlib.Core.Path.{_∙_, ap}
 use denote.Ref.{now}
 use Rattle.overlay.specs.Overlay.{overlayOf}
 use Rattle.reader.specs.State.{State}
-use Rattle.roadlist_page.specs.Feed.{endOutput}
+use Rattle.roadlist_page.specs.Finish.{endOutput}
 use Rattle.roadlist_page.proofs.Ends.{end-overlay, end-lines, ends-page, ends-refused}
 use borrow.Author.Needs.{needs}
 use Rattle.roadlist_page.proofs.put_end.Statement.{statement}

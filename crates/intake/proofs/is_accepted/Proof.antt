@@ -2,9 +2,9 @@
 
 use mathlib.Core.Path.{refl, sym, _∙_, ap}
 use borrow.Author.Needs.{needs}
-use Rattle.roadlist_page.specs.Feed.{isAccepted}
-use Rattle.roadlist_page.proofs.is_accepted.Statement.{statement}
-use Rattle.roadlist_page.proofs.is_accepted.Tie as tie
+use Rattle.intake.specs.Feed.{isAccepted}
+use Rattle.intake.proofs.is_accepted.Statement.{statement}
+use Rattle.intake.proofs.is_accepted.Tie as tie
 
 enum-told : tie.Need-enum-told
 enum-told c = search needs

@@ -4,7 +4,7 @@ use Prim.Native.Nat.{ℕ, _-_}
 use mathlib.Core.Bool.{Bool, true, false, cond}
 use mathlib.Core.List.{List, [], _∷_, _++_, foldl}
 use lib.Dec.{leb}
-use lib.ListN.{length, take, drop}
+use lib.ListN.{length, take}
 use lib.Seq.{slice}
 use Rattle.base.specs.Bytes.{Bytes}
 use Rattle.little.specs.Little.{over}
@@ -12,12 +12,14 @@ use Rattle.lines.specs.Lines.{linesOf, restOf, lastLine}
 use Rattle.lines.specs.Place.{lineEnd}
 use Rattle.lines.specs.declared.LineEnd.{LineEnd}
 use Rattle.lines.specs.declared.LineEnd.the-variants.{At, None}
-use Rattle.overlay.specs.Overlay.{Overlay}
 use Rattle.reader.specs.State.{State}
 use Rattle.reader.specs.declared.EventAnswer.{EventAnswer}
 use Rattle.reader.specs.declared.EventAnswer.the-variants as E
 use Rattle.reader.specs.Event.{EventResult, eventOn}
-use Rattle.roadlist_page.specs.Roadlist.{Ending, afterEvent, endingAt}
+
+-- a line is an event
+abbrev pub afterEvent : State → Bytes → State
+afterEvent s line = eventOn line s .state
 
 -- an event, and what comes after it where it was accepted
 abbrev pub onward : (State → EventResult) → EventAnswer → State → EventResult
@@ -102,21 +104,3 @@ readOn (p ∷ ps) f = onwardFed (readOn ps) (feedOn p f .answer) (feedOn p f .in
 -- a last line without its line feed is a line too
 unfoldable pub stateAtEnd : Intake → State
 stateAtEnd f = foldl afterEvent (f .state) (lastLine (keptLine f))
-
--- the output with what is printed at its start, how many bytes that is, and the number
-pub record EndOutput : Type 0 where
-  pub out : Bytes
-  pub written : ℕ
-  pub number : ℕ
-
-abbrev pub endOutput : Bytes → Ending → EndOutput
-endOutput out x = record { out = x .text ++ drop (length (x .text)) out; written = length (x .text); number = x .number }
-
--- what is left of the storage and of the output
-pub record Finished : Type 0 where
-  pub overlay : Overlay
-  pub parts : Bytes
-  pub output : EndOutput
-
-unfoldable pub finishOn : Bytes → Intake → Finished
-finishOn out f = record { overlay = stateAtEnd f .overlay; parts = stateAtEnd f .parts; output = endOutput out (endingAt (stateAtEnd f)) }

@@ -20,8 +20,7 @@ use Rattle.reader.specs.Step.{Step, stops, goes, stepOf}
 use Rattle.reader.specs.Event.{EventResult, eventOn, unlessUnsound, unlessStopped, stepped}
 use Rattle.reader.proofs.Answers.{byAnswer, byEvent, event-22, stepAt}
 use Rattle.reader.proofs.Events.{byRefused, event-repeats, unsound-stops-not}
-use Rattle.roadlist_page.specs.Roadlist.{afterEvent}
-use Rattle.roadlist_page.specs.Feed.{eventsOn}
+use Rattle.intake.specs.Feed.{afterEvent, eventsOn}
 
 -- ---- a refusal
 

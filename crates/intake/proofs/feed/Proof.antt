@@ -6,11 +6,11 @@ use denote.Ref.{now}
 use Rattle.overlay.specs.Overlay.{overlayOf}
 use Rattle.reader.specs.State.{State}
 use Prim.Native.Nat.{ℕ, _+_, _≤_}
-use Rattle.roadlist_page.specs.Feed.{feedOn}
-use Rattle.roadlist_page.proofs.Walks.{front-within, fed-kept, fed-refused}
+use Rattle.intake.specs.Feed.{feedOn}
+use Rattle.intake.proofs.Walks.{front-within, fed-kept, fed-refused}
 use borrow.Author.Needs.{needs}
-use Rattle.roadlist_page.proofs.feed.Statement.{statement}
-use Rattle.roadlist_page.proofs.feed.Tie as tie
+use Rattle.intake.proofs.feed.Statement.{statement}
+use Rattle.intake.proofs.feed.Tie as tie
 
 -- the state as it is lent
 abbrev given : tie.Start → State

@@ -1,8 +1,8 @@
--- Pieces of any size are taken in as the whole input is: what is printed after any of them, read up to the first refusal, is what is printed for all of them joined.
+-- Pieces of any size, read up to the first refusal, are taken in as the whole input is.
 use Prim.Native.Nat.{ℕ, _+_, _<_, _≤_}
 use mathlib.Core.Path.{_≡_, refl, sym, _∙_, ap}
 use mathlib.Core.Bool.{true, false}
-use mathlib.Core.List.{List, [], _∷_, _++_, append-nil, flatten, foldl}
+use mathlib.Core.List.{List, [], _∷_, _++_, append-nil, foldl}
 use native.Mathlib.Omega.{arith}
 use borrow.Author.Tests.{le-leb, lt-leb}
 use lib.ListN.{length, take, drop}
@@ -10,21 +10,20 @@ use lib.Seq.{take-append-seam}
 use Rattle.base.specs.Bytes.{Bytes}
 use Rattle.base.proofs.Split.{byLe}
 use Rattle.refusal.specs.declared.Refusal.{Refusal}
-use Rattle.line.proofs.Lines.{lacks, lacks-nil}
+use Rattle.line.proofs.Lines.{lacks}
 use Rattle.little.specs.Little.{over}
 use Rattle.little.proofs.Overs.{length-over, over-start}
 use Rattle.lines.specs.Lines.{linesOf, restOf}
-use Rattle.lines.specs.Stream.{Stream, afterPiece, afterEnd, afterInput}
+use Rattle.lines.specs.Stream.{Stream, afterPiece, afterEnd}
 use Rattle.lines.proofs.Lines.{rest-lacks}
-use Rattle.lines.proofs.Streams.{pieces-whole, stopped-early, cut-short}
+use Rattle.lines.proofs.Streams.{stopped-early, cut-short}
 use Rattle.reader.specs.State.{State}
 use Rattle.reader.specs.declared.EventAnswer.{EventAnswer}
 use Rattle.reader.specs.declared.EventAnswer.the-variants as E
 use Rattle.reader.specs.Event.{EventResult, eventOn}
 use Rattle.reader.proofs.Answers.{byAnswer}
-use Rattle.roadlist_page.specs.Roadlist.{programStart, afterEvent, endingAt, roadlistOf}
-use Rattle.roadlist_page.specs.Feed.{eventsOn, longLine, pieceLines, Intake, IntakeResult, keptLine, keptAfter, feedOn, readOn, stateAtEnd, finishOn}
-use Rattle.roadlist_page.proofs.Stops.{events-none, events-off, events-fold, events-still, events-more, events-enough, long-same, long-refused, long-still}
+use Rattle.intake.specs.Feed.{afterEvent, eventsOn, longLine, pieceLines, Intake, IntakeResult, keptLine, keptAfter, feedOn, readOn, stateAtEnd}
+use Rattle.intake.proofs.Stops.{events-none, events-off, events-fold, events-still, events-more, events-enough, long-same, long-refused, long-still}
 
 -- ---- the lines of some bytes
 
@@ -151,24 +150,3 @@ reads-stream (p ∷ ps) f w =
     (λ g. ap stateAtEnd (read-on f w p ps (g .answered)) ∙ (reads-stream ps (feedOn p f .intake) (g .holds)
     ∙ ap (λ (z : Stream State). afterEnd afterEvent (foldl (afterPiece afterEvent) z ps)) (g .stream)))
     (λ g. ap stateAtEnd (read-off f w p ps (g .refusal) (g .line) (g .answered)) ∙ (end-nothing (feedOn p f .intake) (g .nothing) ∙ sym (g .final ps)))
-
--- ---- what is printed
-
--- before the first piece, whatever the buffer holds
-abbrev pub intakeStart : Bytes → Intake
-intakeStart buffer = record { state = programStart; buffer = buffer; held = 0 }
-
-module _ (buffer : Bytes) (room : length buffer ≡ 81920) (pieces : List Bytes) where
-  at-start : Holds (intakeStart buffer)
-  at-start = record { room = room; short = omega arith; unbroken = lacks-nil 10 }
-
-  pub reads-whole : stateAtEnd (readOn pieces (intakeStart buffer)) ≡ afterInput afterEvent programStart (flatten pieces)
-  reads-whole = reads-stream pieces (intakeStart buffer) at-start ∙ pieces-whole afterEvent programStart pieces
-
-  -- The program: each piece as it is read, up to the first refusal or to the input's end, then the end. The bytes that it is told to print are what is defined for the whole
-  -- input, whatever output and buffer held before, and however the input was cut.
-  pub roadlist-pieces : (out : Bytes) → let r = finishOn out (readOn pieces (intakeStart buffer)) .output in take (r .written) (r .out) ≡ roadlistOf (flatten pieces)
-  unfolding finishOn roadlistOf
-  roadlist-pieces out =
-      let x = endingAt (stateAtEnd (readOn pieces (intakeStart buffer))) in
-      take-append-seam (x .text) (drop (length (x .text)) out) ∙ ap (λ (s : State). endingAt s .text) reads-whole

@@ -3,10 +3,10 @@ use denote.Ref.{now}
 use Rattle.overlay.specs.Overlay.{overlayOf}
 use Rattle.reader.specs.State.{State}
 use native.Mathlib.Omega.{arith}
-use Rattle.roadlist_page.proofs.Walks.{event-walked}
+use Rattle.intake.proofs.Walks.{event-walked}
 use borrow.Author.Needs.{needs}
-use Rattle.roadlist_page.proofs.take_event.Statement.{statement}
-use Rattle.roadlist_page.proofs.take_event.Tie as tie
+use Rattle.intake.proofs.take_event.Statement.{statement}
+use Rattle.intake.proofs.take_event.Tie as tie
 
 -- the state as it is lent
 abbrev given : tie.Start → State

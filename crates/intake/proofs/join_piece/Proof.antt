@@ -6,10 +6,10 @@ use denote.Ref.{now}
 use lib.ListN.{take, length-take}
 use lib.Seq.{length-take-le}
 use Rattle.little.specs.Little.{over}
-use Rattle.roadlist_page.proofs.Walks.{take-min}
+use Rattle.intake.proofs.Walks.{take-min}
 use borrow.Author.Needs.{needs}
-use Rattle.roadlist_page.proofs.join_piece.Statement.{statement}
-use Rattle.roadlist_page.proofs.join_piece.Tie as tie
+use Rattle.intake.proofs.join_piece.Statement.{statement}
+use Rattle.intake.proofs.join_piece.Tie as tie
 
 lesser-requires : tie.Need-lesser-requires
 lesser-requires c κs = search needs

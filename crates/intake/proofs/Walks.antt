@@ -26,9 +26,9 @@ use Rattle.reader.specs.declared.EventAnswer.{EventAnswer}
 use Rattle.reader.specs.declared.EventAnswer.the-variants as E
 use Rattle.reader.specs.Event.{EventResult, eventOn}
 use Rattle.reader.proofs.Answers.{byAnswer}
-use Rattle.roadlist_page.specs.Feed.{eventsOn, longLine, pieceLines, isAccepted, Walked, eventFrom, lineFrom, lineOn, Intake, IntakeResult, keptAfter, feedOn}
-use Rattle.roadlist_page.proofs.Pieces.{lines-short, lines-long}
-use Rattle.roadlist_page.proofs.Stops.{events-none, events-on, events-off, long-refused}
+use Rattle.intake.specs.Feed.{eventsOn, longLine, pieceLines, isAccepted, Walked, eventFrom, lineFrom, lineOn, Intake, IntakeResult, keptAfter, feedOn}
+use Rattle.intake.proofs.Pieces.{lines-short, lines-long}
+use Rattle.intake.proofs.Stops.{events-none, events-on, events-off, long-refused}
 
 -- ---- one line
 

@@ -3,9 +3,9 @@ use denote.Ref.{now}
 use Rattle.overlay.specs.Overlay.{overlayOf}
 use Rattle.reader.specs.State.{State}
 use mathlib.Core.Path.{refl, _∙_}
-use Rattle.roadlist_page.proofs.Walks.{SameSizes, Walking, ahead, walk-start, walk-on, walk-less, walk-all, walk-rest, walk-taken, walk-left}
-use Rattle.roadlist_page.proofs.take_lines.Statement.{statement}
-use Rattle.roadlist_page.proofs.take_lines.Tie as tie
+use Rattle.intake.proofs.Walks.{SameSizes, Walking, ahead, walk-start, walk-on, walk-less, walk-all, walk-rest, walk-taken, walk-left}
+use Rattle.intake.proofs.take_lines.Statement.{statement}
+use Rattle.intake.proofs.take_lines.Tie as tie
 
 abbrev Inv-loop : tie.InvT-loop
 Inv-loop nids₀ narena₀ wids₀ warena₀ rids₀ rarena₀ spans₀ bytes₀ used₀ parts₀ lines walk₀ nids narena wids warena rids rarena spans bytes used parts walk =

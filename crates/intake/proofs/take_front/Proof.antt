@@ -4,8 +4,8 @@ use native.Mathlib.Omega.{arith}
 use denote.Ref.{now}
 use lib.Seq.{length-take-le}
 use borrow.Author.Needs.{needs}
-use Rattle.roadlist_page.proofs.take_front.Statement.{statement}
-use Rattle.roadlist_page.proofs.take_front.Tie as tie
+use Rattle.intake.proofs.take_front.Statement.{statement}
+use Rattle.intake.proofs.take_front.Tie as tie
 
 slice-aggregate-take-lines : tie.Need-slice-aggregate-take-lines
 slice-aggregate-take-lines c =

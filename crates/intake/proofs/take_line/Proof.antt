@@ -5,10 +5,10 @@ use Rattle.reader.specs.State.{State}
 use mathlib.Core.Path.{sym, _∙_}
 use native.Mathlib.Omega.{arith}
 use Rattle.lines.proofs.Places.{next-line}
-use Rattle.roadlist_page.proofs.Walks.{line-whole, line-short, line-long}
+use Rattle.intake.proofs.Walks.{line-whole, line-short, line-long}
 use borrow.Author.Needs.{needs}
-use Rattle.roadlist_page.proofs.take_line.Statement.{statement}
-use Rattle.roadlist_page.proofs.take_line.Tie as tie
+use Rattle.intake.proofs.take_line.Statement.{statement}
+use Rattle.intake.proofs.take_line.Tie as tie
 
 -- the state as it is lent
 abbrev given : tie.Start → State
