@@ -1,0 +1,45 @@
+-- The piece is copied behind what is held.
+use Prim.Native.Nat.{_+_}
+use mathlib.Core.Path.{_≡_, sym, _∙_, ap}
+use native.Mathlib.Omega.{arith}
+use denote.Ref.{now}
+use lib.ListN.{take, length-take}
+use lib.Seq.{length-take-le}
+use Rattle.little.specs.Little.{over}
+use Rattle.intake.proofs.Walks.{take-min}
+use borrow.Author.Needs.{needs}
+use Rattle.intake.proofs.join_piece.Statement.{statement}
+use Rattle.intake.proofs.join_piece.Tie as tie
+
+lesser-requires : tie.Need-lesser-requires
+lesser-requires c κs = search needs
+
+slice-aggregate-copy-at : tie.Need-slice-aggregate-copy-at
+slice-aggregate-copy-at c =
+    let p = now (c .before .before .before .before .before .args .piece) in sym (length-take-le (c .before .before .lesser .result) p (omega (arith, c .before .before .lesser .ensures)))
+
+copy-at-requires : tie.Need-copy-at-requires
+copy-at-requires c κs = search needs
+
+add-result : tie.Need-add-result
+add-result c = search needs
+
+same-length : tie.Need-same-length
+same-length c = search needs
+
+returns : tie.Need-returns
+returns c =
+    let a = c .before .before .before .before .before .before .before .before .args in
+    let e : take (c .before .before .before .before .before .lesser .result) (now (a .piece)) ≡ take (a .got) (now (a .piece)) = rw (c .before .before .before .before .before .lesser .ensures) (take-min (a .got) (now (a .piece))) in
+    (c .before .before .copy-at .ensures ∙ ap (over (now (a .buffer)) (a .held)) e, ap (a .held +_) (c .before .before .before .before .before .lesser .ensures ∙ sym (length-take (a .got) (now (a .piece)))))
+
+pub join-piece-spec : {M : Type 1} → statement M
+join-piece-spec =
+    tie.close
+    (tie.spec
+    lesser-requires
+    slice-aggregate-copy-at
+    copy-at-requires
+    add-result
+    same-length
+    returns)

@@ -1,0 +1,109 @@
+-- Line by line. The invariant: what is to come from the present place on, after the present state, is what all lines come to.
+use denote.Ref.{now}
+use Rattle.overlay.specs.Overlay.{overlayOf}
+use Rattle.reader.specs.State.{State}
+use mathlib.Core.Path.{refl, _∙_}
+use Rattle.intake.proofs.Walks.{SameSizes, Walking, ahead, walk-start, walk-on, walk-less, walk-all, walk-rest, walk-taken, walk-left}
+use Rattle.intake.proofs.take_lines.Statement.{statement}
+use Rattle.intake.proofs.take_lines.Tie as tie
+
+abbrev Inv-loop : tie.InvT-loop
+Inv-loop nids₀ narena₀ wids₀ warena₀ rids₀ rarena₀ spans₀ bytes₀ used₀ parts₀ lines walk₀ nids narena wids warena rids rarena spans bytes used parts walk =
+    SameSizes nids₀ narena₀ wids₀ warena₀ rids₀ rarena₀ spans₀ bytes₀ nids narena wids warena rids rarena spans bytes
+    × Walking lines (record { overlay = overlayOf nids₀ narena₀ wids₀ warena₀ rids₀ rarena₀ spans₀ bytes₀ used₀; reader = walk₀ .reader; parts = parts₀ }) (walk .more) (walk .at)
+    (record { state = record { overlay = overlayOf nids narena wids warena rids rarena spans bytes used; reader = walk .reader; parts = parts }; answer = walk .answer })
+
+abbrev μ-loop : tie.MeasureT-loop
+μ-loop nids₀ narena₀ wids₀ warena₀ rids₀ rarena₀ spans₀ bytes₀ used₀ parts₀ lines walk₀ nids narena wids warena rids rarena spans bytes used parts walk =
+    ahead lines (walk .more) (walk .at)
+
+-- the state as it is lent
+abbrev given : tie.Start Inv-loop μ-loop → State
+given s =
+    let a = s .args in
+    record {
+      overlay = overlayOf (now (a .nids)) (now (a .narena)) (now (a .wids)) (now (a .warena)) (now (a .rids)) (now (a .rarena)) (now (a .spans)) (now (a .bytes)) (now (a .used));
+      reader = a .reader;
+      parts = now (a .parts);
+    }
+
+loop-holds : tie.Need-loop-holds Inv-loop μ-loop
+loop-holds c =
+    let s = c .before .before .before .before .before .before .before .before .before in
+    (record { same-nids = refl; same-narena = refl; same-wids = refl; same-warena = refl; same-rids = refl; same-rarena = refl; same-spans = refl; same-bytes = refl }, walk-start (now (s .args .lines)) (given s))
+
+take-line-requires : tie.Need-take-line-requires Inv-loop μ-loop
+take-line-requires c κs =
+    c .before .before .before .before .before .before .before .before .before .before .before .before .loop .inv .1 .within
+
+loop-less : tie.Need-loop-less Inv-loop μ-loop
+loop-less c =
+    let l = c .before .before .before .before .before .before .before .before .before .before .before .before .before .before .before .before .before .before .before .before .before .before .before .before .before .before .before .before .before .loop in
+    let w = walk-taken (c .before .before .before .before .before .before .before .before .before .before .before .before .before .before .before .before .before .before .before .before .before .before .before .before .before .before .before .before .loop-test .taken) (l .inv .1) in
+    rw (c .before .before .before .before .before .before .before .before .before .before .before .before .before .before .before .before .before .before .before .before .before .before .before .before .before .before .before .before .loop-test .taken) (walk-less (now (c .before .before .before .before .before .before .before .before .before .before .before .before .before .before .before .before .before .before .before .before .before .before .before .before .before .before .before .before .before .before .before .before .before .before .before .before .before .before .before .args .lines)) (given (c .before .before .before .before .before .before .before .before .before .before .before .before .before .before .before .before .before .before .before .before .before .before .before .before .before .before .before .before .before .before .before .before .before .before .before .before .before .before .before)) (l .walk .at) _ w _ (c .before .before .before .before .before .before .before .before .before .before .before .before .before .before .before .before .take-line .ensures))
+
+loop-again : tie.Need-loop-again Inv-loop μ-loop
+loop-again c =
+    let l = c .before .before .before .before .before .before .before .before .before .before .before .before .before .before .before .before .before .before .before .before .before .before .before .before .before .before .before .before .before .loop in
+    let w = walk-taken (c .before .before .before .before .before .before .before .before .before .before .before .before .before .before .before .before .before .before .before .before .before .before .before .before .before .before .before .before .loop-test .taken) (l .inv .1) in (
+      record { same-nids = c .before .before .before .before .before .before .before .before .before .before .before .before .before .before .before .nids .given ∙ l .inv .0 .same-nids; same-narena = c .before .before .before .before .before .before .before .before .before .before .before .before .before .narena .given ∙ l .inv .0 .same-narena; same-wids = c .before .before .before .before .before .before .before .before .before .before .before .wids .given ∙ l .inv .0 .same-wids; same-warena = c .before .before .before .before .before .before .before .before .before .warena .given ∙ l .inv .0 .same-warena; same-rids = c .before .before .before .before .before .before .before .rids .given ∙ l .inv .0 .same-rids; same-rarena = c .before .before .before .before .before .rarena .given ∙ l .inv .0 .same-rarena; same-spans = c .before .before .before .spans .given ∙ l .inv .0 .same-spans; same-bytes = c .before .bytes .given ∙ l .inv .0 .same-bytes },
+      walk-on (now (c .before .before .before .before .before .before .before .before .before .before .before .before .before .before .before .before .before .before .before .before .before .before .before .before .before .before .before .before .before .before .before .before .before .before .before .before .before .before .before .args .lines)) (given (c .before .before .before .before .before .before .before .before .before .before .before .before .before .before .before .before .before .before .before .before .before .before .before .before .before .before .before .before .before .before .before .before .before .before .before .before .before .before .before)) (l .walk .at) _ w _ (c .before .before .before .before .before .before .before .before .before .before .before .before .before .before .before .before .take-line .ensures),
+    )
+
+same-length : tie.Need-same-length Inv-loop μ-loop
+same-length c =
+    c .before .loop .inv .0 .same-nids
+
+same-length-2 : tie.Need-same-length-2 Inv-loop μ-loop
+same-length-2 c =
+    c .before .loop .inv .0 .same-narena
+
+same-length-3 : tie.Need-same-length-3 Inv-loop μ-loop
+same-length-3 c =
+    c .before .loop .inv .0 .same-wids
+
+same-length-4 : tie.Need-same-length-4 Inv-loop μ-loop
+same-length-4 c =
+    c .before .loop .inv .0 .same-warena
+
+same-length-5 : tie.Need-same-length-5 Inv-loop μ-loop
+same-length-5 c =
+    c .before .loop .inv .0 .same-rids
+
+same-length-6 : tie.Need-same-length-6 Inv-loop μ-loop
+same-length-6 c =
+    c .before .loop .inv .0 .same-rarena
+
+same-length-7 : tie.Need-same-length-7 Inv-loop μ-loop
+same-length-7 c =
+    c .before .loop .inv .0 .same-spans
+
+same-length-8 : tie.Need-same-length-8 Inv-loop μ-loop
+same-length-8 c =
+    c .before .loop .inv .0 .same-bytes
+
+returns : tie.Need-returns Inv-loop μ-loop
+returns c =
+    let s = c .before .before .before .before .before .before .before .before .before .before .before in
+    let w = walk-left (c .loop-test .left) (c .before .loop .inv .1) in
+    (walk-all (now (s .args .lines)) (given s) _ _ w, walk-rest (now (s .args .lines)) (given s) _ _ w)
+
+pub take-lines-spec : {M : Type 1} → statement M
+take-lines-spec =
+    tie.close
+    (tie.spec
+    Inv-loop
+    μ-loop
+    loop-holds
+    take-line-requires
+    loop-less
+    loop-again
+    same-length
+    same-length-2
+    same-length-3
+    same-length-4
+    same-length-5
+    same-length-6
+    same-length-7
+    same-length-8
+    returns)

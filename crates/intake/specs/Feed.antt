@@ -1,0 +1,106 @@
+-- An input in pieces: the whole lines of a piece are events, up to the first that is refused; the unfinished line is kept for the next piece. A line of more than 16,384
+-- bytes is refused 2 as soon as 16,385 of them are there, so what is kept is never longer.
+use Prim.Native.Nat.{ℕ, _-_}
+use mathlib.Core.Bool.{Bool, true, false, cond}
+use mathlib.Core.List.{List, [], _∷_, _++_, foldl}
+use lib.Dec.{leb}
+use lib.ListN.{length, take}
+use lib.Seq.{slice}
+use Rattle.base.specs.Bytes.{Bytes}
+use Rattle.little.specs.Little.{over}
+use Rattle.lines.specs.Lines.{linesOf, restOf, lastLine}
+use Rattle.lines.specs.Place.{lineEnd}
+use Rattle.lines.specs.declared.LineEnd.{LineEnd}
+use Rattle.lines.specs.declared.LineEnd.the-variants.{At, None}
+use Rattle.reader.specs.State.{State}
+use Rattle.reader.specs.declared.EventAnswer.{EventAnswer}
+use Rattle.reader.specs.declared.EventAnswer.the-variants as E
+use Rattle.reader.specs.Event.{EventResult, eventOn}
+
+-- a line is an event
+abbrev pub afterEvent : State → Bytes → State
+afterEvent s line = eventOn line s .state
+
+-- an event, and what comes after it where it was accepted
+abbrev pub onward : (State → EventResult) → EventAnswer → State → EventResult
+onward next E.Accepted s = next s
+onward next (E.Refused r n) s = record { state = s; answer = E.Refused r n }
+
+-- lines, event by event, up to the first that is refused
+unfoldable pub eventsOn : List Bytes → State → EventResult
+eventsOn [] s = record { state = s; answer = E.Accepted }
+eventsOn (l ∷ ls) s = onward (eventsOn ls) (eventOn l s .answer) (eventOn l s .state)
+
+-- an unfinished line is judged as it stands where it is already too long
+abbrev pub longLine : Bytes → List Bytes
+longLine rest = cond (leb (length rest) 16384) [] (rest ∷ [])
+
+-- the lines that bytes without an end give
+unfoldable pub pieceLines : Bytes → List Bytes
+pieceLines s = linesOf s ++ longLine (restOf s)
+
+-- ---- the same where the lines lie, one at a time
+
+abbrev pub isAccepted : EventAnswer → Bool
+isAccepted E.Accepted = true
+isAccepted (E.Refused r n) = false
+
+-- an event, the place behind it, and whether lines may follow
+pub record Walked : Type 0 where
+  pub result : EventResult
+  pub at : ℕ
+  pub more : Bool
+
+abbrev pub eventFrom : Bytes → ℕ → ℕ → State → Walked
+eventFrom s at end t = let a = eventOn (slice at end s) t in record { result = a; at = end; more = isAccepted (a .answer) }
+
+abbrev pub lineFrom : Bytes → ℕ → State → LineEnd → Walked
+lineFrom s at t (At end) = eventFrom s at end t
+lineFrom s at t None = cond (leb (length s - at) 16384) (record { result = record { state = t; answer = E.Accepted }; at = at; more = false }) (eventFrom s at (length s) t)
+
+-- the next line from a place on, or what is left where it is already too long
+unfoldable pub lineOn : Bytes → ℕ → State → Walked
+lineOn s at t = lineFrom s at t (lineEnd s at)
+
+-- ---- a piece
+
+-- what is held between pieces: the state, and a buffer that begins with the unfinished line
+pub record Intake : Type 0 where
+  pub state : State
+  pub buffer : Bytes
+  pub held : ℕ
+
+pub record IntakeResult : Type 0 where
+  pub intake : Intake
+  pub answer : EventAnswer
+
+-- the kept bytes
+abbrev pub keptLine : Intake → Bytes
+keptLine f = take (f .held) (f .buffer)
+
+-- after the lines of so many bytes in a buffer: what follows them is moved to its front; after a refusal nothing is kept
+abbrev pub keptAfter : Bytes → Bytes → EventAnswer → State → IntakeResult
+keptAfter buffer s E.Accepted t = record { intake = record { state = t; buffer = over buffer 0 (restOf s); held = length (restOf s) }; answer = E.Accepted }
+keptAfter buffer s (E.Refused r n) t = record { intake = record { state = t; buffer = buffer; held = 0 }; answer = E.Refused r n }
+
+-- a piece behind what is kept
+unfoldable pub feedOn : Bytes → Intake → IntakeResult
+feedOn piece f =
+    let s = keptLine f ++ piece in
+    let a = eventsOn (pieceLines s) (f .state) in
+    keptAfter (over (f .buffer) (f .held) piece) s (a .answer) (a .state)
+
+-- pieces up to the first in which an event is refused: the program reads no further
+abbrev pub onwardFed : (Intake → Intake) → EventAnswer → Intake → Intake
+onwardFed next E.Accepted f = next f
+onwardFed next (E.Refused r n) f = f
+
+unfoldable pub readOn : List Bytes → Intake → Intake
+readOn [] f = f
+readOn (p ∷ ps) f = onwardFed (readOn ps) (feedOn p f .answer) (feedOn p f .intake)
+
+-- ---- the end of the input
+
+-- a last line without its line feed is a line too
+unfoldable pub stateAtEnd : Intake → State
+stateAtEnd f = foldl afterEvent (f .state) (lastLine (keptLine f))

@@ -1,0 +1,255 @@
+// The program: event lines from standard input, the listing or the `refused` line to standard output. What it takes in and prints is proved in `intake` and `roadlist_page`; here is what
+// it lends, and what it reads and writes.
+use libc::STDERR_FILENO;
+use libc::STDIN_FILENO;
+use libc::STDOUT_FILENO;
+use reader::EventAnswer;
+use reader::EventReader;
+
+// Where the reading stands between two pieces.
+enum Reading {
+    Going,
+    Ended,
+    Failed,
+}
+
+struct Run {
+    reader: EventReader,
+    held: usize,
+    reading: Reading,
+}
+
+// A further piece may change something, or the reader is stopped and nothing does.
+fn after(answer: EventAnswer) -> Reading {
+    match answer {
+        EventAnswer::Accepted => Reading::Going,
+        EventAnswer::Refused(refusal, line) => Reading::Ended,
+    }
+}
+
+fn is_going(reading: Reading) -> bool {
+    match reading {
+        Reading::Going => true,
+        Reading::Ended => false,
+        Reading::Failed => false,
+    }
+}
+
+// One read, and what it brought.
+fn read_piece(
+    nids: &mut [u64; 1536],
+    narena: &mut [u8; 8192],
+    wids: &mut [u64; 1536],
+    warena: &mut [u8; 8192],
+    rids: &mut [u64; 1536],
+    rarena: &mut [u8; 8192],
+    spans: &mut [u64; 1024],
+    bytes: &mut [u8; 8192],
+    used: &mut [u64; 9],
+    parts: &mut [u8; 44432],
+    buffer: &mut [u8; 81920],
+    piece: &mut [u8; 65536],
+    run: Run,
+) -> Run {
+    let reader = run.reader;
+    let held = run.held;
+    let got = libc::read(STDIN_FILENO, piece);
+    if got < 0 {
+        os::fail(b"roadlist: standard input");
+        return Run {
+            reader,
+            held,
+            reading: Reading::Failed,
+        };
+    }
+    if got == 0 {
+        return Run {
+            reader,
+            held,
+            reading: Reading::Ended,
+        };
+    }
+    let n = io::count(got, piece);
+    let fed = intake::feed(
+        nids,
+        narena,
+        wids,
+        warena,
+        rids,
+        rarena,
+        spans,
+        bytes,
+        used,
+        parts,
+        reader,
+        buffer,
+        held,
+        piece,
+        n,
+    );
+    let reader = fed.reader;
+    let answer = fed.answer;
+    Run {
+        reader,
+        held: fed.held,
+        reading: after(answer),
+    }
+}
+
+// Pieces up to the end of the input, or to the first refusal. A proved loop has to end, and nothing says that an input does: so it counts down from a number that no run uses up (a read takes time).
+fn read_all(
+    nids: &mut [u64; 1536],
+    narena: &mut [u8; 8192],
+    wids: &mut [u64; 1536],
+    warena: &mut [u8; 8192],
+    rids: &mut [u64; 1536],
+    rarena: &mut [u8; 8192],
+    spans: &mut [u64; 1024],
+    bytes: &mut [u8; 8192],
+    used: &mut [u64; 9],
+    parts: &mut [u8; 44432],
+    buffer: &mut [u8; 81920],
+    piece: &mut [u8; 65536],
+    reader: EventReader,
+) -> Run {
+    let mut run = Run {
+        reader,
+        held: 0,
+        reading: Reading::Going,
+    };
+    let mut turns = u64::MAX;
+    let mut going = true;
+    while turns > 0 && going {
+        turns -= 1;
+        run = read_piece(
+            nids,
+            narena,
+            wids,
+            warena,
+            rids,
+            rarena,
+            spans,
+            bytes,
+            used,
+            parts,
+            buffer,
+            piece,
+            run,
+        );
+        let reading = run.reading;
+        going = is_going(reading);
+    }
+    run
+}
+
+// What is to be printed, and a word on standard error where it is not the listing.
+fn write_out(out: &[u8], written: usize, number: u32) {
+    let n = little::lesser(written, out.len());
+    if !io::write_all(STDOUT_FILENO, &out[..n]) {
+        os::fail(b"roadlist: standard output");
+        return;
+    }
+    if number != 0 {
+        io::write_all(
+            STDERR_FILENO,
+            b"roadlist: the input was refused; standard output has the number, the line and the version held.\n",
+        );
+    }
+}
+
+fn read_and_print(
+    nids: &mut [u64; 1536],
+    narena: &mut [u8; 8192],
+    wids: &mut [u64; 1536],
+    warena: &mut [u8; 8192],
+    rids: &mut [u64; 1536],
+    rarena: &mut [u8; 8192],
+    spans: &mut [u64; 1024],
+    bytes: &mut [u8; 8192],
+    used: &mut [u64; 9],
+    parts: &mut [u8; 44432],
+    buffer: &mut [u8; 81920],
+    piece: &mut [u8; 65536],
+    out: &mut [u8; 65536],
+) {
+    let reader = roadlist_page::start(
+        nids,
+        narena,
+        wids,
+        warena,
+        rids,
+        rarena,
+        spans,
+        bytes,
+        used,
+        parts,
+    );
+    let run = read_all(
+        nids,
+        narena,
+        wids,
+        warena,
+        rids,
+        rarena,
+        spans,
+        bytes,
+        used,
+        parts,
+        buffer,
+        piece,
+        reader,
+    );
+    let reader = run.reader;
+    let reading = run.reading;
+    let Reading::Ended = reading else {
+        return;
+    };
+    let ended = roadlist_page::finish(
+        nids,
+        narena,
+        wids,
+        warena,
+        rids,
+        rarena,
+        spans,
+        bytes,
+        used,
+        parts,
+        reader,
+        buffer,
+        run.held,
+        out,
+    );
+    write_out(out, ended.written, ended.number);
+}
+
+fn main() {
+    let mut nids = [0u64; 1536];
+    let mut narena = [0u8; 8192];
+    let mut wids = [0u64; 1536];
+    let mut warena = [0u8; 8192];
+    let mut rids = [0u64; 1536];
+    let mut rarena = [0u8; 8192];
+    let mut spans = [0u64; 1024];
+    let mut bytes = [0u8; 8192];
+    let mut used = [0u64; 9];
+    let mut parts = [0u8; 44432];
+    let mut buffer = [0u8; 81920];
+    let mut piece = [0u8; 65536];
+    let mut out = [0u8; 65536];
+    read_and_print(
+        &mut nids,
+        &mut narena,
+        &mut wids,
+        &mut warena,
+        &mut rids,
+        &mut rarena,
+        &mut spans,
+        &mut bytes,
+        &mut used,
+        &mut parts,
+        &mut buffer,
+        &mut piece,
+        &mut out,
+    );
+}

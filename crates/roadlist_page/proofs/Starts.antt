@@ -1,0 +1,113 @@
+-- What the program lends is set up and sound, and stays so while events come: 22 cannot occur below 2^64 - 1 lines.
+use Prim.Native.Nat.{ℕ, zero, suc, _+_, _<_, _≤_}
+use mathlib.Core.Path.{_≡_, refl, sym, _∙_, ap}
+use mathlib.Core.Bool.{true, false}
+use mathlib.Core.List.{List, [], _∷_, foldl}
+use native.Mathlib.Omega.{arith}
+use lib.ListN.{length, replicate, length-replicate}
+use Rattle.base.specs.Bytes.{Bytes, both, all}
+use Rattle.base.proofs.Split.{clash, no, both-of}
+use Rattle.refusal.specs.declared.Refusal.{Refusal}
+use Rattle.refusal.specs.declared.Refusal.the-variants as R
+use Rattle.kind.specs.declared.Kind.{Kind}
+use Rattle.kind.specs.declared.Kind.the-variants.{Node, Way, Relation}
+use Rattle.little.specs.Little.{isByte}
+use Rattle.shelf.specs.Shelf.{takenIn}
+use Rattle.overlay.specs.Overlay.{Overlay, shelfOf, largest, shelfFits, textsFit, sizesFit}
+use Rattle.overlay.specs.Calls.{After, setUp}
+use Rattle.overlay.specs.Given.{InBytes}
+use Rattle.overlay.proofs.Decides.{decides}
+use Rattle.overlay.proofs.Answers.{bySetUp}
+use Rattle.overlay.proofs.Keeps.{setup-sound, setup-bytes}
+use Rattle.lines.specs.Lines.{inputLines}
+use Rattle.lines.specs.Stream.{afterInput}
+use Rattle.reader.specs.State.{State, stateSound}
+use Rattle.reader.specs.declared.EventAnswer.{EventAnswer}
+use Rattle.reader.specs.declared.EventAnswer.the-variants as E
+use Rattle.reader.specs.Event.{EventResult, eventOn, endOn}
+use Rattle.reader.proofs.Acts.{Fine}
+use Rattle.reader.proofs.Answers.{byAnswer, byEnd, byLevel, answer-is, event-counts}
+use Rattle.reader.proofs.Events.{byRefused, unsound-stops-not}
+use Rattle.reader.proofs.Keeps.{ReadyIn, event-fine, event-ready, ready-sound, fresh-ready}
+use Rattle.reader.specs.State.{stopsBy}
+use Rattle.intake.specs.Feed.{afterEvent}
+use Rattle.roadlist_page.specs.Roadlist.{programLends, startOn, programStart}
+
+-- ---- the start
+
+zeros-bytes : (n : ℕ) → all isByte (replicate n 0) ≡ true
+unfolding all isByte both
+zeros-bytes zero = refl
+zeros-bytes (suc n) = zeros-bytes n
+
+lends-bytes : InBytes programLends
+unfolding programLends
+lends-bytes = record { arenas = each; texts = zeros-bytes 8192 }
+  where
+    each : (k : Kind) → all isByte (shelfOf k programLends .arena) ≡ true
+    each Node = zeros-bytes 8192
+    each Way = zeros-bytes 8192
+    each Relation = zeros-bytes 8192
+
+lends-fit : sizesFit largest programLends ≡ true
+unfolding programLends sizesFit shelfFits textsFit both
+lends-fit = refl
+
+lends-taken : takenIn (setUp 0 programLends .answer) ≡ true
+lends-taken = bySetUp 0 programLends (λ s w. clash lends-fit s) (λ s w. ap (λ (z : After). takenIn (z .answer)) w)
+
+pub start-fine : Fine (programStart .overlay)
+unfolding programStart startOn
+start-fine =
+    let b = setup-bytes 0 programLends lends-bytes in
+    record { sound = decides (setUp 0 programLends .overlay) b .1 (setup-sound 0 programLends lends-taken); bytes = b }
+
+pub start-ready : ReadyIn programStart
+unfolding programStart startOn
+start-ready = fresh-ready (setUp 0 programLends .overlay) (start-fine .sound) (replicate 44432 0) (zeros-bytes 44432) (length-replicate {A = ℕ} 44432 0)
+
+start-lines : programStart .reader .lines ≤ 0
+unfolding programStart startOn
+start-lines = omega arith
+
+-- ---- events
+
+-- the count of lines rises by at most one at a line
+lines-rise : (l : Bytes) (s : State) → eventOn l s .state .reader .lines ≤ s .reader .lines + 1
+lines-rise l s =
+    byAnswer (eventOn l s .answer)
+    (λ a. omega (arith, event-counts l s a .0))
+    (λ r n a. byRefused l s r n a (λ u k j w. rw w (omega arith)) (λ u t w. rw w (omega arith)))
+
+-- what is so of the state after lines
+pub record Within (n : ℕ) (s : State) : Type 0 where
+  pub fine : Fine (s .overlay)
+  pub ready : ReadyIn s
+  pub lines : s .reader .lines ≤ n
+
+pub lines-within : (ls : List Bytes) (n : ℕ) (s : State) → Within n s → Within (n + length ls) (foldl afterEvent s ls)
+lines-within [] n s w = record { fine = w .fine; ready = w .ready; lines = omega (arith, w .lines) }
+lines-within (l ∷ ls) n s w =
+    let v = lines-within ls (n + 1) (afterEvent s l) (record {
+      fine = event-fine l s (w .fine) (w .ready);
+      ready = event-ready l s (w .fine) (w .ready);
+      lines = omega (arith, lines-rise l s, w .lines);
+    }) in
+    record { fine = v .fine; ready = v .ready; lines = omega (arith, v .lines) }
+
+module _ (input : Bytes) (short : length (inputLines input) < 18446744073709551615) where
+  abbrev final : State
+  final = afterInput afterEvent programStart input
+
+  pub final-sound : stateSound final ≡ true
+  final-sound =
+      let w = lines-within (inputLines input) 0 programStart (record { fine = start-fine; ready = start-ready; lines = start-lines }) in
+      ready-sound final (w .fine) (w .ready) (omega (arith, w .lines))
+
+  -- 22 is not the answer of the end, so it is not printed
+  pub no-22 : (n : ℕ) → endOn final .answer ≡ E.Refused R.Unsound n → ⊥
+  no-22 n a =
+      byEnd final
+      (λ u w. clash final-sound u)
+      (λ r m u g t w. let z = answer-is w a in let k : r ≡ R.Unsound = cc in clash t (ap stopsBy k ∙ unsound-stops-not))
+      (λ u g w. byLevel final (final .reader .place .level) (λ d x. let z = answer-is (w ∙ x) a in no (cc)) (λ d x. let z = answer-is (w ∙ x) a in no (cc)))

@@ -1,0 +1,79 @@
+-- A last line, and what the end prints.
+use Prim.Native.Nat.{ℕ}
+use mathlib.Core.Path.{_∙_, ap}
+use denote.Ref.{now}
+use Rattle.overlay.specs.Overlay.{overlayOf}
+use Rattle.reader.specs.State.{State}
+use Rattle.roadlist_page.specs.Finish.{finishOn}
+use Rattle.roadlist_page.proofs.Ends.{finished-by}
+use borrow.Author.Needs.{needs}
+use Rattle.roadlist_page.proofs.finish.Statement.{statement}
+use Rattle.roadlist_page.proofs.finish.Tie as tie
+
+-- the state as it is lent
+abbrev given : tie.Start → State
+given s =
+    let a = s .args in
+    record {
+      overlay = overlayOf (now (a .nids)) (now (a .narena)) (now (a .wids)) (now (a .warena)) (now (a .rids)) (now (a .rarena)) (now (a .spans)) (now (a .bytes)) (now (a .used));
+      reader = a .reader;
+      parts = now (a .parts);
+    }
+
+lesser-requires : tie.Need-lesser-requires
+lesser-requires c κs = search needs
+
+take-last-requires : tie.Need-take-last-requires
+take-last-requires c κs = search needs
+
+put-end-requires : tie.Need-put-end-requires
+put-end-requires c κs = search needs
+
+same-length : tie.Need-same-length
+same-length c = search needs
+
+same-length-2 : tie.Need-same-length-2
+same-length-2 c = search needs
+
+same-length-3 : tie.Need-same-length-3
+same-length-3 c = search needs
+
+same-length-4 : tie.Need-same-length-4
+same-length-4 c = search needs
+
+same-length-5 : tie.Need-same-length-5
+same-length-5 c = search needs
+
+same-length-6 : tie.Need-same-length-6
+same-length-6 c = search needs
+
+same-length-7 : tie.Need-same-length-7
+same-length-7 c = search needs
+
+same-length-8 : tie.Need-same-length-8
+same-length-8 c = search needs
+
+returns : tie.Need-returns
+returns c =
+    let s = c .before .before .before .before .before .before .before .before .before .before .before .before .before .before .before .before .before .before .before .before .before .before .before .before .before .before .before .before .before .before .before .before .before .before .before .before .before .before .before .before .before .before .before .before .before .before .before .before .before in
+    let a = s .args in
+    let h = c .before .before .before .before .before .before .before .before .before .before .before .before .before .before .before .before .before .before .before .before .before .before .before .before .before .before .before .before .before .before .before .before .before .before .before .before .before .before .before .before .lesser in
+    finished-by (record { state = given s; buffer = now (a .buffer); held = h .result }) _ (now (a .out)) _ (c .before .before .before .before .before .before .before .before .before .before .before .before .before .before .before .before .before .before .before .before .before .before .before .before .before .before .before .before .take-last .ensures) (c .put-end .ensures)
+    ∙ ap (λ (n : ℕ). finishOn (now (a .out)) (record { state = given s; buffer = now (a .buffer); held = n })) (h .ensures)
+
+pub finish-spec : {M : Type 1} → statement M
+finish-spec =
+    tie.close
+    (tie.spec
+    lesser-requires
+    take-last-requires
+    put-end-requires
+    same-length
+    same-length-2
+    same-length-3
+    same-length-4
+    same-length-5
+    same-length-6
+    same-length-7
+    same-length-8
+    returns)

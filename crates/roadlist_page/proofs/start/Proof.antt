@@ -1,0 +1,27 @@
+-- The overlay is set up, and the reader is fresh.
+use denote.Ref.{now}
+use Rattle.overlay.specs.Overlay.{Overlay, overlayOf}
+use Rattle.roadlist_page.proofs.Ends.{started-by}
+use borrow.Author.Needs.{needs}
+use Rattle.roadlist_page.proofs.start.Statement.{statement}
+use Rattle.roadlist_page.proofs.start.Tie as tie
+
+-- the overlay as it is lent
+abbrev given : tie.Start → Overlay
+given s =
+    let a = s .args in
+    overlayOf (now (a .nids)) (now (a .narena)) (now (a .wids)) (now (a .warena)) (now (a .rids)) (now (a .rarena)) (now (a .spans)) (now (a .bytes)) (now (a .used))
+
+set-up-requires : tie.Need-set-up-requires
+set-up-requires c κs = search needs
+
+same-length : tie.Need-same-length
+same-length c = search needs
+
+returns : tie.Need-returns
+returns c =
+    let s = c .before .before .before .before .before .before .before .before .before .before .before .before .before in
+    started-by (given s) (now (s .args .parts)) _ _ (c .before .before .set-up .ensures)
+
+pub start-spec : {M : Type 1} → statement M
+start-spec = tie.close (tie.spec set-up-requires same-length returns)

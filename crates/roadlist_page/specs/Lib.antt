@@ -1,0 +1,2 @@
+pub mod Roadlist
+pub mod Finish

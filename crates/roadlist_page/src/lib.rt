@@ -1,0 +1,283 @@
+// What the program `roadlist` prints: the listing or the `refused` line, at the end of its input. Before that pieces are taken in (crate `intake`).
+ghost use mathlib.Core.Path.{_≡_};
+ghost use mathlib.Core.Bool.{true};
+ghost use Prim.Native.Nat.{_≤_, _<_, min};
+ghost use lib.ListN.{length};
+ghost use Rattle.overlay.specs.Overlay.{overlayOf, lent, left};
+ghost use Rattle.overlay.specs.Sound.{isSound};
+ghost use Rattle.intake.specs.Feed.{stateAtEnd};
+ghost use Rattle.roadlist_page.specs.Roadlist.{startOn, refusedEnding, pageEnding, endingAt};
+ghost use Rattle.roadlist_page.specs.Finish.{endOutput, finishOn};
+use compact::ArenaMeta;
+use compact::PushHead;
+use kind::Kind;
+use listing::Listed;
+use nesting::Action;
+use nesting::Level;
+use nesting::Place;
+use reader::EventAnswer;
+use reader::EventReader;
+use reader::Pending;
+use reader::Stop;
+use refusal::Refusal;
+
+// An empty overlay, regression refused, and a fresh reader.
+pub fn start(
+    nids: &[u64],
+    narena: &[u8],
+    wids: &[u64],
+    warena: &[u8],
+    rids: &[u64],
+    rarena: &[u8],
+    spans: &mut [u64],
+    bytes: &[u8],
+    used: &mut [u64; 9],
+    parts: &[u8; 44432],
+) -> EventReader
+    ensures { λ r. ⌜ record { overlay = left nids narena wids warena rids rarena spans bytes used; reader = r; parts = now (parts .exit) }
+        ≡ startOn (lent nids narena wids warena rids rarena spans bytes used) (now (parts .entry)) ⌝ }
+{
+    overlay::set_up(
+        nids,
+        narena,
+        wids,
+        warena,
+        rids,
+        rarena,
+        spans,
+        bytes,
+        used,
+        0,
+    );
+    EventReader {
+        place: Place {
+            level: Level::Doc,
+            section: Action::Create,
+            kind: Kind::Node,
+        },
+        pending: Pending {
+            head: PushHead {
+                id: 0,
+                lat: 0,
+                lon: 0,
+                count: 0,
+                tags: 0,
+            },
+            meta: ArenaMeta {
+                flags: 0,
+                version: 0,
+                timestamp: 0,
+                changeset: 0,
+                uid: 0,
+                user: 0,
+            },
+            used: 0,
+        },
+        lines: 0,
+        stop: Stop::Going,
+    }
+}
+
+// A last line without its line feed is an event too.
+fn take_last(
+    nids: &mut [u64],
+    narena: &mut [u8],
+    wids: &mut [u64],
+    warena: &mut [u8],
+    rids: &mut [u64],
+    rarena: &mut [u8],
+    spans: &mut [u64],
+    bytes: &mut [u8],
+    used: &mut [u64; 9],
+    parts: &mut [u8; 44432],
+    reader: EventReader,
+    buffer: &[u8],
+    held: usize,
+) -> EventReader
+    requires { ⌜ held ≤ length (now buffer) ⌝ }
+    ensures { λ r. ⌜ record { overlay = left nids narena wids warena rids rarena spans bytes used; reader = r; parts = now (parts .exit) }
+        ≡ stateAtEnd (record { state = record { overlay = lent nids narena wids warena rids rarena spans bytes used; reader = reader; parts = now (parts .entry) }; buffer = now (buffer .entry); held = held }) ⌝ }
+{
+    if held == 0 {
+        return reader;
+    }
+    let done = reader_calls::event(
+        nids,
+        narena,
+        wids,
+        warena,
+        rids,
+        rarena,
+        spans,
+        bytes,
+        used,
+        parts,
+        reader,
+        &buffer[..held],
+    );
+    done.reader
+}
+
+// What is printed at the end: how many bytes of the output, and the number of the refusal that they tell, 0 where they are the listing.
+pub struct Ended {
+    pub written: usize,
+    pub number: u32,
+}
+
+// The line of a refusal at the start of the output.
+fn put_refusal(out: &mut [u8], refusal: Refusal, line: u64) -> Ended
+    requires { ⌜ length (now out) ≡ 65536 ⌝ }
+    ensures { λ r. ⌜ record { out = now (out .exit); written = r .written; number = r .number } ≡ endOutput (now (out .entry)) (refusedEnding refusal line) ⌝ }
+{
+    let reply = refusal::reply_of(refusal);
+    let written = report::put_refused(out, refusal, line);
+    Ended {
+        written,
+        number: reply.number,
+    }
+}
+
+// The listing, or 19.
+fn put_page(
+    nids: &[u64],
+    narena: &[u8],
+    wids: &[u64],
+    warena: &[u8],
+    rids: &[u64],
+    rarena: &[u8],
+    spans: &[u64],
+    bytes: &[u8],
+    used: &[u64; 9],
+    out: &mut [u8],
+    lines: u64,
+) -> Ended
+    requires { ⌜ isSound (overlayOf (now nids) (now narena) (now wids) (now warena) (now rids) (now rarena) (now spans) (now bytes) (now used)) ≡ true ⌝ }
+    requires { ⌜ lines < 18446744073709551615 ⌝ }
+    requires { ⌜ length (now out) ≡ 65536 ⌝ }
+    ensures { λ r. ⌜ record { out = now (out .exit); written = r .written; number = r .number }
+        ≡ endOutput (now (out .entry)) (pageEnding (lent nids narena wids warena rids rarena spans bytes used) lines) ⌝ }
+{
+    match listing::list(
+        nids,
+        narena,
+        wids,
+        warena,
+        rids,
+        rarena,
+        spans,
+        bytes,
+        used,
+        out,
+    ) {
+        Listed::Length(n) => Ended {
+            written: n,
+            number: 0,
+        },
+        Listed::Refused(refusal) => put_refusal(out, refusal, lines + 1),
+    }
+}
+
+// What the end answers: its refusal, or the page.
+fn put_end(
+    nids: &[u64],
+    narena: &[u8],
+    wids: &[u64],
+    warena: &[u8],
+    rids: &[u64],
+    rarena: &[u8],
+    spans: &[u64],
+    bytes: &[u8],
+    used: &[u64; 9],
+    parts: &[u8; 44432],
+    reader: EventReader,
+    out: &mut [u8],
+) -> Ended
+    requires { ⌜ length (now out) ≡ 65536 ⌝ }
+    ensures { λ r. ⌜ record { out = now (out .exit); written = r .written; number = r .number }
+        ≡ endOutput (now (out .entry)) (endingAt (record { overlay = lent nids narena wids warena rids rarena spans bytes used; reader = reader; parts = now (parts .entry) })) ⌝ }
+{
+    match reader_calls::end(
+        nids,
+        narena,
+        wids,
+        warena,
+        rids,
+        rarena,
+        spans,
+        bytes,
+        used,
+        parts,
+        reader,
+    ) {
+        EventAnswer::Accepted => put_page(
+            nids,
+            narena,
+            wids,
+            warena,
+            rids,
+            rarena,
+            spans,
+            bytes,
+            used,
+            out,
+            reader.lines,
+        ),
+        EventAnswer::Refused(refusal, line) => put_refusal(out, refusal, line),
+    }
+}
+
+// The end of the input: a last line, the end of the document, then the listing or the `refused` line at the start of the output. Of the bytes held at most 16,384 count.
+pub fn finish(
+    nids: &mut [u64],
+    narena: &mut [u8],
+    wids: &mut [u64],
+    warena: &mut [u8],
+    rids: &mut [u64],
+    rarena: &mut [u8],
+    spans: &mut [u64],
+    bytes: &mut [u8],
+    used: &mut [u64; 9],
+    parts: &mut [u8; 44432],
+    reader: EventReader,
+    buffer: &[u8; 81920],
+    held: usize,
+    out: &mut [u8; 65536],
+) -> Ended
+    ensures { λ r. ⌜ record {
+      overlay = left nids narena wids warena rids rarena spans bytes used;
+      parts = now (parts .exit);
+      output = record { out = now (out .exit); written = r .written; number = r .number };
+    }
+        ≡ finishOn (now (out .entry)) (record { state = record { overlay = lent nids narena wids warena rids rarena spans bytes used; reader = reader; parts = now (parts .entry) }; buffer = now (buffer .entry); held = min held 16384 }) ⌝ }
+{
+    let held = little::lesser(held, 16384);
+    let reader = take_last(
+        nids,
+        narena,
+        wids,
+        warena,
+        rids,
+        rarena,
+        spans,
+        bytes,
+        used,
+        parts,
+        reader,
+        buffer,
+        held,
+    );
+    put_end(
+        nids,
+        narena,
+        wids,
+        warena,
+        rids,
+        rarena,
+        spans,
+        bytes,
+        used,
+        parts,
+        reader,
+        out,
+    )
+}
