@@ -32,13 +32,13 @@ pub data Seen : Type 0 where
   unread : Seen
 
 -- the text of a handle, by the call `text`
-abbrev pub textIn : Bytes → View → Bytes
-textIn bytes (Part at n) = take n (drop at bytes)
-textIn bytes Nothing = []
-textIn bytes (Refused r) = []
+abbrev pub textShown : Bytes → View → Bytes
+textShown bytes (Part at n) = take n (drop at bytes)
+textShown bytes Nothing = []
+textShown bytes (Refused r) = []
 
 unfoldable pub textSeen : Overlay → ℕ → Bytes
-textSeen o h = textIn (o .texts .bytes) (textOn h o)
+textSeen o h = textShown (o .texts .bytes) (textOn h o)
 
 abbrev pub seenAs : (ℕ → Bytes) → Option Kept → Seen
 seenAs f none = unread

@@ -22,7 +22,8 @@ use Rattle.reader.specs.declared.EventAnswer.{EventAnswer}
 use Rattle.reader.specs.declared.EventAnswer.the-variants as E
 use Rattle.reader.specs.Event.{EventResult, eventOn}
 use Rattle.reader.proofs.Answers.{byAnswer}
-use Rattle.intake.specs.Feed.{afterEvent, eventsOn, longLine, pieceLines, Intake, IntakeResult, keptLine, keptAfter, feedOn, readOn, stateAtEnd}
+use Rattle.reader_events.specs.Events.{eventsOn}
+use Rattle.intake.specs.Feed.{afterEvent, longLine, pieceLines, Intake, IntakeResult, keptLine, keptAfter, feedOn, readOn, stateAtEnd}
 use Rattle.intake.proofs.Stops.{events-none, events-off, events-fold, events-still, events-more, events-enough, long-same, long-refused, long-still}
 
 -- ---- the lines of some bytes

@@ -20,7 +20,8 @@ use Rattle.reader.specs.Step.{Step, stops, goes, stepOf}
 use Rattle.reader.specs.Event.{EventResult, eventOn, unlessUnsound, unlessStopped, stepped}
 use Rattle.reader.proofs.Answers.{byAnswer, byEvent, event-22, stepAt}
 use Rattle.reader.proofs.Events.{byRefused, event-repeats, unsound-stops-not}
-use Rattle.intake.specs.Feed.{afterEvent, eventsOn}
+use Rattle.reader_events.specs.Events.{eventsOn}
+use Rattle.intake.specs.Feed.{afterEvent}
 
 -- ---- a refusal
 

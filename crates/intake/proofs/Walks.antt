@@ -26,7 +26,8 @@ use Rattle.reader.specs.declared.EventAnswer.{EventAnswer}
 use Rattle.reader.specs.declared.EventAnswer.the-variants as E
 use Rattle.reader.specs.Event.{EventResult, eventOn}
 use Rattle.reader.proofs.Answers.{byAnswer}
-use Rattle.intake.specs.Feed.{eventsOn, longLine, pieceLines, isAccepted, Walked, eventFrom, lineFrom, lineOn, Intake, IntakeResult, keptAfter, feedOn}
+use Rattle.reader_events.specs.Events.{eventsOn}
+use Rattle.intake.specs.Feed.{longLine, pieceLines, isAccepted, Walked, lineEventFrom, lineFrom, lineOn, Intake, IntakeResult, keptAfter, feedOn}
 use Rattle.intake.proofs.Pieces.{lines-short, lines-long}
 use Rattle.intake.proofs.Stops.{events-none, events-on, events-off, long-refused}
 
@@ -35,13 +36,13 @@ use Rattle.intake.proofs.Stops.{events-none, events-on, events-off, lon
 module _ (s : Bytes) (at : ℕ) (t : State) where
   -- an event over a part that is lent
   pub event-walked : (end : ℕ) → at ≤ end → (x : EventResult) (more : Bool) → x ≡ eventOn (midOf at (end - at) s) t → more ≡ isAccepted (x .answer)
-      → _≡_ {A = Walked} (record { result = x; at = end; more = more }) (eventFrom s at end t)
+      → _≡_ {A = Walked} (record { result = x; at = end; more = more }) (lineEventFrom s at end t)
   event-walked end h x more e f =
       let q : x ≡ eventOn (slice at end s) t = rw (lent-is at end s h) at e in
       let m : more ≡ isAccepted (eventOn (slice at end s) t .answer) = f ∙ ap (λ (z : EventResult). isAccepted (z .answer)) q in
       λ i. record { result = q i; at = end; more = m i }
 
-  pub line-whole : (end : ℕ) → lineEnd s at ≡ At end → lineOn s at t ≡ eventFrom s at end t
+  pub line-whole : (end : ℕ) → lineEnd s at ≡ At end → lineOn s at t ≡ lineEventFrom s at end t
   unfolding lineOn
   line-whole end e = rw e
 
@@ -49,7 +50,7 @@ module _ (s : Bytes) (at : ℕ) (t : State) where
   unfolding lineOn
   line-short e h = rw (e, le-leb (length s - at) 16384 h)
 
-  pub line-long : lineEnd s at ≡ None → 16384 < length s - at → lineOn s at t ≡ eventFrom s at (length s) t
+  pub line-long : lineEnd s at ≡ None → 16384 < length s - at → lineOn s at t ≡ lineEventFrom s at (length s) t
   unfolding lineOn
   line-long e h = rw (e, lt-leb (length s - at) 16384 h)
 

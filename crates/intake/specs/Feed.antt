@@ -16,20 +16,11 @@ use Rattle.reader.specs.State.{State}
 use Rattle.reader.specs.declared.EventAnswer.{EventAnswer}
 use Rattle.reader.specs.declared.EventAnswer.the-variants as E
 use Rattle.reader.specs.Event.{EventResult, eventOn}
+use Rattle.reader_events.specs.Events.{eventsOn}
 
 -- a line is an event
 abbrev pub afterEvent : State → Bytes → State
 afterEvent s line = eventOn line s .state
-
--- an event, and what comes after it where it was accepted
-abbrev pub onward : (State → EventResult) → EventAnswer → State → EventResult
-onward next E.Accepted s = next s
-onward next (E.Refused r n) s = record { state = s; answer = E.Refused r n }
-
--- lines, event by event, up to the first that is refused
-unfoldable pub eventsOn : List Bytes → State → EventResult
-eventsOn [] s = record { state = s; answer = E.Accepted }
-eventsOn (l ∷ ls) s = onward (eventsOn ls) (eventOn l s .answer) (eventOn l s .state)
 
 -- an unfinished line is judged as it stands where it is already too long
 abbrev pub longLine : Bytes → List Bytes
@@ -51,12 +42,12 @@ pub record Walked : Type 0 where
   pub at : ℕ
   pub more : Bool
 
-abbrev pub eventFrom : Bytes → ℕ → ℕ → State → Walked
-eventFrom s at end t = let a = eventOn (slice at end s) t in record { result = a; at = end; more = isAccepted (a .answer) }
+abbrev pub lineEventFrom : Bytes → ℕ → ℕ → State → Walked
+lineEventFrom s at end t = let a = eventOn (slice at end s) t in record { result = a; at = end; more = isAccepted (a .answer) }
 
 abbrev pub lineFrom : Bytes → ℕ → State → LineEnd → Walked
-lineFrom s at t (At end) = eventFrom s at end t
-lineFrom s at t None = cond (leb (length s - at) 16384) (record { result = record { state = t; answer = E.Accepted }; at = at; more = false }) (eventFrom s at (length s) t)
+lineFrom s at t (At end) = lineEventFrom s at end t
+lineFrom s at t None = cond (leb (length s - at) 16384) (record { result = record { state = t; answer = E.Accepted }; at = at; more = false }) (lineEventFrom s at (length s) t)
 
 -- the next line from a place on, or what is left where it is already too long
 unfoldable pub lineOn : Bytes → ℕ → State → Walked

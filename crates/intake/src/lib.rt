@@ -6,7 +6,8 @@ ghost use Rattle.little.specs.Little.{over};
 ghost use Rattle.overlay.specs.Overlay.{lent, left};
 ghost use Rattle.lines.specs.Lines.{restOf};
 ghost use Rattle.reader.specs.declared.EventAnswer.the-variants.{Accepted};
-ghost use Rattle.intake.specs.Feed.{isAccepted, eventFrom, lineOn, pieceLines, eventsOn, feedOn};
+ghost use Rattle.reader_events.specs.Events.{eventsOn};
+ghost use Rattle.intake.specs.Feed.{isAccepted, lineEventFrom, lineOn, pieceLines, feedOn};
 use lines::LineEnd;
 use reader::EventAnswer;
 use reader::EventReader;
@@ -50,7 +51,7 @@ fn take_event(
     requires { ⌜ at ≤ end ⌝ }
     requires { ⌜ end ≤ length (now lines) ⌝ }
     ensures { λ r. ⌜ record { result = record { state = record { overlay = left nids narena wids warena rids rarena spans bytes used; reader = r .reader; parts = now (parts .exit) }; answer = r .answer }; at = r .at; more = r .more }
-        ≡ eventFrom (now (lines .entry)) at end (record { overlay = lent nids narena wids warena rids rarena spans bytes used; reader = reader; parts = now (parts .entry) }) ⌝ }
+        ≡ lineEventFrom (now (lines .entry)) at end (record { overlay = lent nids narena wids warena rids rarena spans bytes used; reader = reader; parts = now (parts .entry) }) ⌝ }
 {
     let done = reader_calls::event(
         nids,

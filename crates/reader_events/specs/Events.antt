@@ -9,14 +9,14 @@ use Rattle.reader.specs.declared.EventAnswer.the-variants as E
 use Rattle.reader.specs.Event.{EventResult, eventOn}
 
 -- an event, and what comes after it where it was accepted
-abbrev pub onward : (State → EventResult) → EventAnswer → State → EventResult
-onward next E.Accepted s = next s
-onward next (E.Refused r n) s = record { state = s; answer = E.Refused r n }
+abbrev pub eventsOnward : (State → EventResult) → EventAnswer → State → EventResult
+eventsOnward next E.Accepted s = next s
+eventsOnward next (E.Refused r n) s = record { state = s; answer = E.Refused r n }
 
 -- lines, event by event, up to the first that is refused
 unfoldable pub eventsOn : List Bytes → State → EventResult
 eventsOn [] s = record { state = s; answer = E.Accepted }
-eventsOn (l ∷ ls) s = onward (eventsOn ls) (eventOn l s .answer) (eventOn l s .state)
+eventsOn (l ∷ ls) s = eventsOnward (eventsOn ls) (eventOn l s .answer) (eventOn l s .state)
 
 -- a line is taken where its event is accepted, and then what comes after it
 abbrev pub takenOnward : ℕ → (State → ℕ) → EventAnswer → State → ℕ

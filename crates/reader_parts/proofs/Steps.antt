@@ -20,23 +20,23 @@ use Rattle.store.specs.Calls.{handleIn, storeText}
 use Rattle.decision.specs.Decision.{Decision, tags, refers, joins}
 use Rattle.reader.specs.State.{State, moreParts}
 use Rattle.reader.specs.Step.{onHandle, withText, stages, partWithin, partPlace, stepOf}
-use Rattle.reader_parts.specs.Parts.{Adding, addPart, onText, addWith, addTag, addRef, addMember, stepBy}
+use Rattle.reader_parts.specs.Parts.{Adding, addPart, onText, addWith, addTag, addRef, addMember, childStep}
 use Rattle.reader_parts.specs.declared.Added.the-variants as A
 use Rattle.reader_parts.proofs.Adds.{with-kept, part-kept}
 
 pub record ChildStep (d : Decision) (s : State) (p : Place) (a : Adding) : Type 0 where
-  pub step : stepOf d s ≡ stepBy p a
+  pub step : stepOf d s ≡ childStep p a
   pub kept : (r : Refusal) → a .answer ≡ A.Refused r → (a .overlay ≡ s .overlay) × (a .parts ≡ s .parts)
 
 module _ (s : State) (p : Place) where
   part-steps : (within : Bool) (h : PushHead) (at : ℕ) (part : Bytes) (q : Overlay)
-      → stages within s q p h at part ≡ stepBy p (addPart within h at part (s .reader .pending) (s .parts) (s .overlay) q)
+      → stages within s q p h at part ≡ childStep p (addPart within h at part (s .reader .pending) (s .parts) (s .overlay) q)
   part-steps true h at part q = refl
   part-steps false h at part q = refl
 
   text-steps : (i : Interned) (within : Bool) (h : PushHead) (at : ℕ) (part : ℕ → Bytes) (q : Overlay)
       → onHandle i (λ n. stages within s q p h at (part n))
-      ≡ stepBy p (onText (handleIn i) (s .parts) (s .overlay) (λ n. addPart within h at (part n) (s .reader .pending) (s .parts) (s .overlay) q))
+      ≡ childStep p (onText (handleIn i) (s .parts) (s .overlay) (λ n. addPart within h at (part n) (s .reader .pending) (s .parts) (s .overlay) q))
   text-steps (I.Held n) within h at part q = part-steps within h at (part n) q
   text-steps (I.New n) within h at part q = part-steps within h at (part n) q
   text-steps I.Full within h at part q = refl

@@ -96,5 +96,5 @@ abbrev pub stepAs : Added → Place → Bytes → Overlay → Step
 stepAs (A.Is x) p parts o = goes (record { overlay = o; place = p; pending = x; parts = parts })
 stepAs (A.Refused r) p parts o = stops r
 
-abbrev pub stepBy : Place → Adding → Step
-stepBy p a = stepAs (a .answer) p (a .parts) (a .overlay)
+abbrev pub childStep : Place → Adding → Step
+childStep p a = stepAs (a .answer) p (a .parts) (a .overlay)

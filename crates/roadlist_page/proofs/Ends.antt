@@ -19,7 +19,7 @@ use Rattle.little.proofs.Overs.{over-start}
 use Rattle.shelf.specs.declared.Kept.{Kept}
 use Rattle.overlay.specs.Overlay.{Overlay}
 use Rattle.overlay.specs.Sound.{isSound}
-use Rattle.overlay.specs.Calls.{After, setUp}
+use Rattle.overlay.specs.Calls.{OverlayAfter, setUp}
 use Rattle.lines.specs.Lines.{lastLine}
 use Rattle.listing.specs.Call.{Output, pageOf, pageOver, listingOn, notListed}
 use Rattle.listing.specs.declared.Listed.{Listed}
@@ -35,7 +35,7 @@ use Rattle.roadlist_page.specs.Roadlist.{startOn, refusedEnding, pageEnd
 use Rattle.intake.specs.Feed.{Intake, keptLine, stateAtEnd}
 use Rattle.roadlist_page.specs.Finish.{EndOutput, endOutput, Finished, finishOn}
 
-pub started-by : (o : Overlay) (parts : Bytes) (q : Overlay) (k : Kept) → _≡_ {A = After} (record { overlay = q; answer = k }) (setUp 0 o)
+pub started-by : (o : Overlay) (parts : Bytes) (q : Overlay) (k : Kept) → _≡_ {A = OverlayAfter} (record { overlay = q; answer = k }) (setUp 0 o)
     → _≡_ {A = State} (record { overlay = q; reader = freshReader; parts = parts }) (startOn o parts)
 unfolding startOn
 started-by o parts q k e = λ i. record { overlay = e i .overlay; reader = freshReader; parts = parts }

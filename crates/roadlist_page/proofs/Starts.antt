@@ -14,7 +14,7 @@ use Rattle.kind.specs.declared.Kind.the-variants.{Node, Way, Relation}
 use Rattle.little.specs.Little.{isByte}
 use Rattle.shelf.specs.Shelf.{takenIn}
 use Rattle.overlay.specs.Overlay.{Overlay, shelfOf, largest, shelfFits, textsFit, sizesFit}
-use Rattle.overlay.specs.Calls.{After, setUp}
+use Rattle.overlay.specs.Calls.{OverlayAfter, setUp}
 use Rattle.overlay.specs.Given.{InBytes}
 use Rattle.overlay.proofs.Decides.{decides}
 use Rattle.overlay.proofs.Answers.{bySetUp}
@@ -54,7 +54,7 @@ unfolding programLends sizesFit shelfFits textsFit both
 lends-fit = refl
 
 lends-taken : takenIn (setUp 0 programLends .answer) ≡ true
-lends-taken = bySetUp 0 programLends (λ s w. clash lends-fit s) (λ s w. ap (λ (z : After). takenIn (z .answer)) w)
+lends-taken = bySetUp 0 programLends (λ s w. clash lends-fit s) (λ s w. ap (λ (z : OverlayAfter). takenIn (z .answer)) w)
 
 pub start-fine : Fine (programStart .overlay)
 unfolding programStart startOn
