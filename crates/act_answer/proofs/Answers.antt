@@ -1,7 +1,7 @@
 -- The answer that an act is given is the one that was asked for, and no text changes it.
 use Prim.Native.Nat.{ℕ}
-use mathlib.Core.Path.{_≡_, refl, sym, _∙_, ap}
-use mathlib.Core.Bool.{Bool, true, false}
+use mathlib.Core.Path.{_≡_, refl}
+use mathlib.Core.Bool.{true}
 use lib.IntN.{ℤ}
 use lib.ListN.{length}
 use mir.Syntax.{w64}

@@ -1,18 +1,18 @@
 -- A handle is at most the number of held strings, whatever is lent.
-use Prim.Native.Nat.{ℕ, zero, suc, _+_, _<_, _≤_}
-use mathlib.Core.Path.{_≡_, refl, sym, _∙_, ap}
+use Prim.Native.Nat.{ℕ, zero, suc, _+_, _<_}
+use mathlib.Core.Path.{_≡_, refl, sym, _∙_}
 use mathlib.Core.List.{List}
 use native.Mathlib.Omega.{arith}
 use Rattle.base.specs.Bytes.{Bytes}
 use Rattle.base.proofs.Split.{byBool, no}
-use Rattle.interner.specs.Strings.{Store, After, isAt, findFrom, findIn, usedOf, room, intern}
+use Rattle.interner.specs.Strings.{Store, isAt, findFrom, findIn, usedOf, room, intern}
 use Rattle.interner.specs.declared.Found.{Found}
 use Rattle.interner.specs.declared.Found.the-variants as F
 use Rattle.interner.specs.declared.Interned.the-variants as I
 use Rattle.interner.proofs.Finds.{find-none, find-here, find-on}
 use Rattle.interner.proofs.Takes as Takes
 use Rattle.overlay.specs.Overlay.{Overlay}
-use Rattle.store.specs.Calls.{handleIn, storeText}
+use Rattle.store.specs.Calls.{storeText}
 use Rattle.reader_acts.specs.Acts.{HandleFits}
 
 found-below : (spans : List ℕ) (bytes t : Bytes) (n h j : ℕ) → findFrom spans bytes t n h ≡ F.At j → j < h + n

@@ -1,5 +1,5 @@
 -- Document 01, the acts of an event: "12 .. 13 .. 14 .. 15 ..", and the first of them is answered. "Nothing lent changes" at a refusal.
-use Prim.Native.Nat.{ℕ, _<_, _≤_}
+use Prim.Native.Nat.{_<_, _≤_}
 use mathlib.Core.Bool.{Bool, false, cond}
 use mathlib.Core.List.{[]}
 use lib.Dec.{eqb}

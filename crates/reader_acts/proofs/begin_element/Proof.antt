@@ -34,8 +34,11 @@ same-length-2 c = search needs
 
 returns : tie.Need-returns
 unfolding flagged
-returns c = let s = c .before .before .before .before .before .before .before .before .before .before .before .before .before .before .before .before .before .before .before .before .before in
-    λ g. begin-named (meta s) (given s) (eq-eqb _ _ (c .before .before .before .before .before .before .before .before .before .before .if1 .taken)) (g .few) (c .before .before .before .before .before .take-text .ensures (g .lies .user) (g .short)) (c .begun-by .ensures (now (s .args .line)))
+returns c =
+    let took = c .before .before .before .before .before in
+    let named = took .before .before .before .before .before in
+    let s = named .before .before .before .before .before .before .before .before .before .before .before in
+    λ g. begin-named (meta s) (given s) (eq-eqb _ _ (named .if1 .taken)) (g .few) (took .take-text .ensures (g .lies .user) (g .short)) (c .begun-by .ensures (now (s .args .line)))
 
 arena-meta-requires : tie.Need-arena-meta-requires
 arena-meta-requires c κs = search needs

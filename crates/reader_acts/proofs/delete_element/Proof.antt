@@ -64,9 +64,14 @@ same-length-8 : tie.Need-same-length-8
 same-length-8 c = search needs
 
 returns : tie.Need-returns
-returns c = let s = c .before .before .before .before .before .before .before .before .before .before .before .before .before .before .before .before .before .before .before .before .before .before .before .before .before .before .before .before .before .before .before .before .before .before .before .before .before .before .before .before .before .before .before .before .before .before .before .before in
+returns c =
+    let acted = c .before .before .before .before .before .before .before .before .before .before .before .before .before .before .before .before in
+    let told = acted .before .before .before .before .before .before .before .before .before .before in
+    let asked = told .before .before in
+    let claims = asked .before .before .before .before .before .before .before .before .before .before in
+    let s = claims .before .before .before .before .before .before .before .before .before .before in
     let k = s .args in
-    λ g. deletes-taken (k .kind) (toZ w64 (k .id)) (meta s) (given s) (c .before .before .before .before .before .before .before .before .before .before .before .before .before .before .before .before .before .before .before .before .before .before .before .before .before .before .before .before .before .before .before .before .before .before .before .before .before .before .claimed .ensures (now (k .line))) (c .before .before .before .before .before .before .before .before .before .before .before .before .before .before .before .before .before .before .before .before .before .before .before .before .before .before .before .before .delete-answer .ensures) (c .before .before .before .before .before .before .before .before .before .before .before .before .before .before .before .before .before .before .before .before .before .before .before .before .before .before .enum-told .given .1) (c .before .before .before .before .before .before .before .before .before .before .before .before .before .before .before .before .delete-with-user .ensures g)
+    λ g. deletes-taken (k .kind) (toZ w64 (k .id)) (meta s) (given s) (claims .claimed .ensures (now (k .line))) (asked .delete-answer .ensures) (told .enum-told .given .1) (acted .delete-with-user .ensures g)
 
 same-length-9 : tie.Need-same-length-9
 same-length-9 c = search needs
@@ -93,9 +98,13 @@ same-length-16 : tie.Need-same-length-16
 same-length-16 c = search needs
 
 returns-2 : tie.Need-returns-2
-returns-2 c = let s = c .before .before .before .before .before .before .before .before .before .before .before .before .before .before .before .before .before .before .before .before .before .before .before .before .before .before .before in
+returns-2 c =
+    let told = c .before .before .before .before .before in
+    let asked = told .before .before in
+    let claims = asked .before .before .before .before .before .before .before .before .before .before in
+    let s = claims .before .before .before .before .before .before .before .before .before .before in
     let k = s .args in
-    λ g. deletes-not (k .kind) (toZ w64 (k .id)) (meta s) (given s) (c .before .before .before .before .before .before .before .before .before .before .before .before .before .before .before .before .before .claimed .ensures (now (k .line))) (c .before .before .before .before .before .before .before .delete-answer .ensures) _ (c .before .before .before .before .before .r .given .1) (c .refused-act .ensures (g .lies) (g .short))
+    λ g. deletes-not (k .kind) (toZ w64 (k .id)) (meta s) (given s) (claims .claimed .ensures (now (k .line))) (asked .delete-answer .ensures) _ (told .r .given .1) (c .refused-act .ensures (g .lies) (g .short))
 
 pub delete-element-spec : {M : Type 1} → statement M
 delete-element-spec =

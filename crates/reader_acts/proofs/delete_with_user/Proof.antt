@@ -68,8 +68,13 @@ same-length-8 : tie.Need-same-length-8
 same-length-8 c = search needs
 
 returns : tie.Need-returns
-returns c = let s = c .before .before .before .before .before .before .before .before .before .before .before .before .before .before .before .before .before .before .before .before .before .before .before .before .before .before .before .before .before .before .before .before .before .before .before .before .before .before .before .before .before .before in
-    λ g. user-acted (meta s) (act s) (given s) (c .before .before .before .before .before .before .before .before .before .before .before .before .before .before .before .before .before .before .before .before .before .before .before .begin-element .ensures g) _ (c .before .before .before .before .before .before .before .before .before .before .before .before .before .before .before .before .before .enum-told .given .1) (rw (c .before .before .before .before .before .before .before .claimed .ensures (now (s .args .line))) at (c .before .before .before .before .before .before .store-delete .ensures))
+returns c =
+    let deleted = c .before .before .before .before .before .before in
+    let claims = deleted .before in
+    let told = claims .before .before .before .before .before .before .before .before .before .before in
+    let begun = told .before .before .before .before .before .before in
+    let s = begun .before .before .before .before .before .before .before .before .before .before .before .before .before .before .before .before .before .before .before in
+    λ g. user-acted (meta s) (act s) (given s) (begun .begin-element .ensures g) _ (told .enum-told .given .1) (rw (claims .claimed .ensures (now (s .args .line))) at (deleted .store-delete .ensures))
 
 same-length-9 : tie.Need-same-length-9
 same-length-9 c = search needs
@@ -96,8 +101,10 @@ same-length-16 : tie.Need-same-length-16
 same-length-16 c = search needs
 
 returns-2 : tie.Need-returns-2
-returns-2 c = let s = c .before .before .before .before .before .before .before .before .before .before .before .before .before .before .before .before .before .before .before .before .before .before .before .before .before .before in
-    λ g. user-not (meta s) (act s) (given s) (c .before .before .before .before .before .before .before .begin-element .ensures g) _ (c .before .r .given .1)
+returns-2 c =
+    let begun = c .before .before .before .before .before .before .before in
+    let s = begun .before .before .before .before .before .before .before .before .before .before .before .before .before .before .before .before .before .before .before in
+    λ g. user-not (meta s) (act s) (given s) (begun .begin-element .ensures g) _ (c .before .r .given .1)
 
 pub delete-with-user-spec : {M : Type 1} → statement M
 delete-with-user-spec =

@@ -77,9 +77,16 @@ same-length-8 : tie.Need-same-length-8
 same-length-8 c = search needs
 
 returns : tie.Need-returns
-returns c = let s = c .before .before .before .before .before .before .before .before .before .before .before .before .before .before .before .before .before .before .before .before .before .before .before .before .before .before .before .before .before .before .before .before .before .before .before .before .before .before .before .before .before .before .before .before .before .before .before .before .before .before in
+returns c =
+    let acted = c .before .before .before .before .before .before .before .before .before .before .before .before .before .before .before .before in
+    let headed = acted .before .before .before .before .before .before .before .before .before .before in
+    let told = headed .before in
+    let asked = told .before .before in
+    let long = asked .before .before .before .before .before .before .before .before .before .before in
+    let claims = long .before in
+    let s = claims .before .before .before .before .before .before .before .before .before .before in
     let k = s .args in
-    λ g. empty-taken (k .kind) (toZ w64 (k .id)) (meta s) (given s) (bodyIn (k .kind) (k .lat) (k .lon)) (kind-read (k .kind) (k .lat) (k .lon)) (sfits-toZ {w = w64} (s .fits .id)) (version-fits s) (c .before .before .before .before .before .before .before .before .before .before .before .before .before .before .before .before .before .before .before .before .before .before .before .before .before .before .before .before .before .before .before .before .before .before .before .before .before .before .before .before .claimed .ensures (now (k .line))) (c .before .before .before .before .before .before .before .before .before .before .before .before .before .before .before .before .before .before .before .before .before .before .before .before .before .before .before .before .before .before .before .before .before .before .before .before .before .before .before .empty-len .ensures) (c .before .before .before .before .before .before .before .before .before .before .before .before .before .before .before .before .before .before .before .before .before .before .before .before .before .before .before .before .before .push-answer .ensures) (c .before .before .before .before .before .before .before .before .before .before .before .before .before .before .before .before .before .before .before .before .before .before .before .before .before .before .before .enum-told .given .1) (c .before .before .before .before .before .before .before .before .before .before .before .before .before .before .before .before .before .before .before .before .before .before .before .before .before .before .head-for .ensures) (c .before .before .before .before .before .before .before .before .before .before .before .before .before .before .before .before .push-with-user .ensures g)
+    λ g. empty-taken (k .kind) (toZ w64 (k .id)) (meta s) (given s) (bodyIn (k .kind) (k .lat) (k .lon)) (kind-read (k .kind) (k .lat) (k .lon)) (sfits-toZ {w = w64} (s .fits .id)) (version-fits s) (claims .claimed .ensures (now (k .line))) (long .empty-len .ensures) (asked .push-answer .ensures) (told .enum-told .given .1) (headed .head-for .ensures) (acted .push-with-user .ensures g)
 
 same-length-9 : tie.Need-same-length-9
 same-length-9 c = search needs
@@ -106,9 +113,14 @@ same-length-16 : tie.Need-same-length-16
 same-length-16 c = search needs
 
 returns-2 : tie.Need-returns-2
-returns-2 c = let s = c .before .before .before .before .before .before .before .before .before .before .before .before .before .before .before .before .before .before .before .before .before .before .before .before .before .before .before .before in
+returns-2 c =
+    let told = c .before .before .before .before .before in
+    let asked = told .before .before in
+    let long = asked .before .before .before .before .before .before .before .before .before .before in
+    let claims = long .before in
+    let s = claims .before .before .before .before .before .before .before .before .before .before in
     let k = s .args in
-    λ g. empty-not (k .kind) (toZ w64 (k .id)) (meta s) (given s) (bodyIn (k .kind) (k .lat) (k .lon)) (kind-read (k .kind) (k .lat) (k .lon)) (sfits-toZ {w = w64} (s .fits .id)) (version-fits s) (c .before .before .before .before .before .before .before .before .before .before .before .before .before .before .before .before .before .before .claimed .ensures (now (k .line))) (c .before .before .before .before .before .before .before .before .before .before .before .before .before .before .before .before .before .empty-len .ensures) (c .before .before .before .before .before .before .before .push-answer .ensures) _ (c .before .before .before .before .before .r .given .1) (c .refused-act .ensures (g .lies) (g .short))
+    λ g. empty-not (k .kind) (toZ w64 (k .id)) (meta s) (given s) (bodyIn (k .kind) (k .lat) (k .lon)) (kind-read (k .kind) (k .lat) (k .lon)) (sfits-toZ {w = w64} (s .fits .id)) (version-fits s) (claims .claimed .ensures (now (k .line))) (long .empty-len .ensures) (asked .push-answer .ensures) _ (told .r .given .1) (c .refused-act .ensures (g .lies) (g .short))
 
 pub push-empty-spec : {M : Type 1} → statement M
 push-empty-spec =

@@ -64,8 +64,12 @@ same-length-8 : tie.Need-same-length-8
 same-length-8 c = search needs
 
 returns : tie.Need-returns
-returns c = let s = c .before .before .before .before .before .before .before .before .before .before .before .before .before .before .before .before .before .before .before .before .before .before .before .before .before .before .before .before .before .before .before .before .before .before .before .before .before .before .before .before .before .before .before .before .before .before .before .before in
-    λ g. user-acted (meta s) (act s) (given s) (c .before .before .before .before .before .before .before .before .before .before .before .before .before .before .before .before .before .before .before .before .before .before .before .before .before .before .before .before .before .begin-element .ensures g) _ (c .before .before .before .before .before .before .before .before .before .before .before .before .before .before .before .before .before .before .before .before .before .before .before .a .given .1) (c .before .before .before .before .before .before .before .before .before .before .before .before .push-first .ensures)
+returns c =
+    let pushed = c .before .before .before .before .before .before .before .before .before .before .before .before in
+    let told = pushed .before .before .before .before .before .before .before .before .before .before .before in
+    let begun = told .before .before .before .before .before .before in
+    let s = begun .before .before .before .before .before .before .before .before .before .before .before .before .before .before .before .before .before .before .before in
+    λ g. user-acted (meta s) (act s) (given s) (begun .begin-element .ensures g) _ (told .a .given .1) (pushed .push-first .ensures)
 
 same-length-9 : tie.Need-same-length-9
 same-length-9 c = search needs
@@ -92,8 +96,10 @@ same-length-16 : tie.Need-same-length-16
 same-length-16 c = search needs
 
 returns-2 : tie.Need-returns-2
-returns-2 c = let s = c .before .before .before .before .before .before .before .before .before .before .before .before .before .before .before .before .before .before .before .before .before .before .before .before .before .before in
-    λ g. user-not (meta s) (act s) (given s) (c .before .before .before .before .before .before .before .begin-element .ensures g) _ (c .before .r .given .1)
+returns-2 c =
+    let begun = c .before .before .before .before .before .before .before in
+    let s = begun .before .before .before .before .before .before .before .before .before .before .before .before .before .before .before .before .before .before .before in
+    λ g. user-not (meta s) (act s) (given s) (begun .begin-element .ensures g) _ (c .before .r .given .1)
 
 pub push-with-user-spec : {M : Type 1} → statement M
 push-with-user-spec =
