@@ -2,12 +2,11 @@
 use denote.Ref.{now}
 use native.Mathlib.Omega.{arith}
 use Rattle.little.proofs.Littles.{bytes-of}
-use borrow.Author.Needs.{needs}
 use Rattle.reader_events.proofs.known_bytes.Statement.{statement}
 use Rattle.reader_events.proofs.known_bytes.Tie as tie
 
 lesser-requires : tie.Need-lesser-requires
-lesser-requires c κs = search needs
+lesser-requires c κs = tt
 
 returns : tie.Need-returns
 returns c = bytes-of (now (c .before .before .args .bytes)) (λ i l. omega (arith, c .before .shared-slice-known .given i))

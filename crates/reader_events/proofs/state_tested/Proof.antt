@@ -8,7 +8,6 @@ use Rattle.reader.specs.State.{State}
 use mathlib.Core.Path.{_≡_}
 use mathlib.Core.Bool.{true}
 use Rattle.reader_events.proofs.Runs.{lent-bytes, head-fits, meta-fits}
-use borrow.Author.Needs.{needs}
 use Rattle.reader_events.proofs.state_tested.Statement.{statement}
 use Rattle.reader_events.proofs.state_tested.Tie as tie
 
@@ -38,10 +37,10 @@ meta : (s : tie.Start) → metaFits (s .args .reader .pending .meta) ≡ true
 meta s = meta-fits (s .args .reader .pending .meta) (omega (arith, s .good)) (omega (arith, s .good)) (omega (arith, s .good)) (omega (arith, s .good)) (omega (arith, s .good)) (omega (arith, s .good))
 
 known-bytes-requires : tie.Need-known-bytes-requires
-known-bytes-requires c κs = search needs
+known-bytes-requires c κs = tt
 
 state-sound-requires : tie.Need-state-sound-requires
-state-sound-requires c κs = search needs
+state-sound-requires c κs = tt
 
 returns : tie.Need-returns
 returns c =
