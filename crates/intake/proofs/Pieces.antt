@@ -1,5 +1,5 @@
 -- Pieces of any size, read up to the first refusal, are taken in as the whole input is.
-use Prim.Native.Nat.{ℕ, _+_, _<_, _≤_}
+use Prim.Native.Nat.{ℕ, _<_, _≤_, min}
 use mathlib.Core.Path.{_≡_, refl, sym, _∙_, ap}
 use mathlib.Core.Bool.{true, false}
 use mathlib.Core.List.{List, [], _∷_, _++_, append-nil, foldl}
@@ -51,6 +51,10 @@ pub record Holds (f : Intake) : Type 0 where
   pub room : length (f .buffer) ≡ 81920
   pub short : f .held ≤ 16384
   pub unbroken : lacks 10 (keptLine f) ≡ true
+
+-- so of the bytes held all count: `feed` and `finish` take at most 16,384 of them
+pub holds-all : (f : Intake) → Holds f → _≡_ {A = Intake} (record { state = f .state; buffer = f .buffer; held = min (f .held) 16384 }) f
+holds-all f w = let e : min (f .held) 16384 ≡ f .held = omega (arith, w .short) in λ i. record { state = f .state; buffer = f .buffer; held = e i }
 
 -- a piece more: its lines are accepted and the rest is kept; or an event is refused, and whatever follows changes nothing
 module _ (f : Intake) (w : Holds f) (p : Bytes) where
