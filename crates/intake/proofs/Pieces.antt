@@ -24,7 +24,8 @@ use Rattle.reader.specs.Event.{EventResult, eventOn}
 use Rattle.reader.proofs.Answers.{byAnswer}
 use Rattle.reader_events.specs.Events.{eventsOn}
 use Rattle.intake.specs.Feed.{afterEvent, longLine, pieceLines, Intake, IntakeResult, keptLine, keptAfter, feedOn, readOn, stateAtEnd}
-use Rattle.intake.proofs.Stops.{events-none, events-off, events-fold, events-still, events-more, events-enough, long-same, long-refused, long-still}
+use Rattle.reader_events.proofs.Onward.{events-none, events-off, events-more, events-enough}
+use Rattle.intake.proofs.Stops.{events-fold, events-still, long-same, long-refused, long-still}
 
 -- ---- the lines of some bytes
 

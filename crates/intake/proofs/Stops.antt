@@ -21,6 +21,7 @@ use Rattle.reader.specs.Event.{EventResult, eventOn, unlessUnsound, unlessStopp
 use Rattle.reader.proofs.Answers.{byAnswer, byEvent, event-22, stepAt}
 use Rattle.reader.proofs.Events.{byRefused, event-repeats, unsound-stops-not}
 use Rattle.reader_events.specs.Events.{eventsOn}
+use Rattle.reader_events.proofs.Onward.{events-none, events-on, events-off}
 use Rattle.intake.specs.Feed.{afterEvent}
 
 -- ---- a refusal
@@ -33,19 +34,6 @@ module _ (line : Bytes) (s : State) (r : Refusal) (n : ℕ) (a : eventOn line s 
       (λ u t w. ap (λ (z : EventResult). z .state) (event-repeats line s r n a (λ k. clash t (ap stopsBy k ∙ unsound-stops-not)) l))
 
 -- ---- lines up to the first that is refused
-
-module _ (l : Bytes) (ls : List Bytes) (s : State) where
-  pub events-on : eventOn l s .answer ≡ E.Accepted → eventsOn (l ∷ ls) s ≡ eventsOn ls (eventOn l s .state)
-  unfolding eventsOn
-  events-on a = rw a
-
-  pub events-off : (r : Refusal) (n : ℕ) → eventOn l s .answer ≡ E.Refused r n → eventsOn (l ∷ ls) s ≡ record { state = eventOn l s .state; answer = E.Refused r n }
-  unfolding eventsOn
-  events-off r n a = rw a
-
-pub events-none : (s : State) → eventsOn [] s ≡ record { state = s; answer = E.Accepted }
-unfolding eventsOn
-events-none s = refl
 
 -- the state after them is that after all
 pub events-fold : (ls : List Bytes) (s : State) → eventsOn ls s .state ≡ foldl afterEvent s ls
@@ -62,23 +50,6 @@ events-still (l ∷ ls) s r n e =
     byAnswer (eventOn l s .answer)
     (λ a. let w = events-on l ls s a in rw w (events-still ls (eventOn l s .state) r n (sym (ap (λ (z : EventResult). z .answer) w) ∙ e)))
     (λ x m a. rw (events-off l ls s x m a) (refused-still l s x m a))
-
--- one list behind another
-pub events-more : (ls ms : List Bytes) (s : State) → eventsOn ls s .answer ≡ E.Accepted → eventsOn (ls ++ ms) s ≡ eventsOn ms (eventsOn ls s .state)
-events-more [] ms s e = ap (λ (z : EventResult). eventsOn ms (z .state)) (sym (events-none s))
-events-more (l ∷ ls) ms s e =
-    byAnswer (eventOn l s .answer)
-    (λ a. let w = events-on l ls s a in
-    events-on l (ls ++ ms) s a ∙ rw w (events-more ls ms (eventOn l s .state) (sym (ap (λ (z : EventResult). z .answer) w) ∙ e)))
-    (λ r n a. let z = sym (ap (λ (z : EventResult). z .answer) (events-off l ls s r n a)) ∙ e in no (cc))
-
-pub events-enough : (ls ms : List Bytes) (s : State) (r : Refusal) (n : ℕ) → eventsOn ls s .answer ≡ E.Refused r n → eventsOn (ls ++ ms) s ≡ eventsOn ls s
-events-enough [] ms s r n e = let z = sym (ap (λ (z : EventResult). z .answer) (events-none s)) ∙ e in no (cc)
-events-enough (l ∷ ls) ms s r n e =
-    byAnswer (eventOn l s .answer)
-    (λ a. let w = events-on l ls s a in
-    events-on l (ls ++ ms) s a ∙ (events-enough ls ms (eventOn l s .state) r n (sym (ap (λ (z : EventResult). z .answer) w) ∙ e) ∙ sym w))
-    (λ x m a. events-off l (ls ++ ms) s x m a ∙ sym (events-off l ls s x m a))
 
 -- ---- a line that is too long
 

@@ -29,7 +29,9 @@ use Rattle.reader.proofs.Answers.{byAnswer}
 use Rattle.reader_events.specs.Events.{eventsOn}
 use Rattle.intake.specs.Feed.{longLine, pieceLines, isAccepted, Walked, lineEventFrom, lineFrom, lineOn, Intake, IntakeResult, keptAfter, feedOn}
 use Rattle.intake.proofs.Pieces.{lines-short, lines-long}
-use Rattle.intake.proofs.Stops.{events-none, events-on, events-off, long-refused}
+use Rattle.reader_events.proofs.Onward.{events-none, events-on, events-off}
+use Rattle.reader_events.proofs.Runs.{SameSizes}
+use Rattle.intake.proofs.Stops.{long-refused}
 
 -- ---- one line
 
@@ -179,17 +181,6 @@ walk-taken {s} {t₀} {more} {at} {x} m w = subst (λ (b : Bool). Walking s t₀
 
 pub walk-left : {s : Bytes} {t₀ : State} {more : Bool} {at : ℕ} {x : EventResult} → more ≡ false → Walking s t₀ more at x → Walking s t₀ false at x
 walk-left {s} {t₀} {more} {at} {x} m w = subst (λ (b : Bool). Walking s t₀ b at x) m w
-
--- what is lent keeps its sizes
-pub record SameSizes (nids₀ narena₀ wids₀ warena₀ rids₀ rarena₀ spans₀ bytes₀ nids narena wids warena rids rarena spans bytes : List ℕ) : Type 0 where
-  pub same-nids : length nids ≡ length nids₀
-  pub same-narena : length narena ≡ length narena₀
-  pub same-wids : length wids ≡ length wids₀
-  pub same-warena : length warena ≡ length warena₀
-  pub same-rids : length rids ≡ length rids₀
-  pub same-rarena : length rarena ≡ length rarena₀
-  pub same-spans : length spans ≡ length spans₀
-  pub same-bytes : length bytes ≡ length bytes₀
 
 -- ---- a piece in its buffer
 

@@ -3,7 +3,8 @@ use denote.Ref.{now}
 use Rattle.overlay.specs.Overlay.{overlayOf}
 use Rattle.reader.specs.State.{State}
 use mathlib.Core.Path.{refl, _∙_}
-use Rattle.intake.proofs.Walks.{SameSizes, Walking, ahead, walk-start, walk-on, walk-less, walk-all, walk-rest, walk-taken, walk-left}
+use Rattle.reader_events.proofs.Runs.{SameSizes}
+use Rattle.intake.proofs.Walks.{Walking, ahead, walk-start, walk-on, walk-less, walk-all, walk-rest, walk-taken, walk-left}
 use Rattle.intake.proofs.take_lines.Statement.{statement}
 use Rattle.intake.proofs.take_lines.Tie as tie
 
