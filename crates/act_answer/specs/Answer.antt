@@ -9,10 +9,10 @@ use Rattle.version_floor.specs.declared.Version.{Version}
 use Rattle.version_floor.specs.declared.Admit.{Admit}
 use Rattle.version_floor.specs.declared.Admit.the-variants.{Admitted, Below}
 use Rattle.refusal.specs.declared.Refusal.the-variants.{Regression, IdsFull, ArenaFull}
-use Rattle.shelf.specs.Shelf.{Shelf, known, checked, idRoom}
-use Rattle.shelf.specs.declared.Kept.{Kept}
-use Rattle.shelf.specs.declared.Kept.the-variants.{Taken, Refused}
-use Rattle.overlay.specs.Overlay.{Overlay, shelfOf}
+use Rattle.kind_store.specs.KindStore.{KindStore, known, checked, idRoom}
+use Rattle.kind_store.specs.declared.Kept.{Kept}
+use Rattle.kind_store.specs.declared.Kept.the-variants.{Taken, Refused}
+use Rattle.overlay.specs.Overlay.{Overlay, kindStoreOf}
 
 -- 12, or what follows it
 abbrev pub admitAnswer : Admit → Kept → Kept
@@ -24,17 +24,17 @@ abbrev pub roomAnswer : Bool → Bool → Kept
 roomAnswer ids fits = cond ids (cond fits Taken (Refused ArenaFull)) (Refused IdsFull)
 
 -- an act on one kind
-unfoldable pub shelfAnswer : Kind → ℕ → Shelf → ℤ → Version → Bool → Kept
-shelfAnswer k setting s id claim fits = admitAnswer (checked setting (known k s id) claim) (roomAnswer (idRoom s id) fits)
+unfoldable pub kindStoreAnswer : Kind → ℕ → KindStore → ℤ → Version → Bool → Kept
+kindStoreAnswer k setting s id claim fits = admitAnswer (checked setting (known k s id) claim) (roomAnswer (idRoom s id) fits)
 
 -- "15 record longer than the arena's unused bytes"
-abbrev pub recordFits : Shelf → ℕ → Bool
+abbrev pub recordFits : KindStore → ℕ → Bool
 recordFits s len = leb (s .used + len) (length (s .arena))
 
 -- a push of a record of so many bytes: 12, 14, 15 or taken
 unfoldable pub pushAnswer : Kind → ℤ → Version → ℕ → Overlay → Kept
-pushAnswer k id claim len o = shelfAnswer k (o .setting) (shelfOf k o) id claim (recordFits (shelfOf k o) len)
+pushAnswer k id claim len o = kindStoreAnswer k (o .setting) (kindStoreOf k o) id claim (recordFits (kindStoreOf k o) len)
 
 -- a delete, which adds no record: 12, 14 or taken
 unfoldable pub deleteAnswer : Kind → ℤ → Version → Overlay → Kept
-deleteAnswer k id claim o = shelfAnswer k (o .setting) (shelfOf k o) id claim true
+deleteAnswer k id claim o = kindStoreAnswer k (o .setting) (kindStoreOf k o) id claim true

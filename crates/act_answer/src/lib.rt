@@ -6,13 +6,13 @@ ghost use lib.ListN.{length};
 ghost use mir.Syntax.{w64};
 ghost use mir.Val.{toZ};
 ghost use Rattle.base.specs.Bytes.{Bytes};
-ghost use Rattle.shelf.specs.Shelf.{shelfWith, known, checked, idRoom};
+ghost use Rattle.kind_store.specs.KindStore.{kindStoreWith, known, checked, idRoom};
 ghost use Rattle.overlay.specs.Overlay.{lent};
-ghost use Rattle.store.specs.Lent.{shelfLent, settingIn};
-ghost use Rattle.act_answer.specs.Answer.{roomAnswer, shelfAnswer, pushAnswer, deleteAnswer};
+ghost use Rattle.store.specs.Lent.{kindStoreLent, settingIn};
+ghost use Rattle.act_answer.specs.Answer.{roomAnswer, kindStoreAnswer, pushAnswer, deleteAnswer};
 use kind::Kind;
+use kind_store::Kept;
 use refusal::Refusal;
-use shelf::Kept;
 use table::Found;
 use version_floor::Admit;
 use version_floor::Version;
@@ -28,10 +28,10 @@ fn claim_admit(
     id: u64,
     claim: Version,
 ) -> Admit
-    ensures { λ r. ⌜ ((used : ℕ) → r ≡ checked setting (known kind (shelfWith (now (table .entry)) ids (now (arena .entry)) used) (toZ w64 id)) claim) ⌝ }
+    ensures { λ r. ⌜ ((used : ℕ) → r ≡ checked setting (known kind (kindStoreWith (now (table .entry)) ids (now (arena .entry)) used) (toZ w64 id)) claim) ⌝ }
 {
     if setting == 0 {
-        let known = shelf::known_version(kind, table, ids, arena, id);
+        let known = kind_store::known_version(kind, table, ids, arena, id);
         return VersionFloor::new(known).admit(claim);
     }
     Admit::Admitted
@@ -39,7 +39,7 @@ fn claim_admit(
 
 // 14: whether the id is known, or one more has room.
 fn has_id_room(table: &[u64], ids: u64, id: u64) -> bool
-    ensures { λ r. ⌜ ((arena : Bytes) (used : ℕ) → r ≡ idRoom (shelfWith (now (table .entry)) ids arena used) (toZ w64 id)) ⌝ }
+    ensures { λ r. ⌜ ((arena : Bytes) (used : ℕ) → r ≡ idRoom (kindStoreWith (now (table .entry)) ids arena used) (toZ w64 id)) ⌝ }
 {
     match table::find_row(table, ids, osm_id::osm_id_rank(signed::i64_of_bits(id))) {
         Found::At(_) => true,
@@ -83,7 +83,7 @@ fn answer_at(
     fits: bool,
 ) -> Kept
     requires { ⌜ at < 3 ⌝ }
-    ensures { λ r. ⌜ r ≡ shelfAnswer kind (settingIn used) (shelfLent at table arena used) (toZ w64 id) claim fits ⌝ }
+    ensures { λ r. ⌜ r ≡ kindStoreAnswer kind (settingIn used) (kindStoreLent at table arena used) (toZ w64 id) claim fits ⌝ }
 {
     let ids = used[at];
     let Admit::Below(held) = claim_admit(kind, used[8], table, ids, arena, id, claim) else {
@@ -94,58 +94,58 @@ fn answer_at(
 
 // A push of a record of so many bytes: 12, 14, 15 or taken.
 pub fn push_answer(
-    nids: &[u64],
-    narena: &[u8],
-    wids: &[u64],
-    warena: &[u8],
-    rids: &[u64],
-    rarena: &[u8],
-    spans: &[u64],
-    bytes: &[u8],
-    used: &[u64; 9],
+    ni: &[u64],
+    na: &[u8],
+    wi: &[u64],
+    wa: &[u8],
+    ri: &[u64],
+    ra: &[u8],
+    ss: &[u64],
+    sb: &[u8],
+    us: &[u64; 9],
     kind: Kind,
     id: u64,
     claim: Version,
     len: usize,
 ) -> Kept
-    ensures { λ r. ⌜ r ≡ pushAnswer kind (toZ w64 id) claim len (lent nids narena wids warena rids rarena spans bytes used) ⌝ }
+    ensures { λ r. ⌜ r ≡ pushAnswer kind (toZ w64 id) claim len (lent ni na wi wa ri ra ss sb us) ⌝ }
 {
     match kind {
         Kind::Node => {
-            let fits = record_fits(narena, used[3], len);
-            answer_at(0, kind, nids, narena, used, id, claim, fits)
+            let fits = record_fits(na, us[3], len);
+            answer_at(0, kind, ni, na, us, id, claim, fits)
         }
         Kind::Way => {
-            let fits = record_fits(warena, used[4], len);
-            answer_at(1, kind, wids, warena, used, id, claim, fits)
+            let fits = record_fits(wa, us[4], len);
+            answer_at(1, kind, wi, wa, us, id, claim, fits)
         }
         Kind::Relation => {
-            let fits = record_fits(rarena, used[5], len);
-            answer_at(2, kind, rids, rarena, used, id, claim, fits)
+            let fits = record_fits(ra, us[5], len);
+            answer_at(2, kind, ri, ra, us, id, claim, fits)
         }
     }
 }
 
 // A delete: 12, 14 or taken.
 pub fn delete_answer(
-    nids: &[u64],
-    narena: &[u8],
-    wids: &[u64],
-    warena: &[u8],
-    rids: &[u64],
-    rarena: &[u8],
-    spans: &[u64],
-    bytes: &[u8],
-    used: &[u64; 9],
+    ni: &[u64],
+    na: &[u8],
+    wi: &[u64],
+    wa: &[u8],
+    ri: &[u64],
+    ra: &[u8],
+    ss: &[u64],
+    sb: &[u8],
+    us: &[u64; 9],
     kind: Kind,
     id: u64,
     claim: Version,
 ) -> Kept
-    ensures { λ r. ⌜ r ≡ deleteAnswer kind (toZ w64 id) claim (lent nids narena wids warena rids rarena spans bytes used) ⌝ }
+    ensures { λ r. ⌜ r ≡ deleteAnswer kind (toZ w64 id) claim (lent ni na wi wa ri ra ss sb us) ⌝ }
 {
     match kind {
-        Kind::Node => answer_at(0, kind, nids, narena, used, id, claim, true),
-        Kind::Way => answer_at(1, kind, wids, warena, used, id, claim, true),
-        Kind::Relation => answer_at(2, kind, rids, rarena, used, id, claim, true),
+        Kind::Node => answer_at(0, kind, ni, na, us, id, claim, true),
+        Kind::Way => answer_at(1, kind, wi, wa, us, id, claim, true),
+        Kind::Relation => answer_at(2, kind, ri, ra, us, id, claim, true),
     }
 }

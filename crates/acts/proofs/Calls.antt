@@ -15,7 +15,7 @@ use Rattle.interner.proofs.Held.{take-held, take-new, grown-all, text-stays-all
 use Rattle.model.specs.Act.{Act}
 use Rattle.field.specs.Field.{Field, got, bad}
 use Rattle.acts.specs.Turn.{Reader, fresh, Turn, turn}
-use Rattle.acts.specs.Call.{Call, interns, pushes, deletes, hears, ends, Answered, World, begin, turned, outcome, actsBefore, worldAfter, actsFrom, actsOf, heard, linesHeard}
+use Rattle.acts.specs.Call.{Call, interns, pushes, deletes, reads, ends, Answered, World, begin, turned, outcome, actsBefore, worldAfter, actsFrom, actsOf, lineRead, linesRead}
 use Rattle.acts.proofs.Turns.{actIn, KindAgrees, fresh-agrees, turn-agrees}
 
 -- ---- refused calls
@@ -45,7 +45,7 @@ unfolding actsFrom
 taken-counts w c cs = refl
 
 -- an event's act is its turn's
-pub event-act : (w : World) (n : ℕ) (s : Bytes) → outcome w (hears n s) .act ≡ actIn (turn s (w .readers n))
+pub event-act : (w : World) (n : ℕ) (s : Bytes) → outcome w (reads n s) .act ≡ actIn (turn s (w .readers n))
 unfolding outcome
 event-act w n s = go (turn s (w .readers n))
   where
@@ -97,7 +97,7 @@ acts-of-append cs ds = acts-append begin cs ds
 -- ---- readers
 
 -- an event of a reader leaves every other as it was
-pub other-reader : (w : World) (n m : ℕ) (s : Bytes) → (m ≡ n → ⊥) → outcome w (hears n s) .world .readers m ≡ w .readers m
+pub other-reader : (w : World) (n m : ℕ) (s : Bytes) → (m ≡ n → ⊥) → outcome w (reads n s) .world .readers m ≡ w .readers m
 unfolding outcome
 other-reader w n m s h = go (turn s (w .readers n))
   where
@@ -106,7 +106,7 @@ other-reader w n m s h = go (turn s (w .readers n))
     go (got t) = ap (λ (b : Bool). cond b (t .reader) (w .readers m)) (ne-eqb m n h)
 
 -- its own reader goes on as the event leaves it
-pub own-reader : (w : World) (n : ℕ) (s : Bytes) (t : Turn) → turn s (w .readers n) ≡ got t → outcome w (hears n s) .world .readers n ≡ t .reader
+pub own-reader : (w : World) (n : ℕ) (s : Bytes) (t : Turn) → turn s (w .readers n) ≡ got t → outcome w (reads n s) .world .readers n ≡ t .reader
 unfolding outcome
 own-reader w n s t e = rw (e, eq-eqb n n refl)
 
@@ -123,25 +123,25 @@ turn-left : (w : World) (m n : ℕ) (f : Field Turn) → turned w m f .world .re
 turn-left w m n (got t) = refl
 turn-left w m n (bad x) = byBool (eqb n m) (λ q. rw q (ap (w .readers) (eqb-true n m q))) (λ q. rw q)
 
-heard-left : (w : World) (n : ℕ) (c : Call) (ls : List Bytes) → readerAfter (outcome w c .world .readers n) ls ≡ readerAfter (w .readers n) (heard n c ls)
+lines-left : (w : World) (n : ℕ) (c : Call) (ls : List Bytes) → readerAfter (outcome w c .world .readers n) ls ≡ readerAfter (w .readers n) (lineRead n c ls)
 unfolding outcome readerAfter
-heard-left w n (interns t) ls = refl
-heard-left w n (pushes id none) ls = refl
-heard-left w n (pushes id (some r)) ls = refl
-heard-left w n (deletes k id m) ls = refl
-heard-left w n (hears m s) ls =
+lines-left w n (interns t) ls = refl
+lines-left w n (pushes id none) ls = refl
+lines-left w n (pushes id (some r)) ls = refl
+lines-left w n (deletes k id m) ls = refl
+lines-left w n (reads m s) ls =
     byBool (eqb n m)
     (λ q. rw (turn-left w m n (turn s (w .readers m)), q) (ap (λ (k : ℕ). readerAfter (readerLeft (w .readers k) (turn s (w .readers k))) ls) (sym (eqb-true n m q))))
     (λ q. rw (turn-left w m n (turn s (w .readers m)), q))
-heard-left w n (ends m) ls = refl
+lines-left w n (ends m) ls = refl
 
 -- where a reader stands goes by its own accepted lines alone
-pub reader-alone : (w : World) (cs : List Answered) (n : ℕ) → worldAfter w cs .readers n ≡ readerAfter (w .readers n) (linesHeard n cs)
-unfolding worldAfter readerAfter linesHeard
+pub reader-alone : (w : World) (cs : List Answered) (n : ℕ) → worldAfter w cs .readers n ≡ readerAfter (w .readers n) (linesRead n cs)
+unfolding worldAfter readerAfter linesRead
 reader-alone w [] n = refl
 reader-alone w (c ∷ cs) n =
     byBool (c .accepted)
-    (λ t. rw t (reader-alone (outcome w (c .call) .world) cs n ∙ heard-left w n (c .call) (linesHeard n cs)))
+    (λ t. rw t (reader-alone (outcome w (c .call) .world) cs n ∙ lines-left w n (c .call) (linesRead n cs)))
     (λ t. rw t (reader-alone w cs n))
 
 -- in every reader the element is of the kind that stands open
@@ -156,7 +156,7 @@ lines-agree r (line ∷ lines) h = lines-agree (readerLeft r (turn line r)) line
 
 -- in every list, and at every place of it
 pub reached-agrees : (cs : List Answered) (n : ℕ) → KindAgrees (worldAfter begin cs .readers n)
-reached-agrees cs n = rw (reader-alone begin cs n) (lines-agree fresh (linesHeard n cs) fresh-agrees)
+reached-agrees cs n = rw (reader-alone begin cs n) (lines-agree fresh (linesRead n cs) fresh-agrees)
 
 -- ---- texts
 
@@ -169,7 +169,7 @@ abbrev pub textsBy : World → Call → List Bytes
 textsBy w (interns t) = t ∷ []
 textsBy w (pushes id r) = []
 textsBy w (deletes k id m) = []
-textsBy w (hears n s) = turnTexts (turn s (w .readers n))
+textsBy w (reads n s) = turnTexts (turn s (w .readers n))
 textsBy w (ends n) = []
 
 -- and those of a list of calls, in order
@@ -183,7 +183,7 @@ call-texts w (interns t) = refl
 call-texts w (pushes id none) = refl
 call-texts w (pushes id (some r)) = refl
 call-texts w (deletes k id m) = refl
-call-texts w (hears n s) = go (turn s (w .readers n))
+call-texts w (reads n s) = go (turn s (w .readers n))
   where
     go : (f : Field Turn) → turned w n f .world .texts ≡ takeAll (w .texts) (turnTexts f)
     go (got t) = refl

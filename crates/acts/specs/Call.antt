@@ -19,7 +19,7 @@ pub data Call : Type 0 where
   interns : Bytes → Call
   pushes : ℤ → Option (Record ℕ) → Call
   deletes : Kind → ℤ → Meta ℕ → Call
-  hears : ℕ → Bytes → Call
+  reads : ℕ → Bytes → Call
   ends : ℕ → Call
 
 -- a call and whether its reply accepted it
@@ -61,7 +61,7 @@ unfoldable pub outcome : World → Call → Outcome
 outcome w (interns t) = quiet (record { texts = takeIn (w .texts) t; readers = w .readers })
 outcome w (pushes id r) = pushOf w id r
 outcome w (deletes k id m) = record { world = w; act = some (delete k id (claimOf m)) }
-outcome w (hears n s) = turned w n (turn s (w .readers n))
+outcome w (reads n s) = turned w n (turn s (w .readers n))
 outcome w (ends n) = quiet w
 
 abbrev pub actsBefore : Option (Act Bytes) → List (Act Bytes) → List (Act Bytes)
@@ -82,13 +82,13 @@ unfoldable pub actsOf : List Answered → List (Act Bytes)
 actsOf cs = actsFrom begin cs
 
 -- the lines that a reader has taken, in order: those of its accepted events
-abbrev pub heard : ℕ → Call → List Bytes → List Bytes
-heard n (interns t) ls = ls
-heard n (pushes id r) ls = ls
-heard n (deletes k id m) ls = ls
-heard n (hears m s) ls = cond (eqb n m) (s ∷ ls) ls
-heard n (ends m) ls = ls
+abbrev pub lineRead : ℕ → Call → List Bytes → List Bytes
+lineRead n (interns t) ls = ls
+lineRead n (pushes id r) ls = ls
+lineRead n (deletes k id m) ls = ls
+lineRead n (reads m s) ls = cond (eqb n m) (s ∷ ls) ls
+lineRead n (ends m) ls = ls
 
-unfoldable pub linesHeard : ℕ → List Answered → List Bytes
-linesHeard n [] = []
-linesHeard n (c ∷ cs) = cond (c .accepted) (heard n (c .call) (linesHeard n cs)) (linesHeard n cs)
+unfoldable pub linesRead : ℕ → List Answered → List Bytes
+linesRead n [] = []
+linesRead n (c ∷ cs) = cond (c .accepted) (lineRead n (c .call) (linesRead n cs)) (linesRead n cs)

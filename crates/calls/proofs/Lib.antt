@@ -1,7 +1,7 @@
 pub mod Rows
 pub mod Lengths
 pub mod Small
-pub mod Shelves
+pub mod KindStores
 pub mod Tells
 pub mod Reflects
 pub mod Lists

@@ -31,10 +31,10 @@ use Rattle.interner.specs.Strings.{intern}
 use Rattle.interner.specs.Sound.{textsOf}
 use Rattle.interner.specs.declared.Interned.{Interned}
 use Rattle.interner.specs.declared.Interned.the-variants as I
-use Rattle.shelf.proofs.Claims.{Narrow}
+use Rattle.kind_store.proofs.Claims.{Narrow}
 use Rattle.field.specs.Field.{Field, got}
 use Rattle.acts.specs.Turn.{Turn, turn}
-use Rattle.acts.specs.Call.{Call, Answered, World, outcome, turned, actsBefore, worldAfter, actsFrom, linesHeard}
+use Rattle.acts.specs.Call.{Call, Answered, World, outcome, turned, actsBefore, worldAfter, actsFrom, linesRead}
 use Rattle.acts.specs.Call as Call
 use Rattle.acts.proofs.Calls.{refusedCall, takenCall, world-append, acts-append, own-reader, other-reader, textsFrom, texts-after}
 use Rattle.overlay.specs.Overlay.{Overlay}
@@ -57,7 +57,7 @@ use Rattle.reader.proofs.Answers.{byAnswer, event-counts, end-keeps}
 use Rattle.reader.proofs.Acts.{TakesIn, no-text, a-text, Acts, no-act, a-push, a-delete, Acted, Fine, more-strings, same-text}
 use Rattle.reader.proofs.Events.{event-accepted, byRefused}
 use Rattle.reader.proofs.Keeps.{Ready, event-ready, ready-more, ready-means}
-use Rattle.calls.specs.Ask.{Ask, interns, pushes, deletes, hears, ends, callOf, Storage, stateOf, withState, withOverlay, eventTaken, leaves, accepts, after, answered, askFits}
+use Rattle.calls.specs.Ask.{Ask, interns, pushes, deletes, reads, ends, callOf, Storage, stateOf, withState, withOverlay, eventTaken, leaves, accepts, after, answered, askFits}
 use Rattle.calls.proofs.Reflects.{Reflects, reflects-push, reflects-delete, reflects-text}
 
 -- ---- the calls that a turn makes
@@ -198,24 +198,24 @@ module _ (setting : ℕ) (l : Storage) (w : World) (acts : List (Act Bytes)) (g 
   refused-means line s r m a =
       byRefused line s r m a (λ u k j e. (ap (λ (z : State). z .overlay) e, ap readerOf e)) (λ u t e. (ap (λ (z : State). z .overlay) e, ap readerOf e))
 
-  hear-adds : (n : ℕ) (line : Bytes) (t : Turn) (q : Overlay) → turn line (w .readers n) ≡ got t → Acted (l .overlay) t q → Adds q (takenCall (Call.hears n line))
+  read-adds : (n : ℕ) (line : Bytes) (t : Turn) (q : Overlay) → turn line (w .readers n) ≡ got t → Acted (l .overlay) t q → Adds q (takenCall (Call.reads n line))
   unfolding worldAfter actsFrom outcome
-  hear-adds n line t q k a =
+  read-adds n line t q k a =
       subst (λ (f : Field Turn). Reflects setting q (turned w n f .world .texts) (acts ++ actsBefore (turned w n f .act) [])) (sym k)
       (acts-reflect setting (a .acted) (takes-reflects setting (a .taken) (g .overlay)))
 
-  hear-goes : (n : ℕ) (line : Bytes) → Goes (hears n line)
+  read-goes : (n : ℕ) (line : Bytes) → Goes (reads n line)
   unfolding worldAfter
-  hear-goes n line =
+  read-goes n line =
       let s = stateOf n l in
       let t = eventOn line s .state in
-      let c = callOf (hears n line) in
+      let c = callOf (reads n line) in
       let v = event-ready line s (agrees-fine g) (g .ready n) in
       byAnswer (eventOn line s .answer)
       (λ a.
       let x = event-accepted line s (record { overlay = g .overlay .bytes; reader = g .ready n .given }) a in
       let k : turn line (w .readers n) ≡ got (x .comes) = ap (turn line) (sym (g .readers n)) ∙ x .is in
-      rw a (of-reader (t .overlay) (takenCall c) (hear-adds n line (x .comes) (t .overlay) k (x .acted)) n t refl v (x .reader ∙ sym (own-reader w n line (x .comes) k)) (λ m e. other-reader w n m line e)))
+      rw a (of-reader (t .overlay) (takenCall c) (read-adds n line (x .comes) (t .overlay) k (x .acted)) n t refl v (x .reader ∙ sym (own-reader w n line (x .comes) k)) (λ m e. other-reader w n m line e)))
       (λ r m a.
       let e = refused-means line s r m a in
       let own : Ready (l .overlay .texts .strings) (t .reader) (t .parts) = rw (e .0) at v in
@@ -244,7 +244,7 @@ module _ (setting : ℕ) (l : Storage) (w : World) (acts : List (Act Bytes)) (g 
   agrees-call (pushes k h m parts) f =
       direct _ _ (push-adds k h m parts (both-left _ _ f) (both-left _ _ (both-right _ _ f)) (both-right _ _ (both-right _ _ f))) (readers-left _ _ (push-leaves (toZ w64 (h .id)) (pushedRecord k (headIn k h) (metaOf m) parts)))
   agrees-call (deletes k id m) f = direct _ _ (delete-adds k id m (ltb-true _ _ (both-left _ _ f)) (both-right _ _ f)) (readers-left _ _ (λ n. refl))
-  agrees-call (hears n line) f = hear-goes n line
+  agrees-call (reads n line) f = read-goes n line
   agrees-call (ends n) f = end-goes n
 
 -- ---- a list of calls
@@ -269,21 +269,21 @@ module _ (n : ℕ) where
       (λ r m a. byRefused line s r m a (λ u k j e. rw (a, e)) (λ u t e. rw (a, e)))
 
   pub call-lines : (c : Ask) (l : Storage) (ds : List Answered)
-      → leaves c l .readers n .lines + length (linesHeard n ds) ≡ l .readers n .lines + length (linesHeard n (answerOf c l ∷ ds))
-  unfolding linesHeard
+      → leaves c l .readers n .lines + length (linesRead n ds) ≡ l .readers n .lines + length (linesRead n (answerOf c l ∷ ds))
+  unfolding linesRead
   call-lines (interns t) l ds = byBool (accepts (interns t) l) (λ e. rw e) (λ e. rw e)
   call-lines (pushes k h m parts) l ds = byBool (accepts (pushes k h m parts) l) (λ e. rw e) (λ e. rw e)
   call-lines (deletes k id m) l ds = byBool (accepts (deletes k id m) l) (λ e. rw e) (λ e. rw e)
-  call-lines (hears m line) l ds =
+  call-lines (reads m line) l ds =
       byEq n m
-      (λ q. rw (eq-eqb n m q, q) (event-lines line (stateOf m l) (linesHeard m ds)))
-      (λ q. rw (ne-eqb n m q) (byBool (accepts (hears m line) l) (λ e. rw e) (λ e. rw e)))
+      (λ q. rw (eq-eqb n m q, q) (event-lines line (stateOf m l) (linesRead m ds)))
+      (λ q. rw (ne-eqb n m q) (byBool (accepts (reads m line) l) (λ e. rw e) (λ e. rw e)))
   call-lines (ends m) l ds =
       byEq n m
       (λ q. rw (eq-eqb n m q, end-keeps (stateOf m l), q) (byBool (accepts (ends m) l) (λ e. rw e) (λ e. rw e)))
       (λ q. rw (ne-eqb n m q) (byBool (accepts (ends m) l) (λ e. rw e) (λ e. rw e)))
 
-  pub lines-counted : (cs : List Ask) (l : Storage) → after l cs .readers n .lines ≡ l .readers n .lines + length (linesHeard n (answered l cs))
-  unfolding after answered linesHeard
+  pub lines-counted : (cs : List Ask) (l : Storage) → after l cs .readers n .lines ≡ l .readers n .lines + length (linesRead n (answered l cs))
+  unfolding after answered linesRead
   lines-counted [] l = omega arith
   lines-counted (c ∷ cs) l = lines-counted cs (leaves c l) ∙ call-lines c l (answered (leaves c l) cs)

@@ -37,15 +37,15 @@ use Rattle.compact.specs.Fits.{fitsSigned, fitsKept}
 use Rattle.compact.specs.Legal.{legal}
 use Rattle.legal.specs.Whole.{keptBytes}
 use Rattle.page.specs.Summary as Summary
-use Rattle.shelf.specs.Shelf.{Shelf, known, checked, pushed, deleted, takenIn}
-use Rattle.shelf.specs.Fair.{rowsIn, Fair}
-use Rattle.shelf.specs.declared.Kept.the-variants.{Taken, Refused}
-use Rattle.shelf.proofs.Answers.{push-regression, delete-regression}
-use Rattle.shelf.proofs.Claims.{Narrow}
-use Rattle.shelf.proofs.Shelves.{push-laid, push-arena, delete-laid, delete-arena}
-use Rattle.sound.specs.Sound.{SoundShelf}
+use Rattle.kind_store.specs.KindStore.{KindStore, known, checked, pushed, deleted, takenIn}
+use Rattle.kind_store.specs.WellFormed.{rowsIn, WellFormed}
+use Rattle.kind_store.specs.declared.Kept.the-variants.{Taken, Refused}
+use Rattle.kind_store.proofs.Answers.{push-regression, delete-regression}
+use Rattle.kind_store.proofs.Claims.{Narrow}
+use Rattle.kind_store.proofs.KindStores.{push-laid, push-arena, delete-laid, delete-arena}
+use Rattle.sound.specs.Sound.{SoundKindStore}
 use Rattle.sound.proofs.Keeps as Sounds
-use Rattle.overlay.specs.Overlay.{Overlay, shelfOf, withShelf, withTexts, largest, sizesFit, shelfFits, textsFit, empty}
+use Rattle.overlay.specs.Overlay.{Overlay, kindStoreOf, withKindStore, withTexts, largest, sizesFit, kindStoreFits, textsFit, empty}
 use Rattle.overlay.specs.Given.{InBytes}
 use Rattle.overlay.specs.Sound.{Sound}
 use Rattle.overlay.specs.Calls.{OverlayAfter, setUp}
@@ -57,15 +57,15 @@ use Rattle.direct.proofs.Answers.{intern-store}
 use Rattle.overlay.proofs.Keeps.{setup-sound, setup-bytes}
 use Rattle.direct.proofs.Keeps.{intern-sound, intern-bytes}
 use Rattle.overlay.proofs.Bounds.{over-small}
-use Rattle.overlay.proofs.Shelves.{shelf-same, shelf-other, shelf-texts, shelf-setting, each-shelf, texts-shelf, sized-shelf, sized-texts, put-sized}
+use Rattle.overlay.proofs.KindStores.{kind-store-same, kind-store-other, kind-store-texts, kind-store-setting, each-kind-store, texts-kind-store, sized-kind-store, sized-texts, put-sized}
 use Rattle.calls.specs.Known.{Regresses}
 use Rattle.listing.specs.Known.{knownIn}
 use Rattle.listing.specs.Table.{isRank, Ranked}
-use Rattle.listing.proofs.Summaries.{ranked-put, ranked-shelf, ranked-texts, ranked-empty}
-use Rattle.calls.proofs.Rows.{fair-sound}
+use Rattle.listing.proofs.Summaries.{ranked-put, ranked-kind-store, ranked-texts, ranked-empty}
+use Rattle.calls.proofs.Rows.{well-formed-sound}
 use Rattle.reader.proofs.Small.{text-small}
 use Rattle.calls.proofs.Small.{record-small}
-use Rattle.calls.proofs.Shelves.{lastOf}
+use Rattle.calls.proofs.KindStores.{lastOf}
 use Rattle.calls.proofs.Tells.{Tells, keyIn, pushOf, push-key, id-fits, signed-fits, tells-push, tells-delete, tells-other, tells-texts, tells-nothing}
 
 -- the id that an act names is one of 64 bits
@@ -78,12 +78,12 @@ pub record Reflects (setting : ℕ) (o : Overlay) (held : List Bytes) (acts : Li
   pub bytes : InBytes o
   pub set : o .setting ≡ setting
   pub texts : textsOf (o .texts) ≡ held
-  pub tells : (k : Kind) → Tells k (o .setting) (shelfOf k o) held acts
+  pub tells : (k : Kind) → Tells k (o .setting) (kindStoreOf k o) held acts
   pub ids : all named acts ≡ true
   pub ranks : Ranked o
 
-arena-short : (s : Shelf) → shelfFits largest s ≡ true → length (s .arena) < 2 ^ 63
-unfolding shelfFits
+arena-short : (s : KindStore) → kindStoreFits largest s ≡ true → length (s .arena) < 2 ^ 63
+unfolding kindStoreFits
 arena-short s h = omega (arith, leb-true (length (s .arena)) 1048576 (both-right _ _ (both-right _ _ h)))
 
 byKind : {C : Type 0} (j k : Kind) → (j ≡ k → C) → ((j ≡ k → ⊥) → C) → C
@@ -102,68 +102,68 @@ unfolding textsFit
 span-lent o h = omega (arith, leb-true 1 (length (o .texts .spans) / 2) (both-left _ _ (sized-texts largest o h)))
 
 module _ (setting : ℕ) (o : Overlay) (held : List Bytes) (acts : List (Act Bytes)) (w : Reflects setting o held acts) where
-  -- each shelf is fair
-  pub fair-of : (k : Kind) → Fair k (shelfOf k o)
-  fair-of k = fair-sound (o .texts .strings) k (shelfOf k o) (w .sound .shelves k) (w .bytes .arenas k) (arena-short (shelfOf k o) (sized-shelf largest o (w .sound .sizes) k))
+  -- each kind store is fair
+  pub well-formed-of : (k : Kind) → WellFormed k (kindStoreOf k o)
+  well-formed-of k = well-formed-sound (o .texts .strings) k (kindStoreOf k o) (w .sound .kindStores k) (w .bytes .arenas k) (arena-short (kindStoreOf k o) (sized-kind-store largest o (w .sound .sizes) k))
 
   -- ---- an act on a kind
 
-  module _ (k : Kind) (t : Shelf) (a : Act Bytes) (kind : k ≡ keyOf a .kind) where
-    -- the shelf of the kind put anew, where it is sound, of bytes and of its size, and tells of the act
-    put-reflects : SoundShelf (o .texts .strings) k t → all isByte (t .arena) ≡ true → length (t .table) ≡ length (shelfOf k o .table) → length (t .arena) ≡ length (shelfOf k o .arena)
-        → Tells k (o .setting) t held (acts ++ (a ∷ [])) → named a ≡ true → all isRank (rowsIn t) ≡ true → Reflects setting (withShelf k t o) held (acts ++ (a ∷ []))
+  module _ (k : Kind) (t : KindStore) (a : Act Bytes) (kind : k ≡ keyOf a .kind) where
+    -- the kind store of the kind put anew, where it is sound, of bytes and of its size, and tells of the act
+    put-reflects : SoundKindStore (o .texts .strings) k t → all isByte (t .arena) ≡ true → length (t .table) ≡ length (kindStoreOf k o .table) → length (t .arena) ≡ length (kindStoreOf k o .arena)
+        → Tells k (o .setting) t held (acts ++ (a ∷ [])) → named a ≡ true → all isRank (rowsIn t) ≡ true → Reflects setting (withKindStore k t o) held (acts ++ (a ∷ []))
     put-reflects s b e f told n r =
         record {
           sound = record {
             sizes = put-sized largest k t o e f (w .sound .sizes);
-            strings = rw shelf-texts (w .sound .strings);
-            shelves = λ j. rw shelf-texts (each-shelf (SoundShelf (o .texts .strings)) k t o s (w .sound .shelves) j);
+            strings = rw kind-store-texts (w .sound .strings);
+            kindStores = λ j. rw kind-store-texts (each-kind-store (SoundKindStore (o .texts .strings)) k t o s (w .sound .kindStores) j);
           };
           bytes = record {
-            arenas = each-shelf (λ j z. all isByte (z .arena) ≡ true) k t o b (w .bytes .arenas);
-            texts = rw shelf-texts (w .bytes .texts);
+            arenas = each-kind-store (λ j z. all isByte (z .arena) ≡ true) k t o b (w .bytes .arenas);
+            texts = rw kind-store-texts (w .bytes .texts);
           };
-          set = shelf-setting k t o ∙ w .set;
-          texts = rw shelf-texts (w .texts);
+          set = kind-store-setting k t o ∙ w .set;
+          texts = rw kind-store-texts (w .texts);
           tells = λ j.
               byKind j k
-              (λ q. rw (q, shelf-same k t o, shelf-setting k t o) told)
-              (λ q. rw (shelf-other j k t o q, shelf-setting k t o) (tells-other j (o .setting) (shelfOf j o) held acts a (λ z. q (z ∙ sym kind)) (w .tells j)));
+              (λ q. rw (q, kind-store-same k t o, kind-store-setting k t o) told)
+              (λ q. rw (kind-store-other j k t o q, kind-store-setting k t o) (tells-other j (o .setting) (kindStoreOf j o) held acts a (λ z. q (z ∙ sym kind)) (w .tells j)));
           ids = all-append named acts (a ∷ []) (w .ids) (all-cons named a [] n (all-nil named));
-          ranks = ranked-shelf k t o r (w .ranks);
+          ranks = ranked-kind-store k t o r (w .ranks);
         }
 
   -- an accepted push of a legal record
   module _ (k : Kind) (x : Kept) (fits : fitsKept k x ≡ true) (lawful : legal (o .texts .strings) (x .held) ≡ true)
-      (taken : pushed k (o .setting) (shelfOf k o) (x .id) (claimOf (x .held .meta)) (keptBytes x) .answer ≡ Taken) where
-    pub reflects-push : Reflects setting (withShelf k (pushed k (o .setting) (shelfOf k o) (x .id) (claimOf (x .held .meta)) (keptBytes x) .shelf) o) held (acts ++ (pushOf held x ∷ []))
+      (taken : pushed k (o .setting) (kindStoreOf k o) (x .id) (claimOf (x .held .meta)) (keptBytes x) .answer ≡ Taken) where
+    pub reflects-push : Reflects setting (withKindStore k (pushed k (o .setting) (kindStoreOf k o) (x .id) (claimOf (x .held .meta)) (keptBytes x) .kindStore) o) held (acts ++ (pushOf held x ∷ []))
     reflects-push =
         let strings = o .texts .strings in
-        let s = shelfOf k o in
+        let s = kindStoreOf k o in
         let c = claimOf (x .held .meta) in
-        let p = w .sound .shelves k in
+        let p = w .sound .kindStores k in
         let i = id-fits k x fits in
         let l = push-laid k (o .setting) s (x .id) c (p .order) (keptBytes x) taken in
-        put-reflects k (pushed k (o .setting) s (x .id) c (keptBytes x) .shelf) (pushOf held x) (ap (λ (z : Key). z .kind) (push-key k held x fits))
+        put-reflects k (pushed k (o .setting) s (x .id) c (keptBytes x) .kindStore) (pushOf held x) (ap (λ (z : Key). z .kind) (push-key k held x fits))
         (Sounds.push-sound strings k (o .setting) s c x fits lawful (signed-fits (x .id) i) p taken)
         (rw (push-arena k (o .setting) s (x .id) c (keptBytes x) taken) (over-small (s .arena) (s .used) (keptBytes x) (w .bytes .arenas k) (record-small strings (x .id) (x .held) lawful)))
         (l .words) (l .size)
-        (tells-push strings k (o .setting) s held acts p (fair-of k) (w .tells k) x fits lawful taken) i
+        (tells-push strings k (o .setting) s held acts p (well-formed-of k) (w .tells k) x fits lawful taken) i
         (rw (l .rows) (ranked-put (x .id) _ _ (signed-fits (x .id) i) (rowsIn s) (w .ranks .rows k)))
 
   -- an accepted delete
-  module _ (k : Kind) (id : ℤ) (claim : Version) (fits : fitsSigned w64 id ≡ true) (narrow : Narrow claim) (taken : deleted k (o .setting) (shelfOf k o) id claim .answer ≡ Taken) where
-    pub reflects-delete : Reflects setting (withShelf k (deleted k (o .setting) (shelfOf k o) id claim .shelf) o) held (acts ++ (delete k id claim ∷ []))
+  module _ (k : Kind) (id : ℤ) (claim : Version) (fits : fitsSigned w64 id ≡ true) (narrow : Narrow claim) (taken : deleted k (o .setting) (kindStoreOf k o) id claim .answer ≡ Taken) where
+    pub reflects-delete : Reflects setting (withKindStore k (deleted k (o .setting) (kindStoreOf k o) id claim .kindStore) o) held (acts ++ (delete k id claim ∷ []))
     reflects-delete =
         let strings = o .texts .strings in
-        let s = shelfOf k o in
-        let p = w .sound .shelves k in
+        let s = kindStoreOf k o in
+        let p = w .sound .kindStores k in
         let l = delete-laid k (o .setting) s id claim (p .order) taken in
-        put-reflects k (deleted k (o .setting) s id claim .shelf) (delete k id claim) refl
+        put-reflects k (deleted k (o .setting) s id claim .kindStore) (delete k id claim) refl
         (Sounds.delete-sound strings k (o .setting) s id claim p taken)
-        (rw (delete-arena k (o .setting) s id claim (fair-of k) taken) (w .bytes .arenas k))
+        (rw (delete-arena k (o .setting) s id claim (well-formed-of k) taken) (w .bytes .arenas k))
         (l .words) (l .size)
-        (tells-delete strings k (o .setting) s held acts p (fair-of k) (w .tells k) id claim (signed-fits id fits) narrow taken) fits
+        (tells-delete strings k (o .setting) s held acts p (well-formed-of k) (w .tells k) id claim (signed-fits id fits) narrow taken) fits
         (rw (l .rows) (ranked-put id _ _ (signed-fits id fits) (rowsIn s) (w .ranks .rows k)))
 
   -- a text taken in: the held handles keep their texts
@@ -178,7 +178,7 @@ module _ (setting : ℕ) (o : Overlay) (held : List Bytes) (acts : List (Act Byt
         set = w .set;
         texts = Interns.texts-after (o .texts) t (Interns.sound-parts (o .texts) (w .sound .strings)) a ∙ ap (λ (z : List Bytes). takeIn z t) (w .texts);
         tells = λ k.
-            rw (texts-shelf k (intern (o .texts) t .store) o) (tells-texts (o .texts .strings) k (o .setting) (shelfOf k o) held acts (w .sound .shelves k) (fair-of k) (w .tells k)
+            rw (texts-kind-store k (intern (o .texts) t .store) o) (tells-texts (o .texts .strings) k (o .setting) (kindStoreOf k o) held acts (w .sound .kindStores k) (well-formed-of k) (w .tells k)
             (takeIn held t) (λ h g. sym (text-stays held t h (rw n g))));
         ids = w .ids;
         ranks = ranked-texts (intern (o .texts) t .store) o (w .ranks);
@@ -191,7 +191,7 @@ module _ (setting : ℕ) (o : Overlay) (held : List Bytes) (acts : List (Act Byt
   unfolding knownIn
   page-reflects z key f =
       let t = w .tells (key .kind) in
-      let l = ap (λ (x : List Bytes). lastOf (key .kind) (shelfOf (key .kind) o) (textOf x) (key .id)) (w .texts) ∙ t .last (key .id) f in
+      let l = ap (λ (x : List Bytes). lastOf (key .kind) (kindStoreOf (key .kind) o) (textOf x) (key .id)) (w .texts) ∙ t .last (key .id) f in
       let h = t .high (w .set ∙ z) (key .id) f in
       λ i. record { last = l i; high = h i }
 
@@ -202,36 +202,36 @@ module _ (setting : ℕ) (o : Overlay) (held : List Bytes) (acts : List (Act Byt
 
   -- T13: what the store refuses 12, while regression is refused
   module _ (z : setting ≡ 0) (k : Kind) (id : ℤ) (fits : SFits w64 id) (claim : Version) (v : ℤ) where
-    regresses : (admitOf (known k (shelfOf k o) id) claim ≡ Below v) ↔ Regresses acts (keyIn k id) claim v
+    regresses : (admitOf (known k (kindStoreOf k o) id) claim ≡ Below v) ↔ Regresses acts (keyIn k id) claim v
     regresses =
         let h = w .tells k .high (w .set ∙ z) id fits in
-        let b = below-is (known k (shelfOf k o) id) claim v in (
+        let b = below-is (known k (kindStoreOf k o) id) claim v in (
           λ e. let r = b .0 e in record { version = r .0; claims = r .1 .1 .0; known = sym h ∙ r .1 .0; below = r .1 .1 .1 },
           λ r. b .1 (r .version, (h ∙ r .known, (r .claims, r .below))),
         )
 
     -- an answer that is given where the check refuses
-    as-checked : (P : ℕ → Type 0) → P 0 ↔ (admitOf (known k (shelfOf k o) id) claim ≡ Below v) → P (o .setting) ↔ Regresses acts (keyIn k id) claim v
+    as-checked : (P : ℕ → Type 0) → P 0 ↔ (admitOf (known k (kindStoreOf k o) id) claim ≡ Below v) → P (o .setting) ↔ Regresses acts (keyIn k id) claim v
     as-checked P e =
-        let f = subst (λ (n : ℕ). P n ↔ (admitOf (known k (shelfOf k o) id) claim ≡ Below v)) (sym (w .set ∙ z)) e in
+        let f = subst (λ (n : ℕ). P n ↔ (admitOf (known k (kindStoreOf k o) id) claim ≡ Below v)) (sym (w .set ∙ z)) e in
         (λ x. regresses .0 (f .0 x), λ x. f .1 (regresses .1 x))
 
-    pub admit-regresses : (checked (o .setting) (known k (shelfOf k o) id) claim ≡ Below v) ↔ Regresses acts (keyIn k id) claim v
+    pub admit-regresses : (checked (o .setting) (known k (kindStoreOf k o) id) claim ≡ Below v) ↔ Regresses acts (keyIn k id) claim v
     unfolding checked
-    admit-regresses = as-checked (λ n. checked n (known k (shelfOf k o) id) claim ≡ Below v) ((λ x. x, λ x. x))
+    admit-regresses = as-checked (λ n. checked n (known k (kindStoreOf k o) id) claim ≡ Below v) ((λ x. x, λ x. x))
 
-    pub push-regresses : (bytes : Bytes) → (pushed k (o .setting) (shelfOf k o) id claim bytes .answer ≡ Refused (Regression v)) ↔ Regresses acts (keyIn k id) claim v
-    push-regresses bytes = as-checked (λ n. pushed k n (shelfOf k o) id claim bytes .answer ≡ Refused (Regression v)) (push-regression k (shelfOf k o) id claim bytes v)
+    pub push-regresses : (bytes : Bytes) → (pushed k (o .setting) (kindStoreOf k o) id claim bytes .answer ≡ Refused (Regression v)) ↔ Regresses acts (keyIn k id) claim v
+    push-regresses bytes = as-checked (λ n. pushed k n (kindStoreOf k o) id claim bytes .answer ≡ Refused (Regression v)) (push-regression k (kindStoreOf k o) id claim bytes v)
 
-    pub delete-regresses : (deleted k (o .setting) (shelfOf k o) id claim .answer ≡ Refused (Regression v)) ↔ Regresses acts (keyIn k id) claim v
-    delete-regresses = as-checked (λ n. deleted k n (shelfOf k o) id claim .answer ≡ Refused (Regression v)) (delete-regression k (shelfOf k o) id claim v)
+    pub delete-regresses : (deleted k (o .setting) (kindStoreOf k o) id claim .answer ≡ Refused (Regression v)) ↔ Regresses acts (keyIn k id) claim v
+    delete-regresses = as-checked (λ n. deleted k n (kindStoreOf k o) id claim .answer ≡ Refused (Regression v)) (delete-regression k (kindStoreOf k o) id claim v)
 
 -- ---- an empty overlay stands for no act
 
 pub reflects-empty : (setting : ℕ) (o : Overlay) → sizesFit largest o ≡ true → InBytes o → Reflects setting (empty setting o) noTexts []
 reflects-empty setting o fit b = bySetUp setting o (λ s e. clash fit s) (λ s e. go (ap (λ (z : OverlayAfter). z .answer) e) (ap (λ (z : OverlayAfter). z .overlay) e))
   where
-    told : (k : Kind) → Tells k setting (shelfOf k (empty setting o)) noTexts []
+    told : (k : Kind) → Tells k setting (kindStoreOf k (empty setting o)) noTexts []
     told Node = tells-nothing Node setting (o .nodes .table) (o .nodes .arena) noTexts
     told Way = tells-nothing Way setting (o .ways .table) (o .ways .arena) noTexts
     told Relation = tells-nothing Relation setting (o .relations .table) (o .relations .arena) noTexts

@@ -1,4 +1,4 @@
--- A sound shelf: it is fair, and at the place of each live row a legal record is read, whatever is appended behind it.
+-- A sound kind store: it is fair, and at the place of each live row a legal record is read, whatever is appended behind it.
 use Prim.Native.Nat.{ℕ, _+_, _^_, _<_, _≤_}
 use mathlib.Core.Path.{_≡_, refl, sym, _∙_, ap}
 use mathlib.Core.Bool.{true, not}
@@ -25,9 +25,9 @@ use Rattle.legal.proofs.Starts.{record-passes, record-there, start-is}
 use Rattle.table.specs.declared.Row.{Row}
 use Rattle.table.specs.Rows.{find}
 use Rattle.table.proofs.Maps.{find-passes}
-use Rattle.shelf.specs.Shelf.{Shelf, isLive}
-use Rattle.shelf.specs.Fair.{rowsIn, Fair}
-use Rattle.sound.specs.Sound.{SoundShelf, soundRow}
+use Rattle.kind_store.specs.KindStore.{KindStore, isLive}
+use Rattle.kind_store.specs.WellFormed.{rowsIn, WellFormed}
+use Rattle.sound.specs.Sound.{SoundKindStore, soundRow}
 use Rattle.listing.specs.Known.{heldIn, recordIn}
 
 -- what is read at a start of whole records is its record
@@ -38,7 +38,7 @@ pub kept-kind : (k : Kind) (x : Kept) → fitsKept k x ≡ true → kindOf (x .h
 unfolding fitsKept
 kept-kind k x h = Numbers.same-yes (kindOf (x .held .body)) k (both-left _ _ h)
 
-module _ (strings : ℕ) (k : Kind) (s : Shelf) (w : SoundShelf strings k s) where
+module _ (strings : ℕ) (k : Kind) (s : KindStore) (w : SoundKindStore strings k s) where
   -- at the place of a live row a record starts
   pub live-starts : (n : ℕ) (r : Row) → find n (rowsIn s) ≡ some r → isLive (r .place) ≡ true → (x : Kept) × (recordAt (r .place) (w .whole .kept) ≡ some x)
   unfolding soundRow
@@ -64,9 +64,9 @@ module _ (strings : ℕ) (k : Kind) (s : Shelf) (w : SoundShelf strings k s) whe
         let z = record-format k .forth u (record { item = x; rest = y .0 }) (bytes-drop at (take (s .used) (s .arena)) (bytes-take (s .used) (s .arena) b)) c in
         omega (arith, ap length (z .0), length-append (keptBytes x) (y .0), length-record (x .id) (x .held), ap headLen (kept-kind k x (z .1)), length-drop at (take (s .used) (s .arena)), length-take-le (s .used) (s .arena) (w .fits))
 
-    -- a sound shelf of bytes is fair
-    pub fair-sound : length (s .arena) < 2 ^ 63 → Fair k s
-    fair-sound l =
+    -- a sound kind store of bytes is fair
+    pub well-formed-sound : length (s .arena) < 2 ^ 63 → WellFormed k s
+    well-formed-sound l =
         record {
           bytes = b;
           short = l;

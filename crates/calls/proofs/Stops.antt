@@ -10,14 +10,14 @@ use Rattle.base.specs.Bytes.{Bytes, both, either, all}
 use Rattle.base.proofs.Split.{byEq, no, clash}
 use Rattle.base.proofs.Lists.{all-head, all-tail}
 use Rattle.model.specs.Act.{Act}
-use Rattle.acts.specs.Call.{World, worldAfter, actsFrom, linesHeard}
+use Rattle.acts.specs.Call.{World, worldAfter, actsFrom, linesRead}
 use Rattle.reader.specs.declared.EventAnswer.the-variants as E
 use Rattle.reader.specs.State.{State, isStopped, stateSound}
 use Rattle.reader.specs.Event.{eventOn}
 use Rattle.reader.proofs.Answers.{answer-is, byEvent, byAnswer, event-counts, end-keeps}
 use Rattle.reader.proofs.Events.{byRefused}
 use Rattle.reader.proofs.Keeps.{ready-sound}
-use Rattle.calls.specs.Ask.{Ask, interns, pushes, deletes, hears, ends, callOf, Storage, stateOf, eventTaken, leaves, accepts, after, answered, askFits, isEventOf, stoppedIn}
+use Rattle.calls.specs.Ask.{Ask, interns, pushes, deletes, reads, ends, callOf, Storage, stateOf, eventTaken, leaves, accepts, after, answered, askFits, isEventOf, stoppedIn}
 use Rattle.calls.proofs.Lists.{Agrees, agrees-fine, answerOf, agrees-call, call-lines}
 
 either-false : (a : Bool) → a ≡ either a false
@@ -55,14 +55,14 @@ module _ (n : ℕ) where
   call-stopped (interns t) l e = either-false _
   call-stopped (pushes k h m parts) l e = either-false _
   call-stopped (deletes k id m) l e = either-false _
-  call-stopped (hears m line) l e =
+  call-stopped (reads m line) l e =
       byEq n m
       (λ q. rw (eq-eqb n m q, q) (event-stopped line (stateOf m l) (rw q at e)))
       (λ q. rw (ne-eqb n m q) (either-false _))
   call-stopped (ends m) l e = byEq n m (λ q. rw (eq-eqb n m q, end-keeps (stateOf m l), q) (either-false _)) (λ q. rw (ne-eqb n m q) (either-false _))
 
   pub stopped-calls : (setting : ℕ) (cs : List Ask) (l : Storage) (w : World) (acts : List (Act Bytes)) → all askFits cs ≡ true → Agrees setting l w acts
-      → l .readers n .lines + length (linesHeard n (answered l cs)) < 18446744073709551615
+      → l .readers n .lines + length (linesRead n (answered l cs)) < 18446744073709551615
       → isStopped (after l cs .readers n .stop) ≡ either (isStopped (l .readers n .stop)) (stoppedIn n (answered l cs))
   unfolding after answered stoppedIn
   stopped-calls setting [] l w acts f g h = either-false _

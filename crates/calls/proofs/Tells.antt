@@ -1,4 +1,4 @@
--- What a shelf tells is what the accepted acts on its kind come to: an accepted push, an accepted delete, an act on another kind and a text taken in keep that.
+-- What a kind store tells is what the accepted acts on its kind come to: an accepted push, an accepted delete, an act on another kind and a text taken in keep that.
 use Prim.Native.Nat.{ℕ, _+_, _<_}
 use mathlib.Core.Path.{_≡_, refl, sym, _∙_, ap}
 use mathlib.Core.Bool.{Bool, true, false, cond}
@@ -35,22 +35,22 @@ use Rattle.table.specs.Words.{rowsFrom, rowsOf}
 use Rattle.table.proofs.Tables.{sound-empty}
 use Rattle.page.specs.Summary as Summary
 use Rattle.page.proofs.Tables.{known-more}
-use Rattle.shelf.specs.Shelf.{Shelf, shelfWith, known, pushed, deleted}
-use Rattle.shelf.specs.Fair.{Fair}
-use Rattle.shelf.specs.declared.Kept.the-variants.{Taken}
-use Rattle.shelf.proofs.Claims.{Narrow}
-use Rattle.shelf.proofs.Shelves.{known-none, push-used, push-raises, push-other, delete-used, delete-raises, delete-other}
-use Rattle.sound.specs.Sound.{SoundShelf}
+use Rattle.kind_store.specs.KindStore.{KindStore, kindStoreWith, known, pushed, deleted}
+use Rattle.kind_store.specs.WellFormed.{WellFormed}
+use Rattle.kind_store.specs.declared.Kept.the-variants.{Taken}
+use Rattle.kind_store.proofs.Claims.{Narrow}
+use Rattle.kind_store.proofs.KindStores.{known-none, push-used, push-raises, push-other, delete-used, delete-raises, delete-other}
+use Rattle.sound.specs.Sound.{SoundKindStore}
 use Rattle.calls.specs.Known.{recordLength, pushedBy, pushedBytes}
 use Rattle.calls.proofs.Rows.{kept-kind}
 use Rattle.calls.proofs.Lengths.{record-length, pushed-more}
-use Rattle.calls.proofs.Shelves.{lastOf, last-agrees, push-last, push-last-other, delete-last, delete-last-other}
+use Rattle.calls.proofs.KindStores.{lastOf, last-agrees, push-last, push-last-other, delete-last, delete-last-other}
 
 abbrev pub keyIn : Kind → ℤ → Key
 keyIn k id = record { kind = k; id = id }
 
--- a shelf of a kind and the accepted acts; the highest version only while regression is refused
-pub record Tells (k : Kind) (setting : ℕ) (s : Shelf) (held : List Bytes) (acts : List (Act Bytes)) : Type 0 where
+-- a kind store of a kind and the accepted acts; the highest version only while regression is refused
+pub record Tells (k : Kind) (setting : ℕ) (s : KindStore) (held : List Bytes) (acts : List (Act Bytes)) : Type 0 where
   pub used : s .used ≡ pushedBytes k acts
   pub last : (id : ℤ) → SFits w64 id → lastOf k s (textOf held) id ≡ Summary.known acts (keyIn k id) .last
   pub high : setting ≡ 0 → (id : ℤ) → SFits w64 id → known k s id ≡ Summary.known acts (keyIn k id) .high
@@ -66,7 +66,7 @@ module _ (acts : List (Act Bytes)) (a : Act Bytes) (key : Key) where
 
 -- ---- an act on an id of the kind
 
-module _ (k : Kind) (setting : ℕ) (s t : Shelf) (held : List Bytes) (acts : List (Act Bytes)) (a : Act Bytes) (id : ℤ) (fits : SFits w64 id) (own : keyIn k id ≡ keyOf a) where
+module _ (k : Kind) (setting : ℕ) (s t : KindStore) (held : List Bytes) (acts : List (Act Bytes)) (a : Act Bytes) (id : ℤ) (fits : SFits w64 id) (own : keyIn k id ≡ keyOf a) where
   -- what holds of its own id and of the others makes what holds of all
   tells-on : Tells k setting s held acts → t .used ≡ s .used + pushedBy k a
       → lastOf k t (textOf held) id ≡ some (leftBy a)
@@ -99,7 +99,7 @@ pushed-other : (k : Kind) (a : Act Bytes) → (k ≡ keyOf a .kind → ⊥) → 
 pushed-other k (push id r) n = ap (λ (t : Bool). cond t (recordLength r) 0) (other-kind k (kindOf (r .body)) n)
 pushed-other k (delete j id claim) n = refl
 
-pub tells-other : (k : Kind) (setting : ℕ) (s : Shelf) (held : List Bytes) (acts : List (Act Bytes)) (a : Act Bytes) → (k ≡ keyOf a .kind → ⊥)
+pub tells-other : (k : Kind) (setting : ℕ) (s : KindStore) (held : List Bytes) (acts : List (Act Bytes)) (a : Act Bytes) → (k ≡ keyOf a .kind → ⊥)
     → Tells k setting s held acts → Tells k setting s held (acts ++ (a ∷ []))
 tells-other k setting s held acts a n w =
     let other : (id : ℤ) → keyIn k id ≡ keyOf a → ⊥ = λ id e. n (ap (λ (x : Key). x .kind) e) in
@@ -135,9 +135,9 @@ kept-parts : (k : Kind) (x : Kept) → fitsKept k x ≡ true
 unfolding recordBytes
 kept-parts k x h = rw (kept-kind k x h)
 
-bytes-raise : (k : Kind) (setting : ℕ) (s : Shelf) (id : ℤ) (h : Head) (m : Meta ℕ) (parts bytes : Bytes) → bytes ≡ headBytes k h ++ metaBytes m ++ parts → Fair k s → fitsMeta m ≡ true
-    → pushed k setting s id (claimOf m) bytes .answer ≡ Taken → setting ≡ 0 → known k (pushed k setting s id (claimOf m) bytes .shelf) id ≡ higher (known k s id) (claimOf m)
-bytes-raise k setting s id h m parts bytes e fair f taken z = rw e (push-raises k setting s id h m parts fair f (rw e at taken) z)
+bytes-raise : (k : Kind) (setting : ℕ) (s : KindStore) (id : ℤ) (h : Head) (m : Meta ℕ) (parts bytes : Bytes) → bytes ≡ headBytes k h ++ metaBytes m ++ parts → WellFormed k s → fitsMeta m ≡ true
+    → pushed k setting s id (claimOf m) bytes .answer ≡ Taken → setting ≡ 0 → known k (pushed k setting s id (claimOf m) bytes .kindStore) id ≡ higher (known k s id) (claimOf m)
+bytes-raise k setting s id h m parts bytes e well-formed f taken z = rw e (push-raises k setting s id h m parts well-formed f (rw e at taken) z)
 
 -- the act that a push of a record is, where these texts are held
 abbrev pub pushOf : List Bytes → Kept → Act Bytes
@@ -146,36 +146,36 @@ pushOf held x = push (x .id) (swapRecord (textOf held) (x .held))
 pub push-key : (k : Kind) (held : List Bytes) (x : Kept) → fitsKept k x ≡ true → keyIn k (x .id) ≡ keyOf (pushOf held x)
 push-key k held x fits = ap (λ (j : Kind). keyIn j (x .id)) (sym (kept-kind k x fits)) ∙ sym (act-key (textOf held) (push (x .id) (x .held)))
 
-module _ (strings : ℕ) (k : Kind) (setting : ℕ) (s : Shelf) (held : List Bytes) (acts : List (Act Bytes)) (w : SoundShelf strings k s) (fair : Fair k s) (told : Tells k setting s held acts) where
+module _ (strings : ℕ) (k : Kind) (setting : ℕ) (s : KindStore) (held : List Bytes) (acts : List (Act Bytes)) (w : SoundKindStore strings k s) (well-formed : WellFormed k s) (told : Tells k setting s held acts) where
   module _ (x : Kept) (fits : fitsKept k x ≡ true) (lawful : legal strings (x .held) ≡ true)
       (taken : pushed k setting s (x .id) (claimOf (x .held .meta)) (keptBytes x) .answer ≡ Taken) where
-    own-used : pushed k setting s (x .id) (claimOf (x .held .meta)) (keptBytes x) .shelf .used ≡ s .used + pushedBy k (pushOf held x)
+    own-used : pushed k setting s (x .id) (claimOf (x .held .meta)) (keptBytes x) .kindStore .used ≡ s .used + pushedBy k (pushOf held x)
     own-used =
         rw (push-used k setting s (x .id) (claimOf (x .held .meta)) (keptBytes x) taken, body-kind (textOf held) (x .held .body), kept-kind k x fits, Numbers.same-refl k, record-length (textOf held) (x .id) (x .held))
 
-    pub tells-push : Tells k setting (pushed k setting s (x .id) (claimOf (x .held .meta)) (keptBytes x) .shelf) held (acts ++ (pushOf held x ∷ []))
+    pub tells-push : Tells k setting (pushed k setting s (x .id) (claimOf (x .held .meta)) (keptBytes x) .kindStore) held (acts ++ (pushOf held x ∷ []))
     tells-push =
         let claim = claimOf (x .held .meta) in
-        let t = pushed k setting s (x .id) claim (keptBytes x) .shelf in
+        let t = pushed k setting s (x .id) claim (keptBytes x) .kindStore in
         let h = headOf (x .id) (x .held .body) (length (x .held .tags)) in
         tells-on k setting s t held acts (pushOf held x) (x .id) (signed-fits (x .id) (id-fits k x fits)) (push-key k held x fits) told own-used
-        (push-last strings k setting s x fits lawful w taken (textOf held) (fair .short))
+        (push-last strings k setting s x fits lawful w taken (textOf held) (well-formed .short))
         (push-last-other strings k setting s x fits lawful w taken (textOf held))
-        (λ z. bytes-raise k setting s (x .id) h (x .held .meta) (partsBytes (x .held)) (keptBytes x) (kept-parts k x fits) fair (meta-fits k x fits) taken z
+        (λ z. bytes-raise k setting s (x .id) h (x .held .meta) (partsBytes (x .held)) (keptBytes x) (kept-parts k x fits) well-formed (meta-fits k x fits) taken z
         ∙ ap (higher (known k s (x .id))) (sym (act-claim (textOf held) (push (x .id) (x .held)))))
-        (push-other k setting s (x .id) claim (keptBytes x) taken fair)
+        (push-other k setting s (x .id) claim (keptBytes x) taken well-formed)
 
   -- ---- an accepted delete
 
   pub tells-delete : (id : ℤ) (claim : Version) → SFits w64 id → Narrow claim → deleted k setting s id claim .answer ≡ Taken
-      → Tells k setting (deleted k setting s id claim .shelf) held (acts ++ (delete k id claim ∷ []))
+      → Tells k setting (deleted k setting s id claim .kindStore) held (acts ++ (delete k id claim ∷ []))
   tells-delete id claim f n taken =
-      let t = deleted k setting s id claim .shelf in
-      tells-on k setting s t held acts (delete k id claim) id f refl told (omega (arith, delete-used k setting s id claim fair taken))
-      (delete-last strings k setting s id claim w fair taken (textOf held))
-      (delete-last-other strings k setting s id claim w fair taken (textOf held))
-      (λ z. delete-raises k setting s id claim fair taken n)
-      (delete-other k setting s id claim fair taken)
+      let t = deleted k setting s id claim .kindStore in
+      tells-on k setting s t held acts (delete k id claim) id f refl told (omega (arith, delete-used k setting s id claim well-formed taken))
+      (delete-last strings k setting s id claim w well-formed taken (textOf held))
+      (delete-last-other strings k setting s id claim w well-formed taken (textOf held))
+      (λ z. delete-raises k setting s id claim well-formed taken n)
+      (delete-other k setting s id claim well-formed taken)
 
   -- ---- more texts held
 
@@ -187,13 +187,13 @@ module _ (strings : ℕ) (k : Kind) (setting : ℕ) (s : Shelf) (held : List Byt
         high = told .high;
       }
 
--- ---- a shelf that holds nothing
+-- ---- a kind store that holds nothing
 
-pub tells-nothing : (k : Kind) (setting : ℕ) (table : List ℕ) (arena : Bytes) (held : List Bytes) → Tells k setting (shelfWith table 0 arena 0) held []
+pub tells-nothing : (k : Kind) (setting : ℕ) (table : List ℕ) (arena : Bytes) (held : List Bytes) → Tells k setting (kindStoreWith table 0 arena 0) held []
 unfolding pushedBytes Summary.known Summary.knownFrom rowsOf rowsFrom find
 tells-nothing k setting table arena held =
     record {
       used = refl;
       last = λ id f. refl;
-      high = λ z id f. known-none k (shelfWith table 0 arena 0) (sound-empty table) id refl;
+      high = λ z id f. known-none k (kindStoreWith table 0 arena 0) (sound-empty table) id refl;
     }

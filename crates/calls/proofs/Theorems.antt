@@ -28,12 +28,12 @@ use Rattle.legal.specs.declared.Fault.the-variants as F
 use Rattle.interner.specs.Texts.{handleOf, takeIn}
 use Rattle.interner.specs.Sound.{textsOf}
 use Rattle.page.specs.Summary as Summary
-use Rattle.shelf.specs.Shelf as Shelf
-use Rattle.shelf.specs.declared.Kept.the-variants.{Refused}
+use Rattle.kind_store.specs.KindStore as KindStore
+use Rattle.kind_store.specs.declared.Kept.the-variants.{Refused}
 use Rattle.field.specs.Field.{got}
 use Rattle.acts.specs.Turn.{Turn, turn}
-use Rattle.acts.specs.Call.{begin, worldAfter, actsOf, linesHeard}
-use Rattle.overlay.specs.Overlay.{Overlay, shelfOf, largest, sizesFit, empty}
+use Rattle.acts.specs.Call.{begin, worldAfter, actsOf, linesRead}
+use Rattle.overlay.specs.Overlay.{Overlay, kindStoreOf, largest, sizesFit, empty}
 use Rattle.overlay.specs.Given.{InBytes, headFits}
 use Rattle.overlay.specs.Sound.{isSound}
 use Rattle.overlay.specs.Calls.{OverlayAfter}
@@ -78,11 +78,11 @@ module _ (setting : ℕ) (o : Overlay) (sizes : sizesFit largest o ≡ true) (le
     sound-after = agrees-fine agrees-after .sound
 
     -- the lines that a reader has taken are those of its accepted events
-    pub lines-after : (n : ℕ) → storageAfter setting o parts cs .readers n .lines ≡ length (linesHeard n (replies setting o parts cs))
+    pub lines-after : (n : ℕ) → storageAfter setting o parts cs .readers n .lines ≡ length (linesRead n (replies setting o parts cs))
     lines-after n = lines-counted n cs (started setting o parts) ∙ zero-add _
 
     -- and a reader is stopped exactly where one of its events was refused
-    pub stopped-after : (n : ℕ) → length (linesHeard n (replies setting o parts cs)) < 18446744073709551615
+    pub stopped-after : (n : ℕ) → length (linesRead n (replies setting o parts cs)) < 18446744073709551615
         → isStopped (storageAfter setting o parts cs .readers n .stop) ≡ stoppedIn n (replies setting o parts cs)
     unfolding either
     stopped-after n h = stopped-calls n setting cs (started setting o parts) begin [] given agrees-started (omega arith)
@@ -96,7 +96,7 @@ module _ (setting : ℕ) (o : Overlay) (sizes : sizesFit largest o ≡ true) (le
     handle-next t n e = let k = intern-kept t (storageAfter setting o parts cs .overlay) n e in rw (← texts-held, ← k .texts) (k .place)
 
     -- T8: the used bytes are those of the accepted pushes
-    pub used-bytes : (k : Kind) → shelfOf k (storageAfter setting o parts cs .overlay) .used ≡ pushedBytes k (actsOf (replies setting o parts cs))
+    pub used-bytes : (k : Kind) → kindStoreOf k (storageAfter setting o parts cs .overlay) .used ≡ pushedBytes k (actsOf (replies setting o parts cs))
     used-bytes k = agrees-after .overlay .tells k .used
 
 -- while regression is refused
@@ -106,7 +106,7 @@ module _ (o : Overlay) (sizes : sizesFit largest o ≡ true) (lent : InBytes o) 
 
   -- T9: the known version is the highest that accepted acts claimed
   pub known-highest : (k : Kind) (id : ℤ) → SFits w64 id
-      → Shelf.known k (shelfOf k (storageAfter 0 o parts cs .overlay)) id ≡ Summary.known (actsOf (replies 0 o parts cs)) (record { kind = k; id = id }) .high
+      → KindStore.known k (kindStoreOf k (storageAfter 0 o parts cs .overlay)) id ≡ Summary.known (actsOf (replies 0 o parts cs)) (record { kind = k; id = id }) .high
   known-highest k id f = let s = agrees .overlay in s .tells k .high (s .set) id f
 
   -- T10: with what the last act left, that is all that the overlay tells of an id
@@ -134,8 +134,8 @@ module _ (o : Overlay) (sizes : sizesFit largest o ≡ true) (lent : InBytes o) 
   -- and so is an act that a reader's event makes, at the line that is one more than those that the reader has taken, unless one of its events was refused before or the count
   -- of its lines is at its largest
   pub regression-event : (n : ℕ) (line : Bytes) (t : Turn) (a : Act Bytes) → stoppedIn n (replies 0 o parts cs) ≡ false
-      → length (linesHeard n (replies 0 o parts cs)) < 18446744073709551615 → turn line (worldAfter begin (replies 0 o parts cs) .readers n) ≡ got t → t .act ≡ some a → (v : ℤ)
-      → (eventOn line (stateOf n (storageAfter 0 o parts cs)) .answer ≡ E.Refused (Regression v) (length (linesHeard n (replies 0 o parts cs)) + 1))
+      → length (linesRead n (replies 0 o parts cs)) < 18446744073709551615 → turn line (worldAfter begin (replies 0 o parts cs) .readers n) ≡ got t → t .act ≡ some a → (v : ℤ)
+      → (eventOn line (stateOf n (storageAfter 0 o parts cs)) .answer ≡ E.Refused (Regression v) (length (linesRead n (replies 0 o parts cs)) + 1))
       ↔ Regresses (actsOf (replies 0 o parts cs)) (keyOf a) (claimedBy a) v
   regression-event n line t a never below h k v =
       let s = stateOf n (storageAfter 0 o parts cs) in

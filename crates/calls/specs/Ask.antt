@@ -15,7 +15,7 @@ use Rattle.compact.specs.Cut.{pushedRecord}
 use Rattle.compact.specs.Held.{metaOf, headIn}
 use Rattle.compact.specs.declared.ArenaMeta.{ArenaMeta}
 use Rattle.compact.specs.declared.PushHead.{PushHead}
-use Rattle.shelf.specs.Shelf.{takenIn}
+use Rattle.kind_store.specs.KindStore.{takenIn}
 use Rattle.overlay.specs.Overlay.{Overlay, empty}
 use Rattle.overlay.specs.Given.{headFits, metaFits}
 use Rattle.direct.specs.Calls.{pushOn, deleteOn, internOn}
@@ -34,7 +34,7 @@ pub data Ask : Type 0 where
   interns : Bytes → Ask
   pushes : Kind → PushHead → ArenaMeta → Bytes → Ask
   deletes : Kind → ℕ → ArenaMeta → Ask
-  hears : ℕ → Bytes → Ask
+  reads : ℕ → Bytes → Ask
   ends : ℕ → Ask
 
 -- the call that the acts are defined from
@@ -42,7 +42,7 @@ abbrev pub callOf : Ask → Call
 callOf (interns t) = Call.interns t
 callOf (pushes k h m parts) = Call.pushes (toZ w64 (h .id)) (pushedRecord k (headIn k h) (metaOf m) parts)
 callOf (deletes k id m) = Call.deletes k (toZ w64 id) (metaOf m)
-callOf (hears n line) = Call.hears n line
+callOf (reads n line) = Call.reads n line
 callOf (ends n) = Call.ends n
 
 -- ---- what is lent: the overlay, and to each reader its own storage
@@ -84,14 +84,14 @@ abbrev pub leaves : Ask → Storage → Storage
 leaves (interns t) l = withOverlay (internOn t (l .overlay) .overlay) l
 leaves (pushes k h m parts) l = withOverlay (pushOn k h m parts (l .overlay) .overlay) l
 leaves (deletes k id m) l = withOverlay (deleteOn k (toZ w64 id) (metaOf m) (l .overlay) .overlay) l
-leaves (hears n line) l = withState n (eventOn line (stateOf n l) .state) l
+leaves (reads n line) l = withState n (eventOn line (stateOf n l) .state) l
 leaves (ends n) l = withState n (endOn (stateOf n l) .state) l
 
 abbrev pub accepts : Ask → Storage → Bool
 accepts (interns t) l = handled (internOn t (l .overlay) .answer)
 accepts (pushes k h m parts) l = takenIn (pushOn k h m parts (l .overlay) .answer)
 accepts (deletes k id m) l = takenIn (deleteOn k (toZ w64 id) (metaOf m) (l .overlay) .answer)
-accepts (hears n line) l = eventTaken (eventOn line (stateOf n l) .answer)
+accepts (reads n line) l = eventTaken (eventOn line (stateOf n l) .answer)
 accepts (ends n) l = eventTaken (endOn (stateOf n l) .answer)
 
 -- ---- a list of calls
@@ -109,7 +109,7 @@ unfoldable pub askFits : Ask → Bool
 askFits (interns t) = all isByte t
 askFits (pushes k h m parts) = both (headFits h) (both (metaFits m) (all isByte parts))
 askFits (deletes k id m) = both (ltb id 18446744073709551616) (metaFits m)
-askFits (hears n line) = all isByte line
+askFits (reads n line) = all isByte line
 askFits (ends n) = true
 
 pub record PartsGiven (parts : ℕ → Bytes) : Type 0 where
@@ -128,7 +128,7 @@ abbrev pub isEventOf : ℕ → Call → Bool
 isEventOf n (Call.interns t) = false
 isEventOf n (Call.pushes id r) = false
 isEventOf n (Call.deletes k id m) = false
-isEventOf n (Call.hears m line) = eqb n m
+isEventOf n (Call.reads m line) = eqb n m
 isEventOf n (Call.ends m) = false
 
 unfoldable pub stoppedIn : ℕ → List Answered → Bool

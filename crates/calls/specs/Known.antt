@@ -22,9 +22,9 @@ use Rattle.compact.specs.Cut.{Cut, Kept, cutRecord}
 use Rattle.compact.specs.Layout.{headLen}
 use Rattle.table.specs.Rows.{find}
 use Rattle.table.specs.declared.Row.{Row}
-use Rattle.shelf.specs.Shelf.{Shelf, isLive, known}
-use Rattle.shelf.specs.Fair.{rowsIn}
-use Rattle.overlay.specs.Overlay.{Overlay, shelfOf}
+use Rattle.kind_store.specs.KindStore.{KindStore, isLive, known}
+use Rattle.kind_store.specs.WellFormed.{rowsIn}
+use Rattle.overlay.specs.Overlay.{Overlay, kindStoreOf}
 use Rattle.page.specs.Summary.{Known}
 use Rattle.page.specs.Summary as Summary
 

@@ -6,7 +6,7 @@ use lib.ListN.{replicate}
 use Rattle.base.specs.Bytes.{Bytes, both, all}
 use Rattle.kind.specs.declared.Kind.the-variants.{Node, Way, Relation}
 use Rattle.little.specs.Little.{isByte}
-use Rattle.overlay.specs.Overlay.{Overlay, overlayOf, shelfFits, textsFit, sizesFit}
+use Rattle.overlay.specs.Overlay.{Overlay, overlayOf, kindStoreFits, textsFit, sizesFit}
 use Rattle.condition.specs.Condition3.{Start}
 
 zeros : ℕ → Bytes
@@ -16,7 +16,7 @@ one-of-each : Overlay
 one-of-each = overlayOf (zeros 3) (zeros 128) (zeros 3) (zeros 128) (zeros 3) (zeros 128) (zeros 2) [] (zeros 9)
 
 start-met : Start one-of-each (λ n. zeros 44432)
-unfolding zeros one-of-each both all isByte shelfFits textsFit sizesFit
+unfolding zeros one-of-each both all isByte kindStoreFits textsFit sizesFit
 start-met =
     record {
       sizes = refl;

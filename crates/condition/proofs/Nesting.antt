@@ -42,7 +42,7 @@ use Rattle.decision.proofs.Refusals.{Opens, misplaced-exactly, outside-exactly}
 use Rattle.acts.specs.Turn.{Reader, turn, turnOf}
 use Rattle.acts.specs.Lines.{markOf, marksIn, lineMarks}
 use Rattle.acts.specs.Call as Call
-use Rattle.acts.specs.Call.{Call, World, begin, outcome, actsBefore, worldAfter, actsFrom, actsOf, heard, linesHeard}
+use Rattle.acts.specs.Call.{Call, World, begin, outcome, actsBefore, worldAfter, actsFrom, actsOf, lineRead, linesRead}
 use Rattle.acts.proofs.Calls.{world-append, own-reader, other-reader}
 use Rattle.acts.proofs.Turns.{fresh-agrees}
 use Rattle.acts.proofs.Changes.{Takes, done, more, lines-lead}
@@ -55,11 +55,11 @@ use Rattle.reader.proofs.Answers.{byAnswer, end-done, end-18}
 use Rattle.reader.proofs.Events.{event-accepted, event-11}
 use Rattle.reader.proofs.Keeps.{ready-sound}
 use Rattle.calls.specs.Ask as Ask
-use Rattle.calls.specs.Ask.{Ask, interns, pushes, hears, callOf, Storage, started, stateOf, leaves, accepts, answered, askFits, storageAfter, replies, stoppedIn}
+use Rattle.calls.specs.Ask.{Ask, interns, pushes, reads, callOf, Storage, started, stateOf, leaves, accepts, answered, askFits, storageAfter, replies, stoppedIn}
 use Rattle.calls.proofs.Lists.{Agrees, agrees-fine, answerOf, agrees-call}
 use Rattle.calls.proofs.Theorems.{agrees-started, agrees-after, lines-after, stopped-after}
 use Rattle.condition.specs.Condition3.{Start}
-use Rattle.condition.specs.Nesting.{IsDocument, BeginsDocument, NestingRefused, misplaced, outside, readerState, marksHeard, NestsAsDocument}
+use Rattle.condition.specs.Nesting.{IsDocument, BeginsDocument, NestingRefused, misplaced, outside, readerState, marksRead, NestsAsDocument}
 
 -- ---- marks: the levels take a list of them exactly when a document begins with it
 
@@ -186,8 +186,8 @@ module _ (line : Bytes) (s : State) (sound : stateSound s ≡ true) (going : isS
 
 module _ (n : ℕ) where
   -- a call that is no event of the reader
-  quiet-takes : (w : World) (c : Call) (b : Bool) {ls : List Bytes} {xs : List (Act Bytes)} {q : Reader} → outcome w c .world .readers n ≡ w .readers n → heard n c ls ≡ ls
-      → Takes (worldAfter w (record { call = c; accepted = b } ∷ []) .readers n) ls xs q → (bs : List (Act Bytes)) × Takes (w .readers n) (cond b (heard n c ls) ls) bs q
+  quiet-takes : (w : World) (c : Call) (b : Bool) {ls : List Bytes} {xs : List (Act Bytes)} {q : Reader} → outcome w c .world .readers n ≡ w .readers n → lineRead n c ls ≡ ls
+      → Takes (worldAfter w (record { call = c; accepted = b } ∷ []) .readers n) ls xs q → (bs : List (Act Bytes)) × Takes (w .readers n) (cond b (lineRead n c ls) ls) bs q
   unfolding worldAfter
   quiet-takes w c true {ls} {xs} {q} e h k = (xs, rw (h, ← e) k)
   quiet-takes w c false {xs = xs} e h k = (xs, k)
@@ -198,8 +198,8 @@ module _ (n : ℕ) where
   push-quiet w id (some r) = refl
 
   module _ (setting : ℕ) (l : Storage) (w : World) (acts : List (Act Bytes)) (g : Agrees setting l w acts) {ls : List Bytes} {xs : List (Act Bytes)} {q : Reader} where
-    own : (m : ℕ) (line : Bytes) → n ≡ m → Takes (worldAfter w (answerOf (hears m line) l ∷ []) .readers n) ls xs q
-        → (bs : List (Act Bytes)) × Takes (w .readers n) (cond (accepts (hears m line) l) (heard n (callOf (hears m line)) ls) ls) bs q
+    own : (m : ℕ) (line : Bytes) → n ≡ m → Takes (worldAfter w (answerOf (reads m line) l ∷ []) .readers n) ls xs q
+        → (bs : List (Act Bytes)) × Takes (w .readers n) (cond (accepts (reads m line) l) (lineRead n (callOf (reads m line)) ls) ls) bs q
     unfolding worldAfter
     own m line z k =
         let s = stateOf n l in
@@ -207,24 +207,24 @@ module _ (n : ℕ) where
         (λ a.
         let x = event-accepted line s (record { overlay = g .overlay .bytes; reader = g .ready n .given }) a in
         let t : turn line (w .readers n) ≡ got (x .comes) = ap (turn line) (sym (g .readers n)) ∙ x .is in
-        let j : Takes (outcome w (Call.hears n line) .world .readers n) ls xs q = rw (← z, a) at k in
+        let j : Takes (outcome w (Call.reads n line) .world .readers n) ls xs q = rw (← z, a) at k in
         (actsBefore (x .comes .act) xs, rw (← z, a, eq-eqb n n refl) (more (x .comes) t (rw (own-reader w n line (x .comes) t) at j))))
         (λ r i a. (xs, rw (← z, a) (rw (← z, a) at k)))
 
-    call-takes : (c : Ask) → Takes (worldAfter w (answerOf c l ∷ []) .readers n) ls xs q → (bs : List (Act Bytes)) × Takes (w .readers n) (cond (accepts c l) (heard n (callOf c) ls) ls) bs q
+    call-takes : (c : Ask) → Takes (worldAfter w (answerOf c l ∷ []) .readers n) ls xs q → (bs : List (Act Bytes)) × Takes (w .readers n) (cond (accepts c l) (lineRead n (callOf c) ls) ls) bs q
     unfolding outcome
     call-takes (interns t) k = quiet-takes w (callOf (interns t)) _ refl refl k
     call-takes (pushes j h m parts) k = quiet-takes w (callOf (pushes j h m parts)) _ (push-quiet w (toZ w64 (h .id)) (pushedRecord j (headIn j h) (metaOf m) parts)) refl k
     call-takes (Ask.deletes j id m) k = quiet-takes w (callOf (Ask.deletes j id m)) _ refl refl k
-    call-takes (hears m line) k =
+    call-takes (reads m line) k =
         byEq n m
         (λ z. own m line z k)
-        (λ z. quiet-takes w (callOf (hears m line)) _ (other-reader w m n line z) (rw (ne-eqb n m z)) k)
+        (λ z. quiet-takes w (callOf (reads m line)) _ (other-reader w m n line z) (rw (ne-eqb n m z)) k)
     call-takes (Ask.ends m) k = quiet-takes w (callOf (Ask.ends m)) _ refl refl k
 
   pub takes-calls : (setting : ℕ) (cs : List Ask) (l : Storage) (w : World) (acts : List (Act Bytes)) → all askFits cs ≡ true → Agrees setting l w acts
-      → (bs : List (Act Bytes)) × Takes (w .readers n) (linesHeard n (answered l cs)) bs (worldAfter w (answered l cs) .readers n)
-  unfolding answered linesHeard worldAfter
+      → (bs : List (Act Bytes)) × Takes (w .readers n) (linesRead n (answered l cs)) bs (worldAfter w (answered l cs) .readers n)
+  unfolding answered linesRead worldAfter
   takes-calls setting [] l w acts f g = ([], done)
   takes-calls setting (c ∷ cs) l w acts f g =
       let a = answerOf c l in
@@ -242,14 +242,14 @@ module _ (setting : ℕ) (o : Overlay) (ps : ℕ → Bytes) (given : Start o ps)
   state = readerState setting o ps cs n
 
   -- it stands where its marks lead
-  heard-leads : run start (marksHeard setting o ps cs n) ≡ some (state .reader .place)
+  lines-lead : run start (marksRead setting o ps cs n) ≡ some (state .reader .place)
   unfolding readerOf
-  heard-leads =
+  lines-lead =
       let t = takes-calls n setting cs (started setting o ps) begin [] fits (agrees-started setting o (given .sizes) (given .bytes) ps (given .parts)) in
       lines-lead fresh-agrees (t .1) .runs ∙ ap (λ (r : Reader). some (r .place)) (sym (agrees .readers n))
 
-  module _ (never : stoppedIn n (replies setting o ps cs) ≡ false) (below : length (linesHeard n (replies setting o ps cs)) < 18446744073709551615) where
-    counted : state .reader .lines ≡ length (linesHeard n (replies setting o ps cs))
+  module _ (never : stoppedIn n (replies setting o ps cs) ≡ false) (below : length (linesRead n (replies setting o ps cs)) < 18446744073709551615) where
+    counted : state .reader .lines ≡ length (linesRead n (replies setting o ps cs))
     counted = lines-after setting o (given .sizes) (given .bytes) ps (given .parts) cs fits n
 
     sound : stateSound state ≡ true
@@ -260,20 +260,20 @@ module _ (setting : ℕ) (o : Overlay) (ps : ℕ → Bytes) (given : Start o ps)
 
     pub nests-as-document : NestsAsDocument setting o ps cs n
     nests-as-document =
-        let ms = marksHeard setting o ps cs n in
+        let ms = marksRead setting o ps cs n in
         let p = state .reader .place in
-        let d = document-by ms p heard-leads in
+        let d = document-by ms p lines-lead in
         record {
-          begun = begins-by ms p heard-leads;
+          begun = begins-by ms p lines-lead;
           event = λ line. let x = rw counted at (nowhere-exactly line state sound going) in (λ a. begins-not _ (goes-on line ∙ x .0 a), λ h. x .1 (nowhere line h (run p (lineMarks line)) refl));
           end = let x = end-done state sound going in (λ a. d .0 (x .0 a), λ h. x .1 (d .1 h));
           unfinished = let x = rw counted at (end-18 state sound going) in (λ a h. x .0 a (d .1 h), λ h. x .1 (λ e. h (d .0 e)));
         }
       where
-        goes-on : (line : Bytes) → run start (marksHeard setting o ps cs n ++ lineMarks line) ≡ run (state .reader .place) (lineMarks line)
-        goes-on line = run-after start (state .reader .place) (marksHeard setting o ps cs n) (lineMarks line) heard-leads
+        goes-on : (line : Bytes) → run start (marksRead setting o ps cs n ++ lineMarks line) ≡ run (state .reader .place) (lineMarks line)
+        goes-on line = run-after start (state .reader .place) (marksRead setting o ps cs n) (lineMarks line) lines-lead
 
-        nowhere : (line : Bytes) → (BeginsDocument (marksHeard setting o ps cs n ++ lineMarks line) → ⊥) → (x : Option Place) → run (state .reader .place) (lineMarks line) ≡ x
+        nowhere : (line : Bytes) → (BeginsDocument (marksRead setting o ps cs n ++ lineMarks line) → ⊥) → (x : Option Place) → run (state .reader .place) (lineMarks line) ≡ x
             → run (state .reader .place) (lineMarks line) ≡ none
         nowhere line h none e = e
         nowhere line h (some q) e = absurd (h (begins-by _ q (goes-on line ∙ e)))

@@ -28,12 +28,12 @@ use Rattle.legal.proofs.Starts.{record-passes}
 use Rattle.table.specs.Rows.{find}
 use Rattle.table.specs.declared.Row.{Row}
 use Rattle.table.proofs.Maps.{find-rank, find-passes}
-use Rattle.shelf.specs.Shelf.{isLive}
-use Rattle.shelf.specs.Fair.{rowsIn}
+use Rattle.kind_store.specs.KindStore.{isLive}
+use Rattle.kind_store.specs.WellFormed.{rowsIn}
 use Rattle.sound.specs.Sound.{soundRow}
 use Rattle.listed.specs.declared.Side.the-variants.{Live}
 use Rattle.listed.proofs.Views.{view-is, view-bytes}
-use Rattle.overlay.specs.Overlay.{Overlay, shelfOf}
+use Rattle.overlay.specs.Overlay.{Overlay, kindStoreOf}
 use Rattle.overlay.proofs.Decides.{decides}
 use Rattle.reading.specs.Reading.{viewIn, knownOn}
 use Rattle.reading.proofs.Records.{live-view, live-reads, deleted-reads, unknown-reads}
@@ -64,38 +64,38 @@ module _ (setting : ℕ) (o : Overlay) (held : List Bytes) (acts : List (Act Byt
 
   module _ (k : Kind) where
     -- the view of a place at which a record starts
-    view-seen : (at : ℕ) (x : Kept) → recordAt at (w .sound .shelves k .whole .kept) ≡ some x
-        → seenIn o k (viewIn (o .texts .strings) k (shelfOf k o) at) ≡ seen (x .id) (swapRecord (textOf held) (x .held))
+    view-seen : (at : ℕ) (x : Kept) → recordAt at (w .sound .kindStores k .whole .kept) ≡ some x
+        → seenIn o k (viewIn (o .texts .strings) k (kindStoreOf k o) at) ≡ seen (x .id) (swapRecord (textOf held) (x .held))
     view-seen at x h =
-        let s = shelfOf k o in
-        let v = w .sound .shelves k .whole in
+        let s = kindStoreOf k o in
+        let v = w .sound .kindStores k .whole in
         let n = o .texts .strings in
         let f = record-passes (fitsKept k) at (v .kept) x (v .fits) h in
         let l = record-passes (λ (y : Kept). legal n (y .held)) at (v .kept) x (v .legals) h in
         rw (
           view-is n k (s .arena) (s .used) v at x h,
           view-bytes n k (s .arena) (s .used) v at x h,
-          kept-read n k x f l (record-kind n k s (w .sound .shelves k) at x h),
+          kept-read n k x f l (record-kind n k s (w .sound .kindStores k) at x h),
           ← w .texts,
           legal-agree n (textOf (textsOf (o .texts))) (textSeen o) text-seen (x .held) l,
         )
 
     -- what is shown of an id is what the overlay tells of it
-    told-shows : (id : ℤ) → SFits w64 id → ShowsLeft o k id (lastIn k (shelfOf k o) (textOf held) (find (rank id) (rowsIn (shelfOf k o))))
-    told-shows id f = go (find (rank id) (rowsIn (shelfOf k o))) refl
+    told-shows : (id : ℤ) → SFits w64 id → ShowsLeft o k id (lastIn k (kindStoreOf k o) (textOf held) (find (rank id) (rowsIn (kindStoreOf k o))))
+    told-shows id f = go (find (rank id) (rowsIn (kindStoreOf k o))) refl
       where
-        go : (q : Option Row) → find (rank id) (rowsIn (shelfOf k o)) ≡ q → ShowsLeft o k id (lastIn k (shelfOf k o) (textOf held) q)
+        go : (q : Option Row) → find (rank id) (rowsIn (kindStoreOf k o)) ≡ q → ShowsLeft o k id (lastIn k (kindStoreOf k o) (textOf held) q)
         go none e =
             let x = unknown-reads o (w .bytes) (w .sound) k id f e in
             record { get = ap (seenIn o k) (x .1 .1); has = x .0; deleted = x .1 .0 }
         go (some r) e =
             byBool (isLive (r .place))
             (λ t.
-            let sw = w .sound .shelves k in
-            let x = row-starts (sw .whole .kept) r (find-passes (soundRow (sw .whole .kept)) (rank id) (rowsIn (shelfOf k o)) r (sw .rows) e) t in
-            let i : x .0 .id ≡ id = x .1 .1 ∙ (ap idOf (find-rank (rank id) (rowsIn (shelfOf k o)) r e) ∙ id-rank f) in
+            let sw = w .sound .kindStores k in
+            let x = row-starts (sw .whole .kept) r (find-passes (soundRow (sw .whole .kept)) (rank id) (rowsIn (kindStoreOf k o)) r (sw .rows) e) t in
+            let i : x .0 .id ≡ id = x .1 .1 ∙ (ap idOf (find-rank (rank id) (rowsIn (kindStoreOf k o)) r e) ∙ id-rank f) in
             let y = live-reads o (w .bytes) (w .sound) k id f r e t in
-            rw (t, record-read (o .texts .strings) k (shelfOf k o) sw (r .place) (x .0) (x .1 .0)) (record {
+            rw (t, record-read (o .texts .strings) k (kindStoreOf k o) sw (r .place) (x .0) (x .1 .0)) (record {
               get = rw (live-view o (w .bytes) (w .sound) k id f r e t, view-seen (r .place) (x .0) (x .1 .0), i);
               has = y .0;
               deleted = y .1 .0;

@@ -22,7 +22,7 @@ use Rattle.compact.specs.declared.ArenaMeta.{ArenaMeta}
 use Rattle.compact.specs.declared.PushHead.{PushHead}
 use Rattle.legal.specs.Judge.{faultFor}
 use Rattle.legal.specs.declared.Fault.the-variants as F
-use Rattle.shelf.specs.declared.Kept.the-variants.{Refused}
+use Rattle.kind_store.specs.declared.Kept.the-variants.{Refused}
 use Rattle.overlay.specs.Overlay.{Overlay, largest, sizesFit}
 use Rattle.overlay.specs.Given.{InBytes, headFits}
 use Rattle.direct.specs.Calls.{pushOn, deleteOn}
@@ -32,7 +32,7 @@ use Rattle.listing.specs.declared.Listed.the-variants.{Length}
 use Rattle.listing.specs.Call.{Output, listingOn}
 use Rattle.field.specs.Field.{got}
 use Rattle.acts.specs.Turn.{Turn, turn}
-use Rattle.acts.specs.Call.{World, begin, worldAfter, actsOf, linesHeard}
+use Rattle.acts.specs.Call.{World, begin, worldAfter, actsOf, linesRead}
 use Rattle.reader.specs.declared.EventAnswer.the-variants as E
 use Rattle.reader.specs.Event.{eventOn}
 use Rattle.calls.specs.Ask.{Ask, Storage, stateOf, PartsGiven, storageAfter, replies, stoppedIn}
@@ -85,9 +85,9 @@ module _ (o : Overlay) (ps : ℕ → Bytes) (cs : List Ask) where
         → (deleteOn k (toZ w64 id) (metaOf m) (storageLeft .overlay) .answer ≡ Refused (Regression v)) ↔ Regresses acceptedActs (record { kind = k; id = toZ w64 id }) (claimOf (metaOf m)) v
     -- of an event: 22, of which nothing is left but that the count of its reader's lines is below its largest; no stop mark; 2 to 11, past which its turn makes an act. It is refused
     -- at its line, one more than the lines that its reader has taken.
-    pub event : (n : ℕ) (line : Bytes) (t : Turn) (a : Act Bytes) → length (linesHeard n (replies 0 o ps cs)) < 18446744073709551615 → stoppedIn n (replies 0 o ps cs) ≡ false
+    pub event : (n : ℕ) (line : Bytes) (t : Turn) (a : Act Bytes) → length (linesRead n (replies 0 o ps cs)) < 18446744073709551615 → stoppedIn n (replies 0 o ps cs) ≡ false
         → turn line (worldLeft .readers n) ≡ got t → t .act ≡ some a → (v : ℤ)
-        → (eventOn line (stateOf n storageLeft) .answer ≡ E.Refused (Regression v) (length (linesHeard n (replies 0 o ps cs)) + 1)) ↔ Regresses acceptedActs (keyOf a) (claimedBy a) v
+        → (eventOn line (stateOf n storageLeft) .answer ≡ E.Refused (Regression v) (length (linesRead n (replies 0 o ps cs)) + 1)) ↔ Regresses acceptedActs (keyOf a) (claimedBy a) v
 
 -- ---- two lists
 

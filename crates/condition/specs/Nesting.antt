@@ -11,7 +11,7 @@ use Rattle.refusal.specs.declared.Refusal.the-variants as R
 use Rattle.nesting.specs.Marks.{Mark}
 use Rattle.nesting.specs.Grammar.{Document, eachGives, events}
 use Rattle.acts.specs.Lines.{lineMarks}
-use Rattle.acts.specs.Call.{linesHeard}
+use Rattle.acts.specs.Call.{linesRead}
 use Rattle.overlay.specs.Overlay.{Overlay}
 use Rattle.reader.specs.declared.EventAnswer.{EventAnswer}
 use Rattle.reader.specs.declared.EventAnswer.the-variants as E
@@ -38,21 +38,21 @@ module _ (setting : ℕ) (o : Overlay) (ps : ℕ → Bytes) (cs : List Ask) (n :
   readerState = stateOf n (storageAfter setting o ps cs)
 
   -- the marks of the lines that it has taken
-  abbrev pub marksHeard : List Mark
-  marksHeard = eachGives lineMarks (linesHeard n (replies setting o ps cs))
+  abbrev pub marksRead : List Mark
+  marksRead = eachGives lineMarks (linesRead n (replies setting o ps cs))
 
   -- the line of its next event
-  abbrev pub lineHeard : ℕ
-  lineHeard = length (linesHeard n (replies setting o ps cs)) + 1
+  abbrev pub lineAfter : ℕ
+  lineAfter = length (linesRead n (replies setting o ps cs)) + 1
 
   pub record NestsAsDocument : Type 0 where
     -- what it has taken begins a document
-    pub begun : BeginsDocument marksHeard
+    pub begun : BeginsDocument marksRead
     -- an event is refused 5 or 6 exactly where no document goes on with its line
-    pub event : (line : Bytes) → NestingRefused (eventOn line readerState .answer) lineHeard ↔ (BeginsDocument (marksHeard ++ lineMarks line) → ⊥)
+    pub event : (line : Bytes) → NestingRefused (eventOn line readerState .answer) lineAfter ↔ (BeginsDocument (marksRead ++ lineMarks line) → ⊥)
     -- the end is accepted exactly where the lines are a document, and refused 18 exactly where they are none
-    pub end : (endOn readerState .answer ≡ E.Accepted) ↔ IsDocument marksHeard
-    pub unfinished : (endOn readerState .answer ≡ E.Refused R.Unfinished lineHeard) ↔ (IsDocument marksHeard → ⊥)
+    pub end : (endOn readerState .answer ≡ E.Accepted) ↔ IsDocument marksRead
+    pub unfinished : (endOn readerState .answer ≡ E.Refused R.Unfinished lineAfter) ↔ (IsDocument marksRead → ⊥)
 
 -- ---- a fresh reader that is heard alone: the answers to its lines, one after the other, and to its end
 

@@ -20,7 +20,7 @@ use Rattle.compact.specs.View.{readRecord}
 use Rattle.listed.specs.declared.Side.the-variants.{Live}
 use Rattle.listed.specs.declared.View.{View}
 use Rattle.listed.specs.declared.View.the-variants.{Part, Nothing, Refused}
-use Rattle.overlay.specs.Overlay.{Overlay, shelfOf}
+use Rattle.overlay.specs.Overlay.{Overlay, kindStoreOf}
 use Rattle.reading.specs.declared.Read.the-variants.{Is}
 use Rattle.reading.specs.Reading.{yes, idOn, recordOn, getOn, hasOn, isDeletedOn, knownOn, textOn}
 use Rattle.page.specs.Summary.{known}
@@ -46,7 +46,7 @@ seenAs f (some x) = seen (x .id) (swapRecord f (x .held))
 
 -- a view of the arena of a kind
 abbrev pub seenIn : Overlay → Kind → View → Seen
-seenIn o k (Part at n) = seenAs (textSeen o) (readRecord k (take n (drop at (shelfOf k o .arena))))
+seenIn o k (Part at n) = seenAs (textSeen o) (readRecord k (take n (drop at (kindStoreOf k o .arena))))
 seenIn o k Nothing = absent
 seenIn o k (Refused r) = unread
 

@@ -12,8 +12,8 @@ use Rattle.model.specs.Record.{Meta}
 use Rattle.event.specs.Event.{Attr}
 use Rattle.field.specs.Field.{idField, metadataOf}
 use Rattle.decision.specs.Decision.{Decision, onField, refuses, moves, begins, deletes, tags, refers, joins, ends}
-use Rattle.values.specs.Value.{textAt, ExtentLies, bodyIn}
-use Rattle.metadata.specs.Metadata.{metaWritten, MetadataLies}
+use Rattle.values.specs.Value.{textAt, ExtentInBounds, bodyIn}
+use Rattle.metadata.specs.Metadata.{metaWritten, MetadataInBounds}
 use Rattle.decide.specs.declared.Decided.{Decided}
 use Rattle.decide.specs.declared.Decided.the-variants as D
 use Rattle.decide.specs.declared.HeadField.{HeadField}
@@ -30,20 +30,20 @@ meansDecided t (D.Joins p reference k role) = joins p (record { ref = toZ w64 re
 meansDecided t (D.Ends p) = ends p
 
 -- its texts lie within the line
-abbrev pub DecidedLies : Bytes → Decided → Type 0
-DecidedLies t (D.Refuses r) = Unit {0}
-DecidedLies t (D.Moves p) = Unit {0}
-DecidedLies t (D.Begins empty k p id lat lon m) = MetadataLies t m
-DecidedLies t (D.Deletes k p id m) = MetadataLies t m
-DecidedLies t (D.Tags p k v) = ExtentLies t k × ExtentLies t v
-DecidedLies t (D.Refers p reference) = Unit {0}
-DecidedLies t (D.Joins p reference k role) = ExtentLies t role
-DecidedLies t (D.Ends p) = Unit {0}
+abbrev pub DecidedInBounds : Bytes → Decided → Type 0
+DecidedInBounds t (D.Refuses r) = Unit {0}
+DecidedInBounds t (D.Moves p) = Unit {0}
+DecidedInBounds t (D.Begins empty k p id lat lon m) = MetadataInBounds t m
+DecidedInBounds t (D.Deletes k p id m) = MetadataInBounds t m
+DecidedInBounds t (D.Tags p k v) = ExtentInBounds t k × ExtentInBounds t v
+DecidedInBounds t (D.Refers p reference) = Unit {0}
+DecidedInBounds t (D.Joins p reference k role) = ExtentInBounds t role
+DecidedInBounds t (D.Ends p) = Unit {0}
 
 -- an answer stands for a decision, and its texts lie within the line
 pub record Decides (t : Bytes) (d : Decision) (r : Decided) : Type 0 where
   pub is : meansDecided t r ≡ d
-  pub lies : DecidedLies t r
+  pub lies : DecidedInBounds t r
 
 -- an id and metadata, then what follows them; a refusal stops there
 abbrev pub onHead : Bytes → HeadField → (ℤ → Meta Bytes → Decision) → Decision
@@ -54,9 +54,9 @@ onHead t (H.Bad r) f = refuses r
 abbrev pub Heads : Bytes → List Attr → HeadField → Type 0
 Heads t attrs r = (f : ℤ → Meta Bytes → Decision) → onHead t r f ≡ onField (idField attrs) (λ id. onField (metadataOf attrs) (λ m. f id m))
 
-abbrev pub HeadLies : Bytes → HeadField → Type 0
-HeadLies t (H.Is id m) = MetadataLies t m
-HeadLies t (H.Bad r) = Unit {0}
+abbrev pub HeadInBounds : Bytes → HeadField → Type 0
+HeadInBounds t (H.Is id m) = MetadataInBounds t m
+HeadInBounds t (H.Bad r) = Unit {0}
 
 -- children of a deleted element are dropped
 abbrev pub unlessDeleted : Action → Place → Decided → Decided

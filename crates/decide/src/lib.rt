@@ -11,7 +11,7 @@ ghost use Rattle.event.specs.Event.{body};
 ghost use Rattle.scan.specs.Scan.{attributesAt};
 ghost use Rattle.decision.specs.Decision.{pushBegins, deleteBegins, elementBegins, childOf, decideOpened, decideClosed, decide};
 ghost use Rattle.values.specs.Value.{Inside};
-ghost use Rattle.decide.specs.Decided.{meansDecided, DecidedLies, Decides, Heads, HeadLies, unlessDeleted};
+ghost use Rattle.decide.specs.Decided.{meansDecided, DecidedInBounds, Decides, Heads, HeadInBounds, unlessDeleted};
 use kind::Kind;
 use metadata::MetaField;
 use metadata::Metadata;
@@ -81,7 +81,7 @@ enum HeadField {
 
 fn head_field(t: &[u8], at: usize) -> HeadField
     ensures { λ r. ⌜ Heads (now (t .entry)) (attributesAt (now (t .entry)) at) r ⌝ }
-    ensures { λ r. ⌜ HeadLies (now (t .entry)) r ⌝ }
+    ensures { λ r. ⌜ HeadInBounds (now (t .entry)) r ⌝ }
 {
     match values::wide_field(t, b"id", at) {
         WideField::Bad(r) => HeadField::Bad(r),
@@ -235,7 +235,7 @@ fn closes(place: Place) -> Decided
 // What an event is to do: its line with its line feed, at a place. The texts of a decision lie in the line without its line feed.
 pub fn decide(line: &[u8], place: Place) -> Decided
     ensures { λ r. ⌜ meansDecided (body (now (line .entry))) r ≡ decide (now (line .entry)) place ⌝ }
-    ensures { λ r. ⌜ DecidedLies (body (now (line .entry))) r ⌝ }
+    ensures { λ r. ⌜ DecidedInBounds (body (now (line .entry))) r ⌝ }
 {
     match scan::scan(line) {
         Scanned::Refused(r) => Decided::Refuses(r),

@@ -23,11 +23,11 @@ use Rattle.legal.specs.declared.Fault.{Fault}
 use Rattle.legal.specs.declared.Fault.the-variants as F
 use Rattle.interner.specs.Strings as Strings
 use Rattle.interner.specs.declared.Interned.the-variants as I
-use Rattle.shelf.specs.Shelf.{Shelf}
-use Rattle.shelf.specs.Shelf as Shelf
-use Rattle.shelf.specs.Shelf.{takenIn}
-use Rattle.shelf.specs.declared.Kept.the-variants.{Taken, Refused}
-use Rattle.overlay.specs.Overlay.{Overlay, shelfOf, withShelf, withTexts}
+use Rattle.kind_store.specs.KindStore.{KindStore}
+use Rattle.kind_store.specs.KindStore as KindStore
+use Rattle.kind_store.specs.KindStore.{takenIn}
+use Rattle.kind_store.specs.declared.Kept.the-variants.{Taken, Refused}
+use Rattle.overlay.specs.Overlay.{Overlay, kindStoreOf, withKindStore, withTexts}
 use Rattle.overlay.specs.Sound.{isSound}
 use Rattle.overlay.specs.Calls.{OverlayAfter, overlayRefused}
 use Rattle.store.specs.Calls.{bytesOf, storePush, storeDelete, Interning, handleIn, storeText}
@@ -63,8 +63,8 @@ module _ (k : Kind) (h : PushHead) (m : ArenaMeta) (parts : Bytes) (o : Overlay)
   pushFault = faultFor (o .texts .strings) (pushedRecord k (headIn k h) (metaOf m) parts)
 
   -- what the store does with it: 12, 14, 15
-  abbrev pub pushStored : Shelf.ShelfAfter
-  pushStored = Shelf.pushed k (o .setting) (shelfOf k o) (toZ w64 (h .id)) (claimOf (metaOf m)) (bytesOf k h m parts)
+  abbrev pub pushStored : KindStore.KindStoreAfter
+  pushStored = KindStore.pushed k (o .setting) (kindStoreOf k o) (toZ w64 (h .id)) (claimOf (metaOf m)) (bytesOf k h m parts)
 
   as-fault : (f : Fault) → isSound o ≡ true → pushFault ≡ f → pushOn k h m parts o ≡ pushAs f k h m parts o
   unfolding pushOn
@@ -100,7 +100,7 @@ module _ (k : Kind) (h : PushHead) (m : ArenaMeta) (parts : Bytes) (o : Overlay)
 
   -- an accepted push
   pub push-taken : takenIn (pushOn k h m parts o .answer) ≡ true
-      → (isSound o ≡ true) × ((pushFault ≡ F.Legal) × ((pushStored .answer ≡ Taken) × (pushOn k h m parts o .overlay ≡ withShelf k (pushStored .shelf) o)))
+      → (isSound o ≡ true) × ((pushFault ≡ F.Legal) × ((pushStored .answer ≡ Taken) × (pushOn k h m parts o .overlay ≡ withKindStore k (pushStored .kindStore) o)))
   push-taken e =
       byPushOn (λ s w. let z : false ≡ true = taken-as w e in no (cc)) (λ x s g w. let z : false ≡ true = taken-as w e in no (cc))
       (λ s g w. (s, (g, (is-taken (pushStored .answer) (taken-as w e), ap (λ (z : OverlayAfter). z .overlay) w))))
@@ -119,14 +119,14 @@ module _ (k : Kind) (h : PushHead) (m : ArenaMeta) (parts : Bytes) (o : Overlay)
   push-22-only e =
       push-refusal R.Unsound e (λ s q. s)
       (λ s g. byFault (o .texts .strings) (pushedRecord k (headIn k h) (metaOf m) parts) R.Unsound g (λ q. no (cc)) (λ q. no (cc)) (λ q. no (cc)) (λ q. no (cc)))
-      (λ s g a. byPushed k (o .setting) (shelfOf k o) (toZ w64 (h .id)) (claimOf (metaOf m)) (bytesOf k h m parts) R.Unsound a (λ v q. no (cc)) (λ q. no (cc)) (λ q. no (cc)))
+      (λ s g a. byPushed k (o .setting) (kindStoreOf k o) (toZ w64 (h .id)) (claimOf (metaOf m)) (bytesOf k h m parts) R.Unsound a (λ v q. no (cc)) (λ q. no (cc)) (λ q. no (cc)))
 
 -- ---- direct delete
 
 module _ (k : Kind) (id : ℤ) (m : Meta ℕ) (o : Overlay) where
   -- what the store does: 12, 14
-  abbrev pub deleteStored : Shelf.ShelfAfter
-  deleteStored = Shelf.deleted k (o .setting) (shelfOf k o) id (claimOf m)
+  abbrev pub deleteStored : KindStore.KindStoreAfter
+  deleteStored = KindStore.deleted k (o .setting) (kindStoreOf k o) id (claimOf m)
 
   pub byDeleteOn : {C : Type 0}
       → (isSound o ≡ false → deleteOn k id m o ≡ overlayRefused o R.Unsound → C)
@@ -155,7 +155,7 @@ module _ (k : Kind) (id : ℤ) (m : Meta ℕ) (o : Overlay) where
 
   -- an accepted delete
   pub delete-taken : takenIn (deleteOn k id m o .answer) ≡ true
-      → (isSound o ≡ true) × ((legalMeta (o .texts .strings) m ≡ true) × ((deleteStored .answer ≡ Taken) × (deleteOn k id m o .overlay ≡ withShelf k (deleteStored .shelf) o)))
+      → (isSound o ≡ true) × ((legalMeta (o .texts .strings) m ≡ true) × ((deleteStored .answer ≡ Taken) × (deleteOn k id m o .overlay ≡ withKindStore k (deleteStored .kindStore) o)))
   delete-taken e =
       byDeleteOn (λ s w. let z : false ≡ true = taken-as w e in no (cc)) (λ s g w. let z : false ≡ true = taken-as w e in no (cc))
       (λ s g w. (s, (g, (is-taken (deleteStored .answer) (taken-as w e), ap (λ (z : OverlayAfter). z .overlay) w))))
@@ -171,12 +171,12 @@ module _ (k : Kind) (id : ℤ) (m : Meta ℕ) (o : Overlay) where
   pub delete-22-only : deleteOn k id m o .answer ≡ Refused R.Unsound → isSound o ≡ false
   delete-22-only e =
       delete-refusal R.Unsound e (λ s q. s) (λ s g q. no (cc))
-      (λ s g a. byDeleted k (o .setting) (shelfOf k o) id (claimOf m) R.Unsound a (λ v q. no (cc)) (λ q. no (cc)))
+      (λ s g a. byDeleted k (o .setting) (kindStoreOf k o) id (claimOf m) R.Unsound a (λ v q. no (cc)) (λ q. no (cc)))
 
   pub delete-17-only : deleteOn k id m o .answer ≡ Refused R.BadRecord → (isSound o ≡ true) × (legalMeta (o .texts .strings) m ≡ false)
   delete-17-only e =
       delete-refusal R.BadRecord e (λ s q. no (cc)) (λ s g q. (s, g))
-      (λ s g a. byDeleted k (o .setting) (shelfOf k o) id (claimOf m) R.BadRecord a (λ v q. no (cc)) (λ q. no (cc)))
+      (λ s g a. byDeleted k (o .setting) (kindStoreOf k o) id (claimOf m) R.BadRecord a (λ v q. no (cc)) (λ q. no (cc)))
 
 -- ---- intern
 

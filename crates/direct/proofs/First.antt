@@ -19,8 +19,8 @@ use Rattle.compact.specs.declared.ArenaMeta.{ArenaMeta}
 use Rattle.compact.specs.declared.PushHead.{PushHead}
 use Rattle.legal.specs.Judge.{faultAnswer, faultFor}
 use Rattle.legal.specs.declared.Fault.the-variants as F
-use Rattle.shelf.specs.declared.Kept.the-variants.{Refused}
-use Rattle.overlay.specs.Overlay.{Overlay, shelfOf}
+use Rattle.kind_store.specs.declared.Kept.the-variants.{Refused}
+use Rattle.overlay.specs.Overlay.{Overlay, kindStoreOf}
 use Rattle.overlay.specs.Sound.{isSound}
 use Rattle.store.specs.Calls.{bytesOf}
 use Rattle.direct.specs.Calls.{pushOn, deleteOn, internOn}
@@ -72,7 +72,7 @@ module _ (k : Kind) (h : PushHead) (m : ArenaMeta) (parts : Bytes) (o : Overlay)
       byPushOn k h m parts o
       (λ s w. rw w (sym (ap keptBy (unsound-first o (check ++ store) s))))
       (λ r s g w. rw w (sym (ap keptBy (by-check (some r) s (is-some (firstOf check) r (sym c ∙ g))))))
-      (λ s g w. rw w (pushed-first k (o .setting) (shelfOf k o) (toZ w64 (h .id)) (claimOf (metaOf m)) (bytesOf k h m parts)
+      (λ s g w. rw w (pushed-first k (o .setting) (kindStoreOf k o) (toZ w64 (h .id)) (claimOf (metaOf m)) (bytesOf k h m parts)
       ∙ sym (ap keptBy (by-check none s (is-none (firstOf check) (sym c ∙ g))))))
 
 module _ (k : Kind) (id : ℤ) (m : Meta ℕ) (o : Overlay) where
@@ -80,7 +80,7 @@ module _ (k : Kind) (id : ℤ) (m : Meta ℕ) (o : Overlay) where
   unfolding firstOf
   delete-first =
       byDeleteOn k id m o (λ s w. rw (w, s)) (λ s g w. rw (w, s, g))
-      (λ s g w. rw (w, s, g) (deleted-first k (o .setting) (shelfOf k o) id (claimOf m)))
+      (λ s g w. rw (w, s, g) (deleted-first k (o .setting) (kindStoreOf k o) id (claimOf m)))
 
 -- ---- intern: 22, 3, 13
 

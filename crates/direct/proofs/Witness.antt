@@ -23,10 +23,10 @@ use Rattle.legal.specs.Judge.{faultFor}
 use Rattle.legal.specs.declared.Fault.the-variants as F
 use Rattle.table.specs.Words.{held, halve, answerAt, lookup, stored, storedAt, countAfter}
 use Rattle.append.specs.Append.{append}
-use Rattle.shelf.specs.Shelf.{known, checked, idRoom, rowed, recordJoined, pushed, takenIn}
-use Rattle.shelf.specs.declared.Kept.the-variants.{Taken}
-use Rattle.shelf.proofs.Shelves.{push-used}
-use Rattle.overlay.specs.Overlay.{Overlay, overlayOf, shelfOf, sizesFit, shelfFits, textsFit, empty}
+use Rattle.kind_store.specs.KindStore.{known, checked, idRoom, rowed, recordJoined, pushed, takenIn}
+use Rattle.kind_store.specs.declared.Kept.the-variants.{Taken}
+use Rattle.kind_store.proofs.KindStores.{push-used}
+use Rattle.overlay.specs.Overlay.{Overlay, overlayOf, kindStoreOf, sizesFit, kindStoreFits, textsFit, empty}
 use Rattle.overlay.specs.Given.{headFits, metaFits, InBytes}
 use Rattle.overlay.specs.Sound.{Sound}
 use Rattle.overlay.specs.Calls.{OverlayAfter, setUp}
@@ -44,10 +44,10 @@ given =
     overlayOf (replicate 3 0) (replicate 60 0) (replicate 3 0) (replicate 60 0) (replicate 3 0) (replicate 60 0) (replicate 2 0) [] (replicate 9 0)
 
 set-up : takenIn (setUp 0 given .answer) ≡ true
-unfolding setUp sizesFit shelfFits textsFit both
+unfolding setUp sizesFit kindStoreFits textsFit both
 set-up = refl
 
-arena-bytes : (k : Kind) → all isByte (shelfOf k given .arena) ≡ true
+arena-bytes : (k : Kind) → all isByte (kindStoreOf k given .arena) ≡ true
 unfolding all isByte both
 arena-bytes Node = refl
 arena-bytes Way = refl
@@ -83,7 +83,7 @@ stored-node = refl
 taken-node : pushOn Node head meta [] begun ≡ storePush Node head meta [] begun
 taken-node = push-store Node head meta [] begun (decides begun begun-bytes .1 begun-sound) legal-node
 
-counted-node : pushStored Node head meta [] begun .shelf .ids ≡ 1
+counted-node : pushStored Node head meta [] begun .kindStore .ids ≡ 1
 unfolding pushed known lookup held halve answerAt both checked admitOf idRoom recordJoined append headIn nodeHead metaOf headBytes metaBytes claimOf flagged rank le rowed stored storedAt countAfter
 counted-node = refl
 

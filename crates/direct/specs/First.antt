@@ -18,7 +18,7 @@ use Rattle.compact.specs.Held.{metaOf, headIn}
 use Rattle.compact.specs.Legal.{legalMeta, legalHandles, legalTexts, inRange, withinLimits, limits}
 use Rattle.compact.specs.declared.ArenaMeta.{ArenaMeta}
 use Rattle.compact.specs.declared.PushHead.{PushHead}
-use Rattle.overlay.specs.Overlay.{Overlay, shelfOf}
+use Rattle.overlay.specs.Overlay.{Overlay, kindStoreOf}
 use Rattle.overlay.specs.First.{unsoundRow}
 use Rattle.store.specs.Calls.{bytesOf}
 use Rattle.store.specs.First.{textRows, deleteRows, pushRows}
@@ -46,7 +46,7 @@ module _ (k : Kind) (h : PushHead) (m : ArenaMeta) (parts : Bytes) (o : Overlay)
   checkRows = recordRows (o .texts .strings) (pushedRecord k (headIn k h) (metaOf m) parts)
 
   abbrev pub storeRows : List (ConditionRow Refusal)
-  storeRows = pushRows k (o .setting) (shelfOf k o) (toZ w64 (h .id)) (claimOf (metaOf m)) (bytesOf k h m parts)
+  storeRows = pushRows k (o .setting) (kindStoreOf k o) (toZ w64 (h .id)) (claimOf (metaOf m)) (bytesOf k h m parts)
 
   -- after 22: 17, 3, 10, 16; 12, 14, 15
   abbrev pub restOfPush : List (ConditionRow Refusal)
@@ -58,7 +58,7 @@ module _ (k : Kind) (h : PushHead) (m : ArenaMeta) (parts : Bytes) (o : Overlay)
 module _ (k : Kind) (id : ℤ) (m : Meta ℕ) (o : Overlay) where
   -- after 22: 17; 12, 14
   abbrev pub restOfDelete : List (ConditionRow Refusal)
-  restOfDelete = row R.BadRecord (not (legalMeta (o .texts .strings) m)) ∷ deleteRows k (o .setting) (shelfOf k o) id (claimOf m)
+  restOfDelete = row R.BadRecord (not (legalMeta (o .texts .strings) m)) ∷ deleteRows k (o .setting) (kindStoreOf k o) id (claimOf m)
 
   abbrev pub deleteTable : List (ConditionRow Refusal)
   deleteTable = unsoundRow o ∷ restOfDelete

@@ -9,41 +9,30 @@ ghost use Rattle.direct.specs.Calls.{internOn, pushOn, deleteOn};
 use compact::ArenaMeta;
 use compact::PushHead;
 use kind::Kind;
+use kind_store::Kept;
 use legal::Fault;
 use refusal::Refusal;
-use shelf::Kept;
 use store::Handle;
 
 // Takes a text in: 22, 3, 13, or its handle.
 pub fn intern(
-    nids: &[u64],
-    narena: &[u8],
-    wids: &[u64],
-    warena: &[u8],
-    rids: &[u64],
-    rarena: &[u8],
-    spans: &mut [u64],
-    bytes: &mut [u8],
-    used: &mut [u64; 9],
+    ni: &[u64],
+    na: &[u8],
+    wi: &[u64],
+    wa: &[u8],
+    ri: &[u64],
+    ra: &[u8],
+    ss: &mut [u64],
+    sb: &mut [u8],
+    us: &mut [u64; 9],
     text: &[u8],
 ) -> Handle
-    ensures { λ r. ⌜ record { overlay = left nids narena wids warena rids rarena spans bytes used; answer = r }
-        ≡ internOn (now (text .entry)) (lent nids narena wids warena rids rarena spans bytes used) ⌝ }
+    ensures { λ r. ⌜ record { overlay = left ni na wi wa ri ra ss sb us; answer = r }
+        ≡ internOn (now (text .entry)) (lent ni na wi wa ri ra ss sb us) ⌝ }
 {
-    if overlay::is_sound(nids, narena, wids, warena, rids, rarena, spans, bytes, used) {
+    if overlay::is_sound(ni, na, wi, wa, ri, ra, ss, sb, us) {
         if text::is_text(text) {
-            return store::store_text(
-                nids,
-                narena,
-                wids,
-                warena,
-                rids,
-                rarena,
-                spans,
-                bytes,
-                used,
-                text,
-            );
+            return store::store_text(ni, na, wi, wa, ri, ra, ss, sb, us, text);
         }
         return Handle::Refused(Refusal::NotText);
     }
@@ -52,40 +41,26 @@ pub fn intern(
 
 // A direct push of a node, way or relation: 22; 17, 3, 10, 16; then 12, 14, 15.
 pub fn push(
-    nids: &mut [u64],
-    narena: &mut [u8],
-    wids: &mut [u64],
-    warena: &mut [u8],
-    rids: &mut [u64],
-    rarena: &mut [u8],
-    spans: &[u64],
-    bytes: &[u8],
-    used: &mut [u64; 9],
+    ni: &mut [u64],
+    na: &mut [u8],
+    wi: &mut [u64],
+    wa: &mut [u8],
+    ri: &mut [u64],
+    ra: &mut [u8],
+    ss: &[u64],
+    sb: &[u8],
+    us: &mut [u64; 9],
     kind: Kind,
     head: PushHead,
     meta: ArenaMeta,
     parts: &[u8],
 ) -> Kept
-    ensures { λ r. ⌜ record { overlay = left nids narena wids warena rids rarena spans bytes used; answer = r }
-        ≡ pushOn kind head meta (now (parts .entry)) (lent nids narena wids warena rids rarena spans bytes used) ⌝ }
+    ensures { λ r. ⌜ record { overlay = left ni na wi wa ri ra ss sb us; answer = r }
+        ≡ pushOn kind head meta (now (parts .entry)) (lent ni na wi wa ri ra ss sb us) ⌝ }
 {
-    if overlay::is_sound(nids, narena, wids, warena, rids, rarena, spans, bytes, used) {
-        let Fault::Refused(refusal) = legal::push_fault(kind, head, meta, parts, used[6]) else {
-            return store::store_push(
-                nids,
-                narena,
-                wids,
-                warena,
-                rids,
-                rarena,
-                spans,
-                bytes,
-                used,
-                kind,
-                head,
-                meta,
-                parts,
-            );
+    if overlay::is_sound(ni, na, wi, wa, ri, ra, ss, sb, us) {
+        let Fault::Refused(refusal) = legal::push_fault(kind, head, meta, parts, us[6]) else {
+            return store::store_push(ni, na, wi, wa, ri, ra, ss, sb, us, kind, head, meta, parts);
         };
         return Kept::Refused(refusal);
     }
@@ -94,39 +69,26 @@ pub fn push(
 
 // A direct delete: 22; 17 of its metadata; then 12, 14.
 pub fn delete(
-    nids: &mut [u64],
-    narena: &[u8],
-    wids: &mut [u64],
-    warena: &[u8],
-    rids: &mut [u64],
-    rarena: &[u8],
-    spans: &[u64],
-    bytes: &[u8],
-    used: &mut [u64; 9],
+    ni: &mut [u64],
+    na: &[u8],
+    wi: &mut [u64],
+    wa: &[u8],
+    ri: &mut [u64],
+    ra: &[u8],
+    ss: &[u64],
+    sb: &[u8],
+    us: &mut [u64; 9],
     kind: Kind,
     id: u64,
     meta: ArenaMeta,
 ) -> Kept
-    ensures { λ r. ⌜ record { overlay = left nids narena wids warena rids rarena spans bytes used; answer = r }
-        ≡ deleteOn kind (toZ w64 id) (metaOf meta) (lent nids narena wids warena rids rarena spans bytes used) ⌝ }
+    ensures { λ r. ⌜ record { overlay = left ni na wi wa ri ra ss sb us; answer = r }
+        ≡ deleteOn kind (toZ w64 id) (metaOf meta) (lent ni na wi wa ri ra ss sb us) ⌝ }
 {
-    if overlay::is_sound(nids, narena, wids, warena, rids, rarena, spans, bytes, used) {
-        if legal::legal_meta(meta, used[6]) {
+    if overlay::is_sound(ni, na, wi, wa, ri, ra, ss, sb, us) {
+        if legal::legal_meta(meta, us[6]) {
             let claim = compact::claim(meta);
-            return store::store_delete(
-                nids,
-                narena,
-                wids,
-                warena,
-                rids,
-                rarena,
-                spans,
-                bytes,
-                used,
-                kind,
-                id,
-                claim,
-            );
+            return store::store_delete(ni, na, wi, wa, ri, ra, ss, sb, us, kind, id, claim);
         }
         return Kept::Refused(Refusal::BadRecord);
     }

@@ -33,15 +33,15 @@ fn is_accepted(answer: EventAnswer) -> bool
 
 // The bytes from one place up to another as an event.
 fn take_event(
-    nids: &mut [u64],
-    narena: &mut [u8],
-    wids: &mut [u64],
-    warena: &mut [u8],
-    rids: &mut [u64],
-    rarena: &mut [u8],
-    spans: &mut [u64],
-    bytes: &mut [u8],
-    used: &mut [u64; 9],
+    ni: &mut [u64],
+    na: &mut [u8],
+    wi: &mut [u64],
+    wa: &mut [u8],
+    ri: &mut [u64],
+    ra: &mut [u8],
+    ss: &mut [u64],
+    sb: &mut [u8],
+    us: &mut [u64; 9],
     parts: &mut [u8; 44432],
     reader: EventReader,
     lines: &[u8],
@@ -50,19 +50,19 @@ fn take_event(
 ) -> Walk
     requires { ⌜ at ≤ end ⌝ }
     requires { ⌜ end ≤ length (now lines) ⌝ }
-    ensures { λ r. ⌜ record { result = record { state = record { overlay = left nids narena wids warena rids rarena spans bytes used; reader = r .reader; parts = now (parts .exit) }; answer = r .answer }; at = r .at; more = r .more }
-        ≡ lineEventFrom (now (lines .entry)) at end (record { overlay = lent nids narena wids warena rids rarena spans bytes used; reader = reader; parts = now (parts .entry) }) ⌝ }
+    ensures { λ r. ⌜ record { result = record { state = record { overlay = left ni na wi wa ri ra ss sb us; reader = r .reader; parts = now (parts .exit) }; answer = r .answer }; at = r .at; more = r .more }
+        ≡ lineEventFrom (now (lines .entry)) at end (record { overlay = lent ni na wi wa ri ra ss sb us; reader = reader; parts = now (parts .entry) }) ⌝ }
 {
     let done = reader_calls::event(
-        nids,
-        narena,
-        wids,
-        warena,
-        rids,
-        rarena,
-        spans,
-        bytes,
-        used,
+        ni,
+        na,
+        wi,
+        wa,
+        ri,
+        ra,
+        ss,
+        sb,
+        us,
         parts,
         reader,
         &lines[at..end],
@@ -79,23 +79,23 @@ fn take_event(
 
 // The next line as an event. Where there is none, what is left is an event if it is already too long.
 fn take_line(
-    nids: &mut [u64],
-    narena: &mut [u8],
-    wids: &mut [u64],
-    warena: &mut [u8],
-    rids: &mut [u64],
-    rarena: &mut [u8],
-    spans: &mut [u64],
-    bytes: &mut [u8],
-    used: &mut [u64; 9],
+    ni: &mut [u64],
+    na: &mut [u8],
+    wi: &mut [u64],
+    wa: &mut [u8],
+    ri: &mut [u64],
+    ra: &mut [u8],
+    ss: &mut [u64],
+    sb: &mut [u8],
+    us: &mut [u64; 9],
     parts: &mut [u8; 44432],
     reader: EventReader,
     lines: &[u8],
     at: usize,
 ) -> Walk
     requires { ⌜ at ≤ length (now lines) ⌝ }
-    ensures { λ r. ⌜ record { result = record { state = record { overlay = left nids narena wids warena rids rarena spans bytes used; reader = r .reader; parts = now (parts .exit) }; answer = r .answer }; at = r .at; more = r .more }
-        ≡ lineOn (now (lines .entry)) at (record { overlay = lent nids narena wids warena rids rarena spans bytes used; reader = reader; parts = now (parts .entry) }) ⌝ }
+    ensures { λ r. ⌜ record { result = record { state = record { overlay = left ni na wi wa ri ra ss sb us; reader = r .reader; parts = now (parts .exit) }; answer = r .answer }; at = r .at; more = r .more }
+        ≡ lineOn (now (lines .entry)) at (record { overlay = lent ni na wi wa ri ra ss sb us; reader = reader; parts = now (parts .entry) }) ⌝ }
 {
     let LineEnd::At(end) = lines::line_end(lines, at) else {
         if lines.len() - at <= 16384 {
@@ -107,15 +107,15 @@ fn take_line(
             };
         }
         return take_event(
-            nids,
-            narena,
-            wids,
-            warena,
-            rids,
-            rarena,
-            spans,
-            bytes,
-            used,
+            ni,
+            na,
+            wi,
+            wa,
+            ri,
+            ra,
+            ss,
+            sb,
+            us,
             parts,
             reader,
             lines,
@@ -124,15 +124,15 @@ fn take_line(
         );
     };
     take_event(
-        nids,
-        narena,
-        wids,
-        warena,
-        rids,
-        rarena,
-        spans,
-        bytes,
-        used,
+        ni,
+        na,
+        wi,
+        wa,
+        ri,
+        ra,
+        ss,
+        sb,
+        us,
         parts,
         reader,
         lines,
@@ -143,21 +143,21 @@ fn take_line(
 
 // All lines, up to the first event that is refused; where none is, what is left from the answer's place on is the unfinished line.
 fn take_lines(
-    nids: &mut [u64],
-    narena: &mut [u8],
-    wids: &mut [u64],
-    warena: &mut [u8],
-    rids: &mut [u64],
-    rarena: &mut [u8],
-    spans: &mut [u64],
-    bytes: &mut [u8],
-    used: &mut [u64; 9],
+    ni: &mut [u64],
+    na: &mut [u8],
+    wi: &mut [u64],
+    wa: &mut [u8],
+    ri: &mut [u64],
+    ra: &mut [u8],
+    ss: &mut [u64],
+    sb: &mut [u8],
+    us: &mut [u64; 9],
     parts: &mut [u8; 44432],
     reader: EventReader,
     lines: &[u8],
 ) -> Walk
-    ensures { λ r. ⌜ record { state = record { overlay = left nids narena wids warena rids rarena spans bytes used; reader = r .reader; parts = now (parts .exit) }; answer = r .answer }
-        ≡ eventsOn (pieceLines (now (lines .entry))) (record { overlay = lent nids narena wids warena rids rarena spans bytes used; reader = reader; parts = now (parts .entry) }) ⌝ }
+    ensures { λ r. ⌜ record { state = record { overlay = left ni na wi wa ri ra ss sb us; reader = r .reader; parts = now (parts .exit) }; answer = r .answer }
+        ≡ eventsOn (pieceLines (now (lines .entry))) (record { overlay = lent ni na wi wa ri ra ss sb us; reader = reader; parts = now (parts .entry) }) ⌝ }
     ensures { λ r. ⌜ (r .answer ≡ Accepted → drop (r .at) (now (lines .entry)) ≡ restOf (now (lines .entry))) ⌝ }
 {
     let mut walk = Walk {
@@ -169,56 +169,42 @@ fn take_lines(
     while walk.more {
         let reader = walk.reader;
         let at = walk.at;
-        walk = take_line(
-            nids,
-            narena,
-            wids,
-            warena,
-            rids,
-            rarena,
-            spans,
-            bytes,
-            used,
-            parts,
-            reader,
-            lines,
-            at,
-        );
+        walk = take_line(ni, na, wi, wa, ri, ra, ss, sb, us, parts, reader, lines, at);
     }
     walk
 }
 
 // Of a buffer only the first bytes, as many as there are.
 fn take_front(
-    nids: &mut [u64],
-    narena: &mut [u8],
-    wids: &mut [u64],
-    warena: &mut [u8],
-    rids: &mut [u64],
-    rarena: &mut [u8],
-    spans: &mut [u64],
-    bytes: &mut [u8],
-    used: &mut [u64; 9],
+    ni: &mut [u64],
+    na: &mut [u8],
+    wi: &mut [u64],
+    wa: &mut [u8],
+    ri: &mut [u64],
+    ra: &mut [u8],
+    ss: &mut [u64],
+    sb: &mut [u8],
+    us: &mut [u64; 9],
     parts: &mut [u8; 44432],
     reader: EventReader,
     buffer: &[u8],
     filled: usize,
 ) -> Walk
     requires { ⌜ filled ≤ length (now buffer) ⌝ }
-    ensures { λ r. ⌜ record { state = record { overlay = left nids narena wids warena rids rarena spans bytes used; reader = r .reader; parts = now (parts .exit) }; answer = r .answer }
-        ≡ eventsOn (pieceLines (take filled (now (buffer .entry)))) (record { overlay = lent nids narena wids warena rids rarena spans bytes used; reader = reader; parts = now (parts .entry) }) ⌝ }
+    ensures { λ r. ⌜ record { state = record { overlay = left ni na wi wa ri ra ss sb us; reader = r .reader; parts = now (parts .exit) }; answer = r .answer }
+        ≡ eventsOn (pieceLines (take filled (now (buffer .entry)))) (record { overlay = lent ni na wi wa ri ra ss sb us; reader = reader; parts = now (parts .entry) }) ⌝ }
     ensures { λ r. ⌜ (r .answer ≡ Accepted → drop (r .at) (take filled (now (buffer .entry))) ≡ restOf (take filled (now (buffer .entry)))) ⌝ }
 {
     take_lines(
-        nids,
-        narena,
-        wids,
-        warena,
-        rids,
-        rarena,
-        spans,
-        bytes,
-        used,
+        ni,
+        na,
+        wi,
+        wa,
+        ri,
+        ra,
+        ss,
+        sb,
+        us,
         parts,
         reader,
         &buffer[..filled],
@@ -249,15 +235,15 @@ fn join_piece(buffer: &mut [u8], held: usize, piece: &[u8], got: usize) -> usize
 // A piece of the input, of which so many bytes were read: its whole lines are events, up to the first that is refused, and the unfinished line is held at the front
 // of the buffer. Of the bytes held so far at most 16,384 count.
 pub fn feed(
-    nids: &mut [u64],
-    narena: &mut [u8],
-    wids: &mut [u64],
-    warena: &mut [u8],
-    rids: &mut [u64],
-    rarena: &mut [u8],
-    spans: &mut [u64],
-    bytes: &mut [u8],
-    used: &mut [u64; 9],
+    ni: &mut [u64],
+    na: &mut [u8],
+    wi: &mut [u64],
+    wa: &mut [u8],
+    ri: &mut [u64],
+    ra: &mut [u8],
+    ss: &mut [u64],
+    sb: &mut [u8],
+    us: &mut [u64; 9],
     parts: &mut [u8; 44432],
     reader: EventReader,
     buffer: &mut [u8; 81920],
@@ -266,23 +252,23 @@ pub fn feed(
     got: usize,
 ) -> Fed
     ensures { λ r. ⌜ record {
-      intake = record { state = record { overlay = left nids narena wids warena rids rarena spans bytes used; reader = r .reader; parts = now (parts .exit) }; buffer = now (buffer .exit); held = r .held };
+      intake = record { state = record { overlay = left ni na wi wa ri ra ss sb us; reader = r .reader; parts = now (parts .exit) }; buffer = now (buffer .exit); held = r .held };
       answer = r .answer;
     }
-        ≡ feedOn (take got (now (piece .entry))) (record { state = record { overlay = lent nids narena wids warena rids rarena spans bytes used; reader = reader; parts = now (parts .entry) }; buffer = now (buffer .entry); held = min held 16384 }) ⌝ }
+        ≡ feedOn (take got (now (piece .entry))) (record { state = record { overlay = lent ni na wi wa ri ra ss sb us; reader = reader; parts = now (parts .entry) }; buffer = now (buffer .entry); held = min held 16384 }) ⌝ }
 {
     let held = little::lesser(held, 16384);
     let filled = join_piece(buffer, held, piece, got);
     let walk = take_front(
-        nids,
-        narena,
-        wids,
-        warena,
-        rids,
-        rarena,
-        spans,
-        bytes,
-        used,
+        ni,
+        na,
+        wi,
+        wa,
+        ri,
+        ra,
+        ss,
+        sb,
+        us,
         parts,
         reader,
         buffer,

@@ -16,7 +16,7 @@ use Rattle.interner.specs.Texts.{handleOf}
 use Rattle.interner.specs.Strings.{startOf, lengthOf, spanned, bytesAt, spanAt, findIn, Store, usedOf}
 use Rattle.interner.specs.Sound.{handles, textsIn, textsOf, countsWithin, spanWithin, differs, distinct, soundUpTo, firstEmpty, soundStrings}
 use Rattle.interner.specs.Check.{isNot, newAt}
-use Rattle.interner.proofs.Finds.{Lies, lies-not, spanned-bytes}
+use Rattle.interner.proofs.Finds.{SpanWithin, lies-not, spanned-bytes}
 use Rattle.interner.proofs.Handles.{all-handles, each-handle, all-made, each-made}
 use Rattle.interner.proofs.Held.{same-swap, same-not, differs-of, not-held, held-not, distinct-nil, distinct-cons, distinct-head, distinct-tail}
 use Rattle.interner.proofs.Interns.{Sound, sound-parts, length-texts, placed, finds-from}
@@ -91,10 +91,10 @@ module _ (spans : List ℕ) (bytes : Bytes) where
   new-missing h e = both-no-left _ _ (lies-not spans bytes h e)
 
   -- the part of the bytes from its start to its end
-  pub lies-bytes : (h start len : ℕ) → Lies spans bytes h start len → take (start + len - start) (drop start bytes) ≡ bytesAt spans bytes h
+  pub lies-bytes : (h start len : ℕ) → SpanWithin spans bytes h start len → take (start + len - start) (drop start bytes) ≡ bytesAt spans bytes h
   lies-bytes h start len l = let n : start + len - start ≡ len = omega arith in rw (n, l .starts, l .long)
 
-  pub new-lies : (h start len : ℕ) (t : Bytes) → Lies spans bytes h start len → t ≡ take (start + len - start) (drop start bytes)
+  pub new-lies : (h start len : ℕ) (t : Bytes) → SpanWithin spans bytes h start len → t ≡ take (start + len - start) (drop start bytes)
       → newAt spans bytes h ≡ both (isText t) (isNot (findIn spans bytes h t))
   unfolding newAt both
   new-lies h start len t l e =

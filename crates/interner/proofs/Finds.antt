@@ -44,12 +44,12 @@ module _ (spans : List ℕ) (bytes : Bytes) where
   missing h e = rw e
 
   -- a string that lies somewhere lies within the bytes, where its words say
-  pub record Lies (h start len : ℕ) : Type 0 where
+  pub record SpanWithin (h start len : ℕ) : Type 0 where
     pub within : spanned spans bytes h ≡ true
     pub starts : start ≡ startOf spans h
     pub long : len ≡ lengthOf spans h
 
-  pub lies : (h start len : ℕ) → Part start len ≡ spanAt spans bytes h → Lies h start len
+  pub lies : (h start len : ℕ) → Part start len ≡ spanAt spans bytes h → SpanWithin h start len
   lies h start len e =
       byBool (spanned spans bytes h)
       (λ p. let q = part h p in record { within = p; starts = cc; long = cc })
@@ -58,12 +58,12 @@ module _ (spans : List ℕ) (bytes : Bytes) where
   pub lies-not : (h : ℕ) → Missing ≡ spanAt spans bytes h → spanned spans bytes h ≡ false
   lies-not h e = byBool (spanned spans bytes h) (λ p. let q = part h p in no (cc)) (λ p. p)
 
-  pub within-bytes : (h start len : ℕ) → Lies h start len → start + len ≤ length bytes
+  pub within-bytes : (h start len : ℕ) → SpanWithin h start len → start + len ≤ length bytes
   within-bytes h start len l = omega (arith, spanned-bytes h (l .within), l .starts, l .long)
 
   -- ---- whether it is a text
 
-  pub at-part : (t : Bytes) (h start len : ℕ) → Lies h start len → isAt spans bytes t h ≡ same t (take len (drop start bytes))
+  pub at-part : (t : Bytes) (h start len : ℕ) → SpanWithin h start len → isAt spans bytes t h ≡ same t (take len (drop start bytes))
   unfolding isAt both
   at-part t h start len l = rw (l .within, l .starts, l .long)
 

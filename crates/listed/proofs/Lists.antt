@@ -8,7 +8,7 @@ use mathlib.Core.List.{List, [], _∷_}
 use native.Mathlib.Omega.{arith}
 use lib.ListN.{length, getD}
 use Rattle.base.proofs.Split.{byBool, byEq, byLt, no}
-use Rattle.shelf.specs.Shelf.{isLive}
+use Rattle.kind_store.specs.KindStore.{isLive}
 use Rattle.table.specs.Rows.{risingFrom, rising, find}
 use Rattle.table.specs.Words.{rowsOf, soundTable}
 use Rattle.table.specs.declared.Row.{Row}

@@ -11,7 +11,7 @@ use mir.Syntax.{w64}
 use mir.Val.{Fits, toZ, ofZ}
 use Rattle.base.proofs.Split.{byBool, no}
 use Rattle.osm_id.specs.Order.{rank}
-use Rattle.shelf.specs.Shelf.{isLive}
+use Rattle.kind_store.specs.KindStore.{isLive}
 use Rattle.table.specs.Rows.{find}
 use Rattle.table.specs.Words.{rowsOf, soundTable, lookup}
 use Rattle.table.specs.declared.Row.{Row}

@@ -16,7 +16,7 @@ use Rattle.table.specs.Words.{rowAt, rowsOf, held, lookup}
 use Rattle.table.specs.declared.Row.{Row}
 use Rattle.table.specs.declared.Found as table
 use Rattle.table.specs.declared.Found.the-variants as F
-use Rattle.shelf.specs.Shelf.{Shelf, isLive}
+use Rattle.kind_store.specs.KindStore.{KindStore, isLive}
 use Rattle.listed.specs.declared.Side.{Side}
 use Rattle.listed.specs.declared.Side.the-variants.{Live, Deleted}
 use Rattle.listed.specs.declared.Nth.{Nth}

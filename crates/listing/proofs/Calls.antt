@@ -21,7 +21,7 @@ use Rattle.print.specs.Print.{Printed, print, joinedPieces}
 use Rattle.print.specs.Piece.{behind}
 use Rattle.print.proofs.Prints as Prints
 use Rattle.print.proofs.Prints.{print-append, behind-fits, behind-past, room-print, length-print}
-use Rattle.overlay.specs.Overlay.{Overlay, overlayOf, shelfOf}
+use Rattle.overlay.specs.Overlay.{Overlay, overlayOf, kindStoreOf}
 use Rattle.overlay.specs.Given.{InBytes}
 use Rattle.overlay.specs.Sound.{isSound}
 use Rattle.listing.specs.declared.Listed.the-variants.{Length, Refused}
@@ -39,11 +39,11 @@ unfolding isByte
 bytes-lent [] h = all-nil isByte
 bytes-lent (b ∷ s) h = all-cons isByte b s (lt-ltb b 256 (h 0)) (bytes-lent s (λ i. h (suc i)))
 
-pub all-lent : (nids : List ℕ) (narena : Bytes) (wids : List ℕ) (warena : Bytes) (rids : List ℕ) (rarena : Bytes) (spans : List ℕ) (bytes : Bytes) (counts : List ℕ)
-    → all isByte narena ≡ true → all isByte warena ≡ true → all isByte rarena ≡ true → all isByte bytes ≡ true → InBytes (overlayOf nids narena wids warena rids rarena spans bytes counts)
-all-lent nids narena wids warena rids rarena spans bytes counts n w r t = record { arenas = arenas; texts = t }
+pub all-lent : (ni : List ℕ) (na : Bytes) (wi : List ℕ) (wa : Bytes) (ri : List ℕ) (ra : Bytes) (spans : List ℕ) (bytes : Bytes) (counts : List ℕ)
+    → all isByte na ≡ true → all isByte wa ≡ true → all isByte ra ≡ true → all isByte bytes ≡ true → InBytes (overlayOf ni na wi wa ri ra spans bytes counts)
+all-lent ni na wi wa ri ra spans bytes counts n w r t = record { arenas = arenas; texts = t }
   where
-    arenas : (k : Kind) → all isByte (shelfOf k (overlayOf nids narena wids warena rids rarena spans bytes counts) .arena) ≡ true
+    arenas : (k : Kind) → all isByte (kindStoreOf k (overlayOf ni na wi wa ri ra spans bytes counts) .arena) ≡ true
     arenas Node = n
     arenas Way = w
     arenas Relation = r

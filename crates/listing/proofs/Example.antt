@@ -27,10 +27,10 @@ use Rattle.legal.specs.Judge.{recordEnd, endOf}
 use Rattle.legal.specs.Whole.{wholeRecords, wholeBy, afterLegal}
 use Rattle.table.specs.Rows.{rising, risingFrom}
 use Rattle.table.specs.Words.{soundTable, rowsFrom, rowsOf, held, halve, answerAt, lookup}
-use Rattle.shelf.specs.Shelf.{isLive, versionAt, liveVersion, knownOf, known}
-use Rattle.sound.specs.Check.{soundShelf, soundUsed, rowPasses, recordThere, idThere, comesTo}
-use Rattle.overlay.specs.Overlay.{Overlay, overlayOf, sizesFit, shelfFits, textsFit}
-use Rattle.overlay.specs.Sound.{isSound, shelvesSound}
+use Rattle.kind_store.specs.KindStore.{isLive, versionAt, liveVersion, knownOf, known}
+use Rattle.sound.specs.Check.{soundKindStore, soundUsed, rowPasses, recordThere, idThere, comesTo}
+use Rattle.overlay.specs.Overlay.{Overlay, overlayOf, sizesFit, kindStoreFits, textsFit}
+use Rattle.overlay.specs.Sound.{isSound, kindStoresSound}
 use Rattle.page.specs.Listing.{kindField, versionField, each, counted, bodyFields, recordFields, rowFields, listing}
 use Rattle.listing.specs.Known.{recordIn}
 use Rattle.listing.specs.Table.{leftAt, kindTable, tableOf}
@@ -60,7 +60,7 @@ stored-page = refl
 
 -- that storage is sound
 pub stored-sound : isSound storedA ≡ true
-unfolding isSound sizesFit shelfFits textsFit both either all same soundStrings Strings.countsWithin soundUpTo spanWithin spanned textsIn handles distinct differs firstEmpty isText textAfter charLen begins decoded utf8 xmlChar from-to shelvesSound soundShelf soundUsed wholeRecords wholeBy afterLegal legal legalHandles legalMeta bodyHandles legalTexts inRange withinLimits valueBytes flagged sameId soundTable rising risingFrom rowsOf rowsFrom rowPasses isLive recordThere idThere comesTo recordEnd endOf cutRecord cutHead cutMeta cutI32 cutI64 cutNumber cutBytes thenCut value valueAt cutParts cutBody times cutTag idOf
+unfolding isSound sizesFit kindStoreFits textsFit both either all same soundStrings Strings.countsWithin soundUpTo spanWithin spanned textsIn handles distinct differs firstEmpty isText textAfter charLen begins decoded utf8 xmlChar from-to kindStoresSound soundKindStore soundUsed wholeRecords wholeBy afterLegal legal legalHandles legalMeta bodyHandles legalTexts inRange withinLimits valueBytes flagged sameId soundTable rising risingFrom rowsOf rowsFrom rowPasses isLive recordThere idThere comesTo recordEnd endOf cutRecord cutHead cutMeta cutI32 cutI64 cutNumber cutBytes thenCut value valueAt cutParts cutBody times cutTag idOf
 stored-sound = refl
 
 -- the call: an output of 46 bytes gets the page and keeps its last two, one of 44 is enough, and one of 43 gets 19 and keeps all

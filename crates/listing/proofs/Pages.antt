@@ -16,9 +16,9 @@ use Rattle.interner.proofs.Interns as Interns
 use Rattle.table.specs.Words.{held}
 use Rattle.table.specs.declared.Row as table
 use Rattle.table.proofs.Tables.{sound-fits, held-all}
-use Rattle.shelf.specs.Shelf.{Shelf, isLive}
-use Rattle.shelf.specs.Fair.{rowsIn}
-use Rattle.sound.specs.Sound.{SoundShelf, soundRow}
+use Rattle.kind_store.specs.KindStore.{KindStore, isLive}
+use Rattle.kind_store.specs.WellFormed.{rowsIn}
+use Rattle.sound.specs.Sound.{SoundKindStore, soundRow}
 use Rattle.page.specs.Summary.{PageRow, Table}
 use Rattle.page.specs.Listing.{kindField, rowFields, listing}
 use Rattle.print.specs.Print.{joinedPieces, linePieces}
@@ -39,7 +39,7 @@ unfolding listing
 listing-append [] ss = refl
 listing-append (r ∷ rs) ss = rw (listing-append rs ss) (sym (append-assoc (line (rowFields r)) (listing rs) (listing ss)))
 
-module _ (strings : ℕ) (k : Kind) (s : Shelf) (w : SoundShelf strings k s) (f : ℕ → Bytes) where
+module _ (strings : ℕ) (k : Kind) (s : KindStore) (w : SoundKindStore strings k s) (f : ℕ → Bytes) where
   -- the fields of a row
   row-live : (r : table.Row) → soundRow (w .whole .kept) r ≡ true → isLive (r .place) ≡ true → rowFieldsAt f k s r ≡ rowFields (rowOf k s f r)
   unfolding rowFieldsAt rowFields leftAt
@@ -84,9 +84,9 @@ page-sound o w =
       texts-held o w,
       joined-append (kindPieces t Node (o .nodes) ++ kindPieces t Way (o .ways)) (kindPieces t Relation (o .relations)),
       joined-append (kindPieces t Node (o .nodes)) (kindPieces t Way (o .ways)),
-      kind-listed n Node (o .nodes) (w .shelves Node) t,
-      kind-listed n Way (o .ways) (w .shelves Way) t,
-      kind-listed n Relation (o .relations) (w .shelves Relation) t,
+      kind-listed n Node (o .nodes) (w .kindStores Node) t,
+      kind-listed n Way (o .ways) (w .kindStores Way) t,
+      kind-listed n Relation (o .relations) (w .kindStores Relation) t,
       listing-append (kindTable Node (o .nodes) t ++ kindTable Way (o .ways) t) (kindTable Relation (o .relations) t),
       listing-append (kindTable Node (o .nodes) t) (kindTable Way (o .ways) t),
     )

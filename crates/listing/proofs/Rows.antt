@@ -1,4 +1,4 @@
--- A sound shelf, row by row: at the place of each live row the readers find a legal record of its kind.
+-- A sound kind store, row by row: at the place of each live row the readers find a legal record of its kind.
 use Prim.Native.Nat.{ℕ}
 use mathlib.Core.Path.{_≡_, refl, sym, _∙_, ap, subst}
 use mathlib.Core.Bool.{true, not}
@@ -18,8 +18,8 @@ use Rattle.compact.proofs.Back.{Found, read-record}
 use Rattle.legal.specs.Whole.{keptBytes, Whole, recordAt, startsAt}
 use Rattle.legal.proofs.Starts.{record-passes, record-there, bytes-there, start-is}
 use Rattle.table.specs.declared.Row.{Row}
-use Rattle.shelf.specs.Shelf.{Shelf, isLive}
-use Rattle.sound.specs.Sound.{SoundShelf, soundRow}
+use Rattle.kind_store.specs.KindStore.{KindStore, isLive}
+use Rattle.sound.specs.Sound.{SoundKindStore, soundRow}
 use Rattle.listing.specs.Known.{heldIn, recordIn}
 
 pub kept-kind : (k : Kind) (x : Kept) → fitsKept k x ≡ true → kindOf (x .held .body) ≡ k
@@ -48,7 +48,7 @@ row-starts kept r h l =
     (λ t. clash (sym (ap not l) ∙ t) refl)
     (λ t. start-is (idOf (r .rank)) (r .place) kept t)
 
-module _ (strings : ℕ) (k : Kind) (s : Shelf) (w : SoundShelf strings k s) (at : ℕ) (x : Kept) (h : recordAt at (w .whole .kept) ≡ some x) where
+module _ (strings : ℕ) (k : Kind) (s : KindStore) (w : SoundKindStore strings k s) (at : ℕ) (x : Kept) (h : recordAt at (w .whole .kept) ≡ some x) where
   pub record-read : recordIn k s at ≡ some (x .held)
   unfolding recordIn
   record-read = whole-read strings k (take (s .used) (s .arena)) (w .whole) at x h

@@ -32,12 +32,12 @@ use Rattle.table.specs.Rows as Rows
 use Rattle.table.specs.Words.{rowAt, rowsFrom, rowsOf}
 use Rattle.table.proofs.Maps as Maps
 use Rattle.table.proofs.Tables.{sound-rises}
-use Rattle.shelf.specs.Shelf.{Shelf, isLive, known}
-use Rattle.shelf.specs.Fair.{rowsIn}
+use Rattle.kind_store.specs.KindStore.{KindStore, isLive, known}
+use Rattle.kind_store.specs.WellFormed.{rowsIn}
 use Rattle.sound.specs.Sound.{soundRow}
-use Rattle.overlay.specs.Overlay.{Overlay, shelfOf, withShelf, withTexts, empty}
+use Rattle.overlay.specs.Overlay.{Overlay, kindStoreOf, withKindStore, withTexts, empty}
 use Rattle.overlay.specs.Sound.{Sound}
-use Rattle.overlay.proofs.Shelves.{each-shelf, texts-shelf}
+use Rattle.overlay.proofs.KindStores.{each-kind-store, texts-kind-store}
 use Rattle.page.specs.Summary as Summary
 use Rattle.page.specs.Summary.{PageRow, Table, findKey, summary}
 use Rattle.page.proofs.Tables.{Every, Above, Sorted, find-nil, find-here, find-later, same-table, summary-sorted, rowIn, find-summary}
@@ -62,7 +62,7 @@ unfolding Sorted Every
 sorted-append [] ys h g a = g
 sorted-append (x ∷ xs) ys h g a = (every-append (λ r. keyBefore (x .key) (r .key) ≡ true) xs ys (h .0) (a .0), sorted-append xs ys (h .1) g (a .1))
 
-module _ (k : Kind) (s : Shelf) (f : ℕ → Bytes) where
+module _ (k : Kind) (s : KindStore) (f : ℕ → Bytes) where
   abbrev rowed : List table.Row → Table
   rowed = map (rowOf k s f)
 
@@ -133,8 +133,8 @@ abbrev pub heldTexts : Overlay → ℕ → Bytes
 heldTexts o = textOf (textsOf (o .texts))
 
 module _ (o : Overlay) (w : Sound o) (n : Ranked o) where
-  rows-rise : (k : Kind) → rising (rowsIn (shelfOf k o)) ≡ true
-  rows-rise k = sound-rises (shelfOf k o .table) (shelfOf k o .ids) (w .shelves k .order)
+  rows-rise : (k : Kind) → rising (rowsIn (kindStoreOf k o)) ≡ true
+  rows-rise k = sound-rises (kindStoreOf k o .table) (kindStoreOf k o .ids) (w .kindStores k .order)
 
   pub table-sorted : Sorted (tableOf o)
   unfolding tableOf kindTable
@@ -154,7 +154,7 @@ module _ (o : Overlay) (w : Sound o) (n : Ranked o) where
       (before-table Way (o .ways) t _ (λ id. above-kind Relation (o .relations) t _ (omega arith) zs) ys))
 
   abbrev part : Kind → Table
-  part k = kindTable k (shelfOf k o) (heldTexts o)
+  part k = kindTable k (kindStoreOf k o) (heldTexts o)
 
   -- a key finds what it finds among the rows of its kind
   in-kind : (j : Kind) (id : ℤ) → ((k : Kind) → (k ≡ j → ⊥) → findKey (record { kind = j; id = id }) (part k) ≡ none)
@@ -172,21 +172,21 @@ module _ (o : Overlay) (w : Sound o) (n : Ranked o) where
 
   part-none : (key : Key) (k : Kind) → ((m : ℕ) → m < 2 ^ 64 → key ≡ record { kind = k; id = idOf m } → ⊥) → findKey key (part k) ≡ none
   unfolding kindTable
-  part-none key k h = find-none k (shelfOf k o) (heldTexts o) key h (rowsIn (shelfOf k o)) (n .rows k)
+  part-none key k h = find-none k (kindStoreOf k o) (heldTexts o) key h (rowsIn (kindStoreOf k o)) (n .rows k)
 
   -- the row of an id says what the overlay knows of it
-  row-known : (key : Key) → SFits w64 (key .id) → (x : Option table.Row) → Rows.find (rank (key .id)) (rowsIn (shelfOf (key .kind) o)) ≡ x
-      → Option·map (rowOf (key .kind) (shelfOf (key .kind) o) (heldTexts o)) x
-      ≡ rowIn key (record { last = lastIn (key .kind) (shelfOf (key .kind) o) (heldTexts o) x; high = known (key .kind) (shelfOf (key .kind) o) (key .id) })
+  row-known : (key : Key) → SFits w64 (key .id) → (x : Option table.Row) → Rows.find (rank (key .id)) (rowsIn (kindStoreOf (key .kind) o)) ≡ x
+      → Option·map (rowOf (key .kind) (kindStoreOf (key .kind) o) (heldTexts o)) x
+      ≡ rowIn key (record { last = lastIn (key .kind) (kindStoreOf (key .kind) o) (heldTexts o) x; high = known (key .kind) (kindStoreOf (key .kind) o) (key .id) })
   unfolding leftAt
   row-known key g none e = refl
   row-known key g (some r) e =
       let k = key .kind in
-      let s = shelfOf k o in
+      let s = kindStoreOf k o in
       let i : idOf (r .rank) ≡ key .id = ap idOf (Maps.find-rank (rank (key .id)) (rowsIn s) r e) ∙ id-rank g in
       byBool (isLive (r .place))
-      (λ l. let x = row-starts (w .shelves k .whole .kept) r (Maps.find-passes (soundRow (w .shelves k .whole .kept)) (rank (key .id)) (rowsIn s) r (w .shelves k .rows) e) l in
-      rw (i, l, record-read (o .texts .strings) k s (w .shelves k) (r .place) (x .0) (x .1 .0)))
+      (λ l. let x = row-starts (w .kindStores k .whole .kept) r (Maps.find-passes (soundRow (w .kindStores k .whole .kept)) (rank (key .id)) (rowsIn s) r (w .kindStores k .rows) e) l in
+      rw (i, l, record-read (o .texts .strings) k s (w .kindStores k) (r .place) (x .0) (x .1 .0)))
       (λ l. rw (i, l))
 
   -- a key finds what the overlay knows of it
@@ -194,7 +194,7 @@ module _ (o : Overlay) (w : Sound o) (n : Ranked o) where
   unfolding knownIn kindTable
   table-find key g =
       let k = key .kind in
-      let s = shelfOf k o in
+      let s = kindStoreOf k o in
       in-kind k (key .id) (λ j d. part-none key j (λ m f e. d (sym (ap (λ (z : Key). z .kind) e))))
       ∙ (find-rows k s (heldTexts o) (key .id) g (rowsIn s) (n .rows k) ∙ row-known key g (Rows.find (rank (key .id)) (rowsIn s)) refl)
 
@@ -225,9 +225,9 @@ unfolding rowsFrom isRank
 rows-ranked ws h i zero = all-nil isRank
 rows-ranked ws h i (suc n) = all-cons isRank (rowAt ws i) (rowsFrom ws (suc i) n) (lt-ltb _ _ (h (3 * i))) (rows-ranked ws h (suc i) n)
 
-pub ranked-lent : (o : Overlay) → ((k : Kind) (i : ℕ) → getD (shelfOf k o .table) i 0 < 2 ^ 64) → Ranked o
+pub ranked-lent : (o : Overlay) → ((k : Kind) (i : ℕ) → getD (kindStoreOf k o .table) i 0 < 2 ^ 64) → Ranked o
 unfolding rowsOf
-ranked-lent o h = record { rows = λ k. rows-ranked (shelfOf k o .table) (h k) 0 (shelfOf k o .ids) }
+ranked-lent o h = record { rows = λ k. rows-ranked (kindStoreOf k o .table) (h k) 0 (kindStoreOf k o .ids) }
 
 all-put : (p : table.Row → Bool) (n : table.Row) (rs : List table.Row) → p n ≡ true → all p rs ≡ true → all p (Rows.put n rs) ≡ true
 unfolding Rows.put
@@ -244,17 +244,17 @@ pub ranked-put : (id : ℤ) (place floor : ℕ) → SFits w64 id → (rs : List 
 unfolding isRank
 ranked-put id place floor g rs h = all-put isRank (record { rank = rank id; place = place; floor = floor }) rs (lt-ltb _ _ (rank-fits g)) h
 
-pub ranked-shelf : (k : Kind) (s : Shelf) (o : Overlay) → all isRank (rowsIn s) ≡ true → Ranked o → Ranked (withShelf k s o)
-ranked-shelf k s o h n = record { rows = each-shelf (λ j t. all isRank (rowsIn t) ≡ true) k s o h (n .rows) }
+pub ranked-kind-store : (k : Kind) (s : KindStore) (o : Overlay) → all isRank (rowsIn s) ≡ true → Ranked o → Ranked (withKindStore k s o)
+ranked-kind-store k s o h n = record { rows = each-kind-store (λ j t. all isRank (rowsIn t) ≡ true) k s o h (n .rows) }
 
 pub ranked-texts : (t : Store) (o : Overlay) → Ranked o → Ranked (withTexts t o)
-ranked-texts t o n = record { rows = λ k. rw (texts-shelf k t o) (n .rows k) }
+ranked-texts t o n = record { rows = λ k. rw (texts-kind-store k t o) (n .rows k) }
 
 pub ranked-empty : (setting : ℕ) (o : Overlay) → Ranked (empty setting o)
 unfolding rowsOf rowsFrom
 ranked-empty setting o = record { rows = none-ranked }
   where
-    none-ranked : (k : Kind) → all isRank (rowsIn (shelfOf k (empty setting o))) ≡ true
+    none-ranked : (k : Kind) → all isRank (rowsIn (kindStoreOf k (empty setting o))) ≡ true
     none-ranked Node = all-nil isRank
     none-ranked Way = all-nil isRank
     none-ranked Relation = all-nil isRank

@@ -14,17 +14,17 @@ use Rattle.model.specs.Swap.{swapRecord}
 use Rattle.compact.specs.Cut.{Cut, Kept, cutRecord}
 use Rattle.table.specs.Rows.{find}
 use Rattle.table.specs.declared.Row.{Row}
-use Rattle.shelf.specs.Shelf.{Shelf, isLive, known}
-use Rattle.shelf.specs.Fair.{rowsIn}
-use Rattle.overlay.specs.Overlay.{Overlay, shelfOf}
+use Rattle.kind_store.specs.KindStore.{KindStore, isLive, known}
+use Rattle.kind_store.specs.WellFormed.{rowsIn}
+use Rattle.overlay.specs.Overlay.{Overlay, kindStoreOf}
 use Rattle.page.specs.Summary.{Known}
 
--- the record that stands at a place of a shelf's used bytes
+-- the record that stands at a place of a kind store's used bytes
 abbrev pub heldIn : Option (Cut Kept) → Option (Record ℕ)
 heldIn none = none
 heldIn (some c) = some (c .item .held)
 
-unfoldable pub recordIn : Kind → Shelf → ℕ → Option (Record ℕ)
+unfoldable pub recordIn : Kind → KindStore → ℕ → Option (Record ℕ)
 recordIn k s at = heldIn (cutRecord k (drop at (take (s .used) (s .arena))))
 
 -- with its texts as texts
@@ -32,13 +32,13 @@ abbrev pub told : (ℕ → Bytes) → Option (Record ℕ) → Option (Left Bytes
 told f none = none
 told f (some r) = some (live (swapRecord f r))
 
-abbrev pub lastIn : Kind → Shelf → (ℕ → Bytes) → Option Row → Option (Left Bytes)
+abbrev pub lastIn : Kind → KindStore → (ℕ → Bytes) → Option Row → Option (Left Bytes)
 lastIn k s f none = none
 lastIn k s f (some r) = cond (isLive (r .place)) (told f (recordIn k s (r .place))) (some gone)
 
 unfoldable pub knownIn : Overlay → Key → Known
 knownIn o key =
     record {
-      last = lastIn (key .kind) (shelfOf (key .kind) o) (textOf (textsOf (o .texts))) (find (rank (key .id)) (rowsIn (shelfOf (key .kind) o)));
-      high = known (key .kind) (shelfOf (key .kind) o) (key .id);
+      last = lastIn (key .kind) (kindStoreOf (key .kind) o) (textOf (textsOf (o .texts))) (find (rank (key .id)) (rowsIn (kindStoreOf (key .kind) o)));
+      high = known (key .kind) (kindStoreOf (key .kind) o) (key .id);
     }

@@ -6,7 +6,7 @@ use Rattle.kind.specs.declared.Kind.{Kind}
 use Rattle.kind.specs.declared.Kind.the-variants.{Node, Way, Relation}
 use Rattle.interner.specs.Strings.{Store, usedOf}
 use Rattle.fields.specs.Fields.{heldText}
-use Rattle.overlay.specs.Overlay.{Overlay, shelfOf}
+use Rattle.overlay.specs.Overlay.{Overlay, kindStoreOf}
 use Rattle.rows.specs.Lines.{kindPieces}
 
 -- the text of a handle
@@ -14,7 +14,7 @@ abbrev pub textHeld : Store → ℕ → Bytes
 textHeld t = heldText (t .spans) (usedOf t) (t .strings)
 
 abbrev pub kindLines : Kind → Overlay → List Bytes
-kindLines k o = kindPieces (textHeld (o .texts)) k (shelfOf k o)
+kindLines k o = kindPieces (textHeld (o .texts)) k (kindStoreOf k o)
 
 unfoldable pub piecesOf : Overlay → List Bytes
 piecesOf o = kindLines Node o ++ kindLines Way o ++ kindLines Relation o

@@ -15,9 +15,9 @@ use Rattle.model.specs.Record.{Record}
 use Rattle.model.specs.Act.{Left, gone, live}
 use Rattle.model.specs.Swap.{swapRecord}
 use Rattle.table.specs.declared.Row as table
-use Rattle.shelf.specs.Shelf.{Shelf, isLive, known}
-use Rattle.shelf.specs.Fair.{rowsIn}
-use Rattle.overlay.specs.Overlay.{Overlay, shelfOf}
+use Rattle.kind_store.specs.KindStore.{KindStore, isLive, known}
+use Rattle.kind_store.specs.WellFormed.{rowsIn}
+use Rattle.overlay.specs.Overlay.{Overlay, kindStoreOf}
 use Rattle.page.specs.Summary.{PageRow, Table}
 use Rattle.listing.specs.Known.{recordIn}
 
@@ -27,19 +27,19 @@ leftWith f none = gone
 leftWith f (some r) = live (swapRecord f r)
 
 -- "`+` live or `-` deleted": the record that starts at the row's place, or none
-unfoldable pub leftAt : Kind → Shelf → (ℕ → Bytes) → table.Row → Left Bytes
+unfoldable pub leftAt : Kind → KindStore → (ℕ → Bytes) → table.Row → Left Bytes
 leftAt k s f r = cond (isLive (r .place)) (leftWith f (recordIn k s (r .place))) gone
 
 -- "kind; id; `+` live or `-` deleted; known version or `?`"
-abbrev pub rowOf : Kind → Shelf → (ℕ → Bytes) → table.Row → PageRow
+abbrev pub rowOf : Kind → KindStore → (ℕ → Bytes) → table.Row → PageRow
 rowOf k s f r = record { key = record { kind = k; id = idOf (r .rank) }; high = known k s (idOf (r .rank)); last = leftAt k s f r }
 
 -- the known ids of a kind, in the table's order, which is OSM order
-unfoldable pub kindTable : Kind → Shelf → (ℕ → Bytes) → Table
+unfoldable pub kindTable : Kind → KindStore → (ℕ → Bytes) → Table
 kindTable k s f = map (rowOf k s f) (rowsIn s)
 
 abbrev pub partOf : Kind → Overlay → Table
-partOf k o = kindTable k (shelfOf k o) (textOf (textsOf (o .texts)))
+partOf k o = kindTable k (kindStoreOf k o) (textOf (textsOf (o .texts)))
 
 -- "Kinds n, w, r in that order"
 unfoldable pub tableOf : Overlay → Table
@@ -50,4 +50,4 @@ unfoldable pub isRank : table.Row → Bool
 isRank r = ltb (r .rank) 18446744073709551616
 
 pub record Ranked (o : Overlay) : Type 0 where
-  pub rows : (k : Kind) → all isRank (rowsIn (shelfOf k o)) ≡ true
+  pub rows : (k : Kind) → all isRank (rowsIn (kindStoreOf k o)) ≡ true

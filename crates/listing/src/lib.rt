@@ -17,34 +17,34 @@ pub enum Listed {
 
 // "Kinds n, w, r in that order", with so much room. Lent no bytes it only measures.
 fn put_page(
-    nids: &[u64],
-    narena: &[u8],
-    wids: &[u64],
-    warena: &[u8],
-    rids: &[u64],
-    rarena: &[u8],
-    spans: &[u64],
-    bytes: &[u8],
-    counts: &[u64; 9],
+    ni: &[u64],
+    na: &[u8],
+    wi: &[u64],
+    wa: &[u8],
+    ri: &[u64],
+    ra: &[u8],
+    ss: &[u64],
+    sb: &[u8],
+    us: &[u64; 9],
     out: &mut [u8],
     cap: usize,
 ) -> Room
     ensures { λ r. ⌜ record { out = now (out .exit); room = r }
-        ≡ print cap (piecesOf (lent nids narena wids warena rids rarena spans bytes counts)) (record { out = now (out .entry); room = Left cap }) ⌝ }
+        ≡ print cap (piecesOf (lent ni na wi wa ri ra ss sb us)) (record { out = now (out .entry); room = Left cap }) ⌝ }
 {
-    let n = little::lesser(counts[7] as usize, bytes.len());
-    let texts = &bytes[..n];
-    let strings = counts[6];
+    let n = little::lesser(us[7] as usize, sb.len());
+    let texts = &sb[..n];
+    let strings = us[6];
     let room = rows::put_lines(
         out,
         cap,
         Room::Left(cap),
         Kind::Node,
-        nids,
-        counts[0],
-        narena,
-        counts[3],
-        spans,
+        ni,
+        us[0],
+        na,
+        us[3],
+        ss,
         texts,
         strings,
     );
@@ -53,11 +53,11 @@ fn put_page(
         cap,
         room,
         Kind::Way,
-        wids,
-        counts[1],
-        warena,
-        counts[4],
-        spans,
+        wi,
+        us[1],
+        wa,
+        us[4],
+        ss,
         texts,
         strings,
     );
@@ -66,11 +66,11 @@ fn put_page(
         cap,
         room,
         Kind::Relation,
-        rids,
-        counts[2],
-        rarena,
-        counts[5],
-        spans,
+        ri,
+        us[2],
+        ra,
+        us[5],
+        ss,
         texts,
         strings,
     )
@@ -78,91 +78,46 @@ fn put_page(
 
 // The page over the first bytes of the output, or 19: first measured, lent the output's end, then written.
 fn put_listing(
-    nids: &[u64],
-    narena: &[u8],
-    wids: &[u64],
-    warena: &[u8],
-    rids: &[u64],
-    rarena: &[u8],
-    spans: &[u64],
-    bytes: &[u8],
-    counts: &[u64; 9],
+    ni: &[u64],
+    na: &[u8],
+    wi: &[u64],
+    wa: &[u8],
+    ri: &[u64],
+    ra: &[u8],
+    ss: &[u64],
+    sb: &[u8],
+    us: &[u64; 9],
     out: &mut [u8],
 ) -> Listed
     ensures { λ r. ⌜ record { out = now (out .exit); answer = r }
-        ≡ pageOver (now (out .entry)) (joinedPieces (piecesOf (lent nids narena wids warena rids rarena spans bytes counts))) ⌝ }
+        ≡ pageOver (now (out .entry)) (joinedPieces (piecesOf (lent ni na wi wa ri ra ss sb us))) ⌝ }
 {
     let end = out.len();
-    let Room::Left(left) = put_page(
-        nids,
-        narena,
-        wids,
-        warena,
-        rids,
-        rarena,
-        spans,
-        bytes,
-        counts,
-        &mut out[end..],
-        end,
-    ) else {
+    let Room::Left(left) = put_page(ni, na, wi, wa, ri, ra, ss, sb, us, &mut out[end..], end) else {
         return Listed::Refused(Refusal::ShortOutput);
     };
-    put_page(
-        nids,
-        narena,
-        wids,
-        warena,
-        rids,
-        rarena,
-        spans,
-        bytes,
-        counts,
-        out,
-        end,
-    );
+    put_page(ni, na, wi, wa, ri, ra, ss, sb, us, out, end);
     Listed::Length(end - left)
 }
 
 // The listing of an overlay at the start of the output: 22, 19, or its length.
 pub fn list(
-    nids: &[u64],
-    narena: &[u8],
-    wids: &[u64],
-    warena: &[u8],
-    rids: &[u64],
-    rarena: &[u8],
-    spans: &[u64],
-    bytes: &[u8],
-    counts: &[u64; 9],
+    ni: &[u64],
+    na: &[u8],
+    wi: &[u64],
+    wa: &[u8],
+    ri: &[u64],
+    ra: &[u8],
+    ss: &[u64],
+    sb: &[u8],
+    us: &[u64; 9],
     out: &mut [u8],
 ) -> Listed
     ensures { λ r. ⌜ record { out = now (out .exit); answer = r }
-        ≡ listingOn (now (out .entry)) (lent nids narena wids warena rids rarena spans bytes counts) ⌝ }
+        ≡ listingOn (now (out .entry)) (lent ni na wi wa ri ra ss sb us) ⌝ }
 {
-    if overlay::is_sound(
-        nids,
-        narena,
-        wids,
-        warena,
-        rids,
-        rarena,
-        spans,
-        bytes,
-        counts,
-    ) {
-        return put_listing(
-            nids,
-            narena,
-            wids,
-            warena,
-            rids,
-            rarena,
-            spans,
-            bytes,
-            counts,
-            out,
-        );
+    if overlay::is_sound(ni, na, wi, wa, ri, ra, ss, sb, us) {
+        return put_listing(ni, na, wi, wa, ri, ra, ss, sb, us, out);
     }
     Listed::Refused(Refusal::Unsound)
 }

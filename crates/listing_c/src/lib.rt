@@ -26,30 +26,19 @@ fn listed_reply(answer: Listed) -> ListingReply
 // The listing at the start of the output: 22, 19, or its length.
 #[no_mangle]
 pub extern "C" fn tvk_listing(
-    nids: &[u64],
-    narena: &[u8],
-    wids: &[u64],
-    warena: &[u8],
-    rids: &[u64],
-    rarena: &[u8],
-    spans: &[u64],
-    bytes: &[u8],
-    used: &[u64; 9],
+    ni: &[u64],
+    na: &[u8],
+    wi: &[u64],
+    wa: &[u8],
+    ri: &[u64],
+    ra: &[u8],
+    ss: &[u64],
+    sb: &[u8],
+    us: &[u64; 9],
     out: &mut [u8],
 ) -> ListingReply
     ensures { λ r. ⌜ record { out = now (out .exit); reply = r }
-        ≡ listingReply (now (out .entry)) (lent nids narena wids warena rids rarena spans bytes used) ⌝ }
+        ≡ listingReply (now (out .entry)) (lent ni na wi wa ri ra ss sb us) ⌝ }
 {
-    listed_reply(listing::list(
-        nids,
-        narena,
-        wids,
-        warena,
-        rids,
-        rarena,
-        spans,
-        bytes,
-        used,
-        out,
-    ))
+    listed_reply(listing::list(ni, na, wi, wa, ri, ra, ss, sb, us, out))
 }

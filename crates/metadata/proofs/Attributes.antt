@@ -15,7 +15,7 @@ use Rattle.model.specs.Record.{Meta, flagged}
 use Rattle.event.specs.Event.{Attr}
 use Rattle.scan.specs.Piece.{valueText}
 use Rattle.scan.specs.Scan.{attributesAt}
-use Rattle.scan.proofs.Places.{Stands}
+use Rattle.scan.proofs.Places.{AttributeAt}
 use Rattle.scan.proofs.Attributes.{attributes-step}
 use Rattle.field.specs.Field.{got, bad, andThen, mark, metaWith, metaFrom}
 use Rattle.field.proofs.Metadata.{Flag, present, hidden, hasUser, hasVersion, bitOf, mark-small}
@@ -62,7 +62,7 @@ false-here {t} {from} {to} v e = e ∙ ap (λ (s : Bytes). same s (ascii "false"
 
 -- ---- attributes in line order
 
-module _ {t : Bytes} {at eq to : ℕ} (d : Stands t at eq to) where
+module _ {t : Bytes} {at eq to : ℕ} (d : AttributeAt t at eq to) where
   pub behind-within : Inside t (cond (ltb eq to) (eq + 1) to) to
   behind-within =
       byLt eq to

@@ -10,7 +10,7 @@ use Rattle.integer.specs.Integer.{integerOf}
 use Rattle.stamp.specs.Stamp.{stamp}
 use Rattle.model.specs.Record.{Meta}
 use Rattle.field.specs.Field.{Field, got, bad, andThen, anInteger, aStamp, withVersion, withTimestamp, withChangeset, withUid, withUser, withVisible}
-use Rattle.values.specs.Value.{textAt, ExtentLies}
+use Rattle.values.specs.Value.{textAt, ExtentInBounds}
 use Rattle.metadata.specs.declared.Metadata.{Metadata}
 use Rattle.metadata.specs.declared.MetaName.{MetaName}
 use Rattle.metadata.specs.declared.MetaName.the-variants as M
@@ -29,9 +29,9 @@ metaWritten t m =
     }
 
 -- its flags are four bits, and its user lies in the line
-pub record MetadataLies (t : Bytes) (m : Metadata) : Type 0 where
+pub record MetadataInBounds (t : Bytes) (m : Metadata) : Type 0 where
   pub small : m .flags ≤ 15
-  pub user : ExtentLies t (m .user)
+  pub user : ExtentInBounds t (m .user)
 
 -- ---- an answer: metadata, or a refusal
 
@@ -39,14 +39,14 @@ abbrev pub metaField : Bytes → MetaField → Field (Meta Bytes)
 metaField t (D.Is m) = got (metaWritten t m)
 metaField t (D.Bad r) = bad r
 
-abbrev pub MetaFieldLies : Bytes → MetaField → Type 0
-MetaFieldLies t (D.Is m) = MetadataLies t m
-MetaFieldLies t (D.Bad r) = Unit {0}
+abbrev pub MetaFieldInBounds : Bytes → MetaField → Type 0
+MetaFieldInBounds t (D.Is m) = MetadataInBounds t m
+MetaFieldInBounds t (D.Bad r) = Unit {0}
 
 -- an answer stands for a field, and holds metadata that lies in the line
 pub record Reads (t : Bytes) (f : Field (Meta Bytes)) (r : MetaField) : Type 0 where
   pub is : metaField t r ≡ f
-  pub held : MetaFieldLies t r
+  pub held : MetaFieldInBounds t r
 
 -- ---- one attribute, by its name
 

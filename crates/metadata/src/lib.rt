@@ -9,7 +9,7 @@ ghost use Rattle.scan.specs.Scan.{attributesAt};
 ghost use Rattle.field.specs.Field.{mark, metadataOf};
 ghost use Rattle.field.proofs.Metadata.{Flag, bitOf};
 ghost use Rattle.values.specs.Value.{Inside};
-ghost use Rattle.metadata.specs.Metadata.{metaWritten, MetadataLies, metaField, MetaFieldLies, Reads, metaName, metaAs};
+ghost use Rattle.metadata.specs.Metadata.{metaWritten, MetadataInBounds, metaField, MetaFieldInBounds, Reads, metaName, metaAs};
 ghost use Rattle.metadata.specs.declared.MetaName.the-variants as names;
 use integer::Integer;
 use refusal::Refusal;
@@ -84,7 +84,7 @@ fn mark(flags: u8, bit: u8) -> u8
 }
 
 fn with_version(m: Metadata, t: &[u8], from: usize, to: usize) -> MetaField
-    requires { ⌜ MetadataLies (now t) m × Inside (now t) from to ⌝ }
+    requires { ⌜ MetadataInBounds (now t) m × Inside (now t) from to ⌝ }
     ensures { λ r. ⌜ Reads (now (t .entry)) (metaAs names.Version (metaWritten (now (t .entry)) m) (valueText (slice from to (now (t .entry))))) r ⌝ }
 {
     let Narrow::Is(b) = values::integer_32(&t[from..to]) else {
@@ -97,7 +97,7 @@ fn with_version(m: Metadata, t: &[u8], from: usize, to: usize) -> MetaField
 }
 
 fn with_timestamp(m: Metadata, t: &[u8], from: usize, to: usize) -> MetaField
-    requires { ⌜ MetadataLies (now t) m × Inside (now t) from to ⌝ }
+    requires { ⌜ MetadataInBounds (now t) m × Inside (now t) from to ⌝ }
     ensures { λ r. ⌜ Reads (now (t .entry)) (metaAs names.Timestamp (metaWritten (now (t .entry)) m) (valueText (slice from to (now (t .entry))))) r ⌝ }
 {
     let Stamp::At(b) = stamp::parse_rfc3339_utc(&t[from..to]) else {
@@ -110,7 +110,7 @@ fn with_timestamp(m: Metadata, t: &[u8], from: usize, to: usize) -> MetaField
 }
 
 fn with_changeset(m: Metadata, t: &[u8], from: usize, to: usize) -> MetaField
-    requires { ⌜ MetadataLies (now t) m × Inside (now t) from to ⌝ }
+    requires { ⌜ MetadataInBounds (now t) m × Inside (now t) from to ⌝ }
     ensures { λ r. ⌜ Reads (now (t .entry)) (metaAs names.Changeset (metaWritten (now (t .entry)) m) (valueText (slice from to (now (t .entry))))) r ⌝ }
 {
     let Integer::Is(b) = integer::read_i64(&t[from..to]) else {
@@ -123,7 +123,7 @@ fn with_changeset(m: Metadata, t: &[u8], from: usize, to: usize) -> MetaField
 }
 
 fn with_uid(m: Metadata, t: &[u8], from: usize, to: usize) -> MetaField
-    requires { ⌜ MetadataLies (now t) m × Inside (now t) from to ⌝ }
+    requires { ⌜ MetadataInBounds (now t) m × Inside (now t) from to ⌝ }
     ensures { λ r. ⌜ Reads (now (t .entry)) (metaAs names.Uid (metaWritten (now (t .entry)) m) (valueText (slice from to (now (t .entry))))) r ⌝ }
 {
     let Narrow::Is(b) = values::integer_32(&t[from..to]) else {
@@ -136,7 +136,7 @@ fn with_uid(m: Metadata, t: &[u8], from: usize, to: usize) -> MetaField
 }
 
 fn with_user(m: Metadata, t: &[u8], from: usize, to: usize) -> MetaField
-    requires { ⌜ MetadataLies (now t) m × Inside (now t) from to ⌝ }
+    requires { ⌜ MetadataInBounds (now t) m × Inside (now t) from to ⌝ }
     ensures { λ r. ⌜ Reads (now (t .entry)) (metaAs names.User (metaWritten (now (t .entry)) m) (valueText (slice from to (now (t .entry))))) r ⌝ }
 {
     let mut n = m;
@@ -148,7 +148,7 @@ fn with_user(m: Metadata, t: &[u8], from: usize, to: usize) -> MetaField
 
 // Only `false` exactly hides.
 fn with_visible(m: Metadata, t: &[u8], from: usize, to: usize) -> MetaField
-    requires { ⌜ MetadataLies (now t) m × Inside (now t) from to ⌝ }
+    requires { ⌜ MetadataInBounds (now t) m × Inside (now t) from to ⌝ }
     ensures { λ r. ⌜ Reads (now (t .entry)) (metaAs names.Visible (metaWritten (now (t .entry)) m) (valueText (slice from to (now (t .entry))))) r ⌝ }
 {
     let mut n = m;
@@ -161,7 +161,7 @@ fn with_visible(m: Metadata, t: &[u8], from: usize, to: usize) -> MetaField
 }
 
 fn with_attribute(m: Metadata, name: MetaName, t: &[u8], from: usize, to: usize) -> MetaField
-    requires { ⌜ MetadataLies (now t) m × Inside (now t) from to ⌝ }
+    requires { ⌜ MetadataInBounds (now t) m × Inside (now t) from to ⌝ }
     ensures { λ r. ⌜ Reads (now (t .entry)) (metaAs name (metaWritten (now (t .entry)) m) (valueText (slice from to (now (t .entry))))) r ⌝ }
 {
     match name {
@@ -190,7 +190,7 @@ fn behind(eq: usize, to: usize) -> usize
 // Metadata in line order, of the attributes from a place on.
 pub fn meta_field(t: &[u8], at: usize) -> MetaField
     ensures { λ r. ⌜ metaField (now (t .entry)) r ≡ metadataOf (attributesAt (now (t .entry)) at) ⌝ }
-    ensures { λ r. ⌜ MetaFieldLies (now (t .entry)) r ⌝ }
+    ensures { λ r. ⌜ MetaFieldInBounds (now (t .entry)) r ⌝ }
 {
     let user = Extent { from: 0, to: 0 };
     let mut m = Metadata {

@@ -13,19 +13,19 @@ use Rattle.kind.specs.declared.Kind.the-variants.{Node, Way, Relation}
 use Rattle.refusal.specs.declared.Refusal.{Refusal}
 use Rattle.refusal.specs.declared.Refusal.the-variants as R
 use Rattle.interner.proofs.Interns as Interns
-use Rattle.shelf.specs.Shelf.{takenIn}
-use Rattle.shelf.specs.declared.Kept.{Kept}
-use Rattle.shelf.specs.declared.Kept.the-variants.{Taken, Refused}
-use Rattle.overlay.specs.Overlay.{Overlay, overlayOf, countsOf, shelfOf, withShelf, withSetting, largest, sizesFit, empty}
+use Rattle.kind_store.specs.KindStore.{takenIn}
+use Rattle.kind_store.specs.declared.Kept.{Kept}
+use Rattle.kind_store.specs.declared.Kept.the-variants.{Taken, Refused}
+use Rattle.overlay.specs.Overlay.{Overlay, overlayOf, countsOf, kindStoreOf, withKindStore, withSetting, largest, sizesFit, empty}
 use Rattle.overlay.specs.Sound.{isSound}
 use Rattle.overlay.specs.Calls.{OverlayAfter, overlayRefused, setUp, allowOn}
 
 -- ---- the parts of an overlay
 
 -- the counters of what is lent are the counters lent
-pub kept-counts : (nids : List ℕ) (narena : Bytes) (wids : List ℕ) (warena : Bytes) (rids : List ℕ) (rarena : Bytes) (spans : List ℕ) (bytes : Bytes) (used : List ℕ)
-    → length used ≡ 9 → countsOf (overlayOf nids narena wids warena rids rarena spans bytes used) ≡ used
-kept-counts nids narena wids warena rids rarena spans bytes used e =
+pub kept-counts : (ni : List ℕ) (na : Bytes) (wi : List ℕ) (wa : Bytes) (ri : List ℕ) (ra : Bytes) (spans : List ℕ) (bytes : Bytes) (used : List ℕ)
+    → length used ≡ 9 → countsOf (overlayOf ni na wi wa ri ra spans bytes used) ≡ used
+kept-counts ni na wi wa ri ra spans bytes used e =
     let z : drop 9 used ≡ [] = rw e at (drop-length used) in
     cc (
       drop-cons used 0 0 (omega arith),
@@ -39,11 +39,11 @@ kept-counts nids narena wids warena rids rarena spans bytes used e =
       drop-cons used 8 0 (omega arith),
     )
 
--- a shelf that is put back changes nothing
-pub shelf-back : (k : Kind) (o : Overlay) → withShelf k (shelfOf k o) o ≡ o
-shelf-back Node o = refl
-shelf-back Way o = refl
-shelf-back Relation o = refl
+-- a kind store that is put back changes nothing
+pub kind-store-back : (k : Kind) (o : Overlay) → withKindStore k (kindStoreOf k o) o ≡ o
+kind-store-back Node o = refl
+kind-store-back Way o = refl
+kind-store-back Relation o = refl
 
 -- an act is taken or refused
 pub byKept : {C : Type 0} (x : Kept) → (takenIn x ≡ true → C) → ((r : Refusal) → x ≡ Refused r → C) → C

@@ -1,4 +1,4 @@
--- Set-up makes a sound overlay; the regression setting and a shelf put anew keep one sound, and its bytes bytes.
+-- Set-up makes a sound overlay; the regression setting and a kind store put anew keep one sound, and its bytes bytes.
 use Prim.Native.Nat.{ℕ, _≤_, _/_}
 use mathlib.Core.Path.{_≡_, refl, sym, _∙_}
 use mathlib.Core.Bool.{true}
@@ -15,23 +15,23 @@ use Rattle.legal.proofs.Laws.{whole-more}
 use Rattle.legal.proofs.Wholes.{kept-unique}
 use Rattle.interner.specs.Sound.{freshStore}
 use Rattle.interner.proofs.Interns as Interns
-use Rattle.shelf.specs.Shelf.{Shelf, takenIn}
-use Rattle.sound.specs.Sound.{SoundShelf}
+use Rattle.kind_store.specs.KindStore.{KindStore, takenIn}
+use Rattle.sound.specs.Sound.{SoundKindStore}
 use Rattle.sound.proofs.Keeps as Sounds
-use Rattle.overlay.specs.Overlay.{Overlay, shelfOf, withShelf, largest, sizesFit, textsFit, shelfFits, emptied, empty}
+use Rattle.overlay.specs.Overlay.{Overlay, kindStoreOf, withKindStore, largest, sizesFit, textsFit, kindStoreFits, emptied, empty}
 use Rattle.overlay.specs.Given.{InBytes}
 use Rattle.overlay.specs.Sound.{Sound}
 use Rattle.overlay.specs.Calls.{setUp, allowOn}
 use Rattle.overlay.proofs.Answers.{byKept, setup-refused, setup-taken, byAllow}
-use Rattle.overlay.proofs.Shelves.{shelf-texts, each-shelf, sized-shelf, sized-texts, sized-of, shelf-sized, texts-sized, put-sized, setting-shelf}
+use Rattle.overlay.proofs.KindStores.{kind-store-texts, each-kind-store, sized-kind-store, sized-texts, sized-of, kind-store-sized, texts-sized, put-sized, setting-kind-store}
 
 -- ---- set-up makes a sound overlay
 
 module _ (setting : ℕ) (o : Overlay) where
-  emptied-shelf : (P : Kind → Shelf → Type 0) → ((k : Kind) → P k (emptied (shelfOf k o))) → (k : Kind) → P k (shelfOf k (empty setting o))
-  emptied-shelf P f Node = f Node
-  emptied-shelf P f Way = f Way
-  emptied-shelf P f Relation = f Relation
+  emptied-kind-store : (P : Kind → KindStore → Type 0) → ((k : Kind) → P k (emptied (kindStoreOf k o))) → (k : Kind) → P k (kindStoreOf k (empty setting o))
+  emptied-kind-store P f Node = f Node
+  emptied-kind-store P f Way = f Way
+  emptied-kind-store P f Relation = f Relation
 
   -- one string is lent at least
   span-lent : sizesFit largest o ≡ true → 2 ≤ length (o .texts .spans)
@@ -43,10 +43,10 @@ module _ (setting : ℕ) (o : Overlay) where
       record {
         sizes =
             sized-of largest (empty setting o)
-            (emptied-shelf (λ k s. shelfFits largest s ≡ true) (λ k. shelf-sized largest (shelfOf k o) (emptied (shelfOf k o)) refl refl (sized-shelf largest o h k)))
+            (emptied-kind-store (λ k s. kindStoreFits largest s ≡ true) (λ k. kind-store-sized largest (kindStoreOf k o) (emptied (kindStoreOf k o)) refl refl (sized-kind-store largest o h k)))
             (texts-sized largest (o .texts) (empty setting o .texts) (length-over (o .texts .spans) 0 _) refl (sized-texts largest o h));
         strings = Interns.sound-of (freshStore (o .texts .spans) (o .texts .bytes)) (Interns.fresh-sound (o .texts .spans) (o .texts .bytes) (span-lent h));
-        shelves = emptied-shelf (SoundShelf 1) (λ k. Sounds.empty-sound 1 k (shelfOf k o .table) (shelfOf k o .arena));
+        kindStores = emptied-kind-store (SoundKindStore 1) (λ k. Sounds.empty-sound 1 k (kindStoreOf k o .table) (kindStoreOf k o .arena));
       }
 
   pub setup-sound : takenIn (setUp setting o .answer) ≡ true → Sound (setUp setting o .overlay)
@@ -55,7 +55,7 @@ module _ (setting : ℕ) (o : Overlay) where
 pub setup-bytes : (setting : ℕ) (o : Overlay) → InBytes o → InBytes (setUp setting o .overlay)
 setup-bytes setting o w =
     byKept (setUp setting o .answer)
-    (λ e. rw (setup-taken setting o e .1) (record { arenas = emptied-shelf setting o (λ k (s : Shelf). all isByte (s .arena) ≡ true) (w .arenas); texts = w .texts }))
+    (λ e. rw (setup-taken setting o e .1) (record { arenas = emptied-kind-store setting o (λ k (s : KindStore). all isByte (s .arena) ≡ true) (w .arenas); texts = w .texts }))
     (λ r e. rw (setup-refused setting o r e) w)
 
 -- ---- the regression setting keeps an overlay sound, and its bytes bytes
@@ -65,31 +65,31 @@ module _ (setting : ℕ) (o : Overlay) where
   unfolding sizesFit
   allow-sound w =
       byAllow setting o (λ s e. rw e w)
-      (λ s e. rw e (record { sizes = w .sizes; strings = w .strings; shelves = λ k. rw setting-shelf (w .shelves k) }))
+      (λ s e. rw e (record { sizes = w .sizes; strings = w .strings; kindStores = λ k. rw setting-kind-store (w .kindStores k) }))
 
   pub allow-bytes : InBytes o → InBytes (allowOn setting o .overlay)
   allow-bytes w =
-      byAllow setting o (λ s e. rw e w) (λ s e. rw e (record { arenas = λ k. rw setting-shelf (w .arenas k); texts = w .texts }))
+      byAllow setting o (λ s e. rw e w) (λ s e. rw e (record { arenas = λ k. rw setting-kind-store (w .arenas k); texts = w .texts }))
 
 -- ---- one part put anew
 
--- more strings keep a shelf sound
-pub more-sound : (n m : ℕ) → n ≤ m → (k : Kind) (s : Shelf) → SoundShelf n k s → SoundShelf m k s
+-- more strings keep a kind store sound
+pub more-sound : (n m : ℕ) → n ≤ m → (k : Kind) (s : KindStore) → SoundKindStore n k s → SoundKindStore m k s
 more-sound n m l k s w =
     let v = whole-more n m l k (take (s .used) (s .arena)) (w .whole) in
     let e : v .kept ≡ w .whole .kept = kept-unique k (v .kept) (w .whole .kept) (v .fits) (w .whole .fits) (sym (v .same) ∙ w .whole .same) in
     record { fits = w .fits; whole = v; order = w .order; rows = rw e (w .rows) }
 
--- a sound shelf of the same size put
-pub put-sound : (k : Kind) (s : Shelf) (o : Overlay) → length (s .table) ≡ length (shelfOf k o .table) → length (s .arena) ≡ length (shelfOf k o .arena)
-    → Sound o → SoundShelf (o .texts .strings) k s → Sound (withShelf k s o)
+-- a sound kind store of the same size put
+pub put-sound : (k : Kind) (s : KindStore) (o : Overlay) → length (s .table) ≡ length (kindStoreOf k o .table) → length (s .arena) ≡ length (kindStoreOf k o .arena)
+    → Sound o → SoundKindStore (o .texts .strings) k s → Sound (withKindStore k s o)
 put-sound k s o e f w v =
     record {
       sizes = put-sized largest k s o e f (w .sizes);
-      strings = rw shelf-texts (w .strings);
-      shelves = rw shelf-texts (each-shelf (SoundShelf (o .texts .strings)) k s o v (w .shelves));
+      strings = rw kind-store-texts (w .strings);
+      kindStores = rw kind-store-texts (each-kind-store (SoundKindStore (o .texts .strings)) k s o v (w .kindStores));
     }
 
-pub put-bytes : (k : Kind) (s : Shelf) (o : Overlay) → all isByte (s .arena) ≡ true → InBytes o → InBytes (withShelf k s o)
+pub put-bytes : (k : Kind) (s : KindStore) (o : Overlay) → all isByte (s .arena) ≡ true → InBytes o → InBytes (withKindStore k s o)
 put-bytes k s o b w =
-    record { arenas = each-shelf (λ j (t : Shelf). all isByte (t .arena) ≡ true) k s o b (w .arenas); texts = rw shelf-texts (w .texts) }
+    record { arenas = each-kind-store (λ j (t : KindStore). all isByte (t .arena) ≡ true) k s o b (w .arenas); texts = rw kind-store-texts (w .texts) }

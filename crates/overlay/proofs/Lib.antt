@@ -2,6 +2,6 @@ pub mod Parts
 pub mod Decides
 pub mod Answers
 pub mod Bounds
-pub mod Shelves
+pub mod KindStores
 pub mod Keeps
 pub mod First

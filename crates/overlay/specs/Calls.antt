@@ -3,8 +3,8 @@ use Prim.Native.Nat.{ℕ}
 use mathlib.Core.Bool.{cond}
 use Rattle.refusal.specs.declared.Refusal.{Refusal}
 use Rattle.refusal.specs.declared.Refusal.the-variants as R
-use Rattle.shelf.specs.declared.Kept.{Kept}
-use Rattle.shelf.specs.declared.Kept.the-variants.{Taken, Refused}
+use Rattle.kind_store.specs.declared.Kept.{Kept}
+use Rattle.kind_store.specs.declared.Kept.the-variants.{Taken, Refused}
 use Rattle.overlay.specs.Overlay.{Overlay, withSetting, largest, sizesFit, empty}
 use Rattle.overlay.specs.Sound.{isSound}
 

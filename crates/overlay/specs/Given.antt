@@ -7,7 +7,7 @@ use Rattle.little.specs.Little.{isByte}
 use Rattle.kind.specs.declared.Kind.{Kind}
 use Rattle.compact.specs.declared.ArenaMeta.{ArenaMeta}
 use Rattle.compact.specs.declared.PushHead.{PushHead}
-use Rattle.overlay.specs.Overlay.{Overlay, shelfOf}
+use Rattle.overlay.specs.Overlay.{Overlay, kindStoreOf}
 
 unfoldable pub headFits : PushHead → Bool
 headFits h =
@@ -21,5 +21,5 @@ metaFits m =
 
 -- the bytes of an overlay are bytes
 pub record InBytes (o : Overlay) : Type 0 where
-  pub arenas : (k : Kind) → all isByte (shelfOf k o .arena) ≡ true
+  pub arenas : (k : Kind) → all isByte (kindStoreOf k o .arena) ≡ true
   pub texts : all isByte (o .texts .bytes) ≡ true

@@ -7,21 +7,21 @@ use Rattle.base.specs.Bytes.{both}
 use Rattle.kind.specs.declared.Kind.{Kind}
 use Rattle.kind.specs.declared.Kind.the-variants.{Node, Way, Relation}
 use Rattle.interner.specs.Sound.{soundStrings}
-use Rattle.sound.specs.Sound.{SoundShelf}
-use Rattle.sound.specs.Check.{soundShelf}
-use Rattle.overlay.specs.Overlay.{Overlay, shelfOf, largest, sizesFit}
+use Rattle.sound.specs.Sound.{SoundKindStore}
+use Rattle.sound.specs.Check.{soundKindStore}
+use Rattle.overlay.specs.Overlay.{Overlay, kindStoreOf, largest, sizesFit}
 
 pub record Sound (o : Overlay) : Type 0 where
   pub sizes : sizesFit largest o ≡ true
   pub strings : soundStrings (o .texts) ≡ true
-  pub shelves : (k : Kind) → SoundShelf (o .texts .strings) k (shelfOf k o)
+  pub kindStores : (k : Kind) → SoundKindStore (o .texts .strings) k (kindStoreOf k o)
 
 -- the same as a test, total for any storage; proofs/Decides shows that it holds exactly where the overlay is sound
 abbrev pub soundOf : Kind → Overlay → Bool
-soundOf k o = soundShelf (o .texts .strings) k (shelfOf k o)
+soundOf k o = soundKindStore (o .texts .strings) k (kindStoreOf k o)
 
-unfoldable pub shelvesSound : Overlay → Bool
-shelvesSound o = both (soundOf Node o) (both (soundOf Way o) (soundOf Relation o))
+unfoldable pub kindStoresSound : Overlay → Bool
+kindStoresSound o = both (soundOf Node o) (both (soundOf Way o) (soundOf Relation o))
 
 unfoldable pub isSound : Overlay → Bool
-isSound o = both (sizesFit largest o) (both (soundStrings (o .texts)) (shelvesSound o))
+isSound o = both (sizesFit largest o) (both (soundStrings (o .texts)) (kindStoresSound o))

@@ -5,19 +5,19 @@ ghost use mathlib.Core.Path.{_≡_};
 ghost use mathlib.Core.List.{[], _∷_};
 ghost use Prim.Native.Nat.{ℕ, _<_};
 ghost use lib.ListN.{length, set};
-ghost use Rattle.shelf.specs.Shelf.{shelfWith};
+ghost use Rattle.kind_store.specs.KindStore.{kindStoreWith};
 ghost use Rattle.interner.specs.Strings.{storeWith};
-ghost use Rattle.overlay.specs.Overlay.{lent, left, largest, shelfFits, textsFit, sizesFit};
-ghost use Rattle.overlay.specs.Sound.{isSound, shelvesSound};
+ghost use Rattle.overlay.specs.Overlay.{lent, left, largest, kindStoreFits, textsFit, sizesFit};
+ghost use Rattle.overlay.specs.Sound.{isSound, kindStoresSound};
 ghost use Rattle.overlay.specs.Calls.{setUp, allowOn};
 use kind::Kind;
+use kind_store::Kept;
 use refusal::Refusal;
-use shelf::Kept;
 
 // ---- sizes
 
-fn shelf_fits(table: &[u64], arena: &[u8]) -> bool
-    ensures { λ r. ⌜ ((ids end : ℕ) → r ≡ shelfFits largest (shelfWith (now (table .entry)) ids (now (arena .entry)) end)) ⌝ }
+fn kind_store_fits(table: &[u64], arena: &[u8]) -> bool
+    ensures { λ r. ⌜ ((ids end : ℕ) → r ≡ kindStoreFits largest (kindStoreWith (now (table .entry)) ids (now (arena .entry)) end)) ⌝ }
 {
     let ids = table.len() / 3;
     (1 <= ids) & ((ids <= 4096) & (arena.len() <= 1048576))
@@ -32,22 +32,22 @@ fn texts_fit(spans: &[u64], bytes: &[u8]) -> bool
 
 // Whether each lent size is one that set-up takes.
 fn sizes_fit(
-    nids: &[u64],
-    narena: &[u8],
-    wids: &[u64],
-    warena: &[u8],
-    rids: &[u64],
-    rarena: &[u8],
-    spans: &[u64],
-    bytes: &[u8],
-    used: &[u64; 9],
+    ni: &[u64],
+    na: &[u8],
+    wi: &[u64],
+    wa: &[u8],
+    ri: &[u64],
+    ra: &[u8],
+    ss: &[u64],
+    sb: &[u8],
+    us: &[u64; 9],
 ) -> bool
-    ensures { λ r. ⌜ r ≡ sizesFit largest (lent nids narena wids warena rids rarena spans bytes used) ⌝ }
+    ensures { λ r. ⌜ r ≡ sizesFit largest (lent ni na wi wa ri ra ss sb us) ⌝ }
 {
-    let n = shelf_fits(nids, narena);
-    let w = shelf_fits(wids, warena);
-    let r = shelf_fits(rids, rarena);
-    n & (w & (r & texts_fit(spans, bytes)))
+    let n = kind_store_fits(ni, na);
+    let w = kind_store_fits(wi, wa);
+    let r = kind_store_fits(ri, ra);
+    n & (w & (r & texts_fit(ss, sb)))
 }
 
 // ---- set-up
@@ -60,23 +60,23 @@ fn reset(used: &mut [u64; 9], setting: u64)
 
 // 1 for a size outside, else an empty overlay: the counters and the span of handle 0 are written.
 pub fn set_up(
-    nids: &[u64],
-    narena: &[u8],
-    wids: &[u64],
-    warena: &[u8],
-    rids: &[u64],
-    rarena: &[u8],
-    spans: &mut [u64],
-    bytes: &[u8],
-    used: &mut [u64; 9],
+    ni: &[u64],
+    na: &[u8],
+    wi: &[u64],
+    wa: &[u8],
+    ri: &[u64],
+    ra: &[u8],
+    ss: &mut [u64],
+    sb: &[u8],
+    us: &mut [u64; 9],
     setting: u64,
 ) -> Kept
-    ensures { λ r. ⌜ record { overlay = left nids narena wids warena rids rarena spans bytes used; answer = r }
-        ≡ setUp setting (lent nids narena wids warena rids rarena spans bytes used) ⌝ }
+    ensures { λ r. ⌜ record { overlay = left ni na wi wa ri ra ss sb us; answer = r }
+        ≡ setUp setting (lent ni na wi wa ri ra ss sb us) ⌝ }
 {
-    if sizes_fit(nids, narena, wids, warena, rids, rarena, spans, bytes, used) {
-        interner::empty_strings(spans);
-        reset(used, setting);
+    if sizes_fit(ni, na, wi, wa, ri, ra, ss, sb, us) {
+        interner::empty_strings(ss);
+        reset(us, setting);
         return Kept::Taken;
     }
     Kept::Refused(Refusal::Size)
@@ -84,23 +84,23 @@ pub fn set_up(
 
 // ---- soundness
 
-fn shelves_sound(
-    nids: &[u64],
-    narena: &[u8],
-    wids: &[u64],
-    warena: &[u8],
-    rids: &[u64],
-    rarena: &[u8],
-    spans: &[u64],
-    bytes: &[u8],
-    used: &[u64; 9],
+fn kind_stores_sound(
+    ni: &[u64],
+    na: &[u8],
+    wi: &[u64],
+    wa: &[u8],
+    ri: &[u64],
+    ra: &[u8],
+    ss: &[u64],
+    sb: &[u8],
+    us: &[u64; 9],
 ) -> bool
-    ensures { λ r. ⌜ r ≡ shelvesSound (lent nids narena wids warena rids rarena spans bytes used) ⌝ }
+    ensures { λ r. ⌜ r ≡ kindStoresSound (lent ni na wi wa ri ra ss sb us) ⌝ }
 {
-    let strings = used[6];
-    if sound::sound_shelf(Kind::Node, nids, used[0], narena, used[3], strings) {
-        if sound::sound_shelf(Kind::Way, wids, used[1], warena, used[4], strings) {
-            return sound::sound_shelf(Kind::Relation, rids, used[2], rarena, used[5], strings);
+    let strings = us[6];
+    if sound::sound_kind_store(Kind::Node, ni, us[0], na, us[3], strings) {
+        if sound::sound_kind_store(Kind::Way, wi, us[1], wa, us[4], strings) {
+            return sound::sound_kind_store(Kind::Relation, ri, us[2], ra, us[5], strings);
         }
         return false;
     }
@@ -109,21 +109,21 @@ fn shelves_sound(
 
 // Whether an overlay is sound: the sizes, the strings, then each kind.
 pub fn is_sound(
-    nids: &[u64],
-    narena: &[u8],
-    wids: &[u64],
-    warena: &[u8],
-    rids: &[u64],
-    rarena: &[u8],
-    spans: &[u64],
-    bytes: &[u8],
-    used: &[u64; 9],
+    ni: &[u64],
+    na: &[u8],
+    wi: &[u64],
+    wa: &[u8],
+    ri: &[u64],
+    ra: &[u8],
+    ss: &[u64],
+    sb: &[u8],
+    us: &[u64; 9],
 ) -> bool
-    ensures { λ r. ⌜ r ≡ isSound (lent nids narena wids warena rids rarena spans bytes used) ⌝ }
+    ensures { λ r. ⌜ r ≡ isSound (lent ni na wi wa ri ra ss sb us) ⌝ }
 {
-    if sizes_fit(nids, narena, wids, warena, rids, rarena, spans, bytes, used) {
-        if interner::sound_strings(spans, bytes, used[6], used[7]) {
-            return shelves_sound(nids, narena, wids, warena, rids, rarena, spans, bytes, used);
+    if sizes_fit(ni, na, wi, wa, ri, ra, ss, sb, us) {
+        if interner::sound_strings(ss, sb, us[6], us[7]) {
+            return kind_stores_sound(ni, na, wi, wa, ri, ra, ss, sb, us);
         }
         return false;
     }
@@ -141,22 +141,22 @@ fn put_setting(used: &mut [u64], setting: u64)
 
 // Sets the regression setting: 0 refuses regression, any other number allows it. 22, or done.
 pub fn allow_version_regression(
-    nids: &[u64],
-    narena: &[u8],
-    wids: &[u64],
-    warena: &[u8],
-    rids: &[u64],
-    rarena: &[u8],
-    spans: &[u64],
-    bytes: &[u8],
-    used: &mut [u64; 9],
+    ni: &[u64],
+    na: &[u8],
+    wi: &[u64],
+    wa: &[u8],
+    ri: &[u64],
+    ra: &[u8],
+    ss: &[u64],
+    sb: &[u8],
+    us: &mut [u64; 9],
     setting: u64,
 ) -> Kept
-    ensures { λ r. ⌜ record { overlay = left nids narena wids warena rids rarena spans bytes used; answer = r }
-        ≡ allowOn setting (lent nids narena wids warena rids rarena spans bytes used) ⌝ }
+    ensures { λ r. ⌜ record { overlay = left ni na wi wa ri ra ss sb us; answer = r }
+        ≡ allowOn setting (lent ni na wi wa ri ra ss sb us) ⌝ }
 {
-    if is_sound(nids, narena, wids, warena, rids, rarena, spans, bytes, used) {
-        put_setting(used, setting);
+    if is_sound(ni, na, wi, wa, ri, ra, ss, sb, us) {
+        put_setting(us, setting);
         return Kept::Taken;
     }
     Kept::Refused(Refusal::Unsound)

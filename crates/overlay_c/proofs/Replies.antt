@@ -8,7 +8,7 @@ use mir.Val.{SFits, toZ, ofZ}
 use mir.Facts.{toZ-ofZ}
 use Rattle.refusal.specs.declared.Reply.{Reply}
 use Rattle.refusal.specs.declared.Refusal.the-variants as R
-use Rattle.shelf.specs.declared.Kept.{Kept}
+use Rattle.kind_store.specs.declared.Kept.{Kept}
 use Rattle.overlay.specs.Overlay.{Overlay}
 use Rattle.overlay.specs.Sound.{isSound}
 use Rattle.overlay.specs.Calls.{OverlayAfter, overlayRefused}

@@ -12,8 +12,8 @@ use Rattle.refusal.specs.declared.Refusal.the-variants as R
 use Rattle.model.specs.Record.{Meta}
 use Rattle.compact.specs.declared.ArenaMeta.{ArenaMeta}
 use Rattle.compact.specs.declared.PushHead.{PushHead}
-use Rattle.shelf.specs.declared.Kept.{Kept}
-use Rattle.shelf.specs.declared.Kept.the-variants.{Taken, Refused}
+use Rattle.kind_store.specs.declared.Kept.{Kept}
+use Rattle.kind_store.specs.declared.Kept.the-variants.{Taken, Refused}
 use Rattle.overlay.specs.Overlay.{Overlay}
 use Rattle.overlay.specs.Calls.{OverlayAfter, ifSound, overlayRefused, setUp, allowOn}
 use Rattle.direct.specs.Calls.{pushOn, deleteOn, internOn}

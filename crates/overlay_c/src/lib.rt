@@ -8,9 +8,9 @@ ghost use Rattle.overlay_c.specs.Entries.{keptReply, handleText, soundRe
 use compact::ArenaMeta;
 use compact::PushHead;
 use kind::Named;
+use kind_store::Kept;
 use refusal::Refusal;
 use refusal::Reply;
-use shelf::Kept;
 use store::Handle;
 
 // What `intern` replies: 0 with the text's handle, or the refusal with 0.
@@ -44,50 +44,39 @@ fn handle_text(answer: Handle) -> Text
 // 1 for a size outside, else an empty overlay. Setting 0 refuses regression, any other allows it.
 #[no_mangle]
 pub extern "C" fn tvk_set_up(
-    nids: &[u64],
-    narena: &[u8],
-    wids: &[u64],
-    warena: &[u8],
-    rids: &[u64],
-    rarena: &[u8],
-    spans: &mut [u64],
-    bytes: &[u8],
-    used: &mut [u64; 9],
+    ni: &[u64],
+    na: &[u8],
+    wi: &[u64],
+    wa: &[u8],
+    ri: &[u64],
+    ra: &[u8],
+    ss: &mut [u64],
+    sb: &[u8],
+    us: &mut [u64; 9],
     setting: u64,
 ) -> Reply
-    ensures { λ r. ⌜ record { overlay = left nids narena wids warena rids rarena spans bytes used; reply = r }
-        ≡ setUpReply setting (lent nids narena wids warena rids rarena spans bytes used) ⌝ }
+    ensures { λ r. ⌜ record { overlay = left ni na wi wa ri ra ss sb us; reply = r }
+        ≡ setUpReply setting (lent ni na wi wa ri ra ss sb us) ⌝ }
 {
-    kept_reply(overlay::set_up(
-        nids,
-        narena,
-        wids,
-        warena,
-        rids,
-        rarena,
-        spans,
-        bytes,
-        used,
-        setting,
-    ))
+    kept_reply(overlay::set_up(ni, na, wi, wa, ri, ra, ss, sb, us, setting))
 }
 
 // 22 for an unsound overlay, else 0.
 #[no_mangle]
 pub extern "C" fn tvk_is_sound(
-    nids: &[u64],
-    narena: &[u8],
-    wids: &[u64],
-    warena: &[u8],
-    rids: &[u64],
-    rarena: &[u8],
-    spans: &[u64],
-    bytes: &[u8],
-    used: &[u64; 9],
+    ni: &[u64],
+    na: &[u8],
+    wi: &[u64],
+    wa: &[u8],
+    ri: &[u64],
+    ra: &[u8],
+    ss: &[u64],
+    sb: &[u8],
+    us: &[u64; 9],
 ) -> Reply
-    ensures { λ r. ⌜ r ≡ soundReply (isSound (lent nids narena wids warena rids rarena spans bytes used)) ⌝ }
+    ensures { λ r. ⌜ r ≡ soundReply (isSound (lent ni na wi wa ri ra ss sb us)) ⌝ }
 {
-    if overlay::is_sound(nids, narena, wids, warena, rids, rarena, spans, bytes, used) {
+    if overlay::is_sound(ni, na, wi, wa, ri, ra, ss, sb, us) {
         return Reply { number: 0, held: 0 };
     }
     refusal::reply_of(Refusal::Unsound)
@@ -95,19 +84,19 @@ pub extern "C" fn tvk_is_sound(
 
 // The reply where a kind's number means no kind: 22, else 17.
 fn unknown(
-    nids: &[u64],
-    narena: &[u8],
-    wids: &[u64],
-    warena: &[u8],
-    rids: &[u64],
-    rarena: &[u8],
-    spans: &[u64],
-    bytes: &[u8],
-    used: &[u64; 9],
+    ni: &[u64],
+    na: &[u8],
+    wi: &[u64],
+    wa: &[u8],
+    ri: &[u64],
+    ra: &[u8],
+    ss: &[u64],
+    sb: &[u8],
+    us: &[u64; 9],
 ) -> Reply
-    ensures { λ r. ⌜ r ≡ unknownReply (isSound (lent nids narena wids warena rids rarena spans bytes used)) ⌝ }
+    ensures { λ r. ⌜ r ≡ unknownReply (isSound (lent ni na wi wa ri ra ss sb us)) ⌝ }
 {
-    if overlay::is_sound(nids, narena, wids, warena, rids, rarena, spans, bytes, used) {
+    if overlay::is_sound(ni, na, wi, wa, ri, ra, ss, sb, us) {
         return refusal::reply_of(Refusal::BadRecord);
     }
     refusal::reply_of(Refusal::Unsound)
@@ -116,139 +105,117 @@ fn unknown(
 // Sets the regression setting: 0 refuses regression, any other number allows it.
 #[no_mangle]
 pub extern "C" fn tvk_allow_version_regression(
-    nids: &[u64],
-    narena: &[u8],
-    wids: &[u64],
-    warena: &[u8],
-    rids: &[u64],
-    rarena: &[u8],
-    spans: &[u64],
-    bytes: &[u8],
-    used: &mut [u64; 9],
+    ni: &[u64],
+    na: &[u8],
+    wi: &[u64],
+    wa: &[u8],
+    ri: &[u64],
+    ra: &[u8],
+    ss: &[u64],
+    sb: &[u8],
+    us: &mut [u64; 9],
     setting: u64,
 ) -> Reply
-    ensures { λ r. ⌜ record { overlay = left nids narena wids warena rids rarena spans bytes used; reply = r }
-        ≡ allowReply setting (lent nids narena wids warena rids rarena spans bytes used) ⌝ }
+    ensures { λ r. ⌜ record { overlay = left ni na wi wa ri ra ss sb us; reply = r }
+        ≡ allowReply setting (lent ni na wi wa ri ra ss sb us) ⌝ }
 {
-    kept_reply(overlay::allow_version_regression(
-        nids,
-        narena,
-        wids,
-        warena,
-        rids,
-        rarena,
-        spans,
-        bytes,
-        used,
-        setting,
-    ))
+    kept_reply(overlay::allow_version_regression(ni, na, wi, wa, ri, ra, ss, sb, us, setting))
 }
 
 // Takes a text in: 22, 3, 13, or its handle.
 #[no_mangle]
 pub extern "C" fn tvk_intern(
-    nids: &[u64],
-    narena: &[u8],
-    wids: &[u64],
-    warena: &[u8],
-    rids: &[u64],
-    rarena: &[u8],
-    spans: &mut [u64],
-    bytes: &mut [u8],
-    used: &mut [u64; 9],
+    ni: &[u64],
+    na: &[u8],
+    wi: &[u64],
+    wa: &[u8],
+    ri: &[u64],
+    ra: &[u8],
+    ss: &mut [u64],
+    sb: &mut [u8],
+    us: &mut [u64; 9],
     text: &[u8],
 ) -> Text
-    ensures { λ r. ⌜ record { overlay = left nids narena wids warena rids rarena spans bytes used; reply = r }
-        ≡ internReply (now (text .entry)) (lent nids narena wids warena rids rarena spans bytes used) ⌝ }
+    ensures { λ r. ⌜ record { overlay = left ni na wi wa ri ra ss sb us; reply = r }
+        ≡ internReply (now (text .entry)) (lent ni na wi wa ri ra ss sb us) ⌝ }
 {
-    handle_text(direct::intern(
-        nids,
-        narena,
-        wids,
-        warena,
-        rids,
-        rarena,
-        spans,
-        bytes,
-        used,
-        text,
-    ))
+    handle_text(direct::intern(ni, na, wi, wa, ri, ra, ss, sb, us, text))
 }
 
 // A direct push of a node (kind 0), way (1) or relation (2).
 #[no_mangle]
 pub extern "C" fn tvk_push(
-    nids: &mut [u64],
-    narena: &mut [u8],
-    wids: &mut [u64],
-    warena: &mut [u8],
-    rids: &mut [u64],
-    rarena: &mut [u8],
-    spans: &[u64],
-    bytes: &[u8],
-    used: &mut [u64; 9],
+    ni: &mut [u64],
+    na: &mut [u8],
+    wi: &mut [u64],
+    wa: &mut [u8],
+    ri: &mut [u64],
+    ra: &mut [u8],
+    ss: &[u64],
+    sb: &[u8],
+    us: &mut [u64; 9],
     kind: u8,
     head: PushHead,
     meta: ArenaMeta,
     parts: &[u8],
 ) -> Reply
-    ensures { λ r. ⌜ record { overlay = left nids narena wids warena rids rarena spans bytes used; reply = r }
-        ≡ pushReply kind head meta (now (parts .entry)) (lent nids narena wids warena rids rarena spans bytes used) ⌝ }
+    ensures { λ r. ⌜ record { overlay = left ni na wi wa ri ra ss sb us; reply = r }
+        ≡ pushReply kind head meta (now (parts .entry)) (lent ni na wi wa ri ra ss sb us) ⌝ }
 {
     match kind::kind_of_number(kind) {
         Named::Is(k) => kept_reply(direct::push(
-            nids,
-            narena,
-            wids,
-            warena,
-            rids,
-            rarena,
-            spans,
-            bytes,
-            used,
+            ni,
+            na,
+            wi,
+            wa,
+            ri,
+            ra,
+            ss,
+            sb,
+            us,
             k,
             head,
             meta,
             parts,
         )),
-        Named::Unknown => unknown(nids, narena, wids, warena, rids, rarena, spans, bytes, used),
+        Named::Unknown => unknown(ni, na, wi, wa, ri, ra, ss, sb, us),
     }
 }
 
 // A direct delete.
 #[no_mangle]
 pub extern "C" fn tvk_delete(
-    nids: &mut [u64],
-    narena: &[u8],
-    wids: &mut [u64],
-    warena: &[u8],
-    rids: &mut [u64],
-    rarena: &[u8],
-    spans: &[u64],
-    bytes: &[u8],
-    used: &mut [u64; 9],
+    ni: &mut [u64],
+    na: &[u8],
+    wi: &mut [u64],
+    wa: &[u8],
+    ri: &mut [u64],
+    ra: &[u8],
+    ss: &[u64],
+    sb: &[u8],
+    us: &mut [u64; 9],
     kind: u8,
     id: i64,
     meta: ArenaMeta,
 ) -> Reply
-    ensures { λ r. ⌜ record { overlay = left nids narena wids warena rids rarena spans bytes used; reply = r }
-        ≡ deleteReply kind id (metaOf meta) (lent nids narena wids warena rids rarena spans bytes used) ⌝ }
+    ensures { λ r. ⌜ record { overlay = left ni na wi wa ri ra ss sb us; reply = r }
+        ≡ deleteReply kind id (metaOf meta) (lent ni na wi wa ri ra ss sb us) ⌝ }
 {
     match kind::kind_of_number(kind) {
         Named::Is(k) => kept_reply(direct::delete(
-            nids,
-            narena,
-            wids,
-            warena,
-            rids,
-            rarena,
-            spans,
-            bytes,
-            used,
+            ni,
+            na,
+            wi,
+            wa,
+            ri,
+            ra,
+            ss,
+            sb,
+            us,
             k,
             signed::bits_of_i64(id),
             meta,
         )),
-        Named::Unknown => unknown(nids, narena, wids, warena, rids, rarena, spans, bytes, used),
+        Named::Unknown => unknown(ni, na, wi, wa, ri, ra, ss, sb, us),
     }
 }

@@ -27,12 +27,12 @@ use Rattle.page.specs.Summary.{PageRow}
 use Rattle.page.specs.Listing.{kindField, versionField, each, counted, refFields, memberFields, tagFields, metaFields, bodyFields, recordFields, signField, lastFields, rowFields}
 
 -- the fields of a are told from those of b, whatever follows
-abbrev pub Told : {A : Type 0} → (A → List Bytes) → A → A → Type 0
-Told f a b = (r s : List Bytes) → f a ++ r ≡ f b ++ s → (a ≡ b) × (r ≡ s)
+abbrev pub Separates : {A : Type 0} → (A → List Bytes) → A → A → Type 0
+Separates f a b = (r s : List Bytes) → f a ++ r ≡ f b ++ s → (a ≡ b) × (r ≡ s)
 
 pub record Code {A : Type 0} (f : A → List Bytes) : Type 0 where
   pub allPlain : (a : A) → all plainField (f a) ≡ true
-  pub told : (a b : A) → Told f a b
+  pub told : (a b : A) → Separates f a b
 
 -- ---- codes of one field
 
@@ -179,7 +179,7 @@ body-plain (place lat lon) = simp integer-plain
 body-plain (refs rs) = refs-code .allPlain rs
 body-plain (members ms) = members-code .allPlain ms
 
-pub body-told : (a b : Body Bytes) → kindOf a ≡ kindOf b → Told bodyFields a b
+pub body-told : (a b : Body Bytes) → kindOf a ≡ kindOf b → Separates bodyFields a b
 unfolding bodyFields
 body-told (place x y) (place z w) k r s e =
     let h1 = integer-code .told x z _ _ e in
@@ -201,7 +201,7 @@ record-plain x =
     (all-append plainField (metaFields (x .meta)) (bodyFields (x .body)) (meta-code .allPlain (x .meta)) (body-plain (x .body)))
     (tags-code .allPlain (x .tags))
 
-pub record-told : (a b : Record Bytes) → kindOf (a .body) ≡ kindOf (b .body) → Told recordFields a b
+pub record-told : (a b : Record Bytes) → kindOf (a .body) ≡ kindOf (b .body) → Separates recordFields a b
 unfolding recordFields
 record-told a b k r s e =
     let h1 = meta-code .told (a .meta) (b .meta) _ _ (simp append-assoc at e) in
@@ -230,7 +230,7 @@ pub row-plain : (r : PageRow) → all plainField (rowFields r) ≡ true
 unfolding rowFields all both
 row-plain r = simp (kind-plain, integer-plain, sign-plain, version-plain, last-plain)
 
-pub row-told : (a b : PageRow) → Fitting a → Fitting b → Told rowFields a b
+pub row-told : (a b : PageRow) → Fitting a → Fitting b → Separates rowFields a b
 unfolding rowFields
 row-told a b f g r s e =
     let h1 = kind-code .told (a .key .kind) (b .key .kind) _ _ e in

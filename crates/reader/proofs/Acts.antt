@@ -26,7 +26,7 @@ use Rattle.interner.specs.Texts.{takeAll, textOf}
 use Rattle.interner.specs.Sound.{textsOf}
 use Rattle.interner.proofs.Interns.{length-texts}
 use Rattle.interner.proofs.Held.{grown-all, text-stays-all}
-use Rattle.shelf.specs.Shelf.{takenIn}
+use Rattle.kind_store.specs.KindStore.{takenIn}
 use Rattle.overlay.specs.Overlay.{Overlay, largest, textsFit}
 use Rattle.overlay.specs.Sound.{Sound, isSound}
 use Rattle.overlay.specs.Given.{headFits, metaFits, InBytes}
@@ -34,7 +34,7 @@ use Rattle.direct.specs.Calls.{pushOn, deleteOn, internOn}
 use Rattle.store.specs.declared.Handle.the-variants as H
 use Rattle.overlay.proofs.Answers.{strings-sound}
 use Rattle.overlay.proofs.Decides.{decides}
-use Rattle.overlay.proofs.Shelves.{sized-texts}
+use Rattle.overlay.proofs.KindStores.{sized-texts}
 use Rattle.direct.proofs.Keeps.{intern-kept, push-sound, push-bytes, push-texts, delete-sound, delete-bytes, delete-texts, intern-sound, intern-bytes}
 use Rattle.acts.specs.Turn.{Turn}
 use Rattle.reader.proofs.Small.{text-small}

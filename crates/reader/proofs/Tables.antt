@@ -33,14 +33,14 @@ use Rattle.interner.specs.Strings as Strings
 use Rattle.interner.specs.Texts.{handleOf, answerAs}
 use Rattle.interner.specs.Sound.{textsOf}
 use Rattle.interner.proofs.Interns as Interns
-use Rattle.shelf.specs.Shelf.{known, checked, idRoom}
-use Rattle.shelf.proofs.Answers as Shelves
-use Rattle.overlay.specs.Overlay.{Overlay, shelfOf, withTexts}
+use Rattle.kind_store.specs.KindStore.{known, checked, idRoom}
+use Rattle.kind_store.proofs.Answers as KindStores
+use Rattle.overlay.specs.Overlay.{Overlay, kindStoreOf, withTexts}
 use Rattle.overlay.specs.Sound.{isSound}
 use Rattle.store.specs.First.{notHeld, isBelow, heldBy}
 use Rattle.store.specs.Calls.{bytesOf, storePush, storeDelete}
 use Rattle.overlay.proofs.Answers.{strings-sound}
-use Rattle.overlay.proofs.Shelves.{texts-shelf}
+use Rattle.overlay.proofs.KindStores.{texts-kind-store}
 use Rattle.decision.specs.Decision.{Decision, refuses, moves, begins, deletes, tags, refers, joins, ends, decide}
 use Rattle.decision.proofs.Lawful.{Lawful, decide-lawful}
 use Rattle.decision.specs.Table.{refusalIn, decideTable}
@@ -85,11 +85,11 @@ by-admit (Below v) rows x h = record { first = refl }
 
 -- an overlay that differs in its texts alone
 record Beside (o q : Overlay) : Type 0 where
-  shelf : (k : Kind) → shelfOf k q ≡ shelfOf k o
+  kindStore : (k : Kind) → kindStoreOf k q ≡ kindStoreOf k o
   setting : q .setting ≡ o .setting
 
 beside : (o : Overlay) (x : Strings.Store) → Beside o (withTexts x o)
-beside o x = record { shelf = λ k. texts-shelf k x o; setting = refl }
+beside o x = record { kindStore = λ k. texts-kind-store k x o; setting = refl }
 
 -- 13
 module _ (o : Overlay) (e : isSound o ≡ true) (rows : List (ConditionRow Refusal)) where
@@ -122,9 +122,9 @@ module _ (s : State) (p : Place) (k : Kind) (o q : Overlay) (w : Beside o q) whe
   unfolding firstOf
   by-push h m parts id claim i j =
       let n = length-written k (headIn k h) (metaOf m) parts in
-      let y = w .shelf k in
+      let y = w .kindStore k in
       let z = w .setting in
-      Shelves.byPush k (q .setting) (shelfOf k q) (toZ w64 (h .id)) (claimOf (metaOf m)) (bytesOf k h m parts)
+      KindStores.byPush k (q .setting) (kindStoreOf k q) (toZ w64 (h .id)) (claimOf (metaOf m)) (bytesOf k h m parts)
       (λ v c x. record { first = rw (← i, ← j, ← y, ← z, x, c) }) (λ c r x. record { first = rw (← i, ← j, ← y, ← z, x, c, r) })
       (λ c r l x. record { first = rw (← i, ← j, ← y, ← z, x, c, r, ← n, lt-ltb _ _ l) })
       (λ c r l x. record { first = rw (← i, ← j, ← y, ← z, x, c, r, ← n, le-ltb _ _ l) })
@@ -132,9 +132,9 @@ module _ (s : State) (p : Place) (k : Kind) (o q : Overlay) (w : Beside o q) whe
   by-delete : (id : ℤ) (claim : Version) → By (regressionRow o k id claim ∷ idsRow o k id ∷ []) (onAfter (storeDelete k id claim q) (clearsTo s p))
   unfolding firstOf
   by-delete id claim =
-      let y = w .shelf k in
+      let y = w .kindStore k in
       let z = w .setting in
-      Shelves.byDelete k (q .setting) (shelfOf k q) id claim
+      KindStores.byDelete k (q .setting) (kindStoreOf k q) id claim
       (λ v c x. record { first = rw (← y, ← z, x, c) }) (λ c r x. record { first = rw (← y, ← z, x, c, r) }) (λ c r x. record { first = rw (← y, ← z, x, c, r) })
 
 -- where 12 was passed
@@ -154,7 +154,7 @@ module _ (s : State) (e : stateSound s ≡ true) where
   used-fits = length-take-le _ _ (leb-true _ _ (both-left _ _ (both-left _ _ (both-right _ _ e))))
 
   abbrev admit : Kind → ℤ → Meta Bytes → Admit
-  admit k id m = checked (s .overlay .setting) (known k (shelfOf k (s .overlay)) id) (claimOf m)
+  admit k id m = checked (s .overlay .setting) (known k (kindStoreOf k (s .overlay)) id) (claimOf m)
 
   pub step-first : (d : Decision) → Lawful (s .reader .place) d → Behind (refusalIn d) (storeRowsOf d s) (stepOf d s)
   unfolding stepOf storeRowsOf

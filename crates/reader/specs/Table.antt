@@ -21,8 +21,8 @@ use Rattle.model.specs.Record.{Meta, kindOf, flagged, claimOf}
 use Rattle.compact.specs.Held.{metaOf}
 use Rattle.compact.specs.Layout.{headLen}
 use Rattle.compact.specs.Legal.{limits}
-use Rattle.shelf.specs.Shelf.{known, checked, idRoom}
-use Rattle.overlay.specs.Overlay.{Overlay, shelfOf}
+use Rattle.kind_store.specs.KindStore.{known, checked, idRoom}
+use Rattle.overlay.specs.Overlay.{Overlay, kindStoreOf}
 use Rattle.store.specs.First.{isBelow, heldBy, fullFor}
 use Rattle.decision.specs.Decision.{Decision, refuses, moves, begins, deletes, tags, refers, joins, ends, decide}
 use Rattle.decision.specs.Table.{decideTable}
@@ -55,7 +55,7 @@ module _ (o : Overlay) where
   -- 12 of an act on an id of a kind, with the known version
   abbrev pub regressionRow : Kind → ℤ → Version → ConditionRow Refusal
   regressionRow k id claim =
-      row (R.Regression (heldBy (checked (o .setting) (known k (shelfOf k o) id) claim))) (isBelow (checked (o .setting) (known k (shelfOf k o) id) claim))
+      row (R.Regression (heldBy (checked (o .setting) (known k (kindStoreOf k o) id) claim))) (isBelow (checked (o .setting) (known k (kindStoreOf k o) id) claim))
 
   -- 13 of a text
   abbrev pub textRow : Bytes → ConditionRow Refusal
@@ -67,11 +67,11 @@ module _ (o : Overlay) where
 
   -- 14 of an id of a kind
   abbrev pub idsRow : Kind → ℤ → ConditionRow Refusal
-  idsRow k id = row R.IdsFull (not (idRoom (shelfOf k o) id))
+  idsRow k id = row R.IdsFull (not (idRoom (kindStoreOf k o) id))
 
   -- 15 of a record of a kind: its head, its metadata, and so many bytes of parts
   abbrev pub arenaRow : Kind → ℕ → ConditionRow Refusal
-  arenaRow k parts = row R.ArenaFull (ltb (length (shelfOf k o .arena)) (shelfOf k o .used + (headLen k + 29 + parts)))
+  arenaRow k parts = row R.ArenaFull (ltb (length (kindStoreOf k o .arena)) (kindStoreOf k o .used + (headLen k + 29 + parts)))
 
 -- 16: "A reader gives 16 at the child that passes the limit"
 abbrev pub limitRow : Bool → ConditionRow Refusal

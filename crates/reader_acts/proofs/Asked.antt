@@ -26,13 +26,13 @@ use Rattle.compact.specs.declared.ArenaMeta.{ArenaMeta}
 use Rattle.compact.specs.declared.PushHead.{PushHead}
 use Rattle.compact.proofs.Lengths.{length-written}
 use Rattle.interner.specs.Strings.{Store}
-use Rattle.shelf.specs.Shelf.{known, checked, idRoom}
-use Rattle.shelf.specs.declared.Kept.{Kept}
-use Rattle.shelf.specs.declared.Kept.the-variants as K
-use Rattle.overlay.specs.Overlay.{Overlay, shelfOf, withTexts}
+use Rattle.kind_store.specs.KindStore.{known, checked, idRoom}
+use Rattle.kind_store.specs.declared.Kept.{Kept}
+use Rattle.kind_store.specs.declared.Kept.the-variants as K
+use Rattle.overlay.specs.Overlay.{Overlay, kindStoreOf, withTexts}
 use Rattle.overlay.specs.Calls.{OverlayAfter, overlayRefused}
 use Rattle.store.specs.Calls.{bytesOf, storePush, storeDelete}
-use Rattle.act_answer.specs.Answer.{admitAnswer, roomAnswer, shelfAnswer, recordFits, pushAnswer, deleteAnswer}
+use Rattle.act_answer.specs.Answer.{admitAnswer, roomAnswer, kindStoreAnswer, recordFits, pushAnswer, deleteAnswer}
 use Rattle.act_answer.proofs.Answers.{push-answered, delete-answered, push-beside-texts, delete-beside-texts}
 use Rattle.reader.specs.Step.{bitsWithUser, headFor}
 use Rattle.reader.proofs.Legals.{bits-id}
@@ -51,9 +51,9 @@ refused-is : (o : Overlay) (a : OverlayAfter) (r : Refusal) → a .answer ≡ K.
 refused-is o a r e = rw e
 
 module _ (k : Kind) (id : ℤ) (m : Meta Bytes) (act : ArenaMeta → Overlay → OverlayAfter) (o : Overlay) (x : Kept)
-    (asked : (n : ℕ) (t : Store) → act (bitsWithUser m n) (withTexts t o) .answer ≡ admitAnswer (checked (o .setting) (known k (shelfOf k o) id) (claimOf m)) x) where
+    (asked : (n : ℕ) (t : Store) → act (bitsWithUser m n) (withTexts t o) .answer ≡ admitAnswer (checked (o .setting) (known k (kindStoreOf k o) id) (claimOf m)) x) where
   abbrev admit : Admit
-  admit = checked (o .setting) (known k (shelfOf k o) id) (claimOf m)
+  admit = checked (o .setting) (known k (kindStoreOf k o) id) (claimOf m)
 
   act-taken : admitAnswer admit x ≡ K.Taken → userActOn m act o ≡ actOn k id m act o
   unfolding actOn
@@ -112,12 +112,12 @@ module _ (k : Kind) (id : ℤ) (m : Meta Bytes) (o : Overlay) where
       answer-is = rw (claims, long) at answers
 
       pub empty-taken : answer ≡ K.Taken → {h : PushHead} → h ≡ headFor id b → {x : OverlayAfter} → x ≡ userActOn m (λ a q. storePush k h a [] q) o → x ≡ pushEmptyOn id m b o
-      unfolding pushAnswer shelfAnswer
+      unfolding pushAnswer kindStoreAnswer
       empty-taken e g f = (rw g at f) ∙ act-taken k id m pushes o _ push-asked (sym answer-is ∙ e) ∙ empty-is
 
       pub empty-not : (r : Refusal) → answer ≡ K.Refused r → {x : Kept} → x ≡ K.Refused (refusalAfter (userFull m (o .texts)) r) → record { overlay = o; answer = x } ≡ pushEmptyOn id m b o
-      unfolding pushAnswer shelfAnswer
-      empty-not r e f = rw f (act-not k id m pushes o _ push-asked r (sym answer-is ∙ e) (room-not-12 (idRoom (shelfOf k o) id) (recordFits (shelfOf k o) (headLen k + 29)) r) ∙ empty-is)
+      unfolding pushAnswer kindStoreAnswer
+      empty-not r e f = rw f (act-not k id m pushes o _ push-asked r (sym answer-is ∙ e) (room-not-12 (idRoom (kindStoreOf k o) id) (recordFits (kindStoreOf k o) (headLen k + 29)) r) ∙ empty-is)
 
   abbrev drops : ArenaMeta → Overlay → OverlayAfter
   drops a q = storeDelete k id (claimOf m) q
@@ -127,9 +127,9 @@ module _ (k : Kind) (id : ℤ) (m : Meta Bytes) (o : Overlay) where
 
   module _ {claim : Version} {answer : Kept} (claims : claim ≡ claimOf m) (answers : answer ≡ deleteAnswer k id claim o) where
     pub deletes-taken : answer ≡ K.Taken → {x : OverlayAfter} → x ≡ userActOn m drops o → x ≡ deleteElementOn k id m o
-    unfolding deleteAnswer shelfAnswer
+    unfolding deleteAnswer kindStoreAnswer
     deletes-taken e f = f ∙ act-taken k id m drops o _ delete-asked (sym (rw claims at answers) ∙ e)
 
     pub deletes-not : (r : Refusal) → answer ≡ K.Refused r → {x : Kept} → x ≡ K.Refused (refusalAfter (userFull m (o .texts)) r) → record { overlay = o; answer = x } ≡ deleteElementOn k id m o
-    unfolding deleteAnswer shelfAnswer
-    deletes-not r e f = rw f (act-not k id m drops o _ delete-asked r (sym (rw claims at answers) ∙ e) (room-not-12 (idRoom (shelfOf k o) id) true r))
+    unfolding deleteAnswer kindStoreAnswer
+    deletes-not r e f = rw f (act-not k id m drops o _ delete-asked r (sym (rw claims at answers) ∙ e) (room-not-12 (idRoom (kindStoreOf k o) id) true r))

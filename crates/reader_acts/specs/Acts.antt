@@ -15,15 +15,15 @@ use Rattle.version_floor.specs.declared.Admit.the-variants.{Admitted, Below}
 use Rattle.model.specs.Record.{Meta, Body, kindOf, flagged, claimOf}
 use Rattle.compact.specs.declared.ArenaMeta.{ArenaMeta}
 use Rattle.interner.specs.Strings.{Store}
-use Rattle.shelf.specs.Shelf.{known, checked}
-use Rattle.shelf.specs.declared.Kept.{Kept}
-use Rattle.shelf.specs.declared.Kept.the-variants as K
-use Rattle.overlay.specs.Overlay.{Overlay, shelfOf}
+use Rattle.kind_store.specs.KindStore.{known, checked}
+use Rattle.kind_store.specs.declared.Kept.{Kept}
+use Rattle.kind_store.specs.declared.Kept.the-variants as K
+use Rattle.overlay.specs.Overlay.{Overlay, kindStoreOf}
 use Rattle.overlay.specs.Calls.{OverlayAfter, overlayRefused}
 use Rattle.store.specs.Calls.{storeText, storePush, storeDelete}
 use Rattle.store.specs.declared.Handle.{Handle}
 use Rattle.store.specs.declared.Handle.the-variants as H
-use Rattle.metadata.specs.Metadata.{MetadataLies}
+use Rattle.metadata.specs.Metadata.{MetadataInBounds}
 use Rattle.metadata.specs.declared.Metadata.{Metadata}
 use Rattle.reader_texts.specs.Texts.{refusedFor}
 use Rattle.reader.specs.declared.Pending.{Pending}
@@ -71,7 +71,7 @@ actKept o a = actKeptAs o (a .overlay) (a .answer)
 
 unfoldable pub actOn : Kind → ℤ → Meta Bytes → (ArenaMeta → Overlay → OverlayAfter) → Overlay → OverlayAfter
 actOn k id m act o =
-    admitted o (checked (o .setting) (known k (shelfOf k o) id) (claimOf m))
+    admitted o (checked (o .setting) (known k (kindStoreOf k o) id) (claimOf m))
     (byBegun (overlayRefused o) (λ a. actKept o (act a (beginOn m o .overlay))) (beginOn m o .answer))
 
 -- the same where the act is known to be taken: 13, or the act
@@ -102,7 +102,7 @@ pushStagedOn k x parts o = storePush k (x .head) (x .meta) (take (x .used) parts
 
 -- the user lies in the line, and the handles of the overlay fit the metadata's field
 pub record ActGiven (line : Bytes) (m : Metadata) (o : Overlay) : Type 0 where
-  pub lies : MetadataLies line m
+  pub lies : MetadataInBounds line m
   pub short : length line ≤ 16384
   pub few : o .texts .strings < 4294967296
 

@@ -10,11 +10,11 @@ ghost use Rattle.base.specs.Bytes.{Bytes};
 ghost use Rattle.model.specs.Record.{claimOf};
 ghost use Rattle.compact.specs.Layout.{headLen};
 ghost use Rattle.overlay.specs.Overlay.{lent, left};
-ghost use Rattle.shelf.specs.declared.Kept.the-variants as K;
+ghost use Rattle.kind_store.specs.declared.Kept.the-variants as K;
 ghost use Rattle.interner.specs.Strings.{storeWith};
 ghost use Rattle.store.specs.Calls.{storePush, storeDelete};
 ghost use Rattle.values.specs.Value.{bodyIn};
-ghost use Rattle.metadata.specs.Metadata.{metaWritten, MetadataLies};
+ghost use Rattle.metadata.specs.Metadata.{metaWritten, MetadataInBounds};
 ghost use Rattle.reader.specs.Step.{bitsWithUser, headFor};
 ghost use Rattle.reader_acts.specs.Acts.{begunBy, beginOn, userActOn, userFull, refusalAfter, pushEmptyOn, deleteElementOn, pushStagedOn, ActGiven, HandleFits};
 use compact::ArenaMeta;
@@ -23,10 +23,10 @@ use compact::CompactRelation;
 use compact::CompactWay;
 use compact::PushHead;
 use kind::Kind;
+use kind_store::Kept;
 use metadata::Metadata;
 use reader::Pending;
 use refusal::Refusal;
-use shelf::Kept;
 use store::Handle;
 use version_floor::Version;
 
@@ -122,7 +122,7 @@ fn begun_by(meta: Metadata, handle: Handle) -> Begun
 
 // 13, of that user.
 fn user_refused(spans: &[u64], bytes: &[u8], used: &[u64; 9], meta: Metadata, line: &[u8]) -> bool
-    ensures { λ r. ⌜ (MetadataLies (now (line .entry)) meta → length (now (line .entry)) ≤ 16384
+    ensures { λ r. ⌜ (MetadataInBounds (now (line .entry)) meta → length (now (line .entry)) ≤ 16384
         → r ≡ userFull (metaWritten (now (line .entry)) meta) (storeWith (now (spans .entry)) (now (bytes .entry)) (getD (now (used .entry)) 6 0) (getD (now (used .entry)) 7 0))) ⌝ }
 {
     if meta.flags / 4 % 2 == 1 {
@@ -141,7 +141,7 @@ fn refused_act(
     line: &[u8],
     refusal: Refusal,
 ) -> Kept
-    ensures { λ r. ⌜ (MetadataLies (now (line .entry)) meta → length (now (line .entry)) ≤ 16384
+    ensures { λ r. ⌜ (MetadataInBounds (now (line .entry)) meta → length (now (line .entry)) ≤ 16384
         → r ≡ K.Refused (refusalAfter (userFull (metaWritten (now (line .entry)) meta) (storeWith (now (spans .entry)) (now (bytes .entry)) (getD (now (used .entry)) 6 0) (getD (now (used .entry)) 7 0))) refusal)) ⌝ }
 {
     if refusal::reply_of(refusal).number == 12 {
@@ -155,37 +155,25 @@ fn refused_act(
 
 // An element begins: 13, or its metadata with its user's handle.
 pub fn begin_element(
-    nids: &[u64],
-    narena: &[u8],
-    wids: &[u64],
-    warena: &[u8],
-    rids: &[u64],
-    rarena: &[u8],
-    spans: &mut [u64],
-    bytes: &mut [u8],
-    used: &mut [u64; 9],
+    ni: &[u64],
+    na: &[u8],
+    wi: &[u64],
+    wa: &[u8],
+    ri: &[u64],
+    ra: &[u8],
+    ss: &mut [u64],
+    sb: &mut [u8],
+    us: &mut [u64; 9],
     meta: Metadata,
     line: &[u8],
 ) -> Begun
-    ensures { λ r. ⌜ (ActGiven (now (line .entry)) meta (lent nids narena wids warena rids rarena spans bytes used)
-        → record { overlay = left nids narena wids warena rids rarena spans bytes used; answer = r }
-        ≡ beginOn (metaWritten (now (line .entry)) meta) (lent nids narena wids warena rids rarena spans bytes used)) ⌝ }
+    ensures { λ r. ⌜ (ActGiven (now (line .entry)) meta (lent ni na wi wa ri ra ss sb us)
+        → record { overlay = left ni na wi wa ri ra ss sb us; answer = r }
+        ≡ beginOn (metaWritten (now (line .entry)) meta) (lent ni na wi wa ri ra ss sb us)) ⌝ }
 {
     if meta.flags / 4 % 2 == 1 {
         let user = meta.user;
-        let handle = reader_texts::take_text(
-            nids,
-            narena,
-            wids,
-            warena,
-            rids,
-            rarena,
-            spans,
-            bytes,
-            used,
-            line,
-            user,
-        );
+        let handle = reader_texts::take_text(ni, na, wi, wa, ri, ra, ss, sb, us, line, user);
         return begun_by(meta, handle);
     }
     Begun::With(arena_meta(meta, 0))
@@ -194,35 +182,35 @@ pub fn begin_element(
 // ---- an element that ends
 
 fn push_first(
-    nids: &mut [u64],
-    narena: &mut [u8],
-    wids: &mut [u64],
-    warena: &mut [u8],
-    rids: &mut [u64],
-    rarena: &mut [u8],
-    spans: &[u64],
-    bytes: &[u8],
-    used: &mut [u64; 9],
+    ni: &mut [u64],
+    na: &mut [u8],
+    wi: &mut [u64],
+    wa: &mut [u8],
+    ri: &mut [u64],
+    ra: &mut [u8],
+    ss: &[u64],
+    sb: &[u8],
+    us: &mut [u64; 9],
     parts: &[u8],
     n: usize,
     kind: Kind,
     head: PushHead,
     meta: ArenaMeta,
 ) -> Kept
-    ensures { λ r. ⌜ record { overlay = left nids narena wids warena rids rarena spans bytes used; answer = r }
-        ≡ storePush kind head meta (take n (now (parts .entry))) (lent nids narena wids warena rids rarena spans bytes used) ⌝ }
+    ensures { λ r. ⌜ record { overlay = left ni na wi wa ri ra ss sb us; answer = r }
+        ≡ storePush kind head meta (take n (now (parts .entry))) (lent ni na wi wa ri ra ss sb us) ⌝ }
 {
     let end = little::lesser(n, parts.len());
     store::store_push(
-        nids,
-        narena,
-        wids,
-        warena,
-        rids,
-        rarena,
-        spans,
-        bytes,
-        used,
+        ni,
+        na,
+        wi,
+        wa,
+        ri,
+        ra,
+        ss,
+        sb,
+        us,
         kind,
         head,
         meta,
@@ -232,34 +220,34 @@ fn push_first(
 
 // Pushes the element whose parts are staged: 12, 14, 15, or taken.
 pub fn push_staged(
-    nids: &mut [u64],
-    narena: &mut [u8],
-    wids: &mut [u64],
-    warena: &mut [u8],
-    rids: &mut [u64],
-    rarena: &mut [u8],
-    spans: &[u64],
-    bytes: &[u8],
-    used: &mut [u64; 9],
+    ni: &mut [u64],
+    na: &mut [u8],
+    wi: &mut [u64],
+    wa: &mut [u8],
+    ri: &mut [u64],
+    ra: &mut [u8],
+    ss: &[u64],
+    sb: &[u8],
+    us: &mut [u64; 9],
     parts: &[u8; 44432],
     kind: Kind,
     pending: Pending,
 ) -> Kept
-    ensures { λ r. ⌜ record { overlay = left nids narena wids warena rids rarena spans bytes used; answer = r }
-        ≡ pushStagedOn kind pending (now (parts .entry)) (lent nids narena wids warena rids rarena spans bytes used) ⌝ }
+    ensures { λ r. ⌜ record { overlay = left ni na wi wa ri ra ss sb us; answer = r }
+        ≡ pushStagedOn kind pending (now (parts .entry)) (lent ni na wi wa ri ra ss sb us) ⌝ }
 {
     let head = pending.head;
     let meta = pending.meta;
     push_first(
-        nids,
-        narena,
-        wids,
-        warena,
-        rids,
-        rarena,
-        spans,
-        bytes,
-        used,
+        ni,
+        na,
+        wi,
+        wa,
+        ri,
+        ra,
+        ss,
+        sb,
+        us,
         parts,
         pending.used,
         kind,
@@ -272,68 +260,41 @@ pub fn push_staged(
 
 // The user is taken in, and the element is pushed.
 fn push_with_user(
-    nids: &mut [u64],
-    narena: &mut [u8],
-    wids: &mut [u64],
-    warena: &mut [u8],
-    rids: &mut [u64],
-    rarena: &mut [u8],
-    spans: &mut [u64],
-    bytes: &mut [u8],
-    used: &mut [u64; 9],
+    ni: &mut [u64],
+    na: &mut [u8],
+    wi: &mut [u64],
+    wa: &mut [u8],
+    ri: &mut [u64],
+    ra: &mut [u8],
+    ss: &mut [u64],
+    sb: &mut [u8],
+    us: &mut [u64; 9],
     kind: Kind,
     head: PushHead,
     meta: Metadata,
     line: &[u8],
 ) -> Kept
-    ensures { λ r. ⌜ (ActGiven (now (line .entry)) meta (lent nids narena wids warena rids rarena spans bytes used)
-        → record { overlay = left nids narena wids warena rids rarena spans bytes used; answer = r }
-        ≡ userActOn (metaWritten (now (line .entry)) meta) (λ a q. storePush kind head a [] q) (lent nids narena wids warena rids rarena spans bytes used)) ⌝ }
+    ensures { λ r. ⌜ (ActGiven (now (line .entry)) meta (lent ni na wi wa ri ra ss sb us)
+        → record { overlay = left ni na wi wa ri ra ss sb us; answer = r }
+        ≡ userActOn (metaWritten (now (line .entry)) meta) (λ a q. storePush kind head a [] q) (lent ni na wi wa ri ra ss sb us)) ⌝ }
 {
-    match begin_element(
-        nids,
-        narena,
-        wids,
-        warena,
-        rids,
-        rarena,
-        spans,
-        bytes,
-        used,
-        meta,
-        line,
-    ) {
-        Begun::With(a) => push_first(
-            nids,
-            narena,
-            wids,
-            warena,
-            rids,
-            rarena,
-            spans,
-            bytes,
-            used,
-            line,
-            0,
-            kind,
-            head,
-            a,
-        ),
+    match begin_element(ni, na, wi, wa, ri, ra, ss, sb, us, meta, line) {
+        Begun::With(a) => push_first(ni, na, wi, wa, ri, ra, ss, sb, us, line, 0, kind, head, a),
         Begun::Refused(r) => Kept::Refused(r),
     }
 }
 
 // Pushes an empty element: 12, 13, 14, 15, or taken.
 pub fn push_empty(
-    nids: &mut [u64],
-    narena: &mut [u8],
-    wids: &mut [u64],
-    warena: &mut [u8],
-    rids: &mut [u64],
-    rarena: &mut [u8],
-    spans: &mut [u64],
-    bytes: &mut [u8],
-    used: &mut [u64; 9],
+    ni: &mut [u64],
+    na: &mut [u8],
+    wi: &mut [u64],
+    wa: &mut [u8],
+    ri: &mut [u64],
+    ra: &mut [u8],
+    ss: &mut [u64],
+    sb: &mut [u8],
+    us: &mut [u64; 9],
     kind: Kind,
     id: u64,
     lat: u32,
@@ -341,46 +302,18 @@ pub fn push_empty(
     meta: Metadata,
     line: &[u8],
 ) -> Kept
-    ensures { λ r. ⌜ (ActGiven (now (line .entry)) meta (lent nids narena wids warena rids rarena spans bytes used)
-        → record { overlay = left nids narena wids warena rids rarena spans bytes used; answer = r }
-        ≡ pushEmptyOn (toZ w64 id) (metaWritten (now (line .entry)) meta) (bodyIn kind lat lon) (lent nids narena wids warena rids rarena spans bytes used)) ⌝ }
+    ensures { λ r. ⌜ (ActGiven (now (line .entry)) meta (lent ni na wi wa ri ra ss sb us)
+        → record { overlay = left ni na wi wa ri ra ss sb us; answer = r }
+        ≡ pushEmptyOn (toZ w64 id) (metaWritten (now (line .entry)) meta) (bodyIn kind lat lon) (lent ni na wi wa ri ra ss sb us)) ⌝ }
 {
     let claim = claimed(meta);
     let len = empty_len(kind);
-    match act_answer::push_answer(
-        nids,
-        narena,
-        wids,
-        warena,
-        rids,
-        rarena,
-        spans,
-        bytes,
-        used,
-        kind,
-        id,
-        claim,
-        len,
-    ) {
+    match act_answer::push_answer(ni, na, wi, wa, ri, ra, ss, sb, us, kind, id, claim, len) {
         Kept::Taken => {
             let head = head_for(kind, id, lat, lon);
-            push_with_user(
-                nids,
-                narena,
-                wids,
-                warena,
-                rids,
-                rarena,
-                spans,
-                bytes,
-                used,
-                kind,
-                head,
-                meta,
-                line,
-            )
+            push_with_user(ni, na, wi, wa, ri, ra, ss, sb, us, kind, head, meta, line)
         }
-        Kept::Refused(r) => refused_act(spans, bytes, used, meta, line, r),
+        Kept::Refused(r) => refused_act(ss, sb, us, meta, line, r),
     }
 }
 
@@ -388,47 +321,35 @@ pub fn push_empty(
 
 // The user is taken in, and the id is deleted.
 fn delete_with_user(
-    nids: &mut [u64],
-    narena: &mut [u8],
-    wids: &mut [u64],
-    warena: &mut [u8],
-    rids: &mut [u64],
-    rarena: &mut [u8],
-    spans: &mut [u64],
-    bytes: &mut [u8],
-    used: &mut [u64; 9],
+    ni: &mut [u64],
+    na: &mut [u8],
+    wi: &mut [u64],
+    wa: &mut [u8],
+    ri: &mut [u64],
+    ra: &mut [u8],
+    ss: &mut [u64],
+    sb: &mut [u8],
+    us: &mut [u64; 9],
     kind: Kind,
     id: u64,
     meta: Metadata,
     line: &[u8],
 ) -> Kept
-    ensures { λ r. ⌜ (ActGiven (now (line .entry)) meta (lent nids narena wids warena rids rarena spans bytes used)
-        → record { overlay = left nids narena wids warena rids rarena spans bytes used; answer = r }
-        ≡ userActOn (metaWritten (now (line .entry)) meta) (λ a q. storeDelete kind (toZ w64 id) (claimOf (metaWritten (now (line .entry)) meta)) q) (lent nids narena wids warena rids rarena spans bytes used)) ⌝ }
+    ensures { λ r. ⌜ (ActGiven (now (line .entry)) meta (lent ni na wi wa ri ra ss sb us)
+        → record { overlay = left ni na wi wa ri ra ss sb us; answer = r }
+        ≡ userActOn (metaWritten (now (line .entry)) meta) (λ a q. storeDelete kind (toZ w64 id) (claimOf (metaWritten (now (line .entry)) meta)) q) (lent ni na wi wa ri ra ss sb us)) ⌝ }
 {
-    match begin_element(
-        nids,
-        narena,
-        wids,
-        warena,
-        rids,
-        rarena,
-        spans,
-        bytes,
-        used,
-        meta,
-        line,
-    ) {
+    match begin_element(ni, na, wi, wa, ri, ra, ss, sb, us, meta, line) {
         Begun::With(_) => store::store_delete(
-            nids,
-            narena,
-            wids,
-            warena,
-            rids,
-            rarena,
-            spans,
-            bytes,
-            used,
+            ni,
+            na,
+            wi,
+            wa,
+            ri,
+            ra,
+            ss,
+            sb,
+            us,
             kind,
             id,
             claimed(meta),
@@ -439,54 +360,27 @@ fn delete_with_user(
 
 // Deletes an id: 12, 13, 14, or taken.
 pub fn delete_element(
-    nids: &mut [u64],
-    narena: &mut [u8],
-    wids: &mut [u64],
-    warena: &mut [u8],
-    rids: &mut [u64],
-    rarena: &mut [u8],
-    spans: &mut [u64],
-    bytes: &mut [u8],
-    used: &mut [u64; 9],
+    ni: &mut [u64],
+    na: &mut [u8],
+    wi: &mut [u64],
+    wa: &mut [u8],
+    ri: &mut [u64],
+    ra: &mut [u8],
+    ss: &mut [u64],
+    sb: &mut [u8],
+    us: &mut [u64; 9],
     kind: Kind,
     id: u64,
     meta: Metadata,
     line: &[u8],
 ) -> Kept
-    ensures { λ r. ⌜ (ActGiven (now (line .entry)) meta (lent nids narena wids warena rids rarena spans bytes used)
-        → record { overlay = left nids narena wids warena rids rarena spans bytes used; answer = r }
-        ≡ deleteElementOn kind (toZ w64 id) (metaWritten (now (line .entry)) meta) (lent nids narena wids warena rids rarena spans bytes used)) ⌝ }
+    ensures { λ r. ⌜ (ActGiven (now (line .entry)) meta (lent ni na wi wa ri ra ss sb us)
+        → record { overlay = left ni na wi wa ri ra ss sb us; answer = r }
+        ≡ deleteElementOn kind (toZ w64 id) (metaWritten (now (line .entry)) meta) (lent ni na wi wa ri ra ss sb us)) ⌝ }
 {
     let claim = claimed(meta);
-    match act_answer::delete_answer(
-        nids,
-        narena,
-        wids,
-        warena,
-        rids,
-        rarena,
-        spans,
-        bytes,
-        used,
-        kind,
-        id,
-        claim,
-    ) {
-        Kept::Taken => delete_with_user(
-            nids,
-            narena,
-            wids,
-            warena,
-            rids,
-            rarena,
-            spans,
-            bytes,
-            used,
-            kind,
-            id,
-            meta,
-            line,
-        ),
-        Kept::Refused(r) => refused_act(spans, bytes, used, meta, line, r),
+    match act_answer::delete_answer(ni, na, wi, wa, ri, ra, ss, sb, us, kind, id, claim) {
+        Kept::Taken => delete_with_user(ni, na, wi, wa, ri, ra, ss, sb, us, kind, id, meta, line),
+        Kept::Refused(r) => refused_act(ss, sb, us, meta, line, r),
     }
 }

@@ -37,38 +37,25 @@ fn event_reply(answer: EventAnswer) -> EventReply
 // An event by its line. Words that are no reader's are 22, and nothing changes.
 #[no_mangle]
 pub extern "C" fn tvk_event(
-    nids: &mut [u64],
-    narena: &mut [u8],
-    wids: &mut [u64],
-    warena: &mut [u8],
-    rids: &mut [u64],
-    rarena: &mut [u8],
-    spans: &mut [u64],
-    bytes: &mut [u8],
-    used: &mut [u64; 9],
+    ni: &mut [u64],
+    na: &mut [u8],
+    wi: &mut [u64],
+    wa: &mut [u8],
+    ri: &mut [u64],
+    ra: &mut [u8],
+    ss: &mut [u64],
+    sb: &mut [u8],
+    us: &mut [u64; 9],
     reader: &mut [u64; 19],
     parts: &mut [u8; 44432],
     line: &[u8],
 ) -> EventReply
-    ensures { λ r. ⌜ record { overlay = left nids narena wids warena rids rarena spans bytes used; words = now (reader .exit); parts = now (parts .exit); reply = r }
-        ≡ eventReply (now (line .entry)) (lent nids narena wids warena rids rarena spans bytes used) (now (reader .entry)) (now (parts .entry)) ⌝ }
+    ensures { λ r. ⌜ record { overlay = left ni na wi wa ri ra ss sb us; words = now (reader .exit); parts = now (parts .exit); reply = r }
+        ≡ eventReply (now (line .entry)) (lent ni na wi wa ri ra ss sb us) (now (reader .entry)) (now (parts .entry)) ⌝ }
 {
     if reader_words::is_reader(reader) {
         let read = reader_words::reader_in(reader);
-        let done = reader_calls::event(
-            nids,
-            narena,
-            wids,
-            warena,
-            rids,
-            rarena,
-            spans,
-            bytes,
-            used,
-            parts,
-            read,
-            line,
-        );
+        let done = reader_calls::event(ni, na, wi, wa, ri, ra, ss, sb, us, parts, read, line);
         let after = done.reader;
         reader_words::put_reader(reader, after);
         let answer = done.answer;
@@ -80,35 +67,23 @@ pub extern "C" fn tvk_event(
 // The end of a document. It changes nothing.
 #[no_mangle]
 pub extern "C" fn tvk_end(
-    nids: &[u64],
-    narena: &[u8],
-    wids: &[u64],
-    warena: &[u8],
-    rids: &[u64],
-    rarena: &[u8],
-    spans: &[u64],
-    bytes: &[u8],
-    used: &[u64; 9],
+    ni: &[u64],
+    na: &[u8],
+    wi: &[u64],
+    wa: &[u8],
+    ri: &[u64],
+    ra: &[u8],
+    ss: &[u64],
+    sb: &[u8],
+    us: &[u64; 9],
     reader: &[u64; 19],
     parts: &[u8; 44432],
 ) -> EventReply
-    ensures { λ r. ⌜ r ≡ endReply (lent nids narena wids warena rids rarena spans bytes used) (now (reader .entry)) (now (parts .entry)) ⌝ }
+    ensures { λ r. ⌜ r ≡ endReply (lent ni na wi wa ri ra ss sb us) (now (reader .entry)) (now (parts .entry)) ⌝ }
 {
     if reader_words::is_reader(reader) {
         let read = reader_words::reader_in(reader);
-        return event_reply(reader_calls::end(
-            nids,
-            narena,
-            wids,
-            warena,
-            rids,
-            rarena,
-            spans,
-            bytes,
-            used,
-            parts,
-            read,
-        ));
+        return event_reply(reader_calls::end(ni, na, wi, wa, ri, ra, ss, sb, us, parts, read));
     }
     event_reply(EventAnswer::Refused(Refusal::Unsound, 0))
 }

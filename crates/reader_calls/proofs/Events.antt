@@ -8,7 +8,7 @@ use Rattle.refusal.specs.declared.Refusal.{Refusal}
 use Rattle.refusal.specs.declared.Refusal.the-variants as R
 use Rattle.event.specs.Event.{body}
 use Rattle.decision.specs.Decision.{decide}
-use Rattle.decide.specs.Decided.{meansDecided, DecidedLies}
+use Rattle.decide.specs.Decided.{meansDecided, DecidedInBounds}
 use Rattle.decide.specs.declared.Decided.{Decided}
 use Rattle.overlay.specs.Overlay.{Overlay}
 use Rattle.reader.specs.declared.Stop.the-variants.{Going, At}
@@ -29,7 +29,7 @@ module _ (line : Bytes) (s : State) where
   -- ---- a step
 
   -- what is given to it
-  step-given : stateSound s ≡ true → (d : Decided) → meansDecided (body line) d ≡ decide line (s .reader .place) → DecidedLies (body line) d → StepGiven (body line) d s
+  step-given : stateSound s ≡ true → (d : Decided) → meansDecided (body line) d ≡ decide line (s .reader .place) → DecidedInBounds (body line) d → StepGiven (body line) d s
   step-given e d f l =
       record { strings = sound-strings s e; used = sound-used s e; short = λ n. short-line line (s .reader .place) (λ z. n (f ∙ z)); lies = l }
 
@@ -46,7 +46,7 @@ module _ (line : Bytes) (s : State) where
 
   -- what is left after it; t is the line without its line feed
   pub event-steps : stateSound s ≡ true → (t : Bytes) → t ≡ body line
-      → (d : Decided) → meansDecided (body line) d ≡ decide line (s .reader .place) → DecidedLies (body line) d → {q : Overlay} {ps : Bytes} {a : Stepped} {r : EventDone}
+      → (d : Decided) → meansDecided (body line) d ≡ decide line (s .reader .place) → DecidedInBounds (body line) d → {q : Overlay} {ps : Bytes} {a : Stepped} {r : EventDone}
       → (StepGiven t d s → record { overlay = q; parts = ps; answer = a } ≡ doneBy s (stepOf (meansDecided t d) s)) → r ≡ eventDone (s .reader) a
       → record { state = record { overlay = q; reader = r .reader; parts = ps }; answer = r .answer } ≡ stepped s (stepOf (decide line (s .reader .place)) s)
   event-steps e t p d f l h g =

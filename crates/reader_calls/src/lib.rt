@@ -68,38 +68,38 @@ fn event_done(reader: EventReader, step: Stepped) -> EventDone
 
 // An event of a state that was found sound, whose reader is not stopped: its step.
 pub fn event_going(
-    nids: &mut [u64],
-    narena: &mut [u8],
-    wids: &mut [u64],
-    warena: &mut [u8],
-    rids: &mut [u64],
-    rarena: &mut [u8],
-    spans: &mut [u64],
-    bytes: &mut [u8],
-    used: &mut [u64; 9],
+    ni: &mut [u64],
+    na: &mut [u8],
+    wi: &mut [u64],
+    wa: &mut [u8],
+    ri: &mut [u64],
+    ra: &mut [u8],
+    ss: &mut [u64],
+    sb: &mut [u8],
+    us: &mut [u64; 9],
     parts: &mut [u8; 44432],
     reader: EventReader,
     line: &[u8],
 ) -> EventDone
-    ensures { λ r. ⌜ (stateSound (record { overlay = lent nids narena wids warena rids rarena spans bytes used; reader = reader; parts = now (parts .entry) }) ≡ true
-        → record { state = record { overlay = left nids narena wids warena rids rarena spans bytes used; reader = r .reader; parts = now (parts .exit) }; answer = r .answer }
-        ≡ stepped (record { overlay = lent nids narena wids warena rids rarena spans bytes used; reader = reader; parts = now (parts .entry) })
+    ensures { λ r. ⌜ (stateSound (record { overlay = lent ni na wi wa ri ra ss sb us; reader = reader; parts = now (parts .entry) }) ≡ true
+        → record { state = record { overlay = left ni na wi wa ri ra ss sb us; reader = r .reader; parts = now (parts .exit) }; answer = r .answer }
+        ≡ stepped (record { overlay = lent ni na wi wa ri ra ss sb us; reader = reader; parts = now (parts .entry) })
         (stepOf (decide (now (line .entry)) (reader .place))
-        (record { overlay = lent nids narena wids warena rids rarena spans bytes used; reader = reader; parts = now (parts .entry) }))) ⌝ }
+        (record { overlay = lent ni na wi wa ri ra ss sb us; reader = reader; parts = now (parts .entry) }))) ⌝ }
 {
     let place = reader.place;
     let decided = decide::decide(line, place);
     let n = scan::body_length(line);
     let step = reader_step::step(
-        nids,
-        narena,
-        wids,
-        warena,
-        rids,
-        rarena,
-        spans,
-        bytes,
-        used,
+        ni,
+        na,
+        wi,
+        wa,
+        ri,
+        ra,
+        ss,
+        sb,
+        us,
         parts,
         reader,
         &line[..n],
@@ -110,51 +110,26 @@ pub fn event_going(
 
 // An event by its line: 22, the stop mark, or its step: 2 to 16, or it is accepted. A refused event changes its reader's stop mark alone, and 22 and a repeated refusal nothing.
 pub fn event(
-    nids: &mut [u64],
-    narena: &mut [u8],
-    wids: &mut [u64],
-    warena: &mut [u8],
-    rids: &mut [u64],
-    rarena: &mut [u8],
-    spans: &mut [u64],
-    bytes: &mut [u8],
-    used: &mut [u64; 9],
+    ni: &mut [u64],
+    na: &mut [u8],
+    wi: &mut [u64],
+    wa: &mut [u8],
+    ri: &mut [u64],
+    ra: &mut [u8],
+    ss: &mut [u64],
+    sb: &mut [u8],
+    us: &mut [u64; 9],
     parts: &mut [u8; 44432],
     reader: EventReader,
     line: &[u8],
 ) -> EventDone
-    ensures { λ r. ⌜ record { state = record { overlay = left nids narena wids warena rids rarena spans bytes used; reader = r .reader; parts = now (parts .exit) }; answer = r .answer }
-        ≡ eventOn (now (line .entry)) (record { overlay = lent nids narena wids warena rids rarena spans bytes used; reader = reader; parts = now (parts .entry) }) ⌝ }
+    ensures { λ r. ⌜ record { state = record { overlay = left ni na wi wa ri ra ss sb us; reader = r .reader; parts = now (parts .exit) }; answer = r .answer }
+        ≡ eventOn (now (line .entry)) (record { overlay = lent ni na wi wa ri ra ss sb us; reader = reader; parts = now (parts .entry) }) ⌝ }
 {
-    if reader_sound::state_sound(
-        nids,
-        narena,
-        wids,
-        warena,
-        rids,
-        rarena,
-        spans,
-        bytes,
-        used,
-        parts,
-        reader,
-    ) {
+    if reader_sound::state_sound(ni, na, wi, wa, ri, ra, ss, sb, us, parts, reader) {
         let stop = reader.stop;
         let Stop::At(refusal, at) = reader_sound::mark_of(stop) else {
-            return event_going(
-                nids,
-                narena,
-                wids,
-                warena,
-                rids,
-                rarena,
-                spans,
-                bytes,
-                used,
-                parts,
-                reader,
-                line,
-            );
+            return event_going(ni, na, wi, wa, ri, ra, ss, sb, us, parts, reader, line);
         };
         let answer = EventAnswer::Refused(refusal, at);
         return EventDone { reader, answer };
@@ -181,34 +156,22 @@ fn is_done(level: Level) -> bool
 
 // The end of a document: 22, the stop mark, or 18 where the level is not Done. It changes nothing.
 pub fn end(
-    nids: &[u64],
-    narena: &[u8],
-    wids: &[u64],
-    warena: &[u8],
-    rids: &[u64],
-    rarena: &[u8],
-    spans: &[u64],
-    bytes: &[u8],
-    used: &[u64; 9],
+    ni: &[u64],
+    na: &[u8],
+    wi: &[u64],
+    wa: &[u8],
+    ri: &[u64],
+    ra: &[u8],
+    ss: &[u64],
+    sb: &[u8],
+    us: &[u64; 9],
     parts: &[u8; 44432],
     reader: EventReader,
 ) -> EventAnswer
-    ensures { λ r. ⌜ record { state = record { overlay = left nids narena wids warena rids rarena spans bytes used; reader = reader; parts = now (parts .exit) }; answer = r }
-        ≡ endOn (record { overlay = lent nids narena wids warena rids rarena spans bytes used; reader = reader; parts = now (parts .entry) }) ⌝ }
+    ensures { λ r. ⌜ record { state = record { overlay = left ni na wi wa ri ra ss sb us; reader = reader; parts = now (parts .exit) }; answer = r }
+        ≡ endOn (record { overlay = lent ni na wi wa ri ra ss sb us; reader = reader; parts = now (parts .entry) }) ⌝ }
 {
-    if reader_sound::state_sound(
-        nids,
-        narena,
-        wids,
-        warena,
-        rids,
-        rarena,
-        spans,
-        bytes,
-        used,
-        parts,
-        reader,
-    ) {
+    if reader_sound::state_sound(ni, na, wi, wa, ri, ra, ss, sb, us, parts, reader) {
         let stop = reader.stop;
         let Stop::At(refusal, line) = reader_sound::mark_of(stop) else {
             let place = reader.place;

@@ -22,7 +22,7 @@ use Rattle.lines.specs.Place.{lineEnd}
 use Rattle.lines.specs.declared.LineEnd.{LineEnd}
 use Rattle.lines.specs.declared.LineEnd.the-variants.{At, None}
 use Rattle.lines.proofs.Places.{NextLine, next-line, no-line, length-part}
-use Rattle.overlay.specs.Overlay.{overlayOf, shelfOf}
+use Rattle.overlay.specs.Overlay.{overlayOf, kindStoreOf}
 use Rattle.compact.specs.declared.ArenaMeta.{ArenaMeta}
 use Rattle.compact.specs.declared.PushHead.{PushHead}
 use Rattle.overlay.specs.Given.{InBytes, headFits, metaFits}
@@ -57,11 +57,11 @@ module _ (s : State) where
   counted-out n = both-no-right _ (both-no-right _ (le-ltb (s .reader .lines) 18446744073709551615 n))
 
 -- the bytes of lent slices are bytes
-pub lent-bytes : (nids : List ℕ) (narena : Bytes) (wids : List ℕ) (warena : Bytes) (rids : List ℕ) (rarena : Bytes) (spans : List ℕ) (bytes : Bytes) (used : List ℕ)
-    → all isByte narena ≡ true → all isByte warena ≡ true → all isByte rarena ≡ true → all isByte bytes ≡ true → InBytes (overlayOf nids narena wids warena rids rarena spans bytes used)
-lent-bytes nids narena wids warena rids rarena spans bytes used n w r t = record { arenas = arenas; texts = t }
+pub lent-bytes : (ni : List ℕ) (na : Bytes) (wi : List ℕ) (wa : Bytes) (ri : List ℕ) (ra : Bytes) (spans : List ℕ) (bytes : Bytes) (used : List ℕ)
+    → all isByte na ≡ true → all isByte wa ≡ true → all isByte ra ≡ true → all isByte bytes ≡ true → InBytes (overlayOf ni na wi wa ri ra spans bytes used)
+lent-bytes ni na wi wa ri ra spans bytes used n w r t = record { arenas = arenas; texts = t }
   where
-    arenas : (k : Kind) → all isByte (shelfOf k (overlayOf nids narena wids warena rids rarena spans bytes used) .arena) ≡ true
+    arenas : (k : Kind) → all isByte (kindStoreOf k (overlayOf ni na wi wa ri ra spans bytes used) .arena) ≡ true
     arenas Node = n
     arenas Way = w
     arenas Relation = r
@@ -256,12 +256,12 @@ pub run-by : {run : Bytes} {s₀ : State} {more : Bool} {at : ℕ} {x : EventRes
 run-by {run} {s₀} {more} {at} {x} b m w = subst (λ (z : Bool). Running run s₀ z at x) m w
 
 -- what is lent keeps its sizes
-pub record SameSizes (nids₀ narena₀ wids₀ warena₀ rids₀ rarena₀ spans₀ bytes₀ nids narena wids warena rids rarena spans bytes : List ℕ) : Type 0 where
-  pub same-nids : length nids ≡ length nids₀
-  pub same-narena : length narena ≡ length narena₀
-  pub same-wids : length wids ≡ length wids₀
-  pub same-warena : length warena ≡ length warena₀
-  pub same-rids : length rids ≡ length rids₀
-  pub same-rarena : length rarena ≡ length rarena₀
+pub record SameSizes (ni₀ na₀ wi₀ wa₀ ri₀ ra₀ spans₀ bytes₀ ni na wi wa ri ra spans bytes : List ℕ) : Type 0 where
+  pub same-ni : length ni ≡ length ni₀
+  pub same-na : length na ≡ length na₀
+  pub same-wi : length wi ≡ length wi₀
+  pub same-wa : length wa ≡ length wa₀
+  pub same-ri : length ri ≡ length ri₀
+  pub same-ra : length ra ≡ length ra₀
   pub same-spans : length spans ≡ length spans₀
   pub same-bytes : length bytes ≡ length bytes₀

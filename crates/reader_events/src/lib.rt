@@ -38,15 +38,15 @@ struct RunAt {
 
 // The line from one place up to another as an event of a reader that is sound and going.
 fn line_event(
-    nids: &mut [u64],
-    narena: &mut [u8],
-    wids: &mut [u64],
-    warena: &mut [u8],
-    rids: &mut [u64],
-    rarena: &mut [u8],
-    spans: &mut [u64],
-    bytes: &mut [u8],
-    used: &mut [u64; 9],
+    ni: &mut [u64],
+    na: &mut [u8],
+    wi: &mut [u64],
+    wa: &mut [u8],
+    ri: &mut [u64],
+    ra: &mut [u8],
+    ss: &mut [u64],
+    sb: &mut [u8],
+    us: &mut [u64; 9],
     parts: &mut [u8; 44432],
     reader: EventReader,
     run: &[u8],
@@ -55,22 +55,22 @@ fn line_event(
 ) -> RunAt
     requires { ⌜ at ≤ end ⌝ }
     requires { ⌜ end ≤ length (now run) ⌝ }
-    ensures { λ r. ⌜ (stateSound (record { overlay = lent nids narena wids warena rids rarena spans bytes used; reader = reader; parts = now (parts .entry) }) ≡ true
+    ensures { λ r. ⌜ (stateSound (record { overlay = lent ni na wi wa ri ra ss sb us; reader = reader; parts = now (parts .entry) }) ≡ true
         → isStopped (reader .stop) ≡ false
-        → record { result = record { state = record { overlay = left nids narena wids warena rids rarena spans bytes used; reader = r .reader; parts = now (parts .exit) }; answer = r .answer }; at = r .at; more = r .more }
-        ≡ pointAfter at end (eventOn (slice at end (now (run .entry))) (record { overlay = lent nids narena wids warena rids rarena spans bytes used; reader = reader; parts = now (parts .entry) }) .answer)
-        (eventOn (slice at end (now (run .entry))) (record { overlay = lent nids narena wids warena rids rarena spans bytes used; reader = reader; parts = now (parts .entry) }) .state)) ⌝ }
+        → record { result = record { state = record { overlay = left ni na wi wa ri ra ss sb us; reader = r .reader; parts = now (parts .exit) }; answer = r .answer }; at = r .at; more = r .more }
+        ≡ pointAfter at end (eventOn (slice at end (now (run .entry))) (record { overlay = lent ni na wi wa ri ra ss sb us; reader = reader; parts = now (parts .entry) }) .answer)
+        (eventOn (slice at end (now (run .entry))) (record { overlay = lent ni na wi wa ri ra ss sb us; reader = reader; parts = now (parts .entry) }) .state)) ⌝ }
 {
     let done = reader_calls::event_going(
-        nids,
-        narena,
-        wids,
-        warena,
-        rids,
-        rarena,
-        spans,
-        bytes,
-        used,
+        ni,
+        na,
+        wi,
+        wa,
+        ri,
+        ra,
+        ss,
+        sb,
+        us,
         parts,
         reader,
         &run[at..end],
@@ -95,24 +95,24 @@ fn line_event(
 
 // The next line, if there is one. A reader whose line count is at its largest is not sound.
 fn next_event(
-    nids: &mut [u64],
-    narena: &mut [u8],
-    wids: &mut [u64],
-    warena: &mut [u8],
-    rids: &mut [u64],
-    rarena: &mut [u8],
-    spans: &mut [u64],
-    bytes: &mut [u8],
-    used: &mut [u64; 9],
+    ni: &mut [u64],
+    na: &mut [u8],
+    wi: &mut [u64],
+    wa: &mut [u8],
+    ri: &mut [u64],
+    ra: &mut [u8],
+    ss: &mut [u64],
+    sb: &mut [u8],
+    us: &mut [u64; 9],
     parts: &mut [u8; 44432],
     reader: EventReader,
     run: &[u8],
     at: usize,
 ) -> RunAt
     requires { ⌜ at ≤ length (now run) ⌝ }
-    ensures { λ r. ⌜ (RunGiven (record { overlay = lent nids narena wids warena rids rarena spans bytes used; reader = reader; parts = now (parts .entry) })
-        → record { result = record { state = record { overlay = left nids narena wids warena rids rarena spans bytes used; reader = r .reader; parts = now (parts .exit) }; answer = r .answer }; at = r .at; more = r .more }
-        ≡ pointOn (now (run .entry)) at (record { overlay = lent nids narena wids warena rids rarena spans bytes used; reader = reader; parts = now (parts .entry) })) ⌝ }
+    ensures { λ r. ⌜ (RunGiven (record { overlay = lent ni na wi wa ri ra ss sb us; reader = reader; parts = now (parts .entry) })
+        → record { result = record { state = record { overlay = left ni na wi wa ri ra ss sb us; reader = r .reader; parts = now (parts .exit) }; answer = r .answer }; at = r .at; more = r .more }
+        ≡ pointOn (now (run .entry)) at (record { overlay = lent ni na wi wa ri ra ss sb us; reader = reader; parts = now (parts .entry) })) ⌝ }
 {
     let LineEnd::At(end) = lines::line_end(run, at) else {
         return RunAt {
@@ -124,15 +124,15 @@ fn next_event(
     };
     if reader.lines < 18446744073709551615 {
         return line_event(
-            nids,
-            narena,
-            wids,
-            warena,
-            rids,
-            rarena,
-            spans,
-            bytes,
-            used,
+            ni,
+            na,
+            wi,
+            wa,
+            ri,
+            ra,
+            ss,
+            sb,
+            us,
             parts,
             reader,
             run,
@@ -152,24 +152,24 @@ fn next_event(
 
 // All lines, up to the first that is refused, of a reader that is sound and going.
 fn going_events(
-    nids: &mut [u64],
-    narena: &mut [u8],
-    wids: &mut [u64],
-    warena: &mut [u8],
-    rids: &mut [u64],
-    rarena: &mut [u8],
-    spans: &mut [u64],
-    bytes: &mut [u8],
-    used: &mut [u64; 9],
+    ni: &mut [u64],
+    na: &mut [u8],
+    wi: &mut [u64],
+    wa: &mut [u8],
+    ri: &mut [u64],
+    ra: &mut [u8],
+    ss: &mut [u64],
+    sb: &mut [u8],
+    us: &mut [u64; 9],
     parts: &mut [u8; 44432],
     reader: EventReader,
     run: &[u8],
 ) -> EventsDone
-    requires { ⌜ RunGiven (record { overlay = overlayOf (now nids) (now narena) (now wids) (now warena) (now rids) (now rarena) (now spans) (now bytes) (now used); reader = reader; parts = now parts }) ⌝ }
-    requires { ⌜ StateGiven (record { overlay = overlayOf (now nids) (now narena) (now wids) (now warena) (now rids) (now rarena) (now spans) (now bytes) (now used); reader = reader; parts = now parts }) ⌝ }
-    ensures { λ r. ⌜ record { state = record { overlay = left nids narena wids warena rids rarena spans bytes used; reader = r .reader; parts = now (parts .exit) }; answer = r .answer }
-        ≡ eventsOn (linesOf (now (run .entry))) (record { overlay = lent nids narena wids warena rids rarena spans bytes used; reader = reader; parts = now (parts .entry) }) ⌝ }
-    ensures { λ r. ⌜ r .taken ≡ takenBytes (linesOf (now (run .entry))) (record { overlay = lent nids narena wids warena rids rarena spans bytes used; reader = reader; parts = now (parts .entry) }) ⌝ }
+    requires { ⌜ RunGiven (record { overlay = overlayOf (now ni) (now na) (now wi) (now wa) (now ri) (now ra) (now ss) (now sb) (now us); reader = reader; parts = now parts }) ⌝ }
+    requires { ⌜ StateGiven (record { overlay = overlayOf (now ni) (now na) (now wi) (now wa) (now ri) (now ra) (now ss) (now sb) (now us); reader = reader; parts = now parts }) ⌝ }
+    ensures { λ r. ⌜ record { state = record { overlay = left ni na wi wa ri ra ss sb us; reader = r .reader; parts = now (parts .exit) }; answer = r .answer }
+        ≡ eventsOn (linesOf (now (run .entry))) (record { overlay = lent ni na wi wa ri ra ss sb us; reader = reader; parts = now (parts .entry) }) ⌝ }
+    ensures { λ r. ⌜ r .taken ≡ takenBytes (linesOf (now (run .entry))) (record { overlay = lent ni na wi wa ri ra ss sb us; reader = reader; parts = now (parts .entry) }) ⌝ }
 {
     let mut point = RunAt {
         reader,
@@ -180,21 +180,7 @@ fn going_events(
     while point.more {
         let reader = point.reader;
         let at = point.at;
-        point = next_event(
-            nids,
-            narena,
-            wids,
-            warena,
-            rids,
-            rarena,
-            spans,
-            bytes,
-            used,
-            parts,
-            reader,
-            run,
-            at,
-        );
+        point = next_event(ni, na, wi, wa, ri, ra, ss, sb, us, parts, reader, run, at);
     }
     let reader = point.reader;
     let answer = point.answer;
@@ -216,35 +202,23 @@ fn known_bytes(bytes: &[u8]) -> usize
 
 // Whether overlay and reader are sound; and what they are because they are lent.
 fn state_tested(
-    nids: &[u64],
-    narena: &[u8],
-    wids: &[u64],
-    warena: &[u8],
-    rids: &[u64],
-    rarena: &[u8],
-    spans: &[u64],
-    bytes: &[u8],
-    used: &[u64; 9],
+    ni: &[u64],
+    na: &[u8],
+    wi: &[u64],
+    wa: &[u8],
+    ri: &[u64],
+    ra: &[u8],
+    ss: &[u64],
+    sb: &[u8],
+    us: &[u64; 9],
     parts: &[u8; 44432],
     reader: EventReader,
 ) -> bool
-    ensures { λ r. ⌜ r ≡ stateSound (record { overlay = lent nids narena wids warena rids rarena spans bytes used; reader = reader; parts = now (parts .entry) }) ⌝ }
-    ensures { λ r. ⌜ StateGiven (record { overlay = lent nids narena wids warena rids rarena spans bytes used; reader = reader; parts = now (parts .entry) }) ⌝ }
+    ensures { λ r. ⌜ r ≡ stateSound (record { overlay = lent ni na wi wa ri ra ss sb us; reader = reader; parts = now (parts .entry) }) ⌝ }
+    ensures { λ r. ⌜ StateGiven (record { overlay = lent ni na wi wa ri ra ss sb us; reader = reader; parts = now (parts .entry) }) ⌝ }
 {
     known_bytes(parts);
-    reader_sound::state_sound(
-        nids,
-        narena,
-        wids,
-        warena,
-        rids,
-        rarena,
-        spans,
-        bytes,
-        used,
-        parts,
-        reader,
-    )
+    reader_sound::state_sound(ni, na, wi, wa, ri, ra, ss, sb, us, parts, reader)
 }
 
 // ---- the call
@@ -252,22 +226,22 @@ fn state_tested(
 // The whole lines of a run as events, up to the first that is refused. What follows the bytes that were taken is the refused line, or the unfinished one, which a caller
 // lends again with what comes after it.
 pub fn events(
-    nids: &mut [u64],
-    narena: &mut [u8],
-    wids: &mut [u64],
-    warena: &mut [u8],
-    rids: &mut [u64],
-    rarena: &mut [u8],
-    spans: &mut [u64],
-    bytes: &mut [u8],
-    used: &mut [u64; 9],
+    ni: &mut [u64],
+    na: &mut [u8],
+    wi: &mut [u64],
+    wa: &mut [u8],
+    ri: &mut [u64],
+    ra: &mut [u8],
+    ss: &mut [u64],
+    sb: &mut [u8],
+    us: &mut [u64; 9],
     parts: &mut [u8; 44432],
     reader: EventReader,
     run: &[u8],
 ) -> EventsDone
-    ensures { λ r. ⌜ record { state = record { overlay = left nids narena wids warena rids rarena spans bytes used; reader = r .reader; parts = now (parts .exit) }; answer = r .answer }
-        ≡ eventsOn (linesOf (now (run .entry))) (record { overlay = lent nids narena wids warena rids rarena spans bytes used; reader = reader; parts = now (parts .entry) }) ⌝ }
-    ensures { λ r. ⌜ r .taken ≡ takenBytes (linesOf (now (run .entry))) (record { overlay = lent nids narena wids warena rids rarena spans bytes used; reader = reader; parts = now (parts .entry) }) ⌝ }
+    ensures { λ r. ⌜ record { state = record { overlay = left ni na wi wa ri ra ss sb us; reader = r .reader; parts = now (parts .exit) }; answer = r .answer }
+        ≡ eventsOn (linesOf (now (run .entry))) (record { overlay = lent ni na wi wa ri ra ss sb us; reader = reader; parts = now (parts .entry) }) ⌝ }
+    ensures { λ r. ⌜ r .taken ≡ takenBytes (linesOf (now (run .entry))) (record { overlay = lent ni na wi wa ri ra ss sb us; reader = reader; parts = now (parts .entry) }) ⌝ }
 {
     let LineEnd::At(_) = lines::line_end(run, 0) else {
         return EventsDone {
@@ -276,35 +250,10 @@ pub fn events(
             taken: 0,
         };
     };
-    if state_tested(
-        nids,
-        narena,
-        wids,
-        warena,
-        rids,
-        rarena,
-        spans,
-        bytes,
-        used,
-        parts,
-        reader,
-    ) {
+    if state_tested(ni, na, wi, wa, ri, ra, ss, sb, us, parts, reader) {
         let stop = reader.stop;
         let Stop::At(refusal, line) = reader_sound::mark_of(stop) else {
-            return going_events(
-                nids,
-                narena,
-                wids,
-                warena,
-                rids,
-                rarena,
-                spans,
-                bytes,
-                used,
-                parts,
-                reader,
-                run,
-            );
+            return going_events(ni, na, wi, wa, ri, ra, ss, sb, us, parts, reader, run);
         };
         return EventsDone {
             reader,

@@ -6,7 +6,7 @@ ghost use mir.Syntax.{w64};
 ghost use mir.Val.{toZ};
 ghost use Rattle.stage.specs.Stage.{staged, refPart, memberPart, tagPart};
 ghost use Rattle.interner.specs.Strings.{storeWith};
-ghost use Rattle.values.specs.Value.{textAt, ExtentLies};
+ghost use Rattle.values.specs.Value.{textAt, ExtentInBounds};
 ghost use Rattle.overlay.specs.Overlay.{Overlay, lent, left};
 ghost use Rattle.reader.specs.State.{middle, valuesIn, moreTags, moreParts};
 ghost use Rattle.reader_texts.specs.Texts.{refusedFor};
@@ -72,7 +72,7 @@ fn part_fits(pending: Pending, limit: u32) -> bool
 
 // What a child with a text is answered that is not within them: 13 if its text would be refused, else 16.
 fn over_limit(spans: &[u64], bytes: &[u8], used: &[u64; 9], line: &[u8], text: Extent) -> Added
-    ensures { λ r. ⌜ (ExtentLies (now (line .entry)) text → length (now (line .entry)) ≤ 16384
+    ensures { λ r. ⌜ (ExtentInBounds (now (line .entry)) text → length (now (line .entry)) ≤ 16384
         → r ≡ added.Refused (refusalOver (refusedFor (storeWith (now (spans .entry)) (now (bytes .entry)) (getD (now (used .entry)) 6 0) (getD (now (used .entry)) 7 0)) (textAt (now (line .entry)) text)))) ⌝ }
 {
     if reader_texts::text_refused(spans, bytes, used, line, text) {
@@ -150,15 +150,15 @@ fn with_member(parts: &mut [u8], kind: Kind, pending: Pending, member: CompactMe
 
 // With its value's text.
 fn tag_with(
-    nids: &[u64],
-    narena: &[u8],
-    wids: &[u64],
-    warena: &[u8],
-    rids: &[u64],
-    rarena: &[u8],
-    spans: &mut [u64],
-    bytes: &mut [u8],
-    used: &mut [u64; 9],
+    ni: &[u64],
+    na: &[u8],
+    wi: &[u64],
+    wa: &[u8],
+    ri: &[u64],
+    ra: &[u8],
+    ss: &mut [u64],
+    sb: &mut [u8],
+    us: &mut [u64; 9],
     parts: &mut [u8],
     kind: Kind,
     pending: Pending,
@@ -166,42 +166,30 @@ fn tag_with(
     key: Extent,
     value: &[u8],
 ) -> Added
-    ensures { λ r. ⌜ (ChildGiven (lent nids narena wids warena rids rarena spans bytes used) pending (now (parts .entry)) (now (line .entry)) → ExtentLies (now (line .entry)) key
-        → record { overlay = left nids narena wids warena rids rarena spans bytes used; parts = now (parts .exit); answer = r }
-        ≡ addTag kind pending (record { key = textAt (now (line .entry)) key; value = now (value .entry) }) (now (parts .entry)) (lent nids narena wids warena rids rarena spans bytes used)) ⌝ }
+    ensures { λ r. ⌜ (ChildGiven (lent ni na wi wa ri ra ss sb us) pending (now (parts .entry)) (now (line .entry)) → ExtentInBounds (now (line .entry)) key
+        → record { overlay = left ni na wi wa ri ra ss sb us; parts = now (parts .exit); answer = r }
+        ≡ addTag kind pending (record { key = textAt (now (line .entry)) key; value = now (value .entry) }) (now (parts .entry)) (lent ni na wi wa ri ra ss sb us)) ⌝ }
 {
     if tag_fits(kind, pending, value.len()) {
-        return match reader_texts::take_text(
-            nids,
-            narena,
-            wids,
-            warena,
-            rids,
-            rarena,
-            spans,
-            bytes,
-            used,
-            line,
-            key,
-        ) {
+        return match reader_texts::take_text(ni, na, wi, wa, ri, ra, ss, sb, us, line, key) {
             Handle::Is(handle) => Added::Is(with_tag(parts, pending, handle, value)),
             Handle::Refused(refusal) => Added::Refused(refusal),
         };
     }
-    over_limit(spans, bytes, used, line, key)
+    over_limit(ss, sb, us, line, key)
 }
 
 // The first n of some bytes are its value's text.
 fn tag_first(
-    nids: &[u64],
-    narena: &[u8],
-    wids: &[u64],
-    warena: &[u8],
-    rids: &[u64],
-    rarena: &[u8],
-    spans: &mut [u64],
-    bytes: &mut [u8],
-    used: &mut [u64; 9],
+    ni: &[u64],
+    na: &[u8],
+    wi: &[u64],
+    wa: &[u8],
+    ri: &[u64],
+    ra: &[u8],
+    ss: &mut [u64],
+    sb: &mut [u8],
+    us: &mut [u64; 9],
     parts: &mut [u8],
     kind: Kind,
     pending: Pending,
@@ -210,21 +198,21 @@ fn tag_first(
     room: &[u8],
     n: usize,
 ) -> Added
-    ensures { λ r. ⌜ (ChildGiven (lent nids narena wids warena rids rarena spans bytes used) pending (now (parts .entry)) (now (line .entry)) → ExtentLies (now (line .entry)) key
-        → record { overlay = left nids narena wids warena rids rarena spans bytes used; parts = now (parts .exit); answer = r }
-        ≡ addTag kind pending (record { key = textAt (now (line .entry)) key; value = take n (now (room .entry)) }) (now (parts .entry)) (lent nids narena wids warena rids rarena spans bytes used)) ⌝ }
+    ensures { λ r. ⌜ (ChildGiven (lent ni na wi wa ri ra ss sb us) pending (now (parts .entry)) (now (line .entry)) → ExtentInBounds (now (line .entry)) key
+        → record { overlay = left ni na wi wa ri ra ss sb us; parts = now (parts .exit); answer = r }
+        ≡ addTag kind pending (record { key = textAt (now (line .entry)) key; value = take n (now (room .entry)) }) (now (parts .entry)) (lent ni na wi wa ri ra ss sb us)) ⌝ }
 {
     let end = little::lesser(n, room.len());
     tag_with(
-        nids,
-        narena,
-        wids,
-        warena,
-        rids,
-        rarena,
-        spans,
-        bytes,
-        used,
+        ni,
+        na,
+        wi,
+        wa,
+        ri,
+        ra,
+        ss,
+        sb,
+        us,
         parts,
         kind,
         pending,
@@ -236,15 +224,15 @@ fn tag_first(
 
 // By an array that holds its value's text.
 fn tag_through(
-    nids: &[u64],
-    narena: &[u8],
-    wids: &[u64],
-    warena: &[u8],
-    rids: &[u64],
-    rarena: &[u8],
-    spans: &mut [u64],
-    bytes: &mut [u8],
-    used: &mut [u64; 9],
+    ni: &[u64],
+    na: &[u8],
+    wi: &[u64],
+    wa: &[u8],
+    ri: &[u64],
+    ra: &[u8],
+    ss: &mut [u64],
+    sb: &mut [u8],
+    us: &mut [u64; 9],
     parts: &mut [u8],
     kind: Kind,
     pending: Pending,
@@ -253,21 +241,21 @@ fn tag_through(
     value: Extent,
     room: &mut [u8; 16384],
 ) -> Added
-    ensures { λ r. ⌜ (ChildGiven (lent nids narena wids warena rids rarena spans bytes used) pending (now (parts .entry)) (now (line .entry)) → ExtentLies (now (line .entry)) key → ExtentLies (now (line .entry)) value
-        → record { overlay = left nids narena wids warena rids rarena spans bytes used; parts = now (parts .exit); answer = r }
-        ≡ addTag kind pending (record { key = textAt (now (line .entry)) key; value = textAt (now (line .entry)) value }) (now (parts .entry)) (lent nids narena wids warena rids rarena spans bytes used)) ⌝ }
+    ensures { λ r. ⌜ (ChildGiven (lent ni na wi wa ri ra ss sb us) pending (now (parts .entry)) (now (line .entry)) → ExtentInBounds (now (line .entry)) key → ExtentInBounds (now (line .entry)) value
+        → record { overlay = left ni na wi wa ri ra ss sb us; parts = now (parts .exit); answer = r }
+        ≡ addTag kind pending (record { key = textAt (now (line .entry)) key; value = textAt (now (line .entry)) value }) (now (parts .entry)) (lent ni na wi wa ri ra ss sb us)) ⌝ }
 {
     let n = reader_texts::text_into(room, line, value);
     tag_first(
-        nids,
-        narena,
-        wids,
-        warena,
-        rids,
-        rarena,
-        spans,
-        bytes,
-        used,
+        ni,
+        na,
+        wi,
+        wa,
+        ri,
+        ra,
+        ss,
+        sb,
+        us,
         parts,
         kind,
         pending,
@@ -280,15 +268,15 @@ fn tag_through(
 
 // A tag more: 13 of its key, 16, or the tag staged.
 pub fn add_tag(
-    nids: &[u64],
-    narena: &[u8],
-    wids: &[u64],
-    warena: &[u8],
-    rids: &[u64],
-    rarena: &[u8],
-    spans: &mut [u64],
-    bytes: &mut [u8],
-    used: &mut [u64; 9],
+    ni: &[u64],
+    na: &[u8],
+    wi: &[u64],
+    wa: &[u8],
+    ri: &[u64],
+    ra: &[u8],
+    ss: &mut [u64],
+    sb: &mut [u8],
+    us: &mut [u64; 9],
     parts: &mut [u8; 44432],
     kind: Kind,
     pending: Pending,
@@ -296,21 +284,21 @@ pub fn add_tag(
     key: Extent,
     value: Extent,
 ) -> Added
-    ensures { λ r. ⌜ (ChildGiven (lent nids narena wids warena rids rarena spans bytes used) pending (now (parts .entry)) (now (line .entry)) → ExtentLies (now (line .entry)) key → ExtentLies (now (line .entry)) value
-        → record { overlay = left nids narena wids warena rids rarena spans bytes used; parts = now (parts .exit); answer = r }
-        ≡ addTag kind pending (record { key = textAt (now (line .entry)) key; value = textAt (now (line .entry)) value }) (now (parts .entry)) (lent nids narena wids warena rids rarena spans bytes used)) ⌝ }
+    ensures { λ r. ⌜ (ChildGiven (lent ni na wi wa ri ra ss sb us) pending (now (parts .entry)) (now (line .entry)) → ExtentInBounds (now (line .entry)) key → ExtentInBounds (now (line .entry)) value
+        → record { overlay = left ni na wi wa ri ra ss sb us; parts = now (parts .exit); answer = r }
+        ≡ addTag kind pending (record { key = textAt (now (line .entry)) key; value = textAt (now (line .entry)) value }) (now (parts .entry)) (lent ni na wi wa ri ra ss sb us)) ⌝ }
 {
     let mut room = [0u8; 16384];
     tag_through(
-        nids,
-        narena,
-        wids,
-        warena,
-        rids,
-        rarena,
-        spans,
-        bytes,
-        used,
+        ni,
+        na,
+        wi,
+        wa,
+        ri,
+        ra,
+        ss,
+        sb,
+        us,
         parts,
         kind,
         pending,
@@ -336,15 +324,15 @@ pub fn add_ref(parts: &mut [u8; 44432], kind: Kind, pending: Pending, reference:
 
 // A member more: 13 of its role, 16, or the member staged.
 pub fn add_member(
-    nids: &[u64],
-    narena: &[u8],
-    wids: &[u64],
-    warena: &[u8],
-    rids: &[u64],
-    rarena: &[u8],
-    spans: &mut [u64],
-    bytes: &mut [u8],
-    used: &mut [u64; 9],
+    ni: &[u64],
+    na: &[u8],
+    wi: &[u64],
+    wa: &[u8],
+    ri: &[u64],
+    ra: &[u8],
+    ss: &mut [u64],
+    sb: &mut [u8],
+    us: &mut [u64; 9],
     parts: &mut [u8; 44432],
     kind: Kind,
     pending: Pending,
@@ -353,24 +341,12 @@ pub fn add_member(
     member_kind: Kind,
     role: Extent,
 ) -> Added
-    ensures { λ r. ⌜ (ChildGiven (lent nids narena wids warena rids rarena spans bytes used) pending (now (parts .entry)) (now (line .entry)) → ExtentLies (now (line .entry)) role
-        → record { overlay = left nids narena wids warena rids rarena spans bytes used; parts = now (parts .exit); answer = r }
-        ≡ addMember kind pending (record { ref = toZ w64 reference; type = «member_kind»; role = textAt (now (line .entry)) role }) (now (parts .entry)) (lent nids narena wids warena rids rarena spans bytes used)) ⌝ }
+    ensures { λ r. ⌜ (ChildGiven (lent ni na wi wa ri ra ss sb us) pending (now (parts .entry)) (now (line .entry)) → ExtentInBounds (now (line .entry)) role
+        → record { overlay = left ni na wi wa ri ra ss sb us; parts = now (parts .exit); answer = r }
+        ≡ addMember kind pending (record { ref = toZ w64 reference; type = «member_kind»; role = textAt (now (line .entry)) role }) (now (parts .entry)) (lent ni na wi wa ri ra ss sb us)) ⌝ }
 {
     if part_fits(pending, 2000) {
-        return match reader_texts::take_text(
-            nids,
-            narena,
-            wids,
-            warena,
-            rids,
-            rarena,
-            spans,
-            bytes,
-            used,
-            line,
-            role,
-        ) {
+        return match reader_texts::take_text(ni, na, wi, wa, ri, ra, ss, sb, us, line, role) {
             Handle::Is(handle) => {
                 let member = CompactMember {
                     reference,
@@ -382,5 +358,5 @@ pub fn add_member(
             Handle::Refused(refusal) => Added::Refused(refusal),
         };
     }
-    over_limit(spans, bytes, used, line, role)
+    over_limit(ss, sb, us, line, role)
 }

@@ -30,25 +30,25 @@ fn pending_sound(strings: u64, kind: Kind, parts: &[u8], pending: Pending) -> bo
 
 // Whether overlay and reader are sound.
 pub fn state_sound(
-    nids: &[u64],
-    narena: &[u8],
-    wids: &[u64],
-    warena: &[u8],
-    rids: &[u64],
-    rarena: &[u8],
-    spans: &[u64],
-    bytes: &[u8],
-    used: &[u64; 9],
+    ni: &[u64],
+    na: &[u8],
+    wi: &[u64],
+    wa: &[u8],
+    ri: &[u64],
+    ra: &[u8],
+    ss: &[u64],
+    sb: &[u8],
+    us: &[u64; 9],
     parts: &[u8; 44432],
     reader: EventReader,
 ) -> bool
-    ensures { λ r. ⌜ r ≡ stateSound (record { overlay = lent nids narena wids warena rids rarena spans bytes used; reader = reader; parts = now (parts .entry) }) ⌝ }
+    ensures { λ r. ⌜ r ≡ stateSound (record { overlay = lent ni na wi wa ri ra ss sb us; reader = reader; parts = now (parts .entry) }) ⌝ }
 {
-    if overlay::is_sound(nids, narena, wids, warena, rids, rarena, spans, bytes, used) {
+    if overlay::is_sound(ni, na, wi, wa, ri, ra, ss, sb, us) {
         let place = reader.place;
         let kind = place.kind;
         let pending = reader.pending;
-        let staged = pending_sound(used[6], kind, parts, pending);
+        let staged = pending_sound(us[6], kind, parts, pending);
         return staged & (reader.lines < 18446744073709551615);
     }
     false

@@ -14,13 +14,13 @@ use Rattle.kind.specs.declared.Kind.{Kind}
 use Rattle.nesting.specs.declared.Place.{Place}
 use Rattle.model.specs.Record.{Meta, Body}
 use Rattle.compact.specs.declared.PushHead.{PushHead}
-use Rattle.shelf.specs.declared.Kept.{Kept}
-use Rattle.shelf.specs.declared.Kept.the-variants as K
+use Rattle.kind_store.specs.declared.Kept.{Kept}
+use Rattle.kind_store.specs.declared.Kept.the-variants as K
 use Rattle.overlay.specs.Overlay.{Overlay}
 use Rattle.overlay.specs.Calls.{OverlayAfter}
 use Rattle.values.specs.declared.Extent.{Extent}
-use Rattle.values.specs.Value.{textAt, ExtentLies, bodyIn}
-use Rattle.metadata.specs.Metadata.{metaWritten, MetadataLies}
+use Rattle.values.specs.Value.{textAt, ExtentInBounds, bodyIn}
+use Rattle.metadata.specs.Metadata.{metaWritten, MetadataInBounds}
 use Rattle.metadata.specs.declared.Metadata.{Metadata}
 use Rattle.decision.specs.Decision.{Decision, refuses, begins}
 use Rattle.decide.specs.Decided.{meansDecided}
@@ -87,7 +87,7 @@ module _ (s : State) (p : Place) where
   empty-done id m b e f = act-done (begins true p id m b) (empty-step s p id m b) (λ x. empty-refused (s .overlay) x id m b) e f
 
   module _ {line : Bytes} where
-    act-given : (d : Decided) (m : Metadata) → StepGiven line d s → (meansDecided line d ≡ refuses LongLine → ⊥) → MetadataLies line m → ActGiven line m (s .overlay)
+    act-given : (d : Decided) (m : Metadata) → StepGiven line d s → (meansDecided line d ≡ refuses LongLine → ⊥) → MetadataInBounds line m → ActGiven line m (s .overlay)
     act-given d m g n l = record { lies = l; short = g .short n; few = g .strings }
 
     child-given : (d : Decided) → StepGiven line d s → (meansDecided line d ≡ refuses LongLine → ⊥) → ChildGiven (s .overlay) (s .reader .pending) (s .parts) line
@@ -104,7 +104,7 @@ module _ (s : State) (p : Place) where
         (e (act-given (D.Deletes k p id m) m g (λ z. no (cc)) (g .lies))) f
 
     pub tags-done : (key value : Extent) {q : Overlay} {ps : Bytes} {a : Added} {r : Stepped}
-        → (ChildGiven (s .overlay) (s .reader .pending) (s .parts) line → ExtentLies line key → ExtentLies line value
+        → (ChildGiven (s .overlay) (s .reader .pending) (s .parts) line → ExtentInBounds line key → ExtentInBounds line value
         → record { overlay = q; parts = ps; answer = a }
         ≡ addTag (s .reader .place .kind) (s .reader .pending) (record { key = textAt line key; value = textAt line value }) (s .parts) (s .overlay)) → r ≡ childStepped p a
         → StepGiven line (D.Tags p key value) s → record { overlay = q; parts = ps; answer = r } ≡ doneBy s (stepOf (meansDecided line (D.Tags p key value)) s)
@@ -118,7 +118,7 @@ module _ (s : State) (p : Place) where
     refers-done reference e f g = child-done _ (ref-step s p (toZ w64 reference)) (e (s .overlay) (g .used)) f
 
     pub joins-done : (reference : ℕ) (k : Kind) (role : Extent) {q : Overlay} {ps : Bytes} {a : Added} {r : Stepped}
-        → (ChildGiven (s .overlay) (s .reader .pending) (s .parts) line → ExtentLies line role
+        → (ChildGiven (s .overlay) (s .reader .pending) (s .parts) line → ExtentInBounds line role
         → record { overlay = q; parts = ps; answer = a }
         ≡ addMember (s .reader .place .kind) (s .reader .pending) (record { ref = toZ w64 reference; type = k; role = textAt line role }) (s .parts) (s .overlay)) → r ≡ childStepped p a
         → StepGiven line (D.Joins p reference k role) s → record { overlay = q; parts = ps; answer = r } ≡ doneBy s (stepOf (meansDecided line (D.Joins p reference k role)) s)

@@ -5,13 +5,13 @@ use lib.ListN.{length}
 use Rattle.base.specs.Bytes.{Bytes}
 use Rattle.refusal.specs.declared.Refusal.the-variants.{LongLine}
 use Rattle.decision.specs.Decision.{refuses}
-use Rattle.decide.specs.Decided.{meansDecided, DecidedLies}
+use Rattle.decide.specs.Decided.{meansDecided, DecidedInBounds}
 use Rattle.decide.specs.declared.Decided.{Decided}
 use Rattle.overlay.specs.Overlay.{Overlay}
 use Rattle.compact.specs.declared.PushHead.{PushHead}
 use Rattle.nesting.specs.declared.Place.{Place}
-use Rattle.shelf.specs.declared.Kept.{Kept}
-use Rattle.shelf.specs.declared.Kept.the-variants as K
+use Rattle.kind_store.specs.declared.Kept.{Kept}
+use Rattle.kind_store.specs.declared.Kept.the-variants as K
 use Rattle.reader.specs.State.{State, noPending}
 use Rattle.reader.specs.Step.{Step, goes, stops}
 use Rattle.reader_acts.specs.declared.Begun.{Begun}
@@ -35,7 +35,7 @@ pub record StepGiven (line : Bytes) (d : Decided) (s : State) : Type 0 where
   pub strings : s .overlay .texts .strings < 4294967296
   pub used : s .reader .pending .used ≤ length (s .parts)
   pub short : (meansDecided line d ≡ refuses LongLine → ⊥) → length line ≤ 16384
-  pub lies : DecidedLies line d
+  pub lies : DecidedInBounds line d
 
 -- ---- by the answers of the calls that it makes
 

@@ -17,6 +17,7 @@ use compact::ArenaMeta;
 use compact::PushHead;
 use decide::Decided;
 use kind::Kind;
+use kind_store::Kept;
 use metadata::Metadata;
 use nesting::Place;
 use reader::EventReader;
@@ -24,7 +25,6 @@ use reader::Pending;
 use reader_acts::Begun;
 use reader_parts::Added;
 use refusal::Refusal;
-use shelf::Kept;
 
 // Where the reader stands after an event and the element that it is putting together, or the event's refusal.
 pub enum Stepped {
@@ -101,15 +101,15 @@ fn begun(place: Place, head: PushHead, answer: Begun) -> Stepped
 
 // An element that begins, and ends too where it is empty: then it is pushed.
 fn begin(
-    nids: &mut [u64],
-    narena: &mut [u8],
-    wids: &mut [u64],
-    warena: &mut [u8],
-    rids: &mut [u64],
-    rarena: &mut [u8],
-    spans: &mut [u64],
-    bytes: &mut [u8],
-    used: &mut [u64; 9],
+    ni: &mut [u64],
+    na: &mut [u8],
+    wi: &mut [u64],
+    wa: &mut [u8],
+    ri: &mut [u64],
+    ra: &mut [u8],
+    ss: &mut [u64],
+    sb: &mut [u8],
+    us: &mut [u64; 9],
     line: &[u8],
     empty: bool,
     kind: Kind,
@@ -120,25 +120,25 @@ fn begin(
     meta: Metadata,
 ) -> Stepped
     ensures { λ r. ⌜ ((reader : EventReader) (parts : Bytes)
-        → ActGiven (now (line .entry)) meta (lent nids narena wids warena rids rarena spans bytes used)
-        → record { overlay = left nids narena wids warena rids rarena spans bytes used; parts = parts; answer = r }
-        ≡ doneBy (record { overlay = lent nids narena wids warena rids rarena spans bytes used; reader = reader; parts = parts })
+        → ActGiven (now (line .entry)) meta (lent ni na wi wa ri ra ss sb us)
+        → record { overlay = left ni na wi wa ri ra ss sb us; parts = parts; answer = r }
+        ≡ doneBy (record { overlay = lent ni na wi wa ri ra ss sb us; reader = reader; parts = parts })
         (stepOf (begins empty place (toZ w64 id) (metaWritten (now (line .entry)) meta) (bodyIn kind lat lon))
-        (record { overlay = lent nids narena wids warena rids rarena spans bytes used; reader = reader; parts = parts }))) ⌝ }
+        (record { overlay = lent ni na wi wa ri ra ss sb us; reader = reader; parts = parts }))) ⌝ }
 {
     if empty {
         return cleared(
             place,
             reader_acts::push_empty(
-                nids,
-                narena,
-                wids,
-                warena,
-                rids,
-                rarena,
-                spans,
-                bytes,
-                used,
+                ni,
+                na,
+                wi,
+                wa,
+                ri,
+                ra,
+                ss,
+                sb,
+                us,
                 kind,
                 id,
                 lat,
@@ -152,19 +152,7 @@ fn begin(
     begun(
         place,
         head,
-        reader_acts::begin_element(
-            nids,
-            narena,
-            wids,
-            warena,
-            rids,
-            rarena,
-            spans,
-            bytes,
-            used,
-            meta,
-            line,
-        ),
+        reader_acts::begin_element(ni, na, wi, wa, ri, ra, ss, sb, us, meta, line),
     )
 }
 
@@ -172,25 +160,25 @@ fn begin(
 
 // What is decided of an event whose line without its line feed is `line`, done.
 pub fn step(
-    nids: &mut [u64],
-    narena: &mut [u8],
-    wids: &mut [u64],
-    warena: &mut [u8],
-    rids: &mut [u64],
-    rarena: &mut [u8],
-    spans: &mut [u64],
-    bytes: &mut [u8],
-    used: &mut [u64; 9],
+    ni: &mut [u64],
+    na: &mut [u8],
+    wi: &mut [u64],
+    wa: &mut [u8],
+    ri: &mut [u64],
+    ra: &mut [u8],
+    ss: &mut [u64],
+    sb: &mut [u8],
+    us: &mut [u64; 9],
     parts: &mut [u8; 44432],
     reader: EventReader,
     line: &[u8],
     decided: Decided,
 ) -> Stepped
-    ensures { λ r. ⌜ (StepGiven (now (line .entry)) decided (record { overlay = lent nids narena wids warena rids rarena spans bytes used; reader = reader; parts = now (parts .entry) })
-        → record { overlay = left nids narena wids warena rids rarena spans bytes used; parts = now (parts .exit); answer = r }
-        ≡ doneBy (record { overlay = lent nids narena wids warena rids rarena spans bytes used; reader = reader; parts = now (parts .entry) })
+    ensures { λ r. ⌜ (StepGiven (now (line .entry)) decided (record { overlay = lent ni na wi wa ri ra ss sb us; reader = reader; parts = now (parts .entry) })
+        → record { overlay = left ni na wi wa ri ra ss sb us; parts = now (parts .exit); answer = r }
+        ≡ doneBy (record { overlay = lent ni na wi wa ri ra ss sb us; reader = reader; parts = now (parts .entry) })
         (stepOf (meansDecided (now (line .entry)) decided)
-        (record { overlay = lent nids narena wids warena rids rarena spans bytes used; reader = reader; parts = now (parts .entry) }))) ⌝ }
+        (record { overlay = lent ni na wi wa ri ra ss sb us; reader = reader; parts = now (parts .entry) }))) ⌝ }
 {
     let pending = reader.pending;
     let at = reader.place;
@@ -207,15 +195,15 @@ pub fn step(
             lon,
             meta,
         } => begin(
-            nids,
-            narena,
-            wids,
-            warena,
-            rids,
-            rarena,
-            spans,
-            bytes,
-            used,
+            ni,
+            na,
+            wi,
+            wa,
+            ri,
+            ra,
+            ss,
+            sb,
+            us,
             line,
             empty,
             kind,
@@ -232,34 +220,20 @@ pub fn step(
             meta,
         } => cleared(
             place,
-            reader_acts::delete_element(
-                nids,
-                narena,
-                wids,
-                warena,
-                rids,
-                rarena,
-                spans,
-                bytes,
-                used,
-                kind,
-                id,
-                meta,
-                line,
-            ),
+            reader_acts::delete_element(ni, na, wi, wa, ri, ra, ss, sb, us, kind, id, meta, line),
         ),
         Decided::Tags { place, key, value } => added(
             place,
             reader_parts::add_tag(
-                nids,
-                narena,
-                wids,
-                warena,
-                rids,
-                rarena,
-                spans,
-                bytes,
-                used,
+                ni,
+                na,
+                wi,
+                wa,
+                ri,
+                ra,
+                ss,
+                sb,
+                us,
                 parts,
                 open_kind,
                 pending,
@@ -280,15 +254,15 @@ pub fn step(
         } => added(
             place,
             reader_parts::add_member(
-                nids,
-                narena,
-                wids,
-                warena,
-                rids,
-                rarena,
-                spans,
-                bytes,
-                used,
+                ni,
+                na,
+                wi,
+                wa,
+                ri,
+                ra,
+                ss,
+                sb,
+                us,
                 parts,
                 open_kind,
                 pending,
@@ -301,15 +275,15 @@ pub fn step(
         Decided::Ends(place) => cleared(
             place,
             reader_acts::push_staged(
-                nids,
-                narena,
-                wids,
-                warena,
-                rids,
-                rarena,
-                spans,
-                bytes,
-                used,
+                ni,
+                na,
+                wi,
+                wa,
+                ri,
+                ra,
+                ss,
+                sb,
+                us,
                 parts,
                 open_kind,
                 pending,

@@ -20,7 +20,7 @@ use Rattle.scan.proofs.Places.{lent-is}
 use Rattle.interner.specs.declared.Found.the-variants.{At, Not}
 use Rattle.interner.specs.Strings.{findIn, Store, usedOf, textRoom}
 use Rattle.interner.proofs.Takes.{held, new, full}
-use Rattle.values.specs.Value.{textAt, ExtentLies}
+use Rattle.values.specs.Value.{textAt, ExtentInBounds}
 use Rattle.values.specs.declared.Extent.{Extent}
 use Rattle.reader_texts.specs.Texts.{refusedFor}
 
@@ -46,7 +46,7 @@ pub text-shorter : (v : Bytes) → length (valueText v) ≤ length v
 unfolding valueText
 text-shorter v = shorter v false
 
-module _ (line : Bytes) (at : Extent) (lies : ExtentLies line at) where
+module _ (line : Bytes) (at : Extent) (lies : ExtentInBounds line at) where
   pub extent-shorter : length (textAt line at) ≤ length line
   extent-shorter =
       let h = text-shorter (slice (at .from) (at .to) line) in

@@ -4,7 +4,7 @@ ghost use Prim.Native.Nat.{_≤_};
 ghost use lib.ListN.{length, take, getD};
 ghost use Rattle.little.specs.Little.{over};
 ghost use Rattle.interner.specs.Strings.{storeWith};
-ghost use Rattle.values.specs.Value.{textAt, ExtentLies};
+ghost use Rattle.values.specs.Value.{textAt, ExtentInBounds};
 ghost use Rattle.overlay.specs.Overlay.{lent, left};
 ghost use Rattle.store.specs.Calls.{storeText};
 ghost use Rattle.reader_texts.specs.Texts.{refusedFor};
@@ -14,7 +14,7 @@ use values::Extent;
 
 // The text of an extent at the start of what is lent, as far as there is room; its whole length is answered.
 pub fn text_into(out: &mut [u8], line: &[u8], at: Extent) -> usize
-    ensures { λ r. ⌜ (ExtentLies (now (line .entry)) at
+    ensures { λ r. ⌜ (ExtentInBounds (now (line .entry)) at
         → (now (out .exit) ≡ over (now (out .entry)) 0 (textAt (now (line .entry)) at)) × (r ≡ length (textAt (now (line .entry)) at))) ⌝ }
 {
     let to = little::lesser(at.to, line.len());
@@ -26,104 +26,68 @@ pub fn text_into(out: &mut [u8], line: &[u8], at: Extent) -> usize
 
 // The text that the first n of some bytes are.
 fn take_first(
-    nids: &[u64],
-    narena: &[u8],
-    wids: &[u64],
-    warena: &[u8],
-    rids: &[u64],
-    rarena: &[u8],
-    spans: &mut [u64],
-    bytes: &mut [u8],
-    used: &mut [u64; 9],
+    ni: &[u64],
+    na: &[u8],
+    wi: &[u64],
+    wa: &[u8],
+    ri: &[u64],
+    ra: &[u8],
+    ss: &mut [u64],
+    sb: &mut [u8],
+    us: &mut [u64; 9],
     room: &[u8],
     n: usize,
 ) -> Handle
-    ensures { λ r. ⌜ record { overlay = left nids narena wids warena rids rarena spans bytes used; answer = r }
-        ≡ storeText (take n (now (room .entry))) (lent nids narena wids warena rids rarena spans bytes used) ⌝ }
+    ensures { λ r. ⌜ record { overlay = left ni na wi wa ri ra ss sb us; answer = r }
+        ≡ storeText (take n (now (room .entry))) (lent ni na wi wa ri ra ss sb us) ⌝ }
 {
     let end = little::lesser(n, room.len());
-    store::store_text(
-        nids,
-        narena,
-        wids,
-        warena,
-        rids,
-        rarena,
-        spans,
-        bytes,
-        used,
-        &room[..end],
-    )
+    store::store_text(ni, na, wi, wa, ri, ra, ss, sb, us, &room[..end])
 }
 
 // The text of an extent, by an array that holds it.
 fn take_through(
-    nids: &[u64],
-    narena: &[u8],
-    wids: &[u64],
-    warena: &[u8],
-    rids: &[u64],
-    rarena: &[u8],
-    spans: &mut [u64],
-    bytes: &mut [u8],
-    used: &mut [u64; 9],
+    ni: &[u64],
+    na: &[u8],
+    wi: &[u64],
+    wa: &[u8],
+    ri: &[u64],
+    ra: &[u8],
+    ss: &mut [u64],
+    sb: &mut [u8],
+    us: &mut [u64; 9],
     line: &[u8],
     at: Extent,
     room: &mut [u8; 16384],
 ) -> Handle
-    ensures { λ r. ⌜ (ExtentLies (now (line .entry)) at → length (now (line .entry)) ≤ 16384
-        → record { overlay = left nids narena wids warena rids rarena spans bytes used; answer = r }
-        ≡ storeText (textAt (now (line .entry)) at) (lent nids narena wids warena rids rarena spans bytes used)) ⌝ }
+    ensures { λ r. ⌜ (ExtentInBounds (now (line .entry)) at → length (now (line .entry)) ≤ 16384
+        → record { overlay = left ni na wi wa ri ra ss sb us; answer = r }
+        ≡ storeText (textAt (now (line .entry)) at) (lent ni na wi wa ri ra ss sb us)) ⌝ }
 {
     let n = text_into(room, line, at);
-    take_first(
-        nids,
-        narena,
-        wids,
-        warena,
-        rids,
-        rarena,
-        spans,
-        bytes,
-        used,
-        room,
-        n,
-    )
+    take_first(ni, na, wi, wa, ri, ra, ss, sb, us, room, n)
 }
 
 // Takes the text of an extent in: 13, or its handle.
 pub fn take_text(
-    nids: &[u64],
-    narena: &[u8],
-    wids: &[u64],
-    warena: &[u8],
-    rids: &[u64],
-    rarena: &[u8],
-    spans: &mut [u64],
-    bytes: &mut [u8],
-    used: &mut [u64; 9],
+    ni: &[u64],
+    na: &[u8],
+    wi: &[u64],
+    wa: &[u8],
+    ri: &[u64],
+    ra: &[u8],
+    ss: &mut [u64],
+    sb: &mut [u8],
+    us: &mut [u64; 9],
     line: &[u8],
     at: Extent,
 ) -> Handle
-    ensures { λ r. ⌜ (ExtentLies (now (line .entry)) at → length (now (line .entry)) ≤ 16384
-        → record { overlay = left nids narena wids warena rids rarena spans bytes used; answer = r }
-        ≡ storeText (textAt (now (line .entry)) at) (lent nids narena wids warena rids rarena spans bytes used)) ⌝ }
+    ensures { λ r. ⌜ (ExtentInBounds (now (line .entry)) at → length (now (line .entry)) ≤ 16384
+        → record { overlay = left ni na wi wa ri ra ss sb us; answer = r }
+        ≡ storeText (textAt (now (line .entry)) at) (lent ni na wi wa ri ra ss sb us)) ⌝ }
 {
     let mut room = [0u8; 16384];
-    take_through(
-        nids,
-        narena,
-        wids,
-        warena,
-        rids,
-        rarena,
-        spans,
-        bytes,
-        used,
-        line,
-        at,
-        &mut room,
-    )
+    take_through(ni, na, wi, wa, ri, ra, ss, sb, us, line, at, &mut room)
 }
 
 // ---- whether a text would be refused: 13
@@ -161,7 +125,7 @@ fn refused_through(
     at: Extent,
     room: &mut [u8; 16384],
 ) -> bool
-    ensures { λ r. ⌜ (ExtentLies (now (line .entry)) at → length (now (line .entry)) ≤ 16384
+    ensures { λ r. ⌜ (ExtentInBounds (now (line .entry)) at → length (now (line .entry)) ≤ 16384
         → r ≡ refusedFor (storeWith (now (spans .entry)) (now (bytes .entry)) (getD (now (used .entry)) 6 0) (getD (now (used .entry)) 7 0)) (textAt (now (line .entry)) at)) ⌝ }
 {
     let n = text_into(room, line, at);
@@ -170,7 +134,7 @@ fn refused_through(
 
 // Whether the text of an extent would be refused.
 pub fn text_refused(spans: &[u64], bytes: &[u8], used: &[u64; 9], line: &[u8], at: Extent) -> bool
-    ensures { λ r. ⌜ (ExtentLies (now (line .entry)) at → length (now (line .entry)) ≤ 16384
+    ensures { λ r. ⌜ (ExtentInBounds (now (line .entry)) at → length (now (line .entry)) ≤ 16384
         → r ≡ refusedFor (storeWith (now (spans .entry)) (now (bytes .entry)) (getD (now (used .entry)) 6 0) (getD (now (used .entry)) 7 0)) (textAt (now (line .entry)) at)) ⌝ }
 {
     let mut room = [0u8; 16384];

@@ -9,7 +9,7 @@ use types.Run.{OneOf}
 use denote.Enum.Declared.{tagOf}
 use Rattle.base.proofs.Split.{no}
 use Rattle.kind.specs.declared.Kind.{Kind}
-use Rattle.shelf.specs.Shelf.{Shelf}
+use Rattle.kind_store.specs.KindStore.{KindStore}
 use Rattle.listed.proofs.Standing as standing
 use Rattle.listed.specs.declared.Standing.{Standing}
 use Rattle.listed.specs.declared.Standing.the-variants.{Live, Deleted, Unknown}
@@ -29,7 +29,7 @@ not-deleted Deleted (inr e) = absurd (omega arith)
 not-deleted Unknown h = refl
 
 -- an id that is not live has no record
-pub no-view : (strings : ℕ) (k : Kind) (s : Shelf) (x : Standing) → isLiveNow x ≡ false → liveView strings k s x ≡ Nothing
+pub no-view : (strings : ℕ) (k : Kind) (s : KindStore) (x : Standing) → isLiveNow x ≡ false → liveView strings k s x ≡ Nothing
 no-view strings k s (Live at) h = no cc
 no-view strings k s Deleted h = refl
 no-view strings k s Unknown h = refl

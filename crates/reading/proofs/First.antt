@@ -19,7 +19,7 @@ use Rattle.listed.specs.declared.View.{View}
 use Rattle.listed.specs.declared.View.the-variants as view
 use Rattle.listed.specs.Listed.{rowsRead, rowsOn}
 use Rattle.listed.proofs.Lists.{nth-at, missing-is}
-use Rattle.overlay.specs.Overlay.{Overlay, shelfOf}
+use Rattle.overlay.specs.Overlay.{Overlay, kindStoreOf}
 use Rattle.overlay.specs.Given.{InBytes}
 use Rattle.overlay.specs.Sound.{isSound}
 use Rattle.overlay.proofs.Answers.{strings-sound}
@@ -45,7 +45,7 @@ module _ (o : Overlay) where
 
   pub count-first : (k : Kind) (side : Side) → readRefusal (countOn k side o) ≡ firstOf (readTable o)
   unfolding countOn
-  count-first k side = read-first (Is (countIn side (shelfOf k o))) refl
+  count-first k side = read-first (Is (countIn side (kindStoreOf k o))) refl
 
   pub empty-first : readRefusal (isEmptyOn o) ≡ firstOf (readTable o)
   unfolding isEmptyOn
@@ -53,11 +53,11 @@ module _ (o : Overlay) where
 
   pub has-first : (k : Kind) (id : ℤ) → readRefusal (hasOn k id o) ≡ firstOf (readTable o)
   unfolding hasOn
-  has-first k id = let b = isLiveNow (standingIn (shelfOf k o) id) in read-first (yes b) (yes-given b)
+  has-first k id = let b = isLiveNow (standingIn (kindStoreOf k o) id) in read-first (yes b) (yes-given b)
 
   pub is-deleted-first : (k : Kind) (id : ℤ) → readRefusal (isDeletedOn k id o) ≡ firstOf (readTable o)
   unfolding isDeletedOn
-  is-deleted-first k id = let b = isDeletedNow (standingIn (shelfOf k o) id) in read-first (yes b) (yes-given b)
+  is-deleted-first k id = let b = isDeletedNow (standingIn (kindStoreOf k o) id) in read-first (yes b) (yes-given b)
 
   pub known-first : (k : Kind) (id : ℤ) → readRefusal (knownOn k id o) ≡ firstOf (readTable o)
   unfolding knownOn
@@ -78,10 +78,10 @@ module _ (o : Overlay) (b : InBytes o) (k : Kind) where
 -- ---- 22, then 21
 
 module _ (o : Overlay) where
-  pub id-first : (k : Kind) (side : Side) (n : ℕ) → readRefusal (idOn k side n o) ≡ firstOf (numberTable n (countIn side (shelfOf k o)) o)
+  pub id-first : (k : Kind) (side : Side) (n : ℕ) → readRefusal (idOn k side n o) ≡ firstOf (numberTable n (countIn side (kindStoreOf k o)) o)
   unfolding firstOf idOn
   id-first k side n =
-      let list = rowsOn side (rowsRead (shelfOf k o .table) (shelfOf k o .ids)) in
+      let list = rowsOn side (rowsRead (kindStoreOf k o .table) (kindStoreOf k o .ids)) in
       byBool (isSound o)
       (λ s. byLt n (length list)
       (λ l. rw (s, nth-at list n (record { rank = 0; place = 0; floor = 0 }) l, lt-ltb n (length list) l))
@@ -99,7 +99,7 @@ module _ (o : Overlay) where
 
 module _ (o : Overlay) (b : InBytes o) (k : Kind) (n : ℕ) where
   abbrev live : ℕ
-  live = countIn Live (shelfOf k o)
+  live = countIn Live (kindStoreOf k o)
 
   live-is : isSound o ≡ true → countOn k Live o ≡ Is live
   unfolding countOn

@@ -31,7 +31,7 @@ use Rattle.listed.specs.declared.Side.the-variants.{Live, Deleted}
 use Rattle.listed.specs.declared.View.the-variants as view
 use Rattle.listed.specs.Listed.{rowsRead, isOn, rowsOn}
 use Rattle.listed.proofs.Lists.{rows-all, lists-all, on-rising, on-found, nth-at, missing-is}
-use Rattle.overlay.specs.Overlay.{Overlay, shelfOf}
+use Rattle.overlay.specs.Overlay.{Overlay, kindStoreOf}
 use Rattle.overlay.specs.Given.{InBytes}
 use Rattle.overlay.specs.Sound.{Sound, isSound}
 use Rattle.overlay.proofs.Decides.{decides}
@@ -58,7 +58,7 @@ ranks-fit ws u n = ranks-from ws u 0 n
 
 module _ (o : Overlay) (b : InBytes o) (w : Sound o) (k : Kind) (side : Side) where
   abbrev rows : List Row
-  rows = rowsOf (shelfOf k o .table) (shelfOf k o .ids)
+  rows = rowsOf (kindStoreOf k o .table) (kindStoreOf k o .ids)
 
   -- the rows of the list
   abbrev list : List Row
@@ -67,11 +67,11 @@ module _ (o : Overlay) (b : InBytes o) (w : Sound o) (k : Kind) (side : Side) wh
   tested : isSound o ≡ true
   tested = decides o b .1 w
 
-  all-rows : rowsRead (shelfOf k o .table) (shelfOf k o .ids) ≡ rows
-  all-rows = rows-all (shelfOf k o .table) (shelfOf k o .ids) (w .shelves k .order)
+  all-rows : rowsRead (kindStoreOf k o .table) (kindStoreOf k o .ids) ≡ rows
+  all-rows = rows-all (kindStoreOf k o .table) (kindStoreOf k o .ids) (w .kindStores k .order)
 
   rises : rising rows ≡ true
-  rises = sound-rises (shelfOf k o .table) (shelfOf k o .ids) (w .shelves k .order)
+  rises = sound-rises (kindStoreOf k o .table) (kindStoreOf k o .ids) (w .kindStores k .order)
 
   -- a row of the list is found by its rank
   at-row : (n : ℕ) (d : Row) → n < length list → (find (getD list n d .rank) rows ≡ some (getD list n d)) × (isOn side (getD list n d) ≡ true)
@@ -137,12 +137,12 @@ module _ (o : Overlay) (b : InBytes o) (w : Sound o) (k : Kind) (side : Side) wh
 
 module _ (o : Overlay) (b : InBytes o) (w : Sound o) (k : Kind) where
   -- each known id is on one of the two lists
-  pub counts-all : (m n : ℕ) → countOn k Live o ≡ Is m → countOn k Deleted o ≡ Is n → m + n ≡ shelfOf k o .ids
+  pub counts-all : (m n : ℕ) → countOn k Live o ≡ Is m → countOn k Deleted o ≡ Is n → m + n ≡ kindStoreOf k o .ids
   counts-all m n e f =
       let x = counted o b w k Live m e in
       let y = counted o b w k Deleted n f in
       let z = lists-all (rows o b w k Live) in
-      let v = rows-length (shelfOf k o .table) (shelfOf k o .ids) in
+      let v = rows-length (kindStoreOf k o .table) (kindStoreOf k o .ids) in
       omega arith
 
   -- ---- records by number
@@ -152,12 +152,12 @@ module _ (o : Overlay) (b : InBytes o) (w : Sound o) (k : Kind) where
   record-past n l = rw (tested o b w k Live, all-rows o b w k Live, missing-is (list o b w k Live) n .1 l)
 
   pub record-row : (n : ℕ) (d : Row) → n < length (list o b w k Live)
-      → Shows (shelfOf k o) (w .shelves k .whole .kept) (idOf (getD (list o b w k Live) n d .rank)) (recordOn k n o)
+      → Shows (kindStoreOf k o) (w .kindStores k .whole .kept) (idOf (getD (list o b w k Live) n d .rank)) (recordOn k n o)
   unfolding recordOn
   record-row n d l =
       let r = at-row o b w k Live n d l in
       rw (tested o b w k Live, all-rows o b w k Live, nth-at (list o b w k Live) n d l)
-      (row-shows (o .texts .strings) k (shelfOf k o) (w .shelves k) (getD (list o b w k Live) n d .rank) (getD (list o b w k Live) n d) (r .0) (r .1))
+      (row-shows (o .texts .strings) k (kindStoreOf k o) (w .kindStores k) (getD (list o b w k Live) n d .rank) (getD (list o b w k Live) n d) (r .0) (r .1))
 
   -- the record of a number is that of the id of that number
   pub record-get : all rankFits (rows o b w k Live) ≡ true → (n a : ℕ) → idOn k Live n o ≡ Is a → recordOn k n o ≡ getOn k (toZ w64 a) o
@@ -172,7 +172,7 @@ module _ (o : Overlay) (b : InBytes o) (w : Sound o) (k : Kind) where
       (sym (live-view o b w k (toZ w64 a) f (getD (list o b w k Live) n d) (rw q (r .0)) (r .1)))
 
   -- and one of that id
-  pub record-shows : all rankFits (rows o b w k Live) ≡ true → (n a : ℕ) → idOn k Live n o ≡ Is a → Shows (shelfOf k o) (w .shelves k .whole .kept) (toZ w64 a) (recordOn k n o)
+  pub record-shows : all rankFits (rows o b w k Live) ≡ true → (n a : ℕ) → idOn k Live n o ≡ Is a → Shows (kindStoreOf k o) (w .kindStores k .whole .kept) (toZ w64 a) (recordOn k n o)
   record-shows u n a e =
       let d : Row = record { rank = 0; place = 0; floor = 0 } in
       rw (id-is o b w k Live u n a d e) (record-row n d (id-given o b w k Live n a e))

@@ -20,14 +20,14 @@ use Rattle.table.specs.Rows.{find}
 use Rattle.table.specs.Words.{rowsOf}
 use Rattle.table.specs.declared.Row.{Row}
 use Rattle.table.proofs.Maps.{find-rank, find-passes}
-use Rattle.shelf.specs.Shelf.{Shelf, isLive}
-use Rattle.sound.specs.Sound.{soundRow, SoundShelf}
+use Rattle.kind_store.specs.KindStore.{KindStore, isLive}
+use Rattle.sound.specs.Sound.{soundRow, SoundKindStore}
 use Rattle.listed.specs.declared.View.{View}
 use Rattle.listed.specs.declared.View.the-variants.{Part, Nothing, Refused}
 use Rattle.listed.specs.Listed.{rowStanding}
 use Rattle.listed.proofs.Standings.{row-live, row-deleted, standing-is}
 use Rattle.listed.proofs.Views.{view-is, view-bytes}
-use Rattle.overlay.specs.Overlay.{Overlay, shelfOf}
+use Rattle.overlay.specs.Overlay.{Overlay, kindStoreOf}
 use Rattle.overlay.specs.Given.{InBytes}
 use Rattle.overlay.specs.Sound.{Sound, isSound}
 use Rattle.overlay.proofs.Decides.{decides}
@@ -35,7 +35,7 @@ use Rattle.reading.specs.declared.Read.the-variants.{Is}
 use Rattle.reading.specs.Reading.{viewIn, standingIn, getOn, hasOn, isDeletedOn}
 
 -- a view shows a record of an id that starts in the arena: where it starts, as long as it is, and byte for byte
-pub record Shows (s : Shelf) (kept : List Kept) (id : ℤ) (v : View) : Type 0 where
+pub record Shows (s : KindStore) (kept : List Kept) (id : ℤ) (v : View) : Type 0 where
   pub place : ℕ
   pub held : Kept
   pub starts : recordAt place kept ≡ some held
@@ -44,7 +44,7 @@ pub record Shows (s : Shelf) (kept : List Kept) (id : ℤ) (v : View) : Type 0 w
   pub bytes : take (length (keptBytes held)) (drop place (s .arena)) ≡ keptBytes held
 
 -- the row of a live id points at a record of that id
-pub row-shows : (strings : ℕ) (k : Kind) (s : Shelf) (w : SoundShelf strings k s) (n : ℕ) (r : Row) → find n (rowsOf (s .table) (s .ids)) ≡ some r → isLive (r .place) ≡ true
+pub row-shows : (strings : ℕ) (k : Kind) (s : KindStore) (w : SoundKindStore strings k s) (n : ℕ) (r : Row) → find n (rowsOf (s .table) (s .ids)) ≡ some r → isLive (r .place) ≡ true
     → Shows s (w .whole .kept) (idOf n) (viewIn strings k s (r .place))
 unfolding soundRow
 row-shows strings k s w n r e t =
@@ -63,26 +63,26 @@ row-shows strings k s w n r e t =
 
 module _ (o : Overlay) (b : InBytes o) (w : Sound o) (k : Kind) (id : ℤ) (f : SFits w64 id) where
   abbrev rows : List Row
-  rows = rowsOf (shelfOf k o .table) (shelfOf k o .ids)
+  rows = rowsOf (kindStoreOf k o .table) (kindStoreOf k o .ids)
 
   tested : isSound o ≡ true
   tested = decides o b .1 w
 
-  known : (r : Row) → find (rank id) rows ≡ some r → standingIn (shelfOf k o) id ≡ rowStanding r
-  known r e = standing-is (shelfOf k o .table) (shelfOf k o .ids) (w .shelves k .order) id ∙ rw e
+  known : (r : Row) → find (rank id) rows ≡ some r → standingIn (kindStoreOf k o) id ≡ rowStanding r
+  known r e = standing-is (kindStoreOf k o .table) (kindStoreOf k o .ids) (w .kindStores k .order) id ∙ rw e
 
   -- the view of a live id is that of its row's place
-  pub live-view : (r : Row) → find (rank id) rows ≡ some r → isLive (r .place) ≡ true → getOn k id o ≡ viewIn (o .texts .strings) k (shelfOf k o) (r .place)
+  pub live-view : (r : Row) → find (rank id) rows ≡ some r → isLive (r .place) ≡ true → getOn k id o ≡ viewIn (o .texts .strings) k (kindStoreOf k o) (r .place)
   unfolding getOn
   live-view r e t = rw (tested, known r e, row-live r t)
 
   -- T6: a live id has its record
   pub live-reads : (r : Row) → find (rank id) rows ≡ some r → isLive (r .place) ≡ true
-      → (hasOn k id o ≡ Is 1) × ((isDeletedOn k id o ≡ Is 0) × Shows (shelfOf k o) (w .shelves k .whole .kept) id (getOn k id o))
+      → (hasOn k id o ≡ Is 1) × ((isDeletedOn k id o ≡ Is 0) × Shows (kindStoreOf k o) (w .kindStores k .whole .kept) id (getOn k id o))
   unfolding hasOn isDeletedOn getOn
   live-reads r e t =
       rw (tested, known r e, row-live r t)
-      (refl, (refl, rw (id-rank f) at (row-shows (o .texts .strings) k (shelfOf k o) (w .shelves k) (rank id) r e t)))
+      (refl, (refl, rw (id-rank f) at (row-shows (o .texts .strings) k (kindStoreOf k o) (w .kindStores k) (rank id) r e t)))
 
   -- a deleted id and one that is not known have none
   pub deleted-reads : (r : Row) → find (rank id) rows ≡ some r → isLive (r .place) ≡ false → (hasOn k id o ≡ Is 0) × ((isDeletedOn k id o ≡ Is 1) × (getOn k id o ≡ Nothing))
@@ -91,13 +91,13 @@ module _ (o : Overlay) (b : InBytes o) (w : Sound o) (k : Kind) (id : ℤ) (f : 
 
   pub unknown-reads : find (rank id) rows ≡ none → (hasOn k id o ≡ Is 0) × ((isDeletedOn k id o ≡ Is 0) × (getOn k id o ≡ Nothing))
   unfolding hasOn isDeletedOn getOn
-  unknown-reads e = rw (tested, standing-is (shelfOf k o .table) (shelfOf k o .ids) (w .shelves k .order) id, e) (refl, (refl, refl))
+  unknown-reads e = rw (tested, standing-is (kindStoreOf k o .table) (kindStoreOf k o .ids) (w .kindStores k .order) id, e) (refl, (refl, refl))
 
   -- an id that is there has a record of it, any other has none
-  pub has-shows : hasOn k id o ≡ Is 1 → Shows (shelfOf k o) (w .shelves k .whole .kept) id (getOn k id o)
+  pub has-shows : hasOn k id o ≡ Is 1 → Shows (kindStoreOf k o) (w .kindStores k .whole .kept) id (getOn k id o)
   has-shows h = go (find (rank id) rows) refl
     where
-      go : (x : Option Row) → find (rank id) rows ≡ x → Shows (shelfOf k o) (w .shelves k .whole .kept) id (getOn k id o)
+      go : (x : Option Row) → find (rank id) rows ≡ x → Shows (kindStoreOf k o) (w .kindStores k .whole .kept) id (getOn k id o)
       go none e = let y : Is 0 ≡ Is 1 = sym (unknown-reads e .0) ∙ h in no cc
       go (some r) e = byBool (isLive (r .place)) (λ t. live-reads r e t .1 .1) (λ t. let y : Is 0 ≡ Is 1 = sym (deleted-reads r e t .0) ∙ h in no cc)
 

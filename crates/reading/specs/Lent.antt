@@ -7,15 +7,15 @@ use Rattle.overlay.specs.Overlay.{Overlay, overlayOf, Lent}
 
 -- tables and counters are lent
 abbrev pub tablesLent : Bytes → Bytes → Bytes → List ℕ → Bytes → Lent → Lent → Lent → Lent → Overlay
-tablesLent narena warena rarena spans bytes nids wids rids used =
-    overlayOf (now (nids .entry)) narena (now (wids .entry)) warena (now (rids .entry)) rarena spans bytes (now (used .entry))
+tablesLent na wa ra spans bytes ni wi ri used =
+    overlayOf (now (ni .entry)) na (now (wi .entry)) wa (now (ri .entry)) ra spans bytes (now (used .entry))
 
 -- arenas and counters
 abbrev pub arenasLent : List ℕ → List ℕ → List ℕ → List ℕ → Bytes → Lent → Lent → Lent → Lent → Overlay
-arenasLent nids wids rids spans bytes narena warena rarena used =
-    overlayOf nids (now (narena .entry)) wids (now (warena .entry)) rids (now (rarena .entry)) spans bytes (now (used .entry))
+arenasLent ni wi ri spans bytes na wa ra used =
+    overlayOf ni (now (na .entry)) wi (now (wa .entry)) ri (now (ra .entry)) spans bytes (now (used .entry))
 
 -- all but the strings
-abbrev pub shelvesLent : List ℕ → Bytes → Lent → Lent → Lent → Lent → Lent → Lent → Lent → Overlay
-shelvesLent spans bytes nids narena wids warena rids rarena used =
-    overlayOf (now (nids .entry)) (now (narena .entry)) (now (wids .entry)) (now (warena .entry)) (now (rids .entry)) (now (rarena .entry)) spans bytes (now (used .entry))
+abbrev pub kindStoresLent : List ℕ → Bytes → Lent → Lent → Lent → Lent → Lent → Lent → Lent → Overlay
+kindStoresLent spans bytes ni na wi wa ri ra used =
+    overlayOf (now (ni .entry)) (now (na .entry)) (now (wi .entry)) (now (wa .entry)) (now (ri .entry)) (now (ra .entry)) spans bytes (now (used .entry))

@@ -15,7 +15,7 @@ use Rattle.refusal.specs.declared.Refusal.the-variants as R
 use Rattle.interner.specs.Strings.{usedOf, spanOf}
 use Rattle.interner.specs.declared.Span as interner
 use Rattle.interner.specs.declared.Span.the-variants as P
-use Rattle.shelf.specs.Shelf.{Shelf, known}
+use Rattle.kind_store.specs.KindStore.{KindStore, known}
 use Rattle.listed.specs.Listed.{rowsRead, rowsOn, nth, standingOf, viewAt}
 use Rattle.listed.specs.declared.Side.{Side}
 use Rattle.listed.specs.declared.Side.the-variants.{Live}
@@ -25,7 +25,7 @@ use Rattle.listed.specs.declared.Standing.{Standing}
 use Rattle.listed.specs.declared.Standing.the-variants as S
 use Rattle.listed.specs.declared.View.{View}
 use Rattle.listed.specs.declared.View.the-variants as view
-use Rattle.overlay.specs.Overlay.{Overlay, shelfOf}
+use Rattle.overlay.specs.Overlay.{Overlay, kindStoreOf}
 use Rattle.overlay.specs.Sound.{isSound}
 use Rattle.reading.specs.declared.Read.{Read}
 use Rattle.reading.specs.declared.Read.the-variants.{Is, Refused}
@@ -44,11 +44,11 @@ yes false = Is 0
 
 -- ---- counts
 
-abbrev pub countIn : Side → Shelf → ℕ
+abbrev pub countIn : Side → KindStore → ℕ
 countIn side s = length (rowsOn side (rowsRead (s .table) (s .ids)))
 
 unfoldable pub countOn : Kind → Side → Overlay → Read
-countOn k side o = checkedRead o (Is (countIn side (shelfOf k o)))
+countOn k side o = checkedRead o (Is (countIn side (kindStoreOf k o)))
 
 -- "contains no data at all": no id of any kind, live or deleted
 unfoldable pub noIds : Overlay → Bool
@@ -65,36 +65,36 @@ idRead (N.At r) = Is (ofZ w64 (idOf (r .rank)))
 idRead N.Missing = Refused R.NoSuchNumber
 
 -- the row of a number
-abbrev pub rowIn : Side → ℕ → Shelf → Nth
+abbrev pub rowIn : Side → ℕ → KindStore → Nth
 rowIn side n s = nth (rowsOn side (rowsRead (s .table) (s .ids))) n
 
 unfoldable pub idOn : Kind → Side → ℕ → Overlay → Read
-idOn k side n o = checkedRead o (idRead (rowIn side n (shelfOf k o)))
+idOn k side n o = checkedRead o (idRead (rowIn side n (kindStoreOf k o)))
 
-abbrev pub viewIn : ℕ → Kind → Shelf → ℕ → View
+abbrev pub viewIn : ℕ → Kind → KindStore → ℕ → View
 viewIn strings k s at = viewAt strings k (s .arena) (s .used) at
 
-abbrev pub nthView : ℕ → Kind → Shelf → Nth → View
+abbrev pub nthView : ℕ → Kind → KindStore → Nth → View
 nthView strings k s (N.At r) = viewIn strings k s (r .place)
 nthView strings k s N.Missing = view.Refused R.NoSuchNumber
 
 -- the record of the n-th live id
 unfoldable pub recordOn : Kind → ℕ → Overlay → View
-recordOn k n o = checkedView o (nthView (o .texts .strings) k (shelfOf k o) (rowIn Live n (shelfOf k o)))
+recordOn k n o = checkedView o (nthView (o .texts .strings) k (kindStoreOf k o) (rowIn Live n (kindStoreOf k o)))
 
 -- ---- by id
 
-abbrev pub standingIn : Shelf → ℤ → Standing
+abbrev pub standingIn : KindStore → ℤ → Standing
 standingIn s id = standingOf (s .table) (s .ids) id
 
-abbrev pub liveView : ℕ → Kind → Shelf → Standing → View
+abbrev pub liveView : ℕ → Kind → KindStore → Standing → View
 liveView strings k s (S.Live at) = viewIn strings k s at
 liveView strings k s S.Deleted = view.Nothing
 liveView strings k s S.Unknown = view.Nothing
 
 -- the record of an id, if it is live
 unfoldable pub getOn : Kind → ℤ → Overlay → View
-getOn k id o = checkedView o (liveView (o .texts .strings) k (shelfOf k o) (standingIn (shelfOf k o) id))
+getOn k id o = checkedView o (liveView (o .texts .strings) k (kindStoreOf k o) (standingIn (kindStoreOf k o) id))
 
 abbrev pub isLiveNow : Standing → Bool
 isLiveNow (S.Live at) = true
@@ -107,14 +107,14 @@ isDeletedNow S.Deleted = true
 isDeletedNow S.Unknown = false
 
 unfoldable pub hasOn : Kind → ℤ → Overlay → Read
-hasOn k id o = checkedRead o (yes (isLiveNow (standingIn (shelfOf k o) id)))
+hasOn k id o = checkedRead o (yes (isLiveNow (standingIn (kindStoreOf k o) id)))
 
 unfoldable pub isDeletedOn : Kind → ℤ → Overlay → Read
-isDeletedOn k id o = checkedRead o (yes (isDeletedNow (standingIn (shelfOf k o) id)))
+isDeletedOn k id o = checkedRead o (yes (isDeletedNow (standingIn (kindStoreOf k o) id)))
 
 -- the known version as a word: below 2^32 its bits, else none
 unfoldable pub knownOn : Kind → ℤ → Overlay → Read
-knownOn k id o = checkedRead o (Is (wordOf (known k (shelfOf k o) id)))
+knownOn k id o = checkedRead o (Is (wordOf (known k (kindStoreOf k o) id)))
 
 -- ---- a text by its handle, which is its number among the held strings
 

@@ -7,9 +7,9 @@ ghost use lib.ListN.{getD};
 ghost use Rattle.base.specs.Bytes.{Bytes};
 ghost use mir.Syntax.{w64};
 ghost use mir.Val.{toZ};
-ghost use Rattle.shelf.specs.Shelf.{known};
-ghost use Rattle.overlay.specs.Overlay.{lent, shelfOf};
-ghost use Rattle.reading.specs.Lent.{tablesLent, arenasLent, shelvesLent};
+ghost use Rattle.kind_store.specs.KindStore.{known};
+ghost use Rattle.overlay.specs.Overlay.{lent, kindStoreOf};
+ghost use Rattle.reading.specs.Lent.{tablesLent, arenasLent, kindStoresLent};
 ghost use Rattle.reading.specs.Reading.{yes, countIn, countOn, isEmptyOn, rowIn, idRead, idOn, viewIn, recordOn, standingIn, getOn, isLiveNow, hasOn, isDeletedNow, isDeletedOn, knownOn, textView, textOn};
 use interner::Span;
 use kind::Kind;
@@ -29,101 +29,72 @@ pub enum Read {
 // ---- one kind of the three
 
 // How many ids are on a list of a kind.
-fn count_in(
-    nids: &[u64],
-    wids: &[u64],
-    rids: &[u64],
-    used: &[u64; 9],
-    kind: Kind,
-    side: Side,
-) -> u64
-    ensures { λ r. ⌜ ((narena warena rarena : Bytes) (spans : List ℕ) (bytes : Bytes)
-        → r ≡ countIn side (shelfOf kind (tablesLent narena warena rarena spans bytes nids wids rids used))) ⌝ }
+fn count_in(ni: &[u64], wi: &[u64], ri: &[u64], us: &[u64; 9], kind: Kind, side: Side) -> u64
+    ensures { λ r. ⌜ ((na wa ra : Bytes) (ss : List ℕ) (sb : Bytes)
+        → r ≡ countIn side (kindStoreOf kind (tablesLent na wa ra ss sb ni wi ri us))) ⌝ }
 {
     match kind {
-        Kind::Node => listed::count_on(side, nids, used[0]),
-        Kind::Way => listed::count_on(side, wids, used[1]),
-        Kind::Relation => listed::count_on(side, rids, used[2]),
+        Kind::Node => listed::count_on(side, ni, us[0]),
+        Kind::Way => listed::count_on(side, wi, us[1]),
+        Kind::Relation => listed::count_on(side, ri, us[2]),
     }
 }
 
 // The row of a number on a list of a kind.
-fn row_in(
-    nids: &[u64],
-    wids: &[u64],
-    rids: &[u64],
-    used: &[u64; 9],
-    kind: Kind,
-    side: Side,
-    n: u64,
-) -> Nth
-    ensures { λ r. ⌜ ((narena warena rarena : Bytes) (spans : List ℕ) (bytes : Bytes)
-        → r ≡ rowIn side n (shelfOf kind (tablesLent narena warena rarena spans bytes nids wids rids used))) ⌝ }
+fn row_in(ni: &[u64], wi: &[u64], ri: &[u64], us: &[u64; 9], kind: Kind, side: Side, n: u64) -> Nth
+    ensures { λ r. ⌜ ((na wa ra : Bytes) (ss : List ℕ) (sb : Bytes)
+        → r ≡ rowIn side n (kindStoreOf kind (tablesLent na wa ra ss sb ni wi ri us))) ⌝ }
 {
     match kind {
-        Kind::Node => listed::row_on(side, nids, used[0], n),
-        Kind::Way => listed::row_on(side, wids, used[1], n),
-        Kind::Relation => listed::row_on(side, rids, used[2], n),
+        Kind::Node => listed::row_on(side, ni, us[0], n),
+        Kind::Way => listed::row_on(side, wi, us[1], n),
+        Kind::Relation => listed::row_on(side, ri, us[2], n),
     }
 }
 
 // What is known of an id of a kind.
-fn standing_in(
-    nids: &[u64],
-    wids: &[u64],
-    rids: &[u64],
-    used: &[u64; 9],
-    kind: Kind,
-    id: u64,
-) -> Standing
-    ensures { λ r. ⌜ ((narena warena rarena : Bytes) (spans : List ℕ) (bytes : Bytes)
-        → r ≡ standingIn (shelfOf kind (tablesLent narena warena rarena spans bytes nids wids rids used)) (toZ w64 id)) ⌝ }
+fn standing_in(ni: &[u64], wi: &[u64], ri: &[u64], us: &[u64; 9], kind: Kind, id: u64) -> Standing
+    ensures { λ r. ⌜ ((na wa ra : Bytes) (ss : List ℕ) (sb : Bytes)
+        → r ≡ standingIn (kindStoreOf kind (tablesLent na wa ra ss sb ni wi ri us)) (toZ w64 id)) ⌝ }
 {
     match kind {
-        Kind::Node => listed::standing_of(nids, used[0], id),
-        Kind::Way => listed::standing_of(wids, used[1], id),
-        Kind::Relation => listed::standing_of(rids, used[2], id),
+        Kind::Node => listed::standing_of(ni, us[0], id),
+        Kind::Way => listed::standing_of(wi, us[1], id),
+        Kind::Relation => listed::standing_of(ri, us[2], id),
     }
 }
 
 // The view of a kind's record.
-fn view_in(
-    narena: &[u8],
-    warena: &[u8],
-    rarena: &[u8],
-    used: &[u64; 9],
-    kind: Kind,
-    at: u64,
-) -> View
-    ensures { λ r. ⌜ ((nids wids rids spans : List ℕ) (bytes : Bytes)
-        → r ≡ viewIn (getD (now (used .entry)) 6 0) kind (shelfOf kind (arenasLent nids wids rids spans bytes narena warena rarena used)) at) ⌝ }
+fn view_in(na: &[u8], wa: &[u8], ra: &[u8], used: &[u64; 9], kind: Kind, at: u64) -> View
+    ensures { λ r. ⌜ ((ni wi ri spans : List ℕ) (bytes : Bytes)
+        → r ≡ viewIn (getD (now (used .entry)) 6 0) kind (kindStoreOf kind (arenasLent ni wi ri spans bytes na wa ra used)) at) ⌝ }
 {
     match kind {
-        Kind::Node => listed::view_at(kind, narena, used[3], used[6], at),
-        Kind::Way => listed::view_at(kind, warena, used[4], used[6], at),
-        Kind::Relation => listed::view_at(kind, rarena, used[5], used[6], at),
+        Kind::Node => listed::view_at(kind, na, used[3], used[6], at),
+        Kind::Way => listed::view_at(kind, wa, used[4], used[6], at),
+        Kind::Relation => listed::view_at(kind, ra, used[5], used[6], at),
     }
 }
 
 // The known version of an id of a kind.
 fn version_in(
-    nids: &[u64],
-    narena: &[u8],
-    wids: &[u64],
-    warena: &[u8],
-    rids: &[u64],
-    rarena: &[u8],
-    used: &[u64; 9],
+    ni: &[u64],
+    na: &[u8],
+    wi: &[u64],
+    wa: &[u8],
+    ri: &[u64],
+    ra: &[u8],
+    us: &[u64; 9],
     kind: Kind,
     id: u64,
 ) -> Version
-    ensures { λ r. ⌜ ((spans : List ℕ) (bytes : Bytes)
-        → r ≡ known kind (shelfOf kind (shelvesLent spans bytes nids narena wids warena rids rarena used)) (toZ w64 id)) ⌝ }
+    ensures { λ r. ⌜ ((ss : List ℕ) (sb : Bytes)
+        → r ≡ known kind (kindStoreOf kind (kindStoresLent ss sb ni na wi wa ri ra us)) (toZ w64 id)) ⌝ }
 {
     match kind {
-        Kind::Node => shelf::known_version(kind, nids, used[0], narena, id),
-        Kind::Way => shelf::known_version(kind, wids, used[1], warena, id),
-        Kind::Relation => shelf::known_version(kind, rids, used[2], rarena, id),
+        Kind::Node => kind_store::known_version(kind, ni, us[0], na, id),
+        Kind::Way => kind_store::known_version(kind, wi, us[1], wa, id),
+        Kind::Relation => kind_store::known_version(kind, ri, us[2], ra, id),
     }
 }
 
@@ -131,22 +102,22 @@ fn version_in(
 
 // How many ids of a kind are live, or deleted.
 pub fn count(
-    nids: &[u64],
-    narena: &[u8],
-    wids: &[u64],
-    warena: &[u8],
-    rids: &[u64],
-    rarena: &[u8],
-    spans: &[u64],
-    bytes: &[u8],
-    used: &[u64; 9],
+    ni: &[u64],
+    na: &[u8],
+    wi: &[u64],
+    wa: &[u8],
+    ri: &[u64],
+    ra: &[u8],
+    ss: &[u64],
+    sb: &[u8],
+    us: &[u64; 9],
     kind: Kind,
     side: Side,
 ) -> Read
-    ensures { λ r. ⌜ r ≡ countOn kind side (lent nids narena wids warena rids rarena spans bytes used) ⌝ }
+    ensures { λ r. ⌜ r ≡ countOn kind side (lent ni na wi wa ri ra ss sb us) ⌝ }
 {
-    if overlay::is_sound(nids, narena, wids, warena, rids, rarena, spans, bytes, used) {
-        return Read::Is(count_in(nids, wids, rids, used, kind, side));
+    if overlay::is_sound(ni, na, wi, wa, ri, ra, ss, sb, us) {
+        return Read::Is(count_in(ni, wi, ri, us, kind, side));
     }
     Read::Refused(Refusal::Unsound)
 }
@@ -159,20 +130,20 @@ fn yes(b: bool) -> Read
 
 // Whether no id of any kind is known.
 pub fn is_empty(
-    nids: &[u64],
-    narena: &[u8],
-    wids: &[u64],
-    warena: &[u8],
-    rids: &[u64],
-    rarena: &[u8],
-    spans: &[u64],
-    bytes: &[u8],
-    used: &[u64; 9],
+    ni: &[u64],
+    na: &[u8],
+    wi: &[u64],
+    wa: &[u8],
+    ri: &[u64],
+    ra: &[u8],
+    ss: &[u64],
+    sb: &[u8],
+    us: &[u64; 9],
 ) -> Read
-    ensures { λ r. ⌜ r ≡ isEmptyOn (lent nids narena wids warena rids rarena spans bytes used) ⌝ }
+    ensures { λ r. ⌜ r ≡ isEmptyOn (lent ni na wi wa ri ra ss sb us) ⌝ }
 {
-    if overlay::is_sound(nids, narena, wids, warena, rids, rarena, spans, bytes, used) {
-        return yes((used[0] == 0) & ((used[1] == 0) & (used[2] == 0)));
+    if overlay::is_sound(ni, na, wi, wa, ri, ra, ss, sb, us) {
+        return yes((us[0] == 0) & ((us[1] == 0) & (us[2] == 0)));
     }
     Read::Refused(Refusal::Unsound)
 }
@@ -190,48 +161,48 @@ fn id_read(nth: Nth) -> Read
 
 // The bits of the n-th live or deleted id of a kind in OSM order, or 21.
 pub fn id_at(
-    nids: &[u64],
-    narena: &[u8],
-    wids: &[u64],
-    warena: &[u8],
-    rids: &[u64],
-    rarena: &[u8],
-    spans: &[u64],
-    bytes: &[u8],
-    used: &[u64; 9],
+    ni: &[u64],
+    na: &[u8],
+    wi: &[u64],
+    wa: &[u8],
+    ri: &[u64],
+    ra: &[u8],
+    ss: &[u64],
+    sb: &[u8],
+    us: &[u64; 9],
     kind: Kind,
     side: Side,
     n: u64,
 ) -> Read
-    ensures { λ r. ⌜ r ≡ idOn kind side n (lent nids narena wids warena rids rarena spans bytes used) ⌝ }
+    ensures { λ r. ⌜ r ≡ idOn kind side n (lent ni na wi wa ri ra ss sb us) ⌝ }
 {
-    if overlay::is_sound(nids, narena, wids, warena, rids, rarena, spans, bytes, used) {
-        return id_read(row_in(nids, wids, rids, used, kind, side, n));
+    if overlay::is_sound(ni, na, wi, wa, ri, ra, ss, sb, us) {
+        return id_read(row_in(ni, wi, ri, us, kind, side, n));
     }
     Read::Refused(Refusal::Unsound)
 }
 
 // The view of the record of the n-th live id of a kind, or 21.
 pub fn record_at(
-    nids: &[u64],
-    narena: &[u8],
-    wids: &[u64],
-    warena: &[u8],
-    rids: &[u64],
-    rarena: &[u8],
-    spans: &[u64],
-    bytes: &[u8],
-    used: &[u64; 9],
+    ni: &[u64],
+    na: &[u8],
+    wi: &[u64],
+    wa: &[u8],
+    ri: &[u64],
+    ra: &[u8],
+    ss: &[u64],
+    sb: &[u8],
+    us: &[u64; 9],
     kind: Kind,
     n: u64,
 ) -> View
-    ensures { λ r. ⌜ r ≡ recordOn kind n (lent nids narena wids warena rids rarena spans bytes used) ⌝ }
+    ensures { λ r. ⌜ r ≡ recordOn kind n (lent ni na wi wa ri ra ss sb us) ⌝ }
 {
-    if overlay::is_sound(nids, narena, wids, warena, rids, rarena, spans, bytes, used) {
-        let Nth::At(row) = row_in(nids, wids, rids, used, kind, Side::Live, n) else {
+    if overlay::is_sound(ni, na, wi, wa, ri, ra, ss, sb, us) {
+        let Nth::At(row) = row_in(ni, wi, ri, us, kind, Side::Live, n) else {
             return View::Refused(Refusal::NoSuchNumber);
         };
-        return view_in(narena, warena, rarena, used, kind, row.place);
+        return view_in(na, wa, ra, us, kind, row.place);
     }
     View::Refused(Refusal::Unsound)
 }
@@ -240,25 +211,25 @@ pub fn record_at(
 
 // The view of an id's record, if the id is live.
 pub fn get(
-    nids: &[u64],
-    narena: &[u8],
-    wids: &[u64],
-    warena: &[u8],
-    rids: &[u64],
-    rarena: &[u8],
-    spans: &[u64],
-    bytes: &[u8],
-    used: &[u64; 9],
+    ni: &[u64],
+    na: &[u8],
+    wi: &[u64],
+    wa: &[u8],
+    ri: &[u64],
+    ra: &[u8],
+    ss: &[u64],
+    sb: &[u8],
+    us: &[u64; 9],
     kind: Kind,
     id: u64,
 ) -> View
-    ensures { λ r. ⌜ r ≡ getOn kind (toZ w64 id) (lent nids narena wids warena rids rarena spans bytes used) ⌝ }
+    ensures { λ r. ⌜ r ≡ getOn kind (toZ w64 id) (lent ni na wi wa ri ra ss sb us) ⌝ }
 {
-    if overlay::is_sound(nids, narena, wids, warena, rids, rarena, spans, bytes, used) {
-        let Standing::Live(at) = standing_in(nids, wids, rids, used, kind, id) else {
+    if overlay::is_sound(ni, na, wi, wa, ri, ra, ss, sb, us) {
+        let Standing::Live(at) = standing_in(ni, wi, ri, us, kind, id) else {
             return View::Nothing;
         };
-        return view_in(narena, warena, rarena, used, kind, at);
+        return view_in(na, wa, ra, us, kind, at);
     }
     View::Refused(Refusal::Unsound)
 }
@@ -283,66 +254,66 @@ fn is_deleted_now(standing: Standing) -> bool
 
 // Whether an id is live.
 pub fn has(
-    nids: &[u64],
-    narena: &[u8],
-    wids: &[u64],
-    warena: &[u8],
-    rids: &[u64],
-    rarena: &[u8],
-    spans: &[u64],
-    bytes: &[u8],
-    used: &[u64; 9],
+    ni: &[u64],
+    na: &[u8],
+    wi: &[u64],
+    wa: &[u8],
+    ri: &[u64],
+    ra: &[u8],
+    ss: &[u64],
+    sb: &[u8],
+    us: &[u64; 9],
     kind: Kind,
     id: u64,
 ) -> Read
-    ensures { λ r. ⌜ r ≡ hasOn kind (toZ w64 id) (lent nids narena wids warena rids rarena spans bytes used) ⌝ }
+    ensures { λ r. ⌜ r ≡ hasOn kind (toZ w64 id) (lent ni na wi wa ri ra ss sb us) ⌝ }
 {
-    if overlay::is_sound(nids, narena, wids, warena, rids, rarena, spans, bytes, used) {
-        return yes(is_live_now(standing_in(nids, wids, rids, used, kind, id)));
+    if overlay::is_sound(ni, na, wi, wa, ri, ra, ss, sb, us) {
+        return yes(is_live_now(standing_in(ni, wi, ri, us, kind, id)));
     }
     Read::Refused(Refusal::Unsound)
 }
 
 // Whether an id is deleted.
 pub fn is_deleted(
-    nids: &[u64],
-    narena: &[u8],
-    wids: &[u64],
-    warena: &[u8],
-    rids: &[u64],
-    rarena: &[u8],
-    spans: &[u64],
-    bytes: &[u8],
-    used: &[u64; 9],
+    ni: &[u64],
+    na: &[u8],
+    wi: &[u64],
+    wa: &[u8],
+    ri: &[u64],
+    ra: &[u8],
+    ss: &[u64],
+    sb: &[u8],
+    us: &[u64; 9],
     kind: Kind,
     id: u64,
 ) -> Read
-    ensures { λ r. ⌜ r ≡ isDeletedOn kind (toZ w64 id) (lent nids narena wids warena rids rarena spans bytes used) ⌝ }
+    ensures { λ r. ⌜ r ≡ isDeletedOn kind (toZ w64 id) (lent ni na wi wa ri ra ss sb us) ⌝ }
 {
-    if overlay::is_sound(nids, narena, wids, warena, rids, rarena, spans, bytes, used) {
-        return yes(is_deleted_now(standing_in(nids, wids, rids, used, kind, id)));
+    if overlay::is_sound(ni, na, wi, wa, ri, ra, ss, sb, us) {
+        return yes(is_deleted_now(standing_in(ni, wi, ri, us, kind, id)));
     }
     Read::Refused(Refusal::Unsound)
 }
 
 // The known version of an id as a word: below 2^32 its bits, else none.
 pub fn known_version(
-    nids: &[u64],
-    narena: &[u8],
-    wids: &[u64],
-    warena: &[u8],
-    rids: &[u64],
-    rarena: &[u8],
-    spans: &[u64],
-    bytes: &[u8],
-    used: &[u64; 9],
+    ni: &[u64],
+    na: &[u8],
+    wi: &[u64],
+    wa: &[u8],
+    ri: &[u64],
+    ra: &[u8],
+    ss: &[u64],
+    sb: &[u8],
+    us: &[u64; 9],
     kind: Kind,
     id: u64,
 ) -> Read
-    ensures { λ r. ⌜ r ≡ knownOn kind (toZ w64 id) (lent nids narena wids warena rids rarena spans bytes used) ⌝ }
+    ensures { λ r. ⌜ r ≡ knownOn kind (toZ w64 id) (lent ni na wi wa ri ra ss sb us) ⌝ }
 {
-    if overlay::is_sound(nids, narena, wids, warena, rids, rarena, spans, bytes, used) {
-        let version = version_in(nids, narena, wids, warena, rids, rarena, used, kind, id);
+    if overlay::is_sound(ni, na, wi, wa, ri, ra, ss, sb, us) {
+        let version = version_in(ni, na, wi, wa, ri, ra, us, kind, id);
         return Read::Is(version_floor::version_word(version));
     }
     Read::Refused(Refusal::Unsound)
@@ -361,22 +332,22 @@ fn text_view(span: Span) -> View
 
 // Where the text of a handle lies among the string bytes, or 21.
 pub fn text(
-    nids: &[u64],
-    narena: &[u8],
-    wids: &[u64],
-    warena: &[u8],
-    rids: &[u64],
-    rarena: &[u8],
-    spans: &[u64],
-    bytes: &[u8],
-    used: &[u64; 9],
+    ni: &[u64],
+    na: &[u8],
+    wi: &[u64],
+    wa: &[u8],
+    ri: &[u64],
+    ra: &[u8],
+    ss: &[u64],
+    sb: &[u8],
+    us: &[u64; 9],
     handle: u64,
 ) -> View
-    ensures { λ r. ⌜ r ≡ textOn handle (lent nids narena wids warena rids rarena spans bytes used) ⌝ }
+    ensures { λ r. ⌜ r ≡ textOn handle (lent ni na wi wa ri ra ss sb us) ⌝ }
 {
-    if overlay::is_sound(nids, narena, wids, warena, rids, rarena, spans, bytes, used) {
-        let n = little::lesser(used[7] as usize, bytes.len());
-        return text_view(interner::resolve(spans, &bytes[..n], used[6], handle));
+    if overlay::is_sound(ni, na, wi, wa, ri, ra, ss, sb, us) {
+        let n = little::lesser(us[7] as usize, sb.len());
+        return text_view(interner::resolve(ss, &sb[..n], us[6], handle));
     }
     View::Refused(Refusal::Unsound)
 }

@@ -20,7 +20,7 @@ use Rattle.listed.specs.declared.Side.{Side}
 use Rattle.listed.specs.declared.Side.the-variants.{Live}
 use Rattle.listed.specs.declared.View.{View}
 use Rattle.listed.specs.declared.View.the-variants as view
-use Rattle.overlay.specs.Overlay.{Overlay, shelfOf}
+use Rattle.overlay.specs.Overlay.{Overlay, kindStoreOf}
 use Rattle.overlay.specs.Given.{InBytes}
 use Rattle.overlay.specs.Sound.{isSound}
 use Rattle.overlay.specs.First.{unsoundRow, kindRows, kindCallTable, numberBy}
@@ -82,15 +82,15 @@ module _ (o : Overlay) where
 
   -- ---- 22, 17, 21
 
-  pub id-number-first : (kind : ℕ) (side : Side) (n : ℕ) → idNumber kind side n o .number ≡ numberBy (firstOf (kindCallTable kind (λ k. numberRows n (countIn side (shelfOf k o))) o))
+  pub id-number-first : (kind : ℕ) (side : Side) (n : ℕ) → idNumber kind side n o .number ≡ numberBy (firstOf (kindCallTable kind (λ k. numberRows n (countIn side (kindStoreOf k o))) o))
   unfolding idNumber
   id-number-first kind side n =
-      named-number (λ k. numberRows n (countIn side (shelfOf k o))) (λ k. idOn k side n o) (λ k. id-first o k side n) (ofNumber kind)
+      named-number (λ k. numberRows n (countIn side (kindStoreOf k o))) (λ k. idOn k side n o) (λ k. id-first o k side n) (ofNumber kind)
 
-  pub record-part-first : InBytes o → (kind n : ℕ) → recordPart kind n o .number ≡ numberBy (firstOf (kindCallTable kind (λ k. numberRows n (countIn Live (shelfOf k o))) o))
+  pub record-part-first : InBytes o → (kind n : ℕ) → recordPart kind n o .number ≡ numberBy (firstOf (kindCallTable kind (λ k. numberRows n (countIn Live (kindStoreOf k o))) o))
   unfolding recordPart
   record-part-first b kind n =
-      named-part (λ k. numberRows n (countIn Live (shelfOf k o))) (λ k. recordOn k n o) (λ k. record-first o b k n) (ofNumber kind)
+      named-part (λ k. numberRows n (countIn Live (kindStoreOf k o))) (λ k. recordOn k n o) (λ k. record-first o b k n) (ofNumber kind)
 
   -- ---- where no kind is given: 22; 22, 21
 

@@ -69,19 +69,19 @@ fn view_part(view: View) -> Part
 
 // The refusal where a kind's number means no kind: 22, else 17.
 fn unknown_kind(
-    nids: &[u64],
-    narena: &[u8],
-    wids: &[u64],
-    warena: &[u8],
-    rids: &[u64],
-    rarena: &[u8],
-    spans: &[u64],
-    bytes: &[u8],
-    used: &[u64; 9],
+    ni: &[u64],
+    na: &[u8],
+    wi: &[u64],
+    wa: &[u8],
+    ri: &[u64],
+    ra: &[u8],
+    ss: &[u64],
+    sb: &[u8],
+    us: &[u64; 9],
 ) -> Refusal
-    ensures { λ r. ⌜ r ≡ unknownKind (isSound (lent nids narena wids warena rids rarena spans bytes used)) ⌝ }
+    ensures { λ r. ⌜ r ≡ unknownKind (isSound (lent ni na wi wa ri ra ss sb us)) ⌝ }
 {
-    if overlay::is_sound(nids, narena, wids, warena, rids, rarena, spans, bytes, used) {
+    if overlay::is_sound(ni, na, wi, wa, ri, ra, ss, sb, us) {
         return Refusal::BadRecord;
     }
     Refusal::Unsound
@@ -89,398 +89,375 @@ fn unknown_kind(
 
 // The replies where a kind's number means no kind.
 fn no_read(
-    nids: &[u64],
-    narena: &[u8],
-    wids: &[u64],
-    warena: &[u8],
-    rids: &[u64],
-    rarena: &[u8],
-    spans: &[u64],
-    bytes: &[u8],
-    used: &[u64; 9],
+    ni: &[u64],
+    na: &[u8],
+    wi: &[u64],
+    wa: &[u8],
+    ri: &[u64],
+    ra: &[u8],
+    ss: &[u64],
+    sb: &[u8],
+    us: &[u64; 9],
 ) -> Number
-    ensures { λ r. ⌜ r ≡ readNumber (Refused (unknownKind (isSound (lent nids narena wids warena rids rarena spans bytes used)))) ⌝ }
+    ensures { λ r. ⌜ r ≡ readNumber (Refused (unknownKind (isSound (lent ni na wi wa ri ra ss sb us)))) ⌝ }
 {
-    let refusal = unknown_kind(nids, narena, wids, warena, rids, rarena, spans, bytes, used);
+    let refusal = unknown_kind(ni, na, wi, wa, ri, ra, ss, sb, us);
     read_number(Read::Refused(refusal))
 }
 
 fn no_view(
-    nids: &[u64],
-    narena: &[u8],
-    wids: &[u64],
-    warena: &[u8],
-    rids: &[u64],
-    rarena: &[u8],
-    spans: &[u64],
-    bytes: &[u8],
-    used: &[u64; 9],
+    ni: &[u64],
+    na: &[u8],
+    wi: &[u64],
+    wa: &[u8],
+    ri: &[u64],
+    ra: &[u8],
+    ss: &[u64],
+    sb: &[u8],
+    us: &[u64; 9],
 ) -> Part
-    ensures { λ r. ⌜ r ≡ viewPart (view.Refused (unknownKind (isSound (lent nids narena wids warena rids rarena spans bytes used)))) ⌝ }
+    ensures { λ r. ⌜ r ≡ viewPart (view.Refused (unknownKind (isSound (lent ni na wi wa ri ra ss sb us)))) ⌝ }
 {
-    let refusal = unknown_kind(nids, narena, wids, warena, rids, rarena, spans, bytes, used);
+    let refusal = unknown_kind(ni, na, wi, wa, ri, ra, ss, sb, us);
     view_part(View::Refused(refusal))
 }
 
 // How many ids of a kind are live.
 #[no_mangle]
 pub extern "C" fn tvk_live_count(
-    nids: &[u64],
-    narena: &[u8],
-    wids: &[u64],
-    warena: &[u8],
-    rids: &[u64],
-    rarena: &[u8],
-    spans: &[u64],
-    bytes: &[u8],
-    used: &[u64; 9],
+    ni: &[u64],
+    na: &[u8],
+    wi: &[u64],
+    wa: &[u8],
+    ri: &[u64],
+    ra: &[u8],
+    ss: &[u64],
+    sb: &[u8],
+    us: &[u64; 9],
     kind: u8,
 ) -> Number
-    ensures { λ r. ⌜ r ≡ countNumber kind Live (lent nids narena wids warena rids rarena spans bytes used) ⌝ }
+    ensures { λ r. ⌜ r ≡ countNumber kind Live (lent ni na wi wa ri ra ss sb us) ⌝ }
 {
     match kind::kind_of_number(kind) {
         Named::Is(k) => read_number(reading::count(
-            nids,
-            narena,
-            wids,
-            warena,
-            rids,
-            rarena,
-            spans,
-            bytes,
-            used,
+            ni,
+            na,
+            wi,
+            wa,
+            ri,
+            ra,
+            ss,
+            sb,
+            us,
             k,
             Side::Live,
         )),
-        Named::Unknown => no_read(nids, narena, wids, warena, rids, rarena, spans, bytes, used),
+        Named::Unknown => no_read(ni, na, wi, wa, ri, ra, ss, sb, us),
     }
 }
 
 // How many are deleted.
 #[no_mangle]
 pub extern "C" fn tvk_deleted_count(
-    nids: &[u64],
-    narena: &[u8],
-    wids: &[u64],
-    warena: &[u8],
-    rids: &[u64],
-    rarena: &[u8],
-    spans: &[u64],
-    bytes: &[u8],
-    used: &[u64; 9],
+    ni: &[u64],
+    na: &[u8],
+    wi: &[u64],
+    wa: &[u8],
+    ri: &[u64],
+    ra: &[u8],
+    ss: &[u64],
+    sb: &[u8],
+    us: &[u64; 9],
     kind: u8,
 ) -> Number
-    ensures { λ r. ⌜ r ≡ countNumber kind Deleted (lent nids narena wids warena rids rarena spans bytes used) ⌝ }
+    ensures { λ r. ⌜ r ≡ countNumber kind Deleted (lent ni na wi wa ri ra ss sb us) ⌝ }
 {
     match kind::kind_of_number(kind) {
         Named::Is(k) => read_number(reading::count(
-            nids,
-            narena,
-            wids,
-            warena,
-            rids,
-            rarena,
-            spans,
-            bytes,
-            used,
+            ni,
+            na,
+            wi,
+            wa,
+            ri,
+            ra,
+            ss,
+            sb,
+            us,
             k,
             Side::Deleted,
         )),
-        Named::Unknown => no_read(nids, narena, wids, warena, rids, rarena, spans, bytes, used),
+        Named::Unknown => no_read(ni, na, wi, wa, ri, ra, ss, sb, us),
     }
 }
 
 // 1 where no id of any kind is known, else 0.
 #[no_mangle]
 pub extern "C" fn tvk_is_empty(
-    nids: &[u64],
-    narena: &[u8],
-    wids: &[u64],
-    warena: &[u8],
-    rids: &[u64],
-    rarena: &[u8],
-    spans: &[u64],
-    bytes: &[u8],
-    used: &[u64; 9],
+    ni: &[u64],
+    na: &[u8],
+    wi: &[u64],
+    wa: &[u8],
+    ri: &[u64],
+    ra: &[u8],
+    ss: &[u64],
+    sb: &[u8],
+    us: &[u64; 9],
 ) -> Number
-    ensures { λ r. ⌜ r ≡ readNumber (isEmptyOn (lent nids narena wids warena rids rarena spans bytes used)) ⌝ }
+    ensures { λ r. ⌜ r ≡ readNumber (isEmptyOn (lent ni na wi wa ri ra ss sb us)) ⌝ }
 {
-    read_number(reading::is_empty(nids, narena, wids, warena, rids, rarena, spans, bytes, used))
+    read_number(reading::is_empty(ni, na, wi, wa, ri, ra, ss, sb, us))
 }
 
 // The bits of the n-th live id in OSM order, or 21.
 #[no_mangle]
 pub extern "C" fn tvk_live_id(
-    nids: &[u64],
-    narena: &[u8],
-    wids: &[u64],
-    warena: &[u8],
-    rids: &[u64],
-    rarena: &[u8],
-    spans: &[u64],
-    bytes: &[u8],
-    used: &[u64; 9],
+    ni: &[u64],
+    na: &[u8],
+    wi: &[u64],
+    wa: &[u8],
+    ri: &[u64],
+    ra: &[u8],
+    ss: &[u64],
+    sb: &[u8],
+    us: &[u64; 9],
     kind: u8,
     n: u64,
 ) -> Number
-    ensures { λ r. ⌜ r ≡ idNumber kind Live n (lent nids narena wids warena rids rarena spans bytes used) ⌝ }
+    ensures { λ r. ⌜ r ≡ idNumber kind Live n (lent ni na wi wa ri ra ss sb us) ⌝ }
 {
     match kind::kind_of_number(kind) {
         Named::Is(k) => read_number(reading::id_at(
-            nids,
-            narena,
-            wids,
-            warena,
-            rids,
-            rarena,
-            spans,
-            bytes,
-            used,
+            ni,
+            na,
+            wi,
+            wa,
+            ri,
+            ra,
+            ss,
+            sb,
+            us,
             k,
             Side::Live,
             n,
         )),
-        Named::Unknown => no_read(nids, narena, wids, warena, rids, rarena, spans, bytes, used),
+        Named::Unknown => no_read(ni, na, wi, wa, ri, ra, ss, sb, us),
     }
 }
 
 // The bits of the n-th deleted id in OSM order, or 21.
 #[no_mangle]
 pub extern "C" fn tvk_deleted_id(
-    nids: &[u64],
-    narena: &[u8],
-    wids: &[u64],
-    warena: &[u8],
-    rids: &[u64],
-    rarena: &[u8],
-    spans: &[u64],
-    bytes: &[u8],
-    used: &[u64; 9],
+    ni: &[u64],
+    na: &[u8],
+    wi: &[u64],
+    wa: &[u8],
+    ri: &[u64],
+    ra: &[u8],
+    ss: &[u64],
+    sb: &[u8],
+    us: &[u64; 9],
     kind: u8,
     n: u64,
 ) -> Number
-    ensures { λ r. ⌜ r ≡ idNumber kind Deleted n (lent nids narena wids warena rids rarena spans bytes used) ⌝ }
+    ensures { λ r. ⌜ r ≡ idNumber kind Deleted n (lent ni na wi wa ri ra ss sb us) ⌝ }
 {
     match kind::kind_of_number(kind) {
         Named::Is(k) => read_number(reading::id_at(
-            nids,
-            narena,
-            wids,
-            warena,
-            rids,
-            rarena,
-            spans,
-            bytes,
-            used,
+            ni,
+            na,
+            wi,
+            wa,
+            ri,
+            ra,
+            ss,
+            sb,
+            us,
             k,
             Side::Deleted,
             n,
         )),
-        Named::Unknown => no_read(nids, narena, wids, warena, rids, rarena, spans, bytes, used),
+        Named::Unknown => no_read(ni, na, wi, wa, ri, ra, ss, sb, us),
     }
 }
 
 // Where the record of the n-th live id lies in its kind's arena, or 21.
 #[no_mangle]
 pub extern "C" fn tvk_record(
-    nids: &[u64],
-    narena: &[u8],
-    wids: &[u64],
-    warena: &[u8],
-    rids: &[u64],
-    rarena: &[u8],
-    spans: &[u64],
-    bytes: &[u8],
-    used: &[u64; 9],
+    ni: &[u64],
+    na: &[u8],
+    wi: &[u64],
+    wa: &[u8],
+    ri: &[u64],
+    ra: &[u8],
+    ss: &[u64],
+    sb: &[u8],
+    us: &[u64; 9],
     kind: u8,
     n: u64,
 ) -> Part
-    ensures { λ r. ⌜ r ≡ recordPart kind n (lent nids narena wids warena rids rarena spans bytes used) ⌝ }
+    ensures { λ r. ⌜ r ≡ recordPart kind n (lent ni na wi wa ri ra ss sb us) ⌝ }
 {
     match kind::kind_of_number(kind) {
-        Named::Is(k) => view_part(reading::record_at(
-            nids,
-            narena,
-            wids,
-            warena,
-            rids,
-            rarena,
-            spans,
-            bytes,
-            used,
-            k,
-            n,
-        )),
-        Named::Unknown => no_view(nids, narena, wids, warena, rids, rarena, spans, bytes, used),
+        Named::Is(k) => view_part(reading::record_at(ni, na, wi, wa, ri, ra, ss, sb, us, k, n)),
+        Named::Unknown => no_view(ni, na, wi, wa, ri, ra, ss, sb, us),
     }
 }
 
 // Where the record of an id lies, if the id is live.
 #[no_mangle]
 pub extern "C" fn tvk_get(
-    nids: &[u64],
-    narena: &[u8],
-    wids: &[u64],
-    warena: &[u8],
-    rids: &[u64],
-    rarena: &[u8],
-    spans: &[u64],
-    bytes: &[u8],
-    used: &[u64; 9],
+    ni: &[u64],
+    na: &[u8],
+    wi: &[u64],
+    wa: &[u8],
+    ri: &[u64],
+    ra: &[u8],
+    ss: &[u64],
+    sb: &[u8],
+    us: &[u64; 9],
     kind: u8,
     id: i64,
 ) -> Part
-    ensures { λ r. ⌜ r ≡ getPart kind id (lent nids narena wids warena rids rarena spans bytes used) ⌝ }
+    ensures { λ r. ⌜ r ≡ getPart kind id (lent ni na wi wa ri ra ss sb us) ⌝ }
 {
     match kind::kind_of_number(kind) {
         Named::Is(k) => view_part(reading::get(
-            nids,
-            narena,
-            wids,
-            warena,
-            rids,
-            rarena,
-            spans,
-            bytes,
-            used,
+            ni,
+            na,
+            wi,
+            wa,
+            ri,
+            ra,
+            ss,
+            sb,
+            us,
             k,
             signed::bits_of_i64(id),
         )),
-        Named::Unknown => no_view(nids, narena, wids, warena, rids, rarena, spans, bytes, used),
+        Named::Unknown => no_view(ni, na, wi, wa, ri, ra, ss, sb, us),
     }
 }
 
 // 1 where an id is live, else 0.
 #[no_mangle]
 pub extern "C" fn tvk_has(
-    nids: &[u64],
-    narena: &[u8],
-    wids: &[u64],
-    warena: &[u8],
-    rids: &[u64],
-    rarena: &[u8],
-    spans: &[u64],
-    bytes: &[u8],
-    used: &[u64; 9],
+    ni: &[u64],
+    na: &[u8],
+    wi: &[u64],
+    wa: &[u8],
+    ri: &[u64],
+    ra: &[u8],
+    ss: &[u64],
+    sb: &[u8],
+    us: &[u64; 9],
     kind: u8,
     id: i64,
 ) -> Number
-    ensures { λ r. ⌜ r ≡ hasNumber kind id (lent nids narena wids warena rids rarena spans bytes used) ⌝ }
+    ensures { λ r. ⌜ r ≡ hasNumber kind id (lent ni na wi wa ri ra ss sb us) ⌝ }
 {
     match kind::kind_of_number(kind) {
         Named::Is(k) => read_number(reading::has(
-            nids,
-            narena,
-            wids,
-            warena,
-            rids,
-            rarena,
-            spans,
-            bytes,
-            used,
+            ni,
+            na,
+            wi,
+            wa,
+            ri,
+            ra,
+            ss,
+            sb,
+            us,
             k,
             signed::bits_of_i64(id),
         )),
-        Named::Unknown => no_read(nids, narena, wids, warena, rids, rarena, spans, bytes, used),
+        Named::Unknown => no_read(ni, na, wi, wa, ri, ra, ss, sb, us),
     }
 }
 
 // 1 where an id is deleted, else 0.
 #[no_mangle]
 pub extern "C" fn tvk_is_deleted(
-    nids: &[u64],
-    narena: &[u8],
-    wids: &[u64],
-    warena: &[u8],
-    rids: &[u64],
-    rarena: &[u8],
-    spans: &[u64],
-    bytes: &[u8],
-    used: &[u64; 9],
+    ni: &[u64],
+    na: &[u8],
+    wi: &[u64],
+    wa: &[u8],
+    ri: &[u64],
+    ra: &[u8],
+    ss: &[u64],
+    sb: &[u8],
+    us: &[u64; 9],
     kind: u8,
     id: i64,
 ) -> Number
-    ensures { λ r. ⌜ r ≡ isDeletedNumber kind id (lent nids narena wids warena rids rarena spans bytes used) ⌝ }
+    ensures { λ r. ⌜ r ≡ isDeletedNumber kind id (lent ni na wi wa ri ra ss sb us) ⌝ }
 {
     match kind::kind_of_number(kind) {
         Named::Is(k) => read_number(reading::is_deleted(
-            nids,
-            narena,
-            wids,
-            warena,
-            rids,
-            rarena,
-            spans,
-            bytes,
-            used,
+            ni,
+            na,
+            wi,
+            wa,
+            ri,
+            ra,
+            ss,
+            sb,
+            us,
             k,
             signed::bits_of_i64(id),
         )),
-        Named::Unknown => no_read(nids, narena, wids, warena, rids, rarena, spans, bytes, used),
+        Named::Unknown => no_read(ni, na, wi, wa, ri, ra, ss, sb, us),
     }
 }
 
 // The known version of an id as a word: below 2^32 its bits, else none.
 #[no_mangle]
 pub extern "C" fn tvk_known_version(
-    nids: &[u64],
-    narena: &[u8],
-    wids: &[u64],
-    warena: &[u8],
-    rids: &[u64],
-    rarena: &[u8],
-    spans: &[u64],
-    bytes: &[u8],
-    used: &[u64; 9],
+    ni: &[u64],
+    na: &[u8],
+    wi: &[u64],
+    wa: &[u8],
+    ri: &[u64],
+    ra: &[u8],
+    ss: &[u64],
+    sb: &[u8],
+    us: &[u64; 9],
     kind: u8,
     id: i64,
 ) -> Number
-    ensures { λ r. ⌜ r ≡ knownNumber kind id (lent nids narena wids warena rids rarena spans bytes used) ⌝ }
+    ensures { λ r. ⌜ r ≡ knownNumber kind id (lent ni na wi wa ri ra ss sb us) ⌝ }
 {
     match kind::kind_of_number(kind) {
         Named::Is(k) => read_number(reading::known_version(
-            nids,
-            narena,
-            wids,
-            warena,
-            rids,
-            rarena,
-            spans,
-            bytes,
-            used,
+            ni,
+            na,
+            wi,
+            wa,
+            ri,
+            ra,
+            ss,
+            sb,
+            us,
             k,
             signed::bits_of_i64(id),
         )),
-        Named::Unknown => no_read(nids, narena, wids, warena, rids, rarena, spans, bytes, used),
+        Named::Unknown => no_read(ni, na, wi, wa, ri, ra, ss, sb, us),
     }
 }
 
 // Where the text of a handle lies among the string bytes, or 21.
 #[no_mangle]
 pub extern "C" fn tvk_text(
-    nids: &[u64],
-    narena: &[u8],
-    wids: &[u64],
-    warena: &[u8],
-    rids: &[u64],
-    rarena: &[u8],
-    spans: &[u64],
-    bytes: &[u8],
-    used: &[u64; 9],
+    ni: &[u64],
+    na: &[u8],
+    wi: &[u64],
+    wa: &[u8],
+    ri: &[u64],
+    ra: &[u8],
+    ss: &[u64],
+    sb: &[u8],
+    us: &[u64; 9],
     handle: u64,
 ) -> Part
-    ensures { λ r. ⌜ r ≡ viewPart (textOn handle (lent nids narena wids warena rids rarena spans bytes used)) ⌝ }
+    ensures { λ r. ⌜ r ≡ viewPart (textOn handle (lent ni na wi wa ri ra ss sb us)) ⌝ }
 {
-    view_part(reading::text(
-        nids,
-        narena,
-        wids,
-        warena,
-        rids,
-        rarena,
-        spans,
-        bytes,
-        used,
-        handle,
-    ))
+    view_part(reading::text(ni, na, wi, wa, ri, ra, ss, sb, us, handle))
 }

@@ -37,15 +37,15 @@ fn is_going(reading: Reading) -> bool {
 
 // One read, and what it brought.
 fn read_piece(
-    nids: &mut [u64; 1536],
-    narena: &mut [u8; 8192],
-    wids: &mut [u64; 1536],
-    warena: &mut [u8; 8192],
-    rids: &mut [u64; 1536],
-    rarena: &mut [u8; 8192],
-    spans: &mut [u64; 1024],
-    bytes: &mut [u8; 8192],
-    used: &mut [u64; 9],
+    ni: &mut [u64; 1536],
+    na: &mut [u8; 8192],
+    wi: &mut [u64; 1536],
+    wa: &mut [u8; 8192],
+    ri: &mut [u64; 1536],
+    ra: &mut [u8; 8192],
+    ss: &mut [u64; 1024],
+    sb: &mut [u8; 8192],
+    us: &mut [u64; 9],
     parts: &mut [u8; 44432],
     buffer: &mut [u8; 81920],
     piece: &mut [u8; 65536],
@@ -71,15 +71,15 @@ fn read_piece(
     }
     let n = io::count(got, piece);
     let fed = intake::feed(
-        nids,
-        narena,
-        wids,
-        warena,
-        rids,
-        rarena,
-        spans,
-        bytes,
-        used,
+        ni,
+        na,
+        wi,
+        wa,
+        ri,
+        ra,
+        ss,
+        sb,
+        us,
         parts,
         reader,
         buffer,
@@ -98,15 +98,15 @@ fn read_piece(
 
 // Pieces up to the end of the input, or to the first refusal. A proved loop has to end, and nothing says that an input does: so it counts down from a number that no run uses up (a read takes time).
 fn read_all(
-    nids: &mut [u64; 1536],
-    narena: &mut [u8; 8192],
-    wids: &mut [u64; 1536],
-    warena: &mut [u8; 8192],
-    rids: &mut [u64; 1536],
-    rarena: &mut [u8; 8192],
-    spans: &mut [u64; 1024],
-    bytes: &mut [u8; 8192],
-    used: &mut [u64; 9],
+    ni: &mut [u64; 1536],
+    na: &mut [u8; 8192],
+    wi: &mut [u64; 1536],
+    wa: &mut [u8; 8192],
+    ri: &mut [u64; 1536],
+    ra: &mut [u8; 8192],
+    ss: &mut [u64; 1024],
+    sb: &mut [u8; 8192],
+    us: &mut [u64; 9],
     parts: &mut [u8; 44432],
     buffer: &mut [u8; 81920],
     piece: &mut [u8; 65536],
@@ -122,15 +122,15 @@ fn read_all(
     while turns > 0 && going {
         turns -= 1;
         run = read_piece(
-            nids,
-            narena,
-            wids,
-            warena,
-            rids,
-            rarena,
-            spans,
-            bytes,
-            used,
+            ni,
+            na,
+            wi,
+            wa,
+            ri,
+            ra,
+            ss,
+            sb,
+            us,
             parts,
             buffer,
             piece,
@@ -158,42 +158,31 @@ fn write_out(out: &[u8], written: usize, number: u32) {
 }
 
 fn read_and_print(
-    nids: &mut [u64; 1536],
-    narena: &mut [u8; 8192],
-    wids: &mut [u64; 1536],
-    warena: &mut [u8; 8192],
-    rids: &mut [u64; 1536],
-    rarena: &mut [u8; 8192],
-    spans: &mut [u64; 1024],
-    bytes: &mut [u8; 8192],
-    used: &mut [u64; 9],
+    ni: &mut [u64; 1536],
+    na: &mut [u8; 8192],
+    wi: &mut [u64; 1536],
+    wa: &mut [u8; 8192],
+    ri: &mut [u64; 1536],
+    ra: &mut [u8; 8192],
+    ss: &mut [u64; 1024],
+    sb: &mut [u8; 8192],
+    us: &mut [u64; 9],
     parts: &mut [u8; 44432],
     buffer: &mut [u8; 81920],
     piece: &mut [u8; 65536],
     out: &mut [u8; 65536],
 ) {
-    let reader = roadlist_page::start(
-        nids,
-        narena,
-        wids,
-        warena,
-        rids,
-        rarena,
-        spans,
-        bytes,
-        used,
-        parts,
-    );
+    let reader = roadlist_page::start(ni, na, wi, wa, ri, ra, ss, sb, us, parts);
     let run = read_all(
-        nids,
-        narena,
-        wids,
-        warena,
-        rids,
-        rarena,
-        spans,
-        bytes,
-        used,
+        ni,
+        na,
+        wi,
+        wa,
+        ri,
+        ra,
+        ss,
+        sb,
+        us,
         parts,
         buffer,
         piece,
@@ -205,15 +194,15 @@ fn read_and_print(
         return;
     };
     let ended = roadlist_page::finish(
-        nids,
-        narena,
-        wids,
-        warena,
-        rids,
-        rarena,
-        spans,
-        bytes,
-        used,
+        ni,
+        na,
+        wi,
+        wa,
+        ri,
+        ra,
+        ss,
+        sb,
+        us,
         parts,
         reader,
         buffer,
@@ -224,12 +213,12 @@ fn read_and_print(
 }
 
 fn main() {
-    let mut nids = [0u64; 1536];
-    let mut narena = [0u8; 8192];
-    let mut wids = [0u64; 1536];
-    let mut warena = [0u8; 8192];
-    let mut rids = [0u64; 1536];
-    let mut rarena = [0u8; 8192];
+    let mut ni = [0u64; 1536];
+    let mut na = [0u8; 8192];
+    let mut wi = [0u64; 1536];
+    let mut wa = [0u8; 8192];
+    let mut ri = [0u64; 1536];
+    let mut ra = [0u8; 8192];
     let mut spans = [0u64; 1024];
     let mut bytes = [0u8; 8192];
     let mut used = [0u64; 9];
@@ -238,12 +227,12 @@ fn main() {
     let mut piece = [0u8; 65536];
     let mut out = [0u8; 65536];
     read_and_print(
-        &mut nids,
-        &mut narena,
-        &mut wids,
-        &mut warena,
-        &mut rids,
-        &mut rarena,
+        &mut ni,
+        &mut na,
+        &mut wi,
+        &mut wa,
+        &mut ri,
+        &mut ra,
         &mut spans,
         &mut bytes,
         &mut used,

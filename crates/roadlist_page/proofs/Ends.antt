@@ -16,7 +16,7 @@ use Rattle.refusal.specs.declared.Reply.{Reply}
 use Rattle.refusal.specs.declared.Refusal.{Refusal}
 use Rattle.refusal.specs.declared.Refusal.the-variants as R
 use Rattle.little.proofs.Overs.{over-start}
-use Rattle.shelf.specs.declared.Kept.{Kept}
+use Rattle.kind_store.specs.declared.Kept.{Kept}
 use Rattle.overlay.specs.Overlay.{Overlay}
 use Rattle.overlay.specs.Sound.{isSound}
 use Rattle.overlay.specs.Calls.{OverlayAfter, setUp}

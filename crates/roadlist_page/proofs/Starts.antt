@@ -12,8 +12,8 @@ use Rattle.refusal.specs.declared.Refusal.the-variants as R
 use Rattle.kind.specs.declared.Kind.{Kind}
 use Rattle.kind.specs.declared.Kind.the-variants.{Node, Way, Relation}
 use Rattle.little.specs.Little.{isByte}
-use Rattle.shelf.specs.Shelf.{takenIn}
-use Rattle.overlay.specs.Overlay.{Overlay, shelfOf, largest, shelfFits, textsFit, sizesFit}
+use Rattle.kind_store.specs.KindStore.{takenIn}
+use Rattle.overlay.specs.Overlay.{Overlay, kindStoreOf, largest, kindStoreFits, textsFit, sizesFit}
 use Rattle.overlay.specs.Calls.{OverlayAfter, setUp}
 use Rattle.overlay.specs.Given.{InBytes}
 use Rattle.overlay.proofs.Decides.{decides}
@@ -44,13 +44,13 @@ lends-bytes : InBytes programLends
 unfolding programLends
 lends-bytes = record { arenas = each; texts = zeros-bytes 8192 }
   where
-    each : (k : Kind) → all isByte (shelfOf k programLends .arena) ≡ true
+    each : (k : Kind) → all isByte (kindStoreOf k programLends .arena) ≡ true
     each Node = zeros-bytes 8192
     each Way = zeros-bytes 8192
     each Relation = zeros-bytes 8192
 
 lends-fit : sizesFit largest programLends ≡ true
-unfolding programLends sizesFit shelfFits textsFit both
+unfolding programLends sizesFit kindStoreFits textsFit both
 lends-fit = refl
 
 lends-taken : takenIn (setUp 0 programLends .answer) ≡ true

@@ -23,32 +23,21 @@ use refusal::Refusal;
 
 // An empty overlay, regression refused, and a fresh reader.
 pub fn start(
-    nids: &[u64],
-    narena: &[u8],
-    wids: &[u64],
-    warena: &[u8],
-    rids: &[u64],
-    rarena: &[u8],
-    spans: &mut [u64],
-    bytes: &[u8],
-    used: &mut [u64; 9],
+    ni: &[u64],
+    na: &[u8],
+    wi: &[u64],
+    wa: &[u8],
+    ri: &[u64],
+    ra: &[u8],
+    ss: &mut [u64],
+    sb: &[u8],
+    us: &mut [u64; 9],
     parts: &[u8; 44432],
 ) -> EventReader
-    ensures { λ r. ⌜ record { overlay = left nids narena wids warena rids rarena spans bytes used; reader = r; parts = now (parts .exit) }
-        ≡ startOn (lent nids narena wids warena rids rarena spans bytes used) (now (parts .entry)) ⌝ }
+    ensures { λ r. ⌜ record { overlay = left ni na wi wa ri ra ss sb us; reader = r; parts = now (parts .exit) }
+        ≡ startOn (lent ni na wi wa ri ra ss sb us) (now (parts .entry)) ⌝ }
 {
-    overlay::set_up(
-        nids,
-        narena,
-        wids,
-        warena,
-        rids,
-        rarena,
-        spans,
-        bytes,
-        used,
-        0,
-    );
+    overlay::set_up(ni, na, wi, wa, ri, ra, ss, sb, us, 0);
     EventReader {
         place: Place {
             level: Level::Doc,
@@ -80,37 +69,37 @@ pub fn start(
 
 // A last line without its line feed is an event too.
 fn take_last(
-    nids: &mut [u64],
-    narena: &mut [u8],
-    wids: &mut [u64],
-    warena: &mut [u8],
-    rids: &mut [u64],
-    rarena: &mut [u8],
-    spans: &mut [u64],
-    bytes: &mut [u8],
-    used: &mut [u64; 9],
+    ni: &mut [u64],
+    na: &mut [u8],
+    wi: &mut [u64],
+    wa: &mut [u8],
+    ri: &mut [u64],
+    ra: &mut [u8],
+    ss: &mut [u64],
+    sb: &mut [u8],
+    us: &mut [u64; 9],
     parts: &mut [u8; 44432],
     reader: EventReader,
     buffer: &[u8],
     held: usize,
 ) -> EventReader
     requires { ⌜ held ≤ length (now buffer) ⌝ }
-    ensures { λ r. ⌜ record { overlay = left nids narena wids warena rids rarena spans bytes used; reader = r; parts = now (parts .exit) }
-        ≡ stateAtEnd (record { state = record { overlay = lent nids narena wids warena rids rarena spans bytes used; reader = reader; parts = now (parts .entry) }; buffer = now (buffer .entry); held = held }) ⌝ }
+    ensures { λ r. ⌜ record { overlay = left ni na wi wa ri ra ss sb us; reader = r; parts = now (parts .exit) }
+        ≡ stateAtEnd (record { state = record { overlay = lent ni na wi wa ri ra ss sb us; reader = reader; parts = now (parts .entry) }; buffer = now (buffer .entry); held = held }) ⌝ }
 {
     if held == 0 {
         return reader;
     }
     let done = reader_calls::event(
-        nids,
-        narena,
-        wids,
-        warena,
-        rids,
-        rarena,
-        spans,
-        bytes,
-        used,
+        ni,
+        na,
+        wi,
+        wa,
+        ri,
+        ra,
+        ss,
+        sb,
+        us,
         parts,
         reader,
         &buffer[..held],
@@ -139,36 +128,25 @@ fn put_refusal(out: &mut [u8], refusal: Refusal, line: u64) -> Ended
 
 // The listing, or 19.
 fn put_page(
-    nids: &[u64],
-    narena: &[u8],
-    wids: &[u64],
-    warena: &[u8],
-    rids: &[u64],
-    rarena: &[u8],
-    spans: &[u64],
-    bytes: &[u8],
-    used: &[u64; 9],
+    ni: &[u64],
+    na: &[u8],
+    wi: &[u64],
+    wa: &[u8],
+    ri: &[u64],
+    ra: &[u8],
+    ss: &[u64],
+    sb: &[u8],
+    us: &[u64; 9],
     out: &mut [u8],
     lines: u64,
 ) -> Ended
-    requires { ⌜ isSound (overlayOf (now nids) (now narena) (now wids) (now warena) (now rids) (now rarena) (now spans) (now bytes) (now used)) ≡ true ⌝ }
+    requires { ⌜ isSound (overlayOf (now ni) (now na) (now wi) (now wa) (now ri) (now ra) (now ss) (now sb) (now us)) ≡ true ⌝ }
     requires { ⌜ lines < 18446744073709551615 ⌝ }
     requires { ⌜ length (now out) ≡ 65536 ⌝ }
     ensures { λ r. ⌜ record { out = now (out .exit); written = r .written; number = r .number }
-        ≡ endOutput (now (out .entry)) (pageEnding (lent nids narena wids warena rids rarena spans bytes used) lines) ⌝ }
+        ≡ endOutput (now (out .entry)) (pageEnding (lent ni na wi wa ri ra ss sb us) lines) ⌝ }
 {
-    match listing::list(
-        nids,
-        narena,
-        wids,
-        warena,
-        rids,
-        rarena,
-        spans,
-        bytes,
-        used,
-        out,
-    ) {
+    match listing::list(ni, na, wi, wa, ri, ra, ss, sb, us, out) {
         Listed::Length(n) => Ended {
             written: n,
             number: 0,
@@ -179,64 +157,40 @@ fn put_page(
 
 // What the end answers: its refusal, or the page.
 fn put_end(
-    nids: &[u64],
-    narena: &[u8],
-    wids: &[u64],
-    warena: &[u8],
-    rids: &[u64],
-    rarena: &[u8],
-    spans: &[u64],
-    bytes: &[u8],
-    used: &[u64; 9],
+    ni: &[u64],
+    na: &[u8],
+    wi: &[u64],
+    wa: &[u8],
+    ri: &[u64],
+    ra: &[u8],
+    ss: &[u64],
+    sb: &[u8],
+    us: &[u64; 9],
     parts: &[u8; 44432],
     reader: EventReader,
     out: &mut [u8],
 ) -> Ended
     requires { ⌜ length (now out) ≡ 65536 ⌝ }
     ensures { λ r. ⌜ record { out = now (out .exit); written = r .written; number = r .number }
-        ≡ endOutput (now (out .entry)) (endingAt (record { overlay = lent nids narena wids warena rids rarena spans bytes used; reader = reader; parts = now (parts .entry) })) ⌝ }
+        ≡ endOutput (now (out .entry)) (endingAt (record { overlay = lent ni na wi wa ri ra ss sb us; reader = reader; parts = now (parts .entry) })) ⌝ }
 {
-    match reader_calls::end(
-        nids,
-        narena,
-        wids,
-        warena,
-        rids,
-        rarena,
-        spans,
-        bytes,
-        used,
-        parts,
-        reader,
-    ) {
-        EventAnswer::Accepted => put_page(
-            nids,
-            narena,
-            wids,
-            warena,
-            rids,
-            rarena,
-            spans,
-            bytes,
-            used,
-            out,
-            reader.lines,
-        ),
+    match reader_calls::end(ni, na, wi, wa, ri, ra, ss, sb, us, parts, reader) {
+        EventAnswer::Accepted => put_page(ni, na, wi, wa, ri, ra, ss, sb, us, out, reader.lines),
         EventAnswer::Refused(refusal, line) => put_refusal(out, refusal, line),
     }
 }
 
 // The end of the input: a last line, the end of the document, then the listing or the `refused` line at the start of the output. Of the bytes held at most 16,384 count.
 pub fn finish(
-    nids: &mut [u64],
-    narena: &mut [u8],
-    wids: &mut [u64],
-    warena: &mut [u8],
-    rids: &mut [u64],
-    rarena: &mut [u8],
-    spans: &mut [u64],
-    bytes: &mut [u8],
-    used: &mut [u64; 9],
+    ni: &mut [u64],
+    na: &mut [u8],
+    wi: &mut [u64],
+    wa: &mut [u8],
+    ri: &mut [u64],
+    ra: &mut [u8],
+    ss: &mut [u64],
+    sb: &mut [u8],
+    us: &mut [u64; 9],
     parts: &mut [u8; 44432],
     reader: EventReader,
     buffer: &[u8; 81920],
@@ -244,40 +198,27 @@ pub fn finish(
     out: &mut [u8; 65536],
 ) -> Ended
     ensures { λ r. ⌜ record {
-      overlay = left nids narena wids warena rids rarena spans bytes used;
+      overlay = left ni na wi wa ri ra ss sb us;
       parts = now (parts .exit);
       output = record { out = now (out .exit); written = r .written; number = r .number };
     }
-        ≡ finishOn (now (out .entry)) (record { state = record { overlay = lent nids narena wids warena rids rarena spans bytes used; reader = reader; parts = now (parts .entry) }; buffer = now (buffer .entry); held = min held 16384 }) ⌝ }
+        ≡ finishOn (now (out .entry)) (record { state = record { overlay = lent ni na wi wa ri ra ss sb us; reader = reader; parts = now (parts .entry) }; buffer = now (buffer .entry); held = min held 16384 }) ⌝ }
 {
     let held = little::lesser(held, 16384);
     let reader = take_last(
-        nids,
-        narena,
-        wids,
-        warena,
-        rids,
-        rarena,
-        spans,
-        bytes,
-        used,
+        ni,
+        na,
+        wi,
+        wa,
+        ri,
+        ra,
+        ss,
+        sb,
+        us,
         parts,
         reader,
         buffer,
         held,
     );
-    put_end(
-        nids,
-        narena,
-        wids,
-        warena,
-        rids,
-        rarena,
-        spans,
-        bytes,
-        used,
-        parts,
-        reader,
-        out,
-    )
+    put_end(ni, na, wi, wa, ri, ra, ss, sb, us, parts, reader, out)
 }

@@ -9,7 +9,7 @@ use Rattle.base.specs.Bytes.{Bytes}
 use Rattle.base.proofs.Split.{byLe}
 use Rattle.kind.specs.declared.Kind.{Kind}
 use Rattle.table.specs.Words.{rowAt, rowsFrom, rowsOf}
-use Rattle.shelf.specs.Shelf.{Shelf}
+use Rattle.kind_store.specs.KindStore.{KindStore}
 use Rattle.print.specs.Print.{Printed, printStep, print, tabs, linePieces}
 use Rattle.print.proofs.Prints.{print-append}
 use Rattle.rows.specs.Lines.{rowFieldsAt, rowPieces}
@@ -54,7 +54,7 @@ line-printed cap k i s v ls p q r t e1 e2 e3 = rw (print-append cap (tabs ls) ((
 
 -- ---- row by row
 
-module _ (cap : ℕ) (f : ℕ → Bytes) (k : Kind) (s : Shelf) (n : ℕ) where
+module _ (cap : ℕ) (f : ℕ → Bytes) (k : Kind) (s : KindStore) (n : ℕ) where
   -- what is still to print, from the i-th row on
   pub rows-next : (i : ℕ) (p q : Printed) → i < n → q ≡ print cap (linePieces (rowFieldsAt f k s (rowAt (s .table) i))) p
       → print cap (rowPieces f k s (rowsFrom (s .table) (i + 1) (n - (i + 1)))) q ≡ print cap (rowPieces f k s (rowsFrom (s .table) i (n - i))) p

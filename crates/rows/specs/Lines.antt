@@ -10,7 +10,7 @@ use Rattle.kind.specs.declared.Kind.{Kind}
 use Rattle.osm_id.specs.Order.{idOf}
 use Rattle.table.specs.Words.{rowsOf, held}
 use Rattle.table.specs.declared.Row.{Row}
-use Rattle.shelf.specs.Shelf.{Shelf, isLive, known}
+use Rattle.kind_store.specs.KindStore.{KindStore, isLive, known}
 use Rattle.page.specs.Listing.{kindField, versionField}
 use Rattle.print.specs.Print.{linePieces}
 use Rattle.fields.specs.Fields.{recordFieldsAt}
@@ -24,14 +24,14 @@ signOf false = ascii "-"
 abbrev pub lastAt : (ℕ → Bytes) → Kind → Bytes → ℕ → ℕ → List Bytes
 lastAt f k arena used place = cond (isLive place) (recordFieldsAt f k (drop place (take used arena))) []
 
-unfoldable pub rowFieldsAt : (ℕ → Bytes) → Kind → Shelf → Row → List Bytes
+unfoldable pub rowFieldsAt : (ℕ → Bytes) → Kind → KindStore → Row → List Bytes
 rowFieldsAt f k s r =
     kindField k ∷ integerText (idOf (r .rank)) ∷ signOf (isLive (r .place)) ∷ versionField (known k s (idOf (r .rank))) ∷ lastAt f k (s .arena) (s .used) (r .place)
 
-unfoldable pub rowPieces : (ℕ → Bytes) → Kind → Shelf → List Row → List Bytes
+unfoldable pub rowPieces : (ℕ → Bytes) → Kind → KindStore → List Row → List Bytes
 rowPieces f k s [] = []
 rowPieces f k s (r ∷ rs) = linePieces (rowFieldsAt f k s r) ++ rowPieces f k s rs
 
 -- the rows of a kind: those counted, as far as the words go
-abbrev pub kindPieces : (ℕ → Bytes) → Kind → Shelf → List Bytes
+abbrev pub kindPieces : (ℕ → Bytes) → Kind → KindStore → List Bytes
 kindPieces f k s = rowPieces f k s (rowsOf (s .table) (held (s .table) (s .ids)))

@@ -6,7 +6,7 @@ ghost use mir.Val.{toZ};
 ghost use Rattle.line.specs.Decimal.{integerText};
 ghost use Rattle.page.specs.Listing.{kindField, versionField};
 ghost use Rattle.print.specs.Print.{printStep, print, tabs, linePieces};
-ghost use Rattle.shelf.specs.Shelf.{shelfWith};
+ghost use Rattle.kind_store.specs.KindStore.{kindStoreWith};
 ghost use Rattle.fields.specs.Fields.{heldText};
 ghost use Rattle.rows.specs.Lines.{signOf, lastAt, rowFieldsAt, kindPieces};
 use kind::Kind;
@@ -104,10 +104,10 @@ fn put_line(
     row: Row,
 ) -> Room
     ensures { λ r. ⌜ record { out = now (out .exit); room = r }
-        ≡ print cap (linePieces (rowFieldsAt (heldText (now (spans .entry)) (now (bytes .entry)) strings) kind (shelfWith (now (table .entry)) ids (now (arena .entry)) used) row)) (record { out = now (out .entry); room = room }) ⌝ }
+        ≡ print cap (linePieces (rowFieldsAt (heldText (now (spans .entry)) (now (bytes .entry)) strings) kind (kindStoreWith (now (table .entry)) ids (now (arena .entry)) used) row)) (record { out = now (out .entry); room = room }) ⌝ }
 {
     let id = signed::bits_of_i64(osm_id::osm_id_of_rank(row.rank));
-    let version = shelf::known_version(kind, table, ids, arena, id);
+    let version = kind_store::known_version(kind, table, ids, arena, id);
     let live = row.place < 0x8000_0000_0000_0000;
     let room = put_key(out, cap, room, kind, id, live, version);
     let room = put_last(
@@ -140,7 +140,7 @@ pub fn put_lines(
     strings: u64,
 ) -> Room
     ensures { λ r. ⌜ record { out = now (out .exit); room = r }
-        ≡ print cap (kindPieces (heldText (now (spans .entry)) (now (bytes .entry)) strings) kind (shelfWith (now (table .entry)) ids (now (arena .entry)) used)) (record { out = now (out .entry); room = room }) ⌝ }
+        ≡ print cap (kindPieces (heldText (now (spans .entry)) (now (bytes .entry)) strings) kind (kindStoreWith (now (table .entry)) ids (now (arena .entry)) used)) (record { out = now (out .entry); room = room }) ⌝ }
 {
     let n = little::lesser(ids as usize, table.len() / 3);
     let mut left = room;

@@ -14,14 +14,14 @@ use Rattle.scan.specs.declared.Value.{Value}
 use Rattle.scan.specs.declared.Value.the-variants as F
 use Rattle.scan.specs.Piece.{valueText}
 use Rattle.scan.specs.Scan.{fieldsAt, attrsAt, Good, attributesOf, attributesAt, attributeAt, valueIn, attributeValue}
-use Rattle.scan.proofs.Places.{Stands, stands-here, attribute-here, ended, fields-past}
+use Rattle.scan.proofs.Places.{AttributeAt, stands-here, attribute-here, ended, fields-past}
 use Rattle.scan.proofs.Walks.{Step, attrs-step}
 
 pub attributes-end : (t : Bytes) (at : ℕ) → attributeAt t at ≡ A.End → attributesAt t at ≡ []
 unfolding attributesAt attributesOf
 attributes-end t at e = rw (ended t at e)
 
-pub attributes-step : {t : Bytes} {at eq to : ℕ} → Stands t at eq to
+pub attributes-step : {t : Bytes} {at eq to : ℕ} → AttributeAt t at eq to
     → attributesAt t at ≡ record { name = slice at eq t; value = valueText (slice (eq + 1) to t) } ∷ attributesAt t (to + 1)
 unfolding attributesAt attributesOf
 attributes-step d = rw (d .rest, d .name, d .value)
@@ -37,7 +37,7 @@ module _ (t : Bytes) where
     unfolding attributeValue valueIn valueOf attributesAt attributesOf
     told-none at e = rw e
 
-    told-step : {at eq to : ℕ} → Stands t at eq to → Searched t (attributeValue t name (to + 1)) (valueOf name (attributesAt t (to + 1))) → Searched t (attributeValue t name at) (valueOf name (attributesAt t at))
+    told-step : {at eq to : ℕ} → AttributeAt t at eq to → Searched t (attributeValue t name (to + 1)) (valueOf name (attributesAt t (to + 1))) → Searched t (attributeValue t name at) (valueOf name (attributesAt t at))
     unfolding valueOf
     told-step {at} {eq} {to} d ih =
         byBool (same name (slice at eq t))
@@ -60,7 +60,7 @@ module _ (t : Bytes) where
   unfolding attributesAt attributesOf attrsAt attrsOf
   good-none at e = rw e
 
-  good-step : {at eq to : ℕ} → Stands t at eq to → Step t at eq to → attributesAt t (to + 1) ≡ attrsAt t (to + 1) → attributesAt t at ≡ attrsAt t at
+  good-step : {at eq to : ℕ} → AttributeAt t at eq to → Step t at eq to → attributesAt t (to + 1) ≡ attrsAt t (to + 1) → attributesAt t at ≡ attrsAt t at
   unfolding valueText
   good-step d s ih = attributes-step d ∙ rw (s .value, ih) (sym (s .whole))
 

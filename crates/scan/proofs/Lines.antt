@@ -16,7 +16,7 @@ use Rattle.event.specs.Event.{Attr, Reading, reads, refused, starts, unended, b
 use Rattle.event.proofs.Parts.{unended-line, unended-some}
 use Rattle.event.proofs.Events.{judged-long, judged-illegal, judged-legal}
 use Rattle.scan.specs.declared.Scanned.{Scanned}
-use Rattle.scan.specs.Scan.{fieldsAt, attrsAt, Good, stand, means, Lies, lone}
+use Rattle.scan.specs.Scan.{fieldsAt, attrsAt, Good, stand, means, InBounds, lone}
 use Rattle.scan.proofs.Places.{fields-past, fields-within, tabAt, tab-within, field-here, some-bytes}
 use Rattle.scan.proofs.Walks.{good-there, stand-there}
 
@@ -136,8 +136,8 @@ module _ (t : Bytes) (to : ℕ) (e : to ≡ tabAt t 0) where
     unfolding lone
     one-word = rw (words, h, k, fields-past t (to + 1) (omega arith))
 
-    pub event-alone : (r : Scanned) → means (take to t) r ≡ lone (take to t) → Lies (take to t) r → (means t r ≡ eventFrom (fields t)) × Lies t r
-    event-alone r m p = (sym (ap (λ s. means s r) whole) ∙ m ∙ sym one-word, subst (λ s. Lies s r) whole p)
+    pub event-alone : (r : Scanned) → means (take to t) r ≡ lone (take to t) → InBounds (take to t) r → (means t r ≡ eventFrom (fields t)) × InBounds t r
+    event-alone r m p = (sym (ap (λ s. means s r) whole) ∙ m ∙ sym one-word, subst (λ s. InBounds s r) whole p)
 
 -- ---- the order of the checks, where n bytes of the line are judged
 
@@ -171,5 +171,5 @@ module _ (s : Bytes) (n : ℕ) (e : n ≡ length (body s)) where
             let z : eventOf s ≡ eventFrom (fields (take n s)) = in-body ∙ rw f in
             sym (ap (λ t. means t r) judged-part) ∙ m ∙ sym z
 
-  pub scan-lies : (r : Scanned) → Lies (take n s) r → Lies (body s) r
-  scan-lies r m = subst (λ t. Lies t r) judged-part m
+  pub scan-lies : (r : Scanned) → InBounds (take n s) r → InBounds (body s) r
+  scan-lies r m = subst (λ t. InBounds t r) judged-part m

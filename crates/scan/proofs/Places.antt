@@ -205,7 +205,7 @@ attribute-past t at h = rw (fields-past t at h)
 -- ---- the attribute at a place
 
 -- its places, the fields behind it, what it is, and what it says of a name that is searched
-pub record Stands (t : Bytes) (at eq to : ℕ) : Type 0 where
+pub record AttributeAt (t : Bytes) (at eq to : ℕ) : Type 0 where
   pub start : at ≤ eq
   pub equals : eq ≤ to
   pub end : to ≤ length t
@@ -217,7 +217,7 @@ pub record Stands (t : Bytes) (at eq to : ℕ) : Type 0 where
   pub nameless : eq ≡ at → attrOf (slice at to t) ≡ none
   pub whole : eq ≡ to → attrOf (slice at to t) ≡ none
 
-pub stands-here : (t : Bytes) (at : ℕ) → at ≤ length t → Stands t at (equalsAt t at) (tabAt t at)
+pub stands-here : (t : Bytes) (at : ℕ) → at ≤ length t → AttributeAt t at (equalsAt t at) (tabAt t at)
 stands-here t at h = record {
   start = omega arith;
   equals = equals-within t at h;
@@ -231,7 +231,7 @@ stands-here t at h = record {
   whole = attr-whole t at h;
 }
 
-pub stands : (t : Bytes) (at eq to : ℕ) → attributeAt t at ≡ A.At eq to → Stands t at eq to
+pub stands : (t : Bytes) (at eq to : ℕ) → attributeAt t at ≡ A.At eq to → AttributeAt t at eq to
 stands t at eq to e =
     byLe at (length t)
     (λ h. let z : A.At eq to ≡ A.At (equalsAt t at) (tabAt t at) = sym e ∙ attribute-here t at h in

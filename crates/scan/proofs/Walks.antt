@@ -19,7 +19,7 @@ use Rattle.scan.specs.declared.Value.{Value}
 use Rattle.scan.specs.declared.Value.the-variants as F
 use Rattle.scan.specs.Piece.{there}
 use Rattle.scan.specs.Scan.{fieldsAt, attrsAt, Good, stand, attributeAt, valueIn, attributeValue, textIn}
-use Rattle.scan.proofs.Places.{Stands, stands, stands-here, ended, fields-past, fields-within}
+use Rattle.scan.proofs.Places.{AttributeAt, stands, stands-here, ended, fields-past, fields-within}
 
 -- ---- fields that are attributes
 
@@ -34,7 +34,7 @@ there-beside none x = refl
 there-beside (some a) none = refl
 there-beside (some a) (some as1) = refl
 
-module _ {t : Bytes} {at eq to : ℕ} (d : Stands t at eq to) where
+module _ {t : Bytes} {at eq to : ℕ} (d : AttributeAt t at eq to) where
   pub attr-nameless : eq ≡ at → there (attrOf (slice at to t)) ≡ false
   unfolding there
   attr-nameless e = rw (d .nameless e)
@@ -97,7 +97,7 @@ lower a b h n = byLt a b (λ l. l) (λ l. absurd (n (omega arith)))
 renamed : (a : Attr) (n : Bytes) (as1 bs : List Attr) → a .name ≡ n → bs ≡ as1 → a ∷ as1 ≡ record { name = n; value = a .value } ∷ bs
 renamed a n as1 bs p q = rw (← p, q)
 
-step-here : (t : Bytes) (at eq to : ℕ) → Stands t at eq to → Good t at → Step t at eq to
+step-here : (t : Bytes) (at eq to : ℕ) → AttributeAt t at eq to → Good t at → Step t at eq to
 step-here t at eq to d g =
     let w = listed (attrOf (slice at to t)) (attrsOf (fieldsAt t (to + 1))) (attrsAt t at) (sym (listed-here d) ∙ g) in
     let n : at < eq = byEq eq at (λ e. let z : none ≡ some (w .head) = sym (d .nameless e) ∙ w .first in no (cc)) (λ e. lower at eq (d .start) e) in
@@ -130,7 +130,7 @@ module _ (t name : Bytes) where
   unfolding attributeValue valueIn valueOf attrsAt attrsOf named
   none-found at e = record { text = rw e; is = rw e }
 
-  found-step : {at eq to : ℕ} → Stands t at eq to → Step t at eq to → Found t name (to + 1) → Found t name at
+  found-step : {at eq to : ℕ} → AttributeAt t at eq to → Step t at eq to → Found t name (to + 1) → Found t name at
   unfolding valueOf named
   found-step {at} {eq} {to} d s ih =
       byBool (same name (slice at eq t))

@@ -55,11 +55,11 @@ means t S.Closes = reads closes
 means t S.Others = reads others
 
 -- the name lies within the line, and attributes alone follow it
-abbrev pub Lies : Bytes → Scanned → Type 0
-Lies t (S.Refused r) = Unit {0}
-Lies t (S.Starts empty from to) = (from ≤ to) × ((to ≤ length t) × Good t (to + 1))
-Lies t S.Closes = Unit {0}
-Lies t S.Others = Unit {0}
+abbrev pub InBounds : Bytes → Scanned → Type 0
+InBounds t (S.Refused r) = Unit {0}
+InBounds t (S.Starts empty from to) = (from ≤ to) × ((to ≤ length t) × Good t (to + 1))
+InBounds t S.Closes = Unit {0}
+InBounds t S.Others = Unit {0}
 
 -- a line of one word, which starts no element
 unfoldable pub lone : Bytes → Reading

@@ -11,7 +11,7 @@ ghost use Rattle.event.specs.Event.{body, legalLine, eventOf, eventFrom, starts
 ghost use Rattle.little.specs.Little.{over};
 ghost use Rattle.text.specs.Escape.{meaning, unescape};
 ghost use Rattle.scan.specs.Piece.{there, lettered, pieceIn, valueText};
-ghost use Rattle.scan.specs.Scan.{fieldsAt, attrsAt, Good, stand, means, lone, Lies, upTo, attributeAt, attributeValue};
+ghost use Rattle.scan.specs.Scan.{fieldsAt, attrsAt, Good, stand, means, lone, InBounds, upTo, attributeAt, attributeValue};
 ghost use Rattle.scan.specs.declared.Attribute.the-variants as attribute;
 use refusal::Refusal;
 
@@ -277,7 +277,7 @@ fn attrs_stand(t: &[u8], at: usize) -> bool
 fn starts(t: &[u8], empty: bool, at: usize) -> Scanned
     requires { ⌜ at ≤ length (now t) ⌝ }
     ensures { λ r. ⌜ means (now (t .entry)) r ≡ startsFrom empty (fieldsAt (now (t .entry)) (at + 1)) ⌝ }
-    ensures { λ r. ⌜ Lies (now (t .entry)) r ⌝ }
+    ensures { λ r. ⌜ InBounds (now (t .entry)) r ⌝ }
 {
     if at == t.len() {
         return Scanned::Refused(Refusal::NotEventLine);
@@ -296,7 +296,7 @@ fn starts(t: &[u8], empty: bool, at: usize) -> Scanned
 // A line that is one word, which starts no element.
 fn alone(w: &[u8]) -> Scanned
     ensures { λ r. ⌜ means (now (w .entry)) r ≡ lone (now (w .entry)) ⌝ }
-    ensures { λ r. ⌜ Lies (now (w .entry)) r ⌝ }
+    ensures { λ r. ⌜ InBounds (now (w .entry)) r ⌝ }
 {
     if equal(w, b"close") {
         return Scanned::Closes;
@@ -310,7 +310,7 @@ fn alone(w: &[u8]) -> Scanned
 // The event of a line's fields.
 fn event(t: &[u8]) -> Scanned
     ensures { λ r. ⌜ means (now (t .entry)) r ≡ eventFrom (fields (now (t .entry))) ⌝ }
-    ensures { λ r. ⌜ Lies (now (t .entry)) r ⌝ }
+    ensures { λ r. ⌜ InBounds (now (t .entry)) r ⌝ }
 {
     let to = find(t, 0, b'\t');
     let w = &t[..to];
@@ -360,7 +360,7 @@ pub fn body_length(line: &[u8]) -> usize
 // What a line is: an event by its places, or refused.
 pub fn scan(line: &[u8]) -> Scanned
     ensures { λ r. ⌜ means (body (now (line .entry))) r ≡ eventOf (now (line .entry)) ⌝ }
-    ensures { λ r. ⌜ Lies (body (now (line .entry))) r ⌝ }
+    ensures { λ r. ⌜ InBounds (body (now (line .entry))) r ⌝ }
 {
     let n = body_length(line);
     if 16384 < n {

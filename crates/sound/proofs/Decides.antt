@@ -1,4 +1,4 @@
--- The test decides `SoundShelf`, both ways.
+-- The test decides `SoundKindStore`, both ways.
 use Prim.Native.Nat.{ℕ, _+_, _-_, _≤_}
 use mathlib.Core.Path.{_≡_, refl, sym, _∙_, ap}
 use mathlib.Core.Logic.{_↔_}
@@ -35,9 +35,9 @@ use Rattle.legal.proofs.Fronts.{record-is, record-short}
 use Rattle.legal.proofs.Wholes.{kept-long, sound, complete}
 use Rattle.table.specs.Words.{rowsOf}
 use Rattle.table.specs.declared.Row.{Row}
-use Rattle.shelf.specs.Shelf.{Shelf}
-use Rattle.sound.specs.Sound.{soundRow, SoundShelf}
-use Rattle.sound.specs.Check.{comesTo, idThere, recordThere, rowPasses, soundUsed, soundShelf}
+use Rattle.kind_store.specs.KindStore.{KindStore}
+use Rattle.sound.specs.Sound.{soundRow, SoundKindStore}
+use Rattle.sound.specs.Check.{comesTo, idThere, recordThere, rowPasses, soundUsed, soundKindStore}
 use Rattle.sound.proofs.Walks.{arrived, steps}
 
 both-true : (t : Bool) → both (both true t) true ≡ t
@@ -135,11 +135,11 @@ module _ (strings : ℕ) (k : Kind) (s : Bytes) (w : Whole strings k s) where
   pub rows-are : (rs : List Row) → all (rowPasses strings k s) rs ≡ all (soundRow (w .kept)) rs
   rows-are rs = all-same (rowPasses strings k s) (soundRow (w .kept)) passes-is rs
 
--- ---- the shelf
+-- ---- the kind store
 
-module _ (strings : ℕ) (k : Kind) (s : Shelf) where
-  accepted : all isByte (s .arena) ≡ true → soundShelf strings k s ≡ true → SoundShelf strings k s
-  unfolding soundShelf soundUsed
+module _ (strings : ℕ) (k : Kind) (s : KindStore) where
+  accepted : all isByte (s .arena) ≡ true → soundKindStore strings k s ≡ true → SoundKindStore strings k s
+  unfolding soundKindStore soundUsed
   accepted b h =
       let u = both-right _ _ h in
       let v = both-right _ _ u in
@@ -151,13 +151,13 @@ module _ (strings : ℕ) (k : Kind) (s : Shelf) where
         rows = sym (rows-are strings k (take (s .used) (s .arena)) w (rowsOf (s .table) (s .ids))) ∙ both-right _ _ v;
       }
 
-  kept-sound : SoundShelf strings k s → soundShelf strings k s ≡ true
-  unfolding soundShelf soundUsed
+  kept-sound : SoundKindStore strings k s → soundKindStore strings k s ≡ true
+  unfolding soundKindStore soundUsed
   kept-sound w =
       both-of (le-leb (s .used) (length (s .arena)) (w .fits))
       (both-of (complete strings k (take (s .used) (s .arena)) (w .whole))
       (both-of (w .order) (rows-are strings k (take (s .used) (s .arena)) (w .whole) (rowsOf (s .table) (s .ids)) ∙ w .rows)))
 
   -- the test accepts what is sound, and nothing else
-  pub decides : all isByte (s .arena) ≡ true → (soundShelf strings k s ≡ true) ↔ SoundShelf strings k s
+  pub decides : all isByte (s .arena) ≡ true → (soundKindStore strings k s ≡ true) ↔ SoundKindStore strings k s
   decides b = (accepted b, kept-sound)

@@ -1,4 +1,4 @@
--- A shelf that holds nothing is sound; an accepted push of a legal record and an accepted delete keep a shelf sound.
+-- A kind store that holds nothing is sound; an accepted push of a legal record and an accepted delete keep a kind store sound.
 use Prim.Native.Nat.{ℕ, _+_, _≤_}
 use mathlib.Core.Path.{_≡_, refl, sym, _∙_, ap}
 use mathlib.Core.Bool.{Bool, true, not}
@@ -32,13 +32,13 @@ use Rattle.table.specs.Rows.{put}
 use Rattle.table.specs.Words.{rowsOf, rowsFrom}
 use Rattle.table.proofs.Tables.{sound-empty}
 use Rattle.table.proofs.Maps.{put-nil, put-before, put-over, put-behind}
-use Rattle.shelf.specs.Shelf.{Shelf, shelfWith, isLive, gone, rowed, known, floorOf, floorAfter, pushed, deleted}
-use Rattle.shelf.specs.declared.Kept.the-variants.{Taken}
-use Rattle.shelf.proofs.Answers.{byDelete, answered}
-use Rattle.shelf.proofs.Shelves.{Laid, delete-laid, push-laid, push-fits, push-used, push-arena}
-use Rattle.sound.specs.Sound.{soundRow, SoundShelf}
+use Rattle.kind_store.specs.KindStore.{KindStore, kindStoreWith, isLive, gone, rowed, known, floorOf, floorAfter, pushed, deleted}
+use Rattle.kind_store.specs.declared.Kept.the-variants.{Taken}
+use Rattle.kind_store.proofs.Answers.{byDelete, answered}
+use Rattle.kind_store.proofs.KindStores.{Laid, delete-laid, push-laid, push-fits, push-used, push-arena}
+use Rattle.sound.specs.Sound.{soundRow, SoundKindStore}
 
-pub empty-sound : (strings : ℕ) (k : Kind) (table : List ℕ) (arena : Bytes) → SoundShelf strings k (shelfWith table 0 arena 0)
+pub empty-sound : (strings : ℕ) (k : Kind) (table : List ℕ) (arena : Bytes) → SoundKindStore strings k (kindStoreWith table 0 arena 0)
 unfolding rowsOf rowsFrom all
 empty-sound strings k table arena = record { fits = omega arith; whole = nothing-whole strings k; order = sound-empty table; rows = refl }
 
@@ -64,10 +64,10 @@ rows-stay : (xs ys : List Kept) (rs : List Row) → all (soundRow xs) rs ≡ tru
 rows-stay xs ys [] h = all-nil (soundRow (xs ++ ys))
 rows-stay xs ys (r ∷ rs) h = all-cons (soundRow (xs ++ ys)) r rs (row-stays xs ys r (all-head (soundRow xs) r rs h)) (rows-stay xs ys rs (all-tail (soundRow xs) r rs h))
 
--- what a push or a delete lays down keeps a shelf sound, where its row passes and the records are those before and more behind them
-pub laid-sound : (strings : ℕ) (k : Kind) (s t : Shelf) (id : ℤ) (place floor : ℕ) (ys : List Kept) → Laid s id place floor t → (w : SoundShelf strings k s)
+-- what a push or a delete lays down keeps a kind store sound, where its row passes and the records are those before and more behind them
+pub laid-sound : (strings : ℕ) (k : Kind) (s t : KindStore) (id : ℤ) (place floor : ℕ) (ys : List Kept) → Laid s id place floor t → (w : SoundKindStore strings k s)
     → t .used ≤ length (t .arena) → (v : Whole strings k (take (t .used) (t .arena))) → v .kept ≡ w .whole .kept ++ ys
-    → soundRow (v .kept) (record { rank = rank id; place = place; floor = floor }) ≡ true → SoundShelf strings k t
+    → soundRow (v .kept) (record { rank = rank id; place = place; floor = floor }) ≡ true → SoundKindStore strings k t
 laid-sound strings k s t id place floor ys l w f v e h =
     record {
       fits = f;
@@ -76,8 +76,8 @@ laid-sound strings k s t id place floor ys l w f v e h =
       rows = rw (l .rows) (all-put (soundRow (v .kept)) (record { rank = rank id; place = place; floor = floor }) (rowsOf (s .table) (s .ids)) h (rw e (rows-stay (w .whole .kept) ys (rowsOf (s .table) (s .ids)) (w .rows))));
     }
 
-module _ (strings : ℕ) (k : Kind) (setting : ℕ) (s : Shelf) (id : ℤ) (claim : Version) (w : SoundShelf strings k s) where
-  delete-bytes : deleted k setting s id claim .answer ≡ Taken → (deleted k setting s id claim .shelf .used ≡ s .used) × (deleted k setting s id claim .shelf .arena ≡ s .arena)
+module _ (strings : ℕ) (k : Kind) (setting : ℕ) (s : KindStore) (id : ℤ) (claim : Version) (w : SoundKindStore strings k s) where
+  delete-bytes : deleted k setting s id claim .answer ≡ Taken → (deleted k setting s id claim .kindStore .used ≡ s .used) × (deleted k setting s id claim .kindStore .arena ≡ s .arena)
   unfolding rowed
   delete-bytes e =
       byDelete k setting s id claim
@@ -88,9 +88,9 @@ module _ (strings : ℕ) (k : Kind) (setting : ℕ) (s : Shelf) (id : ℤ) (clai
   unfolding soundRow isLive
   gone-sound xs n floor = either-left _ _ refl
 
-  pub delete-sound : deleted k setting s id claim .answer ≡ Taken → SoundShelf strings k (deleted k setting s id claim .shelf)
+  pub delete-sound : deleted k setting s id claim .answer ≡ Taken → SoundKindStore strings k (deleted k setting s id claim .kindStore)
   delete-sound e =
-      let t = deleted k setting s id claim .shelf in
+      let t = deleted k setting s id claim .kindStore in
       let b = delete-bytes e in
       let u : take (t .used) (t .arena) ≡ take (s .used) (s .arena) = rw (b .0, b .1) in
       let v : Whole strings k (take (t .used) (t .arena)) = record { kept = w .whole .kept; fits = w .whole .fits; legals = w .whole .legals; same = u ∙ w .whole .same } in
@@ -98,9 +98,9 @@ module _ (strings : ℕ) (k : Kind) (setting : ℕ) (s : Shelf) (id : ℤ) (clai
       (sym (append-nil (w .whole .kept))) (gone-sound (w .whole .kept) (rank id) (wordOf (higher (known k s id) claim)))
 
 -- a push of a legal record's bytes under its own id
-module _ (strings : ℕ) (k : Kind) (setting : ℕ) (s : Shelf) (claim : Version) (x : Kept) (f : fitsKept k x ≡ true) (g : legal strings (x .held) ≡ true) (i : SFits w64 (x .id))
-    (w : SoundShelf strings k s) (taken : pushed k setting s (x .id) claim (keptBytes x) .answer ≡ Taken) where
-  push-bytes : take (pushed k setting s (x .id) claim (keptBytes x) .shelf .used) (pushed k setting s (x .id) claim (keptBytes x) .shelf .arena) ≡ take (s .used) (s .arena) ++ keptBytes x
+module _ (strings : ℕ) (k : Kind) (setting : ℕ) (s : KindStore) (claim : Version) (x : Kept) (f : fitsKept k x ≡ true) (g : legal strings (x .held) ≡ true) (i : SFits w64 (x .id))
+    (w : SoundKindStore strings k s) (taken : pushed k setting s (x .id) claim (keptBytes x) .answer ≡ Taken) where
+  push-bytes : take (pushed k setting s (x .id) claim (keptBytes x) .kindStore .used) (pushed k setting s (x .id) claim (keptBytes x) .kindStore .arena) ≡ take (s .used) (s .arena) ++ keptBytes x
   push-bytes =
       let l = push-fits k setting s (x .id) claim (keptBytes x) taken in
       rw (push-used k setting s (x .id) claim (keptBytes x) taken, push-arena k setting s (x .id) claim (keptBytes x) taken)
@@ -112,9 +112,9 @@ module _ (strings : ℕ) (k : Kind) (setting : ℕ) (s : Shelf) (claim : Version
       let n : length (joinedBytes keptBytes (w .whole .kept)) ≡ s .used = sym (ap length (w .whole .same)) ∙ length-take-le (s .used) (s .arena) (w .fits) in
       either-right _ (rw (id-rank i, ← n) (starts-last (x .id) (w .whole .kept) x (same-is (x .id) (x .id) .1 refl)))
 
-  pub push-sound : SoundShelf strings k (pushed k setting s (x .id) claim (keptBytes x) .shelf)
+  pub push-sound : SoundKindStore strings k (pushed k setting s (x .id) claim (keptBytes x) .kindStore)
   push-sound =
-      let t = pushed k setting s (x .id) claim (keptBytes x) .shelf in
+      let t = pushed k setting s (x .id) claim (keptBytes x) .kindStore in
       let y = append-whole strings k (take (s .used) (s .arena)) x f g (w .whole) in
       let v : Whole strings k (take (t .used) (t .arena)) = record { kept = y .kept; fits = y .fits; legals = y .legals; same = push-bytes ∙ y .same } in
       let e : y .kept ≡ w .whole .kept ++ x ∷ [] = append-kept strings k (take (s .used) (s .arena)) x f (w .whole) y in

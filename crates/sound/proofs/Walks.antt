@@ -16,7 +16,7 @@ use Rattle.legal.specs.declared.End.the-variants.{At, Bad}
 use Rattle.legal.proofs.Wholes.{whole-nil, walk-on, walk-stops}
 use Rattle.table.specs.Words.{rowsOf, soundTable}
 use Rattle.table.specs.declared.Row.{Row}
-use Rattle.shelf.specs.Shelf.{isLive}
+use Rattle.kind_store.specs.KindStore.{isLive}
 use Rattle.sound.specs.Check.{comesTo, idThere, recordThere, rowPasses, soundUsed}
 use Rattle.sound.specs.Count.{one, howMany, live, pointsAt, pointsRight, walkOf}
 use Rattle.sound.specs.declared.Walked.the-variants as walked

@@ -1,4 +1,4 @@
--- The test of `SoundShelf`, total for any storage. proofs/Decides shows that it holds exactly where the shelf is sound.
+-- The test of `SoundKindStore`, total for any storage. proofs/Decides shows that it holds exactly where the kind store is sound.
 use Prim.Native.Nat.{ℕ, zero, suc}
 use mathlib.Core.Bool.{Bool, false, not, cond}
 use mathlib.Core.List.{List}
@@ -16,7 +16,7 @@ use Rattle.legal.specs.declared.End.{End}
 use Rattle.legal.specs.declared.End.the-variants.{At, Bad}
 use Rattle.table.specs.Words.{soundTable, rowsOf}
 use Rattle.table.specs.declared.Row.{Row}
-use Rattle.shelf.specs.Shelf.{Shelf, isLive}
+use Rattle.kind_store.specs.KindStore.{KindStore, isLive}
 
 abbrev pub further : End → (ℕ → Bool) → Bool
 further (At e) f = f e
@@ -44,5 +44,5 @@ unfoldable pub soundUsed : ℕ → Kind → List ℕ → ℕ → Bytes → Bool
 soundUsed strings k table ids s = both (wholeRecords strings k s) (both (soundTable table ids) (all (rowPasses strings k s) (rowsOf table ids)))
 
 -- "counts within lent sizes", then what is used of the arena
-unfoldable pub soundShelf : ℕ → Kind → Shelf → Bool
-soundShelf strings k s = both (leb (s .used) (length (s .arena))) (soundUsed strings k (s .table) (s .ids) (take (s .used) (s .arena)))
+unfoldable pub soundKindStore : ℕ → Kind → KindStore → Bool
+soundKindStore strings k s = both (leb (s .used) (length (s .arena))) (soundUsed strings k (s .table) (s .ids) (take (s .used) (s .arena)))

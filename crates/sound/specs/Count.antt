@@ -12,7 +12,7 @@ use Rattle.osm_id.specs.Order.{sameId, idOf}
 use Rattle.legal.specs.Whole.{wholeRecords}
 use Rattle.table.specs.Words.{rowsOf}
 use Rattle.table.specs.declared.Row.{Row}
-use Rattle.shelf.specs.Shelf.{isLive}
+use Rattle.kind_store.specs.KindStore.{isLive}
 use Rattle.sound.specs.Check.{recordThere}
 use Rattle.sound.specs.declared.Walked.{Walked}
 use Rattle.sound.specs.declared.Walked.the-variants.{Bad, Hits}

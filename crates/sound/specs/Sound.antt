@@ -12,14 +12,14 @@ use Rattle.compact.specs.Cut.{Kept}
 use Rattle.legal.specs.Whole.{Whole, startsAt}
 use Rattle.table.specs.Words.{soundTable, rowsOf}
 use Rattle.table.specs.declared.Row.{Row}
-use Rattle.shelf.specs.Shelf.{Shelf, isLive}
+use Rattle.kind_store.specs.KindStore.{KindStore, isLive}
 
 -- a known id is "live with an offset where a record of that id starts, or deleted"
 unfoldable pub soundRow : List Kept → Row → Bool
 soundRow kept r = either (not (isLive (r .place))) (startsAt (idOf (r .rank)) (r .place) kept)
 
 -- what is lent for one kind is sound, given how many strings are held
-pub record SoundShelf (strings : ℕ) (k : Kind) (s : Shelf) : Type 0 where
+pub record SoundKindStore (strings : ℕ) (k : Kind) (s : KindStore) : Type 0 where
   pub fits : s .used ≤ length (s .arena)
   pub whole : Whole strings k (take (s .used) (s .arena))
   pub order : soundTable (s .table) (s .ids) ≡ true

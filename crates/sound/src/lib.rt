@@ -6,8 +6,8 @@ ghost use mir.Val.{toZ};
 ghost use Rattle.little.specs.Little.{valueAt};
 ghost use Rattle.osm_id.specs.Order.{rank, idOf};
 ghost use Rattle.table.specs.Words.{rowsOf, soundTable};
-ghost use Rattle.shelf.specs.Shelf.{shelfWith};
-ghost use Rattle.sound.specs.Check.{soundUsed, soundShelf};
+ghost use Rattle.kind_store.specs.KindStore.{kindStoreWith};
+ghost use Rattle.sound.specs.Check.{soundUsed, soundKindStore};
 ghost use Rattle.sound.specs.Count.{one, howMany, live, pointsAt, walkOf};
 use kind::Kind;
 use legal::End;
@@ -98,7 +98,7 @@ fn used_sound(kind: Kind, table: &[u64], ids: u64, bytes: &[u8], strings: u64) -
 }
 
 // Whether a kind's id table and arena are sound, given how many strings are held.
-pub fn sound_shelf(
+pub fn sound_kind_store(
     kind: Kind,
     table: &[u64],
     ids: u64,
@@ -106,7 +106,7 @@ pub fn sound_shelf(
     used: u64,
     strings: u64,
 ) -> bool
-    ensures { λ r. ⌜ r ≡ soundShelf strings kind (shelfWith (now (table .entry)) ids (now (arena .entry)) used) ⌝ }
+    ensures { λ r. ⌜ r ≡ soundKindStore strings kind (kindStoreWith (now (table .entry)) ids (now (arena .entry)) used) ⌝ }
 {
     let n = used as usize;
     if arena.len() < n {

@@ -18,12 +18,12 @@ use Rattle.interner.specs.Strings.{intern}
 use Rattle.interner.specs.declared.Interned.{Interned}
 use Rattle.interner.specs.declared.Interned.the-variants as I
 use Rattle.interner.proofs.Interns as Interns
-use Rattle.shelf.specs.Shelf.{Shelf}
-use Rattle.shelf.specs.Shelf as Shelf
-use Rattle.shelf.specs.declared.Kept.the-variants.{Refused}
-use Rattle.shelf.proofs.Answers as Shelves
-use Rattle.overlay.specs.Overlay.{Overlay, shelfOf}
-use Rattle.overlay.proofs.Answers.{shelf-back}
+use Rattle.kind_store.specs.KindStore.{KindStore}
+use Rattle.kind_store.specs.KindStore as KindStore
+use Rattle.kind_store.specs.declared.Kept.the-variants.{Refused}
+use Rattle.kind_store.proofs.Answers as KindStores
+use Rattle.overlay.specs.Overlay.{Overlay, kindStoreOf}
+use Rattle.overlay.proofs.Answers.{kind-store-back}
 use Rattle.store.specs.Calls.{handleIn, bytesOf, storeText, storePush, storeDelete}
 use Rattle.store.specs.declared.Handle.{Handle}
 use Rattle.store.specs.declared.Handle.the-variants as H
@@ -40,17 +40,17 @@ is-full (I.New h) r e = no (cc)
 is-full I.Full r e = (refl, cc)
 
 -- the store gives 12, 14 or 15
-module _ {C : Type 0} (k : Kind) (setting : ℕ) (s : Shelf) (id : ℤ) (claim : Version) where
-  pub byPushed : (bytes : Bytes) (r : Refusal) → Shelf.pushed k setting s id claim bytes .answer ≡ Refused r
+module _ {C : Type 0} (k : Kind) (setting : ℕ) (s : KindStore) (id : ℤ) (claim : Version) where
+  pub byPushed : (bytes : Bytes) (r : Refusal) → KindStore.pushed k setting s id claim bytes .answer ≡ Refused r
       → ((v : ℤ) → r ≡ R.Regression v → C) → (r ≡ R.IdsFull → C) → (r ≡ R.ArenaFull → C) → C
   byPushed bytes r e a b c =
-      Shelves.byPush k setting s id claim bytes (λ v q w. let z = Shelves.answered w e in a v (cc)) (λ q x w. let z = Shelves.answered w e in b (cc))
-      (λ q x l w. let z = Shelves.answered w e in c (cc)) (λ q x l w. let z = Shelves.answered w e in no (cc))
+      KindStores.byPush k setting s id claim bytes (λ v q w. let z = KindStores.answered w e in a v (cc)) (λ q x w. let z = KindStores.answered w e in b (cc))
+      (λ q x l w. let z = KindStores.answered w e in c (cc)) (λ q x l w. let z = KindStores.answered w e in no (cc))
 
-  pub byDeleted : (r : Refusal) → Shelf.deleted k setting s id claim .answer ≡ Refused r → ((v : ℤ) → r ≡ R.Regression v → C) → (r ≡ R.IdsFull → C) → C
+  pub byDeleted : (r : Refusal) → KindStore.deleted k setting s id claim .answer ≡ Refused r → ((v : ℤ) → r ≡ R.Regression v → C) → (r ≡ R.IdsFull → C) → C
   byDeleted r e a b =
-      Shelves.byDelete k setting s id claim (λ v q w. let z = Shelves.answered w e in a v (cc)) (λ q x w. let z = Shelves.answered w e in b (cc))
-      (λ q x w. let z = Shelves.answered w e in no (cc))
+      KindStores.byDelete k setting s id claim (λ v q w. let z = KindStores.answered w e in a v (cc)) (λ q x w. let z = KindStores.answered w e in b (cc))
+      (λ q x w. let z = KindStores.answered w e in no (cc))
 
 -- ---- a refusal changes nothing
 
@@ -62,9 +62,9 @@ module _ (o : Overlay) where
   pub store-push-refused : (k : Kind) (h : PushHead) (m : ArenaMeta) (parts : Bytes) (r : Refusal)
       → storePush k h m parts o .answer ≡ Refused r → storePush k h m parts o .overlay ≡ o
   store-push-refused k h m parts r e =
-      let n = Shelves.push-refused k (o .setting) (shelfOf k o) (toZ w64 (h .id)) (claimOf (metaOf m)) (bytesOf k h m parts) r e in rw n (shelf-back k o)
+      let n = KindStores.push-refused k (o .setting) (kindStoreOf k o) (toZ w64 (h .id)) (claimOf (metaOf m)) (bytesOf k h m parts) r e in rw n (kind-store-back k o)
 
   pub store-delete-refused : (k : Kind) (id : ℤ) (claim : Version) (r : Refusal)
       → storeDelete k id claim o .answer ≡ Refused r → storeDelete k id claim o .overlay ≡ o
   store-delete-refused k id claim r e =
-      let n = Shelves.delete-refused k (o .setting) (shelfOf k o) id claim r e in rw n (shelf-back k o)
+      let n = KindStores.delete-refused k (o .setting) (kindStoreOf k o) id claim r e in rw n (kind-store-back k o)

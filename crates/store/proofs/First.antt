@@ -15,9 +15,9 @@ use Rattle.interner.specs.Strings.{Store, textRoom}
 use Rattle.interner.specs.Texts.{handleOf, answerAs}
 use Rattle.interner.specs.Sound.{textsOf}
 use Rattle.interner.proofs.Interns as Interns
-use Rattle.shelf.specs.Shelf.{Shelf}
-use Rattle.shelf.specs.Shelf as Shelf
-use Rattle.shelf.proofs.Answers as Acts
+use Rattle.kind_store.specs.KindStore.{KindStore}
+use Rattle.kind_store.specs.KindStore as KindStore
+use Rattle.kind_store.proofs.Answers as Acts
 use Rattle.store.specs.Calls.{handleIn}
 use Rattle.refusal.specs.First.{row, firstOf}
 use Rattle.overlay.specs.First.{keptBy}
@@ -38,12 +38,12 @@ interned-first s t p = rw (Interns.answers s t p) (answer-first (textsOf s) (tex
 
 -- ---- a delete: 12, 14; a push: 12, 14, 15
 
-module _ (k : Kind) (setting : ℕ) (s : Shelf) (id : ℤ) (claim : Version) where
-  pub deleted-first : Shelf.deleted k setting s id claim .answer ≡ keptBy (firstOf (deleteRows k setting s id claim))
+module _ (k : Kind) (setting : ℕ) (s : KindStore) (id : ℤ) (claim : Version) where
+  pub deleted-first : KindStore.deleted k setting s id claim .answer ≡ keptBy (firstOf (deleteRows k setting s id claim))
   unfolding firstOf
   deleted-first = Acts.byDelete k setting s id claim (λ v c w. rw (w, c)) (λ c r w. rw (w, c, r)) (λ c r w. rw (w, c, r))
 
-  pub pushed-first : (bytes : Bytes) → Shelf.pushed k setting s id claim bytes .answer ≡ keptBy (firstOf (pushRows k setting s id claim bytes))
+  pub pushed-first : (bytes : Bytes) → KindStore.pushed k setting s id claim bytes .answer ≡ keptBy (firstOf (pushRows k setting s id claim bytes))
   unfolding firstOf
   pushed-first bytes =
       Acts.byPush k setting s id claim bytes (λ v c w. rw (w, c)) (λ c r w. rw (w, c, r))

@@ -29,10 +29,10 @@ use Rattle.interner.specs.Strings.{Store, intern, added, textRoom}
 use Rattle.interner.specs.Texts.{handleOf}
 use Rattle.interner.specs.Sound.{textsOf}
 use Rattle.interner.proofs.Interns as Interns
-use Rattle.shelf.specs.Shelf.{Shelf, rowed}
-use Rattle.shelf.specs.Shelf as Shelf
-use Rattle.shelf.proofs.Answers as Acts
-use Rattle.overlay.specs.Overlay.{Overlay, shelfOf}
+use Rattle.kind_store.specs.KindStore.{KindStore, rowed}
+use Rattle.kind_store.specs.KindStore as KindStore
+use Rattle.kind_store.proofs.Answers as Acts
+use Rattle.overlay.specs.Overlay.{Overlay, kindStoreOf}
 use Rattle.overlay.specs.Given.{headFits, metaFits}
 use Rattle.overlay.specs.Sound.{Sound}
 use Rattle.store.specs.Calls.{bytesOf}
@@ -45,8 +45,8 @@ abbrev pub keptAs : PushHead → Record ℕ → Kept
 keptAs h r = record { id = toZ w64 (h .id); held = r }
 
 -- what the store does with a record
-abbrev pub storedAs : Kind → Overlay → Kept → Shelf.ShelfAfter
-storedAs k o x = Shelf.pushed k (o .setting) (shelfOf k o) (x .id) (claimOf (x .held .meta)) (keptBytes x)
+abbrev pub storedAs : Kind → Overlay → Kept → KindStore.KindStoreAfter
+storedAs k o x = KindStore.pushed k (o .setting) (kindStoreOf k o) (x .id) (claimOf (x .held .meta)) (keptBytes x)
 
 -- what a push gives for a record is that record's bytes, under the id given
 pub record-given : (k : Kind) (h : PushHead) (m : ArenaMeta) (parts : Bytes) (r : Record ℕ) → headFits h ≡ true → metaFits m ≡ true → all isByte parts ≡ true
@@ -61,7 +61,7 @@ record-given k h m parts r f g b e =
 -- ---- a delete
 
 -- a delete writes no byte
-pub delete-arena : (k : Kind) (setting : ℕ) (s : Shelf) (id : ℤ) (claim : Version) → Shelf.deleted k setting s id claim .shelf .arena ≡ s .arena
+pub delete-arena : (k : Kind) (setting : ℕ) (s : KindStore) (id : ℤ) (claim : Version) → KindStore.deleted k setting s id claim .kindStore .arena ≡ s .arena
 unfolding rowed
 delete-arena k setting s id claim = Acts.byDelete k setting s id claim (λ v c w. rw w) (λ c r w. rw w) (λ c r w. rw w)
 

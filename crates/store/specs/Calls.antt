@@ -15,8 +15,8 @@ use Rattle.compact.specs.declared.PushHead.{PushHead}
 use Rattle.interner.specs.Strings as Strings
 use Rattle.interner.specs.declared.Interned.{Interned}
 use Rattle.interner.specs.declared.Interned.the-variants as I
-use Rattle.shelf.specs.Shelf as Shelf
-use Rattle.overlay.specs.Overlay.{Overlay, shelfOf, withShelf, withTexts}
+use Rattle.kind_store.specs.KindStore as KindStore
+use Rattle.overlay.specs.Overlay.{Overlay, kindStoreOf, withKindStore, withTexts}
 use Rattle.overlay.specs.Calls.{OverlayAfter}
 use Rattle.store.specs.declared.Handle.{Handle}
 use Rattle.store.specs.declared.Handle.the-variants as H
@@ -38,17 +38,17 @@ storeText t o = record { overlay = withTexts (Strings.intern (o .texts) t .store
 -- ---- a push: 12, 14, 15
 
 -- what is done to one kind
-abbrev pub onShelf : Kind → Overlay → Shelf.ShelfAfter → OverlayAfter
-onShelf k o a = record { overlay = withShelf k (a .shelf) o; answer = a .answer }
+abbrev pub onKindStore : Kind → Overlay → KindStore.KindStoreAfter → OverlayAfter
+onKindStore k o a = record { overlay = withKindStore k (a .kindStore) o; answer = a .answer }
 
 -- the bytes of a push: head, metadata, parts
 abbrev pub bytesOf : Kind → PushHead → ArenaMeta → Bytes → Bytes
 bytesOf k h m parts = headBytes k (headIn k h) ++ metaBytes (metaOf m) ++ parts
 
 abbrev pub storePush : Kind → PushHead → ArenaMeta → Bytes → Overlay → OverlayAfter
-storePush k h m parts o = onShelf k o (Shelf.pushed k (o .setting) (shelfOf k o) (toZ w64 (h .id)) (claimOf (metaOf m)) (bytesOf k h m parts))
+storePush k h m parts o = onKindStore k o (KindStore.pushed k (o .setting) (kindStoreOf k o) (toZ w64 (h .id)) (claimOf (metaOf m)) (bytesOf k h m parts))
 
 -- ---- a delete: 12, 14
 
 abbrev pub storeDelete : Kind → ℤ → Version → Overlay → OverlayAfter
-storeDelete k id claim o = onShelf k o (Shelf.deleted k (o .setting) (shelfOf k o) id claim)
+storeDelete k id claim o = onKindStore k o (KindStore.deleted k (o .setting) (kindStoreOf k o) id claim)

@@ -17,8 +17,8 @@ use Rattle.refusal.specs.declared.Refusal.the-variants as R
 use Rattle.interner.specs.Strings.{Store, textRoom}
 use Rattle.interner.specs.Texts.{handleOf}
 use Rattle.interner.specs.Sound.{textsOf}
-use Rattle.shelf.specs.Shelf.{Shelf, known, checked}
-use Rattle.shelf.specs.Shelf as Shelf
+use Rattle.kind_store.specs.KindStore.{KindStore, known, checked}
+use Rattle.kind_store.specs.KindStore as KindStore
 use Rattle.store.specs.declared.Handle.{Handle}
 use Rattle.store.specs.declared.Handle.the-variants as H
 
@@ -50,10 +50,10 @@ abbrev pub heldBy : Admit → ℤ
 heldBy Admitted = pos 0
 heldBy (Below v) = v
 
-abbrev pub deleteRows : Kind → ℕ → Shelf → ℤ → Version → List (ConditionRow Refusal)
+abbrev pub deleteRows : Kind → ℕ → KindStore → ℤ → Version → List (ConditionRow Refusal)
 deleteRows k setting s id claim =
-    row (R.Regression (heldBy (checked setting (known k s id) claim))) (isBelow (checked setting (known k s id) claim)) ∷ row R.IdsFull (not (Shelf.idRoom s id)) ∷ []
+    row (R.Regression (heldBy (checked setting (known k s id) claim))) (isBelow (checked setting (known k s id) claim)) ∷ row R.IdsFull (not (KindStore.idRoom s id)) ∷ []
 
-abbrev pub pushRows : Kind → ℕ → Shelf → ℤ → Version → Bytes → List (ConditionRow Refusal)
+abbrev pub pushRows : Kind → ℕ → KindStore → ℤ → Version → Bytes → List (ConditionRow Refusal)
 pushRows k setting s id claim bytes =
     deleteRows k setting s id claim ++ (row R.ArenaFull (ltb (length (s .arena)) (s .used + length bytes)) ∷ [])

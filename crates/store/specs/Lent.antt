@@ -4,19 +4,19 @@ use mathlib.Core.Path.{_≡_}
 use mathlib.Core.List.{List}
 use denote.Ref.{RefT, now}
 use lib.ListN.{getD}
-use Rattle.shelf.specs.Shelf.{Shelf, shelfWith}
+use Rattle.kind_store.specs.KindStore.{KindStore, kindStoreWith}
 use Rattle.overlay.specs.Overlay.{Lent}
 
--- the shelf at one of the two moments
-abbrev pub shelfAt : (Lent → RefT (List ℕ)) → ℕ → Lent → Lent → Lent → Shelf
-shelfAt when at table arena used =
-    shelfWith (now (when table)) (getD (now (when used)) at 0) (now (when arena)) (getD (now (when used)) (at + 3) 0)
+-- the kind store at one of the two moments
+abbrev pub kindStoreAt : (Lent → RefT (List ℕ)) → ℕ → Lent → Lent → Lent → KindStore
+kindStoreAt when at table arena used =
+    kindStoreWith (now (when table)) (getD (now (when used)) at 0) (now (when arena)) (getD (now (when used)) (at + 3) 0)
 
-abbrev pub shelfLent : ℕ → Lent → Lent → Lent → Shelf
-shelfLent = shelfAt (λ r. r .entry)
+abbrev pub kindStoreLent : ℕ → Lent → Lent → Lent → KindStore
+kindStoreLent = kindStoreAt (λ r. r .entry)
 
-abbrev pub shelfLeft : ℕ → Lent → Lent → Lent → Shelf
-shelfLeft = shelfAt (λ r. r .exit)
+abbrev pub kindStoreLeft : ℕ → Lent → Lent → Lent → KindStore
+kindStoreLeft = kindStoreAt (λ r. r .exit)
 
 -- the regression setting
 abbrev pub settingIn : Lent → ℕ

@@ -7,16 +7,16 @@ ghost use mir.Syntax.{w64};
 ghost use mir.Val.{toZ};
 ghost use Rattle.model.specs.Record.{claimOf};
 ghost use Rattle.compact.specs.Held.{metaOf};
-ghost use Rattle.shelf.specs.Shelf.{pushed, deleted};
+ghost use Rattle.kind_store.specs.KindStore.{pushed, deleted};
 ghost use Rattle.overlay.specs.Overlay.{lent, left};
-ghost use Rattle.store.specs.Lent.{shelfLent, shelfLeft, settingIn, othersKept};
+ghost use Rattle.store.specs.Lent.{kindStoreLent, kindStoreLeft, settingIn, othersKept};
 ghost use Rattle.store.specs.Calls.{bytesOf, storePush, storeDelete, handleIn, storeText};
 use compact::ArenaMeta;
 use compact::PushHead;
 use interner::Interned;
 use kind::Kind;
+use kind_store::Kept;
 use refusal::Refusal;
-use shelf::Kept;
 use version_floor::Version;
 
 // What `intern` answers: the text's handle, or a refusal.
@@ -48,22 +48,22 @@ fn handle_in(answer: Interned) -> Handle
 
 // Takes a text in: 13, or its handle.
 pub fn store_text(
-    nids: &[u64],
-    narena: &[u8],
-    wids: &[u64],
-    warena: &[u8],
-    rids: &[u64],
-    rarena: &[u8],
-    spans: &mut [u64],
-    bytes: &mut [u8],
-    used: &mut [u64; 9],
+    ni: &[u64],
+    na: &[u8],
+    wi: &[u64],
+    wa: &[u8],
+    ri: &[u64],
+    ra: &[u8],
+    ss: &mut [u64],
+    sb: &mut [u8],
+    us: &mut [u64; 9],
     text: &[u8],
 ) -> Handle
-    ensures { λ r. ⌜ record { overlay = left nids narena wids warena rids rarena spans bytes used; answer = r }
-        ≡ storeText (now (text .entry)) (lent nids narena wids warena rids rarena spans bytes used) ⌝ }
+    ensures { λ r. ⌜ record { overlay = left ni na wi wa ri ra ss sb us; answer = r }
+        ≡ storeText (now (text .entry)) (lent ni na wi wa ri ra ss sb us) ⌝ }
 {
-    let taken = interner::intern(spans, bytes, used[6], used[7], text);
-    put_two(used, 6, taken.strings, 7, taken.used);
+    let taken = interner::intern(ss, sb, us[6], us[7], text);
+    put_two(us, 6, taken.strings, 7, taken.used);
     let answer = taken.answer;
     handle_in(answer)
 }
@@ -82,40 +82,40 @@ fn push_at(
     parts: &[u8],
 ) -> Kept
     requires { ⌜ at < 3 ⌝ }
-    ensures { λ r. ⌜ (record { shelf = shelfLeft at table arena used; answer = r }
-        ≡ pushed kind (settingIn used) (shelfLent at table arena used) (toZ w64 (head .id)) (claimOf (metaOf meta)) (bytesOf kind head meta (now (parts .entry))))
+    ensures { λ r. ⌜ (record { kindStore = kindStoreLeft at table arena used; answer = r }
+        ≡ pushed kind (settingIn used) (kindStoreLent at table arena used) (toZ w64 (head .id)) (claimOf (metaOf meta)) (bytesOf kind head meta (now (parts .entry))))
         × othersKept at used ⌝ }
 {
     let ids = used[at];
     let end = used[at + 3];
-    let o = shelf::push(kind, used[8], table, ids, arena, end, head, meta, parts);
+    let o = kind_store::push(kind, used[8], table, ids, arena, end, head, meta, parts);
     put_two(used, at, o.ids, at + 3, o.used);
     o.answer
 }
 
 // A push whose record is legal: 12, 14, 15, or taken.
 pub fn store_push(
-    nids: &mut [u64],
-    narena: &mut [u8],
-    wids: &mut [u64],
-    warena: &mut [u8],
-    rids: &mut [u64],
-    rarena: &mut [u8],
-    spans: &[u64],
-    bytes: &[u8],
-    used: &mut [u64; 9],
+    ni: &mut [u64],
+    na: &mut [u8],
+    wi: &mut [u64],
+    wa: &mut [u8],
+    ri: &mut [u64],
+    ra: &mut [u8],
+    ss: &[u64],
+    sb: &[u8],
+    us: &mut [u64; 9],
     kind: Kind,
     head: PushHead,
     meta: ArenaMeta,
     parts: &[u8],
 ) -> Kept
-    ensures { λ r. ⌜ record { overlay = left nids narena wids warena rids rarena spans bytes used; answer = r }
-        ≡ storePush kind head meta (now (parts .entry)) (lent nids narena wids warena rids rarena spans bytes used) ⌝ }
+    ensures { λ r. ⌜ record { overlay = left ni na wi wa ri ra ss sb us; answer = r }
+        ≡ storePush kind head meta (now (parts .entry)) (lent ni na wi wa ri ra ss sb us) ⌝ }
 {
     match kind {
-        Kind::Node => push_at(0, kind, nids, narena, used, head, meta, parts),
-        Kind::Way => push_at(1, kind, wids, warena, used, head, meta, parts),
-        Kind::Relation => push_at(2, kind, rids, rarena, used, head, meta, parts),
+        Kind::Node => push_at(0, kind, ni, na, us, head, meta, parts),
+        Kind::Way => push_at(1, kind, wi, wa, us, head, meta, parts),
+        Kind::Relation => push_at(2, kind, ri, ra, us, head, meta, parts),
     }
 }
 
@@ -132,37 +132,37 @@ fn delete_at(
     claim: Version,
 ) -> Kept
     requires { ⌜ at < 3 ⌝ }
-    ensures { λ r. ⌜ (record { shelf = shelfLeft at table arena used; answer = r } ≡ deleted kind (settingIn used) (shelfLent at table arena used) (toZ w64 id) claim)
+    ensures { λ r. ⌜ (record { kindStore = kindStoreLeft at table arena used; answer = r } ≡ deleted kind (settingIn used) (kindStoreLent at table arena used) (toZ w64 id) claim)
         × othersKept at used ⌝ }
 {
     let ids = used[at];
     let end = used[at + 3];
-    let o = shelf::delete(kind, used[8], table, ids, arena, end, id, claim);
+    let o = kind_store::delete(kind, used[8], table, ids, arena, end, id, claim);
     put_two(used, at, o.ids, at + 3, o.used);
     o.answer
 }
 
 // A delete whose metadata is legal: 12, 14, or taken.
 pub fn store_delete(
-    nids: &mut [u64],
-    narena: &[u8],
-    wids: &mut [u64],
-    warena: &[u8],
-    rids: &mut [u64],
-    rarena: &[u8],
-    spans: &[u64],
-    bytes: &[u8],
-    used: &mut [u64; 9],
+    ni: &mut [u64],
+    na: &[u8],
+    wi: &mut [u64],
+    wa: &[u8],
+    ri: &mut [u64],
+    ra: &[u8],
+    ss: &[u64],
+    sb: &[u8],
+    us: &mut [u64; 9],
     kind: Kind,
     id: u64,
     claim: Version,
 ) -> Kept
-    ensures { λ r. ⌜ record { overlay = left nids narena wids warena rids rarena spans bytes used; answer = r }
-        ≡ storeDelete kind (toZ w64 id) claim (lent nids narena wids warena rids rarena spans bytes used) ⌝ }
+    ensures { λ r. ⌜ record { overlay = left ni na wi wa ri ra ss sb us; answer = r }
+        ≡ storeDelete kind (toZ w64 id) claim (lent ni na wi wa ri ra ss sb us) ⌝ }
 {
     match kind {
-        Kind::Node => delete_at(0, kind, nids, narena, used, id, claim),
-        Kind::Way => delete_at(1, kind, wids, warena, used, id, claim),
-        Kind::Relation => delete_at(2, kind, rids, rarena, used, id, claim),
+        Kind::Node => delete_at(0, kind, ni, na, us, id, claim),
+        Kind::Way => delete_at(1, kind, wi, wa, us, id, claim),
+        Kind::Relation => delete_at(2, kind, ri, ra, us, id, claim),
     }
 }

@@ -16,8 +16,8 @@ use Rattle.refusal.specs.Refusal.{numberOf, heldOf}
 use Rattle.compact.specs.Layout.{recordBytes}
 use Rattle.compact.specs.Held.{metaOf}
 use Rattle.compact.specs.declared.ArenaMeta.{ArenaMeta}
-use Rattle.shelf.specs.declared.Kept.{Kept}
-use Rattle.shelf.specs.declared.Kept.the-variants.{Taken, Refused}
+use Rattle.kind_store.specs.declared.Kept.{Kept}
+use Rattle.kind_store.specs.declared.Kept.the-variants.{Taken, Refused}
 use Rattle.overlay.specs.Overlay.{overlayOf}
 use Rattle.direct.specs.Calls.{pushOn, deleteOn, internOn}
 use Rattle.store.specs.declared.Handle.{Handle}
@@ -35,9 +35,9 @@ use Rattle.calls.specs.Ask as Ask
 use Rattle.calls.specs.Ask.{Ask, Storage, started, stateOf, leaves, after}
 
 -- a call, and what document 01 says of it: taken, or refused with a number and the version that is held
-pub data Told : Type 0 where
-  accepts : Ask → Told
-  refuses : Ask → ℕ → ℤ → Told
+pub data Separates : Type 0 where
+  accepts : Ask → Separates
+  refuses : Ask → ℕ → ℤ → Separates
 
 -- what document 01 says of an attribute's value: a number, or the number of its refusal
 pub data Said : Type 0 where
@@ -51,7 +51,7 @@ pub data TrialRow : Type 0 where
   integer-is : Width → Bytes → Said → TrialRow
   takes : ℤ → Record ℕ → ℕ → TrialRow
   -- calls, one after the other, on an overlay that starts empty and refuses regression, and the listing after them
-  prints : List Told → Bytes → TrialRow
+  prints : List Separates → Bytes → TrialRow
 
 -- a field is what is said
 abbrev pub says : Field ℤ → Said → Bool
@@ -64,12 +64,12 @@ says (bad r) (refused n) = eqb (numberOf r) n
 abbrev pub attribute : Bytes → Bytes → List Attr
 attribute n v = record { name = n; value = v } ∷ []
 
-abbrev pub askOf : Told → Ask
+abbrev pub askOf : Separates → Ask
 askOf (accepts c) = c
 askOf (refuses c n v) = c
 
 -- the answer is what is said
-abbrev pub agrees : Told → Kept → Bool
+abbrev pub agrees : Separates → Kept → Bool
 agrees (accepts c) Taken = true
 agrees (accepts c) (Refused r) = false
 agrees (refuses c n v) Taken = false
@@ -89,11 +89,11 @@ abbrev pub answerTo : Ask → Storage → Kept
 answerTo (Ask.interns t) l = keptIn (internOn t (l .overlay) .answer)
 answerTo (Ask.pushes k h m parts) l = pushOn k h m parts (l .overlay) .answer
 answerTo (Ask.deletes k id m) l = deleteOn k (toZ w64 id) (metaOf m) (l .overlay) .answer
-answerTo (Ask.hears n line) l = keptAt (eventOn line (stateOf n l) .answer)
+answerTo (Ask.reads n line) l = keptAt (eventOn line (stateOf n l) .answer)
 answerTo (Ask.ends n) l = keptAt (endOn (stateOf n l) .answer)
 
 -- "Each call gets the overlay .. as last left"
-unfoldable pub allAgree : Storage → List Told → Bool
+unfoldable pub allAgree : Storage → List Separates → Bool
 allAgree l [] = true
 allAgree l (t ∷ ts) = both (agrees t (answerTo (askOf t) l)) (allAgree (leaves (askOf t) l) ts)
 
@@ -136,8 +136,8 @@ inputA =
     ∷ []
 
 -- its lines as events of reader 0, and the end
-abbrev pub eventsA : List Told
-eventsA = map (λ line. accepts (Ask.hears 0 line)) inputA ++ (accepts (Ask.ends 0) ∷ [])
+abbrev pub eventsA : List Separates
+eventsA = map (λ line. accepts (Ask.reads 0 line)) inputA ++ (accepts (Ask.ends 0) ∷ [])
 
 abbrev pub outputA : Bytes
 outputA = ascii "n\t7\t+\t3\t9\t3\t0\t0\t0\t\t10\t-20\t1\tname\tA\nw\t-4\t-\t2\n"

@@ -51,8 +51,8 @@ pub record Inside (t : Bytes) (from to : ℕ) : Type 0 where
 abbrev pub textAt : Bytes → Extent → Bytes
 textAt t e = valueText (slice (e .from) (e .to) t)
 
-abbrev pub ExtentLies : Bytes → Extent → Type 0
-ExtentLies t e = Inside t (e .from) (e .to)
+abbrev pub ExtentInBounds : Bytes → Extent → Type 0
+ExtentInBounds t e = Inside t (e .from) (e .to)
 
 -- a value that may be missing: where it lies, and its text
 abbrev pub Located : Bytes → Value → Option Bytes → Type 0
@@ -98,9 +98,9 @@ abbrev pub extentField : Bytes → TextField → Field Bytes
 extentField t (T.At e) = got (textAt t e)
 extentField t (T.Bad r) = bad r
 
-abbrev pub TextLies : Bytes → TextField → Type 0
-TextLies t (T.At e) = ExtentLies t e
-TextLies t (T.Bad r) = Unit {0}
+abbrev pub TextInBounds : Bytes → TextField → Type 0
+TextInBounds t (T.At e) = ExtentInBounds t e
+TextInBounds t (T.Bad r) = Unit {0}
 
 -- ---- children
 
@@ -108,9 +108,9 @@ abbrev pub tagField : Bytes → TagField → Field (Tag Bytes)
 tagField t (G.Is k v) = got (record { key = textAt t k; value = textAt t v })
 tagField t (G.Bad r) = bad r
 
-abbrev pub TagLies : Bytes → TagField → Type 0
-TagLies t (G.Is k v) = ExtentLies t k × ExtentLies t v
-TagLies t (G.Bad r) = Unit {0}
+abbrev pub TagInBounds : Bytes → TagField → Type 0
+TagInBounds t (G.Is k v) = ExtentInBounds t k × ExtentInBounds t v
+TagInBounds t (G.Bad r) = Unit {0}
 
 abbrev pub typeField : TypeField → Field Kind
 typeField (Y.Is k) = got k
@@ -120,6 +120,6 @@ abbrev pub memberField : Bytes → MemberField → Field (Member Bytes)
 memberField t (B.Is reference k role) = got (record { ref = toZ w64 reference; type = k; role = textAt t role })
 memberField t (B.Bad r) = bad r
 
-abbrev pub MemberLies : Bytes → MemberField → Type 0
-MemberLies t (B.Is reference k role) = ExtentLies t role
-MemberLies t (B.Bad r) = Unit {0}
+abbrev pub MemberInBounds : Bytes → MemberField → Type 0
+MemberInBounds t (B.Is reference k role) = ExtentInBounds t role
+MemberInBounds t (B.Bad r) = Unit {0}

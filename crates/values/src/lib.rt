@@ -11,7 +11,7 @@ ghost use Rattle.scan.specs.Piece.{valueText};
 ghost use Rattle.scan.specs.Scan.{attributesAt};
 ghost use Rattle.field.specs.Field.{integerField, coordinate, bodyFor, tagOf, typeNamed, memberOf};
 ghost use Rattle.field.specs.Field as F;
-ghost use Rattle.values.specs.Value.{textAt, ExtentLies, Located, narrowIn, wideField, narrowField, bodyField, extentField, TextLies, tagField, TagLies, typeField, memberField, MemberLies};
+ghost use Rattle.values.specs.Value.{textAt, ExtentInBounds, Located, narrowIn, wideField, narrowField, bodyField, extentField, TextInBounds, tagField, TagInBounds, typeField, memberField, MemberInBounds};
 use integer::Integer;
 use kind::Kind;
 use nesting::Name;
@@ -138,7 +138,7 @@ enum TextField {
 
 fn text_field(t: &[u8], name: &[u8], at: usize) -> TextField
     ensures { λ r. ⌜ extentField (now (t .entry)) r ≡ F.textField (now (name .entry)) (attributesAt (now (t .entry)) at) ⌝ }
-    ensures { λ r. ⌜ TextLies (now (t .entry)) r ⌝ }
+    ensures { λ r. ⌜ TextInBounds (now (t .entry)) r ⌝ }
 {
     match value(t, name, at) {
         Value::At { from, to } => TextField::At(Extent { from, to }),
@@ -154,7 +154,7 @@ pub enum TagField {
 
 pub fn tag_field(t: &[u8], at: usize) -> TagField
     ensures { λ r. ⌜ tagField (now (t .entry)) r ≡ tagOf (attributesAt (now (t .entry)) at) ⌝ }
-    ensures { λ r. ⌜ TagLies (now (t .entry)) r ⌝ }
+    ensures { λ r. ⌜ TagInBounds (now (t .entry)) r ⌝ }
 {
     match text_field(t, b"k", at) {
         TextField::Bad(r) => TagField::Bad(r),
@@ -185,7 +185,7 @@ fn type_named(n: Name) -> TypeField
 // A member's role: empty where it is missing.
 fn role(t: &[u8], at: usize) -> Extent
     ensures { λ r. ⌜ textAt (now (t .entry)) r ≡ orEmpty (valueOf (ascii "role") (attributesAt (now (t .entry)) at)) ⌝ }
-    ensures { λ r. ⌜ ExtentLies (now (t .entry)) r ⌝ }
+    ensures { λ r. ⌜ ExtentInBounds (now (t .entry)) r ⌝ }
 {
     match value(t, b"role", at) {
         Value::At { from, to } => Extent { from, to },
@@ -205,7 +205,7 @@ pub enum MemberField {
 
 pub fn member_field(t: &[u8], at: usize) -> MemberField
     ensures { λ r. ⌜ memberField (now (t .entry)) r ≡ memberOf (attributesAt (now (t .entry)) at) ⌝ }
-    ensures { λ r. ⌜ MemberLies (now (t .entry)) r ⌝ }
+    ensures { λ r. ⌜ MemberInBounds (now (t .entry)) r ⌝ }
 {
     let Value::At { from, to } = value(t, b"type", at) else {
         return MemberField::Bad(Refusal::Missing);

@@ -4,7 +4,7 @@ use lib.ListN.{getD}
 use mir.Syntax.{w32}
 use denote.Ref.{now}
 use Rattle.signed.proofs.Bits.{held}
-use Rattle.act_answer.specs.Answer.{shelfAnswer}
+use Rattle.act_answer.specs.Answer.{kindStoreAnswer}
 use borrow.Author.Needs.{needs}
 use Rattle.act_answer.proofs.answer_at.Statement.{statement}
 use Rattle.act_answer.proofs.answer_at.Tie as tie
@@ -34,12 +34,12 @@ room-answer-requires : tie.Need-room-answer-requires
 room-answer-requires c κs = search needs
 
 returns : tie.Need-returns
-unfolding shelfAnswer
+unfolding kindStoreAnswer
 returns c = let k = c .before .before .before .before .before .before .before .before .before .args in
     rw (← c .before .before .before .before .claim-admit .ensures (getD (now (k .used)) (k .at + 3) 0), c .before .before .enum-told .given .1, ← c .before .has-id-room .ensures (now (k .arena)) (getD (now (k .used)) (k .at + 3) 0)) (c .room-answer .ensures)
 
 returns-2 : tie.Need-returns-2
-unfolding shelfAnswer
+unfolding kindStoreAnswer
 returns-2 c = let k = c .before .before .before .before .before .before .before .before .args in
     let z = c .before .held .given in
     rw (held w32 (z .0 .0) (c .known-told .given .0 .1), ← c .before .before .before .claim-admit .ensures (getD (now (k .used)) (k .at + 3) 0), z .1)

@@ -1,6 +1,6 @@
 -- With setting 0 the answer is that of `admit` for the known version, else the claim is admitted.
 use borrow.Author.Tests.{eq-eqb, ne-eqb}
-use Rattle.shelf.specs.Shelf.{checked}
+use Rattle.kind_store.specs.KindStore.{checked}
 use borrow.Author.Needs.{needs}
 use Rattle.act_answer.proofs.claim_admit.Statement.{statement}
 use Rattle.act_answer.proofs.claim_admit.Tie as tie

@@ -8,8 +8,8 @@ use lib.ListN.{length}
 use denote.Ref.{now}
 use Rattle.osm_id.specs.Order.{rank}
 use Rattle.table.specs.Words.{lookup}
-use Rattle.shelf.specs.Shelf.{idRoom}
-use Rattle.shelf.proofs.Acts.{rows-held}
+use Rattle.kind_store.specs.KindStore.{idRoom}
+use Rattle.kind_store.proofs.Acts.{rows-held}
 use borrow.Author.Needs.{needs}
 use Rattle.act_answer.proofs.has_id_room.Statement.{statement}
 use Rattle.act_answer.proofs.has_id_room.Tie as tie

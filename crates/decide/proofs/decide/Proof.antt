@@ -4,7 +4,7 @@ use native.Mathlib.Omega.{arith}
 use denote.Ref.{now}
 use lib.Seq.{length-take-le}
 use Rattle.event.specs.Event.{body}
-use Rattle.scan.specs.Scan.{means, Lies}
+use Rattle.scan.specs.Scan.{means, InBounds}
 use Rattle.scan.proofs.Lines.{judged, judged-part}
 use Rattle.decide.proofs.Decisions.{decided-refused, decided-other, decided-closed, decided-opened}
 use borrow.Author.Needs.{needs}
@@ -31,7 +31,7 @@ slice-aggregate-opens c =
 opens-requires : tie.Need-opens-requires
 opens-requires c κs =
     let s = now (c .before .before .before .before .before .before .before .args .line) in
-    let l = subst (Lies (body s)) (c .before .before .before .empty .given .1) (c .before .before .before .before .before .scan .ensures .1) in
+    let l = subst (InBounds (body s)) (c .before .before .before .empty .given .1) (c .before .before .before .before .before .scan .ensures .1) in
     rw (judged-part s _ (c .before .body-length .ensures)) (record { order = l .0; end = l .1 .0 })
 
 enum-told : tie.Need-enum-told
@@ -52,7 +52,7 @@ returns-2 : tie.Need-returns-2
 returns-2 c =
     let s = now (c .before .before .before .before .before .before .before .before .args .line) in
     let g = c .before .before .before .before .empty .given .0 in
-    let l = subst (Lies (body s)) (c .before .before .before .before .empty .given .1) (c .before .before .before .before .before .before .scan .ensures .1) in
+    let l = subst (InBounds (body s)) (c .before .before .before .before .empty .given .1) (c .before .before .before .before .before .before .scan .ensures .1) in
     let d = decided-opened s (c .before .before .before .before .before .before .before .before .args .place) (g .0) (g .1 .0) (g .1 .1 .0) (ap (means (body s)) (sym (c .before .before .before .before .empty .given .1)) ∙ c .before .before .before .before .before .before .scan .ensures .0) (l .1 .1) _ (judged-part s _ (c .before .before .body-length .ensures)) (c .opens .ensures) in
     (d .is, d .lies)
 

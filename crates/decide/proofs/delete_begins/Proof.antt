@@ -2,7 +2,7 @@
 use mathlib.Core.Path.{subst}
 use denote.Ref.{now}
 use Rattle.scan.specs.Scan.{attributesAt}
-use Rattle.decide.specs.Decided.{HeadLies}
+use Rattle.decide.specs.Decided.{HeadInBounds}
 use Rattle.decide.proofs.Decisions.{delete-bad, delete-got}
 use borrow.Author.Needs.{needs}
 use Rattle.decide.proofs.delete_begins.Statement.{statement}
@@ -29,7 +29,7 @@ returns-2 c =
     let a = c .before .before .before .before .before .args in
     let t = now (a .t) in
     let attrs = attributesAt t (a .at) in
-    record { is = delete-got t attrs (a .kind) (a .place) (c .before .id .given .1) (c .before .before .before .head-field .ensures .0); lies = subst (HeadLies t) (c .before .id .given .1) (c .before .before .before .head-field .ensures .1) }
+    record { is = delete-got t attrs (a .kind) (a .place) (c .before .id .given .1) (c .before .before .before .head-field .ensures .0); lies = subst (HeadInBounds t) (c .before .id .given .1) (c .before .before .before .head-field .ensures .1) }
 
 pub delete-begins-spec : {M : Type 1} → statement M
 delete-begins-spec =

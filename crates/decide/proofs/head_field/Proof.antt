@@ -3,7 +3,7 @@ use mathlib.Core.Path.{sym, _∙_, ap, subst}
 use denote.Ref.{now}
 use Rattle.field.specs.Field.{idField}
 use Rattle.values.specs.Value.{wideField}
-use Rattle.metadata.specs.Metadata.{metaField, MetaFieldLies}
+use Rattle.metadata.specs.Metadata.{metaField, MetaFieldInBounds}
 use borrow.Author.Needs.{needs}
 use Rattle.decide.proofs.head_field.Statement.{statement}
 use Rattle.decide.proofs.head_field.Tie as tie
@@ -47,7 +47,7 @@ unfolding idField
 returns-3 c =
     let e = ap wideField (sym (c .before .before .before .before .before .id .given .1)) ∙ c .before .before .before .before .before .before .before .wide-field .ensures in
     let m = ap (metaField (now (c .before .before .before .before .before .before .before .before .before .before .args .t))) (sym (c .before .meta .given .1)) ∙ c .before .before .before .meta-field .ensures .0 in
-    (λ f. rw (← e, ← m), subst (MetaFieldLies (now (c .before .before .before .before .before .before .before .before .before .before .args .t))) (c .before .meta .given .1) (c .before .before .before .meta-field .ensures .1))
+    (λ f. rw (← e, ← m), subst (MetaFieldInBounds (now (c .before .before .before .before .before .before .before .before .before .before .args .t))) (c .before .meta .given .1) (c .before .before .before .meta-field .ensures .1))
 
 pub head-field-spec : {M : Type 1} → statement M
 head-field-spec =

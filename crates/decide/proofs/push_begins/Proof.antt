@@ -3,7 +3,7 @@ use mathlib.Core.Path.{sym, _∙_, ap, subst}
 use denote.Ref.{now}
 use Rattle.scan.specs.Scan.{attributesAt}
 use Rattle.values.specs.Value.{bodyField}
-use Rattle.decide.specs.Decided.{HeadLies}
+use Rattle.decide.specs.Decided.{HeadInBounds}
 use Rattle.decide.proofs.Decisions.{push-bad, push-bodiless, push-got}
 use borrow.Author.Needs.{needs}
 use Rattle.decide.proofs.push_begins.Statement.{statement}
@@ -46,7 +46,7 @@ returns-3 c =
     let a = c .before .before .before .before .before .before .before .before .before .args in
     let t = now (a .t) in
     let attrs = attributesAt t (a .at) in
-    record { is = push-got t attrs (a .kind) (a .place) (a .empty) _ _ (c .before .before .before .before .before .id .given .1) (c .before .before .before .before .before .before .before .head-field .ensures .0) (ap (bodyField (a .kind)) (sym (c .before .lat .given .1)) ∙ c .before .before .before .body-field .ensures); lies = subst (HeadLies t) (c .before .before .before .before .before .id .given .1) (c .before .before .before .before .before .before .before .head-field .ensures .1) }
+    record { is = push-got t attrs (a .kind) (a .place) (a .empty) _ _ (c .before .before .before .before .before .id .given .1) (c .before .before .before .before .before .before .before .head-field .ensures .0) (ap (bodyField (a .kind)) (sym (c .before .lat .given .1)) ∙ c .before .before .before .body-field .ensures); lies = subst (HeadInBounds t) (c .before .before .before .before .before .id .given .1) (c .before .before .before .before .before .before .before .head-field .ensures .1) }
 
 pub push-begins-spec : {M : Type 1} → statement M
 push-begins-spec =

@@ -3,7 +3,7 @@ use Prim.Native.Nat.{_+_, _-_}
 use mathlib.Core.Path.{_≡_, sym, _∙_}
 use native.Mathlib.Omega.{arith}
 use denote.Ref.{now}
-use Rattle.interner.proofs.Finds.{Lies, lies, within-bytes, at-part, at-missing}
+use Rattle.interner.proofs.Finds.{SpanWithin, lies, within-bytes, at-part, at-missing}
 use borrow.Author.Needs.{needs}
 use Rattle.interner.proofs.is_at.Statement.{statement}
 use Rattle.interner.proofs.is_at.Tie as tie
@@ -24,7 +24,7 @@ returns c =
 
 -- where the string lies
 lain : (c : tie.After-start)
-    → let a = c .before .before .before .before .before .before .args in Lies (now (a .spans)) (now (a .bytes)) (a .h) (c .start .given .0 .0) (c .start .given .0 .1 .0)
+    → let a = c .before .before .before .before .before .before .args in SpanWithin (now (a .spans)) (now (a .bytes)) (a .h) (c .start .given .0 .0) (c .start .given .0 .1 .0)
 lain c =
     let a = c .before .before .before .before .before .before .args in
     lies (now (a .spans)) (now (a .bytes)) (a .h) (c .start .given .0 .0) (c .start .given .0 .1 .0) (sym (c .start .given .1) ∙ c .before .before .span-at .ensures)

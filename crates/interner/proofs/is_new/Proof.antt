@@ -10,7 +10,7 @@ use Rattle.base.proofs.Split.{both-of, both-no-left, both-no-right, clash}
 use Rattle.text.specs.Check.{isText}
 use Rattle.interner.specs.Strings.{bytesAt, findIn}
 use Rattle.interner.specs.Check.{textKey, isNot, newAt}
-use Rattle.interner.proofs.Finds.{Lies, lies, within-bytes}
+use Rattle.interner.proofs.Finds.{SpanWithin, lies, within-bytes}
 use Rattle.interner.proofs.Keys.{keyed-more}
 use Rattle.interner.proofs.Checks.{new-missing, lies-bytes, new-lies}
 use borrow.Author.Needs.{needs}
@@ -34,7 +34,7 @@ returns c =
 -- where the string lies
 lain : (c : tie.After-start)
     → let a = c .before .before .before .before .before .before .args in
-    Lies (now (a .spans)) (now (a .bytes)) (a .h) (c .start .given .0 .0) (c .start .given .0 .1 .0)
+    SpanWithin (now (a .spans)) (now (a .bytes)) (a .h) (c .start .given .0 .0) (c .start .given .0 .1 .0)
 lain c =
     let a = c .before .before .before .before .before .before .args in
     lies (now (a .spans)) (now (a .bytes)) (a .h) (c .start .given .0 .0) (c .start .given .0 .1 .0) (sym (c .start .given .1) ∙ c .before .before .span-at .ensures)

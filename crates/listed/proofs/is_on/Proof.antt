@@ -1,6 +1,6 @@
 -- A place below 2^63 is that of a live row.
 use borrow.Author.Needs.{needs}
-use Rattle.shelf.specs.Shelf.{isLive}
+use Rattle.kind_store.specs.KindStore.{isLive}
 use Rattle.listed.proofs.is_on.Statement.{statement}
 use Rattle.listed.proofs.is_on.Tie as tie
 

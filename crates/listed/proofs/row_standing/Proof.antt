@@ -3,7 +3,7 @@ use Prim.Native.Nat.{_^_}
 use mathlib.Core.Path.{sym}
 use native.Mathlib.Omega.{arith}
 use borrow.Author.Tests.{lt-ltb, le-ltb}
-use Rattle.shelf.specs.Shelf.{isLive}
+use Rattle.kind_store.specs.KindStore.{isLive}
 use Rattle.listed.proofs.Standings.{row-live, row-deleted}
 use Rattle.listed.proofs.row_standing.Statement.{statement}
 use Rattle.listed.proofs.row_standing.Tie as tie

@@ -13,7 +13,7 @@ use Rattle.listing.proofs.list.Tie as tie
 abbrev overlayAt : tie.After-is-sound → Overlay
 overlayAt c =
     let a = c .before .before .before .before .before .before .before .before .before .before .args in
-    overlayOf (now (a .nids)) (now (a .narena)) (now (a .wids)) (now (a .warena)) (now (a .rids)) (now (a .rarena)) (now (a .spans)) (now (a .bytes)) (now (a .counts))
+    overlayOf (now (a .ni)) (now (a .na)) (now (a .wi)) (now (a .wa)) (now (a .ri)) (now (a .ra)) (now (a .ss)) (now (a .sb)) (now (a .us))
 
 in-bytes : (c : tie.After-is-sound) → InBytes (overlayAt c)
 in-bytes c =
@@ -22,11 +22,11 @@ in-bytes c =
     let w = r .before .before in
     let n = w .before .before in
     let a = n .before .before .args in
-    all-lent (now (a .nids)) (now (a .narena)) (now (a .wids)) (now (a .warena)) (now (a .rids)) (now (a .rarena)) (now (a .spans)) (now (a .bytes)) (now (a .counts))
-    (bytes-lent (now (a .narena)) (λ i. omega (arith, n .shared-slice-known2 .given i)))
-    (bytes-lent (now (a .warena)) (λ i. omega (arith, w .shared-slice-known4 .given i)))
-    (bytes-lent (now (a .rarena)) (λ i. omega (arith, r .shared-slice-known6 .given i)))
-    (bytes-lent (now (a .bytes)) (λ i. omega (arith, t .shared-slice-known8 .given i)))
+    all-lent (now (a .ni)) (now (a .na)) (now (a .wi)) (now (a .wa)) (now (a .ri)) (now (a .ra)) (now (a .ss)) (now (a .sb)) (now (a .us))
+    (bytes-lent (now (a .na)) (λ i. omega (arith, n .shared-slice-known2 .given i)))
+    (bytes-lent (now (a .wa)) (λ i. omega (arith, w .shared-slice-known4 .given i)))
+    (bytes-lent (now (a .ra)) (λ i. omega (arith, r .shared-slice-known6 .given i)))
+    (bytes-lent (now (a .sb)) (λ i. omega (arith, t .shared-slice-known8 .given i)))
 
 returns : tie.Need-returns
 returns c =

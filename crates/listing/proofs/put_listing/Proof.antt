@@ -14,7 +14,7 @@ use Rattle.listing.proofs.put_listing.Tie as tie
 abbrev pieces : tie.After-put-page → List Bytes
 pieces p =
     let a = p .before .before .before .before .before .before .before .before .before .before .before .args in
-    piecesOf (overlayOf (now (a .nids)) (now (a .narena)) (now (a .wids)) (now (a .warena)) (now (a .rids)) (now (a .rarena)) (now (a .spans)) (now (a .bytes)) (now (a .counts)))
+    piecesOf (overlayOf (now (a .ni)) (now (a .na)) (now (a .wi)) (now (a .wa)) (now (a .ri)) (now (a .ra)) (now (a .ss)) (now (a .sb)) (now (a .us)))
 
 abbrev output : tie.After-put-page → Bytes
 output p = now (p .before .before .before .before .before .before .before .before .before .before .before .args .out)

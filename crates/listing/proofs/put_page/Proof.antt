@@ -13,7 +13,7 @@ use Rattle.listing.proofs.put_page.Statement.{statement}
 use Rattle.listing.proofs.put_page.Tie as tie
 
 slice-aggregate-texts : tie.Need-slice-aggregate-texts
-slice-aggregate-texts c = sym (length-take-le (c .before .lesser .result) (now (c .before .before .before .before .before .before .before .before .before .before .before .before .args .bytes)) (omega arith))
+slice-aggregate-texts c = sym (length-take-le (c .before .lesser .result) (now (c .before .before .before .before .before .before .before .before .before .before .before .before .args .sb)) (omega arith))
 
 returns : tie.Need-returns
 unfolding piecesOf
@@ -23,7 +23,7 @@ returns c =
     let n = w .before .before .before .before .before .before in
     let m = n .before .before .before .before .before .before in
     let a = m .before .before .before .before .before .before .before .before .before .before .before .args in
-    let d : take (m .lesser .result) (now (a .bytes)) ≡ take (getD (now (a .counts)) 7 0) (now (a .bytes)) = ap (λ (x : ℕ). take x (now (a .bytes))) (m .lesser .ensures) ∙ take-most (getD (now (a .counts)) 7 0) (now (a .bytes)) in
+    let d : take (m .lesser .result) (now (a .sb)) ≡ take (getD (now (a .us)) 7 0) (now (a .sb)) = ap (λ (x : ℕ). take x (now (a .sb))) (m .lesser .ensures) ∙ take-most (getD (now (a .us)) 7 0) (now (a .sb)) in
     rw (← d) (page-printed (a .cap) _ _ _ _ _ _ _ (n .put-lines .ensures) (w .put-lines2 .ensures) (r .put-lines3 .ensures))
 
 pub put-page-spec : {M : Type 1} → statement M

@@ -10,17 +10,17 @@ use lib.Seq.{slice}
 use borrow.Author.Needs.{needs}
 use Rattle.scan.specs.Piece.{valueText}
 use Rattle.scan.specs.Scan.{attributesAt}
-use Rattle.scan.proofs.Places.{Stands, stands, lent-is}
+use Rattle.scan.proofs.Places.{AttributeAt, stands, lent-is}
 use Rattle.scan.proofs.Attributes.{attributes-end}
 use Rattle.field.specs.Field.{metaFrom, metadataOf}
 use Rattle.values.proofs.Values.{empty-text, empty-within}
-use Rattle.metadata.specs.Metadata.{metaWritten, metaField, MetadataLies, MetaFieldLies, metaName, metaAs}
+use Rattle.metadata.specs.Metadata.{metaWritten, metaField, MetadataInBounds, MetaFieldInBounds, metaName, metaAs}
 use Rattle.metadata.proofs.Attributes.{behind-within, meta-on, meta-stops}
 use Rattle.metadata.proofs.meta_field.Statement.{statement}
 use Rattle.metadata.proofs.meta_field.Tie as tie
 
 abbrev Inv-loop : tie.InvT-loop
-Inv-loop t at m₀ p₀ m p = MetadataLies t m × (metaFrom (metaWritten t m) (attributesAt t p) ≡ metadataOf (attributesAt t at))
+Inv-loop t at m₀ p₀ m p = MetadataInBounds t m × (metaFrom (metaWritten t m) (attributesAt t p) ≡ metadataOf (attributesAt t at))
 
 abbrev μ-loop : tie.MeasureT-loop
 μ-loop t at m₀ p₀ m p = suc (length t) - p
@@ -46,7 +46,7 @@ returns c =
     (rw e at (l .inv .1), l .inv .0)
 
 -- the attribute at the present place
-stood : (c : tie.After-known-told Inv-loop μ-loop) → Stands (now (c .before .before .before .before .before .before .args .t)) (c .before .before .before .before .loop .p) (c .before .eq .given .0 .0) (c .before .eq .given .0 .1 .0)
+stood : (c : tie.After-known-told Inv-loop μ-loop) → AttributeAt (now (c .before .before .before .before .before .before .args .t)) (c .before .before .before .before .loop .p) (c .before .eq .given .0 .0) (c .before .eq .given .0 .1 .0)
 stood c = stands _ _ _ _ (sym (c .before .before .before .attribute-at .ensures) ∙ c .before .eq .given .1)
 
 sub-meta-name : tie.Need-sub-meta-name Inv-loop μ-loop
@@ -94,7 +94,7 @@ loop-again c =
     let t = now (c .before .before .before .before .before .before .before .before .before .before .before .before .before .args .t) in
     let l = c .before .before .before .before .before .before .before .before .before .before .before .loop in
     let e = ap (metaField t) (sym (c .before .n .given .1)) ∙ met (c .before .before .before) in
-    (subst (MetaFieldLies t) (c .before .n .given .1) (c .before .before .before .with-attribute .ensures .held), meta-on (stood (c .before .before .before .before .before .before .before)) (metaWritten t (l .m)) _ e ∙ l .inv .1)
+    (subst (MetaFieldInBounds t) (c .before .n .given .1) (c .before .before .before .with-attribute .ensures .held), meta-on (stood (c .before .before .before .before .before .before .before)) (metaWritten t (l .m)) _ e ∙ l .inv .1)
 
 enum-known-r : tie.Need-enum-known-r Inv-loop μ-loop
 enum-known-r c = search needs

@@ -11,7 +11,7 @@ use Rattle.overlay.proofs.allow_version_regression.Tie as tie
 abbrev given : tie.Start → Overlay
 given s =
     let k = s .args in
-    overlayOf (now (k .nids)) (now (k .narena)) (now (k .wids)) (now (k .warena)) (now (k .rids)) (now (k .rarena)) (now (k .spans)) (now (k .bytes)) (now (k .used))
+    overlayOf (now (k .ni)) (now (k .na)) (now (k .wi)) (now (k .wa)) (now (k .ri)) (now (k .ra)) (now (k .ss)) (now (k .sb)) (now (k .us))
 
 is-sound-requires : tie.Need-is-sound-requires
 is-sound-requires c κs = search needs
@@ -23,7 +23,7 @@ returns : tie.Need-returns
 returns c =
     let s = c .before .before .before .before .before .before .before .before .before .before .before .before .before in
     let k = s .args in
-    allow-stored (k .setting) (now (k .nids)) (now (k .narena)) (now (k .wids)) (now (k .warena)) (now (k .rids)) (now (k .rarena)) (now (k .spans)) (now (k .bytes)) (now (k .used)) _ (c .before .put-setting-arg .given .0 .1)
+    allow-stored (k .setting) (now (k .ni)) (now (k .na)) (now (k .wi)) (now (k .wa)) (now (k .ri)) (now (k .ra)) (now (k .ss)) (now (k .sb)) (now (k .us)) _ (c .before .put-setting-arg .given .0 .1)
     (sym (c .before .before .before .is-sound .ensures) ∙ c .before .before .if1 .taken) (c .put-setting .ensures)
 
 returns-2 : tie.Need-returns-2

@@ -17,14 +17,14 @@ element-copy-out-sound-strings-2 c = search needs
 sound-strings-requires : tie.Need-sound-strings-requires
 sound-strings-requires c κs = search needs
 
-shelves-sound-requires : tie.Need-shelves-sound-requires
-shelves-sound-requires c κs = search needs
+kind-stores-sound-requires : tie.Need-kind-stores-sound-requires
+kind-stores-sound-requires c κs = search needs
 
 returns : tie.Need-returns
 unfolding isSound both
 returns c =
     rw (← c .before .before .before .before .before .before .sizes-fit .ensures, c .before .before .before .before .before .if1 .taken, ← c .before .before .sound-strings .ensures, c .before .if2 .taken)
-    (c .shelves-sound .ensures)
+    (c .kind-stores-sound .ensures)
 
 returns-2 : tie.Need-returns-2
 unfolding isSound both
@@ -44,7 +44,7 @@ is-sound-spec =
     element-copy-out-sound-strings
     element-copy-out-sound-strings-2
     sound-strings-requires
-    shelves-sound-requires
+    kind-stores-sound-requires
     returns
     returns-2
     returns-3)

@@ -7,14 +7,14 @@ use borrow.Author.Needs.{needs}
 use Rattle.overlay.proofs.sizes_fit.Statement.{statement}
 use Rattle.overlay.proofs.sizes_fit.Tie as tie
 
-shelf-fits-requires : tie.Need-shelf-fits-requires
-shelf-fits-requires c κs = search needs
+kind-store-fits-requires : tie.Need-kind-store-fits-requires
+kind-store-fits-requires c κs = search needs
 
-shelf-fits-requires-2 : tie.Need-shelf-fits-requires-2
-shelf-fits-requires-2 c κs = search needs
+kind-store-fits-requires-2 : tie.Need-kind-store-fits-requires-2
+kind-store-fits-requires-2 c κs = search needs
 
-shelf-fits-requires-3 : tie.Need-shelf-fits-requires-3
-shelf-fits-requires-3 c κs = search needs
+kind-store-fits-requires-3 : tie.Need-kind-store-fits-requires-3
+kind-store-fits-requires-3 c κs = search needs
 
 texts-fit-requires : tie.Need-texts-fit-requires
 texts-fit-requires c κs = search needs
@@ -22,16 +22,16 @@ texts-fit-requires c κs = search needs
 returns : tie.Need-returns
 unfolding sizesFit
 returns c =
-    let used = now (c .before .before .before .before .before .before .before .before .before .before .before .before .args .used) in
-    rw (← c .before .before .before .shelf-fits .ensures (getD used 0 0) (getD used 3 0), ← c .before .before .shelf-fits2 .ensures (getD used 1 0) (getD used 4 0), ← c .before .shelf-fits3 .ensures (getD used 2 0) (getD used 5 0), ← c .texts-fit .ensures (getD used 6 0) (getD used 7 0))
+    let used = now (c .before .before .before .before .before .before .before .before .before .before .before .before .args .us) in
+    rw (← c .before .before .before .kind-store-fits .ensures (getD used 0 0) (getD used 3 0), ← c .before .before .kind-store-fits2 .ensures (getD used 1 0) (getD used 4 0), ← c .before .kind-store-fits3 .ensures (getD used 2 0) (getD used 5 0), ← c .texts-fit .ensures (getD used 6 0) (getD used 7 0))
     (all-four _ _ _ _)
 
 pub sizes-fit-spec : {M : Type 1} → statement M
 sizes-fit-spec =
     tie.close
     (tie.spec
-    shelf-fits-requires
-    shelf-fits-requires-2
-    shelf-fits-requires-3
+    kind-store-fits-requires
+    kind-store-fits-requires-2
+    kind-store-fits-requires-3
     texts-fit-requires
     returns)

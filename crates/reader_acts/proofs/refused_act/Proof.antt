@@ -1,7 +1,7 @@
 -- 12 is told by its number.
 use mathlib.Core.Path.{sym, _∙_, ap}
 use Rattle.refusal.specs.declared.Reply.{Reply}
-use Rattle.shelf.specs.declared.Kept.the-variants as K
+use Rattle.kind_store.specs.declared.Kept.the-variants as K
 use lib.ListN.{getD}
 use denote.Ref.{now}
 use Rattle.interner.specs.Strings.{storeWith}

@@ -13,7 +13,7 @@ abbrev given : tie.Start → State
 given s =
     let a = s .args in
     record {
-      overlay = overlayOf (now (a .nids)) (now (a .narena)) (now (a .wids)) (now (a .warena)) (now (a .rids)) (now (a .rarena)) (now (a .spans)) (now (a .bytes)) (now (a .used));
+      overlay = overlayOf (now (a .ni)) (now (a .na)) (now (a .wi)) (now (a .wa)) (now (a .ri)) (now (a .ra)) (now (a .ss)) (now (a .sb)) (now (a .us));
       reader = a .reader;
       parts = now (a .parts);
     }
@@ -51,28 +51,28 @@ going-events-requires c κs =
     (sound-given (given s) (sym (t .ensures .0) ∙ c .before .before .before .before .before .before .before .before .before .before .before .before .before .if1 .taken) (sym (c .before .before .before .before .before .before .before .before .before .before .before .before .mark-of .ensures) ∙ c .before .before .before .before .before .before .before .before .before .before .enum-told3 .given .1), t .ensures .1)
 
 same-length : tie.Need-same-length
-same-length c = c .before .before .before .before .before .before .before .before .before .before .before .before .before .before .before .nids .given
+same-length c = c .before .before .before .before .before .before .before .before .before .before .before .before .before .before .before .ni .given
 
 same-length-2 : tie.Need-same-length-2
-same-length-2 c = c .before .before .before .before .before .before .before .before .before .before .before .before .before .narena .given
+same-length-2 c = c .before .before .before .before .before .before .before .before .before .before .before .before .before .na .given
 
 same-length-3 : tie.Need-same-length-3
-same-length-3 c = c .before .before .before .before .before .before .before .before .before .before .before .wids .given
+same-length-3 c = c .before .before .before .before .before .before .before .before .before .before .before .wi .given
 
 same-length-4 : tie.Need-same-length-4
-same-length-4 c = c .before .before .before .before .before .before .before .before .before .warena .given
+same-length-4 c = c .before .before .before .before .before .before .before .before .before .wa .given
 
 same-length-5 : tie.Need-same-length-5
-same-length-5 c = c .before .before .before .before .before .before .before .rids .given
+same-length-5 c = c .before .before .before .before .before .before .before .ri .given
 
 same-length-6 : tie.Need-same-length-6
-same-length-6 c = c .before .before .before .before .before .rarena .given
+same-length-6 c = c .before .before .before .before .before .ra .given
 
 same-length-7 : tie.Need-same-length-7
-same-length-7 c = c .before .before .before .spans .given
+same-length-7 c = c .before .before .before .ss .given
 
 same-length-8 : tie.Need-same-length-8
-same-length-8 c = c .before .bytes .given
+same-length-8 c = c .before .sb .given
 
 returns-2 : tie.Need-returns-2
 returns-2 c = c .before .before .before .before .before .before .before .before .before .before .before .before .before .before .before .before .going-events .ensures

@@ -16,7 +16,7 @@ abbrev given : tie.Start → State
 given s =
     let a = s .args in
     record {
-      overlay = overlayOf (now (a .nids)) (now (a .narena)) (now (a .wids)) (now (a .warena)) (now (a .rids)) (now (a .rarena)) (now (a .spans)) (now (a .bytes)) (now (a .used));
+      overlay = overlayOf (now (a .ni)) (now (a .na)) (now (a .wi)) (now (a .wa)) (now (a .ri)) (now (a .ra)) (now (a .ss)) (now (a .sb)) (now (a .us));
       reader = a .reader;
       parts = now (a .parts);
     }
@@ -24,11 +24,11 @@ given s =
 in-bytes : (c : tie.After-state-sound) → InBytes (given (c .before .before .before .before .before .before .before .before .before .before .before) .overlay)
 in-bytes c =
     let a = c .before .before .before .before .before .before .before .before .before .before .before .args in
-    lent-bytes (now (a .nids)) (now (a .narena)) (now (a .wids)) (now (a .warena)) (now (a .rids)) (now (a .rarena)) (now (a .spans)) (now (a .bytes)) (now (a .used))
-    (bytes-of (now (a .narena)) (λ i l. omega (arith, c .before .before .before .before .before .before .before .before .before .shared-slice-known2 .given i)))
-    (bytes-of (now (a .warena)) (λ i l. omega (arith, c .before .before .before .before .before .before .before .shared-slice-known4 .given i)))
-    (bytes-of (now (a .rarena)) (λ i l. omega (arith, c .before .before .before .before .before .shared-slice-known6 .given i)))
-    (bytes-of (now (a .bytes)) (λ i l. omega (arith, c .before .before .before .shared-slice-known8 .given i)))
+    lent-bytes (now (a .ni)) (now (a .na)) (now (a .wi)) (now (a .wa)) (now (a .ri)) (now (a .ra)) (now (a .ss)) (now (a .sb)) (now (a .us))
+    (bytes-of (now (a .na)) (λ i l. omega (arith, c .before .before .before .before .before .before .before .before .before .shared-slice-known2 .given i)))
+    (bytes-of (now (a .wa)) (λ i l. omega (arith, c .before .before .before .before .before .before .before .shared-slice-known4 .given i)))
+    (bytes-of (now (a .ra)) (λ i l. omega (arith, c .before .before .before .before .before .shared-slice-known6 .given i)))
+    (bytes-of (now (a .sb)) (λ i l. omega (arith, c .before .before .before .shared-slice-known8 .given i)))
 
 head : (s : tie.Start) → headFits (s .args .reader .pending .head) ≡ true
 head s = head-fits (s .args .reader .pending .head) (omega (arith, s .good)) (omega (arith, s .good)) (omega (arith, s .good)) (omega (arith, s .good)) (omega (arith, s .good))

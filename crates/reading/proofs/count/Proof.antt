@@ -17,7 +17,7 @@ returns : tie.Need-returns
 unfolding countOn
 returns c =
     let a = c .before .before .before .before .before .before .before .before .before .before .before .args in
-    rw (← c .before .before .is-sound .ensures, c .before .if1 .taken) (ap Is (c .count-in .ensures (now (a .narena)) (now (a .warena)) (now (a .rarena)) (now (a .spans)) (now (a .bytes))))
+    rw (← c .before .before .is-sound .ensures, c .before .if1 .taken) (ap Is (c .count-in .ensures (now (a .na)) (now (a .wa)) (now (a .ra)) (now (a .ss)) (now (a .sb))))
 
 returns-2 : tie.Need-returns-2
 unfolding countOn

@@ -31,13 +31,13 @@ count-on-requires-3 : tie.Need-count-on-requires-3
 count-on-requires-3 c κs = search needs
 
 returns : tie.Need-returns
-returns c narena warena rarena spans bytes = rw (c .before .before .enum-told .given .1) (c .count-on .ensures)
+returns c na wa ra spans bytes = rw (c .before .before .enum-told .given .1) (c .count-on .ensures)
 
 returns-2 : tie.Need-returns-2
-returns-2 c narena warena rarena spans bytes = rw (c .before .before .enum-told2 .given .1) (c .count-on2 .ensures)
+returns-2 c na wa ra spans bytes = rw (c .before .before .enum-told2 .given .1) (c .count-on2 .ensures)
 
 returns-3 : tie.Need-returns-3
-returns-3 c narena warena rarena spans bytes = rw (c .before .before .enum-told3 .given .1) (c .count-on3 .ensures)
+returns-3 c na wa ra spans bytes = rw (c .before .before .enum-told3 .given .1) (c .count-on3 .ensures)
 
 pub count-in-spec : {M : Type 1} → statement M
 count-in-spec =

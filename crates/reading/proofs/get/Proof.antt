@@ -20,7 +20,7 @@ returns : tie.Need-returns
 unfolding getOn
 returns c =
     let a = c .before .before .before .before .before .before .before .before .before .before .before .before .args in
-    let s = c .before .standing-in .ensures (now (a .narena)) (now (a .warena)) (now (a .rarena)) (now (a .spans)) (now (a .bytes)) in
+    let s = c .before .standing-in .ensures (now (a .na)) (now (a .wa)) (now (a .ra)) (now (a .ss)) (now (a .sb)) in
     rw (← c .before .before .before .is-sound .ensures, c .before .before .if1 .taken)
     (sym (no-view _ _ _ (c .before .standing-in .result) (not-live (c .before .standing-in .result) (c .match .keys2))) ∙ ap (liveView _ _ _) s)
 
@@ -31,9 +31,9 @@ returns-2 : tie.Need-returns-2
 unfolding getOn
 returns-2 c =
     let a = c .before .before .before .before .before .before .before .before .before .before .before .before .before .before .before .args in
-    let s = sym (c .before .before .at .given .1) ∙ c .before .before .before .before .standing-in .ensures (now (a .narena)) (now (a .warena)) (now (a .rarena)) (now (a .spans)) (now (a .bytes)) in
+    let s = sym (c .before .before .at .given .1) ∙ c .before .before .before .before .standing-in .ensures (now (a .na)) (now (a .wa)) (now (a .ra)) (now (a .ss)) (now (a .sb)) in
     rw (← c .before .before .before .before .before .before .is-sound .ensures, c .before .before .before .before .before .if1 .taken)
-    (c .view-in .ensures (now (a .nids)) (now (a .wids)) (now (a .rids)) (now (a .spans)) (now (a .bytes)) ∙ ap (liveView _ _ _) s)
+    (c .view-in .ensures (now (a .ni)) (now (a .wi)) (now (a .ri)) (now (a .ss)) (now (a .sb)) ∙ ap (liveView _ _ _) s)
 
 returns-3 : tie.Need-returns-3
 unfolding getOn

@@ -21,7 +21,7 @@ returns : tie.Need-returns
 unfolding knownOn
 returns c =
     let a = c .before .before .before .before .before .before .before .before .before .before .before .before .args in
-    rw (← c .before .before .before .is-sound .ensures, c .before .before .if1 .taken) (ap Is (c .version-word .ensures ∙ ap wordOf (c .before .version-in .ensures (now (a .spans)) (now (a .bytes)))))
+    rw (← c .before .before .before .is-sound .ensures, c .before .before .if1 .taken) (ap Is (c .version-word .ensures ∙ ap wordOf (c .before .version-in .ensures (now (a .ss)) (now (a .sb)))))
 
 returns-2 : tie.Need-returns-2
 unfolding knownOn

@@ -22,7 +22,7 @@ returns : tie.Need-returns
 unfolding recordOn
 returns c =
     let a = c .before .before .before .before .before .before .before .before .before .before .before .before .before .args in
-    let s = sym (c .enum-told .given .1) ∙ c .before .before .row-in .ensures (now (a .narena)) (now (a .warena)) (now (a .rarena)) (now (a .spans)) (now (a .bytes)) in
+    let s = sym (c .enum-told .given .1) ∙ c .before .before .row-in .ensures (now (a .na)) (now (a .wa)) (now (a .ra)) (now (a .ss)) (now (a .sb)) in
     rw (← c .before .before .before .before .is-sound .ensures, c .before .before .before .if1 .taken) (ap (nthView _ _ _) s)
 
 view-in-requires : tie.Need-view-in-requires
@@ -32,9 +32,9 @@ returns-2 : tie.Need-returns-2
 unfolding recordOn
 returns-2 c =
     let a = c .before .before .before .before .before .before .before .before .before .before .before .before .before .before .before .args in
-    let s = sym (c .before .before .row .given .1) ∙ c .before .before .before .before .row-in .ensures (now (a .narena)) (now (a .warena)) (now (a .rarena)) (now (a .spans)) (now (a .bytes)) in
+    let s = sym (c .before .before .row .given .1) ∙ c .before .before .before .before .row-in .ensures (now (a .na)) (now (a .wa)) (now (a .ra)) (now (a .ss)) (now (a .sb)) in
     rw (← c .before .before .before .before .before .before .is-sound .ensures, c .before .before .before .before .before .if1 .taken)
-    (c .view-in .ensures (now (a .nids)) (now (a .wids)) (now (a .rids)) (now (a .spans)) (now (a .bytes)) ∙ ap (nthView _ _ _) s)
+    (c .view-in .ensures (now (a .ni)) (now (a .wi)) (now (a .ri)) (now (a .ss)) (now (a .sb)) ∙ ap (nthView _ _ _) s)
 
 returns-3 : tie.Need-returns-3
 unfolding recordOn

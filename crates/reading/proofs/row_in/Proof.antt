@@ -31,13 +31,13 @@ row-on-requires-3 : tie.Need-row-on-requires-3
 row-on-requires-3 c κs = search needs
 
 returns : tie.Need-returns
-returns c narena warena rarena spans bytes = rw (c .before .before .enum-told .given .1) (c .row-on .ensures)
+returns c na wa ra spans bytes = rw (c .before .before .enum-told .given .1) (c .row-on .ensures)
 
 returns-2 : tie.Need-returns-2
-returns-2 c narena warena rarena spans bytes = rw (c .before .before .enum-told2 .given .1) (c .row-on2 .ensures)
+returns-2 c na wa ra spans bytes = rw (c .before .before .enum-told2 .given .1) (c .row-on2 .ensures)
 
 returns-3 : tie.Need-returns-3
-returns-3 c narena warena rarena spans bytes = rw (c .before .before .enum-told3 .given .1) (c .row-on3 .ensures)
+returns-3 c na wa ra spans bytes = rw (c .before .before .enum-told3 .given .1) (c .row-on3 .ensures)
 
 pub row-in-spec : {M : Type 1} → statement M
 row-in-spec =

@@ -31,13 +31,13 @@ standing-of-requires-3 : tie.Need-standing-of-requires-3
 standing-of-requires-3 c κs = search needs
 
 returns : tie.Need-returns
-returns c narena warena rarena spans bytes = rw (c .before .before .enum-told .given .1) (c .standing-of .ensures)
+returns c na wa ra spans bytes = rw (c .before .before .enum-told .given .1) (c .standing-of .ensures)
 
 returns-2 : tie.Need-returns-2
-returns-2 c narena warena rarena spans bytes = rw (c .before .before .enum-told2 .given .1) (c .standing-of2 .ensures)
+returns-2 c na wa ra spans bytes = rw (c .before .before .enum-told2 .given .1) (c .standing-of2 .ensures)
 
 returns-3 : tie.Need-returns-3
-returns-3 c narena warena rarena spans bytes = rw (c .before .before .enum-told3 .given .1) (c .standing-of3 .ensures)
+returns-3 c na wa ra spans bytes = rw (c .before .before .enum-told3 .given .1) (c .standing-of3 .ensures)
 
 pub standing-in-spec : {M : Type 1} → statement M
 standing-in-spec =

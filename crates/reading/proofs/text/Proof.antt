@@ -21,7 +21,7 @@ lesser-requires : tie.Need-lesser-requires
 lesser-requires c κs = search needs
 
 slice-aggregate-resolve : tie.Need-slice-aggregate-resolve
-slice-aggregate-resolve c = sym (length-take-le (c .before .lesser .result) (now (c .before .before .before .before .before .before .before .before .before .before .before .before .before .args .bytes)) (omega arith))
+slice-aggregate-resolve c = sym (length-take-le (c .before .lesser .result) (now (c .before .before .before .before .before .before .before .before .before .before .before .before .before .args .sb)) (omega arith))
 
 element-copy-out-resolve : tie.Need-element-copy-out-resolve
 element-copy-out-resolve c = search needs
@@ -37,9 +37,9 @@ unfolding textOn
 returns c =
     let a = c .before .before .before .before .before .before .before .before .before .before .before .before .before .before .before .before .args in
     let n = c .before .before .before .before .lesser in
-    let u = ap (λ m. take m (now (a .bytes))) (n .ensures) ∙ take-min (getD (now (a .used)) 7 0) (now (a .bytes)) in
+    let u = ap (λ m. take m (now (a .sb))) (n .ensures) ∙ take-min (getD (now (a .us)) 7 0) (now (a .sb)) in
     rw (← c .before .before .before .before .before .before .before .is-sound .ensures, c .before .before .before .before .before .before .if1 .taken)
-    (c .text-view .ensures ∙ ap textView (c .before .resolve .ensures ∙ ap (λ s. spanOf (now (a .spans)) s (getD (now (a .used)) 6 0) (a .handle)) u))
+    (c .text-view .ensures ∙ ap textView (c .before .resolve .ensures ∙ ap (λ s. spanOf (now (a .ss)) s (getD (now (a .us)) 6 0) (a .handle)) u))
 
 returns-2 : tie.Need-returns-2
 unfolding textOn

@@ -40,13 +40,13 @@ view-at-requires-3 : tie.Need-view-at-requires-3
 view-at-requires-3 c κs = search needs
 
 returns : tie.Need-returns
-returns c nids wids rids spans bytes = let e = c .before .before .before .enum-told .given .1 in rw e (rw e at (c .view-at .ensures))
+returns c ni wi ri spans bytes = let e = c .before .before .before .enum-told .given .1 in rw e (rw e at (c .view-at .ensures))
 
 returns-2 : tie.Need-returns-2
-returns-2 c nids wids rids spans bytes = let e = c .before .before .before .enum-told2 .given .1 in rw e (rw e at (c .view-at2 .ensures))
+returns-2 c ni wi ri spans bytes = let e = c .before .before .before .enum-told2 .given .1 in rw e (rw e at (c .view-at2 .ensures))
 
 returns-3 : tie.Need-returns-3
-returns-3 c nids wids rids spans bytes = let e = c .before .before .before .enum-told3 .given .1 in rw e (rw e at (c .view-at3 .ensures))
+returns-3 c ni wi ri spans bytes = let e = c .before .before .before .enum-told3 .given .1 in rw e (rw e at (c .view-at3 .ensures))
 
 pub view-in-spec : {M : Type 1} → statement M
 view-in-spec =

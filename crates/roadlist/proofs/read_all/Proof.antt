@@ -4,11 +4,11 @@ use Rattle.roadlist.proofs.read_all.Statement.{statement}
 use Rattle.roadlist.proofs.read_all.Tie as tie
 
 abbrev Inv-loop : tie.InvT-loop
-Inv-loop nids₀ narena₀ wids₀ warena₀ rids₀ rarena₀ spans₀ bytes₀ used₀ parts₀ buffer₀ piece₀ run₀ turns₀ going₀ nids narena wids warena rids rarena spans bytes used parts buffer piece run turns going =
+Inv-loop ni₀ na₀ wi₀ wa₀ ri₀ ra₀ spans₀ bytes₀ used₀ parts₀ buffer₀ piece₀ run₀ turns₀ going₀ ni na wi wa ri ra spans bytes used parts buffer piece run turns going =
     Unit {0}
 
 abbrev μ-loop : tie.MeasureT-loop
-μ-loop nids₀ narena₀ wids₀ warena₀ rids₀ rarena₀ spans₀ bytes₀ used₀ parts₀ buffer₀ piece₀ run₀ turns₀ going₀ nids narena wids warena rids rarena spans bytes used parts buffer piece run turns going =
+μ-loop ni₀ na₀ wi₀ wa₀ ri₀ ra₀ spans₀ bytes₀ used₀ parts₀ buffer₀ piece₀ run₀ turns₀ going₀ ni na wi wa ri ra spans bytes used parts buffer piece run turns going =
     turns
 
 pub read-all-spec : {M : Type 1} → statement M

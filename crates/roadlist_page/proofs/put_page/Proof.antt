@@ -10,7 +10,7 @@ use Rattle.roadlist_page.proofs.put_page.Tie as tie
 abbrev given : tie.Start → Overlay
 given s =
     let a = s .args in
-    overlayOf (now (a .nids)) (now (a .narena)) (now (a .wids)) (now (a .warena)) (now (a .rids)) (now (a .rarena)) (now (a .spans)) (now (a .bytes)) (now (a .used))
+    overlayOf (now (a .ni)) (now (a .na)) (now (a .wi)) (now (a .wa)) (now (a .ri)) (now (a .ra)) (now (a .ss)) (now (a .sb)) (now (a .us))
 
 list-requires : tie.Need-list-requires
 list-requires c κs = search needs

@@ -1,7 +1,7 @@
 -- The record from its place on, or nothing.
 use denote.Ref.{now}
 use borrow.Author.Tests.{lt-ltb, le-ltb}
-use Rattle.shelf.specs.Shelf.{isLive}
+use Rattle.kind_store.specs.KindStore.{isLive}
 use Rattle.print.specs.Print.{print, tabs}
 use Rattle.rows.proofs.Walks.{view-from}
 use borrow.Author.Needs.{needs}

@@ -8,7 +8,7 @@ use mir.Syntax.{w64}
 use mir.Val.{SFits, toZ, ofZ}
 use Rattle.line.specs.Decimal.{integerText}
 use Rattle.osm_id.specs.Order.{idOf}
-use Rattle.shelf.specs.Shelf.{isLive}
+use Rattle.kind_store.specs.KindStore.{isLive}
 use Rattle.page.specs.Listing.{kindField, versionField}
 use Rattle.fields.specs.Fields.{heldText}
 use Rattle.rows.specs.Lines.{signOf, lastAt, rowFieldsAt}

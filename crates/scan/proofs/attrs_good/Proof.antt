@@ -8,7 +8,7 @@ use borrow.Author.Needs.{needs}
 use Rattle.event.specs.Event.{attrsOf}
 use Rattle.scan.specs.Piece.{there}
 use Rattle.scan.specs.Scan.{fieldsAt}
-use Rattle.scan.proofs.Places.{Stands, stands}
+use Rattle.scan.proofs.Places.{AttributeAt, stands}
 use Rattle.scan.proofs.Walks.{good-on, good-stops, good-ends}
 use Rattle.scan.proofs.attrs_good.Statement.{statement}
 use Rattle.scan.proofs.attrs_good.Tie as tie
@@ -42,7 +42,7 @@ is-attr-requires c κs = sym (c .before .before .before .attribute-at .ensures) 
 
 -- the attribute at the present place
 stood : (c : tie.After-known-told Inv-loop μ-loop)
-    → Stands (now (c .before .before .before .before .before .before .args .t)) (c .before .before .before .before .loop .p) (c .before .eq .given .0 .0) (c .before .eq .given .0 .1 .0)
+    → AttributeAt (now (c .before .before .before .before .before .before .args .t)) (c .before .before .before .before .loop .p) (c .before .eq .given .0 .0) (c .before .eq .given .0 .1 .0)
 stood c = stands _ _ _ _ (sym (c .before .before .before .attribute-at .ensures) ∙ c .before .eq .given .1)
 
 add-p : tie.Need-add-p Inv-loop μ-loop

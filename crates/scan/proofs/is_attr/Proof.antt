@@ -4,13 +4,13 @@ use mathlib.Core.Path.{sym, _∙_}
 use native.Mathlib.Omega.{arith}
 use denote.Ref.{now}
 use borrow.Author.Needs.{needs}
-use Rattle.scan.proofs.Places.{Stands, stands, lent-is}
+use Rattle.scan.proofs.Places.{AttributeAt, stands, lent-is}
 use Rattle.scan.proofs.Walks.{attr-nameless, attr-whole, attr-value}
 use Rattle.scan.proofs.is_attr.Statement.{statement}
 use Rattle.scan.proofs.is_attr.Tie as tie
 
 -- the attribute
-stood : (c : tie.Start) → let a = c .args in Stands (now (a .t)) (a .at) (a .eq) (a .to)
+stood : (c : tie.Start) → let a = c .args in AttributeAt (now (a .t)) (a .at) (a .eq) (a .to)
 stood c = let a = c .args in stands (now (a .t)) (a .at) (a .eq) (a .to) (c .pre)
 
 returns : tie.Need-returns

@@ -8,7 +8,7 @@ use lib.Seq.{slice}
 use borrow.Author.Needs.{needs}
 use Rattle.base.specs.Bytes.{same}
 use Rattle.scan.specs.Scan.{attributeValue}
-use Rattle.scan.proofs.Places.{Stands, stands, lent-is, value-past}
+use Rattle.scan.proofs.Places.{AttributeAt, stands, lent-is, value-past}
 use Rattle.scan.proofs.value_at.Statement.{statement}
 use Rattle.scan.proofs.value_at.Tie as tie
 
@@ -38,7 +38,7 @@ returns c =
 
 -- the attribute at the present place
 stood : (c : tie.After-known-told Inv-loop μ-loop)
-    → let a = c .before .before .before .before .before .before .before .args in Stands (now (a .t)) (c .before .before .before .before .loop .p) (c .before .eq .given .0 .0) (c .before .eq .given .0 .1 .0)
+    → let a = c .before .before .before .before .before .before .before .args in AttributeAt (now (a .t)) (c .before .before .before .before .loop .p) (c .before .eq .given .0 .0) (c .before .eq .given .0 .1 .0)
 stood c = stands _ _ _ _ (sym (c .before .before .before .attribute-at .ensures) ∙ c .before .eq .given .1)
 
 -- whether its name is the one that is searched

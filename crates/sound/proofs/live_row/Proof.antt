@@ -2,7 +2,7 @@
 use Prim.Native.Nat.{_^_}
 use mathlib.Core.Path.{sym, ap}
 use borrow.Author.Tests.{lt-ltb, le-ltb}
-use Rattle.shelf.specs.Shelf.{isLive}
+use Rattle.kind_store.specs.KindStore.{isLive}
 use Rattle.sound.specs.Count.{one}
 use Rattle.sound.proofs.live_row.Statement.{statement}
 use Rattle.sound.proofs.live_row.Tie as tie

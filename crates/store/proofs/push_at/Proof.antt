@@ -1,4 +1,4 @@
--- The counters of the kind hold what its shelf counts after the push, and every other counter is as it was.
+-- The counters of the kind hold what its kind store counts after the push, and every other counter is as it was.
 use denote.Ref.{now}
 use Rattle.store.proofs.Parts.{counted-at}
 use borrow.Author.Needs.{needs}

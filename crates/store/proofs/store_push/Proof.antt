@@ -33,7 +33,7 @@ returns : tie.Need-returns
 returns c =
     let k = c .before .before .before .before .before .before .before .before .before .before .before .before .before .before .before .before .before .before .before .args in
     let e = c .before .before .before .before .before .before .before .before .enum-told .given .1 in
-    rw e (nodes-after (now (k .nids)) (now (k .narena)) (now (k .wids)) (now (k .warena)) (now (k .rids)) (now (k .rarena)) (now (k .spans)) (now (k .bytes)) (now (k .used)) (c .before .before .before .before .push-at .last .1 .1 .1 .1 .0) _ _ _ _ (rw e at (c .before .before .before .before .push-at .ensures)))
+    rw e (nodes-after (now (k .ni)) (now (k .na)) (now (k .wi)) (now (k .wa)) (now (k .ri)) (now (k .ra)) (now (k .ss)) (now (k .sb)) (now (k .us)) (c .before .before .before .before .push-at .last .1 .1 .1 .1 .0) _ _ _ _ (rw e at (c .before .before .before .before .push-at .ensures)))
 
 same-length-3 : tie.Need-same-length-3
 same-length-3 c = search needs
@@ -45,7 +45,7 @@ returns-2 : tie.Need-returns-2
 returns-2 c =
     let k = c .before .before .before .before .before .before .before .before .before .before .before .before .before .before .before .before .before .before .before .args in
     let e = c .before .before .before .before .before .before .before .before .enum-told2 .given .1 in
-    rw e (ways-after (now (k .nids)) (now (k .narena)) (now (k .wids)) (now (k .warena)) (now (k .rids)) (now (k .rarena)) (now (k .spans)) (now (k .bytes)) (now (k .used)) (c .before .before .before .before .push-at2 .last .1 .1 .1 .1 .0) _ _ _ _ (rw e at (c .before .before .before .before .push-at2 .ensures)))
+    rw e (ways-after (now (k .ni)) (now (k .na)) (now (k .wi)) (now (k .wa)) (now (k .ri)) (now (k .ra)) (now (k .ss)) (now (k .sb)) (now (k .us)) (c .before .before .before .before .push-at2 .last .1 .1 .1 .1 .0) _ _ _ _ (rw e at (c .before .before .before .before .push-at2 .ensures)))
 
 same-length-5 : tie.Need-same-length-5
 same-length-5 c = search needs
@@ -57,7 +57,7 @@ returns-3 : tie.Need-returns-3
 returns-3 c =
     let k = c .before .before .before .before .before .before .before .before .before .before .before .before .before .before .before .before .before .before .before .args in
     let e = c .before .before .before .before .before .before .before .before .enum-told3 .given .1 in
-    rw e (relations-after (now (k .nids)) (now (k .narena)) (now (k .wids)) (now (k .warena)) (now (k .rids)) (now (k .rarena)) (now (k .spans)) (now (k .bytes)) (now (k .used)) (c .before .before .before .before .push-at3 .last .1 .1 .1 .1 .0) _ _ _ _ (rw e at (c .before .before .before .before .push-at3 .ensures)))
+    rw e (relations-after (now (k .ni)) (now (k .na)) (now (k .wi)) (now (k .wa)) (now (k .ri)) (now (k .ra)) (now (k .ss)) (now (k .sb)) (now (k .us)) (c .before .before .before .before .push-at3 .last .1 .1 .1 .1 .0) _ _ _ _ (rw e at (c .before .before .before .before .push-at3 .ensures)))
 
 pub store-push-spec : {M : Type 1} → statement M
 store-push-spec =

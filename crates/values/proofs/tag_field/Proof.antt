@@ -2,7 +2,7 @@
 use mathlib.Core.Path.{sym, _∙_, ap, subst}
 use denote.Ref.{now}
 use Rattle.field.specs.Field.{tagOf}
-use Rattle.values.specs.Value.{extentField, TextLies}
+use Rattle.values.specs.Value.{extentField, TextInBounds}
 use borrow.Author.Needs.{needs}
 use Rattle.values.proofs.tag_field.Statement.{statement}
 use Rattle.values.proofs.tag_field.Tie as tie
@@ -50,7 +50,7 @@ returns-3 c =
     let t = now (c .before .before .before .before .before .before .before .before .before .before .before .args .t) in
     let e = ap (extentField (now (c .before .before .before .before .before .before .before .before .before .before .before .args .t))) (sym (c .before .before .before .before .before .before .key .given .1)) ∙ c .before .before .before .before .before .before .before .before .text-field .ensures .0 in
     let f = ap (extentField (now (c .before .before .before .before .before .before .before .before .before .before .before .args .t))) (sym (c .before .value .given .1)) ∙ c .before .before .before .text-field2 .ensures .0 in
-    (rw (← e, ← f), (subst (TextLies t) (c .before .before .before .before .before .before .key .given .1) (c .before .before .before .before .before .before .before .before .text-field .ensures .1), subst (TextLies t) (c .before .value .given .1) (c .before .before .before .text-field2 .ensures .1)))
+    (rw (← e, ← f), (subst (TextInBounds t) (c .before .before .before .before .before .before .key .given .1) (c .before .before .before .before .before .before .before .before .text-field .ensures .1), subst (TextInBounds t) (c .before .value .given .1) (c .before .before .before .text-field2 .ensures .1)))
 
 pub tag-field-spec : {M : Type 1} → statement M
 tag-field-spec =

@@ -1,0 +1,134 @@
+-- What the definitions of a push and a delete say, case by case.
+use Prim.Native.Nat.{ℕ, suc, _*_, _/_, _≤_}
+use mathlib.Core.Path.{_≡_, refl, sym, _∙_, ap}
+use mathlib.Core.Bool.{Bool, true, false}
+use mathlib.Core.List.{List}
+use native.Mathlib.Omega.{arith}
+use lib.Dec.{ltb, leb}
+use lib.IntN.{ℤ}
+use lib.ListN.{length}
+use borrow.Author.Tests.{le-leb, leb-true, lt-ltb, ltb-true}
+use Rattle.base.specs.Bytes.{Bytes}
+use Rattle.base.proofs.Split.{byLe, same-test, no}
+use Rattle.kind.specs.declared.Kind.{Kind}
+use Rattle.kind.specs.declared.Kind.the-variants.{Node, Way, Relation}
+use Rattle.osm_id.specs.Order.{rank}
+use Rattle.version_floor.specs.declared.Version.{Version}
+use Rattle.version_floor.specs.Version.{higher, wordOf}
+use Rattle.version_floor.specs.declared.Admit.{Admit}
+use Rattle.version_floor.specs.declared.Admit.the-variants.{Admitted}
+use Rattle.refusal.specs.declared.Refusal.the-variants.{IdsFull, ArenaFull}
+use Rattle.compact.specs.Layout.{headLen}
+use Rattle.append.proofs.Joins as joins
+use Rattle.append.specs.Append.{append}
+use Rattle.append.specs.declared.Appended.the-variants.{End, Full}
+use Rattle.table.specs.declared.Put.the-variants as answers
+use Rattle.table.specs.Words.{lookup, stored, countAfter}
+use Rattle.table.specs.declared.Row.{Row}
+use Rattle.table.specs.declared.Found.{Found}
+use Rattle.table.specs.declared.Found.the-variants.{At, Place}
+use Rattle.table.specs.declared.Put.{Put}
+use Rattle.table.proofs.Tables.{stored-known, stored-full}
+use Rattle.kind_store.specs.declared.Kept.the-variants.{Taken, Refused}
+use Rattle.kind_store.specs.KindStore.{KindStore, kindStoreWith, known, knownAt, floorOf, floorAt, floorAfter, checked, idRoom, roomAt, kindStoreRefused, gone, rowed, recordJoined, pushedAs, pushed, deletedAs, deleted}
+
+-- a row that was inserted had room
+pub inserted-room : (ws : List ℕ) (count : ℕ) (row : Row) → stored ws count row .answer ≡ answers.Inserted → 3 * suc count ≤ length ws
+inserted-room ws count row e = go (lookup ws count (row .rank)) refl
+  where
+    go : (o : Found) → lookup ws count (row .rank) ≡ o → 3 * suc count ≤ length ws
+    go (At i) f = let x = ap (λ s. s .answer) (stored-known ws count row i f) in no (cc)
+    go (Place p) f =
+        byLe (3 * suc count) (length ws)
+        (λ h. h)
+        (λ h. let x = ap (λ s. s .answer) (stored-full ws count row p f h) in no (cc))
+
+-- a third of the words is that many rows
+pub rows-held : (n l : ℕ) → ltb n (l / 3) ≡ leb (3 * suc n) l
+rows-held n l =
+    same-test (ltb n (l / 3)) (leb (3 * suc n) l)
+    (λ t. le-leb (3 * suc n) l (omega (arith, ltb-true n (l / 3) t)))
+    (λ t. lt-ltb n (l / 3) (omega (arith, leb-true (3 * suc n) l t)))
+
+-- a row stored under a rank, and what is counted by the answer
+module _ (ws : List ℕ) (ids place floor : ℕ) {t : List ℕ} {a : Put} where
+  pub set-as : {r k : ℕ} → r ≡ k → record { words = t; answer = a } ≡ stored ws ids (record { rank = r; place = place; floor = floor })
+      → {b : Put} → a ≡ b
+      → (t ≡ stored ws ids (record { rank = k; place = place; floor = floor }) .words) × (countAfter b ids ≡ countAfter (stored ws ids (record { rank = k; place = place; floor = floor }) .answer) ids)
+  set-as e w f = rw (← e, ← w, f) (refl, refl)
+
+  pub set-room : (r : ℕ) → record { words = t; answer = a } ≡ stored ws ids (record { rank = r; place = place; floor = floor }) → a ≡ answers.Inserted → 3 * suc ids ≤ length ws
+  set-room r w f = inserted-room ws ids (record { rank = r; place = place; floor = floor }) (sym (ap (λ s. s .answer) w) ∙ f)
+
+pub head-most : (k : Kind) → headLen k ≤ 20
+head-most Node = omega arith
+head-most Way = omega arith
+head-most Relation = omega arith
+
+-- ---- a record joined
+
+module _ (s : KindStore) (id : ℤ) (floor : ℕ) (bytes : Bytes) where
+  pub join-full : (a : Bytes) → record { arena = a; answer = Full } ≡ append (s .arena) (s .used) bytes
+      → record { kindStore = kindStoreWith (s .table) (s .ids) a (s .used); answer = Refused ArenaFull } ≡ recordJoined s id floor bytes
+  unfolding recordJoined
+  join-full a e = rw (← e, joins.refused (s .arena) (s .used) bytes a (sym e) .0)
+
+  pub join-end : (a : Bytes) (e : ℕ) (t : List ℕ) (n : ℕ) → record { arena = a; answer = End e } ≡ append (s .arena) (s .used) bytes
+      → t ≡ stored (s .table) (s .ids) (record { rank = rank id; place = s .used; floor = floor }) .words
+      → n ≡ countAfter (stored (s .table) (s .ids) (record { rank = rank id; place = s .used; floor = floor }) .answer) (s .ids)
+      → record { kindStore = kindStoreWith t n a e; answer = Taken } ≡ recordJoined s id floor bytes
+  unfolding recordJoined rowed
+  join-end a e t n w p q = rw (← w, p, q)
+
+-- ---- an act, by what was found and by the answer of its checks
+
+module _ (k : Kind) (s : KindStore) (id : ℤ) where
+  pub found-as : {r : ℕ} {f : Found} → r ≡ rank id → f ≡ lookup (s .table) (s .ids) r → f ≡ lookup (s .table) (s .ids) (rank id)
+  found-as e g = rw e at g
+
+  module _ {f : Found} (found : f ≡ lookup (s .table) (s .ids) (rank id)) where
+    pub known-as : {v : Version} → v ≡ knownAt k (s .table) (s .arena) f → v ≡ known k s id
+    unfolding known
+    known-as e = rw found at e
+
+    pub floor-as : {n : ℕ} → n ≡ floorAt (s .table) f → n ≡ floorOf s id
+    unfolding floorOf
+    floor-as e = rw found at e
+
+    pub room-as : {t b : Bool} → t ≡ roomAt (s .table) (s .ids) f → t ≡ b → idRoom s id ≡ b
+    unfolding idRoom
+    room-as e g = sym (rw found at e) ∙ g
+
+  module _ (setting : ℕ) (claim : Version) where
+    pub checked-as : {v c : Version} {a b : Admit} → v ≡ known k s id → c ≡ claim → a ≡ checked setting v c → a ≡ b → checked setting (known k s id) claim ≡ b
+    checked-as p q e g = sym (rw (p, q) at e) ∙ g
+
+    pub carried-as : {v c : Version} {x n : ℕ} → v ≡ known k s id → c ≡ claim → x ≡ floorOf s id → n ≡ floorAfter setting v c x
+        → n ≡ floorAfter setting (known k s id) claim (floorOf s id)
+    carried-as p q t e = rw (p, q, t) at e
+
+    pub pushed-as : (bytes : Bytes) (b : Admit) → checked setting (known k s id) claim ≡ b → pushed k setting s id claim bytes ≡ pushedAs k setting s id claim bytes b
+    unfolding pushed
+    pushed-as bytes b e = rw e
+
+    pub push-room : (bytes : Bytes) → idRoom s id ≡ true
+        → pushedAs k setting s id claim bytes Admitted ≡ recordJoined s id (floorAfter setting (known k s id) claim (floorOf s id)) bytes
+    push-room bytes e = rw e
+
+    pub push-full : (bytes : Bytes) → idRoom s id ≡ false → pushedAs k setting s id claim bytes Admitted ≡ kindStoreRefused s IdsFull
+    push-full bytes e = rw e
+
+    pub deleted-as : (b : Admit) → checked setting (known k s id) claim ≡ b → deleted k setting s id claim ≡ deletedAs k s id claim b
+    unfolding deleted
+    deleted-as b e = rw e
+
+  module _ (claim : Version) where
+    pub delete-room : (t : List ℕ) (n : ℕ) {v x : Version} {f : ℕ} → idRoom s id ≡ true → v ≡ known k s id → x ≡ higher v claim → f ≡ wordOf x
+        → t ≡ stored (s .table) (s .ids) (record { rank = rank id; place = gone; floor = f }) .words
+        → n ≡ countAfter (stored (s .table) (s .ids) (record { rank = rank id; place = gone; floor = f }) .answer) (s .ids)
+        → record { kindStore = kindStoreWith t n (s .arena) (s .used); answer = Taken } ≡ deletedAs k s id claim Admitted
+    unfolding rowed
+    delete-room t n r e x f p q = rw (r, ← e, ← x, ← f, p, q)
+
+    pub delete-full : idRoom s id ≡ false → deletedAs k s id claim Admitted ≡ kindStoreRefused s IdsFull
+    delete-full e = rw e

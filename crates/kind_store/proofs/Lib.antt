@@ -1,0 +1,4 @@
+pub mod Acts
+pub mod Answers
+pub mod Claims
+pub mod KindStores

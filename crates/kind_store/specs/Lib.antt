@@ -1,0 +1,2 @@
+pub mod KindStore
+pub mod WellFormed

@@ -1,2 +1,0 @@
-pub mod Shelf
-pub mod Fair
