@@ -7,7 +7,7 @@ use native.Mathlib.Numerals.{add-one}
 use native.Mathlib.Omega.{arith}
 use lib.Dec.{ltb, eqb}
 use lib.ListN.{length, getD, take, drop, length-map}
-use lib.Seq.{take-suc, take-all}
+use lib.Seq.{take-suc, take-all, take-add}
 use borrow.Author.Tests.{ltb-true, lt-ltb, le-ltb, eqb-true, eq-eqb}
 use Rattle.base.specs.Bytes.{Bytes, either, all, same}
 use Rattle.base.proofs.Split.{byBool, byLt, both-left, both-right, both-of, both-no-right, either-left, either-right, by-either, clash}
@@ -68,6 +68,12 @@ less-at a b i n h e l =
 
 pub take-more : (a b : Bytes) (i : ℕ) → length a ≡ length b → i < length a → take i a ≡ take i b → getD a i 0 ≡ getD b i 0 → take (i + 1) a ≡ take (i + 1) b
 take-more a b i n h e q = rw (add-one, take-suc a i 0 h, take-suc b i 0 (omega arith), e, q)
+
+pub take-on : (a b : Bytes) (i n : ℕ) → take i a ≡ take i b → take (i + n - i) (drop i a) ≡ take (i + n - i) (drop i b) → take (i + n) a ≡ take (i + n) b
+take-on a b i n e q =
+    let z : i + n - i ≡ n = omega arith in
+    let p : take n (drop i a) ≡ take n (drop i b) = rw z at q in
+    rw (take-add i n a, take-add i n b, e, p)
 
 pub take-whole : (a b : Bytes) (i : ℕ) → length a ≡ length b → length a ≤ i → take i a ≡ take i b → a ≡ b
 take-whole a b i n h e = sym (take-all i a h) ∙ (e ∙ take-all i b (omega arith))

@@ -90,6 +90,40 @@ fn length_of(w: u64) -> usize
 
 // ---- two runs compared
 
+// Whether two runs are known to be the same. It goes on to the end, so that many bytes are compared at once.
+fn alike(a: &[u8], b: &[u8]) -> bool
+    requires { ⌜ length (now a) ≡ length (now b) ⌝ }
+    ensures { λ r. ⌜ (r ≡ true → now (a .entry) ≡ now (b .entry)) ⌝ }
+{
+    let mut all = true;
+    let mut i: usize = 0;
+    while i < a.len() {
+        if a[i] != b[i] {
+            all = false;
+        }
+        i += 1;
+    }
+    all
+}
+
+// A place up to which two runs of one length agree: they are passed by 64 bytes at once.
+fn agree(a: &[u8], b: &[u8]) -> usize
+    requires { ⌜ length (now a) ≡ length (now b) ⌝ }
+    ensures { λ r. ⌜ (r ≤ length (now (a .entry))) × (take r (now (a .entry)) ≡ take r (now (b .entry))) ⌝ }
+{
+    let mut i: usize = 0;
+    while 64 <= a.len() - i {
+        let end = i + 64;
+        if alike(&a[i..end], &b[i..end]) {
+            i = end;
+        } else {
+            return i;
+        }
+    }
+    i
+}
+
+// Shorter runs are less, those of one length are compared as in a dictionary.
 fn compare(a: &[u8], b: &[u8]) -> Compared
     ensures { λ r. ⌜ ComparedAs r (now (a .entry)) (now (b .entry)) ⌝ }
 {
@@ -99,7 +133,7 @@ fn compare(a: &[u8], b: &[u8]) -> Compared
     if b.len() < a.len() {
         return Compared::Other;
     }
-    let mut i: usize = 0;
+    let mut i = agree(a, b);
     while i < a.len() {
         if a[i] == b[i] {
             i += 1;

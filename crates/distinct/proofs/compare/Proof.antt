@@ -1,6 +1,6 @@
 -- `compare` goes along both runs. The invariant: they have one length and agree so far.
 use Prim.Native.Nat.{_-_, _≤_}
-use mathlib.Core.Path.{_≡_, refl}
+use mathlib.Core.Path.{_≡_}
 use native.Mathlib.Omega.{arith}
 use denote.Ref.{now}
 use lib.ListN.{length, take}
@@ -15,13 +15,16 @@ abbrev μ-loop : tie.MeasureT-loop
 μ-loop a b i₀ i = length a - i
 
 returns : tie.Need-returns Inv-loop μ-loop
-returns c = let a = c .before .args in less-short (now (a .a)) (now (a .b)) (c .if1 .taken)
+returns c = let a = c .before .before .before .args in less-short (now (a .a)) (now (a .b)) (c .if1 .taken)
 
 returns-2 : tie.Need-returns-2 Inv-loop μ-loop
 returns-2 c = tt
 
+agree-requires : tie.Need-agree-requires Inv-loop μ-loop
+agree-requires c κs = omega arith
+
 loop-holds : tie.Need-loop-holds Inv-loop μ-loop
-loop-holds c = (omega arith, (omega arith, refl))
+loop-holds c = (omega arith, (c .agree .ensures .0, c .agree .ensures .1))
 
 shared-slice-read-if3 : tie.Need-shared-slice-read-if3 Inv-loop μ-loop
 shared-slice-read-if3 c = omega arith
@@ -37,7 +40,7 @@ loop-less c = omega arith
 
 loop-again : tie.Need-loop-again Inv-loop μ-loop
 loop-again c =
-    let a = c .before .before .before .before .before .before .before .args in
+    let a = c .before .before .before .before .before .before .before .before .before .before .args in
     let l = c .before .before .before .before .loop in
     (l .inv .0, (omega arith, take-more (now (a .a)) (now (a .b)) (l .i) (l .inv .0) (omega arith) (l .inv .1 .1) (c .if3 .taken)))
 
@@ -49,7 +52,7 @@ shared-slice-read-if4-2 c = omega arith
 
 returns-3 : tie.Need-returns-3 Inv-loop μ-loop
 returns-3 c =
-    let a = c .before .before .before .before .before .before .before .before .before .before .args in
+    let a = c .before .before .before .before .before .before .before .before .before .before .before .before .before .args in
     let l = c .before .before .before .before .before .before .before .loop in
     less-at (now (a .a)) (now (a .b)) (l .i) (l .inv .0) (omega arith) (l .inv .1 .1) (c .if4 .taken)
 
@@ -58,7 +61,7 @@ returns-4 c = tt
 
 returns-5 : tie.Need-returns-5 Inv-loop μ-loop
 returns-5 c =
-    let a = c .before .before .before .before .args in
+    let a = c .before .before .before .before .before .before .before .args in
     let l = c .before .loop in
     take-whole (now (a .a)) (now (a .b)) (l .i) (l .inv .0) (omega arith) (l .inv .1 .1)
 
@@ -70,6 +73,7 @@ compare-spec =
     μ-loop
     returns
     returns-2
+    agree-requires
     loop-holds
     shared-slice-read-if3
     shared-slice-read-if3-2

@@ -4,43 +4,31 @@ use Rattle.distinct.proofs.Orders.{indexes-as}
 use borrow.Author.Needs.{needs}
 use Rattle.distinct.proofs.compare_indexes.Statement.{statement}
 use Rattle.distinct.proofs.compare_indexes.Tie as tie
-use Rattle.distinct.proofs.compare_indexes.Reads as reads
-use Rattle.distinct.proofs.compare_indexes.Lts as lts
-use Rattle.distinct.proofs.compare_words.Reads as compare-words-reads
 
--- src/lib.rt:288:9
 returns : tie.Need-returns
 returns c = search needs
 
--- src/lib.rt:291:9
 returns-2 : tie.Need-returns-2
 returns-2 c = search needs
 
--- src/lib.rt:294:9
 returns-3 : tie.Need-returns-3
 returns-3 c = search needs
 
--- src/lib.rt:296:26
 mul-compare-words : tie.Need-mul-compare-words
 mul-compare-words c = search needs
 
--- src/lib.rt:296:26
 shared-slice-read-compare-words : tie.Need-shared-slice-read-compare-words
 shared-slice-read-compare-words c = search needs
 
--- src/lib.rt:296:36
 mul-compare-words-2 : tie.Need-mul-compare-words-2
 mul-compare-words-2 c = search needs
 
--- src/lib.rt:296:36
 shared-slice-read-compare-words-2 : tie.Need-shared-slice-read-compare-words-2
 shared-slice-read-compare-words-2 c = search needs
 
--- src/lib.rt:296:5
 compare-words-requires : tie.Need-compare-words-requires
 compare-words-requires c κs = search needs
 
--- src/lib.rt:284:1
 returns-4 : tie.Need-returns-4
 returns-4 c =
     let a = c .before .before .before .before .before .before .before .before .args in

@@ -3,73 +3,52 @@ use Rattle.distinct.proofs.Orders.{part-run}
 use borrow.Author.Needs.{needs}
 use Rattle.distinct.proofs.compare_words.Statement.{statement}
 use Rattle.distinct.proofs.compare_words.Tie as tie
-use Rattle.distinct.proofs.compare_words.Reads as reads
-use Rattle.distinct.proofs.compare_words.Lts as lts
-use Rattle.distinct.proofs.compare.Reads as compare-reads
-use Rattle.distinct.proofs.length_of.Reads as length-of-reads
-use Rattle.distinct.proofs.start_of.Reads as start-of-reads
 
--- src/lib.rt:120:9
 start-of-requires : tie.Need-start-of-requires
 start-of-requires c κs = search needs
 
--- src/lib.rt:121:9
 start-of-requires-2 : tie.Need-start-of-requires-2
 start-of-requires-2 c κs = search needs
 
--- src/lib.rt:122:17
 length-of-requires : tie.Need-length-of-requires
 length-of-requires c κs = search needs
 
--- src/lib.rt:122:13
 add-c : tie.Need-add-c
 add-c c = search needs
 
--- src/lib.rt:123:17
 length-of-requires-2 : tie.Need-length-of-requires-2
 length-of-requires-2 c κs = search needs
 
--- src/lib.rt:123:13
 add-d : tie.Need-add-d
 add-d c = search needs
 
--- src/lib.rt:125:9
 returns : tie.Need-returns
 returns c = search needs
 
--- src/lib.rt:128:9
 returns-2 : tie.Need-returns-2
 returns-2 c = search needs
 
--- src/lib.rt:130:13
 sub-compare : tie.Need-sub-compare
 sub-compare c = search needs
 
--- src/lib.rt:130:13
 part-compare-start : tie.Need-part-compare-start
 part-compare-start c = search needs
 
--- src/lib.rt:130:13
 part-compare-end : tie.Need-part-compare-end
 part-compare-end c = search needs
 
--- src/lib.rt:130:27
 sub-compare-2 : tie.Need-sub-compare-2
 sub-compare-2 c = search needs
 
--- src/lib.rt:130:27
 part-compare-start-2 : tie.Need-part-compare-start-2
 part-compare-start-2 c = search needs
 
--- src/lib.rt:130:27
 part-compare-end-2 : tie.Need-part-compare-end-2
 part-compare-end-2 c = search needs
 
--- src/lib.rt:130:5
 compare-requires : tie.Need-compare-requires
 compare-requires c κs = search needs
 
--- src/lib.rt:117:1
 returns-3 : tie.Need-returns-3
 returns-3 c =
     let a = c .before .before .before .before .before .before .before .before .before .before .args in

@@ -5,9 +5,6 @@ use lib.ListN.{length}
 use borrow.Author.Needs.{needs}
 use Rattle.distinct.proofs.count_up.Statement.{statement}
 use Rattle.distinct.proofs.count_up.Tie as tie
-use Rattle.distinct.proofs.count_up.Reads as reads
-use Rattle.distinct.proofs.count_up.Lts as lts
-use Rattle.distinct.proofs.put_index.Reads as put-index-reads
 
 abbrev Inv-loop : tie.InvT-loop
 Inv-loop order₀ n i₀ order i = (i ≤ n) × (length order ≡ length order₀)
@@ -15,35 +12,27 @@ Inv-loop order₀ n i₀ order i = (i ≤ n) × (length order ≡ length order�
 abbrev μ-loop : tie.MeasureT-loop
 μ-loop order₀ n i₀ order i = n - i
 
--- src/lib.rt:226:5
 loop-holds : tie.Need-loop-holds Inv-loop μ-loop
 loop-holds c = omega arith
 
--- src/lib.rt:227:29
 cast-put-index : tie.Need-cast-put-index Inv-loop μ-loop
 cast-put-index c = omega arith
 
--- src/lib.rt:227:9
 put-index-requires : tie.Need-put-index-requires Inv-loop μ-loop
 put-index-requires c κs = search needs
 
--- src/lib.rt:228:9
 add-i : tie.Need-add-i Inv-loop μ-loop
 add-i c = omega arith
 
--- src/lib.rt:226:5
 loop-less : tie.Need-loop-less Inv-loop μ-loop
 loop-less c = omega arith
 
--- src/lib.rt:226:5
 loop-again : tie.Need-loop-again Inv-loop μ-loop
 loop-again c = omega arith
 
--- src/lib.rt:222:1
 same-length : tie.Need-same-length Inv-loop μ-loop
 same-length c = omega arith
 
--- src/lib.rt:222:1
 returns : tie.Need-returns Inv-loop μ-loop
 returns c = omega arith
 

@@ -5,10 +5,6 @@ use lib.ListN.{length}
 use borrow.Author.Needs.{needs}
 use Rattle.distinct.proofs.merge_all.Statement.{statement}
 use Rattle.distinct.proofs.merge_all.Tie as tie
-use Rattle.distinct.proofs.merge_all.Reads as reads
-use Rattle.distinct.proofs.merge_all.Lts as lts
-use Rattle.distinct.proofs.merge.Reads as merge-reads
-use Rattle.little.proofs.lesser.Reads as lesser-reads
 
 abbrev Inv-loop : tie.InvT-loop
 Inv-loop bytes words from to₀ width lo₀ to lo = (lo ≤ length words) × (length to ≡ length to₀)
@@ -16,43 +12,33 @@ Inv-loop bytes words from to₀ width lo₀ to lo = (lo ≤ length words) × (le
 abbrev μ-loop : tie.MeasureT-loop
 μ-loop bytes words from to₀ width lo₀ to lo = length words - lo
 
--- src/lib.rt:208:5
 loop-holds : tie.Need-loop-holds Inv-loop μ-loop
 loop-holds c = omega arith
 
--- src/lib.rt:209:34
 add-lesser : tie.Need-add-lesser Inv-loop μ-loop
 add-lesser c = omega arith
 
--- src/lib.rt:209:13
 lesser-requires : tie.Need-lesser-requires Inv-loop μ-loop
 lesser-requires c κs = search needs
 
--- src/lib.rt:210:33
 add-lesser-2 : tie.Need-add-lesser-2 Inv-loop μ-loop
 add-lesser-2 c = omega arith
 
--- src/lib.rt:210:13
 lesser-requires-2 : tie.Need-lesser-requires-2 Inv-loop μ-loop
 lesser-requires-2 c κs = search needs
 
--- src/lib.rt:211:9
 merge-requires : tie.Need-merge-requires Inv-loop μ-loop
 merge-requires c κs = omega arith
 
--- src/lib.rt:208:5
 loop-less : tie.Need-loop-less Inv-loop μ-loop
 loop-less c = omega arith
 
--- src/lib.rt:208:5
 loop-again : tie.Need-loop-again Inv-loop μ-loop
 loop-again c = omega arith
 
--- src/lib.rt:204:1
 same-length : tie.Need-same-length Inv-loop μ-loop
 same-length c = omega arith
 
--- src/lib.rt:204:1
 returns : tie.Need-returns Inv-loop μ-loop
 returns c = omega arith
 

@@ -5,9 +5,6 @@ use lib.ListN.{length}
 use borrow.Author.Needs.{needs}
 use Rattle.distinct.proofs.merge_sort.Statement.{statement}
 use Rattle.distinct.proofs.merge_sort.Tie as tie
-use Rattle.distinct.proofs.merge_sort.Reads as reads
-use Rattle.distinct.proofs.merge_sort.Lts as lts
-use Rattle.distinct.proofs.merge_all.Reads as merge-all-reads
 
 abbrev Inv-loop : tie.InvT-loop
 Inv-loop bytes words order₀ other₀ width₀ order other width = (0 < width) × ((length order ≡ length order₀) × (length other ≡ length other₀))
@@ -15,43 +12,33 @@ Inv-loop bytes words order₀ other₀ width₀ order other width = (0 < width) 
 abbrev μ-loop : tie.MeasureT-loop
 μ-loop bytes words order₀ other₀ width₀ order other width = length words - width
 
--- src/lib.rt:220:5
 loop-holds : tie.Need-loop-holds Inv-loop μ-loop
 loop-holds c = omega arith
 
--- src/lib.rt:221:9
 merge-all-requires : tie.Need-merge-all-requires Inv-loop μ-loop
 merge-all-requires c κs = omega arith
 
--- src/lib.rt:222:47
 mul-merge-all : tie.Need-mul-merge-all Inv-loop μ-loop
 mul-merge-all c = omega arith
 
--- src/lib.rt:222:9
 merge-all-requires-2 : tie.Need-merge-all-requires-2 Inv-loop μ-loop
 merge-all-requires-2 c κs = omega arith
 
--- src/lib.rt:223:17
 mul-width : tie.Need-mul-width Inv-loop μ-loop
 mul-width c = omega arith
 
--- src/lib.rt:220:5
 loop-less : tie.Need-loop-less Inv-loop μ-loop
 loop-less c = omega arith
 
--- src/lib.rt:220:5
 loop-again : tie.Need-loop-again Inv-loop μ-loop
 loop-again c = omega arith
 
--- src/lib.rt:216:1
 same-length : tie.Need-same-length Inv-loop μ-loop
 same-length c = omega arith
 
--- src/lib.rt:216:1
 same-length-2 : tie.Need-same-length-2 Inv-loop μ-loop
 same-length-2 c = omega arith
 
--- src/lib.rt:216:1
 returns : tie.Need-returns Inv-loop μ-loop
 returns c = omega arith
 

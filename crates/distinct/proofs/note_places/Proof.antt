@@ -5,11 +5,6 @@ use lib.ListN.{length}
 use borrow.Author.Needs.{needs}
 use Rattle.distinct.proofs.note_places.Statement.{statement}
 use Rattle.distinct.proofs.note_places.Tie as tie
-use Rattle.distinct.proofs.note_places.Reads as reads
-use Rattle.distinct.proofs.note_places.Lts as lts
-use Rattle.distinct.proofs.index_at.Reads as index-at-reads
-use Rattle.distinct.proofs.put_index.Reads as put-index-reads
-use Rattle.distinct.proofs.size.Reads as size-reads
 
 abbrev Inv-loop : tie.InvT-loop
 Inv-loop order place₀ n i₀ place i = (i ≤ n) × (length place ≡ length place₀)
@@ -17,43 +12,33 @@ Inv-loop order place₀ n i₀ place i = (i ≤ n) × (length place ≡ length p
 abbrev μ-loop : tie.MeasureT-loop
 μ-loop order place₀ n i₀ place i = n - i
 
--- src/lib.rt:243:5
 loop-holds : tie.Need-loop-holds Inv-loop μ-loop
 loop-holds c = omega arith
 
--- src/lib.rt:244:31
 index-at-requires : tie.Need-index-at-requires Inv-loop μ-loop
 index-at-requires c κs = search needs
 
--- src/lib.rt:244:26
 size-requires : tie.Need-size-requires Inv-loop μ-loop
 size-requires c κs = search needs
 
--- src/lib.rt:244:52
 cast-put-index : tie.Need-cast-put-index Inv-loop μ-loop
 cast-put-index c = omega arith
 
--- src/lib.rt:244:9
 put-index-requires : tie.Need-put-index-requires Inv-loop μ-loop
 put-index-requires c κs = search needs
 
--- src/lib.rt:245:9
 add-i : tie.Need-add-i Inv-loop μ-loop
 add-i c = omega arith
 
--- src/lib.rt:243:5
 loop-less : tie.Need-loop-less Inv-loop μ-loop
 loop-less c = omega arith
 
--- src/lib.rt:243:5
 loop-again : tie.Need-loop-again Inv-loop μ-loop
 loop-again c = omega arith
 
--- src/lib.rt:239:1
 same-length : tie.Need-same-length Inv-loop μ-loop
 same-length c = omega arith
 
--- src/lib.rt:239:1
 returns : tie.Need-returns Inv-loop μ-loop
 returns c = omega arith
 

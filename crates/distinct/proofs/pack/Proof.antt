@@ -3,26 +3,19 @@ use Rattle.distinct.specs.Distinct.{runStart, runLength}
 use borrow.Author.Needs.{needs}
 use Rattle.distinct.proofs.pack.Statement.{statement}
 use Rattle.distinct.proofs.pack.Tie as tie
-use Rattle.distinct.proofs.pack.Reads as reads
-use Rattle.distinct.proofs.pack.Lts as lts
 
--- src/lib.rt:54:5
 mul-result : tie.Need-mul-result
 mul-result c = search needs
 
--- src/lib.rt:54:25
 mul-result-2 : tie.Need-mul-result-2
 mul-result-2 c = search needs
 
--- src/lib.rt:54:5
 add-result : tie.Need-add-result
 add-result c = search needs
 
--- src/lib.rt:54:5
 add-result-2 : tie.Need-add-result-2
 add-result-2 c = search needs
 
--- src/lib.rt:50:1
 returns : tie.Need-returns
 unfolding runStart runLength
 returns c = omega arith

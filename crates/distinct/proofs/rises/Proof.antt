@@ -9,9 +9,6 @@ use Rattle.distinct.specs.Check.{runLess, runAt}
 use mathlib.Core.Bool.{true}
 use Rattle.distinct.proofs.rises.Statement.{statement}
 use Rattle.distinct.proofs.rises.Tie as tie
-use Rattle.distinct.proofs.rises.Reads as reads
-use Rattle.distinct.proofs.rises.Lts as lts
-use Rattle.distinct.proofs.neighbours.Reads as neighbours-reads
 
 abbrev Inv-loop : tie.InvT-loop
 Inv-loop bytes words order i₀ i = (1 ≤ i) × ((j : ℕ) → j + 1 < i → runLess (runAt bytes words (getD order j 0)) (runAt bytes words (getD order (j + 1) 0)) ≡ true)
@@ -19,31 +16,24 @@ Inv-loop bytes words order i₀ i = (1 ≤ i) × ((j : ℕ) → j + 1 < i → ru
 abbrev μ-loop : tie.MeasureT-loop
 μ-loop bytes words order i₀ i = length words - i
 
--- src/lib.rt:320:5
 loop-holds : tie.Need-loop-holds Inv-loop μ-loop
 loop-holds c = (omega arith, λ j h. absurd (omega arith))
 
--- src/lib.rt:321:47
 sub-neighbours : tie.Need-sub-neighbours Inv-loop μ-loop
 sub-neighbours c = omega arith
 
--- src/lib.rt:321:15
 neighbours-requires : tie.Need-neighbours-requires Inv-loop μ-loop
 neighbours-requires c κs = search needs
 
--- src/lib.rt:323:17
 enum-told : tie.Need-enum-told Inv-loop μ-loop
 enum-told c = search needs
 
--- src/lib.rt:323:17
 add-i : tie.Need-add-i Inv-loop μ-loop
 add-i c = omega arith
 
--- src/lib.rt:320:5
 loop-less : tie.Need-loop-less Inv-loop μ-loop
 loop-less c = omega arith
 
--- src/lib.rt:320:5
 loop-again : tie.Need-loop-again Inv-loop μ-loop
 loop-again c =
     let l = c .before .before .before .before .loop in (
@@ -54,23 +44,18 @@ loop-again c =
           (λ n. l .inv .1 j (omega arith)),
     )
 
--- src/lib.rt:326:17
 enum-told-2 : tie.Need-enum-told-2 Inv-loop μ-loop
 enum-told-2 c = search needs
 
--- src/lib.rt:326:17
 returns : tie.Need-returns Inv-loop μ-loop
 returns c = rw (c .enum-told2 .given .1) at (c .before .before .neighbours .ensures)
 
--- src/lib.rt:329:17
 enum-told-3 : tie.Need-enum-told-3 Inv-loop μ-loop
 enum-told-3 c = search needs
 
--- src/lib.rt:329:17
 returns-2 : tie.Need-returns-2 Inv-loop μ-loop
 returns-2 c = tt
 
--- src/lib.rt:316:1
 returns-3 : tie.Need-returns-3 Inv-loop μ-loop
 returns-3 c = λ j h. c .before .loop .inv .1 j (omega arith)
 

@@ -3,52 +3,37 @@ use native.Mathlib.Omega.{arith}
 use borrow.Author.Needs.{needs}
 use Rattle.distinct.proofs.run_word.Statement.{statement}
 use Rattle.distinct.proofs.run_word.Tie as tie
-use Rattle.distinct.proofs.run_word.Reads as reads
-use Rattle.distinct.proofs.run_word.Lts as lts
-use Rattle.distinct.proofs.pack.Reads as pack-reads
-use Rattle.distinct.proofs.sort_key.Reads as sort-key-reads
 
--- src/lib.rt:62:9
 returns : tie.Need-returns
 returns c = λ p q. absurd (omega arith)
 
--- src/lib.rt:65:9
 returns-2 : tie.Need-returns-2
 returns-2 c = λ p q. absurd (omega arith)
 
--- src/lib.rt:67:8
 sub-if3 : tie.Need-sub-if3
 sub-if3 c = search needs
 
--- src/lib.rt:68:9
 returns-3 : tie.Need-returns-3
 returns-3 c = λ p q. absurd (omega arith)
 
--- src/lib.rt:70:15
 add-end : tie.Need-add-end
 add-end c = search needs
 
--- src/lib.rt:71:24
 sub-sort-key : tie.Need-sub-sort-key
 sub-sort-key c = search needs
 
--- src/lib.rt:71:24
 part-sort-key-start : tie.Need-part-sort-key-start
 part-sort-key-start c = search needs
 
--- src/lib.rt:71:24
 part-sort-key-end : tie.Need-part-sort-key-end
 part-sort-key-end c = search needs
 
--- src/lib.rt:71:9
 sort-key-requires : tie.Need-sort-key-requires
 sort-key-requires c κs = search needs
 
--- src/lib.rt:72:5
 pack-requires : tie.Need-pack-requires
 pack-requires c κs = search needs
 
--- src/lib.rt:58:1
 returns-4 : tie.Need-returns-4
 returns-4 c = λ p q. rw (c .pack .ensures .0, c .pack .ensures .1)
 

@@ -4,47 +4,34 @@ use Rattle.base.proofs.Split.{clash}
 use borrow.Author.Needs.{needs}
 use Rattle.distinct.proofs.stands.Statement.{statement}
 use Rattle.distinct.proofs.stands.Tie as tie
-use Rattle.distinct.proofs.stands.Reads as reads
-use Rattle.distinct.proofs.stands.Lts as lts
-use Rattle.distinct.proofs.size.Reads as size-reads
 
--- src/lib.rt:256:9
 returns : tie.Need-returns
 returns c = λ q. clash q refl
 
--- src/lib.rt:258:18
 mul-size : tie.Need-mul-size
 mul-size c = search needs
 
--- src/lib.rt:258:18
 shared-slice-read-size : tie.Need-shared-slice-read-size
 shared-slice-read-size c = search needs
 
--- src/lib.rt:258:9
 size-requires : tie.Need-size-requires
 size-requires c κs = search needs
 
--- src/lib.rt:260:9
 returns-2 : tie.Need-returns-2
 returns-2 c = λ q. clash q refl
 
--- src/lib.rt:263:9
 returns-3 : tie.Need-returns-3
 returns-3 c = λ q. clash q refl
 
--- src/lib.rt:265:10
 mul-size-2 : tie.Need-mul-size-2
 mul-size-2 c = search needs
 
--- src/lib.rt:265:10
 shared-slice-read-size-2 : tie.Need-shared-slice-read-size-2
 shared-slice-read-size-2 c = search needs
 
--- src/lib.rt:265:5
 size-requires-2 : tie.Need-size-requires-2
 size-requires-2 c κs = search needs
 
--- src/lib.rt:252:1
 returns-4 : tie.Need-returns-4
 returns-4 c =
     λ q.
