@@ -3,7 +3,7 @@
 ghost use mathlib.Core.Path.{_≡_};
 ghost use mathlib.Core.Bool.{true};
 ghost use Prim.Native.Nat.{_+_, _*_, _<_, _≤_};
-ghost use lib.ListN.{length, getD, take, drop};
+ghost use lib.ListN.{length, getD, take, drop, set};
 ghost use Rattle.distinct.specs.Distinct.{distinct, runStart, runLength, runIn, runsIn, RightOf};
 ghost use Rattle.distinct.specs.Check.{ComparedAs, Placed, IndexesAs, RisesAs};
 
@@ -70,6 +70,15 @@ pub fn run_word(bytes: &[u8], start: usize, len: usize) -> u64
     let end = start + len;
     let key = sort_key(&bytes[start..end]);
     pack(key, start, len)
+}
+
+// A word at a place, where there is room.
+pub fn put_word(words: &mut [u64], i: usize, w: u64)
+    ensures { λ _. ⌜ now (words .exit) ≡ set (now (words .entry)) i w ⌝ }
+{
+    if i < words.len() {
+        words[i] = w;
+    }
 }
 
 fn key_of(w: u64) -> u64 {

@@ -3,7 +3,7 @@ ghost use mathlib.Core.Path.{_≡_};
 ghost use mathlib.Core.Bool.{true, false};
 ghost use mathlib.Core.List.{[], _∷_};
 ghost use Prim.Native.Nat.{_+_, _*_, _≤_, _<_};
-ghost use lib.ListN.{length, take, set};
+ghost use lib.ListN.{length, take};
 ghost use lib.Dec.{leb};
 ghost use Rattle.base.specs.Bytes.{both, same};
 ghost use Rattle.little.specs.Little.{over};
@@ -211,14 +211,6 @@ fn sound_in_pairs(spans: &[u64], bytes: &[u8], n: usize) -> bool
     true
 }
 
-fn put_word(words: &mut [u64], h: usize, w: u64)
-    ensures { λ _. ⌜ now (words .exit) ≡ set (now (words .entry)) h w ⌝ }
-{
-    if h < words.len() {
-        words[h] = w;
-    }
-}
-
 // Whether the string of a handle lies within the bytes and is legal text. Its word is noted.
 fn note_text(spans: &[u64], bytes: &[u8], words: &mut [u64], h: usize) -> bool
     requires { ⌜ (length (now bytes) < 131072) × ((h < length (now words)) × Noted (now spans) (now bytes) (now words) h) ⌝ }
@@ -230,7 +222,7 @@ fn note_text(spans: &[u64], bytes: &[u8], words: &mut [u64], h: usize) -> bool
     };
     let end = start + len;
     if text::is_text(&bytes[start..end]) {
-        put_word(words, h, distinct::run_word(bytes, start, len));
+        distinct::put_word(words, h, distinct::run_word(bytes, start, len));
         true
     } else {
         false

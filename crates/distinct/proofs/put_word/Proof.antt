@@ -3,8 +3,8 @@ use mathlib.Core.Path.{sym}
 use denote.Ref.{now}
 use lib.Seq.{set-out}
 use borrow.Author.Needs.{needs}
-use Rattle.interner.proofs.put_word.Statement.{statement}
-use Rattle.interner.proofs.put_word.Tie as tie
+use Rattle.distinct.proofs.put_word.Statement.{statement}
+use Rattle.distinct.proofs.put_word.Tie as tie
 
 mul-words : tie.Need-mul-words
 mul-words c = search needs
@@ -19,7 +19,7 @@ returns : tie.Need-returns
 returns c = search needs
 
 returns-2 : tie.Need-returns-2
-returns-2 c = let a = c .before .args in sym (set-out (now (a .words)) (a .h) (a .w) (c .if1 .left))
+returns-2 c = let a = c .before .args in sym (set-out (now (a .words)) (a .i) (a .w) (c .if1 .left))
 
 pub put-word-spec : {M : Type 1} → statement M
 put-word-spec = tie.close (tie.spec mul-words slice-write-words same-length returns returns-2)
