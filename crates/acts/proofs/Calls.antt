@@ -10,7 +10,8 @@ use lib.ListN.{length}
 use Rattle.base.specs.Bytes.{Bytes, both, all, same}
 use Rattle.base.proofs.Split.{byBool, no}
 use Rattle.interner.specs.Texts.{handleOf, takeIn, takeAll, noTexts, textOf}
-use Rattle.interner.specs.Sound.{distinct, firstEmpty}
+use Rattle.distinct.specs.Distinct.{distinct}
+use Rattle.interner.specs.Sound.{firstEmpty}
 use Rattle.interner.proofs.Held.{take-held, take-new, grown-all, text-stays-all, distinct-new, first-empty-more, empty-handle, handle-new, raised}
 use Rattle.model.specs.Act.{Act}
 use Rattle.field.specs.Field.{Field, got, bad}

@@ -14,7 +14,8 @@ use Rattle.text.specs.Check.{isText}
 use Rattle.interner.specs.declared.Span.the-variants.{Missing}
 use Rattle.interner.specs.Texts.{handleOf}
 use Rattle.interner.specs.Strings.{startOf, lengthOf, spanned, bytesAt, spanAt, findIn, Store, usedOf}
-use Rattle.interner.specs.Sound.{handles, textsIn, textsOf, countsWithin, spanWithin, differs, distinct, soundUpTo, firstEmpty, soundStrings}
+use Rattle.distinct.specs.Distinct.{differs, distinct}
+use Rattle.interner.specs.Sound.{handles, textsIn, textsOf, countsWithin, spanWithin, soundUpTo, firstEmpty, soundStrings}
 use Rattle.interner.specs.Check.{isNot, newAt}
 use Rattle.interner.proofs.Finds.{SpanWithin, lies-not, spanned-bytes}
 use Rattle.interner.proofs.Handles.{all-handles, each-handle, all-made, each-made}

@@ -10,7 +10,8 @@ use Rattle.base.specs.Bytes.{Bytes, all, same}
 use Rattle.base.proofs.Split.{byBool, both-of, both-left, both-right, clash, no, same-test}
 use Rattle.base.proofs.Lists.{same-yes, same-refl, all-nil, all-cons, all-head, all-tail, all-append}
 use Rattle.interner.specs.Texts.{handleOf, takeIn, takeAll, textOf}
-use Rattle.interner.specs.Sound.{differs, distinct, firstEmpty}
+use Rattle.distinct.specs.Distinct.{differs, distinct}
+use Rattle.interner.specs.Sound.{firstEmpty}
 
 -- ---- the handle of a text
 

@@ -23,7 +23,8 @@ use Rattle.interner.specs.declared.Span.the-variants.{Part, Missing}
 use Rattle.interner.specs.declared.Interned.the-variants.{Held, Full}
 use Rattle.interner.specs.Texts.{handleOf, takeIn, takeAll, noTexts, answerAs, internAccepted, handleAnswered, textOf}
 use Rattle.interner.specs.Strings.{startOf, lengthOf, spanned, bytesAt, isAt, findFrom, findIn, Store, usedOf, textRoom, added, textTaken, intern, internAll, acceptedOf, spanOf}
-use Rattle.interner.specs.Sound.{handles, textsIn, textsOf, countsWithin, spanWithin, soundUpTo, differs, distinct, firstEmpty, soundStrings, freshStore}
+use Rattle.distinct.specs.Distinct.{differs, distinct}
+use Rattle.interner.specs.Sound.{handles, textsIn, textsOf, countsWithin, spanWithin, soundUpTo, firstEmpty, soundStrings, freshStore}
 use Rattle.interner.proofs.Finds.{spanned-yes, spanned-bytes, find-none, find-here, find-on, part}
 use Rattle.interner.proofs.Takes.{held, new, full, room-words, room-bytes}
 use Rattle.interner.proofs.Handles.{length-handles, handles-more, all-handles, each-handle, map-handles, made-at}

@@ -4,4 +4,4 @@ pub mod Handles
 pub mod Held
 pub mod Interns
 pub mod Checks
-pub mod Keys
+pub mod Words

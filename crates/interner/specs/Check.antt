@@ -1,12 +1,12 @@
 -- What the check of the strings goes by, handle by handle. Soundness itself is Sound.
-use Prim.Native.Nat.{ℕ, _+_, _*_, _%_, _<_}
+use Prim.Native.Nat.{ℕ, _<_}
 use mathlib.Core.Path.{_≡_}
-use mathlib.Core.Bool.{Bool, true, false, not}
-use mathlib.Core.List.{List, [], _∷_}
-use lib.Dec.{eqb}
-use lib.ListN.{length, getD}
+use mathlib.Core.Bool.{Bool, true, false}
+use mathlib.Core.List.{List}
+use lib.ListN.{getD}
 use Rattle.base.specs.Bytes.{Bytes, both}
 use Rattle.text.specs.Check.{isText}
+use Rattle.distinct.specs.Distinct.{runIn}
 use Rattle.interner.specs.declared.Found.{Found}
 use Rattle.interner.specs.declared.Found.the-variants.{At, Not}
 use Rattle.interner.specs.Strings.{spanned, bytesAt, findIn}
@@ -20,17 +20,10 @@ unfoldable pub newAt : List ℕ → Bytes → ℕ → Bool
 newAt spans bytes h =
     both (spanned spans bytes h) (both (isText (bytesAt spans bytes h)) (isNot (findIn spans bytes h (bytesAt spans bytes h))))
 
--- a number that equal texts share
-unfoldable pub keyFrom : ℕ → Bytes → ℕ
-keyFrom k [] = k
-keyFrom k (b ∷ bs) = keyFrom ((k * 31 + b) % 4294967296) bs
+-- the string of a handle lies within the bytes and is legal text
+unfoldable pub legalAt : List ℕ → Bytes → ℕ → Bool
+legalAt spans bytes h = both (spanned spans bytes h) (isText (bytesAt spans bytes h))
 
-abbrev pub textKey : Bytes → ℕ
-textKey t = keyFrom 0 t
-
-unfoldable pub other : ℕ → ℕ → Bool
-other k x = not (eqb x k)
-
--- the keys of the strings before a handle, as far as there are keys
-abbrev pub Keyed : List ℕ → Bytes → List ℕ → ℕ → Type 0
-Keyed spans bytes keys h = (j : ℕ) → j < h → j < length keys → getD keys j 0 ≡ textKey (bytesAt spans bytes j)
+-- the words of the strings before a handle
+abbrev pub Noted : List ℕ → Bytes → List ℕ → ℕ → Type 0
+Noted spans bytes words h = (j : ℕ) → j < h → runIn bytes (getD words j 0) ≡ bytesAt spans bytes j

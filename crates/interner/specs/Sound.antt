@@ -1,13 +1,14 @@
 -- Document 01, "Sound", of the strings: "counts within lent sizes; string spans within the used bytes, legal text, no two texts equal,
 -- handle 0 empty".
 use Prim.Native.Nat.{ℕ, zero, suc, _*_}
-use mathlib.Core.Bool.{Bool, true, false, not}
+use mathlib.Core.Bool.{Bool, false}
 use mathlib.Core.List.{List, [], _∷_, map}
 use lib.Dec.{leb}
 use lib.ListN.{length}
 use Rattle.base.specs.Bytes.{Bytes, both, all, same}
 use Rattle.text.specs.Check.{isText}
 use Rattle.little.specs.Little.{over}
+use Rattle.distinct.specs.Distinct.{distinct}
 use Rattle.interner.specs.Strings.{spanned, bytesAt, Store, storeWith, usedOf}
 
 -- n handles from h on
@@ -30,14 +31,6 @@ countsWithin s = both (leb (2 * (s .strings)) (length (s .spans))) (leb (s .used
 -- "string spans within the used bytes"
 unfoldable pub spanWithin : List ℕ → Bytes → ℕ → Bool
 spanWithin spans bytes n = all (spanned spans bytes) (handles n 0)
-
-unfoldable pub differs : Bytes → Bytes → Bool
-differs t u = not (same t u)
-
--- "no two texts equal"
-unfoldable pub distinct : List Bytes → Bool
-distinct [] = true
-distinct (t ∷ ts) = both (all (differs t) ts) (distinct ts)
 
 -- "string spans within the used bytes, legal text, no two texts equal", of the first n handles
 unfoldable pub soundUpTo : List ℕ → Bytes → ℕ → Bool

@@ -1,15 +1,17 @@
 // Strings over lent storage (interner.rs): two words a string among the spans, and the bytes of the texts.
 ghost use mathlib.Core.Path.{_≡_};
-ghost use mathlib.Core.Bool.{true};
+ghost use mathlib.Core.Bool.{true, false};
 ghost use mathlib.Core.List.{[], _∷_};
-ghost use Prim.Native.Nat.{_+_, _*_, _≤_};
-ghost use lib.ListN.{length, take, set};
+ghost use Prim.Native.Nat.{_+_, _*_, _≤_, _<_};
+ghost use lib.ListN.{length, take};
 ghost use lib.Dec.{leb};
-ghost use Rattle.base.specs.Bytes.{both, all, same};
+ghost use Rattle.base.specs.Bytes.{both, same};
 ghost use Rattle.little.specs.Little.{over};
+ghost use Rattle.distinct.specs.Distinct.{distinct, runsIn};
 ghost use Rattle.interner.specs.Strings.{spanAt, spanOf, isAt, findIn, storeWith, storeAfter, textTaken, intern};
 ghost use Rattle.interner.specs.Sound.{soundUpTo, soundStrings, freshSpans};
-ghost use Rattle.interner.specs.Check.{textKey, other, Keyed, isNot, newAt};
+ghost use Rattle.interner.specs.Check.{newAt, legalAt, Noted};
+use distinct::Distinctness;
 
 // The handle of an equal text, or that none is held.
 pub enum Found {
@@ -173,64 +175,11 @@ pub fn intern(spans: &mut [u64], bytes: &mut [u8], strings: u64, used: u64, text
     }
 }
 
-// A number that equal texts share, so that most others are told apart without their bytes.
-fn key_of(t: &[u8]) -> u32
-    ensures { λ r. ⌜ r ≡ textKey (now (t .entry)) ⌝ }
-{
-    let mut k: u64 = 0;
-    let mut i: usize = 0;
-    while i < t.len() {
-        k = (k * 31 + t[i] as u64) % 4294967296;
-        i += 1;
-    }
-    k as u32
-}
+// ---- soundness
 
-// Whether there are n keys and none of the first n is k. It goes on to the end, so that many are compared at once.
-fn no_key(keys: &[u32], n: usize, k: u32) -> bool
-    ensures { λ r. ⌜ r ≡ both (leb n (length (now (keys .entry)))) (all (other k) (take n (now (keys .entry)))) ⌝ }
-{
-    if keys.len() < n {
-        return false;
-    }
-    let mut free = true;
-    let mut i: usize = 0;
-    while i < n {
-        if keys[i] == k {
-            free = false;
-        }
-        i += 1;
-    }
-    free
-}
-
-fn put_key(keys: &mut [u32], h: usize, k: u32)
-    ensures { λ _. ⌜ now (keys .exit) ≡ set (now (keys .entry)) h k ⌝ }
-{
-    if h < keys.len() {
-        keys[h] = k;
-    }
-}
-
-// Whether no handle before h has the text, whose key is k: by the keys, and where one is the same by the texts.
-fn is_first(spans: &[u64], bytes: &[u8], keys: &[u32], h: usize, t: &[u8], k: u32) -> bool
-    requires { ⌜ Keyed (now spans) (now bytes) (now keys) h × (k ≡ textKey (now t)) ⌝ }
-    ensures { λ r. ⌜ r ≡ isNot (findIn (now (spans .entry)) (now (bytes .entry)) h (now (t .entry))) ⌝ }
-{
-    if no_key(keys, h, k) {
-        return true;
-    }
-    match find_text(spans, bytes, h as u64, t) {
-        Found::Not => true,
-        Found::At(_) => false,
-    }
-}
-
-// Whether the string of a handle lies within the bytes, is legal text, and differs from those before it. Its key is noted.
-fn is_new(spans: &[u64], bytes: &[u8], keys: &mut [u32], h: usize) -> bool
-    requires { ⌜ Keyed (now spans) (now bytes) (now keys) h ⌝ }
+// Whether the string of a handle lies within the bytes, is legal text, and differs from those before it.
+fn is_new(spans: &[u64], bytes: &[u8], h: usize) -> bool
     ensures { λ r. ⌜ r ≡ newAt (now (spans .entry)) (now (bytes .entry)) h ⌝ }
-    ensures { λ r. ⌜ (r ≡ true → Keyed (now (spans .entry)) (now (bytes .entry)) (now (keys .exit)) (h + 1)) ⌝ }
 {
     let Span::Part { start, len } = span_at(spans, bytes, h) else {
         return false;
@@ -238,31 +187,101 @@ fn is_new(spans: &[u64], bytes: &[u8], keys: &mut [u32], h: usize) -> bool
     let end = start + len;
     let t = &bytes[start..end];
     if text::is_text(t) {
-        let k = key_of(t);
-        if is_first(spans, bytes, keys, h, t, k) {
-            put_key(keys, h, k);
-            true
-        } else {
-            false
+        match find_text(spans, bytes, h as u64, t) {
+            Found::Not => true,
+            Found::At(_) => false,
         }
     } else {
         false
     }
 }
 
-// Whether the strings of the first n handles are sound.
-fn sound_up_to(spans: &[u64], bytes: &[u8], n: usize, keys: &mut [u32; 4096]) -> bool
+// Whether the strings of the first n handles are sound: each is compared with those before it.
+fn sound_in_pairs(spans: &[u64], bytes: &[u8], n: usize) -> bool
     ensures { λ r. ⌜ r ≡ soundUpTo (now (spans .entry)) (now (bytes .entry)) n ⌝ }
 {
     let mut h: usize = 0;
     while h < n {
-        if is_new(spans, bytes, keys, h) {
+        if is_new(spans, bytes, h) {
             h += 1;
         } else {
             return false;
         }
     }
     true
+}
+
+// Whether the string of a handle lies within the bytes and is legal text. Its word is noted.
+fn note_text(spans: &[u64], bytes: &[u8], words: &mut [u64], h: usize) -> bool
+    requires { ⌜ (length (now bytes) < 131072) × ((h < length (now words)) × Noted (now spans) (now bytes) (now words) h) ⌝ }
+    ensures { λ r. ⌜ r ≡ legalAt (now (spans .entry)) (now (bytes .entry)) h ⌝ }
+    ensures { λ r. ⌜ (r ≡ true → Noted (now (spans .entry)) (now (bytes .entry)) (now (words .exit)) (h + 1)) ⌝ }
+{
+    let Span::Part { start, len } = span_at(spans, bytes, h) else {
+        return false;
+    };
+    let end = start + len;
+    if text::is_text(&bytes[start..end]) {
+        distinct::put_word(words, h, distinct::run_word(bytes, start, len));
+        true
+    } else {
+        false
+    }
+}
+
+// Whether the strings of the first n handles lie within the bytes and are legal text. Their words are noted.
+fn note_texts(spans: &[u64], bytes: &[u8], words: &mut [u64], n: usize) -> bool
+    requires { ⌜ (length (now bytes) < 131072) × (n ≤ length (now words)) ⌝ }
+    ensures { λ r. ⌜ (r ≡ true → soundUpTo (now (spans .entry)) (now (bytes .entry)) n ≡ distinct (runsIn (now (bytes .entry)) (take n (now (words .exit))))) ⌝ }
+    ensures { λ r. ⌜ (r ≡ false → soundUpTo (now (spans .entry)) (now (bytes .entry)) n ≡ false) ⌝ }
+{
+    let mut h: usize = 0;
+    while h < n {
+        if note_text(spans, bytes, words, h) {
+            h += 1;
+        } else {
+            return false;
+        }
+    }
+    true
+}
+
+// Whether the strings of the first n handles are sound: by their words, where these tell it.
+fn sound_by_words(spans: &[u64], bytes: &[u8], words: &mut [u64], n: usize) -> bool
+    ensures { λ r. ⌜ r ≡ soundUpTo (now (spans .entry)) (now (bytes .entry)) n ⌝ }
+{
+    if words.len() < n {
+        return sound_in_pairs(spans, bytes, n);
+    }
+    if 131072 <= bytes.len() {
+        return sound_in_pairs(spans, bytes, n);
+    }
+    if note_texts(spans, bytes, words, n) {
+        match distinct::runs_differ(bytes, &words[..n]) {
+            Distinctness::Distinct => true,
+            Distinctness::Twice => false,
+            Distinctness::Untold => sound_in_pairs(spans, bytes, n),
+        }
+    } else {
+        false
+    }
+}
+
+fn sound_with(spans: &[u64], bytes: &[u8], words: &mut [u64; 5460], n: usize) -> bool
+    ensures { λ r. ⌜ r ≡ soundUpTo (now (spans .entry)) (now (bytes .entry)) n ⌝ }
+{
+    sound_by_words(spans, bytes, words, n)
+}
+
+// Whether the strings of the first n handles are sound. A few are compared in pairs.
+fn sound_up_to(spans: &[u64], bytes: &[u8], n: usize) -> bool
+    ensures { λ r. ⌜ r ≡ soundUpTo (now (spans .entry)) (now (bytes .entry)) n ⌝ }
+{
+    if n <= 32 {
+        return sound_in_pairs(spans, bytes, n);
+    }
+    let mut words = [0u64; 5460];
+    sound_with(spans, bytes, &mut words, n)
 }
 
 // Whether the strings are sound.
@@ -280,8 +299,7 @@ pub fn sound_strings(spans: &[u64], bytes: &[u8], strings: u64, used: u64) -> bo
     }
     if spans[1] == 0 {
         let at = used as usize;
-        let mut keys = [0u32; 4096];
-        sound_up_to(spans, &bytes[..at], strings as usize, &mut keys)
+        sound_up_to(spans, &bytes[..at], strings as usize)
     } else {
         false
     }

@@ -16,7 +16,8 @@ use Rattle.line.specs.Line.{tabbed, line}
 use Rattle.line.specs.Decimal.{digitsBefore, numberText, integerText}
 use Rattle.interner.specs.Strings.{spanned}
 use Rattle.interner.specs.Sound as Strings
-use Rattle.interner.specs.Sound.{handles, textsIn, soundStrings, soundUpTo, spanWithin, distinct, differs, firstEmpty}
+use Rattle.distinct.specs.Distinct.{distinct, differs}
+use Rattle.interner.specs.Sound.{handles, textsIn, soundStrings, soundUpTo, spanWithin, firstEmpty}
 use Rattle.refusal.specs.declared.Refusal.the-variants as R
 use Rattle.model.specs.Record.{flagged, claimOf}
 use Rattle.compact.specs.Cut.{thenCut, cutBytes, cutNumber, cutI32, cutI64, times, cutMeta, cutTag, cutBody, cutParts, cutHead, cutRecord}

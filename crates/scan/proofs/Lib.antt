@@ -3,3 +3,4 @@ pub mod Pieces
 pub mod Walks
 pub mod Lines
 pub mod Attributes
+pub mod Names

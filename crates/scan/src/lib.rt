@@ -3,16 +3,19 @@ ghost use mathlib.Core.Path.{_≡_};
 ghost use mathlib.Core.Bool.{not, true};
 ghost use Prim.Native.Nat.{_+_, _≤_, _<_};
 ghost use lib.Dec.{eqb};
-ghost use lib.ListN.{length, drop, set};
+ghost use lib.ListN.{length, take, drop, set};
 ghost use lib.Seq.{slice};
 ghost use Rattle.base.specs.Bytes.{same, all};
 ghost use Rattle.line.specs.Line.{fields};
 ghost use Rattle.event.specs.Event.{body, legalLine, eventOf, eventFrom, startsFrom, attrOf, attrsOf, named, noneTwice};
 ghost use Rattle.little.specs.Little.{over};
+ghost use Rattle.distinct.specs.Distinct.{runsIn};
 ghost use Rattle.text.specs.Escape.{meaning, unescape};
+ghost use Rattle.scan.specs.Names.{namesOf};
 ghost use Rattle.scan.specs.Piece.{there, lettered, pieceIn, valueText};
 ghost use Rattle.scan.specs.Scan.{fieldsAt, attrsAt, Good, stand, means, lone, InBounds, upTo, attributeAt, attributeValue};
 ghost use Rattle.scan.specs.declared.Attribute.the-variants as attribute;
+use distinct::Distinctness;
 use refusal::Refusal;
 
 // A line: refused; an open or, where the test is true, an empty element, whose name lies from one place to another and whose attributes follow;
@@ -245,7 +248,7 @@ fn again(t: &[u8], name: &[u8], at: usize) -> bool
 }
 
 // Whether no two of the attributes from a place on have one name: each name is compared with those behind it.
-fn once(t: &[u8], at: usize) -> bool
+fn once_in_pairs(t: &[u8], at: usize) -> bool
     requires { ⌜ Good (now t) at ⌝ }
     ensures { λ r. ⌜ r ≡ noneTwice (attrsAt (now (t .entry)) at) ⌝ }
 {
@@ -259,6 +262,61 @@ fn once(t: &[u8], at: usize) -> bool
         }
         p = to + 1;
     }
+}
+
+// The words of the names of the attributes from a place on, as far as there is room. How many names there are is answered.
+fn note_names(t: &[u8], words: &mut [u64], at: usize) -> usize
+    requires { ⌜ Good (now t) at × (length (now t) < 131072) ⌝ }
+    ensures { λ r. ⌜ (r ≤ length (now (words .exit)) → namesOf (attrsAt (now (t .entry)) at) ≡ runsIn (now (t .entry)) (take r (now (words .exit)))) ⌝ }
+{
+    let mut n: usize = 0;
+    let mut p = at;
+    loop {
+        let Attribute::At { eq, to } = attribute_at(t, p) else {
+            return n;
+        };
+        distinct::put_word(words, n, distinct::run_word(t, p, eq - p));
+        n += 1;
+        p = to + 1;
+    }
+}
+
+// Whether no two of the attributes from a place on have one name: by the words of the names, where these tell it.
+fn once_by_words(t: &[u8], words: &mut [u64], at: usize) -> bool
+    requires { ⌜ Good (now t) at ⌝ }
+    ensures { λ r. ⌜ r ≡ noneTwice (attrsAt (now (t .entry)) at) ⌝ }
+{
+    if 131072 <= t.len() {
+        return once_in_pairs(t, at);
+    }
+    let n = note_names(t, words, at);
+    if words.len() < n {
+        return once_in_pairs(t, at);
+    }
+    match distinct::runs_differ(t, &words[..n]) {
+        Distinctness::Distinct => true,
+        Distinctness::Twice => false,
+        Distinctness::Untold => once_in_pairs(t, at),
+    }
+}
+
+fn once_with(t: &[u8], words: &mut [u64; 5460], at: usize) -> bool
+    requires { ⌜ Good (now t) at ⌝ }
+    ensures { λ r. ⌜ r ≡ noneTwice (attrsAt (now (t .entry)) at) ⌝ }
+{
+    once_by_words(t, words, at)
+}
+
+// Whether no two of the attributes from a place on have one name. In a short line they are compared in pairs.
+fn once(t: &[u8], at: usize) -> bool
+    requires { ⌜ Good (now t) at ⌝ }
+    ensures { λ r. ⌜ r ≡ noneTwice (attrsAt (now (t .entry)) at) ⌝ }
+{
+    if t.len() < 256 {
+        return once_in_pairs(t, at);
+    }
+    let mut words = [0u64; 5460];
+    once_with(t, &mut words, at)
 }
 
 // Whether the fields from a place on are attributes, and no name is there twice.

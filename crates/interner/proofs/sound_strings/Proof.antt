@@ -38,9 +38,9 @@ sound-up-to-requires c κs = search needs
 
 returns-4 : tie.Need-returns-4
 returns-4 c =
-    let a = c .before .before .before .before .before .before .before .before .before .before .args in
+    let a = c .before .before .before .before .before .before .before .before .before .args in
     c .sound-up-to .ensures
-    ∙ sym (strings-decide (storeWith (now (a .spans)) (now (a .bytes)) (a .strings) (a .used)) (omega arith) (omega arith) (omega arith) (c .before .before .before .if4 .taken))
+    ∙ sym (strings-decide (storeWith (now (a .spans)) (now (a .bytes)) (a .strings) (a .used)) (omega arith) (omega arith) (omega arith) (c .before .before .if4 .taken))
 
 returns-5 : tie.Need-returns-5
 returns-5 c =

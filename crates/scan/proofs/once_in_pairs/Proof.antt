@@ -1,4 +1,4 @@
--- `once` goes from attribute to attribute. The invariant: the attributes from the present place on are good, and decide.
+-- `once_in_pairs` goes from attribute to attribute. The invariant: the attributes from the present place on are good, and decide.
 use Prim.Native.Nat.{_+_, _-_, suc}
 use mathlib.Core.Path.{_≡_, refl, sym, _∙_}
 use native.Mathlib.Omega.{arith}
@@ -10,8 +10,8 @@ use Rattle.event.specs.Event.{named, noneTwice}
 use Rattle.scan.specs.Scan.{attrsAt, Good}
 use Rattle.scan.proofs.Places.{lent-is}
 use Rattle.scan.proofs.Walks.{Step, attrs-step, once-on, once-stops, once-ends}
-use Rattle.scan.proofs.once.Statement.{statement}
-use Rattle.scan.proofs.once.Tie as tie
+use Rattle.scan.proofs.once_in_pairs.Statement.{statement}
+use Rattle.scan.proofs.once_in_pairs.Tie as tie
 
 abbrev Inv-loop : tie.InvT-loop
 Inv-loop t at p₀ p = Good t p × (noneTwice (attrsAt t p) ≡ noneTwice (attrsAt t at))
@@ -84,8 +84,8 @@ loop-again c =
     let d = stood (c .before .before .before) in
     (d .rest, once-on d (sym (compared (c .before)) ∙ c .if1 .left) ∙ c .before .before .before .before .before .before .before .loop .inv .1)
 
-pub once-spec : {M : Type 1} → statement M
-once-spec =
+pub once-in-pairs-spec : {M : Type 1} → statement M
+once-in-pairs-spec =
     tie.close
     (tie.spec
     Inv-loop

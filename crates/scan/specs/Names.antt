@@ -1,0 +1,8 @@
+-- The names of attributes.
+use mathlib.Core.List.{List, [], _∷_}
+use Rattle.base.specs.Bytes.{Bytes}
+use Rattle.event.specs.Event.{Attr}
+
+unfoldable pub namesOf : List Attr → List Bytes
+namesOf [] = []
+namesOf (a ∷ as1) = a .name ∷ namesOf as1
