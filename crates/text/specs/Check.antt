@@ -3,9 +3,10 @@ use Prim.Native.Nat.{ℕ, zero, suc, _+_, _-_, _*_, _<_}
 use mathlib.Core.Path.{_≡_}
 use mathlib.Core.Bool.{Bool, true, cond}
 use mathlib.Core.List.{[], _∷_}
-use lib.Dec.{ltb, leb}
+use lib.Dec.{ltb, leb, eqb}
 use lib.ListN.{length, getD, take}
-use Rattle.base.specs.Bytes.{Bytes, both, same}
+use Rattle.base.specs.Bytes.{Bytes, both, either, same}
+use Rattle.base.specs.Chars.{horizontalTab}
 use Rattle.text.specs.Char.{from-to, xmlChar, utf8}
 
 -- Document 01: "The first byte of a character is judged by a table of 256 classes".
@@ -56,6 +57,10 @@ isText s = textAfter 0 s
 -- an ASCII character of XML 1.0
 unfoldable pub plainAscii : ℕ → Bool
 plainAscii b = both (ltb b 0x80) (xmlChar b)
+
+-- a tab, or an ASCII character from the blank to the tilde: a legal character that is neither a line feed nor a carriage return
+unfoldable pub isPlain : ℕ → Bool
+isPlain b = either (eqb b horizontalTab) (from-to 0x20 0x7e b)
 
 -- What the contracts of the private functions cite.
 
