@@ -1,18 +1,17 @@
 -- Laws of places in a line: the first of a byte, the field that ends there, the attribute in it.
 use Prim.Native.Nat.{ℕ, zero, suc, _+_, _-_, _<_, _≤_}
 use mathlib.Core.Path.{_≡_, refl, sym, _∙_, ap}
-use mathlib.Core.Bool.{false, not, cond}
+use mathlib.Core.Bool.{false, cond}
 use mathlib.Core.Option.{none, some}
 use mathlib.Core.List.{[], _∷_}
 use native.Mathlib.Nat.{suc-add, zero-add}
 use native.Mathlib.Numerals.{add-one}
 use native.Mathlib.Omega.{arith}
-use lib.Dec.{eqb}
 use lib.ListN.{length, getD, take, drop, length-drop, drop-of-length-le}
 use lib.Seq.{slice, length-slice, drop-cons, drop-drop, take-take, take-nil}
 use borrow.Author.Tests.{eq-eqb, ne-eqb, le-leb, lt-leb}
 use borrow.Rule.Slice.PartMut.{midOf}
-use Rattle.base.specs.Bytes.{Bytes, all, both, same}
+use Rattle.base.specs.Bytes.{Bytes, same}
 use Rattle.base.proofs.Split.{byEq, byLt, byLe, no}
 use Rattle.text.specs.Escape.{unescape}
 use Rattle.line.specs.Line.{onto, fields}
@@ -52,18 +51,6 @@ module _ (c : ℕ) where
 
   pub up-end : (t : Bytes) (i : ℕ) → length t ≤ i → upTo c (drop i t) ≡ 0
   up-end t i h = rw (drop-of-length-le t h) up-nil
-
-  -- a run lacks the byte exactly when its end comes first
-  pub up-lacks : (s : Bytes) → all (λ b. not (eqb b c)) s ≡ eqb (upTo c s) (length s)
-  unfolding all both
-  up-lacks [] = rw up-nil
-  up-lacks (b ∷ s) =
-      byEq b c
-      (λ e. rw (eq-eqb b c e, up-cons-here b s e, ne-eqb 0 (suc (length s)) (λ q. omega arith)))
-      (λ n. rw (ne-eqb b c n, up-cons b s n) (up-lacks s ∙ next (upTo c s) (length s)))
-    where
-      next : (m k : ℕ) → eqb m k ≡ eqb (suc m) (suc k)
-      next m k = byEq m k (λ e. rw (eq-eqb m k e, eq-eqb (suc m) (suc k) (omega arith))) (λ n. rw (ne-eqb m k n, ne-eqb (suc m) (suc k) (λ q. n (omega arith))))
 
 -- ---- parts of a line
 

@@ -57,6 +57,20 @@ fn find(t: &[u8], at: usize, c: u8) -> usize
     i
 }
 
+// Whether a byte is nowhere in a run. It looks at all bytes, so that many are looked at together.
+pub fn lacks(t: &[u8], c: u8) -> bool
+    ensures { λ r. ⌜ r ≡ all (λ b. not (eqb b c)) (now (t .entry)) ⌝ }
+{
+    let mut ok = true;
+    let mut i: usize = 0;
+    while i < t.len() {
+        let b = t[i];
+        ok = ok & (b != c);
+        i += 1;
+    }
+    ok
+}
+
 // The attribute that stands at a place.
 pub fn attribute_at(t: &[u8], at: usize) -> Attribute
     ensures { λ r. ⌜ r ≡ attributeAt (now (t .entry)) at ⌝ }
@@ -140,8 +154,8 @@ fn piece_at(v: &[u8], at: usize) -> Piece
     Piece::Is { byte: b, size: 1 }
 }
 
-// Whether a value's escapes are right.
-fn escapes_right(v: &[u8]) -> bool
+// Whether a value's escapes are right, from piece to piece.
+fn pieces_right(v: &[u8]) -> bool
     ensures { λ r. ⌜ r ≡ there (unescape (now (v .entry))) ⌝ }
 {
     let mut i: usize = 0;
@@ -156,6 +170,16 @@ fn escapes_right(v: &[u8]) -> bool
         }
     }
     true
+}
+
+// Whether a value's escapes are right: without a backslash it has none.
+fn escapes_right(v: &[u8]) -> bool
+    ensures { λ r. ⌜ r ≡ there (unescape (now (v .entry))) ⌝ }
+{
+    if lacks(v, b'\\') {
+        return true;
+    }
+    pieces_right(v)
 }
 
 // A byte at a place, where there is room.
@@ -326,13 +350,6 @@ fn event(t: &[u8]) -> Scanned
     alone(w)
 }
 
-// Whether a byte is nowhere in a run.
-fn lacks(t: &[u8], c: u8) -> bool
-    ensures { λ r. ⌜ r ≡ all (λ b. not (eqb b c)) (now (t .entry)) ⌝ }
-{
-    find(t, 0, c) == t.len()
-}
-
 // Whether a line without its line feed is text without a carriage return.
 fn legal_line(t: &[u8]) -> bool
     ensures { λ r. ⌜ r ≡ legalLine (now (t .entry)) ⌝ }
@@ -357,7 +374,7 @@ pub fn body_length(line: &[u8]) -> usize
     n
 }
 
-// What a line is: an event by its places, or refused.
+// What a line is: an event by its places, or refused. Plain bytes are legal, and none of them is a line feed.
 pub fn scan(line: &[u8]) -> Scanned
     ensures { λ r. ⌜ means (body (now (line .entry))) r ≡ eventOf (now (line .entry)) ⌝ }
     ensures { λ r. ⌜ InBounds (body (now (line .entry))) r ⌝ }
@@ -367,6 +384,12 @@ pub fn scan(line: &[u8]) -> Scanned
         return Scanned::Refused(Refusal::LongLine);
     }
     let t = &line[..n];
+    if text::plain(t) {
+        if n == line.len() {
+            return Scanned::Refused(Refusal::NotEventLine);
+        }
+        return event(t);
+    }
     if legal_line(t) {
         if n == line.len() {
             return Scanned::Refused(Refusal::NotEventLine);

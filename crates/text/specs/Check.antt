@@ -58,11 +58,11 @@ isText s = textAfter 0 s
 unfoldable pub plainAscii : ℕ → Bool
 plainAscii b = both (ltb b 0x80) (xmlChar b)
 
+-- What only the code's own steps need.
+
 -- a tab, or an ASCII character from the blank to the tilde: a legal character that is neither a line feed nor a carriage return
 unfoldable pub isPlain : ℕ → Bool
 isPlain b = either (eqb b horizontalTab) (from-to 0x20 0x7e b)
-
--- What the contracts of the private functions cite.
 
 -- k where a code point is legal and not below the least of k bytes, else 0
 unfoldable pub sized : ℕ → ℕ → ℕ → ℕ
