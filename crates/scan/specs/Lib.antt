@@ -1,2 +1,3 @@
 pub mod Scan
 pub mod Piece
+pub mod Few

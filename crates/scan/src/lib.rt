@@ -1,16 +1,18 @@
 // Event lines: what a line is, and where its name and attributes stand.
 ghost use mathlib.Core.Path.{_≡_};
 ghost use mathlib.Core.Bool.{not, true};
-ghost use Prim.Native.Nat.{_+_, _≤_, _<_};
+ghost use Prim.Native.Nat.{_+_, _≤_, _<_, min};
 ghost use lib.Dec.{eqb};
 ghost use lib.ListN.{length, drop, set};
 ghost use lib.Seq.{slice};
-ghost use Rattle.base.specs.Bytes.{same, all};
+ghost use Rattle.base.specs.Bytes.{same, all, both};
+ghost use Rattle.base.specs.Chars.{horizontalTab, equalsSign};
 ghost use Rattle.line.specs.Line.{fields};
 ghost use Rattle.event.specs.Event.{body, legalLine, eventOf, eventFrom, startsFrom, attrOf, attrsOf, named, noneTwice};
 ghost use Rattle.little.specs.Little.{over};
 ghost use Rattle.text.specs.Escape.{meaning, unescape};
 ghost use Rattle.scan.specs.Piece.{there, lettered, pieceIn, valueText};
+ghost use Rattle.scan.specs.Few.{keptNames, among, Kept, Tells};
 ghost use Rattle.scan.specs.Scan.{fieldsAt, attrsAt, Good, stand, means, lone, InBounds, upTo, attributeAt, attributeValue};
 ghost use Rattle.scan.specs.declared.Attribute.the-variants as attribute;
 use refusal::Refusal;
@@ -71,6 +73,23 @@ pub fn lacks(t: &[u8], c: u8) -> bool
     ok
 }
 
+// The first tab or `=` from a place on, or the end.
+fn name_end(t: &[u8], at: usize) -> usize
+    ensures { λ r. ⌜ r ≡ at + min (upTo horizontalTab (drop at (now (t .entry)))) (upTo equalsSign (drop at (now (t .entry)))) ⌝ }
+{
+    let mut i = at;
+    while i < t.len() {
+        if t[i] == b'=' {
+            return i;
+        }
+        if t[i] == b'\t' {
+            return i;
+        }
+        i += 1;
+    }
+    i
+}
+
 // The attribute that stands at a place.
 pub fn attribute_at(t: &[u8], at: usize) -> Attribute
     ensures { λ r. ⌜ r ≡ attributeAt (now (t .entry)) at ⌝ }
@@ -78,8 +97,8 @@ pub fn attribute_at(t: &[u8], at: usize) -> Attribute
     if t.len() < at {
         return Attribute::End;
     }
-    let to = find(t, at, b'\t');
-    let eq = find(&t[..to], at, b'=');
+    let eq = name_end(t, at);
+    let to = find(t, eq, b'\t');
     Attribute::At { eq, to }
 }
 
@@ -285,14 +304,100 @@ fn once(t: &[u8], at: usize) -> bool
     }
 }
 
-// Whether the fields from a place on are attributes, and no name is there twice.
-fn attrs_stand(t: &[u8], at: usize) -> bool
+// Whether the fields from a place on are attributes, and no name is there twice; however many they are.
+fn many_stand(t: &[u8], at: usize) -> bool
     ensures { λ r. ⌜ r ≡ stand (attrsOf (fieldsAt (now (t .entry)) at)) ⌝ }
 {
     if attrs_good(t, at) {
         return once(t, at);
     }
     false
+}
+
+// ---- few attributes: one walk, which keeps where their names stand
+
+// Whether attributes stand and no name is there twice: yes, no, or too many to tell.
+enum Few {
+    Stand,
+    Not,
+    Many,
+}
+
+// Whether a name is one of the first n that are kept.
+fn seen(t: &[u8], name: &[u8], starts: &[usize; 16], ends: &[usize; 16], n: usize) -> bool
+    requires { ⌜ Kept (now t) (now starts) (now ends) n ⌝ }
+    ensures { λ r. ⌜ r ≡ among (now (name .entry)) (keptNames (now (t .entry)) (now (starts .entry)) (now (ends .entry)) n) ⌝ }
+{
+    let mut i: usize = 0;
+    while i < n {
+        let from = starts[i];
+        let to = ends[i];
+        if equal(&t[from..to], name) {
+            return true;
+        }
+        i += 1;
+    }
+    false
+}
+
+// Whether the field of an attribute is one whose name is none of the first n that are kept.
+fn is_new(
+    t: &[u8],
+    at: usize,
+    eq: usize,
+    to: usize,
+    starts: &[usize; 16],
+    ends: &[usize; 16],
+    n: usize,
+) -> bool
+    requires { ⌜ attributeAt (now t) at ≡ attribute.At eq to ⌝ }
+    requires { ⌜ Kept (now t) (now starts) (now ends) n ⌝ }
+    ensures { λ r. ⌜ r ≡ both (there (attrOf (slice at to (now (t .entry))))) (not (among (slice at eq (now (t .entry))) (keptNames (now (t .entry)) (now (starts .entry)) (now (ends .entry)) n))) ⌝ }
+{
+    if is_attr(t, at, eq, to) {
+        if seen(t, &t[at..eq], starts, ends, n) {
+            return false;
+        }
+        return true;
+    }
+    false
+}
+
+// Whether up to sixteen attributes stand from a place on.
+fn few_stand(t: &[u8], at: usize) -> Few
+    ensures { λ r. ⌜ Tells r (stand (attrsOf (fieldsAt (now (t .entry)) at))) ⌝ }
+{
+    let mut starts = [0usize; 16];
+    let mut ends = [0usize; 16];
+    let mut p = at;
+    let mut n: usize = 0;
+    loop {
+        let Attribute::At { eq, to } = attribute_at(t, p) else {
+            return Few::Stand;
+        };
+        if n == 16 {
+            return Few::Many;
+        }
+        if is_new(t, p, eq, to, &starts, &ends, n) {
+            starts[n] = p;
+            ends[n] = eq;
+            n += 1;
+            p = to + 1;
+        } else {
+            return Few::Not;
+        }
+    }
+}
+
+// Whether the fields from a place on are attributes, and no name is there twice.
+fn attrs_stand(t: &[u8], at: usize) -> bool
+    ensures { λ r. ⌜ r ≡ stand (attrsOf (fieldsAt (now (t .entry)) at)) ⌝ }
+{
+    match few_stand(t, at) {
+        Few::Stand => true,
+        Few::Not => false,
+        Few::Many => many_stand(t, at),
+    }
 }
 
 // ---- lines
