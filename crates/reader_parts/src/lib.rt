@@ -266,8 +266,8 @@ fn tag_through(
     )
 }
 
-// A tag more: 13 of its key, 16, or the tag staged.
-pub fn add_tag(
+// With its value's escapes resolved.
+fn tag_resolved(
     ni: &[u64],
     na: &[u8],
     wi: &[u64],
@@ -277,7 +277,7 @@ pub fn add_tag(
     ss: &mut [u64],
     sb: &mut [u8],
     us: &mut [u64; 9],
-    parts: &mut [u8; 44432],
+    parts: &mut [u8],
     kind: Kind,
     pending: Pending,
     line: &[u8],
@@ -306,6 +306,69 @@ pub fn add_tag(
         key,
         value,
         &mut room,
+    )
+}
+
+// A tag more: 13 of its key, 16, or the tag staged.
+pub fn add_tag(
+    ni: &[u64],
+    na: &[u8],
+    wi: &[u64],
+    wa: &[u8],
+    ri: &[u64],
+    ra: &[u8],
+    ss: &mut [u64],
+    sb: &mut [u8],
+    us: &mut [u64; 9],
+    parts: &mut [u8; 44432],
+    kind: Kind,
+    pending: Pending,
+    line: &[u8],
+    key: Extent,
+    value: Extent,
+) -> Added
+    ensures { λ r. ⌜ (ChildGiven (lent ni na wi wa ri ra ss sb us) pending (now (parts .entry)) (now (line .entry)) → ExtentInBounds (now (line .entry)) key → ExtentInBounds (now (line .entry)) value
+        → record { overlay = left ni na wi wa ri ra ss sb us; parts = now (parts .exit); answer = r }
+        ≡ addTag kind pending (record { key = textAt (now (line .entry)) key; value = textAt (now (line .entry)) value }) (now (parts .entry)) (lent ni na wi wa ri ra ss sb us)) ⌝ }
+{
+    let to = little::lesser(value.to, line.len());
+    let from = little::lesser(value.from, to);
+    let text = &line[from..to];
+    if scan::lacks(text, b'\\') {
+        return tag_with(
+            ni,
+            na,
+            wi,
+            wa,
+            ri,
+            ra,
+            ss,
+            sb,
+            us,
+            parts,
+            kind,
+            pending,
+            line,
+            key,
+            text,
+        );
+    }
+    tag_resolved(
+        ni,
+        na,
+        wi,
+        wa,
+        ri,
+        ra,
+        ss,
+        sb,
+        us,
+        parts,
+        kind,
+        pending,
+        line,
+        key,
+        value,
     )
 }
 

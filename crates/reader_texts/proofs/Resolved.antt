@@ -1,7 +1,7 @@
 -- The text of an extent: no longer than its line, so an array of a line's largest length holds it whole; and what `intern` would answer it, by its cases.
 use Prim.Native.Nat.{ℕ, suc, _-_, _≤_, min}
-use mathlib.Core.Path.{_≡_}
-use mathlib.Core.Bool.{Bool, true, false}
+use mathlib.Core.Path.{_≡_, sym, _∙_}
+use mathlib.Core.Bool.{Bool, true, false, not}
 use mathlib.Core.Option.{Option, none, some}
 use mathlib.Core.List.{[], _∷_}
 use native.Mathlib.Omega.{arith}
@@ -9,7 +9,7 @@ use lib.ListN.{length, take}
 use lib.Dec.{eqb}
 use lib.Seq.{slice, length-slice}
 use borrow.Rule.Slice.PartMut.{midOf}
-use Rattle.base.specs.Bytes.{Bytes}
+use Rattle.base.specs.Bytes.{Bytes, all}
 use Rattle.base.proofs.Split.{byBool}
 use Rattle.little.specs.Little.{over}
 use Rattle.little.proofs.Overs.{read-back}
@@ -17,6 +17,7 @@ use Rattle.text.specs.Escape.{byteBefore, meaning, unescapeFrom}
 use Rattle.event.specs.Event.{orEmpty}
 use Rattle.scan.specs.Piece.{valueText}
 use Rattle.scan.proofs.Places.{lent-is}
+use Rattle.scan.proofs.Pieces.{text-bare}
 use Rattle.interner.specs.declared.Found.the-variants.{At, Not}
 use Rattle.interner.specs.Strings.{findIn, Store, usedOf, textRoom}
 use Rattle.interner.proofs.Takes.{held, new, full}
@@ -60,6 +61,13 @@ module _ (line : Bytes) (at : Extent) (lies : ExtentInBounds line at) where
       let p : to ≡ at .to = omega (arith, lies .end) in
       let q : from ≡ at .from = omega (arith, lies .order) in
       rw (p, q) (lent-is (at .from) (at .to) line (lies .order))
+
+  -- without a backslash that part is the text
+  pub extent-bare : (from to : ℕ) → to ≡ min (at .to) (length line) → from ≡ min (at .from) to
+      → all (λ b. not (eqb b 92)) (midOf from (to - from) line) ≡ true → midOf from (to - from) line ≡ textAt line at
+  extent-bare from to e g h =
+      let k = extent-lent from to e g in
+      k ∙ sym (text-bare (slice (at .from) (at .to) line) (rw k at h))
 
   -- enough bytes hold it whole
   pub extent-whole : (s last : Bytes) (n : ℕ) → length line ≤ length s → (last ≡ over s 0 (textAt line at)) × (n ≡ length (textAt line at)) → take n last ≡ textAt line at

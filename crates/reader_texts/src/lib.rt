@@ -1,4 +1,5 @@
-// A text that stands in an event's line, its escapes resolved: taken in, or only asked for. A line has at most 16,384 bytes, so an array of that size holds each of its texts.
+// A text that stands in an event's line, its escapes resolved: taken in, or only asked for. A text without an escape is read where it is written. Of another an array
+// holds the text: a line has at most 16,384 bytes.
 ghost use mathlib.Core.Path.{_≡_};
 ghost use Prim.Native.Nat.{_≤_};
 ghost use lib.ListN.{length, take, getD};
@@ -68,8 +69,8 @@ fn take_through(
     take_first(ni, na, wi, wa, ri, ra, ss, sb, us, room, n)
 }
 
-// Takes the text of an extent in: 13, or its handle.
-pub fn take_text(
+// The text of an extent, its escapes resolved.
+fn take_resolved(
     ni: &[u64],
     na: &[u8],
     wi: &[u64],
@@ -88,6 +89,33 @@ pub fn take_text(
 {
     let mut room = [0u8; 16384];
     take_through(ni, na, wi, wa, ri, ra, ss, sb, us, line, at, &mut room)
+}
+
+// Takes the text of an extent in: 13, or its handle.
+pub fn take_text(
+    ni: &[u64],
+    na: &[u8],
+    wi: &[u64],
+    wa: &[u8],
+    ri: &[u64],
+    ra: &[u8],
+    ss: &mut [u64],
+    sb: &mut [u8],
+    us: &mut [u64; 9],
+    line: &[u8],
+    at: Extent,
+) -> Handle
+    ensures { λ r. ⌜ (ExtentInBounds (now (line .entry)) at → length (now (line .entry)) ≤ 16384
+        → record { overlay = left ni na wi wa ri ra ss sb us; answer = r }
+        ≡ storeText (textAt (now (line .entry)) at) (lent ni na wi wa ri ra ss sb us)) ⌝ }
+{
+    let to = little::lesser(at.to, line.len());
+    let from = little::lesser(at.from, to);
+    let text = &line[from..to];
+    if scan::lacks(text, b'\\') {
+        return store::store_text(ni, na, wi, wa, ri, ra, ss, sb, us, text);
+    }
+    take_resolved(ni, na, wi, wa, ri, ra, ss, sb, us, line, at)
 }
 
 // ---- whether a text would be refused: 13
@@ -132,11 +160,25 @@ fn refused_through(
     first_refused(spans, bytes, used, room, n)
 }
 
-// Whether the text of an extent would be refused.
-pub fn text_refused(spans: &[u64], bytes: &[u8], used: &[u64; 9], line: &[u8], at: Extent) -> bool
+// That of the text of an extent, its escapes resolved.
+fn resolved_refused(spans: &[u64], bytes: &[u8], used: &[u64; 9], line: &[u8], at: Extent) -> bool
     ensures { λ r. ⌜ (ExtentInBounds (now (line .entry)) at → length (now (line .entry)) ≤ 16384
         → r ≡ refusedFor (storeWith (now (spans .entry)) (now (bytes .entry)) (getD (now (used .entry)) 6 0) (getD (now (used .entry)) 7 0)) (textAt (now (line .entry)) at)) ⌝ }
 {
     let mut room = [0u8; 16384];
     refused_through(spans, bytes, used, line, at, &mut room)
+}
+
+// Whether the text of an extent would be refused.
+pub fn text_refused(spans: &[u64], bytes: &[u8], used: &[u64; 9], line: &[u8], at: Extent) -> bool
+    ensures { λ r. ⌜ (ExtentInBounds (now (line .entry)) at → length (now (line .entry)) ≤ 16384
+        → r ≡ refusedFor (storeWith (now (spans .entry)) (now (bytes .entry)) (getD (now (used .entry)) 6 0) (getD (now (used .entry)) 7 0)) (textAt (now (line .entry)) at)) ⌝ }
+{
+    let to = little::lesser(at.to, line.len());
+    let from = little::lesser(at.from, to);
+    let text = &line[from..to];
+    if scan::lacks(text, b'\\') {
+        return is_refused(spans, bytes, used[6], used[7], text);
+    }
+    resolved_refused(spans, bytes, used, line, at)
 }

@@ -8,8 +8,14 @@ use native.Mathlib.Omega.{arith}
 use lib.Dec.{eqb}
 use lib.ListN.{length, getD, take, length-append}
 use lib.Seq.{slice, slice-empty, length-slice, take-all, take-suc, take-length, take-append-seam, getD-append-seam}
+use borrow.Author.Tests.{ne-eqb}
 use Rattle.base.specs.Ascii.{ascii}
-use Rattle.base.specs.Bytes.{Bytes, all, same}
+use Rattle.base.specs.Bytes.{Bytes, all, both, either, same}
+use Rattle.base.proofs.Split.{byEq, clash, both-of}
+use Rattle.text.specs.Char.{from-to}
+use Rattle.text.specs.Check.{isPlain}
+use Rattle.text.proofs.Texts.{all-imp}
+use Rattle.text.proofs.PlainBytes.{plain-text}
 use Rattle.refusal.specs.declared.Refusal.the-variants.{LongLine, NotText, NotEventLine}
 use Rattle.line.specs.Line.{fields}
 use Rattle.event.specs.Event.{Attr, Reading, reads, refused, starts, unended, body, isEmpty, attrsOf, noneTwice, startsWith, startsFrom, eventFrom, eventIn, eventOf, legalLine}
@@ -138,6 +144,30 @@ module _ (t : Bytes) (to : ℕ) (e : to ≡ tabAt t 0) where
 
     pub event-alone : (r : Scanned) → means (take to t) r ≡ lone (take to t) → InBounds (take to t) r → (means t r ≡ eventFrom (fields t)) × InBounds t r
     event-alone r m p = (sym (ap (λ s. means s r) whole) ∙ m ∙ sym one-word, subst (λ s. InBounds s r) whole p)
+
+-- ---- a line of plain bytes
+
+-- a byte that is not plain is nowhere in it
+plain-lacks : (c : ℕ) → isPlain c ≡ false → (t : Bytes) → all isPlain t ≡ true → all (λ b. not (eqb b c)) t ≡ true
+plain-lacks c e t h =
+    all-imp isPlain (λ b. not (eqb b c))
+    (λ b p. byEq b c (λ q. clash p (rw q e)) (λ n. rw (ne-eqb b c n))) t h
+
+not-plain-10 : isPlain 10 ≡ false
+unfolding isPlain from-to both either
+not-plain-10 = refl
+
+not-plain-13 : isPlain 13 ≡ false
+unfolding isPlain from-to both either
+not-plain-13 = refl
+
+module _ (t : Bytes) (h : all isPlain t ≡ true) where
+  pub plain-legal : legalLine t ≡ true
+  unfolding legalLine
+  plain-legal = both-of (plain-text t h) (plain-lacks 13 not-plain-13 t h)
+
+  pub plain-whole : all (λ b. not (eqb b 10)) t ≡ true
+  plain-whole = plain-lacks 10 not-plain-10 t h
 
 -- ---- the order of the checks, where n bytes of the line are judged
 

@@ -1,16 +1,18 @@
 -- Laws of the pieces of a value: a text is read piece by piece.
 use Prim.Native.Nat.{ℕ, suc, _+_, _<_, _≤_}
 use mathlib.Core.Path.{_≡_, refl, sym, _∙_}
-use mathlib.Core.Bool.{true, false}
+use mathlib.Core.Bool.{Bool, true, false, not}
 use mathlib.Core.Option.{Option, none, some}
 use mathlib.Core.List.{[], _∷_}
 use native.Mathlib.Numerals.{add-one}
 use native.Mathlib.Omega.{arith}
+use lib.Dec.{eqb}
 use lib.ListN.{length, getD, drop, set, length-drop, length-set, drop-of-length-le}
 use lib.Seq.{drop-cons, drop-drop, set-out}
 use borrow.Author.Tests.{eq-eqb, ne-eqb}
-use Rattle.base.specs.Bytes.{Bytes}
+use Rattle.base.specs.Bytes.{Bytes, all}
 use Rattle.base.proofs.Split.{byEq, byLt, no, clash}
+use Rattle.base.proofs.Lists.{all-head, all-tail}
 use Rattle.text.specs.Escape.{meaning, byteBefore, unescapeFrom, unescape}
 use Rattle.text.proofs.Escapes.{read-byte}
 use Rattle.event.specs.Event.{orEmpty}
@@ -150,3 +152,25 @@ put-on s i b {rest} {more} e w =
       kept = rw length-set (w .kept);
       left = rw (set-out s i b h) (over-past s (i + 1) more (omega arith) ∙ sym (over-past s i rest h) ∙ w .left);
     })
+
+-- ---- a value without a backslash
+
+-- it is its own text
+pub own-text : (v : Bytes) → all (λ b. not (eqb b 92)) v ≡ true → unescape v ≡ some v
+unfolding unescapeFrom byteBefore
+own-text [] h = refl
+own-text (b ∷ v) h =
+    read-byte b v (bare-byte (eqb b 92) (all-head (λ x. not (eqb x 92)) b v h))
+    ∙ rw (own-text v (all-tail (λ x. not (eqb x 92)) b v h))
+  where
+    bare-byte : (t : Bool) → not t ≡ true → t ≡ false
+    bare-byte true e = clash e refl
+    bare-byte false e = refl
+
+pub right-bare : (v : Bytes) → all (λ b. not (eqb b 92)) v ≡ true → there (unescape v) ≡ true
+unfolding there
+right-bare v h = rw (own-text v h)
+
+pub text-bare : (v : Bytes) → all (λ b. not (eqb b 92)) v ≡ true → valueText v ≡ v
+unfolding valueText
+text-bare v h = rw (own-text v h)

@@ -1,18 +1,17 @@
 -- Laws of places in a line: the first of a byte, the field that ends there, the attribute in it.
-use Prim.Native.Nat.{ℕ, zero, suc, _+_, _-_, _<_, _≤_}
+use Prim.Native.Nat.{ℕ, zero, suc, _+_, _-_, _<_, _≤_, min}
 use mathlib.Core.Path.{_≡_, refl, sym, _∙_, ap}
-use mathlib.Core.Bool.{false, not, cond}
+use mathlib.Core.Bool.{false, cond}
 use mathlib.Core.Option.{none, some}
 use mathlib.Core.List.{[], _∷_}
 use native.Mathlib.Nat.{suc-add, zero-add}
 use native.Mathlib.Numerals.{add-one}
 use native.Mathlib.Omega.{arith}
-use lib.Dec.{eqb}
 use lib.ListN.{length, getD, take, drop, length-drop, drop-of-length-le}
 use lib.Seq.{slice, length-slice, drop-cons, drop-drop, take-take, take-nil}
 use borrow.Author.Tests.{eq-eqb, ne-eqb, le-leb, lt-leb}
 use borrow.Rule.Slice.PartMut.{midOf}
-use Rattle.base.specs.Bytes.{Bytes, all, both, same}
+use Rattle.base.specs.Bytes.{Bytes, same}
 use Rattle.base.proofs.Split.{byEq, byLt, byLe, no}
 use Rattle.text.specs.Escape.{unescape}
 use Rattle.line.specs.Line.{onto, fields}
@@ -53,17 +52,22 @@ module _ (c : ℕ) where
   pub up-end : (t : Bytes) (i : ℕ) → length t ≤ i → upTo c (drop i t) ≡ 0
   up-end t i h = rw (drop-of-length-le t h) up-nil
 
-  -- a run lacks the byte exactly when its end comes first
-  pub up-lacks : (s : Bytes) → all (λ b. not (eqb b c)) s ≡ eqb (upTo c s) (length s)
-  unfolding all both
-  up-lacks [] = rw up-nil
-  up-lacks (b ∷ s) =
+  -- in the first k bytes, and behind k bytes before it
+  pub up-take : (k : ℕ) (s : Bytes) → upTo c (take k s) ≡ min (upTo c s) k
+  up-take k [] = rw (take-nil k, up-nil) (omega arith)
+  up-take zero (b ∷ s) = rw up-nil (omega arith)
+  up-take (suc k) (b ∷ s) =
       byEq b c
-      (λ e. rw (eq-eqb b c e, up-cons-here b s e, ne-eqb 0 (suc (length s)) (λ q. omega arith)))
-      (λ n. rw (ne-eqb b c n, up-cons b s n) (up-lacks s ∙ next (upTo c s) (length s)))
-    where
-      next : (m k : ℕ) → eqb m k ≡ eqb (suc m) (suc k)
-      next m k = byEq m k (λ e. rw (eq-eqb m k e, eq-eqb (suc m) (suc k) (omega arith))) (λ n. rw (ne-eqb m k n, ne-eqb (suc m) (suc k) (λ q. n (omega arith))))
+      (λ e. rw (up-cons-here b s e, up-cons-here b (take k s) e) (omega arith))
+      (λ n. rw (up-cons b s n, up-cons b (take k s) n, up-take k s) (omega arith))
+
+  pub up-drop : (k : ℕ) (s : Bytes) → k ≤ upTo c s → k + upTo c (drop k s) ≡ upTo c s
+  up-drop zero s h = omega arith
+  up-drop (suc k) [] h = no (omega (arith, up-nil))
+  up-drop (suc k) (b ∷ s) h =
+      byEq b c
+      (λ e. no (omega (arith, up-cons-here b s e)))
+      (λ n. omega (arith, up-cons b s n, up-drop k s (omega (arith, up-cons b s n))))
 
 -- ---- parts of a line
 
@@ -197,6 +201,17 @@ module _ (t : Bytes) (at : ℕ) (h : at ≤ length t) where
   attr-whole : equalsAt t at ≡ tabAt t at → attrOf (slice at (tabAt t at) t) ≡ none
   unfolding attrOf
   attr-whole e = rw (parted-none (slice at (tabAt t at) t) (omega (arith, field-length)))
+
+-- the same from the first tab or `=`
+module _ (t : Bytes) (at eq : ℕ) (e : eq ≡ at + min (upTo 9 (drop at t)) (upTo 61 (drop at t))) where
+  pub equals-first : eq ≡ equalsAt t at
+  equals-first = omega (arith, ap (upTo 61) (slice-take at (upTo 9 (drop at t)) t), up-take 61 (upTo 9 (drop at t)) (drop at t))
+
+  pub tab-behind : eq + upTo 9 (drop eq t) ≡ tabAt t at
+  tab-behind =
+      let k = min (upTo 9 (drop at t)) (upTo 61 (drop at t)) in
+      let d : drop eq t ≡ drop k (drop at t) = rw e (sym (drop-drop k at t)) in
+      omega (arith, ap (upTo 9) d, up-drop 9 k (drop at t) (omega arith))
 
 pub attribute-past : (t : Bytes) (at : ℕ) → length t < at → attributeAt t at ≡ A.End
 unfolding attributeAt

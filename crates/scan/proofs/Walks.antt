@@ -46,7 +46,7 @@ module _ {t : Bytes} {at eq to : ℕ} (d : AttributeAt t at eq to) where
   pub attr-value : at < eq → eq < to → there (attrOf (slice at to t)) ≡ there (unescape (slice (eq + 1) to t))
   attr-value g h = rw (d .attr g h) (there-with (slice at eq t) (unescape (slice (eq + 1) to t)))
 
-  listed-here : attrsOf (fieldsAt t at) ≡ beside (attrOf (slice at to t)) (attrsOf (fieldsAt t (to + 1)))
+  pub listed-here : attrsOf (fieldsAt t at) ≡ beside (attrOf (slice at to t)) (attrsOf (fieldsAt t (to + 1)))
   unfolding attrsOf
   listed-here = rw (d .rest)
 
@@ -65,7 +65,7 @@ good-ends t at e = rw (ended t at e)
 
 -- ---- good attributes
 
-some-there : {B : Type 0} (o : Option B) → there o ≡ true → (x : B) × (o ≡ some x)
+pub some-there : {B : Type 0} (o : Option B) → there o ≡ true → (x : B) × (o ≡ some x)
 unfolding there
 some-there none h = clash h refl
 some-there (some x) h = (x, refl)
@@ -91,7 +91,7 @@ pub record Step (t : Bytes) (at eq to : ℕ) : Type 0 where
   pub whole : attrsAt t at ≡ record { name = slice at eq t; value = text } ∷ attrsAt t (to + 1)
   pub rest : Good t (to + 1)
 
-lower : (a b : ℕ) → a ≤ b → (b ≡ a → ⊥) → a < b
+pub lower : (a b : ℕ) → a ≤ b → (b ≡ a → ⊥) → a < b
 lower a b h n = byLt a b (λ l. l) (λ l. absurd (n (omega arith)))
 
 renamed : (a : Attr) (n : Bytes) (as1 bs : List Attr) → a .name ≡ n → bs ≡ as1 → a ∷ as1 ≡ record { name = n; value = a .value } ∷ bs

@@ -1,3 +1,4 @@
 pub mod Scan
 pub mod Piece
 pub mod Names
+pub mod Few

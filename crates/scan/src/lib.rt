@@ -1,11 +1,12 @@
 // Event lines: what a line is, and where its name and attributes stand.
 ghost use mathlib.Core.Path.{_≡_};
 ghost use mathlib.Core.Bool.{not, true};
-ghost use Prim.Native.Nat.{_+_, _≤_, _<_};
+ghost use Prim.Native.Nat.{_+_, _≤_, _<_, min};
 ghost use lib.Dec.{eqb};
 ghost use lib.ListN.{length, take, drop, set};
 ghost use lib.Seq.{slice};
-ghost use Rattle.base.specs.Bytes.{same, all};
+ghost use Rattle.base.specs.Bytes.{same, all, both};
+ghost use Rattle.base.specs.Chars.{horizontalTab, equalsSign};
 ghost use Rattle.line.specs.Line.{fields};
 ghost use Rattle.event.specs.Event.{body, legalLine, eventOf, eventFrom, startsFrom, attrOf, attrsOf, named, noneTwice};
 ghost use Rattle.little.specs.Little.{over};
@@ -13,6 +14,7 @@ ghost use Rattle.distinct.specs.Distinct.{runsIn};
 ghost use Rattle.text.specs.Escape.{meaning, unescape};
 ghost use Rattle.scan.specs.Names.{namesOf};
 ghost use Rattle.scan.specs.Piece.{there, lettered, pieceIn, valueText};
+ghost use Rattle.scan.specs.Few.{keptNames, among, Kept, Tells};
 ghost use Rattle.scan.specs.Scan.{fieldsAt, attrsAt, Good, stand, means, lone, InBounds, upTo, attributeAt, attributeValue};
 ghost use Rattle.scan.specs.declared.Attribute.the-variants as attribute;
 use distinct::Distinctness;
@@ -60,6 +62,37 @@ fn find(t: &[u8], at: usize, c: u8) -> usize
     i
 }
 
+// Whether a byte is nowhere in a run. It looks at all bytes, so that many are looked at together.
+pub fn lacks(t: &[u8], c: u8) -> bool
+    ensures { λ r. ⌜ r ≡ all (λ b. not (eqb b c)) (now (t .entry)) ⌝ }
+{
+    let mut ok = true;
+    let mut i: usize = 0;
+    while i < t.len() {
+        let b = t[i];
+        ok = ok & (b != c);
+        i += 1;
+    }
+    ok
+}
+
+// The first tab or `=` from a place on, or the end.
+fn name_end(t: &[u8], at: usize) -> usize
+    ensures { λ r. ⌜ r ≡ at + min (upTo horizontalTab (drop at (now (t .entry)))) (upTo equalsSign (drop at (now (t .entry)))) ⌝ }
+{
+    let mut i = at;
+    while i < t.len() {
+        if t[i] == b'=' {
+            return i;
+        }
+        if t[i] == b'\t' {
+            return i;
+        }
+        i += 1;
+    }
+    i
+}
+
 // The attribute that stands at a place.
 pub fn attribute_at(t: &[u8], at: usize) -> Attribute
     ensures { λ r. ⌜ r ≡ attributeAt (now (t .entry)) at ⌝ }
@@ -67,8 +100,8 @@ pub fn attribute_at(t: &[u8], at: usize) -> Attribute
     if t.len() < at {
         return Attribute::End;
     }
-    let to = find(t, at, b'\t');
-    let eq = find(&t[..to], at, b'=');
+    let eq = name_end(t, at);
+    let to = find(t, eq, b'\t');
     Attribute::At { eq, to }
 }
 
@@ -143,8 +176,8 @@ fn piece_at(v: &[u8], at: usize) -> Piece
     Piece::Is { byte: b, size: 1 }
 }
 
-// Whether a value's escapes are right.
-fn escapes_right(v: &[u8]) -> bool
+// Whether a value's escapes are right, from piece to piece.
+fn pieces_right(v: &[u8]) -> bool
     ensures { λ r. ⌜ r ≡ there (unescape (now (v .entry))) ⌝ }
 {
     let mut i: usize = 0;
@@ -159,6 +192,16 @@ fn escapes_right(v: &[u8]) -> bool
         }
     }
     true
+}
+
+// Whether a value's escapes are right: without a backslash it has none.
+fn escapes_right(v: &[u8]) -> bool
+    ensures { λ r. ⌜ r ≡ there (unescape (now (v .entry))) ⌝ }
+{
+    if lacks(v, b'\\') {
+        return true;
+    }
+    pieces_right(v)
 }
 
 // A byte at a place, where there is room.
@@ -319,14 +362,100 @@ fn once(t: &[u8], at: usize) -> bool
     once_with(t, &mut words, at)
 }
 
-// Whether the fields from a place on are attributes, and no name is there twice.
-fn attrs_stand(t: &[u8], at: usize) -> bool
+// Whether the fields from a place on are attributes, and no name is there twice; however many they are.
+fn many_stand(t: &[u8], at: usize) -> bool
     ensures { λ r. ⌜ r ≡ stand (attrsOf (fieldsAt (now (t .entry)) at)) ⌝ }
 {
     if attrs_good(t, at) {
         return once(t, at);
     }
     false
+}
+
+// ---- few attributes: one walk, which keeps where their names stand
+
+// Whether attributes stand and no name is there twice: yes, no, or too many to tell.
+enum Few {
+    Stand,
+    Not,
+    Many,
+}
+
+// Whether a name is one of the first n that are kept.
+fn seen(t: &[u8], name: &[u8], starts: &[usize; 16], ends: &[usize; 16], n: usize) -> bool
+    requires { ⌜ Kept (now t) (now starts) (now ends) n ⌝ }
+    ensures { λ r. ⌜ r ≡ among (now (name .entry)) (keptNames (now (t .entry)) (now (starts .entry)) (now (ends .entry)) n) ⌝ }
+{
+    let mut i: usize = 0;
+    while i < n {
+        let from = starts[i];
+        let to = ends[i];
+        if equal(&t[from..to], name) {
+            return true;
+        }
+        i += 1;
+    }
+    false
+}
+
+// Whether the field of an attribute is one whose name is none of the first n that are kept.
+fn is_new(
+    t: &[u8],
+    at: usize,
+    eq: usize,
+    to: usize,
+    starts: &[usize; 16],
+    ends: &[usize; 16],
+    n: usize,
+) -> bool
+    requires { ⌜ attributeAt (now t) at ≡ attribute.At eq to ⌝ }
+    requires { ⌜ Kept (now t) (now starts) (now ends) n ⌝ }
+    ensures { λ r. ⌜ r ≡ both (there (attrOf (slice at to (now (t .entry))))) (not (among (slice at eq (now (t .entry))) (keptNames (now (t .entry)) (now (starts .entry)) (now (ends .entry)) n))) ⌝ }
+{
+    if is_attr(t, at, eq, to) {
+        if seen(t, &t[at..eq], starts, ends, n) {
+            return false;
+        }
+        return true;
+    }
+    false
+}
+
+// Whether up to sixteen attributes stand from a place on.
+fn few_stand(t: &[u8], at: usize) -> Few
+    ensures { λ r. ⌜ Tells r (stand (attrsOf (fieldsAt (now (t .entry)) at))) ⌝ }
+{
+    let mut starts = [0usize; 16];
+    let mut ends = [0usize; 16];
+    let mut p = at;
+    let mut n: usize = 0;
+    loop {
+        let Attribute::At { eq, to } = attribute_at(t, p) else {
+            return Few::Stand;
+        };
+        if n == 16 {
+            return Few::Many;
+        }
+        if is_new(t, p, eq, to, &starts, &ends, n) {
+            starts[n] = p;
+            ends[n] = eq;
+            n += 1;
+            p = to + 1;
+        } else {
+            return Few::Not;
+        }
+    }
+}
+
+// Whether the fields from a place on are attributes, and no name is there twice.
+fn attrs_stand(t: &[u8], at: usize) -> bool
+    ensures { λ r. ⌜ r ≡ stand (attrsOf (fieldsAt (now (t .entry)) at)) ⌝ }
+{
+    match few_stand(t, at) {
+        Few::Stand => true,
+        Few::Not => false,
+        Few::Many => many_stand(t, at),
+    }
 }
 
 // ---- lines
@@ -384,13 +513,6 @@ fn event(t: &[u8]) -> Scanned
     alone(w)
 }
 
-// Whether a byte is nowhere in a run.
-fn lacks(t: &[u8], c: u8) -> bool
-    ensures { λ r. ⌜ r ≡ all (λ b. not (eqb b c)) (now (t .entry)) ⌝ }
-{
-    find(t, 0, c) == t.len()
-}
-
 // Whether a line without its line feed is text without a carriage return.
 fn legal_line(t: &[u8]) -> bool
     ensures { λ r. ⌜ r ≡ legalLine (now (t .entry)) ⌝ }
@@ -415,7 +537,7 @@ pub fn body_length(line: &[u8]) -> usize
     n
 }
 
-// What a line is: an event by its places, or refused.
+// What a line is: an event by its places, or refused. Plain bytes are legal, and none of them is a line feed.
 pub fn scan(line: &[u8]) -> Scanned
     ensures { λ r. ⌜ means (body (now (line .entry))) r ≡ eventOf (now (line .entry)) ⌝ }
     ensures { λ r. ⌜ InBounds (body (now (line .entry))) r ⌝ }
@@ -425,6 +547,12 @@ pub fn scan(line: &[u8]) -> Scanned
         return Scanned::Refused(Refusal::LongLine);
     }
     let t = &line[..n];
+    if text::plain(t) {
+        if n == line.len() {
+            return Scanned::Refused(Refusal::NotEventLine);
+        }
+        return event(t);
+    }
     if legal_line(t) {
         if n == line.len() {
             return Scanned::Refused(Refusal::NotEventLine);

@@ -5,4 +5,5 @@ pub mod Lengths
 pub mod Classes
 pub mod Theorem
 pub mod Texts
+pub mod PlainBytes
 pub mod Escapes

@@ -3,9 +3,10 @@ use Prim.Native.Nat.{ℕ, zero, suc, _+_, _-_, _*_, _<_}
 use mathlib.Core.Path.{_≡_}
 use mathlib.Core.Bool.{Bool, true, cond}
 use mathlib.Core.List.{[], _∷_}
-use lib.Dec.{ltb, leb}
+use lib.Dec.{ltb, leb, eqb}
 use lib.ListN.{length, getD, take}
-use Rattle.base.specs.Bytes.{Bytes, both, same}
+use Rattle.base.specs.Bytes.{Bytes, both, either, same}
+use Rattle.base.specs.Chars.{horizontalTab}
 use Rattle.text.specs.Char.{from-to, xmlChar, utf8}
 
 -- Document 01: "The first byte of a character is judged by a table of 256 classes".
@@ -57,7 +58,11 @@ isText s = textAfter 0 s
 unfoldable pub plainAscii : ℕ → Bool
 plainAscii b = both (ltb b 0x80) (xmlChar b)
 
--- What the contracts of the private functions cite.
+-- What only the code's own steps need.
+
+-- a tab, or an ASCII character from the blank to the tilde: a legal character that is neither a line feed nor a carriage return
+unfoldable pub isPlain : ℕ → Bool
+isPlain b = either (eqb b horizontalTab) (from-to 0x20 0x7e b)
 
 -- k where a code point is legal and not below the least of k bytes, else 0
 unfoldable pub sized : ℕ → ℕ → ℕ → ℕ

@@ -2,8 +2,9 @@
 ghost use mathlib.Core.Path.{_≡_};
 ghost use Prim.Native.Nat.{_+_, _*_, _<_, _≤_};
 ghost use lib.ListN.{drop};
+ghost use Rattle.base.specs.Bytes.{all};
 ghost use Rattle.text.specs.Char.{xmlChar};
-ghost use Rattle.text.specs.Check.{classOf, byteAt, joinedBits, charLen, sized, Starting, isText};
+ghost use Rattle.text.specs.Check.{classOf, byteAt, joinedBits, charLen, sized, Starting, isText, isPlain};
 
 // The class of each first byte: how many bytes a legal character has that starts with it, 0 where none does.
 // A row has sixteen first bytes.
@@ -123,8 +124,22 @@ fn long(s: &[u8], at: usize, b: u8, k: u8) -> usize
     if k == 4 { four(s, at, b) } else { 0 }
 }
 
-// Whether bytes are legal text.
-pub fn is_text(s: &[u8]) -> bool
+// Whether every byte is a tab or one from the blank to the tilde. It looks at all bytes, so that many are looked at together.
+pub fn plain(s: &[u8]) -> bool
+    ensures { λ r. ⌜ r ≡ all isPlain (now (s .entry)) ⌝ }
+{
+    let mut ok = true;
+    let mut i: usize = 0;
+    while i < s.len() {
+        let b = s[i];
+        ok = ok & ((b == 9) | ((31 < b) & (b < 127)));
+        i += 1;
+    }
+    ok
+}
+
+// Whether bytes are legal text, character by character.
+fn walk(s: &[u8]) -> bool
     ensures { λ r. ⌜ r ≡ isText (now (s .entry)) ⌝ }
 {
     let class = CLASS;
@@ -143,4 +158,14 @@ pub fn is_text(s: &[u8]) -> bool
         at += n;
     }
     true
+}
+
+// Whether bytes are legal text: plain bytes are.
+pub fn is_text(s: &[u8]) -> bool
+    ensures { λ r. ⌜ r ≡ isText (now (s .entry)) ⌝ }
+{
+    if plain(s) {
+        return true;
+    }
+    walk(s)
 }
