@@ -242,9 +242,9 @@ module _ (setting : ℕ) (o : Overlay) (ps : ℕ → Bytes) (given : Start o ps)
   state = readerState setting o ps cs n
 
   -- it stands where its marks lead
-  lines-lead : run start (marksRead setting o ps cs n) ≡ some (state .reader .place)
+  marks-lead : run start (marksRead setting o ps cs n) ≡ some (state .reader .place)
   unfolding readerOf
-  lines-lead =
+  marks-lead =
       let t = takes-calls n setting cs (started setting o ps) begin [] fits (agrees-started setting o (given .sizes) (given .bytes) ps (given .parts)) in
       lines-lead fresh-agrees (t .1) .runs ∙ ap (λ (r : Reader). some (r .place)) (sym (agrees .readers n))
 
@@ -262,16 +262,16 @@ module _ (setting : ℕ) (o : Overlay) (ps : ℕ → Bytes) (given : Start o ps)
     nests-as-document =
         let ms = marksRead setting o ps cs n in
         let p = state .reader .place in
-        let d = document-by ms p lines-lead in
+        let d = document-by ms p marks-lead in
         record {
-          begun = begins-by ms p lines-lead;
+          begun = begins-by ms p marks-lead;
           event = λ line. let x = rw counted at (nowhere-exactly line state sound going) in (λ a. begins-not _ (goes-on line ∙ x .0 a), λ h. x .1 (nowhere line h (run p (lineMarks line)) refl));
           end = let x = end-done state sound going in (λ a. d .0 (x .0 a), λ h. x .1 (d .1 h));
           unfinished = let x = rw counted at (end-18 state sound going) in (λ a h. x .0 a (d .1 h), λ h. x .1 (λ e. h (d .0 e)));
         }
       where
         goes-on : (line : Bytes) → run start (marksRead setting o ps cs n ++ lineMarks line) ≡ run (state .reader .place) (lineMarks line)
-        goes-on line = run-after start (state .reader .place) (marksRead setting o ps cs n) (lineMarks line) lines-lead
+        goes-on line = run-after start (state .reader .place) (marksRead setting o ps cs n) (lineMarks line) marks-lead
 
         nowhere : (line : Bytes) → (BeginsDocument (marksRead setting o ps cs n ++ lineMarks line) → ⊥) → (x : Option Place) → run (state .reader .place) (lineMarks line) ≡ x
             → run (state .reader .place) (lineMarks line) ≡ none

@@ -19,9 +19,8 @@ use Rattle.compact.specs.Layout.{Head}
 use Rattle.compact.specs.Cut.{Cut, thenCut, found, cutI64, times, cutMember, cutBody}
 use Rattle.compact.proofs.Format.{first, of-cut}
 use Rattle.compact.specs.Legal.{limits, handle, bodyHandles, inRange, bodyWithin}
-use Rattle.legal.specs.Judge.{endOf, partsEnd, bodyEnd, placeInRange, countWithin}
+use Rattle.legal.specs.Judge.{endOf, membersEnd, bodyEnd, placeInRange, countWithin}
 use Rattle.legal.specs.declared.End.the-variants.{At, Bad}
-use Rattle.legal.specs.declared.Part.the-variants.{Role}
 use Rattle.compact.proofs.Places.{Off, off-none, total, times-off, i64-off, member-off, i64-sized}
 use Rattle.legal.proofs.Ends.{end-none, end-found}
 
@@ -56,8 +55,8 @@ module _ (strings : ℕ) (h : Head) (s : Bytes) (at : ℕ) where
   unfolding bodyEnd cutBody thenCut bodyHandles
   body-refs l = let x = refs-whole (h .count) s at l in rw (x .1) (sym (end-found (bodyHandles strings) s (refs (x .0)) (at + 8 * h .count) l))
 
-  pub body-members : partsEnd Role strings (h .count) s at ≡ bodyEnd strings Relation h s at
-  unfolding bodyEnd partsEnd cutBody thenCut bodyHandles endOf
+  pub body-members : membersEnd strings (h .count) s at ≡ bodyEnd strings Relation h s at
+  unfolding bodyEnd membersEnd cutBody thenCut bodyHandles endOf
   body-members = go (times cutMember (h .count) (drop at s))
     where
       go : (o : Option (Cut (List (Member ℕ)))) → endOf (all (λ (m : Member ℕ). handle strings (m .role))) (length s) o ≡ endOf (bodyHandles strings) (length s) (thenCut o (λ ms r. found (members ms) r))

@@ -8,13 +8,11 @@ use native.Mathlib.Omega.{arith}
 use lib.ListN.{length, drop, length-drop}
 use Rattle.base.specs.Bytes.{Bytes, both, all}
 use Rattle.base.proofs.Split.{byBool, no}
-use Rattle.compact.specs.Cut.{Cut, thenCut, found, times, cutMember, cutTag}
-use Rattle.legal.specs.Judge.{endOf, partEnd, partsEnd}
+use Rattle.compact.specs.Cut.{Cut, thenCut, found, times, cutMember}
+use Rattle.legal.specs.Judge.{endOf, memberEnd, membersEnd}
 use Rattle.legal.specs.declared.End.{End}
 use Rattle.legal.specs.declared.End.the-variants.{At, Bad}
-use Rattle.legal.specs.declared.Part.{Part}
-use Rattle.legal.specs.declared.Part.the-variants.{Role, Key, Value}
-use Rattle.compact.proofs.Places.{Off, off-end, member-off, tag-off}
+use Rattle.compact.proofs.Places.{Off, off-end, member-off}
 
 -- what an end tells: what was cut off, that it passes, and where the rest begins
 pub record Ends {A : Type 0} (p : A → Bool) (s : Bytes) (at : ℕ) (o : Option (Cut A)) (e : ℕ) : Type 0 where
@@ -92,26 +90,20 @@ module _ {A : Type 0} (cut : Bytes → Option (Cut A)) (p : A → Bool) (long : 
       let x = ends-at p s at long h (cut (drop at s)) e (off (drop at s)) t in
       (rw (x .cut) (more (x .item) (times cut n (drop e s)) (x .passes)), (x .from, x .to))
 
--- ---- the parts that the check looks at
+-- ---- members
 
 module _ (strings : ℕ) (s : Bytes) where
-  pub parts-none : (part : Part) (at : ℕ) → at ≤ length s → partsEnd part strings 0 s at ≡ At at
-  unfolding partsEnd
-  parts-none Role at h = many-none cutMember _ (λ m. 13) member-off s at h
-  parts-none Key at h = many-none cutTag _ _ tag-off s at h
-  parts-none Value at h = many-none cutTag _ _ tag-off s at h
+  pub members-none : (at : ℕ) → at ≤ length s → membersEnd strings 0 s at ≡ At at
+  unfolding membersEnd
+  members-none at h = many-none cutMember _ (λ m. 13) member-off s at h
 
-  pub parts-bad : (part : Part) (n at : ℕ) → 0 < n → partEnd part strings s at ≡ Bad → partsEnd part strings n s at ≡ Bad
-  unfolding partEnd partsEnd
-  parts-bad part zero at l h = absurd (omega arith)
-  parts-bad Role (suc n) at l h = many-bad cutMember _ (λ m. 13) member-off s n at h
-  parts-bad Key (suc n) at l h = many-bad cutTag _ _ tag-off s n at h
-  parts-bad Value (suc n) at l h = many-bad cutTag _ _ tag-off s n at h
+  pub members-bad : (n at : ℕ) → 0 < n → memberEnd strings s at ≡ Bad → membersEnd strings n s at ≡ Bad
+  unfolding memberEnd membersEnd
+  members-bad zero at l h = absurd (omega arith)
+  members-bad (suc n) at l h = many-bad cutMember _ (λ m. 13) member-off s n at h
 
-  pub parts-at : (part : Part) (n at e : ℕ) → 0 < n → at ≤ length s → partEnd part strings s at ≡ At e
-      → (partsEnd part strings n s at ≡ partsEnd part strings (n - 1) s e) × ((at ≤ e) × (e ≤ length s))
-  unfolding partEnd partsEnd
-  parts-at part zero at e k l h = absurd (omega arith)
-  parts-at Role (suc n) at e k l h = let q : suc n - 1 ≡ n = omega arith in rw q (many-at cutMember _ (λ m. 13) member-off s n at e l h)
-  parts-at Key (suc n) at e k l h = let q : suc n - 1 ≡ n = omega arith in rw q (many-at cutTag _ _ tag-off s n at e l h)
-  parts-at Value (suc n) at e k l h = let q : suc n - 1 ≡ n = omega arith in rw q (many-at cutTag _ _ tag-off s n at e l h)
+  pub members-at : (n at e : ℕ) → 0 < n → at ≤ length s → memberEnd strings s at ≡ At e
+      → (membersEnd strings n s at ≡ membersEnd strings (n - 1) s e) × ((at ≤ e) × (e ≤ length s))
+  unfolding memberEnd membersEnd
+  members-at zero at e k l h = absurd (omega arith)
+  members-at (suc n) at e k l h = let q : suc n - 1 ≡ n = omega arith in rw q (many-at cutMember _ (λ m. 13) member-off s n at e l h)

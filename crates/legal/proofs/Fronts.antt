@@ -10,6 +10,7 @@ use lib.Seq.{take-all}
 use Rattle.base.specs.Bytes.{Bytes, both, either}
 use Rattle.base.proofs.Split.{byBool, byLe, no}
 use Rattle.kind.specs.declared.Kind.{Kind}
+use Rattle.kind.specs.declared.Kind.the-variants.{Node, Way, Relation}
 use Rattle.refusal.specs.declared.Refusal.the-variants.{NotText, CoordinateRange, TooManyParts, BadRecord}
 use Rattle.model.specs.Record.{Meta, Tag, Record}
 use Rattle.compact.specs.Layout.{Head, headLen}
@@ -55,12 +56,17 @@ parts-off k h m s c e =
     first (λ ts q. Off s1 (total (λ (t : Tag ℕ). 8 + length (t .value)) ts) q × (length ts ≡ h .tags)) (times-off cutTag (λ (t : Tag ℕ). 8 + length (t .value)) tag-off (h .tags) s1) e1 (λ ts q o2 e2.
     of-cut (λ r q. (n : ℕ) × Off s n q) e2 (_, off-then o1 (o2 .0))))
 
+head-long : (k : Kind) → 16 ≤ headLen k
+head-long Node = omega arith
+head-long Way = omega arith
+head-long Relation = omega arith
+
 -- a record takes its head and its metadata at least
-pub record-off : (k : Kind) (s : Bytes) (c : Cut Kept) → cutRecord k s ≡ some c → (n : ℕ) × (Off s n (c .rest) × (0 < n))
+pub record-off : (k : Kind) (s : Bytes) (c : Cut Kept) → cutRecord k s ≡ some c → (n : ℕ) × (Off s n (c .rest) × (45 ≤ n))
 record-off k s c e =
     byLe (headLen k + 29) (length s)
     (λ l. first (λ r q. (n : ℕ) × Off (drop (headLen k + 29) s) n q) (λ x t. parts-off k (headAt k s) (metaOf (metaAt s (headLen k))) (drop (headLen k + 29) s) x t) (sym (record-is k s l) ∙ e) (λ r q o t.
-    of-cut (λ x q. (n : ℕ) × (Off s n q × (0 < n))) t (headLen k + 29 + o .0, (off-then (record { fits = l; is = refl }) (o .1), omega arith))))
+    of-cut (λ x q. (n : ℕ) × (Off s n q × (45 ≤ n))) t (headLen k + 29 + o .0, (off-then (record { fits = l; is = refl }) (o .1), omega (arith, head-long k)))))
     (λ l. let z : none ≡ some c = sym (record-short k s l) ∙ e in no cc)
 
 -- ---- the end of a record, by the check

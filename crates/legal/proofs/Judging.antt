@@ -12,7 +12,6 @@ use mir.Val.{toZ}
 use borrow.Author.Tests.{eqb-true, eq-eqb}
 use Rattle.base.specs.Bytes.{Bytes, both, either, all}
 use Rattle.base.proofs.Split.{byBool, no, same-test, both-no-left, both-no-right}
-use Rattle.text.specs.Check.{isText}
 use Rattle.kind.specs.declared.Kind.{Kind}
 use Rattle.kind.specs.declared.Kind.the-variants.{Node, Way, Relation}
 use Rattle.refusal.specs.declared.Refusal.the-variants.{NotText, CoordinateRange, TooManyParts, BadRecord}
@@ -20,14 +19,14 @@ use Rattle.model.specs.Record.{Meta, Tag, Body, Record}
 use Rattle.compact.specs.Cut.{Cut, thenCut, found, times, cutTag, cutBody, cutParts}
 use Rattle.compact.specs.Held.{nodeHead, countsHead}
 use Rattle.compact.specs.Legal.{limits, handle, legalMeta, bodyHandles, legalHandles, legalTexts, inRange, valueBytes, withinLimits, faultOf}
-use Rattle.legal.specs.Judge.{endOf, judged, verdictOf, partsEnd, bodyEnd, ended, placeInRange, countWithin, few, chosen}
+use Rattle.legal.specs.Judge.{endOf, judged, verdictOf, tagsEnd, bodyEnd, placeInRange, countWithin, few, chosen}
 use Rattle.compact.specs.Held.{headIn}
 use Rattle.compact.specs.declared.PushHead.{PushHead}
 use Rattle.legal.specs.declared.End.the-variants.{At, Bad}
 use Rattle.legal.specs.declared.Verdict.the-variants.{Refused}
-use Rattle.legal.specs.declared.Part.the-variants.{Key, Value}
 use Rattle.compact.proofs.Places.{Off, off-length, total, times-off, tag-off}
-use Rattle.legal.proofs.Ends.{Ends, ends-at, end-found}
+use Rattle.legal.proofs.Ends.{Ends, ends-at}
+use Rattle.legal.proofs.TagRuns.{tags-ended, tags-text}
 use Rattle.legal.proofs.Bodies.{bodyLong, body-cut}
 
 -- ---- the order of the tests
@@ -81,10 +80,6 @@ unfolding both
 both-true true = refl
 both-true false = refl
 
-ended-is : (b : Bool) (e : ℕ) → ended (cond b (At e) Bad) ≡ b
-ended-is true e = refl
-ended-is false e = refl
-
 module _ (strings : ℕ) (k : Kind) (head : PushHead) (m : Meta ℕ) (s : Bytes) (at : ℕ) (within : at ≤ length s) (more : Bool) where
   -- no body, or a role that is not held
   pub body-refused : bodyEnd strings k (headIn k head) s at ≡ Bad → Refused BadRecord ≡ verdictOf strings more (length s) (cutParts k (headIn k head) m (drop at s))
@@ -117,9 +112,9 @@ module _ (strings : ℕ) (k : Kind) (head : PushHead) (m : Meta ℕ) (s : Bytes)
     parts-are = rw (body-ends .cut, head-tags)
 
     -- no tags, or a key that is not held
-    pub tags-refused : partsEnd Key strings (head .tags) s t ≡ Bad → Refused BadRecord ≡ verdictOf strings more (length s) (cutParts k (headIn k head) m (drop at s))
-    unfolding partsEnd endOf verdictOf thenCut legalHandles
-    tags-refused h = rw parts-are (go (times cutTag (head .tags) (drop t s)) h)
+    pub tags-refused : tagsEnd strings (head .tags) s t .end ≡ Bad → Refused BadRecord ≡ verdictOf strings more (length s) (cutParts k (headIn k head) m (drop at s))
+    unfolding tagsEnd endOf verdictOf thenCut legalHandles
+    tags-refused h = rw parts-are (go (times cutTag (head .tags) (drop t s)) (sym (tags-ended strings (length s) (times cutTag (head .tags) (drop t s))) ∙ h))
       where
         go : (o : Option (Cut (List (Tag ℕ)))) → endOf (all (λ (t : Tag ℕ). handle strings (t .key))) (length s) o ≡ Bad
             → Refused BadRecord ≡ verdictOf strings more (length s) (thenCut o (λ ts r. found (record { meta = m; body = body-ends .item; tags = ts }) r))
@@ -129,16 +124,16 @@ module _ (strings : ℕ) (k : Kind) (head : PushHead) (m : Meta ℕ) (s : Bytes)
             (λ y. let z : At (length s - length (c .rest)) ≡ Bad = rw y at h in no cc)
             (λ y. refused strings more (length s) _ (c .rest) (both-no-right (legalMeta strings m) (both-no-right (bodyHandles strings (body-ends .item)) y)))
 
-    module _ (e : ℕ) (tags : partsEnd Key strings (head .tags) s t ≡ At e) where
+    module _ (e : ℕ) (tags : tagsEnd strings (head .tags) s t .end ≡ At e) where
       tags-off : (c : Cut (List (Tag ℕ))) → times cutTag (head .tags) (drop t s) ≡ some c
           → Off (drop t s) (total (λ (t : Tag ℕ). 8 + length (t .value)) (c .item)) (c .rest) × (length (c .item) ≡ head .tags)
       tags-off c h = times-off cutTag (λ (t : Tag ℕ). 8 + length (t .value)) tag-off (head .tags) (drop t s) c h
 
       tags-end : Ends (all (λ (t : Tag ℕ). handle strings (t .key))) s t (times cutTag (head .tags) (drop t s)) e
-      unfolding partsEnd
+      unfolding tagsEnd
       tags-end =
           ends-at (all (λ (t : Tag ℕ). handle strings (t .key))) s t (total (λ (t : Tag ℕ). 8 + length (t .value))) body-within (times cutTag (head .tags) (drop t s)) e
-          (λ c h. tags-off c h .0) tags
+          (λ c h. tags-off c h .0) (sym (tags-ended strings (length s) (times cutTag (head .tags) (drop t s))) ∙ tags)
 
       -- the bytes of the values are what is left of the tags' bytes
       values : (length (tags-end .item) ≡ head .tags) × (e ≡ t + (8 * head .tags + valueBytes (tags-end .item)))
@@ -161,11 +156,9 @@ module _ (strings : ℕ) (k : Kind) (head : PushHead) (m : Meta ℕ) (s : Bytes)
       unfolding legalHandles
       handles-are = rw (body-ends .passes, tags-end .passes) (both-true (legalMeta strings m))
 
-      texts-are : legalTexts record-is ≡ ended (partsEnd Value strings (head .tags) s t)
-      unfolding legalTexts partsEnd
-      texts-are =
-          rw (tags-end .cut, end-found (all (λ (t : Tag ℕ). isText (t .value))) s (tags-end .item) e (tags-end .to))
-          (sym (ended-is (all (λ (t : Tag ℕ). isText (t .value)) (tags-end .item)) e))
+      texts-are : legalTexts record-is ≡ tagsEnd strings (head .tags) s t .text
+      unfolding legalTexts tagsEnd
+      texts-are = rw (tags-end .cut) (sym (tags-text strings (length s) _ (tags-end .passes)))
 
       limits-are : withinLimits limits record-is ≡ few k (head .count) (head .tags) (e - t - 8 * head .tags)
       unfolding withinLimits few
@@ -175,7 +168,7 @@ module _ (strings : ℕ) (k : Kind) (head : PushHead) (m : Meta ℕ) (s : Bytes)
           rw (v .0, w, body-cut k (headIn k head) (drop at s) _ (body-ends .cut) .count, head-count)
 
       pub judged-is : verdictOf strings more (length s) (cutParts k (headIn k head) m (drop at s))
-          ≡ chosen (both (legalMeta strings m) (either more (eqb e (length s)))) (ended (partsEnd Value strings (head .tags) s t))
+          ≡ chosen (both (legalMeta strings m) (either more (eqb e (length s)))) (tagsEnd strings (head .tags) s t .text)
           (placeInRange k (toZ w32 (head .lat)) (toZ w32 (head .lon))) (few k (head .count) (head .tags) (e - t - 8 * head .tags)) e
       unfolding verdictOf faultOf thenCut
       judged-is =

@@ -1,6 +1,7 @@
 pub mod Bits
 pub mod Ends
 pub mod Parts
+pub mod TagRuns
 pub mod Bodies
 pub mod Judging
 pub mod Pushes

@@ -14,14 +14,12 @@ use Rattle.base.specs.Bytes.{Bytes, both}
 use Rattle.base.proofs.Split.{byLe, no}
 use Rattle.little.specs.Little.{valueAt}
 use Rattle.kind.specs.Kind.{ofNumber}
-use Rattle.text.specs.Check.{isText}
 use Rattle.model.specs.Record.{Member, Tag}
 use Rattle.compact.specs.Cut.{Cut, found, cutTag}
 use Rattle.compact.specs.Held.{memberNamed}
 use Rattle.compact.specs.Legal.{handle}
-use Rattle.legal.specs.Judge.{endOf, partEnd, tagEnd}
+use Rattle.legal.specs.Judge.{endOf, memberEnd, tagEnd}
 use Rattle.legal.specs.declared.End.the-variants.{At, Bad}
-use Rattle.legal.specs.declared.Part.the-variants.{Role, Key, Value}
 use Rattle.compact.proofs.Places.{leaving, member-sized, tag-short, tag-long, tag-whole}
 use Rattle.legal.proofs.Ends.{end-none, end-found}
 
@@ -34,8 +32,8 @@ pub record Tagged (s : Bytes) (at e : ℕ) : Type 0 where
 module _ (strings : ℕ) (s : Bytes) (at : ℕ) (within : at ≤ length s) where
   -- ---- members
 
-  pub member-bad : length s < at + 13 → Bad ≡ partEnd Role strings s at
-  unfolding partEnd
+  pub member-bad : length s < at + 13 → Bad ≡ memberEnd strings s at
+  unfolding memberEnd
   member-bad h = rw (member-sized .short s at within h) (sym (end-none _ (length s)))
 
   type-and-role : (ref : ℤ) (n role e : ℕ) → e ≤ length s
@@ -46,8 +44,8 @@ module _ (strings : ℕ) (s : Bytes) (at : ℕ) (within : at ≤ length s) where
   type-and-role ref (suc (suc zero)) role e h = end-found (λ (m : Member ℕ). handle strings (m .role)) s _ e h
   type-and-role ref (suc (suc (suc n))) role e h = rw (le-ltb (suc (suc (suc n))) 3 (omega arith)) (end-none (λ (m : Member ℕ). handle strings (m .role)) (length s))
 
-  pub member-is : at + 13 ≤ length s → partEnd Role strings s at ≡ cond (both (ltb (valueAt 1 s (at + 8)) 3) (ltb (valueAt 4 s (at + 9)) strings)) (At (at + 13)) Bad
-  unfolding partEnd
+  pub member-is : at + 13 ≤ length s → memberEnd strings s at ≡ cond (both (ltb (valueAt 1 s (at + 8)) 3) (ltb (valueAt 4 s (at + 9)) strings)) (At (at + 13)) Bad
+  unfolding memberEnd
   member-is h =
       let e : at + 8 + 1 ≡ at + 9 = omega arith in
       rw (member-sized .whole s at h, e) (type-and-role (toZ w64 (valueAt 8 s at)) (valueAt 1 s (at + 8)) (valueAt 4 s (at + 9)) (at + 13) h)
@@ -67,7 +65,7 @@ module _ (strings : ℕ) (s : Bytes) (at : ℕ) (within : at ≤ length s) where
     unfolding tagEnd
     tag-good h = rw (tag-whole s at room n len h) (sym (end-found (λ (t : Tag ℕ). true) s _ (at + 8 + n) h))
 
-  tagged : (e : ℕ) → tagEnd s at ≡ At e → Tagged s at e
+  pub tagged : (e : ℕ) → tagEnd s at ≡ At e → Tagged s at e
   tagged e h =
       let n = valueAt 4 s (at + 4) in
       byLe (at + 8) (length s)
@@ -80,30 +78,10 @@ module _ (strings : ℕ) (s : Bytes) (at : ℕ) (within : at ≤ length s) where
       (λ k. let x : Bad ≡ At e = tag-bad-short k ∙ h in no cc)
 
   -- a tag that is no tag is none whatever is asked of it
-  tag-none : Bad ≡ tagEnd s at → cutTag (drop at s) ≡ none
+  pub tag-none : Bad ≡ tagEnd s at → cutTag (drop at s) ≡ none
   unfolding tagEnd endOf
   tag-none h = go (cutTag (drop at s)) refl h
     where
       go : (o : Option (Cut (Tag ℕ))) → cutTag (drop at s) ≡ o → Bad ≡ endOf (λ (t : Tag ℕ). true) (length s) o → cutTag (drop at s) ≡ none
       go none e t = e
       go (some c) e t = no cc
-
-  pub key-none : Bad ≡ tagEnd s at → Bad ≡ partEnd Key strings s at
-  unfolding partEnd
-  key-none h = rw (tag-none h) (sym (end-none _ (length s)))
-
-  pub value-none : Bad ≡ tagEnd s at → Bad ≡ partEnd Value strings s at
-  unfolding partEnd
-  value-none h = rw (tag-none h) (sym (end-none _ (length s)))
-
-  module _ (e : ℕ) (h : At e ≡ tagEnd s at) where
-    pub tag-room : (at + 8 ≤ e) × (e ≤ length s)
-    tag-room = let x = tagged e (sym h) in (x .room, x .to)
-
-    pub key-is : partEnd Key strings s at ≡ cond (ltb (valueAt 4 s at) strings) (At e) Bad
-    unfolding partEnd
-    key-is = let x = tagged e (sym h) in rw (x .cut) (end-found (λ (t : Tag ℕ). handle strings (t .key)) s _ e (x .to))
-
-    pub value-is : partEnd Value strings s at ≡ cond (isText (take (e - (at + 8)) (drop (at + 8) s))) (At e) Bad
-    unfolding partEnd
-    value-is = let x = tagged e (sym h) in rw (x .cut) (end-found (λ (t : Tag ℕ). isText (t .value)) s _ e (x .to))

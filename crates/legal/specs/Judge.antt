@@ -3,6 +3,7 @@
 use Prim.Native.Nat.{ℕ, _-_}
 use mathlib.Core.Bool.{Bool, true, false, cond}
 use mathlib.Core.Option.{Option, none, some}
+use mathlib.Core.List.{List}
 use lib.Dec.{leb, eqb}
 use lib.IntN.{ℤ}
 use lib.ListN.{length, drop}
@@ -24,8 +25,7 @@ use Rattle.legal.specs.declared.End.{End}
 use Rattle.legal.specs.declared.End.the-variants.{At, Bad}
 use Rattle.legal.specs.declared.Verdict.{Verdict}
 use Rattle.legal.specs.declared.Verdict.the-variants as verdict
-use Rattle.legal.specs.declared.Part.{Part}
-use Rattle.legal.specs.declared.Part.the-variants.{Role, Key, Value}
+use Rattle.legal.specs.declared.TagRun.{TagRun}
 
 abbrev pub faultAnswer : Option Refusal → Fault
 faultAnswer none = fault.Legal
@@ -57,28 +57,33 @@ verdictOf strings more len none = verdict.Refused BadRecord
 verdictOf strings more len (some c) =
     cond (either more (eqb (length (c .rest)) 0)) (judged (len - length (c .rest)) (faultOf strings (c .item))) (verdict.Refused BadRecord)
 
--- one part at a place, and several: a member whose role is held, a tag whose key is held, a tag whose value is text
-unfoldable pub partEnd : Part → ℕ → Bytes → ℕ → End
-partEnd Role strings s at = endOf (λ m. handle strings (m .role)) (length s) (cutMember (drop at s))
-partEnd Key strings s at = endOf (λ t. handle strings (t .key)) (length s) (cutTag (drop at s))
-partEnd Value strings s at = endOf (λ t. isText (t .value)) (length s) (cutTag (drop at s))
+-- a member at a place whose role is held, and so many of them
+unfoldable pub memberEnd : ℕ → Bytes → ℕ → End
+memberEnd strings s at = endOf (λ m. handle strings (m .role)) (length s) (cutMember (drop at s))
 
-unfoldable pub partsEnd : Part → ℕ → ℕ → Bytes → ℕ → End
-partsEnd Role strings n s at = endOf (all (λ m. handle strings (m .role))) (length s) (times cutMember n (drop at s))
-partsEnd Key strings n s at = endOf (all (λ t. handle strings (t .key))) (length s) (times cutTag n (drop at s))
-partsEnd Value strings n s at = endOf (all (λ t. isText (t .value))) (length s) (times cutTag n (drop at s))
+unfoldable pub membersEnd : ℕ → ℕ → Bytes → ℕ → End
+membersEnd strings n s at = endOf (all (λ m. handle strings (m .role))) (length s) (times cutMember n (drop at s))
 
 -- a tag at a place, whatever its key and value
 unfoldable pub tagEnd : Bytes → ℕ → End
 tagEnd s at = endOf (λ t. true) (length s) (cutTag (drop at s))
 
+-- tags that were cut off bytes of a length: whose keys are held, and whether their values are text
+abbrev pub noRun : TagRun
+noRun = record { end = Bad; text = false }
+
+unfoldable pub tagRunOf : ℕ → ℕ → Option (Cut (List (Tag ℕ))) → TagRun
+tagRunOf strings len none = noRun
+tagRunOf strings len (some c) =
+    cond (all (λ t. handle strings (t .key)) (c .item)) (record { end = At (len - length (c .rest)); text = all (λ t. isText (t .value)) (c .item) }) noRun
+
+-- so many tags at a place
+unfoldable pub tagsEnd : ℕ → ℕ → Bytes → ℕ → TagRun
+tagsEnd strings n s at = tagRunOf strings (length s) (times cutTag n (drop at s))
+
 -- a body at a place whose handles are held
 unfoldable pub bodyEnd : ℕ → Kind → Head → Bytes → ℕ → End
 bodyEnd strings k h s at = endOf (bodyHandles strings) (length s) (cutBody k h (drop at s))
-
-abbrev pub ended : End → Bool
-ended (At e) = true
-ended Bad = false
 
 -- a place in range; only a node has one
 unfoldable pub placeInRange : Kind → ℤ → ℤ → Bool

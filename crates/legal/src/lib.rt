@@ -12,7 +12,7 @@ ghost use Rattle.compact.specs.Held.{metaOf};
 ghost use Rattle.compact.specs.View.{headAt};
 ghost use Rattle.compact.specs.Layout.{headLen};
 ghost use Rattle.compact.specs.Legal.{legalMeta};
-ghost use Rattle.legal.specs.Judge.{faultFor, recordEnd, verdictOf, partEnd, partsEnd, tagEnd, bodyEnd, ended, placeInRange, few, chosen};
+ghost use Rattle.legal.specs.Judge.{faultFor, recordEnd, verdictOf, memberEnd, membersEnd, tagEnd, tagsEnd, bodyEnd, placeInRange, few, chosen};
 ghost use Rattle.compact.specs.Held.{headIn};
 use compact::ArenaMeta;
 use compact::PushHead;
@@ -37,11 +37,10 @@ enum Verdict {
     Refused(Refusal),
 }
 
-// What is looked at in a part: a member's type and role, a tag's key, a tag's value.
-enum Part {
-    Role,
-    Key,
-    Value,
+// Where tags end, each whole and of a key that is held; and whether each value is text.
+struct TagRun {
+    end: End,
+    text: bool,
 }
 
 // ---- metadata
@@ -71,7 +70,7 @@ pub fn legal_meta(m: ArenaMeta, strings: u64) -> bool
 // A member of 13 bytes with a type of at most 2 and a role that is held.
 fn member_end(bytes: &[u8], at: usize, strings: u64) -> End
     requires { ⌜ at ≤ length (now bytes) ⌝ }
-    ensures { λ r. ⌜ r ≡ partEnd Part.Role strings (now (bytes .entry)) at ⌝ }
+    ensures { λ r. ⌜ r ≡ memberEnd strings (now (bytes .entry)) at ⌝ }
 {
     if bytes.len() - at < 13 {
         return End::Bad;
@@ -100,61 +99,54 @@ fn tag_end(bytes: &[u8], at: usize) -> End
     End::At(at + 8 + n)
 }
 
-fn key_end(bytes: &[u8], at: usize, strings: u64) -> End
+// So many members, one after the other. Each takes bytes, so a count that the bytes cannot hold ends at the last of them.
+fn members_end(bytes: &[u8], at: usize, n: u32, strings: u64) -> End
     requires { ⌜ at ≤ length (now bytes) ⌝ }
-    ensures { λ r. ⌜ r ≡ partEnd Part.Key strings (now (bytes .entry)) at ⌝ }
-{
-    let End::At(e) = tag_end(bytes, at) else {
-        return End::Bad;
-    };
-    if (little::get_u32(bytes, at) as u64) < strings {
-        End::At(e)
-    } else {
-        End::Bad
-    }
-}
-
-fn value_end(bytes: &[u8], at: usize, strings: u64) -> End
-    requires { ⌜ at ≤ length (now bytes) ⌝ }
-    ensures { λ r. ⌜ r ≡ partEnd Part.Value strings (now (bytes .entry)) at ⌝ }
-{
-    let End::At(e) = tag_end(bytes, at) else {
-        return End::Bad;
-    };
-    let from = at + 8;
-    if text::is_text(&bytes[from..e]) {
-        End::At(e)
-    } else {
-        End::Bad
-    }
-}
-
-fn part_end(part: Part, bytes: &[u8], at: usize, strings: u64) -> End
-    requires { ⌜ at ≤ length (now bytes) ⌝ }
-    ensures { λ r. ⌜ r ≡ partEnd part strings (now (bytes .entry)) at ⌝ }
-{
-    match part {
-        Part::Role => member_end(bytes, at, strings),
-        Part::Key => key_end(bytes, at, strings),
-        Part::Value => value_end(bytes, at, strings),
-    }
-}
-
-// So many parts, one after the other. Each takes bytes, so a count that the bytes cannot hold ends at the last of them.
-fn parts_end(part: Part, bytes: &[u8], at: usize, n: u32, strings: u64) -> End
-    requires { ⌜ at ≤ length (now bytes) ⌝ }
-    ensures { λ r. ⌜ r ≡ partsEnd part strings n (now (bytes .entry)) at ⌝ }
+    ensures { λ r. ⌜ r ≡ membersEnd strings n (now (bytes .entry)) at ⌝ }
 {
     let mut place = at;
     let mut left = n;
     while 0 < left {
-        let End::At(next) = part_end(part, bytes, place, strings) else {
+        let End::At(next) = member_end(bytes, place, strings) else {
             return End::Bad;
         };
         place = next;
         left -= 1;
     }
     End::At(place)
+}
+
+// The same of tags; each is looked at once.
+fn tags_end(bytes: &[u8], at: usize, n: u32, strings: u64) -> TagRun
+    requires { ⌜ at ≤ length (now bytes) ⌝ }
+    ensures { λ r. ⌜ r ≡ tagsEnd strings n (now (bytes .entry)) at ⌝ }
+{
+    let mut place = at;
+    let mut left = n;
+    let mut text = true;
+    while 0 < left {
+        let End::At(next) = tag_end(bytes, place) else {
+            return TagRun {
+                end: End::Bad,
+                text: false,
+            };
+        };
+        if (little::get_u32(bytes, place) as u64) < strings {
+            let from = place + 8;
+            text = text & text::is_text(&bytes[from..next]);
+            place = next;
+            left -= 1;
+        } else {
+            return TagRun {
+                end: End::Bad,
+                text: false,
+            };
+        }
+    }
+    TagRun {
+        end: End::At(place),
+        text,
+    }
 }
 
 // Refs, members or, for a node, nothing. Refs are 8 bytes each, whatever they say.
@@ -171,7 +163,7 @@ fn body_end(kind: Kind, head: PushHead, bytes: &[u8], at: usize, strings: u64) -
             }
             End::At(at + refs)
         }
-        Kind::Relation => parts_end(Part::Role, bytes, at, head.count, strings),
+        Kind::Relation => members_end(bytes, at, head.count, strings),
     }
 }
 
@@ -210,15 +202,6 @@ fn few_parts(kind: Kind, count: u32, tags: u32, values: usize) -> bool
 
 // ---- the check
 
-fn ended(e: End) -> bool
-    ensures { λ r. ⌜ r ≡ ended e ⌝ }
-{
-    match e {
-        End::At(_) => true,
-        End::Bad => false,
-    }
-}
-
 // 17, then 3, then 10, then 16.
 fn choose(held: bool, text: bool, inside: bool, few: bool, e: usize) -> Verdict
     ensures { λ r. ⌜ r ≡ chosen held text inside few e ⌝ }
@@ -254,11 +237,12 @@ fn judge(
     let End::At(tags) = body_end(kind, head, bytes, at, strings) else {
         return Verdict::Refused(Refusal::BadRecord);
     };
-    let End::At(end) = parts_end(Part::Key, bytes, tags, head.tags, strings) else {
+    let walked = tags_end(bytes, tags, head.tags, strings);
+    let last = walked.end;
+    let End::At(end) = last else {
         return Verdict::Refused(Refusal::BadRecord);
     };
     let held = legal_meta(meta, strings) & (more | (end == bytes.len()));
-    let text = ended(parts_end(Part::Value, bytes, tags, head.tags, strings));
     let inside = in_place(kind, head.lat, head.lon);
     let few = few_parts(
         kind,
@@ -266,7 +250,7 @@ fn judge(
         head.tags,
         end - tags - 8 * (head.tags as usize),
     );
-    choose(held, text, inside, few, end)
+    choose(held, walked.text, inside, few, end)
 }
 
 // The direct push's check. The parts are refs or members, then tags, as they lie in a record.

@@ -1,5 +1,5 @@
-pub mod Counts
 pub mod Ids
 pub mod Walks
+pub mod Passing
 pub mod Decides
 pub mod Keeps

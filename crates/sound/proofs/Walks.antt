@@ -1,27 +1,24 @@
--- A walk from record to record to a place, step by step; and the rows that it counts on its way.
-use Prim.Native.Nat.{ℕ, zero, suc, _+_, _^_, _<_, _≤_}
-use mathlib.Core.Path.{_≡_, refl, sym, _∙_}
+-- A walk from record to record to a place, step by step; and the cells that tell on its way where records start.
+use Prim.Native.Nat.{ℕ, zero, suc, _+_, _/_, _%_, _<_, _≤_}
+use mathlib.Core.Path.{_≡_, refl, sym, _∙_, ap}
 use mathlib.Core.Bool.{Bool, true, false}
 use mathlib.Core.List.{List}
 use native.Mathlib.Omega.{arith}
 use lib.Dec.{ltb, eqb}
-use lib.ListN.{length, drop, drop-of-length-le}
+use lib.ListN.{length, drop, set, getD, length-set, length-drop, drop-of-length-le}
+use lib.Seq.{getD-set-same, getD-set-other}
 use borrow.Author.Tests.{lt-ltb, le-ltb, eq-eqb, ne-eqb}
 use Rattle.base.specs.Bytes.{Bytes, both}
-use Rattle.base.proofs.Split.{byBool, byLt, byEq, no, both-no-left, both-no-right}
+use Rattle.base.proofs.Split.{byBool, byLt, byEq, clash, both-no-left, both-no-right}
 use Rattle.kind.specs.declared.Kind.{Kind}
 use Rattle.legal.specs.Judge.{recordEnd}
 use Rattle.legal.specs.Whole.{wholeRecords}
 use Rattle.legal.specs.declared.End.the-variants.{At, Bad}
+use Rattle.legal.proofs.Fronts.{record-off, end-tells}
 use Rattle.legal.proofs.Wholes.{whole-nil, walk-on, walk-stops}
-use Rattle.table.specs.Words.{rowsOf, soundTable}
-use Rattle.table.specs.declared.Row.{Row}
-use Rattle.kind_store.specs.KindStore.{isLive}
-use Rattle.sound.specs.Check.{comesTo, idThere, recordThere, rowPasses, soundUsed}
-use Rattle.sound.specs.Count.{one, howMany, live, pointsAt, pointsRight, walkOf}
-use Rattle.sound.specs.declared.Walked.the-variants as walked
-use Rattle.sound.proofs.Ids.{points-off}
-use Rattle.sound.proofs.Counts.{count-same, count-not, count-parts, count-le, count-all}
+use Rattle.compact.proofs.Places.{off-end}
+use Rattle.sound.specs.Check.{comesTo}
+use Rattle.sound.specs.Cells.{cellOf, Empty, Noted}
 
 module _ (strings : ℕ) (k : Kind) (s : Bytes) (place : ℕ) where
   pub arrived : (f at : ℕ) → place ≤ at → comesTo strings k s place f at ≡ eqb at place
@@ -34,18 +31,30 @@ module _ (strings : ℕ) (k : Kind) (s : Bytes) (place : ℕ) where
   steps zero at e l h t n = absurd (omega arith)
   steps (suc f) at e l h t n = (f, (omega arith, rw (lt-ltb at place h, ← t)))
 
+  pub stops : (f at : ℕ) → place ≤ at + f → at < place → Bad ≡ recordEnd strings k s at → comesTo strings k s place f at ≡ false
+  unfolding comesTo
+  stops zero at l h t = absurd (omega arith)
+  stops (suc f) at l h t = rw (lt-ltb at place h, ← t)
+
+  -- a walk to one place: what is left of it from `at` on
+  pub record Coming (at : ℕ) : Type 0 where
+    pub inside : at ≤ length s
+    pub fuel : ℕ
+    pub enough : place ≤ at + fuel
+    pub same : comesTo strings k s place fuel at ≡ comesTo strings k s place place 0
+
+  pub coming-first : Coming 0
+  coming-first = record { inside = omega arith; fuel = place; enough = omega arith; same = refl }
+
+  pub coming-next : (at e : ℕ) → Coming at → at < place → At e ≡ recordEnd strings k s at → (at < e) × Coming e
+  coming-next at e w h t =
+      let o = walk-on strings k s at e (w .inside) t in
+      let g = steps (w .fuel) at e (w .enough) h t (o .1 .0) in
+      (o .1 .0, record { inside = o .1 .1; fuel = g .0; enough = g .1 .0; same = g .1 .1 ∙ w .same })
+
 -- the walk comes to `at`: to any place from there on, it goes as the whole walk does
 pub Reached : ℕ → Kind → Bytes → ℕ → Type 0
 Reached strings k s at = (place : ℕ) → at ≤ place → (f : ℕ) × ((place ≤ at + f) × (comesTo strings k s place f at ≡ comesTo strings k s place place 0))
-
--- a row that points right, at a record before `at`
-pub pointsBefore : ℕ → Kind → Bytes → ℕ → Row → Bool
-pointsBefore strings k s at r = both (ltb (r .place) at) (pointsRight strings k s r)
-
-alone : (t : Bool) → both t true ≡ t
-unfolding both
-alone true = refl
-alone false = refl
 
 module _ (strings : ℕ) (k : Kind) (s : Bytes) where
   pub reached-first : Reached strings k s 0
@@ -70,108 +79,107 @@ module _ (strings : ℕ) (k : Kind) (s : Bytes) where
         (λ i. let g = steps strings k s place (f .0) at e (f .1 .0) (omega arith) t h in
         sym (f .1 .1) ∙ (sym (g .1 .1) ∙ (arrived strings k s place (g .0) e (omega arith) ∙ (ne-eqb e place (λ z. omega arith) ∙ sym (ne-eqb at place i)))))
 
-    -- a lent slice is shorter than 2 ^ 63 bytes, so every place in it is one of a live row
-    module _ (fits : e ≤ length s) (small : length s < 2 ^ 63) where
-      -- at the start of the record the rows that point right are those of its id
-      right-there : (r : Row) → at ≡ r .place → pointsRight strings k s r ≡ pointsAt s at r
-      unfolding pointsRight pointsAt recordThere idThere isLive both
-      right-there r i =
-          rw (
-            ← i,
-            start-only at (omega arith) h,
-            eq-eqb at at refl,
-            lt-ltb at (2 ^ 63) (omega arith),
-            lt-ltb at (length s) (omega arith),
-          )
-          (alone _)
+    -- a record has at least 45 bytes
+    pub long : at ≤ length s → at + 45 ≤ e
+    long l =
+        let x = end-tells strings k s at l e (sym t) in
+        let o = record-off k (drop at s) (x .0) (x .1 .0) in
+        let y = off-end s at l (o .1 .0) in
+        let r : length (x .0 .rest) ≡ length (drop e s) = ap length (x .1 .1 .1 .0) in
+        let m = x .1 .1 .1 .1 .1 in
+        omega (arith, y .1 .0, y .1 .1, o .1 .1, length-drop e s)
 
-      right-inside : (r : Row) → at ≤ r .place → r .place < e → (at ≡ r .place → ⊥) → pointsRight strings k s r ≡ false
-      unfolding pointsRight recordThere
-      right-inside r l m d =
-          both-no-right _ (both-no-right _ (start-only (r .place) l m ∙ ne-eqb at (r .place) d))
+-- ---- the cells
 
-      -- a row that points right at a record before the end of this one does so before this one, or at it
-      parts : (r : Row) → one (pointsBefore strings k s e r) ≡ one (pointsBefore strings k s at r) + one (pointsAt s at r)
-      unfolding pointsBefore both
-      parts r =
-          byLt (r .place) at
-          (λ l. rw (lt-ltb (r .place) at l, lt-ltb (r .place) e (omega arith), points-off s at r (λ z. omega arith)) (omega arith))
-          (λ l. byLt (r .place) e
-          (λ m. byEq at (r .place)
-          (λ i. rw (le-ltb (r .place) at l, lt-ltb (r .place) e m, right-there r i) (omega arith))
-          (λ i. rw (le-ltb (r .place) at l, lt-ltb (r .place) e m, right-inside r l m i, points-off s at r (λ z. i (sym z)))))
-          (λ m. rw (le-ltb (r .place) at l, le-ltb (r .place) e m, points-off s at r (λ z. omega arith))))
-
-      pub count-next : (rs : List Row) → howMany (pointsBefore strings k s e) rs ≡ howMany (pointsBefore strings k s at) rs + howMany (pointsAt s at) rs
-      count-next rs = count-parts (pointsBefore strings k s e) (pointsBefore strings k s at) (pointsAt s at) parts rs
-
-  -- no record starts before the first, and none past the last
-  pub count-first : (rs : List Row) → howMany (pointsBefore strings k s 0) rs ≡ 0
-  unfolding pointsBefore
-  count-first rs = count-not (pointsBefore strings k s 0) (λ r. both-no-left _ _ (le-ltb (r .place) 0 (omega arith))) rs
-
-  right-past : (r : Row) → length s ≤ r .place → pointsRight strings k s r ≡ false
-  unfolding pointsRight recordThere idThere
-  right-past r h = both-no-right _ (both-no-left _ _ (both-no-left _ _ (le-ltb (r .place) (length s) h)))
-
-  pub count-last : (at : ℕ) → length s ≤ at → (rs : List Row) → howMany (pointsBefore strings k s at) rs ≡ howMany (pointsRight strings k s) rs
-  unfolding pointsBefore both
-  count-last at h rs =
-      count-same (pointsBefore strings k s at) (pointsRight strings k s)
-      (λ r. byLt (r .place) at
-      (λ l. rw (lt-ltb (r .place) at l))
-      (λ l. rw (le-ltb (r .place) at l) (sym (right-past r (omega arith)))))
-      rs
-
--- ---- the walk that counts
-
--- the walk has come to `at`, what is left from there on is whole records exactly when all is, and n rows point right at the records before it
-pub record Walking (strings : ℕ) (k : Kind) (rs : List Row) (s : Bytes) (at n : ℕ) : Type 0 where
+-- the walk has come to `at`, what is left from there on is whole records exactly when all is, records start at least 45 bytes apart,
+-- and the cells tell the starts before it
+pub record Noting (strings : ℕ) (k : Kind) (s : Bytes) (cells : List ℕ) (at : ℕ) : Type 0 where
   pub inside : at ≤ length s
   pub whole : wholeRecords strings k (drop at s) ≡ wholeRecords strings k s
   pub reached : Reached strings k s at
-  pub hits : n ≡ howMany (pointsBefore strings k s at) rs
+  pub apart : (place : ℕ) → place < at → comesTo strings k s place place 0 ≡ true → place + 45 ≤ at
+  pub size : length cells ≡ 23302
+  pub noted : (place : ℕ) → place / 45 < 23302 → eqb (getD cells (place / 45) 0) (cellOf place) ≡ both (ltb place at) (comesTo strings k s place place 0)
 
-module _ (strings : ℕ) (k : Kind) (rs : List Row) (s : Bytes) where
-  pub walk-first : Walking strings k rs s 0 0
-  walk-first = record { inside = omega arith; whole = refl; reached = reached-first strings k s; hits = sym (count-first strings k s rs) }
+module _ (strings : ℕ) (k : Kind) (s : Bytes) (cells : List ℕ) where
+  pub noting-first : Empty cells → Noting strings k s cells 0
+  unfolding Empty
+  noting-first h =
+      record {
+        inside = omega arith;
+        whole = refl;
+        reached = reached-first strings k s;
+        apart = λ place m t. absurd (omega arith);
+        size = h .0;
+        noted = λ place m. rw (h .1 (place / 45)) (ne-eqb 0 (cellOf place) (λ z. omega arith) ∙ sym (both-no-left _ _ (le-ltb place 0 (omega arith))));
+      }
 
-  module _ (at n : ℕ) (w : Walking strings k rs s at n) where
+  module _ (at : ℕ) (w : Noting strings k s cells at) where
     -- a record more
-    pub walk-next : length s < 2 ^ 63 → (e m : ℕ) → At e ≡ recordEnd strings k s at → m ≡ howMany (pointsAt s at) rs → (at < e) × Walking strings k rs s e (n + m)
-    walk-next small e m t h =
-        let o = walk-on strings k s at e (w .inside) t in
-        let l = o .1 .0 in
-        let g : n + m ≡ howMany (pointsBefore strings k s e) rs = rw (w .hits, h) (sym (count-next strings k s at e (w .reached) t l (o .1 .1) small rs)) in
-        (l, record { inside = o .1 .1; whole = sym (o .0) ∙ w .whole; reached = reached-next strings k s at e (w .reached) t l; hits = g })
+    module _ (e : ℕ) (t : At e ≡ recordEnd strings k s at) where
+      forth : at < e
+      forth = walk-on strings k s at e (w .inside) t .1 .0
 
-    -- no more than the rows
-    pub walk-few : n ≤ length rs
-    walk-few = rw (w .hits) (count-le (pointsBefore strings k s at) rs)
+      start : (place : ℕ) → at ≤ place → place < e → comesTo strings k s place place 0 ≡ eqb at place
+      start = start-only strings k s at e (w .reached) t forth
 
-    pub walk-bad : at < length s → Bad ≡ recordEnd strings k s at → wholeRecords strings k s ≡ false
-    walk-bad h t = sym (w .whole) ∙ walk-stops strings k s at h t
+      apart-next : (place : ℕ) → place < e → comesTo strings k s place place 0 ≡ true → place + 45 ≤ e
+      apart-next place h y =
+          let l = long strings k s at e (w .reached) t forth (w .inside) in
+          byLt place at
+          (λ m. omega (arith, w .apart place m y))
+          (λ m. byEq at place
+          (λ i. omega arith)
+          (λ i. clash y (start place m h ∙ ne-eqb at place i)))
 
-    pub walk-last : length s ≤ at → (wholeRecords strings k s ≡ true) × (n ≡ howMany (pointsRight strings k s) rs)
-    walk-last h =
-        (sym (w .whole) ∙ rw (drop-of-length-le s {i = at} h) (whole-nil strings k), w .hits ∙ count-last strings k s at h rs)
+      -- a place in another cell than `at`
+      other : (place : ℕ) → (at ≡ place → ⊥) → both (ltb place at) (comesTo strings k s place place 0) ≡ both (ltb place e) (comesTo strings k s place place 0)
+      unfolding both
+      other place i =
+          byLt place at
+          (λ m. rw (lt-ltb place at m, lt-ltb place e (omega (arith, forth))))
+          (λ m. byLt place e
+          (λ n. rw (le-ltb place at m, lt-ltb place e n) (sym (start place m n ∙ ne-eqb at place i)))
+          (λ n. rw (le-ltb place at m, le-ltb place e n)))
 
--- ---- what the walk's answer says of the test
+      -- in one cell only one record starts
+      same-cell : (place : ℕ) → place / 45 ≡ at / 45 → eqb (cellOf at) (cellOf place) ≡ both (ltb place e) (comesTo strings k s place place 0)
+      unfolding both
+      same-cell place i =
+          let l = long strings k s at e (w .reached) t forth (w .inside) in
+          byEq at place
+          (λ j. rw (← j, eq-eqb (cellOf at) (cellOf at) refl, lt-ltb at e forth) (sym (start at (omega arith) forth ∙ eq-eqb at at refl)))
+          (λ j. rw (ne-eqb (cellOf at) (cellOf place) (λ z. j (omega arith)))
+          (byLt place at
+          (λ m. sym (both-no-right (ltb place e) (byBool (comesTo strings k s place place 0) (λ y. absurd (omega (arith, w .apart place m y))) (λ y. y))))
+          (λ m. sym (both-no-right (ltb place e) (start place m (omega arith) ∙ ne-eqb at place j)))))
 
-module _ (strings : ℕ) (k : Kind) (table : List ℕ) (ids : ℕ) (s : Bytes) where
-  pub used-bad : walked.Bad ≡ walkOf strings k table ids s → soundUsed strings k table ids s ≡ false
-  unfolding soundUsed walkOf
-  used-bad e =
-      byBool (wholeRecords strings k s)
-      (λ t. let z : walked.Bad ≡ walked.Hits (howMany (pointsRight strings k s) (rowsOf table ids)) = rw t at e in no cc)
-      (λ t. both-no-left _ _ t)
+      noted-next : (place : ℕ) → place / 45 < 23302 → eqb (getD (set cells (at / 45) (cellOf at)) (place / 45) 0) (cellOf place) ≡ both (ltb place e) (comesTo strings k s place place 0)
+      noted-next place h =
+          byEq (place / 45) (at / 45)
+          (λ i. rw (i, getD-set-same cells (at / 45) (cellOf at) 0 (omega (arith, w .size))) (same-cell place i))
+          (λ i. rw (getD-set-other cells (at / 45) (place / 45) (cellOf at) 0 i) (w .noted place h ∙ other place (λ z. i (ap (λ (n : ℕ). n / 45) (sym z)))))
 
-  -- as many live rows point right as there are live rows, exactly when every live row does
-  pub used-hits : (n m : ℕ) → walked.Hits n ≡ walkOf strings k table ids s → soundTable table ids ≡ true → m ≡ howMany live (rowsOf table ids) → eqb n m ≡ soundUsed strings k table ids s
-  unfolding soundUsed walkOf rowPasses pointsRight both
-  used-hits n m e h l =
-      byBool (wholeRecords strings k s)
-      (λ t. let z : walked.Hits n ≡ walked.Hits (howMany (pointsRight strings k s) (rowsOf table ids)) = rw t at e in
-      let c : n ≡ howMany (pointsRight strings k s) (rowsOf table ids) = cc in
-      rw (t, h, c, l) (count-all live (λ (r : Row). recordThere strings k s (r .rank) (r .place)) (rowsOf table ids)))
-      (λ t. let z : walked.Hits n ≡ walked.Bad = rw t at e in no cc)
+      pub noting-next : (at < e) × Noting strings k s (set cells (at / 45) (cellOf at)) e
+      noting-next =
+          let o = walk-on strings k s at e (w .inside) t in (
+            forth,
+            record {
+              inside = o .1 .1;
+              whole = sym (o .0) ∙ w .whole;
+              reached = reached-next strings k s at e (w .reached) t forth;
+              apart = apart-next;
+              size = length-set cells (at / 45) (cellOf at) ∙ w .size;
+              noted = noted-next;
+            },
+          )
+
+    pub noting-bad : at < length s → Bad ≡ recordEnd strings k s at → wholeRecords strings k s ≡ false
+    noting-bad h t = sym (w .whole) ∙ walk-stops strings k s at h t
+
+    pub noting-last : length s ≤ at → (wholeRecords strings k s ≡ true) × Noted strings k s cells
+    unfolding Noted both
+    noting-last h = (
+      sym (w .whole) ∙ rw (drop-of-length-le s {i = at} h) (whole-nil strings k),
+      λ place l m. w .noted place m ∙ rw (lt-ltb place at (omega arith)),
+    )

@@ -1,3 +1,3 @@
 pub mod Sound
 pub mod Check
-pub mod Count
+pub mod Cells

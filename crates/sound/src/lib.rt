@@ -1,24 +1,21 @@
 // Soundness of what is lent for one kind, decided.
 ghost use mathlib.Core.Path.{_≡_};
 ghost use mathlib.Core.Bool.{true};
+ghost use Prim.Native.Nat.{_/_, _<_};
+ghost use lib.ListN.{length, set};
 ghost use mir.Syntax.{w64};
 ghost use mir.Val.{toZ};
+ghost use Rattle.base.specs.Bytes.{both, all};
 ghost use Rattle.little.specs.Little.{valueAt};
 ghost use Rattle.osm_id.specs.Order.{rank, idOf};
-ghost use Rattle.table.specs.Words.{rowsOf, soundTable};
+ghost use Rattle.legal.specs.Whole.{wholeRecords};
+ghost use Rattle.table.specs.Words.{rowsOf};
 ghost use Rattle.kind_store.specs.KindStore.{kindStoreWith};
-ghost use Rattle.sound.specs.Check.{soundUsed, soundKindStore};
-ghost use Rattle.sound.specs.Count.{one, howMany, live, pointsAt, walkOf};
+ghost use Rattle.sound.specs.Check.{comesTo, rowPasses, soundUsed, soundKindStore};
+ghost use Rattle.sound.specs.Cells.{cellOf, Empty, Noted};
 use kind::Kind;
 use legal::End;
-use table::Found;
 use table::Row;
-
-// Bad: a record is not legal or not whole. Hits: at how many records the row of their id points.
-enum Walked {
-    Bad,
-    Hits(usize),
-}
 
 // The rank of the id that stands at a place.
 fn rank_there(bytes: &[u8], place: usize) -> u64
@@ -27,72 +24,128 @@ fn rank_there(bytes: &[u8], place: usize) -> u64
     osm_id::osm_id_rank(signed::i64_of_bits(little::get_u64(bytes, place)))
 }
 
-// 1 where the row of the id that stands at a place has that place, else 0.
-fn hit(table: &[u64], ids: u64, bytes: &[u8], at: usize) -> usize
-    requires { ⌜ soundTable (now table) ids ≡ true ⌝ }
-    ensures { λ r. ⌜ r ≡ howMany (pointsAt (now (bytes .entry)) at) (rowsOf (now (table .entry)) ids) ⌝ }
+// ---- where records start
+// A record has at least 45 bytes, so no two start in one cell of 45. A cell holds the place in it where a record starts, plus 1, or 0 where none does.
+// The cells cover 1 MiB, the largest arena that set-up takes.
+
+fn note(cells: &mut [u8; 23302], at: usize)
+    requires { ⌜ length (now cells) ≡ 23302 ⌝ }
+    ensures { λ _. ⌜ now (cells .exit) ≡ set (now (cells .entry)) (at / 45) (cellOf at) ⌝ }
 {
-    let Found::At(i) = table::find_row(table, ids, rank_there(bytes, at)) else {
-        return 0;
-    };
-    let row = table::row_at(table, i);
-    if row.place == at as u64 {
-        return 1;
+    let i = at / 45;
+    if i < 23302 {
+        cells[i] = (at % 45 + 1) as u8;
     }
-    0
 }
 
-// One walk from record to record; each is judged once, and its id looked up once.
-fn hits(kind: Kind, table: &[u64], ids: u64, bytes: &[u8], strings: u64) -> Walked
-    requires { ⌜ soundTable (now table) ids ≡ true ⌝ }
-    ensures { λ r. ⌜ r ≡ walkOf strings kind (now (table .entry)) ids (now (bytes .entry)) ⌝ }
+// One walk from record to record: whether all are whole and legal, with their starts noted.
+fn note_starts(kind: Kind, bytes: &[u8], strings: u64, cells: &mut [u8; 23302]) -> bool
+    requires { ⌜ Empty (now cells) ⌝ }
+    ensures { λ r. ⌜ (r ≡ wholeRecords strings kind (now (bytes .entry))) × (r ≡ true → Noted strings kind (now (bytes .entry)) (now (cells .exit))) ⌝ }
 {
     let mut at: usize = 0;
-    let mut n: usize = 0;
     while at < bytes.len() {
         let End::At(e) = legal::record_end(kind, bytes, at, strings) else {
-            return Walked::Bad;
+            return false;
         };
-        n += hit(table, ids, bytes, at);
+        note(cells, at);
         at = e;
     }
-    Walked::Hits(n)
+    true
 }
 
-// 1 for the row of a live id, 0 for that of a deleted one.
-fn live_row(row: Row) -> usize
-    ensures { λ r. ⌜ r ≡ one (live row) ⌝ }
+// Whether a walk from record to record comes to a place.
+fn comes_to(kind: Kind, bytes: &[u8], place: usize, strings: u64) -> bool
+    ensures { λ r. ⌜ r ≡ comesTo strings kind (now (bytes .entry)) place place 0 ⌝ }
+{
+    let mut at: usize = 0;
+    while at < place {
+        let End::At(e) = legal::record_end(kind, bytes, at, strings) else {
+            return false;
+        };
+        at = e;
+    }
+    at == place
+}
+
+// The same of a place in the bytes, by its cell; past the cells by a walk.
+fn starts_at(kind: Kind, bytes: &[u8], place: usize, strings: u64, cells: &[u8; 23302]) -> bool
+    requires { ⌜ (place < length (now bytes)) × Noted strings kind (now bytes) (now cells) ⌝ }
+    ensures { λ r. ⌜ r ≡ comesTo strings kind (now (bytes .entry)) place place 0 ⌝ }
+{
+    let i = place / 45;
+    if i < 23302 {
+        return cells[i] == (place % 45 + 1) as u8;
+    }
+    comes_to(kind, bytes, place, strings)
+}
+
+// ---- rows
+
+// A row of a deleted id, or one at whose place a record of its id starts.
+fn row_passes(kind: Kind, bytes: &[u8], row: Row, strings: u64, cells: &[u8; 23302]) -> bool
+    requires { ⌜ Noted strings kind (now bytes) (now cells) ⌝ }
+    ensures { λ r. ⌜ r ≡ rowPasses strings kind (now (bytes .entry)) row ⌝ }
 {
     if row.place < 0x8000_0000_0000_0000 {
-        1
-    } else {
-        0
+        let place = row.place as usize;
+        if place < bytes.len() {
+            let same = rank_there(bytes, place) == row.rank;
+            return same & starts_at(kind, bytes, place, strings, cells);
+        }
+        return false;
     }
+    true
 }
 
-// How many rows are those of live ids.
-fn live_rows(table: &[u64], ids: u64) -> usize
-    ensures { λ r. ⌜ r ≡ howMany live (rowsOf (now (table .entry)) ids) ⌝ }
+fn rows_pass(
+    kind: Kind,
+    table: &[u64],
+    ids: u64,
+    bytes: &[u8],
+    strings: u64,
+    cells: &[u8; 23302],
+) -> bool
+    requires { ⌜ Noted strings kind (now bytes) (now cells) ⌝ }
+    ensures { λ r. ⌜ r ≡ all (rowPasses strings kind (now (bytes .entry))) (rowsOf (now (table .entry)) ids) ⌝ }
 {
     let n = ids as usize;
     let mut i: usize = 0;
-    let mut lives: usize = 0;
     while i < n {
-        lives += live_row(table::row_at(table, i));
-        i += 1;
+        if row_passes(kind, bytes, table::row_at(table, i), strings, cells) {
+            i += 1;
+        } else {
+            return false;
+        }
     }
-    lives
+    true
 }
 
-// The table, then the used bytes. A row has one place, so there are as many hits as live rows exactly when each live row points at a record of its id.
+// The used bytes, then the rows.
+fn cells_pass(
+    kind: Kind,
+    table: &[u64],
+    ids: u64,
+    bytes: &[u8],
+    strings: u64,
+    cells: &mut [u8; 23302],
+) -> bool
+    requires { ⌜ Empty (now cells) ⌝ }
+    ensures { λ r. ⌜ r ≡ both (wholeRecords strings kind (now (bytes .entry))) (all (rowPasses strings kind (now (bytes .entry))) (rowsOf (now (table .entry)) ids)) ⌝ }
+{
+    if note_starts(kind, bytes, strings, cells) {
+        return rows_pass(kind, table, ids, bytes, strings, cells);
+    }
+    false
+}
+
+// The table, then the rest.
 fn used_sound(kind: Kind, table: &[u64], ids: u64, bytes: &[u8], strings: u64) -> bool
     ensures { λ r. ⌜ r ≡ soundUsed strings kind (now (table .entry)) ids (now (bytes .entry)) ⌝ }
 {
     if table::is_rising(table, ids) {
-        let Walked::Hits(n) = hits(kind, table, ids, bytes, strings) else {
-            return false;
-        };
-        return n == live_rows(table, ids);
+        let mut cells = [0u8; 23302];
+        return cells_pass(kind, table, ids, bytes, strings, &mut cells);
     }
     false
 }

@@ -35,8 +35,8 @@ add-t8 c = search needs
 enum-told-3 : tie.Need-enum-told-3
 enum-told-3 c = search needs
 
-parts-end-requires : tie.Need-parts-end-requires
-parts-end-requires c κs = search needs
+members-end-requires : tie.Need-members-end-requires
+members-end-requires c κs = search needs
 
 returns-2 : tie.Need-returns-2
 returns-2 c = let a = c .before .before .before .args in rw (c .enum-told .given .1) (body-node (a .strings) (headIn Node (a .head)) (now (a .bytes)) (a .at) (omega arith))
@@ -47,7 +47,7 @@ returns-3 c = let a = c .before .before .before .before .before .args in rw (c .
 
 returns-4 : tie.Need-returns-4
 unfolding headIn countsHead
-returns-4 c = let a = c .before .before .before .before .args in rw (c .before .enum-told3 .given .1) (c .parts-end .ensures ∙ body-members (a .strings) (headIn Relation (a .head)) (now (a .bytes)) (a .at))
+returns-4 c = let a = c .before .before .before .before .args in rw (c .before .enum-told3 .given .1) (c .members-end .ensures ∙ body-members (a .strings) (headIn Relation (a .head)) (now (a .bytes)) (a .at))
 
 pub body-end-spec : {M : Type 1} → statement M
 body-end-spec =
@@ -61,7 +61,7 @@ body-end-spec =
     returns
     add-t8
     enum-told-3
-    parts-end-requires
+    members-end-requires
     returns-2
     returns-3
     returns-4)

@@ -2,10 +2,10 @@
 use Prim.Native.Nat.{_+_, _*_, _≤_}
 use denote.Ref.{now}
 use native.Mathlib.Omega.{arith}
-use mathlib.Core.Path.{sym, _∙_}
+use mathlib.Core.Path.{sym, _∙_, ap}
 use lib.ListN.{length}
 use Rattle.compact.specs.Held.{metaOf}
-use Rattle.legal.specs.Judge.{ended}
+use Rattle.legal.specs.declared.TagRun.{TagRun}
 use Rattle.legal.proofs.Bits.{and-both, or-either}
 use Rattle.legal.proofs.Judging.{body-refused, body-within, tags-refused, tags-room, judged-is}
 use borrow.Author.Needs.{needs}
@@ -33,11 +33,11 @@ within c =
     let d = c .before in
     body-within (a .strings) (a .kind) (a .head) (metaOf (a .meta)) (now (a .bytes)) (a .at) (omega arith) (a .more) (d .tags .given .0 .0) (sym (d .before .before .body-end .ensures) ∙ d .tags .given .1)
 
-parts-end-requires : tie.Need-parts-end-requires
-parts-end-requires c κs = within c
+tags-end-requires : tie.Need-tags-end-requires
+tags-end-requires c κs = within c
 
-enum-known-end : tie.Need-enum-known-end
-enum-known-end c = search needs
+enum-known-last : tie.Need-enum-known-last
+enum-known-last c = search needs
 
 enum-told-2 : tie.Need-enum-told-2
 enum-told-2 c = search needs
@@ -47,31 +47,25 @@ returns-2 c =
     let a = c .before .before .before .before .before .before .before .before .args in
     let d = c .before .before .before .before in
     tags-refused (a .strings) (a .kind) (a .head) (metaOf (a .meta)) (now (a .bytes)) (a .at) (omega arith) (a .more) (d .tags .given .0 .0)
-    (sym (d .before .before .body-end .ensures) ∙ d .tags .given .1) (sym (c .before .before .parts-end .ensures) ∙ c .enum-told2 .given .1)
+    (sym (d .before .before .body-end .ensures) ∙ d .tags .given .1) (sym (ap (λ (r : TagRun). r .end) (c .before .before .tags-end .ensures)) ∙ c .enum-told2 .given .1)
 
 legal-meta-requires : tie.Need-legal-meta-requires
 legal-meta-requires c κs = search needs
-
-parts-end-requires-2 : tie.Need-parts-end-requires-2
-parts-end-requires-2 c κs = within (c .before .before .before .before .before)
-
-ended-requires : tie.Need-ended-requires
-ended-requires c κs = search needs
 
 in-place-requires : tie.Need-in-place-requires
 in-place-requires c κs = search needs
 
 -- where the tags end
-room : (c : tie.After-known-told2) → let d = c .before .before .before .before .before in let e = c .before .end .given .0 .0 in
+room : (c : tie.After-known-told2) → let d = c .before .before .before .before .before in let e = c .before .last .given .0 .0 in
     (d .tags .given .0 .0 + 8 * d .before .before .before .before .args .head .tags ≤ e) × (e ≤ length (now (d .before .before .before .before .args .bytes)))
 room c =
     let d = c .before .before .before .before .before in
     let a = d .before .before .before .before .args in
     tags-room (a .strings) (a .kind) (a .head) (metaOf (a .meta)) (now (a .bytes)) (a .at) (omega arith) (a .more) (d .tags .given .0 .0)
-    (sym (d .before .before .body-end .ensures) ∙ d .tags .given .1) (c .before .end .given .0 .0) (sym (c .before .before .before .parts-end .ensures) ∙ c .before .end .given .1)
+    (sym (d .before .before .body-end .ensures) ∙ d .tags .given .1) (c .before .last .given .0 .0) (sym (ap (λ (r : TagRun). r .end) (c .before .before .before .tags-end .ensures)) ∙ c .before .last .given .1)
 
 sub-few-parts : tie.Need-sub-few-parts
-sub-few-parts c = omega (arith, room (c .before .before .before .before))
+sub-few-parts c = omega (arith, room (c .before .before))
 
 cast-few-parts : tie.Need-cast-few-parts
 cast-few-parts c = search needs
@@ -80,7 +74,7 @@ mul-few-parts : tie.Need-mul-few-parts
 mul-few-parts c = search needs
 
 sub-few-parts-2 : tie.Need-sub-few-parts-2
-sub-few-parts-2 c = omega (arith, room (c .before .before .before .before .before))
+sub-few-parts-2 c = omega (arith, room (c .before .before .before))
 
 few-parts-requires : tie.Need-few-parts-requires
 few-parts-requires c κs = search needs
@@ -90,18 +84,17 @@ choose-requires c κs = search needs
 
 returns-3 : tie.Need-returns-3
 returns-3 c =
-    let a = c .before .before .before .before .before .before .before .before .before .before .before .before .before .before .before .before .args in
-    let d = c .before .before .before .before .before .before .before .before .before .before .before .before in
-    let x = c .before .before .before .before .before .before .before .before in
-    let w = c .before .before .before .before in
+    let a = c .before .before .before .before .before .before .before .before .before .before .before .before .before .before .args in
+    let d = c .before .before .before .before .before .before .before .before .before .before in
+    let x = c .before .before .before .before .before .before in
+    let w = x .before .before .tags-end in
     rw (
       judged-is (a .strings) (a .kind) (a .head) (metaOf (a .meta)) (now (a .bytes)) (a .at) (omega arith) (a .more) (d .tags .given .0 .0)
-          (sym (d .before .before .body-end .ensures) ∙ d .tags .given .1) (x .end .given .0 .0) (sym (x .before .before .parts-end .ensures) ∙ x .end .given .1),
+          (sym (d .before .before .body-end .ensures) ∙ d .tags .given .1) (x .last .given .0 .0) (sym (ap (λ (r : TagRun). r .end) (w .ensures)) ∙ x .last .given .1),
       ← and-both,
       ← or-either,
-      ← w .before .before .legal-meta .ensures,
-      ← w .before .parts-end2 .ensures,
-      ← w .ended .ensures,
+      ← c .before .before .before .before .legal-meta .ensures,
+      ← w .ensures,
       ← c .before .before .before .in-place .ensures,
       ← c .before .few-parts .ensures,
     )
@@ -115,13 +108,11 @@ judge-spec =
     enum-known-tags
     enum-told
     returns
-    parts-end-requires
-    enum-known-end
+    tags-end-requires
+    enum-known-last
     enum-told-2
     returns-2
     legal-meta-requires
-    parts-end-requires-2
-    ended-requires
     in-place-requires
     sub-few-parts
     cast-few-parts

@@ -1,26 +1,26 @@
--- So many parts: the loop keeps that the parts left from its place on end where all of them end.
+-- So many members: the loop keeps that the members left from its place on end where all of them end.
 use Prim.Native.Nat.{_≤_}
 use mathlib.Core.Path.{_≡_, refl, sym, _∙_, ap}
 use denote.Ref.{now}
 use native.Mathlib.Omega.{arith}
 use lib.ListN.{length}
 use borrow.Author.Needs.{needs}
-use Rattle.legal.specs.Judge.{partsEnd}
-use Rattle.legal.proofs.Ends.{parts-none, parts-bad, parts-at}
-use Rattle.legal.proofs.parts_end.Statement.{statement}
-use Rattle.legal.proofs.parts_end.Tie as tie
+use Rattle.legal.specs.Judge.{membersEnd}
+use Rattle.legal.proofs.Ends.{members-none, members-bad, members-at}
+use Rattle.legal.proofs.members_end.Statement.{statement}
+use Rattle.legal.proofs.members_end.Tie as tie
 
 abbrev Inv-loop : tie.InvT-loop
-Inv-loop part bytes at n strings place₀ left₀ place left = (place ≤ length bytes) × (partsEnd part strings left bytes place ≡ partsEnd part strings n bytes at)
+Inv-loop bytes at n strings place₀ left₀ place left = (place ≤ length bytes) × (membersEnd strings left bytes place ≡ membersEnd strings n bytes at)
 
 abbrev μ-loop : tie.MeasureT-loop
-μ-loop part bytes at n strings place₀ left₀ place left = left
+μ-loop bytes at n strings place₀ left₀ place left = left
 
 loop-holds : tie.Need-loop-holds Inv-loop μ-loop
 loop-holds c = (omega arith, refl)
 
-part-end-requires : tie.Need-part-end-requires Inv-loop μ-loop
-part-end-requires c κs = search needs
+member-end-requires : tie.Need-member-end-requires Inv-loop μ-loop
+member-end-requires c κs = search needs
 
 enum-known-next : tie.Need-enum-known-next Inv-loop μ-loop
 enum-known-next c = search needs
@@ -32,7 +32,7 @@ returns : tie.Need-returns Inv-loop μ-loop
 returns c =
     let a = c .before .before .before .before .before .before .args in
     let l = c .before .before .before .before .loop in
-    sym (parts-bad (a .strings) (now (a .bytes)) (a .part) (l .left) (l .place) (omega arith) (sym (c .before .before .part-end .ensures) ∙ c .enum-told .given .1)) ∙ l .inv .1
+    sym (members-bad (a .strings) (now (a .bytes)) (l .left) (l .place) (omega arith) (sym (c .before .before .member-end .ensures) ∙ c .enum-told .given .1)) ∙ l .inv .1
 
 sub-left : tie.Need-sub-left Inv-loop μ-loop
 sub-left c = omega arith
@@ -45,7 +45,7 @@ loop-again c =
     let a = c .before .before .before .before .before .before .before .args in
     let l = c .before .before .before .before .before .loop in
     let d = c .before in
-    let x = parts-at (a .strings) (now (a .bytes)) (a .part) (l .left) (l .place) (d .next .given .0 .0) (omega arith) (l .inv .0) (sym (d .before .before .part-end .ensures) ∙ d .next .given .1) in
+    let x = members-at (a .strings) (now (a .bytes)) (l .left) (l .place) (d .next .given .0 .0) (omega arith) (l .inv .0) (sym (d .before .before .member-end .ensures) ∙ d .next .given .1) in
     (x .1 .1, sym (x .0) ∙ l .inv .1)
 
 returns-2 : tie.Need-returns-2 Inv-loop μ-loop
@@ -53,16 +53,16 @@ returns-2 c =
     let a = c .before .before .before .args in
     let l = c .before .loop in
     let z : l .left ≡ 0 = omega arith in
-    sym (parts-none (a .strings) (now (a .bytes)) (a .part) (l .place) (l .inv .0)) ∙ (ap (λ n. partsEnd (a .part) (a .strings) n (now (a .bytes)) (l .place)) (sym z) ∙ l .inv .1)
+    sym (members-none (a .strings) (now (a .bytes)) (l .place) (l .inv .0)) ∙ (ap (λ n. membersEnd (a .strings) n (now (a .bytes)) (l .place)) (sym z) ∙ l .inv .1)
 
-pub parts-end-spec : {M : Type 1} → statement M
-parts-end-spec =
+pub members-end-spec : {M : Type 1} → statement M
+members-end-spec =
     tie.close
     (tie.spec
     Inv-loop
     μ-loop
     loop-holds
-    part-end-requires
+    member-end-requires
     enum-known-next
     enum-told
     returns
