@@ -48,6 +48,44 @@ length-one n h = ap length (number-one n h)
 pub length-more : (n : ℕ) → 10 ≤ n → length (numberText n) ≡ length (numberText (n / 10)) + 1
 length-more n h = ap length (number-more n h) ∙ length-append (numberText (n / 10)) ((48 + n % 10) ∷ [])
 
+pub length-two : (n : ℕ) → 10 ≤ n → n < 100 → length (numberText n) ≡ 2
+length-two n h g = omega (arith, length-more n h, length-one (n / 10) (omega arith))
+
+pub length-three : (n : ℕ) → 100 ≤ n → n < 1000 → length (numberText n) ≡ 3
+length-three n h g = omega (arith, length-more n (omega arith), length-two (n / 10) (omega arith) (omega arith))
+
+pub length-four : (n : ℕ) → 1000 ≤ n → n < 10000 → length (numberText n) ≡ 4
+length-four n h g = omega (arith, length-more n (omega arith), length-three (n / 10) (omega arith) (omega arith))
+
+-- four digits fewer, and eight
+pub four-less : (n : ℕ) → 10000 ≤ n → length (numberText n) ≡ length (numberText (n / 10000)) + 4
+four-less n h =
+    let e : n / 10 / 10 / 10 / 10 ≡ n / 10000 = omega arith in
+    let a = length-more n (omega arith) in
+    let b = length-more (n / 10) (omega arith) in
+    let c = length-more (n / 10 / 10) (omega arith) in
+    let d = rw e at (length-more (n / 10 / 10 / 10) (omega arith)) in
+    omega (arith, a, b, c, d)
+
+pub eight-less : (n : ℕ) → 100000000 ≤ n → length (numberText n) ≡ length (numberText (n / 100000000)) + 8
+eight-less n h =
+    let e : n / 10000 / 10000 ≡ n / 100000000 = omega arith in
+    let a = four-less n (omega arith) in
+    let b = rw e at (four-less (n / 10000) (omega arith)) in
+    omega (arith, a, b)
+
+-- at most so many
+tenth : (n k : ℕ) → length (numberText (n / 10)) ≤ k → length (numberText n) ≤ k + 1
+tenth n k h = byLt n 10 (λ g. omega (arith, length-one n g)) (λ g. omega (arith, length-more n g))
+
+pub most-four : (n : ℕ) → n < 10000 → length (numberText n) ≤ 4
+most-four n h =
+    tenth n 3 (tenth (n / 10) 2 (tenth (n / 10 / 10) 1 (omega (arith, length-one (n / 10 / 10 / 10) (omega arith)))))
+
+pub most-eight : (n : ℕ) → n < 100000000 → length (numberText n) ≤ 8
+most-eight n h =
+    byLt n 10000 (λ g. omega (arith, most-four n g)) (λ g. omega (arith, four-less n g, most-four (n / 10000) (omega arith)))
+
 -- ---- the low digits of a number, as many as are asked for
 
 unfoldable pub lowDigits : ℕ → ℕ → Bytes

@@ -5,7 +5,7 @@ use mathlib.Core.List.{[], _∷_, _++_}
 use native.Mathlib.Nat.{suc-add, zero-add}
 use native.Mathlib.Omega.{arith}
 use lib.IntN.{negsuc}
-use lib.ListN.{length, set}
+use lib.ListN.{length, set, length-set}
 use mir.Syntax.{Width}
 use mir.Val.{toZ, bits, hbits}
 use mir.Facts.{toZ-pos}
@@ -14,10 +14,10 @@ use Rattle.base.specs.Bytes.{Bytes}
 use Rattle.base.proofs.Split.{byLe, no}
 use Rattle.line.specs.Decimal.{numberText, integerText}
 use Rattle.little.specs.Little.{over}
-use Rattle.little.proofs.Overs.{over-here, over-later, over-nothing}
+use Rattle.little.proofs.Overs.{over-here, over-later, over-nothing, over-step}
 use Rattle.decimal.specs.Put.{Wrote, putText}
 use Rattle.decimal.specs.declared.Written.the-variants.{End, Full}
-use Rattle.decimal.proofs.Numbers.{lowDigits, low-more, length-low}
+use Rattle.decimal.proofs.Numbers.{lowDigits, low-none, low-more, length-low}
 
 -- ---- digits from the last to the first
 
@@ -34,6 +34,20 @@ digit-stored s at k n h =
     let l = length-low k (n / 10) in
     let e = over-last s at (lowDigits k (n / 10)) (48 + n % 10) (rw l h) in
     rw low-more (rw l at e)
+
+-- where one is still to be written
+pub one-stored : (s : Bytes) (at n : ℕ) → at < length s → set s at (48 + n % 10) ≡ over s at (lowDigits 1 n)
+one-stored s at n h = rw (low-more 0 n, low-none (n / 10), over-step s at (48 + n % 10) [] h, over-nothing)
+
+-- the last two of them, given as the number below 100 that they make, at their two places
+pub two-stored : (s : Bytes) (at k n d p q : ℕ) → at + suc k < length s → d ≡ n % 100 → p ≡ at + suc k → q ≡ at + k
+    → over (set (set s p (48 + d % 10)) q (48 + d / 10)) at (lowDigits k (n / 100)) ≡ over s at (lowDigits (suc (suc k)) n)
+two-stored s at k n d p q h e i j =
+    let c : n / 100 ≡ n / 10 / 10 = omega arith in
+    let a : d / 10 ≡ n / 10 % 10 = omega arith in
+    let b : d % 10 ≡ n % 10 = omega arith in
+    rw (c, a, b, i, j)
+    (digit-stored (set s (at + suc k) (48 + n % 10)) at k (n / 10) (simp length-set (omega arith)) ∙ digit-stored s at (suc k) n (omega arith))
 
 -- ---- what is written, whole or not at all
 

@@ -1,7 +1,7 @@
 // Decimal numbers into lent bytes ("Numbers are decimal"): the digits of a number, and an integer with its minus sign.
 ghost use mathlib.Core.Path.{_≡_};
 ghost use mathlib.Core.List.{_∷_};
-ghost use Prim.Native.Nat.{_+_, _≤_};
+ghost use Prim.Native.Nat.{_+_, _<_, _≤_};
 ghost use lib.ListN.{length};
 ghost use mir.Syntax.{w32, w64};
 ghost use mir.Val.{toZ};
@@ -15,30 +15,72 @@ pub enum Written {
     Full,
 }
 
+// How many digits a number of at most four has.
+fn four_length(v: u64) -> usize
+    requires { ⌜ v < 10000 ⌝ }
+    ensures { λ r. ⌜ r ≡ length (numberText v) ⌝ }
+{
+    if v < 10 {
+        return 1;
+    }
+    if v < 100 {
+        return 2;
+    }
+    if v < 1000 {
+        return 3;
+    }
+    4
+}
+
+// How many digits a number of at most eight has.
+fn eight_length(v: u64) -> usize
+    requires { ⌜ v < 100000000 ⌝ }
+    ensures { λ r. ⌜ r ≡ length (numberText v) ⌝ }
+{
+    if v < 10000 {
+        return four_length(v);
+    }
+    4 + four_length(v / 10000)
+}
+
 // How many digits a number has.
 pub fn number_length(v: u64) -> usize
     ensures { λ r. ⌜ r ≡ length (numberText v) ⌝ }
 {
-    let mut x = v;
-    let mut n: usize = 1;
-    while 10 <= x {
-        x = x / 10;
-        n += 1;
+    if v < 100_000_000 {
+        return eight_length(v);
     }
-    n
+    if v < 10_000_000_000_000_000 {
+        return 8 + eight_length(v / 100_000_000);
+    }
+    16 + four_length(v / 10_000_000_000_000_000)
 }
 
-// The digits of a number from a place on, the last one first; n is how many they are.
+// The last n digits of a number from a place on, two at a time, the last ones first.
 fn put_digits(out: &mut [u8], at: usize, n: usize, v: u64)
-    requires { ⌜ (n ≡ length (numberText v)) × (at + n ≤ length (now out)) ⌝ }
-    ensures { λ _. ⌜ now (out .exit) ≡ over (now (out .entry)) at (numberText v) ⌝ }
+    requires { ⌜ at + n ≤ length (now out) ⌝ }
+    ensures { λ _. ⌜ (n ≡ length (numberText v) → now (out .exit) ≡ over (now (out .entry)) at (numberText v)) ⌝ }
 {
     let mut x = v;
     let mut i = n;
-    while 0 < i {
-        out[at + (i - 1)] = (48 + x % 10) as u8;
-        x = x / 10;
-        i -= 1;
+    while 1 < i {
+        let d = x % 100;
+        out[at + (i - 1)] = (48 + d % 10) as u8;
+        out[at + (i - 2)] = (48 + d / 10) as u8;
+        x = x / 100;
+        i -= 2;
+    }
+    if i == 1 {
+        out[at] = (48 + x % 10) as u8;
+    }
+}
+
+// A number whose length is known, at the start of what is lent, where it fits.
+pub fn put_measured(out: &mut [u8], n: usize, v: u64)
+    ensures { λ _. ⌜ (n ≡ length (numberText v) → now (out .exit) ≡ putText (now (out .entry)) (numberText v) .bytes) ⌝ }
+{
+    if n <= out.len() {
+        put_digits(out, 0, n, v);
     }
 }
 

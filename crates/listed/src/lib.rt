@@ -36,7 +36,8 @@ pub enum View {
     Refused(Refusal),
 }
 
-fn is_on(side: Side, row: Row) -> bool
+// Whether a row is on a list.
+pub fn is_on(side: Side, row: Row) -> bool
     ensures { λ r. ⌜ r ≡ isOn side row ⌝ }
 {
     let live = row.place < 0x8000_0000_0000_0000;

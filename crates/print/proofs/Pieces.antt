@@ -1,7 +1,7 @@
 -- One piece, as its writers go: its place in the output, integers of another width, the bytes of an escape.
 use Prim.Native.Nat.{ℕ, zero, suc, _+_, _-_, _^_, _≤_, _<_}
 use mathlib.Core.Path.{_≡_, refl, sym, _∙_, ap}
-use mathlib.Core.Bool.{true, false}
+use mathlib.Core.Bool.{Bool, true, false, _&&_}
 use mathlib.Core.List.{[], _∷_, _++_, append-assoc}
 use native.Mathlib.Numerals.{add-one}
 use native.Mathlib.Omega.{arith}
@@ -11,15 +11,14 @@ use lib.Seq.{drop-cons}
 use mir.Syntax.{w32, w64}
 use mir.Val.{toZ}
 use mir.Facts.{toZ-pos}
-use borrow.Author.Tests.{le-leb, lt-leb, leb-true, leb-false, le-ltb}
+use borrow.Author.Tests.{le-leb, lt-leb, leb-true, leb-false, le-ltb, ne-eqb}
 use borrow.Rule.Slice.PartMut.{midOf, putMid}
 use Rattle.base.specs.Bytes.{Bytes}
-use Rattle.base.proofs.Split.{byLe}
+use Rattle.base.proofs.Split.{byLe, clash}
 use Rattle.text.specs.Escape.{escaped, escape}
 use Rattle.little.specs.Little.{over}
 use Rattle.little.proofs.Overs.{over-past, over-step, over-lent-start}
 use Rattle.decimal.specs.Put.{Wrote as Put, putText}
-use Rattle.decimal.specs.declared.Written.{Written}
 use Rattle.decimal.proofs.Puts.{put-whole, put-nothing}
 use Rattle.print.specs.declared.Room.{Room}
 use Rattle.print.specs.declared.Room.the-variants.{Left, Full}
@@ -98,17 +97,17 @@ piece-written cap room left x out last at b p e =
     rw (step-is cap room x out, ← b, ← p, ← over-lent-start out last at x (w .start) e)
 
 -- the same of a writer of numbers, which writes whole numbers only
-pub number-written : (cap : ℕ) (room left : Room) (x out last : Bytes) (w : Written) (at : ℕ) → left ≡ behind room (length x) → at ≡ outputPlace cap room left (length out)
-    → _≡_ {A = Put} (record { bytes = last; answer = w }) (putText (midOf at (length out - at) out) x)
+pub number-written : (cap : ℕ) (room left : Room) (x out last : Bytes) (at : ℕ) → left ≡ behind room (length x) → at ≡ outputPlace cap room left (length out)
+    → last ≡ putText (midOf at (length out - at) out) x .bytes
     → _≡_ {A = Printed} (record { out = putMid at (length out - at) out last; room = left }) (printStep cap x (record { out = out; room = room }))
-number-written cap room left x out last w at b p e =
+number-written cap room left x out last at b p e =
     let lent = midOf at (length out - at) out in
     let n : length lent ≡ length out - at = simp (length-take, length-drop) (omega arith) in
     let d = placing cap (length x) (length out) room at (rw (← b) p) in
     piece-written cap room left x out last at b p
     (byLe (length x) (length lent)
-    (λ h. ap (λ (u : Put). u .bytes) (e ∙ put-whole lent x h))
-    (λ h. ap (λ (u : Put). u .bytes) (e ∙ put-nothing lent x h) ∙ sym (over-past lent 0 x
+    (λ h. e ∙ ap (λ (u : Put). u .bytes) (put-whole lent x h))
+    (λ h. e ∙ ap (λ (u : Put). u .bytes) (put-nothing lent x h) ∙ sym (over-past lent 0 x
     (byLe (length out) at (λ g. omega arith) (λ g. omega (arith, d .whole g))))))
 
 -- ---- integers
@@ -134,6 +133,29 @@ escape-end t i h = rw (drop-of-length-le t h)
 pub escape-at : (t : Bytes) (i : ℕ) → i < length t → escape (drop i t) ≡ escaped (getD t i 0) ++ escape (drop (i + 1) t)
 unfolding escape
 escape-at t i h = rw (add-one, drop-cons t i 0 h)
+
+pub and-left : (a b : Bool) → a && b ≡ true → a ≡ true
+and-left true b e = refl
+and-left false b e = e
+
+pub and-right : (a b : Bool) → a && b ≡ true → b ≡ true
+and-right true b e = e
+and-right false b e = clash e refl
+
+-- a byte above 13 that is no backslash
+pub plain-byte : (b : ℕ) → 13 < b → (b ≡ 92 → ⊥) → escaped b ≡ b ∷ []
+unfolding escaped
+plain-byte b h n =
+    rw (ne-eqb b 9 (λ e. absurd (omega arith)), ne-eqb b 10 (λ e. absurd (omega arith)), ne-eqb b 13 (λ e. absurd (omega arith)), ne-eqb b 92 n)
+
+-- the rest of a text from a byte that stands for itself, and the empty rest
+pub plain-at : (t : Bytes) (i : ℕ) → i < length t → escaped (getD t i 0) ≡ getD t i 0 ∷ [] → escape (drop (i + 1) t) ≡ drop (i + 1) t → escape (drop i t) ≡ drop i t
+plain-at t i h e f =
+    let d : drop i t ≡ getD t i 0 ∷ drop (i + 1) t = rw add-one (drop-cons t i 0 h) in
+    escape-at t i h ∙ (rw (e, f) (sym d))
+
+pub plain-end : (t : Bytes) (i : ℕ) → length t ≤ i → escape (drop i t) ≡ drop i t
+plain-end t i h = escape-end t i h ∙ sym (drop-of-length-le t h)
 
 -- ---- writers one after the other
 

@@ -1,5 +1,6 @@
 // Printing into lent bytes, piece by piece: numbers, integers and escaped texts, each after a tab.
 ghost use mathlib.Core.Path.{_≡_};
+ghost use mathlib.Core.Bool.{true};
 ghost use mathlib.Core.List.{[], _∷_};
 ghost use Prim.Native.Nat.{_+_, _-_, _≤_};
 ghost use lib.ListN.{length};
@@ -88,9 +89,10 @@ fn put_tab(out: &mut [u8], cap: usize, room: Room) -> Room
 fn number_piece(out: &mut [u8], cap: usize, room: Room, v: u64) -> Room
     ensures { λ r. ⌜ record { out = now (out .exit); room = r } ≡ printStep cap (numberText v) (record { out = now (out .entry); room = room }) ⌝ }
 {
-    let left = behind_bytes(room, decimal::number_length(v));
+    let n = decimal::number_length(v);
+    let left = behind_bytes(room, n);
     let at = place(cap, room, left, out.len());
-    decimal::put_number(&mut out[at..], v);
+    decimal::put_measured(&mut out[at..], n, v);
     left
 }
 
@@ -119,6 +121,9 @@ fn behind_integer(room: Room, bits: u64) -> Room
 fn integer_piece(out: &mut [u8], cap: usize, room: Room, bits: u64) -> Room
     ensures { λ r. ⌜ record { out = now (out .exit); room = r } ≡ printStep cap (integerText (toZ w64 bits)) (record { out = now (out .entry); room = room }) ⌝ }
 {
+    if bits < 0x8000_0000_0000_0000 {
+        return number_piece(out, cap, room, bits);
+    }
     let left = behind_integer(room, bits);
     let at = place(cap, room, left, out.len());
     decimal::put_integer(&mut out[at..], bits);
@@ -178,6 +183,26 @@ fn longer(b: u8) -> usize
     if letter(b) == 0 { 0 } else { 1 }
 }
 
+// Whether a byte surely stands for itself: of the bytes up to 13 none is said to.
+fn is_plain(b: u8) -> bool
+    ensures { λ r. ⌜ (r ≡ true → escaped b ≡ b ∷ []) ⌝ }
+{
+    (13 < b) & (b != b'\\')
+}
+
+// Whether each byte of a text surely stands for itself.
+fn all_plain(text: &[u8]) -> bool
+    ensures { λ r. ⌜ (r ≡ true → escape (now (text .entry)) ≡ now (text .entry)) ⌝ }
+{
+    let mut ok = true;
+    let mut i: usize = 0;
+    while i < text.len() {
+        ok = ok & is_plain(text[i]);
+        i += 1;
+    }
+    ok
+}
+
 // By how many bytes the escape of a text is longer than the text.
 fn text_longer(text: &[u8]) -> usize
     ensures { λ r. ⌜ length (escape (now (text .entry))) ≡ length (now (text .entry)) + r ⌝ }
@@ -226,10 +251,13 @@ fn put_escape(out: &mut [u8], text: &[u8])
     }
 }
 
-// The escape of a text.
+// The escape of a text: a copy of it where each byte stands for itself.
 fn text_piece(out: &mut [u8], cap: usize, room: Room, text: &[u8]) -> Room
     ensures { λ r. ⌜ record { out = now (out .exit); room = r } ≡ printStep cap (escape (now (text .entry))) (record { out = now (out .entry); room = room }) ⌝ }
 {
+    if all_plain(text) {
+        return put_bytes(out, cap, room, text);
+    }
     let left = behind_bytes(behind_bytes(room, text.len()), text_longer(text));
     let at = place(cap, room, left, out.len());
     put_escape(&mut out[at..], text);

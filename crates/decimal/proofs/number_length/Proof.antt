@@ -1,34 +1,48 @@
--- `number_length` counts the digits of a number. The invariant: those counted and those of what is left are one more than all.
-use Prim.Native.Nat.{_+_, _≤_}
+-- `number_length` measures the digits before the last eight, or sixteen.
+use Prim.Native.Nat.{_/_}
 use mathlib.Core.Path.{_≡_}
 use native.Mathlib.Omega.{arith}
-use lib.ListN.{length}
-use Rattle.line.specs.Decimal.{numberText}
-use Rattle.decimal.proofs.Numbers.{length-one, length-more}
+use Rattle.decimal.proofs.Numbers.{eight-less, most-four, most-eight}
+use borrow.Author.Needs.{needs}
 use Rattle.decimal.proofs.number_length.Statement.{statement}
 use Rattle.decimal.proofs.number_length.Tie as tie
 
-abbrev Inv-loop : tie.InvT-loop
-Inv-loop v x₀ n₀ x n = (n + length (numberText x) ≡ length (numberText v) + 1) × (n + x ≤ v + 1)
+eight-length-requires : tie.Need-eight-length-requires
+eight-length-requires c κs = search needs
 
-abbrev μ-loop : tie.MeasureT-loop
-μ-loop v x₀ n₀ x n = x
+returns : tie.Need-returns
+returns c = search needs
 
-loop-holds : tie.Need-loop-holds Inv-loop μ-loop
-loop-holds c = omega arith
+eight-length-requires-2 : tie.Need-eight-length-requires-2
+eight-length-requires-2 c κs = search needs
 
-add-n : tie.Need-add-n Inv-loop μ-loop
-add-n c = omega arith
+add-result : tie.Need-add-result
+add-result c = let v = c .before .before .before .args .v in omega (arith, most-eight (v / 100000000) (omega arith))
 
-loop-less : tie.Need-loop-less Inv-loop μ-loop
-loop-less c = omega arith
+returns-2 : tie.Need-returns-2
+returns-2 c = let v = c .before .before .before .args .v in omega (arith, eight-less v (omega arith))
 
-loop-again : tie.Need-loop-again Inv-loop μ-loop
-loop-again c = omega (arith, length-more (c .before .loop .x) (omega arith))
+four-length-requires : tie.Need-four-length-requires
+four-length-requires c κs = search needs
 
-returns : tie.Need-returns Inv-loop μ-loop
-returns c = omega (arith, length-one (c .before .loop .x) (omega arith))
+add-result-2 : tie.Need-add-result-2
+add-result-2 c = let v = c .before .before .before .args .v in omega (arith, most-four (v / 10000000000000000) (omega arith))
+
+returns-3 : tie.Need-returns-3
+returns-3 c =
+    let v = c .before .before .before .args .v in
+    let e : v / 100000000 / 100000000 ≡ v / 10000000000000000 = omega arith in
+    omega (arith, eight-less v (omega arith), rw e at (eight-less (v / 100000000) (omega arith)))
 
 pub number-length-spec : {M : Type 1} → statement M
 number-length-spec =
-    tie.close (tie.spec Inv-loop μ-loop loop-holds add-n loop-less loop-again returns)
+    tie.close
+    (tie.spec
+    eight-length-requires
+    returns
+    eight-length-requires-2
+    add-result
+    returns-2
+    four-length-requires
+    add-result-2
+    returns-3)

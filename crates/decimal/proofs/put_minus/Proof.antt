@@ -19,7 +19,7 @@ slice-write-out : tie.Need-slice-write-out
 slice-write-out c = search needs
 
 put-digits-requires : tie.Need-put-digits-requires
-put-digits-requires c κs = (search needs, simp length-set (omega arith))
+put-digits-requires c κs = simp length-set (omega arith)
 
 add-t10 : tie.Need-add-t10
 add-t10 c = search needs
@@ -33,7 +33,7 @@ returns c =
     let n = c .before .before .before .before .before .number-length in
     let t = numberText (a .v) in
     whole (now (a .out)) (45 ∷ t) _ (n .result + 1) (omega arith) (omega arith)
-    (c .before .before .put-digits .ensures ∙ sym (over-step (now (a .out)) 0 45 t (omega arith)))
+    (c .before .before .put-digits .ensures (n .ensures) ∙ sym (over-step (now (a .out)) 0 45 t (omega arith)))
 
 returns-2 : tie.Need-returns-2
 returns-2 c =

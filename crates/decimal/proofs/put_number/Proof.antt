@@ -21,7 +21,7 @@ returns : tie.Need-returns
 returns c =
     let a = c .before .before .before .before .before .before .before .args in
     let n = c .before .before .before .before .before .number-length in
-    whole (now (a .out)) (numberText (a .v)) _ (n .result) (search needs) (n .ensures) (c .before .before .put-digits .ensures)
+    whole (now (a .out)) (numberText (a .v)) _ (n .result) (search needs) (n .ensures) (c .before .before .put-digits .ensures (n .ensures))
 
 returns-2 : tie.Need-returns-2
 returns-2 c =

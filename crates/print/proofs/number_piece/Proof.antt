@@ -17,17 +17,17 @@ behind-bytes-requires c κs = search needs
 place-requires : tie.Need-place-requires
 place-requires c κs = search needs
 
-sub-put-number : tie.Need-sub-put-number
-sub-put-number c = search needs
+sub-put-measured : tie.Need-sub-put-measured
+sub-put-measured c = search needs
 
-part-put-number-start : tie.Need-part-put-number-start
-part-put-number-start c = search needs
+part-put-measured-start : tie.Need-part-put-measured-start
+part-put-measured-start c = search needs
 
-part-put-number-end : tie.Need-part-put-number-end
-part-put-number-end c = search needs
+part-put-measured-end : tie.Need-part-put-measured-end
+part-put-measured-end c = search needs
 
-put-number-requires : tie.Need-put-number-requires
-put-number-requires c κs = search needs
+put-measured-requires : tie.Need-put-measured-requires
+put-measured-requires c κs = search needs
 
 same-length : tie.Need-same-length
 same-length c = search needs
@@ -36,10 +36,10 @@ returns : tie.Need-returns
 returns c =
     let a = c .before .before .before .before .before .before .before .before .args in
     let n = c .before .before .before .before .before .before .number-length in
-    number-written (a .cap) (a .room) _ (numberText (a .v)) (now (a .out)) _ _ _
+    number-written (a .cap) (a .room) _ (numberText (a .v)) (now (a .out)) _ _
     (c .before .before .before .before .before .behind-bytes .ensures ∙ ap (behind (a .room)) (n .ensures))
     (c .before .before .before .before .place .ensures .0)
-    (c .before .before .put-number .ensures)
+    (c .before .before .put-measured .ensures (n .ensures))
 
 pub number-piece-spec : {M : Type 1} → statement M
 number-piece-spec =
@@ -48,9 +48,9 @@ number-piece-spec =
     number-length-requires
     behind-bytes-requires
     place-requires
-    sub-put-number
-    part-put-number-start
-    part-put-number-end
-    put-number-requires
+    sub-put-measured
+    part-put-measured-start
+    part-put-measured-end
+    put-measured-requires
     same-length
     returns)

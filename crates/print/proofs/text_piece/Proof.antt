@@ -1,4 +1,4 @@
--- `text_piece` lends the rest from its place on to the writer of escapes.
+-- `text_piece` copies a text that is its own escape; of another it lends the rest from its place on to the writer of escapes.
 use denote.Ref.{now}
 use Rattle.text.specs.Escape.{escape}
 use Rattle.print.proofs.Prints.{behind-both}
@@ -6,6 +6,19 @@ use Rattle.print.proofs.Pieces.{piece-written}
 use borrow.Author.Needs.{needs}
 use Rattle.print.proofs.text_piece.Statement.{statement}
 use Rattle.print.proofs.text_piece.Tie as tie
+
+all-plain-requires : tie.Need-all-plain-requires
+all-plain-requires c κs = search needs
+
+put-bytes-requires : tie.Need-put-bytes-requires
+put-bytes-requires c κs = search needs
+
+same-length : tie.Need-same-length
+same-length c = search needs
+
+returns : tie.Need-returns
+returns c =
+    rw (c .before .before .before .before .before .all-plain .ensures (c .before .before .before .before .if1 .taken)) (c .before .before .put-bytes .ensures)
 
 behind-bytes-requires : tie.Need-behind-bytes-requires
 behind-bytes-requires c κs = search needs
@@ -31,12 +44,12 @@ part-put-escape-end c = search needs
 put-escape-requires : tie.Need-put-escape-requires
 put-escape-requires c κs = search needs
 
-same-length : tie.Need-same-length
-same-length c = search needs
+same-length-2 : tie.Need-same-length-2
+same-length-2 c = search needs
 
-returns : tie.Need-returns
-returns c =
-    let a = c .before .before .before .before .before .before .before .before .before .before .args in
+returns-2 : tie.Need-returns-2
+returns-2 c =
+    let a = c .before .before .before .before .before .before .before .before .before .before .before .before .args in
     let n = c .before .before .before .before .before .before .text-longer in
     let left = rw (c .before .before .before .before .before .before .before .behind-bytes .ensures, behind-both, ← n .ensures) at (c .before .before .before .before .before .behind-bytes2 .ensures) in
     piece-written (a .cap) (a .room) _ (escape (now (a .text))) (now (a .out)) _ _
@@ -48,6 +61,10 @@ pub text-piece-spec : {M : Type 1} → statement M
 text-piece-spec =
     tie.close
     (tie.spec
+    all-plain-requires
+    put-bytes-requires
+    same-length
+    returns
     behind-bytes-requires
     text-longer-requires
     behind-bytes-requires-2
@@ -56,5 +73,5 @@ text-piece-spec =
     part-put-escape-start
     part-put-escape-end
     put-escape-requires
-    same-length
-    returns)
+    same-length-2
+    returns-2)

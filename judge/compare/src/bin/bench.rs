@@ -137,6 +137,54 @@ fn overlays() {
     }
 }
 
+/// Named and tagged ways of ten refs, in both overlays.
+fn roads(lent: &mut Storage, overlay: &mut Overlay, ways: i64) {
+    assert_eq!(entry!(tvk_set_up, &Pointers::of(lent), 0).number, 0);
+    let handles = ["some user", "highway", "name", "maxspeed", "surface"].map(|text| {
+        let reply = entry!(tvk_intern, &Pointers::of(lent), text.as_ptr(), text.len());
+        assert_eq!((reply.number, reply.handle), (0, u64::from(overlay.intern(text))));
+        u32::try_from(reply.handle).expect("few texts")
+    });
+    for id in 1..=ways {
+        let name = format!("Karl-Liebknecht-Straße {id}");
+        let tags: Vec<(u32, &str)> =
+            handles[1..].iter().copied().zip(["residential", &name, "50", "asphalt"]).collect();
+        let refs: Vec<i64> = (1..=10).map(|i| 1_000_000_000 + id * 7_919 * i).collect();
+        let mut parts: Vec<u8> = refs.iter().flat_map(|r| r.to_le_bytes()).collect();
+        for (key, value) in &tags {
+            parts.extend(key.to_le_bytes());
+            parts.extend(u32::try_from(value.len()).expect("short").to_le_bytes());
+            parts.extend(value.as_bytes());
+        }
+        let head = ffi::Head { id: id.cast_unsigned(), lat: 0, lon: 0, count: 10, tags: 4 };
+        let (timestamp, changeset, user) = (1_700_000_000, 140_000_000, handles[0]);
+        let meta = ffi::Meta { flags: 13, version: 3, timestamp, changeset, uid: 1_234_567, user };
+        let reply = entry!(tvk_push, &Pointers::of(lent), 1, head, meta, parts.as_ptr(), parts.len());
+        assert_eq!(reply.number, 0);
+        let (timestamp, changeset) = (timestamp.cast_signed(), changeset.cast_signed());
+        let meta = Meta { flags: 13, version: 3, timestamp, changeset, uid: 1_234_567, user };
+        overlay.push_way(id, &refs, &tags, &meta).expect("taken");
+    }
+}
+
+/// The listing, a byte of it. The Rust's side is the judge's own printing of the published overlay.
+fn listings() {
+    let (mut lent, mut overlay) = (storage(4_096, 1_048_576, 4_096, 65_536), Overlay::new());
+    roads(&mut lent, &mut overlay, 300);
+    let page = overlay.listing();
+    let mut out = vec![0u8; page.len()];
+    let mut list = || entry!(tvk_listing, &Pointers::of(&mut lent), out.as_mut_ptr(), out.len());
+    assert_eq!(list().length, page.len());
+    let bytes = 10 * page.len();
+    row(
+        &format!("listing of 300 roads, {} bytes, a byte", page.len()),
+        bytes,
+        || (0..10).for_each(|_| assert_eq!(list().number, 0)),
+        || (0..10).for_each(|_| drop(black_box(overlay.listing()))),
+    );
+    assert!(out == page);
+}
+
 fn main() {
     println!("what\tport\tRust\tratio");
     let numbers: Vec<Vec<u8>> =
@@ -170,4 +218,5 @@ fn main() {
     }
     overlays();
     soundness();
+    listings();
 }

@@ -1,0 +1,23 @@
+-- The bits of the id of the row's rank.
+use mathlib.Core.Path.{_∙_, ap}
+use mir.Facts.{toZ-ofZ}
+use mir.Syntax.{w64}
+use mir.Val.{SFits, ofZ}
+use borrow.Author.Needs.{needs}
+use Rattle.bulk.proofs.row_id.Statement.{statement}
+use Rattle.bulk.proofs.row_id.Tie as tie
+
+osm-id-of-rank-requires : tie.Need-osm-id-of-rank-requires
+osm-id-of-rank-requires c κs = search needs
+
+bits-of-i64-requires : tie.Need-bits-of-i64-requires
+bits-of-i64-requires c κs = search needs
+
+returns : tie.Need-returns
+returns c =
+    let i = c .before .osm-id-of-rank in
+    let f : SFits w64 (i .result) = record { sfits = i .ok } in
+    c .bits-of-i64 .ensures ∙ (ap (ofZ w64) (toZ-ofZ f) ∙ ap (ofZ w64) (i .ensures))
+
+pub row-id-spec : {M : Type 1} → statement M
+row-id-spec = tie.close (tie.spec osm-id-of-rank-requires bits-of-i64-requires returns)

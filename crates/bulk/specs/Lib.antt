@@ -1,0 +1,3 @@
+pub mod Bulk
+pub mod Rows
+pub mod First
