@@ -138,6 +138,12 @@ indexes-as C.Other bytes words j k n g h e = tt
 
 -- ---- the law
 
+unlike : (a b : Bytes) → runLess a b ≡ true → same a b ≡ false
+unlike a b l = byBool (same a b) (λ p. clash l (rw (same-yes a b p) (lex-irreflexive (length b ∷ b)))) (λ p. p)
+
+unlike-back : (a b : Bytes) → runLess b a ≡ true → same a b ≡ false
+unlike-back a b l = byBool (same a b) (λ p. clash l (rw (same-yes a b p) (lex-irreflexive (length b ∷ b)))) (λ p. p)
+
 module _ (bytes : Bytes) (words order place : List ℕ) (stand : Placed order place (length words)) (rise : Rises bytes words order (length words)) where
   climb : (i d : ℕ) → i + d + 1 < length words → runLess (runAt bytes words (getD order i 0)) (runAt bytes words (getD order (i + d + 1) 0)) ≡ true
   climb i zero h = let e : i + zero + 1 ≡ i + 1 = omega arith in rw e (rise i (omega arith))
@@ -151,12 +157,6 @@ module _ (bytes : Bytes) (words order place : List ℕ) (stand : Placed order pl
   -- indexes whose places differ have runs that differ
   apart : (j k : ℕ) → j < length words → k < length words → getD place j 0 < getD place k 0 → runLess (runAt bytes words j) (runAt bytes words k) ≡ true
   apart j k g h l = rw (stand j g .1, stand k h .1) at (climbs (getD place j 0) (getD place k 0) l (stand k h .0))
-
-  unlike : (a b : Bytes) → runLess a b ≡ true → same a b ≡ false
-  unlike a b l = byBool (same a b) (λ p. clash l (rw (same-yes a b p) (lex-irreflexive (length b ∷ b)))) (λ p. p)
-
-  unlike-back : (a b : Bytes) → runLess b a ≡ true → same a b ≡ false
-  unlike-back a b l = byBool (same a b) (λ p. clash l (rw (same-yes a b p) (lex-irreflexive (length b ∷ b)))) (λ p. p)
 
   differ : (j k : ℕ) → j < k → k < length words → same (runAt bytes words j) (runAt bytes words k) ≡ false
   differ j k l h =

@@ -5,21 +5,22 @@ use mathlib.Core.Bool.{true, false}
 use mathlib.Core.Option.{Option, none, some}
 use mathlib.Core.List.{List, [], _∷_, map}
 use native.Mathlib.Omega.{arith}
-use lib.ListN.{length, take, drop, length-take, length-drop}
+use lib.ListN.{length, take, drop, length-take, length-drop, length-map}
 use borrow.Author.Tests.{le-leb}
 use Rattle.base.specs.Bytes.{Bytes, both, same}
-use Rattle.base.proofs.Split.{byBool, byEq, byLt, both-left, both-right, both-of, both-no-left, clash, same-test}
+use Rattle.base.proofs.Split.{byBool, byLt, both-left, both-right, both-of, both-no-left, clash, same-test}
 use Rattle.base.proofs.Lists.{same-yes, same-refl}
 use Rattle.text.specs.Check.{isText}
 use Rattle.interner.specs.declared.Span.the-variants.{Missing}
 use Rattle.interner.specs.Texts.{handleOf}
 use Rattle.interner.specs.Strings.{startOf, lengthOf, spanned, bytesAt, spanAt, findIn, Store, usedOf}
 use Rattle.distinct.specs.Distinct.{differs, distinct}
+use Rattle.distinct.proofs.Orders.{distinct-by, distinct-at}
 use Rattle.interner.specs.Sound.{handles, textsIn, textsOf, countsWithin, spanWithin, soundUpTo, firstEmpty, soundStrings}
 use Rattle.interner.specs.Check.{isNot, newAt}
 use Rattle.interner.proofs.Finds.{SpanWithin, lies-not, spanned-bytes}
-use Rattle.interner.proofs.Handles.{all-handles, each-handle, all-made, each-made}
-use Rattle.interner.proofs.Held.{same-swap, same-not, differs-of, not-held, held-not, distinct-nil, distinct-cons, distinct-head, distinct-tail}
+use Rattle.interner.proofs.Handles.{length-handles, all-handles, each-handle, all-made, each-made, made-at}
+use Rattle.interner.proofs.Held.{same-swap, same-not, differs-of, not-held, held-not}
 use Rattle.interner.proofs.Interns.{Sound, sound-parts, length-texts, placed, finds-from}
 
 not-placed : (o : Option ℕ) → isNot (placed 0 o) ≡ true → o ≡ none
@@ -28,20 +29,18 @@ not-placed (some k) e = clash e refl
 
 module _ (f : ℕ → Bytes) where
   pub distinct-made : (n h : ℕ) → ((j k : ℕ) → h ≤ j → j < k → k < h + n → same (f j) (f k) ≡ false) → distinct (map f (handles n h)) ≡ true
-  unfolding handles
-  distinct-made zero h g = distinct-nil
-  distinct-made (suc n) h g =
-      distinct-cons (f h) (map f (handles n (suc h)))
-      (all-made (differs (f h)) f n (suc h) (λ k a b. differs-of (f h) (f k) (g h k (omega arith) (omega arith) (omega arith))))
-      (distinct-made n (suc h) (λ j k a b d. g j k (omega arith) b (omega arith)))
+  distinct-made n h g =
+      distinct-by (map f (handles n h))
+      (λ j k l m.
+      let b : k < n = omega (arith, length-map (handles n h) f, length-handles n h) in
+      rw (made-at f [] n h j (omega arith), made-at f [] n h k b) (g (h + j) (h + k) (omega arith) (omega arith) (omega arith)))
 
   pub distinct-each : (n h : ℕ) → distinct (map f (handles n h)) ≡ true → (j k : ℕ) → h ≤ j → j < k → k < h + n → same (f j) (f k) ≡ false
-  unfolding handles
-  distinct-each zero h e j k a b d = absurd (omega arith)
-  distinct-each (suc n) h e j k a b d =
-      byEq h j
-      (λ q. rw (← q) (same-not (f h) (f k) (each-made (differs (f h)) f n (suc h) (distinct-head (f h) (map f (handles n (suc h))) e) k (omega arith) (omega arith))))
-      (λ q. distinct-each n (suc h) (distinct-tail (f h) (map f (handles n (suc h))) e) j k (omega arith) b (omega arith))
+  distinct-each n h e j k a b d =
+      let p : h + (j - h) ≡ j = omega arith in
+      let q : h + (k - h) ≡ k = omega arith in
+      let r = distinct-at (map f (handles n h)) e (j - h) (k - h) (omega arith) (omega (arith, length-map (handles n h) f, length-handles n h)) in
+      rw (made-at f [] n h (j - h) (omega arith), made-at f [] n h (k - h) (omega arith), p, q) at r
 
 module _ (spans : List ℕ) (bytes : Bytes) where
   -- the soundness of the first n strings, string by string

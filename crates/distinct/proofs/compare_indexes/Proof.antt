@@ -1,7 +1,8 @@
+-- `compare_indexes`: two indexes that are not one, and whose runs are the same, are two equal runs.
 use native.Mathlib.Omega.{arith}
 use denote.Ref.{now}
-use Rattle.distinct.proofs.Orders.{indexes-as}
 use borrow.Author.Needs.{needs}
+use Rattle.distinct.proofs.Orders.{indexes-as}
 use Rattle.distinct.proofs.compare_indexes.Statement.{statement}
 use Rattle.distinct.proofs.compare_indexes.Tie as tie
 

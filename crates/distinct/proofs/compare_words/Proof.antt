@@ -1,6 +1,7 @@
+-- `compare_words`: the parts that are compared are the words' runs.
 use denote.Ref.{now}
-use Rattle.distinct.proofs.Orders.{part-run}
 use borrow.Author.Needs.{needs}
+use Rattle.distinct.proofs.Orders.{part-run}
 use Rattle.distinct.proofs.compare_words.Statement.{statement}
 use Rattle.distinct.proofs.compare_words.Tie as tie
 

@@ -1,3 +1,4 @@
+-- `count_up` stays within its slice and ends.
 use Prim.Native.Nat.{_-_, _≤_}
 use mathlib.Core.Path.{_≡_}
 use native.Mathlib.Omega.{arith}

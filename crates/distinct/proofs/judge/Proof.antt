@@ -1,6 +1,7 @@
+-- `judge`: the law of rising runs, where each index stands.
 use denote.Ref.{now}
-use Rattle.distinct.proofs.Orders.{judged}
 use borrow.Author.Needs.{needs}
+use Rattle.distinct.proofs.Orders.{judged}
 use Rattle.distinct.proofs.judge.Statement.{statement}
 use Rattle.distinct.proofs.judge.Tie as tie
 

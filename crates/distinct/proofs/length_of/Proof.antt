@@ -1,4 +1,4 @@
--- `length_of`.
+-- `length_of`: the low 17 bits.
 use mathlib.Core.Path.{refl}
 use native.Mathlib.Omega.{arith}
 use Rattle.distinct.specs.Distinct.{runLength}

@@ -1,3 +1,4 @@
+-- `merge_all` stays within its slices and ends: each turn goes on by at least one index.
 use Prim.Native.Nat.{_-_, _≤_}
 use mathlib.Core.Path.{_≡_}
 use native.Mathlib.Omega.{arith}

@@ -1,8 +1,8 @@
+-- `merge_sort` stays within its slices and ends: the width grows.
 use Prim.Native.Nat.{_-_, _<_}
 use mathlib.Core.Path.{_≡_}
 use native.Mathlib.Omega.{arith}
 use lib.ListN.{length}
-use borrow.Author.Needs.{needs}
 use Rattle.distinct.proofs.merge_sort.Statement.{statement}
 use Rattle.distinct.proofs.merge_sort.Tie as tie
 

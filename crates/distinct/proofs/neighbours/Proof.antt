@@ -1,3 +1,4 @@
+-- `neighbours`: the indexes at two places that follow each other, compared.
 use borrow.Author.Needs.{needs}
 use Rattle.distinct.proofs.neighbours.Statement.{statement}
 use Rattle.distinct.proofs.neighbours.Tie as tie

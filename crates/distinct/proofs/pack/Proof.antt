@@ -1,6 +1,7 @@
+-- `pack`: a sum of three numbers, each below the next one's unit, gives them back.
 use native.Mathlib.Omega.{arith}
-use Rattle.distinct.specs.Distinct.{runStart, runLength}
 use borrow.Author.Needs.{needs}
+use Rattle.distinct.specs.Distinct.{runStart, runLength}
 use Rattle.distinct.proofs.pack.Statement.{statement}
 use Rattle.distinct.proofs.pack.Tie as tie
 

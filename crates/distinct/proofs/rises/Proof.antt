@@ -1,12 +1,12 @@
-use Rattle.base.proofs.Split.{byEq}
+-- `rises` goes from neighbours to neighbours. The invariant: the runs of the order rise so far.
 use Prim.Native.Nat.{ℕ, _+_, _-_, _≤_, _<_}
 use mathlib.Core.Path.{_≡_}
-use native.Mathlib.Omega.{arith}
-use lib.ListN.{length}
-use borrow.Author.Needs.{needs}
-use lib.ListN.{getD}
-use Rattle.distinct.specs.Check.{runLess, runAt}
 use mathlib.Core.Bool.{true}
+use native.Mathlib.Omega.{arith}
+use lib.ListN.{length, getD}
+use borrow.Author.Needs.{needs}
+use Rattle.base.proofs.Split.{byEq}
+use Rattle.distinct.specs.Check.{runLess, runAt}
 use Rattle.distinct.proofs.rises.Statement.{statement}
 use Rattle.distinct.proofs.rises.Tie as tie
 

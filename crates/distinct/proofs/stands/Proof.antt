@@ -1,7 +1,8 @@
+-- `stands`: the place of the index is read, and the index at that place.
 use mathlib.Core.Path.{refl, sym, _∙_}
 use borrow.Author.Tests.{eqb-true}
-use Rattle.base.proofs.Split.{clash}
 use borrow.Author.Needs.{needs}
+use Rattle.base.proofs.Split.{clash}
 use Rattle.distinct.proofs.stands.Statement.{statement}
 use Rattle.distinct.proofs.stands.Tie as tie
 

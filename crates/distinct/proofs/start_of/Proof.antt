@@ -1,4 +1,4 @@
--- `start_of`.
+-- `start_of`: the 17 bits above the length.
 use mathlib.Core.Path.{refl}
 use native.Mathlib.Omega.{arith}
 use Rattle.distinct.specs.Distinct.{runStart}
