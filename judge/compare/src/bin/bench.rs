@@ -1,13 +1,12 @@
 //! How fast the library runs beside Rust's own functions and the published overlay, in one run: nanoseconds a call, the least of nine
 //! rounds, and the ratio. Both sides are called through a trait object or a C entry, so that neither is inlined into the loop.
 
-use compare::overlay::Pointers;
-use compare::{Library, entry, ffi};
-use judge::compare::call::Storage;
+use compare::Library;
 use judge::compare::ground::Ground;
 use judge::{Meta, Overlay};
 use std::hint::black_box;
 use std::time::Instant;
+use torvaskin::{Lent, Record, Sizes, Storage};
 
 const ROUNDS: usize = 9;
 
@@ -40,44 +39,25 @@ fn parse<T: std::str::FromStr + Into<i64>>(s: &[u8]) -> u64 {
     std::str::from_utf8(s).ok().and_then(|t| t.parse::<T>().ok()).map_or(0, |n| n.into().cast_unsigned())
 }
 
-fn storage(ids: usize, arena: usize, strings: usize, bytes: usize) -> Storage {
-    Storage {
-        tables: std::array::from_fn(|_| vec![0; 3 * ids]),
-        arenas: std::array::from_fn(|_| vec![0; arena]),
-        spans: vec![0; 2 * strings],
-        bytes: vec![0; bytes],
-        counts: [0; 9],
-        readers: Vec::new(),
-    }
-}
-
 /// Ways of so many refs pushed one after the other into an empty overlay.
-fn pushes(lent: &mut Storage, ways: i64, refs: &[i64]) {
-    assert_eq!(entry!(tvk_set_up, &Pointers::of(lent), 0).number, 0);
-    let parts: Vec<u8> = refs.iter().flat_map(|r| r.to_le_bytes()).collect();
+fn pushes(lent: Lent<'_>, ways: i64, refs: &[i64]) {
+    let mut overlay = torvaskin::Overlay::set_up(lent).expect("set up");
+    let mut way = Record::way(0, refs.iter().copied()).version(1);
     for id in 1..=ways {
-        let head = ffi::Head {
-            id: id.cast_unsigned(),
-            lat: 0,
-            lon: 0,
-            count: u32::try_from(refs.len()).expect("few refs"),
-            tags: 0,
-        };
-        let meta = ffi::Meta { flags: 9, version: 1, timestamp: 0, changeset: 0, uid: 0, user: 0 };
-        let reply = entry!(tvk_push, &Pointers::of(lent), 1, head, meta, parts.as_ptr(), parts.len());
-        assert_eq!(reply.number, 0);
+        way.id = id;
+        overlay.push(&way).expect("taken");
     }
 }
 
 fn overlays() {
     let meta = Meta { flags: 9, version: 1, timestamp: 0, changeset: 0, uid: 0, user: 0 };
     for (ways, refs) in [(100, 4), (4_096, 26)] {
-        let mut lent = storage(4_096, 1_048_576, 4_096, 65_536);
+        let mut lent = Sizes::MOST.allocate().expect("within limits");
         let refs: Vec<i64> = (1..=refs).collect();
         row(
             &format!("direct push, {ways} ways of {} refs", refs.len()),
             usize::try_from(ways).expect("not negative"),
-            || pushes(&mut lent, ways, &refs),
+            || pushes(lent.lent(), ways, &refs),
             || {
                 let mut overlay = Overlay::new();
                 for id in 1..=ways {
@@ -86,8 +66,10 @@ fn overlays() {
                 black_box(&overlay);
             },
         );
-        let sound = least(1, || assert_eq!(entry!(tvk_is_sound, &Pointers::of(&mut lent)).number, 0));
-        println!("soundness after it, {} bytes\t{sound:.0} ns", lent.counts[4]);
+        let used = lent.counts[4];
+        let overlay = torvaskin::Overlay::kept(lent);
+        let sound = least(1, || overlay.is_sound().expect("sound"));
+        println!("soundness after it, {used} bytes\t{sound:.0} ns");
     }
 }
 
