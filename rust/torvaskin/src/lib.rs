@@ -22,6 +22,19 @@
 //! assert_eq!(overlay.listing(65_536)?, "w\t5\t+\t4\t9\t4\t0\t0\t0\t\t0\t1\tmaxweight\t7.5\n");
 //! # Ok::<(), torvaskin::Refusal>(())
 //! ```
+//!
+//! For those who know pbfhogg's overlay:
+//!
+//! | There | Here |
+//! |---|---|
+//! | `CompactDiffOverlay::new()` | [`Overlay::new`] with [`Sizes`], or [`Overlay::set_up`] in [`Lent`] parts |
+//! | `parse_osc_file_into(path, &mut overlay)` | a [`Reader`] and its event lines |
+//! | `push_way(id, &refs, &tags, &meta)`, `delete_way(id, &meta)` | [`Overlay::push`] of a [`Record`], [`Overlay::delete`] |
+//! | `get_way(id)`, `has_way(id)`, `is_deleted(kind, id)` | [`Overlay::get`], [`Overlay::has`], [`Overlay::is_deleted`] |
+//! | `way_ids()`, `way_count()`, `deleted_ids(kind)` | [`Overlay::live_ids`], [`Overlay::live_count`], [`Overlay::deleted_ids`] |
+//! | `CompactWayRef`: `id()`, `refs()`, `tags()`, `metadata()` | [`Record`]: `id`, [`Record::refs`], `tags`, `metadata` |
+//! | `into_sorted()`: `upserts(kind)`, `way(n)`, `range_overlaps`, `Seek` | [`Overlay::live_ids`], [`Overlay::record`], [`lists`] |
+//! | an error, a panic | a [`Refusal`] |
 
 #![deny(missing_docs, unsafe_code, unsafe_op_in_unsafe_fn)]
 

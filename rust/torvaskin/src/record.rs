@@ -19,7 +19,7 @@ impl ElementKind {
     pub const ALL: [Self; 3] = [Self::Node, Self::Way, Self::Relation];
 }
 
-/// What stands for a text that was taken in: 0 for the empty text, n for the n-th new one.
+/// What stands for a text in the overlay that took it in: 0 for the empty text, n for the n-th new one.
 #[derive(Clone, Copy, Debug, Default, PartialEq, Eq, Hash)]
 pub struct Handle(pub u32);
 

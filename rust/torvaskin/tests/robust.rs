@@ -286,7 +286,8 @@ fn at_random() {
     tally.print("at random");
 }
 
-/// Calls at random on one overlay, many of them refused: what is refused leaves the listing, and the overlay stays sound.
+/// Calls at random on one overlay, many of them refused: what is refused leaves the listing, what is pushed is read back, and the overlay stays
+/// sound.
 #[test]
 fn sequences() {
     let (mut tally, mut random) = (Tally::default(), Random(2));
@@ -312,7 +313,9 @@ fn sequences() {
                     };
                     record.tags = vec![(text, texts[random.below(texts.len())]); random.below(4) * random.below(90)];
                     record.metadata = version.map(|_| Metadata { version, user: Some(text), ..Metadata::default() });
-                    tally.count(&overlay.push(&record))
+                    let number = tally.count(&overlay.push(&record));
+                    assert!(number != 0 || overlay.get(record.kind(), id) == Ok(Some(record)));
+                    number
                 }
                 turn => {
                     let lines = [
@@ -336,8 +339,22 @@ fn sequences() {
             assert!(number == 0 || listing == before, "{number} changed the listing");
             before = listing;
         }
+        KINDS.into_iter().for_each(|kind| by_number(&overlay, kind));
     }
     tally.print("sequences");
+}
+
+/// Ids and records read all at once are those that are read by number.
+fn by_number(overlay: &Overlay, kind: ElementKind) {
+    let read = || {
+        let (live, deleted) = (0..overlay.live_count(kind)?, 0..overlay.deleted_count(kind)?);
+        let ids = live.clone().map(|n| overlay.live_id(kind, n)).collect::<Result<Vec<_>, _>>()?;
+        let records = live.map(|n| overlay.record(kind, n)).collect::<Result<Vec<_>, _>>()?;
+        let deleted = deleted.map(|n| overlay.deleted_id(kind, n)).collect::<Result<Vec<_>, _>>()?;
+        Ok::<_, Refusal>((ids, records, deleted))
+    };
+    let all = || Ok::<_, Refusal>((overlay.live_ids(kind)?, overlay.records(kind)?, overlay.deleted_ids(kind)?));
+    assert_eq!(read().expect("sound"), all().expect("sound"));
 }
 
 /// Outputs of every length up to past the listing's.
