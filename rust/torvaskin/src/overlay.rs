@@ -25,11 +25,18 @@ pub struct Overlay<S = Owned> {
     storage: S,
 }
 
-/// What names a key, a role or a user in a push: a text, which is taken in, or the handle of one that was.
-pub trait Name: Copy {
+/// What names a key, a role or a user in a push: a text, which is taken in, or the [`Handle`] of one that was.
+pub trait Name: Copy + Sealed {
     /// Its handle.
     fn handle<S: Storage>(self, overlay: &mut Overlay<S>) -> Result<Handle, Refusal>;
 }
+
+/// Names are these two: a name that made calls of its own could not be given back.
+pub trait Sealed {}
+
+impl Sealed for Handle {}
+
+impl Sealed for &str {}
 
 impl Name for Handle {
     fn handle<S: Storage>(self, _: &mut Overlay<S>) -> Result<Handle, Refusal> {
