@@ -102,6 +102,24 @@ impl<S: Storage> Overlay<S> {
         Refusal::unless_taken(reply.number, reply.held, 0)
     }
 
+    /// How much of what is lent is in use. Records that were replaced or deleted keep their bytes.
+    ///
+    /// ```
+    /// use torvaskin::{Overlay, Record, Sizes};
+    ///
+    /// let mut overlay = Overlay::new(&Sizes::ROADLIST)?;
+    /// overlay.push(&Record::way(5, [1, 2]).tag("name", "A"))?;
+    /// let used = Sizes { ids: [0, 1, 0], arenas: [0, 70, 0], strings: 2, string_bytes: 4 };
+    /// assert_eq!(overlay.used()?, used);
+    /// # Ok::<(), torvaskin::Refusal>(())
+    /// ```
+    pub fn used(&self) -> Result<Sizes, Refusal> {
+        self.is_sound()?;
+        let [nodes, ways, relations, na, wa, ra, strings, string_bytes, _] =
+            self.storage.shared().counts.map(|count| count as usize);
+        Ok(Sizes { ids: [nodes, ways, relations], arenas: [na, wa, ra], strings, string_bytes })
+    }
+
     /// Sets whether a change may claim a version below the known one.
     ///
     /// ```
