@@ -171,6 +171,11 @@ fn event(event: entry::EventReply) -> Answer {
     Answer::Event { number, held, line }
 }
 
+fn events(reply: entry::EventsReply) -> Answer {
+    let (number, held, line, taken) = (reply.number, reply.held, reply.line, reply.taken);
+    Answer::Events { number, held, line, taken }
+}
+
 fn meta_in(meta: &Meta) -> ArenaMeta {
     ArenaMeta {
         flags: meta.flags,
@@ -246,6 +251,14 @@ impl<L: Lend> Port for Entries<L> {
                 let mut reader = lent.readers[*n].clone();
                 let answer = self.0.lend(lent, |p| {
                     self.reader(&mut reader, |words, parts| event(entry::event(p, words, parts, line)))
+                });
+                lent.readers[*n] = reader;
+                answer
+            }
+            Call::Events(n, run) => {
+                let mut reader = lent.readers[*n].clone();
+                let answer = self.0.lend(lent, |p| {
+                    self.reader(&mut reader, |words, parts| events(entry::events(p, words, parts, run)))
                 });
                 lent.readers[*n] = reader;
                 answer

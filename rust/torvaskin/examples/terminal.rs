@@ -7,18 +7,19 @@ use torvaskin::{Overlay, Reader, Refusal, Sizes};
 
 /// The listing of an input, or its refusal with the line.
 pub fn page(input: &[u8]) -> Result<String, (Refusal, u64)> {
-    let lines = || input.split_inclusive(|byte| *byte == b'\n');
-    let past = lines().count() as u64 + 1;
     let read = || {
         let mut overlay = Overlay::new(&Sizes::ROADLIST)?;
         let mut reader = Reader::new();
-        for line in lines() {
-            reader.event(&mut overlay, line)?;
+        let taken = reader.events(&mut overlay, input)?;
+        if taken < input.len() {
+            // a last line without its line feed
+            reader.event(&mut overlay, &input[taken..])?;
         }
         reader.end(&overlay)?;
         overlay.listing(65_536)
     };
     // the listing's own refusal names no line: it is one past the last
+    let past = input.iter().filter(|byte| **byte == b'\n').count() as u64 + 1;
     read().map_err(|refusal: Refusal| (refusal, refusal.line().unwrap_or(past)))
 }
 

@@ -8,7 +8,7 @@
 
 use crate::ffi;
 pub use crate::ffi::{
-    ArenaMeta, Cursor, EventReply, ListingReply, Number, OsmIdKey, Part, Places, PushHead, Reply, Text,
+    ArenaMeta, Cursor, EventReply, EventsReply, ListingReply, Number, OsmIdKey, Part, Places, PushHead, Reply, Text,
 };
 use crate::parts::{Lent, Parts, Shared};
 use crate::reader::STAGED;
@@ -114,6 +114,10 @@ pub fn listing(parts: Shared<'_>, out: &mut [u8]) -> ListingReply {
 
 pub fn event(parts: Lent<'_>, reader: &mut [u64; 19], staged: &mut [u8; STAGED], line: &[u8]) -> EventReply {
     entry!(tvk_event, write, parts, reader, staged, line.as_ptr(), line.len())
+}
+
+pub fn events(parts: Lent<'_>, reader: &mut [u64; 19], staged: &mut [u8; STAGED], run: &[u8]) -> EventsReply {
+    entry!(tvk_events, write, parts, reader, staged, run.as_ptr(), run.len())
 }
 
 pub fn end(parts: Shared<'_>, reader: &[u64; 19], staged: &[u8; STAGED]) -> EventReply {

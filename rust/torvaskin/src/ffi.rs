@@ -103,6 +103,16 @@ pub struct EventReply {
     pub line: u64,
 }
 
+/// The same for a run of lines, with how many of its bytes were taken.
+#[repr(C)]
+#[derive(Clone, Copy, Debug, PartialEq, Eq)]
+pub struct EventsReply {
+    pub number: u32,
+    pub held: i32,
+    pub line: u64,
+    pub taken: usize,
+}
+
 #[rustfmt::skip]
 unsafe extern "C" {
     pub fn tvk_osm_id_key(id: i64) -> OsmIdKey;
@@ -138,5 +148,6 @@ unsafe extern "C" {
     pub fn tvk_text(ni: *const u64, ni_len: usize, na: *const u8, na_len: usize, wi: *const u64, wi_len: usize, wa: *const u8, wa_len: usize, ri: *const u64, ri_len: usize, ra: *const u8, ra_len: usize, ss: *const u64, ss_len: usize, sb: *const u8, sb_len: usize, us: *const [u64; 9], handle: u64) -> Part;
     pub fn tvk_listing(ni: *const u64, ni_len: usize, na: *const u8, na_len: usize, wi: *const u64, wi_len: usize, wa: *const u8, wa_len: usize, ri: *const u64, ri_len: usize, ra: *const u8, ra_len: usize, ss: *const u64, ss_len: usize, sb: *const u8, sb_len: usize, us: *const [u64; 9], out: *mut u8, out_len: usize) -> ListingReply;
     pub fn tvk_event(ni: *mut u64, ni_len: usize, na: *mut u8, na_len: usize, wi: *mut u64, wi_len: usize, wa: *mut u8, wa_len: usize, ri: *mut u64, ri_len: usize, ra: *mut u8, ra_len: usize, ss: *mut u64, ss_len: usize, sb: *mut u8, sb_len: usize, us: *mut [u64; 9], reader: *mut [u64; 19], parts: *mut [u8; 44432], line: *const u8, line_len: usize) -> EventReply;
+    pub fn tvk_events(ni: *mut u64, ni_len: usize, na: *mut u8, na_len: usize, wi: *mut u64, wi_len: usize, wa: *mut u8, wa_len: usize, ri: *mut u64, ri_len: usize, ra: *mut u8, ra_len: usize, ss: *mut u64, ss_len: usize, sb: *mut u8, sb_len: usize, us: *mut [u64; 9], reader: *mut [u64; 19], parts: *mut [u8; 44432], run: *const u8, run_len: usize) -> EventsReply;
     pub fn tvk_end(ni: *const u64, ni_len: usize, na: *const u8, na_len: usize, wi: *const u64, wi_len: usize, wa: *const u8, wa_len: usize, ri: *const u64, ri_len: usize, ra: *const u8, ra_len: usize, ss: *const u64, ss_len: usize, sb: *const u8, sb_len: usize, us: *const [u64; 9], reader: *const [u64; 19], parts: *const [u8; 44432]) -> EventReply;
 }

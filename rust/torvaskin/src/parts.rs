@@ -84,6 +84,16 @@ where
     }
 }
 
+impl<S: Storage + ?Sized> Storage for &mut S {
+    fn shared(&self) -> Shared<'_> {
+        (**self).shared()
+    }
+
+    fn lent(&mut self) -> Lent<'_> {
+        (**self).lent()
+    }
+}
+
 /// How much is lent for an overlay.
 ///
 /// ```

@@ -72,6 +72,26 @@ impl<W: DerefMut<Target = [u64; 19]>, B: DerefMut<Target = [u8; STAGED]>> Reader
         taken(entry::event(overlay.storage_mut().lent(), &mut self.words, &mut self.staged, line.as_ref()))
     }
 
+    /// The whole lines of a run, one event after another, with one test of what is lent: how many bytes were taken. What follows them is a line
+    /// without its line feed, to be handed over again with what comes behind it. Refused as the first refused line is.
+    ///
+    /// ```
+    /// use torvaskin::{Overlay, Reader, Sizes};
+    ///
+    /// let (mut overlay, mut reader) = (Overlay::new(&Sizes::ROADLIST)?, Reader::new());
+    /// let run = "open\tosmChange\nopen\tdelete\nempty\tway\tid=5\nclo";
+    /// assert_eq!(reader.events(&mut overlay, run)?, run.len() - 3);
+    /// assert_eq!(reader.events(&mut overlay, "close\nclose\n")?, 12);
+    /// reader.end(&overlay)?;
+    /// assert_eq!(overlay.listing(100)?, "w\t5\t-\t?\n");
+    /// # Ok::<(), torvaskin::Refusal>(())
+    /// ```
+    pub fn events<S: Storage>(&mut self, overlay: &mut Overlay<S>, run: impl AsRef<[u8]>) -> Result<usize, Refusal> {
+        let lent = overlay.storage_mut().lent();
+        let reply = entry::events(lent, &mut self.words, &mut self.staged, run.as_ref());
+        Refusal::unless_taken(reply.number, reply.held, reply.line).map(|()| reply.taken)
+    }
+
     /// The end of the document. Refused 18 where an element is open.
     pub fn end<S: Storage>(&self, overlay: &Overlay<S>) -> Result<(), Refusal> {
         taken(entry::end(overlay.storage().shared(), &self.words, &self.staged))

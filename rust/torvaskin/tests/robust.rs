@@ -189,9 +189,27 @@ impl Lent {
             }
             assert!(number == 0 || lent == *self, "{number} changed something");
         }
+        for run in ["", "close", "other\nclose\nempty\tway\tid=5\nclo", "empty\tnd\tref=1\nbad\nclose\n"] {
+            self.run(tally, run);
+        }
         let reader = Reader::kept(self.words.clone(), self.staged.clone());
         let number = tally.count(&reader.end(&Overlay::kept(self.storage.clone())));
         assert!(sound || number == 22);
+    }
+
+    /// A run leaves and answers what its lines do one by one.
+    fn run(&self, tally: &mut Tally, run: &str) {
+        let (mut at_once, mut in_turn) = (self.clone(), self.clone());
+        let mut overlay = Overlay::kept(&mut at_once.storage);
+        let mut reader = Reader::kept(&mut *at_once.words, &mut *at_once.staged);
+        let answer = reader.events(&mut overlay, run);
+        let number = tally.count(&answer);
+        let mut overlay = Overlay::kept(&mut in_turn.storage);
+        let mut reader = Reader::kept(&mut *in_turn.words, &mut *in_turn.staged);
+        let lines: Vec<&str> = run.split_inclusive('\n').filter(|line| line.ends_with('\n')).collect();
+        let each = lines.iter().try_for_each(|line| reader.event(&mut overlay, line));
+        assert!(at_once == in_turn);
+        assert!(answer == each.map(|()| lines.concat().len()) || (lines.is_empty() && number == 22));
     }
 }
 
