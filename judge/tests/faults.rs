@@ -73,7 +73,7 @@ fn is_change(call: &Call) -> bool {
 }
 
 /// Each fault, with the comparisons that must find it, by their numbers above.
-const FAULTS: [(&str, Fault, &[usize]); 24] = [
+const FAULTS: [(&str, Fault, &[usize]); 25] = [
     (
         "refuses all",
         |_, before, lent, answer| {
@@ -151,6 +151,15 @@ const FAULTS: [(&str, Fault, &[usize]); 24] = [
             }
         },
         &[6, 8, 9, 14],
+    ),
+    (
+        "takes an unfinished line of a run",
+        |call, _, _, answer| {
+            if let (Call::Events(_, run), Answer::Events { number: 0, taken, .. }) = (call, answer) {
+                *taken = run.len();
+            }
+        },
+        &[8, 14],
     ),
     (
         "clears the arenas at set-up",

@@ -1,11 +1,11 @@
 //! The built libraries behind the judge's traits.
 
-pub mod ffi;
 pub mod overlay;
 
 use judge::compare::Compared;
 use judge::compare::ground::Ground;
 use judge::compare::lookups::LookupPort;
+use torvaskin::entry::{self, Number, OsmIdKey};
 
 /// Prints how many answers were compared, or panics at the difference.
 #[track_caller]
@@ -20,96 +20,89 @@ pub fn same(compared: Compared) {
 #[derive(Clone, Copy, Debug)]
 pub struct Library;
 
-fn key(k: ffi::OsmIdKey) -> (u8, u64) {
+fn key(k: OsmIdKey) -> (u8, u64) {
     (k.class, k.magnitude)
 }
 
 /// The number of 64 bits.
-fn wide(n: ffi::Number) -> (u32, i64) {
+fn wide(n: Number) -> (u32, i64) {
     (n.number, n.value.cast_signed())
 }
 
 /// The number of 32 bits; bits above them are a fault of the port.
-fn narrow(n: ffi::Number) -> (u32, i64) {
+fn narrow(n: Number) -> (u32, i64) {
     let bits = u32::try_from(n.value).expect("the bits of an i32");
     (n.number, i64::from(bits.cast_signed()))
 }
 
-// Each call passes numbers, or a slice as its pointer and its length.
 impl Ground for Library {
     fn osm_id_key(&self, id: i64) -> (u8, u64) {
-        key(unsafe { ffi::tvk_osm_id_key(id) })
+        key(entry::osm_id_key(id))
     }
 
     fn osm_id_cmp(&self, a: i64, b: i64) -> u8 {
-        unsafe { ffi::tvk_osm_id_cmp(a, b) }
+        entry::osm_id_cmp(a, b)
     }
 
     fn blob_osm_first_key(&self, min: i64, max: i64) -> (u8, u64) {
-        key(unsafe { ffi::tvk_blob_osm_first_key(min, max) })
+        key(entry::blob_osm_first_key(min, max))
     }
 
     fn blob_osm_last_key(&self, min: i64, max: i64) -> (u8, u64) {
-        key(unsafe { ffi::tvk_blob_osm_last_key(min, max) })
+        key(entry::blob_osm_last_key(min, max))
     }
 
     fn osm_id_rank(&self, id: i64) -> u64 {
-        unsafe { ffi::tvk_osm_id_rank(id) }
+        entry::osm_id_rank(id)
     }
 
     fn version_admit(&self, floor: u64, claim: u64) -> (u32, i32) {
-        let reply = unsafe { ffi::tvk_version_admit(floor, claim) };
+        let reply = entry::version_admit(floor, claim);
         (reply.number, reply.held)
     }
 
     fn version_raise(&self, floor: u64, claim: u64) -> u64 {
-        unsafe { ffi::tvk_version_raise(floor, claim) }
+        entry::version_raise(floor, claim)
     }
 
     fn read_i64(&self, s: &[u8]) -> (u32, i64) {
-        wide(unsafe { ffi::tvk_read_i64(s.as_ptr(), s.len()) })
+        wide(entry::read_i64(s))
     }
 
     fn read_i32(&self, s: &[u8]) -> (u32, i64) {
-        narrow(unsafe { ffi::tvk_read_i32(s.as_ptr(), s.len()) })
+        narrow(entry::read_i32(s))
     }
 
     fn stamp(&self, s: &[u8]) -> (u32, i64) {
-        wide(unsafe { ffi::tvk_parse_rfc3339_utc(s.as_ptr(), s.len()) })
+        wide(entry::parse_rfc3339_utc(s))
     }
 
     fn is_text(&self, s: &[u8]) -> u8 {
-        unsafe { ffi::tvk_is_text(s.as_ptr(), s.len()) }
+        entry::is_text(s)
     }
 }
 
-fn bits(ids: &[i64]) -> Vec<u64> {
-    ids.iter().map(|id| id.cast_unsigned()).collect()
-}
+/// A word from here on is no place.
+pub const NO_PLACE: usize = 1 << 63;
 
 fn place(word: usize) -> Option<usize> {
-    (word < ffi::NO_PLACE).then_some(word)
+    (word < NO_PLACE).then_some(word)
 }
 
 impl LookupPort for Library {
     fn range_overlaps(&self, live: &[i64], deleted: &[i64], min: i64, max: i64) -> (u32, bool) {
-        let (live, deleted) = (bits(live), bits(deleted));
-        let reply =
-            unsafe { ffi::tvk_range_overlaps(live.as_ptr(), live.len(), deleted.as_ptr(), deleted.len(), min, max) };
-        assert!(reply.value <= usize::from(reply.number == 0), "{reply:?}");
+        let reply = entry::range_overlaps(live, deleted, min, max);
+        assert!(reply.value <= u64::from(reply.number == 0), "{reply:?}");
         (reply.number, reply.value == 1)
     }
 
     fn upsert_range(&self, ids: &[i64], first: i64, last: i64) -> (u32, usize, usize) {
-        let ids = bits(ids);
-        let reply = unsafe { ffi::tvk_upsert_range(ids.as_ptr(), ids.len(), first, last) };
+        let reply = entry::upsert_range(ids, first, last);
         (reply.number, reply.from, reply.to)
     }
 
     fn seek_find(&self, at: Option<usize>, ids: &[i64], id: i64) -> (u32, Option<usize>, Option<usize>) {
-        let ids = bits(ids);
-        let word = at.unwrap_or(ffi::NO_PLACE);
-        let reply = unsafe { ffi::tvk_seek_find(ids.as_ptr(), ids.len(), word, id) };
+        let reply = entry::seek_find(ids, at.unwrap_or(NO_PLACE), id);
         (reply.number, place(reply.place), place(reply.found))
     }
 }

@@ -1,11 +1,12 @@
 //! Key order, version floors, integers, stamps, the text check and lookups in lists: the library against
 //! the judge.
 
-use compare::{Library, ffi, same};
+use compare::{Library, NO_PLACE, same};
 use judge::compare::Compared;
 use judge::compare::ground::{self, Ground};
 use judge::compare::lookups::{self, LookupPort};
 use judge::random::seed_and_rounds;
+use torvaskin::entry::seek_find;
 
 fn of(comparison: fn(&dyn Ground, u64, u64) -> Compared) {
     let (seed, rounds) = seed_and_rounds();
@@ -51,12 +52,11 @@ fn random_lists() {
 /// A word from 2^63 on is a fresh cursor; it comes back as exactly 2^63.
 #[test]
 fn fresh_words() {
-    let find = |ids: &[u64], word| unsafe { ffi::tvk_seek_find(ids.as_ptr(), ids.len(), word, 5) };
-    for word in [ffi::NO_PLACE, ffi::NO_PLACE + 1, usize::MAX] {
-        let found = find(&[0, 3, 5], word);
+    for word in [NO_PLACE, NO_PLACE + 1, usize::MAX] {
+        let found = seek_find(&[0, 3, 5], word, 5);
         assert_eq!((found.number, found.found, found.place), (0, 2, 2));
-        let refused = find(&[3, 0], word);
-        let none = (20, ffi::NO_PLACE, ffi::NO_PLACE);
+        let refused = seek_find(&[3, 0], word, 5);
+        let none = (20, NO_PLACE, NO_PLACE);
         assert_eq!((refused.number, refused.found, refused.place), none);
     }
 }

@@ -1,7 +1,7 @@
 //! The Rust and a port, given the same calls.
 
 use super::Tally;
-use super::call::{Call, Lines, Port, Push, Storage};
+use super::call::{Answer, Call, Lines, Port, Push, Storage, in_turn};
 use super::rust::Rust;
 use crate::answer::Sizes;
 use crate::random::Random;
@@ -43,15 +43,13 @@ impl<'a> Both<'a> {
         Self { rust: Rust::default(), port, expected: lent.clone(), lent, random, tally: Tally::new(), log: Vec::new() }
     }
 
-    /// A call on both sides: the answer, and all that is lent after it. After an accepted call it holds
-    /// the Rust's state and is otherwise as before, a setting that was given as it was given; after a
-    /// refused one it is as before but for the stop mark.
-    pub(super) fn call(&mut self, call: &Call) -> Result<u32, String> {
-        self.log.push(call.shown());
-        let log = &self.log;
+    /// The Rust's answer. What is lent then holds the Rust's state after an accepted call and is otherwise as before, a setting that was given
+    /// as it was given; after a refused one it is as before but for the stop mark. A run is its lines in turn.
+    fn told(&mut self, call: &Call) -> Answer {
+        if let Call::Events(n, run) = call {
+            return in_turn(run, |line| self.told(&Call::Event(*n, line.into())));
+        }
         let answer = self.rust.call(&self.lent.sizes(), call);
-        let port = self.port.call(&mut self.lent, call);
-        self.tally.same(|| shown(log), &answer, &port)?;
         let number = answer.number();
         if number == 0 && call.is_change() {
             self.expected.hold(&self.rust.overlay.state());
@@ -61,9 +59,19 @@ impl<'a> Both<'a> {
             Call::Event(n, _) => self.rust.hold_reader(*n, &mut self.expected.readers[*n]),
             _ => {}
         }
+        answer
+    }
+
+    /// A call on both sides: the answer, and all that is lent after it.
+    pub(super) fn call(&mut self, call: &Call) -> Result<u32, String> {
+        self.log.push(call.shown());
+        let answer = self.told(call);
+        let port = self.port.call(&mut self.lent, call);
+        let log = &self.log;
+        self.tally.same(|| shown(log), &answer, &port)?;
         let written = self.expected.changes(&self.lent);
         self.tally.same(|| format!("{}\nlent", shown(log)), Vec::new(), written)?;
-        Ok(number)
+        Ok(answer.number())
     }
 
     /// A new overlay in storage that holds anything; where it is refused the old one stays.

@@ -275,6 +275,8 @@ pub enum Call {
     Text(u64),
     /// One line with its line feed, or a tail without one, to a reader by its number.
     Event(usize, Bytes),
+    /// The whole lines of a run, one after the other.
+    Events(usize, Bytes),
     End(usize),
     /// Into so many bytes.
     Listing(usize),
@@ -283,14 +285,14 @@ pub enum Call {
 impl Call {
     /// Whether it changes the overlay where it is accepted.
     pub fn is_change(&self) -> bool {
-        use Call::{Allow, Delete, Event, Intern, Push, SetUp};
-        matches!(self, SetUp(_) | Allow(_) | Intern(_) | Push(..) | Delete(..) | Event(..))
+        use Call::{Allow, Delete, Event, Events, Intern, Push, SetUp};
+        matches!(self, SetUp(_) | Allow(_) | Intern(_) | Push(..) | Delete(..) | Event(..) | Events(..))
     }
 
     /// For a report.
     pub fn shown(&self) -> String {
         let shown = match self {
-            Self::Event(reader, line) => {
+            Self::Event(reader, line) | Self::Events(reader, line) => {
                 let line = String::from_utf8_lossy(&line[..line.len().min(300)]);
                 format!("reader {reader}: {line:?}")
             }
@@ -325,6 +327,13 @@ pub enum Answer {
         held: i32,
         line: u64,
     },
+    /// An event's answer for a run, and how many bytes were taken.
+    Events {
+        number: u32,
+        held: i32,
+        line: u64,
+        taken: usize,
+    },
     /// How long the listing is, and all of the output.
     Listing {
         number: u32,
@@ -343,6 +352,7 @@ impl Answer {
             | Self::Number { number, .. }
             | Self::Part { number, .. }
             | Self::Event { number, .. }
+            | Self::Events { number, .. }
             | Self::Listing { number, .. } => number,
         }
     }
@@ -376,6 +386,19 @@ impl Answer {
         };
         Self::Listing { number, len, output }
     }
+}
+
+/// The whole lines of a run as events, up to the first that is refused.
+pub(super) fn in_turn(run: &[u8], mut event: impl FnMut(&[u8]) -> Answer) -> Answer {
+    let mut taken = 0;
+    for line in run.split_inclusive(|byte| *byte == b'\n').filter(|line| line.ends_with(b"\n")) {
+        match event(line) {
+            Answer::Event { number: 0, .. } => taken += line.len(),
+            Answer::Event { number, held, line } => return Answer::Events { number, held, line, taken },
+            answer => panic!("{answer:?}"),
+        }
+    }
+    Answer::Events { number: 0, held: 0, line: 0, taken }
 }
 
 /// The library's calls.

@@ -571,6 +571,8 @@ fn reader_calls() -> Vec<Vec<Call>> {
     ];
     let event = |line: &str| vec![Call::Event(0, line.as_bytes().to_vec())];
     let mut calls: Vec<Vec<Call>> = lines.into_iter().map(event).collect();
+    let runs = ["", "close", "close\nother\nclose", "other\nbad\nclose\n"];
+    calls.push(runs.map(|run| Call::Events(0, run.into())).into());
     calls.push(vec![Call::End(0)]);
     calls
 }

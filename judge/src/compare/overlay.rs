@@ -85,7 +85,20 @@ pub fn documents(port: &dyn Port, seed: u64, rounds: u64) -> Result<(u64, u64), 
         for reader in 0..1 + source.random.below(3) {
             read += 1;
             both.fresh(reader);
-            for line in source.document() {
+            if n % 3 == 2 {
+                // In runs, cut anywhere.
+                let (mut rest, mut more) = (source.document().concat(), true);
+                while more {
+                    let len = rest.len().min(1 + source.random.below(rest.len().max(1)));
+                    more = both.call(&Call::Events(reader, rest[..len].to_vec()))? == 0 && len < rest.len();
+                    let whole = rest[..len].iter().rposition(|byte| *byte == b'\n').map_or(0, |at| at + 1);
+                    rest.drain(..whole);
+                }
+                if !rest.is_empty() {
+                    both.event(reader, &rest)?;
+                }
+            }
+            for line in source.document().into_iter().filter(|_| n % 3 != 2) {
                 if both.event(reader, &line)? != 0 {
                     // The mark is repeated.
                     both.event(reader, b"other\n")?;
@@ -124,6 +137,10 @@ pub fn readers(port: &dyn Port, seed: u64, rounds: u64) -> Compared {
             match random.below(12) {
                 0 => both.call(&Call::End(reader))?,
                 1 | 2 => random_call(&mut both, &mut random)?,
+                4 => {
+                    let lines: Vec<Bytes> = left[reader].by_ref().take(random.below(6)).collect();
+                    both.call(&Call::Events(reader, lines.concat()))?
+                }
                 3 if random.once_in(6) => {
                     // A reader may begin anywhere in a list.
                     both.fresh(reader);

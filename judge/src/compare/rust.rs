@@ -142,6 +142,7 @@ impl Rust {
             }
             Call::Text(handle) => Answer::part(self.text(*handle)),
             Call::Event(reader, line) => self.event(sizes, *reader, line),
+            Call::Events(..) => panic!("its lines are given one by one"),
             Call::End(reader) => stopped(self.readers[*reader].end()),
             Call::Listing(size) => Answer::listing(*size, Ok(overlay.listing())),
         }

@@ -586,6 +586,7 @@ impl Port for Words {
             }
             Call::Text(handle) => Answer::part(self.text(lent, *handle)),
             Call::Event(reader, line) => words_reader::event(self, lent, *reader, line),
+            Call::Events(reader, run) => words_reader::events(self, lent, *reader, run),
             Call::End(reader) => words_reader::end(self, lent, *reader),
             Call::Listing(size) => Answer::listing(*size, self.checked(lent).map(|()| listing(lent))),
         }

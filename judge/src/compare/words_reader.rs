@@ -1,6 +1,6 @@
 //! An event and an end by document 01's words, on lent storage.
 
-use super::call::{Answer, Head, Lines, Storage};
+use super::call::{Answer, Head, Lines, Storage, in_turn};
 use super::words::{Words, admitted, claim, first_fault, pushed, store_delete, store_push, store_text};
 use crate::answer::{KINDS, Kind, MOST_MEMBERS, MOST_REFS, MOST_TAGS, MOST_VALUE_BYTES, Meta};
 use crate::ground;
@@ -155,6 +155,14 @@ pub(super) fn event(words: &Words, lent: &mut Storage, n: usize, line: &[u8]) ->
             answer(stop)
         }
     }
+}
+
+/// Words that are no reader's are told first: a run without a whole line tests nothing else.
+pub(super) fn events(words: &Words, lent: &mut Storage, n: usize, run: &[u8]) -> Answer {
+    if Reading::of(&lent.readers[n].words).is_none() {
+        return Answer::Events { number: 22, held: 0, line: 0, taken: 0 };
+    }
+    in_turn(run, |line| event(words, lent, n, line))
 }
 
 /// "18 level is not Done". It stops nothing and changes nothing.

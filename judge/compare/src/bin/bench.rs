@@ -1,13 +1,12 @@
 //! How fast the library runs beside Rust's own functions and the published overlay, in one run: nanoseconds a call, the least of nine
 //! rounds, and the ratio. Both sides are called through a trait object or a C entry, so that neither is inlined into the loop.
 
-use compare::overlay::Pointers;
-use compare::{Library, entry, ffi};
-use judge::compare::call::Storage;
+use compare::Library;
 use judge::compare::ground::Ground;
 use judge::{Meta, Overlay};
 use std::hint::black_box;
 use std::time::Instant;
+use torvaskin::{Lent, Metadata, Record, Sizes, Storage};
 
 const ROUNDS: usize = 9;
 
@@ -40,32 +39,14 @@ fn parse<T: std::str::FromStr + Into<i64>>(s: &[u8]) -> u64 {
     std::str::from_utf8(s).ok().and_then(|t| t.parse::<T>().ok()).map_or(0, |n| n.into().cast_unsigned())
 }
 
-fn storage(ids: usize, arena: usize, strings: usize, bytes: usize) -> Storage {
-    Storage {
-        tables: std::array::from_fn(|_| vec![0; 3 * ids]),
-        arenas: std::array::from_fn(|_| vec![0; arena]),
-        spans: vec![0; 2 * strings],
-        bytes: vec![0; bytes],
-        counts: [0; 9],
-        readers: Vec::new(),
-    }
-}
-
-/// Ways with those ids, and the same refs and tags, pushed one after the other into an overlay that is set up.
-fn push_each(lent: &mut Storage, ids: impl Iterator<Item = i64>, count: u32, tags: u32, parts: &[u8]) {
-    for id in ids {
-        let head = ffi::Head { id: id.cast_unsigned(), lat: 0, lon: 0, count, tags };
-        let meta = ffi::Meta { flags: 9, version: 1, timestamp: 0, changeset: 0, uid: 0, user: 0 };
-        let reply = entry!(tvk_push, &Pointers::of(lent), 1, head, meta, parts.as_ptr(), parts.len());
-        assert_eq!(reply.number, 0);
-    }
-}
-
 /// Ways of so many refs pushed one after the other into an empty overlay.
-fn pushes(lent: &mut Storage, ways: i64, refs: &[i64]) {
-    assert_eq!(entry!(tvk_set_up, &Pointers::of(lent), 0).number, 0);
-    let parts: Vec<u8> = refs.iter().flat_map(|r| r.to_le_bytes()).collect();
-    push_each(lent, 1..=ways, u32::try_from(refs.len()).expect("few refs"), 0, &parts);
+fn pushes(lent: Lent<'_>, ways: i64, refs: &[i64]) {
+    let mut overlay = torvaskin::Overlay::set_up(lent).expect("set up");
+    let mut way = Record::way(0, refs.iter().copied()).version(1);
+    for id in 1..=ways {
+        way.id = id;
+        overlay.push(&way).expect("taken");
+    }
 }
 
 /// Tags of a road: a way that has them and no refs takes 253 bytes.
@@ -84,19 +65,6 @@ const TAGS: [(&str, &str); 12] = [
     ("sidewalk", "yes"),
 ];
 
-/// The tags as they lie in a record; their keys are taken in.
-fn tags(lent: &mut Storage) -> Vec<u8> {
-    let mut parts = Vec::new();
-    for (key, value) in TAGS {
-        let text = entry!(tvk_intern, &Pointers::of(lent), key.as_ptr(), key.len());
-        assert_eq!(text.number, 0);
-        parts.extend(u32::try_from(text.handle).expect("few texts").to_le_bytes());
-        parts.extend(u32::try_from(value.len()).expect("short").to_le_bytes());
-        parts.extend(value.bytes());
-    }
-    parts
-}
-
 /// The soundness test of ways with tags: few, and an arena that is 99 % full, with ids in order and shuffled.
 fn soundness() {
     for (name, ways, shuffled) in [("in order", 100, false), ("in order", 4_096, false), ("shuffled", 4_096, true)] {
@@ -104,12 +72,14 @@ fn soundness() {
         if shuffled {
             ids.sort_by_key(|id| id.cast_unsigned().wrapping_mul(0x9e37_79b9_7f4a_7c15));
         }
-        let mut lent = storage(4_096, 1_048_576, 4_096, 65_536);
-        assert_eq!(entry!(tvk_set_up, &Pointers::of(&mut lent), 0).number, 0);
-        let parts = tags(&mut lent);
-        push_each(&mut lent, ids.into_iter(), 0, u32::try_from(TAGS.len()).expect("few"), &parts);
-        let sound = least(1, || assert_eq!(entry!(tvk_is_sound, &Pointers::of(&mut lent)).number, 0));
-        let used = lent.counts[4];
+        let mut overlay = torvaskin::Overlay::new(&Sizes::MOST).expect("within limits");
+        let mut way = TAGS.iter().fold(Record::way(0, []).version(1), |way, (key, value)| way.tag(key, value));
+        for id in ids {
+            way.id = id;
+            overlay.push(&way).expect("taken");
+        }
+        let sound = least(1, || overlay.is_sound().expect("sound"));
+        let used = overlay.into_storage().counts[4];
         println!(
             "soundness, {ways} ways of 12 tags, ids {name}, {used} bytes\t{sound:.0} ns\t{:.2} ns a byte",
             sound / used as f64
@@ -120,12 +90,12 @@ fn soundness() {
 fn overlays() {
     let meta = Meta { flags: 9, version: 1, timestamp: 0, changeset: 0, uid: 0, user: 0 };
     for (ways, refs) in [(100, 4), (4_096, 26)] {
-        let mut lent = storage(4_096, 1_048_576, 4_096, 65_536);
+        let mut lent = Sizes::MOST.allocate().expect("within limits");
         let refs: Vec<i64> = (1..=refs).collect();
         row(
             &format!("direct push, {ways} ways of {} refs", refs.len()),
             usize::try_from(ways).expect("not negative"),
-            || pushes(&mut lent, ways, &refs),
+            || pushes(lent.lent(), ways, &refs),
             || {
                 let mut overlay = Overlay::new();
                 for id in 1..=ways {
@@ -138,48 +108,35 @@ fn overlays() {
 }
 
 /// Named and tagged ways of ten refs, in both overlays.
-fn roads(lent: &mut Storage, overlay: &mut Overlay, ways: i64) {
-    assert_eq!(entry!(tvk_set_up, &Pointers::of(lent), 0).number, 0);
-    let handles = ["some user", "highway", "name", "maxspeed", "surface"].map(|text| {
-        let reply = entry!(tvk_intern, &Pointers::of(lent), text.as_ptr(), text.len());
-        assert_eq!((reply.number, reply.handle), (0, u64::from(overlay.intern(text))));
-        u32::try_from(reply.handle).expect("few texts")
-    });
+fn roads(port: &mut torvaskin::Overlay, rust: &mut Overlay, ways: i64) {
+    let keys = ["highway", "name", "maxspeed", "surface"];
+    let (user, handles) = (rust.intern("some user"), keys.map(|key| rust.intern(key)));
+    let (timestamp, changeset, uid) = (1_700_000_000, 140_000_000, 1_234_567);
     for id in 1..=ways {
         let name = format!("Karl-Liebknecht-Straße {id}");
-        let tags: Vec<(u32, &str)> =
-            handles[1..].iter().copied().zip(["residential", &name, "50", "asphalt"]).collect();
+        let values = ["residential", &name, "50", "asphalt"];
         let refs: Vec<i64> = (1..=10).map(|i| 1_000_000_000 + id * 7_919 * i).collect();
-        let mut parts: Vec<u8> = refs.iter().flat_map(|r| r.to_le_bytes()).collect();
-        for (key, value) in &tags {
-            parts.extend(key.to_le_bytes());
-            parts.extend(u32::try_from(value.len()).expect("short").to_le_bytes());
-            parts.extend(value.as_bytes());
-        }
-        let head = ffi::Head { id: id.cast_unsigned(), lat: 0, lon: 0, count: 10, tags: 4 };
-        let (timestamp, changeset, user) = (1_700_000_000, 140_000_000, handles[0]);
-        let meta = ffi::Meta { flags: 13, version: 3, timestamp, changeset, uid: 1_234_567, user };
-        let reply = entry!(tvk_push, &Pointers::of(lent), 1, head, meta, parts.as_ptr(), parts.len());
-        assert_eq!(reply.number, 0);
-        let (timestamp, changeset) = (timestamp.cast_signed(), changeset.cast_signed());
-        let meta = Meta { flags: 13, version: 3, timestamp, changeset, uid: 1_234_567, user };
-        overlay.push_way(id, &refs, &tags, &meta).expect("taken");
+        let way = Record::way(id, refs.iter().copied());
+        let way = keys.into_iter().zip(values).fold(way, |way, (key, value)| way.tag(key, value));
+        let metadata = Metadata { version: Some(3), timestamp, changeset, uid, user: Some("some user"), hidden: false };
+        port.push(&way.metadata(metadata)).expect("taken");
+        let tags: Vec<(u32, &str)> = handles.into_iter().zip(values).collect();
+        let meta = Meta { flags: 13, version: 3, timestamp, changeset, uid, user };
+        rust.push_way(id, &refs, &tags, &meta).expect("taken");
     }
 }
 
 /// The listing, a byte of it. The Rust's side is the judge's own printing of the published overlay.
 fn listings() {
-    let (mut lent, mut overlay) = (storage(4_096, 1_048_576, 4_096, 65_536), Overlay::new());
-    roads(&mut lent, &mut overlay, 300);
+    let mut overlay = Overlay::new();
+    let mut port = torvaskin::Overlay::new(&Sizes::MOST).expect("within limits");
+    roads(&mut port, &mut overlay, 300);
     let page = overlay.listing();
     let mut out = vec![0u8; page.len()];
-    let mut list = || entry!(tvk_listing, &Pointers::of(&mut lent), out.as_mut_ptr(), out.len());
-    assert_eq!(list().length, page.len());
-    let bytes = 10 * page.len();
     row(
         &format!("listing of 300 roads, {} bytes, a byte", page.len()),
-        bytes,
-        || (0..10).for_each(|_| assert_eq!(list().number, 0)),
+        10 * page.len(),
+        || (0..10).for_each(|_| assert_eq!(port.listing_into(&mut out).expect("listed").len(), page.len())),
         || (0..10).for_each(|_| drop(black_box(overlay.listing()))),
     );
     assert!(out == page);
