@@ -130,6 +130,16 @@ pub struct EventReply {
     pub line: u64,
 }
 
+/// The same for a run of lines, with how many of its bytes were taken.
+#[repr(C)]
+#[derive(Clone, Copy, Debug, PartialEq, Eq)]
+pub struct EventsReply {
+    pub number: u32,
+    pub held: i32,
+    pub line: u64,
+    pub taken: usize,
+}
+
 /// Number 0 with how long the listing is, or a refusal with 0.
 #[repr(C)]
 #[derive(Clone, Copy, Debug, PartialEq, Eq)]
@@ -185,6 +195,7 @@ overlay_entries! {
     tvk_known_version(kind: u8, id: i64) -> Number;
     tvk_text(handle: u64) -> View;
     tvk_event(reader: *mut u64, parts: *mut u8, line: *const u8, n: usize) -> EventReply;
+    tvk_events(reader: *mut u64, parts: *mut u8, run: *const u8, n: usize) -> EventsReply;
     tvk_end(reader: *const u64, parts: *const u8) -> EventReply;
     tvk_listing(output: *mut u8, n: usize) -> Listed;
 }

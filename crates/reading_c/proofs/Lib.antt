@@ -1,2 +1,0 @@
-pub mod Ids
-pub mod First

@@ -1,0 +1,7 @@
+pub mod Ids
+pub mod OverlayReplies
+pub mod OverlayFirst
+pub mod ReaderReplies
+pub mod ReaderKeeps
+pub mod ReadingFirst
+pub mod ListingReplies

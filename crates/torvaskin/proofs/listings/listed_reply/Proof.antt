@@ -1,0 +1,25 @@
+-- 0 with the length, or the refusal's number with 0.
+use Rattle.refusal.specs.Refusal.{replyOf}
+use borrow.Author.Needs.{needs}
+use Rattle.torvaskin.proofs.listings.listed_reply.Statement.{statement}
+use Rattle.torvaskin.proofs.listings.listed_reply.Tie as tie
+
+enum-known-answer : tie.Need-enum-known-answer
+enum-known-answer c = search needs
+
+enum-known-answer-2 : tie.Need-enum-known-answer-2
+enum-known-answer-2 c = search needs
+
+reply-of-requires : tie.Need-reply-of-requires
+reply-of-requires c κs = tt
+
+returns : tie.Need-returns
+returns c = rw (c .before .answer .given .1)
+
+returns-2 : tie.Need-returns-2
+unfolding replyOf
+returns-2 c = rw (c .before .before .answer2 .given .1, c .reply-of .ensures)
+
+pub listed-reply-spec : {M : Type 1} → statement M
+listed-reply-spec =
+    tie.close (tie.spec enum-known-answer enum-known-answer-2 reply-of-requires returns returns-2)

@@ -1,0 +1,28 @@
+-- `layers::overlap_number` gives each answer's number.
+use mathlib.Core.Path.{sym, ap}
+use Rattle.torvaskin.specs.Lookups.{overlapNumber}
+use borrow.Author.Needs.{needs}
+use Rattle.torvaskin.proofs.lookups.overlap_number.Statement.{statement}
+use Rattle.torvaskin.proofs.lookups.overlap_number.Tie as tie
+
+enum-told : tie.Need-enum-told
+enum-told c = search needs
+
+enum-told-2 : tie.Need-enum-told-2
+enum-told-2 c = search needs
+
+enum-told-3 : tie.Need-enum-told-3
+enum-told-3 c = search needs
+
+returns : tie.Need-returns
+returns c = ap overlapNumber (sym (c .enum-told .given .1))
+
+returns-2 : tie.Need-returns-2
+returns-2 c = ap overlapNumber (sym (c .enum-told2 .given .1))
+
+returns-3 : tie.Need-returns-3
+returns-3 c = ap overlapNumber (sym (c .enum-told3 .given .1))
+
+pub overlap-number-spec : {M : Type 1} → statement M
+overlap-number-spec =
+    tie.close (tie.spec enum-told enum-told-2 enum-told-3 returns returns-2 returns-3)

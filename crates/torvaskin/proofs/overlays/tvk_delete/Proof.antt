@@ -1,0 +1,79 @@
+-- What `direct::delete` leaves and answers; or nothing changes, and 22 or 17 is replied.
+use Rattle.torvaskin.specs.Overlays.{deleteReply}
+use Rattle.torvaskin.proofs.Ids.{id-is}
+use Rattle.torvaskin.proofs.OverlayReplies.{replied-is, unknown-is}
+use borrow.Author.Needs.{needs}
+use Rattle.torvaskin.proofs.overlays.tvk_delete.Statement.{statement}
+use Rattle.torvaskin.proofs.overlays.tvk_delete.Tie as tie
+
+kind-of-number-requires : tie.Need-kind-of-number-requires
+kind-of-number-requires c κs = tt
+
+enum-known-k : tie.Need-enum-known-k
+enum-known-k c = search needs
+
+bits-of-i64-requires : tie.Need-bits-of-i64-requires
+bits-of-i64-requires c κs = tt
+
+delete-requires : tie.Need-delete-requires
+delete-requires c κs = tt
+
+kept-reply-requires : tie.Need-kept-reply-requires
+kept-reply-requires c κs = tt
+
+enum-told : tie.Need-enum-told
+enum-told c = search needs
+
+unknown-requires : tie.Need-unknown-requires
+unknown-requires c κs = tt
+
+same-length : tie.Need-same-length
+same-length c = search needs
+
+same-length-2 : tie.Need-same-length-2
+same-length-2 c = search needs
+
+same-length-3 : tie.Need-same-length-3
+same-length-3 c = search needs
+
+returns : tie.Need-returns
+unfolding deleteReply
+returns c =
+    let w = c .before .before .before .before .before .before .before .before .before .before .before .before .before .before in
+    let d = id-is (w .before .before .before .before .before .before .before .before .before .before .before .fits .id) (c .before .before .before .before .before .before .before .before .bits-of-i64 .ensures) in
+    rw (← w .before .before .kind-of-number .ensures, w .k .given .1) (replied-is (c .kept-reply .ensures) (rw d at (c .before .before .before .before .before .before .before .delete .ensures)))
+
+same-length-4 : tie.Need-same-length-4
+same-length-4 c = search needs
+
+same-length-5 : tie.Need-same-length-5
+same-length-5 c = search needs
+
+same-length-6 : tie.Need-same-length-6
+same-length-6 c = search needs
+
+returns-2 : tie.Need-returns-2
+unfolding deleteReply
+returns-2 c =
+    let w = c .before .before .before .before .before in
+    rw (← w .before .before .kind-of-number .ensures, w .enum-told .given .1) (unknown-is (c .unknown .ensures))
+
+pub tvk-delete-spec : {M : Type 1} → statement M
+tvk-delete-spec =
+    tie.close
+    (tie.spec
+    kind-of-number-requires
+    enum-known-k
+    bits-of-i64-requires
+    delete-requires
+    kept-reply-requires
+    enum-told
+    unknown-requires
+    same-length
+    same-length-2
+    same-length-3
+    returns
+    same-length-4
+    same-length-5
+    same-length-6
+    returns-2)

@@ -1,0 +1,24 @@
+-- Zeros, or the number, HELD and the line.
+use Rattle.torvaskin.proofs.ReaderReplies.{refused-is}
+use borrow.Author.Needs.{needs}
+use Rattle.torvaskin.proofs.readers.event_reply.Statement.{statement}
+use Rattle.torvaskin.proofs.readers.event_reply.Tie as tie
+
+enum-told : tie.Need-enum-told
+enum-told c = search needs
+
+enum-known-answer : tie.Need-enum-known-answer
+enum-known-answer c = search needs
+
+reply-of-requires : tie.Need-reply-of-requires
+reply-of-requires c κs = tt
+
+returns : tie.Need-returns
+returns c = rw (c .enum-told .given .1)
+
+returns-2 : tie.Need-returns-2
+returns-2 c = rw (c .before .before .before .answer .given .1) (refused-is (c .before .before .before .answer .given .0 .0) (c .before .before .before .answer .given .0 .1 .0) (c .before .reply-of .ensures) (c .struct-told .given .1 .0 .1))
+
+pub event-reply-spec : {M : Type 1} → statement M
+event-reply-spec =
+    tie.close (tie.spec enum-told enum-known-answer reply-of-requires returns returns-2)

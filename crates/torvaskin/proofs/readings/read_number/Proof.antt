@@ -1,0 +1,25 @@
+-- 0 with the number, or the refusal's number with 0.
+use Rattle.refusal.specs.Refusal.{replyOf}
+use borrow.Author.Needs.{needs}
+use Rattle.torvaskin.proofs.readings.read_number.Statement.{statement}
+use Rattle.torvaskin.proofs.readings.read_number.Tie as tie
+
+enum-known-read : tie.Need-enum-known-read
+enum-known-read c = search needs
+
+enum-known-read-2 : tie.Need-enum-known-read-2
+enum-known-read-2 c = search needs
+
+reply-of-requires : tie.Need-reply-of-requires
+reply-of-requires c κs = tt
+
+returns : tie.Need-returns
+returns c = rw (c .before .read .given .1)
+
+returns-2 : tie.Need-returns-2
+unfolding replyOf
+returns-2 c = rw (c .before .before .read2 .given .1, c .reply-of .ensures)
+
+pub read-number-spec : {M : Type 1} → statement M
+read-number-spec =
+    tie.close (tie.spec enum-known-read enum-known-read-2 reply-of-requires returns returns-2)
