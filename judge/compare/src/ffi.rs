@@ -194,6 +194,8 @@ overlay_entries! {
     tvk_is_deleted(kind: u8, id: i64) -> Number;
     tvk_known_version(kind: u8, id: i64) -> Number;
     tvk_text(handle: u64) -> View;
+    tvk_live_ids(kind: u8, ids: *mut u64, n: usize, versions: *mut u64, m: usize) -> Number;
+    tvk_deleted_ids(kind: u8, ids: *mut u64, n: usize, versions: *mut u64, m: usize) -> Number;
     tvk_event(reader: *mut u64, parts: *mut u8, line: *const u8, n: usize) -> EventReply;
     tvk_events(reader: *mut u64, parts: *mut u8, run: *const u8, n: usize) -> EventsReply;
     tvk_end(reader: *const u64, parts: *const u8) -> EventReply;
