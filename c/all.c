@@ -301,6 +301,29 @@ static void readings(void)
     SAME(tvk_overlay_text(&o, 0).len, 0);
     SAME(tvk_overlay_text(&o, 8).number, TVK_NO_SUCH_NUMBER);
 
+    uint64_t ids[4] = {9, 9, 9, 9};
+    uint64_t versions[4] = {9, 9, 9, 9};
+    SAME(tvk_overlay_live_ids(&o, TVK_NODE, ids, versions, 2).number, TVK_SHORT_OUTPUT);
+    SAME(tvk_overlay_live_ids(&o, 3, ids, versions, 4).number, TVK_BAD_RECORD);
+    SAME(ids[0], 9);
+    SAME(versions[0], 9);
+    SAME(tvk_overlay_live_ids(&o, TVK_NODE, ids, versions, 4).value, 3);
+    SAME(ids[0], 1);
+    SAME(ids[1], 2);
+    SAME(ids[2], 4);
+    SAME(ids[3], 9);
+    SAME(versions[0], 1);
+    SAME(versions[1], 1);
+    SAME(versions[2], TVK_NO_VERSION);
+    SAME(versions[3], 9);
+    SAME(tvk_overlay_deleted_ids(&o, TVK_NODE, ids, versions, 2).value, 2);
+    SAME(tvk_i64_of(ids[0]), -7);
+    SAME(ids[1], 3);
+    SAME(versions[0], 4);
+    SAME(versions[1], 1);
+    SAME(ids[2], 4);
+    SAME(tvk_overlay_deleted_ids(&o, TVK_RELATION, NULL, NULL, 0).value, 0);
+
     char page[512];
     static const char listing[] = "n\t-7\t-\t4\nn\t1\t+\t1\t9\t1\t0\t0\t0\t\t0\t0\t0\nn\t2\t+\t1\t9\t1\t0\t0\t0\t\t0\t0\t0\nn\t3\t-\t1\nn\t4\t+\t?\t0\t0\t0\t0\t0\t\t0\t0\t0\n"
                                   "w\t-10\t-\t1\nw\t10\t+\t-5\t15\t-5\t-6\t77\t-8\tsurveyor\t2\t1\t-2\t2\tname\tQuay Road\tmaxweight\t\n"

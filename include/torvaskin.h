@@ -327,6 +327,15 @@ struct tvk_view tvk_text(const uint64_t *ni, size_t ni_len, const uint8_t *na, s
                          const uint64_t *ri, size_t ri_len, const uint8_t *ra, size_t ra_len, const uint64_t *ss, size_t ss_len, const uint8_t *sb, size_t sb_len,
                          const uint64_t us[9], uint64_t handle);
 
+/* The bits of all live ids, and of all deleted ids, of a kind in OSM order, and the known version of each as a version word, at the start of two lists that share no word: 19
+   where one of them is shorter, with nothing written; or 0 with how many ids they are. What lies past them is left as it is. */
+struct tvk_number tvk_live_ids(const uint64_t *ni, size_t ni_len, const uint8_t *na, size_t na_len, const uint64_t *wi, size_t wi_len, const uint8_t *wa, size_t wa_len,
+                               const uint64_t *ri, size_t ri_len, const uint8_t *ra, size_t ra_len, const uint64_t *ss, size_t ss_len, const uint8_t *sb, size_t sb_len,
+                               const uint64_t us[9], uint8_t kind, uint64_t *ids, size_t ids_len, uint64_t *versions, size_t versions_len);
+struct tvk_number tvk_deleted_ids(const uint64_t *ni, size_t ni_len, const uint8_t *na, size_t na_len, const uint64_t *wi, size_t wi_len, const uint8_t *wa, size_t wa_len,
+                                  const uint64_t *ri, size_t ri_len, const uint8_t *ra, size_t ra_len, const uint64_t *ss, size_t ss_len, const uint8_t *sb, size_t sb_len,
+                                  const uint64_t us[9], uint8_t kind, uint64_t *ids, size_t ids_len, uint64_t *versions, size_t versions_len);
+
 /* ==== entries: lookups in lists of ids, which are handed over as their bits, strictly in OSM order; else 20 */
 
 /* 1 where an id of either list lies from min to max, else 0; 20. What lies between is counted in OSM order, from the first to the last key of the numbers min to max. */
@@ -512,6 +521,21 @@ static inline struct tvk_number tvk_overlay_known_version(const struct tvk_overl
 static inline struct tvk_view tvk_overlay_text(const struct tvk_overlay *o, uint64_t handle)
 {
     return tvk_text(TVK_LENT(o), handle);
+}
+
+/* two lists of the same length */
+static inline struct tvk_number tvk_overlay_live_ids(const struct tvk_overlay *o, uint8_t kind, uint64_t *ids, uint64_t *versions, size_t len)
+{
+    struct tvk_words i = {ids, len};
+    struct tvk_words v = {versions, len};
+    return tvk_live_ids(TVK_LENT(o), kind, TVK_PART_WORDS(i), TVK_PART_WORDS(v));
+}
+
+static inline struct tvk_number tvk_overlay_deleted_ids(const struct tvk_overlay *o, uint8_t kind, uint64_t *ids, uint64_t *versions, size_t len)
+{
+    struct tvk_words i = {ids, len};
+    struct tvk_words v = {versions, len};
+    return tvk_deleted_ids(TVK_LENT(o), kind, TVK_PART_WORDS(i), TVK_PART_WORDS(v));
 }
 
 static inline struct tvk_listing_reply tvk_overlay_listing(const struct tvk_overlay *o, void *out, size_t len)

@@ -1,6 +1,7 @@
 -- The C boundary of the readings: each answer's number and values, by one definition each; a kind goes by its number, and one above 2 is refused 17 where 22 is not.
 use Prim.Native.Nat.{ℕ}
 use mathlib.Core.Bool.{Bool, true, false}
+use mathlib.Core.List.{List}
 use lib.IntN.{ℤ}
 use Rattle.kind.specs.Kind.{ofNumber}
 use Rattle.kind.specs.declared.Kind.{Kind}
@@ -17,6 +18,7 @@ use Rattle.listed.specs.declared.View.the-variants as view
 use Rattle.reading.specs.Reading.{countOn, idOn, recordOn, getOn, hasOn, isDeletedOn, knownOn}
 use Rattle.reading.specs.declared.Read.{Read}
 use Rattle.reading.specs.declared.Read.the-variants.{Is, Refused}
+use Rattle.bulk.specs.Bulk.{AllIds, allIdsOn}
 use Rattle.torvaskin.specs.declared.Number.{Number}
 use Rattle.torvaskin.specs.declared.readings.Part.{Part}
 
@@ -67,3 +69,21 @@ isDeletedNumber kind id o = numberFor (ofNumber kind) (λ k. isDeletedOn k id o)
 
 unfoldable pub knownNumber : ℕ → ℤ → Overlay → Number
 knownNumber kind id o = numberFor (ofNumber kind) (λ k. knownOn k id o) o
+
+-- ---- all ids of a kind
+
+-- the two lists, and the reply
+pub record IdsReply : Type 0 where
+  pub ids : List ℕ
+  pub versions : List ℕ
+  pub reply : Number
+
+abbrev pub allIdsReply : AllIds → IdsReply
+allIdsReply a = record { ids = a .ids; versions = a .versions; reply = readNumber (a .answer) }
+
+abbrev pub idsFor : Named → Side → List ℕ → List ℕ → Overlay → IdsReply
+idsFor (K.Is k) side ids versions o = allIdsReply (allIdsOn k side ids versions o)
+idsFor K.Unknown side ids versions o = record { ids = ids; versions = versions; reply = readNumber (Refused (unknownKind (isSound o))) }
+
+unfoldable pub idsReply : ℕ → Side → List ℕ → List ℕ → Overlay → IdsReply
+idsReply kind side ids versions o = idsFor (ofNumber kind) side ids versions o

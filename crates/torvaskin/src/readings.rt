@@ -6,7 +6,7 @@ ghost use Rattle.overlay.specs.Overlay.{lent};
 ghost use Rattle.overlay.specs.Sound.{isSound};
 ghost use Rattle.reading.specs.declared.Read.the-variants.{Refused};
 ghost use Rattle.reading.specs.Reading.{isEmptyOn, textOn};
-ghost use Rattle.torvaskin.specs.Readings.{readNumber, noPart, viewPart, unknownKind, countNumber, idNumber, recordPart, getPart, hasNumber, isDeletedNumber, knownNumber};
+ghost use Rattle.torvaskin.specs.Readings.{readNumber, noPart, viewPart, unknownKind, countNumber, idNumber, recordPart, getPart, hasNumber, isDeletedNumber, knownNumber, idsReply};
 use crate::Number;
 use kind::Named;
 use listed::Side;
@@ -454,4 +454,104 @@ pub extern "C" fn tvk_text(
     ensures { λ r. ⌜ r ≡ viewPart (textOn handle (lent ni na wi wa ri ra ss sb us)) ⌝ }
 {
     view_part(reading::text(ni, na, wi, wa, ri, ra, ss, sb, us, handle))
+}
+
+// All live or all deleted ids of a kind in OSM order and the known version of each: 22, 17, 19, or how many they are.
+fn ids_number(
+    ni: &[u64],
+    na: &[u8],
+    wi: &[u64],
+    wa: &[u8],
+    ri: &[u64],
+    ra: &[u8],
+    ss: &[u64],
+    sb: &[u8],
+    us: &[u64; 9],
+    kind: u8,
+    side: Side,
+    ids: &mut [u64],
+    versions: &mut [u64],
+) -> Number
+    ensures { λ r. ⌜ record { ids = now (ids .exit); versions = now (versions .exit); reply = r }
+        ≡ idsReply kind side (now (ids .entry)) (now (versions .entry)) (lent ni na wi wa ri ra ss sb us) ⌝ }
+{
+    match kind::kind_of_number(kind) {
+        Named::Is(k) => {
+            let read = bulk::all_ids(ni, na, wi, wa, ri, ra, ss, sb, us, k, side, ids, versions);
+            read_number(read)
+        }
+        Named::Unknown => no_read(ni, na, wi, wa, ri, ra, ss, sb, us),
+    }
+}
+
+// The bits of all live ids of a kind, and their known versions as words.
+#[no_mangle]
+pub extern "C" fn tvk_live_ids(
+    ni: &[u64],
+    na: &[u8],
+    wi: &[u64],
+    wa: &[u8],
+    ri: &[u64],
+    ra: &[u8],
+    ss: &[u64],
+    sb: &[u8],
+    us: &[u64; 9],
+    kind: u8,
+    ids: &mut [u64],
+    versions: &mut [u64],
+) -> Number
+    ensures { λ r. ⌜ record { ids = now (ids .exit); versions = now (versions .exit); reply = r }
+        ≡ idsReply kind Live (now (ids .entry)) (now (versions .entry)) (lent ni na wi wa ri ra ss sb us) ⌝ }
+{
+    ids_number(
+        ni,
+        na,
+        wi,
+        wa,
+        ri,
+        ra,
+        ss,
+        sb,
+        us,
+        kind,
+        Side::Live,
+        ids,
+        versions,
+    )
+}
+
+// The bits of all deleted ids of a kind, and their known versions as words.
+#[no_mangle]
+pub extern "C" fn tvk_deleted_ids(
+    ni: &[u64],
+    na: &[u8],
+    wi: &[u64],
+    wa: &[u8],
+    ri: &[u64],
+    ra: &[u8],
+    ss: &[u64],
+    sb: &[u8],
+    us: &[u64; 9],
+    kind: u8,
+    ids: &mut [u64],
+    versions: &mut [u64],
+) -> Number
+    ensures { λ r. ⌜ record { ids = now (ids .exit); versions = now (versions .exit); reply = r }
+        ≡ idsReply kind Deleted (now (ids .entry)) (now (versions .entry)) (lent ni na wi wa ri ra ss sb us) ⌝ }
+{
+    ids_number(
+        ni,
+        na,
+        wi,
+        wa,
+        ri,
+        ra,
+        ss,
+        sb,
+        us,
+        kind,
+        Side::Deleted,
+        ids,
+        versions,
+    )
 }

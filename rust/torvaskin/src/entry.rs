@@ -83,6 +83,16 @@ pub fn deleted_id(parts: Shared<'_>, kind: u8, n: u64) -> Number {
     entry!(tvk_deleted_id, read, parts, kind, n)
 }
 
+pub fn live_ids(parts: Shared<'_>, kind: u8, ids: &mut [u64], versions: &mut [u64]) -> Number {
+    let ((ids, ids_len), (versions, versions_len)) = (write(ids), write(versions));
+    entry!(tvk_live_ids, read, parts, kind, ids, ids_len, versions, versions_len)
+}
+
+pub fn deleted_ids(parts: Shared<'_>, kind: u8, ids: &mut [u64], versions: &mut [u64]) -> Number {
+    let ((ids, ids_len), (versions, versions_len)) = (write(ids), write(versions));
+    entry!(tvk_deleted_ids, read, parts, kind, ids, ids_len, versions, versions_len)
+}
+
 pub fn record(parts: Shared<'_>, kind: u8, n: u64) -> Part {
     entry!(tvk_record, read, parts, kind, n)
 }

@@ -294,8 +294,7 @@ impl<S: Storage> Overlay<S> {
 
     /// The highest version that is held for an id, live or deleted.
     pub fn known_version(&self, kind: ElementKind, id: i64) -> Result<Option<i32>, Refusal> {
-        let word = value(entry::known_version(self.storage.shared(), kind as u8, id))?;
-        Ok(u32::try_from(word).ok().map(u32::cast_signed))
+        Ok(version_in(value(entry::known_version(self.storage.shared(), kind as u8, id))?))
     }
 
     /// The text of a handle. Refused 21 where it is not held.
@@ -323,12 +322,48 @@ impl<S: Storage> Overlay<S> {
     /// # Ok::<(), torvaskin::Refusal>(())
     /// ```
     pub fn live_ids(&self, kind: ElementKind) -> Result<Vec<i64>, Refusal> {
-        Ok(self.rows(kind)?.filter(|row| row.1 < DELETED).map(|row| row.0).collect())
+        Ok(self.live_versions(kind)?.into_iter().map(|(id, _)| id).collect())
+    }
+
+    /// The live ids in OSM order, each with its known version, with one test of what is lent.
+    pub fn live_versions(&self, kind: ElementKind) -> Result<Vec<(i64, Option<i32>)>, Refusal> {
+        self.versions(kind, entry::live_ids)
     }
 
     /// The deleted ids in OSM order, with one test of what is lent.
     pub fn deleted_ids(&self, kind: ElementKind) -> Result<Vec<i64>, Refusal> {
-        Ok(self.rows(kind)?.filter(|row| row.1 >= DELETED).map(|row| row.0).collect())
+        Ok(self.deleted_versions(kind)?.into_iter().map(|(id, _)| id).collect())
+    }
+
+    /// The deleted ids in OSM order, each with its known version, with one test of what is lent.
+    ///
+    /// ```
+    /// use torvaskin::{ElementKind, Overlay, Record, Sizes};
+    ///
+    /// let mut overlay = Overlay::new(&Sizes::ROADLIST)?;
+    /// overlay.push(&Record::way(5, []).version(2))?;
+    /// overlay.push(&Record::way(6, []))?;
+    /// overlay.delete(ElementKind::Way, 5, Some(3))?;
+    /// assert_eq!(overlay.deleted_versions(ElementKind::Way)?, [(5, Some(3))]);
+    /// assert_eq!(overlay.live_versions(ElementKind::Way)?, [(6, None)]);
+    /// # Ok::<(), torvaskin::Refusal>(())
+    /// ```
+    pub fn deleted_versions(&self, kind: ElementKind) -> Result<Vec<(i64, Option<i32>)>, Refusal> {
+        self.versions(kind, entry::deleted_ids)
+    }
+
+    /// Ids and known versions by an entry that fills two lists.
+    fn versions(
+        &self,
+        kind: ElementKind,
+        fill: fn(Shared<'_>, u8, &mut [u64], &mut [u64]) -> Number,
+    ) -> Result<Vec<(i64, Option<i32>)>, Refusal> {
+        let parts = self.storage.shared();
+        let most = parts.ids[kind as usize].len() / 3;
+        let (mut ids, mut versions) = (vec![0; most], vec![0; most]);
+        let count = value(fill(parts, kind as u8, &mut ids, &mut versions))?;
+        let known = ids.into_iter().zip(versions).map(|(id, word)| (id.cast_signed(), version_in(word)));
+        Ok(known.take(usize::try_from(count).unwrap_or(most)).collect())
     }
 
     /// The records of the live ids in OSM order, with one test of what is lent.
