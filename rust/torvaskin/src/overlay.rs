@@ -1,8 +1,8 @@
 //! The overlay.
 
-use crate::entry::{self, ArenaMeta, Part, PushHead};
+use crate::entry::{self, ArenaMeta, Number, Part, PushHead};
 use crate::record::{HAS_USER, HAS_VERSION, HIDDEN, PRESENT, cut};
-use crate::{Body, ElementKind, Handle, Metadata, Owned, Reason, Record, Refusal, Sizes, Storage};
+use crate::{Body, ElementKind, Handle, Metadata, Owned, Reason, Record, Refusal, Shared, Sizes, Storage};
 
 /// What is known of nodes, ways and relations, in storage that is allocated ([`Overlay::new`]) or lent ([`Overlay::set_up`]).
 ///
@@ -442,11 +442,16 @@ fn id_of(rank: u64) -> i64 {
     if rank <= DELETED { rank.cast_signed().wrapping_neg() } else { (rank - DELETED).cast_signed() }
 }
 
-fn value(reply: entry::Number) -> Result<u64, Refusal> {
+/// A version in a word; 2^32 and up is none.
+fn version_in(word: u64) -> Option<i32> {
+    u32::try_from(word).ok().map(u32::cast_signed)
+}
+
+fn value(reply: Number) -> Result<u64, Refusal> {
     Refusal::unless_taken(reply.number, 0, 0).map(|()| reply.value)
 }
 
-fn count(reply: entry::Number) -> Result<usize, Refusal> {
+fn count(reply: Number) -> Result<usize, Refusal> {
     usize::try_from(value(reply)?).map_err(|_| Refusal::UNSOUND)
 }
 
