@@ -12,7 +12,7 @@ listed-reply-requires : tie.Need-listed-reply-requires
 listed-reply-requires c κs = tt
 
 same-length : tie.Need-same-length
-same-length c = search needs
+same-length c = c .before .before .out .given
 
 returns : tie.Need-returns
 unfolding listingReply

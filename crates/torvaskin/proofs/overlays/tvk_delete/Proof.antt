@@ -1,4 +1,5 @@
 -- What `direct::delete` leaves and answers; or nothing changes, and 22 or 17 is replied.
+use mathlib.Core.Path.{refl}
 use Rattle.torvaskin.specs.Overlays.{deleteReply}
 use Rattle.torvaskin.proofs.Ids.{id-is}
 use Rattle.torvaskin.proofs.OverlayReplies.{replied-is, unknown-is}
@@ -28,13 +29,13 @@ unknown-requires : tie.Need-unknown-requires
 unknown-requires c κs = tt
 
 same-length : tie.Need-same-length
-same-length c = search needs
+same-length c = c .before .before .before .before .before .before .ni .given
 
 same-length-2 : tie.Need-same-length-2
-same-length-2 c = search needs
+same-length-2 c = c .before .before .before .before .wi .given
 
 same-length-3 : tie.Need-same-length-3
-same-length-3 c = search needs
+same-length-3 c = c .before .before .ri .given
 
 returns : tie.Need-returns
 unfolding deleteReply
@@ -44,13 +45,13 @@ returns c =
     rw (← w .before .before .kind-of-number .ensures, w .k .given .1) (replied-is (c .kept-reply .ensures) (rw d at (c .before .before .before .before .before .before .before .delete .ensures)))
 
 same-length-4 : tie.Need-same-length-4
-same-length-4 c = search needs
+same-length-4 c = refl
 
 same-length-5 : tie.Need-same-length-5
-same-length-5 c = search needs
+same-length-5 c = refl
 
 same-length-6 : tie.Need-same-length-6
-same-length-6 c = search needs
+same-length-6 c = refl
 
 returns-2 : tie.Need-returns-2
 unfolding deleteReply

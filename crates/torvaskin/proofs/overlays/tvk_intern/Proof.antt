@@ -12,10 +12,10 @@ handle-text-requires : tie.Need-handle-text-requires
 handle-text-requires c κs = tt
 
 same-length : tie.Need-same-length
-same-length c = search needs
+same-length c = c .before .before .before .before .ss .given
 
 same-length-2 : tie.Need-same-length-2
-same-length-2 c = search needs
+same-length-2 c = c .before .before .sb .given
 
 returns : tie.Need-returns
 unfolding internReply

@@ -12,7 +12,7 @@ kept-reply-requires : tie.Need-kept-reply-requires
 kept-reply-requires c κs = tt
 
 same-length : tie.Need-same-length
-same-length c = search needs
+same-length c = c .before .before .ss .given
 
 returns : tie.Need-returns
 unfolding setUpReply
