@@ -16,8 +16,8 @@ given s =
     let a = s .args in
     record {
       overlay = overlayOf (now (a .ni)) (now (a .na)) (now (a .wi)) (now (a .wa)) (now (a .ri)) (now (a .ra)) (now (a .ss)) (now (a .sb)) (now (a .us));
-      reader = a .reader;
-      parts = now (a .parts);
+      reader = a .fed .reader;
+      parts = now (a .ps);
     }
 
 lesser-requires : tie.Need-lesser-requires
@@ -55,9 +55,9 @@ same-length-8 c = search needs
 
 returns : tie.Need-returns
 returns c =
-    let s = c .before .before .before .before .before .before .before .before .before .before .before .before .before .before .before .before .before .before .before .before .before .before .before .before .before .before .before .before .before .before .before .before .before .before .before .before .before .before .before .before .before .before .before .before .before .before .before .before .before in
+    let s = c .before .before .before .before .before .before .before .before .before .before .before .before .before .before .before .before .before .before .before .before .before .before .before .before .before .before .before .before .before .before .before .before .before .before .before .before .before .before .before .before .before .before .before .before .before .before .before .before .before .before in
     let a = s .args in
-    let h = c .before .before .before .before .before .before .before .before .before .before .before .before .before .before .before .before .before .before .before .before .before .before .before .before .before .before .before .before .before .before .before .before .before .before .before .before .before .before .before .before .lesser in
+    let h = c .before .before .before .before .before .before .before .before .before .before .before .before .before .before .before .before .before .before .before .before .before .before .before .before .before .before .before .before .before .before .before .before .before .before .before .before .before .before .before .before .before .lesser in
     finished-by (record { state = given s; buffer = now (a .buffer); held = h .result }) _ (now (a .out)) _ (c .before .before .before .before .before .before .before .before .before .before .before .before .before .before .before .before .before .before .before .before .before .before .before .before .before .before .before .before .take-last .ensures) (c .put-end .ensures)
     ∙ ap (λ (n : ℕ). finishOn (now (a .out)) (record { state = given s; buffer = now (a .buffer); held = n })) (h .ensures)
 

@@ -17,17 +17,17 @@ given s =
     record {
       overlay = overlayOf (now (a .ni)) (now (a .na)) (now (a .wi)) (now (a .wa)) (now (a .ri)) (now (a .ra)) (now (a .ss)) (now (a .sb)) (now (a .us));
       reader = a .reader;
-      parts = now (a .parts);
+      parts = now (a .ps);
     }
 
 returns : tie.Need-returns
 returns c =
     let s = c .before .before .before .before .before .before .before .before .before .before in
-    last-none (record { state = given s; buffer = now (s .args .buffer); held = s .args .held }) (c .if1 .taken)
+    last-none (record { state = given s; buffer = now (s .args .buffer); held = s .args .n }) (c .if1 .taken)
 
 slice-aggregate-event : tie.Need-slice-aggregate-event
 slice-aggregate-event c =
-    let a = c .before .before .before .before .before .before .before .before .before .before .before .before .before .before .before .before .before .before .before .before .before .args in sym (length-take-le (a .held) (now (a .buffer)) (omega arith))
+    let a = c .before .before .before .before .before .before .before .before .before .before .before .before .before .before .before .before .before .before .before .before .before .args in sym (length-take-le (a .n) (now (a .buffer)) (omega arith))
 
 event-requires : tie.Need-event-requires
 event-requires c κs = search needs
@@ -59,7 +59,7 @@ same-length-8 c = search needs
 returns-2 : tie.Need-returns-2
 returns-2 c =
     let s = c .before .before .before .before .before .before .before .before .before .before .before .before .before .before .before .before .before .before .before .before .before .before .before .before .before .before .before .before .before .before .before .before .before .before .before .before .before .before .before in
-    last-event (record { state = given s; buffer = now (s .args .buffer); held = s .args .held }) (c .before .before .before .before .before .before .before .before .before .before .before .before .before .before .before .before .before .before .before .before .before .before .before .before .before .before .before .before .before .if1 .left) (s .pre) _ (c .before .before .before .before .before .before .before .before .before .before .before .before .before .before .before .before .before .event .ensures)
+    last-event (record { state = given s; buffer = now (s .args .buffer); held = s .args .n }) (c .before .before .before .before .before .before .before .before .before .before .before .before .before .before .before .before .before .before .before .before .before .before .before .before .before .before .before .before .before .if1 .left) (s .pre) _ (c .before .before .before .before .before .before .before .before .before .before .before .before .before .before .before .before .before .event .ensures)
 
 pub take-last-spec : {M : Type 1} → statement M
 take-last-spec =
