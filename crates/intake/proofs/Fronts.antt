@@ -1,22 +1,20 @@
 -- The lines of lent bytes and what is left of them; a piece in its buffer.
 use Prim.Native.Nat.{ℕ, _+_, _-_, _<_, _≤_, min}
-use mathlib.Core.Path.{_≡_, refl, sym, _∙_, ap}
-use mathlib.Core.Bool.{Bool, true, false}
+use mathlib.Core.Path.{_≡_, sym, _∙_, ap}
+use mathlib.Core.Bool.{true, false}
 use mathlib.Core.List.{List, [], _∷_, _++_}
 use native.Mathlib.Omega.{arith}
 use borrow.Author.Tests.{ltb-true, ltb-false}
 use lib.ListN.{length, take, drop, length-drop}
-use lib.Seq.{slice, take-all, take-length}
+use lib.Seq.{take-all, take-length}
 use Rattle.base.specs.Bytes.{Bytes}
 use Rattle.base.proofs.Split.{byLe, no}
-use Rattle.line.proofs.Lines.{lacks}
 use Rattle.lines.specs.Lines.{linesOf, restOf}
 use Rattle.little.specs.Little.{over}
 use Rattle.little.proofs.Overs.{length-over, used-over}
 use Rattle.lines.specs.Place.{Front, keepRest}
 use Rattle.lines.proofs.Lines.{rest-lacks}
 use Rattle.reader.specs.State.{State}
-use Rattle.reader.specs.declared.EventAnswer.{EventAnswer}
 use Rattle.reader.specs.declared.EventAnswer.the-variants as E
 use Rattle.reader.specs.Event.{EventResult, eventOn}
 use Rattle.reader.proofs.Answers.{byAnswer}
@@ -43,10 +41,13 @@ module _ (s : Bytes) (t : State) where
 
     -- it is short, or a line was refused
     pub took-lines : isOver (x .answer) (length s - at) ≡ false → Took x at
-    took-lines f = (byAnswer (x .answer)
-        (λ a. let h : length s - at ≤ 16384 = ltb-false 16384 (length s - at) (rw a at f) in
-        e ∙ ap (λ (ls : List Bytes). eventsOn ls t) (sym (lines-short s (omega (arith, h, rest-length a)))))
-        (λ r n a. e ∙ sym (lines-enough s t r n (ap (λ (z : EventResult). z .answer) (sym e) ∙ a))), rest-is)
+    took-lines f = (
+      byAnswer (x .answer)
+          (λ a. let h : length s - at ≤ 16384 = ltb-false 16384 (length s - at) (rw a at f) in
+          e ∙ ap (λ (ls : List Bytes). eventsOn ls t) (sym (lines-short s (omega (arith, h, rest-length a)))))
+          (λ r n a. e ∙ sym (lines-enough s t r n (ap (λ (z : EventResult). z .answer) (sym e) ∙ a))),
+      rest-is,
+    )
 
     -- it is too long, and refused
     pub took-rest : isOver (x .answer) (length s - at) ≡ true → (y : EventResult) → y ≡ eventOn (drop at s) (x .state) → (m : ℕ) → Took y m
@@ -58,10 +59,11 @@ module _ (s : Bytes) (t : State) where
         let b : eventsOn (linesOf s) t .answer ≡ E.Accepted = ap (λ (z : EventResult). z .answer) (sym e) ∙ a in
         let z : y ≡ eventOn (restOf s) (eventsOn (linesOf s) t .state) = g ∙ (λ i. eventOn (rest-is a i) (e i .state)) in
         long-refused (restOf s) l (rest-lacks s) (eventsOn (linesOf s) t .state) (λ r n w.
-        let v : y .answer ≡ E.Refused r n = ap (λ (q : EventResult). q .answer) z ∙ w in
-        (z ∙ sym (ap (λ (ls : List Bytes). eventsOn ls t) (lines-long s l) ∙ (events-more (linesOf s) (restOf s ∷ []) t b
-        ∙ (events-off (restOf s) [] (eventsOn (linesOf s) t .state) r n w ∙ (λ i. record { state = eventOn (restOf s) (eventsOn (linesOf s) t .state) .state; answer = sym w i })))),
-         λ u. let c = sym v ∙ u in no (cc))))
+        let v : y .answer ≡ E.Refused r n = ap (λ (q : EventResult). q .answer) z ∙ w in (
+          z ∙ sym (ap (λ (ls : List Bytes). eventsOn ls t) (lines-long s l) ∙ (events-more (linesOf s) (restOf s ∷ []) t b
+              ∙ (events-off (restOf s) [] (eventsOn (linesOf s) t .state) r n w ∙ (λ i. record { state = eventOn (restOf s) (eventsOn (linesOf s) t .state) .state; answer = sym w i })))),
+          λ u. let c = sym v ∙ u in no (cc),
+        )))
         (λ r n a. let c : false ≡ true = rw a at f in no (cc))
 
 -- ---- a piece in its buffer

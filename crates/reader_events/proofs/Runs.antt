@@ -11,8 +11,7 @@ use lib.Dec.{ltb}
 use lib.ListN.{length, drop}
 use lib.Seq.{slice}
 use Rattle.base.specs.Bytes.{Bytes, both, all}
-use Rattle.base.proofs.Split.{both-of, both-left, both-right, both-no-right, byLe, no}
-use Rattle.refusal.specs.declared.Refusal.{Refusal}
+use Rattle.base.proofs.Split.{both-of, both-left, both-right, both-no-right, byLe}
 use Rattle.refusal.specs.declared.Refusal.the-variants as R
 use Rattle.kind.specs.declared.Kind.{Kind}
 use Rattle.kind.specs.declared.Kind.the-variants.{Node, Way, Relation}
@@ -31,7 +30,7 @@ use Rattle.reader.specs.declared.EventAnswer.{EventAnswer}
 use Rattle.reader.specs.declared.EventAnswer.the-variants as E
 use Rattle.reader.specs.State.{State, readerSound, stateSound}
 use Rattle.reader.specs.Given.{StateGiven}
-use Rattle.reader.specs.Event.{EventResult, refusedAt, eventOn}
+use Rattle.reader.specs.Event.{EventResult, eventOn}
 use Rattle.reader.proofs.Answers.{byAnswer, event-22}
 use Rattle.reader.proofs.Acts.{Fine}
 use Rattle.reader.proofs.Keeps.{ReadyIn, event-fine, event-ready}

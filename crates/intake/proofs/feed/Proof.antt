@@ -1,5 +1,5 @@
 -- The piece is joined to what is held, its lines are taken in, and the rest is kept.
-use mathlib.Core.Path.{_≡_, sym, _∙_, ap}
+use mathlib.Core.Path.{_∙_, ap}
 use native.Mathlib.Omega.{arith}
 use lib.ListN.{length, take, length-take}
 use denote.Ref.{now}

@@ -2,7 +2,6 @@
 use mathlib.Core.Path.{_∙_, ap}
 use native.Mathlib.Omega.{arith}
 use denote.Ref.{now}
-use lib.ListN.{length, drop}
 use Rattle.base.specs.Bytes.{Bytes}
 use Rattle.legal.proofs.Fronts.{rest-of}
 use Rattle.overlay.specs.Overlay.{overlayOf}

@@ -56,9 +56,10 @@ same-length-8 c = c .before .sb2 .given ∙ c .before .before .before .before .b
 returns : tie.Need-returns
 returns c =
     let s = c .before .before .before .before .before .before .before .before .before .before .before .before .before .before .before .before .before .before .before .before .before .before .before .before .before .before .before .before .before .before .before .before .before .before .before .before .before .before .before .before .before .before .before .before .before .before .before .before .before .before .before .before .before .before .before .before .before .before .before .before .before .before .before .before .before .before in
-    let d = c .before .before .before .before .before .before .before .before .before .before .before .before .before .before .before .before .before .before .before .before .before .before .before .before .before .before .before .before .before .before .before .before .before .before .before .before .before .before .before .before .before .before .before .before .before .before .events-untested .ensures in
-    (λ g. took-rest (now (s .args .run)) (given s) _ _ (d .0 g) (d .1 .0 g) (sym (c .before .before .before .before .before .before .before .before .before .before .before .before .before .before .before .before .before .before .before .before .before .before .before .before .before .before .before .before .before .is-over .ensures) ∙ c .before .before .before .before .before .before .before .before .before .before .before .before .before .before .before .before .before .before .before .before .before .before .before .before .before .before .before .before .if1 .taken) _ (c .before .before .before .before .before .before .before .before .before .before .before .before .before .before .before .before .rest-event .ensures) (c .before .before .before .before .before .before .before .before .before .before .before .before .before .before .before .before .rest-event .result .taken) .0,
-     λ g. took-rest (now (s .args .run)) (given s) _ _ (d .0 g) (d .1 .0 g) (sym (c .before .before .before .before .before .before .before .before .before .before .before .before .before .before .before .before .before .before .before .before .before .before .before .before .before .before .before .before .before .is-over .ensures) ∙ c .before .before .before .before .before .before .before .before .before .before .before .before .before .before .before .before .before .before .before .before .before .before .before .before .before .before .before .before .if1 .taken) _ (c .before .before .before .before .before .before .before .before .before .before .before .before .before .before .before .before .rest-event .ensures) (c .before .before .before .before .before .before .before .before .before .before .before .before .before .before .before .before .rest-event .result .taken) .1)
+    let d = c .before .before .before .before .before .before .before .before .before .before .before .before .before .before .before .before .before .before .before .before .before .before .before .before .before .before .before .before .before .before .before .before .before .before .before .before .before .before .before .before .before .before .before .before .before .before .events-untested .ensures in (
+      λ g. took-rest (now (s .args .run)) (given s) _ _ (d .0 g) (d .1 .0 g) (sym (c .before .before .before .before .before .before .before .before .before .before .before .before .before .before .before .before .before .before .before .before .before .before .before .before .before .before .before .before .before .is-over .ensures) ∙ c .before .before .before .before .before .before .before .before .before .before .before .before .before .before .before .before .before .before .before .before .before .before .before .before .before .before .before .before .if1 .taken) _ (c .before .before .before .before .before .before .before .before .before .before .before .before .before .before .before .before .rest-event .ensures) (c .before .before .before .before .before .before .before .before .before .before .before .before .before .before .before .before .rest-event .result .taken) .0,
+      λ g. took-rest (now (s .args .run)) (given s) _ _ (d .0 g) (d .1 .0 g) (sym (c .before .before .before .before .before .before .before .before .before .before .before .before .before .before .before .before .before .before .before .before .before .before .before .before .before .before .before .before .before .is-over .ensures) ∙ c .before .before .before .before .before .before .before .before .before .before .before .before .before .before .before .before .before .before .before .before .before .before .before .before .before .before .before .before .if1 .taken) _ (c .before .before .before .before .before .before .before .before .before .before .before .before .before .before .before .before .rest-event .ensures) (c .before .before .before .before .before .before .before .before .before .before .before .before .before .before .before .before .rest-event .result .taken) .1,
+    )
 
 same-length-9 : tie.Need-same-length-9
 same-length-9 c = c .before .before .before .before .before .before .before .before .before .before .before .before .before .before .before .before .before .ni .given
@@ -87,9 +88,10 @@ same-length-16 c = c .before .before .before .sb .given
 returns-2 : tie.Need-returns-2
 returns-2 c =
     let s = c .before .before .before .before .before .before .before .before .before .before .before .before .before .before .before .before .before .before .before .before .before .before .before .before .before .before .before .before .before .before .before .before .before .before .before .before .before .before in
-    let d = c .before .before .before .before .before .before .before .before .before .before .before .before .before .before .before .before .before .before .events-untested .ensures in
-    (λ g. took-lines (now (s .args .run)) (given s) _ _ (d .0 g) (d .1 .0 g) (sym (c .before .is-over .ensures) ∙ c .if1 .left) .0,
-     λ g. took-lines (now (s .args .run)) (given s) _ _ (d .0 g) (d .1 .0 g) (sym (c .before .is-over .ensures) ∙ c .if1 .left) .1)
+    let d = c .before .before .before .before .before .before .before .before .before .before .before .before .before .before .before .before .before .before .events-untested .ensures in (
+      λ g. took-lines (now (s .args .run)) (given s) _ _ (d .0 g) (d .1 .0 g) (sym (c .before .is-over .ensures) ∙ c .if1 .left) .0,
+      λ g. took-lines (now (s .args .run)) (given s) _ _ (d .0 g) (d .1 .0 g) (sym (c .before .is-over .ensures) ∙ c .if1 .left) .1,
+    )
 
 pub take-lines-spec : {M : Type 1} → statement M
 take-lines-spec =

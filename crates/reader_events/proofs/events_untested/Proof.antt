@@ -82,9 +82,10 @@ same-length-8 c = c .before .loop .inv .0 .same-bytes
 returns : tie.Need-returns Inv-loop μ-loop
 returns c =
     let s = c .before .before .before .before .before .before .before .before .before .before .before in
-    let i = c .before .loop .inv .1 in
-    (λ g. run-all (now (s .args .run)) (given s) _ _ (run-by false (c .loop-test .left) (i .1 g)) .0,
-     (λ g. run-all (now (s .args .run)) (given s) _ _ (run-by false (c .loop-test .left) (i .1 g)) .1, i .0))
+    let i = c .before .loop .inv .1 in (
+      λ g. run-all (now (s .args .run)) (given s) _ _ (run-by false (c .loop-test .left) (i .1 g)) .0,
+      (λ g. run-all (now (s .args .run)) (given s) _ _ (run-by false (c .loop-test .left) (i .1 g)) .1, i .0),
+    )
 
 pub events-untested-spec : {M : Type 1} → statement M
 events-untested-spec =

@@ -87,9 +87,10 @@ returns-2 c =
     let s = c .before .before .before .before .before .before .before .before .before .before .before .before .before .before .before .before .before .before .before .before .before .before .before .before .before .before .before .before .before .before .before .before .before .before .before .before .before .before .before .before .before .before .before in
     let a = s .args in
     let e = sym (c .before .before .before .before .before .before .before .before .before .before .before .before .before .before .before .before .before .before .before .before .before .before .before .before .before .before .before .before .before .before .before .before .before .line-end .ensures) ∙ c .before .before .before .before .before .before .before .before .before .before .before .before .before .before .before .before .before .before .before .before .before .before .before .before .before .before .before .before .before .before .before .to .given .1 in
-    let n = next-line (now (a .run)) (a .at) _ e in
-    (λ g. point-line (now (a .run)) (a .at) (given s) _ e _ (event-part (now (a .run)) (a .at) (given s) _ (omega (arith, n .forward)) _ (c .before .before .before .before .before .before .before .before .before .before .before .before .before .before .before .before .before .before .line-event .ensures g)) _ (c .behind-line .ensures),
-     rw (c .behind-line .ensures) (behind-within (a .at) _ _ (c .before .before .before .before .before .before .before .before .before .before .before .before .before .before .before .before .before .before .line-event .result .answer) (s .pre) (n .within)))
+    let n = next-line (now (a .run)) (a .at) _ e in (
+      λ g. point-line (now (a .run)) (a .at) (given s) _ e _ (event-part (now (a .run)) (a .at) (given s) _ (omega (arith, n .forward)) _ (c .before .before .before .before .before .before .before .before .before .before .before .before .before .before .before .before .before .before .line-event .ensures g)) _ (c .behind-line .ensures),
+      rw (c .behind-line .ensures) (behind-within (a .at) _ _ (c .before .before .before .before .before .before .before .before .before .before .before .before .before .before .before .before .before .before .line-event .result .answer) (s .pre) (n .within)),
+    )
 
 pub next-event-spec : {M : Type 1} → statement M
 next-event-spec =

@@ -2,7 +2,6 @@
 use denote.Ref.{now}
 use Rattle.overlay.specs.Overlay.{Overlay, overlayOf}
 use Rattle.roadlist_page.proofs.Ends.{started-by}
-use borrow.Author.Needs.{needs}
 use Rattle.roadlist_page.proofs.start.Statement.{statement}
 use Rattle.roadlist_page.proofs.start.Tie as tie
 
@@ -19,7 +18,7 @@ fresh-reader-requires : tie.Need-fresh-reader-requires
 fresh-reader-requires c κs = tt
 
 same-length : tie.Need-same-length
-same-length c = search needs
+same-length c = c .before .before .ss .given
 
 returns : tie.Need-returns
 returns c =
