@@ -1,3 +1,3 @@
 pub mod Stops
 pub mod Pieces
-pub mod Walks
+pub mod Fronts

@@ -23,7 +23,9 @@ use Rattle.reader.specs.declared.EventAnswer.the-variants as E
 use Rattle.reader.specs.Event.{EventResult, eventOn}
 use Rattle.reader.proofs.Answers.{byAnswer}
 use Rattle.reader_events.specs.Events.{eventsOn}
+use Rattle.reader_events.specs.Runs.{RunGiven}
 use Rattle.intake.specs.Feed.{afterEvent, longLine, pieceLines, Intake, IntakeResult, keptLine, keptAfter, feedOn, readOn, stateAtEnd}
+use Rattle.reader_events.proofs.Runs.{given-after}
 use Rattle.reader_events.proofs.Onward.{events-none, events-off, events-more, events-enough}
 use Rattle.intake.proofs.Stops.{events-fold, events-still, long-same, long-refused, long-still}
 
@@ -130,7 +132,7 @@ module _ (f : Intake) (w : Holds f) (p : Bytes) where
 
 -- ---- pieces, read up to the first refusal
 
-module _ (f : Intake) (w : Holds f) (p : Bytes) (ps : List Bytes) where
+module _ (f : Intake) (p : Bytes) (ps : List Bytes) where
   read-on : feedOn p f .answer ≡ E.Accepted → readOn (p ∷ ps) f ≡ readOn ps (feedOn p f .intake)
   unfolding readOn
   read-on a = rw a
@@ -153,6 +155,27 @@ unfolding stateAtEnd
 reads-stream [] f w = ap stateAtEnd (read-nothing f)
 reads-stream (p ∷ ps) f w =
     byFed f w p
-    (λ g. ap stateAtEnd (read-on f w p ps (g .answered)) ∙ (reads-stream ps (feedOn p f .intake) (g .holds)
+    (λ g. ap stateAtEnd (read-on f p ps (g .answered)) ∙ (reads-stream ps (feedOn p f .intake) (g .holds)
     ∙ ap (λ (z : Stream State). afterEnd afterEvent (foldl (afterPiece afterEvent) z ps)) (g .stream)))
-    (λ g. ap stateAtEnd (read-off f w p ps (g .refusal) (g .line) (g .answered)) ∙ (end-nothing (feedOn p f .intake) (g .nothing) ∙ sym (g .final ps)))
+    (λ g. ap stateAtEnd (read-off f p ps (g .refusal) (g .line) (g .answered)) ∙ (end-nothing (feedOn p f .intake) (g .nothing) ∙ sym (g .final ps)))
+
+-- ---- what `feed` needs at each piece
+
+kept-state : (b s : Bytes) (a : EventAnswer) (t : State) → keptAfter b s a t .intake .state ≡ t
+kept-state b s E.Accepted t = refl
+kept-state b s (E.Refused r n) t = refl
+
+-- a state that is sound but for its count of lines stays so
+pub feed-given : (p : Bytes) (f : Intake) → RunGiven (f .state) → RunGiven (feedOn p f .intake .state)
+unfolding feedOn
+feed-given p f w =
+    let s = keptLine f ++ p in
+    let a = eventsOn (pieceLines s) (f .state) in
+    rw (kept-state (over (f .buffer) (f .held) p) s (a .answer) (a .state)) (given-after (pieceLines s) (f .state) w)
+
+pub reads-given : (ps : List Bytes) (f : Intake) → RunGiven (f .state) → RunGiven (readOn ps f .state)
+reads-given [] f w = rw (read-nothing f) w
+reads-given (p ∷ ps) f w =
+    byAnswer (feedOn p f .answer)
+    (λ a. rw (read-on f p ps a) (reads-given ps (feedOn p f .intake) (feed-given p f w)))
+    (λ r n a. rw (read-off f p ps r n a) (feed-given p f w))

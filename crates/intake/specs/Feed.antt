@@ -1,21 +1,17 @@
 -- An input in pieces: the whole lines of a piece are events, up to the first that is refused; the unfinished line is kept for the next piece. A line of more than 16,384
 -- bytes is refused 2 as soon as 16,385 of them are there, so what is kept is never longer.
-use Prim.Native.Nat.{ℕ, _-_}
-use mathlib.Core.Bool.{Bool, true, false, cond}
+use Prim.Native.Nat.{ℕ}
+use mathlib.Core.Bool.{cond}
 use mathlib.Core.List.{List, [], _∷_, _++_, foldl}
 use lib.Dec.{leb}
 use lib.ListN.{length, take}
-use lib.Seq.{slice}
 use Rattle.base.specs.Bytes.{Bytes}
 use Rattle.little.specs.Little.{over}
 use Rattle.lines.specs.Lines.{linesOf, restOf, lastLine}
-use Rattle.lines.specs.Place.{lineEnd}
-use Rattle.lines.specs.declared.LineEnd.{LineEnd}
-use Rattle.lines.specs.declared.LineEnd.the-variants.{At, None}
 use Rattle.reader.specs.State.{State}
 use Rattle.reader.specs.declared.EventAnswer.{EventAnswer}
 use Rattle.reader.specs.declared.EventAnswer.the-variants as E
-use Rattle.reader.specs.Event.{EventResult, eventOn}
+use Rattle.reader.specs.Event.{eventOn}
 use Rattle.reader_events.specs.Events.{eventsOn}
 
 -- a line is an event
@@ -29,29 +25,6 @@ longLine rest = cond (leb (length rest) 16384) [] (rest ∷ [])
 -- the lines that bytes without an end give
 unfoldable pub pieceLines : Bytes → List Bytes
 pieceLines s = linesOf s ++ longLine (restOf s)
-
--- ---- the same where the lines lie, one at a time
-
-abbrev pub isAccepted : EventAnswer → Bool
-isAccepted E.Accepted = true
-isAccepted (E.Refused r n) = false
-
--- an event, the place behind it, and whether lines may follow
-pub record Walked : Type 0 where
-  pub result : EventResult
-  pub at : ℕ
-  pub more : Bool
-
-abbrev pub lineEventFrom : Bytes → ℕ → ℕ → State → Walked
-lineEventFrom s at end t = let a = eventOn (slice at end s) t in record { result = a; at = end; more = isAccepted (a .answer) }
-
-abbrev pub lineFrom : Bytes → ℕ → State → LineEnd → Walked
-lineFrom s at t (At end) = lineEventFrom s at end t
-lineFrom s at t None = cond (leb (length s - at) 16384) (record { result = record { state = t; answer = E.Accepted }; at = at; more = false }) (lineEventFrom s at (length s) t)
-
--- the next line from a place on, or what is left where it is already too long
-unfoldable pub lineOn : Bytes → ℕ → State → Walked
-lineOn s at t = lineFrom s at t (lineEnd s at)
 
 -- ---- a piece
 

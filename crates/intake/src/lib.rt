@@ -6,33 +6,29 @@ ghost use Rattle.little.specs.Little.{over};
 ghost use Rattle.overlay.specs.Overlay.{lent, left};
 ghost use Rattle.lines.specs.Lines.{restOf};
 ghost use Rattle.reader.specs.declared.EventAnswer.the-variants.{Accepted};
+ghost use Rattle.reader.specs.Event.{eventOn};
 ghost use Rattle.reader_events.specs.Events.{eventsOn};
-ghost use Rattle.intake.specs.Feed.{isAccepted, lineEventFrom, lineOn, pieceLines, feedOn};
-use lines::LineEnd;
+ghost use Rattle.reader_events.specs.Runs.{RunGiven};
+ghost use Rattle.intake.specs.Feed.{pieceLines, feedOn};
+ghost use Rattle.intake.specs.Fronts.{isOver, keptFront};
 use reader::EventAnswer;
 use reader::EventReader;
+use reader_events::EventsDone;
 
 // ---- the lines of lent bytes
 
-// Where the events of lent bytes have come to: the reader, the place behind what was taken in, what the last event answered, and whether lines may follow.
-struct Walk {
-    reader: EventReader,
-    at: usize,
-    answer: EventAnswer,
-    more: bool,
-}
-
-fn is_accepted(answer: EventAnswer) -> bool
-    ensures { λ r. ⌜ r ≡ isAccepted answer ⌝ }
+// Whether what is left behind lines that were accepted is already too long for a line.
+fn is_over(answer: EventAnswer, rest: usize) -> bool
+    ensures { λ r. ⌜ r ≡ isOver answer rest ⌝ }
 {
     match answer {
-        EventAnswer::Accepted => true,
+        EventAnswer::Accepted => 16384 < rest,
         EventAnswer::Refused(refusal, line) => false,
     }
 }
 
-// The bytes from one place up to another as an event.
-fn take_event(
+// What is left from a place on as an event. It is not taken.
+fn rest_event(
     ni: &mut [u64],
     na: &mut [u8],
     wi: &mut [u64],
@@ -42,106 +38,26 @@ fn take_event(
     ss: &mut [u64],
     sb: &mut [u8],
     us: &mut [u64; 9],
-    parts: &mut [u8; 44432],
+    ps: &mut [u8; 44432],
     reader: EventReader,
-    lines: &[u8],
+    run: &[u8],
     at: usize,
-    end: usize,
-) -> Walk
-    requires { ⌜ at ≤ end ⌝ }
-    requires { ⌜ end ≤ length (now lines) ⌝ }
-    ensures { λ r. ⌜ record { result = record { state = record { overlay = left ni na wi wa ri ra ss sb us; reader = r .reader; parts = now (parts .exit) }; answer = r .answer }; at = r .at; more = r .more }
-        ≡ lineEventFrom (now (lines .entry)) at end (record { overlay = lent ni na wi wa ri ra ss sb us; reader = reader; parts = now (parts .entry) }) ⌝ }
+) -> EventsDone
+    requires { ⌜ at ≤ length (now run) ⌝ }
+    ensures { λ r. ⌜ record { state = record { overlay = left ni na wi wa ri ra ss sb us; reader = r .reader; parts = now (ps .exit) }; answer = r .answer }
+        ≡ eventOn (drop at (now (run .entry))) (record { overlay = lent ni na wi wa ri ra ss sb us; reader = reader; parts = now (ps .entry) }) ⌝ }
 {
-    let done = reader_calls::event(
-        ni,
-        na,
-        wi,
-        wa,
-        ri,
-        ra,
-        ss,
-        sb,
-        us,
-        parts,
-        reader,
-        &lines[at..end],
-    );
+    let done = reader_calls::event(ni, na, wi, wa, ri, ra, ss, sb, us, ps, reader, &run[at..]);
     let reader = done.reader;
     let answer = done.answer;
-    Walk {
+    EventsDone {
         reader,
-        at: end,
         answer,
-        more: is_accepted(answer),
+        taken: at,
     }
 }
 
-// The next line as an event. Where there is none, what is left is an event if it is already too long.
-fn take_line(
-    ni: &mut [u64],
-    na: &mut [u8],
-    wi: &mut [u64],
-    wa: &mut [u8],
-    ri: &mut [u64],
-    ra: &mut [u8],
-    ss: &mut [u64],
-    sb: &mut [u8],
-    us: &mut [u64; 9],
-    parts: &mut [u8; 44432],
-    reader: EventReader,
-    lines: &[u8],
-    at: usize,
-) -> Walk
-    requires { ⌜ at ≤ length (now lines) ⌝ }
-    ensures { λ r. ⌜ record { result = record { state = record { overlay = left ni na wi wa ri ra ss sb us; reader = r .reader; parts = now (parts .exit) }; answer = r .answer }; at = r .at; more = r .more }
-        ≡ lineOn (now (lines .entry)) at (record { overlay = lent ni na wi wa ri ra ss sb us; reader = reader; parts = now (parts .entry) }) ⌝ }
-{
-    let LineEnd::At(end) = lines::line_end(lines, at) else {
-        if lines.len() - at <= 16384 {
-            return Walk {
-                reader,
-                at,
-                answer: EventAnswer::Accepted,
-                more: false,
-            };
-        }
-        return take_event(
-            ni,
-            na,
-            wi,
-            wa,
-            ri,
-            ra,
-            ss,
-            sb,
-            us,
-            parts,
-            reader,
-            lines,
-            at,
-            lines.len(),
-        );
-    };
-    take_event(
-        ni,
-        na,
-        wi,
-        wa,
-        ri,
-        ra,
-        ss,
-        sb,
-        us,
-        parts,
-        reader,
-        lines,
-        at,
-        end,
-    )
-}
-
-// All lines, up to the first event that is refused; where none is, what is left from the answer's place on is the unfinished line.
+// The whole lines as events, up to the first that is refused, and then what is left where it is already too long. Where nothing is refused, what is left is the unfinished line.
 fn take_lines(
     ni: &mut [u64],
     na: &mut [u8],
@@ -152,26 +68,24 @@ fn take_lines(
     ss: &mut [u64],
     sb: &mut [u8],
     us: &mut [u64; 9],
-    parts: &mut [u8; 44432],
+    ps: &mut [u8; 44432],
     reader: EventReader,
-    lines: &[u8],
-) -> Walk
-    ensures { λ r. ⌜ record { state = record { overlay = left ni na wi wa ri ra ss sb us; reader = r .reader; parts = now (parts .exit) }; answer = r .answer }
-        ≡ eventsOn (pieceLines (now (lines .entry))) (record { overlay = lent ni na wi wa ri ra ss sb us; reader = reader; parts = now (parts .entry) }) ⌝ }
-    ensures { λ r. ⌜ (r .answer ≡ Accepted → drop (r .at) (now (lines .entry)) ≡ restOf (now (lines .entry))) ⌝ }
+    run: &[u8],
+) -> EventsDone
+    ensures { λ r. ⌜ (RunGiven (record { overlay = lent ni na wi wa ri ra ss sb us; reader = reader; parts = now (ps .entry) })
+        → record { state = record { overlay = left ni na wi wa ri ra ss sb us; reader = r .reader; parts = now (ps .exit) }; answer = r .answer }
+        ≡ eventsOn (pieceLines (now (run .entry))) (record { overlay = lent ni na wi wa ri ra ss sb us; reader = reader; parts = now (ps .entry) })) ⌝ }
+    ensures { λ r. ⌜ (RunGiven (record { overlay = lent ni na wi wa ri ra ss sb us; reader = reader; parts = now (ps .entry) })
+        → r .answer ≡ Accepted → drop (r .taken) (now (run .entry)) ≡ restOf (now (run .entry))) ⌝ }
 {
-    let mut walk = Walk {
-        reader,
-        at: 0,
-        answer: EventAnswer::Accepted,
-        more: true,
-    };
-    while walk.more {
-        let reader = walk.reader;
-        let at = walk.at;
-        walk = take_line(ni, na, wi, wa, ri, ra, ss, sb, us, parts, reader, lines, at);
+    let done = reader_events::events_untested(ni, na, wi, wa, ri, ra, ss, sb, us, ps, reader, run);
+    let answer = done.answer;
+    let at = done.taken;
+    if is_over(answer, run.len() - at) {
+        let reader = done.reader;
+        return rest_event(ni, na, wi, wa, ri, ra, ss, sb, us, ps, reader, run, at);
     }
-    walk
+    done
 }
 
 // Of a buffer only the first bytes, as many as there are.
@@ -185,30 +99,19 @@ fn take_front(
     ss: &mut [u64],
     sb: &mut [u8],
     us: &mut [u64; 9],
-    parts: &mut [u8; 44432],
+    ps: &mut [u8; 44432],
     reader: EventReader,
     buffer: &[u8],
-    filled: usize,
-) -> Walk
-    requires { ⌜ filled ≤ length (now buffer) ⌝ }
-    ensures { λ r. ⌜ record { state = record { overlay = left ni na wi wa ri ra ss sb us; reader = r .reader; parts = now (parts .exit) }; answer = r .answer }
-        ≡ eventsOn (pieceLines (take filled (now (buffer .entry)))) (record { overlay = lent ni na wi wa ri ra ss sb us; reader = reader; parts = now (parts .entry) }) ⌝ }
-    ensures { λ r. ⌜ (r .answer ≡ Accepted → drop (r .at) (take filled (now (buffer .entry))) ≡ restOf (take filled (now (buffer .entry)))) ⌝ }
+    n: usize,
+) -> EventsDone
+    requires { ⌜ n ≤ length (now buffer) ⌝ }
+    ensures { λ r. ⌜ (RunGiven (record { overlay = lent ni na wi wa ri ra ss sb us; reader = reader; parts = now (ps .entry) })
+        → record { state = record { overlay = left ni na wi wa ri ra ss sb us; reader = r .reader; parts = now (ps .exit) }; answer = r .answer }
+        ≡ eventsOn (pieceLines (take n (now (buffer .entry)))) (record { overlay = lent ni na wi wa ri ra ss sb us; reader = reader; parts = now (ps .entry) })) ⌝ }
+    ensures { λ r. ⌜ (RunGiven (record { overlay = lent ni na wi wa ri ra ss sb us; reader = reader; parts = now (ps .entry) })
+        → r .answer ≡ Accepted → drop (r .taken) (take n (now (buffer .entry))) ≡ restOf (take n (now (buffer .entry)))) ⌝ }
 {
-    take_lines(
-        ni,
-        na,
-        wi,
-        wa,
-        ri,
-        ra,
-        ss,
-        sb,
-        us,
-        parts,
-        reader,
-        &buffer[..filled],
-    )
+    take_lines(ni, na, wi, wa, ri, ra, ss, sb, us, ps, reader, &buffer[..n])
 }
 
 // ---- a piece of the input
@@ -232,8 +135,18 @@ fn join_piece(buffer: &mut [u8], held: usize, piece: &[u8], got: usize) -> usize
     held + n
 }
 
+// What is held after lines that lay in a buffer: the bytes from one place up to another, moved to its front; after a refusal none.
+fn keep_front(buffer: &mut [u8], answer: EventAnswer, from: usize, to: usize) -> usize
+    ensures { λ r. ⌜ record { buffer = now (buffer .exit); kept = r } ≡ keptFront answer (now (buffer .entry)) from to ⌝ }
+{
+    match answer {
+        EventAnswer::Accepted => lines::keep_rest(buffer, from, to),
+        EventAnswer::Refused(refusal, line) => 0,
+    }
+}
+
 // A piece of the input, of which so many bytes were read: its whole lines are events, up to the first that is refused, and the unfinished line is held at the front
-// of the buffer. Of the bytes held so far at most 16,384 count.
+// of the buffer. Of the bytes held so far at most 16,384 count. Soundness is not tested: for a caller who knows that the state is sound but for its count of lines.
 pub fn feed(
     ni: &mut [u64],
     na: &mut [u8],
@@ -244,49 +157,26 @@ pub fn feed(
     ss: &mut [u64],
     sb: &mut [u8],
     us: &mut [u64; 9],
-    parts: &mut [u8; 44432],
-    reader: EventReader,
+    ps: &mut [u8; 44432],
+    fed: Fed,
     buffer: &mut [u8; 81920],
-    held: usize,
     piece: &[u8; 65536],
     got: usize,
 ) -> Fed
-    ensures { λ r. ⌜ record {
-      intake = record { state = record { overlay = left ni na wi wa ri ra ss sb us; reader = r .reader; parts = now (parts .exit) }; buffer = now (buffer .exit); held = r .held };
-      answer = r .answer;
-    }
-        ≡ feedOn (take got (now (piece .entry))) (record { state = record { overlay = lent ni na wi wa ri ra ss sb us; reader = reader; parts = now (parts .entry) }; buffer = now (buffer .entry); held = min held 16384 }) ⌝ }
+    ensures { λ r. ⌜ (RunGiven (record { overlay = lent ni na wi wa ri ra ss sb us; reader = fed .reader; parts = now (ps .entry) })
+        → record { intake = record { state = record { overlay = left ni na wi wa ri ra ss sb us; reader = r .reader; parts = now (ps .exit) }; buffer = now (buffer .exit); held = r .held }; answer = r .answer }
+        ≡ feedOn (take got (now (piece .entry))) (record { state = record { overlay = lent ni na wi wa ri ra ss sb us; reader = fed .reader; parts = now (ps .entry) }; buffer = now (buffer .entry); held = min (fed .held) 16384 })) ⌝ }
 {
-    let held = little::lesser(held, 16384);
-    let filled = join_piece(buffer, held, piece, got);
-    let walk = take_front(
-        ni,
-        na,
-        wi,
-        wa,
-        ri,
-        ra,
-        ss,
-        sb,
-        us,
-        parts,
-        reader,
-        buffer,
-        filled,
-    );
-    let reader = walk.reader;
-    let answer = walk.answer;
-    if is_accepted(answer) {
-        let rest = lines::keep_rest(buffer, walk.at, filled);
-        return Fed {
-            reader,
-            held: rest,
-            answer,
-        };
-    }
+    let held = little::lesser(fed.held, 16384);
+    let n = join_piece(buffer, held, piece, got);
+    let reader = fed.reader;
+    let done = take_front(ni, na, wi, wa, ri, ra, ss, sb, us, ps, reader, buffer, n);
+    let reader = done.reader;
+    let answer = done.answer;
+    let held = keep_front(buffer, answer, done.taken, n);
     Fed {
         reader,
-        held: 0,
+        held,
         answer,
     }
 }

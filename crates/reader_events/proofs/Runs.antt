@@ -1,5 +1,5 @@
--- The lines of a run, one at a time: what is to come from the present place on, after the present state, is what all lines come to. Soundness is tested once, since an accepted
--- event keeps it, but for the count of lines.
+-- The lines of a run, one at a time: what is to come from the present place on, after the present state, is what all lines come to. Soundness is tested once, since an event
+-- keeps it, but for the count of lines.
 use Prim.Native.Nat.{ℕ, _+_, _-_, _<_, _≤_}
 use mathlib.Core.Path.{_≡_, refl, sym, _∙_, ap, subst}
 use mathlib.Core.Bool.{Bool, true, false, cond}
@@ -7,11 +7,11 @@ use mathlib.Core.List.{List, [], _∷_}
 use native.Mathlib.Omega.{arith}
 use borrow.Author.Tests.{lt-ltb, le-ltb}
 use borrow.Rule.Slice.PartMut.{midOf}
+use lib.Dec.{ltb}
 use lib.ListN.{length, drop}
 use lib.Seq.{slice}
 use Rattle.base.specs.Bytes.{Bytes, both, all}
-use Rattle.base.proofs.Split.{both-of, both-left, both-right, both-no-right, no}
-use Rattle.refusal.specs.declared.Refusal.{Refusal}
+use Rattle.base.proofs.Split.{both-of, both-left, both-right, both-no-right, byLe}
 use Rattle.refusal.specs.declared.Refusal.the-variants as R
 use Rattle.kind.specs.declared.Kind.{Kind}
 use Rattle.kind.specs.declared.Kind.the-variants.{Node, Way, Relation}
@@ -26,27 +26,24 @@ use Rattle.overlay.specs.Overlay.{overlayOf, kindStoreOf}
 use Rattle.compact.specs.declared.ArenaMeta.{ArenaMeta}
 use Rattle.compact.specs.declared.PushHead.{PushHead}
 use Rattle.overlay.specs.Given.{InBytes, headFits, metaFits}
-use Rattle.reader.specs.declared.Stop.the-variants as S
 use Rattle.reader.specs.declared.EventAnswer.{EventAnswer}
 use Rattle.reader.specs.declared.EventAnswer.the-variants as E
-use Rattle.reader.specs.State.{State, isStopped, readerSound, stateSound}
+use Rattle.reader.specs.State.{State, readerSound, stateSound}
 use Rattle.reader.specs.Given.{StateGiven}
-use Rattle.reader.specs.Event.{EventResult, refusedAt, stepped, eventOn}
-use Rattle.reader.proofs.Answers.{stepAt, byAnswer, event-22, event-stopped, event-going, event-counts}
+use Rattle.reader.specs.Event.{EventResult, eventOn}
+use Rattle.reader.proofs.Answers.{byAnswer, event-22}
 use Rattle.reader.proofs.Acts.{Fine}
 use Rattle.reader.proofs.Keeps.{ReadyIn, event-fine, event-ready}
-use Rattle.reader_sound.specs.Mark.{stopMark}
-use Rattle.reader_sound.proofs.Mark.{unmarked, marked}
 use Rattle.reader_events.specs.Events.{eventsOn, takenBytes}
-use Rattle.reader_events.specs.Runs.{RunPoint, pointAfter, pointOn, RunGiven}
+use Rattle.reader_events.specs.Runs.{RunGiven, RunPoint, behindLine, pointOn}
 use Rattle.reader_events.proofs.Onward.{events-on, taken-on, events-off, taken-off, events-none, taken-none}
 
 -- ---- what is tested once
 
 module _ (s : State) where
-  pub sound-given : stateSound s ≡ true → stopMark (s .reader .stop) ≡ S.Going → RunGiven s
+  pub sound-given : stateSound s ≡ true → StateGiven s → RunGiven s
   unfolding stateSound readerSound
-  sound-given e g = record { overlay = both-left _ _ e; pending = both-left _ _ (both-right _ _ e); going = unmarked (s .reader .stop) g }
+  sound-given e g = record { overlay = both-left _ _ e; pending = both-left _ _ (both-right _ _ e); bounds = g }
 
   pub given-sound : RunGiven s → s .reader .lines < 18446744073709551615 → stateSound s ≡ true
   unfolding stateSound readerSound
@@ -55,6 +52,31 @@ module _ (s : State) where
   pub counted-out : 18446744073709551615 ≤ s .reader .lines → stateSound s ≡ false
   unfolding stateSound readerSound
   counted-out n = both-no-right _ (both-no-right _ (le-ltb (s .reader .lines) 18446744073709551615 n))
+
+  -- the same in two parts
+  pub given-of : Fine (s .overlay) → ReadyIn s → RunGiven s
+  given-of f r = record { overlay = f .sound; pending = r .sound; bounds = record { overlay = f .bytes; reader = r .given } }
+
+  fine : RunGiven s → Fine (s .overlay)
+  fine w = record { sound = w .overlay; bytes = w .bounds .overlay }
+
+  ready : RunGiven s → ReadyIn s
+  ready w = record { given = w .bounds .reader; sound = w .pending }
+
+  -- an event keeps it, accepted or refused
+  pub given-on : (line : Bytes) → RunGiven s → RunGiven (eventOn line s .state)
+  given-on line w =
+      let f = event-fine line s (fine w) (ready w) in
+      let r = event-ready line s (fine w) (ready w) in
+      record { overlay = f .sound; pending = r .sound; bounds = record { overlay = f .bytes; reader = r .given } }
+
+-- and so do lines up to the first that is refused
+pub given-after : (ls : List Bytes) (s : State) → RunGiven s → RunGiven (eventsOn ls s .state)
+given-after [] s w = rw (events-none s) w
+given-after (l ∷ ls) s w =
+    byAnswer (eventOn l s .answer)
+    (λ a. rw (events-on l ls s a) (given-after ls (eventOn l s .state) (given-on s l w)))
+    (λ r n a. rw (events-off l ls s r n a) (given-on s l w))
 
 -- the bytes of lent slices are bytes
 pub lent-bytes : (ni : List ℕ) (na : Bytes) (wi : List ℕ) (wa : Bytes) (ri : List ℕ) (ra : Bytes) (spans : List ℕ) (bytes : Bytes) (used : List ℕ)
@@ -81,43 +103,29 @@ meta-fits m flags version timestamp changeset uid user =
 
 module _ (run : Bytes) (at : ℕ) (s : State) where
   -- an event over a part that is lent
-  module _ (end : ℕ) (h : at ≤ end) (u : stateSound s ≡ true) (g : isStopped (s .reader .stop) ≡ false) (x : EventResult) (e : x ≡ stepped s (stepAt (midOf at (end - at) run) s)) where
-    abbrev there : EventResult
-    there = eventOn (slice at end run) s
+  pub event-part : (to : ℕ) → at ≤ to → (x : EventResult) → x ≡ eventOn (midOf at (to - at) run) s → x ≡ eventOn (slice at to run) s
+  event-part to h x e = rw (lent-is at to run h) at e
 
-    point-part : pointAfter at end (x .answer) (x .state) ≡ pointAfter at end (there .answer) (there .state)
-    point-part =
-        let q : x ≡ there = rw (lent-is at end run h) at (e ∙ sym (event-going (midOf at (end - at) run) s u g)) in
-        ap (λ (z : EventResult). pointAfter at end (z .answer) (z .state)) q
-
-    pub point-accepted : x .answer ≡ E.Accepted → _≡_ {A = RunPoint} (record { result = x; at = end; more = true }) (pointAfter at end (there .answer) (there .state))
-    point-accepted a =
-        (λ i. record { result = record { state = x .state; answer = a i }; at = end; more = true })
-        ∙ (ap (λ (z : EventAnswer). pointAfter at end z (x .state)) (sym a) ∙ point-part)
-
-    pub point-refused : (r : Refusal) (n : ℕ) → x .answer ≡ E.Refused r n
-        → _≡_ {A = RunPoint} (record { result = record { state = x .state; answer = E.Refused r n }; at = at; more = false }) (pointAfter at end (there .answer) (there .state))
-    point-refused r n a = ap (λ (z : EventAnswer). pointAfter at end z (x .state)) (sym a) ∙ point-part
-
-  pub point-line : (end : ℕ) → lineEnd run at ≡ At end → pointOn run at s ≡ pointAfter at end (eventOn (slice at end run) s .answer) (eventOn (slice at end run) s .state)
+  pub point-line : (to : ℕ) → lineEnd run at ≡ At to → (x : EventResult) → x ≡ eventOn (slice at to run) s → (n : ℕ) → n ≡ behindLine at to (x .answer)
+      → record { result = x; taken = n } ≡ pointOn run at s
   unfolding pointOn
-  point-line end e = rw e
+  point-line to e x f n g = rw e (let m : n ≡ behindLine at to (eventOn (slice at to run) s .answer) = g ∙ ap (λ (z : EventResult). behindLine at to (z .answer)) f in λ i. record { result = f i; taken = m i })
 
-  pub point-none : lineEnd run at ≡ None → pointOn run at s ≡ record { result = record { state = s; answer = E.Accepted }; at = at; more = false }
+  pub point-none : lineEnd run at ≡ None → record { result = record { state = s; answer = E.Accepted }; taken = at } ≡ pointOn run at s
   unfolding pointOn
   point-none e = rw e
 
-  -- a reader whose line count is at its largest
-  pub point-22 : (end : ℕ) → lineEnd run at ≡ At end → 18446744073709551615 ≤ s .reader .lines
-      → pointOn run at s ≡ record { result = refusedAt s R.Unsound 0; at = at; more = false }
-  point-22 end e n = point-line end e ∙ ap (λ (z : EventResult). pointAfter at end (z .answer) (z .state)) (event-22 (slice at end run) s (counted-out s n))
-
-  byLine : {C : Type 0} → ((end : ℕ) → lineEnd run at ≡ At end → C) → (lineEnd run at ≡ None → C) → C
+  byLine : {C : Type 0} → ((to : ℕ) → lineEnd run at ≡ At to → C) → (lineEnd run at ≡ None → C) → C
   byLine {C} f g = go (lineEnd run at) refl
     where
       go : (l : LineEnd) → lineEnd run at ≡ l → C
-      go (At end) e = f end e
+      go (At to) e = f to e
       go None e = g e
+
+-- the place behind a line lies in its run
+pub behind-within : (at to n : ℕ) (a : EventAnswer) → at ≤ n → to ≤ n → behindLine at to a ≤ n
+behind-within at to n E.Accepted h k = k
+behind-within at to n (E.Refused r m) h k = h
 
 -- ---- the first line, before which all is tested
 
@@ -128,49 +136,17 @@ module _ (run : Bytes) (s : State) where
   pub came-none : lineEnd run 0 ≡ None → Came s E.Accepted 0
   came-none e = let n : linesOf run ≡ [] = no-line run 0 e .0 in (rw n (sym (events-none s)), rw n (sym (taken-none s)))
 
-  module _ (end : ℕ) (e : lineEnd run 0 ≡ At end) where
-    came-refused : (r : Refusal) (n : ℕ) → eventOn (slice 0 end run) s ≡ refusedAt s r n → Came s (E.Refused r n) 0
-    came-refused r n w =
-        let f : linesOf run ≡ slice 0 end run ∷ linesOf (drop end run) = next-line run 0 end e .first in
-        let a : eventOn (slice 0 end run) s .answer ≡ E.Refused r n = ap (λ (z : EventResult). z .answer) w in
-        let t : eventOn (slice 0 end run) s .state ≡ s = ap (λ (z : EventResult). z .state) w in (
-          rw f (sym (events-off (slice 0 end run) (linesOf (drop end run)) s r n a ∙ ap (λ (z : State). record { state = z; answer = E.Refused r n }) t)),
-          rw f (sym (taken-off (slice 0 end run) (linesOf (drop end run)) s r n a)),
-        )
-
-    pub came-22 : stateSound s ≡ false → Came s (E.Refused R.Unsound 0) 0
-    came-22 u = came-refused R.Unsound 0 (event-22 (slice 0 end run) s u)
-
-    pub came-stopped : stateSound s ≡ true → (r : Refusal) (n : ℕ) → stopMark (s .reader .stop) ≡ S.At r n → Came s (E.Refused r n) 0
-    came-stopped u r n g = let m = marked (s .reader .stop) r n g in came-refused r n (event-stopped (slice 0 end run) s r n u (m .0) (m .1))
+  pub came-22 : (to : ℕ) → lineEnd run 0 ≡ At to → stateSound s ≡ false → Came s (E.Refused R.Unsound 0) 0
+  came-22 to e u =
+      let f : linesOf run ≡ slice 0 to run ∷ linesOf (drop to run) = next-line run 0 to e .first in
+      let w = event-22 (slice 0 to run) s u in
+      let a : eventOn (slice 0 to run) s .answer ≡ E.Refused R.Unsound 0 = ap (λ (z : EventResult). z .answer) w in
+      let t : eventOn (slice 0 to run) s .state ≡ s = ap (λ (z : EventResult). z .state) w in (
+        rw f (sym (events-off (slice 0 to run) (linesOf (drop to run)) s R.Unsound 0 a ∙ ap (λ (z : State). record { state = z; answer = E.Refused R.Unsound 0 }) t)),
+        rw f (sym (taken-off (slice 0 to run) (linesOf (drop to run)) s R.Unsound 0 a)),
+      )
 
 -- ---- all lines
-
--- what an accepted event keeps
-pub record Keeping (s : State) : Type 0 where
-  pub fine : Fine (s .overlay)
-  pub ready : ReadyIn s
-  pub going : isStopped (s .reader .stop) ≡ false
-
-module _ (s : State) where
-  pub keeping : RunGiven s → StateGiven s → Keeping s
-  keeping w g =
-      record {
-        fine = record { sound = w .overlay; bytes = g .overlay };
-        ready = record { given = g .reader; sound = w .pending };
-        going = w .going;
-      }
-
-  pub keeping-given : Keeping s → RunGiven s
-  keeping-given k = record { overlay = k .fine .sound; pending = k .ready .sound; going = k .going }
-
-  keeping-on : (line : Bytes) → Keeping s → eventOn line s .answer ≡ E.Accepted → Keeping (eventOn line s .state)
-  keeping-on line k a =
-      record {
-        fine = event-fine line s (k .fine) (k .ready);
-        ready = event-ready line s (k .fine) (k .ready);
-        going = ap isStopped (event-counts line s a .1);
-      }
 
 -- how many bytes may still be taken, and one
 abbrev pub toCome : Bytes → Bool → ℕ → ℕ
@@ -179,73 +155,64 @@ toCome run more at = cond more (length run + 1 - at) 0
 pub record Running (run : Bytes) (s₀ : State) (more : Bool) (at : ℕ) (x : EventResult) : Type 0 where
   pub total : eventsOn (linesOf run) s₀ ≡ cond more (eventsOn (linesOf (drop at run)) (x .state)) x
   pub taken : takenBytes (linesOf run) s₀ ≡ at + cond more (takenBytes (linesOf (drop at run)) (x .state)) 0
-  pub within : at ≤ length run
-  pub keeps : more ≡ true → Keeping (x .state)
+  pub given : RunGiven (x .state)
 
-pub run-start : (run : Bytes) (s : State) → Keeping s → Running run s true 0 (record { state = s; answer = E.Accepted })
-run-start run s k = record { total = refl; taken = omega arith; within = omega arith; keeps = λ m. k }
+pub run-start : (run : Bytes) (s : State) → RunGiven s → Running run s true 0 (record { state = s; answer = E.Accepted })
+run-start run s k = record { total = refl; taken = omega arith; given = k }
 
 module _ (run : Bytes) (s₀ : State) (at : ℕ) (x : EventResult) (w : Running run s₀ true at x) where
-  module _ (end : ℕ) (e : lineEnd run at ≡ At end) where
-    n : NextLine run at end
-    n = next-line run at end e
+  module _ (to : ℕ) (e : lineEnd run at ≡ At to) where
+    n : NextLine run at to
+    n = next-line run at to e
 
     abbrev line : Bytes
-    line = slice at end run
+    line = slice at to run
 
     abbrev event : EventResult
     event = eventOn line (x .state)
 
-    longs : length line ≡ end - at
-    longs = length-part at end run ∙ omega (arith, n .within)
+    longs : length line ≡ to - at
+    longs = length-part at to run ∙ omega (arith, n .within)
 
-    run-line : let y = pointAfter at end (event .answer) (event .state) in Running run s₀ (y .more) (y .at) (y .result)
+    run-line : let y = behindLine at to (event .answer) in Running run s₀ (ltb at y) y event
     run-line =
         byAnswer (event .answer)
-        (λ a. rw a (record {
-          total = w .total ∙ (ap (λ (ls : List Bytes). eventsOn ls (x .state)) (n .first) ∙ events-on line (linesOf (drop end run)) (x .state) a);
+        (λ a. rw (a, lt-ltb at to (n .forward)) (record {
+          total = w .total ∙ (ap (λ (ls : List Bytes). eventsOn ls (x .state)) (n .first) ∙ events-on line (linesOf (drop to run)) (x .state) a);
           taken = w .taken ∙ (ap (λ (ls : List Bytes). at + takenBytes ls (x .state)) (n .first)
-              ∙ omega (arith, taken-on line (linesOf (drop end run)) (x .state) a, longs, n .forward));
-          within = n .within;
-          keeps = λ m. keeping-on (x .state) line (w .keeps refl) a;
+              ∙ omega (arith, taken-on line (linesOf (drop to run)) (x .state) a, longs, n .forward));
+          given = given-on (x .state) line (w .given);
         }))
-        (λ r k a. rw a (record {
-          total = w .total ∙ (ap (λ (ls : List Bytes). eventsOn ls (x .state)) (n .first) ∙ events-off line (linesOf (drop end run)) (x .state) r k a);
-          taken = w .taken ∙ (ap (λ (ls : List Bytes). at + takenBytes ls (x .state)) (n .first) ∙ omega (arith, taken-off line (linesOf (drop end run)) (x .state) r k a));
-          within = w .within;
-          keeps = λ m. no (cc);
+        (λ r k a. rw (a, le-ltb at at (omega arith)) (record {
+          total = w .total ∙ (ap (λ (ls : List Bytes). eventsOn ls (x .state)) (n .first)
+              ∙ events-off line (linesOf (drop to run)) (x .state) r k a);
+          taken = w .taken ∙ (ap (λ (ls : List Bytes). at + takenBytes ls (x .state)) (n .first) ∙ omega (arith, taken-off line (linesOf (drop to run)) (x .state) r k a));
+          given = given-on (x .state) line (w .given);
         }))
-
-    line-less : let y = pointAfter at end (event .answer) (event .state) in toCome run (y .more) (y .at) < toCome run true at
-    line-less =
-        byAnswer (event .answer)
-        (λ a. rw a (omega (arith, n .forward, n .within)))
-        (λ r k a. rw a (omega (arith, w .within)))
 
   module _ (e : lineEnd run at ≡ None) where
-    run-none : Running run s₀ false at (record { state = x .state; answer = E.Accepted })
+    run-none : Running run s₀ (ltb at at) at (record { state = x .state; answer = E.Accepted })
     run-none =
         let z : linesOf (drop at run) ≡ [] = no-line run at e .0 in
-        record {
+        rw (le-ltb at at (omega arith)) (record {
           total = w .total ∙ (ap (λ (ls : List Bytes). eventsOn ls (x .state)) z ∙ events-none (x .state));
           taken = w .taken ∙ (ap (λ (ls : List Bytes). at + takenBytes ls (x .state)) z ∙ ap (at +_) (taken-none (x .state)));
-          within = w .within;
-          keeps = λ m. no (cc);
-        }
+          given = w .given;
+        })
 
   -- one line more
-  pub run-on : (y : RunPoint) → y ≡ pointOn run at (x .state) → Running run s₀ (y .more) (y .at) (y .result)
+  pub run-on : (y : RunPoint) → y ≡ pointOn run at (x .state) → Running run s₀ (ltb at (y .taken)) (y .taken) (y .result)
   run-on y e =
       rw e (byLine run at (x .state)
-      (λ end f. rw (point-line run at (x .state) end f) (run-line end f))
-      (λ f. rw (point-none run at (x .state) f) (run-none f)))
+      (λ to f. rw (← point-line run at (x .state) to f _ refl _ refl) (run-line to f))
+      (λ f. rw (← point-none run at (x .state) f) (run-none f)))
 
-  -- and less is to come
-  pub run-less : (y : RunPoint) → y ≡ pointOn run at (x .state) → toCome run (y .more) (y .at) < toCome run true at
-  run-less y e =
-      rw e (byLine run at (x .state)
-      (λ end f. rw (point-line run at (x .state) end f) (line-less end f))
-      (λ f. rw (point-none run at (x .state) f) (omega (arith, w .within))))
+-- and less is to come
+pub run-less : (run : Bytes) (at n : ℕ) → at ≤ length run → n ≤ length run → toCome run (ltb at n) n < toCome run true at
+run-less run at n h k =
+    byLe n at
+    (λ l. rw (le-ltb at n l) (omega (arith, h)))
+    (λ l. rw (lt-ltb at n l) (omega (arith, h, k, l)))
 
 -- no line is left
 pub run-all : (run : Bytes) (s₀ : State) (at : ℕ) (x : EventResult) → Running run s₀ false at x → Came run s₀ (x .state) (x .answer) at

@@ -1,22 +1,22 @@
 // A run of event lines fed to a reader in one call: soundness is tested once, then a step a line.
 ghost use mathlib.Core.Path.{_≡_};
-ghost use mathlib.Core.Bool.{true, false};
+ghost use mathlib.Core.Bool.{true};
 ghost use Prim.Native.Nat.{_≤_};
 ghost use lib.ListN.{length};
-ghost use lib.Seq.{slice};
 ghost use Rattle.base.specs.Bytes.{all};
 ghost use Rattle.little.specs.Little.{isByte};
-ghost use Rattle.overlay.specs.Overlay.{overlayOf, lent, left};
+ghost use Rattle.overlay.specs.Overlay.{lent, left};
 ghost use Rattle.lines.specs.Lines.{linesOf};
-ghost use Rattle.reader.specs.State.{stateSound, isStopped};
+ghost use Rattle.reader.specs.State.{stateSound};
 ghost use Rattle.reader.specs.Given.{StateGiven};
 ghost use Rattle.reader.specs.Event.{eventOn};
 ghost use Rattle.reader_events.specs.Events.{eventsOn, takenBytes};
-ghost use Rattle.reader_events.specs.Runs.{RunGiven, pointAfter, pointOn};
+ghost use Rattle.reader_events.specs.Runs.{RunGiven, behindLine, pointOn};
 use lines::LineEnd;
 use reader::EventAnswer;
 use reader::EventReader;
 use reader::Stop;
+use reader_calls::EventDone;
 use refusal::Refusal;
 
 // The reader after a run, what its last event answered, and how many bytes of the run were taken.
@@ -28,15 +28,7 @@ pub struct EventsDone {
 
 // ---- one line
 
-// Where a run has come to: the reader, what its last event answered, the place behind the lines that were taken, and whether lines may follow.
-struct RunAt {
-    reader: EventReader,
-    answer: EventAnswer,
-    at: usize,
-    more: bool,
-}
-
-// The line from one place up to another as an event of a reader that is sound and going.
+// A line as an event of a state that is sound but for its count of lines: 22 where that is at its largest, the stop mark, or its step.
 fn line_event(
     ni: &mut [u64],
     na: &mut [u8],
@@ -47,53 +39,37 @@ fn line_event(
     ss: &mut [u64],
     sb: &mut [u8],
     us: &mut [u64; 9],
-    parts: &mut [u8; 44432],
+    ps: &mut [u8; 44432],
     reader: EventReader,
-    run: &[u8],
-    at: usize,
-    end: usize,
-) -> RunAt
-    requires { ⌜ at ≤ end ⌝ }
-    requires { ⌜ end ≤ length (now run) ⌝ }
-    ensures { λ r. ⌜ (stateSound (record { overlay = lent ni na wi wa ri ra ss sb us; reader = reader; parts = now (parts .entry) }) ≡ true
-        → isStopped (reader .stop) ≡ false
-        → record { result = record { state = record { overlay = left ni na wi wa ri ra ss sb us; reader = r .reader; parts = now (parts .exit) }; answer = r .answer }; at = r .at; more = r .more }
-        ≡ pointAfter at end (eventOn (slice at end (now (run .entry))) (record { overlay = lent ni na wi wa ri ra ss sb us; reader = reader; parts = now (parts .entry) }) .answer)
-        (eventOn (slice at end (now (run .entry))) (record { overlay = lent ni na wi wa ri ra ss sb us; reader = reader; parts = now (parts .entry) }) .state)) ⌝ }
+    line: &[u8],
+) -> EventDone
+    ensures { λ r. ⌜ (RunGiven (record { overlay = lent ni na wi wa ri ra ss sb us; reader = reader; parts = now (ps .entry) })
+        → record { state = record { overlay = left ni na wi wa ri ra ss sb us; reader = r .reader; parts = now (ps .exit) }; answer = r .answer }
+        ≡ eventOn (now (line .entry)) (record { overlay = lent ni na wi wa ri ra ss sb us; reader = reader; parts = now (ps .entry) })) ⌝ }
 {
-    let done = reader_calls::event_going(
-        ni,
-        na,
-        wi,
-        wa,
-        ri,
-        ra,
-        ss,
-        sb,
-        us,
-        parts,
-        reader,
-        &run[at..end],
-    );
-    let reader = done.reader;
-    let answer = done.answer;
+    if reader.lines < 18446744073709551615 {
+        let stop = reader.stop;
+        let Stop::At(refusal, at) = reader_sound::mark_of(stop) else {
+            return reader_calls::event_going(ni, na, wi, wa, ri, ra, ss, sb, us, ps, reader, line);
+        };
+        let answer = EventAnswer::Refused(refusal, at);
+        return EventDone { reader, answer };
+    }
+    let answer = EventAnswer::Refused(Refusal::Unsound, 0);
+    EventDone { reader, answer }
+}
+
+// The place behind a line that is accepted; one that is refused is not taken.
+fn behind_line(at: usize, to: usize, answer: EventAnswer) -> usize
+    ensures { λ r. ⌜ r ≡ behindLine at to answer ⌝ }
+{
     match answer {
-        EventAnswer::Accepted => RunAt {
-            reader,
-            answer,
-            at: end,
-            more: true,
-        },
-        EventAnswer::Refused(refusal, line) => RunAt {
-            reader,
-            answer,
-            at,
-            more: false,
-        },
+        EventAnswer::Accepted => to,
+        EventAnswer::Refused(refusal, line) => at,
     }
 }
 
-// The next line, if there is one. A reader whose line count is at its largest is not sound.
+// The next line, if there is one.
 fn next_event(
     ni: &mut [u64],
     na: &mut [u8],
@@ -104,54 +80,38 @@ fn next_event(
     ss: &mut [u64],
     sb: &mut [u8],
     us: &mut [u64; 9],
-    parts: &mut [u8; 44432],
+    ps: &mut [u8; 44432],
     reader: EventReader,
     run: &[u8],
     at: usize,
-) -> RunAt
+) -> EventsDone
     requires { ⌜ at ≤ length (now run) ⌝ }
-    ensures { λ r. ⌜ (RunGiven (record { overlay = lent ni na wi wa ri ra ss sb us; reader = reader; parts = now (parts .entry) })
-        → record { result = record { state = record { overlay = left ni na wi wa ri ra ss sb us; reader = r .reader; parts = now (parts .exit) }; answer = r .answer }; at = r .at; more = r .more }
-        ≡ pointOn (now (run .entry)) at (record { overlay = lent ni na wi wa ri ra ss sb us; reader = reader; parts = now (parts .entry) })) ⌝ }
+    ensures { λ r. ⌜ (RunGiven (record { overlay = lent ni na wi wa ri ra ss sb us; reader = reader; parts = now (ps .entry) })
+        → record { result = record { state = record { overlay = left ni na wi wa ri ra ss sb us; reader = r .reader; parts = now (ps .exit) }; answer = r .answer }; taken = r .taken }
+        ≡ pointOn (now (run .entry)) at (record { overlay = lent ni na wi wa ri ra ss sb us; reader = reader; parts = now (ps .entry) })) ⌝ }
+    ensures { λ r. ⌜ r .taken ≤ length (now (run .entry)) ⌝ }
 {
-    let LineEnd::At(end) = lines::line_end(run, at) else {
-        return RunAt {
+    let LineEnd::At(to) = lines::line_end(run, at) else {
+        return EventsDone {
             reader,
             answer: EventAnswer::Accepted,
-            at,
-            more: false,
+            taken: at,
         };
     };
-    if reader.lines < 18446744073709551615 {
-        return line_event(
-            ni,
-            na,
-            wi,
-            wa,
-            ri,
-            ra,
-            ss,
-            sb,
-            us,
-            parts,
-            reader,
-            run,
-            at,
-            end,
-        );
-    }
-    RunAt {
+    let done = line_event(ni, na, wi, wa, ri, ra, ss, sb, us, ps, reader, &run[at..to]);
+    let reader = done.reader;
+    let answer = done.answer;
+    EventsDone {
         reader,
-        answer: EventAnswer::Refused(Refusal::Unsound, 0),
-        at,
-        more: false,
+        answer,
+        taken: behind_line(at, to, answer),
     }
 }
 
 // ---- all lines
 
-// All lines, up to the first that is refused, of a reader that is sound and going.
-fn going_events(
+// The same as `events` with no test of soundness: for a caller who knows that the state is sound but for its count of lines, since nothing else changed it after a test.
+pub fn events_untested(
     ni: &mut [u64],
     na: &mut [u8],
     wi: &mut [u64],
@@ -161,34 +121,30 @@ fn going_events(
     ss: &mut [u64],
     sb: &mut [u8],
     us: &mut [u64; 9],
-    parts: &mut [u8; 44432],
+    ps: &mut [u8; 44432],
     reader: EventReader,
     run: &[u8],
 ) -> EventsDone
-    requires { ⌜ RunGiven (record { overlay = overlayOf (now ni) (now na) (now wi) (now wa) (now ri) (now ra) (now ss) (now sb) (now us); reader = reader; parts = now parts }) ⌝ }
-    requires { ⌜ StateGiven (record { overlay = overlayOf (now ni) (now na) (now wi) (now wa) (now ri) (now ra) (now ss) (now sb) (now us); reader = reader; parts = now parts }) ⌝ }
-    ensures { λ r. ⌜ record { state = record { overlay = left ni na wi wa ri ra ss sb us; reader = r .reader; parts = now (parts .exit) }; answer = r .answer }
-        ≡ eventsOn (linesOf (now (run .entry))) (record { overlay = lent ni na wi wa ri ra ss sb us; reader = reader; parts = now (parts .entry) }) ⌝ }
-    ensures { λ r. ⌜ r .taken ≡ takenBytes (linesOf (now (run .entry))) (record { overlay = lent ni na wi wa ri ra ss sb us; reader = reader; parts = now (parts .entry) }) ⌝ }
+    ensures { λ r. ⌜ (RunGiven (record { overlay = lent ni na wi wa ri ra ss sb us; reader = reader; parts = now (ps .entry) })
+        → record { state = record { overlay = left ni na wi wa ri ra ss sb us; reader = r .reader; parts = now (ps .exit) }; answer = r .answer }
+        ≡ eventsOn (linesOf (now (run .entry))) (record { overlay = lent ni na wi wa ri ra ss sb us; reader = reader; parts = now (ps .entry) })) ⌝ }
+    ensures { λ r. ⌜ (RunGiven (record { overlay = lent ni na wi wa ri ra ss sb us; reader = reader; parts = now (ps .entry) })
+        → r .taken ≡ takenBytes (linesOf (now (run .entry))) (record { overlay = lent ni na wi wa ri ra ss sb us; reader = reader; parts = now (ps .entry) })) ⌝ }
+    ensures { λ r. ⌜ r .taken ≤ length (now (run .entry)) ⌝ }
 {
-    let mut point = RunAt {
+    let mut done = EventsDone {
         reader,
         answer: EventAnswer::Accepted,
-        at: 0,
-        more: true,
+        taken: 0,
     };
-    while point.more {
-        let reader = point.reader;
-        let at = point.at;
-        point = next_event(ni, na, wi, wa, ri, ra, ss, sb, us, parts, reader, run, at);
+    let mut more = true;
+    while more {
+        let reader = done.reader;
+        let at = done.taken;
+        done = next_event(ni, na, wi, wa, ri, ra, ss, sb, us, ps, reader, run, at);
+        more = at < done.taken;
     }
-    let reader = point.reader;
-    let answer = point.answer;
-    EventsDone {
-        reader,
-        answer,
-        taken: point.at,
-    }
+    done
 }
 
 // ---- what is tested once
@@ -211,14 +167,14 @@ fn state_tested(
     ss: &[u64],
     sb: &[u8],
     us: &[u64; 9],
-    parts: &[u8; 44432],
+    ps: &[u8; 44432],
     reader: EventReader,
 ) -> bool
-    ensures { λ r. ⌜ r ≡ stateSound (record { overlay = lent ni na wi wa ri ra ss sb us; reader = reader; parts = now (parts .entry) }) ⌝ }
-    ensures { λ r. ⌜ StateGiven (record { overlay = lent ni na wi wa ri ra ss sb us; reader = reader; parts = now (parts .entry) }) ⌝ }
+    ensures { λ r. ⌜ r ≡ stateSound (record { overlay = lent ni na wi wa ri ra ss sb us; reader = reader; parts = now (ps .entry) }) ⌝ }
+    ensures { λ r. ⌜ StateGiven (record { overlay = lent ni na wi wa ri ra ss sb us; reader = reader; parts = now (ps .entry) }) ⌝ }
 {
-    known_bytes(parts);
-    reader_sound::state_sound(ni, na, wi, wa, ri, ra, ss, sb, us, parts, reader)
+    known_bytes(ps);
+    reader_sound::state_sound(ni, na, wi, wa, ri, ra, ss, sb, us, ps, reader)
 }
 
 // ---- the call
@@ -235,13 +191,13 @@ pub fn events(
     ss: &mut [u64],
     sb: &mut [u8],
     us: &mut [u64; 9],
-    parts: &mut [u8; 44432],
+    ps: &mut [u8; 44432],
     reader: EventReader,
     run: &[u8],
 ) -> EventsDone
-    ensures { λ r. ⌜ record { state = record { overlay = left ni na wi wa ri ra ss sb us; reader = r .reader; parts = now (parts .exit) }; answer = r .answer }
-        ≡ eventsOn (linesOf (now (run .entry))) (record { overlay = lent ni na wi wa ri ra ss sb us; reader = reader; parts = now (parts .entry) }) ⌝ }
-    ensures { λ r. ⌜ r .taken ≡ takenBytes (linesOf (now (run .entry))) (record { overlay = lent ni na wi wa ri ra ss sb us; reader = reader; parts = now (parts .entry) }) ⌝ }
+    ensures { λ r. ⌜ record { state = record { overlay = left ni na wi wa ri ra ss sb us; reader = r .reader; parts = now (ps .exit) }; answer = r .answer }
+        ≡ eventsOn (linesOf (now (run .entry))) (record { overlay = lent ni na wi wa ri ra ss sb us; reader = reader; parts = now (ps .entry) }) ⌝ }
+    ensures { λ r. ⌜ r .taken ≡ takenBytes (linesOf (now (run .entry))) (record { overlay = lent ni na wi wa ri ra ss sb us; reader = reader; parts = now (ps .entry) }) ⌝ }
 {
     let LineEnd::At(_) = lines::line_end(run, 0) else {
         return EventsDone {
@@ -250,16 +206,8 @@ pub fn events(
             taken: 0,
         };
     };
-    if state_tested(ni, na, wi, wa, ri, ra, ss, sb, us, parts, reader) {
-        let stop = reader.stop;
-        let Stop::At(refusal, line) = reader_sound::mark_of(stop) else {
-            return going_events(ni, na, wi, wa, ri, ra, ss, sb, us, parts, reader, run);
-        };
-        return EventsDone {
-            reader,
-            answer: EventAnswer::Refused(refusal, line),
-            taken: 0,
-        };
+    if state_tested(ni, na, wi, wa, ri, ra, ss, sb, us, ps, reader) {
+        return events_untested(ni, na, wi, wa, ri, ra, ss, sb, us, ps, reader, run);
     }
     EventsDone {
         reader,

@@ -1,10 +1,10 @@
 // The program: event lines from standard input, the listing or the `refused` line to standard output. What it takes in and prints is proved in `intake` and `roadlist_page`; here is what
 // it lends, and what it reads and writes.
+use intake::Fed;
 use libc::STDERR_FILENO;
 use libc::STDIN_FILENO;
 use libc::STDOUT_FILENO;
 use reader::EventAnswer;
-use reader::EventReader;
 
 // Where the reading stands between two pieces.
 enum Reading {
@@ -13,9 +13,9 @@ enum Reading {
     Failed,
 }
 
+// What is left of the input, and where its reading stands.
 struct Run {
-    reader: EventReader,
-    held: usize,
+    fed: Fed,
     reading: Reading,
 }
 
@@ -46,54 +46,26 @@ fn read_piece(
     ss: &mut [u64; 1024],
     sb: &mut [u8; 8192],
     us: &mut [u64; 9],
-    parts: &mut [u8; 44432],
-    buffer: &mut [u8; 81920],
+    ps: &mut [u8; 44432],
+    buf: &mut [u8; 81920],
     piece: &mut [u8; 65536],
-    run: Run,
+    fed: Fed,
 ) -> Run {
-    let reader = run.reader;
-    let held = run.held;
     let got = libc::read(STDIN_FILENO, piece);
     if got < 0 {
         os::fail(b"roadlist: standard input");
-        return Run {
-            reader,
-            held,
-            reading: Reading::Failed,
-        };
+        let reading = Reading::Failed;
+        return Run { fed, reading };
     }
     if got == 0 {
-        return Run {
-            reader,
-            held,
-            reading: Reading::Ended,
-        };
+        let reading = Reading::Ended;
+        return Run { fed, reading };
     }
     let n = io::count(got, piece);
-    let fed = intake::feed(
-        ni,
-        na,
-        wi,
-        wa,
-        ri,
-        ra,
-        ss,
-        sb,
-        us,
-        parts,
-        reader,
-        buffer,
-        held,
-        piece,
-        n,
-    );
-    let reader = fed.reader;
+    let fed = intake::feed(ni, na, wi, wa, ri, ra, ss, sb, us, ps, fed, buf, piece, n);
     let answer = fed.answer;
-    Run {
-        reader,
-        held: fed.held,
-        reading: after(answer),
-    }
+    let reading = after(answer);
+    Run { fed, reading }
 }
 
 // Pieces up to the end of the input, or to the first refusal. A proved loop has to end, and nothing says that an input does: so it counts down from a number that no run uses up (a read takes time).
@@ -107,35 +79,19 @@ fn read_all(
     ss: &mut [u64; 1024],
     sb: &mut [u8; 8192],
     us: &mut [u64; 9],
-    parts: &mut [u8; 44432],
-    buffer: &mut [u8; 81920],
+    ps: &mut [u8; 44432],
+    buf: &mut [u8; 81920],
     piece: &mut [u8; 65536],
-    reader: EventReader,
+    fed: Fed,
 ) -> Run {
-    let mut run = Run {
-        reader,
-        held: 0,
-        reading: Reading::Going,
-    };
+    let reading = Reading::Going;
+    let mut run = Run { fed, reading };
     let mut turns = u64::MAX;
     let mut going = true;
     while turns > 0 && going {
         turns -= 1;
-        run = read_piece(
-            ni,
-            na,
-            wi,
-            wa,
-            ri,
-            ra,
-            ss,
-            sb,
-            us,
-            parts,
-            buffer,
-            piece,
-            run,
-        );
+        let fed = run.fed;
+        run = read_piece(ni, na, wi, wa, ri, ra, ss, sb, us, ps, buf, piece, fed);
         let reading = run.reading;
         going = is_going(reading);
     }
@@ -157,6 +113,7 @@ fn write_out(out: &[u8], written: usize, number: u32) {
     }
 }
 
+// The overlay is set up empty and the reader is fresh, so what each piece needs holds from the start on (roadlist_page, proofs/Printed).
 fn read_and_print(
     ni: &mut [u64; 1536],
     na: &mut [u8; 8192],
@@ -167,48 +124,24 @@ fn read_and_print(
     ss: &mut [u64; 1024],
     sb: &mut [u8; 8192],
     us: &mut [u64; 9],
-    parts: &mut [u8; 44432],
-    buffer: &mut [u8; 81920],
+    ps: &mut [u8; 44432],
+    buf: &mut [u8; 81920],
     piece: &mut [u8; 65536],
     out: &mut [u8; 65536],
 ) {
-    let reader = roadlist_page::start(ni, na, wi, wa, ri, ra, ss, sb, us, parts);
-    let run = read_all(
-        ni,
-        na,
-        wi,
-        wa,
-        ri,
-        ra,
-        ss,
-        sb,
-        us,
-        parts,
-        buffer,
-        piece,
+    let reader = roadlist_page::start(ni, na, wi, wa, ri, ra, ss, sb, us, ps);
+    let fed = Fed {
         reader,
-    );
-    let reader = run.reader;
+        held: 0,
+        answer: EventAnswer::Accepted,
+    };
+    let run = read_all(ni, na, wi, wa, ri, ra, ss, sb, us, ps, buf, piece, fed);
+    let fed = run.fed;
     let reading = run.reading;
     let Reading::Ended = reading else {
         return;
     };
-    let ended = roadlist_page::finish(
-        ni,
-        na,
-        wi,
-        wa,
-        ri,
-        ra,
-        ss,
-        sb,
-        us,
-        parts,
-        reader,
-        buffer,
-        run.held,
-        out,
-    );
+    let ended = roadlist_page::finish(ni, na, wi, wa, ri, ra, ss, sb, us, ps, fed, buf, out);
     write_out(out, ended.written, ended.number);
 }
 

@@ -27,6 +27,7 @@ use Rattle.listing.specs.declared.Listed.the-variants as L
 use Rattle.report.specs.Report.{Report, refusedLine, reportOf}
 use Rattle.report.proofs.Fits.{refused-fits, refused-whole}
 use Rattle.reader.specs.State.{State, freshReader, stateSound, readerSound}
+use Rattle.reader.specs.declared.EventReader.{EventReader}
 use Rattle.reader.specs.declared.EventAnswer.{EventAnswer}
 use Rattle.reader.specs.declared.EventAnswer.the-variants as E
 use Rattle.reader.specs.Event.{EventResult, eventOn, endOn}
@@ -36,9 +37,9 @@ use Rattle.intake.specs.Feed.{Intake, keptLine, stateAtEnd}
 use Rattle.roadlist_page.specs.Finish.{EndOutput, endOutput, Finished, finishOn}
 
 pub started-by : (o : Overlay) (parts : Bytes) (q : Overlay) (k : Kept) → _≡_ {A = OverlayAfter} (record { overlay = q; answer = k }) (setUp 0 o)
-    → _≡_ {A = State} (record { overlay = q; reader = freshReader; parts = parts }) (startOn o parts)
+    → (r : EventReader) → r ≡ freshReader → _≡_ {A = State} (record { overlay = q; reader = r; parts = parts }) (startOn o parts)
 unfolding startOn
-started-by o parts q k e = λ i. record { overlay = e i .overlay; reader = freshReader; parts = parts }
+started-by o parts q k e r f = λ i. record { overlay = e i .overlay; reader = f i; parts = parts }
 
 -- ---- a last line
 

@@ -10,9 +10,11 @@ use Rattle.lines.specs.Stream.{afterInput}
 use Rattle.lines.proofs.Streams.{pieces-whole}
 use Rattle.reader.specs.State.{State}
 use Rattle.intake.specs.Feed.{afterEvent, Intake, readOn, stateAtEnd}
-use Rattle.intake.proofs.Pieces.{Holds, reads-stream}
+use Rattle.reader_events.specs.Runs.{RunGiven}
+use Rattle.intake.proofs.Pieces.{Holds, reads-stream, reads-given}
 use Rattle.roadlist_page.specs.Roadlist.{programStart, endingAt, roadlistOf}
 use Rattle.roadlist_page.specs.Finish.{finishOn}
+use Rattle.roadlist_page.proofs.Starts.{start-given}
 
 -- before the first piece, whatever the buffer holds
 abbrev pub intakeStart : Bytes → Intake
@@ -21,6 +23,10 @@ intakeStart buffer = record { state = programStart; buffer = buffer; held = 0 }
 module _ (buffer : Bytes) (room : length buffer ≡ 81920) (pieces : List Bytes) where
   at-start : Holds (intakeStart buffer)
   at-start = record { room = room; short = omega arith; unbroken = lacks-nil 10 }
+
+  -- before each piece the state is sound but for its count of lines, which is what `intake::feed` needs: it tests nothing
+  pub pieces-given : RunGiven (readOn pieces (intakeStart buffer) .state)
+  pieces-given = reads-given pieces (intakeStart buffer) start-given
 
   pub reads-whole : stateAtEnd (readOn pieces (intakeStart buffer)) ≡ afterInput afterEvent programStart (flatten pieces)
   reads-whole = reads-stream pieces (intakeStart buffer) at-start ∙ pieces-whole afterEvent programStart pieces

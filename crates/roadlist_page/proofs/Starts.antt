@@ -30,6 +30,8 @@ use Rattle.reader.proofs.Answers.{byAnswer, byEnd, byLevel, answer-is, event-co
 use Rattle.reader.proofs.Events.{byRefused, unsound-stops-not}
 use Rattle.reader.proofs.Keeps.{ReadyIn, event-fine, event-ready, ready-sound, fresh-ready}
 use Rattle.reader.specs.State.{stopsBy}
+use Rattle.reader_events.specs.Runs.{RunGiven}
+use Rattle.reader_events.proofs.Runs.{given-of}
 use Rattle.intake.specs.Feed.{afterEvent}
 use Rattle.roadlist_page.specs.Roadlist.{programLends, startOn, programStart}
 
@@ -65,6 +67,10 @@ start-fine =
 pub start-ready : ReadyIn programStart
 unfolding programStart startOn
 start-ready = fresh-ready (setUp 0 programLends .overlay) (start-fine .sound) (replicate 44432 0) (zeros-bytes 44432) (length-replicate {A = ℕ} 44432 0)
+
+-- so the first piece finds what `intake::feed` needs, and it tests nothing
+pub start-given : RunGiven programStart
+start-given = given-of programStart start-fine start-ready
 
 start-lines : programStart .reader .lines ≤ 0
 unfolding programStart startOn

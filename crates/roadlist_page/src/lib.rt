@@ -5,11 +5,13 @@ ghost use Prim.Native.Nat.{_≤_, _<_, min};
 ghost use lib.ListN.{length};
 ghost use Rattle.overlay.specs.Overlay.{overlayOf, lent, left};
 ghost use Rattle.overlay.specs.Sound.{isSound};
+ghost use Rattle.reader.specs.State.{freshReader};
 ghost use Rattle.intake.specs.Feed.{stateAtEnd};
 ghost use Rattle.roadlist_page.specs.Roadlist.{startOn, refusedEnding, pageEnding, endingAt};
 ghost use Rattle.roadlist_page.specs.Finish.{endOutput, finishOn};
 use compact::ArenaMeta;
 use compact::PushHead;
+use intake::Fed;
 use kind::Kind;
 use listing::Listed;
 use nesting::Action;
@@ -21,23 +23,10 @@ use reader::Pending;
 use reader::Stop;
 use refusal::Refusal;
 
-// An empty overlay, regression refused, and a fresh reader.
-pub fn start(
-    ni: &[u64],
-    na: &[u8],
-    wi: &[u64],
-    wa: &[u8],
-    ri: &[u64],
-    ra: &[u8],
-    ss: &mut [u64],
-    sb: &[u8],
-    us: &mut [u64; 9],
-    parts: &[u8; 44432],
-) -> EventReader
-    ensures { λ r. ⌜ record { overlay = left ni na wi wa ri ra ss sb us; reader = r; parts = now (parts .exit) }
-        ≡ startOn (lent ni na wi wa ri ra ss sb us) (now (parts .entry)) ⌝ }
+// A fresh reader: before the document, with nothing pending.
+fn fresh_reader() -> EventReader
+    ensures { λ r. ⌜ r ≡ freshReader ⌝ }
 {
-    overlay::set_up(ni, na, wi, wa, ri, ra, ss, sb, us, 0);
     EventReader {
         place: Place {
             level: Level::Doc,
@@ -67,6 +56,26 @@ pub fn start(
     }
 }
 
+// An empty overlay, regression refused, and a fresh reader.
+pub fn start(
+    ni: &[u64],
+    na: &[u8],
+    wi: &[u64],
+    wa: &[u8],
+    ri: &[u64],
+    ra: &[u8],
+    ss: &mut [u64],
+    sb: &[u8],
+    us: &mut [u64; 9],
+    ps: &[u8; 44432],
+) -> EventReader
+    ensures { λ r. ⌜ record { overlay = left ni na wi wa ri ra ss sb us; reader = r; parts = now (ps .exit) }
+        ≡ startOn (lent ni na wi wa ri ra ss sb us) (now (ps .entry)) ⌝ }
+{
+    overlay::set_up(ni, na, wi, wa, ri, ra, ss, sb, us, 0);
+    fresh_reader()
+}
+
 // A last line without its line feed is an event too.
 fn take_last(
     ni: &mut [u64],
@@ -78,32 +87,19 @@ fn take_last(
     ss: &mut [u64],
     sb: &mut [u8],
     us: &mut [u64; 9],
-    parts: &mut [u8; 44432],
+    ps: &mut [u8; 44432],
     reader: EventReader,
     buffer: &[u8],
-    held: usize,
+    n: usize,
 ) -> EventReader
-    requires { ⌜ held ≤ length (now buffer) ⌝ }
-    ensures { λ r. ⌜ record { overlay = left ni na wi wa ri ra ss sb us; reader = r; parts = now (parts .exit) }
-        ≡ stateAtEnd (record { state = record { overlay = lent ni na wi wa ri ra ss sb us; reader = reader; parts = now (parts .entry) }; buffer = now (buffer .entry); held = held }) ⌝ }
+    requires { ⌜ n ≤ length (now buffer) ⌝ }
+    ensures { λ r. ⌜ record { overlay = left ni na wi wa ri ra ss sb us; reader = r; parts = now (ps .exit) }
+        ≡ stateAtEnd (record { state = record { overlay = lent ni na wi wa ri ra ss sb us; reader = reader; parts = now (ps .entry) }; buffer = now (buffer .entry); held = n }) ⌝ }
 {
-    if held == 0 {
+    if n == 0 {
         return reader;
     }
-    let done = reader_calls::event(
-        ni,
-        na,
-        wi,
-        wa,
-        ri,
-        ra,
-        ss,
-        sb,
-        us,
-        parts,
-        reader,
-        &buffer[..held],
-    );
+    let done = reader_calls::event(ni, na, wi, wa, ri, ra, ss, sb, us, ps, reader, &buffer[..n]);
     done.reader
 }
 
@@ -166,15 +162,15 @@ fn put_end(
     ss: &[u64],
     sb: &[u8],
     us: &[u64; 9],
-    parts: &[u8; 44432],
+    ps: &[u8; 44432],
     reader: EventReader,
     out: &mut [u8],
 ) -> Ended
     requires { ⌜ length (now out) ≡ 65536 ⌝ }
     ensures { λ r. ⌜ record { out = now (out .exit); written = r .written; number = r .number }
-        ≡ endOutput (now (out .entry)) (endingAt (record { overlay = lent ni na wi wa ri ra ss sb us; reader = reader; parts = now (parts .entry) })) ⌝ }
+        ≡ endOutput (now (out .entry)) (endingAt (record { overlay = lent ni na wi wa ri ra ss sb us; reader = reader; parts = now (ps .entry) })) ⌝ }
 {
-    match reader_calls::end(ni, na, wi, wa, ri, ra, ss, sb, us, parts, reader) {
+    match reader_calls::end(ni, na, wi, wa, ri, ra, ss, sb, us, ps, reader) {
         EventAnswer::Accepted => put_page(ni, na, wi, wa, ri, ra, ss, sb, us, out, reader.lines),
         EventAnswer::Refused(refusal, line) => put_refusal(out, refusal, line),
     }
@@ -191,34 +187,20 @@ pub fn finish(
     ss: &mut [u64],
     sb: &mut [u8],
     us: &mut [u64; 9],
-    parts: &mut [u8; 44432],
-    reader: EventReader,
+    ps: &mut [u8; 44432],
+    fed: Fed,
     buffer: &[u8; 81920],
-    held: usize,
     out: &mut [u8; 65536],
 ) -> Ended
     ensures { λ r. ⌜ record {
       overlay = left ni na wi wa ri ra ss sb us;
-      parts = now (parts .exit);
+      parts = now (ps .exit);
       output = record { out = now (out .exit); written = r .written; number = r .number };
     }
-        ≡ finishOn (now (out .entry)) (record { state = record { overlay = lent ni na wi wa ri ra ss sb us; reader = reader; parts = now (parts .entry) }; buffer = now (buffer .entry); held = min held 16384 }) ⌝ }
+        ≡ finishOn (now (out .entry)) (record { state = record { overlay = lent ni na wi wa ri ra ss sb us; reader = fed .reader; parts = now (ps .entry) }; buffer = now (buffer .entry); held = min (fed .held) 16384 }) ⌝ }
 {
-    let held = little::lesser(held, 16384);
-    let reader = take_last(
-        ni,
-        na,
-        wi,
-        wa,
-        ri,
-        ra,
-        ss,
-        sb,
-        us,
-        parts,
-        reader,
-        buffer,
-        held,
-    );
-    put_end(ni, na, wi, wa, ri, ra, ss, sb, us, parts, reader, out)
+    let held = little::lesser(fed.held, 16384);
+    let reader = fed.reader;
+    let reader = take_last(ni, na, wi, wa, ri, ra, ss, sb, us, ps, reader, buffer, held);
+    put_end(ni, na, wi, wa, ri, ra, ss, sb, us, ps, reader, out)
 }

@@ -6,7 +6,7 @@ use denote.Ref.{now}
 use lib.ListN.{take, length-take}
 use lib.Seq.{length-take-le}
 use Rattle.little.specs.Little.{over}
-use Rattle.intake.proofs.Walks.{take-min}
+use Rattle.intake.proofs.Fronts.{take-min}
 use borrow.Author.Needs.{needs}
 use Rattle.intake.proofs.join_piece.Statement.{statement}
 use Rattle.intake.proofs.join_piece.Tie as tie

@@ -1,104 +1,106 @@
--- Line by line. The invariant: what is to come from the present place on, after the present state, is what all lines come to.
+-- The whole lines, and what is left where it is too long.
+use mathlib.Core.Path.{sym, _∙_}
 use denote.Ref.{now}
 use Rattle.overlay.specs.Overlay.{overlayOf}
 use Rattle.reader.specs.State.{State}
-use mathlib.Core.Path.{refl, _∙_}
-use Rattle.reader_events.proofs.Runs.{SameSizes}
-use Rattle.intake.proofs.Walks.{Walking, ahead, walk-start, walk-on, walk-less, walk-all, walk-rest, walk-taken, walk-left}
+use Rattle.intake.proofs.Fronts.{took-lines, took-rest}
 use Rattle.intake.proofs.take_lines.Statement.{statement}
 use Rattle.intake.proofs.take_lines.Tie as tie
 
-abbrev Inv-loop : tie.InvT-loop
-Inv-loop ni₀ na₀ wi₀ wa₀ ri₀ ra₀ spans₀ bytes₀ used₀ parts₀ lines walk₀ ni na wi wa ri ra spans bytes used parts walk =
-    SameSizes ni₀ na₀ wi₀ wa₀ ri₀ ra₀ spans₀ bytes₀ ni na wi wa ri ra spans bytes
-    × Walking lines (record { overlay = overlayOf ni₀ na₀ wi₀ wa₀ ri₀ ra₀ spans₀ bytes₀ used₀; reader = walk₀ .reader; parts = parts₀ }) (walk .more) (walk .at)
-    (record { state = record { overlay = overlayOf ni na wi wa ri ra spans bytes used; reader = walk .reader; parts = parts }; answer = walk .answer })
-
-abbrev μ-loop : tie.MeasureT-loop
-μ-loop ni₀ na₀ wi₀ wa₀ ri₀ ra₀ spans₀ bytes₀ used₀ parts₀ lines walk₀ ni na wi wa ri ra spans bytes used parts walk =
-    ahead lines (walk .more) (walk .at)
-
 -- the state as it is lent
-abbrev given : tie.Start Inv-loop μ-loop → State
+abbrev given : tie.Start → State
 given s =
     let a = s .args in
     record {
       overlay = overlayOf (now (a .ni)) (now (a .na)) (now (a .wi)) (now (a .wa)) (now (a .ri)) (now (a .ra)) (now (a .ss)) (now (a .sb)) (now (a .us));
       reader = a .reader;
-      parts = now (a .parts);
+      parts = now (a .ps);
     }
 
-loop-holds : tie.Need-loop-holds Inv-loop μ-loop
-loop-holds c =
-    let s = c .before .before .before .before .before .before .before .before .before in
-    (record { same-ni = refl; same-na = refl; same-wi = refl; same-wa = refl; same-ri = refl; same-ra = refl; same-spans = refl; same-bytes = refl }, walk-start (now (s .args .lines)) (given s))
+events-untested-requires : tie.Need-events-untested-requires
+events-untested-requires c κs = tt
 
-take-line-requires : tie.Need-take-line-requires Inv-loop μ-loop
-take-line-requires c κs =
-    c .before .before .before .before .before .before .before .before .before .before .before .before .loop .inv .1 .within
+sub-is-over : tie.Need-sub-is-over
+sub-is-over c = c .before .before .before .before .before .before .before .before .before .before .before .before .before .before .before .before .events-untested .ensures .1 .1
 
-loop-less : tie.Need-loop-less Inv-loop μ-loop
-loop-less c =
-    let l = c .before .before .before .before .before .before .before .before .before .before .before .before .before .before .before .before .before .before .before .before .before .before .before .before .before .before .before .before .before .loop in
-    let w = walk-taken (c .before .before .before .before .before .before .before .before .before .before .before .before .before .before .before .before .before .before .before .before .before .before .before .before .before .before .before .before .loop-test .taken) (l .inv .1) in
-    rw (c .before .before .before .before .before .before .before .before .before .before .before .before .before .before .before .before .before .before .before .before .before .before .before .before .before .before .before .before .loop-test .taken) (walk-less (now (c .before .before .before .before .before .before .before .before .before .before .before .before .before .before .before .before .before .before .before .before .before .before .before .before .before .before .before .before .before .before .before .before .before .before .before .before .before .before .before .args .lines)) (given (c .before .before .before .before .before .before .before .before .before .before .before .before .before .before .before .before .before .before .before .before .before .before .before .before .before .before .before .before .before .before .before .before .before .before .before .before .before .before .before)) (l .walk .at) _ w _ (c .before .before .before .before .before .before .before .before .before .before .before .before .before .before .before .before .take-line .ensures))
+is-over-requires : tie.Need-is-over-requires
+is-over-requires c κs = tt
 
-loop-again : tie.Need-loop-again Inv-loop μ-loop
-loop-again c =
-    let l = c .before .before .before .before .before .before .before .before .before .before .before .before .before .before .before .before .before .before .before .before .before .before .before .before .before .before .before .before .before .loop in
-    let w = walk-taken (c .before .before .before .before .before .before .before .before .before .before .before .before .before .before .before .before .before .before .before .before .before .before .before .before .before .before .before .before .loop-test .taken) (l .inv .1) in (
-      record { same-ni = c .before .before .before .before .before .before .before .before .before .before .before .before .before .before .before .ni .given ∙ l .inv .0 .same-ni; same-na = c .before .before .before .before .before .before .before .before .before .before .before .before .before .na .given ∙ l .inv .0 .same-na; same-wi = c .before .before .before .before .before .before .before .before .before .before .before .wi .given ∙ l .inv .0 .same-wi; same-wa = c .before .before .before .before .before .before .before .before .before .wa .given ∙ l .inv .0 .same-wa; same-ri = c .before .before .before .before .before .before .before .ri .given ∙ l .inv .0 .same-ri; same-ra = c .before .before .before .before .before .ra .given ∙ l .inv .0 .same-ra; same-spans = c .before .before .before .ss .given ∙ l .inv .0 .same-spans; same-bytes = c .before .sb .given ∙ l .inv .0 .same-bytes },
-      walk-on (now (c .before .before .before .before .before .before .before .before .before .before .before .before .before .before .before .before .before .before .before .before .before .before .before .before .before .before .before .before .before .before .before .before .before .before .before .before .before .before .before .args .lines)) (given (c .before .before .before .before .before .before .before .before .before .before .before .before .before .before .before .before .before .before .before .before .before .before .before .before .before .before .before .before .before .before .before .before .before .before .before .before .before .before .before)) (l .walk .at) _ w _ (c .before .before .before .before .before .before .before .before .before .before .before .before .before .before .before .before .take-line .ensures),
+rest-event-requires : tie.Need-rest-event-requires
+rest-event-requires c κs = c .before .before .before .before .before .before .before .before .before .before .before .before .before .before .before .before .before .before .before .before .before .before .before .before .before .before .before .before .before .events-untested .ensures .1 .1
+
+same-length : tie.Need-same-length
+same-length c = c .before .before .before .before .before .before .before .before .before .before .before .before .before .before .before .ni2 .given ∙ c .before .before .before .before .before .before .before .before .before .before .before .before .before .before .before .before .before .before .before .before .before .before .before .before .before .before .before .before .before .before .before .before .before .before .before .before .before .before .before .before .before .before .before .before .before .ni .given
+
+same-length-2 : tie.Need-same-length-2
+same-length-2 c = c .before .before .before .before .before .before .before .before .before .before .before .before .before .na2 .given ∙ c .before .before .before .before .before .before .before .before .before .before .before .before .before .before .before .before .before .before .before .before .before .before .before .before .before .before .before .before .before .before .before .before .before .before .before .before .before .before .before .before .before .before .before .na .given
+
+same-length-3 : tie.Need-same-length-3
+same-length-3 c = c .before .before .before .before .before .before .before .before .before .before .before .wi2 .given ∙ c .before .before .before .before .before .before .before .before .before .before .before .before .before .before .before .before .before .before .before .before .before .before .before .before .before .before .before .before .before .before .before .before .before .before .before .before .before .before .before .before .before .wi .given
+
+same-length-4 : tie.Need-same-length-4
+same-length-4 c = c .before .before .before .before .before .before .before .before .before .wa2 .given ∙ c .before .before .before .before .before .before .before .before .before .before .before .before .before .before .before .before .before .before .before .before .before .before .before .before .before .before .before .before .before .before .before .before .before .before .before .before .before .before .before .wa .given
+
+same-length-5 : tie.Need-same-length-5
+same-length-5 c = c .before .before .before .before .before .before .before .ri2 .given ∙ c .before .before .before .before .before .before .before .before .before .before .before .before .before .before .before .before .before .before .before .before .before .before .before .before .before .before .before .before .before .before .before .before .before .before .before .before .before .ri .given
+
+same-length-6 : tie.Need-same-length-6
+same-length-6 c = c .before .before .before .before .before .ra2 .given ∙ c .before .before .before .before .before .before .before .before .before .before .before .before .before .before .before .before .before .before .before .before .before .before .before .before .before .before .before .before .before .before .before .before .before .before .before .ra .given
+
+same-length-7 : tie.Need-same-length-7
+same-length-7 c = c .before .before .before .ss2 .given ∙ c .before .before .before .before .before .before .before .before .before .before .before .before .before .before .before .before .before .before .before .before .before .before .before .before .before .before .before .before .before .before .before .before .before .ss .given
+
+same-length-8 : tie.Need-same-length-8
+same-length-8 c = c .before .sb2 .given ∙ c .before .before .before .before .before .before .before .before .before .before .before .before .before .before .before .before .before .before .before .before .before .before .before .before .before .before .before .before .before .before .before .sb .given
+
+returns : tie.Need-returns
+returns c =
+    let s = c .before .before .before .before .before .before .before .before .before .before .before .before .before .before .before .before .before .before .before .before .before .before .before .before .before .before .before .before .before .before .before .before .before .before .before .before .before .before .before .before .before .before .before .before .before .before .before .before .before .before .before .before .before .before .before .before .before .before .before .before .before .before .before .before .before .before in
+    let d = c .before .before .before .before .before .before .before .before .before .before .before .before .before .before .before .before .before .before .before .before .before .before .before .before .before .before .before .before .before .before .before .before .before .before .before .before .before .before .before .before .before .before .before .before .before .before .events-untested .ensures in (
+      λ g. took-rest (now (s .args .run)) (given s) _ _ (d .0 g) (d .1 .0 g) (sym (c .before .before .before .before .before .before .before .before .before .before .before .before .before .before .before .before .before .before .before .before .before .before .before .before .before .before .before .before .before .is-over .ensures) ∙ c .before .before .before .before .before .before .before .before .before .before .before .before .before .before .before .before .before .before .before .before .before .before .before .before .before .before .before .before .if1 .taken) _ (c .before .before .before .before .before .before .before .before .before .before .before .before .before .before .before .before .rest-event .ensures) (c .before .before .before .before .before .before .before .before .before .before .before .before .before .before .before .before .rest-event .result .taken) .0,
+      λ g. took-rest (now (s .args .run)) (given s) _ _ (d .0 g) (d .1 .0 g) (sym (c .before .before .before .before .before .before .before .before .before .before .before .before .before .before .before .before .before .before .before .before .before .before .before .before .before .before .before .before .before .is-over .ensures) ∙ c .before .before .before .before .before .before .before .before .before .before .before .before .before .before .before .before .before .before .before .before .before .before .before .before .before .before .before .before .if1 .taken) _ (c .before .before .before .before .before .before .before .before .before .before .before .before .before .before .before .before .rest-event .ensures) (c .before .before .before .before .before .before .before .before .before .before .before .before .before .before .before .before .rest-event .result .taken) .1,
     )
 
-same-length : tie.Need-same-length Inv-loop μ-loop
-same-length c =
-    c .before .loop .inv .0 .same-ni
+same-length-9 : tie.Need-same-length-9
+same-length-9 c = c .before .before .before .before .before .before .before .before .before .before .before .before .before .before .before .before .before .ni .given
 
-same-length-2 : tie.Need-same-length-2 Inv-loop μ-loop
-same-length-2 c =
-    c .before .loop .inv .0 .same-na
+same-length-10 : tie.Need-same-length-10
+same-length-10 c = c .before .before .before .before .before .before .before .before .before .before .before .before .before .before .before .na .given
 
-same-length-3 : tie.Need-same-length-3 Inv-loop μ-loop
-same-length-3 c =
-    c .before .loop .inv .0 .same-wi
+same-length-11 : tie.Need-same-length-11
+same-length-11 c = c .before .before .before .before .before .before .before .before .before .before .before .before .before .wi .given
 
-same-length-4 : tie.Need-same-length-4 Inv-loop μ-loop
-same-length-4 c =
-    c .before .loop .inv .0 .same-wa
+same-length-12 : tie.Need-same-length-12
+same-length-12 c = c .before .before .before .before .before .before .before .before .before .before .before .wa .given
 
-same-length-5 : tie.Need-same-length-5 Inv-loop μ-loop
-same-length-5 c =
-    c .before .loop .inv .0 .same-ri
+same-length-13 : tie.Need-same-length-13
+same-length-13 c = c .before .before .before .before .before .before .before .before .before .ri .given
 
-same-length-6 : tie.Need-same-length-6 Inv-loop μ-loop
-same-length-6 c =
-    c .before .loop .inv .0 .same-ra
+same-length-14 : tie.Need-same-length-14
+same-length-14 c = c .before .before .before .before .before .before .before .ra .given
 
-same-length-7 : tie.Need-same-length-7 Inv-loop μ-loop
-same-length-7 c =
-    c .before .loop .inv .0 .same-spans
+same-length-15 : tie.Need-same-length-15
+same-length-15 c = c .before .before .before .before .before .ss .given
 
-same-length-8 : tie.Need-same-length-8 Inv-loop μ-loop
-same-length-8 c =
-    c .before .loop .inv .0 .same-bytes
+same-length-16 : tie.Need-same-length-16
+same-length-16 c = c .before .before .before .sb .given
 
-returns : tie.Need-returns Inv-loop μ-loop
-returns c =
-    let s = c .before .before .before .before .before .before .before .before .before .before .before in
-    let w = walk-left (c .loop-test .left) (c .before .loop .inv .1) in
-    (walk-all (now (s .args .lines)) (given s) _ _ w, walk-rest (now (s .args .lines)) (given s) _ _ w)
+returns-2 : tie.Need-returns-2
+returns-2 c =
+    let s = c .before .before .before .before .before .before .before .before .before .before .before .before .before .before .before .before .before .before .before .before .before .before .before .before .before .before .before .before .before .before .before .before .before .before .before .before .before .before in
+    let d = c .before .before .before .before .before .before .before .before .before .before .before .before .before .before .before .before .before .before .events-untested .ensures in (
+      λ g. took-lines (now (s .args .run)) (given s) _ _ (d .0 g) (d .1 .0 g) (sym (c .before .is-over .ensures) ∙ c .if1 .left) .0,
+      λ g. took-lines (now (s .args .run)) (given s) _ _ (d .0 g) (d .1 .0 g) (sym (c .before .is-over .ensures) ∙ c .if1 .left) .1,
+    )
 
 pub take-lines-spec : {M : Type 1} → statement M
 take-lines-spec =
     tie.close
     (tie.spec
-    Inv-loop
-    μ-loop
-    loop-holds
-    take-line-requires
-    loop-less
-    loop-again
+    events-untested-requires
+    sub-is-over
+    is-over-requires
+    rest-event-requires
     same-length
     same-length-2
     same-length-3
@@ -107,4 +109,13 @@ take-lines-spec =
     same-length-6
     same-length-7
     same-length-8
-    returns)
+    returns
+    same-length-9
+    same-length-10
+    same-length-11
+    same-length-12
+    same-length-13
+    same-length-14
+    same-length-15
+    same-length-16
+    returns-2)

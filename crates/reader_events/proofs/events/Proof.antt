@@ -1,9 +1,9 @@
--- Nothing where there is no line; 22, the stop mark, or all lines.
+-- Nothing where there is no line; 22, or all lines.
 use denote.Ref.{now}
 use mathlib.Core.Path.{refl, sym, _∙_}
 use Rattle.overlay.specs.Overlay.{overlayOf}
 use Rattle.reader.specs.State.{State}
-use Rattle.reader_events.proofs.Runs.{sound-given, came-none, came-22, came-stopped}
+use Rattle.reader_events.proofs.Runs.{sound-given, came-none, came-22}
 use borrow.Author.Needs.{needs}
 use Rattle.reader_events.proofs.events.Statement.{statement}
 use Rattle.reader_events.proofs.events.Tie as tie
@@ -15,7 +15,7 @@ given s =
     record {
       overlay = overlayOf (now (a .ni)) (now (a .na)) (now (a .wi)) (now (a .wa)) (now (a .ri)) (now (a .ra)) (now (a .ss)) (now (a .sb)) (now (a .us));
       reader = a .reader;
-      parts = now (a .parts);
+      parts = now (a .ps);
     }
 
 line-end-requires : tie.Need-line-end-requires
@@ -35,20 +35,8 @@ returns c =
 state-tested-requires : tie.Need-state-tested-requires
 state-tested-requires c κs = tt
 
-mark-of-requires : tie.Need-mark-of-requires
-mark-of-requires c κs = tt
-
-enum-known-refusal : tie.Need-enum-known-refusal
-enum-known-refusal c = search needs
-
-enum-told-3 : tie.Need-enum-told-3
-enum-told-3 c = search needs
-
-going-events-requires : tie.Need-going-events-requires
-going-events-requires c κs =
-    let s = c .before .before .before .before .before .before .before .before .before .before .before .before .before .before .before .before .before .before .before .before .before .before .before .before .before .before .before .before .before .before .before .before .before .before .before .before .before in
-    let t = c .before .before .before .before .before .before .before .before .before .before .before .before .before .before .state-tested in
-    (sound-given (given s) (sym (t .ensures .0) ∙ c .before .before .before .before .before .before .before .before .before .before .before .before .before .if1 .taken) (sym (c .before .before .before .before .before .before .before .before .before .before .before .before .mark-of .ensures) ∙ c .before .before .before .before .before .before .before .before .before .before .enum-told3 .given .1), t .ensures .1)
+events-untested-requires : tie.Need-events-untested-requires
+events-untested-requires c κs = tt
 
 same-length : tie.Need-same-length
 same-length c = c .before .before .before .before .before .before .before .before .before .before .before .before .before .before .before .ni .given
@@ -75,7 +63,11 @@ same-length-8 : tie.Need-same-length-8
 same-length-8 c = c .before .sb .given
 
 returns-2 : tie.Need-returns-2
-returns-2 c = c .before .before .before .before .before .before .before .before .before .before .before .before .before .before .before .before .going-events .ensures
+returns-2 c =
+    let s = c .before .before .before .before .before .before .before .before .before .before .before .before .before .before .before .before .before .before .before .before .before .before .before .before .before .before .before .before .before .before .before .before .before .before .before .before .before .before .before .before .before .before .before .before .before .before .before .before .before .before .before in
+    let t = c .before .before .before .before .before .before .before .before .before .before .before .before .before .before .before .before .before .before .before .before .before .before .before .before .before .before .before .before .state-tested in
+    let g = sound-given (given s) (sym (t .ensures .0) ∙ c .before .before .before .before .before .before .before .before .before .before .before .before .before .before .before .before .before .before .before .before .before .before .before .before .before .before .before .if1 .taken) (t .ensures .1) in
+    (c .before .before .before .before .before .before .before .before .before .before .before .before .before .before .before .before .events-untested .ensures .0 g, c .before .before .before .before .before .before .before .before .before .before .before .before .before .before .before .before .events-untested .ensures .1 .0 g)
 
 same-length-9 : tie.Need-same-length-9
 same-length-9 c = refl
@@ -103,35 +95,6 @@ same-length-16 c = refl
 
 returns-3 : tie.Need-returns-3
 returns-3 c =
-    let s = c .before .before .before .before .before .before .before .before .before .before .before .before .before .before .before .before .before .before .before .before .before .before .before .before .before .before .before .before in
-    came-stopped (now (s .args .run)) (given s) _ (sym (c .before .before .before .before .before .before .before .before .before .before .before .before .before .before .before .before .before .before .line-end .ensures) ∙ c .before .before .before .before .before .before .before .before .before .before .before .before .before .before .before .before .enum-told .given .1) (sym (c .before .before .before .before .before .state-tested .ensures .0) ∙ c .before .before .before .before .if1 .taken) _ _ (sym (c .before .before .before .mark-of .ensures) ∙ c .before .refusal .given .1)
-
-same-length-17 : tie.Need-same-length-17
-same-length-17 c = refl
-
-same-length-18 : tie.Need-same-length-18
-same-length-18 c = refl
-
-same-length-19 : tie.Need-same-length-19
-same-length-19 c = refl
-
-same-length-20 : tie.Need-same-length-20
-same-length-20 c = refl
-
-same-length-21 : tie.Need-same-length-21
-same-length-21 c = refl
-
-same-length-22 : tie.Need-same-length-22
-same-length-22 c = refl
-
-same-length-23 : tie.Need-same-length-23
-same-length-23 c = refl
-
-same-length-24 : tie.Need-same-length-24
-same-length-24 c = refl
-
-returns-4 : tie.Need-returns-4
-returns-4 c =
     let s = c .before .before .before .before .before .before .before .before .before .before .before .before .before .before .before .before .before .before .before .before .before .before .before .before in
     came-22 (now (s .args .run)) (given s) _ (sym (c .before .before .before .before .before .before .before .before .before .before .before .before .before .before .line-end .ensures) ∙ c .before .before .before .before .before .before .before .before .before .before .before .before .enum-told .given .1) (sym (c .before .state-tested .ensures .0) ∙ c .if1 .left)
 
@@ -144,10 +107,7 @@ events-spec =
     enum-told-2
     returns
     state-tested-requires
-    mark-of-requires
-    enum-known-refusal
-    enum-told-3
-    going-events-requires
+    events-untested-requires
     same-length
     same-length-2
     same-length-3
@@ -165,13 +125,4 @@ events-spec =
     same-length-14
     same-length-15
     same-length-16
-    returns-3
-    same-length-17
-    same-length-18
-    same-length-19
-    same-length-20
-    same-length-21
-    same-length-22
-    same-length-23
-    same-length-24
-    returns-4)
+    returns-3)

@@ -18,7 +18,7 @@ given s =
     record {
       overlay = overlayOf (now (a .ni)) (now (a .na)) (now (a .wi)) (now (a .wa)) (now (a .ri)) (now (a .ra)) (now (a .ss)) (now (a .sb)) (now (a .us));
       reader = a .reader;
-      parts = now (a .parts);
+      parts = now (a .ps);
     }
 
 in-bytes : (c : tie.After-state-sound) → InBytes (given (c .before .before .before .before .before .before .before .before .before .before .before) .overlay)

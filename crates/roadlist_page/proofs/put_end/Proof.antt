@@ -16,7 +16,7 @@ given s =
     record {
       overlay = overlayOf (now (a .ni)) (now (a .na)) (now (a .wi)) (now (a .wa)) (now (a .ri)) (now (a .ra)) (now (a .ss)) (now (a .sb)) (now (a .us));
       reader = a .reader;
-      parts = now (a .parts);
+      parts = now (a .ps);
     }
 
 end-requires : tie.Need-end-requires
