@@ -38,13 +38,13 @@ sound-kind-store-requires-3 c κs = search needs
 returns : tie.Need-returns
 unfolding kindStoresSound both
 returns c =
-    rw (← c .before .before .before .before .before .before .before .before .sound-kind-store .ensures, c .before .before .before .before .before .before .before .if1 .taken, ← c .before .before .before .before .sound-kindStore2 .ensures, c .before .before .before .if2 .taken)
-    (c .sound-kindStore3 .ensures)
+    rw (← c .before .before .before .before .before .before .before .before .sound-kind-store .ensures, c .before .before .before .before .before .before .before .if1 .taken, ← c .before .before .before .before .sound-kind-store2 .ensures, c .before .before .before .if2 .taken)
+    (c .sound-kind-store3 .ensures)
 
 returns-2 : tie.Need-returns-2
 unfolding kindStoresSound both
 returns-2 c =
-    rw (← c .before .before .before .before .before .sound-kind-store .ensures, c .before .before .before .before .if1 .taken, ← c .before .sound-kindStore2 .ensures, c .if2 .left)
+    rw (← c .before .before .before .before .before .sound-kind-store .ensures, c .before .before .before .before .if1 .taken, ← c .before .sound-kind-store2 .ensures, c .if2 .left)
 
 returns-3 : tie.Need-returns-3
 unfolding kindStoresSound both
