@@ -22,22 +22,22 @@ use Rattle.decide.specs.declared.HeadField.the-variants as H
 abbrev pub meansDecided : Bytes → Decided → Decision
 meansDecided t (D.Refuses r) = refuses r
 meansDecided t (D.Moves p) = moves p
-meansDecided t (D.Begins empty k p id lat lon m) = begins empty p (toZ w64 id) (metaWritten t m) (bodyIn k lat lon)
-meansDecided t (D.Deletes k p id m) = deletes k p (toZ w64 id) (metaWritten t m)
-meansDecided t (D.Tags p k v) = tags p (record { key = textAt t k; value = textAt t v })
-meansDecided t (D.Refers p reference) = refers p (toZ w64 reference)
-meansDecided t (D.Joins p reference k role) = joins p (record { ref = toZ w64 reference; type = k; role = textAt t role })
+meansDecided t (D.Begins b) = begins (b .empty) (b .place) (toZ w64 (b .id)) (metaWritten t (b .meta)) (bodyIn (b .kind) (b .lat) (b .lon))
+meansDecided t (D.Deletes d) = deletes (d .kind) (d .place) (toZ w64 (d .id)) (metaWritten t (d .meta))
+meansDecided t (D.Tags x) = tags (x .place) (record { key = textAt t (x .key); value = textAt t (x .value) })
+meansDecided t (D.Refers x) = refers (x .place) (toZ w64 (x .reference))
+meansDecided t (D.Joins x) = joins (x .place) (record { ref = toZ w64 (x .reference); type = x .kind; role = textAt t (x .role) })
 meansDecided t (D.Ends p) = ends p
 
 -- its texts lie within the line
 abbrev pub DecidedInBounds : Bytes → Decided → Type 0
 DecidedInBounds t (D.Refuses r) = Unit {0}
 DecidedInBounds t (D.Moves p) = Unit {0}
-DecidedInBounds t (D.Begins empty k p id lat lon m) = MetadataInBounds t m
-DecidedInBounds t (D.Deletes k p id m) = MetadataInBounds t m
-DecidedInBounds t (D.Tags p k v) = ExtentInBounds t k × ExtentInBounds t v
-DecidedInBounds t (D.Refers p reference) = Unit {0}
-DecidedInBounds t (D.Joins p reference k role) = ExtentInBounds t role
+DecidedInBounds t (D.Begins b) = MetadataInBounds t (b .meta)
+DecidedInBounds t (D.Deletes d) = MetadataInBounds t (d .meta)
+DecidedInBounds t (D.Tags x) = ExtentInBounds t (x .key) × ExtentInBounds t (x .value)
+DecidedInBounds t (D.Refers x) = Unit {0}
+DecidedInBounds t (D.Joins x) = ExtentInBounds t (x .role)
 DecidedInBounds t (D.Ends p) = Unit {0}
 
 -- an answer stands for a decision, and its texts lie within the line

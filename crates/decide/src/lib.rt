@@ -28,45 +28,55 @@ use values::MemberField;
 use values::TagField;
 use values::WideField;
 
+// An element that is to be pushed, and ends too where it is empty; a node's place in bits, 0 for another kind.
+pub struct Beginning {
+    pub empty: bool,
+    pub kind: Kind,
+    pub place: Place,
+    pub id: u64,
+    pub lat: u32,
+    pub lon: u32,
+    pub meta: Metadata,
+}
+
+// An id of a kind that is to be deleted.
+pub struct Deletion {
+    pub kind: Kind,
+    pub place: Place,
+    pub id: u64,
+    pub meta: Metadata,
+}
+
+// A tag, a ref, a member of the element that stands open.
+pub struct NewTag {
+    pub place: Place,
+    pub key: Extent,
+    pub value: Extent,
+}
+
+pub struct NewRef {
+    pub place: Place,
+    pub reference: u64,
+}
+
+pub struct NewMember {
+    pub place: Place,
+    pub reference: u64,
+    pub kind: Kind,
+    pub role: Extent,
+}
+
 // What an event is to do; each but a refusal says where its reader stands after it.
 pub enum Decided {
     // 2 to 11
     Refuses(Refusal),
     // the place alone changes
     Moves(Place),
-    // an element that is to be pushed begins, and ends too where it is empty; a node's place in bits, 0 for another kind
-    Begins {
-        empty: bool,
-        kind: Kind,
-        place: Place,
-        id: u64,
-        lat: u32,
-        lon: u32,
-        meta: Metadata,
-    },
-    // an id of a kind is to be deleted
-    Deletes {
-        kind: Kind,
-        place: Place,
-        id: u64,
-        meta: Metadata,
-    },
-    // the element that stands open gets a tag, a ref, a member
-    Tags {
-        place: Place,
-        key: Extent,
-        value: Extent,
-    },
-    Refers {
-        place: Place,
-        reference: u64,
-    },
-    Joins {
-        place: Place,
-        reference: u64,
-        kind: Kind,
-        role: Extent,
-    },
+    Begins(Beginning),
+    Deletes(Deletion),
+    Tags(NewTag),
+    Refers(NewRef),
+    Joins(NewMember),
     // the element that stands open ends, and is to be pushed
     Ends(Place),
 }
@@ -99,7 +109,7 @@ fn push_begins(t: &[u8], at: usize, empty: bool, kind: Kind, place: Place) -> De
         HeadField::Bad(r) => Decided::Refuses(r),
         HeadField::Is { id, meta } => match values::body_field(t, at, kind) {
             BodyField::Bad(r) => Decided::Refuses(r),
-            BodyField::At { lat, lon } => Decided::Begins {
+            BodyField::At { lat, lon } => Decided::Begins(Beginning {
                 empty,
                 kind,
                 place,
@@ -107,7 +117,7 @@ fn push_begins(t: &[u8], at: usize, empty: bool, kind: Kind, place: Place) -> De
                 lat,
                 lon,
                 meta,
-            },
+            }),
         },
     }
 }
@@ -117,12 +127,12 @@ fn delete_begins(t: &[u8], at: usize, kind: Kind, place: Place) -> Decided
 {
     match head_field(t, at) {
         HeadField::Bad(r) => Decided::Refuses(r),
-        HeadField::Is { id, meta } => Decided::Deletes {
+        HeadField::Is { id, meta } => Decided::Deletes(Deletion {
             kind,
             place,
             id,
             meta,
-        },
+        }),
     }
 }
 
@@ -154,11 +164,10 @@ fn tag_child(t: &[u8], at: usize, a: Action, place: Place) -> Decided
 {
     match values::tag_field(t, at) {
         TagField::Bad(r) => Decided::Refuses(r),
-        TagField::Is { key, value } => unless_deleted(
-            a,
-            place,
-            Decided::Tags { place, key, value },
-        ),
+        TagField::Is { key, value } => {
+            let tag = NewTag { place, key, value };
+            unless_deleted(a, place, Decided::Tags(tag))
+        }
     }
 }
 
@@ -167,7 +176,10 @@ fn nd_child(t: &[u8], at: usize, a: Action, place: Place) -> Decided
 {
     match values::wide_field(t, b"ref", at) {
         WideField::Bad(r) => Decided::Refuses(r),
-        WideField::Is(reference) => unless_deleted(a, place, Decided::Refers { place, reference }),
+        WideField::Is(reference) => {
+            let to = NewRef { place, reference };
+            unless_deleted(a, place, Decided::Refers(to))
+        }
     }
 }
 
@@ -181,13 +193,13 @@ fn member_child(t: &[u8], at: usize, a: Action, place: Place) -> Decided
             kind,
             role,
         } => {
-            let d = Decided::Joins {
+            let member = NewMember {
                 place,
                 reference,
                 kind,
                 role,
             };
-            unless_deleted(a, place, d)
+            unless_deleted(a, place, Decided::Joins(member))
         }
     }
 }

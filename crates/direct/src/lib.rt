@@ -32,7 +32,7 @@ pub fn intern(
 {
     if overlay::is_sound(ni, na, wi, wa, ri, ra, ss, sb, us) {
         if text::is_text(text) {
-            return store::store_text(ni, na, wi, wa, ri, ra, ss, sb, us, text);
+            return store::store_text(ss, sb, us, text);
         }
         return Handle::Refused(Refusal::NotText);
     }

@@ -12,6 +12,7 @@ ghost use Rattle.compact.specs.Layout.{headLen};
 ghost use Rattle.overlay.specs.Overlay.{lent, left};
 ghost use Rattle.kind_store.specs.declared.Kept.the-variants as K;
 ghost use Rattle.interner.specs.Strings.{storeWith};
+ghost use Rattle.store.specs.Beside.{KindParts, lentBeside, leftBeside};
 ghost use Rattle.store.specs.Calls.{storePush, storeDelete};
 ghost use Rattle.values.specs.Value.{bodyIn};
 ghost use Rattle.metadata.specs.Metadata.{metaWritten, MetadataInBounds};
@@ -155,25 +156,19 @@ fn refused_act(
 
 // An element begins: 13, or its metadata with its user's handle.
 pub fn begin_element(
-    ni: &[u64],
-    na: &[u8],
-    wi: &[u64],
-    wa: &[u8],
-    ri: &[u64],
-    ra: &[u8],
     ss: &mut [u64],
     sb: &mut [u8],
     us: &mut [u64; 9],
     meta: Metadata,
     line: &[u8],
 ) -> Begun
-    ensures { λ r. ⌜ (ActGiven (now (line .entry)) meta (lent ni na wi wa ri ra ss sb us)
-        → record { overlay = left ni na wi wa ri ra ss sb us; answer = r }
-        ≡ beginOn (metaWritten (now (line .entry)) meta) (lent ni na wi wa ri ra ss sb us)) ⌝ }
+    ensures { λ r. ⌜ ((p : KindParts) → ActGiven (now (line .entry)) meta (lentBeside p ss sb us)
+        → record { overlay = leftBeside p ss sb us; answer = r }
+        ≡ beginOn (metaWritten (now (line .entry)) meta) (lentBeside p ss sb us)) ⌝ }
 {
     if meta.flags / 4 % 2 == 1 {
         let user = meta.user;
-        let handle = reader_texts::take_text(ni, na, wi, wa, ri, ra, ss, sb, us, line, user);
+        let handle = reader_texts::take_text(ss, sb, us, line, user);
         return begun_by(meta, handle);
     }
     Begun::With(arena_meta(meta, 0))
@@ -278,7 +273,7 @@ fn push_with_user(
         → record { overlay = left ni na wi wa ri ra ss sb us; answer = r }
         ≡ userActOn (metaWritten (now (line .entry)) meta) (λ a q. storePush kind head a [] q) (lent ni na wi wa ri ra ss sb us)) ⌝ }
 {
-    match begin_element(ni, na, wi, wa, ri, ra, ss, sb, us, meta, line) {
+    match begin_element(ss, sb, us, meta, line) {
         Begun::With(a) => push_first(ni, na, wi, wa, ri, ra, ss, sb, us, line, 0, kind, head, a),
         Begun::Refused(r) => Kept::Refused(r),
     }
@@ -339,7 +334,7 @@ fn delete_with_user(
         → record { overlay = left ni na wi wa ri ra ss sb us; answer = r }
         ≡ userActOn (metaWritten (now (line .entry)) meta) (λ a q. storeDelete kind (toZ w64 id) (claimOf (metaWritten (now (line .entry)) meta)) q) (lent ni na wi wa ri ra ss sb us)) ⌝ }
 {
-    match begin_element(ni, na, wi, wa, ri, ra, ss, sb, us, meta, line) {
+    match begin_element(ss, sb, us, meta, line) {
         Begun::With(_) => store::store_delete(
             ni,
             na,

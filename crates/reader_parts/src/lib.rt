@@ -7,7 +7,8 @@ ghost use mir.Val.{toZ};
 ghost use Rattle.stage.specs.Stage.{staged, refPart, memberPart, tagPart};
 ghost use Rattle.interner.specs.Strings.{storeWith};
 ghost use Rattle.values.specs.Value.{textAt, ExtentInBounds};
-ghost use Rattle.overlay.specs.Overlay.{Overlay, lent, left};
+ghost use Rattle.overlay.specs.Overlay.{Overlay};
+ghost use Rattle.store.specs.Beside.{KindParts, lentBeside, leftBeside};
 ghost use Rattle.reader.specs.State.{middle, valuesIn, moreTags, moreParts};
 ghost use Rattle.reader_texts.specs.Texts.{refusedFor};
 ghost use Rattle.reader_parts.specs.Parts.{ChildGiven, tagFits, partFits, refusalOver, pendingWith, addTag, addRef, addMember};
@@ -150,12 +151,6 @@ fn with_member(parts: &mut [u8], kind: Kind, pending: Pending, member: CompactMe
 
 // With its value's text.
 fn tag_with(
-    ni: &[u64],
-    na: &[u8],
-    wi: &[u64],
-    wa: &[u8],
-    ri: &[u64],
-    ra: &[u8],
     ss: &mut [u64],
     sb: &mut [u8],
     us: &mut [u64; 9],
@@ -166,12 +161,12 @@ fn tag_with(
     key: Extent,
     value: &[u8],
 ) -> Added
-    ensures { λ r. ⌜ (ChildGiven (lent ni na wi wa ri ra ss sb us) pending (now (parts .entry)) (now (line .entry)) → ExtentInBounds (now (line .entry)) key
-        → record { overlay = left ni na wi wa ri ra ss sb us; parts = now (parts .exit); answer = r }
-        ≡ addTag kind pending (record { key = textAt (now (line .entry)) key; value = now (value .entry) }) (now (parts .entry)) (lent ni na wi wa ri ra ss sb us)) ⌝ }
+    ensures { λ r. ⌜ ((p : KindParts) → ChildGiven (lentBeside p ss sb us) pending (now (parts .entry)) (now (line .entry)) → ExtentInBounds (now (line .entry)) key
+        → record { overlay = leftBeside p ss sb us; parts = now (parts .exit); answer = r }
+        ≡ addTag kind pending (record { key = textAt (now (line .entry)) key; value = now (value .entry) }) (now (parts .entry)) (lentBeside p ss sb us)) ⌝ }
 {
     if tag_fits(kind, pending, value.len()) {
-        return match reader_texts::take_text(ni, na, wi, wa, ri, ra, ss, sb, us, line, key) {
+        return match reader_texts::take_text(ss, sb, us, line, key) {
             Handle::Is(handle) => Added::Is(with_tag(parts, pending, handle, value)),
             Handle::Refused(refusal) => Added::Refused(refusal),
         };
@@ -181,12 +176,6 @@ fn tag_with(
 
 // The first n of some bytes are its value's text.
 fn tag_first(
-    ni: &[u64],
-    na: &[u8],
-    wi: &[u64],
-    wa: &[u8],
-    ri: &[u64],
-    ra: &[u8],
     ss: &mut [u64],
     sb: &mut [u8],
     us: &mut [u64; 9],
@@ -198,38 +187,16 @@ fn tag_first(
     room: &[u8],
     n: usize,
 ) -> Added
-    ensures { λ r. ⌜ (ChildGiven (lent ni na wi wa ri ra ss sb us) pending (now (parts .entry)) (now (line .entry)) → ExtentInBounds (now (line .entry)) key
-        → record { overlay = left ni na wi wa ri ra ss sb us; parts = now (parts .exit); answer = r }
-        ≡ addTag kind pending (record { key = textAt (now (line .entry)) key; value = take n (now (room .entry)) }) (now (parts .entry)) (lent ni na wi wa ri ra ss sb us)) ⌝ }
+    ensures { λ r. ⌜ ((p : KindParts) → ChildGiven (lentBeside p ss sb us) pending (now (parts .entry)) (now (line .entry)) → ExtentInBounds (now (line .entry)) key
+        → record { overlay = leftBeside p ss sb us; parts = now (parts .exit); answer = r }
+        ≡ addTag kind pending (record { key = textAt (now (line .entry)) key; value = take n (now (room .entry)) }) (now (parts .entry)) (lentBeside p ss sb us)) ⌝ }
 {
     let end = little::lesser(n, room.len());
-    tag_with(
-        ni,
-        na,
-        wi,
-        wa,
-        ri,
-        ra,
-        ss,
-        sb,
-        us,
-        parts,
-        kind,
-        pending,
-        line,
-        key,
-        &room[..end],
-    )
+    tag_with(ss, sb, us, parts, kind, pending, line, key, &room[..end])
 }
 
 // By an array that holds its value's text.
 fn tag_through(
-    ni: &[u64],
-    na: &[u8],
-    wi: &[u64],
-    wa: &[u8],
-    ri: &[u64],
-    ra: &[u8],
     ss: &mut [u64],
     sb: &mut [u8],
     us: &mut [u64; 9],
@@ -241,39 +208,16 @@ fn tag_through(
     value: Extent,
     room: &mut [u8; 16384],
 ) -> Added
-    ensures { λ r. ⌜ (ChildGiven (lent ni na wi wa ri ra ss sb us) pending (now (parts .entry)) (now (line .entry)) → ExtentInBounds (now (line .entry)) key → ExtentInBounds (now (line .entry)) value
-        → record { overlay = left ni na wi wa ri ra ss sb us; parts = now (parts .exit); answer = r }
-        ≡ addTag kind pending (record { key = textAt (now (line .entry)) key; value = textAt (now (line .entry)) value }) (now (parts .entry)) (lent ni na wi wa ri ra ss sb us)) ⌝ }
+    ensures { λ r. ⌜ ((p : KindParts) → ChildGiven (lentBeside p ss sb us) pending (now (parts .entry)) (now (line .entry)) → ExtentInBounds (now (line .entry)) key → ExtentInBounds (now (line .entry)) value
+        → record { overlay = leftBeside p ss sb us; parts = now (parts .exit); answer = r }
+        ≡ addTag kind pending (record { key = textAt (now (line .entry)) key; value = textAt (now (line .entry)) value }) (now (parts .entry)) (lentBeside p ss sb us)) ⌝ }
 {
     let n = reader_texts::text_into(room, line, value);
-    tag_first(
-        ni,
-        na,
-        wi,
-        wa,
-        ri,
-        ra,
-        ss,
-        sb,
-        us,
-        parts,
-        kind,
-        pending,
-        line,
-        key,
-        room,
-        n,
-    )
+    tag_first(ss, sb, us, parts, kind, pending, line, key, room, n)
 }
 
 // With its value's escapes resolved.
 fn tag_resolved(
-    ni: &[u64],
-    na: &[u8],
-    wi: &[u64],
-    wa: &[u8],
-    ri: &[u64],
-    ra: &[u8],
     ss: &mut [u64],
     sb: &mut [u8],
     us: &mut [u64; 9],
@@ -284,18 +228,12 @@ fn tag_resolved(
     key: Extent,
     value: Extent,
 ) -> Added
-    ensures { λ r. ⌜ (ChildGiven (lent ni na wi wa ri ra ss sb us) pending (now (parts .entry)) (now (line .entry)) → ExtentInBounds (now (line .entry)) key → ExtentInBounds (now (line .entry)) value
-        → record { overlay = left ni na wi wa ri ra ss sb us; parts = now (parts .exit); answer = r }
-        ≡ addTag kind pending (record { key = textAt (now (line .entry)) key; value = textAt (now (line .entry)) value }) (now (parts .entry)) (lent ni na wi wa ri ra ss sb us)) ⌝ }
+    ensures { λ r. ⌜ ((p : KindParts) → ChildGiven (lentBeside p ss sb us) pending (now (parts .entry)) (now (line .entry)) → ExtentInBounds (now (line .entry)) key → ExtentInBounds (now (line .entry)) value
+        → record { overlay = leftBeside p ss sb us; parts = now (parts .exit); answer = r }
+        ≡ addTag kind pending (record { key = textAt (now (line .entry)) key; value = textAt (now (line .entry)) value }) (now (parts .entry)) (lentBeside p ss sb us)) ⌝ }
 {
     let mut room = [0u8; 16384];
     tag_through(
-        ni,
-        na,
-        wi,
-        wa,
-        ri,
-        ra,
         ss,
         sb,
         us,
@@ -311,12 +249,6 @@ fn tag_resolved(
 
 // A tag more: 13 of its key, 16, or the tag staged.
 pub fn add_tag(
-    ni: &[u64],
-    na: &[u8],
-    wi: &[u64],
-    wa: &[u8],
-    ri: &[u64],
-    ra: &[u8],
     ss: &mut [u64],
     sb: &mut [u8],
     us: &mut [u64; 9],
@@ -327,49 +259,17 @@ pub fn add_tag(
     key: Extent,
     value: Extent,
 ) -> Added
-    ensures { λ r. ⌜ (ChildGiven (lent ni na wi wa ri ra ss sb us) pending (now (parts .entry)) (now (line .entry)) → ExtentInBounds (now (line .entry)) key → ExtentInBounds (now (line .entry)) value
-        → record { overlay = left ni na wi wa ri ra ss sb us; parts = now (parts .exit); answer = r }
-        ≡ addTag kind pending (record { key = textAt (now (line .entry)) key; value = textAt (now (line .entry)) value }) (now (parts .entry)) (lent ni na wi wa ri ra ss sb us)) ⌝ }
+    ensures { λ r. ⌜ ((p : KindParts) → ChildGiven (lentBeside p ss sb us) pending (now (parts .entry)) (now (line .entry)) → ExtentInBounds (now (line .entry)) key → ExtentInBounds (now (line .entry)) value
+        → record { overlay = leftBeside p ss sb us; parts = now (parts .exit); answer = r }
+        ≡ addTag kind pending (record { key = textAt (now (line .entry)) key; value = textAt (now (line .entry)) value }) (now (parts .entry)) (lentBeside p ss sb us)) ⌝ }
 {
     let to = little::lesser(value.to, line.len());
     let from = little::lesser(value.from, to);
     let text = &line[from..to];
     if scan::lacks(text, b'\\') {
-        return tag_with(
-            ni,
-            na,
-            wi,
-            wa,
-            ri,
-            ra,
-            ss,
-            sb,
-            us,
-            parts,
-            kind,
-            pending,
-            line,
-            key,
-            text,
-        );
+        return tag_with(ss, sb, us, parts, kind, pending, line, key, text);
     }
-    tag_resolved(
-        ni,
-        na,
-        wi,
-        wa,
-        ri,
-        ra,
-        ss,
-        sb,
-        us,
-        parts,
-        kind,
-        pending,
-        line,
-        key,
-        value,
-    )
+    tag_resolved(ss, sb, us, parts, kind, pending, line, key, value)
 }
 
 // ---- a ref and a member
@@ -387,12 +287,6 @@ pub fn add_ref(parts: &mut [u8; 44432], kind: Kind, pending: Pending, reference:
 
 // A member more: 13 of its role, 16, or the member staged.
 pub fn add_member(
-    ni: &[u64],
-    na: &[u8],
-    wi: &[u64],
-    wa: &[u8],
-    ri: &[u64],
-    ra: &[u8],
     ss: &mut [u64],
     sb: &mut [u8],
     us: &mut [u64; 9],
@@ -404,12 +298,12 @@ pub fn add_member(
     member_kind: Kind,
     role: Extent,
 ) -> Added
-    ensures { λ r. ⌜ (ChildGiven (lent ni na wi wa ri ra ss sb us) pending (now (parts .entry)) (now (line .entry)) → ExtentInBounds (now (line .entry)) role
-        → record { overlay = left ni na wi wa ri ra ss sb us; parts = now (parts .exit); answer = r }
-        ≡ addMember kind pending (record { ref = toZ w64 reference; type = «member_kind»; role = textAt (now (line .entry)) role }) (now (parts .entry)) (lent ni na wi wa ri ra ss sb us)) ⌝ }
+    ensures { λ r. ⌜ ((p : KindParts) → ChildGiven (lentBeside p ss sb us) pending (now (parts .entry)) (now (line .entry)) → ExtentInBounds (now (line .entry)) role
+        → record { overlay = leftBeside p ss sb us; parts = now (parts .exit); answer = r }
+        ≡ addMember kind pending (record { ref = toZ w64 reference; type = «member_kind»; role = textAt (now (line .entry)) role }) (now (parts .entry)) (lentBeside p ss sb us)) ⌝ }
 {
     if part_fits(pending, 2000) {
-        return match reader_texts::take_text(ni, na, wi, wa, ri, ra, ss, sb, us, line, role) {
+        return match reader_texts::take_text(ss, sb, us, line, role) {
             Handle::Is(handle) => {
                 let member = CompactMember {
                     reference,

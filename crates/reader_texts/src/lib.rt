@@ -6,7 +6,7 @@ ghost use lib.ListN.{length, take, getD};
 ghost use Rattle.little.specs.Little.{over};
 ghost use Rattle.interner.specs.Strings.{storeWith};
 ghost use Rattle.values.specs.Value.{textAt, ExtentInBounds};
-ghost use Rattle.overlay.specs.Overlay.{lent, left};
+ghost use Rattle.store.specs.Beside.{KindParts, lentBeside, leftBeside};
 ghost use Rattle.store.specs.Calls.{storeText};
 ghost use Rattle.reader_texts.specs.Texts.{refusedFor};
 use interner::Found;
@@ -26,34 +26,15 @@ pub fn text_into(out: &mut [u8], line: &[u8], at: Extent) -> usize
 // ---- a text taken in
 
 // The text that the first n of some bytes are.
-fn take_first(
-    ni: &[u64],
-    na: &[u8],
-    wi: &[u64],
-    wa: &[u8],
-    ri: &[u64],
-    ra: &[u8],
-    ss: &mut [u64],
-    sb: &mut [u8],
-    us: &mut [u64; 9],
-    room: &[u8],
-    n: usize,
-) -> Handle
-    ensures { λ r. ⌜ record { overlay = left ni na wi wa ri ra ss sb us; answer = r }
-        ≡ storeText (take n (now (room .entry))) (lent ni na wi wa ri ra ss sb us) ⌝ }
+fn take_first(ss: &mut [u64], sb: &mut [u8], us: &mut [u64; 9], room: &[u8], n: usize) -> Handle
+    ensures { λ r. ⌜ ((p : KindParts) → record { overlay = leftBeside p ss sb us; answer = r } ≡ storeText (take n (now (room .entry))) (lentBeside p ss sb us)) ⌝ }
 {
     let end = little::lesser(n, room.len());
-    store::store_text(ni, na, wi, wa, ri, ra, ss, sb, us, &room[..end])
+    store::store_text(ss, sb, us, &room[..end])
 }
 
 // The text of an extent, by an array that holds it.
 fn take_through(
-    ni: &[u64],
-    na: &[u8],
-    wi: &[u64],
-    wa: &[u8],
-    ri: &[u64],
-    ra: &[u8],
     ss: &mut [u64],
     sb: &mut [u8],
     us: &mut [u64; 9],
@@ -62,21 +43,14 @@ fn take_through(
     room: &mut [u8; 16384],
 ) -> Handle
     ensures { λ r. ⌜ (ExtentInBounds (now (line .entry)) at → length (now (line .entry)) ≤ 16384
-        → record { overlay = left ni na wi wa ri ra ss sb us; answer = r }
-        ≡ storeText (textAt (now (line .entry)) at) (lent ni na wi wa ri ra ss sb us)) ⌝ }
+        → (p : KindParts) → record { overlay = leftBeside p ss sb us; answer = r } ≡ storeText (textAt (now (line .entry)) at) (lentBeside p ss sb us)) ⌝ }
 {
     let n = text_into(room, line, at);
-    take_first(ni, na, wi, wa, ri, ra, ss, sb, us, room, n)
+    take_first(ss, sb, us, room, n)
 }
 
 // The text of an extent, its escapes resolved.
 fn take_resolved(
-    ni: &[u64],
-    na: &[u8],
-    wi: &[u64],
-    wa: &[u8],
-    ri: &[u64],
-    ra: &[u8],
     ss: &mut [u64],
     sb: &mut [u8],
     us: &mut [u64; 9],
@@ -84,21 +58,14 @@ fn take_resolved(
     at: Extent,
 ) -> Handle
     ensures { λ r. ⌜ (ExtentInBounds (now (line .entry)) at → length (now (line .entry)) ≤ 16384
-        → record { overlay = left ni na wi wa ri ra ss sb us; answer = r }
-        ≡ storeText (textAt (now (line .entry)) at) (lent ni na wi wa ri ra ss sb us)) ⌝ }
+        → (p : KindParts) → record { overlay = leftBeside p ss sb us; answer = r } ≡ storeText (textAt (now (line .entry)) at) (lentBeside p ss sb us)) ⌝ }
 {
     let mut room = [0u8; 16384];
-    take_through(ni, na, wi, wa, ri, ra, ss, sb, us, line, at, &mut room)
+    take_through(ss, sb, us, line, at, &mut room)
 }
 
 // Takes the text of an extent in: 13, or its handle.
 pub fn take_text(
-    ni: &[u64],
-    na: &[u8],
-    wi: &[u64],
-    wa: &[u8],
-    ri: &[u64],
-    ra: &[u8],
     ss: &mut [u64],
     sb: &mut [u8],
     us: &mut [u64; 9],
@@ -106,16 +73,15 @@ pub fn take_text(
     at: Extent,
 ) -> Handle
     ensures { λ r. ⌜ (ExtentInBounds (now (line .entry)) at → length (now (line .entry)) ≤ 16384
-        → record { overlay = left ni na wi wa ri ra ss sb us; answer = r }
-        ≡ storeText (textAt (now (line .entry)) at) (lent ni na wi wa ri ra ss sb us)) ⌝ }
+        → (p : KindParts) → record { overlay = leftBeside p ss sb us; answer = r } ≡ storeText (textAt (now (line .entry)) at) (lentBeside p ss sb us)) ⌝ }
 {
     let to = little::lesser(at.to, line.len());
     let from = little::lesser(at.from, to);
     let text = &line[from..to];
     if scan::lacks(text, b'\\') {
-        return store::store_text(ni, na, wi, wa, ri, ra, ss, sb, us, text);
+        return store::store_text(ss, sb, us, text);
     }
-    take_resolved(ni, na, wi, wa, ri, ra, ss, sb, us, line, at)
+    take_resolved(ss, sb, us, line, at)
 }
 
 // ---- whether a text would be refused: 13

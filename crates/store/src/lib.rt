@@ -10,6 +10,7 @@ ghost use Rattle.compact.specs.Held.{metaOf};
 ghost use Rattle.kind_store.specs.KindStore.{pushed, deleted};
 ghost use Rattle.overlay.specs.Overlay.{lent, left};
 ghost use Rattle.store.specs.Lent.{kindStoreLent, kindStoreLeft, settingIn, othersKept};
+ghost use Rattle.store.specs.Beside.{KindParts, lentBeside, leftBeside};
 ghost use Rattle.store.specs.Calls.{bytesOf, storePush, storeDelete, handleIn, storeText};
 use compact::ArenaMeta;
 use compact::PushHead;
@@ -47,20 +48,8 @@ fn handle_in(answer: Interned) -> Handle
 }
 
 // Takes a text in: 13, or its handle.
-pub fn store_text(
-    ni: &[u64],
-    na: &[u8],
-    wi: &[u64],
-    wa: &[u8],
-    ri: &[u64],
-    ra: &[u8],
-    ss: &mut [u64],
-    sb: &mut [u8],
-    us: &mut [u64; 9],
-    text: &[u8],
-) -> Handle
-    ensures { λ r. ⌜ record { overlay = left ni na wi wa ri ra ss sb us; answer = r }
-        ≡ storeText (now (text .entry)) (lent ni na wi wa ri ra ss sb us) ⌝ }
+pub fn store_text(ss: &mut [u64], sb: &mut [u8], us: &mut [u64; 9], text: &[u8]) -> Handle
+    ensures { λ r. ⌜ ((p : KindParts) → record { overlay = leftBeside p ss sb us; answer = r } ≡ storeText (now (text .entry)) (lentBeside p ss sb us)) ⌝ }
 {
     let taken = interner::intern(ss, sb, us[6], us[7], text);
     put_two(us, 6, taken.strings, 7, taken.used);

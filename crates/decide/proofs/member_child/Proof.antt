@@ -30,7 +30,7 @@ returns-2 : tie.Need-returns-2
 returns-2 c =
     let t = now (c .before .before .before .before .before .before .args .t) in
     let e = ap (memberField t) (sym (c .before .before .reference .given .1)) ∙ c .before .before .before .before .member-field .ensures .0 in
-    rw (c .unless-deleted .ensures, ← e) (dropped t (c .before .before .before .before .before .before .args .a) (c .before .before .before .before .before .before .args .place) (D.Joins (c .before .before .before .before .before .before .args .place) (c .before .before .reference .given .0 .0) (c .before .before .reference .given .0 .1 .0) (c .before .before .reference .given .0 .1 .1 .0)) (record { is = refl; lies = subst (MemberInBounds t) (c .before .before .reference .given .1) (c .before .before .before .before .member-field .ensures .1) }))
+    rw (c .unless-deleted .ensures, ← e) (dropped t (c .before .before .before .before .before .before .args .a) (c .before .before .before .before .before .before .args .place) (D.Joins (record { place = c .before .before .before .before .before .before .args .place; reference = c .before .before .reference .given .0 .0; kind = c .before .before .reference .given .0 .1 .0; role = c .before .before .reference .given .0 .1 .1 .0 })) (record { is = refl; lies = subst (MemberInBounds t) (c .before .before .reference .given .1) (c .before .before .before .before .member-field .ensures .1) }))
 
 pub member-child-spec : {M : Type 1} → statement M
 member-child-spec =

@@ -36,7 +36,7 @@ unfolding refOf
 returns-2 c =
     let t = now (c .before .before .before .before .before .before .before .args .t) in
     let e = ap (wideField) (sym (c .before .before .reference .given .1)) ∙ c .before .before .before .before .wide-field .ensures in
-    rw (c .unless-deleted .ensures, ← e) (dropped t (c .before .before .before .before .before .before .before .args .a) (c .before .before .before .before .before .before .before .args .place) (D.Refers (c .before .before .before .before .before .before .before .args .place) (c .before .before .reference .given .0 .0)) (record { is = refl; lies = tt }))
+    rw (c .unless-deleted .ensures, ← e) (dropped t (c .before .before .before .before .before .before .before .args .a) (c .before .before .before .before .before .before .before .args .place) (D.Refers (record { place = c .before .before .before .before .before .before .before .args .place; reference = c .before .before .reference .given .0 .0 })) (record { is = refl; lies = tt }))
 
 pub nd-child-spec : {M : Type 1} → statement M
 nd-child-spec =

@@ -30,7 +30,7 @@ returns-2 : tie.Need-returns-2
 returns-2 c =
     let t = now (c .before .before .before .before .before .before .args .t) in
     let e = ap (tagField t) (sym (c .before .before .key .given .1)) ∙ c .before .before .before .before .tag-field .ensures .0 in
-    rw (c .unless-deleted .ensures, ← e) (dropped t (c .before .before .before .before .before .before .args .a) (c .before .before .before .before .before .before .args .place) (D.Tags (c .before .before .before .before .before .before .args .place) (c .before .before .key .given .0 .0) (c .before .before .key .given .0 .1 .0)) (record { is = refl; lies = subst (TagInBounds t) (c .before .before .key .given .1) (c .before .before .before .before .tag-field .ensures .1) }))
+    rw (c .unless-deleted .ensures, ← e) (dropped t (c .before .before .before .before .before .before .args .a) (c .before .before .before .before .before .before .args .place) (D.Tags (record { place = c .before .before .before .before .before .before .args .place; key = c .before .before .key .given .0 .0; value = c .before .before .key .given .0 .1 .0 })) (record { is = refl; lies = subst (TagInBounds t) (c .before .before .key .given .1) (c .before .before .before .before .tag-field .ensures .1) }))
 
 pub tag-child-spec : {M : Type 1} → statement M
 tag-child-spec =

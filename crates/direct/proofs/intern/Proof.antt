@@ -2,6 +2,7 @@
 use mathlib.Core.Path.{sym, _∙_}
 use denote.Ref.{now}
 use Rattle.overlay.specs.Overlay.{Overlay, overlayOf}
+use Rattle.store.specs.Beside.{KindParts}
 use Rattle.direct.proofs.Parts.{intern-unsound, intern-not-text, intern-text}
 use borrow.Author.Needs.{needs}
 use Rattle.direct.proofs.intern.Statement.{statement}
@@ -12,6 +13,12 @@ abbrev given : tie.Start → Overlay
 given s =
     let k = s .args in
     overlayOf (now (k .ni)) (now (k .na)) (now (k .wi)) (now (k .wa)) (now (k .ri)) (now (k .ra)) (now (k .ss)) (now (k .sb)) (now (k .us))
+
+-- what stands beside the strings
+abbrev beside : tie.Start → KindParts
+beside s =
+    let k = s .args in
+    record { ni = now (k .ni); na = now (k .na); wi = now (k .wi); wa = now (k .wa); ri = now (k .ri); ra = now (k .ra) }
 
 is-sound-requires : tie.Need-is-sound-requires
 is-sound-requires c κs = search needs
@@ -33,7 +40,7 @@ returns c =
     let w = c .before .before .before .before .before .before .before .before in
     let s = w .before .before .before .before .before .before .before .before .before .before .before .before .before .before .before .before in
     intern-text (given s) (now (s .args .text)) (sym (w .before .before .before .is-sound .ensures) ∙ w .before .before .if1 .taken) (sym (w .before .is-text .ensures) ∙ w .if2 .taken) _
-    (c .before .before .before .before .store-text .ensures)
+    (c .before .before .before .before .store-text .ensures (beside s))
 
 same-length-3 : tie.Need-same-length-3
 same-length-3 c = search needs

@@ -3,6 +3,7 @@ use mathlib.Core.List.{[]}
 use denote.Ref.{now}
 use Rattle.overlay.specs.Overlay.{Overlay, overlayOf}
 use Rattle.metadata.specs.Metadata.{metaWritten}
+use Rattle.store.specs.Beside.{KindParts}
 use Rattle.store.specs.Calls.{storePush}
 use Rattle.compact.specs.declared.ArenaMeta.{ArenaMeta}
 use Rattle.overlay.specs.Calls.{OverlayAfter}
@@ -18,6 +19,12 @@ abbrev given : tie.Start → Overlay
 given s =
     let k = s .args in
     overlayOf (now (k .ni)) (now (k .na)) (now (k .wi)) (now (k .wa)) (now (k .ri)) (now (k .ra)) (now (k .ss)) (now (k .sb)) (now (k .us))
+
+-- what stands beside the strings
+abbrev beside : tie.Start → KindParts
+beside s =
+    let k = s .args in
+    record { ni = now (k .ni); na = now (k .na); wi = now (k .wi); wa = now (k .wa); ri = now (k .ri); ra = now (k .ra) }
 
 -- the metadata as it is written
 abbrev meta : tie.Start → Meta Bytes
@@ -68,8 +75,8 @@ returns c =
     let pushed = c .before .before .before .before .before .before .before .before .before .before .before .before in
     let told = pushed .before .before .before .before .before .before .before .before .before .before .before in
     let begun = told .before .before .before .before .before .before in
-    let s = begun .before .before .before .before .before .before .before .before .before .before .before .before .before .before .before .before .before .before .before in
-    λ g. user-acted (meta s) (act s) (given s) (begun .begin-element .ensures g) _ (told .a .given .1) (pushed .push-first .ensures)
+    let s = begun .before .before .before .before .before .before .before .before .before .before .before .before .before in
+    λ g. user-acted (meta s) (act s) (given s) (begun .begin-element .ensures (beside s) g) _ (told .a .given .1) (pushed .push-first .ensures)
 
 same-length-9 : tie.Need-same-length-9
 same-length-9 c = search needs
@@ -77,29 +84,11 @@ same-length-9 c = search needs
 same-length-10 : tie.Need-same-length-10
 same-length-10 c = search needs
 
-same-length-11 : tie.Need-same-length-11
-same-length-11 c = search needs
-
-same-length-12 : tie.Need-same-length-12
-same-length-12 c = search needs
-
-same-length-13 : tie.Need-same-length-13
-same-length-13 c = search needs
-
-same-length-14 : tie.Need-same-length-14
-same-length-14 c = search needs
-
-same-length-15 : tie.Need-same-length-15
-same-length-15 c = search needs
-
-same-length-16 : tie.Need-same-length-16
-same-length-16 c = search needs
-
 returns-2 : tie.Need-returns-2
 returns-2 c =
     let begun = c .before .before .before .before .before .before .before in
-    let s = begun .before .before .before .before .before .before .before .before .before .before .before .before .before .before .before .before .before .before .before in
-    λ g. user-not (meta s) (act s) (given s) (begun .begin-element .ensures g) _ (c .before .r .given .1)
+    let s = begun .before .before .before .before .before .before .before .before .before .before .before .before .before in
+    λ g. user-not (meta s) (act s) (given s) (begun .begin-element .ensures (beside s) g) _ (c .before .r .given .1)
 
 pub push-with-user-spec : {M : Type 1} → statement M
 push-with-user-spec =
@@ -120,10 +109,4 @@ push-with-user-spec =
     returns
     same-length-9
     same-length-10
-    same-length-11
-    same-length-12
-    same-length-13
-    same-length-14
-    same-length-15
-    same-length-16
     returns-2)

@@ -23,7 +23,7 @@ narrow-requires c κs = search needs
 
 with-member-requires : tie.Need-with-member-requires
 with-member-requires c κs =
-    part-yes (c .before .before .before .before .before .before .before .before .before .before .before .before .before .before .before .before .before .before .before .before .before .before .before .before .before .args .pending) 2000 (sym (c .before .before .before .before .before .before .before .before .before .before .before .before .before .before .before .part-fits .ensures) ∙ c .before .before .before .before .before .before .before .before .before .before .before .before .before .before .if1 .taken)
+    part-yes (c .before .before .before .before .before .before .before .before .before .before .before .before .before .before .before .before .before .before .before .args .pending) 2000 (sym (c .before .before .before .before .before .before .before .before .before .before .before .before .before .before .before .part-fits .ensures) ∙ c .before .before .before .before .before .before .before .before .before .before .before .before .before .before .if1 .taken)
 
 enum-known-refusal : tie.Need-enum-known-refusal
 enum-known-refusal c = search needs
@@ -36,11 +36,11 @@ same-length-2 c = search needs
 
 returns : tie.Need-returns
 returns c =
-    λ g lies.
-    let k = c .before .before .before .before .before .before .before .before .before .before .before .take-text .ensures lies (g .short) in
+    λ p g lies.
+    let k = c .before .before .before .before .before .before .before .before .before .before .before .take-text .ensures lies (g .short) p in
     let e = c .before .before .before .before .before .handle .given .1 in
     let f = rw (c .before .before .before .kind-number .ensures, c .before .before .narrow .ensures (handle-fits _ _ _ _ _ k e (g .strings))) at (c .with-member .ensures (g .used)) in
-    rw (ofZ-toZ (c .before .before .before .before .before .before .before .before .before .before .before .before .before .before .before .before .before .before .before .before .before .before .before .before .before .before .fits .reference)) (staged-left _ _ _ _ _ _ _ _ _ _ k _ _ _ (sym (c .before .before .before .before .before .before .before .before .before .before .before .before .before .before .before .before .part-fits .ensures) ∙ c .before .before .before .before .before .before .before .before .before .before .before .before .before .before .before .if1 .taken) e f)
+    rw (ofZ-toZ (c .before .before .before .before .before .before .before .before .before .before .before .before .before .before .before .before .before .before .before .before .fits .reference)) (staged-left _ _ _ _ _ _ _ _ _ _ k _ _ _ (sym (c .before .before .before .before .before .before .before .before .before .before .before .before .before .before .before .before .part-fits .ensures) ∙ c .before .before .before .before .before .before .before .before .before .before .before .before .before .before .before .if1 .taken) e f)
 
 same-length-3 : tie.Need-same-length-3
 same-length-3 c = search needs
@@ -50,7 +50,7 @@ same-length-4 c = search needs
 
 returns-2 : tie.Need-returns-2
 returns-2 c =
-    λ g lies. refused-left _ _ _ _ _ _ _ _ _ _ (c .before .before .before .before .before .before .before .take-text .ensures lies (g .short)) _ (c .before .refusal .given .1)
+    λ p g lies. refused-left _ _ _ _ _ _ _ _ _ _ (c .before .before .before .before .before .before .before .take-text .ensures lies (g .short) p) _ (c .before .refusal .given .1)
 
 over-limit-requires : tie.Need-over-limit-requires
 over-limit-requires c κs = search needs
@@ -63,7 +63,7 @@ same-length-6 c = search needs
 
 returns-3 : tie.Need-returns-3
 returns-3 c =
-    λ g lies. over-left _ _ _ _ _ _ _ _ _ (sym (c .before .before .before .before .before .part-fits .ensures) ∙ c .before .before .before .before .if1 .left) (c .over-limit .ensures lies (g .short))
+    λ p g lies. over-left _ _ _ _ _ _ _ _ _ (sym (c .before .before .before .before .before .part-fits .ensures) ∙ c .before .before .before .before .if1 .left) (c .over-limit .ensures lies (g .short))
 
 pub add-member-spec : {M : Type 1} → statement M
 add-member-spec =

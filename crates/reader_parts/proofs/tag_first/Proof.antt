@@ -13,7 +13,7 @@ lesser-requires c κs = search needs
 
 slice-aggregate-tag-with : tie.Need-slice-aggregate-tag-with
 slice-aggregate-tag-with c =
-    let b = now (c .before .before .before .before .before .before .before .before .before .before .before .before .before .before .before .before .before .args .room) in
+    let b = now (c .before .before .before .before .before .before .before .before .before .before .before .args .room) in
     sym (length-take-le (c .before .before .before .before .before .lesser .result) b (omega (arith, c .before .before .before .before .before .lesser .ensures)))
 
 tag-with-requires : tie.Need-tag-with-requires
@@ -30,7 +30,7 @@ same-length-3 c = search needs
 
 returns : tie.Need-returns
 returns c =
-    rw (c .before .before .before .before .before .before .before .before .before .before .before .before .lesser .ensures, take-min) at (c .before .before .before .before .before .before .tag-with .ensures)
+    λ p. rw (c .before .before .before .before .before .before .before .before .before .before .before .before .lesser .ensures, take-min) at (c .before .before .before .before .before .before .tag-with .ensures p)
 
 pub tag-first-spec : {M : Type 1} → statement M
 tag-first-spec =

@@ -18,7 +18,7 @@ enum-known-handle c = search needs
 
 with-tag-requires : tie.Need-with-tag-requires
 with-tag-requires c κs =
-    let a = c .before .before .before .before .before .before .before .before .before .before .before .before .before .before .before .before .before .before .before .before .before .before .before .before .before .args in
+    let a = c .before .before .before .before .before .before .before .before .before .before .before .before .before .before .before .before .before .before .before .args in
     fits-yes (a .kind) (a .pending) (length (now (a .value))) (sym (c .before .before .before .before .before .before .before .before .before .before .before .before .before .tag-fits .ensures) ∙ c .before .before .before .before .before .before .before .before .before .before .before .before .if1 .taken)
 
 enum-known-refusal : tie.Need-enum-known-refusal
@@ -35,8 +35,8 @@ same-length-3 c = search needs
 
 returns : tie.Need-returns
 returns c =
-    λ g lies.
-    let k = c .before .before .before .before .before .before .before .before .before .before .before .take-text .ensures lies (g .short) in
+    λ p g lies.
+    let k = c .before .before .before .before .before .before .before .before .before .before .before .take-text .ensures lies (g .short) p in
     let e = c .before .before .before .before .before .handle .given .1 in
     staged-left _ _ _ _ _ _ _ _ _ _ k _ _ _ (sym (c .before .before .before .before .before .before .before .before .before .before .before .before .before .before .before .before .tag-fits .ensures) ∙ c .before .before .before .before .before .before .before .before .before .before .before .before .before .before .before .if1 .taken) e (c .before .before .with-tag .ensures (handle-fits _ _ _ _ _ k e (g .strings)) (g .used))
 
@@ -48,7 +48,7 @@ same-length-5 c = search needs
 
 returns-2 : tie.Need-returns-2
 returns-2 c =
-    λ g lies. refused-left _ _ _ _ _ _ _ _ _ _ (c .before .before .before .before .before .before .before .take-text .ensures lies (g .short)) _ (c .before .refusal .given .1)
+    λ p g lies. refused-left _ _ _ _ _ _ _ _ _ _ (c .before .before .before .before .before .before .before .take-text .ensures lies (g .short) p) _ (c .before .refusal .given .1)
 
 over-limit-requires : tie.Need-over-limit-requires
 over-limit-requires c κs = search needs
@@ -61,7 +61,7 @@ same-length-7 c = search needs
 
 returns-3 : tie.Need-returns-3
 returns-3 c =
-    λ g lies. over-left _ _ _ _ _ _ _ _ _ (sym (c .before .before .before .before .before .tag-fits .ensures) ∙ c .before .before .before .before .if1 .left) (c .over-limit .ensures lies (g .short))
+    λ p g lies. over-left _ _ _ _ _ _ _ _ _ (sym (c .before .before .before .before .before .tag-fits .ensures) ∙ c .before .before .before .before .if1 .left) (c .over-limit .ensures lies (g .short))
 
 pub tag-with-spec : {M : Type 1} → statement M
 tag-with-spec =

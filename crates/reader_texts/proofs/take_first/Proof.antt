@@ -13,7 +13,7 @@ lesser-requires c κs = search needs
 
 slice-aggregate-store-text : tie.Need-slice-aggregate-store-text
 slice-aggregate-store-text c =
-    let b = now (c .before .before .before .before .before .before .before .before .before .before .before .before .before .before .args .room) in
+    let b = now (c .before .before .before .before .before .before .before .before .args .room) in
     sym (length-take-le (c .before .before .before .before .lesser .result) b (omega (arith, c .before .before .before .before .lesser .ensures)))
 
 store-text-requires : tie.Need-store-text-requires
@@ -28,7 +28,7 @@ same-length-2 c = search needs
 returns : tie.Need-returns
 returns c =
     let t = c .before .before .before .before in
-    rw (t .before .before .before .before .before .lesser .ensures, take-min) at (t .store-text .ensures)
+    λ p. rw (t .before .before .before .before .before .lesser .ensures, take-min) at (t .store-text .ensures p)
 
 pub take-first-spec : {M : Type 1} → statement M
 take-first-spec =

@@ -35,11 +35,11 @@ same-length-2 c = search needs
 
 returns : tie.Need-returns
 returns c =
-    λ lies short.
+    λ lies short p.
     let k = c .before .before .before .before .before .before .before .before .before in
-    let a = c .before .before .before .before .before .before .before .before .before .before .before .before .before .before .before .before .before .before .before .before .before .before .args in
+    let a = c .before .before .before .before .before .before .before .before .before .before .before .before .before .before .before .before .args in
     let e = extent-bare (now (a .line)) (a .at) lies _ _ (k .before .before .before .lesser .ensures) (k .before .before .lesser2 .ensures) (sym (k .lacks .ensures) ∙ c .before .before .before .before .before .before .before .before .if1 .taken) in
-    rw e at (c .before .before .before .before .store-text .ensures)
+    rw e at (c .before .before .before .before .store-text .ensures p)
 
 take-resolved-requires : tie.Need-take-resolved-requires
 take-resolved-requires c κs = search needs

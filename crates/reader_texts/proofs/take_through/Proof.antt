@@ -20,11 +20,11 @@ same-length-2 c = search needs
 
 returns : tie.Need-returns
 returns c =
-    λ lies short.
+    λ lies short p.
     let i = c .before .before .before .before .before .before .before .before .before .before in
-    let a = c .before .before .before .before .before .before .before .before .before .before .before .before .before .before .before .before .before .before .before .before .before .args in
+    let a = c .before .before .before .before .before .before .before .before .before .before .before .before .before .before .before .args in
     let e = extent-whole (now (a .line)) (a .at) lies (now (a .room)) _ _ (omega (arith, i .before .text-into-arg .given .0 .1)) (i .text-into .ensures lies) in
-    rw e at (c .before .before .before .before .take-first .ensures)
+    rw e at (c .before .before .before .before .take-first .ensures p)
 
 pub take-through-spec : {M : Type 1} → statement M
 take-through-spec =

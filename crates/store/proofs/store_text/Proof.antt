@@ -28,8 +28,9 @@ same-length-2 c = search needs
 
 returns : tie.Need-returns
 returns c =
-    let k = c .before .before .before .before .before .before .before .before .before .before .before .before .before .before .before .before .before .before .before .before .before .args in
-    texts-after (now (k .ni)) (now (k .na)) (now (k .wi)) (now (k .wa)) (now (k .ri)) (now (k .ra)) (now (k .ss)) (now (k .sb)) (now (k .us)) _ (c .before .before .put-two-arg .given .0 .1) _ _ _ _ (now (k .text)) (c .before .before .before .before .before .before .before .intern .ensures) (c .before .put-two .ensures) (c .handle-in .ensures)
+    λ p.
+    let k = c .before .before .before .before .before .before .before .before .before .before .before .before .before .before .before .args in
+    texts-after (p .ni) (p .na) (p .wi) (p .wa) (p .ri) (p .ra) (now (k .ss)) (now (k .sb)) (now (k .us)) _ (c .before .before .put-two-arg .given .0 .1) _ _ _ _ (now (k .text)) (c .before .before .before .before .before .before .before .intern .ensures) (c .before .put-two .ensures) (c .handle-in .ensures)
 
 pub store-text-spec : {M : Type 1} → statement M
 store-text-spec =
