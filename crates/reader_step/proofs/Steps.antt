@@ -26,6 +26,11 @@ use Rattle.decision.specs.Decision.{Decision, refuses, begins}
 use Rattle.decide.specs.Decided.{meansDecided}
 use Rattle.decide.specs.declared.Decided.{Decided}
 use Rattle.decide.specs.declared.Decided.the-variants as D
+use Rattle.decide.specs.declared.Beginning.{Beginning}
+use Rattle.decide.specs.declared.Deletion.{Deletion}
+use Rattle.decide.specs.declared.NewTag.{NewTag}
+use Rattle.decide.specs.declared.NewRef.{NewRef}
+use Rattle.decide.specs.declared.NewMember.{NewMember}
 use Rattle.reader.specs.State.{State}
 use Rattle.reader.specs.Step.{goes, stops, headFor, onAfter, clearsTo, stepOf}
 use Rattle.reader_acts.specs.Acts.{AfterBegun, beginOn, byBegun, pushEmptyOn, deleteElementOn, pushStagedOn, ActGiven}
@@ -66,7 +71,7 @@ module _ (s : State) (p : Place) where
           let t : ps ≡ s .parts = ap (λ (z : Adding). z .parts) e ∙ h .1 in
           rw (o, t)
 
-  pub begun-done : (id : ℤ) (m : Meta Bytes) (b : Body Bytes) {q : Overlay} {x : Begun} {h : PushHead} {r : Stepped}
+  begun-done : (id : ℤ) (m : Meta Bytes) (b : Body Bytes) {q : Overlay} {x : Begun} {h : PushHead} {r : Stepped}
       → record { overlay = q; answer = x } ≡ beginOn m (s .overlay) → h ≡ headFor id b → r ≡ beginStepped p h x
       → record { overlay = q; parts = s .parts; answer = r } ≡ doneBy s (stepOf (begins false p id m b) s)
   begun-done id m b {q} {x} e g f = rw (begins-step s p id m b, f, g, ← e) (go x e)
@@ -79,61 +84,79 @@ module _ (s : State) (p : Place) where
           let o : q ≡ s .overlay = ap (λ (z : AfterBegun). z .overlay) e ∙ begin-refused m (s .overlay) y (sym (ap (λ (z : AfterBegun). z .answer) e)) in
           rw o
 
-  -- ---- decision by decision
-
-  pub empty-done : (id : ℤ) (m : Meta Bytes) (b : Body Bytes) {q : Overlay} {k : Kept} {r : Stepped}
+  empty-done : (id : ℤ) (m : Meta Bytes) (b : Body Bytes) {q : Overlay} {k : Kept} {r : Stepped}
       → record { overlay = q; answer = k } ≡ pushEmptyOn id m b (s .overlay) → r ≡ actStepped p k
       → record { overlay = q; parts = s .parts; answer = r } ≡ doneBy s (stepOf (begins true p id m b) s)
   empty-done id m b e f = act-done (begins true p id m b) (empty-step s p id m b) (λ x. empty-refused (s .overlay) x id m b) e f
 
-  module _ {line : Bytes} where
-    act-given : (d : Decided) (m : Metadata) → StepGiven line d s → (meansDecided line d ≡ refuses LongLine → ⊥) → MetadataInBounds line m → ActGiven line m (s .overlay)
-    act-given d m g n l = record { lies = l; short = g .short n; few = g .strings }
+-- ---- decision by decision
 
-    child-given : (d : Decided) → StepGiven line d s → (meansDecided line d ≡ refuses LongLine → ⊥) → ChildGiven (s .overlay) (s .reader .pending) (s .parts) line
-    child-given d g n = record { strings = g .strings; used = g .used; short = g .short n }
+module _ (s : State) {line : Bytes} where
+  act-given : (d : Decided) (m : Metadata) → StepGiven line d s → (meansDecided line d ≡ refuses LongLine → ⊥) → MetadataInBounds line m → ActGiven line m (s .overlay)
+  act-given d m g n l = record { lies = l; short = g .short n; few = g .strings }
 
-    pub begins-given : (empty : Bool) (k : Kind) (id lat lon : ℕ) (m : Metadata) → StepGiven line (D.Begins empty k p id lat lon m) s → ActGiven line m (s .overlay)
-    begins-given empty k id lat lon m g = act-given _ m g (λ e. no (cc)) (g .lies)
+  child-given : (d : Decided) → StepGiven line d s → (meansDecided line d ≡ refuses LongLine → ⊥) → ChildGiven (s .overlay) (s .reader .pending) (s .parts) line
+  child-given d g n = record { strings = g .strings; used = g .used; short = g .short n }
 
-    pub deletes-done : (k : Kind) (id : ℕ) (m : Metadata) {q : Overlay} {a : Kept} {r : Stepped}
-        → (ActGiven line m (s .overlay) → record { overlay = q; answer = a } ≡ deleteElementOn k (toZ w64 id) (metaWritten line m) (s .overlay)) → r ≡ actStepped p a
-        → StepGiven line (D.Deletes k p id m) s → record { overlay = q; parts = s .parts; answer = r } ≡ doneBy s (stepOf (meansDecided line (D.Deletes k p id m)) s)
-    deletes-done k id m e f g =
-        act-done _ (deletes-step s p k (toZ w64 id) (metaWritten line m)) (λ x. deletes-refused (s .overlay) x k (toZ w64 id) (metaWritten line m))
-        (e (act-given (D.Deletes k p id m) m g (λ z. no (cc)) (g .lies))) f
+  begins-given : (b : Beginning) → StepGiven line (D.Begins b) s → ActGiven line (b .meta) (s .overlay)
+  begins-given b g = act-given _ (b .meta) g (λ e. no (cc)) (g .lies)
 
-    pub tags-done : (key value : Extent) {q : Overlay} {ps : Bytes} {a : Added} {r : Stepped}
-        → (ChildGiven (s .overlay) (s .reader .pending) (s .parts) line → ExtentInBounds line key → ExtentInBounds line value
-        → record { overlay = q; parts = ps; answer = a }
-        ≡ addTag (s .reader .place .kind) (s .reader .pending) (record { key = textAt line key; value = textAt line value }) (s .parts) (s .overlay)) → r ≡ childStepped p a
-        → StepGiven line (D.Tags p key value) s → record { overlay = q; parts = ps; answer = r } ≡ doneBy s (stepOf (meansDecided line (D.Tags p key value)) s)
-    tags-done key value e f g =
-        child-done _ (tag-step s p (record { key = textAt line key; value = textAt line value })) (e (child-given (D.Tags p key value) g (λ z. no (cc))) (g .lies .0) (g .lies .1)) f
+  pub empty-begins : (b : Beginning) {q : Overlay} {k : Kept} {r : Stepped} → b .empty ≡ true
+      → (ActGiven line (b .meta) (s .overlay) → record { overlay = q; answer = k } ≡ pushEmptyOn (toZ w64 (b .id)) (metaWritten line (b .meta)) (bodyIn (b .kind) (b .lat) (b .lon)) (s .overlay))
+      → r ≡ actStepped (b .place) k → StepGiven line (D.Begins b) s
+      → record { overlay = q; parts = s .parts; answer = r } ≡ doneBy s (stepOf (meansDecided line (D.Begins b)) s)
+  empty-begins b t e f g = rw t (empty-done s (b .place) (toZ w64 (b .id)) (metaWritten line (b .meta)) (bodyIn (b .kind) (b .lat) (b .lon)) (e (begins-given b g)) f)
 
-    pub refers-done : (reference : ℕ) {ps : Bytes} {a : Added} {r : Stepped}
-        → ((o : Overlay) → s .reader .pending .used ≤ length (s .parts)
-        → record { overlay = o; parts = ps; answer = a } ≡ addRef (s .reader .place .kind) (s .reader .pending) (toZ w64 reference) (s .parts) o) → r ≡ childStepped p a
-        → StepGiven line (D.Refers p reference) s → record { overlay = s .overlay; parts = ps; answer = r } ≡ doneBy s (stepOf (meansDecided line (D.Refers p reference)) s)
-    refers-done reference e f g = child-done _ (ref-step s p (toZ w64 reference)) (e (s .overlay) (g .used)) f
+  pub open-begins : (b : Beginning) {q : Overlay} {x : Begun} {h : PushHead} {r : Stepped} → b .empty ≡ false
+      → (ActGiven line (b .meta) (s .overlay) → record { overlay = q; answer = x } ≡ beginOn (metaWritten line (b .meta)) (s .overlay))
+      → h ≡ headFor (toZ w64 (b .id)) (bodyIn (b .kind) (b .lat) (b .lon)) → r ≡ beginStepped (b .place) h x → StepGiven line (D.Begins b) s
+      → record { overlay = q; parts = s .parts; answer = r } ≡ doneBy s (stepOf (meansDecided line (D.Begins b)) s)
+  open-begins b t e h f g = rw t (begun-done s (b .place) (toZ w64 (b .id)) (metaWritten line (b .meta)) (bodyIn (b .kind) (b .lat) (b .lon)) (e (begins-given b g)) h f)
 
-    pub joins-done : (reference : ℕ) (k : Kind) (role : Extent) {q : Overlay} {ps : Bytes} {a : Added} {r : Stepped}
-        → (ChildGiven (s .overlay) (s .reader .pending) (s .parts) line → ExtentInBounds line role
-        → record { overlay = q; parts = ps; answer = a }
-        ≡ addMember (s .reader .place .kind) (s .reader .pending) (record { ref = toZ w64 reference; type = k; role = textAt line role }) (s .parts) (s .overlay)) → r ≡ childStepped p a
-        → StepGiven line (D.Joins p reference k role) s → record { overlay = q; parts = ps; answer = r } ≡ doneBy s (stepOf (meansDecided line (D.Joins p reference k role)) s)
-    joins-done reference k role e f g =
-        child-done _ (member-step s p (record { ref = toZ w64 reference; type = k; role = textAt line role })) (e (child-given (D.Joins p reference k role) g (λ z. no (cc))) (g .lies)) f
+  pub deletes-done : (d : Deletion) {q : Overlay} {a : Kept} {r : Stepped}
+      → (ActGiven line (d .meta) (s .overlay) → record { overlay = q; answer = a } ≡ deleteElementOn (d .kind) (toZ w64 (d .id)) (metaWritten line (d .meta)) (s .overlay))
+      → r ≡ actStepped (d .place) a → StepGiven line (D.Deletes d) s
+      → record { overlay = q; parts = s .parts; answer = r } ≡ doneBy s (stepOf (meansDecided line (D.Deletes d)) s)
+  deletes-done d e f g =
+      act-done s (d .place) _ (deletes-step s (d .place) (d .kind) (toZ w64 (d .id)) (metaWritten line (d .meta)))
+      (λ x. deletes-refused (s .overlay) x (d .kind) (toZ w64 (d .id)) (metaWritten line (d .meta))) (e (act-given (D.Deletes d) (d .meta) g (λ z. no (cc)) (g .lies))) f
 
-  module _ (line : Bytes) where
-    pub ends-done : {q : Overlay} {a : Kept} {r : Stepped}
-        → record { overlay = q; answer = a } ≡ pushStagedOn (s .reader .place .kind) (s .reader .pending) (s .parts) (s .overlay) → r ≡ actStepped p a
-        → record { overlay = q; parts = s .parts; answer = r } ≡ doneBy s (stepOf (meansDecided line (D.Ends p)) s)
-    ends-done e f = act-done _ (ends-step s p) (λ x. staged-refused (s .overlay) x (s .reader .place .kind) (s .reader .pending) (s .parts)) e f
+  pub tags-done : (t : NewTag) {q : Overlay} {ps : Bytes} {a : Added} {r : Stepped}
+      → (ChildGiven (s .overlay) (s .reader .pending) (s .parts) line → ExtentInBounds line (t .key) → ExtentInBounds line (t .value)
+      → record { overlay = q; parts = ps; answer = a }
+      ≡ addTag (s .reader .place .kind) (s .reader .pending) (record { key = textAt line (t .key); value = textAt line (t .value) }) (s .parts) (s .overlay))
+      → r ≡ childStepped (t .place) a → StepGiven line (D.Tags t) s
+      → record { overlay = q; parts = ps; answer = r } ≡ doneBy s (stepOf (meansDecided line (D.Tags t)) s)
+  tags-done t e f g =
+      child-done s (t .place) _ (tag-step s (t .place) (record { key = textAt line (t .key); value = textAt line (t .value) }))
+      (e (child-given (D.Tags t) g (λ z. no (cc))) (g .lies .0) (g .lies .1)) f
 
-    pub moves-done : record { overlay = s .overlay; parts = s .parts; answer = S.Goes p (s .reader .pending) } ≡ doneBy s (stepOf (meansDecided line (D.Moves p)) s)
-    unfolding stepOf
-    moves-done = refl
+  pub refers-done : (to : NewRef) {ps : Bytes} {a : Added} {r : Stepped}
+      → ((o : Overlay) → s .reader .pending .used ≤ length (s .parts)
+      → record { overlay = o; parts = ps; answer = a } ≡ addRef (s .reader .place .kind) (s .reader .pending) (toZ w64 (to .reference)) (s .parts) o)
+      → r ≡ childStepped (to .place) a → StepGiven line (D.Refers to) s
+      → record { overlay = s .overlay; parts = ps; answer = r } ≡ doneBy s (stepOf (meansDecided line (D.Refers to)) s)
+  refers-done to e f g = child-done s (to .place) _ (ref-step s (to .place) (toZ w64 (to .reference))) (e (s .overlay) (g .used)) f
+
+  pub joins-done : (m : NewMember) {q : Overlay} {ps : Bytes} {a : Added} {r : Stepped}
+      → (ChildGiven (s .overlay) (s .reader .pending) (s .parts) line → ExtentInBounds line (m .role)
+      → record { overlay = q; parts = ps; answer = a }
+      ≡ addMember (s .reader .place .kind) (s .reader .pending) (record { ref = toZ w64 (m .reference); type = m .kind; role = textAt line (m .role) }) (s .parts) (s .overlay))
+      → r ≡ childStepped (m .place) a → StepGiven line (D.Joins m) s
+      → record { overlay = q; parts = ps; answer = r } ≡ doneBy s (stepOf (meansDecided line (D.Joins m)) s)
+  joins-done m e f g =
+      child-done s (m .place) _ (member-step s (m .place) (record { ref = toZ w64 (m .reference); type = m .kind; role = textAt line (m .role) }))
+      (e (child-given (D.Joins m) g (λ z. no (cc))) (g .lies)) f
+
+module _ (s : State) (p : Place) (line : Bytes) where
+  pub ends-done : {q : Overlay} {a : Kept} {r : Stepped}
+      → record { overlay = q; answer = a } ≡ pushStagedOn (s .reader .place .kind) (s .reader .pending) (s .parts) (s .overlay) → r ≡ actStepped p a
+      → record { overlay = q; parts = s .parts; answer = r } ≡ doneBy s (stepOf (meansDecided line (D.Ends p)) s)
+  ends-done e f = act-done s p _ (ends-step s p) (λ x. staged-refused (s .overlay) x (s .reader .place .kind) (s .reader .pending) (s .parts)) e f
+
+  pub moves-done : record { overlay = s .overlay; parts = s .parts; answer = S.Goes p (s .reader .pending) } ≡ doneBy s (stepOf (meansDecided line (D.Moves p)) s)
+  unfolding stepOf
+  moves-done = refl
 
 pub refuses-done : (s : State) (line : Bytes) (x : Refusal) → record { overlay = s .overlay; parts = s .parts; answer = S.Stops x } ≡ doneBy s (stepOf (meansDecided line (D.Refuses x)) s)
 unfolding stepOf

@@ -5,20 +5,24 @@ ghost use mir.Val.{toZ};
 ghost use Rattle.base.specs.Bytes.{Bytes};
 ghost use Rattle.values.specs.Value.{bodyIn};
 ghost use Rattle.metadata.specs.Metadata.{metaWritten};
-ghost use Rattle.decision.specs.Decision.{begins};
 ghost use Rattle.decide.specs.Decided.{meansDecided};
-ghost use Rattle.overlay.specs.Overlay.{lent, left};
+ghost use Rattle.decide.specs.declared.Decided.the-variants as D;
+ghost use Rattle.overlay.specs.Overlay.{Overlay, lent, left};
+ghost use Rattle.store.specs.Beside.{KindParts, lentBeside, leftBeside};
 ghost use Rattle.reader.specs.declared.EventReader.{EventReader};
 ghost use Rattle.reader.specs.State.{noPending};
 ghost use Rattle.reader.specs.Step.{stepOf};
-ghost use Rattle.reader_acts.specs.Acts.{ActGiven};
+ghost use Rattle.reader_acts.specs.Acts.{ActGiven, pushEmptyOn};
 ghost use Rattle.reader_step.specs.Done.{StepGiven, doneBy, childStepped, actStepped, beginStepped};
 use compact::ArenaMeta;
 use compact::PushHead;
+use decide::Beginning;
 use decide::Decided;
-use kind::Kind;
+use decide::Deletion;
+use decide::NewMember;
+use decide::NewRef;
+use decide::NewTag;
 use kind_store::Kept;
-use metadata::Metadata;
 use nesting::Place;
 use reader::EventReader;
 use reader::Pending;
@@ -97,9 +101,48 @@ fn begun(place: Place, head: PushHead, answer: Begun) -> Stepped
     }
 }
 
-// ---- an element begins
+// ---- acts
 
-// An element that begins, and ends too where it is empty: then it is pushed.
+// An empty element is pushed.
+fn push_empty(
+    ni: &mut [u64],
+    na: &mut [u8],
+    wi: &mut [u64],
+    wa: &mut [u8],
+    ri: &mut [u64],
+    ra: &mut [u8],
+    ss: &mut [u64],
+    sb: &mut [u8],
+    us: &mut [u64; 9],
+    line: &[u8],
+    b: Beginning,
+) -> Kept
+    ensures { λ r. ⌜ (ActGiven (now (line .entry)) (b .meta) (lent ni na wi wa ri ra ss sb us)
+        → record { overlay = left ni na wi wa ri ra ss sb us; answer = r }
+        ≡ pushEmptyOn (toZ w64 (b .id)) (metaWritten (now (line .entry)) (b .meta)) (bodyIn (b .kind) (b .lat) (b .lon)) (lent ni na wi wa ri ra ss sb us)) ⌝ }
+{
+    let kind = b.kind;
+    let meta = b.meta;
+    reader_acts::push_empty(
+        ni,
+        na,
+        wi,
+        wa,
+        ri,
+        ra,
+        ss,
+        sb,
+        us,
+        kind,
+        b.id,
+        b.lat,
+        b.lon,
+        meta,
+        line,
+    )
+}
+
+// An element begins; one that is empty ends too, and is pushed.
 fn begin(
     ni: &mut [u64],
     na: &mut [u8],
@@ -111,49 +154,157 @@ fn begin(
     sb: &mut [u8],
     us: &mut [u64; 9],
     line: &[u8],
-    empty: bool,
-    kind: Kind,
-    place: Place,
-    id: u64,
-    lat: u32,
-    lon: u32,
-    meta: Metadata,
+    b: Beginning,
 ) -> Stepped
-    ensures { λ r. ⌜ ((reader : EventReader) (parts : Bytes)
-        → ActGiven (now (line .entry)) meta (lent ni na wi wa ri ra ss sb us)
-        → record { overlay = left ni na wi wa ri ra ss sb us; parts = parts; answer = r }
-        ≡ doneBy (record { overlay = lent ni na wi wa ri ra ss sb us; reader = reader; parts = parts })
-        (stepOf (begins empty place (toZ w64 id) (metaWritten (now (line .entry)) meta) (bodyIn kind lat lon))
-        (record { overlay = lent ni na wi wa ri ra ss sb us; reader = reader; parts = parts }))) ⌝ }
+    ensures { λ r. ⌜ ((reader : EventReader) (parts : Bytes) → StepGiven (now (line .entry)) (D.Begins b) (record { overlay = lent ni na wi wa ri ra ss sb us; reader = reader; parts = parts })
+        → record { overlay = left ni na wi wa ri ra ss sb us; parts = parts; answer = r } ≡ doneBy (record { overlay = lent ni na wi wa ri ra ss sb us; reader = reader; parts = parts }) (stepOf (meansDecided (now (line .entry)) (D.Begins b)) (record { overlay = lent ni na wi wa ri ra ss sb us; reader = reader; parts = parts }))) ⌝ }
 {
-    if empty {
-        return cleared(
-            place,
-            reader_acts::push_empty(
-                ni,
-                na,
-                wi,
-                wa,
-                ri,
-                ra,
-                ss,
-                sb,
-                us,
-                kind,
-                id,
-                lat,
-                lon,
-                meta,
-                line,
-            ),
-        );
+    let place = b.place;
+    if b.empty {
+        let answer = push_empty(ni, na, wi, wa, ri, ra, ss, sb, us, line, b);
+        return cleared(place, answer);
     }
-    let head = reader_acts::head_for(kind, id, lat, lon);
-    begun(
-        place,
-        head,
-        reader_acts::begin_element(ni, na, wi, wa, ri, ra, ss, sb, us, meta, line),
-    )
+    let kind = b.kind;
+    let meta = b.meta;
+    let head = reader_acts::head_for(kind, b.id, b.lat, b.lon);
+    let answer = reader_acts::begin_element(ss, sb, us, meta, line);
+    begun(place, head, answer)
+}
+
+// An id is deleted.
+fn delete(
+    ni: &mut [u64],
+    na: &mut [u8],
+    wi: &mut [u64],
+    wa: &mut [u8],
+    ri: &mut [u64],
+    ra: &mut [u8],
+    ss: &mut [u64],
+    sb: &mut [u8],
+    us: &mut [u64; 9],
+    line: &[u8],
+    d: Deletion,
+) -> Stepped
+    ensures { λ r. ⌜ ((reader : EventReader) (parts : Bytes) → StepGiven (now (line .entry)) (D.Deletes d) (record { overlay = lent ni na wi wa ri ra ss sb us; reader = reader; parts = parts })
+        → record { overlay = left ni na wi wa ri ra ss sb us; parts = parts; answer = r } ≡ doneBy (record { overlay = lent ni na wi wa ri ra ss sb us; reader = reader; parts = parts }) (stepOf (meansDecided (now (line .entry)) (D.Deletes d)) (record { overlay = lent ni na wi wa ri ra ss sb us; reader = reader; parts = parts }))) ⌝ }
+{
+    let place = d.place;
+    let kind = d.kind;
+    let id = d.id;
+    let meta = d.meta;
+    let answer = reader_acts::delete_element(
+        ni,
+        na,
+        wi,
+        wa,
+        ri,
+        ra,
+        ss,
+        sb,
+        us,
+        kind,
+        id,
+        meta,
+        line,
+    );
+    cleared(place, answer)
+}
+
+// The element that stands open ends, and is pushed.
+fn end(
+    ni: &mut [u64],
+    na: &mut [u8],
+    wi: &mut [u64],
+    wa: &mut [u8],
+    ri: &mut [u64],
+    ra: &mut [u8],
+    ss: &[u64],
+    sb: &[u8],
+    us: &mut [u64; 9],
+    parts: &[u8; 44432],
+    reader: EventReader,
+    place: Place,
+) -> Stepped
+    ensures { λ r. ⌜ ((line : Bytes)
+        → record { overlay = left ni na wi wa ri ra ss sb us; parts = now (parts .entry); answer = r } ≡ doneBy (record { overlay = lent ni na wi wa ri ra ss sb us; reader = reader; parts = now (parts .entry) }) (stepOf (meansDecided line (D.Ends place)) (record { overlay = lent ni na wi wa ri ra ss sb us; reader = reader; parts = now (parts .entry) }))) ⌝ }
+{
+    let pending = reader.pending;
+    let at = reader.place;
+    let kind = at.kind;
+    let answer = reader_acts::push_staged(ni, na, wi, wa, ri, ra, ss, sb, us, parts, kind, pending);
+    cleared(place, answer)
+}
+
+// ---- children
+
+fn tag(
+    ss: &mut [u64],
+    sb: &mut [u8],
+    us: &mut [u64; 9],
+    parts: &mut [u8; 44432],
+    reader: EventReader,
+    line: &[u8],
+    t: NewTag,
+) -> Stepped
+    ensures { λ r. ⌜ ((p : KindParts) → StepGiven (now (line .entry)) (D.Tags t) (record { overlay = lentBeside p ss sb us; reader = reader; parts = now (parts .entry) })
+        → record { overlay = leftBeside p ss sb us; parts = now (parts .exit); answer = r } ≡ doneBy (record { overlay = lentBeside p ss sb us; reader = reader; parts = now (parts .entry) }) (stepOf (meansDecided (now (line .entry)) (D.Tags t)) (record { overlay = lentBeside p ss sb us; reader = reader; parts = now (parts .entry) }))) ⌝ }
+{
+    let pending = reader.pending;
+    let at = reader.place;
+    let kind = at.kind;
+    let key = t.key;
+    let value = t.value;
+    let place = t.place;
+    let answer = reader_parts::add_tag(ss, sb, us, parts, kind, pending, line, key, value);
+    added(place, answer)
+}
+
+fn refer(parts: &mut [u8; 44432], reader: EventReader, to: NewRef) -> Stepped
+    ensures { λ r. ⌜ ((line : Bytes) (o : Overlay) → StepGiven line (D.Refers to) (record { overlay = o; reader = reader; parts = now (parts .entry) })
+        → record { overlay = o; parts = now (parts .exit); answer = r }
+        ≡ doneBy (record { overlay = o; reader = reader; parts = now (parts .entry) })
+        (stepOf (meansDecided line (D.Refers to)) (record { overlay = o; reader = reader; parts = now (parts .entry) }))) ⌝ }
+{
+    let pending = reader.pending;
+    let at = reader.place;
+    let kind = at.kind;
+    let place = to.place;
+    let answer = reader_parts::add_ref(parts, kind, pending, to.reference);
+    added(place, answer)
+}
+
+fn join(
+    ss: &mut [u64],
+    sb: &mut [u8],
+    us: &mut [u64; 9],
+    parts: &mut [u8; 44432],
+    reader: EventReader,
+    line: &[u8],
+    m: NewMember,
+) -> Stepped
+    ensures { λ r. ⌜ ((p : KindParts) → StepGiven (now (line .entry)) (D.Joins m) (record { overlay = lentBeside p ss sb us; reader = reader; parts = now (parts .entry) })
+        → record { overlay = leftBeside p ss sb us; parts = now (parts .exit); answer = r } ≡ doneBy (record { overlay = lentBeside p ss sb us; reader = reader; parts = now (parts .entry) }) (stepOf (meansDecided (now (line .entry)) (D.Joins m)) (record { overlay = lentBeside p ss sb us; reader = reader; parts = now (parts .entry) }))) ⌝ }
+{
+    let pending = reader.pending;
+    let at = reader.place;
+    let open = at.kind;
+    let place = m.place;
+    let kind = m.kind;
+    let role = m.role;
+    let reference = m.reference;
+    let answer = reader_parts::add_member(
+        ss,
+        sb,
+        us,
+        parts,
+        open,
+        pending,
+        line,
+        reference,
+        kind,
+        role,
+    );
+    added(place, answer)
 }
 
 // ---- a decision
@@ -181,113 +332,14 @@ pub fn step(
         (record { overlay = lent ni na wi wa ri ra ss sb us; reader = reader; parts = now (parts .entry) }))) ⌝ }
 {
     let pending = reader.pending;
-    let at = reader.place;
-    let open_kind = at.kind;
     match decided {
         Decided::Refuses(r) => Stepped::Stops(r),
         Decided::Moves(place) => Stepped::Goes { place, pending },
-        Decided::Begins {
-            empty,
-            kind,
-            place,
-            id,
-            lat,
-            lon,
-            meta,
-        } => begin(
-            ni,
-            na,
-            wi,
-            wa,
-            ri,
-            ra,
-            ss,
-            sb,
-            us,
-            line,
-            empty,
-            kind,
-            place,
-            id,
-            lat,
-            lon,
-            meta,
-        ),
-        Decided::Deletes {
-            kind,
-            place,
-            id,
-            meta,
-        } => cleared(
-            place,
-            reader_acts::delete_element(ni, na, wi, wa, ri, ra, ss, sb, us, kind, id, meta, line),
-        ),
-        Decided::Tags { place, key, value } => added(
-            place,
-            reader_parts::add_tag(
-                ni,
-                na,
-                wi,
-                wa,
-                ri,
-                ra,
-                ss,
-                sb,
-                us,
-                parts,
-                open_kind,
-                pending,
-                line,
-                key,
-                value,
-            ),
-        ),
-        Decided::Refers { place, reference } => added(
-            place,
-            reader_parts::add_ref(parts, open_kind, pending, reference),
-        ),
-        Decided::Joins {
-            place,
-            reference,
-            kind,
-            role,
-        } => added(
-            place,
-            reader_parts::add_member(
-                ni,
-                na,
-                wi,
-                wa,
-                ri,
-                ra,
-                ss,
-                sb,
-                us,
-                parts,
-                open_kind,
-                pending,
-                line,
-                reference,
-                kind,
-                role,
-            ),
-        ),
-        Decided::Ends(place) => cleared(
-            place,
-            reader_acts::push_staged(
-                ni,
-                na,
-                wi,
-                wa,
-                ri,
-                ra,
-                ss,
-                sb,
-                us,
-                parts,
-                open_kind,
-                pending,
-            ),
-        ),
+        Decided::Begins(b) => begin(ni, na, wi, wa, ri, ra, ss, sb, us, line, b),
+        Decided::Deletes(d) => delete(ni, na, wi, wa, ri, ra, ss, sb, us, line, d),
+        Decided::Tags(t) => tag(ss, sb, us, parts, reader, line, t),
+        Decided::Refers(to) => refer(parts, reader, to),
+        Decided::Joins(m) => join(ss, sb, us, parts, reader, line, m),
+        Decided::Ends(p) => end(ni, na, wi, wa, ri, ra, ss, sb, us, parts, reader, p),
     }
 }

@@ -1,14 +1,11 @@
 -- An empty element is pushed; another begins.
 use denote.Ref.{now}
-use mir.Syntax.{w64}
-use mir.Val.{toZ}
-use Rattle.overlay.specs.Overlay.{overlayOf}
-use Rattle.reader.specs.State.{State}
 use Rattle.base.specs.Bytes.{Bytes}
-use Rattle.values.specs.Value.{bodyIn}
-use Rattle.metadata.specs.Metadata.{metaWritten}
+use Rattle.overlay.specs.Overlay.{overlayOf}
 use Rattle.reader.specs.declared.EventReader.{EventReader}
-use Rattle.reader_step.proofs.Steps.{empty-done, begun-done}
+use Rattle.reader.specs.State.{State}
+use Rattle.store.specs.Beside.{KindParts}
+use Rattle.reader_step.proofs.Steps.{empty-begins, open-begins}
 use borrow.Author.Needs.{needs}
 use Rattle.reader_step.proofs.begin.Statement.{statement}
 use Rattle.reader_step.proofs.begin.Tie as tie
@@ -22,6 +19,12 @@ given s reader parts =
       reader = reader;
       parts = parts;
     }
+
+-- what stands beside the strings
+abbrev beside : tie.Start → KindParts
+beside s =
+    let k = s .args in
+    record { ni = now (k .ni); na = now (k .na); wi = now (k .wi); wa = now (k .wa); ri = now (k .ri); ra = now (k .ra) }
 
 push-empty-requires : tie.Need-push-empty-requires
 push-empty-requires c κs = search needs
@@ -55,9 +58,7 @@ same-length-8 c = search needs
 
 returns : tie.Need-returns
 returns c =
-    let s = c .before .before .before .before .before .before .before .before .before .before .before .before .before .before .before .before .before .before .before .before .before .before .before .before .before .before .before .before .before .before .before .before .before .before .before .before .before in
-    let k = s .args in
-    rw (c .before .before .before .before .before .before .before .before .before .before .before .before .before .before .before .before .before .before .before .before .before .before .before .before .before .before .before .if1 .taken) (λ reader parts g. empty-done (given s reader parts) (k .place) (toZ w64 (k .id)) (metaWritten (now (k .line)) (k .meta)) (bodyIn (k .kind) (k .lat) (k .lon)) (c .before .before .before .before .before .before .before .before .before .before .before .before .before .before .before .before .before .push-empty .ensures g) (c .cleared .ensures))
+    let s = c .before .before .before .before .before .before .before .before .before .before .before .before .before .before .before .before .before .before .before .before .before .before .before .before .before .before .before .before .before .before .before .before .before .before .before .before .before .before in λ reader parts g. empty-begins (given s reader parts) (s .args .b) (c .before .before .before .before .before .before .before .before .before .before .before .before .before .before .before .before .before .before .before .before .before .before .before .before .before .before .before .if1 .taken) (c .before .before .before .before .before .before .before .before .before .before .before .before .before .before .before .before .before .push-empty .ensures) (c .cleared .ensures) g
 
 head-for-requires : tie.Need-head-for-requires
 head-for-requires c κs = search needs
@@ -74,29 +75,9 @@ same-length-9 c = search needs
 same-length-10 : tie.Need-same-length-10
 same-length-10 c = search needs
 
-same-length-11 : tie.Need-same-length-11
-same-length-11 c = search needs
-
-same-length-12 : tie.Need-same-length-12
-same-length-12 c = search needs
-
-same-length-13 : tie.Need-same-length-13
-same-length-13 c = search needs
-
-same-length-14 : tie.Need-same-length-14
-same-length-14 c = search needs
-
-same-length-15 : tie.Need-same-length-15
-same-length-15 c = search needs
-
-same-length-16 : tie.Need-same-length-16
-same-length-16 c = search needs
-
 returns-2 : tie.Need-returns-2
 returns-2 c =
-    let s = c .before .before .before .before .before .before .before .before .before .before .before .before .before .before .before .before .before .before .before .before .before .before .before .before .before .before in
-    let k = s .args in
-    rw (c .before .before .before .before .before .before .before .before .before .before .before .before .before .before .before .before .if1 .left) (λ reader parts g. begun-done (given s reader parts) (k .place) (toZ w64 (k .id)) (metaWritten (now (k .line)) (k .meta)) (bodyIn (k .kind) (k .lat) (k .lon)) (c .before .before .before .before .before .begin-element .ensures g) (c .before .before .before .before .before .before .before .before .before .before .before .before .before .before .before .head-for .ensures) (c .begun .ensures))
+    let s = c .before .before .before .before .before .before .before .before .before .before .before .before .before .before .before .before .before .before .before .before .before .before in λ reader parts g. open-begins (given s reader parts) (s .args .b) (c .before .before .before .before .before .before .before .before .before .before .before .if1 .left) (c .before .before .before .before .before .begin-element .ensures (beside s)) (c .before .before .before .before .before .before .before .before .before .head-for .ensures) (c .begun .ensures) g
 
 pub begin-spec : {M : Type 1} → statement M
 begin-spec =
@@ -118,10 +99,4 @@ begin-spec =
     begun-requires
     same-length-9
     same-length-10
-    same-length-11
-    same-length-12
-    same-length-13
-    same-length-14
-    same-length-15
-    same-length-16
     returns-2)

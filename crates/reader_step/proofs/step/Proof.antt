@@ -1,10 +1,9 @@
 -- One call a decision.
 use denote.Ref.{now}
-use mir.Syntax.{w64}
-use mir.Val.{toZ}
 use Rattle.overlay.specs.Overlay.{overlayOf}
 use Rattle.reader.specs.State.{State}
-use Rattle.reader_step.proofs.Steps.{refuses-done, moves-done, begins-given, deletes-done, tags-done, refers-done, joins-done, ends-done}
+use Rattle.store.specs.Beside.{KindParts}
+use Rattle.reader_step.proofs.Steps.{refuses-done, moves-done}
 use borrow.Author.Needs.{needs}
 use Rattle.reader_step.proofs.step.Statement.{statement}
 use Rattle.reader_step.proofs.step.Tie as tie
@@ -18,6 +17,12 @@ given s =
       reader = k .reader;
       parts = now (k .parts);
     }
+
+-- what stands beside the strings
+abbrev beside : tie.Start → KindParts
+beside s =
+    let k = s .args in
+    record { ni = now (k .ni); na = now (k .na); wi = now (k .wi); wa = now (k .wa); ri = now (k .ri); ra = now (k .ra) }
 
 enum-known-decided : tie.Need-enum-known-decided
 enum-known-decided c = search needs
@@ -34,53 +39,40 @@ begin-requires c κs = search needs
 enum-known-decided-4 : tie.Need-enum-known-decided-4
 enum-known-decided-4 c = search needs
 
-delete-element-requires : tie.Need-delete-element-requires
-delete-element-requires c κs = search needs
-
-cleared-requires : tie.Need-cleared-requires
-cleared-requires c κs = search needs
+delete-requires : tie.Need-delete-requires
+delete-requires c κs = search needs
 
 enum-known-decided-5 : tie.Need-enum-known-decided-5
 enum-known-decided-5 c = search needs
 
-add-tag-requires : tie.Need-add-tag-requires
-add-tag-requires c κs = search needs
-
-added-requires : tie.Need-added-requires
-added-requires c κs = search needs
+tag-requires : tie.Need-tag-requires
+tag-requires c κs = search needs
 
 enum-known-decided-6 : tie.Need-enum-known-decided-6
 enum-known-decided-6 c = search needs
 
-add-ref-requires : tie.Need-add-ref-requires
-add-ref-requires c κs = search needs
-
-added-requires-2 : tie.Need-added-requires-2
-added-requires-2 c κs = search needs
+refer-requires : tie.Need-refer-requires
+refer-requires c κs = search needs
 
 enum-known-decided-7 : tie.Need-enum-known-decided-7
 enum-known-decided-7 c = search needs
 
-add-member-requires : tie.Need-add-member-requires
-add-member-requires c κs = search needs
-
-added-requires-3 : tie.Need-added-requires-3
-added-requires-3 c κs = search needs
+join-requires : tie.Need-join-requires
+join-requires c κs = search needs
 
 enum-known-decided-8 : tie.Need-enum-known-decided-8
 enum-known-decided-8 c = search needs
 
-push-staged-requires : tie.Need-push-staged-requires
-push-staged-requires c κs = search needs
-
-cleared-requires-2 : tie.Need-cleared-requires-2
-cleared-requires-2 c κs = search needs
+end-requires : tie.Need-end-requires
+end-requires c κs = search needs
 
 returns : tie.Need-returns
-returns c = let s = c .before .before .before .before .before .before .before .before .before .before .before .before .before .before in rw (c .before .decided .given .1) (λ g. refuses-done (given s) (now (s .args .line)) _)
+returns c =
+    let s = c .before .before .before .before .before .before .before .before .before .before .before .before .before in rw (c .before .decided .given .1) (λ g. refuses-done (given s) (now (s .args .line)) _)
 
 returns-2 : tie.Need-returns-2
-returns-2 c = let s = c .before .before .before .before .before .before .before .before .before .before .before .before .before .before in rw (c .before .decided2 .given .1) (λ g. moves-done (given s) _ (now (s .args .line)))
+returns-2 c =
+    let s = c .before .before .before .before .before .before .before .before .before .before .before .before .before in rw (c .before .decided2 .given .1) (λ g. moves-done (given s) _ (now (s .args .line)))
 
 same-length : tie.Need-same-length
 same-length c = search needs
@@ -108,9 +100,7 @@ same-length-8 c = search needs
 
 returns-3 : tie.Need-returns-3
 returns-3 c =
-    let s = c .before .before .before .before .before .before .before .before .before .before .before .before .before .before .before .before .before .before .before .before .before .before .before .before .before .before .before .before .before .before .before .before .before .before .before .before .before .before .before .before in
-    let d = c .before .before .before .before .before .before .before .before .before .before .before .before .before .before .before .before .before .before .before .before .before .before .before .before .before .before .before .decided3 .given in
-    rw (d .1) (λ g. c .before .before .before .before .before .before .before .before .before .before .before .before .before .before .before .before .begin .ensures (s .args .reader) (now (s .args .parts)) (begins-given (given s) _ (d .0 .0) (d .0 .1 .0) (d .0 .1 .1 .1 .0) (d .0 .1 .1 .1 .1 .0) (d .0 .1 .1 .1 .1 .1 .0) (d .0 .1 .1 .1 .1 .1 .1 .0) g))
+    let s = c .before .before .before .before .before .before .before .before .before .before .before .before .before .before .before .before .before .before .before .before .before .before .before .before .before .before .before .before .before .before .before .before .before .before .before .before .before .before .before in rw (c .before .before .before .before .before .before .before .before .before .before .before .before .before .before .before .before .before .before .before .before .before .before .before .before .before .before .before .decided3 .given .1) (c .before .before .before .before .before .before .before .before .before .before .before .before .before .before .before .before .begin .ensures (s .args .reader) (now (s .args .parts)))
 
 same-length-9 : tie.Need-same-length-9
 same-length-9 c = search needs
@@ -138,9 +128,7 @@ same-length-16 c = search needs
 
 returns-4 : tie.Need-returns-4
 returns-4 c =
-    let s = c .before .before .before .before .before .before .before .before .before .before .before .before .before .before .before .before .before .before .before .before .before .before .before .before .before .before .before .before .before .before .before .before .before .before .before .before .before .before .before .before .before in
-    let d = c .before .before .before .before .before .before .before .before .before .before .before .before .before .before .before .before .before .before .before .before .before .before .before .before .before .before .before .before .decided4 .given in
-    rw (d .1) (deletes-done (given s) _ (d .0 .0) (d .0 .1 .1 .0) (d .0 .1 .1 .1 .0) (c .before .before .before .before .before .before .before .before .before .before .before .before .before .before .before .before .before .delete-element .ensures) (c .cleared .ensures))
+    let s = c .before .before .before .before .before .before .before .before .before .before .before .before .before .before .before .before .before .before .before .before .before .before .before .before .before .before .before .before .before .before .before .before .before .before .before .before .before .before .before in rw (c .before .before .before .before .before .before .before .before .before .before .before .before .before .before .before .before .before .before .before .before .before .before .before .before .before .before .before .decided4 .given .1) (c .before .before .before .before .before .before .before .before .before .before .before .before .before .before .before .before .delete .ensures (s .args .reader) (now (s .args .parts)))
 
 same-length-17 : tie.Need-same-length-17
 same-length-17 c = search needs
@@ -148,11 +136,23 @@ same-length-17 c = search needs
 same-length-18 : tie.Need-same-length-18
 same-length-18 c = search needs
 
+returns-5 : tie.Need-returns-5
+returns-5 c =
+    let s = c .before .before .before .before .before .before .before .before .before .before .before .before .before .before .before .before .before .before .before .before .before .before in rw (c .before .before .before .before .before .before .before .before .before .before .decided5 .given .1) (c .before .before .before .before .tag .ensures (beside s))
+
+returns-6 : tie.Need-returns-6
+returns-6 c =
+    let s = c .before .before .before .before .before .before .before .before .before .before .before .before .before .before .before in rw (c .before .before .before .decided6 .given .1) (c .refer .ensures (now (s .args .line)) (given s .overlay))
+
 same-length-19 : tie.Need-same-length-19
 same-length-19 c = search needs
 
 same-length-20 : tie.Need-same-length-20
 same-length-20 c = search needs
+
+returns-7 : tie.Need-returns-7
+returns-7 c =
+    let s = c .before .before .before .before .before .before .before .before .before .before .before .before .before .before .before .before .before .before .before .before .before .before in rw (c .before .before .before .before .before .before .before .before .before .before .decided7 .given .1) (c .before .before .before .before .join .ensures (beside s))
 
 same-length-21 : tie.Need-same-length-21
 same-length-21 c = search needs
@@ -166,18 +166,6 @@ same-length-23 c = search needs
 same-length-24 : tie.Need-same-length-24
 same-length-24 c = search needs
 
-returns-5 : tie.Need-returns-5
-returns-5 c =
-    let s = c .before .before .before .before .before .before .before .before .before .before .before .before .before .before .before .before .before .before .before .before .before .before .before .before .before .before .before .before .before .before in
-    let d = c .before .before .before .before .before .before .before .before .before .before .before .before .before .before .before .before .before .decided5 .given in
-    rw (d .1) (tags-done (given s) _ (d .0 .1 .0) (d .0 .1 .1 .0) (c .before .before .before .before .before .add-tag .ensures) (c .added .ensures))
-
-returns-6 : tie.Need-returns-6
-returns-6 c =
-    let s = c .before .before .before .before .before .before .before .before .before .before .before .before .before .before .before .before .before in
-    let d = c .before .before .before .before .decided6 .given in
-    rw (d .1) (refers-done (given s) _ (d .0 .1 .0) (c .before .add-ref .ensures) (c .added2 .ensures))
-
 same-length-25 : tie.Need-same-length-25
 same-length-25 c = search needs
 
@@ -190,52 +178,9 @@ same-length-27 c = search needs
 same-length-28 : tie.Need-same-length-28
 same-length-28 c = search needs
 
-same-length-29 : tie.Need-same-length-29
-same-length-29 c = search needs
-
-same-length-30 : tie.Need-same-length-30
-same-length-30 c = search needs
-
-same-length-31 : tie.Need-same-length-31
-same-length-31 c = search needs
-
-same-length-32 : tie.Need-same-length-32
-same-length-32 c = search needs
-
-returns-7 : tie.Need-returns-7
-returns-7 c =
-    let s = c .before .before .before .before .before .before .before .before .before .before .before .before .before .before .before .before .before .before .before .before .before .before .before .before .before .before .before .before .before .before in
-    let d = c .before .before .before .before .before .before .before .before .before .before .before .before .before .before .before .before .before .decided7 .given in
-    rw (d .1) (joins-done (given s) _ (d .0 .1 .0) (d .0 .1 .1 .0) (d .0 .1 .1 .1 .0) (c .before .before .before .before .before .add-member .ensures) (c .added3 .ensures))
-
-same-length-33 : tie.Need-same-length-33
-same-length-33 c = search needs
-
-same-length-34 : tie.Need-same-length-34
-same-length-34 c = search needs
-
-same-length-35 : tie.Need-same-length-35
-same-length-35 c = search needs
-
-same-length-36 : tie.Need-same-length-36
-same-length-36 c = search needs
-
-same-length-37 : tie.Need-same-length-37
-same-length-37 c = search needs
-
-same-length-38 : tie.Need-same-length-38
-same-length-38 c = search needs
-
-same-length-39 : tie.Need-same-length-39
-same-length-39 c = search needs
-
-same-length-40 : tie.Need-same-length-40
-same-length-40 c = search needs
-
 returns-8 : tie.Need-returns-8
 returns-8 c =
-    let s = c .before .before .before .before .before .before .before .before .before .before .before .before .before .before .before .before .before .before .before .before .before .before .before .before .before .before .before .before .before .before .before .before .before .before .before .before .before .before in
-    rw (c .before .before .before .before .before .before .before .before .before .before .before .before .before .before .before .before .before .before .before .before .before .before .before .before .before .decided8 .given .1) (λ g. ends-done (given s) _ (now (s .args .line)) (c .before .before .before .before .before .before .before .before .before .before .before .before .before .push-staged .ensures) (c .cleared2 .ensures))
+    let s = c .before .before .before .before .before .before .before .before .before .before .before .before .before .before .before .before .before .before .before .before .before .before .before .before .before .before .before .before .before .before .before .before .before .before .before .before in rw (c .before .before .before .before .before .before .before .before .before .before .before .before .before .before .before .before .before .before .before .before .before .before .before .before .decided8 .given .1) (λ g. c .before .before .before .before .before .before .before .before .before .before .before .before .end .ensures (now (s .args .line)))
 
 pub step-spec : {M : Type 1} → statement M
 step-spec =
@@ -246,20 +191,15 @@ step-spec =
     enum-known-decided-3
     begin-requires
     enum-known-decided-4
-    delete-element-requires
-    cleared-requires
+    delete-requires
     enum-known-decided-5
-    add-tag-requires
-    added-requires
+    tag-requires
     enum-known-decided-6
-    add-ref-requires
-    added-requires-2
+    refer-requires
     enum-known-decided-7
-    add-member-requires
-    added-requires-3
+    join-requires
     enum-known-decided-8
-    push-staged-requires
-    cleared-requires-2
+    end-requires
     returns
     returns-2
     same-length
@@ -282,29 +222,17 @@ step-spec =
     returns-4
     same-length-17
     same-length-18
+    returns-5
+    returns-6
     same-length-19
     same-length-20
+    returns-7
     same-length-21
     same-length-22
     same-length-23
     same-length-24
-    returns-5
-    returns-6
     same-length-25
     same-length-26
     same-length-27
     same-length-28
-    same-length-29
-    same-length-30
-    same-length-31
-    same-length-32
-    returns-7
-    same-length-33
-    same-length-34
-    same-length-35
-    same-length-36
-    same-length-37
-    same-length-38
-    same-length-39
-    same-length-40
     returns-8)

@@ -1,0 +1,70 @@
+-- The answer of the delete.
+use denote.Ref.{now}
+use Rattle.base.specs.Bytes.{Bytes}
+use Rattle.overlay.specs.Overlay.{overlayOf}
+use Rattle.reader.specs.declared.EventReader.{EventReader}
+use Rattle.reader.specs.State.{State}
+use Rattle.reader_step.proofs.Steps.{deletes-done}
+use borrow.Author.Needs.{needs}
+use Rattle.reader_step.proofs.delete.Statement.{statement}
+use Rattle.reader_step.proofs.delete.Tie as tie
+
+-- the overlay as it was lent, with a reader and its parts
+abbrev given : tie.Start → EventReader → Bytes → State
+given s reader parts =
+    let k = s .args in
+    record {
+      overlay = overlayOf (now (k .ni)) (now (k .na)) (now (k .wi)) (now (k .wa)) (now (k .ri)) (now (k .ra)) (now (k .ss)) (now (k .sb)) (now (k .us));
+      reader = reader;
+      parts = parts;
+    }
+
+delete-element-requires : tie.Need-delete-element-requires
+delete-element-requires c κs = search needs
+
+cleared-requires : tie.Need-cleared-requires
+cleared-requires c κs = search needs
+
+same-length : tie.Need-same-length
+same-length c = search needs
+
+same-length-2 : tie.Need-same-length-2
+same-length-2 c = search needs
+
+same-length-3 : tie.Need-same-length-3
+same-length-3 c = search needs
+
+same-length-4 : tie.Need-same-length-4
+same-length-4 c = search needs
+
+same-length-5 : tie.Need-same-length-5
+same-length-5 c = search needs
+
+same-length-6 : tie.Need-same-length-6
+same-length-6 c = search needs
+
+same-length-7 : tie.Need-same-length-7
+same-length-7 c = search needs
+
+same-length-8 : tie.Need-same-length-8
+same-length-8 c = search needs
+
+returns : tie.Need-returns
+returns c =
+    let s = c .before .before .before .before .before .before .before .before .before .before .before .before .before .before .before .before .before .before .before .before .before .before .before .before .before .before .before .before .before .before .before .before .before .before .before .before .before .before in λ reader parts g. deletes-done (given s reader parts) (s .args .d) (c .before .before .before .before .before .before .before .before .before .before .before .before .before .before .before .before .before .delete-element .ensures) (c .cleared .ensures) g
+
+pub delete-spec : {M : Type 1} → statement M
+delete-spec =
+    tie.close
+    (tie.spec
+    delete-element-requires
+    cleared-requires
+    same-length
+    same-length-2
+    same-length-3
+    same-length-4
+    same-length-5
+    same-length-6
+    same-length-7
+    same-length-8
+    returns)

@@ -1,0 +1,38 @@
+-- The answer of the tag.
+use denote.Ref.{now}
+use Rattle.overlay.specs.Overlay.{overlayOf}
+use Rattle.reader.specs.State.{State}
+use Rattle.store.specs.Beside.{KindParts}
+use Rattle.reader_step.proofs.Steps.{tags-done}
+use borrow.Author.Needs.{needs}
+use Rattle.reader_step.proofs.tag.Statement.{statement}
+use Rattle.reader_step.proofs.tag.Tie as tie
+
+-- the overlay that the lent strings make with what stands beside them, the reader and its parts
+abbrev given : tie.Start → KindParts → State
+given s p =
+    let k = s .args in
+    record {
+      overlay = overlayOf (p .ni) (p .na) (p .wi) (p .wa) (p .ri) (p .ra) (now (k .ss)) (now (k .sb)) (now (k .us));
+      reader = k .reader;
+      parts = now (k .parts);
+    }
+
+add-tag-requires : tie.Need-add-tag-requires
+add-tag-requires c κs = search needs
+
+added-requires : tie.Need-added-requires
+added-requires c κs = search needs
+
+same-length : tie.Need-same-length
+same-length c = search needs
+
+same-length-2 : tie.Need-same-length-2
+same-length-2 c = search needs
+
+returns : tie.Need-returns
+returns c =
+    let s = c .before .before .before .before .before .before .before .before .before .before .before .before .before .before .before .before .before .before in λ p g. tags-done (given s p) (s .args .t) (c .before .before .before .before .before .add-tag .ensures p) (c .added .ensures) g
+
+pub tag-spec : {M : Type 1} → statement M
+tag-spec = tie.close (tie.spec add-tag-requires added-requires same-length same-length-2 returns)
