@@ -9,7 +9,7 @@ use Rattle.version_floor.specs.declared.Version.{Version}
 use Rattle.version_floor.specs.declared.Admit.{Admit}
 use Rattle.version_floor.specs.declared.Admit.the-variants.{Admitted, Below}
 use Rattle.refusal.specs.declared.Refusal.the-variants.{Regression, IdsFull, ArenaFull}
-use Rattle.kind_store.specs.KindStore.{KindStore, known, checked, idRoom}
+use Rattle.kind_store.specs.KindStore.{KindStore, knownVersion, checked, idRoom}
 use Rattle.kind_store.specs.declared.Kept.{Kept}
 use Rattle.kind_store.specs.declared.Kept.the-variants.{Taken, Refused}
 use Rattle.overlay.specs.Overlay.{Overlay, kindStoreOf}
@@ -25,7 +25,7 @@ roomAnswer ids fits = cond ids (cond fits Taken (Refused ArenaFull)) (Refused Id
 
 -- an act on one kind
 unfoldable pub kindStoreAnswer : Kind → ℕ → KindStore → ℤ → Version → Bool → Kept
-kindStoreAnswer k setting s id claim fits = admitAnswer (checked setting (known k s id) claim) (roomAnswer (idRoom s id) fits)
+kindStoreAnswer k setting s id claim fits = admitAnswer (checked setting (knownVersion k s id) claim) (roomAnswer (idRoom s id) fits)
 
 -- "15 record longer than the arena's unused bytes"
 abbrev pub recordFits : KindStore → ℕ → Bool

@@ -6,7 +6,7 @@ ghost use lib.ListN.{length};
 ghost use mir.Syntax.{w64};
 ghost use mir.Val.{toZ};
 ghost use Rattle.base.specs.Bytes.{Bytes};
-ghost use Rattle.kind_store.specs.KindStore.{kindStoreWith, known, checked, idRoom};
+ghost use Rattle.kind_store.specs.KindStore.{kindStoreWith, knownVersion, checked, idRoom};
 ghost use Rattle.overlay.specs.Overlay.{lent};
 ghost use Rattle.store.specs.Lent.{kindStoreLent, settingIn};
 ghost use Rattle.act_answer.specs.Answer.{roomAnswer, kindStoreAnswer, pushAnswer, deleteAnswer};
@@ -28,7 +28,7 @@ fn claim_admit(
     id: u64,
     claim: Version,
 ) -> Admit
-    ensures { λ r. ⌜ ((used : ℕ) → r ≡ checked setting (known kind (kindStoreWith (now (table .entry)) ids (now (arena .entry)) used) (toZ w64 id)) claim) ⌝ }
+    ensures { λ r. ⌜ ((used : ℕ) → r ≡ checked setting (knownVersion kind (kindStoreWith (now (table .entry)) ids (now (arena .entry)) used) (toZ w64 id)) claim) ⌝ }
 {
     if setting == 0 {
         let known = kind_store::known_version(kind, table, ids, arena, id);

@@ -20,7 +20,7 @@ use Rattle.overlay.specs.Sound.{isSound}
 use Rattle.reading.specs.declared.Read.the-variants.{Is}
 use Rattle.reading.specs.Reading.{countOn, idOn, knownOn}
 use Rattle.bulk.specs.Bulk.{AllIds, eachNumber, idOfNumber, versionOfNumber, notWritten, allIdsOn}
-use Rattle.bulk.specs.Rows.{rowId, rowVersion, rowsIn, kindIds}
+use Rattle.bulk.specs.Rows.{rowId, rowVersion, rowsListed, kindIds}
 
 abbrev blank : Row
 blank = record { rank = 0; place = 0; floor = 0 }
@@ -39,19 +39,19 @@ each-row f g (r ∷ rs) i h =
     cc (a, t)
 
 -- one kind's list, written or not
-module _ (k : Kind) (side : Side) (s : KindStore) (ids versions : List ℕ) (n : ℕ) (e : n ≡ length (rowsIn side s)) where
-  pub kind-written : (a b : List ℕ) → n ≤ min (length ids) (length versions) → a ≡ over ids 0 (map rowId (rowsIn side s)) → b ≡ over versions 0 (map (rowVersion k s) (rowsIn side s))
+module _ (k : Kind) (side : Side) (s : KindStore) (ids versions : List ℕ) (n : ℕ) (e : n ≡ length (rowsListed side s)) where
+  pub kind-written : (a b : List ℕ) → n ≤ min (length ids) (length versions) → a ≡ over ids 0 (map rowId (rowsListed side s)) → b ≡ over versions 0 (map (rowVersion k s) (rowsListed side s))
       → _≡_ {A = AllIds} (record { ids = a; versions = b; answer = Is n }) (kindIds k side s ids versions)
   unfolding kindIds
-  kind-written a b h p q = rw (le-leb (length (rowsIn side s)) (min (length ids) (length versions)) (omega arith), ← e, ← p, ← q)
+  kind-written a b h p q = rw (le-leb (length (rowsListed side s)) (min (length ids) (length versions)) (omega arith), ← e, ← p, ← q)
 
   pub kind-short : min (length ids) (length versions) < n → notWritten ids versions R.ShortOutput ≡ kindIds k side s ids versions
   unfolding kindIds
-  kind-short h = rw (lt-leb (length (rowsIn side s)) (min (length ids) (length versions)) (omega arith))
+  kind-short h = rw (lt-leb (length (rowsListed side s)) (min (length ids) (length versions)) (omega arith))
 
 module _ (k : Kind) (side : Side) (o : Overlay) (sound : isSound o ≡ true) where
   abbrev rows : List Row
-  rows = rowsIn side (kindStoreOf k o)
+  rows = rowsListed side (kindStoreOf k o)
 
   id-is : (n : ℕ) → n < length rows → idOfNumber k side o n ≡ rowId (getD rows n blank)
   unfolding idOn

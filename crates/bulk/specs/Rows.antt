@@ -12,7 +12,7 @@ use Rattle.version_floor.specs.Version.{wordOf}
 use Rattle.refusal.specs.declared.Refusal.the-variants as R
 use Rattle.little.specs.Little.{over}
 use Rattle.table.specs.declared.Row.{Row}
-use Rattle.kind_store.specs.KindStore.{KindStore, known}
+use Rattle.kind_store.specs.KindStore.{KindStore, knownVersion}
 use Rattle.listed.specs.declared.Side.{Side}
 use Rattle.listed.specs.Listed.{rowsRead, rowsOn}
 use Rattle.reading.specs.declared.Read.the-variants.{Is}
@@ -24,13 +24,13 @@ rowId r = ofZ w64 (idOf (r .rank))
 
 -- its known version as a word
 abbrev pub rowVersion : Kind → KindStore → Row → ℕ
-rowVersion k s r = wordOf (known k s (toZ w64 (rowId r)))
+rowVersion k s r = wordOf (knownVersion k s (toZ w64 (rowId r)))
 
-abbrev pub rowsIn : Side → KindStore → List Row
-rowsIn side s = rowsOn side (rowsRead (s .table) (s .ids))
+abbrev pub rowsListed : Side → KindStore → List Row
+rowsListed side s = rowsOn side (rowsRead (s .table) (s .ids))
 
 unfoldable pub kindIds : Kind → Side → KindStore → List ℕ → List ℕ → AllIds
 kindIds k side s ids versions =
-    cond (leb (length (rowsIn side s)) (min (length ids) (length versions)))
-    (record { ids = over ids 0 (map rowId (rowsIn side s)); versions = over versions 0 (map (rowVersion k s) (rowsIn side s)); answer = Is (length (rowsIn side s)) })
+    cond (leb (length (rowsListed side s)) (min (length ids) (length versions)))
+    (record { ids = over ids 0 (map rowId (rowsListed side s)); versions = over versions 0 (map (rowVersion k s) (rowsListed side s)); answer = Is (length (rowsListed side s)) })
     (notWritten ids versions R.ShortOutput)

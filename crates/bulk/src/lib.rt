@@ -9,7 +9,7 @@ ghost use mir.Val.{toZ};
 ghost use Rattle.base.specs.Bytes.{Bytes};
 ghost use Rattle.version_floor.specs.Version.{wordOf};
 ghost use Rattle.little.specs.Little.{over};
-ghost use Rattle.kind_store.specs.KindStore.{kindStoreWith, known};
+ghost use Rattle.kind_store.specs.KindStore.{kindStoreWith, knownVersion};
 ghost use Rattle.listed.specs.Listed.{rowsRead, rowsOn};
 ghost use Rattle.overlay.specs.Overlay.{lent, kindStoreOf};
 ghost use Rattle.reading.specs.Lent.{kindStoresLent};
@@ -30,7 +30,7 @@ fn row_id(row: Row) -> u64
 
 // The known version of an id, as a word.
 fn version_of(kind: Kind, table: &[u64], count: u64, arena: &[u8], id: u64) -> u64
-    ensures { λ r. ⌜ ((used : ℕ) → r ≡ wordOf (known kind (kindStoreWith (now (table .entry)) count (now (arena .entry)) used) (toZ w64 id))) ⌝ }
+    ensures { λ r. ⌜ ((used : ℕ) → r ≡ wordOf (knownVersion kind (kindStoreWith (now (table .entry)) count (now (arena .entry)) used) (toZ w64 id))) ⌝ }
 {
     version_floor::version_word(kind_store::known_version(kind, table, count, arena, id))
 }

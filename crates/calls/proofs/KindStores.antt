@@ -20,7 +20,7 @@ use Rattle.model.specs.Record.{claimOf}
 use Rattle.model.specs.Act.{Left, gone, live}
 use Rattle.model.specs.Swap.{swapRecord}
 use Rattle.compact.specs.Layout.{joinedBytes}
-use Rattle.compact.specs.Cut.{Kept}
+use Rattle.compact.specs.Cut.{KeptRecord}
 use Rattle.compact.specs.Fits.{fitsKept}
 use Rattle.compact.specs.Legal.{legal}
 use Rattle.append.proofs.Writes.{fits-is}
@@ -32,7 +32,7 @@ use Rattle.table.specs.declared.Row.{Row}
 use Rattle.table.specs.Rows.{find}
 use Rattle.table.proofs.Maps.{find-put-same, find-put-other}
 use Rattle.kind_store.specs.KindStore as KindStore
-use Rattle.kind_store.specs.KindStore.{KindStore, isLive, known, floorOf, floorAfter, pushed, deleted}
+use Rattle.kind_store.specs.KindStore.{KindStore, isLive, knownVersion, floorOf, floorAfter, pushed, deleted}
 use Rattle.kind_store.specs.WellFormed.{rowsIn, WellFormed}
 use Rattle.kind_store.specs.declared.Kept.the-variants.{Taken}
 use Rattle.kind_store.proofs.KindStores.{Laid, push-laid, push-fits, push-used, push-arena, delete-laid, delete-arena, delete-used}
@@ -50,7 +50,7 @@ rowOf id place floor = record { rank = rank id; place = place; floor = floor }
 
 module _ (strings : ℕ) (k : Kind) (s : KindStore) (w : SoundKindStore strings k s) where
   -- a row tells the same of another kind store where the records that it may point at are read as here
-  last-stays : (t : KindStore) (f : ℕ → Bytes) → ((at : ℕ) (y : Kept) → recordAt at (w .whole .kept) ≡ some y → recordIn k t at ≡ some (y .held))
+  last-stays : (t : KindStore) (f : ℕ → Bytes) → ((at : ℕ) (y : KeptRecord) → recordAt at (w .whole .kept) ≡ some y → recordIn k t at ≡ some (y .held))
       → (n : ℕ) (o : Option Row) → find n (rowsIn s) ≡ o → lastIn k t f o ≡ lastIn k s f o
   last-stays t f h n none e = refl
   last-stays t f h n (some r) e =
@@ -71,7 +71,7 @@ module _ (strings : ℕ) (k : Kind) (s : KindStore) (w : SoundKindStore strings 
           (λ l. rw l)
 
   module _ (t : KindStore) (id : ℤ) (place floor : ℕ) (laid : Laid s id place floor t)
-      (h : (at : ℕ) (y : Kept) → recordAt at (w .whole .kept) ≡ some y → recordIn k t at ≡ some (y .held)) (f : ℕ → Bytes) where
+      (h : (at : ℕ) (y : KeptRecord) → recordAt at (w .whole .kept) ≡ some y → recordIn k t at ≡ some (y .held)) (f : ℕ → Bytes) where
     last-other : (other : ℤ) → (rank other ≡ rank id → ⊥) → lastOf k t f other ≡ lastOf k s f other
     last-other other n =
         rw (laid .rows, find-put-other (rank other) (rowOf id place floor) (rowsIn s) n) (last-stays t f h (rank other) (find (rank other) (rowsIn s)) refl)
@@ -81,13 +81,13 @@ module _ (strings : ℕ) (k : Kind) (s : KindStore) (w : SoundKindStore strings 
 
 -- ---- an accepted push of a legal record under its own id
 
-module _ (strings : ℕ) (k : Kind) (setting : ℕ) (s : KindStore) (x : Kept) (fits : fitsKept k x ≡ true) (lawful : legal strings (x .held) ≡ true) (w : SoundKindStore strings k s)
+module _ (strings : ℕ) (k : Kind) (setting : ℕ) (s : KindStore) (x : KeptRecord) (fits : fitsKept k x ≡ true) (lawful : legal strings (x .held) ≡ true) (w : SoundKindStore strings k s)
     (taken : pushed k setting s (x .id) (claimOf (x .held .meta)) (keptBytes x) .answer ≡ Taken) (f : ℕ → Bytes) where
   abbrev after : KindStore
   after = pushed k setting s (x .id) (claimOf (x .held .meta)) (keptBytes x) .kindStore
 
   abbrev floor : ℕ
-  floor = floorAfter setting (known k s (x .id)) (claimOf (x .held .meta)) (floorOf s (x .id))
+  floor = floorAfter setting (knownVersion k s (x .id)) (claimOf (x .held .meta)) (floorOf s (x .id))
 
   laid : Laid s (x .id) (s .used) floor after
   laid = push-laid k setting s (x .id) (claimOf (x .held .meta)) (w .order) (keptBytes x) taken
@@ -100,13 +100,13 @@ module _ (strings : ℕ) (k : Kind) (setting : ℕ) (s : KindStore) (x : Kept) (
       (appended (s .arena) (s .used) (keptBytes x) (over (s .arena) (s .used) (keptBytes x)) (s .used + length (keptBytes x)) (fits-is (s .arena) (s .used) (keptBytes x) l) .used-bytes)
 
   -- what is read at a start among the records before and the new one
-  read-after : (at : ℕ) (y : Kept) → recordAt at (w .whole .kept ++ x ∷ []) ≡ some y → recordIn k after at ≡ some (y .held)
+  read-after : (at : ℕ) (y : KeptRecord) → recordAt at (w .whole .kept ++ x ∷ []) ≡ some y → recordIn k after at ≡ some (y .held)
   unfolding recordIn
   read-after at y h =
       let v = append-whole strings k (take (s .used) (s .arena)) x fits lawful (w .whole) in
       rw bytes-after (whole-read strings k (take (s .used) (s .arena) ++ keptBytes x) v at y (rw (append-kept strings k (take (s .used) (s .arena)) x fits (w .whole) v) h))
 
-  read-stays : (at : ℕ) (y : Kept) → recordAt at (w .whole .kept) ≡ some y → recordIn k after at ≡ some (y .held)
+  read-stays : (at : ℕ) (y : KeptRecord) → recordAt at (w .whole .kept) ≡ some y → recordIn k after at ≡ some (y .held)
   read-stays at y h = read-after at y (record-stays at (w .whole .kept) (x ∷ []) y h)
 
   pub push-last-other : (other : ℤ) → (rank other ≡ rank (x .id) → ⊥) → lastOf k after f other ≡ lastOf k s f other
@@ -126,16 +126,16 @@ module _ (strings : ℕ) (k : Kind) (setting : ℕ) (s : KindStore) (id : ℤ) (
   abbrev left : KindStore
   left = deleted k setting s id claim .kindStore
 
-  kept-left : (at : ℕ) (y : Kept) → recordAt at (w .whole .kept) ≡ some y → recordIn k left at ≡ some (y .held)
+  kept-left : (at : ℕ) (y : KeptRecord) → recordAt at (w .whole .kept) ≡ some y → recordIn k left at ≡ some (y .held)
   unfolding recordIn
   kept-left at y h = rw (delete-used k setting s id claim well-formed taken, delete-arena k setting s id claim well-formed taken) (record-read strings k s w at y h)
 
-  laid-left : Laid s id KindStore.gone (wordOf (higher (known k s id) claim)) left
+  laid-left : Laid s id KindStore.gone (wordOf (higher (knownVersion k s id) claim)) left
   laid-left = delete-laid k setting s id claim (w .order) taken
 
   pub delete-last-other : (other : ℤ) → (rank other ≡ rank id → ⊥) → lastOf k left f other ≡ lastOf k s f other
-  delete-last-other = last-other strings k s w left id KindStore.gone (wordOf (higher (known k s id) claim)) laid-left kept-left f
+  delete-last-other = last-other strings k s w left id KindStore.gone (wordOf (higher (knownVersion k s id) claim)) laid-left kept-left f
 
   pub delete-last : lastOf k left f id ≡ some gone
   unfolding isLive
-  delete-last = last-own strings k s w left id KindStore.gone (wordOf (higher (known k s id) claim)) laid-left kept-left f
+  delete-last = last-own strings k s w left id KindStore.gone (wordOf (higher (knownVersion k s id) claim)) laid-left kept-left f

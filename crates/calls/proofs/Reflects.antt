@@ -32,12 +32,12 @@ use Rattle.interner.proofs.Interns as Interns
 use Rattle.model.specs.Record.{claimOf}
 use Rattle.model.specs.Act.{Act, Key, delete, keyOf}
 use Rattle.model.proofs.Keys.{other-key}
-use Rattle.compact.specs.Cut.{Kept}
+use Rattle.compact.specs.Cut.{KeptRecord}
 use Rattle.compact.specs.Fits.{fitsSigned, fitsKept}
 use Rattle.compact.specs.Legal.{legal}
 use Rattle.legal.specs.Whole.{keptBytes}
 use Rattle.page.specs.Summary as Summary
-use Rattle.kind_store.specs.KindStore.{KindStore, known, checked, pushed, deleted, takenIn}
+use Rattle.kind_store.specs.KindStore.{KindStore, knownVersion, checked, pushed, deleted, takenIn}
 use Rattle.kind_store.specs.WellFormed.{rowsIn, WellFormed}
 use Rattle.kind_store.specs.declared.Kept.the-variants.{Taken, Refused}
 use Rattle.kind_store.proofs.Answers.{push-regression, delete-regression}
@@ -134,7 +134,7 @@ module _ (setting : ℕ) (o : Overlay) (held : List Bytes) (acts : List (Act Byt
         }
 
   -- an accepted push of a legal record
-  module _ (k : Kind) (x : Kept) (fits : fitsKept k x ≡ true) (lawful : legal (o .texts .strings) (x .held) ≡ true)
+  module _ (k : Kind) (x : KeptRecord) (fits : fitsKept k x ≡ true) (lawful : legal (o .texts .strings) (x .held) ≡ true)
       (taken : pushed k (o .setting) (kindStoreOf k o) (x .id) (claimOf (x .held .meta)) (keptBytes x) .answer ≡ Taken) where
     pub reflects-push : Reflects setting (withKindStore k (pushed k (o .setting) (kindStoreOf k o) (x .id) (claimOf (x .held .meta)) (keptBytes x) .kindStore) o) held (acts ++ (pushOf held x ∷ []))
     reflects-push =
@@ -202,23 +202,23 @@ module _ (setting : ℕ) (o : Overlay) (held : List Bytes) (acts : List (Act Byt
 
   -- T13: what the store refuses 12, while regression is refused
   module _ (z : setting ≡ 0) (k : Kind) (id : ℤ) (fits : SFits w64 id) (claim : Version) (v : ℤ) where
-    regresses : (admitOf (known k (kindStoreOf k o) id) claim ≡ Below v) ↔ Regresses acts (keyIn k id) claim v
+    regresses : (admitOf (knownVersion k (kindStoreOf k o) id) claim ≡ Below v) ↔ Regresses acts (keyIn k id) claim v
     regresses =
         let h = w .tells k .high (w .set ∙ z) id fits in
-        let b = below-is (known k (kindStoreOf k o) id) claim v in (
+        let b = below-is (knownVersion k (kindStoreOf k o) id) claim v in (
           λ e. let r = b .0 e in record { version = r .0; claims = r .1 .1 .0; known = sym h ∙ r .1 .0; below = r .1 .1 .1 },
           λ r. b .1 (r .version, (h ∙ r .known, (r .claims, r .below))),
         )
 
     -- an answer that is given where the check refuses
-    as-checked : (P : ℕ → Type 0) → P 0 ↔ (admitOf (known k (kindStoreOf k o) id) claim ≡ Below v) → P (o .setting) ↔ Regresses acts (keyIn k id) claim v
+    as-checked : (P : ℕ → Type 0) → P 0 ↔ (admitOf (knownVersion k (kindStoreOf k o) id) claim ≡ Below v) → P (o .setting) ↔ Regresses acts (keyIn k id) claim v
     as-checked P e =
-        let f = subst (λ (n : ℕ). P n ↔ (admitOf (known k (kindStoreOf k o) id) claim ≡ Below v)) (sym (w .set ∙ z)) e in
+        let f = subst (λ (n : ℕ). P n ↔ (admitOf (knownVersion k (kindStoreOf k o) id) claim ≡ Below v)) (sym (w .set ∙ z)) e in
         (λ x. regresses .0 (f .0 x), λ x. f .1 (regresses .1 x))
 
-    pub admit-regresses : (checked (o .setting) (known k (kindStoreOf k o) id) claim ≡ Below v) ↔ Regresses acts (keyIn k id) claim v
+    pub admit-regresses : (checked (o .setting) (knownVersion k (kindStoreOf k o) id) claim ≡ Below v) ↔ Regresses acts (keyIn k id) claim v
     unfolding checked
-    admit-regresses = as-checked (λ n. checked n (known k (kindStoreOf k o) id) claim ≡ Below v) ((λ x. x, λ x. x))
+    admit-regresses = as-checked (λ n. checked n (knownVersion k (kindStoreOf k o) id) claim ≡ Below v) ((λ x. x, λ x. x))
 
     pub push-regresses : (bytes : Bytes) → (pushed k (o .setting) (kindStoreOf k o) id claim bytes .answer ≡ Refused (Regression v)) ↔ Regresses acts (keyIn k id) claim v
     push-regresses bytes = as-checked (λ n. pushed k n (kindStoreOf k o) id claim bytes .answer ≡ Refused (Regression v)) (push-regression k (kindStoreOf k o) id claim bytes v)

@@ -15,7 +15,7 @@ use Rattle.kind.proofs.Numbers as Numbers
 use Rattle.osm_id.specs.Order.{idOf}
 use Rattle.model.specs.Record.{kindOf}
 use Rattle.compact.specs.Layout.{headLen}
-use Rattle.compact.specs.Cut.{Kept, cutRecord}
+use Rattle.compact.specs.Cut.{KeptRecord, cutRecord}
 use Rattle.compact.specs.Fits.{fitsKept}
 use Rattle.compact.specs.Legal.{legal}
 use Rattle.compact.proofs.Cuts.{record-format}
@@ -31,32 +31,32 @@ use Rattle.sound.specs.Sound.{SoundKindStore, soundRow}
 use Rattle.listing.specs.Known.{heldIn, recordIn}
 
 -- what is read at a start of whole records is its record
-pub whole-read : (strings : ℕ) (k : Kind) (s : Bytes) (w : Whole strings k s) (at : ℕ) (x : Kept) → recordAt at (w .kept) ≡ some x → heldIn (cutRecord k (drop at s)) ≡ some (x .held)
+pub whole-read : (strings : ℕ) (k : Kind) (s : Bytes) (w : Whole strings k s) (at : ℕ) (x : KeptRecord) → recordAt at (w .kept) ≡ some x → heldIn (cutRecord k (drop at s)) ≡ some (x .held)
 whole-read strings k s w at x h = rw (w .same, record-there k at (w .kept) x (w .fits) h .1)
 
-pub kept-kind : (k : Kind) (x : Kept) → fitsKept k x ≡ true → kindOf (x .held .body) ≡ k
+pub kept-kind : (k : Kind) (x : KeptRecord) → fitsKept k x ≡ true → kindOf (x .held .body) ≡ k
 unfolding fitsKept
 kept-kind k x h = Numbers.same-yes (kindOf (x .held .body)) k (both-left _ _ h)
 
 module _ (strings : ℕ) (k : Kind) (s : KindStore) (w : SoundKindStore strings k s) where
   -- at the place of a live row a record starts
-  pub live-starts : (n : ℕ) (r : Row) → find n (rowsIn s) ≡ some r → isLive (r .place) ≡ true → (x : Kept) × (recordAt (r .place) (w .whole .kept) ≡ some x)
+  pub live-starts : (n : ℕ) (r : Row) → find n (rowsIn s) ≡ some r → isLive (r .place) ≡ true → (x : KeptRecord) × (recordAt (r .place) (w .whole .kept) ≡ some x)
   unfolding soundRow
   live-starts n r e l =
       by-either (not (isLive (r .place))) (startsAt (idOf (r .rank)) (r .place) (w .whole .kept)) (find-passes (soundRow (w .whole .kept)) n (rowsIn s) r (w .rows) e)
       (λ t. clash (sym (ap not l) ∙ t) refl)
       (λ t. let y = start-is (idOf (r .rank)) (r .place) (w .whole .kept) t in (y .0, y .1 .0))
 
-  pub record-read : (at : ℕ) (x : Kept) → recordAt at (w .whole .kept) ≡ some x → recordIn k s at ≡ some (x .held)
+  pub record-read : (at : ℕ) (x : KeptRecord) → recordAt at (w .whole .kept) ≡ some x → recordIn k s at ≡ some (x .held)
   unfolding recordIn
   record-read at x h = whole-read strings k (take (s .used) (s .arena)) (w .whole) at x h
 
-  pub record-legal : (at : ℕ) (x : Kept) → recordAt at (w .whole .kept) ≡ some x → legal strings (x .held) ≡ true
-  record-legal at x h = record-passes (λ (x : Kept). legal strings (x .held)) at (w .whole .kept) x (w .whole .legals) h
+  pub record-legal : (at : ℕ) (x : KeptRecord) → recordAt at (w .whole .kept) ≡ some x → legal strings (x .held) ≡ true
+  record-legal at x h = record-passes (λ (x : KeptRecord). legal strings (x .held)) at (w .whole .kept) x (w .whole .legals) h
 
   module _ (b : all isByte (s .arena) ≡ true) where
     -- a record ends within the used bytes
-    ends-within : (at : ℕ) (x : Kept) → recordAt at (w .whole .kept) ≡ some x → at + (headLen k + 29) ≤ s .used
+    ends-within : (at : ℕ) (x : KeptRecord) → recordAt at (w .whole .kept) ≡ some x → at + (headLen k + 29) ≤ s .used
     ends-within at x h =
         let y = record-there k at (w .whole .kept) x (w .whole .fits) h in
         let u = drop at (take (s .used) (s .arena)) in

@@ -26,7 +26,7 @@ use Rattle.model.specs.Swap.{swapRecord}
 use Rattle.model.proofs.Keys.{same-key, other-key}
 use Rattle.model.proofs.Swaps.{body-kind, act-key, act-claim}
 use Rattle.compact.specs.Layout.{Head, headBytes, metaBytes, headOf, partsBytes, recordBytes}
-use Rattle.compact.specs.Cut.{Kept}
+use Rattle.compact.specs.Cut.{KeptRecord}
 use Rattle.compact.specs.Fits.{fitsSigned, fitsMeta, fitsHead, fitting, fitsKept}
 use Rattle.compact.specs.Legal.{legal}
 use Rattle.legal.specs.Whole.{keptBytes}
@@ -35,7 +35,7 @@ use Rattle.table.specs.Words.{rowsFrom, rowsOf}
 use Rattle.table.proofs.Tables.{sound-empty}
 use Rattle.page.specs.Summary as Summary
 use Rattle.page.proofs.Tables.{known-more}
-use Rattle.kind_store.specs.KindStore.{KindStore, kindStoreWith, known, pushed, deleted}
+use Rattle.kind_store.specs.KindStore.{KindStore, kindStoreWith, knownVersion, pushed, deleted}
 use Rattle.kind_store.specs.WellFormed.{WellFormed}
 use Rattle.kind_store.specs.declared.Kept.the-variants.{Taken}
 use Rattle.kind_store.proofs.Claims.{Narrow}
@@ -53,7 +53,7 @@ keyIn k id = record { kind = k; id = id }
 pub record Tells (k : Kind) (setting : ℕ) (s : KindStore) (held : List Bytes) (acts : List (Act Bytes)) : Type 0 where
   pub used : s .used ≡ pushedBytes k acts
   pub last : (id : ℤ) → SFits w64 id → lastOf k s (textOf held) id ≡ Summary.known acts (keyIn k id) .last
-  pub high : setting ≡ 0 → (id : ℤ) → SFits w64 id → known k s id ≡ Summary.known acts (keyIn k id) .high
+  pub high : setting ≡ 0 → (id : ℤ) → SFits w64 id → knownVersion k s id ≡ Summary.known acts (keyIn k id) .high
 
 -- ---- what is known after one act more
 
@@ -71,8 +71,8 @@ module _ (k : Kind) (setting : ℕ) (s t : KindStore) (held : List Bytes) (acts 
   tells-on : Tells k setting s held acts → t .used ≡ s .used + pushedBy k a
       → lastOf k t (textOf held) id ≡ some (leftBy a)
       → ((other : ℤ) → (rank other ≡ rank id → ⊥) → lastOf k t (textOf held) other ≡ lastOf k s (textOf held) other)
-      → (setting ≡ 0 → known k t id ≡ higher (known k s id) (claimedBy a))
-      → ((other : ℤ) → (rank other ≡ rank id → ⊥) → known k t other ≡ known k s other)
+      → (setting ≡ 0 → knownVersion k t id ≡ higher (knownVersion k s id) (claimedBy a))
+      → ((other : ℤ) → (rank other ≡ rank id → ⊥) → knownVersion k t other ≡ knownVersion k s other)
       → Tells k setting t held (acts ++ (a ∷ []))
   tells-on w used last lasts high highs =
       record {
@@ -117,7 +117,7 @@ head-id-fits id (place lat lon) n h = both-left _ _ h
 head-id-fits id (refs rs) n h = both-left _ _ h
 head-id-fits id (members ms) n h = both-left _ _ h
 
-pub id-fits : (k : Kind) (x : Kept) → fitsKept k x ≡ true → fitsSigned w64 (x .id) ≡ true
+pub id-fits : (k : Kind) (x : KeptRecord) → fitsKept k x ≡ true → fitsSigned w64 (x .id) ≡ true
 unfolding fitsKept fitting
 id-fits k x h = head-id-fits (x .id) (x .held .body) (length (x .held .tags)) (both-left _ _ (both-right _ _ h))
 
@@ -125,29 +125,29 @@ pub signed-fits : (id : ℤ) → fitsSigned w64 id ≡ true → SFits w64 id
 unfolding fitsSigned
 signed-fits id h = record { sfits = ltb-true _ _ h }
 
-meta-fits : (k : Kind) (x : Kept) → fitsKept k x ≡ true → fitsMeta (x .held .meta) ≡ true
+meta-fits : (k : Kind) (x : KeptRecord) → fitsKept k x ≡ true → fitsMeta (x .held .meta) ≡ true
 unfolding fitsKept fitting
 meta-fits k x h = both-left _ _ (both-right _ _ (both-right _ _ h))
 
 -- a record's bytes begin with its head and its metadata
-kept-parts : (k : Kind) (x : Kept) → fitsKept k x ≡ true
+kept-parts : (k : Kind) (x : KeptRecord) → fitsKept k x ≡ true
     → keptBytes x ≡ headBytes k (headOf (x .id) (x .held .body) (length (x .held .tags))) ++ metaBytes (x .held .meta) ++ partsBytes (x .held)
 unfolding recordBytes
 kept-parts k x h = rw (kept-kind k x h)
 
 bytes-raise : (k : Kind) (setting : ℕ) (s : KindStore) (id : ℤ) (h : Head) (m : Meta ℕ) (parts bytes : Bytes) → bytes ≡ headBytes k h ++ metaBytes m ++ parts → WellFormed k s → fitsMeta m ≡ true
-    → pushed k setting s id (claimOf m) bytes .answer ≡ Taken → setting ≡ 0 → known k (pushed k setting s id (claimOf m) bytes .kindStore) id ≡ higher (known k s id) (claimOf m)
+    → pushed k setting s id (claimOf m) bytes .answer ≡ Taken → setting ≡ 0 → knownVersion k (pushed k setting s id (claimOf m) bytes .kindStore) id ≡ higher (knownVersion k s id) (claimOf m)
 bytes-raise k setting s id h m parts bytes e well-formed f taken z = rw e (push-raises k setting s id h m parts well-formed f (rw e at taken) z)
 
 -- the act that a push of a record is, where these texts are held
-abbrev pub pushOf : List Bytes → Kept → Act Bytes
+abbrev pub pushOf : List Bytes → KeptRecord → Act Bytes
 pushOf held x = push (x .id) (swapRecord (textOf held) (x .held))
 
-pub push-key : (k : Kind) (held : List Bytes) (x : Kept) → fitsKept k x ≡ true → keyIn k (x .id) ≡ keyOf (pushOf held x)
+pub push-key : (k : Kind) (held : List Bytes) (x : KeptRecord) → fitsKept k x ≡ true → keyIn k (x .id) ≡ keyOf (pushOf held x)
 push-key k held x fits = ap (λ (j : Kind). keyIn j (x .id)) (sym (kept-kind k x fits)) ∙ sym (act-key (textOf held) (push (x .id) (x .held)))
 
 module _ (strings : ℕ) (k : Kind) (setting : ℕ) (s : KindStore) (held : List Bytes) (acts : List (Act Bytes)) (w : SoundKindStore strings k s) (well-formed : WellFormed k s) (told : Tells k setting s held acts) where
-  module _ (x : Kept) (fits : fitsKept k x ≡ true) (lawful : legal strings (x .held) ≡ true)
+  module _ (x : KeptRecord) (fits : fitsKept k x ≡ true) (lawful : legal strings (x .held) ≡ true)
       (taken : pushed k setting s (x .id) (claimOf (x .held .meta)) (keptBytes x) .answer ≡ Taken) where
     own-used : pushed k setting s (x .id) (claimOf (x .held .meta)) (keptBytes x) .kindStore .used ≡ s .used + pushedBy k (pushOf held x)
     own-used =
@@ -162,7 +162,7 @@ module _ (strings : ℕ) (k : Kind) (setting : ℕ) (s : KindStore) (held : List
         (push-last strings k setting s x fits lawful w taken (textOf held) (well-formed .short))
         (push-last-other strings k setting s x fits lawful w taken (textOf held))
         (λ z. bytes-raise k setting s (x .id) h (x .held .meta) (partsBytes (x .held)) (keptBytes x) (kept-parts k x fits) well-formed (meta-fits k x fits) taken z
-        ∙ ap (higher (known k s (x .id))) (sym (act-claim (textOf held) (push (x .id) (x .held)))))
+        ∙ ap (higher (knownVersion k s (x .id))) (sym (act-claim (textOf held) (push (x .id) (x .held)))))
         (push-other k setting s (x .id) claim (keptBytes x) taken well-formed)
 
   -- ---- an accepted delete

@@ -106,7 +106,7 @@ module _ (o : Overlay) (sizes : sizesFit largest o ≡ true) (lent : InBytes o) 
 
   -- T9: the known version is the highest that accepted acts claimed
   pub known-highest : (k : Kind) (id : ℤ) → SFits w64 id
-      → KindStore.known k (kindStoreOf k (storageAfter 0 o parts cs .overlay)) id ≡ Summary.known (actsOf (replies 0 o parts cs)) (record { kind = k; id = id }) .high
+      → KindStore.knownVersion k (kindStoreOf k (storageAfter 0 o parts cs .overlay)) id ≡ Summary.known (actsOf (replies 0 o parts cs)) (record { kind = k; id = id }) .high
   known-highest k id f = let s = agrees .overlay in s .tells k .high (s .set) id f
 
   -- T10: with what the last act left, that is all that the overlay tells of an id

@@ -18,11 +18,11 @@ use Rattle.interner.specs.Sound.{textsOf}
 use Rattle.model.specs.Record.{Record, Body, place, refs, members, Tag, kindOf}
 use Rattle.model.specs.Act.{Act, Key, Left, push, delete, gone, live}
 use Rattle.model.specs.Swap.{swapRecord}
-use Rattle.compact.specs.Cut.{Cut, Kept, cutRecord}
+use Rattle.compact.specs.Cut.{Cut, KeptRecord, cutRecord}
 use Rattle.compact.specs.Layout.{headLen}
 use Rattle.table.specs.Rows.{find}
 use Rattle.table.specs.declared.Row.{Row}
-use Rattle.kind_store.specs.KindStore.{KindStore, isLive, known}
+use Rattle.kind_store.specs.KindStore.{KindStore, isLive, knownVersion}
 use Rattle.kind_store.specs.WellFormed.{rowsIn}
 use Rattle.overlay.specs.Overlay.{Overlay, kindStoreOf}
 use Rattle.page.specs.Summary.{Known}

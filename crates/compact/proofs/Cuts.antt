@@ -16,7 +16,7 @@ use Rattle.kind.specs.declared.Kind.{Kind}
 use Rattle.kind.specs.declared.Kind.the-variants.{Node, Way, Relation}
 use Rattle.model.specs.Record.{Meta, Member, Tag, Body, place, refs, members, Record, kindOf}
 use Rattle.compact.specs.Layout.{u32, i64, metaBytes, memberBytes, tagBytes, joinedBytes, Head, headBytes, headOf, bodyBytes, partsBytes, recordBytes}
-use Rattle.compact.specs.Cut.{Cut, thenCut, found, cutMeta, memberAs, cutMember, cutTag, cutBody, cutParts, usedUp, whole, pushedRecord, cutCounts, cutHead, Kept, cutRecord}
+use Rattle.compact.specs.Cut.{Cut, thenCut, found, cutMeta, memberAs, cutMember, cutTag, cutBody, cutParts, usedUp, whole, pushedRecord, cutCounts, cutHead, KeptRecord, cutRecord}
 use Rattle.compact.specs.Fits.{fitsNumber, fitsSigned, fitsMeta, fitsMember, fitsTag, fitsHead, fitsBody, fitting, fitsKept}
 use Rattle.compact.proofs.Format.{Format, Starts, small-rest, first, begin, glue, of-cut, ends, bytes-back, bytes-forth, number, i32-format, i64-format, counted-of, counted-is, list}
 
@@ -228,7 +228,7 @@ pub together : {k : Kind} {h : Head} {m : Meta ℕ} {s : Bytes} {r : Record ℕ}
 unfolding recordBytes fitting
 together w f g = (rw (w .head, w .meta), both-of (w .head-fits ∙ f) (both-of (rw (w .meta) g) (w .fit)))
 
-record-forth : (k : Kind) (s : Bytes) (c : Cut Kept) → all isByte s ≡ true → cutRecord k s ≡ some c → (s ≡ recordBytes (c .item .id) (c .item .held) ++ c .rest) × (fitsKept k (c .item) ≡ true)
+record-forth : (k : Kind) (s : Bytes) (c : Cut KeptRecord) → all isByte s ≡ true → cutRecord k s ≡ some c → (s ≡ recordBytes (c .item .id) (c .item .held) ++ c .rest) × (fitsKept k (c .item) ≡ true)
 unfolding cutRecord fitsKept
 record-forth k s c b e =
     first (λ h r. (s ≡ headBytes k h ++ r) × (fitsHead k h ≡ true)) (λ x. head-forth k s x b) e (λ h r x t.
@@ -238,7 +238,7 @@ record-forth k s c b e =
     ends (fitsKept k) (λ x. recordBytes (x .id) (x .held)) u (record { is = rw (← v .0) (glue (glue p (o .here)) (w .here) .is) })
     (both-of (rw (w .kind) (same-refl k)) (v .1)))))
 
-kept-back : (k : Kind) (x : Kept) (q : Bytes) → fitsKept k x ≡ true → cutRecord k (recordBytes (x .id) (x .held) ++ q) ≡ found x q
+kept-back : (k : Kind) (x : KeptRecord) (q : Bytes) → fitsKept k x ≡ true → cutRecord k (recordBytes (x .id) (x .held) ++ q) ≡ found x q
 unfolding fitsKept
 kept-back k x q h = rw (← same-yes (kindOf (x .held .body)) k (both-left _ _ h)) (record-back (x .id) (x .held) q (both-right _ _ h))
 

@@ -102,11 +102,11 @@ cutHead Way s = cutCounts s
 cutHead Relation s = cutCounts s
 
 -- a record with its id
-pub record Kept : Type 0 where
+pub record KeptRecord : Type 0 where
   pub id : ℤ
   pub held : Record ℕ
 
-unfoldable pub cutRecord : Kind → Bytes → Option (Cut Kept)
+unfoldable pub cutRecord : Kind → Bytes → Option (Cut KeptRecord)
 cutRecord k s =
     thenCut (cutHead k s) (λ h s1. thenCut (cutMeta s1) (λ m s2. thenCut (cutParts k h m s2) (λ r q.
     found (record { id = h .id; held = r }) q)))

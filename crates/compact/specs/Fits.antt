@@ -13,7 +13,7 @@ use Rattle.kind.specs.declared.Kind.{Kind}
 use Rattle.kind.specs.declared.Kind.the-variants.{Node, Way, Relation}
 use Rattle.model.specs.Record.{Meta, Member, Tag, Body, place, refs, members, Record, kindOf}
 use Rattle.compact.specs.Layout.{Head, headOf}
-use Rattle.compact.specs.Cut.{Kept}
+use Rattle.compact.specs.Cut.{KeptRecord}
 
 -- a number of n bytes
 unfoldable pub fitsNumber : ℕ → ℕ → Bool
@@ -51,5 +51,5 @@ fitting id r =
     (both (fitsMeta (r .meta)) (both (fitsBody (r .body)) (all fitsTag (r .tags))))
 
 -- a record of a kind, with its id
-unfoldable pub fitsKept : Kind → Kept → Bool
+unfoldable pub fitsKept : Kind → KeptRecord → Bool
 fitsKept k x = both (sameKind (kindOf (x .held .body)) k) (fitting (x .id) (x .held))

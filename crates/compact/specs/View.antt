@@ -36,7 +36,7 @@ use Rattle.compact.specs.declared.MemberStep.the-variants as member
 use Rattle.compact.specs.declared.TagStep.{TagStep}
 use Rattle.compact.specs.declared.TagStep.the-variants as tag
 use Rattle.compact.specs.Layout.{Head, headLen}
-use Rattle.compact.specs.Cut.{Cut, thenCut, found, cutI64, cutMeta, cutMember, cutTag, cutHead, Kept}
+use Rattle.compact.specs.Cut.{Cut, thenCut, found, cutI64, cutMeta, cutMember, cutTag, cutHead, KeptRecord}
 use Rattle.compact.specs.Held.{metaOf, metaBits, nodeHead, wayHead, relationHead, nodeBits, wayBits, relationBits}
 
 -- ---- fields at their places, for the library's own code on bytes that it has checked: bytes that are missing read as 0. A user gets the readers below.
@@ -200,7 +200,7 @@ bodyRead Node h s = some (place (h .lat) (h .lon))
 bodyRead Way h s = Option·map refs (refsFrom s (tagsAt Way 0) (h .count))
 bodyRead Relation h s = Option·map members (membersFrom s (tagsAt Relation 0) (h .count))
 
-unfoldable pub readRecord : Kind → Bytes → Option Kept
+unfoldable pub readRecord : Kind → Bytes → Option KeptRecord
 readRecord k s =
     bind (headRead k s) (λ h. bind (metaGiven (metaRead s (headLen k))) (λ m. bind (bodyRead k h s) (λ b.
     bind (tagsFrom s (tagsAt k (h .count)) (h .tags)) (λ ts. some (record { id = h .id; held = record { meta = m; body = b; tags = ts } })))))

@@ -18,7 +18,7 @@ use Rattle.interner.specs.Sound.{textsOf}
 use Rattle.model.specs.Record.{kindOf}
 use Rattle.model.specs.Act.{Act}
 use Rattle.model.specs.Swap.{swapRecord}
-use Rattle.compact.specs.Cut.{Kept}
+use Rattle.compact.specs.Cut.{KeptRecord}
 use Rattle.compact.specs.Fits.{fitsKept}
 use Rattle.compact.specs.Legal.{legal}
 use Rattle.compact.specs.View.{readRecord}
@@ -52,7 +52,7 @@ use Rattle.condition.specs.Condition3.{Start}
 use Rattle.condition.specs.Views.{seen, textSeen, seenIn, ShowsLeft, ReadsLast, ReadsHighest}
 
 -- the readers and steps read a kept record back
-kept-read : (strings : ℕ) (k : Kind) (x : Kept) → fitsKept k x ≡ true → legal strings (x .held) ≡ true → kindOf (x .held .body) ≡ k → readRecord k (keptBytes x) ≡ some x
+kept-read : (strings : ℕ) (k : Kind) (x : KeptRecord) → fitsKept k x ≡ true → legal strings (x .held) ≡ true → kindOf (x .held .body) ≡ k → readRecord k (keptBytes x) ≡ some x
 unfolding fitsKept legal
 kept-read strings k x f l e = rw (← e) (rw append-nil at (read-record (x .id) (x .held) [] (both-right _ _ f) (both-left _ _ (both-right _ _ l)) .whole))
 
@@ -64,14 +64,14 @@ module _ (setting : ℕ) (o : Overlay) (held : List Bytes) (acts : List (Act Byt
 
   module _ (k : Kind) where
     -- the view of a place at which a record starts
-    view-seen : (at : ℕ) (x : Kept) → recordAt at (w .sound .kindStores k .whole .kept) ≡ some x
+    view-seen : (at : ℕ) (x : KeptRecord) → recordAt at (w .sound .kindStores k .whole .kept) ≡ some x
         → seenIn o k (viewIn (o .texts .strings) k (kindStoreOf k o) at) ≡ seen (x .id) (swapRecord (textOf held) (x .held))
     view-seen at x h =
         let s = kindStoreOf k o in
         let v = w .sound .kindStores k .whole in
         let n = o .texts .strings in
         let f = record-passes (fitsKept k) at (v .kept) x (v .fits) h in
-        let l = record-passes (λ (y : Kept). legal n (y .held)) at (v .kept) x (v .legals) h in
+        let l = record-passes (λ (y : KeptRecord). legal n (y .held)) at (v .kept) x (v .legals) h in
         rw (
           view-is n k (s .arena) (s .used) v at x h,
           view-bytes n k (s .arena) (s .used) v at x h,

@@ -15,7 +15,7 @@ use Rattle.version_floor.specs.Version.{wordOf}
 use Rattle.model.specs.Record.{Record}
 use Rattle.model.specs.Act.{Act, Left, gone, live}
 use Rattle.model.specs.Swap.{swapRecord}
-use Rattle.compact.specs.Cut.{Kept}
+use Rattle.compact.specs.Cut.{KeptRecord}
 use Rattle.compact.specs.View.{readRecord}
 use Rattle.listed.specs.declared.Side.the-variants.{Live}
 use Rattle.listed.specs.declared.View.{View}
@@ -40,7 +40,7 @@ textShown bytes (Refused r) = []
 unfoldable pub textSeen : Overlay → ℕ → Bytes
 textSeen o h = textShown (o .texts .bytes) (textOn h o)
 
-abbrev pub seenAs : (ℕ → Bytes) → Option Kept → Seen
+abbrev pub seenAs : (ℕ → Bytes) → Option KeptRecord → Seen
 seenAs f none = unread
 seenAs f (some x) = seen (x .id) (swapRecord f (x .held))
 

@@ -23,7 +23,7 @@ use Rattle.legal.specs.Judge.{faultFor}
 use Rattle.legal.specs.declared.Fault.the-variants as F
 use Rattle.table.specs.Words.{held, halve, answerAt, lookup, stored, storedAt, countAfter}
 use Rattle.append.specs.Append.{append}
-use Rattle.kind_store.specs.KindStore.{known, checked, idRoom, rowed, recordJoined, pushed, takenIn}
+use Rattle.kind_store.specs.KindStore.{knownVersion, checked, idRoom, rowed, recordJoined, pushed, takenIn}
 use Rattle.kind_store.specs.declared.Kept.the-variants.{Taken}
 use Rattle.kind_store.proofs.KindStores.{push-used}
 use Rattle.overlay.specs.Overlay.{Overlay, overlayOf, kindStoreOf, sizesFit, kindStoreFits, textsFit, empty}
@@ -77,14 +77,14 @@ unfolding faultFor pushedRecord cutParts cutBody thenCut times headIn nodeHead m
 legal-node = refl
 
 stored-node : pushStored Node head meta [] begun .answer ≡ Taken
-unfolding pushed known lookup held halve answerAt both checked admitOf idRoom recordJoined append headIn nodeHead metaOf headBytes metaBytes claimOf flagged rank le
+unfolding pushed knownVersion lookup held halve answerAt both checked admitOf idRoom recordJoined append headIn nodeHead metaOf headBytes metaBytes claimOf flagged rank le
 stored-node = refl
 
 taken-node : pushOn Node head meta [] begun ≡ storePush Node head meta [] begun
 taken-node = push-store Node head meta [] begun (decides begun begun-bytes .1 begun-sound) legal-node
 
 counted-node : pushStored Node head meta [] begun .kindStore .ids ≡ 1
-unfolding pushed known lookup held halve answerAt both checked admitOf idRoom recordJoined append headIn nodeHead metaOf headBytes metaBytes claimOf flagged rank le rowed stored storedAt countAfter
+unfolding pushed knownVersion lookup held halve answerAt both checked admitOf idRoom recordJoined append headIn nodeHead metaOf headBytes metaBytes claimOf flagged rank le rowed stored storedAt countAfter
 counted-node = refl
 
 -- a sound overlay with a node of 49 bytes, which a push has left

@@ -14,7 +14,7 @@ use Rattle.distinct.specs.Distinct.{distinct, runIn, runsIn}
 use Rattle.interner.specs.declared.Span.the-variants.{Missing}
 use Rattle.interner.specs.Strings.{spanned, bytesAt, spanAt}
 use Rattle.interner.specs.Sound.{handles, textsIn, spanWithin, soundUpTo}
-use Rattle.interner.specs.Check.{legalAt, Noted}
+use Rattle.interner.specs.Check.{legalAt, WordsNoted}
 use Rattle.interner.proofs.Finds.{SpanWithin, lies-not}
 use Rattle.interner.proofs.Handles.{all-handles, all-made}
 use Rattle.interner.proofs.Checks.{lies-bytes, upto-parts}
@@ -31,10 +31,10 @@ runs-made bytes f (w ∷ ws) (suc n) h g e =
     cc
 
 module _ (spans : List ℕ) (bytes : Bytes) where
-  pub noted-none : (words : List ℕ) → Noted spans bytes words 0
+  pub noted-none : (words : List ℕ) → WordsNoted spans bytes words 0
   noted-none words j h = absurd (omega arith)
 
-  pub noted-more : (words : List ℕ) (h w : ℕ) → h < length words → Noted spans bytes words h → runIn bytes w ≡ bytesAt spans bytes h → Noted spans bytes (set words h w) (h + 1)
+  pub noted-more : (words : List ℕ) (h w : ℕ) → h < length words → WordsNoted spans bytes words h → runIn bytes w ≡ bytesAt spans bytes h → WordsNoted spans bytes (set words h w) (h + 1)
   noted-more words h w g d e j a =
       byEq j h
       (λ q. rw (q, getD-set-same words h w 0 g) e)
@@ -65,7 +65,7 @@ module _ (spans : List ℕ) (bytes : Bytes) where
       (λ p. let u = upto-parts spans bytes n p in clash (both-of (u .lies h g) (u .legal h g)) e)
       (λ p. p)
 
-  pub words-decide : (words : List ℕ) (n : ℕ) → n ≤ length words → LegalUpTo n → Noted spans bytes words n → soundUpTo spans bytes n ≡ distinct (runsIn bytes (take n words))
+  pub words-decide : (words : List ℕ) (n : ℕ) → n ≤ length words → LegalUpTo n → WordsNoted spans bytes words n → soundUpTo spans bytes n ≡ distinct (runsIn bytes (take n words))
   unfolding soundUpTo spanWithin textsIn legalAt both
   words-decide words n g p d =
       let a = all-handles (spanned spans bytes) n 0 (λ k l m. both-left _ _ (p k (omega arith))) in

@@ -25,5 +25,5 @@ unfoldable pub legalAt : List ℕ → Bytes → ℕ → Bool
 legalAt spans bytes h = both (spanned spans bytes h) (isText (bytesAt spans bytes h))
 
 -- the words of the strings before a handle
-abbrev pub Noted : List ℕ → Bytes → List ℕ → ℕ → Type 0
-Noted spans bytes words h = (j : ℕ) → j < h → runIn bytes (getD words j 0) ≡ bytesAt spans bytes j
+abbrev pub WordsNoted : List ℕ → Bytes → List ℕ → ℕ → Type 0
+WordsNoted spans bytes words h = (j : ℕ) → j < h → runIn bytes (getD words j 0) ≡ bytesAt spans bytes j

@@ -10,7 +10,7 @@ ghost use Rattle.little.specs.Little.{over};
 ghost use Rattle.distinct.specs.Distinct.{distinct, runsIn};
 ghost use Rattle.interner.specs.Strings.{spanAt, spanOf, isAt, findIn, storeWith, storeAfter, textTaken, intern};
 ghost use Rattle.interner.specs.Sound.{soundUpTo, soundStrings, freshSpans};
-ghost use Rattle.interner.specs.Check.{newAt, legalAt, Noted};
+ghost use Rattle.interner.specs.Check.{newAt, legalAt, WordsNoted};
 use distinct::Distinctness;
 
 // The handle of an equal text, or that none is held.
@@ -213,9 +213,9 @@ fn sound_in_pairs(spans: &[u64], bytes: &[u8], n: usize) -> bool
 
 // Whether the string of a handle lies within the bytes and is legal text. Its word is noted.
 fn note_text(spans: &[u64], bytes: &[u8], words: &mut [u64], h: usize) -> bool
-    requires { ⌜ (length (now bytes) < 131072) × ((h < length (now words)) × Noted (now spans) (now bytes) (now words) h) ⌝ }
+    requires { ⌜ (length (now bytes) < 131072) × ((h < length (now words)) × WordsNoted (now spans) (now bytes) (now words) h) ⌝ }
     ensures { λ r. ⌜ r ≡ legalAt (now (spans .entry)) (now (bytes .entry)) h ⌝ }
-    ensures { λ r. ⌜ (r ≡ true → Noted (now (spans .entry)) (now (bytes .entry)) (now (words .exit)) (h + 1)) ⌝ }
+    ensures { λ r. ⌜ (r ≡ true → WordsNoted (now (spans .entry)) (now (bytes .entry)) (now (words .exit)) (h + 1)) ⌝ }
 {
     let Span::Part { start, len } = span_at(spans, bytes, h) else {
         return false;

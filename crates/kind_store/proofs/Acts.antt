@@ -30,7 +30,7 @@ use Rattle.table.specs.declared.Found.the-variants.{At, Place}
 use Rattle.table.specs.declared.Put.{Put}
 use Rattle.table.proofs.Tables.{stored-known, stored-full}
 use Rattle.kind_store.specs.declared.Kept.the-variants.{Taken, Refused}
-use Rattle.kind_store.specs.KindStore.{KindStore, kindStoreWith, known, knownAt, floorOf, floorAt, floorAfter, checked, idRoom, roomAt, kindStoreRefused, gone, rowed, recordJoined, pushedAs, pushed, deletedAs, deleted}
+use Rattle.kind_store.specs.KindStore.{KindStore, kindStoreWith, knownVersion, knownAt, floorOf, floorAt, floorAfter, checked, idRoom, roomAt, kindStoreRefused, gone, rowed, recordJoined, pushedAs, pushed, deletedAs, deleted}
 
 -- a row that was inserted had room
 pub inserted-room : (ws : List ℕ) (count : ℕ) (row : Row) → stored ws count row .answer ≡ answers.Inserted → 3 * suc count ≤ length ws
@@ -87,8 +87,8 @@ module _ (k : Kind) (s : KindStore) (id : ℤ) where
   found-as e g = rw e at g
 
   module _ {f : Found} (found : f ≡ lookup (s .table) (s .ids) (rank id)) where
-    pub known-as : {v : Version} → v ≡ knownAt k (s .table) (s .arena) f → v ≡ known k s id
-    unfolding known
+    pub known-as : {v : Version} → v ≡ knownAt k (s .table) (s .arena) f → v ≡ knownVersion k s id
+    unfolding knownVersion
     known-as e = rw found at e
 
     pub floor-as : {n : ℕ} → n ≡ floorAt (s .table) f → n ≡ floorOf s id
@@ -100,30 +100,30 @@ module _ (k : Kind) (s : KindStore) (id : ℤ) where
     room-as e g = sym (rw found at e) ∙ g
 
   module _ (setting : ℕ) (claim : Version) where
-    pub checked-as : {v c : Version} {a b : Admit} → v ≡ known k s id → c ≡ claim → a ≡ checked setting v c → a ≡ b → checked setting (known k s id) claim ≡ b
+    pub checked-as : {v c : Version} {a b : Admit} → v ≡ knownVersion k s id → c ≡ claim → a ≡ checked setting v c → a ≡ b → checked setting (knownVersion k s id) claim ≡ b
     checked-as p q e g = sym (rw (p, q) at e) ∙ g
 
-    pub carried-as : {v c : Version} {x n : ℕ} → v ≡ known k s id → c ≡ claim → x ≡ floorOf s id → n ≡ floorAfter setting v c x
-        → n ≡ floorAfter setting (known k s id) claim (floorOf s id)
+    pub carried-as : {v c : Version} {x n : ℕ} → v ≡ knownVersion k s id → c ≡ claim → x ≡ floorOf s id → n ≡ floorAfter setting v c x
+        → n ≡ floorAfter setting (knownVersion k s id) claim (floorOf s id)
     carried-as p q t e = rw (p, q, t) at e
 
-    pub pushed-as : (bytes : Bytes) (b : Admit) → checked setting (known k s id) claim ≡ b → pushed k setting s id claim bytes ≡ pushedAs k setting s id claim bytes b
+    pub pushed-as : (bytes : Bytes) (b : Admit) → checked setting (knownVersion k s id) claim ≡ b → pushed k setting s id claim bytes ≡ pushedAs k setting s id claim bytes b
     unfolding pushed
     pushed-as bytes b e = rw e
 
     pub push-room : (bytes : Bytes) → idRoom s id ≡ true
-        → pushedAs k setting s id claim bytes Admitted ≡ recordJoined s id (floorAfter setting (known k s id) claim (floorOf s id)) bytes
+        → pushedAs k setting s id claim bytes Admitted ≡ recordJoined s id (floorAfter setting (knownVersion k s id) claim (floorOf s id)) bytes
     push-room bytes e = rw e
 
     pub push-full : (bytes : Bytes) → idRoom s id ≡ false → pushedAs k setting s id claim bytes Admitted ≡ kindStoreRefused s IdsFull
     push-full bytes e = rw e
 
-    pub deleted-as : (b : Admit) → checked setting (known k s id) claim ≡ b → deleted k setting s id claim ≡ deletedAs k s id claim b
+    pub deleted-as : (b : Admit) → checked setting (knownVersion k s id) claim ≡ b → deleted k setting s id claim ≡ deletedAs k s id claim b
     unfolding deleted
     deleted-as b e = rw e
 
   module _ (claim : Version) where
-    pub delete-room : (t : List ℕ) (n : ℕ) {v x : Version} {f : ℕ} → idRoom s id ≡ true → v ≡ known k s id → x ≡ higher v claim → f ≡ wordOf x
+    pub delete-room : (t : List ℕ) (n : ℕ) {v x : Version} {f : ℕ} → idRoom s id ≡ true → v ≡ knownVersion k s id → x ≡ higher v claim → f ≡ wordOf x
         → t ≡ stored (s .table) (s .ids) (record { rank = rank id; place = gone; floor = f }) .words
         → n ≡ countAfter (stored (s .table) (s .ids) (record { rank = rank id; place = gone; floor = f }) .answer) (s .ids)
         → record { kindStore = kindStoreWith t n (s .arena) (s .used); answer = Taken } ≡ deletedAs k s id claim Admitted

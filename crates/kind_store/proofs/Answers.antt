@@ -19,28 +19,28 @@ use Rattle.refusal.specs.declared.Refusal.the-variants.{Regression, IdsFull, Ar
 use Rattle.append.proofs.Writes.{fits-is, full-is}
 use Rattle.kind_store.specs.declared.Kept.{Kept}
 use Rattle.kind_store.specs.declared.Kept.the-variants.{Taken, Refused}
-use Rattle.kind_store.specs.KindStore.{KindStore, KindStoreAfter, kindStoreWith, gone, known, floorOf, floorAfter, checked, idRoom, kindStoreRefused, rowed, recordJoined, pushed, deleted}
+use Rattle.kind_store.specs.KindStore.{KindStore, KindStoreAfter, kindStoreWith, gone, knownVersion, floorOf, floorAfter, checked, idRoom, kindStoreRefused, rowed, recordJoined, pushed, deleted}
 use Rattle.kind_store.proofs.Acts.{pushed-as, push-room, push-full, deleted-as, delete-full}
 
 -- ---- the answers
 
 module _ (k : Kind) (setting : ℕ) (s : KindStore) (id : ℤ) (claim : Version) where
-  checks : {C : Type 0} → ((v : ℤ) → checked setting (known k s id) claim ≡ Below v → C) → (checked setting (known k s id) claim ≡ Admitted → C) → C
-  checks {C} f g = go (checked setting (known k s id) claim) refl
+  checks : {C : Type 0} → ((v : ℤ) → checked setting (knownVersion k s id) claim ≡ Below v → C) → (checked setting (knownVersion k s id) claim ≡ Admitted → C) → C
+  checks {C} f g = go (checked setting (knownVersion k s id) claim) refl
     where
-      go : (a : Admit) → checked setting (known k s id) claim ≡ a → C
+      go : (a : Admit) → checked setting (knownVersion k s id) claim ≡ a → C
       go Admitted e = g e
       go (Below v) e = f v e
 
   -- what an accepted delete leaves: the row of its id at no place, with the floor raised
   abbrev pub dropped : KindStore
-  dropped = rowed s id gone (wordOf (higher (known k s id) claim))
+  dropped = rowed s id gone (wordOf (higher (knownVersion k s id) claim))
 
   -- a delete is refused 12 or 14, or taken
   pub byDelete : {C : Type 0}
-      → ((v : ℤ) → checked setting (known k s id) claim ≡ Below v → deleted k setting s id claim ≡ kindStoreRefused s (Regression v) → C)
-      → (checked setting (known k s id) claim ≡ Admitted → idRoom s id ≡ false → deleted k setting s id claim ≡ kindStoreRefused s IdsFull → C)
-      → (checked setting (known k s id) claim ≡ Admitted → idRoom s id ≡ true → deleted k setting s id claim ≡ record { kindStore = dropped; answer = Taken } → C) → C
+      → ((v : ℤ) → checked setting (knownVersion k s id) claim ≡ Below v → deleted k setting s id claim ≡ kindStoreRefused s (Regression v) → C)
+      → (checked setting (knownVersion k s id) claim ≡ Admitted → idRoom s id ≡ false → deleted k setting s id claim ≡ kindStoreRefused s IdsFull → C)
+      → (checked setting (knownVersion k s id) claim ≡ Admitted → idRoom s id ≡ true → deleted k setting s id claim ≡ record { kindStore = dropped; answer = Taken } → C) → C
   byDelete f g h =
       checks
       (λ v e. f v e (deleted-as k s id setting claim (Below v) e))
@@ -52,14 +52,14 @@ module _ (k : Kind) (setting : ℕ) (s : KindStore) (id : ℤ) (claim : Version)
     -- what an accepted push leaves: its bytes over the arena from the used ones on, and the row of its id there
     abbrev pub laid : KindStore
     laid =
-        rowed (kindStoreWith (s .table) (s .ids) (over (s .arena) (s .used) bytes) (s .used + length bytes)) id (s .used) (floorAfter setting (known k s id) claim (floorOf s id))
+        rowed (kindStoreWith (s .table) (s .ids) (over (s .arena) (s .used) bytes) (s .used + length bytes)) id (s .used) (floorAfter setting (knownVersion k s id) claim (floorOf s id))
 
     -- a push is refused 12, 14 or 15, in that order, or taken
     pub byPush : {C : Type 0}
-        → ((v : ℤ) → checked setting (known k s id) claim ≡ Below v → pushed k setting s id claim bytes ≡ kindStoreRefused s (Regression v) → C)
-        → (checked setting (known k s id) claim ≡ Admitted → idRoom s id ≡ false → pushed k setting s id claim bytes ≡ kindStoreRefused s IdsFull → C)
-        → (checked setting (known k s id) claim ≡ Admitted → idRoom s id ≡ true → length (s .arena) < s .used + length bytes → pushed k setting s id claim bytes ≡ kindStoreRefused s ArenaFull → C)
-        → (checked setting (known k s id) claim ≡ Admitted → idRoom s id ≡ true → s .used + length bytes ≤ length (s .arena)
+        → ((v : ℤ) → checked setting (knownVersion k s id) claim ≡ Below v → pushed k setting s id claim bytes ≡ kindStoreRefused s (Regression v) → C)
+        → (checked setting (knownVersion k s id) claim ≡ Admitted → idRoom s id ≡ false → pushed k setting s id claim bytes ≡ kindStoreRefused s IdsFull → C)
+        → (checked setting (knownVersion k s id) claim ≡ Admitted → idRoom s id ≡ true → length (s .arena) < s .used + length bytes → pushed k setting s id claim bytes ≡ kindStoreRefused s ArenaFull → C)
+        → (checked setting (knownVersion k s id) claim ≡ Admitted → idRoom s id ≡ true → s .used + length bytes ≤ length (s .arena)
         → pushed k setting s id claim bytes ≡ record { kindStore = laid; answer = Taken } → C) → C
     unfolding recordJoined
     byPush f g h t =
@@ -91,7 +91,7 @@ module _ (k : Kind) (setting : ℕ) (s : KindStore) (id : ℤ) (claim : Version)
       (λ c r l w. ap (λ (z : KindStoreAfter). z .kindStore) w) (λ c r l w. let z = answered w e in no (cc))
 
   -- 12, exactly where the check refuses, and with the version that it names
-  pub delete-12 : (v : ℤ) → (deleted k setting s id claim .answer ≡ Refused (Regression v)) ↔ (checked setting (known k s id) claim ≡ Below v)
+  pub delete-12 : (v : ℤ) → (deleted k setting s id claim .answer ≡ Refused (Regression v)) ↔ (checked setting (knownVersion k s id) claim ≡ Below v)
   delete-12 v = (
     λ e. byDelete k setting s id claim
         (λ x c w. let z = answered w e in let q : x ≡ v = cc in rw q at c)
@@ -99,7 +99,7 @@ module _ (k : Kind) (setting : ℕ) (s : KindStore) (id : ℤ) (claim : Version)
     λ e. ap (λ (z : KindStoreAfter). z .answer) (deleted-as k s id setting claim (Below v) e),
   )
 
-  pub push-12 : (bytes : Bytes) (v : ℤ) → (pushed k setting s id claim bytes .answer ≡ Refused (Regression v)) ↔ (checked setting (known k s id) claim ≡ Below v)
+  pub push-12 : (bytes : Bytes) (v : ℤ) → (pushed k setting s id claim bytes .answer ≡ Refused (Regression v)) ↔ (checked setting (knownVersion k s id) claim ≡ Below v)
   push-12 bytes v = (
     λ e. byPush k setting s id claim bytes
         (λ x c w. let z = answered w e in let q : x ≡ v = cc in rw q at c)
@@ -118,9 +118,9 @@ check-allowed setting v c n = rw (ne-eqb setting 0 n)
 
 -- T13: while it is refused, an act is refused 12 exactly where its claim is below the known version, and the refusal names that version
 pub delete-regression : (k : Kind) (s : KindStore) (id : ℤ) (claim : Version) (v : ℤ)
-    → (deleted k 0 s id claim .answer ≡ Refused (Regression v)) ↔ (admitOf (known k s id) claim ≡ Below v)
+    → (deleted k 0 s id claim .answer ≡ Refused (Regression v)) ↔ (admitOf (knownVersion k s id) claim ≡ Below v)
 delete-regression k s id claim v = rw check-refused at (delete-12 k 0 s id claim v)
 
 pub push-regression : (k : Kind) (s : KindStore) (id : ℤ) (claim : Version) (bytes : Bytes) (v : ℤ)
-    → (pushed k 0 s id claim bytes .answer ≡ Refused (Regression v)) ↔ (admitOf (known k s id) claim ≡ Below v)
+    → (pushed k 0 s id claim bytes .answer ≡ Refused (Regression v)) ↔ (admitOf (knownVersion k s id) claim ≡ Below v)
 push-regression k s id claim bytes v = rw check-refused at (push-12 k 0 s id claim bytes v)

@@ -34,7 +34,7 @@ use Rattle.table.specs.Words.{rowAt, rowsFrom, rowsOf, lookup, stored, soundTab
 use Rattle.table.proofs.Maps.{find-put-same, find-put-other}
 use Rattle.table.proofs.Tables.{sound-of, stored-known, stored-new, found-row, found-none, rows-stored, sound-stored, length-stored}
 use Rattle.kind_store.specs.declared.Kept.the-variants.{Taken}
-use Rattle.kind_store.specs.KindStore.{KindStore, KindStoreAfter, kindStoreWith, isLive, gone, versionAt, liveVersion, knownOf, known, floorOf, floorAfter, checked, idRoom, kindStoreRefused, rowed, pushed, deleted}
+use Rattle.kind_store.specs.KindStore.{KindStore, KindStoreAfter, kindStoreWith, isLive, gone, versionAt, liveVersion, knownOf, knownVersion, floorOf, floorAfter, checked, idRoom, kindStoreRefused, rowed, pushed, deleted}
 use Rattle.kind_store.specs.WellFormed.{rowsIn, WellFormed}
 use Rattle.kind_store.proofs.Answers.{dropped, laid, byDelete, byPush, answered, check-refused}
 use Rattle.kind_store.proofs.Claims.{version-same, version-joined, Narrow, narrow-none, narrow-higher, narrow-at}
@@ -50,12 +50,12 @@ module _ (k : Kind) (s : KindStore) (sound : soundTable (s .table) (s .ids) ≡ 
       go (At i) e = f i e (found-row (s .table) (s .ids) sound (rank id) i e .1)
       go (Place p) e = g p e (found-none (s .table) (s .ids) sound (rank id) p e .0)
 
-  pub known-row : (r : Row) → find (rank id) (rowsIn s) ≡ some r → known k s id ≡ knownOf k (s .arena) r
-  unfolding known
+  pub known-row : (r : Row) → find (rank id) (rowsIn s) ≡ some r → knownVersion k s id ≡ knownOf k (s .arena) r
+  unfolding knownVersion
   known-row r e = by-row (λ i l f. let x : rowAt (s .table) i ≡ r = cc in rw (l, x)) (λ p l f. no (cc))
 
-  pub known-none : find (rank id) (rowsIn s) ≡ none → known k s id ≡ Absent
-  unfolding known
+  pub known-none : find (rank id) (rowsIn s) ≡ none → knownVersion k s id ≡ Absent
+  unfolding knownVersion
   known-none e = by-row (λ i l f. no (cc)) (λ p l f. rw l)
 
   pub floor-row : (r : Row) → find (rank id) (rowsIn s) ≡ some r → floorOf s id ≡ r .floor
@@ -108,20 +108,20 @@ module _ (s : KindStore) (id : ℤ) (place floor : ℕ) (sound : soundTable (s .
 
 module _ (k : Kind) (setting : ℕ) (s : KindStore) (id : ℤ) (claim : Version) (sound : soundTable (s .table) (s .ids) ≡ true) where
   -- an accepted delete: the table stays sound, and the row is put among the rows
-  pub delete-laid : deleted k setting s id claim .answer ≡ Taken → Laid s id gone (wordOf (higher (known k s id) claim)) (deleted k setting s id claim .kindStore)
+  pub delete-laid : deleted k setting s id claim .answer ≡ Taken → Laid s id gone (wordOf (higher (knownVersion k s id) claim)) (deleted k setting s id claim .kindStore)
   delete-laid e =
       byDelete k setting s id claim
       (λ v c w. let z = answered w e in no (cc)) (λ c r w. let z = answered w e in no (cc))
-      (λ c r w. rw w (rowed-laid s id gone (wordOf (higher (known k s id) claim)) sound r (s .arena) (s .used) refl (omega arith) refl))
+      (λ c r w. rw w (rowed-laid s id gone (wordOf (higher (knownVersion k s id) claim)) sound r (s .arena) (s .used) refl (omega arith) refl))
 
   -- an accepted push too, at the used bytes' end
   pub push-laid : (bytes : Bytes) → pushed k setting s id claim bytes .answer ≡ Taken
-      → Laid s id (s .used) (floorAfter setting (known k s id) claim (floorOf s id)) (pushed k setting s id claim bytes .kindStore)
+      → Laid s id (s .used) (floorAfter setting (knownVersion k s id) claim (floorOf s id)) (pushed k setting s id claim bytes .kindStore)
   push-laid bytes e =
       byPush k setting s id claim bytes
       (λ v c w. let z = answered w e in no (cc)) (λ c r w. let z = answered w e in no (cc)) (λ c r l w. let z = answered w e in no (cc))
       (λ c r l w. rw w
-      (rowed-laid s id (s .used) (floorAfter setting (known k s id) claim (floorOf s id)) sound r (over (s .arena) (s .used) bytes) (s .used + length bytes)
+      (rowed-laid s id (s .used) (floorAfter setting (knownVersion k s id) claim (floorOf s id)) sound r (over (s .arena) (s .used) bytes) (s .used + length bytes)
       (length-over (s .arena) (s .used) bytes) (omega arith) (take-over (s .used) (s .arena) (s .used) bytes (omega arith))))
 
 -- ---- known versions are of 32 bits
@@ -133,10 +133,10 @@ narrow-row k arena r h =
     (λ t. rw t (narrow-higher (versionAt k arena (r .place)) (ofWord (r .floor)) (narrow-at k arena (r .place) h) (word-fits (r .floor))))
     (λ t. rw t (narrow-higher Absent (ofWord (r .floor)) narrow-none (word-fits (r .floor))))
 
-pub known-narrow : (k : Kind) (s : KindStore) (id : ℤ) → WellFormed k s → Narrow (known k s id)
+pub known-narrow : (k : Kind) (s : KindStore) (id : ℤ) → WellFormed k s → Narrow (knownVersion k s id)
 known-narrow k s id well-formed = go (find (rank id) (rowsIn s)) refl
   where
-    go : (o : Option Row) → find (rank id) (rowsIn s) ≡ o → Narrow (known k s id)
+    go : (o : Option Row) → find (rank id) (rowsIn s) ≡ o → Narrow (knownVersion k s id)
     go (some r) e = rw (known-row k s (well-formed .sound) id r e) (narrow-row k (s .arena) r (well-formed .bytes))
     go none e = rw (known-none k s (well-formed .sound) id e) narrow-none
 
@@ -148,13 +148,13 @@ known-kept k a b used r h e = byBool (isLive (r .place)) (λ t. rw (t, version-s
 
 module _ (k : Kind) (s t : KindStore) (id : ℤ) (place floor : ℕ) (well-formed : WellFormed k s) (laid : Laid s id place floor t) where
   -- what is known of another id stays
-  pub other-known : (other : ℤ) → (rank other ≡ rank id → ⊥) → known k t other ≡ known k s other
+  pub other-known : (other : ℤ) → (rank other ≡ rank id → ⊥) → knownVersion k t other ≡ knownVersion k s other
   other-known other n = go (find (rank other) (rowsIn s)) refl
     where
       same : find (rank other) (rowsIn t) ≡ find (rank other) (rowsIn s)
       same = rw (laid .rows) (find-put-other (rank other) (record { rank = rank id; place = place; floor = floor }) (rowsIn s) n)
 
-      go : (o : Option Row) → find (rank other) (rowsIn s) ≡ o → known k t other ≡ known k s other
+      go : (o : Option Row) → find (rank other) (rowsIn s) ≡ o → knownVersion k t other ≡ knownVersion k s other
       go (some r) e =
           known-row k t (laid .sound) other r (same ∙ e)
           ∙ known-kept k (t .arena) (s .arena) (s .used) r (well-formed .places (rank other) r e) (laid .before)
@@ -162,7 +162,7 @@ module _ (k : Kind) (s t : KindStore) (id : ℤ) (place floor : ℕ) (well-forme
       go none e = known-none k t (laid .sound) other (same ∙ e) ∙ sym (known-none k s (well-formed .sound) other e)
 
   -- and of the id itself it is what its new row says
-  pub own-known : known k t id ≡ knownOf k (t .arena) (record { rank = rank id; place = place; floor = floor })
+  pub own-known : knownVersion k t id ≡ knownOf k (t .arena) (record { rank = rank id; place = place; floor = floor })
   own-known = known-row k t (laid .sound) id _ (rw (laid .rows) (find-put-same (record { rank = rank id; place = place; floor = floor }) (rowsIn s)))
 
   -- the kind store stays fair
@@ -206,30 +206,30 @@ module _ (k : Kind) (setting : ℕ) (s : KindStore) (id : ℤ) (claim : Version)
 
   pub delete-well-formed : WellFormed k (deleted k setting s id claim .kindStore)
   delete-well-formed =
-      well-formed-laid k s (deleted k setting s id claim .kindStore) id gone (wordOf (higher (known k s id) claim)) well-formed (delete-laid k setting s id claim (well-formed .sound) taken)
+      well-formed-laid k s (deleted k setting s id claim .kindStore) id gone (wordOf (higher (knownVersion k s id) claim)) well-formed (delete-laid k setting s id claim (well-formed .sound) taken)
       (rw delete-arena (well-formed .bytes)) (λ l. clash l not-live)
 
-  pub delete-other : (other : ℤ) → (rank other ≡ rank id → ⊥) → known k (deleted k setting s id claim .kindStore) other ≡ known k s other
-  delete-other = other-known k s (deleted k setting s id claim .kindStore) id gone (wordOf (higher (known k s id) claim)) well-formed (delete-laid k setting s id claim (well-formed .sound) taken)
+  pub delete-other : (other : ℤ) → (rank other ≡ rank id → ⊥) → knownVersion k (deleted k setting s id claim .kindStore) other ≡ knownVersion k s other
+  delete-other = other-known k s (deleted k setting s id claim .kindStore) id gone (wordOf (higher (knownVersion k s id) claim)) well-formed (delete-laid k setting s id claim (well-formed .sound) taken)
 
   -- in both settings the known version is the larger of the known version and the claim, or the one that exists
-  pub delete-raises : Narrow claim → known k (deleted k setting s id claim .kindStore) id ≡ higher (known k s id) claim
+  pub delete-raises : Narrow claim → knownVersion k (deleted k setting s id claim .kindStore) id ≡ higher (knownVersion k s id) claim
   unfolding knownOf liveVersion
   delete-raises n =
       let t = deleted k setting s id claim .kindStore in
-      own-known k s t id gone (wordOf (higher (known k s id) claim)) well-formed (delete-laid k setting s id claim (well-formed .sound) taken)
-      ∙ rw not-live (higher-left (ofWord (wordOf (higher (known k s id) claim))) ∙ word-version (higher (known k s id) claim) (narrow-higher (known k s id) claim (known-narrow k s id well-formed) n))
+      own-known k s t id gone (wordOf (higher (knownVersion k s id) claim)) well-formed (delete-laid k setting s id claim (well-formed .sound) taken)
+      ∙ rw not-live (higher-left (ofWord (wordOf (higher (knownVersion k s id) claim))) ∙ word-version (higher (knownVersion k s id) claim) (narrow-higher (knownVersion k s id) claim (known-narrow k s id well-formed) n))
 
 -- ---- an accepted push
 
 module _ (k : Kind) (setting : ℕ) (s : KindStore) (id : ℤ) (claim : Version) (bytes : Bytes) (taken : pushed k setting s id claim bytes .answer ≡ Taken) where
-  is-taken : {C : Type 0} → (checked setting (known k s id) claim ≡ Admitted → s .used + length bytes ≤ length (s .arena) → pushed k setting s id claim bytes .kindStore ≡ laid k setting s id claim bytes → C) → C
+  is-taken : {C : Type 0} → (checked setting (knownVersion k s id) claim ≡ Admitted → s .used + length bytes ≤ length (s .arena) → pushed k setting s id claim bytes .kindStore ≡ laid k setting s id claim bytes → C) → C
   is-taken f =
       byPush k setting s id claim bytes
       (λ v c w. let z = answered w taken in no (cc)) (λ c r w. let z = answered w taken in no (cc)) (λ c r l w. let z = answered w taken in no (cc))
       (λ c r l w. f c l (ap (λ (z : KindStoreAfter). z .kindStore) w))
 
-  pub push-admitted : checked setting (known k s id) claim ≡ Admitted
+  pub push-admitted : checked setting (knownVersion k s id) claim ≡ Admitted
   push-admitted = is-taken (λ c l w. c)
 
   pub push-fits : s .used + length bytes ≤ length (s .arena)
@@ -245,14 +245,14 @@ module _ (k : Kind) (setting : ℕ) (s : KindStore) (id : ℤ) (claim : Version)
   push-arena = is-taken (λ c l w. rw w)
 
   module _ (well-formed : WellFormed k s) where
-    pub push-other : (other : ℤ) → (rank other ≡ rank id → ⊥) → known k (pushed k setting s id claim bytes .kindStore) other ≡ known k s other
+    pub push-other : (other : ℤ) → (rank other ≡ rank id → ⊥) → knownVersion k (pushed k setting s id claim bytes .kindStore) other ≡ knownVersion k s other
     push-other =
-        other-known k s (pushed k setting s id claim bytes .kindStore) id (s .used) (floorAfter setting (known k s id) claim (floorOf s id)) well-formed
+        other-known k s (pushed k setting s id claim bytes .kindStore) id (s .used) (floorAfter setting (knownVersion k s id) claim (floorOf s id)) well-formed
         (push-laid k setting s id claim (well-formed .sound) bytes taken)
 
     pub push-well-formed : all isByte bytes ≡ true → headLen k + 29 ≤ length bytes → WellFormed k (pushed k setting s id claim bytes .kindStore)
     push-well-formed b h =
-        well-formed-laid k s (pushed k setting s id claim bytes .kindStore) id (s .used) (floorAfter setting (known k s id) claim (floorOf s id)) well-formed
+        well-formed-laid k s (pushed k setting s id claim bytes .kindStore) id (s .used) (floorAfter setting (knownVersion k s id) claim (floorOf s id)) well-formed
         (push-laid k setting s id claim (well-formed .sound) bytes taken)
         (rw (push-arena, over-fits (s .arena) (s .used) bytes push-fits)
         (all-append isByte _ _ (bytes-take (s .used) (s .arena) (well-formed .bytes))
@@ -260,11 +260,11 @@ module _ (k : Kind) (setting : ℕ) (s : KindStore) (id : ℤ) (claim : Version)
         (λ l. rw push-used (omega arith))
 
 -- the floor of an id is not above its known version
-floor-under : (k : Kind) (s : KindStore) (id : ℤ) → soundTable (s .table) (s .ids) ≡ true → higher (known k s id) (ofWord (floorOf s id)) ≡ known k s id
+floor-under : (k : Kind) (s : KindStore) (id : ℤ) → soundTable (s .table) (s .ids) ≡ true → higher (knownVersion k s id) (ofWord (floorOf s id)) ≡ knownVersion k s id
 unfolding knownOf
 floor-under k s id sound = go (find (rank id) (rowsIn s)) refl
   where
-    go : (o : Option Row) → find (rank id) (rowsIn s) ≡ o → higher (known k s id) (ofWord (floorOf s id)) ≡ known k s id
+    go : (o : Option Row) → find (rank id) (rowsIn s) ≡ o → higher (knownVersion k s id) (ofWord (floorOf s id)) ≡ knownVersion k s id
     go (some r) e =
         rw (known-row k s sound id r e, floor-row k s sound id r e) (associative (liveVersion k (s .arena) r) (ofWord (r .floor)) (ofWord (r .floor)) ∙ rw (idempotent (ofWord (r .floor))))
     go none e = rw (known-none k s sound id e, floor-none k s sound id e) (higher-left (ofWord (2 ^ 32)) ∙ word-absent (2 ^ 32) (omega arith))
@@ -281,22 +281,22 @@ module _ (k : Kind) (setting : ℕ) (s : KindStore) (id : ℤ) (h : Head) (m : M
   live = lt-ltb (s .used) (2 ^ 63) (omega (arith, push-fits k setting s id (claimOf m) (headBytes k h ++ metaBytes m ++ parts) taken, well-formed .short))
 
   -- in both settings: the larger of its claim and of the floor that it leaves
-  pub push-known : known k (pushed k setting s id (claimOf m) (headBytes k h ++ metaBytes m ++ parts) .kindStore) id
-      ≡ higher (claimOf m) (ofWord (floorAfter setting (known k s id) (claimOf m) (floorOf s id)))
+  pub push-known : knownVersion k (pushed k setting s id (claimOf m) (headBytes k h ++ metaBytes m ++ parts) .kindStore) id
+      ≡ higher (claimOf m) (ofWord (floorAfter setting (knownVersion k s id) (claimOf m) (floorOf s id)))
   unfolding knownOf liveVersion
   push-known =
       let bytes = headBytes k h ++ metaBytes m ++ parts in
-      own-known k s (pushed k setting s id (claimOf m) bytes .kindStore) id (s .used) (floorAfter setting (known k s id) (claimOf m) (floorOf s id)) well-formed
+      own-known k s (pushed k setting s id (claimOf m) bytes .kindStore) id (s .used) (floorAfter setting (knownVersion k s id) (claimOf m) (floorOf s id)) well-formed
       (push-laid k setting s id (claimOf m) (well-formed .sound) bytes taken)
       ∙ rw (live, push-arena k setting s id (claimOf m) bytes taken, version-joined k h m parts (s .arena) (s .used) fits (push-fits k setting s id (claimOf m) bytes taken))
 
   -- while regression is refused: the larger of the known version and its own, or the one that exists
-  pub push-raises : setting ≡ 0 → known k (pushed k setting s id (claimOf m) (headBytes k h ++ metaBytes m ++ parts) .kindStore) id ≡ higher (known k s id) (claimOf m)
+  pub push-raises : setting ≡ 0 → knownVersion k (pushed k setting s id (claimOf m) (headBytes k h ++ metaBytes m ++ parts) .kindStore) id ≡ higher (knownVersion k s id) (claimOf m)
   push-raises z = push-known ∙ go (claimOf m) (push-admitted k setting s id (claimOf m) (headBytes k h ++ metaBytes m ++ parts) taken)
     where
-      go : (c : Version) → checked setting (known k s id) c ≡ Admitted → higher c (ofWord (floorAfter setting (known k s id) c (floorOf s id))) ≡ higher (known k s id) c
-      go Absent e = rw (z, higher-left, higher-right) (word-version (known k s id) (known-narrow k s id well-formed))
-      go (Is x) e = raised-claim (known k s id) (ofWord (floorOf s id)) x (rw (z, check-refused) at e) (floor-under k s id (well-formed .sound))
+      go : (c : Version) → checked setting (knownVersion k s id) c ≡ Admitted → higher c (ofWord (floorAfter setting (knownVersion k s id) c (floorOf s id))) ≡ higher (knownVersion k s id) c
+      go Absent e = rw (z, higher-left, higher-right) (word-version (knownVersion k s id) (known-narrow k s id well-formed))
+      go (Is x) e = raised-claim (knownVersion k s id) (ofWord (floorOf s id)) x (rw (z, check-refused) at e) (floor-under k s id (well-formed .sound))
 
 -- ---- a kind store without ids is fair
 

@@ -68,8 +68,8 @@ abbrev pub knownAt : Kind → List ℕ → Bytes → Found → Version
 knownAt k table arena (At i) = knownOf k arena (rowAt table i)
 knownAt k table arena (Place p) = Absent
 
-unfoldable pub known : Kind → KindStore → ℤ → Version
-known k s id = knownAt k (s .table) (s .arena) (lookup (s .table) (s .ids) (rank id))
+unfoldable pub knownVersion : Kind → KindStore → ℤ → Version
+knownVersion k s id = knownAt k (s .table) (s .arena) (lookup (s .table) (s .ids) (rank id))
 
 -- the floor word of an id, none for one that is not known
 abbrev pub floorAt : List ℕ → Found → ℕ
@@ -83,7 +83,7 @@ floorOf s id = floorAt (s .table) (lookup (s .table) (s .ids) (rank id))
 
 -- 12: a claim is checked against the known version only while regression is refused (setting 0)
 unfoldable pub checked : ℕ → Version → Version → Admit
-checked setting known claim = cond (eqb setting 0) (admitOf known claim) Admitted
+checked setting knownVersion claim = cond (eqb setting 0) (admitOf knownVersion claim) Admitted
 
 -- 14: "new id, ids full"
 abbrev pub roomAt : List ℕ → ℕ → Found → Bool
@@ -117,8 +117,8 @@ rowed s id place floor = withRow s (stored (s .table) (s .ids) (record { rank = 
 
 -- "A push without one carries the known version into the floor, only while regression is refused."
 abbrev pub floorAfter : ℕ → Version → Version → ℕ → ℕ
-floorAfter setting known (Is v) floor = floor
-floorAfter setting known Absent floor = cond (eqb setting 0) (wordOf known) floor
+floorAfter setting knownVersion (Is v) floor = floor
+floorAfter setting knownVersion Absent floor = cond (eqb setting 0) (wordOf knownVersion) floor
 
 -- the record joined to the used bytes, and the row of its id at its place
 abbrev pub joinedAs : KindStore → ℤ → ℕ → Bytes → Appended → KindStoreAfter
@@ -132,17 +132,17 @@ recordJoined s id floor bytes = joinedAs s id floor (append (s .arena) (s .used)
 abbrev pub pushedAs : Kind → ℕ → KindStore → ℤ → Version → Bytes → Admit → KindStoreAfter
 pushedAs k setting s id claim bytes (Below v) = kindStoreRefused s (Regression v)
 pushedAs k setting s id claim bytes Admitted =
-    cond (idRoom s id) (recordJoined s id (floorAfter setting (known k s id) claim (floorOf s id)) bytes) (kindStoreRefused s IdsFull)
+    cond (idRoom s id) (recordJoined s id (floorAfter setting (knownVersion k s id) claim (floorOf s id)) bytes) (kindStoreRefused s IdsFull)
 
 unfoldable pub pushed : Kind → ℕ → KindStore → ℤ → Version → Bytes → KindStoreAfter
-pushed k setting s id claim bytes = pushedAs k setting s id claim bytes (checked setting (known k s id) claim)
+pushed k setting s id claim bytes = pushedAs k setting s id claim bytes (checked setting (knownVersion k s id) claim)
 
 -- "A delete, in both settings, raises the floor to the larger of the known version and its own, or the one that exists .., drops the id from live
 -- and adds it to deleted."
 abbrev pub deletedAs : Kind → KindStore → ℤ → Version → Admit → KindStoreAfter
 deletedAs k s id claim (Below v) = kindStoreRefused s (Regression v)
 deletedAs k s id claim Admitted =
-    cond (idRoom s id) (record { kindStore = rowed s id gone (wordOf (higher (known k s id) claim)); answer = Taken }) (kindStoreRefused s IdsFull)
+    cond (idRoom s id) (record { kindStore = rowed s id gone (wordOf (higher (knownVersion k s id) claim)); answer = Taken }) (kindStoreRefused s IdsFull)
 
 unfoldable pub deleted : Kind → ℕ → KindStore → ℤ → Version → KindStoreAfter
-deleted k setting s id claim = deletedAs k s id claim (checked setting (known k s id) claim)
+deleted k setting s id claim = deletedAs k s id claim (checked setting (knownVersion k s id) claim)

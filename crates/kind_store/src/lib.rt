@@ -11,7 +11,7 @@ ghost use Rattle.compact.specs.Held.{metaOf, headIn};
 ghost use Rattle.append.specs.Append.{append};
 ghost use Rattle.version_floor.specs.declared.Admit.the-variants.{Admitted};
 ghost use Rattle.table.specs.Words.{lookup, stored, countAfter};
-ghost use Rattle.kind_store.specs.KindStore.{kindStoreWith, liveVersion, knownOf, knownAt, known, floorAt, checked, roomAt, floorAfter, recordJoined, pushedAs, pushed, deletedAs, deleted};
+ghost use Rattle.kind_store.specs.KindStore.{kindStoreWith, liveVersion, knownOf, knownAt, knownVersion, floorAt, checked, roomAt, floorAfter, recordJoined, pushedAs, pushed, deletedAs, deleted};
 use append::Appended;
 use compact::ArenaMeta;
 use compact::CompactNode;
@@ -89,7 +89,7 @@ fn rank_of(id: u64) -> u64
 }
 
 pub fn known_version(kind: Kind, table: &[u64], ids: u64, arena: &[u8], id: u64) -> Version
-    ensures { λ r. ⌜ ((used : ℕ) → r ≡ known kind (kindStoreWith (now (table .entry)) ids (now (arena .entry)) used) (toZ w64 id)) ⌝ }
+    ensures { λ r. ⌜ ((used : ℕ) → r ≡ knownVersion kind (kindStoreWith (now (table .entry)) ids (now (arena .entry)) used) (toZ w64 id)) ⌝ }
 {
     let found = table::find_row(table, ids, rank_of(id));
     version_found(kind, table, arena, found)
@@ -237,7 +237,7 @@ fn push_admitted(
     found: Found,
     version: Version,
 ) -> Outcome
-    requires { ⌜ (found ≡ lookup (now table) ids (rank (toZ w64 (head .id)))) × (version ≡ known kind (kindStoreWith (now table) ids (now arena) used) (toZ w64 (head .id))) ⌝ }
+    requires { ⌜ (found ≡ lookup (now table) ids (rank (toZ w64 (head .id)))) × (version ≡ knownVersion kind (kindStoreWith (now table) ids (now arena) used) (toZ w64 (head .id))) ⌝ }
     ensures { λ r. ⌜ record { kindStore = kindStoreWith (now (table .exit)) (r .ids) (now (arena .exit)) (r .used); answer = r .answer } ≡ pushedAs kind setting (kindStoreWith (now (table .entry)) ids (now (arena .entry)) used) (toZ w64 (head .id)) (claimOf (metaOf meta)) (headBytes kind (headIn kind head) ++ metaBytes (metaOf meta) ++ now (parts .entry)) Admitted ⌝ }
 {
     if has_room(table, ids, found) {
@@ -307,7 +307,7 @@ fn delete_admitted(
     found: Found,
     version: Version,
 ) -> Outcome
-    requires { ⌜ (found ≡ lookup (now table) ids (rank (toZ w64 id))) × (version ≡ known kind (kindStoreWith (now table) ids (now arena) used) (toZ w64 id)) ⌝ }
+    requires { ⌜ (found ≡ lookup (now table) ids (rank (toZ w64 id))) × (version ≡ knownVersion kind (kindStoreWith (now table) ids (now arena) used) (toZ w64 id)) ⌝ }
     ensures { λ r. ⌜ record { kindStore = kindStoreWith (now (table .exit)) (r .ids) (now (arena .entry)) (r .used); answer = r .answer } ≡ deletedAs kind (kindStoreWith (now (table .entry)) ids (now (arena .entry)) used) (toZ w64 id) claim Admitted ⌝ }
 {
     if has_room(table, ids, found) {

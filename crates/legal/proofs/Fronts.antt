@@ -14,7 +14,7 @@ use Rattle.kind.specs.declared.Kind.the-variants.{Node, Way, Relation}
 use Rattle.refusal.specs.declared.Refusal.the-variants.{NotText, CoordinateRange, TooManyParts, BadRecord}
 use Rattle.model.specs.Record.{Meta, Tag, Record}
 use Rattle.compact.specs.Layout.{Head, headLen}
-use Rattle.compact.specs.Cut.{Cut, thenCut, found, cutTag, cutParts, Kept, cutRecord}
+use Rattle.compact.specs.Cut.{Cut, thenCut, found, cutTag, cutParts, KeptRecord, cutRecord}
 use Rattle.compact.specs.Held.{metaOf}
 use Rattle.compact.specs.View.{metaAt, headAt}
 use Rattle.compact.proofs.Format.{first, of-cut}
@@ -62,7 +62,7 @@ head-long Way = omega arith
 head-long Relation = omega arith
 
 -- a record takes its head and its metadata at least
-pub record-off : (k : Kind) (s : Bytes) (c : Cut Kept) → cutRecord k s ≡ some c → (n : ℕ) × (Off s n (c .rest) × (45 ≤ n))
+pub record-off : (k : Kind) (s : Bytes) (c : Cut KeptRecord) → cutRecord k s ≡ some c → (n : ℕ) × (Off s n (c .rest) × (45 ≤ n))
 record-off k s c e =
     byLe (headLen k + 29) (length s)
     (λ l. first (λ r q. (n : ℕ) × Off (drop (headLen k + 29) s) n q) (λ x t. parts-off k (headAt k s) (metaOf (metaAt s (headLen k))) (drop (headLen k + 29) s) x t) (sym (record-is k s l) ∙ e) (λ r q o t.
@@ -87,17 +87,17 @@ judged-end true false range few e = refl
 judged-end false texts range few e = refl
 
 module _ (strings : ℕ) where
-  none-end : (len : ℕ) (id : Record ℕ → Kept) → endOf (λ (x : Kept). legal strings (x .held)) len (thenCut none (λ r q. found (id r) q)) ≡ toEnd (verdictOf strings true len none)
+  none-end : (len : ℕ) (id : Record ℕ → KeptRecord) → endOf (λ (x : KeptRecord). legal strings (x .held)) len (thenCut none (λ r q. found (id r) q)) ≡ toEnd (verdictOf strings true len none)
   unfolding endOf thenCut verdictOf
   none-end len id = refl
 
   some-end : (len : ℕ) (id : ℤ) (c : Cut (Record ℕ))
-      → endOf (λ (x : Kept). legal strings (x .held)) len (thenCut (some c) (λ r q. found (record { id = id; held = r }) q)) ≡ toEnd (verdictOf strings true len (some c))
+      → endOf (λ (x : KeptRecord). legal strings (x .held)) len (thenCut (some c) (λ r q. found (record { id = id; held = r }) q)) ≡ toEnd (verdictOf strings true len (some c))
   unfolding endOf thenCut verdictOf either legal faultOf
   some-end len id c = judged-end (legalHandles strings (c .item)) (legalTexts (c .item)) (inRange (c .item .body)) (withinLimits limits (c .item)) (len - length (c .rest))
 
 module _ (strings : ℕ) (k : Kind) where
-  abbrev isLegal : Kept → Bool
+  abbrev isLegal : KeptRecord → Bool
   isLegal x = legal strings (x .held)
 
   pub front-short : (s : Bytes) → length s < headLen k + 29 → Bad ≡ recordEnd strings k s 0
@@ -120,12 +120,12 @@ module _ (strings : ℕ) (k : Kind) where
   module _ (s : Bytes) (at : ℕ) where
     -- what an end tells
     pub end-tells : at ≤ length s → (e : ℕ) → recordEnd strings k s at ≡ At e
-        → (c : Cut Kept) × ((cutRecord k (drop at s) ≡ some c) × ((legal strings (c .item .held) ≡ true) × ((c .rest ≡ drop e s) × ((at < e) × (e ≤ length s)))))
+        → (c : Cut KeptRecord) × ((cutRecord k (drop at s) ≡ some c) × ((legal strings (c .item .held) ≡ true) × ((c .rest ≡ drop e s) × ((at < e) × (e ≤ length s)))))
     unfolding recordEnd endOf
     end-tells h e t = go (cutRecord k (drop at s)) refl t
       where
-        go : (o : Option (Cut Kept)) → cutRecord k (drop at s) ≡ o → endOf isLegal (length s) o ≡ At e
-            → (c : Cut Kept) × ((cutRecord k (drop at s) ≡ some c) × ((legal strings (c .item .held) ≡ true) × ((c .rest ≡ drop e s) × ((at < e) × (e ≤ length s)))))
+        go : (o : Option (Cut KeptRecord)) → cutRecord k (drop at s) ≡ o → endOf isLegal (length s) o ≡ At e
+            → (c : Cut KeptRecord) × ((cutRecord k (drop at s) ≡ some c) × ((legal strings (c .item .held) ≡ true) × ((c .rest ≡ drop e s) × ((at < e) × (e ≤ length s)))))
         go none q t = no cc
         go (some c) q t =
             byBool (legal strings (c .item .held))
@@ -141,7 +141,7 @@ module _ (strings : ℕ) (k : Kind) where
     unfolding recordEnd endOf
     end-at h n t = go (cutRecord k (drop at s)) refl t
       where
-        go : (o : Option (Cut Kept)) → cutRecord k (drop at s) ≡ o → At n ≡ endOf isLegal (length (drop at s)) o → (At (at + n) ≡ endOf isLegal (length s) o) × (at + n ≤ length s)
+        go : (o : Option (Cut KeptRecord)) → cutRecord k (drop at s) ≡ o → At n ≡ endOf isLegal (length (drop at s)) o → (At (at + n) ≡ endOf isLegal (length s) o) × (at + n ≤ length s)
         go none q t = no cc
         go (some c) q t =
             byBool (legal strings (c .item .held))
@@ -159,7 +159,7 @@ module _ (strings : ℕ) (k : Kind) where
     unfolding recordEnd endOf
     end-bad t = go (cutRecord k (drop at s)) t
       where
-        go : (o : Option (Cut Kept)) → Bad ≡ endOf isLegal (length (drop at s)) o → Bad ≡ endOf isLegal (length s) o
+        go : (o : Option (Cut KeptRecord)) → Bad ≡ endOf isLegal (length (drop at s)) o → Bad ≡ endOf isLegal (length s) o
         go none t = refl
         go (some c) t =
             byBool (legal strings (c .item .held))

@@ -16,7 +16,7 @@ use Rattle.refusal.specs.declared.Refusal.{Refusal}
 use Rattle.refusal.specs.declared.Refusal.the-variants.{NotText, CoordinateRange, TooManyParts, BadRecord}
 use Rattle.model.specs.Record.{Meta, Member, Tag, Body, place, refs, members, Record, kindOf}
 use Rattle.compact.specs.Layout.{Head, headBytes, metaBytes}
-use Rattle.compact.specs.Cut.{Kept, pushedRecord}
+use Rattle.compact.specs.Cut.{KeptRecord, pushedRecord}
 use Rattle.compact.specs.Fits.{fitsHead, fitsMeta, fitsKept}
 use Rattle.compact.proofs.Cuts.{Parts, pushed, pushed-bytes}
 use Rattle.compact.specs.Legal.{handle, legalMeta, bodyHandles, legalHandles, legalTexts, inRange, withinLimits, limits, faultOf, legal}
@@ -86,7 +86,7 @@ module _ (n m : ℕ) (more : n ≤ m) where
 
   pub whole-more : (k : Kind) (s : Bytes) → Whole n k s → Whole m k s
   whole-more k s w =
-      record { kept = w .kept; fits = w .fits; legals = all-more (λ (x : Kept). legal n (x .held)) (λ (x : Kept). legal m (x .held)) (λ x. legal-more (x .held)) (w .kept) (w .legals); same = w .same }
+      record { kept = w .kept; fits = w .fits; legals = all-more (λ (x : KeptRecord). legal n (x .held)) (λ (x : KeptRecord). legal m (x .held)) (λ x. legal-more (x .held)) (w .kept) (w .legals); same = w .same }
 
 -- ---- what a direct push appends
 

@@ -12,7 +12,7 @@ use Rattle.base.proofs.Lists.{all-nil, all-cons, all-head, all-tail, all-append
 use Rattle.little.specs.Little.{isByte}
 use Rattle.kind.specs.declared.Kind.{Kind}
 use Rattle.compact.specs.Layout.{joinedBytes}
-use Rattle.compact.specs.Cut.{Cut, found, Kept, cutRecord}
+use Rattle.compact.specs.Cut.{Cut, found, KeptRecord, cutRecord}
 use Rattle.compact.specs.Fits.{fitsKept}
 use Rattle.compact.proofs.Cuts.{record-format}
 use Rattle.compact.proofs.Format.{of-cut}
@@ -26,18 +26,18 @@ use Rattle.legal.proofs.Fronts.{record-off, end-tells}
 
 module _ (strings : ℕ) (k : Kind) where
   -- what a legal record at the front tells
-  after-is : (s r : Bytes) → afterLegal strings k s ≡ some r → (c : Cut Kept) × ((cutRecord k s ≡ some c) × ((legal strings (c .item .held) ≡ true) × (c .rest ≡ r)))
+  after-is : (s r : Bytes) → afterLegal strings k s ≡ some r → (c : Cut KeptRecord) × ((cutRecord k s ≡ some c) × ((legal strings (c .item .held) ≡ true) × (c .rest ≡ r)))
   unfolding afterLegal
   after-is s r h = go (cutRecord k s) refl h
     where
-      go : (o : Option (Cut Kept)) → cutRecord k s ≡ o → legalRest strings o ≡ some r → (c : Cut Kept) × ((cutRecord k s ≡ some c) × ((legal strings (c .item .held) ≡ true) × (c .rest ≡ r)))
+      go : (o : Option (Cut KeptRecord)) → cutRecord k s ≡ o → legalRest strings o ≡ some r → (c : Cut KeptRecord) × ((cutRecord k s ≡ some c) × ((legal strings (c .item .held) ≡ true) × (c .rest ≡ r)))
       go none e t = no cc
       go (some c) e t =
           byBool (legal strings (c .item .held))
           (λ y. let z : some (c .rest) ≡ some r = rw y at t in let w : c .rest ≡ r = cc in (c, (e, (y, w))))
           (λ y. let z : none ≡ some r = rw y at t in no cc)
 
-  after-of : (s : Bytes) (c : Cut Kept) → cutRecord k s ≡ some c → legal strings (c .item .held) ≡ true → afterLegal strings k s ≡ some (c .rest)
+  after-of : (s : Bytes) (c : Cut KeptRecord) → cutRecord k s ≡ some c → legal strings (c .item .held) ≡ true → afterLegal strings k s ≡ some (c .rest)
   unfolding afterLegal
   after-of s c e t = rw (e, t)
 
@@ -94,7 +94,7 @@ module _ (strings : ℕ) (k : Kind) where
   unfolding recordEnd endOf afterLegal
   walk-stops s at h t = whole-stops (drop at s) (omega (arith, length-drop at s)) (go (cutRecord k (drop at s)) t)
     where
-      go : (o : Option (Cut Kept)) → Bad ≡ endOf (λ (x : Kept). legal strings (x .held)) (length s) o → legalRest strings o ≡ none
+      go : (o : Option (Cut KeptRecord)) → Bad ≡ endOf (λ (x : KeptRecord). legal strings (x .held)) (length s) o → legalRest strings o ≡ none
       go none t = refl
       go (some c) t =
           byBool (legal strings (c .item .held))
@@ -103,21 +103,21 @@ module _ (strings : ℕ) (k : Kind) where
 
 -- ---- the test decides `Whole`
 
-joined-append : (xs ys : List Kept) → joinedBytes keptBytes (xs ++ ys) ≡ joinedBytes keptBytes xs ++ joinedBytes keptBytes ys
+joined-append : (xs ys : List KeptRecord) → joinedBytes keptBytes (xs ++ ys) ≡ joinedBytes keptBytes xs ++ joinedBytes keptBytes ys
 unfolding joinedBytes
 joined-append [] ys = refl
 joined-append (x ∷ xs) ys = rw (joined-append xs ys) (sym (append-assoc (keptBytes x) (joinedBytes keptBytes xs) (joinedBytes keptBytes ys)))
 
-joined-snoc : (xs : List Kept) (x : Kept) → joinedBytes keptBytes (xs ++ x ∷ []) ≡ joinedBytes keptBytes xs ++ keptBytes x
+joined-snoc : (xs : List KeptRecord) (x : KeptRecord) → joinedBytes keptBytes (xs ++ x ∷ []) ≡ joinedBytes keptBytes xs ++ keptBytes x
 unfolding joinedBytes
 joined-snoc xs x = joined-append xs (x ∷ []) ∙ rw append-nil
 
 -- a record has bytes
-pub kept-long : (x : Kept) → 0 < length (keptBytes x)
+pub kept-long : (x : KeptRecord) → 0 < length (keptBytes x)
 kept-long x = omega (arith, length-record (x .id) (x .held))
 
 -- the bytes tell the records
-pub kept-unique : (k : Kind) (xs ys : List Kept) → all (fitsKept k) xs ≡ true → all (fitsKept k) ys ≡ true → joinedBytes keptBytes xs ≡ joinedBytes keptBytes ys → xs ≡ ys
+pub kept-unique : (k : Kind) (xs ys : List KeptRecord) → all (fitsKept k) xs ≡ true → all (fitsKept k) ys ≡ true → joinedBytes keptBytes xs ≡ joinedBytes keptBytes ys → xs ≡ ys
 unfolding joinedBytes
 kept-unique k [] [] f g e = refl
 kept-unique k [] (y ∷ ys) f g e = let n = kept-long y in let l = ap length e ∙ length-append (keptBytes y) (joinedBytes keptBytes ys) in absurd (omega arith)
@@ -134,16 +134,16 @@ kept-unique k (x ∷ xs) (y ∷ ys) f g e =
 module _ (strings : ℕ) (k : Kind) where
   pub nothing-whole : Whole strings k []
   unfolding joinedBytes
-  nothing-whole = record { kept = []; fits = all-nil (fitsKept k); legals = all-nil (λ (x : Kept). legal strings (x .held)); same = refl }
+  nothing-whole = record { kept = []; fits = all-nil (fitsKept k); legals = all-nil (λ (x : KeptRecord). legal strings (x .held)); same = refl }
 
   -- a record before whole records
-  before-whole : (s : Bytes) (c : Cut Kept) → s ≡ keptBytes (c .item) ++ c .rest → fitsKept k (c .item) ≡ true → legal strings (c .item .held) ≡ true → Whole strings k (c .rest) → Whole strings k s
+  before-whole : (s : Bytes) (c : Cut KeptRecord) → s ≡ keptBytes (c .item) ++ c .rest → fitsKept k (c .item) ≡ true → legal strings (c .item .held) ≡ true → Whole strings k (c .rest) → Whole strings k s
   unfolding joinedBytes
   before-whole s c e f g w =
       record {
         kept = c .item ∷ w .kept;
         fits = all-cons (fitsKept k) (c .item) (w .kept) f (w .fits);
-        legals = all-cons (λ (x : Kept). legal strings (x .held)) (c .item) (w .kept) g (w .legals);
+        legals = all-cons (λ (x : KeptRecord). legal strings (x .held)) (c .item) (w .kept) g (w .legals);
         same = e ∙ ap (keptBytes (c .item) ++_) (w .same);
       }
 
@@ -168,30 +168,30 @@ module _ (strings : ℕ) (k : Kind) where
   unfolding wholeRecords
   sound s b t = sound-by (length s) s b t
 
-  complete-of : (xs : List Kept) → all (fitsKept k) xs ≡ true → all (λ (x : Kept). legal strings (x .held)) xs ≡ true → wholeRecords strings k (joinedBytes keptBytes xs) ≡ true
+  complete-of : (xs : List KeptRecord) → all (fitsKept k) xs ≡ true → all (λ (x : KeptRecord). legal strings (x .held)) xs ≡ true → wholeRecords strings k (joinedBytes keptBytes xs) ≡ true
   unfolding joinedBytes
   complete-of [] f l = whole-nil strings k
   complete-of (x ∷ xs) f l =
       let c : cutRecord k (keptBytes x ++ joinedBytes keptBytes xs) ≡ found x (joinedBytes keptBytes xs) = record-format k .back x (joinedBytes keptBytes xs) (all-head (fitsKept k) x xs f) in
-      whole-next strings k (keptBytes x ++ joinedBytes keptBytes xs) (joinedBytes keptBytes xs) (after-of strings k (keptBytes x ++ joinedBytes keptBytes xs) _ c (all-head (λ (x : Kept). legal strings (x .held)) x xs l))
-      ∙ complete-of xs (all-tail (fitsKept k) x xs f) (all-tail (λ (x : Kept). legal strings (x .held)) x xs l)
+      whole-next strings k (keptBytes x ++ joinedBytes keptBytes xs) (joinedBytes keptBytes xs) (after-of strings k (keptBytes x ++ joinedBytes keptBytes xs) _ c (all-head (λ (x : KeptRecord). legal strings (x .held)) x xs l))
+      ∙ complete-of xs (all-tail (fitsKept k) x xs f) (all-tail (λ (x : KeptRecord). legal strings (x .held)) x xs l)
 
   pub complete : (s : Bytes) → Whole strings k s → wholeRecords strings k s ≡ true
   complete s w = rw (w .same) (complete-of (w .kept) (w .fits) (w .legals))
 
   -- ---- an append keeps it
 
-  pub append-whole : (s : Bytes) (x : Kept) → fitsKept k x ≡ true → legal strings (x .held) ≡ true → Whole strings k s → Whole strings k (s ++ keptBytes x)
+  pub append-whole : (s : Bytes) (x : KeptRecord) → fitsKept k x ≡ true → legal strings (x .held) ≡ true → Whole strings k s → Whole strings k (s ++ keptBytes x)
   append-whole s x f g w =
       record {
         kept = w .kept ++ x ∷ [];
         fits = all-append (fitsKept k) (w .kept) (x ∷ []) (w .fits) (all-cons (fitsKept k) x [] f (all-nil (fitsKept k)));
-        legals = all-append (λ (x : Kept). legal strings (x .held)) (w .kept) (x ∷ []) (w .legals) (all-cons (λ (x : Kept). legal strings (x .held)) x [] g (all-nil (λ (x : Kept). legal strings (x .held))));
+        legals = all-append (λ (x : KeptRecord). legal strings (x .held)) (w .kept) (x ∷ []) (w .legals) (all-cons (λ (x : KeptRecord). legal strings (x .held)) x [] g (all-nil (λ (x : KeptRecord). legal strings (x .held))));
         same = ap (_++ keptBytes x) (w .same) ∙ sym (joined-snoc (w .kept) x);
       }
 
   -- the records after an append are those before it and the new one
-  pub append-kept : (s : Bytes) (x : Kept) → fitsKept k x ≡ true → (w : Whole strings k s) (v : Whole strings k (s ++ keptBytes x)) → v .kept ≡ w .kept ++ x ∷ []
+  pub append-kept : (s : Bytes) (x : KeptRecord) → fitsKept k x ≡ true → (w : Whole strings k s) (v : Whole strings k (s ++ keptBytes x)) → v .kept ≡ w .kept ++ x ∷ []
   append-kept s x f w v =
       kept-unique k (v .kept) (w .kept ++ x ∷ []) (v .fits) (all-append (fitsKept k) (w .kept) (x ∷ []) (w .fits) (all-cons (fitsKept k) x [] f (all-nil (fitsKept k))))
       (sym (v .same) ∙ (ap (_++ keptBytes x) (w .same) ∙ sym (joined-snoc (w .kept) x)))

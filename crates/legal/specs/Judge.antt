@@ -15,7 +15,7 @@ use Rattle.refusal.specs.declared.Refusal.{Refusal}
 use Rattle.refusal.specs.declared.Refusal.the-variants.{NotText, CoordinateRange, TooManyParts, BadRecord}
 use Rattle.model.specs.Record.{Meta, Member, Tag, place, Record}
 use Rattle.compact.specs.Layout.{Head}
-use Rattle.compact.specs.Cut.{Cut, times, cutMember, cutTag, cutBody, cutRecord, Kept}
+use Rattle.compact.specs.Cut.{Cut, times, cutMember, cutTag, cutBody, cutRecord, KeptRecord}
 use Rattle.compact.specs.Held.{nodeHead, countsHead}
 use Rattle.compact.specs.Legal.{Limits, limits, handle, bodyHandles, inRange, faultOf, legal}
 use Rattle.compact.specs.declared.PushHead.{PushHead}

@@ -12,22 +12,22 @@ use Rattle.base.specs.Bytes.{Bytes, all}
 use Rattle.osm_id.specs.Order.{sameId}
 use Rattle.kind.specs.declared.Kind.{Kind}
 use Rattle.compact.specs.Layout.{joinedBytes, recordBytes}
-use Rattle.compact.specs.Cut.{Cut, Kept, cutRecord}
+use Rattle.compact.specs.Cut.{Cut, KeptRecord, cutRecord}
 use Rattle.compact.specs.Fits.{fitsKept}
 use Rattle.compact.specs.Legal.{legal}
 
-abbrev pub keptBytes : Kept → Bytes
+abbrev pub keptBytes : KeptRecord → Bytes
 keptBytes x = recordBytes (x .id) (x .held)
 
 -- the bytes of an arena are those of legal records of its kind, one after the other
 pub record Whole (strings : ℕ) (k : Kind) (s : Bytes) : Type 0 where
-  pub kept : List Kept
+  pub kept : List KeptRecord
   pub fits : all (fitsKept k) kept ≡ true
   pub legals : all (λ x. legal strings (x .held)) kept ≡ true
   pub same : s ≡ joinedBytes keptBytes kept
 
 -- the same as a test: what a legal record at the front leaves, until nothing is left; each record takes a byte, so the length is fuel enough
-abbrev pub legalRest : ℕ → Option (Cut Kept) → Option Bytes
+abbrev pub legalRest : ℕ → Option (Cut KeptRecord) → Option Bytes
 legalRest strings none = none
 legalRest strings (some c) = cond (legal strings (c .item .held)) (some (c .rest)) none
 
@@ -50,14 +50,14 @@ unfoldable pub wholeRecords : ℕ → Kind → Bytes → Bool
 wholeRecords strings k s = wholeBy strings k (length s) s
 
 -- the record that starts at a place
-unfoldable pub recordAt : ℕ → List Kept → Option Kept
+unfoldable pub recordAt : ℕ → List KeptRecord → Option KeptRecord
 recordAt at [] = none
 recordAt at (x ∷ xs) = cond (eqb at 0) (some x) (cond (ltb at (length (keptBytes x))) none (recordAt (at - length (keptBytes x)) xs))
 
-abbrev pub hasId : ℤ → Option Kept → Bool
+abbrev pub hasId : ℤ → Option KeptRecord → Bool
 hasId id none = false
 hasId id (some x) = sameId (x .id) id
 
 -- a record of that id starts at that place
-unfoldable pub startsAt : ℤ → ℕ → List Kept → Bool
+unfoldable pub startsAt : ℤ → ℕ → List KeptRecord → Bool
 startsAt id at xs = hasId id (recordAt at xs)

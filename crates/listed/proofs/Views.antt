@@ -9,7 +9,7 @@ use lib.Seq.{take-all, take-length, take-take, take-append-seam}
 use Rattle.base.specs.Bytes.{Bytes}
 use Rattle.base.proofs.Split.{byLe, no}
 use Rattle.kind.specs.declared.Kind.{Kind}
-use Rattle.compact.specs.Cut.{Kept}
+use Rattle.compact.specs.Cut.{KeptRecord}
 use Rattle.compact.specs.Legal.{legal}
 use Rattle.legal.specs.Judge.{recordEnd}
 use Rattle.legal.specs.declared.End.{End}
@@ -48,11 +48,11 @@ part-used (suc at) n (suc used) (b ∷ s) h = part-used at n used s (omega arith
 
 -- ---- in an arena of whole records the view at a start is its record
 
-module _ (strings : ℕ) (k : Kind) (arena : Bytes) (used : ℕ) (w : Whole strings k (take used arena)) (at : ℕ) (x : Kept) (h : recordAt at (w .kept) ≡ some x) where
+module _ (strings : ℕ) (k : Kind) (arena : Bytes) (used : ℕ) (w : Whole strings k (take used arena)) (at : ℕ) (x : KeptRecord) (h : recordAt at (w .kept) ≡ some x) where
   pub view-is : viewAt strings k arena used at ≡ Part at (length (keptBytes x))
   unfolding viewAt
   view-is =
-      let l = record-passes (λ (y : Kept). legal strings (y .held)) at (w .kept) x (w .legals) h in
+      let l = record-passes (λ (y : KeptRecord). legal strings (y .held)) at (w .kept) x (w .legals) h in
       let e : at + length (keptBytes x) - at ≡ length (keptBytes x) = omega arith in
       rw (w .same, start-ends k strings at (w .kept) x (w .fits) h l, e)
 

@@ -28,7 +28,7 @@ use Rattle.legal.specs.Judge.{recordEnd, endOf}
 use Rattle.legal.specs.Whole.{wholeRecords, wholeBy, afterLegal}
 use Rattle.table.specs.Rows.{rising, risingFrom}
 use Rattle.table.specs.Words.{soundTable, rowsFrom, rowsOf, held, halve, answerAt, lookup}
-use Rattle.kind_store.specs.KindStore.{isLive, versionAt, liveVersion, knownOf, known}
+use Rattle.kind_store.specs.KindStore.{isLive, versionAt, liveVersion, knownOf, knownVersion}
 use Rattle.sound.specs.Check.{soundKindStore, soundUsed, rowPasses, recordThere, idThere, comesTo}
 use Rattle.overlay.specs.Overlay.{Overlay, overlayOf, sizesFit, kindStoreFits, textsFit}
 use Rattle.overlay.specs.Sound.{isSound, kindStoresSound}
@@ -56,7 +56,7 @@ outputA =
     119 ∷ 9 ∷ 45 ∷ 52 ∷ 9 ∷ 45 ∷ 9 ∷ 50 ∷ 10 ∷ []
 
 pub stored-page : pageOf storedA ≡ outputA
-unfolding tableOf kindTable rowsOf rowsFrom leftAt isLive recordIn cutRecord cutHead cutMeta cutI32 cutI64 cutNumber cutBytes thenCut value valueAt cutParts cutBody times cutTag textsIn handles known lookup held halve answerAt both knownOf liveVersion versionAt metaOf metaAt claimOf flagged higher ofWord rank idOf rowFields kindField versionField recordFields bodyFields counted each listing numberText digitsBefore integerText line tabbed escape escaped
+unfolding tableOf kindTable rowsOf rowsFrom leftAt isLive recordIn cutRecord cutHead cutMeta cutI32 cutI64 cutNumber cutBytes thenCut value valueAt cutParts cutBody times cutTag textsIn handles knownVersion lookup held halve answerAt both knownOf liveVersion versionAt metaOf metaAt claimOf flagged higher ofWord rank idOf rowFields kindField versionField recordFields bodyFields counted each listing numberText digitsBefore integerText line tabbed escape escaped
 stored-page = refl
 
 -- that storage is sound

@@ -11,7 +11,7 @@ use Rattle.kind.specs.declared.Kind.{Kind}
 use Rattle.kind.proofs.Numbers as Numbers
 use Rattle.osm_id.specs.Order.{idOf}
 use Rattle.model.specs.Record.{kindOf}
-use Rattle.compact.specs.Cut.{Kept, cutRecord}
+use Rattle.compact.specs.Cut.{KeptRecord, cutRecord}
 use Rattle.compact.specs.Fits.{fitsKept}
 use Rattle.compact.specs.Legal.{legal}
 use Rattle.compact.proofs.Back.{Found, read-record}
@@ -22,33 +22,33 @@ use Rattle.kind_store.specs.KindStore.{KindStore, isLive}
 use Rattle.sound.specs.Sound.{SoundKindStore, soundRow}
 use Rattle.listing.specs.Known.{heldIn, recordIn}
 
-pub kept-kind : (k : Kind) (x : Kept) → fitsKept k x ≡ true → kindOf (x .held .body) ≡ k
+pub kept-kind : (k : Kind) (x : KeptRecord) → fitsKept k x ≡ true → kindOf (x .held .body) ≡ k
 unfolding fitsKept
 kept-kind k x h = Numbers.same-yes (kindOf (x .held .body)) k (both-left _ _ h)
 
 -- what is read at a start of whole records is its record
-pub whole-read : (strings : ℕ) (k : Kind) (s : Bytes) (w : Whole strings k s) (at : ℕ) (x : Kept) → recordAt at (w .kept) ≡ some x → heldIn (cutRecord k (drop at s)) ≡ some (x .held)
+pub whole-read : (strings : ℕ) (k : Kind) (s : Bytes) (w : Whole strings k s) (at : ℕ) (x : KeptRecord) → recordAt at (w .kept) ≡ some x → heldIn (cutRecord k (drop at s)) ≡ some (x .held)
 whole-read strings k s w at x h = rw (w .same, record-there k at (w .kept) x (w .fits) h .1)
 
 -- and the readers find it there, whatever follows it
-pub whole-found : (strings : ℕ) (k : Kind) (s : Bytes) (w : Whole strings k s) (at : ℕ) (x : Kept) → recordAt at (w .kept) ≡ some x → Found (x .id) (x .held) (drop at s)
+pub whole-found : (strings : ℕ) (k : Kind) (s : Bytes) (w : Whole strings k s) (at : ℕ) (x : KeptRecord) → recordAt at (w .kept) ≡ some x → Found (x .id) (x .held) (drop at s)
 unfolding fitsKept legal
 whole-found strings k s w at x h =
     let f = record-passes (fitsKept k) at (w .kept) x (w .fits) h in
-    let l = record-passes (λ (x : Kept). legal strings (x .held)) at (w .kept) x (w .legals) h in
+    let l = record-passes (λ (x : KeptRecord). legal strings (x .held)) at (w .kept) x (w .legals) h in
     let b = bytes-there k at (w .kept) x (w .fits) h in
     let e : drop at s ≡ keptBytes x ++ b .0 = ap (drop at) (w .same) ∙ b .1 .0 in
     subst (Found (x .id) (x .held)) (sym e) (read-record (x .id) (x .held) (b .0) (both-right _ _ f) (both-left _ _ (both-right _ _ l)))
 
 -- a live row that is sound points at the start of a record of its id
-pub row-starts : (kept : List Kept) (r : Row) → soundRow kept r ≡ true → isLive (r .place) ≡ true → (x : Kept) × ((recordAt (r .place) kept ≡ some x) × (x .id ≡ idOf (r .rank)))
+pub row-starts : (kept : List KeptRecord) (r : Row) → soundRow kept r ≡ true → isLive (r .place) ≡ true → (x : KeptRecord) × ((recordAt (r .place) kept ≡ some x) × (x .id ≡ idOf (r .rank)))
 unfolding soundRow
 row-starts kept r h l =
     by-either (not (isLive (r .place))) (startsAt (idOf (r .rank)) (r .place) kept) h
     (λ t. clash (sym (ap not l) ∙ t) refl)
     (λ t. start-is (idOf (r .rank)) (r .place) kept t)
 
-module _ (strings : ℕ) (k : Kind) (s : KindStore) (w : SoundKindStore strings k s) (at : ℕ) (x : Kept) (h : recordAt at (w .whole .kept) ≡ some x) where
+module _ (strings : ℕ) (k : Kind) (s : KindStore) (w : SoundKindStore strings k s) (at : ℕ) (x : KeptRecord) (h : recordAt at (w .whole .kept) ≡ some x) where
   pub record-read : recordIn k s at ≡ some (x .held)
   unfolding recordIn
   record-read = whole-read strings k (take (s .used) (s .arena)) (w .whole) at x h

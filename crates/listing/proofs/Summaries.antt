@@ -32,7 +32,7 @@ use Rattle.table.specs.Rows as Rows
 use Rattle.table.specs.Words.{rowAt, rowsFrom, rowsOf}
 use Rattle.table.proofs.Maps as Maps
 use Rattle.table.proofs.Tables.{sound-rises}
-use Rattle.kind_store.specs.KindStore.{KindStore, isLive, known}
+use Rattle.kind_store.specs.KindStore.{KindStore, isLive, knownVersion}
 use Rattle.kind_store.specs.WellFormed.{rowsIn}
 use Rattle.sound.specs.Sound.{soundRow}
 use Rattle.overlay.specs.Overlay.{Overlay, kindStoreOf, withKindStore, withTexts, empty}
@@ -177,7 +177,7 @@ module _ (o : Overlay) (w : Sound o) (n : Ranked o) where
   -- the row of an id says what the overlay knows of it
   row-known : (key : Key) → SFits w64 (key .id) → (x : Option table.Row) → Rows.find (rank (key .id)) (rowsIn (kindStoreOf (key .kind) o)) ≡ x
       → Option·map (rowOf (key .kind) (kindStoreOf (key .kind) o) (heldTexts o)) x
-      ≡ rowIn key (record { last = lastIn (key .kind) (kindStoreOf (key .kind) o) (heldTexts o) x; high = known (key .kind) (kindStoreOf (key .kind) o) (key .id) })
+      ≡ rowIn key (record { last = lastIn (key .kind) (kindStoreOf (key .kind) o) (heldTexts o) x; high = knownVersion (key .kind) (kindStoreOf (key .kind) o) (key .id) })
   unfolding leftAt
   row-known key g none e = refl
   row-known key g (some r) e =

@@ -11,16 +11,16 @@ use Rattle.interner.specs.Sound.{textsOf}
 use Rattle.model.specs.Record.{Record}
 use Rattle.model.specs.Act.{Key, Left, gone, live}
 use Rattle.model.specs.Swap.{swapRecord}
-use Rattle.compact.specs.Cut.{Cut, Kept, cutRecord}
+use Rattle.compact.specs.Cut.{Cut, KeptRecord, cutRecord}
 use Rattle.table.specs.Rows.{find}
 use Rattle.table.specs.declared.Row.{Row}
-use Rattle.kind_store.specs.KindStore.{KindStore, isLive, known}
+use Rattle.kind_store.specs.KindStore.{KindStore, isLive, knownVersion}
 use Rattle.kind_store.specs.WellFormed.{rowsIn}
 use Rattle.overlay.specs.Overlay.{Overlay, kindStoreOf}
 use Rattle.page.specs.Summary.{Known}
 
 -- the record that stands at a place of a kind store's used bytes
-abbrev pub heldIn : Option (Cut Kept) → Option (Record ℕ)
+abbrev pub heldIn : Option (Cut KeptRecord) → Option (Record ℕ)
 heldIn none = none
 heldIn (some c) = some (c .item .held)
 
@@ -40,5 +40,5 @@ unfoldable pub knownIn : Overlay → Key → Known
 knownIn o key =
     record {
       last = lastIn (key .kind) (kindStoreOf (key .kind) o) (textOf (textsOf (o .texts))) (find (rank (key .id)) (rowsIn (kindStoreOf (key .kind) o)));
-      high = known (key .kind) (kindStoreOf (key .kind) o) (key .id);
+      high = knownVersion (key .kind) (kindStoreOf (key .kind) o) (key .id);
     }

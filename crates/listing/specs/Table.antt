@@ -15,7 +15,7 @@ use Rattle.model.specs.Record.{Record}
 use Rattle.model.specs.Act.{Left, gone, live}
 use Rattle.model.specs.Swap.{swapRecord}
 use Rattle.table.specs.declared.Row as table
-use Rattle.kind_store.specs.KindStore.{KindStore, isLive, known}
+use Rattle.kind_store.specs.KindStore.{KindStore, isLive, knownVersion}
 use Rattle.kind_store.specs.WellFormed.{rowsIn}
 use Rattle.overlay.specs.Overlay.{Overlay, kindStoreOf}
 use Rattle.page.specs.Summary.{PageRow, Table}
@@ -32,7 +32,7 @@ leftAt k s f r = cond (isLive (r .place)) (leftWith f (recordIn k s (r .place)))
 
 -- "kind; id; `+` live or `-` deleted; known version or `?`"
 abbrev pub rowOf : Kind → KindStore → (ℕ → Bytes) → table.Row → PageRow
-rowOf k s f r = record { key = record { kind = k; id = idOf (r .rank) }; high = known k s (idOf (r .rank)); last = leftAt k s f r }
+rowOf k s f r = record { key = record { kind = k; id = idOf (r .rank) }; high = knownVersion k s (idOf (r .rank)); last = leftAt k s f r }
 
 -- the known ids of a kind, in the table's order, which is OSM order
 unfoldable pub kindTable : Kind → KindStore → (ℕ → Bytes) → Table

@@ -34,7 +34,7 @@ use Rattle.legal.proofs.Laws.{legal-more}
 use Rattle.interner.specs.Texts.{textOf}
 use Rattle.interner.specs.Sound.{textsOf}
 use Rattle.version_floor.specs.declared.Admit.{Admit}
-use Rattle.kind_store.specs.KindStore.{known, checked, takenIn}
+use Rattle.kind_store.specs.KindStore.{knownVersion, checked, takenIn}
 use Rattle.kind_store.specs.declared.Kept.the-variants.{Taken}
 use Rattle.overlay.specs.Overlay.{Overlay, kindStoreOf}
 use Rattle.overlay.specs.Sound.{isSound}
@@ -230,7 +230,7 @@ module _ (s : State) (g : StateGiven s) (e : stateSound s ≡ true) where
   handle-fits o w n l = lt-ltb n 4294967296 (omega (arith, strings-few o (w .sound)))
 
   abbrev admit : Kind → ℤ → Meta Bytes → Admit
-  admit k id m = checked (s .overlay .setting) (known k (kindStoreOf k (s .overlay)) id) (claimOf m)
+  admit k id m = checked (s .overlay .setting) (knownVersion k (kindStoreOf k (s .overlay)) id) (claimOf m)
 
   pub advances : (d : Decision) → Lawful (s .reader .place) d → EachStep (Advances d s) (stepOf d s)
   unfolding stepOf turnOf readerOf

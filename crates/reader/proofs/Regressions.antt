@@ -22,7 +22,7 @@ use Rattle.model.proofs.Swaps.{body-kind}
 use Rattle.compact.specs.Held.{metaOf}
 use Rattle.interner.specs.Texts.{textOf}
 use Rattle.interner.specs.Sound.{textsOf}
-use Rattle.kind_store.specs.KindStore.{known, checked}
+use Rattle.kind_store.specs.KindStore.{knownVersion, checked}
 use Rattle.overlay.specs.Overlay.{Overlay, kindStoreOf}
 use Rattle.store.specs.First.{isBelow, heldBy}
 use Rattle.overlay.proofs.Bounds.{id-given}
@@ -46,7 +46,7 @@ use Rattle.reader.proofs.Events.{Among, first-among, event-stops}
 
 -- the version check of an act
 abbrev pub admitAs : Overlay → Act Bytes → Admit
-admitAs o a = checked (o .setting) (known (keyOf a .kind) (kindStoreOf (keyOf a .kind) o) (keyOf a .id)) (claimedBy a)
+admitAs o a = checked (o .setting) (knownVersion (keyOf a .kind) (kindStoreOf (keyOf a .kind) o) (keyOf a .id)) (claimedBy a)
 
 abbrev rowOf : Overlay → Act Bytes → ConditionRow Refusal
 rowOf o a = regressionRow o (keyOf a .kind) (keyOf a .id) (claimedBy a)

@@ -33,7 +33,7 @@ use Rattle.interner.specs.Strings as Strings
 use Rattle.interner.specs.Texts.{handleOf, answerAs}
 use Rattle.interner.specs.Sound.{textsOf}
 use Rattle.interner.proofs.Interns as Interns
-use Rattle.kind_store.specs.KindStore.{known, checked, idRoom}
+use Rattle.kind_store.specs.KindStore.{knownVersion, checked, idRoom}
 use Rattle.kind_store.proofs.Answers as KindStores
 use Rattle.overlay.specs.Overlay.{Overlay, kindStoreOf, withTexts}
 use Rattle.overlay.specs.Sound.{isSound}
@@ -154,7 +154,7 @@ module _ (s : State) (e : stateSound s ≡ true) where
   used-fits = length-take-le _ _ (leb-true _ _ (both-left _ _ (both-left _ _ (both-right _ _ e))))
 
   abbrev admit : Kind → ℤ → Meta Bytes → Admit
-  admit k id m = checked (s .overlay .setting) (known k (kindStoreOf k (s .overlay)) id) (claimOf m)
+  admit k id m = checked (s .overlay .setting) (knownVersion k (kindStoreOf k (s .overlay)) id) (claimOf m)
 
   pub step-first : (d : Decision) → Lawful (s .reader .place) d → Behind (refusalIn d) (storeRowsOf d s) (stepOf d s)
   unfolding stepOf storeRowsOf

@@ -25,7 +25,7 @@ use Rattle.stage.specs.Stage.{staged, refPart, memberPart, tagPart}
 use Rattle.interner.specs.Strings as Strings
 use Rattle.interner.specs.declared.Interned.{Interned}
 use Rattle.interner.specs.declared.Interned.the-variants as I
-use Rattle.kind_store.specs.KindStore.{known, checked}
+use Rattle.kind_store.specs.KindStore.{knownVersion, checked}
 use Rattle.kind_store.specs.declared.Kept.{Kept}
 use Rattle.kind_store.specs.declared.Kept.the-variants as K
 use Rattle.overlay.specs.Overlay.{Overlay, kindStoreOf, withTexts}
@@ -63,7 +63,7 @@ unlessBelow Admitted f = f
 unlessBelow (Below v) f = stops (R.Regression v)
 
 abbrev pub unlessRegression : Overlay → Kind → ℤ → Version → Step → Step
-unlessRegression o k id claim f = unlessBelow (checked (o .setting) (known k (kindStoreOf k o) id) claim) f
+unlessRegression o k id claim f = unlessBelow (checked (o .setting) (knownVersion k (kindStoreOf k o) id) claim) f
 
 -- 13, of a text: it is taken in, and its handle goes on
 abbrev pub onHandle : Interned → (ℕ → Step) → Step

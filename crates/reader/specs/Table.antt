@@ -21,7 +21,7 @@ use Rattle.model.specs.Record.{Meta, kindOf, flagged, claimOf}
 use Rattle.compact.specs.Held.{metaOf}
 use Rattle.compact.specs.Layout.{headLen}
 use Rattle.compact.specs.Legal.{limits}
-use Rattle.kind_store.specs.KindStore.{known, checked, idRoom}
+use Rattle.kind_store.specs.KindStore.{knownVersion, checked, idRoom}
 use Rattle.overlay.specs.Overlay.{Overlay, kindStoreOf}
 use Rattle.store.specs.First.{isBelow, heldBy, fullFor}
 use Rattle.decision.specs.Decision.{Decision, refuses, moves, begins, deletes, tags, refers, joins, ends, decide}
@@ -55,7 +55,7 @@ module _ (o : Overlay) where
   -- 12 of an act on an id of a kind, with the known version
   abbrev pub regressionRow : Kind → ℤ → Version → ConditionRow Refusal
   regressionRow k id claim =
-      row (R.Regression (heldBy (checked (o .setting) (known k (kindStoreOf k o) id) claim))) (isBelow (checked (o .setting) (known k (kindStoreOf k o) id) claim))
+      row (R.Regression (heldBy (checked (o .setting) (knownVersion k (kindStoreOf k o) id) claim))) (isBelow (checked (o .setting) (knownVersion k (kindStoreOf k o) id) claim))
 
   -- 13 of a text
   abbrev pub textRow : Bytes → ConditionRow Refusal

@@ -26,7 +26,7 @@ use Rattle.compact.specs.declared.ArenaMeta.{ArenaMeta}
 use Rattle.compact.specs.declared.PushHead.{PushHead}
 use Rattle.compact.proofs.Lengths.{length-written}
 use Rattle.interner.specs.Strings.{Store}
-use Rattle.kind_store.specs.KindStore.{known, checked, idRoom}
+use Rattle.kind_store.specs.KindStore.{knownVersion, checked, idRoom}
 use Rattle.kind_store.specs.declared.Kept.{Kept}
 use Rattle.kind_store.specs.declared.Kept.the-variants as K
 use Rattle.overlay.specs.Overlay.{Overlay, kindStoreOf, withTexts}
@@ -51,9 +51,9 @@ refused-is : (o : Overlay) (a : OverlayAfter) (r : Refusal) → a .answer ≡ K.
 refused-is o a r e = rw e
 
 module _ (k : Kind) (id : ℤ) (m : Meta Bytes) (act : ArenaMeta → Overlay → OverlayAfter) (o : Overlay) (x : Kept)
-    (asked : (n : ℕ) (t : Store) → act (bitsWithUser m n) (withTexts t o) .answer ≡ admitAnswer (checked (o .setting) (known k (kindStoreOf k o) id) (claimOf m)) x) where
+    (asked : (n : ℕ) (t : Store) → act (bitsWithUser m n) (withTexts t o) .answer ≡ admitAnswer (checked (o .setting) (knownVersion k (kindStoreOf k o) id) (claimOf m)) x) where
   abbrev admit : Admit
-  admit = checked (o .setting) (known k (kindStoreOf k o) id) (claimOf m)
+  admit = checked (o .setting) (knownVersion k (kindStoreOf k o) id) (claimOf m)
 
   act-taken : admitAnswer admit x ≡ K.Taken → userActOn m act o ≡ actOn k id m act o
   unfolding actOn

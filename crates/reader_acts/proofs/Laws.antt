@@ -17,7 +17,7 @@ use Rattle.compact.specs.declared.ArenaMeta.{ArenaMeta}
 use Rattle.interner.specs.Strings.{Store, intern}
 use Rattle.interner.specs.declared.Interned.{Interned}
 use Rattle.interner.specs.declared.Interned.the-variants as I
-use Rattle.kind_store.specs.KindStore.{known, checked}
+use Rattle.kind_store.specs.KindStore.{knownVersion, checked}
 use Rattle.kind_store.specs.declared.Kept.{Kept}
 use Rattle.kind_store.specs.declared.Kept.the-variants as K
 use Rattle.overlay.specs.Overlay.{Overlay, kindStoreOf, withTexts}
@@ -99,7 +99,7 @@ taken-refused o q (K.Refused y) r e = refl
 module _ (k : Kind) (id : ℤ) (m : Meta Bytes) (act : ArenaMeta → Overlay → OverlayAfter) (o : Overlay) where
   act-refused : (r : Refusal) → actOn k id m act o .answer ≡ K.Refused r → actOn k id m act o .overlay ≡ o
   unfolding actOn
-  act-refused r e = go (checked (o .setting) (known k (kindStoreOf k o) id) (claimOf m)) (beginOn m o .answer) e
+  act-refused r e = go (checked (o .setting) (knownVersion k (kindStoreOf k o) id) (claimOf m)) (beginOn m o .answer) e
     where
       go : (a : Admit) (b : Begun) → admitted o a (byBegun (overlayRefused o) (λ x. actKept o (act x (beginOn m o .overlay))) b) .answer ≡ K.Refused r
           → admitted o a (byBegun (overlayRefused o) (λ x. actKept o (act x (beginOn m o .overlay))) b) .overlay ≡ o
@@ -113,7 +113,7 @@ module _ (k : Kind) (id : ℤ) (m : Meta Bytes) (act : ArenaMeta → Overlay →
 
   act-step : (f : Overlay → Step) → unlessRegression o k id (claimOf m) (takingUser m o (λ a q. onAfter (act a q) f)) ≡ onAfter (actOn k id m act o) f
   unfolding actOn
-  act-step f = rw (with-user m o (λ a q. onAfter (act a q) f)) (go (checked (o .setting) (known k (kindStoreOf k o) id) (claimOf m)) (beginOn m o .answer))
+  act-step f = rw (with-user m o (λ a q. onAfter (act a q) f)) (go (checked (o .setting) (knownVersion k (kindStoreOf k o) id) (claimOf m)) (beginOn m o .answer))
     where
       go : (a : Admit) (b : Begun) → unlessBelow a (byBegun stops (λ x. onAfter (act x (beginOn m o .overlay)) f) b) ≡ onAfter (admitted o a (byBegun (overlayRefused o) (λ x. actKept o (act x (beginOn m o .overlay))) b)) f
       go (Below v) b = refl

@@ -15,7 +15,7 @@ use Rattle.version_floor.specs.declared.Admit.the-variants.{Admitted, Below}
 use Rattle.model.specs.Record.{Meta, Body, kindOf, flagged, claimOf}
 use Rattle.compact.specs.declared.ArenaMeta.{ArenaMeta}
 use Rattle.interner.specs.Strings.{Store}
-use Rattle.kind_store.specs.KindStore.{known, checked}
+use Rattle.kind_store.specs.KindStore.{knownVersion, checked}
 use Rattle.kind_store.specs.declared.Kept.{Kept}
 use Rattle.kind_store.specs.declared.Kept.the-variants as K
 use Rattle.overlay.specs.Overlay.{Overlay, kindStoreOf}
@@ -71,7 +71,7 @@ actKept o a = actKeptAs o (a .overlay) (a .answer)
 
 unfoldable pub actOn : Kind → ℤ → Meta Bytes → (ArenaMeta → Overlay → OverlayAfter) → Overlay → OverlayAfter
 actOn k id m act o =
-    admitted o (checked (o .setting) (known k (kindStoreOf k o) id) (claimOf m))
+    admitted o (checked (o .setting) (knownVersion k (kindStoreOf k o) id) (claimOf m))
     (byBegun (overlayRefused o) (λ a. actKept o (act a (beginOn m o .overlay))) (beginOn m o .answer))
 
 -- the same where the act is known to be taken: 13, or the act

@@ -12,7 +12,7 @@ use Rattle.base.proofs.Split.{byBool, by-either, clash, no}
 use Rattle.kind.specs.declared.Kind.{Kind}
 use Rattle.osm_id.specs.Order.{rank, idOf}
 use Rattle.osm_id.proofs.Orders.{id-rank}
-use Rattle.compact.specs.Cut.{Kept}
+use Rattle.compact.specs.Cut.{KeptRecord}
 use Rattle.legal.specs.Whole.{keptBytes, recordAt, startsAt}
 use Rattle.legal.proofs.Starts.{start-is}
 use Rattle.refusal.specs.declared.Refusal.{Refusal}
@@ -35,9 +35,9 @@ use Rattle.reading.specs.declared.Read.the-variants.{Is}
 use Rattle.reading.specs.Reading.{viewIn, standingIn, getOn, hasOn, isDeletedOn}
 
 -- a view shows a record of an id that starts in the arena: where it starts, as long as it is, and byte for byte
-pub record Shows (s : KindStore) (kept : List Kept) (id : ℤ) (v : View) : Type 0 where
+pub record Shows (s : KindStore) (kept : List KeptRecord) (id : ℤ) (v : View) : Type 0 where
   pub place : ℕ
-  pub held : Kept
+  pub held : KeptRecord
   pub starts : recordAt place kept ≡ some held
   pub same : held .id ≡ id
   pub is : v ≡ Part place (length (keptBytes held))

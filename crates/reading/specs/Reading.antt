@@ -15,7 +15,7 @@ use Rattle.refusal.specs.declared.Refusal.the-variants as R
 use Rattle.interner.specs.Strings.{usedOf, spanOf}
 use Rattle.interner.specs.declared.Span as interner
 use Rattle.interner.specs.declared.Span.the-variants as P
-use Rattle.kind_store.specs.KindStore.{KindStore, known}
+use Rattle.kind_store.specs.KindStore.{KindStore, knownVersion}
 use Rattle.listed.specs.Listed.{rowsRead, rowsOn, nth, standingOf, viewAt}
 use Rattle.listed.specs.declared.Side.{Side}
 use Rattle.listed.specs.declared.Side.the-variants.{Live}
@@ -114,7 +114,7 @@ isDeletedOn k id o = checkedRead o (yes (isDeletedNow (standingIn (kindStoreOf k
 
 -- the known version as a word: below 2^32 its bits, else none
 unfoldable pub knownOn : Kind → ℤ → Overlay → Read
-knownOn k id o = checkedRead o (Is (wordOf (known k (kindStoreOf k o) id)))
+knownOn k id o = checkedRead o (Is (wordOf (knownVersion k (kindStoreOf k o) id)))
 
 -- ---- a text by its handle, which is its number among the held strings
 

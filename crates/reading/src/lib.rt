@@ -7,7 +7,7 @@ ghost use lib.ListN.{getD};
 ghost use Rattle.base.specs.Bytes.{Bytes};
 ghost use mir.Syntax.{w64};
 ghost use mir.Val.{toZ};
-ghost use Rattle.kind_store.specs.KindStore.{known};
+ghost use Rattle.kind_store.specs.KindStore.{knownVersion};
 ghost use Rattle.overlay.specs.Overlay.{lent, kindStoreOf};
 ghost use Rattle.reading.specs.Lent.{tablesLent, arenasLent, kindStoresLent};
 ghost use Rattle.reading.specs.Reading.{yes, countIn, countOn, isEmptyOn, rowIn, idRead, idOn, viewIn, recordOn, standingIn, getOn, isLiveNow, hasOn, isDeletedNow, isDeletedOn, knownOn, textView, textOn};
@@ -89,7 +89,7 @@ fn version_in(
     id: u64,
 ) -> Version
     ensures { λ r. ⌜ ((ss : List ℕ) (sb : Bytes)
-        → r ≡ known kind (kindStoreOf kind (kindStoresLent ss sb ni na wi wa ri ra us)) (toZ w64 id)) ⌝ }
+        → r ≡ knownVersion kind (kindStoreOf kind (kindStoresLent ss sb ni na wi wa ri ra us)) (toZ w64 id)) ⌝ }
 {
     match kind {
         Kind::Node => kind_store::known_version(kind, ni, us[0], na, id),

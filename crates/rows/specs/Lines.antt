@@ -10,7 +10,7 @@ use Rattle.kind.specs.declared.Kind.{Kind}
 use Rattle.osm_id.specs.Order.{idOf}
 use Rattle.table.specs.Words.{rowsOf, held}
 use Rattle.table.specs.declared.Row.{Row}
-use Rattle.kind_store.specs.KindStore.{KindStore, isLive, known}
+use Rattle.kind_store.specs.KindStore.{KindStore, isLive, knownVersion}
 use Rattle.page.specs.Listing.{kindField, versionField}
 use Rattle.print.specs.Print.{linePieces}
 use Rattle.fields.specs.Fields.{recordFieldsAt}
@@ -26,7 +26,7 @@ lastAt f k arena used place = cond (isLive place) (recordFieldsAt f k (drop plac
 
 unfoldable pub rowFieldsAt : (ℕ → Bytes) → Kind → KindStore → Row → List Bytes
 rowFieldsAt f k s r =
-    kindField k ∷ integerText (idOf (r .rank)) ∷ signOf (isLive (r .place)) ∷ versionField (known k s (idOf (r .rank))) ∷ lastAt f k (s .arena) (s .used) (r .place)
+    kindField k ∷ integerText (idOf (r .rank)) ∷ signOf (isLive (r .place)) ∷ versionField (knownVersion k s (idOf (r .rank))) ∷ lastAt f k (s .arena) (s .used) (r .place)
 
 unfoldable pub rowPieces : (ℕ → Bytes) → Kind → KindStore → List Row → List Bytes
 rowPieces f k s [] = []

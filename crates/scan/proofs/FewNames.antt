@@ -15,7 +15,7 @@ use Rattle.event.specs.Event.{Attr, attrOf, beside, attrsOf, named, noneTwice}
 use Rattle.event.proofs.Attrs.{attrWith-some}
 use Rattle.scan.specs.declared.Attribute.the-variants as A
 use Rattle.scan.specs.Piece.{there}
-use Rattle.scan.specs.Few.{keptNames, among, Kept}
+use Rattle.scan.specs.Few.{keptNames, among, NamesKept}
 use Rattle.scan.specs.Scan.{fieldsAt, stand, attributeAt}
 use Rattle.scan.proofs.Places.{AttributeAt, ended}
 use Rattle.scan.proofs.Walks.{lower, some-there, listed-here, good-stops}
@@ -59,7 +59,7 @@ module _ (t : Bytes) (starts ends : List ℕ) where
     unfolding keptNames
     kept-more h k = rw (add-one, getD-set-same starts m p 0 h, getD-set-same ends m e 0 k, kept-others m (omega arith))
 
-    pub kept-on : Kept t starts ends m → m < 16 → m < length starts → m < length ends → p ≤ e → e ≤ length t → Kept t (set starts m p) (set ends m e) (m + 1)
+    pub kept-on : NamesKept t starts ends m → m < 16 → m < length starts → m < length ends → p ≤ e → e ≤ length t → NamesKept t (set starts m p) (set ends m e) (m + 1)
     kept-on w r h k l b = record { room = omega arith; order = order; inside = inside }
       where
         order : (i : ℕ) → i < m + 1 → getD (set starts m p) i 0 ≤ getD (set ends m e) i 0
@@ -75,7 +75,7 @@ module _ (t : Bytes) (starts ends : List ℕ) where
             (λ q. rw (getD-set-other ends m i e 0 q) (w .inside i (omega arith)))
 
 -- none is kept at first
-pub kept-none : (t : Bytes) (starts ends : List ℕ) → Kept t starts ends 0
+pub kept-none : (t : Bytes) (starts ends : List ℕ) → NamesKept t starts ends 0
 kept-none t starts ends = record { room = omega arith; order = λ i h. no (omega arith); inside = λ i h. no (omega arith) }
 
 -- ---- attributes behind kept names

@@ -20,7 +20,7 @@ among n [] = false
 among n (k ∷ ks) = either (same k n) (among n ks)
 
 -- there is room for n, and each lies within the line
-pub record Kept (t : Bytes) (starts ends : List ℕ) (n : ℕ) : Type 0 where
+pub record NamesKept (t : Bytes) (starts ends : List ℕ) (n : ℕ) : Type 0 where
   pub room : n ≤ 16
   pub order : (i : ℕ) → i < n → getD starts i 0 ≤ getD ends i 0
   pub inside : (i : ℕ) → i < n → getD ends i 0 ≤ length t

@@ -14,7 +14,7 @@ ghost use Rattle.distinct.specs.Distinct.{runsIn};
 ghost use Rattle.text.specs.Escape.{meaning, unescape};
 ghost use Rattle.scan.specs.Names.{namesOf};
 ghost use Rattle.scan.specs.Piece.{there, lettered, pieceIn, valueText};
-ghost use Rattle.scan.specs.Few.{keptNames, among, Kept, Tells};
+ghost use Rattle.scan.specs.Few.{keptNames, among, NamesKept, Tells};
 ghost use Rattle.scan.specs.Scan.{fieldsAt, attrsAt, Good, stand, means, lone, InBounds, upTo, attributeAt, attributeValue};
 ghost use Rattle.scan.specs.declared.Attribute.the-variants as attribute;
 use distinct::Distinctness;
@@ -383,7 +383,7 @@ enum Few {
 
 // Whether a name is one of the first n that are kept.
 fn seen(t: &[u8], name: &[u8], starts: &[usize; 16], ends: &[usize; 16], n: usize) -> bool
-    requires { ⌜ Kept (now t) (now starts) (now ends) n ⌝ }
+    requires { ⌜ NamesKept (now t) (now starts) (now ends) n ⌝ }
     ensures { λ r. ⌜ r ≡ among (now (name .entry)) (keptNames (now (t .entry)) (now (starts .entry)) (now (ends .entry)) n) ⌝ }
 {
     let mut i: usize = 0;
@@ -409,7 +409,7 @@ fn is_new(
     n: usize,
 ) -> bool
     requires { ⌜ attributeAt (now t) at ≡ attribute.At eq to ⌝ }
-    requires { ⌜ Kept (now t) (now starts) (now ends) n ⌝ }
+    requires { ⌜ NamesKept (now t) (now starts) (now ends) n ⌝ }
     ensures { λ r. ⌜ r ≡ both (there (attrOf (slice at to (now (t .entry))))) (not (among (slice at eq (now (t .entry))) (keptNames (now (t .entry)) (now (starts .entry)) (now (ends .entry)) n))) ⌝ }
 {
     if is_attr(t, at, eq, to) {

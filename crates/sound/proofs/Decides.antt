@@ -21,7 +21,7 @@ use Rattle.kind.specs.declared.Kind.the-variants.{Node, Way, Relation}
 use Rattle.osm_id.specs.Order.{idOf}
 use Rattle.model.specs.Record.{Record}
 use Rattle.compact.specs.Layout.{joinedBytes, headLen}
-use Rattle.compact.specs.Cut.{Cut, found, Kept, cutRecord}
+use Rattle.compact.specs.Cut.{Cut, found, KeptRecord, cutRecord}
 use Rattle.compact.specs.Held.{nodeHead, wayHead, relationHead, countsHead}
 use Rattle.compact.specs.View.{headAt, nodeAt, wayAt, relationAt}
 use Rattle.compact.specs.Fits.{fitsKept}
@@ -53,42 +53,42 @@ head-there Node s = refl
 head-there Way s = refl
 head-there Relation s = refl
 
-cut-id : (k : Kind) (s : Bytes) (c : Cut Kept) → cutRecord k s ≡ some c → c .item .id ≡ toZ w64 (valueAt 8 s 0)
+cut-id : (k : Kind) (s : Bytes) (c : Cut KeptRecord) → cutRecord k s ≡ some c → c .item .id ≡ toZ w64 (valueAt 8 s 0)
 cut-id k s c e =
     byLe (headLen k + 29) (length s)
     (λ l. first (λ (r : Record ℕ) q. Unit {0}) (λ x t. tt) (sym (record-is k s l) ∙ e)
-    (λ r q u t. of-cut (λ (x : Kept) q. x .id ≡ toZ w64 (valueAt 8 s 0)) t (head-there k s)))
+    (λ r q u t. of-cut (λ (x : KeptRecord) q. x .id ≡ toZ w64 (valueAt 8 s 0)) t (head-there k s)))
     (λ l. let z : none ≡ some c = sym (record-short k s l) ∙ e in no cc)
 
 module _ (strings : ℕ) (k : Kind) (s : Bytes) where
   -- a record at a place, with the records after it
-  there : (at : ℕ) (x : Kept) (xs : List Kept) → fitsKept k x ≡ true → drop at s ≡ keptBytes x ++ joinedBytes keptBytes xs → cutRecord k (drop at s) ≡ found x (joinedBytes keptBytes xs)
+  there : (at : ℕ) (x : KeptRecord) (xs : List KeptRecord) → fitsKept k x ≡ true → drop at s ≡ keptBytes x ++ joinedBytes keptBytes xs → cutRecord k (drop at s) ≡ found x (joinedBytes keptBytes xs)
   there at x xs f e = rw e (record-format k .back x (joinedBytes keptBytes xs) f)
 
-  id-at : (at : ℕ) (x : Kept) (xs : List Kept) → fitsKept k x ≡ true → drop at s ≡ keptBytes x ++ joinedBytes keptBytes xs → toZ w64 (valueAt 8 s at) ≡ x .id
+  id-at : (at : ℕ) (x : KeptRecord) (xs : List KeptRecord) → fitsKept k x ≡ true → drop at s ≡ keptBytes x ++ joinedBytes keptBytes xs → toZ w64 (valueAt 8 s at) ≡ x .id
   unfolding valueAt
   id-at at x xs f e = sym (cut-id k (drop at s) _ (there at x xs f e))
 
-  long : (at : ℕ) (x : Kept) (xs : List Kept) → drop at s ≡ keptBytes x ++ joinedBytes keptBytes xs → at + length (keptBytes x) + length (joinedBytes keptBytes xs) ≡ length s
+  long : (at : ℕ) (x : KeptRecord) (xs : List KeptRecord) → drop at s ≡ keptBytes x ++ joinedBytes keptBytes xs → at + length (keptBytes x) + length (joinedBytes keptBytes xs) ≡ length s
   long at x xs e =
       let n = kept-long x in
       let d : length s - at ≡ length (keptBytes x) + length (joinedBytes keptBytes xs) = sym (length-drop at s) ∙ (ap length e ∙ length-append (keptBytes x) (joinedBytes keptBytes xs)) in
       omega arith
 
-  end-is : (at : ℕ) (x : Kept) (xs : List Kept) → fitsKept k x ≡ true → legal strings (x .held) ≡ true → drop at s ≡ keptBytes x ++ joinedBytes keptBytes xs
+  end-is : (at : ℕ) (x : KeptRecord) (xs : List KeptRecord) → fitsKept k x ≡ true → legal strings (x .held) ≡ true → drop at s ≡ keptBytes x ++ joinedBytes keptBytes xs
       → recordEnd strings k s at ≡ At (at + length (keptBytes x))
   unfolding recordEnd endOf
   end-is at x xs f l e =
       let n : length s - length (joinedBytes keptBytes xs) ≡ at + length (keptBytes x) = omega (arith, long at x xs e) in
       rw (there at x xs f e, l, n)
 
-  after : (at : ℕ) (x : Kept) (xs : List Kept) → drop at s ≡ keptBytes x ++ joinedBytes keptBytes xs → drop (at + length (keptBytes x)) s ≡ joinedBytes keptBytes xs
+  after : (at : ℕ) (x : KeptRecord) (xs : List KeptRecord) → drop at s ≡ keptBytes x ++ joinedBytes keptBytes xs → drop (at + length (keptBytes x)) s ≡ joinedBytes keptBytes xs
   after at x xs e = sym (drop-drop (length (keptBytes x)) at s) ∙ rw e (drop-append-seam (keptBytes x) (joinedBytes keptBytes xs))
 
   -- ---- the walk comes to the starts, and to nothing else
 
   module _ (id place : ℕ) where
-    walk : (xs : List Kept) (f at : ℕ) → all (fitsKept k) xs ≡ true → all (λ (x : Kept). legal strings (x .held)) xs ≡ true → drop at s ≡ joinedBytes keptBytes xs → at ≤ length s → at ≤ place → place ≤ at + f
+    walk : (xs : List KeptRecord) (f at : ℕ) → all (fitsKept k) xs ≡ true → all (λ (x : KeptRecord). legal strings (x .held)) xs ≡ true → drop at s ≡ joinedBytes keptBytes xs → at ≤ length s → at ≤ place → place ≤ at + f
         → both (idThere s id place) (comesTo strings k s place f at) ≡ startsAt (idOf id) (place - at) xs
     unfolding joinedBytes startsAt recordAt idThere
     walk [] f at p q e h a b =
@@ -96,7 +96,7 @@ module _ (strings : ℕ) (k : Kind) (s : Bytes) where
         both-no-left _ _ (both-no-left _ _ (le-ltb place (length s) (omega arith)))
     walk (x ∷ xs) f at p q e h a b =
         let fx = all-head (fitsKept k) x xs p in
-        let lx = all-head (λ (x : Kept). legal strings (x .held)) x xs q in
+        let lx = all-head (λ (x : KeptRecord). legal strings (x .held)) x xs q in
         let n = kept-long x in
         let g = long at x xs e in
         let t : recordEnd strings k s at ≡ At (at + length (keptBytes x)) = end-is at x xs fx lx e in
@@ -111,7 +111,7 @@ module _ (strings : ℕ) (k : Kind) (s : Bytes) where
         (both-no-right _ (arrived strings k s place (y .0) (at + length (keptBytes x)) (omega arith) ∙ ne-eqb (at + length (keptBytes x)) place (λ z. omega arith))))
         (λ l. let m : place - at - length (keptBytes x) ≡ place - (at + length (keptBytes x)) = omega arith in
         rw (le-ltb (place - at) (length (keptBytes x)) l, m)
-        (walk xs (y .0) (at + length (keptBytes x)) (all-tail (fitsKept k) x xs p) (all-tail (λ (x : Kept). legal strings (x .held)) x xs q) (after at x xs e) (omega arith) (omega arith) (y .1 .0)))))
+        (walk xs (y .0) (at + length (keptBytes x)) (all-tail (fitsKept k) x xs p) (all-tail (λ (x : KeptRecord). legal strings (x .held)) x xs q) (after at x xs e) (omega arith) (omega arith) (y .1 .0)))))
 
 -- ---- the rows
 

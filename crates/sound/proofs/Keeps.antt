@@ -23,7 +23,7 @@ use Rattle.little.specs.Little.{over}
 use Rattle.compact.specs.Layout.{joinedBytes}
 use Rattle.compact.specs.Fits.{fitsKept}
 use Rattle.compact.specs.Legal.{legal}
-use Rattle.compact.specs.Cut.{Kept}
+use Rattle.compact.specs.Cut.{KeptRecord}
 use Rattle.legal.specs.Whole.{keptBytes, Whole, startsAt}
 use Rattle.legal.proofs.Wholes.{nothing-whole, append-whole, append-kept}
 use Rattle.legal.proofs.Starts.{starts-stays, starts-last}
@@ -32,7 +32,7 @@ use Rattle.table.specs.Rows.{put}
 use Rattle.table.specs.Words.{rowsOf, rowsFrom}
 use Rattle.table.proofs.Tables.{sound-empty}
 use Rattle.table.proofs.Maps.{put-nil, put-before, put-over, put-behind}
-use Rattle.kind_store.specs.KindStore.{KindStore, kindStoreWith, isLive, gone, rowed, known, floorOf, floorAfter, pushed, deleted}
+use Rattle.kind_store.specs.KindStore.{KindStore, kindStoreWith, isLive, gone, rowed, knownVersion, floorOf, floorAfter, pushed, deleted}
 use Rattle.kind_store.specs.declared.Kept.the-variants.{Taken}
 use Rattle.kind_store.proofs.Answers.{byDelete, answered}
 use Rattle.kind_store.proofs.KindStores.{Laid, delete-laid, push-laid, push-fits, push-used, push-arena}
@@ -53,19 +53,19 @@ all-put p n (r ∷ rs) h g =
     (λ e. rw (put-behind n r rs (omega (arith, l, e))) (all-cons p r (put n rs) (all-head p r rs g) (all-put p n rs h (all-tail p r rs g)))))
 
 -- rows that point at records still do when records are added behind
-row-stays : (xs ys : List Kept) (r : Row) → soundRow xs r ≡ true → soundRow (xs ++ ys) r ≡ true
+row-stays : (xs ys : List KeptRecord) (r : Row) → soundRow xs r ≡ true → soundRow (xs ++ ys) r ≡ true
 unfolding soundRow
 row-stays xs ys r h =
     by-either (not (isLive (r .place))) (startsAt (idOf (r .rank)) (r .place) xs) h
     (λ t. either-left _ _ t)
     (λ t. either-right _ (starts-stays (idOf (r .rank)) (r .place) xs ys t))
 
-rows-stay : (xs ys : List Kept) (rs : List Row) → all (soundRow xs) rs ≡ true → all (soundRow (xs ++ ys)) rs ≡ true
+rows-stay : (xs ys : List KeptRecord) (rs : List Row) → all (soundRow xs) rs ≡ true → all (soundRow (xs ++ ys)) rs ≡ true
 rows-stay xs ys [] h = all-nil (soundRow (xs ++ ys))
 rows-stay xs ys (r ∷ rs) h = all-cons (soundRow (xs ++ ys)) r rs (row-stays xs ys r (all-head (soundRow xs) r rs h)) (rows-stay xs ys rs (all-tail (soundRow xs) r rs h))
 
 -- what a push or a delete lays down keeps a kind store sound, where its row passes and the records are those before and more behind them
-pub laid-sound : (strings : ℕ) (k : Kind) (s t : KindStore) (id : ℤ) (place floor : ℕ) (ys : List Kept) → Laid s id place floor t → (w : SoundKindStore strings k s)
+pub laid-sound : (strings : ℕ) (k : Kind) (s t : KindStore) (id : ℤ) (place floor : ℕ) (ys : List KeptRecord) → Laid s id place floor t → (w : SoundKindStore strings k s)
     → t .used ≤ length (t .arena) → (v : Whole strings k (take (t .used) (t .arena))) → v .kept ≡ w .whole .kept ++ ys
     → soundRow (v .kept) (record { rank = rank id; place = place; floor = floor }) ≡ true → SoundKindStore strings k t
 laid-sound strings k s t id place floor ys l w f v e h =
@@ -84,7 +84,7 @@ module _ (strings : ℕ) (k : Kind) (setting : ℕ) (s : KindStore) (id : ℤ) (
       (λ v c w. let z = answered w e in no (cc)) (λ c r w. let z = answered w e in no (cc))
       (λ c r w. rw w (refl, refl))
 
-  gone-sound : (xs : List Kept) (n floor : ℕ) → soundRow xs (record { rank = n; place = gone; floor = floor }) ≡ true
+  gone-sound : (xs : List KeptRecord) (n floor : ℕ) → soundRow xs (record { rank = n; place = gone; floor = floor }) ≡ true
   unfolding soundRow isLive
   gone-sound xs n floor = either-left _ _ refl
 
@@ -94,11 +94,11 @@ module _ (strings : ℕ) (k : Kind) (setting : ℕ) (s : KindStore) (id : ℤ) (
       let b = delete-bytes e in
       let u : take (t .used) (t .arena) ≡ take (s .used) (s .arena) = rw (b .0, b .1) in
       let v : Whole strings k (take (t .used) (t .arena)) = record { kept = w .whole .kept; fits = w .whole .fits; legals = w .whole .legals; same = u ∙ w .whole .same } in
-      laid-sound strings k s t id gone (wordOf (higher (known k s id) claim)) [] (delete-laid k setting s id claim (w .order) e) w (rw (b .0, b .1) (w .fits)) v
-      (sym (append-nil (w .whole .kept))) (gone-sound (w .whole .kept) (rank id) (wordOf (higher (known k s id) claim)))
+      laid-sound strings k s t id gone (wordOf (higher (knownVersion k s id) claim)) [] (delete-laid k setting s id claim (w .order) e) w (rw (b .0, b .1) (w .fits)) v
+      (sym (append-nil (w .whole .kept))) (gone-sound (w .whole .kept) (rank id) (wordOf (higher (knownVersion k s id) claim)))
 
 -- a push of a legal record's bytes under its own id
-module _ (strings : ℕ) (k : Kind) (setting : ℕ) (s : KindStore) (claim : Version) (x : Kept) (f : fitsKept k x ≡ true) (g : legal strings (x .held) ≡ true) (i : SFits w64 (x .id))
+module _ (strings : ℕ) (k : Kind) (setting : ℕ) (s : KindStore) (claim : Version) (x : KeptRecord) (f : fitsKept k x ≡ true) (g : legal strings (x .held) ≡ true) (i : SFits w64 (x .id))
     (w : SoundKindStore strings k s) (taken : pushed k setting s (x .id) claim (keptBytes x) .answer ≡ Taken) where
   push-bytes : take (pushed k setting s (x .id) claim (keptBytes x) .kindStore .used) (pushed k setting s (x .id) claim (keptBytes x) .kindStore .arena) ≡ take (s .used) (s .arena) ++ keptBytes x
   push-bytes =
@@ -119,6 +119,6 @@ module _ (strings : ℕ) (k : Kind) (setting : ℕ) (s : KindStore) (claim : Ver
       let v : Whole strings k (take (t .used) (t .arena)) = record { kept = y .kept; fits = y .fits; legals = y .legals; same = push-bytes ∙ y .same } in
       let e : y .kept ≡ w .whole .kept ++ x ∷ [] = append-kept strings k (take (s .used) (s .arena)) x f (w .whole) y in
       let l = push-laid k setting s (x .id) claim (w .order) (keptBytes x) taken in
-      let o = floorAfter setting (known k s (x .id)) claim (floorOf s (x .id)) in
+      let o = floorAfter setting (knownVersion k s (x .id)) claim (floorOf s (x .id)) in
       laid-sound strings k s t (x .id) (s .used) o (x ∷ []) l w
       (omega (arith, push-fits k setting s (x .id) claim (keptBytes x) taken, push-used k setting s (x .id) claim (keptBytes x) taken, l .size)) v e (rw e (new-row o))

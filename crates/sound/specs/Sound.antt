@@ -8,14 +8,14 @@ use lib.ListN.{length, take}
 use Rattle.base.specs.Bytes.{either, all}
 use Rattle.kind.specs.declared.Kind.{Kind}
 use Rattle.osm_id.specs.Order.{idOf}
-use Rattle.compact.specs.Cut.{Kept}
+use Rattle.compact.specs.Cut.{KeptRecord}
 use Rattle.legal.specs.Whole.{Whole, startsAt}
 use Rattle.table.specs.Words.{soundTable, rowsOf}
 use Rattle.table.specs.declared.Row.{Row}
 use Rattle.kind_store.specs.KindStore.{KindStore, isLive}
 
 -- a known id is "live with an offset where a record of that id starts, or deleted"
-unfoldable pub soundRow : List Kept → Row → Bool
+unfoldable pub soundRow : List KeptRecord → Row → Bool
 soundRow kept r = either (not (isLive (r .place))) (startsAt (idOf (r .rank)) (r .place) kept)
 
 -- what is lent for one kind is sound, given how many strings are held

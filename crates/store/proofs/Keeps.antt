@@ -16,7 +16,7 @@ use Rattle.kind.specs.declared.Kind.{Kind}
 use Rattle.kind.proofs.Numbers.{same-refl}
 use Rattle.version_floor.specs.declared.Version.{Version}
 use Rattle.model.specs.Record.{Record, claimOf}
-use Rattle.compact.specs.Cut.{Kept, pushedRecord}
+use Rattle.compact.specs.Cut.{KeptRecord, pushedRecord}
 use Rattle.compact.specs.Fits.{fitting, fitsKept}
 use Rattle.compact.specs.Layout.{recordBytes}
 use Rattle.compact.specs.Held.{metaOf, headIn}
@@ -41,11 +41,11 @@ use Rattle.overlay.proofs.Bounds.{meta-given, head-given, head-id}
 -- ---- a push
 
 -- a record under the id that a push gives
-abbrev pub keptAs : PushHead → Record ℕ → Kept
+abbrev pub keptAs : PushHead → Record ℕ → KeptRecord
 keptAs h r = record { id = toZ w64 (h .id); held = r }
 
 -- what the store does with a record
-abbrev pub storedAs : Kind → Overlay → Kept → KindStore.KindStoreAfter
+abbrev pub storedAs : Kind → Overlay → KeptRecord → KindStore.KindStoreAfter
 storedAs k o x = KindStore.pushed k (o .setting) (kindStoreOf k o) (x .id) (claimOf (x .held .meta)) (keptBytes x)
 
 -- what a push gives for a record is that record's bytes, under the id given

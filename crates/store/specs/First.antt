@@ -17,7 +17,7 @@ use Rattle.refusal.specs.declared.Refusal.the-variants as R
 use Rattle.interner.specs.Strings.{Store, textRoom}
 use Rattle.interner.specs.Texts.{handleOf}
 use Rattle.interner.specs.Sound.{textsOf}
-use Rattle.kind_store.specs.KindStore.{KindStore, known, checked}
+use Rattle.kind_store.specs.KindStore.{KindStore, knownVersion, checked}
 use Rattle.kind_store.specs.KindStore as KindStore
 use Rattle.store.specs.declared.Handle.{Handle}
 use Rattle.store.specs.declared.Handle.the-variants as H
@@ -52,7 +52,7 @@ heldBy (Below v) = v
 
 abbrev pub deleteRows : Kind → ℕ → KindStore → ℤ → Version → List (ConditionRow Refusal)
 deleteRows k setting s id claim =
-    row (R.Regression (heldBy (checked setting (known k s id) claim))) (isBelow (checked setting (known k s id) claim)) ∷ row R.IdsFull (not (KindStore.idRoom s id)) ∷ []
+    row (R.Regression (heldBy (checked setting (knownVersion k s id) claim))) (isBelow (checked setting (knownVersion k s id) claim)) ∷ row R.IdsFull (not (KindStore.idRoom s id)) ∷ []
 
 abbrev pub pushRows : Kind → ℕ → KindStore → ℤ → Version → Bytes → List (ConditionRow Refusal)
 pushRows k setting s id claim bytes =

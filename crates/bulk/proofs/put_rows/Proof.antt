@@ -6,7 +6,7 @@ use denote.Ref.{now}
 use mir.Syntax.{w64}
 use mir.Val.{toZ}
 use Rattle.version_floor.specs.Version.{wordOf}
-use Rattle.kind_store.specs.KindStore.{kindStoreWith, known}
+use Rattle.kind_store.specs.KindStore.{kindStoreWith, knownVersion}
 use Rattle.listed.specs.Listed.{isOn}
 use Rattle.bulk.specs.Rows.{rowId}
 use Rattle.bulk.proofs.Writes.{onward-all, Putting, starts, id-fits, version-fits, puts, passes, ends}
@@ -79,7 +79,7 @@ loop-again c =
     let on = c .before .before .before .is-on .ensures ∙ ap (isOn (a .side)) (c .before .before .before .before .row-at .ensures) in
     let e = c .before .row-id .ensures ∙ ap rowId (c .before .before .before .before .row-at .ensures) in
     puts (a .kind) (a .side) (now (a .table)) (a .count) (now (a .arena)) (now (a .ids)) (now (a .versions)) _ (omega arith) (l .inv) (sym on ∙ c .before .before .if1 .taken) _ _ e
-    (λ used. c .version-of .ensures used ∙ ap (λ x. wordOf (known (a .kind) (kindStoreWith (now (a .table)) (a .count) (now (a .arena)) used) (toZ w64 x))) e)
+    (λ used. c .version-of .ensures used ∙ ap (λ x. wordOf (knownVersion (a .kind) (kindStoreWith (now (a .table)) (a .count) (now (a .arena)) used) (toZ w64 x))) e)
 
 loop-less-2 : tie.Need-loop-less-2 Inv-loop μ-loop
 loop-less-2 c = omega arith

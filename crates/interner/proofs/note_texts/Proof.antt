@@ -5,13 +5,13 @@ use native.Mathlib.Omega.{arith}
 use denote.Ref.{now}
 use lib.ListN.{length}
 use Rattle.base.proofs.Split.{clash}
-use Rattle.interner.specs.Check.{Noted}
+use Rattle.interner.specs.Check.{WordsNoted}
 use Rattle.interner.proofs.Words.{LegalUpTo, legal-more, noted-none, not-legal, words-decide}
 use Rattle.interner.proofs.note_texts.Statement.{statement}
 use Rattle.interner.proofs.note_texts.Tie as tie
 
 abbrev Inv-loop : tie.InvT-loop
-Inv-loop spans bytes words₀ n h₀ words h = (h ≤ n) × ((length words ≡ length words₀) × (LegalUpTo spans bytes h × Noted spans bytes words h))
+Inv-loop spans bytes words₀ n h₀ words h = (h ≤ n) × ((length words ≡ length words₀) × (LegalUpTo spans bytes h × WordsNoted spans bytes words h))
 
 abbrev μ-loop : tie.MeasureT-loop
 μ-loop spans bytes words₀ n h₀ words h = n - h

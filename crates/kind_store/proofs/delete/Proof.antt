@@ -9,7 +9,7 @@ use Rattle.osm_id.specs.Order.{rank}
 use Rattle.version_floor.specs.declared.Admit.the-variants.{Admitted, Below}
 use Rattle.version_floor.specs.declared.Admit.{Admit}
 use Rattle.table.specs.Words.{lookup}
-use Rattle.kind_store.specs.KindStore.{kindStoreWith, KindStore, known, deletedAs, deleted}
+use Rattle.kind_store.specs.KindStore.{kindStoreWith, KindStore, knownVersion, deletedAs, deleted}
 use Rattle.kind_store.proofs.Acts.{found-as, known-as, checked-as, deleted-as}
 use borrow.Author.Needs.{needs}
 use Rattle.kind_store.proofs.delete.Statement.{statement}
@@ -26,7 +26,7 @@ module _ (c : tie.After-check) where
   found : c .before .before .before .find-row .result ≡ lookup (kindStore .table) (kindStore .ids) (rank id)
   found = found-as (c .before .before .before .before .before .before .before .before .args .kind) kindStore id (c .before .before .before .before .rank-of .ensures) (c .before .before .before .find-row .ensures)
 
-  version : c .before .version-found .result ≡ known (c .before .before .before .before .before .before .before .before .args .kind) kindStore id
+  version : c .before .version-found .result ≡ knownVersion (c .before .before .before .before .before .before .before .before .args .kind) kindStore id
   version = known-as (c .before .before .before .before .before .before .before .before .args .kind) kindStore id found (c .before .version-found .ensures)
 
   answer : (b : Admit) → c .check .result ≡ b → deleted (c .before .before .before .before .before .before .before .before .args .kind) (c .before .before .before .before .before .before .before .before .args .setting) kindStore id (c .before .before .before .before .before .before .before .before .args .claim) ≡ deletedAs (c .before .before .before .before .before .before .before .before .args .kind) kindStore id (c .before .before .before .before .before .before .before .before .args .claim) b

@@ -2,7 +2,7 @@
 use mathlib.Core.Path.{_∙_, ap}
 use denote.Ref.{now}
 use Rattle.table.specs.Words.{lookup}
-use Rattle.kind_store.specs.KindStore.{known, knownAt}
+use Rattle.kind_store.specs.KindStore.{knownVersion, knownAt}
 use borrow.Author.Needs.{needs}
 use Rattle.kind_store.proofs.known_version.Statement.{statement}
 use Rattle.kind_store.proofs.known_version.Tie as tie
@@ -17,7 +17,7 @@ version-found-requires : tie.Need-version-found-requires
 version-found-requires c κs = search needs
 
 returns : tie.Need-returns
-unfolding known
+unfolding knownVersion
 returns c = let k = c .before .before .before .before .before .args in
     λ used. c .version-found .ensures
     ∙ ap (knownAt (k .kind) (now (k .table)) (now (k .arena))) (c .before .find-row .ensures ∙ ap (lookup (now (k .table)) (k .ids)) (c .before .before .rank-of .ensures))

@@ -16,7 +16,7 @@ use Rattle.compact.specs.Held.{metaOf}
 use Rattle.compact.specs.Layout.{headBytes, metaBytes}
 use Rattle.table.specs.Words.{lookup}
 use Rattle.compact.specs.Held.{headIn}
-use Rattle.kind_store.specs.KindStore.{kindStoreWith, KindStore, known, pushedAs, pushed}
+use Rattle.kind_store.specs.KindStore.{kindStoreWith, KindStore, knownVersion, pushedAs, pushed}
 use Rattle.kind_store.proofs.Acts.{found-as, known-as, checked-as, pushed-as}
 use borrow.Author.Needs.{needs}
 use Rattle.kind_store.proofs.push.Statement.{statement}
@@ -33,7 +33,7 @@ module _ (c : tie.After-check) where
   found : c .before .before .before .before .before .find-row .result ≡ lookup (kindStore .table) (kindStore .ids) (rank id)
   found = found-as (c .before .before .before .before .before .before .before .before .before .before .before .args .kind) kindStore id (c .before .before .before .before .before .before .rank-of .ensures) (c .before .before .before .before .before .find-row .ensures)
 
-  version : c .before .before .version-found .result ≡ known (c .before .before .before .before .before .before .before .before .before .before .before .args .kind) kindStore id
+  version : c .before .before .version-found .result ≡ knownVersion (c .before .before .before .before .before .before .before .before .before .before .before .args .kind) kindStore id
   version = known-as (c .before .before .before .before .before .before .before .before .before .before .before .args .kind) kindStore id found (c .before .before .version-found .ensures)
 
   abbrev claim : Version

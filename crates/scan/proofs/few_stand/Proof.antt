@@ -6,7 +6,7 @@ use denote.Ref.{now}
 use lib.ListN.{length, length-set}
 use borrow.Author.Needs.{needs}
 use Rattle.event.specs.Event.{attrsOf}
-use Rattle.scan.specs.Few.{keptNames, Kept}
+use Rattle.scan.specs.Few.{keptNames, NamesKept}
 use Rattle.scan.specs.Scan.{fieldsAt, stand}
 use Rattle.scan.proofs.Places.{AttributeAt, stands}
 use Rattle.scan.proofs.FewNames.{kept-none, kept-more, kept-on, standAfter, stand-first, stand-ends, few-on, few-stops}
@@ -15,7 +15,7 @@ use Rattle.scan.proofs.few_stand.Tie as tie
 
 abbrev Inv-loop : tie.InvT-loop
 Inv-loop t at starts₀ ends₀ p₀ n₀ starts ends p n =
-    (length starts ≡ 16) × (length ends ≡ 16) × Kept t starts ends n × (standAfter (keptNames t starts ends n) (attrsOf (fieldsAt t p)) ≡ stand (attrsOf (fieldsAt t at)))
+    (length starts ≡ 16) × (length ends ≡ 16) × NamesKept t starts ends n × (standAfter (keptNames t starts ends n) (attrsOf (fieldsAt t p)) ≡ stand (attrsOf (fieldsAt t at)))
 
 abbrev μ-loop : tie.MeasureT-loop
 μ-loop t at starts₀ ends₀ p₀ n₀ starts ends p n = suc (length t) - p
