@@ -9,8 +9,12 @@ int main(void)
 {
     if (tvk_overlay_set_up(&overlay, 0).number != TVK_ACCEPTED)
         return 1;
-    struct tvk_events_reply events = tvk_reader_events(&reader, &overlay, input, fread(input, 1, sizeof input, stdin));
-    if (events.number != TVK_ACCEPTED || tvk_reader_end(&reader, &overlay).number != TVK_ACCEPTED)
+    size_t length = fread(input, 1, sizeof input, stdin);
+    struct tvk_events_reply events = tvk_reader_events(&reader, &overlay, input, length);
+    /* a rest that was not taken is a line without its end; a full buffer may not hold the whole input */
+    if (events.number != TVK_ACCEPTED || events.taken != length || length == sizeof input)
+        return 1;
+    if (tvk_reader_end(&reader, &overlay).number != TVK_ACCEPTED)
         return 1;
     fwrite(page, 1, tvk_overlay_listing(&overlay, page, sizeof page).length, stdout);
     return 0;
