@@ -32,48 +32,16 @@ fn put_page(
     ensures { λ r. ⌜ record { out = now (out .exit); room = r }
         ≡ print cap (piecesOf (lent ni na wi wa ri ra ss sb us)) (record { out = now (out .entry); room = Left cap }) ⌝ }
 {
-    let n = little::lesser(us[7] as usize, sb.len());
-    let texts = &sb[..n];
-    let strings = us[6];
-    let room = rows::put_lines(
-        out,
-        cap,
-        Room::Left(cap),
-        Kind::Node,
-        ni,
-        us[0],
-        na,
-        us[3],
-        ss,
-        texts,
-        strings,
-    );
-    let room = rows::put_lines(
-        out,
-        cap,
-        room,
-        Kind::Way,
-        wi,
-        us[1],
-        wa,
-        us[4],
-        ss,
-        texts,
-        strings,
-    );
-    rows::put_lines(
-        out,
-        cap,
-        room,
-        Kind::Relation,
-        ri,
-        us[2],
-        ra,
-        us[5],
-        ss,
-        texts,
-        strings,
-    )
+    let end = little::lesser(us[7] as usize, sb.len());
+    let texts = &sb[..end];
+    let n = us[6];
+    let room = Room::Left(cap);
+    let kind = Kind::Node;
+    let room = rows::put_lines(out, cap, room, kind, ni, us[0], na, us[3], ss, texts, n);
+    let kind = Kind::Way;
+    let room = rows::put_lines(out, cap, room, kind, wi, us[1], wa, us[4], ss, texts, n);
+    let kind = Kind::Relation;
+    rows::put_lines(out, cap, room, kind, ri, us[2], ra, us[5], ss, texts, n)
 }
 
 // The page over the first bytes of the output, or 19: first measured, lent the output's end, then written.
