@@ -68,7 +68,7 @@ reasons! {
         "A fault of the calling program.";
     Unfinished = 18, "The input ended before its last element was closed.",
         "The file was cut off. Fetch it again.";
-    ShortOutput = 19, "The listing does not fit its output.",
+    ShortOutput = 19, "The listing does not fit its output, or the ids of a kind do not fit the lists that are to hold them.",
         "In `roadlist`: the file is too large; ask for one with fewer roads or a shorter time. In a terminal: its maker can lend more output.";
     NotInOrder = 20, "A program handed in a list of ids that is not strictly in order.",
         "A fault of the calling program.";
