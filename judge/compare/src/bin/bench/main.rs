@@ -1,6 +1,8 @@
 //! How fast the library runs beside Rust's own functions and the published overlay, in one run: nanoseconds a call, the least of nine
 //! rounds, and the ratio. Both sides are called through a trait object or a C entry, so that neither is inlined into the loop.
 
+mod documents;
+
 use compare::Library;
 use judge::compare::ground::Ground;
 use judge::{Meta, Overlay};
@@ -68,10 +70,7 @@ const TAGS: [(&str, &str); 12] = [
 /// The soundness test of ways with tags: few, and an arena that is 99 % full, with ids in order and shuffled.
 fn soundness() {
     for (name, ways, shuffled) in [("in order", 100, false), ("in order", 4_096, false), ("shuffled", 4_096, true)] {
-        let mut ids: Vec<i64> = (1..=ways).collect();
-        if shuffled {
-            ids.sort_by_key(|id| id.cast_unsigned().wrapping_mul(0x9e37_79b9_7f4a_7c15));
-        }
+        let ids = documents::ids(ways, shuffled);
         let mut overlay = torvaskin::Overlay::new(&Sizes::MOST).expect("within limits");
         let mut way = TAGS.iter().fold(Record::way(0, []).version(1), |way, (key, value)| way.tag(key, value));
         for id in ids {
@@ -176,4 +175,8 @@ fn main() {
     overlays();
     soundness();
     listings();
+    documents::documents();
+    documents::steps();
+    documents::readings();
+    documents::sizes();
 }
