@@ -9,30 +9,6 @@ use borrow.Author.Needs.{needs}
 use Rattle.act_answer.proofs.answer_at.Statement.{statement}
 use Rattle.act_answer.proofs.answer_at.Tie as tie
 
-mul-ids : tie.Need-mul-ids
-mul-ids c = search needs
-
-element-copy-out-ids : tie.Need-element-copy-out-ids
-element-copy-out-ids c = search needs
-
-element-copy-out-claim-admit : tie.Need-element-copy-out-claim-admit
-element-copy-out-claim-admit c = search needs
-
-claim-admit-requires : tie.Need-claim-admit-requires
-claim-admit-requires c κs = search needs
-
-enum-known-held : tie.Need-enum-known-held
-enum-known-held c = search needs
-
-enum-told : tie.Need-enum-told
-enum-told c = search needs
-
-has-id-room-requires : tie.Need-has-id-room-requires
-has-id-room-requires c κs = search needs
-
-room-answer-requires : tie.Need-room-answer-requires
-room-answer-requires c κs = search needs
-
 returns : tie.Need-returns
 unfolding kindStoreAnswer
 returns c = let k = c .before .before .before .before .before .before .before .before .before .args in
@@ -48,13 +24,13 @@ pub answer-at-spec : {M : Type 1} → statement M
 answer-at-spec =
     tie.close
     (tie.spec
-    mul-ids
-    element-copy-out-ids
-    element-copy-out-claim-admit
-    claim-admit-requires
-    enum-known-held
-    enum-told
-    has-id-room-requires
-    room-answer-requires
+    (λ c. search needs)
+    (λ c. search needs)
+    (λ c. search needs)
+    (λ c κs. search needs)
+    (λ c. search needs)
+    (λ c. search needs)
+    (λ c κs. search needs)
+    (λ c κs. search needs)
     returns
     returns-2)

@@ -5,15 +5,6 @@ use borrow.Author.Needs.{needs}
 use Rattle.act_answer.proofs.claim_admit.Statement.{statement}
 use Rattle.act_answer.proofs.claim_admit.Tie as tie
 
-known-version-requires : tie.Need-known-version-requires
-known-version-requires c κs = search needs
-
-new-requires : tie.Need-new-requires
-new-requires c κs = search needs
-
-admit-requires : tie.Need-admit-requires
-admit-requires c κs = search needs
-
 returns : tie.Need-returns
 unfolding checked
 returns c = λ used. rw (eq-eqb _ _ (c .before .before .before .if1 .taken), ← c .before .before .known-version .ensures used, ← c .before .new .ensures) (c .admit .ensures)
@@ -24,4 +15,4 @@ returns-2 c = λ used. rw (ne-eqb _ _ (c .if1 .left))
 
 pub claim-admit-spec : {M : Type 1} → statement M
 claim-admit-spec =
-    tie.close (tie.spec known-version-requires new-requires admit-requires returns returns-2)
+    tie.close (tie.spec (λ c κs. search needs) (λ c κs. search needs) (λ c κs. search needs) returns returns-2)

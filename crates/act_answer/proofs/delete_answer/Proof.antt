@@ -4,24 +4,6 @@ use borrow.Author.Needs.{needs}
 use Rattle.act_answer.proofs.delete_answer.Statement.{statement}
 use Rattle.act_answer.proofs.delete_answer.Tie as tie
 
-enum-told : tie.Need-enum-told
-enum-told c = search needs
-
-answer-at-requires : tie.Need-answer-at-requires
-answer-at-requires c κs = search needs
-
-enum-told-2 : tie.Need-enum-told-2
-enum-told-2 c = search needs
-
-answer-at-requires-2 : tie.Need-answer-at-requires-2
-answer-at-requires-2 c κs = search needs
-
-enum-told-3 : tie.Need-enum-told-3
-enum-told-3 c = search needs
-
-answer-at-requires-3 : tie.Need-answer-at-requires-3
-answer-at-requires-3 c κs = search needs
-
 returns : tie.Need-returns
 unfolding deleteAnswer
 returns c = let e = c .before .enum-told .given .1 in rw e (rw e at (c .answer-at .ensures))
@@ -38,12 +20,12 @@ pub delete-answer-spec : {M : Type 1} → statement M
 delete-answer-spec =
     tie.close
     (tie.spec
-    enum-told
-    answer-at-requires
-    enum-told-2
-    answer-at-requires-2
-    enum-told-3
-    answer-at-requires-3
+    (λ c. search needs)
+    (λ c κs. search needs)
+    (λ c. search needs)
+    (λ c κs. search needs)
+    (λ c. search needs)
+    (λ c κs. search needs)
     returns
     returns-2
     returns-3)

@@ -20,21 +20,6 @@ row-is c =
     let r = c .before .osm-id-rank .ensures ∙ ap (λ (z : ℤ). rank (toZ w64 (ofZ w64 z))) (c .before .before .i64-of-bits .ensures) ∙ ap rank (toZ-ofZ (sfits-toZ {w = w64} (c .before .before .before .before .fits .id))) in
     sym (rw r at (c .find-row .ensures))
 
-i64-of-bits-requires : tie.Need-i64-of-bits-requires
-i64-of-bits-requires c κs = search needs
-
-osm-id-rank-requires : tie.Need-osm-id-rank-requires
-osm-id-rank-requires c κs = search needs
-
-find-row-requires : tie.Need-find-row-requires
-find-row-requires c κs = search needs
-
-enum-told : tie.Need-enum-told
-enum-told c = search needs
-
-enum-told-2 : tie.Need-enum-told-2
-enum-told-2 c = search needs
-
 returns : tie.Need-returns
 unfolding idRoom
 returns c = λ arena used. rw (row-is (c .before .before), c .enum-told .given .1)
@@ -47,10 +32,10 @@ pub has-id-room-spec : {M : Type 1} → statement M
 has-id-room-spec =
     tie.close
     (tie.spec
-    i64-of-bits-requires
-    osm-id-rank-requires
-    find-row-requires
-    enum-told
-    enum-told-2
+    (λ c κs. search needs)
+    (λ c κs. search needs)
+    (λ c κs. search needs)
+    (λ c. search needs)
+    (λ c. search needs)
     returns
     returns-2)

@@ -11,9 +11,6 @@ use borrow.Author.Needs.{needs}
 use Rattle.act_answer.proofs.record_fits.Statement.{statement}
 use Rattle.act_answer.proofs.record_fits.Tie as tie
 
-sub-result : tie.Need-sub-result
-sub-result c = search needs
-
 returns : tie.Need-returns
 returns c = let k = c .before .args in
     let size = length (now (k .arena)) in
@@ -24,4 +21,4 @@ returns-2 : tie.Need-returns-2
 returns-2 c = let k = c .before .args in sym (lt-leb (k .used + k .len) (length (now (k .arena))) (omega arith))
 
 pub record-fits-spec : {M : Type 1} → statement M
-record-fits-spec = tie.close (tie.spec sub-result returns returns-2)
+record-fits-spec = tie.close (tie.spec (λ c. search needs) returns returns-2)

@@ -18,9 +18,6 @@ use Rattle.append.proofs.append_counted.Tie as tie
 room : (c : tie.Else1) → let a = c .before .before .before .before .args in a .used + (45 + length (now (a .parts))) ≤ length (now (a .arena))
 room c = ltb-false _ _ (sym (c .before .lacks .ensures) ∙ c .if1 .left)
 
-lacks-requires : tie.Need-lacks-requires
-lacks-requires c κs = search needs
-
 returns : tie.Need-returns
 returns c =
     let a = c .before .before .before .before .args in
@@ -34,20 +31,11 @@ sub-put-counted c = omega (arith, room c)
 part-put-counted-start : tie.Need-part-put-counted-start
 part-put-counted-start c = omega (arith, room c)
 
-part-put-counted-end : tie.Need-part-put-counted-end
-part-put-counted-end c = search needs
-
-put-counted-requires : tie.Need-put-counted-requires
-put-counted-requires c κs = search needs
-
 add-t10 : tie.Need-add-t10
 add-t10 c = omega (arith, room (c .before .before .before .before))
 
 add-t15 : tie.Need-add-t15
 add-t15 c = omega (arith, room (c .before .before .before .before))
-
-same-length : tie.Need-same-length
-same-length c = search needs
 
 returns-2 : tie.Need-returns-2
 returns-2 c =
@@ -60,13 +48,13 @@ pub append-counted-spec : {M : Type 1} → statement M
 append-counted-spec =
     tie.close
     (tie.spec
-    lacks-requires
+    (λ c κs. search needs)
     returns
     sub-put-counted
     part-put-counted-start
-    part-put-counted-end
-    put-counted-requires
+    (λ c. search needs)
+    (λ c κs. search needs)
     add-t10
     add-t15
-    same-length
+    (λ c. search needs)
     returns-2)

@@ -18,9 +18,6 @@ use Rattle.append.proofs.append_node.Tie as tie
 room : (c : tie.Else1) → let a = c .before .before .before .before .args in a .used + (49 + length (now (a .parts))) ≤ length (now (a .arena))
 room c = ltb-false _ _ (sym (c .before .lacks .ensures) ∙ c .if1 .left)
 
-lacks-requires : tie.Need-lacks-requires
-lacks-requires c κs = search needs
-
 returns : tie.Need-returns
 returns c =
     let a = c .before .before .before .before .args in
@@ -34,20 +31,11 @@ sub-put-node c = omega (arith, room c)
 part-put-node-start : tie.Need-part-put-node-start
 part-put-node-start c = omega (arith, room c)
 
-part-put-node-end : tie.Need-part-put-node-end
-part-put-node-end c = search needs
-
-put-node-requires : tie.Need-put-node-requires
-put-node-requires c κs = search needs
-
 add-t8 : tie.Need-add-t8
 add-t8 c = omega (arith, room (c .before .before .before .before))
 
 add-t13 : tie.Need-add-t13
 add-t13 c = omega (arith, room (c .before .before .before .before))
-
-same-length : tie.Need-same-length
-same-length c = search needs
 
 returns-2 : tie.Need-returns-2
 returns-2 c =
@@ -60,13 +48,13 @@ pub append-node-spec : {M : Type 1} → statement M
 append-node-spec =
     tie.close
     (tie.spec
-    lacks-requires
+    (λ c κs. search needs)
     returns
     sub-put-node
     part-put-node-start
-    part-put-node-end
-    put-node-requires
+    (λ c. search needs)
+    (λ c κs. search needs)
     add-t8
     add-t13
-    same-length
+    (λ c. search needs)
     returns-2)

@@ -11,18 +11,6 @@ use borrow.Author.Needs.{needs}
 use Rattle.append.proofs.put_counted.Statement.{statement}
 use Rattle.append.proofs.put_counted.Tie as tie
 
-put-counts-requires : tie.Need-put-counts-requires
-put-counts-requires c κs = search needs
-
-put-meta-at-requires : tie.Need-put-meta-at-requires
-put-meta-at-requires c κs = search needs
-
-copy-at-requires : tie.Need-copy-at-requires
-copy-at-requires c κs = search needs
-
-same-length : tie.Need-same-length
-same-length c = search needs
-
 returns : tie.Need-returns
 returns c =
     let c3 = c .before .before in
@@ -36,4 +24,4 @@ returns c =
 pub put-counted-spec : {M : Type 1} → statement M
 put-counted-spec =
     tie.close
-    (tie.spec put-counts-requires put-meta-at-requires copy-at-requires same-length returns)
+    (tie.spec (λ c κs. search needs) (λ c κs. search needs) (λ c κs. search needs) (λ c. search needs) returns)

@@ -7,39 +7,6 @@ use borrow.Author.Needs.{needs}
 use Rattle.append.proofs.put_meta.Statement.{statement}
 use Rattle.append.proofs.put_meta.Tie as tie
 
-cast-put-at : tie.Need-cast-put-at
-cast-put-at c = search needs
-
-put-at-requires : tie.Need-put-at-requires
-put-at-requires c κs = search needs
-
-cast-put-at-2 : tie.Need-cast-put-at-2
-cast-put-at-2 c = search needs
-
-put-at-requires-2 : tie.Need-put-at-requires-2
-put-at-requires-2 c κs = search needs
-
-put-at-requires-3 : tie.Need-put-at-requires-3
-put-at-requires-3 c κs = search needs
-
-put-at-requires-4 : tie.Need-put-at-requires-4
-put-at-requires-4 c κs = search needs
-
-cast-put-at-3 : tie.Need-cast-put-at-3
-cast-put-at-3 c = search needs
-
-put-at-requires-5 : tie.Need-put-at-requires-5
-put-at-requires-5 c κs = search needs
-
-cast-put-at-4 : tie.Need-cast-put-at-4
-cast-put-at-4 c = search needs
-
-put-at-requires-6 : tie.Need-put-at-requires-6
-put-at-requires-6 c κs = search needs
-
-same-length : tie.Need-same-length
-same-length c = search needs
-
 returns : tie.Need-returns
 returns c =
     let c6 = c .before .before in
@@ -64,15 +31,15 @@ pub put-meta-spec : {M : Type 1} → statement M
 put-meta-spec =
     tie.close
     (tie.spec
-    cast-put-at
-    put-at-requires
-    cast-put-at-2
-    put-at-requires-2
-    put-at-requires-3
-    put-at-requires-4
-    cast-put-at-3
-    put-at-requires-5
-    cast-put-at-4
-    put-at-requires-6
-    same-length
+    (λ c. search needs)
+    (λ c κs. search needs)
+    (λ c. search needs)
+    (λ c κs. search needs)
+    (λ c κs. search needs)
+    (λ c κs. search needs)
+    (λ c. search needs)
+    (λ c κs. search needs)
+    (λ c. search needs)
+    (λ c κs. search needs)
+    (λ c. search needs)
     returns)

@@ -6,21 +6,6 @@ use borrow.Author.Needs.{needs}
 use Rattle.append.proofs.put_meta_at.Statement.{statement}
 use Rattle.append.proofs.put_meta_at.Tie as tie
 
-sub-put-meta : tie.Need-sub-put-meta
-sub-put-meta c = search needs
-
-part-put-meta-start : tie.Need-part-put-meta-start
-part-put-meta-start c = search needs
-
-part-put-meta-end : tie.Need-part-put-meta-end
-part-put-meta-end c = search needs
-
-put-meta-requires : tie.Need-put-meta-requires
-put-meta-requires c κs = search needs
-
-same-length : tie.Need-same-length
-same-length c = search needs
-
 returns : tie.Need-returns
 returns c =
     let a = c .before .before .before .before .before .before .args in
@@ -33,10 +18,10 @@ pub put-meta-at-spec : {M : Type 1} → statement M
 put-meta-at-spec =
     tie.close
     (tie.spec
-    sub-put-meta
-    part-put-meta-start
-    part-put-meta-end
-    put-meta-requires
-    same-length
+    (λ c. search needs)
+    (λ c. search needs)
+    (λ c. search needs)
+    (λ c κs. search needs)
+    (λ c. search needs)
     returns
     returns-2)

@@ -9,18 +9,6 @@ use borrow.Author.Needs.{needs}
 use Rattle.bulk.proofs.all_ids.Statement.{statement}
 use Rattle.bulk.proofs.all_ids.Tie as tie
 
-is-sound-requires : tie.Need-is-sound-requires
-is-sound-requires c κs = search needs
-
-put-one-requires : tie.Need-put-one-requires
-put-one-requires c κs = search needs
-
-same-length : tie.Need-same-length
-same-length c = search needs
-
-same-length-2 : tie.Need-same-length-2
-same-length-2 c = search needs
-
 returns : tie.Need-returns
 returns c =
     let a = c .before .before .before .before .before .before .before .before .before .before .before .before .before .before .before .before .before .before .before .args in
@@ -35,4 +23,4 @@ returns-2 c = rw (← c .before .is-sound .ensures, c .if1 .left)
 pub all-ids-spec : {M : Type 1} → statement M
 all-ids-spec =
     tie.close
-    (tie.spec is-sound-requires put-one-requires same-length same-length-2 returns returns-2)
+    (tie.spec (λ c κs. search needs) (λ c κs. search needs) (λ c. search needs) (λ c. search needs) returns returns-2)

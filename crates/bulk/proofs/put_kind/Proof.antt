@@ -7,21 +7,6 @@ use borrow.Author.Needs.{needs}
 use Rattle.bulk.proofs.put_kind.Statement.{statement}
 use Rattle.bulk.proofs.put_kind.Tie as tie
 
-count-on-requires : tie.Need-count-on-requires
-count-on-requires c κs = search needs
-
-lesser-requires : tie.Need-lesser-requires
-lesser-requires c κs = search needs
-
-put-rows-requires : tie.Need-put-rows-requires
-put-rows-requires c κs = search needs
-
-same-length : tie.Need-same-length
-same-length c = search needs
-
-same-length-2 : tie.Need-same-length-2
-same-length-2 c = search needs
-
 returns : tie.Need-returns
 returns c used =
     let a = c .before .before .before .before .before .before .before .before .before .before .before .before .before .before .args in
@@ -39,10 +24,10 @@ pub put-kind-spec : {M : Type 1} → statement M
 put-kind-spec =
     tie.close
     (tie.spec
-    count-on-requires
-    lesser-requires
-    put-rows-requires
-    same-length
-    same-length-2
+    (λ c κs. search needs)
+    (λ c κs. search needs)
+    (λ c κs. search needs)
+    (λ c. search needs)
+    (λ c. search needs)
     returns
     returns-2)

@@ -7,12 +7,6 @@ use borrow.Author.Needs.{needs}
 use Rattle.bulk.proofs.row_id.Statement.{statement}
 use Rattle.bulk.proofs.row_id.Tie as tie
 
-osm-id-of-rank-requires : tie.Need-osm-id-of-rank-requires
-osm-id-of-rank-requires c κs = search needs
-
-bits-of-i64-requires : tie.Need-bits-of-i64-requires
-bits-of-i64-requires c κs = search needs
-
 returns : tie.Need-returns
 returns c =
     let i = c .before .osm-id-of-rank in
@@ -20,4 +14,4 @@ returns c =
     c .bits-of-i64 .ensures ∙ (ap (ofZ w64) (toZ-ofZ f) ∙ ap (ofZ w64) (i .ensures))
 
 pub row-id-spec : {M : Type 1} → statement M
-row-id-spec = tie.close (tie.spec osm-id-of-rank-requires bits-of-i64-requires returns)
+row-id-spec = tie.close (tie.spec (λ c κs. search needs) (λ c κs. search needs) returns)

@@ -15,15 +15,6 @@ returns-2 c = sym (past-month (c .before .before .args .leap-year) (c .before .b
 returns-3 : tie.Need-returns-3
 returns-3 c = rw (c .before .if3 .taken, c .if4 .taken) (sym february)
 
-sub-result : tie.Need-sub-result
-sub-result c = search needs
-
-cast-result : tie.Need-cast-result
-cast-result c = search needs
-
-array-read-result : tie.Need-array-read-result
-array-read-result c = search needs
-
 returns-4 : tie.Need-returns-4
 unfolding lengths
 returns-4 c =
@@ -33,4 +24,4 @@ returns-4 c =
 pub month-length-spec : {M : Type 1} → statement M
 month-length-spec =
     tie.close
-    (tie.spec returns returns-2 returns-3 sub-result cast-result array-read-result returns-4)
+    (tie.spec returns returns-2 returns-3 (λ c. search needs) (λ c. search needs) (λ c. search needs) returns-4)

@@ -9,9 +9,6 @@ use borrow.Author.Needs.{needs}
 use Rattle.compact.proofs.claim.Statement.{statement}
 use Rattle.compact.proofs.claim.Tie as tie
 
-i32-of-bits-requires : tie.Need-i32-of-bits-requires
-i32-of-bits-requires c κs = search needs
-
 returns : tie.Need-returns
 unfolding claimOf flagged metaOf
 returns c =
@@ -23,4 +20,4 @@ unfolding claimOf flagged metaOf
 returns-2 c = rw (ne-eqb _ _ (c .if1 .left))
 
 pub claim-spec : {M : Type 1} → statement M
-claim-spec = tie.close (tie.spec i32-of-bits-requires returns returns-2)
+claim-spec = tie.close (tie.spec (λ c κs. search needs) returns returns-2)

@@ -14,9 +14,6 @@ use Rattle.compact.proofs.member_step.Tie as tie
 returns : tie.Need-returns
 returns c = let a = c .before .before .args in member-done (now (a .bytes)) (a .offset) (a .remaining) (c .if1 .taken)
 
-past-requires : tie.Need-past-requires
-past-requires c κs = search needs
-
 returns-2 : tie.Need-returns-2
 returns-2 c =
     let a = c .before .before .before .before .args in
@@ -28,26 +25,8 @@ add-next c = let a = c .before .before .before .before .args in omega (arith, lt
 add-get-u8 : tie.Need-add-get-u8
 add-get-u8 c = let a = c .before .before .before .before .args in omega (arith, ltb-false (length (now (a .bytes))) _ (sym (c .before .past .ensures) ∙ c .if2 .left))
 
-get-u8-requires : tie.Need-get-u8-requires
-get-u8-requires c κs = search needs
-
-kind-of-number-requires : tie.Need-kind-of-number-requires
-kind-of-number-requires c κs = search needs
-
-enum-known-kind : tie.Need-enum-known-kind
-enum-known-kind c = search needs
-
-get-u64-requires : tie.Need-get-u64-requires
-get-u64-requires c κs = search needs
-
 add-get-u32 : tie.Need-add-get-u32
 add-get-u32 c = let a = c .before .before .before .before .before .before .before .before .before .before .args in omega (arith, ltb-false (length (now (a .bytes))) _ (sym (c .before .before .before .before .before .before .before .past .ensures) ∙ c .before .before .before .before .before .before .if2 .left))
-
-get-u32-requires : tie.Need-get-u32-requires
-get-u32-requires c κs = search needs
-
-enum-told : tie.Need-enum-told
-enum-told c = search needs
 
 returns-3 : tie.Need-returns-3
 returns-3 c =
@@ -68,16 +47,16 @@ member-step-spec =
     tie.close
     (tie.spec
     returns
-    past-requires
+    (λ c κs. search needs)
     returns-2
     add-next
     add-get-u8
-    get-u8-requires
-    kind-of-number-requires
-    enum-known-kind
-    get-u64-requires
+    (λ c κs. search needs)
+    (λ c κs. search needs)
+    (λ c. search needs)
+    (λ c κs. search needs)
     add-get-u32
-    get-u32-requires
-    enum-told
+    (λ c κs. search needs)
+    (λ c. search needs)
     returns-3
     returns-4)

@@ -13,9 +13,6 @@ use Rattle.compact.proofs.ref_step.Tie as tie
 returns : tie.Need-returns
 returns c = let a = c .before .before .args in ref-done (now (a .bytes)) (a .offset) (a .remaining) (c .if1 .taken)
 
-past-requires : tie.Need-past-requires
-past-requires c κs = search needs
-
 returns-2 : tie.Need-returns-2
 returns-2 c =
     let a = c .before .before .before .before .args in
@@ -23,9 +20,6 @@ returns-2 c =
 
 add-next : tie.Need-add-next
 add-next c = let a = c .before .before .before .before .args in omega (arith, ltb-false (length (now (a .bytes))) _ (sym (c .before .past .ensures) ∙ c .if2 .left))
-
-get-u64-requires : tie.Need-get-u64-requires
-get-u64-requires c κs = search needs
 
 returns-3 : tie.Need-returns-3
 returns-3 c =
@@ -37,4 +31,4 @@ returns-3 c =
 
 pub ref-step-spec : {M : Type 1} → statement M
 ref-step-spec =
-    tie.close (tie.spec returns past-requires returns-2 add-next get-u64-requires returns-3)
+    tie.close (tie.spec returns (λ c κs. search needs) returns-2 add-next (λ c κs. search needs) returns-3)

@@ -16,12 +16,6 @@ use borrow.Author.Needs.{needs}
 use Rattle.compact.proofs.tag_next.Statement.{statement}
 use Rattle.compact.proofs.tag_next.Tie as tie
 
-tag-step-requires : tie.Need-tag-step-requires
-tag-step-requires c κs = search needs
-
-enum-known-step : tie.Need-enum-known-step
-enum-known-step c = search needs
-
 no-tag : (t : TagStep) → OneOf (0 ∷ 1 ∷ []) (tagOf TagStep.the-type t) → (key start len : ℕ) → t ≡ Tag key start len → ⊥
 no-tag t k key start len e = ⊎-elim (λ z. omega arith) (λ z. omega arith) (subst (λ (x : TagStep). OneOf (0 ∷ 1 ∷ []) (tagOf TagStep.the-type x)) e k)
 
@@ -48,4 +42,4 @@ returns-2 c =
     turn-by (now (a .bytes)) (a .offset) (a .remaining) (Tag _ _ _) (sym (c .before .step .given .1) ∙ c .before .before .before .tag-step .ensures)
 
 pub tag-next-spec : {M : Type 1} → statement M
-tag-next-spec = tie.close (tie.spec tag-step-requires enum-known-step returns add-t7 sub-t8 returns-2)
+tag-next-spec = tie.close (tie.spec (λ c κs. search needs) (λ c. search needs) returns add-t7 sub-t8 returns-2)

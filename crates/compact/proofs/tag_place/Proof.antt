@@ -3,24 +3,6 @@ use borrow.Author.Needs.{needs}
 use Rattle.compact.proofs.tag_place.Statement.{statement}
 use Rattle.compact.proofs.tag_place.Tie as tie
 
-enum-told : tie.Need-enum-told
-enum-told c = search needs
-
-tag-place-requires : tie.Need-tag-place-requires
-tag-place-requires c κs = search needs
-
-enum-told-2 : tie.Need-enum-told-2
-enum-told-2 c = search needs
-
-tag-place-requires-2 : tie.Need-tag-place-requires-2
-tag-place-requires-2 c κs = search needs
-
-enum-told-3 : tie.Need-enum-told-3
-enum-told-3 c = search needs
-
-tag-place-requires-3 : tie.Need-tag-place-requires-3
-tag-place-requires-3 c κs = search needs
-
 returns : tie.Need-returns
 returns c = rw (c .tag-place .ensures, ← c .before .enum-told .given .1)
 
@@ -34,12 +16,12 @@ pub tag-place-spec : {M : Type 1} → statement M
 tag-place-spec =
     tie.close
     (tie.spec
-    enum-told
-    tag-place-requires
-    enum-told-2
-    tag-place-requires-2
-    enum-told-3
-    tag-place-requires-3
+    (λ c. search needs)
+    (λ c κs. search needs)
+    (λ c. search needs)
+    (λ c κs. search needs)
+    (λ c. search needs)
+    (λ c κs. search needs)
     returns
     returns-2
     returns-3)

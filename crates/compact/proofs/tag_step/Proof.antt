@@ -18,9 +18,6 @@ use Rattle.compact.proofs.tag_step.Tie as tie
 returns : tie.Need-returns
 returns c = let a = c .before .before .args in tag-done (now (a .bytes)) (a .offset) (a .remaining) (c .if1 .taken)
 
-past-requires : tie.Need-past-requires
-past-requires c κs = search needs
-
 returns-2 : tie.Need-returns-2
 returns-2 c =
     let a = c .before .before .before .before .args in
@@ -31,15 +28,6 @@ add-start c = let a = c .before .before .before .before .args in omega (arith, l
 
 add-get-u32 : tie.Need-add-get-u32
 add-get-u32 c = let a = c .before .before .before .before .args in omega (arith, ltb-false (length (now (a .bytes))) _ (sym (c .before .past .ensures) ∙ c .if2 .left))
-
-get-u32-requires : tie.Need-get-u32-requires
-get-u32-requires c κs = search needs
-
-cast-len : tie.Need-cast-len
-cast-len c = search needs
-
-past-requires-2 : tie.Need-past-requires-2
-past-requires-2 c κs = search needs
 
 returns-3 : tie.Need-returns-3
 returns-3 c =
@@ -65,20 +53,8 @@ judged c p q =
 add-end : tie.Need-add-end
 add-end c = let a = c .before .before .before .before .before .before .before .args in omega (arith, ltb-false (length (now (a .bytes))) _ (sym (c .before .past2 .ensures) ∙ c .if3 .left))
 
-sub-is-text : tie.Need-sub-is-text
-sub-is-text c = search needs
-
-part-is-text-start : tie.Need-part-is-text-start
-part-is-text-start c = search needs
-
 part-is-text-end : tie.Need-part-is-text-end
 part-is-text-end c = let a = c .before .before .before .before .before .before .before .args in omega (arith, ltb-false (length (now (a .bytes))) _ (sym (c .before .past2 .ensures) ∙ c .if3 .left))
-
-is-text-requires : tie.Need-is-text-requires
-is-text-requires c κs = search needs
-
-get-u32-requires-2 : tie.Need-get-u32-requires-2
-get-u32-requires-2 c κs = search needs
 
 returns-4 : tie.Need-returns-4
 returns-4 c = rw (c .get-u322 .ensures) (judged (c .before .before .before .before) (c .before .before .is-text .ensures) (c .before .if4 .taken))
@@ -91,19 +67,19 @@ tag-step-spec =
     tie.close
     (tie.spec
     returns
-    past-requires
+    (λ c κs. search needs)
     returns-2
     add-start
     add-get-u32
-    get-u32-requires
-    cast-len
-    past-requires-2
+    (λ c κs. search needs)
+    (λ c. search needs)
+    (λ c κs. search needs)
     returns-3
     add-end
-    sub-is-text
-    part-is-text-start
+    (λ c. search needs)
+    (λ c. search needs)
     part-is-text-end
-    is-text-requires
-    get-u32-requires-2
+    (λ c κs. search needs)
+    (λ c κs. search needs)
     returns-4
     returns-5)

@@ -9,17 +9,11 @@ use borrow.Author.Needs.{needs}
 use Rattle.compact.proofs.try_read_meta.Statement.{statement}
 use Rattle.compact.proofs.try_read_meta.Tie as tie
 
-past-requires : tie.Need-past-requires
-past-requires c κs = search needs
-
 returns : tie.Need-returns
 returns c =
     let a = c .before .before .before .args in
     let s = now (a .bytes) in
     meta-short s (bytes-of s (λ i l. c .before .before .shared-slice-known .given i .fits)) (a .at) (ltb-true (length s) _ (sym (c .before .past .ensures) ∙ c .if1 .taken))
-
-read-meta-requires : tie.Need-read-meta-requires
-read-meta-requires c κs = search needs
 
 returns-2 : tie.Need-returns-2
 returns-2 c =
@@ -29,4 +23,4 @@ returns-2 c =
     (meta-whole s (bytes-of s (λ i l. c .before .before .before .shared-slice-known .given i .fits)) (a .at) (ltb-false (length s) _ (sym (c .before .before .past .ensures) ∙ c .before .if1 .left)))
 
 pub try-read-meta-spec : {M : Type 1} → statement M
-try-read-meta-spec = tie.close (tie.spec past-requires returns read-meta-requires returns-2)
+try-read-meta-spec = tie.close (tie.spec (λ c κs. search needs) returns (λ c κs. search needs) returns-2)

@@ -6,12 +6,9 @@ use borrow.Author.Needs.{needs}
 use Rattle.compact.proofs.unsound_number.Statement.{statement}
 use Rattle.compact.proofs.unsound_number.Tie as tie
 
-reply-of-requires : tie.Need-reply-of-requires
-reply-of-requires c κs = search needs
-
 returns : tie.Need-returns
 unfolding replyOf
 returns c = ap (λ (r : Reply). r .number) (c .reply-of .ensures)
 
 pub unsound-number-spec : {M : Type 1} → statement M
-unsound-number-spec = tie.close (tie.spec reply-of-requires returns)
+unsound-number-spec = tie.close (tie.spec (λ c κs. search needs) returns)

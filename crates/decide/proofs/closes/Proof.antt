@@ -12,15 +12,6 @@ use borrow.Author.Needs.{needs}
 use Rattle.decide.proofs.closes.Statement.{statement}
 use Rattle.decide.proofs.closes.Tie as tie
 
-close-at-requires : tie.Need-close-at-requires
-close-at-requires c κs = search needs
-
-enum-told : tie.Need-enum-told
-enum-told c = search needs
-
-unless-deleted-requires : tie.Need-unless-deleted-requires
-unless-deleted-requires c κs = search needs
-
 returns : tie.Need-returns
 returns c =
     let p = c .before .before .before .before .args .place in
@@ -35,4 +26,4 @@ returns-2 c =
 
 pub closes-spec : {M : Type 1} → statement M
 closes-spec =
-    tie.close (tie.spec close-at-requires enum-told unless-deleted-requires returns returns-2)
+    tie.close (tie.spec (λ c κs. search needs) (λ c. search needs) (λ c κs. search needs) returns returns-2)

@@ -11,18 +11,6 @@ use borrow.Author.Needs.{needs}
 use Rattle.decide.proofs.decide.Statement.{statement}
 use Rattle.decide.proofs.decide.Tie as tie
 
-scan-requires : tie.Need-scan-requires
-scan-requires c κs = search needs
-
-enum-known-r : tie.Need-enum-known-r
-enum-known-r c = search needs
-
-enum-known-empty : tie.Need-enum-known-empty
-enum-known-empty c = search needs
-
-body-length-requires : tie.Need-body-length-requires
-body-length-requires c κs = search needs
-
 slice-aggregate-opens : tie.Need-slice-aggregate-opens
 slice-aggregate-opens c =
     let s = now (c .before .before .before .before .before .before .before .args .line) in
@@ -33,15 +21,6 @@ opens-requires c κs =
     let s = now (c .before .before .before .before .before .before .before .args .line) in
     let l = subst (InBounds (body s)) (c .before .before .before .empty .given .1) (c .before .before .before .before .before .scan .ensures .1) in
     rw (judged-part s _ (c .before .body-length .ensures)) (record { order = l .0; end = l .1 .0 })
-
-enum-told : tie.Need-enum-told
-enum-told c = search needs
-
-closes-requires : tie.Need-closes-requires
-closes-requires c κs = search needs
-
-enum-told-2 : tie.Need-enum-told-2
-enum-told-2 c = search needs
 
 returns : tie.Need-returns
 returns c =
@@ -71,15 +50,15 @@ pub decide-spec : {M : Type 1} → statement M
 decide-spec =
     tie.close
     (tie.spec
-    scan-requires
-    enum-known-r
-    enum-known-empty
-    body-length-requires
+    (λ c κs. search needs)
+    (λ c. search needs)
+    (λ c. search needs)
+    (λ c κs. search needs)
     slice-aggregate-opens
     opens-requires
-    enum-told
-    closes-requires
-    enum-told-2
+    (λ c. search needs)
+    (λ c κs. search needs)
+    (λ c. search needs)
     returns
     returns-2
     returns-3

@@ -8,15 +8,6 @@ use borrow.Author.Needs.{needs}
 use Rattle.decide.proofs.delete_begins.Statement.{statement}
 use Rattle.decide.proofs.delete_begins.Tie as tie
 
-head-field-requires : tie.Need-head-field-requires
-head-field-requires c κs = search needs
-
-enum-known-r : tie.Need-enum-known-r
-enum-known-r c = search needs
-
-enum-known-id : tie.Need-enum-known-id
-enum-known-id c = search needs
-
 returns : tie.Need-returns
 returns c =
     let a = c .before .before .before .before .before .args in
@@ -33,4 +24,4 @@ returns-2 c =
 
 pub delete-begins-spec : {M : Type 1} → statement M
 delete-begins-spec =
-    tie.close (tie.spec head-field-requires enum-known-r enum-known-id returns returns-2)
+    tie.close (tie.spec (λ c κs. search needs) (λ c. search needs) (λ c. search needs) returns returns-2)

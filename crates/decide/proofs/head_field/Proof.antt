@@ -8,27 +8,6 @@ use borrow.Author.Needs.{needs}
 use Rattle.decide.proofs.head_field.Statement.{statement}
 use Rattle.decide.proofs.head_field.Tie as tie
 
-slice-aggregate-wide-field : tie.Need-slice-aggregate-wide-field
-slice-aggregate-wide-field c = search needs
-
-wide-field-requires : tie.Need-wide-field-requires
-wide-field-requires c κs = search needs
-
-enum-known-r : tie.Need-enum-known-r
-enum-known-r c = search needs
-
-enum-known-id : tie.Need-enum-known-id
-enum-known-id c = search needs
-
-meta-field-requires : tie.Need-meta-field-requires
-meta-field-requires c κs = search needs
-
-enum-known-r-2 : tie.Need-enum-known-r-2
-enum-known-r-2 c = search needs
-
-enum-known-meta : tie.Need-enum-known-meta
-enum-known-meta c = search needs
-
 returns : tie.Need-returns
 unfolding idField
 returns c =
@@ -53,13 +32,13 @@ pub head-field-spec : {M : Type 1} → statement M
 head-field-spec =
     tie.close
     (tie.spec
-    slice-aggregate-wide-field
-    wide-field-requires
-    enum-known-r
-    enum-known-id
-    meta-field-requires
-    enum-known-r-2
-    enum-known-meta
+    (λ c. search needs)
+    (λ c κs. search needs)
+    (λ c. search needs)
+    (λ c. search needs)
+    (λ c κs. search needs)
+    (λ c. search needs)
+    (λ c. search needs)
     returns
     returns-2
     returns-3)

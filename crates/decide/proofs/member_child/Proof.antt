@@ -8,18 +8,6 @@ use borrow.Author.Needs.{needs}
 use Rattle.decide.proofs.member_child.Statement.{statement}
 use Rattle.decide.proofs.member_child.Tie as tie
 
-member-field-requires : tie.Need-member-field-requires
-member-field-requires c κs = search needs
-
-enum-known-r : tie.Need-enum-known-r
-enum-known-r c = search needs
-
-enum-known-reference : tie.Need-enum-known-reference
-enum-known-reference c = search needs
-
-unless-deleted-requires : tie.Need-unless-deleted-requires
-unless-deleted-requires c κs = search needs
-
 returns : tie.Need-returns
 returns c =
     let t = now (c .before .before .before .before .before .args .t) in
@@ -36,9 +24,9 @@ pub member-child-spec : {M : Type 1} → statement M
 member-child-spec =
     tie.close
     (tie.spec
-    member-field-requires
-    enum-known-r
-    enum-known-reference
-    unless-deleted-requires
+    (λ c κs. search needs)
+    (λ c. search needs)
+    (λ c. search needs)
+    (λ c κs. search needs)
     returns
     returns-2)

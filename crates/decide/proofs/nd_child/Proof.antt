@@ -9,21 +9,6 @@ use borrow.Author.Needs.{needs}
 use Rattle.decide.proofs.nd_child.Statement.{statement}
 use Rattle.decide.proofs.nd_child.Tie as tie
 
-slice-aggregate-wide-field : tie.Need-slice-aggregate-wide-field
-slice-aggregate-wide-field c = search needs
-
-wide-field-requires : tie.Need-wide-field-requires
-wide-field-requires c κs = search needs
-
-enum-known-r : tie.Need-enum-known-r
-enum-known-r c = search needs
-
-enum-known-reference : tie.Need-enum-known-reference
-enum-known-reference c = search needs
-
-unless-deleted-requires : tie.Need-unless-deleted-requires
-unless-deleted-requires c κs = search needs
-
 returns : tie.Need-returns
 unfolding refOf
 returns c =
@@ -42,10 +27,10 @@ pub nd-child-spec : {M : Type 1} → statement M
 nd-child-spec =
     tie.close
     (tie.spec
-    slice-aggregate-wide-field
-    wide-field-requires
-    enum-known-r
-    enum-known-reference
-    unless-deleted-requires
+    (λ c. search needs)
+    (λ c κs. search needs)
+    (λ c. search needs)
+    (λ c. search needs)
+    (λ c κs. search needs)
     returns
     returns-2)

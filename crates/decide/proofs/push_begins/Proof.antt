@@ -9,24 +9,6 @@ use borrow.Author.Needs.{needs}
 use Rattle.decide.proofs.push_begins.Statement.{statement}
 use Rattle.decide.proofs.push_begins.Tie as tie
 
-head-field-requires : tie.Need-head-field-requires
-head-field-requires c κs = search needs
-
-enum-known-r : tie.Need-enum-known-r
-enum-known-r c = search needs
-
-enum-known-id : tie.Need-enum-known-id
-enum-known-id c = search needs
-
-body-field-requires : tie.Need-body-field-requires
-body-field-requires c κs = search needs
-
-enum-known-r-2 : tie.Need-enum-known-r-2
-enum-known-r-2 c = search needs
-
-enum-known-lat : tie.Need-enum-known-lat
-enum-known-lat c = search needs
-
 returns : tie.Need-returns
 returns c =
     let a = c .before .before .before .before .before .args in
@@ -52,12 +34,12 @@ pub push-begins-spec : {M : Type 1} → statement M
 push-begins-spec =
     tie.close
     (tie.spec
-    head-field-requires
-    enum-known-r
-    enum-known-id
-    body-field-requires
-    enum-known-r-2
-    enum-known-lat
+    (λ c κs. search needs)
+    (λ c. search needs)
+    (λ c. search needs)
+    (λ c κs. search needs)
+    (λ c. search needs)
+    (λ c. search needs)
     returns
     returns-2
     returns-3)

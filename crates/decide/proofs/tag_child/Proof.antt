@@ -8,18 +8,6 @@ use borrow.Author.Needs.{needs}
 use Rattle.decide.proofs.tag_child.Statement.{statement}
 use Rattle.decide.proofs.tag_child.Tie as tie
 
-tag-field-requires : tie.Need-tag-field-requires
-tag-field-requires c κs = search needs
-
-enum-known-r : tie.Need-enum-known-r
-enum-known-r c = search needs
-
-enum-known-key : tie.Need-enum-known-key
-enum-known-key c = search needs
-
-unless-deleted-requires : tie.Need-unless-deleted-requires
-unless-deleted-requires c κs = search needs
-
 returns : tie.Need-returns
 returns c =
     let t = now (c .before .before .before .before .before .args .t) in
@@ -36,9 +24,9 @@ pub tag-child-spec : {M : Type 1} → statement M
 tag-child-spec =
     tie.close
     (tie.spec
-    tag-field-requires
-    enum-known-r
-    enum-known-key
-    unless-deleted-requires
+    (λ c κs. search needs)
+    (λ c. search needs)
+    (λ c. search needs)
+    (λ c κs. search needs)
     returns
     returns-2)

@@ -6,15 +6,6 @@ use borrow.Author.Needs.{needs}
 use Rattle.decimal.proofs.eight_length.Statement.{statement}
 use Rattle.decimal.proofs.eight_length.Tie as tie
 
-four-length-requires : tie.Need-four-length-requires
-four-length-requires c κs = search needs
-
-returns : tie.Need-returns
-returns c = search needs
-
-four-length-requires-2 : tie.Need-four-length-requires-2
-four-length-requires-2 c κs = search needs
-
 add-result : tie.Need-add-result
 add-result c = let v = c .before .before .args .v in omega (arith, most-four (v / 10000) (omega arith))
 
@@ -23,4 +14,4 @@ returns-2 c = let v = c .before .before .args .v in omega (arith, four-less v (o
 
 pub eight-length-spec : {M : Type 1} → statement M
 eight-length-spec =
-    tie.close (tie.spec four-length-requires returns four-length-requires-2 add-result returns-2)
+    tie.close (tie.spec (λ c κs. search needs) (λ c. search needs) (λ c κs. search needs) add-result returns-2)

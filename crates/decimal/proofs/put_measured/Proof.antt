@@ -9,12 +9,6 @@ use borrow.Author.Needs.{needs}
 use Rattle.decimal.proofs.put_measured.Statement.{statement}
 use Rattle.decimal.proofs.put_measured.Tie as tie
 
-put-digits-requires : tie.Need-put-digits-requires
-put-digits-requires c κs = search needs
-
-same-length : tie.Need-same-length
-same-length c = search needs
-
 returns : tie.Need-returns
 returns c e =
     let a = c .before .before .before .before .before .before .args in
@@ -26,4 +20,4 @@ returns-2 c e =
     ap (λ (w : Wrote). w .bytes) (sym (put-nothing (now (a .out)) (numberText (a .v)) (omega arith)))
 
 pub put-measured-spec : {M : Type 1} → statement M
-put-measured-spec = tie.close (tie.spec put-digits-requires same-length returns returns-2)
+put-measured-spec = tie.close (tie.spec (λ c κs. search needs) (λ c. search needs) returns returns-2)

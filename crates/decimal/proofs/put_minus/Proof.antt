@@ -12,17 +12,8 @@ use borrow.Author.Needs.{needs}
 use Rattle.decimal.proofs.put_minus.Statement.{statement}
 use Rattle.decimal.proofs.put_minus.Tie as tie
 
-number-length-requires : tie.Need-number-length-requires
-number-length-requires c κs = search needs
-
-slice-write-out : tie.Need-slice-write-out
-slice-write-out c = search needs
-
 put-digits-requires : tie.Need-put-digits-requires
 put-digits-requires c κs = simp length-set (omega arith)
-
-add-t10 : tie.Need-add-t10
-add-t10 c = search needs
 
 same-length : tie.Need-same-length
 same-length c = rw length-set at (c .before .out .given)
@@ -44,10 +35,10 @@ pub put-minus-spec : {M : Type 1} → statement M
 put-minus-spec =
     tie.close
     (tie.spec
-    number-length-requires
-    slice-write-out
+    (λ c κs. search needs)
+    (λ c. search needs)
     put-digits-requires
-    add-t10
+    (λ c. search needs)
     same-length
     returns
     returns-2)

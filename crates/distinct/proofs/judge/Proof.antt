@@ -5,19 +5,10 @@ use Rattle.distinct.proofs.Orders.{judged}
 use Rattle.distinct.proofs.judge.Statement.{statement}
 use Rattle.distinct.proofs.judge.Tie as tie
 
-all-stand-requires : tie.Need-all-stand-requires
-all-stand-requires c κs = search needs
-
-rises-requires : tie.Need-rises-requires
-rises-requires c κs = search needs
-
 returns : tie.Need-returns
 returns c =
     let a = c .before .before .before .before .before .before .before .args in
     judged (c .rises .result) (now (a .bytes)) (now (a .words)) (now (a .order)) (now (a .place)) (c .before .before .all-stand .ensures (c .before .if1 .taken)) (c .rises .ensures)
 
-returns-2 : tie.Need-returns-2
-returns-2 c = search needs
-
 pub judge-spec : {M : Type 1} → statement M
-judge-spec = tie.close (tie.spec all-stand-requires rises-requires returns returns-2)
+judge-spec = tie.close (tie.spec (λ c κs. search needs) (λ c κs. search needs) returns (λ c. search needs))

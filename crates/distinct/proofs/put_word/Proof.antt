@@ -6,20 +6,8 @@ use borrow.Author.Needs.{needs}
 use Rattle.distinct.proofs.put_word.Statement.{statement}
 use Rattle.distinct.proofs.put_word.Tie as tie
 
-mul-words : tie.Need-mul-words
-mul-words c = search needs
-
-slice-write-words : tie.Need-slice-write-words
-slice-write-words c = search needs
-
-same-length : tie.Need-same-length
-same-length c = search needs
-
-returns : tie.Need-returns
-returns c = search needs
-
 returns-2 : tie.Need-returns-2
 returns-2 c = let a = c .before .args in sym (set-out (now (a .words)) (a .i) (a .w) (c .if1 .left))
 
 pub put-word-spec : {M : Type 1} → statement M
-put-word-spec = tie.close (tie.spec mul-words slice-write-words same-length returns returns-2)
+put-word-spec = tie.close (tie.spec (λ c. search needs) (λ c. search needs) (λ c. search needs) (λ c. search needs) returns-2)

@@ -10,29 +10,8 @@ returns c = λ p q. absurd (omega arith)
 returns-2 : tie.Need-returns-2
 returns-2 c = λ p q. absurd (omega arith)
 
-sub-if3 : tie.Need-sub-if3
-sub-if3 c = search needs
-
 returns-3 : tie.Need-returns-3
 returns-3 c = λ p q. absurd (omega arith)
-
-add-end : tie.Need-add-end
-add-end c = search needs
-
-sub-sort-key : tie.Need-sub-sort-key
-sub-sort-key c = search needs
-
-part-sort-key-start : tie.Need-part-sort-key-start
-part-sort-key-start c = search needs
-
-part-sort-key-end : tie.Need-part-sort-key-end
-part-sort-key-end c = search needs
-
-sort-key-requires : tie.Need-sort-key-requires
-sort-key-requires c κs = search needs
-
-pack-requires : tie.Need-pack-requires
-pack-requires c κs = search needs
 
 returns-4 : tie.Need-returns-4
 returns-4 c = λ p q. rw (c .pack .ensures .0, c .pack .ensures .1)
@@ -43,12 +22,12 @@ run-word-spec =
     (tie.spec
     returns
     returns-2
-    sub-if3
+    (λ c. search needs)
     returns-3
-    add-end
-    sub-sort-key
-    part-sort-key-start
-    part-sort-key-end
-    sort-key-requires
-    pack-requires
+    (λ c. search needs)
+    (λ c. search needs)
+    (λ c. search needs)
+    (λ c. search needs)
+    (λ c κs. search needs)
+    (λ c κs. search needs)
     returns-4)

@@ -9,29 +9,11 @@ use Rattle.distinct.proofs.stands.Tie as tie
 returns : tie.Need-returns
 returns c = λ q. clash q refl
 
-mul-size : tie.Need-mul-size
-mul-size c = search needs
-
-shared-slice-read-size : tie.Need-shared-slice-read-size
-shared-slice-read-size c = search needs
-
-size-requires : tie.Need-size-requires
-size-requires c κs = search needs
-
 returns-2 : tie.Need-returns-2
 returns-2 c = λ q. clash q refl
 
 returns-3 : tie.Need-returns-3
 returns-3 c = λ q. clash q refl
-
-mul-size-2 : tie.Need-mul-size-2
-mul-size-2 c = search needs
-
-shared-slice-read-size-2 : tie.Need-shared-slice-read-size-2
-shared-slice-read-size-2 c = search needs
-
-size-requires-2 : tie.Need-size-requires-2
-size-requires-2 c κs = search needs
 
 returns-4 : tie.Need-returns-4
 returns-4 c =
@@ -44,12 +26,12 @@ stands-spec =
     tie.close
     (tie.spec
     returns
-    mul-size
-    shared-slice-read-size
-    size-requires
+    (λ c. search needs)
+    (λ c. search needs)
+    (λ c κs. search needs)
     returns-2
     returns-3
-    mul-size-2
-    shared-slice-read-size-2
-    size-requires-2
+    (λ c. search needs)
+    (λ c. search needs)
+    (λ c κs. search needs)
     returns-4)

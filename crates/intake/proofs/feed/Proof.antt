@@ -25,9 +25,6 @@ given s =
 lesser-requires : tie.Need-lesser-requires
 lesser-requires c κs = tt
 
-join-piece-requires : tie.Need-join-piece-requires
-join-piece-requires c κs = search needs
-
 take-front-requires : tie.Need-take-front-requires
 take-front-requires c κs =
     let s = c .before .before .before .before .before .before .before .before .before .before .before .before .before .before .before .before .before .before .before .before .before .before .before .before .before in
@@ -83,7 +80,7 @@ feed-spec =
     tie.close
     (tie.spec
     lesser-requires
-    join-piece-requires
+    (λ c κs. search needs)
     take-front-requires
     keep-front-requires
     same-length

@@ -11,21 +11,9 @@ use borrow.Author.Needs.{needs}
 use Rattle.intake.proofs.join_piece.Statement.{statement}
 use Rattle.intake.proofs.join_piece.Tie as tie
 
-lesser-requires : tie.Need-lesser-requires
-lesser-requires c κs = search needs
-
 slice-aggregate-copy-at : tie.Need-slice-aggregate-copy-at
 slice-aggregate-copy-at c =
     let p = now (c .before .before .before .before .before .args .piece) in sym (length-take-le (c .before .before .lesser .result) p (omega (arith, c .before .before .lesser .ensures)))
-
-copy-at-requires : tie.Need-copy-at-requires
-copy-at-requires c κs = search needs
-
-add-result : tie.Need-add-result
-add-result c = search needs
-
-same-length : tie.Need-same-length
-same-length c = search needs
 
 returns : tie.Need-returns
 returns c =
@@ -37,9 +25,9 @@ pub join-piece-spec : {M : Type 1} → statement M
 join-piece-spec =
     tie.close
     (tie.spec
-    lesser-requires
+    (λ c κs. search needs)
     slice-aggregate-copy-at
-    copy-at-requires
-    add-result
-    same-length
+    (λ c κs. search needs)
+    (λ c. search needs)
+    (λ c. search needs)
     returns)

@@ -3,12 +3,6 @@ use borrow.Author.Needs.{needs}
 use Rattle.intake.proofs.keep_front.Statement.{statement}
 use Rattle.intake.proofs.keep_front.Tie as tie
 
-enum-told : tie.Need-enum-told
-enum-told c = search needs
-
-enum-known-answer : tie.Need-enum-known-answer
-enum-known-answer c = search needs
-
 keep-rest-requires : tie.Need-keep-rest-requires
 keep-rest-requires c κs = tt
 
@@ -22,4 +16,4 @@ returns-2 : tie.Need-returns-2
 returns-2 c = rw (c .before .answer .given .1)
 
 pub keep-front-spec : {M : Type 1} → statement M
-keep-front-spec = tie.close (tie.spec enum-told keep-rest-requires enum-known-answer same-length returns returns-2)
+keep-front-spec = tie.close (tie.spec (λ c. search needs) keep-rest-requires (λ c. search needs) same-length returns returns-2)

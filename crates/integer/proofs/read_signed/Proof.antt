@@ -12,28 +12,10 @@ returns c =
     let a = c .before .before .args in
     sym (read-empty (a .most) (a .ones) (now (a .s)) (c .if1 .taken))
 
-shared-slice-read-b : tie.Need-shared-slice-read-b
-shared-slice-read-b c = search needs
-
-magnitude-requires : tie.Need-magnitude-requires
-magnitude-requires c κs = search needs
-
 returns-2 : tie.Need-returns-2
 returns-2 c =
     let a = c .before .before .before .before .before .args in
     c .magnitude .ensures ∙ sym (read-plus (a .most) (a .ones) (now (a .s)) (omega arith) (c .before .if2 .taken))
-
-add-magnitude : tie.Need-add-magnitude
-add-magnitude c = search needs
-
-magnitude-requires-2 : tie.Need-magnitude-requires-2
-magnitude-requires-2 c κs = search needs
-
-enum-known-n : tie.Need-enum-known-n
-enum-known-n c = search needs
-
-enum-told : tie.Need-enum-told
-enum-told c = search needs
 
 returns-3 : tie.Need-returns-3
 returns-3 c =
@@ -45,9 +27,6 @@ returns-4 c =
     let a = c .before .before .before .before .before .before .before .before .before .before .args in
     sym (minus-zero (a .most) (a .ones) (now (a .s)) (omega arith) (c .before .before .before .before .before .if3 .taken) (sym (c .before .before .n .given .1) ∙ c .before .before .before .before .magnitude2 .ensures) (c .if4 .taken))
 
-sub-t11 : tie.Need-sub-t11
-sub-t11 c = search needs
-
 sub-t13 : tie.Need-sub-t13
 sub-t13 c = omega (arith, at-most _ (sym (c .before .before .n .given .1) ∙ c .before .before .before .before .magnitude2 .ensures))
 
@@ -55,9 +34,6 @@ returns-5 : tie.Need-returns-5
 returns-5 c =
     let a = c .before .before .before .before .before .before .before .before .before .before .args in
     sym (minus-more (a .most) (a .ones) (now (a .s)) (omega arith) (c .before .before .before .before .before .if3 .taken) (sym (c .before .before .n .given .1) ∙ c .before .before .before .before .magnitude2 .ensures) (c .if4 .left))
-
-magnitude-requires-3 : tie.Need-magnitude-requires-3
-magnitude-requires-3 c κs = search needs
 
 returns-6 : tie.Need-returns-6
 returns-6 c =
@@ -69,17 +45,17 @@ read-signed-spec =
     tie.close
     (tie.spec
     returns
-    shared-slice-read-b
-    magnitude-requires
+    (λ c. search needs)
+    (λ c κs. search needs)
     returns-2
-    add-magnitude
-    magnitude-requires-2
-    enum-known-n
-    enum-told
+    (λ c. search needs)
+    (λ c κs. search needs)
+    (λ c. search needs)
+    (λ c. search needs)
     returns-3
     returns-4
-    sub-t11
+    (λ c. search needs)
     sub-t13
     returns-5
-    magnitude-requires-3
+    (λ c κs. search needs)
     returns-6)

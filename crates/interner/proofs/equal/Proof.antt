@@ -7,9 +7,6 @@ use borrow.Author.Needs.{needs}
 use Rattle.interner.proofs.equal.Statement.{statement}
 use Rattle.interner.proofs.equal.Tie as tie
 
-same-requires : tie.Need-same-requires
-same-requires c κs = search needs
-
 returns : tie.Need-returns
 returns c =
     let a = now (c .before .before .before .args .a) in
@@ -19,4 +16,4 @@ returns c =
     (λ e. c .same .ensures .1 (same-yes a b e))
 
 pub equal-spec : {M : Type 1} → statement M
-equal-spec = tie.close (tie.spec same-requires returns)
+equal-spec = tie.close (tie.spec (λ c κs. search needs) returns)

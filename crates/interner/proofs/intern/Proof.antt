@@ -12,28 +12,10 @@ use borrow.Author.Needs.{needs}
 use Rattle.interner.proofs.intern.Statement.{statement}
 use Rattle.interner.proofs.intern.Tie as tie
 
-lesser-requires : tie.Need-lesser-requires
-lesser-requires c κs = search needs
-
-slice-reshare-prefix-find-text : tie.Need-slice-reshare-prefix-find-text
-slice-reshare-prefix-find-text c = search needs
-
 slice-aggregate-find-text : tie.Need-slice-aggregate-find-text
 slice-aggregate-find-text c =
     let b = now (c .before .before .before .before .before .before .args .bytes) in
     sym (length-take-le (c .before .before .lesser .result) b (omega (arith, c .before .before .lesser .ensures)))
-
-find-text-requires : tie.Need-find-text-requires
-find-text-requires c κs = search needs
-
-enum-known-h : tie.Need-enum-known-h
-enum-known-h c = search needs
-
-same-length : tie.Need-same-length
-same-length c = search needs
-
-same-length-2 : tie.Need-same-length-2
-same-length-2 c = search needs
 
 -- what the search over the used bytes found
 found : (c : tie.After-find-text)
@@ -55,12 +37,6 @@ returns c =
     let s = storeWith (now (a .spans)) (now (a .bytes)) (a .strings) (a .used) in
     sym (held s (now (a .text)) (c .before .h .given .0 .0) (sym (found (c .before .before .before)) ∙ c .before .h .given .1))
 
-enum-told : tie.Need-enum-told
-enum-told c = search needs
-
-fits-requires : tie.Need-fits-requires
-fits-requires c κs = search needs
-
 -- the test for room held
 roomy : (c : tie.Then1)
     → let a = c .before .before .before .before .before .before .before .before .before .before .before .args in
@@ -75,12 +51,6 @@ add-requires c κs =
     let s = storeWith (now (a .spans)) (now (a .bytes)) (a .strings) (a .used) in
     (room-words s (now (a .text)) r, room-bytes s (now (a .text)) r)
 
-same-length-3 : tie.Need-same-length-3
-same-length-3 c = search needs
-
-same-length-4 : tie.Need-same-length-4
-same-length-4 c = search needs
-
 returns-2 : tie.Need-returns-2
 returns-2 c =
     let f = c .before .before .before .before .before .before .before .before .before in
@@ -88,12 +58,6 @@ returns-2 c =
     let s = storeWith (now (a .spans)) (now (a .bytes)) (a .strings) (a .used) in
     rw (new s (now (a .text)) (not-found f) (roomy (c .before .before .before .before .before .before .before)))
     (c .before .before .before .before .add .ensures)
-
-same-length-5 : tie.Need-same-length-5
-same-length-5 c = search needs
-
-same-length-6 : tie.Need-same-length-6
-same-length-6 c = search needs
 
 returns-3 : tie.Need-returns-3
 unfolding textRoom
@@ -108,20 +72,20 @@ pub intern-spec : {M : Type 1} → statement M
 intern-spec =
     tie.close
     (tie.spec
-    lesser-requires
-    slice-reshare-prefix-find-text
+    (λ c κs. search needs)
+    (λ c. search needs)
     slice-aggregate-find-text
-    find-text-requires
-    enum-known-h
-    same-length
-    same-length-2
+    (λ c κs. search needs)
+    (λ c. search needs)
+    (λ c. search needs)
+    (λ c. search needs)
     returns
-    enum-told
-    fits-requires
+    (λ c. search needs)
+    (λ c κs. search needs)
     add-requires
-    same-length-3
-    same-length-4
+    (λ c. search needs)
+    (λ c. search needs)
     returns-2
-    same-length-5
-    same-length-6
+    (λ c. search needs)
+    (λ c. search needs)
     returns-3)

@@ -8,15 +8,6 @@ use borrow.Author.Needs.{needs}
 use Rattle.interner.proofs.is_at.Statement.{statement}
 use Rattle.interner.proofs.is_at.Tie as tie
 
-span-at-requires : tie.Need-span-at-requires
-span-at-requires c κs = search needs
-
-enum-known-start : tie.Need-enum-known-start
-enum-known-start c = search needs
-
-enum-told : tie.Need-enum-told
-enum-told c = search needs
-
 returns : tie.Need-returns
 returns c =
     let a = c .before .before .before .before .before .before .args in
@@ -32,17 +23,8 @@ lain c =
 add-end : tie.Need-add-end
 add-end c = omega (arith, within-bytes _ _ _ _ _ (lain (c .before)))
 
-sub-equal : tie.Need-sub-equal
-sub-equal c = search needs
-
-part-equal-start : tie.Need-part-equal-start
-part-equal-start c = search needs
-
 part-equal-end : tie.Need-part-equal-end
 part-equal-end c = omega (arith, within-bytes _ _ _ _ _ (lain (c .before)))
-
-equal-requires : tie.Need-equal-requires
-equal-requires c κs = search needs
 
 returns-2 : tie.Need-returns-2
 returns-2 c =
@@ -55,13 +37,13 @@ pub is-at-spec : {M : Type 1} → statement M
 is-at-spec =
     tie.close
     (tie.spec
-    span-at-requires
-    enum-known-start
-    enum-told
+    (λ c κs. search needs)
+    (λ c. search needs)
+    (λ c. search needs)
     returns
     add-end
-    sub-equal
-    part-equal-start
+    (λ c. search needs)
+    (λ c. search needs)
     part-equal-end
-    equal-requires
+    (λ c κs. search needs)
     returns-2)

@@ -16,15 +16,6 @@ use borrow.Author.Needs.{needs}
 use Rattle.interner.proofs.is_new.Statement.{statement}
 use Rattle.interner.proofs.is_new.Tie as tie
 
-span-at-requires : tie.Need-span-at-requires
-span-at-requires c κs = search needs
-
-enum-known-start : tie.Need-enum-known-start
-enum-known-start c = search needs
-
-enum-told : tie.Need-enum-told
-enum-told c = search needs
-
 returns : tie.Need-returns
 returns c =
     let a = c .before .before .before .before .before .args in
@@ -41,26 +32,8 @@ lain c =
 add-end : tie.Need-add-end
 add-end c = omega (arith, within-bytes _ _ _ _ _ (lain (c .before)))
 
-sub-t : tie.Need-sub-t
-sub-t c = search needs
-
-part-t-start : tie.Need-part-t-start
-part-t-start c = search needs
-
 part-t-end : tie.Need-part-t-end
 part-t-end c = omega (arith, within-bytes _ _ _ _ _ (lain (c .before)))
-
-is-text-requires : tie.Need-is-text-requires
-is-text-requires c κs = search needs
-
-find-text-requires : tie.Need-find-text-requires
-find-text-requires c κs = search needs
-
-enum-told-2 : tie.Need-enum-told-2
-enum-told-2 c = search needs
-
-enum-told-3 : tie.Need-enum-told-3
-enum-told-3 c = search needs
 
 -- what is left to show of the string: that it is a text, and not found before
 left : (c : tie.After-t)
@@ -90,18 +63,18 @@ pub is-new-spec : {M : Type 1} → statement M
 is-new-spec =
     tie.close
     (tie.spec
-    span-at-requires
-    enum-known-start
-    enum-told
+    (λ c κs. search needs)
+    (λ c. search needs)
+    (λ c. search needs)
     returns
     add-end
-    sub-t
-    part-t-start
+    (λ c. search needs)
+    (λ c. search needs)
     part-t-end
-    is-text-requires
-    find-text-requires
-    enum-told-2
-    enum-told-3
+    (λ c κs. search needs)
+    (λ c κs. search needs)
+    (λ c. search needs)
+    (λ c. search needs)
     returns-2
     returns-3
     returns-4)

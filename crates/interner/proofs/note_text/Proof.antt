@@ -11,15 +11,6 @@ use borrow.Author.Needs.{needs}
 use Rattle.interner.proofs.note_text.Statement.{statement}
 use Rattle.interner.proofs.note_text.Tie as tie
 
-span-at-requires : tie.Need-span-at-requires
-span-at-requires c κs = search needs
-
-enum-known-start : tie.Need-enum-known-start
-enum-known-start c = search needs
-
-enum-told : tie.Need-enum-told
-enum-told c = search needs
-
 returns : tie.Need-returns
 returns c =
     let a = c .before .before .before .before .before .before .args in
@@ -36,26 +27,8 @@ lain c =
 add-end : tie.Need-add-end
 add-end c = omega (arith, within-bytes _ _ _ _ _ (lain (c .before)))
 
-sub-is-text : tie.Need-sub-is-text
-sub-is-text c = search needs
-
-part-is-text-start : tie.Need-part-is-text-start
-part-is-text-start c = search needs
-
 part-is-text-end : tie.Need-part-is-text-end
 part-is-text-end c = omega (arith, within-bytes _ _ _ _ _ (lain (c .before)))
-
-is-text-requires : tie.Need-is-text-requires
-is-text-requires c κs = search needs
-
-run-word-requires : tie.Need-run-word-requires
-run-word-requires c κs = search needs
-
-put-word-requires : tie.Need-put-word-requires
-put-word-requires c κs = search needs
-
-same-length : tie.Need-same-length
-same-length c = search needs
 
 returns-2 : tie.Need-returns-2
 returns-2 c =
@@ -82,17 +55,17 @@ pub note-text-spec : {M : Type 1} → statement M
 note-text-spec =
     tie.close
     (tie.spec
-    span-at-requires
-    enum-known-start
-    enum-told
+    (λ c κs. search needs)
+    (λ c. search needs)
+    (λ c. search needs)
     returns
     add-end
-    sub-is-text
-    part-is-text-start
+    (λ c. search needs)
+    (λ c. search needs)
     part-is-text-end
-    is-text-requires
-    run-word-requires
-    put-word-requires
-    same-length
+    (λ c κs. search needs)
+    (λ c κs. search needs)
+    (λ c κs. search needs)
+    (λ c. search needs)
     returns-2
     returns-3)

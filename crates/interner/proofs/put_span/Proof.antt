@@ -14,12 +14,6 @@ returns c =
     let a = c .before .args in
     sym (over-past (now (a .out)) 0 (a .start ∷ a .len ∷ []) (omega arith))
 
-slice-write-out : tie.Need-slice-write-out
-slice-write-out c = search needs
-
-same-length : tie.Need-same-length
-same-length c = search needs
-
 returns-2 : tie.Need-returns-2
 returns-2 c =
     let a = c .before .before .args in
@@ -30,9 +24,6 @@ slice-write-out-2 : tie.Need-slice-write-out-2
 slice-write-out-2 c =
     let a = c .before .before .args in
     omega (arith, length-set (now (a .out)) 0 (a .start))
-
-same-length-2 : tie.Need-same-length-2
-same-length-2 c = search needs
 
 returns-3 : tie.Need-returns-3
 returns-3 c =
@@ -47,9 +38,9 @@ put-span-spec =
     tie.close
     (tie.spec
     returns
-    slice-write-out
-    same-length
+    (λ c. search needs)
+    (λ c. search needs)
     returns-2
     slice-write-out-2
-    same-length-2
+    (λ c. search needs)
     returns-3)

@@ -5,9 +5,6 @@ use borrow.Author.Needs.{needs}
 use Rattle.interner.proofs.resolve.Statement.{statement}
 use Rattle.interner.proofs.resolve.Tie as tie
 
-span-at-requires : tie.Need-span-at-requires
-span-at-requires c κs = search needs
-
 returns : tie.Need-returns
 unfolding spanOf
 returns c = rw (lt-ltb _ _ (c .before .if1 .taken)) (c .span-at .ensures)
@@ -17,4 +14,4 @@ unfolding spanOf
 returns-2 c = rw (le-ltb _ _ (c .if1 .left))
 
 pub resolve-spec : {M : Type 1} → statement M
-resolve-spec = tie.close (tie.spec span-at-requires returns returns-2)
+resolve-spec = tie.close (tie.spec (λ c κs. search needs) returns returns-2)

@@ -25,16 +25,10 @@ returns-3 c =
     let s = storeWith (now (a .spans)) (now (a .bytes)) (a .strings) (a .used) in
     sym (unsound s (λ p. omega (arith, some-held s p)))
 
-shared-slice-read-if4 : tie.Need-shared-slice-read-if4
-shared-slice-read-if4 c = search needs
-
 slice-aggregate-sound-up-to : tie.Need-slice-aggregate-sound-up-to
 slice-aggregate-sound-up-to c =
     let a = c .before .before .before .before .before .before .before .before .args in
     sym (length-take-le (a .used) (now (a .bytes)) (omega arith))
-
-sound-up-to-requires : tie.Need-sound-up-to-requires
-sound-up-to-requires c κs = search needs
 
 returns-4 : tie.Need-returns-4
 returns-4 c =
@@ -55,8 +49,8 @@ sound-strings-spec =
     returns
     returns-2
     returns-3
-    shared-slice-read-if4
+    (λ c. search needs)
     slice-aggregate-sound-up-to
-    sound-up-to-requires
+    (λ c κs. search needs)
     returns-4
     returns-5)

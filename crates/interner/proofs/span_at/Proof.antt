@@ -12,34 +12,10 @@ returns c =
     let a = c .before .args in
     sym (missing (now (a .spans)) (now (a .bytes)) (a .h) (no-words (now (a .spans)) (now (a .bytes)) (a .h) (omega arith)))
 
-mul-start : tie.Need-mul-start
-mul-start c = search needs
-
-mul-start-2 : tie.Need-mul-start-2
-mul-start-2 c = search needs
-
-shared-slice-read-start : tie.Need-shared-slice-read-start
-shared-slice-read-start c = search needs
-
-mul-len : tie.Need-mul-len
-mul-len c = search needs
-
-add-len : tie.Need-add-len
-add-len c = search needs
-
-mul-len-2 : tie.Need-mul-len-2
-mul-len-2 c = search needs
-
-shared-slice-read-len : tie.Need-shared-slice-read-len
-shared-slice-read-len c = search needs
-
 returns-2 : tie.Need-returns-2
 returns-2 c =
     let a = c .before .before .before .before .args in
     sym (missing (now (a .spans)) (now (a .bytes)) (a .h) (no-bytes (now (a .spans)) (now (a .bytes)) (a .h) (omega arith)))
-
-sub-if3 : tie.Need-sub-if3
-sub-if3 c = search needs
 
 returns-3 : tie.Need-returns-3
 returns-3 c =
@@ -56,14 +32,14 @@ span-at-spec =
     tie.close
     (tie.spec
     returns
-    mul-start
-    mul-start-2
-    shared-slice-read-start
-    mul-len
-    add-len
-    mul-len-2
-    shared-slice-read-len
+    (λ c. search needs)
+    (λ c. search needs)
+    (λ c. search needs)
+    (λ c. search needs)
+    (λ c. search needs)
+    (λ c. search needs)
+    (λ c. search needs)
     returns-2
-    sub-if3
+    (λ c. search needs)
     returns-3
     returns-4)

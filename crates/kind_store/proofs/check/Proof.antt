@@ -5,12 +5,6 @@ use borrow.Author.Needs.{needs}
 use Rattle.kind_store.proofs.check.Statement.{statement}
 use Rattle.kind_store.proofs.check.Tie as tie
 
-new-requires : tie.Need-new-requires
-new-requires c κs = search needs
-
-admit-requires : tie.Need-admit-requires
-admit-requires c κs = search needs
-
 returns : tie.Need-returns
 unfolding checked
 returns c = rw (eq-eqb _ _ (c .before .before .if1 .taken), ← c .before .new .ensures) (c .admit .ensures)
@@ -20,4 +14,4 @@ unfolding checked
 returns-2 c = rw (ne-eqb _ _ (c .if1 .left))
 
 pub check-spec : {M : Type 1} → statement M
-check-spec = tie.close (tie.spec new-requires admit-requires returns returns-2)
+check-spec = tie.close (tie.spec (λ c κs. search needs) (λ c κs. search needs) returns returns-2)

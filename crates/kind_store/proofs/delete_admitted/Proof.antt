@@ -9,21 +9,6 @@ use borrow.Author.Needs.{needs}
 use Rattle.kind_store.proofs.delete_admitted.Statement.{statement}
 use Rattle.kind_store.proofs.delete_admitted.Tie as tie
 
-has-room-requires : tie.Need-has-room-requires
-has-room-requires c κs = search needs
-
-higher-of-requires : tie.Need-higher-of-requires
-higher-of-requires c κs = search needs
-
-version-word-requires : tie.Need-version-word-requires
-version-word-requires c κs = search needs
-
-set-row-requires : tie.Need-set-row-requires
-set-row-requires c κs = search needs
-
-same-length : tie.Need-same-length
-same-length c = search needs
-
 returns : tie.Need-returns
 returns c = let k = c .before .before .before .before .before .before .before .before .before .before .before .args in
     let s = kindStoreWith (now (k .table)) (k .ids) (now (k .arena)) (k .used) in
@@ -31,9 +16,6 @@ returns c = let k = c .before .before .before .before .before .before .before .b
     let found = c .before .before .before .before .before .before .before .before .before .before .before .pre .0 in
     let room = room-as (k .kind) s id found (c .before .before .before .before .before .before .before .has-room .ensures) (c .before .before .before .before .before .before .if1 .taken) in
     delete-room (k .kind) s id (k .claim) _ _ room (c .before .before .before .before .before .before .before .before .before .before .before .pre .1) (c .before .before .before .before .before .higher-of .ensures) (c .before .before .before .before .version-word .ensures) (c .before .before .set-row .ensures .0) (c .before .before .set-row .ensures .1)
-
-same-length-2 : tie.Need-same-length-2
-same-length-2 c = search needs
 
 returns-2 : tie.Need-returns-2
 returns-2 c = let k = c .before .before .before .before .before .args in
@@ -45,11 +27,11 @@ pub delete-admitted-spec : {M : Type 1} → statement M
 delete-admitted-spec =
     tie.close
     (tie.spec
-    has-room-requires
-    higher-of-requires
-    version-word-requires
-    set-row-requires
-    same-length
+    (λ c κs. search needs)
+    (λ c κs. search needs)
+    (λ c κs. search needs)
+    (λ c κs. search needs)
+    (λ c. search needs)
     returns
-    same-length-2
+    (λ c. search needs)
     returns-2)

@@ -6,18 +6,9 @@ use borrow.Author.Needs.{needs}
 use Rattle.kind_store.proofs.has_room.Statement.{statement}
 use Rattle.kind_store.proofs.has_room.Tie as tie
 
-enum-told : tie.Need-enum-told
-enum-told c = search needs
-
-enum-told-2 : tie.Need-enum-told-2
-enum-told-2 c = search needs
-
-returns : tie.Need-returns
-returns c = search needs
-
 returns-2 : tie.Need-returns-2
 returns-2 c = let k = c .before .before .args in
     rw (c .enum-told2 .given .1) (rows-held (k .ids) (length (now (k .table))))
 
 pub has-room-spec : {M : Type 1} → statement M
-has-room-spec = tie.close (tie.spec enum-told enum-told-2 returns returns-2)
+has-room-spec = tie.close (tie.spec (λ c. search needs) (λ c. search needs) (λ c. search needs) returns-2)

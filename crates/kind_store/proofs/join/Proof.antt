@@ -12,33 +12,12 @@ use borrow.Author.Needs.{needs}
 use Rattle.kind_store.proofs.join.Statement.{statement}
 use Rattle.kind_store.proofs.join.Tie as tie
 
-append-record-requires : tie.Need-append-record-requires
-append-record-requires c κs = search needs
-
-enum-known-end : tie.Need-enum-known-end
-enum-known-end c = search needs
-
-enum-told : tie.Need-enum-told
-enum-told c = search needs
-
-same-length : tie.Need-same-length
-same-length c = search needs
-
 returns : tie.Need-returns
 returns c = let k = c .before .before .before .before .before .before .before .before .before .args in
     let s = kindStoreWith (now (k .table)) (k .ids) (now (k .arena)) (k .used) in
     let id = toZ w64 (k .head .id) in
     let bytes = headBytes (k .kind) (headIn (k .kind) (k .head)) ++ metaBytes (metaOf (k .meta)) ++ now (k .parts) in
     join-full s id (k .floor) bytes _ (rw (c .enum-told .given .1) at (c .before .before .before .before .append-record .ensures))
-
-set-row-requires : tie.Need-set-row-requires
-set-row-requires c κs = search needs
-
-same-length-2 : tie.Need-same-length-2
-same-length-2 c = search needs
-
-same-length-3 : tie.Need-same-length-3
-same-length-3 c = search needs
 
 returns-2 : tie.Need-returns-2
 returns-2 c = let k = c .before .before .before .before .before .before .before .before .before .before .before .before .before .before .args in
@@ -51,12 +30,12 @@ pub join-spec : {M : Type 1} → statement M
 join-spec =
     tie.close
     (tie.spec
-    append-record-requires
-    enum-known-end
-    enum-told
-    same-length
+    (λ c κs. search needs)
+    (λ c. search needs)
+    (λ c. search needs)
+    (λ c. search needs)
     returns
-    set-row-requires
-    same-length-2
-    same-length-3
+    (λ c κs. search needs)
+    (λ c. search needs)
+    (λ c. search needs)
     returns-2)

@@ -7,15 +7,6 @@ use borrow.Author.Needs.{needs}
 use Rattle.kind_store.proofs.known_version.Statement.{statement}
 use Rattle.kind_store.proofs.known_version.Tie as tie
 
-rank-of-requires : tie.Need-rank-of-requires
-rank-of-requires c κs = search needs
-
-find-row-requires : tie.Need-find-row-requires
-find-row-requires c κs = search needs
-
-version-found-requires : tie.Need-version-found-requires
-version-found-requires c κs = search needs
-
 returns : tie.Need-returns
 unfolding knownVersion
 returns c = let k = c .before .before .before .before .before .args in
@@ -24,4 +15,4 @@ returns c = let k = c .before .before .before .before .before .args in
 
 pub known-version-spec : {M : Type 1} → statement M
 known-version-spec =
-    tie.close (tie.spec rank-of-requires find-row-requires version-found-requires returns)
+    tie.close (tie.spec (λ c κs. search needs) (λ c κs. search needs) (λ c κs. search needs) returns)

@@ -14,17 +14,8 @@ use borrow.Author.Needs.{needs}
 use Rattle.kind_store.proofs.live_version.Statement.{statement}
 use Rattle.kind_store.proofs.live_version.Tie as tie
 
-meta-off-requires : tie.Need-meta-off-requires
-meta-off-requires c κs = search needs
-
 add-at : tie.Need-add-at
 add-at c = omega (arith, head-most (c .before .before .before .args .kind), c .meta-off .ensures)
-
-read-meta-requires : tie.Need-read-meta-requires
-read-meta-requires c κs = search needs
-
-claim-requires : tie.Need-claim-requires
-claim-requires c κs = search needs
 
 returns : tie.Need-returns
 unfolding liveVersion isLive versionAt
@@ -39,4 +30,4 @@ returns-2 c = rw (le-ltb _ _ (c .if1 .left))
 pub live-version-spec : {M : Type 1} → statement M
 live-version-spec =
     tie.close
-    (tie.spec meta-off-requires add-at read-meta-requires claim-requires returns returns-2)
+    (tie.spec (λ c κs. search needs) add-at (λ c κs. search needs) (λ c κs. search needs) returns returns-2)

@@ -14,27 +14,6 @@ use borrow.Author.Needs.{needs}
 use Rattle.kind_store.proofs.push_admitted.Statement.{statement}
 use Rattle.kind_store.proofs.push_admitted.Tie as tie
 
-has-room-requires : tie.Need-has-room-requires
-has-room-requires c κs = search needs
-
-claim-requires : tie.Need-claim-requires
-claim-requires c κs = search needs
-
-floor-found-requires : tie.Need-floor-found-requires
-floor-found-requires c κs = search needs
-
-floor-after-requires : tie.Need-floor-after-requires
-floor-after-requires c κs = search needs
-
-join-requires : tie.Need-join-requires
-join-requires c κs = search needs
-
-same-length : tie.Need-same-length
-same-length c = search needs
-
-same-length-2 : tie.Need-same-length-2
-same-length-2 c = search needs
-
 returns : tie.Need-returns
 returns c = let k = c .before .before .before .before .before .before .before .before .before .before .before .before .before .before .before .before .before .args in
     let s = kindStoreWith (now (k .table)) (k .ids) (now (k .arena)) (k .used) in
@@ -45,9 +24,6 @@ returns c = let k = c .before .before .before .before .before .before .before .b
     let room = room-as (k .kind) s id found (c .before .before .before .before .before .before .before .before .before .before .before .before .has-room .ensures) (c .before .before .before .before .before .before .before .before .before .before .before .if1 .taken) in
     let floor = carried-as (k .kind) s id (k .setting) claim (c .before .before .before .before .before .before .before .before .before .before .before .before .before .before .before .before .before .pre .1) (c .before .before .before .before .before .before .before .before .before .before .claim .ensures) (floor-as (k .kind) s id found (c .before .before .before .before .before .before .before .before .floor-found .ensures)) (c .before .before .before .before .before .before .before .floor-after .ensures) in
     rw (push-room (k .kind) s id (k .setting) claim bytes room, ← floor) (c .before .before .before .before .join .ensures)
-
-same-length-3 : tie.Need-same-length-3
-same-length-3 c = search needs
 
 returns-2 : tie.Need-returns-2
 returns-2 c = let k = c .before .before .before .before .before .before .args in
@@ -61,13 +37,13 @@ pub push-admitted-spec : {M : Type 1} → statement M
 push-admitted-spec =
     tie.close
     (tie.spec
-    has-room-requires
-    claim-requires
-    floor-found-requires
-    floor-after-requires
-    join-requires
-    same-length
-    same-length-2
+    (λ c κs. search needs)
+    (λ c κs. search needs)
+    (λ c κs. search needs)
+    (λ c κs. search needs)
+    (λ c κs. search needs)
+    (λ c. search needs)
+    (λ c. search needs)
     returns
-    same-length-3
+    (λ c. search needs)
     returns-2)

@@ -9,15 +9,9 @@ use borrow.Author.Needs.{needs}
 use Rattle.kind_store.proofs.rank_of.Statement.{statement}
 use Rattle.kind_store.proofs.rank_of.Tie as tie
 
-i64-of-bits-requires : tie.Need-i64-of-bits-requires
-i64-of-bits-requires c κs = search needs
-
-osm-id-rank-requires : tie.Need-osm-id-rank-requires
-osm-id-rank-requires c κs = search needs
-
 returns : tie.Need-returns
 returns c = let f = toZ-ofZ (sfits-toZ {w = w64} (c .before .before .fits .id)) in
     c .osm-id-rank .ensures ∙ ap (λ (z : ℤ). rank (toZ w64 (ofZ w64 z))) (c .before .i64-of-bits .ensures) ∙ ap rank f
 
 pub rank-of-spec : {M : Type 1} → statement M
-rank-of-spec = tie.close (tie.spec i64-of-bits-requires osm-id-rank-requires returns)
+rank-of-spec = tie.close (tie.spec (λ c κs. search needs) (λ c κs. search needs) returns)

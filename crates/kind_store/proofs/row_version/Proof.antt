@@ -4,15 +4,6 @@ use borrow.Author.Needs.{needs}
 use Rattle.kind_store.proofs.row_version.Statement.{statement}
 use Rattle.kind_store.proofs.row_version.Tie as tie
 
-live-version-requires : tie.Need-live-version-requires
-live-version-requires c κs = search needs
-
-version-of-word-requires : tie.Need-version-of-word-requires
-version-of-word-requires c κs = search needs
-
-higher-of-requires : tie.Need-higher-of-requires
-higher-of-requires c κs = search needs
-
 returns : tie.Need-returns
 unfolding knownOf
 returns c = let k = c .before .before .before .before .args in
@@ -20,4 +11,4 @@ returns c = let k = c .before .before .before .before .args in
 
 pub row-version-spec : {M : Type 1} → statement M
 row-version-spec =
-    tie.close (tie.spec live-version-requires version-of-word-requires higher-of-requires returns)
+    tie.close (tie.spec (λ c κs. search needs) (λ c κs. search needs) (λ c κs. search needs) returns)

@@ -8,43 +8,19 @@ use borrow.Author.Needs.{needs}
 use Rattle.kind_store.proofs.set_row.Statement.{statement}
 use Rattle.kind_store.proofs.set_row.Tie as tie
 
-rank-of-requires : tie.Need-rank-of-requires
-rank-of-requires c κs = search needs
-
-put-row-requires : tie.Need-put-row-requires
-put-row-requires c κs = search needs
-
-enum-told : tie.Need-enum-told
-enum-told c = search needs
-
-enum-told-2 : tie.Need-enum-told-2
-enum-told-2 c = search needs
-
 add-result : tie.Need-add-result
 add-result c = let k = c .before .before .before .before .before .before .before .before .args in
     omega (arith, set-room (now (k .table)) (k .ids) (k .place) (k .floor) _ (c .before .before .before .before .put-row .ensures) (c .enum-told2 .given .1))
-
-enum-told-3 : tie.Need-enum-told-3
-enum-told-3 c = search needs
-
-same-length : tie.Need-same-length
-same-length c = search needs
 
 returns : tie.Need-returns
 unfolding countAfter
 returns c = let k = c .before .before .before .before .before .before .before .before .args in
     set-as (now (k .table)) (k .ids) (k .place) (k .floor) (c .before .before .before .before .before .rank-of .ensures) (c .before .before .before .before .put-row .ensures) (c .enum-told .given .1)
 
-same-length-2 : tie.Need-same-length-2
-same-length-2 c = search needs
-
 returns-2 : tie.Need-returns-2
 unfolding countAfter
 returns-2 c = let k = c .before .before .before .before .before .before .before .before .args in
     rw add-one (set-as (now (k .table)) (k .ids) (k .place) (k .floor) (c .before .before .before .before .before .rank-of .ensures) (c .before .before .before .before .put-row .ensures) (c .enum-told2 .given .1))
-
-same-length-3 : tie.Need-same-length-3
-same-length-3 c = search needs
 
 returns-3 : tie.Need-returns-3
 unfolding countAfter
@@ -55,15 +31,15 @@ pub set-row-spec : {M : Type 1} → statement M
 set-row-spec =
     tie.close
     (tie.spec
-    rank-of-requires
-    put-row-requires
-    enum-told
-    enum-told-2
+    (λ c κs. search needs)
+    (λ c κs. search needs)
+    (λ c. search needs)
+    (λ c. search needs)
     add-result
-    enum-told-3
-    same-length
+    (λ c. search needs)
+    (λ c. search needs)
     returns
-    same-length-2
+    (λ c. search needs)
     returns-2
-    same-length-3
+    (λ c. search needs)
     returns-3)

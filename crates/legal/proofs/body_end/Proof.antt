@@ -10,33 +10,9 @@ use borrow.Author.Needs.{needs}
 use Rattle.legal.proofs.body_end.Statement.{statement}
 use Rattle.legal.proofs.body_end.Tie as tie
 
-enum-told : tie.Need-enum-told
-enum-told c = search needs
-
-enum-told-2 : tie.Need-enum-told-2
-enum-told-2 c = search needs
-
-cast-refs : tie.Need-cast-refs
-cast-refs c = search needs
-
-mul-refs : tie.Need-mul-refs
-mul-refs c = search needs
-
-sub-if1 : tie.Need-sub-if1
-sub-if1 c = search needs
-
 returns : tie.Need-returns
 unfolding headIn countsHead
 returns c = let a = c .before .before .before .before .before .args in rw (c .before .before .enum-told2 .given .1) (body-short (a .strings) (headIn Way (a .head)) (now (a .bytes)) (a .at) (omega arith) (omega arith))
-
-add-t8 : tie.Need-add-t8
-add-t8 c = search needs
-
-enum-told-3 : tie.Need-enum-told-3
-enum-told-3 c = search needs
-
-members-end-requires : tie.Need-members-end-requires
-members-end-requires c κs = search needs
 
 returns-2 : tie.Need-returns-2
 returns-2 c = let a = c .before .before .before .args in rw (c .enum-told .given .1) (body-node (a .strings) (headIn Node (a .head)) (now (a .bytes)) (a .at) (omega arith))
@@ -53,15 +29,15 @@ pub body-end-spec : {M : Type 1} → statement M
 body-end-spec =
     tie.close
     (tie.spec
-    enum-told
-    enum-told-2
-    cast-refs
-    mul-refs
-    sub-if1
+    (λ c. search needs)
+    (λ c. search needs)
+    (λ c. search needs)
+    (λ c. search needs)
+    (λ c. search needs)
     returns
-    add-t8
-    enum-told-3
-    members-end-requires
+    (λ c. search needs)
+    (λ c. search needs)
+    (λ c κs. search needs)
     returns-2
     returns-3
     returns-4)

@@ -6,15 +6,6 @@ use borrow.Author.Needs.{needs}
 use Rattle.legal.proofs.few_parts.Statement.{statement}
 use Rattle.legal.proofs.few_parts.Tie as tie
 
-enum-told : tie.Need-enum-told
-enum-told c = search needs
-
-enum-told-2 : tie.Need-enum-told-2
-enum-told-2 c = search needs
-
-enum-told-3 : tie.Need-enum-told-3
-enum-told-3 c = search needs
-
 returns : tie.Need-returns
 unfolding few both
 returns c = simp (and-both, c .enum-told .given .1)
@@ -28,4 +19,4 @@ unfolding few
 returns-3 c = simp (and-both, c .enum-told3 .given .1)
 
 pub few-parts-spec : {M : Type 1} → statement M
-few-parts-spec = tie.close (tie.spec enum-told enum-told-2 enum-told-3 returns returns-2 returns-3)
+few-parts-spec = tie.close (tie.spec (λ c. search needs) (λ c. search needs) (λ c. search needs) returns returns-2 returns-3)

@@ -4,12 +4,9 @@ use borrow.Author.Needs.{needs}
 use Rattle.legal.proofs.flag.Statement.{statement}
 use Rattle.legal.proofs.flag.Tie as tie
 
-div-result : tie.Need-div-result
-div-result c = search needs
-
 returns : tie.Need-returns
 unfolding flagged
 returns c = search needs
 
 pub flag-spec : {M : Type 1} → statement M
-flag-spec = tie.close (tie.spec div-result returns)
+flag-spec = tie.close (tie.spec (λ c. search needs) returns)

@@ -11,29 +11,8 @@ use borrow.Author.Needs.{needs}
 use Rattle.legal.proofs.front_end.Statement.{statement}
 use Rattle.legal.proofs.front_end.Tie as tie
 
-parts-at-requires : tie.Need-parts-at-requires
-parts-at-requires c κs = search needs
-
 returns : tie.Need-returns
 returns c = let a = c .before .before .before .args in front-short (a .strings) (a .kind) (now (a .bytes)) (omega (arith, c .before .parts-at .ensures))
-
-read-head-requires : tie.Need-read-head-requires
-read-head-requires c κs = search needs
-
-sub-read-meta : tie.Need-sub-read-meta
-sub-read-meta c = search needs
-
-read-meta-requires : tie.Need-read-meta-requires
-read-meta-requires c κs = search needs
-
-judge-requires : tie.Need-judge-requires
-judge-requires c κs = search needs
-
-enum-known-e : tie.Need-enum-known-e
-enum-known-e c = search needs
-
-enum-told : tie.Need-enum-told
-enum-told c = search needs
 
 -- the check's answer, as the record's end
 answer : (c : tie.After-judge) → let a = c .before .before .before .before .before .before .args in toEnd (c .judge .result) ≡ recordEnd (a .strings) (a .kind) (now (a .bytes)) 0
@@ -54,13 +33,13 @@ pub front-end-spec : {M : Type 1} → statement M
 front-end-spec =
     tie.close
     (tie.spec
-    parts-at-requires
+    (λ c κs. search needs)
     returns
-    read-head-requires
-    sub-read-meta
-    read-meta-requires
-    judge-requires
-    enum-known-e
-    enum-told
+    (λ c κs. search needs)
+    (λ c. search needs)
+    (λ c κs. search needs)
+    (λ c κs. search needs)
+    (λ c. search needs)
+    (λ c. search needs)
     returns-2
     returns-3)

@@ -6,21 +6,6 @@ use borrow.Author.Needs.{needs}
 use Rattle.legal.proofs.in_place.Statement.{statement}
 use Rattle.legal.proofs.in_place.Tie as tie
 
-enum-told : tie.Need-enum-told
-enum-told c = search needs
-
-within-requires : tie.Need-within-requires
-within-requires c κs = search needs
-
-within-requires-2 : tie.Need-within-requires-2
-within-requires-2 c κs = search needs
-
-enum-told-2 : tie.Need-enum-told-2
-enum-told-2 c = search needs
-
-enum-told-3 : tie.Need-enum-told-3
-enum-told-3 c = search needs
-
 returns : tie.Need-returns
 unfolding placeInRange inRange
 returns c = rw (and-both, c .before .within .ensures, c .within2 .ensures, c .before .before .enum-told .given .1)
@@ -37,11 +22,11 @@ pub in-place-spec : {M : Type 1} → statement M
 in-place-spec =
     tie.close
     (tie.spec
-    enum-told
-    within-requires
-    within-requires-2
-    enum-told-2
-    enum-told-3
+    (λ c. search needs)
+    (λ c κs. search needs)
+    (λ c κs. search needs)
+    (λ c. search needs)
+    (λ c. search needs)
     returns
     returns-2
     returns-3)

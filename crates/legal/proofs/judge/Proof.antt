@@ -12,15 +12,6 @@ use borrow.Author.Needs.{needs}
 use Rattle.legal.proofs.judge.Statement.{statement}
 use Rattle.legal.proofs.judge.Tie as tie
 
-body-end-requires : tie.Need-body-end-requires
-body-end-requires c κs = search needs
-
-enum-known-tags : tie.Need-enum-known-tags
-enum-known-tags c = search needs
-
-enum-told : tie.Need-enum-told
-enum-told c = search needs
-
 returns : tie.Need-returns
 returns c =
     let a = c .before .before .before .before .args in
@@ -36,24 +27,12 @@ within c =
 tags-end-requires : tie.Need-tags-end-requires
 tags-end-requires c κs = within c
 
-enum-known-last : tie.Need-enum-known-last
-enum-known-last c = search needs
-
-enum-told-2 : tie.Need-enum-told-2
-enum-told-2 c = search needs
-
 returns-2 : tie.Need-returns-2
 returns-2 c =
     let a = c .before .before .before .before .before .before .before .before .args in
     let d = c .before .before .before .before in
     tags-refused (a .strings) (a .kind) (a .head) (metaOf (a .meta)) (now (a .bytes)) (a .at) (omega arith) (a .more) (d .tags .given .0 .0)
     (sym (d .before .before .body-end .ensures) ∙ d .tags .given .1) (sym (ap (λ (r : TagRun). r .end) (c .before .before .tags-end .ensures)) ∙ c .enum-told2 .given .1)
-
-legal-meta-requires : tie.Need-legal-meta-requires
-legal-meta-requires c κs = search needs
-
-in-place-requires : tie.Need-in-place-requires
-in-place-requires c κs = search needs
 
 -- where the tags end
 room : (c : tie.After-known-told2) → let d = c .before .before .before .before .before in let e = c .before .last .given .0 .0 in
@@ -67,20 +46,8 @@ room c =
 sub-few-parts : tie.Need-sub-few-parts
 sub-few-parts c = omega (arith, room (c .before .before))
 
-cast-few-parts : tie.Need-cast-few-parts
-cast-few-parts c = search needs
-
-mul-few-parts : tie.Need-mul-few-parts
-mul-few-parts c = search needs
-
 sub-few-parts-2 : tie.Need-sub-few-parts-2
 sub-few-parts-2 c = omega (arith, room (c .before .before .before))
-
-few-parts-requires : tie.Need-few-parts-requires
-few-parts-requires c κs = search needs
-
-choose-requires : tie.Need-choose-requires
-choose-requires c κs = search needs
 
 returns-3 : tie.Need-returns-3
 returns-3 c =
@@ -104,20 +71,20 @@ pub judge-spec : {M : Type 1} → statement M
 judge-spec =
     tie.close
     (tie.spec
-    body-end-requires
-    enum-known-tags
-    enum-told
+    (λ c κs. search needs)
+    (λ c. search needs)
+    (λ c. search needs)
     returns
     tags-end-requires
-    enum-known-last
-    enum-told-2
+    (λ c. search needs)
+    (λ c. search needs)
     returns-2
-    legal-meta-requires
-    in-place-requires
+    (λ c κs. search needs)
+    (λ c κs. search needs)
     sub-few-parts
-    cast-few-parts
-    mul-few-parts
+    (λ c. search needs)
+    (λ c. search needs)
     sub-few-parts-2
-    few-parts-requires
-    choose-requires
+    (λ c κs. search needs)
+    (λ c κs. search needs)
     returns-3)

@@ -6,18 +6,6 @@ use borrow.Author.Needs.{needs}
 use Rattle.legal.proofs.legal_meta.Statement.{statement}
 use Rattle.legal.proofs.legal_meta.Tie as tie
 
-flag-requires : tie.Need-flag-requires
-flag-requires c κs = search needs
-
-flag-requires-2 : tie.Need-flag-requires-2
-flag-requires-2 c κs = search needs
-
-flag-requires-3 : tie.Need-flag-requires-3
-flag-requires-3 c κs = search needs
-
-cast-user : tie.Need-cast-user
-cast-user c = search needs
-
 returns : tie.Need-returns
 unfolding legalMeta metaOf
 returns c =
@@ -26,4 +14,4 @@ returns c =
 
 pub legal-meta-spec : {M : Type 1} → statement M
 legal-meta-spec =
-    tie.close (tie.spec flag-requires flag-requires-2 flag-requires-3 cast-user returns)
+    tie.close (tie.spec (λ c κs. search needs) (λ c κs. search needs) (λ c κs. search needs) (λ c. search needs) returns)

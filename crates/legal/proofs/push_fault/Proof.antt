@@ -8,15 +8,6 @@ use borrow.Author.Needs.{needs}
 use Rattle.legal.proofs.push_fault.Statement.{statement}
 use Rattle.legal.proofs.push_fault.Tie as tie
 
-judge-requires : tie.Need-judge-requires
-judge-requires c κs = search needs
-
-enum-told : tie.Need-enum-told
-enum-told c = search needs
-
-enum-known-r : tie.Need-enum-known-r
-enum-known-r c = search needs
-
 returns : tie.Need-returns
 returns c =
     let a = c .before .before .before .before .args in
@@ -28,4 +19,4 @@ returns-2 c =
     ap toFault (sym (c .before .r .given .1)) ∙ push-is (a .strings) (a .kind) (headIn (a .kind) (a .head)) (metaOf (a .meta)) (now (a .parts)) _ (c .before .before .before .judge .ensures)
 
 pub push-fault-spec : {M : Type 1} → statement M
-push-fault-spec = tie.close (tie.spec judge-requires enum-told enum-known-r returns returns-2)
+push-fault-spec = tie.close (tie.spec (λ c κs. search needs) (λ c. search needs) (λ c. search needs) returns returns-2)

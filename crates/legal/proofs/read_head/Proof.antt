@@ -7,24 +7,6 @@ use borrow.Author.Needs.{needs}
 use Rattle.legal.proofs.read_head.Statement.{statement}
 use Rattle.legal.proofs.read_head.Tie as tie
 
-enum-told : tie.Need-enum-told
-enum-told c = search needs
-
-read-requires : tie.Need-read-requires
-read-requires c κs = search needs
-
-enum-told-2 : tie.Need-enum-told-2
-enum-told-2 c = search needs
-
-read-requires-2 : tie.Need-read-requires-2
-read-requires-2 c κs = search needs
-
-enum-told-3 : tie.Need-enum-told-3
-enum-told-3 c = search needs
-
-read-requires-3 : tie.Need-read-requires-3
-read-requires-3 c κs = search needs
-
 returns : tie.Need-returns
 unfolding headIn headAt
 returns c = rw (c .before .enum-told .given .1) (ap nodeHead (c .read .ensures))
@@ -41,12 +23,12 @@ pub read-head-spec : {M : Type 1} → statement M
 read-head-spec =
     tie.close
     (tie.spec
-    enum-told
-    read-requires
-    enum-told-2
-    read-requires-2
-    enum-told-3
-    read-requires-3
+    (λ c. search needs)
+    (λ c κs. search needs)
+    (λ c. search needs)
+    (λ c κs. search needs)
+    (λ c. search needs)
+    (λ c κs. search needs)
     returns
     returns-2
     returns-3)

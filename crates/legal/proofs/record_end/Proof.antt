@@ -7,24 +7,6 @@ use borrow.Author.Needs.{needs}
 use Rattle.legal.proofs.record_end.Statement.{statement}
 use Rattle.legal.proofs.record_end.Tie as tie
 
-sub-front-end : tie.Need-sub-front-end
-sub-front-end c = search needs
-
-part-front-end-start : tie.Need-part-front-end-start
-part-front-end-start c = search needs
-
-part-front-end-end : tie.Need-part-front-end-end
-part-front-end-end c = search needs
-
-front-end-requires : tie.Need-front-end-requires
-front-end-requires c κs = search needs
-
-enum-known-n : tie.Need-enum-known-n
-enum-known-n c = search needs
-
-enum-told : tie.Need-enum-told
-enum-told c = search needs
-
 returns : tie.Need-returns
 returns c = let a = c .before .before .before .before .before .before .args in end-bad (a .strings) (a .kind) (now (a .bytes)) (a .at) (sym (c .enum-told .given .1) ∙ (rw (rest-of (now (a .bytes)) (a .at)) at (c .before .before .front-end .ensures)))
 
@@ -47,12 +29,12 @@ pub record-end-spec : {M : Type 1} → statement M
 record-end-spec =
     tie.close
     (tie.spec
-    sub-front-end
-    part-front-end-start
-    part-front-end-end
-    front-end-requires
-    enum-known-n
-    enum-told
+    (λ c. search needs)
+    (λ c. search needs)
+    (λ c. search needs)
+    (λ c κs. search needs)
+    (λ c. search needs)
+    (λ c. search needs)
     returns
     add-t10
     returns-2

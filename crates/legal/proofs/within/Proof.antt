@@ -7,11 +7,8 @@ use Rattle.legal.proofs.within.Tie as tie
 returns : tie.Need-returns
 returns c = within-low _ _ (c .if1 .taken)
 
-sub-result : tie.Need-sub-result
-sub-result c = search needs
-
 returns-2 : tie.Need-returns-2
 returns-2 c = within-high _ _ (search needs) (c .if1 .left)
 
 pub within-spec : {M : Type 1} → statement M
-within-spec = tie.close (tie.spec returns sub-result returns-2)
+within-spec = tie.close (tie.spec returns (λ c. search needs) returns-2)

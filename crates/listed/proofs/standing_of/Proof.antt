@@ -11,27 +11,6 @@ use borrow.Author.Needs.{needs}
 use Rattle.listed.proofs.standing_of.Statement.{statement}
 use Rattle.listed.proofs.standing_of.Tie as tie
 
-i64-of-bits-requires : tie.Need-i64-of-bits-requires
-i64-of-bits-requires c κs = search needs
-
-osm-id-rank-requires : tie.Need-osm-id-rank-requires
-osm-id-rank-requires c κs = search needs
-
-find-row-requires : tie.Need-find-row-requires
-find-row-requires c κs = search needs
-
-enum-known-i : tie.Need-enum-known-i
-enum-known-i c = search needs
-
-row-at-requires : tie.Need-row-at-requires
-row-at-requires c κs = search needs
-
-row-standing-requires : tie.Need-row-standing-requires
-row-standing-requires c κs = search needs
-
-enum-told : tie.Need-enum-told
-enum-told c = search needs
-
 returns : tie.Need-returns
 returns c =
     let b = c .before .before .before .before .before in
@@ -54,12 +33,12 @@ pub standing-of-spec : {M : Type 1} → statement M
 standing-of-spec =
     tie.close
     (tie.spec
-    i64-of-bits-requires
-    osm-id-rank-requires
-    find-row-requires
-    enum-known-i
-    row-at-requires
-    row-standing-requires
-    enum-told
+    (λ c κs. search needs)
+    (λ c κs. search needs)
+    (λ c κs. search needs)
+    (λ c. search needs)
+    (λ c κs. search needs)
+    (λ c κs. search needs)
+    (λ c. search needs)
     returns
     returns-2)

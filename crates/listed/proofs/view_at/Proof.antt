@@ -10,17 +10,8 @@ use borrow.Author.Needs.{needs}
 use Rattle.listed.proofs.view_at.Statement.{statement}
 use Rattle.listed.proofs.view_at.Tie as tie
 
-lesser-requires : tie.Need-lesser-requires
-lesser-requires c κs = search needs
-
 slice-aggregate-record-end : tie.Need-slice-aggregate-record-end
 slice-aggregate-record-end c = sym (length-take-le (c .before .lesser .result) (now (c .before .before .before .args .arena)) (omega arith))
-
-record-end-requires : tie.Need-record-end-requires
-record-end-requires c κs = search needs
-
-enum-known-e : tie.Need-enum-known-e
-enum-known-e c = search needs
 
 sub-t15 : tie.Need-sub-t15
 sub-t15 c =
@@ -28,9 +19,6 @@ sub-t15 c =
     let f = c .before .e .given in
     let n = c .before .before .before .before .before .lesser .result in
     omega (arith, end-later (a .strings) (a .kind) (take n (now (a .arena))) (a .at) (f .0 .0) (sym (f .1) ∙ c .before .before .before .record-end .ensures))
-
-enum-told : tie.Need-enum-told
-enum-told c = search needs
 
 returns : tie.Need-returns
 returns c =
@@ -49,11 +37,11 @@ pub view-at-spec : {M : Type 1} → statement M
 view-at-spec =
     tie.close
     (tie.spec
-    lesser-requires
+    (λ c κs. search needs)
     slice-aggregate-record-end
-    record-end-requires
-    enum-known-e
+    (λ c κs. search needs)
+    (λ c. search needs)
     sub-t15
-    enum-told
+    (λ c. search needs)
     returns
     returns-2)

@@ -6,21 +6,6 @@ use borrow.Author.Needs.{needs}
 use Rattle.little.proofs.copy_at.Statement.{statement}
 use Rattle.little.proofs.copy_at.Tie as tie
 
-sub-copy-in : tie.Need-sub-copy-in
-sub-copy-in c = search needs
-
-part-copy-in-start : tie.Need-part-copy-in-start
-part-copy-in-start c = search needs
-
-part-copy-in-end : tie.Need-part-copy-in-end
-part-copy-in-end c = search needs
-
-copy-in-requires : tie.Need-copy-in-requires
-copy-in-requires c κs = search needs
-
-same-length : tie.Need-same-length
-same-length c = search needs
-
 returns : tie.Need-returns
 returns c =
     let a = c .before .before .before .before .before .before .before .args in
@@ -33,10 +18,10 @@ pub copy-at-spec : {M : Type 1} → statement M
 copy-at-spec =
     tie.close
     (tie.spec
-    sub-copy-in
-    part-copy-in-start
-    part-copy-in-end
-    copy-in-requires
-    same-length
+    (λ c. search needs)
+    (λ c. search needs)
+    (λ c. search needs)
+    (λ c κs. search needs)
+    (λ c. search needs)
     returns
     returns-2)

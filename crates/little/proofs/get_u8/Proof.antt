@@ -6,17 +6,11 @@ use borrow.Author.Needs.{needs}
 use Rattle.little.proofs.get_u8.Statement.{statement}
 use Rattle.little.proofs.get_u8.Tie as tie
 
-get-le-requires : tie.Need-get-le-requires
-get-le-requires c κs = search needs
-
 cast-result : tie.Need-cast-result
 cast-result c =
     let a = c .before .before .args in
     omega
     (arith, c .get-le .ensures, valueAt-within 1 (now (a .s)) (a .at) (bytes-of (now (a .s)) (λ i h. omega (arith, c .before .shared-slice-known .given i))))
 
-returns : tie.Need-returns
-returns c = search needs
-
 pub get-u8-spec : {M : Type 1} → statement M
-get-u8-spec = tie.close (tie.spec get-le-requires cast-result returns)
+get-u8-spec = tie.close (tie.spec (λ c κs. search needs) cast-result (λ c. search needs))

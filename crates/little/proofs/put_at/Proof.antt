@@ -7,21 +7,6 @@ use borrow.Author.Needs.{needs}
 use Rattle.little.proofs.put_at.Statement.{statement}
 use Rattle.little.proofs.put_at.Tie as tie
 
-sub-put-le : tie.Need-sub-put-le
-sub-put-le c = search needs
-
-part-put-le-start : tie.Need-part-put-le-start
-part-put-le-start c = search needs
-
-part-put-le-end : tie.Need-part-put-le-end
-part-put-le-end c = search needs
-
-put-le-requires : tie.Need-put-le-requires
-put-le-requires c κs = search needs
-
-same-length : tie.Need-same-length
-same-length c = search needs
-
 returns : tie.Need-returns
 returns c =
     let a = c .before .before .before .before .before .before .args in
@@ -34,10 +19,10 @@ pub put-at-spec : {M : Type 1} → statement M
 put-at-spec =
     tie.close
     (tie.spec
-    sub-put-le
-    part-put-le-start
-    part-put-le-end
-    put-le-requires
-    same-length
+    (λ c. search needs)
+    (λ c. search needs)
+    (λ c. search needs)
+    (λ c κs. search needs)
+    (λ c. search needs)
     returns
     returns-2)

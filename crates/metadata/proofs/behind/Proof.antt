@@ -4,9 +4,6 @@ use borrow.Author.Needs.{needs}
 use Rattle.metadata.proofs.behind.Statement.{statement}
 use Rattle.metadata.proofs.behind.Tie as tie
 
-add-result : tie.Need-add-result
-add-result c = search needs
-
 returns : tie.Need-returns
 returns c = rw (lt-ltb (c .before .args .eq) (c .before .args .to) (c .if1 .taken))
 
@@ -14,4 +11,4 @@ returns-2 : tie.Need-returns-2
 returns-2 c = rw (le-ltb (c .before .args .eq) (c .before .args .to) (c .if1 .left))
 
 pub behind-spec : {M : Type 1} → statement M
-behind-spec = tie.close (tie.spec add-result returns returns-2)
+behind-spec = tie.close (tie.spec (λ c. search needs) returns returns-2)

@@ -4,45 +4,6 @@ use borrow.Author.Needs.{needs}
 use Rattle.metadata.proofs.with_attribute.Statement.{statement}
 use Rattle.metadata.proofs.with_attribute.Tie as tie
 
-enum-told : tie.Need-enum-told
-enum-told c = search needs
-
-with-version-requires : tie.Need-with-version-requires
-with-version-requires c κs = search needs
-
-enum-told-2 : tie.Need-enum-told-2
-enum-told-2 c = search needs
-
-with-timestamp-requires : tie.Need-with-timestamp-requires
-with-timestamp-requires c κs = search needs
-
-enum-told-3 : tie.Need-enum-told-3
-enum-told-3 c = search needs
-
-with-changeset-requires : tie.Need-with-changeset-requires
-with-changeset-requires c κs = search needs
-
-enum-told-4 : tie.Need-enum-told-4
-enum-told-4 c = search needs
-
-with-uid-requires : tie.Need-with-uid-requires
-with-uid-requires c κs = search needs
-
-enum-told-5 : tie.Need-enum-told-5
-enum-told-5 c = search needs
-
-with-user-requires : tie.Need-with-user-requires
-with-user-requires c κs = search needs
-
-enum-told-6 : tie.Need-enum-told-6
-enum-told-6 c = search needs
-
-with-visible-requires : tie.Need-with-visible-requires
-with-visible-requires c κs = search needs
-
-enum-told-7 : tie.Need-enum-told-7
-enum-told-7 c = search needs
-
 returns : tie.Need-returns
 returns c = rw (c .before .enum-told .given .1) (c .with-version .ensures)
 
@@ -68,19 +29,19 @@ pub with-attribute-spec : {M : Type 1} → statement M
 with-attribute-spec =
     tie.close
     (tie.spec
-    enum-told
-    with-version-requires
-    enum-told-2
-    with-timestamp-requires
-    enum-told-3
-    with-changeset-requires
-    enum-told-4
-    with-uid-requires
-    enum-told-5
-    with-user-requires
-    enum-told-6
-    with-visible-requires
-    enum-told-7
+    (λ c. search needs)
+    (λ c κs. search needs)
+    (λ c. search needs)
+    (λ c κs. search needs)
+    (λ c. search needs)
+    (λ c κs. search needs)
+    (λ c. search needs)
+    (λ c κs. search needs)
+    (λ c. search needs)
+    (λ c κs. search needs)
+    (λ c. search needs)
+    (λ c κs. search needs)
+    (λ c. search needs)
     returns
     returns-2
     returns-3

@@ -9,24 +9,6 @@ use borrow.Author.Needs.{needs}
 use Rattle.metadata.proofs.with_changeset.Statement.{statement}
 use Rattle.metadata.proofs.with_changeset.Tie as tie
 
-sub-read-i64 : tie.Need-sub-read-i64
-sub-read-i64 c = search needs
-
-part-read-i64-start : tie.Need-part-read-i64-start
-part-read-i64-start c = search needs
-
-part-read-i64-end : tie.Need-part-read-i64-end
-part-read-i64-end c = search needs
-
-read-i64-requires : tie.Need-read-i64-requires
-read-i64-requires c κs = search needs
-
-enum-known-b : tie.Need-enum-known-b
-enum-known-b c = search needs
-
-enum-told : tie.Need-enum-told
-enum-told c = search needs
-
 returns : tie.Need-returns
 returns c =
     let e = ap (integerIn w64) (sym (c .enum-told .given .1)) ∙ number-text w64 _ (c .before .before .read-i64 .ensures ∙ ap (readOf w64) (part (c .before .before .before .before .before .pre .1))) in
@@ -44,12 +26,12 @@ pub with-changeset-spec : {M : Type 1} → statement M
 with-changeset-spec =
     tie.close
     (tie.spec
-    sub-read-i64
-    part-read-i64-start
-    part-read-i64-end
-    read-i64-requires
-    enum-known-b
-    enum-told
+    (λ c. search needs)
+    (λ c. search needs)
+    (λ c. search needs)
+    (λ c κs. search needs)
+    (λ c. search needs)
+    (λ c. search needs)
     returns
     mark-requires
     returns-2)

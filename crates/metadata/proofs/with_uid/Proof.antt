@@ -11,24 +11,6 @@ use borrow.Author.Needs.{needs}
 use Rattle.metadata.proofs.with_uid.Statement.{statement}
 use Rattle.metadata.proofs.with_uid.Tie as tie
 
-sub-integer-32 : tie.Need-sub-integer-32
-sub-integer-32 c = search needs
-
-part-integer-32-start : tie.Need-part-integer-32-start
-part-integer-32-start c = search needs
-
-part-integer-32-end : tie.Need-part-integer-32-end
-part-integer-32-end c = search needs
-
-integer-32-requires : tie.Need-integer-32-requires
-integer-32-requires c κs = search needs
-
-enum-known-b : tie.Need-enum-known-b
-enum-known-b c = search needs
-
-enum-told : tie.Need-enum-told
-enum-told c = search needs
-
 returns : tie.Need-returns
 returns c =
     let e = ap narrowIn (sym (c .enum-told .given .1)) ∙ c .before .before .integer-32 .ensures ∙ ap (λ (s : Bytes). integerOf w32 (valueText s)) (part (c .before .before .before .before .before .pre .1)) in
@@ -46,12 +28,12 @@ pub with-uid-spec : {M : Type 1} → statement M
 with-uid-spec =
     tie.close
     (tie.spec
-    sub-integer-32
-    part-integer-32-start
-    part-integer-32-end
-    integer-32-requires
-    enum-known-b
-    enum-told
+    (λ c. search needs)
+    (λ c. search needs)
+    (λ c. search needs)
+    (λ c κs. search needs)
+    (λ c. search needs)
+    (λ c. search needs)
     returns
     mark-requires
     returns-2)

@@ -6,21 +6,6 @@ use borrow.Author.Needs.{needs}
 use Rattle.metadata.proofs.with_visible.Statement.{statement}
 use Rattle.metadata.proofs.with_visible.Tie as tie
 
-sub-equal : tie.Need-sub-equal
-sub-equal c = search needs
-
-part-equal-start : tie.Need-part-equal-start
-part-equal-start c = search needs
-
-part-equal-end : tie.Need-part-equal-end
-part-equal-end c = search needs
-
-slice-aggregate-equal : tie.Need-slice-aggregate-equal
-slice-aggregate-equal c = search needs
-
-equal-requires : tie.Need-equal-requires
-equal-requires c κs = search needs
-
 mark-requires : tie.Need-mark-requires
 mark-requires c κs = (c .before .before .before .before .before .pre .0 .small, (present, refl))
 
@@ -44,11 +29,11 @@ pub with-visible-spec : {M : Type 1} → statement M
 with-visible-spec =
     tie.close
     (tie.spec
-    sub-equal
-    part-equal-start
-    part-equal-end
-    slice-aggregate-equal
-    equal-requires
+    (λ c. search needs)
+    (λ c. search needs)
+    (λ c. search needs)
+    (λ c. search needs)
+    (λ c κs. search needs)
     mark-requires
     mark-requires-2
     returns

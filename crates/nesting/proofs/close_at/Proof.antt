@@ -5,15 +5,9 @@ use borrow.Author.Needs.{needs}
 use Rattle.nesting.proofs.close_at.Statement.{statement}
 use Rattle.nesting.proofs.close_at.Tie as tie
 
-closed-to-requires : tie.Need-closed-to-requires
-closed-to-requires c κs = search needs
-
-at-requires : tie.Need-at-requires
-at-requires c κs = search needs
-
 returns : tie.Need-returns
 unfolding closed
 returns c = c .at .ensures ∙ rw (c .before .closed-to .ensures)
 
 pub close-at-spec : {M : Type 1} → statement M
-close-at-spec = tie.close (tie.spec closed-to-requires at-requires returns)
+close-at-spec = tie.close (tie.spec (λ c κs. search needs) (λ c κs. search needs) returns)

@@ -8,15 +8,6 @@ use borrow.Author.Needs.{needs}
 use Rattle.nesting.proofs.closed_to.Statement.{statement}
 use Rattle.nesting.proofs.closed_to.Tie as tie
 
-enum-told : tie.Need-enum-told
-enum-told c = search needs
-
-enum-told-2 : tie.Need-enum-told-2
-enum-told-2 c = search needs
-
-enum-told-3 : tie.Need-enum-told-3
-enum-told-3 c = search needs
-
 returns : tie.Need-returns
 unfolding closedTo
 returns c = rw (c .enum-told .given .1)
@@ -40,4 +31,4 @@ returns-5 c = level-arm (λ l. l ≡ closedTo l) (Doc ∷ Done ∷ []) (search) 
 pub closed-to-spec : {M : Type 1} → statement M
 closed-to-spec =
     tie.close
-    (tie.spec enum-told enum-told-2 enum-told-3 returns returns-2 returns-3 returns-4 returns-5)
+    (tie.spec (λ c. search needs) (λ c. search needs) (λ c. search needs) returns returns-2 returns-3 returns-4 returns-5)

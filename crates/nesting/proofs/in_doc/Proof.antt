@@ -9,15 +9,6 @@ use borrow.Author.Needs.{needs}
 use Rattle.nesting.proofs.in_doc.Statement.{statement}
 use Rattle.nesting.proofs.in_doc.Tie as tie
 
-enum-told : tie.Need-enum-told
-enum-told c = search needs
-
-at-requires : tie.Need-at-requires
-at-requires c κs = search needs
-
-at-requires-2 : tie.Need-at-requires-2
-at-requires-2 c κs = search needs
-
 returns : tie.Need-returns
 unfolding inDoc
 returns c = rw (c .before .before .enum-told .given .1, c .before .if1 .taken, c .at .ensures)
@@ -31,4 +22,4 @@ unfolding inDoc
 returns-3 c = name-arm (λ n. Misplaced ≡ inDoc (c .before .args .empty) n (c .before .args .p)) (Create ∷ Modify ∷ Delete ∷ Node ∷ Way ∷ Relation ∷ Tag ∷ Nd ∷ Member ∷ Bounds ∷ Unknown ∷ []) (search) (c .before .args .n) (c .match .keys2)
 
 pub in-doc-spec : {M : Type 1} → statement M
-in-doc-spec = tie.close (tie.spec enum-told at-requires at-requires-2 returns returns-2 returns-3)
+in-doc-spec = tie.close (tie.spec (λ c. search needs) (λ c κs. search needs) (λ c κs. search needs) returns returns-2 returns-3)

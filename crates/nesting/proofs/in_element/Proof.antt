@@ -9,30 +9,6 @@ use borrow.Author.Needs.{needs}
 use Rattle.nesting.proofs.in_element.Statement.{statement}
 use Rattle.nesting.proofs.in_element.Tie as tie
 
-unless-requires : tie.Need-unless-requires
-unless-requires c κs = search needs
-
-enum-told : tie.Need-enum-told
-enum-told c = search needs
-
-enum-told-2 : tie.Need-enum-told-2
-enum-told-2 c = search needs
-
-in-way-requires : tie.Need-in-way-requires
-in-way-requires c κs = search needs
-
-enum-told-3 : tie.Need-enum-told-3
-enum-told-3 c = search needs
-
-in-relation-requires : tie.Need-in-relation-requires
-in-relation-requires c κs = search needs
-
-enum-told-4 : tie.Need-enum-told-4
-enum-told-4 c = search needs
-
-not-in-node-requires : tie.Need-not-in-node-requires
-not-in-node-requires c κs = search needs
-
 returns : tie.Need-returns
 unfolding inElement
 returns c = rw (c .enum-told .given .1, c .before .before .unless .ensures)
@@ -57,14 +33,14 @@ pub in-element-spec : {M : Type 1} → statement M
 in-element-spec =
     tie.close
     (tie.spec
-    unless-requires
-    enum-told
-    enum-told-2
-    in-way-requires
-    enum-told-3
-    in-relation-requires
-    enum-told-4
-    not-in-node-requires
+    (λ c κs. search needs)
+    (λ c. search needs)
+    (λ c. search needs)
+    (λ c κs. search needs)
+    (λ c. search needs)
+    (λ c κs. search needs)
+    (λ c. search needs)
+    (λ c κs. search needs)
     returns
     returns-2
     returns-3

@@ -10,30 +10,6 @@ use borrow.Author.Needs.{needs}
 use Rattle.nesting.proofs.in_root.Statement.{statement}
 use Rattle.nesting.proofs.in_root.Tie as tie
 
-enum-told : tie.Need-enum-told
-enum-told c = search needs
-
-section-of-requires : tie.Need-section-of-requires
-section-of-requires c κs = search needs
-
-enum-told-2 : tie.Need-enum-told-2
-enum-told-2 c = search needs
-
-section-of-requires-2 : tie.Need-section-of-requires-2
-section-of-requires-2 c κs = search needs
-
-enum-told-3 : tie.Need-enum-told-3
-enum-told-3 c = search needs
-
-section-of-requires-3 : tie.Need-section-of-requires-3
-section-of-requires-3 c κs = search needs
-
-enum-told-4 : tie.Need-enum-told-4
-enum-told-4 c = search needs
-
-unless-requires : tie.Need-unless-requires
-unless-requires c κs = search needs
-
 returns : tie.Need-returns
 unfolding inRoot
 returns c = c .section-of .ensures ∙ rw (c .before .enum-told .given .1)
@@ -62,14 +38,14 @@ pub in-root-spec : {M : Type 1} → statement M
 in-root-spec =
     tie.close
     (tie.spec
-    enum-told
-    section-of-requires
-    enum-told-2
-    section-of-requires-2
-    enum-told-3
-    section-of-requires-3
-    enum-told-4
-    unless-requires
+    (λ c. search needs)
+    (λ c κs. search needs)
+    (λ c. search needs)
+    (λ c κs. search needs)
+    (λ c. search needs)
+    (λ c κs. search needs)
+    (λ c. search needs)
+    (λ c κs. search needs)
     returns
     returns-2
     returns-3

@@ -9,24 +9,6 @@ use borrow.Author.Needs.{needs}
 use Rattle.nesting.proofs.in_section.Statement.{statement}
 use Rattle.nesting.proofs.in_section.Tie as tie
 
-enum-told : tie.Need-enum-told
-enum-told c = search needs
-
-begins-as-requires : tie.Need-begins-as-requires
-begins-as-requires c κs = search needs
-
-enum-told-2 : tie.Need-enum-told-2
-enum-told-2 c = search needs
-
-begins-as-requires-2 : tie.Need-begins-as-requires-2
-begins-as-requires-2 c κs = search needs
-
-enum-told-3 : tie.Need-enum-told-3
-enum-told-3 c = search needs
-
-begins-as-requires-3 : tie.Need-begins-as-requires-3
-begins-as-requires-3 c κs = search needs
-
 returns : tie.Need-returns
 unfolding inSection
 returns c = c .begins-as .ensures ∙ rw (c .before .enum-told .given .1)
@@ -47,12 +29,12 @@ pub in-section-spec : {M : Type 1} → statement M
 in-section-spec =
     tie.close
     (tie.spec
-    enum-told
-    begins-as-requires
-    enum-told-2
-    begins-as-requires-2
-    enum-told-3
-    begins-as-requires-3
+    (λ c. search needs)
+    (λ c κs. search needs)
+    (λ c. search needs)
+    (λ c κs. search needs)
+    (λ c. search needs)
+    (λ c κs. search needs)
     returns
     returns-2
     returns-3

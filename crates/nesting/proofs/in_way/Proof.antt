@@ -9,14 +9,8 @@ use borrow.Author.Needs.{needs}
 use Rattle.nesting.proofs.in_way.Statement.{statement}
 use Rattle.nesting.proofs.in_way.Tie as tie
 
-enum-told : tie.Need-enum-told
-enum-told c = search needs
-
-returns : tie.Need-returns
-returns c = search needs
-
 returns-2 : tie.Need-returns-2
 returns-2 c = kind-arm (λ k. Misplaced ≡ inWay k (c .before .args .o)) (Node ∷ Relation ∷ []) (search) (c .before .args .k) (c .match .keys2)
 
 pub in-way-spec : {M : Type 1} → statement M
-in-way-spec = tie.close (tie.spec enum-told returns returns-2)
+in-way-spec = tie.close (tie.spec (λ c. search needs) (λ c. search needs) returns-2)

@@ -8,14 +8,8 @@ use borrow.Author.Needs.{needs}
 use Rattle.nesting.proofs.not_in_node.Statement.{statement}
 use Rattle.nesting.proofs.not_in_node.Tie as tie
 
-enum-told : tie.Need-enum-told
-enum-told c = search needs
-
-returns : tie.Need-returns
-returns c = search needs
-
 returns-2 : tie.Need-returns-2
 returns-2 c = kind-arm (λ k. c .before .args .o ≡ notInNode k (c .before .args .o)) (Way ∷ Relation ∷ []) (search) (c .before .args .k) (c .match .keys2)
 
 pub not-in-node-spec : {M : Type 1} → statement M
-not-in-node-spec = tie.close (tie.spec enum-told returns returns-2)
+not-in-node-spec = tie.close (tie.spec (λ c. search needs) (λ c. search needs) returns-2)

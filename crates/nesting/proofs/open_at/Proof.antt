@@ -9,30 +9,6 @@ use borrow.Author.Needs.{needs}
 use Rattle.nesting.proofs.open_at.Statement.{statement}
 use Rattle.nesting.proofs.open_at.Tie as tie
 
-enum-told : tie.Need-enum-told
-enum-told c = search needs
-
-in-doc-requires : tie.Need-in-doc-requires
-in-doc-requires c κs = search needs
-
-enum-told-2 : tie.Need-enum-told-2
-enum-told-2 c = search needs
-
-in-root-requires : tie.Need-in-root-requires
-in-root-requires c κs = search needs
-
-enum-told-3 : tie.Need-enum-told-3
-enum-told-3 c = search needs
-
-in-section-requires : tie.Need-in-section-requires
-in-section-requires c κs = search needs
-
-enum-told-4 : tie.Need-enum-told-4
-enum-told-4 c = search needs
-
-in-element-requires : tie.Need-in-element-requires
-in-element-requires c κs = search needs
-
 returns : tie.Need-returns
 unfolding opened openedAt
 returns c = c .in-doc .ensures ∙ rw (c .before .enum-told .given .1)
@@ -57,14 +33,14 @@ pub open-at-spec : {M : Type 1} → statement M
 open-at-spec =
     tie.close
     (tie.spec
-    enum-told
-    in-doc-requires
-    enum-told-2
-    in-root-requires
-    enum-told-3
-    in-section-requires
-    enum-told-4
-    in-element-requires
+    (λ c. search needs)
+    (λ c κs. search needs)
+    (λ c. search needs)
+    (λ c κs. search needs)
+    (λ c. search needs)
+    (λ c κs. search needs)
+    (λ c. search needs)
+    (λ c κs. search needs)
     returns
     returns-2
     returns-3

@@ -4,14 +4,8 @@ use borrow.Author.Needs.{needs}
 use Rattle.nesting.proofs.unless.Statement.{statement}
 use Rattle.nesting.proofs.unless.Tie as tie
 
-at-requires : tie.Need-at-requires
-at-requires c κs = search needs
-
-returns : tie.Need-returns
-returns c = search needs
-
 returns-2 : tie.Need-returns-2
 returns-2 c = c .at .ensures ∙ rw (c .before .if1 .left)
 
 pub unless-spec : {M : Type 1} → statement M
-unless-spec = tie.close (tie.spec at-requires returns returns-2)
+unless-spec = tie.close (tie.spec (λ c κs. search needs) (λ c. search needs) returns-2)

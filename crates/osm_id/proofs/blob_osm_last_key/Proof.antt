@@ -5,9 +5,6 @@ use Rattle.osm_id.specs.Order.{lastKey}
 use Rattle.osm_id.proofs.blob_osm_last_key.Statement.{statement}
 use Rattle.osm_id.proofs.blob_osm_last_key.Tie as tie
 
-osm-id-key-requires : tie.Need-osm-id-key-requires
-osm-id-key-requires c κs = search needs
-
 returns : tie.Need-returns
 unfolding lastKey
 returns c =
@@ -15,18 +12,12 @@ returns c =
     let hi = toZ-ofZ (c .before .before .fits .max-id) in
     rw (rw lo at (c .before .if1 .taken)) (rw hi at (c .osm-id-key .ensures))
 
-osm-id-key-requires-2 : tie.Need-osm-id-key-requires-2
-osm-id-key-requires-2 c κs = search needs
-
 returns-2 : tie.Need-returns-2
 unfolding lastKey
 returns-2 c =
     let lo = toZ-ofZ (c .before .before .before .fits .min-id) in
     let hi = toZ-ofZ (c .before .before .before .fits .max-id) in
     rw (rw lo at (c .before .before .if1 .left), rw hi at (c .before .if2 .taken)) (rw lo at (c .osm-id-key2 .ensures))
-
-osm-id-key-requires-3 : tie.Need-osm-id-key-requires-3
-osm-id-key-requires-3 c κs = search needs
 
 returns-3 : tie.Need-returns-3
 unfolding lastKey
@@ -39,9 +30,9 @@ pub blob-osm-last-key-spec : {M : Type 1} → statement M
 blob-osm-last-key-spec =
     tie.close
     (tie.spec
-    osm-id-key-requires
+    (λ c κs. search needs)
     returns
-    osm-id-key-requires-2
+    (λ c κs. search needs)
     returns-2
-    osm-id-key-requires-3
+    (λ c κs. search needs)
     returns-3)

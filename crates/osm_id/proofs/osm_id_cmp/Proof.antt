@@ -4,12 +4,6 @@ use Rattle.osm_id.proofs.Steps.{less, equal, greater}
 use Rattle.osm_id.proofs.osm_id_cmp.Statement.{statement}
 use Rattle.osm_id.proofs.osm_id_cmp.Tie as tie
 
-osm-id-rank-requires : tie.Need-osm-id-rank-requires
-osm-id-rank-requires c κs = search needs
-
-osm-id-rank-requires-2 : tie.Need-osm-id-rank-requires-2
-osm-id-rank-requires-2 c κs = search needs
-
 returns : tie.Need-returns
 returns c =
     let k = c .before .before .before in
@@ -27,4 +21,4 @@ returns-3 c =
 
 pub osm-id-cmp-spec : {M : Type 1} → statement M
 osm-id-cmp-spec =
-    tie.close (tie.spec osm-id-rank-requires osm-id-rank-requires-2 returns returns-2 returns-3)
+    tie.close (tie.spec (λ c κs. search needs) (λ c κs. search needs) returns returns-2 returns-3)

@@ -8,9 +8,6 @@ use Rattle.osm_id.proofs.Steps.{is-zero, is-positive, is-negative}
 use Rattle.osm_id.proofs.osm_id_key.Statement.{statement}
 use Rattle.osm_id.proofs.osm_id_key.Tie as tie
 
-bits-of-i64-requires : tie.Need-bits-of-i64-requires
-bits-of-i64-requires c κs = search needs
-
 returns : tie.Need-returns
 unfolding osmKeyOf
 returns c = rw (is-zero (c .before .before .fits .id) (c .before .bits-of-i64 .ensures) (c .if1 .taken))
@@ -22,12 +19,6 @@ returns-2 c =
     let e : suc (b .result - 1) ≡ b .result = omega arith in
     rw (is-positive (c .before .before .before .fits .id) (b .ensures) (c .before .if1 .left) (omega arith), e)
 
-sub-t4 : tie.Need-sub-t4
-sub-t4 c = search needs
-
-add-t5 : tie.Need-add-t5
-add-t5 c = search needs
-
 returns-3 : tie.Need-returns-3
 unfolding osmKeyOf
 returns-3 c =
@@ -37,4 +28,4 @@ returns-3 c =
 
 pub osm-id-key-spec : {M : Type 1} → statement M
 osm-id-key-spec =
-    tie.close (tie.spec bits-of-i64-requires returns returns-2 sub-t4 add-t5 returns-3)
+    tie.close (tie.spec (λ c κs. search needs) returns returns-2 (λ c. search needs) (λ c. search needs) returns-3)

@@ -6,27 +6,15 @@ use Rattle.osm_id.proofs.Steps.{is-zero, is-positive, is-negative}
 use Rattle.osm_id.proofs.osm_id_rank.Statement.{statement}
 use Rattle.osm_id.proofs.osm_id_rank.Tie as tie
 
-bits-of-i64-requires : tie.Need-bits-of-i64-requires
-bits-of-i64-requires c κs = search needs
-
 returns : tie.Need-returns
 unfolding rank
 returns c = rw (is-zero (c .before .before .fits .id) (c .before .bits-of-i64 .ensures) (c .if1 .taken))
-
-add-result : tie.Need-add-result
-add-result c = search needs
 
 returns-2 : tie.Need-returns-2
 unfolding rank
 returns-2 c =
     let b = c .before .before .bits-of-i64 in
     rw (is-positive (c .before .before .before .fits .id) (b .ensures) (c .before .if1 .left) (omega arith)) (omega arith)
-
-sub-result : tie.Need-sub-result
-sub-result c = search needs
-
-add-result-2 : tie.Need-add-result-2
-add-result-2 c = search needs
 
 returns-3 : tie.Need-returns-3
 unfolding rank
@@ -37,4 +25,4 @@ returns-3 c =
 pub osm-id-rank-spec : {M : Type 1} → statement M
 osm-id-rank-spec =
     tie.close
-    (tie.spec bits-of-i64-requires returns add-result returns-2 sub-result add-result-2 returns-3)
+    (tie.spec (λ c κs. search needs) returns (λ c. search needs) returns-2 (λ c. search needs) (λ c. search needs) returns-3)

@@ -5,21 +5,6 @@ use borrow.Author.Needs.{needs}
 use Rattle.overlay.proofs.is_sound.Statement.{statement}
 use Rattle.overlay.proofs.is_sound.Tie as tie
 
-sizes-fit-requires : tie.Need-sizes-fit-requires
-sizes-fit-requires c κs = search needs
-
-element-copy-out-sound-strings : tie.Need-element-copy-out-sound-strings
-element-copy-out-sound-strings c = search needs
-
-element-copy-out-sound-strings-2 : tie.Need-element-copy-out-sound-strings-2
-element-copy-out-sound-strings-2 c = search needs
-
-sound-strings-requires : tie.Need-sound-strings-requires
-sound-strings-requires c κs = search needs
-
-kind-stores-sound-requires : tie.Need-kind-stores-sound-requires
-kind-stores-sound-requires c κs = search needs
-
 returns : tie.Need-returns
 unfolding isSound both
 returns c =
@@ -40,11 +25,11 @@ pub is-sound-spec : {M : Type 1} → statement M
 is-sound-spec =
     tie.close
     (tie.spec
-    sizes-fit-requires
-    element-copy-out-sound-strings
-    element-copy-out-sound-strings-2
-    sound-strings-requires
-    kind-stores-sound-requires
+    (λ c κs. search needs)
+    (λ c. search needs)
+    (λ c. search needs)
+    (λ c κs. search needs)
+    (λ c κs. search needs)
     returns
     returns-2
     returns-3)

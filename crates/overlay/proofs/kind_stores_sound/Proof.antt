@@ -5,36 +5,6 @@ use borrow.Author.Needs.{needs}
 use Rattle.overlay.proofs.kind_stores_sound.Statement.{statement}
 use Rattle.overlay.proofs.kind_stores_sound.Tie as tie
 
-element-copy-out-strings : tie.Need-element-copy-out-strings
-element-copy-out-strings c = search needs
-
-element-copy-out-sound-kind-store : tie.Need-element-copy-out-sound-kind-store
-element-copy-out-sound-kind-store c = search needs
-
-element-copy-out-sound-kind-store-2 : tie.Need-element-copy-out-sound-kind-store-2
-element-copy-out-sound-kind-store-2 c = search needs
-
-sound-kind-store-requires : tie.Need-sound-kind-store-requires
-sound-kind-store-requires c κs = search needs
-
-element-copy-out-sound-kind-store-3 : tie.Need-element-copy-out-sound-kind-store-3
-element-copy-out-sound-kind-store-3 c = search needs
-
-element-copy-out-sound-kind-store-4 : tie.Need-element-copy-out-sound-kind-store-4
-element-copy-out-sound-kind-store-4 c = search needs
-
-sound-kind-store-requires-2 : tie.Need-sound-kind-store-requires-2
-sound-kind-store-requires-2 c κs = search needs
-
-element-copy-out-sound-kind-store-5 : tie.Need-element-copy-out-sound-kind-store-5
-element-copy-out-sound-kind-store-5 c = search needs
-
-element-copy-out-sound-kind-store-6 : tie.Need-element-copy-out-sound-kind-store-6
-element-copy-out-sound-kind-store-6 c = search needs
-
-sound-kind-store-requires-3 : tie.Need-sound-kind-store-requires-3
-sound-kind-store-requires-3 c κs = search needs
-
 returns : tie.Need-returns
 unfolding kindStoresSound both
 returns c =
@@ -55,16 +25,16 @@ pub kind-stores-sound-spec : {M : Type 1} → statement M
 kind-stores-sound-spec =
     tie.close
     (tie.spec
-    element-copy-out-strings
-    element-copy-out-sound-kind-store
-    element-copy-out-sound-kind-store-2
-    sound-kind-store-requires
-    element-copy-out-sound-kind-store-3
-    element-copy-out-sound-kind-store-4
-    sound-kind-store-requires-2
-    element-copy-out-sound-kind-store-5
-    element-copy-out-sound-kind-store-6
-    sound-kind-store-requires-3
+    (λ c. search needs)
+    (λ c. search needs)
+    (λ c. search needs)
+    (λ c κs. search needs)
+    (λ c. search needs)
+    (λ c. search needs)
+    (λ c κs. search needs)
+    (λ c. search needs)
+    (λ c. search needs)
+    (λ c κs. search needs)
     returns
     returns-2
     returns-3)

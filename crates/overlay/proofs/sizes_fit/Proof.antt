@@ -7,18 +7,6 @@ use borrow.Author.Needs.{needs}
 use Rattle.overlay.proofs.sizes_fit.Statement.{statement}
 use Rattle.overlay.proofs.sizes_fit.Tie as tie
 
-kind-store-fits-requires : tie.Need-kind-store-fits-requires
-kind-store-fits-requires c κs = search needs
-
-kind-store-fits-requires-2 : tie.Need-kind-store-fits-requires-2
-kind-store-fits-requires-2 c κs = search needs
-
-kind-store-fits-requires-3 : tie.Need-kind-store-fits-requires-3
-kind-store-fits-requires-3 c κs = search needs
-
-texts-fit-requires : tie.Need-texts-fit-requires
-texts-fit-requires c κs = search needs
-
 returns : tie.Need-returns
 unfolding sizesFit
 returns c =
@@ -30,8 +18,8 @@ pub sizes-fit-spec : {M : Type 1} → statement M
 sizes-fit-spec =
     tie.close
     (tie.spec
-    kind-store-fits-requires
-    kind-store-fits-requires-2
-    kind-store-fits-requires-3
-    texts-fit-requires
+    (λ c κs. search needs)
+    (λ c κs. search needs)
+    (λ c κs. search needs)
+    (λ c κs. search needs)
     returns)

@@ -5,12 +5,6 @@ use borrow.Author.Needs.{needs}
 use Rattle.print.proofs.behind_bytes.Statement.{statement}
 use Rattle.print.proofs.behind_bytes.Tie as tie
 
-enum-known-room : tie.Need-enum-known-room
-enum-known-room c = search needs
-
-enum-told : tie.Need-enum-told
-enum-told c = search needs
-
 returns : tie.Need-returns
 returns c = rw (c .enum-told .given .1) (sym (behind-full _))
 
@@ -21,4 +15,4 @@ returns-3 : tie.Need-returns-3
 returns-3 c = rw (c .before .before .room .given .1) (sym (behind-past _ _ (c .if1 .left)))
 
 pub behind-bytes-spec : {M : Type 1} → statement M
-behind-bytes-spec = tie.close (tie.spec enum-known-room enum-told returns returns-2 returns-3)
+behind-bytes-spec = tie.close (tie.spec (λ c. search needs) (λ c. search needs) returns returns-2 returns-3)

@@ -12,31 +12,10 @@ use borrow.Author.Needs.{needs}
 use Rattle.print.proofs.behind_integer.Statement.{statement}
 use Rattle.print.proofs.behind_integer.Tie as tie
 
-number-length-requires : tie.Need-number-length-requires
-number-length-requires c κs = search needs
-
-behind-bytes-requires : tie.Need-behind-bytes-requires
-behind-bytes-requires c κs = search needs
-
 returns : tie.Need-returns
 returns c =
     let a = c .before .before .before .args in
     rw (not-negative w64 (a .bits) (search needs), ← c .before .number-length .ensures) (c .behind-bytes .ensures)
-
-behind-bytes-requires-2 : tie.Need-behind-bytes-requires-2
-behind-bytes-requires-2 c κs = search needs
-
-sub-number-length : tie.Need-sub-number-length
-sub-number-length c = search needs
-
-add-number-length : tie.Need-add-number-length
-add-number-length c = search needs
-
-number-length-requires-2 : tie.Need-number-length-requires-2
-number-length-requires-2 c κs = search needs
-
-behind-bytes-requires-3 : tie.Need-behind-bytes-requires-3
-behind-bytes-requires-3 c κs = search needs
 
 returns-2 : tie.Need-returns-2
 returns-2 c =
@@ -49,12 +28,12 @@ pub behind-integer-spec : {M : Type 1} → statement M
 behind-integer-spec =
     tie.close
     (tie.spec
-    number-length-requires
-    behind-bytes-requires
+    (λ c κs. search needs)
+    (λ c κs. search needs)
     returns
-    behind-bytes-requires-2
-    sub-number-length
-    add-number-length
-    number-length-requires-2
-    behind-bytes-requires-3
+    (λ c κs. search needs)
+    (λ c. search needs)
+    (λ c. search needs)
+    (λ c κs. search needs)
+    (λ c κs. search needs)
     returns-2)

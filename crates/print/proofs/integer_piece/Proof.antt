@@ -11,37 +11,10 @@ use borrow.Author.Needs.{needs}
 use Rattle.print.proofs.integer_piece.Statement.{statement}
 use Rattle.print.proofs.integer_piece.Tie as tie
 
-number-piece-requires : tie.Need-number-piece-requires
-number-piece-requires c κs = search needs
-
-same-length : tie.Need-same-length
-same-length c = search needs
-
 returns : tie.Need-returns
 returns c =
     let a = c .before .before .before .before .before .before .args in
     rw (not-negative w64 (a .bits) (search needs)) (c .before .before .number-piece .ensures)
-
-behind-integer-requires : tie.Need-behind-integer-requires
-behind-integer-requires c κs = search needs
-
-place-requires : tie.Need-place-requires
-place-requires c κs = search needs
-
-sub-put-integer : tie.Need-sub-put-integer
-sub-put-integer c = search needs
-
-part-put-integer-start : tie.Need-part-put-integer-start
-part-put-integer-start c = search needs
-
-part-put-integer-end : tie.Need-part-put-integer-end
-part-put-integer-end c = search needs
-
-put-integer-requires : tie.Need-put-integer-requires
-put-integer-requires c κs = search needs
-
-same-length-2 : tie.Need-same-length-2
-same-length-2 c = search needs
 
 returns-2 : tie.Need-returns-2
 returns-2 c =
@@ -55,14 +28,14 @@ pub integer-piece-spec : {M : Type 1} → statement M
 integer-piece-spec =
     tie.close
     (tie.spec
-    number-piece-requires
-    same-length
+    (λ c κs. search needs)
+    (λ c. search needs)
     returns
-    behind-integer-requires
-    place-requires
-    sub-put-integer
-    part-put-integer-start
-    part-put-integer-end
-    put-integer-requires
-    same-length-2
+    (λ c κs. search needs)
+    (λ c κs. search needs)
+    (λ c. search needs)
+    (λ c. search needs)
+    (λ c. search needs)
+    (λ c κs. search needs)
+    (λ c. search needs)
     returns-2)

@@ -7,9 +7,6 @@ use borrow.Author.Needs.{needs}
 use Rattle.print.proofs.longer.Statement.{statement}
 use Rattle.print.proofs.longer.Tie as tie
 
-letter-requires : tie.Need-letter-requires
-letter-requires c κs = search needs
-
 returns : tie.Need-returns
 returns c = (rw (c .before .letter .ensures, c .if1 .taken), omega arith)
 
@@ -17,4 +14,4 @@ returns-2 : tie.Need-returns-2
 returns-2 c = (ap length (c .before .letter .ensures ∙ letter-some _ _ (c .if1 .left)), omega arith)
 
 pub longer-spec : {M : Type 1} → statement M
-longer-spec = tie.close (tie.spec letter-requires returns returns-2)
+longer-spec = tie.close (tie.spec (λ c κs. search needs) returns returns-2)

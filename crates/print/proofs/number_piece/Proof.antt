@@ -8,30 +8,6 @@ use borrow.Author.Needs.{needs}
 use Rattle.print.proofs.number_piece.Statement.{statement}
 use Rattle.print.proofs.number_piece.Tie as tie
 
-number-length-requires : tie.Need-number-length-requires
-number-length-requires c κs = search needs
-
-behind-bytes-requires : tie.Need-behind-bytes-requires
-behind-bytes-requires c κs = search needs
-
-place-requires : tie.Need-place-requires
-place-requires c κs = search needs
-
-sub-put-measured : tie.Need-sub-put-measured
-sub-put-measured c = search needs
-
-part-put-measured-start : tie.Need-part-put-measured-start
-part-put-measured-start c = search needs
-
-part-put-measured-end : tie.Need-part-put-measured-end
-part-put-measured-end c = search needs
-
-put-measured-requires : tie.Need-put-measured-requires
-put-measured-requires c κs = search needs
-
-same-length : tie.Need-same-length
-same-length c = search needs
-
 returns : tie.Need-returns
 returns c =
     let a = c .before .before .before .before .before .before .before .before .args in
@@ -45,12 +21,12 @@ pub number-piece-spec : {M : Type 1} → statement M
 number-piece-spec =
     tie.close
     (tie.spec
-    number-length-requires
-    behind-bytes-requires
-    place-requires
-    sub-put-measured
-    part-put-measured-start
-    part-put-measured-end
-    put-measured-requires
-    same-length
+    (λ c κs. search needs)
+    (λ c κs. search needs)
+    (λ c κs. search needs)
+    (λ c. search needs)
+    (λ c. search needs)
+    (λ c. search needs)
+    (λ c κs. search needs)
+    (λ c. search needs)
     returns)

@@ -6,32 +6,11 @@ use borrow.Author.Needs.{needs}
 use Rattle.print.proofs.place.Statement.{statement}
 use Rattle.print.proofs.place.Tie as tie
 
-enum-known-room : tie.Need-enum-known-room
-enum-known-room c = search needs
-
-enum-told : tie.Need-enum-told
-enum-told c = search needs
-
 returns : tie.Need-returns
 returns c = (rw (c .enum-told .given .1) (sym (place-none _ _ _)), omega arith)
 
-enum-known-left : tie.Need-enum-known-left
-enum-known-left c = search needs
-
-enum-told-2 : tie.Need-enum-told-2
-enum-told-2 c = search needs
-
 returns-2 : tie.Need-returns-2
 returns-2 c = (rw (c .enum-told2 .given .1) (sym (place-full _ _ _)), omega arith)
-
-less-requires : tie.Need-less-requires
-less-requires c κs = search needs
-
-less-requires-2 : tie.Need-less-requires-2
-less-requires-2 c κs = search needs
-
-within-requires : tie.Need-within-requires
-within-requires c κs = search needs
 
 returns-3 : tie.Need-returns-3
 returns-3 c =
@@ -49,14 +28,14 @@ pub place-spec : {M : Type 1} → statement M
 place-spec =
     tie.close
     (tie.spec
-    enum-known-room
-    enum-told
+    (λ c. search needs)
+    (λ c. search needs)
     returns
-    enum-known-left
-    enum-told-2
+    (λ c. search needs)
+    (λ c. search needs)
     returns-2
-    less-requires
-    less-requires-2
-    within-requires
+    (λ c κs. search needs)
+    (λ c κs. search needs)
+    (λ c κs. search needs)
     returns-3
     returns-4)

@@ -5,15 +5,6 @@ use borrow.Author.Needs.{needs}
 use Rattle.print.proofs.put_byte.Statement.{statement}
 use Rattle.print.proofs.put_byte.Tie as tie
 
-slice-write-out : tie.Need-slice-write-out
-slice-write-out c = search needs
-
-add-result : tie.Need-add-result
-add-result c = search needs
-
-same-length : tie.Need-same-length
-same-length c = search needs
-
 returns : tie.Need-returns
 returns c = let a = c .before .args in wrote-byte (now (a .out)) (a .at) (a .b) (c .if1 .taken)
 
@@ -21,4 +12,4 @@ returns-2 : tie.Need-returns-2
 returns-2 c = let a = c .before .args in wrote-past (now (a .out)) (a .at) _ (c .if1 .left)
 
 pub put-byte-spec : {M : Type 1} → statement M
-put-byte-spec = tie.close (tie.spec slice-write-out add-result same-length returns returns-2)
+put-byte-spec = tie.close (tie.spec (λ c. search needs) (λ c. search needs) (λ c. search needs) returns returns-2)

@@ -5,27 +5,6 @@ use borrow.Author.Needs.{needs}
 use Rattle.print.proofs.put_bytes.Statement.{statement}
 use Rattle.print.proofs.put_bytes.Tie as tie
 
-behind-bytes-requires : tie.Need-behind-bytes-requires
-behind-bytes-requires c κs = search needs
-
-place-requires : tie.Need-place-requires
-place-requires c κs = search needs
-
-sub-copy-in : tie.Need-sub-copy-in
-sub-copy-in c = search needs
-
-part-copy-in-start : tie.Need-part-copy-in-start
-part-copy-in-start c = search needs
-
-part-copy-in-end : tie.Need-part-copy-in-end
-part-copy-in-end c = search needs
-
-copy-in-requires : tie.Need-copy-in-requires
-copy-in-requires c κs = search needs
-
-same-length : tie.Need-same-length
-same-length c = search needs
-
 returns : tie.Need-returns
 returns c =
     let a = c .before .before .before .before .before .before .before .before .args in
@@ -38,11 +17,11 @@ pub put-bytes-spec : {M : Type 1} → statement M
 put-bytes-spec =
     tie.close
     (tie.spec
-    behind-bytes-requires
-    place-requires
-    sub-copy-in
-    part-copy-in-start
-    part-copy-in-end
-    copy-in-requires
-    same-length
+    (λ c κs. search needs)
+    (λ c κs. search needs)
+    (λ c. search needs)
+    (λ c. search needs)
+    (λ c. search needs)
+    (λ c κs. search needs)
+    (λ c. search needs)
     returns)

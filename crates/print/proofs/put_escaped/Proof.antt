@@ -5,26 +5,8 @@ use borrow.Author.Needs.{needs}
 use Rattle.print.proofs.put_escaped.Statement.{statement}
 use Rattle.print.proofs.put_escaped.Tie as tie
 
-letter-requires : tie.Need-letter-requires
-letter-requires c κs = search needs
-
-put-byte-requires : tie.Need-put-byte-requires
-put-byte-requires c κs = search needs
-
-same-length : tie.Need-same-length
-same-length c = search needs
-
 returns : tie.Need-returns
 returns c = rw (c .before .before .before .before .before .letter .ensures, c .before .before .before .before .if1 .taken) (c .before .before .put-byte .ensures)
-
-put-byte-requires-2 : tie.Need-put-byte-requires-2
-put-byte-requires-2 c κs = search needs
-
-put-byte-requires-3 : tie.Need-put-byte-requires-3
-put-byte-requires-3 c κs = search needs
-
-same-length-2 : tie.Need-same-length-2
-same-length-2 c = search needs
 
 returns-2 : tie.Need-returns-2
 returns-2 c =
@@ -35,11 +17,11 @@ pub put-escaped-spec : {M : Type 1} → statement M
 put-escaped-spec =
     tie.close
     (tie.spec
-    letter-requires
-    put-byte-requires
-    same-length
+    (λ c κs. search needs)
+    (λ c κs. search needs)
+    (λ c. search needs)
     returns
-    put-byte-requires-2
-    put-byte-requires-3
-    same-length-2
+    (λ c κs. search needs)
+    (λ c κs. search needs)
+    (λ c. search needs)
     returns-2)

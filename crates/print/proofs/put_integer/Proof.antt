@@ -8,19 +8,10 @@ use borrow.Author.Needs.{needs}
 use Rattle.print.proofs.put_integer.Statement.{statement}
 use Rattle.print.proofs.put_integer.Tie as tie
 
-put-tab-requires : tie.Need-put-tab-requires
-put-tab-requires c κs = search needs
-
-integer-piece-requires : tie.Need-integer-piece-requires
-integer-piece-requires c κs = search needs
-
-same-length : tie.Need-same-length
-same-length c = search needs
-
 returns : tie.Need-returns
 returns c =
     let a = c .before .before .before .before .before .before .before .before .before .args in
     two-printed (a .cap) tab (integerText (toZ w64 (a .bits))) _ _ _ (c .before .before .before .before .before .before .put-tab .ensures) (c .before .before .integer-piece .ensures)
 
 pub put-integer-spec : {M : Type 1} → statement M
-put-integer-spec = tie.close (tie.spec put-tab-requires integer-piece-requires same-length returns)
+put-integer-spec = tie.close (tie.spec (λ c κs. search needs) (λ c κs. search needs) (λ c. search needs) returns)

@@ -7,11 +7,8 @@ use Rattle.print.proofs.widened.Tie as tie
 returns : tie.Need-returns
 returns c = wide-small (c .before .args .bits) (search needs)
 
-add-result : tie.Need-add-result
-add-result c = search needs
-
 returns-2 : tie.Need-returns-2
 returns-2 c = wide-large (c .before .args .bits) (search needs) (search needs)
 
 pub widened-spec : {M : Type 1} → statement M
-widened-spec = tie.close (tie.spec returns add-result returns-2)
+widened-spec = tie.close (tie.spec returns (λ c. search needs) returns-2)

@@ -21,18 +21,6 @@ given s p =
 abbrev meta : tie.Start → Meta Bytes
 meta s = metaWritten (now (s .args .line)) (s .args .meta)
 
-take-text-requires : tie.Need-take-text-requires
-take-text-requires c κs = search needs
-
-begun-by-requires : tie.Need-begun-by-requires
-begun-by-requires c κs = search needs
-
-same-length : tie.Need-same-length
-same-length c = search needs
-
-same-length-2 : tie.Need-same-length-2
-same-length-2 c = search needs
-
 returns : tie.Need-returns
 unfolding flagged
 returns c =
@@ -40,9 +28,6 @@ returns c =
     let named = took .before .before .before .before .before in
     let s = named .before .before .before .before .before in
     λ p g. begin-named (meta s) (given s p) (eq-eqb _ _ (named .if1 .taken)) (g .few) (took .take-text .ensures (g .lies .user) (g .short) p) (c .begun-by .ensures (now (s .args .line)))
-
-arena-meta-requires : tie.Need-arena-meta-requires
-arena-meta-requires c κs = search needs
 
 returns-2 : tie.Need-returns-2
 unfolding flagged
@@ -53,10 +38,10 @@ pub begin-element-spec : {M : Type 1} → statement M
 begin-element-spec =
     tie.close
     (tie.spec
-    take-text-requires
-    begun-by-requires
-    same-length
-    same-length-2
+    (λ c κs. search needs)
+    (λ c κs. search needs)
+    (λ c. search needs)
+    (λ c. search needs)
     returns
-    arena-meta-requires
+    (λ c κs. search needs)
     returns-2)

@@ -7,18 +7,6 @@ use borrow.Author.Needs.{needs}
 use Rattle.reader_acts.proofs.begun_by.Statement.{statement}
 use Rattle.reader_acts.proofs.begun_by.Tie as tie
 
-enum-known-handle : tie.Need-enum-known-handle
-enum-known-handle c = search needs
-
-narrow-requires : tie.Need-narrow-requires
-narrow-requires c κs = search needs
-
-arena-meta-requires : tie.Need-arena-meta-requires
-arena-meta-requires c κs = search needs
-
-enum-known-handle-2 : tie.Need-enum-known-handle-2
-enum-known-handle-2 c = search needs
-
 returns : tie.Need-returns
 returns c = λ line. rw (c .before .before .before .handle .given .1) (λ h. ap B.With (c .arena-meta .ensures line ∙ ap (bitsWithUser (metaWritten line (c .before .before .before .before .before .args .meta))) (c .before .narrow .ensures h)))
 
@@ -29,9 +17,9 @@ pub begun-by-spec : {M : Type 1} → statement M
 begun-by-spec =
     tie.close
     (tie.spec
-    enum-known-handle
-    narrow-requires
-    arena-meta-requires
-    enum-known-handle-2
+    (λ c. search needs)
+    (λ c κs. search needs)
+    (λ c κs. search needs)
+    (λ c. search needs)
     returns
     returns-2)

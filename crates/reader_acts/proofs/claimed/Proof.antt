@@ -12,15 +12,9 @@ use borrow.Author.Needs.{needs}
 use Rattle.reader_acts.proofs.claimed.Statement.{statement}
 use Rattle.reader_acts.proofs.claimed.Tie as tie
 
-arena-meta-requires : tie.Need-arena-meta-requires
-arena-meta-requires c κs = search needs
-
-claim-requires : tie.Need-claim-requires
-claim-requires c κs = search needs
-
 returns : tie.Need-returns
 returns c = let m = c .before .before .args .meta in
     λ line. c .claim .ensures ∙ ap (λ (a : ArenaMeta). claimOf (metaOf a)) (c .before .arena-meta .ensures line) ∙ claim-bits (metaWritten line m) 0 (sfits-toZ {w = w32} {n = m .version} (fits-of-lt (omega arith)))
 
 pub claimed-spec : {M : Type 1} → statement M
-claimed-spec = tie.close (tie.spec arena-meta-requires claim-requires returns)
+claimed-spec = tie.close (tie.spec (λ c κs. search needs) (λ c κs. search needs) returns)

@@ -35,45 +35,6 @@ meta s = metaWritten (now (s .args .line)) (s .args .meta)
 abbrev act : tie.Start → ArenaMeta → Overlay → OverlayAfter
 act s a q = storeDelete (s .args .kind) (toZ w64 (s .args .id)) (claimOf (meta s)) q
 
-begin-element-requires : tie.Need-begin-element-requires
-begin-element-requires c κs = search needs
-
-enum-told : tie.Need-enum-told
-enum-told c = search needs
-
-claimed-requires : tie.Need-claimed-requires
-claimed-requires c κs = search needs
-
-store-delete-requires : tie.Need-store-delete-requires
-store-delete-requires c κs = search needs
-
-enum-known-r : tie.Need-enum-known-r
-enum-known-r c = search needs
-
-same-length : tie.Need-same-length
-same-length c = search needs
-
-same-length-2 : tie.Need-same-length-2
-same-length-2 c = search needs
-
-same-length-3 : tie.Need-same-length-3
-same-length-3 c = search needs
-
-same-length-4 : tie.Need-same-length-4
-same-length-4 c = search needs
-
-same-length-5 : tie.Need-same-length-5
-same-length-5 c = search needs
-
-same-length-6 : tie.Need-same-length-6
-same-length-6 c = search needs
-
-same-length-7 : tie.Need-same-length-7
-same-length-7 c = search needs
-
-same-length-8 : tie.Need-same-length-8
-same-length-8 c = search needs
-
 returns : tie.Need-returns
 returns c =
     let deleted = c .before .before .before .before .before .before in
@@ -82,12 +43,6 @@ returns c =
     let begun = told .before .before .before .before .before .before in
     let s = begun .before .before .before .before .before .before .before .before .before .before .before .before .before in
     λ g. user-acted (meta s) (act s) (given s) (begun .begin-element .ensures (beside s) g) _ (told .enum-told .given .1) (rw (claims .claimed .ensures (now (s .args .line))) at (deleted .store-delete .ensures))
-
-same-length-9 : tie.Need-same-length-9
-same-length-9 c = search needs
-
-same-length-10 : tie.Need-same-length-10
-same-length-10 c = search needs
 
 returns-2 : tie.Need-returns-2
 returns-2 c =
@@ -99,20 +54,20 @@ pub delete-with-user-spec : {M : Type 1} → statement M
 delete-with-user-spec =
     tie.close
     (tie.spec
-    begin-element-requires
-    enum-told
-    claimed-requires
-    store-delete-requires
-    enum-known-r
-    same-length
-    same-length-2
-    same-length-3
-    same-length-4
-    same-length-5
-    same-length-6
-    same-length-7
-    same-length-8
+    (λ c κs. search needs)
+    (λ c. search needs)
+    (λ c κs. search needs)
+    (λ c κs. search needs)
+    (λ c. search needs)
+    (λ c. search needs)
+    (λ c. search needs)
+    (λ c. search needs)
+    (λ c. search needs)
+    (λ c. search needs)
+    (λ c. search needs)
+    (λ c. search needs)
+    (λ c. search needs)
     returns
-    same-length-9
-    same-length-10
+    (λ c. search needs)
+    (λ c. search needs)
     returns-2)

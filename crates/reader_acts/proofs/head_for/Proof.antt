@@ -5,15 +5,6 @@ use borrow.Author.Needs.{needs}
 use Rattle.reader_acts.proofs.head_for.Statement.{statement}
 use Rattle.reader_acts.proofs.head_for.Tie as tie
 
-enum-told : tie.Need-enum-told
-enum-told c = search needs
-
-enum-told-2 : tie.Need-enum-told-2
-enum-told-2 c = search needs
-
-enum-told-3 : tie.Need-enum-told-3
-enum-told-3 c = search needs
-
 returns : tie.Need-returns
 returns c = let f = c .before .before .fits in rw (c .enum-told .given .1, ofZ-toZ {w = w64} (f .id), ofZ-toZ {w = w32} (f .lat), ofZ-toZ {w = w32} (f .lon))
 
@@ -24,4 +15,4 @@ returns-3 : tie.Need-returns-3
 returns-3 c = rw (c .enum-told3 .given .1, ofZ-toZ {w = w64} (c .before .before .fits .id))
 
 pub head-for-spec : {M : Type 1} → statement M
-head-for-spec = tie.close (tie.spec enum-told enum-told-2 enum-told-3 returns returns-2 returns-3)
+head-for-spec = tie.close (tie.spec (λ c. search needs) (λ c. search needs) (λ c. search needs) returns returns-2 returns-3)

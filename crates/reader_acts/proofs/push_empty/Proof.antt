@@ -28,54 +28,6 @@ meta s = metaWritten (now (s .args .line)) (s .args .meta)
 version-fits : (s : tie.Start) → SFits w32 (meta s .version)
 version-fits s = sfits-toZ {w = w32} {n = s .args .meta .version} (fits-of-lt (omega arith))
 
-claimed-requires : tie.Need-claimed-requires
-claimed-requires c κs = search needs
-
-empty-len-requires : tie.Need-empty-len-requires
-empty-len-requires c κs = search needs
-
-push-answer-requires : tie.Need-push-answer-requires
-push-answer-requires c κs = search needs
-
-enum-told : tie.Need-enum-told
-enum-told c = search needs
-
-head-for-requires : tie.Need-head-for-requires
-head-for-requires c κs = search needs
-
-push-with-user-requires : tie.Need-push-with-user-requires
-push-with-user-requires c κs = search needs
-
-enum-known-r : tie.Need-enum-known-r
-enum-known-r c = search needs
-
-refused-act-requires : tie.Need-refused-act-requires
-refused-act-requires c κs = search needs
-
-same-length : tie.Need-same-length
-same-length c = search needs
-
-same-length-2 : tie.Need-same-length-2
-same-length-2 c = search needs
-
-same-length-3 : tie.Need-same-length-3
-same-length-3 c = search needs
-
-same-length-4 : tie.Need-same-length-4
-same-length-4 c = search needs
-
-same-length-5 : tie.Need-same-length-5
-same-length-5 c = search needs
-
-same-length-6 : tie.Need-same-length-6
-same-length-6 c = search needs
-
-same-length-7 : tie.Need-same-length-7
-same-length-7 c = search needs
-
-same-length-8 : tie.Need-same-length-8
-same-length-8 c = search needs
-
 returns : tie.Need-returns
 returns c =
     let acted = c .before .before .before .before .before .before .before .before .before .before .before .before .before .before .before .before in
@@ -87,30 +39,6 @@ returns c =
     let s = claims .before .before .before .before .before .before .before .before .before .before in
     let k = s .args in
     λ g. empty-taken (k .kind) (toZ w64 (k .id)) (meta s) (given s) (bodyIn (k .kind) (k .lat) (k .lon)) (kind-read (k .kind) (k .lat) (k .lon)) (sfits-toZ {w = w64} (s .fits .id)) (version-fits s) (claims .claimed .ensures (now (k .line))) (long .empty-len .ensures) (asked .push-answer .ensures) (told .enum-told .given .1) (headed .head-for .ensures) (acted .push-with-user .ensures g)
-
-same-length-9 : tie.Need-same-length-9
-same-length-9 c = search needs
-
-same-length-10 : tie.Need-same-length-10
-same-length-10 c = search needs
-
-same-length-11 : tie.Need-same-length-11
-same-length-11 c = search needs
-
-same-length-12 : tie.Need-same-length-12
-same-length-12 c = search needs
-
-same-length-13 : tie.Need-same-length-13
-same-length-13 c = search needs
-
-same-length-14 : tie.Need-same-length-14
-same-length-14 c = search needs
-
-same-length-15 : tie.Need-same-length-15
-same-length-15 c = search needs
-
-same-length-16 : tie.Need-same-length-16
-same-length-16 c = search needs
 
 returns-2 : tie.Need-returns-2
 returns-2 c =
@@ -126,29 +54,29 @@ pub push-empty-spec : {M : Type 1} → statement M
 push-empty-spec =
     tie.close
     (tie.spec
-    claimed-requires
-    empty-len-requires
-    push-answer-requires
-    enum-told
-    head-for-requires
-    push-with-user-requires
-    enum-known-r
-    refused-act-requires
-    same-length
-    same-length-2
-    same-length-3
-    same-length-4
-    same-length-5
-    same-length-6
-    same-length-7
-    same-length-8
+    (λ c κs. search needs)
+    (λ c κs. search needs)
+    (λ c κs. search needs)
+    (λ c. search needs)
+    (λ c κs. search needs)
+    (λ c κs. search needs)
+    (λ c. search needs)
+    (λ c κs. search needs)
+    (λ c. search needs)
+    (λ c. search needs)
+    (λ c. search needs)
+    (λ c. search needs)
+    (λ c. search needs)
+    (λ c. search needs)
+    (λ c. search needs)
+    (λ c. search needs)
     returns
-    same-length-9
-    same-length-10
-    same-length-11
-    same-length-12
-    same-length-13
-    same-length-14
-    same-length-15
-    same-length-16
+    (λ c. search needs)
+    (λ c. search needs)
+    (λ c. search needs)
+    (λ c. search needs)
+    (λ c. search needs)
+    (λ c. search needs)
+    (λ c. search needs)
+    (λ c. search needs)
     returns-2)

@@ -34,42 +34,6 @@ meta s = metaWritten (now (s .args .line)) (s .args .meta)
 abbrev act : tie.Start → ArenaMeta → Overlay → OverlayAfter
 act s a q = storePush (s .args .kind) (s .args .head) a [] q
 
-begin-element-requires : tie.Need-begin-element-requires
-begin-element-requires c κs = search needs
-
-enum-known-a : tie.Need-enum-known-a
-enum-known-a c = search needs
-
-push-first-requires : tie.Need-push-first-requires
-push-first-requires c κs = search needs
-
-enum-known-r : tie.Need-enum-known-r
-enum-known-r c = search needs
-
-same-length : tie.Need-same-length
-same-length c = search needs
-
-same-length-2 : tie.Need-same-length-2
-same-length-2 c = search needs
-
-same-length-3 : tie.Need-same-length-3
-same-length-3 c = search needs
-
-same-length-4 : tie.Need-same-length-4
-same-length-4 c = search needs
-
-same-length-5 : tie.Need-same-length-5
-same-length-5 c = search needs
-
-same-length-6 : tie.Need-same-length-6
-same-length-6 c = search needs
-
-same-length-7 : tie.Need-same-length-7
-same-length-7 c = search needs
-
-same-length-8 : tie.Need-same-length-8
-same-length-8 c = search needs
-
 returns : tie.Need-returns
 returns c =
     let pushed = c .before .before .before .before .before .before .before .before .before .before .before .before in
@@ -77,12 +41,6 @@ returns c =
     let begun = told .before .before .before .before .before .before in
     let s = begun .before .before .before .before .before .before .before .before .before .before .before .before .before in
     λ g. user-acted (meta s) (act s) (given s) (begun .begin-element .ensures (beside s) g) _ (told .a .given .1) (pushed .push-first .ensures)
-
-same-length-9 : tie.Need-same-length-9
-same-length-9 c = search needs
-
-same-length-10 : tie.Need-same-length-10
-same-length-10 c = search needs
 
 returns-2 : tie.Need-returns-2
 returns-2 c =
@@ -94,19 +52,19 @@ pub push-with-user-spec : {M : Type 1} → statement M
 push-with-user-spec =
     tie.close
     (tie.spec
-    begin-element-requires
-    enum-known-a
-    push-first-requires
-    enum-known-r
-    same-length
-    same-length-2
-    same-length-3
-    same-length-4
-    same-length-5
-    same-length-6
-    same-length-7
-    same-length-8
+    (λ c κs. search needs)
+    (λ c. search needs)
+    (λ c κs. search needs)
+    (λ c. search needs)
+    (λ c. search needs)
+    (λ c. search needs)
+    (λ c. search needs)
+    (λ c. search needs)
+    (λ c. search needs)
+    (λ c. search needs)
+    (λ c. search needs)
+    (λ c. search needs)
     returns
-    same-length-9
-    same-length-10
+    (λ c. search needs)
+    (λ c. search needs)
     returns-2)

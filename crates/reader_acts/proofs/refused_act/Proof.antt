@@ -13,17 +13,11 @@ use borrow.Author.Needs.{needs}
 use Rattle.reader_acts.proofs.refused_act.Statement.{statement}
 use Rattle.reader_acts.proofs.refused_act.Tie as tie
 
-reply-of-requires : tie.Need-reply-of-requires
-reply-of-requires c κs = search needs
-
 returns : tie.Need-returns
 unfolding replyOf
 returns c = let k = c .before .before .before .before .before .before .args in
     let full = userFull (metaWritten (now (k .line)) (k .meta)) (storeWith (now (k .spans)) (now (k .bytes)) (getD (now (k .used)) 6 0) (getD (now (k .used)) 7 0)) in
     λ lies short. ap K.Refused (sym (before-text full (c .before .before .before .before .before .before .args .refusal) (sym (ap (λ (z : Reply). z .number) (c .before .before .reply-of .ensures)) ∙ c .if1 .taken)))
-
-user-refused-requires : tie.Need-user-refused-requires
-user-refused-requires c κs = search needs
 
 returns-2 : tie.Need-returns-2
 unfolding replyOf
@@ -35,4 +29,4 @@ returns-3 c = λ lies short. let f = sym (c .before .user-refused .ensures lies 
 
 pub refused-act-spec : {M : Type 1} → statement M
 refused-act-spec =
-    tie.close (tie.spec reply-of-requires returns user-refused-requires returns-2 returns-3)
+    tie.close (tie.spec (λ c κs. search needs) returns (λ c κs. search needs) returns-2 returns-3)

@@ -5,9 +5,6 @@ use borrow.Author.Needs.{needs}
 use Rattle.reader_acts.proofs.user_refused.Statement.{statement}
 use Rattle.reader_acts.proofs.user_refused.Tie as tie
 
-text-refused-requires : tie.Need-text-refused-requires
-text-refused-requires c κs = search needs
-
 returns : tie.Need-returns
 unfolding flagged
 returns c = λ lies short. rw (eq-eqb _ _ (c .before .before .if1 .taken)) (c .text-refused .ensures (lies .user) short)
@@ -17,4 +14,4 @@ unfolding flagged
 returns-2 c = λ lies short. rw (ne-eqb _ _ (c .if1 .left))
 
 pub user-refused-spec : {M : Type 1} → statement M
-user-refused-spec = tie.close (tie.spec text-refused-requires returns returns-2)
+user-refused-spec = tie.close (tie.spec (λ c κs. search needs) returns returns-2)

@@ -20,21 +20,6 @@ given s =
       parts = now (k .parts);
     }
 
-state-sound-requires : tie.Need-state-sound-requires
-state-sound-requires c κs = search needs
-
-mark-of-requires : tie.Need-mark-of-requires
-mark-of-requires c κs = search needs
-
-enum-known-refusal : tie.Need-enum-known-refusal
-enum-known-refusal c = search needs
-
-enum-told : tie.Need-enum-told
-enum-told c = search needs
-
-is-done-requires : tie.Need-is-done-requires
-is-done-requires c κs = search needs
-
 returns : tie.Need-returns
 returns c = end-is-done (given (c .before .before .before .before .before .before .before .before .before .before .before .before .before .before .before .before)) (sym (c .before .before .before .before .before .before .before .state-sound .ensures) ∙ c .before .before .before .before .before .before .if1 .taken) (sym (c .before .before .before .before .before .mark-of .ensures) ∙ c .before .before .before .enum-told .given .1) (sym (c .before .is-done .ensures) ∙ c .if2 .taken)
 
@@ -54,11 +39,11 @@ pub end-spec : {M : Type 1} → statement M
 end-spec =
     tie.close
     (tie.spec
-    state-sound-requires
-    mark-of-requires
-    enum-known-refusal
-    enum-told
-    is-done-requires
+    (λ c κs. search needs)
+    (λ c κs. search needs)
+    (λ c. search needs)
+    (λ c. search needs)
+    (λ c κs. search needs)
     returns
     add-t21
     returns-2

@@ -3,15 +3,6 @@ use borrow.Author.Needs.{needs}
 use Rattle.reader_calls.proofs.event_done.Statement.{statement}
 use Rattle.reader_calls.proofs.event_done.Tie as tie
 
-next-line-requires : tie.Need-next-line-requires
-next-line-requires c κs = search needs
-
-enum-known-step : tie.Need-enum-known-step
-enum-known-step c = search needs
-
-enum-known-step-2 : tie.Need-enum-known-step-2
-enum-known-step-2 c = search needs
-
 returns : tie.Need-returns
 returns c = λ h. rw (c .before .step .given .1, c .before .before .before .next-line .ensures h)
 
@@ -19,4 +10,4 @@ returns-2 : tie.Need-returns-2
 returns-2 c = λ h. rw (c .before .before .before .step2 .given .1, c .before .before .before .before .before .next-line .ensures h)
 
 pub event-done-spec : {M : Type 1} → statement M
-event-done-spec = tie.close (tie.spec next-line-requires enum-known-step enum-known-step-2 returns returns-2)
+event-done-spec = tie.close (tie.spec (λ c κs. search needs) (λ c. search needs) (λ c. search needs) returns returns-2)

@@ -22,46 +22,10 @@ given s =
       parts = now (k .parts);
     }
 
-decide-requires : tie.Need-decide-requires
-decide-requires c κs = search needs
-
-body-length-requires : tie.Need-body-length-requires
-body-length-requires c κs = search needs
-
 slice-aggregate-step : tie.Need-slice-aggregate-step
 slice-aggregate-step c =
     let s = now (c .before .before .before .before .before .before .before .before .before .before .before .before .before .before .before .before .before .before .before .before .before .before .before .args .line) in
     sym (length-take-le (c .before .before .before .before .before .before .before .before .before .before .before .body-length .result) s (omega (arith, c .before .before .before .before .before .before .before .before .before .before .before .body-length .ensures, judged s .within)))
-
-step-requires : tie.Need-step-requires
-step-requires c κs = search needs
-
-event-done-requires : tie.Need-event-done-requires
-event-done-requires c κs = search needs
-
-same-length : tie.Need-same-length
-same-length c = search needs
-
-same-length-2 : tie.Need-same-length-2
-same-length-2 c = search needs
-
-same-length-3 : tie.Need-same-length-3
-same-length-3 c = search needs
-
-same-length-4 : tie.Need-same-length-4
-same-length-4 c = search needs
-
-same-length-5 : tie.Need-same-length-5
-same-length-5 c = search needs
-
-same-length-6 : tie.Need-same-length-6
-same-length-6 c = search needs
-
-same-length-7 : tie.Need-same-length-7
-same-length-7 c = search needs
-
-same-length-8 : tie.Need-same-length-8
-same-length-8 c = search needs
 
 returns : tie.Need-returns
 returns c =
@@ -74,17 +38,17 @@ pub event-going-spec : {M : Type 1} → statement M
 event-going-spec =
     tie.close
     (tie.spec
-    decide-requires
-    body-length-requires
+    (λ c κs. search needs)
+    (λ c κs. search needs)
     slice-aggregate-step
-    step-requires
-    event-done-requires
-    same-length
-    same-length-2
-    same-length-3
-    same-length-4
-    same-length-5
-    same-length-6
-    same-length-7
-    same-length-8
+    (λ c κs. search needs)
+    (λ c κs. search needs)
+    (λ c. search needs)
+    (λ c. search needs)
+    (λ c. search needs)
+    (λ c. search needs)
+    (λ c. search needs)
+    (λ c. search needs)
+    (λ c. search needs)
+    (λ c. search needs)
     returns)

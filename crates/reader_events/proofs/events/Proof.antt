@@ -21,12 +21,6 @@ given s =
 line-end-requires : tie.Need-line-end-requires
 line-end-requires c κs = tt
 
-enum-told : tie.Need-enum-told
-enum-told c = search needs
-
-enum-told-2 : tie.Need-enum-told-2
-enum-told-2 c = search needs
-
 returns : tie.Need-returns
 returns c =
     let s = c .before .before .before .before .before .before .before .before .before .before .before .before in
@@ -103,8 +97,8 @@ events-spec =
     tie.close
     (tie.spec
     line-end-requires
-    enum-told
-    enum-told-2
+    (λ c. search needs)
+    (λ c. search needs)
     returns
     state-tested-requires
     events-untested-requires

@@ -22,12 +22,6 @@ given s =
 mark-of-requires : tie.Need-mark-of-requires
 mark-of-requires c κs = tt
 
-enum-known-refusal : tie.Need-enum-known-refusal
-enum-known-refusal c = search needs
-
-enum-told : tie.Need-enum-told
-enum-told c = search needs
-
 event-going-requires : tie.Need-event-going-requires
 event-going-requires c κs = tt
 
@@ -79,8 +73,8 @@ line-event-spec =
     tie.close
     (tie.spec
     mark-of-requires
-    enum-known-refusal
-    enum-told
+    (λ c. search needs)
+    (λ c. search needs)
     event-going-requires
     same-length
     same-length-2

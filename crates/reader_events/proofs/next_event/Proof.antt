@@ -23,12 +23,6 @@ given s =
 line-end-requires : tie.Need-line-end-requires
 line-end-requires c κs = tt
 
-enum-known-to : tie.Need-enum-known-to
-enum-known-to c = search needs
-
-enum-told : tie.Need-enum-told
-enum-told c = search needs
-
 returns : tie.Need-returns
 returns c =
     let s = c .before .before .before .before .before .before .before .before .before .before .before .before in
@@ -97,8 +91,8 @@ next-event-spec =
     tie.close
     (tie.spec
     line-end-requires
-    enum-known-to
-    enum-told
+    (λ c. search needs)
+    (λ c. search needs)
     returns
     sub-line-event
     part-line-event-start

@@ -6,9 +6,6 @@ use borrow.Author.Needs.{needs}
 use Rattle.reader_parts.proofs.add_ref.Statement.{statement}
 use Rattle.reader_parts.proofs.add_ref.Tie as tie
 
-part-fits-requires : tie.Need-part-fits-requires
-part-fits-requires c κs = search needs
-
 with-ref-requires : tie.Need-with-ref-requires
 with-ref-requires c κs =
     part-yes (c .before .before .before .args .pending) 2000 (sym (c .before .before .part-fits .ensures) ∙ c .before .if1 .taken)
@@ -24,4 +21,4 @@ returns-2 c =
     λ o within. rw (← c .before .part-fits .ensures, c .if1 .left)
 
 pub add-ref-spec : {M : Type 1} → statement M
-add-ref-spec = tie.close (tie.spec part-fits-requires with-ref-requires returns returns-2)
+add-ref-spec = tie.close (tie.spec (λ c κs. search needs) with-ref-requires returns returns-2)

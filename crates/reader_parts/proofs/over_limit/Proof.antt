@@ -3,9 +3,6 @@ use borrow.Author.Needs.{needs}
 use Rattle.reader_parts.proofs.over_limit.Statement.{statement}
 use Rattle.reader_parts.proofs.over_limit.Tie as tie
 
-text-refused-requires : tie.Need-text-refused-requires
-text-refused-requires c κs = search needs
-
 returns : tie.Need-returns
 returns c =
     λ lies short. rw (← c .before .text-refused .ensures lies short, c .if1 .taken)
@@ -15,4 +12,4 @@ returns-2 c =
     λ lies short. rw (← c .before .text-refused .ensures lies short, c .if1 .left)
 
 pub over-limit-spec : {M : Type 1} → statement M
-over-limit-spec = tie.close (tie.spec text-refused-requires returns returns-2)
+over-limit-spec = tie.close (tie.spec (λ c κs. search needs) returns returns-2)

@@ -8,25 +8,10 @@ use borrow.Author.Needs.{needs}
 use Rattle.reader_parts.proofs.tag_first.Statement.{statement}
 use Rattle.reader_parts.proofs.tag_first.Tie as tie
 
-lesser-requires : tie.Need-lesser-requires
-lesser-requires c κs = search needs
-
 slice-aggregate-tag-with : tie.Need-slice-aggregate-tag-with
 slice-aggregate-tag-with c =
     let b = now (c .before .before .before .before .before .before .before .before .before .before .before .args .room) in
     sym (length-take-le (c .before .before .before .before .before .lesser .result) b (omega (arith, c .before .before .before .before .before .lesser .ensures)))
-
-tag-with-requires : tie.Need-tag-with-requires
-tag-with-requires c κs = search needs
-
-same-length : tie.Need-same-length
-same-length c = search needs
-
-same-length-2 : tie.Need-same-length-2
-same-length-2 c = search needs
-
-same-length-3 : tie.Need-same-length-3
-same-length-3 c = search needs
 
 returns : tie.Need-returns
 returns c =
@@ -36,10 +21,10 @@ pub tag-first-spec : {M : Type 1} → statement M
 tag-first-spec =
     tie.close
     (tie.spec
-    lesser-requires
+    (λ c κs. search needs)
     slice-aggregate-tag-with
-    tag-with-requires
-    same-length
-    same-length-2
-    same-length-3
+    (λ c κs. search needs)
+    (λ c. search needs)
+    (λ c. search needs)
+    (λ c. search needs)
     returns)

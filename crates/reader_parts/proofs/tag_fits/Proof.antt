@@ -6,9 +6,6 @@ use borrow.Author.Needs.{needs}
 use Rattle.reader_parts.proofs.tag_fits.Statement.{statement}
 use Rattle.reader_parts.proofs.tag_fits.Tie as tie
 
-values-size-requires : tie.Need-values-size-requires
-values-size-requires c κs = search needs
-
 returns : tie.Need-returns
 returns c =
     let a = c .before .before .before .before .before .args in
@@ -26,4 +23,4 @@ returns-3 c =
     sym (fits-no-tags (a .kind) (a .pending) (a .len) (omega (arith, c .if1 .left)))
 
 pub tag-fits-spec : {M : Type 1} → statement M
-tag-fits-spec = tie.close (tie.spec values-size-requires returns returns-2 returns-3)
+tag-fits-spec = tie.close (tie.spec (λ c κs. search needs) returns returns-2 returns-3)

@@ -6,21 +6,6 @@ use borrow.Author.Needs.{needs}
 use Rattle.reader_parts.proofs.tag_through.Statement.{statement}
 use Rattle.reader_parts.proofs.tag_through.Tie as tie
 
-text-into-requires : tie.Need-text-into-requires
-text-into-requires c κs = search needs
-
-tag-first-requires : tie.Need-tag-first-requires
-tag-first-requires c κs = search needs
-
-same-length : tie.Need-same-length
-same-length c = search needs
-
-same-length-2 : tie.Need-same-length-2
-same-length-2 c = search needs
-
-same-length-3 : tie.Need-same-length-3
-same-length-3 c = search needs
-
 returns : tie.Need-returns
 returns c =
     λ p g lies there.
@@ -33,9 +18,9 @@ pub tag-through-spec : {M : Type 1} → statement M
 tag-through-spec =
     tie.close
     (tie.spec
-    text-into-requires
-    tag-first-requires
-    same-length
-    same-length-2
-    same-length-3
+    (λ c κs. search needs)
+    (λ c κs. search needs)
+    (λ c. search needs)
+    (λ c. search needs)
+    (λ c. search needs)
     returns)

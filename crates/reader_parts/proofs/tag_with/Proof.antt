@@ -7,31 +7,10 @@ use borrow.Author.Needs.{needs}
 use Rattle.reader_parts.proofs.tag_with.Statement.{statement}
 use Rattle.reader_parts.proofs.tag_with.Tie as tie
 
-tag-fits-requires : tie.Need-tag-fits-requires
-tag-fits-requires c κs = search needs
-
-take-text-requires : tie.Need-take-text-requires
-take-text-requires c κs = search needs
-
-enum-known-handle : tie.Need-enum-known-handle
-enum-known-handle c = search needs
-
 with-tag-requires : tie.Need-with-tag-requires
 with-tag-requires c κs =
     let a = c .before .before .before .before .before .before .before .before .before .before .before .before .before .before .before .before .before .before .before .args in
     fits-yes (a .kind) (a .pending) (length (now (a .value))) (sym (c .before .before .before .before .before .before .before .before .before .before .before .before .before .tag-fits .ensures) ∙ c .before .before .before .before .before .before .before .before .before .before .before .before .if1 .taken)
-
-enum-known-refusal : tie.Need-enum-known-refusal
-enum-known-refusal c = search needs
-
-same-length : tie.Need-same-length
-same-length c = search needs
-
-same-length-2 : tie.Need-same-length-2
-same-length-2 c = search needs
-
-same-length-3 : tie.Need-same-length-3
-same-length-3 c = search needs
 
 returns : tie.Need-returns
 returns c =
@@ -40,24 +19,9 @@ returns c =
     let e = c .before .before .before .before .before .handle .given .1 in
     staged-left _ _ _ _ _ _ _ _ _ _ k _ _ _ (sym (c .before .before .before .before .before .before .before .before .before .before .before .before .before .before .before .before .tag-fits .ensures) ∙ c .before .before .before .before .before .before .before .before .before .before .before .before .before .before .before .if1 .taken) e (c .before .before .with-tag .ensures (handle-fits _ _ _ _ _ k e (g .strings)) (g .used))
 
-same-length-4 : tie.Need-same-length-4
-same-length-4 c = search needs
-
-same-length-5 : tie.Need-same-length-5
-same-length-5 c = search needs
-
 returns-2 : tie.Need-returns-2
 returns-2 c =
     λ p g lies. refused-left _ _ _ _ _ _ _ _ _ _ (c .before .before .before .before .before .before .before .take-text .ensures lies (g .short) p) _ (c .before .refusal .given .1)
-
-over-limit-requires : tie.Need-over-limit-requires
-over-limit-requires c κs = search needs
-
-same-length-6 : tie.Need-same-length-6
-same-length-6 c = search needs
-
-same-length-7 : tie.Need-same-length-7
-same-length-7 c = search needs
 
 returns-3 : tie.Need-returns-3
 returns-3 c =
@@ -67,19 +31,19 @@ pub tag-with-spec : {M : Type 1} → statement M
 tag-with-spec =
     tie.close
     (tie.spec
-    tag-fits-requires
-    take-text-requires
-    enum-known-handle
+    (λ c κs. search needs)
+    (λ c κs. search needs)
+    (λ c. search needs)
     with-tag-requires
-    enum-known-refusal
-    same-length
-    same-length-2
-    same-length-3
+    (λ c. search needs)
+    (λ c. search needs)
+    (λ c. search needs)
+    (λ c. search needs)
     returns
-    same-length-4
-    same-length-5
+    (λ c. search needs)
+    (λ c. search needs)
     returns-2
-    over-limit-requires
-    same-length-6
-    same-length-7
+    (λ c κs. search needs)
+    (λ c. search needs)
+    (λ c. search needs)
     returns-3)

@@ -11,27 +11,6 @@ use borrow.Author.Needs.{needs}
 use Rattle.reader_parts.proofs.with_tag.Statement.{statement}
 use Rattle.reader_parts.proofs.with_tag.Tie as tie
 
-lesser-requires : tie.Need-lesser-requires
-lesser-requires c κs = search needs
-
-narrow-requires : tie.Need-narrow-requires
-narrow-requires c κs = search needs
-
-stage-tag-requires : tie.Need-stage-tag-requires
-stage-tag-requires c κs = search needs
-
-add-head : tie.Need-add-head
-add-head c = search needs
-
-add-t13 : tie.Need-add-t13
-add-t13 c = search needs
-
-add-t14 : tie.Need-add-t14
-add-t14 c = search needs
-
-same-length : tie.Need-same-length
-same-length c = search needs
-
 returns : tie.Need-returns
 returns c =
     λ fits within.
@@ -45,11 +24,11 @@ pub with-tag-spec : {M : Type 1} → statement M
 with-tag-spec =
     tie.close
     (tie.spec
-    lesser-requires
-    narrow-requires
-    stage-tag-requires
-    add-head
-    add-t13
-    add-t14
-    same-length
+    (λ c κs. search needs)
+    (λ c κs. search needs)
+    (λ c κs. search needs)
+    (λ c. search needs)
+    (λ c. search needs)
+    (λ c. search needs)
+    (λ c. search needs)
     returns)

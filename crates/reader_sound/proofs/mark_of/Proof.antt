@@ -5,15 +5,6 @@ use borrow.Author.Needs.{needs}
 use Rattle.reader_sound.proofs.mark_of.Statement.{statement}
 use Rattle.reader_sound.proofs.mark_of.Tie as tie
 
-enum-told : tie.Need-enum-told
-enum-told c = search needs
-
-enum-known-stop : tie.Need-enum-known-stop
-enum-known-stop c = search needs
-
-stops-by-requires : tie.Need-stops-by-requires
-stops-by-requires c κs = search needs
-
 returns : tie.Need-returns
 unfolding stopMark
 returns c = rw (c .before .before .before .stop .given .1, sym (c .before .stops-by .ensures) ∙ c .if1 .taken)
@@ -28,4 +19,4 @@ returns-3 c = rw (c .before .before .before .stop .given .1, sym (c .before .sto
 
 pub mark-of-spec : {M : Type 1} → statement M
 mark-of-spec =
-    tie.close (tie.spec enum-told enum-known-stop stops-by-requires returns returns-2 returns-3)
+    tie.close (tie.spec (λ c. search needs) (λ c. search needs) (λ c κs. search needs) returns returns-2 returns-3)

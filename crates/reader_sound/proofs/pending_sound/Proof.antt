@@ -14,15 +14,6 @@ use Rattle.reader_sound.proofs.pending_sound.Tie as tie
 slice-aggregate-push-fault : tie.Need-slice-aggregate-push-fault
 slice-aggregate-push-fault c = let a = c .before .before .before .before .before .args in sym (length-take-le (a .pending .used) (now (a .parts)) (omega arith))
 
-push-fault-requires : tie.Need-push-fault-requires
-push-fault-requires c κs = search needs
-
-enum-told : tie.Need-enum-told
-enum-told c = search needs
-
-enum-told-2 : tie.Need-enum-told-2
-enum-told-2 c = search needs
-
 returns : tie.Need-returns
 returns c = let a = c .before .before .before .before .before .before .before .before .args in pending-faulted (a .strings) (a .kind) (now (a .parts)) (a .pending) (omega arith) F.Legal (sym (c .before .before .push-fault .ensures) ∙ c .enum-told .given .1)
 
@@ -37,9 +28,9 @@ pending-sound-spec =
     tie.close
     (tie.spec
     slice-aggregate-push-fault
-    push-fault-requires
-    enum-told
-    enum-told-2
+    (λ c κs. search needs)
+    (λ c. search needs)
+    (λ c. search needs)
     returns
     returns-2
     returns-3)

@@ -6,15 +6,6 @@ use borrow.Author.Needs.{needs}
 use Rattle.reader_sound.proofs.state_sound.Statement.{statement}
 use Rattle.reader_sound.proofs.state_sound.Tie as tie
 
-is-sound-requires : tie.Need-is-sound-requires
-is-sound-requires c κs = search needs
-
-element-copy-out-pending-sound : tie.Need-element-copy-out-pending-sound
-element-copy-out-pending-sound c = search needs
-
-pending-sound-requires : tie.Need-pending-sound-requires
-pending-sound-requires c κs = search needs
-
 returns : tie.Need-returns
 unfolding stateSound readerSound both
 returns c = rw (sym (c .before .before .before .before .before .before .before .is-sound .ensures) ∙ c .before .before .before .before .before .before .if1 .taken, c .before .pending-sound .ensures)
@@ -27,8 +18,8 @@ pub state-sound-spec : {M : Type 1} → statement M
 state-sound-spec =
     tie.close
     (tie.spec
-    is-sound-requires
-    element-copy-out-pending-sound
-    pending-sound-requires
+    (λ c κs. search needs)
+    (λ c. search needs)
+    (λ c κs. search needs)
     returns
     returns-2)

@@ -6,12 +6,9 @@ use borrow.Author.Needs.{needs}
 use Rattle.reader_sound.proofs.stops_by.Statement.{statement}
 use Rattle.reader_sound.proofs.stops_by.Tie as tie
 
-reply-of-requires : tie.Need-reply-of-requires
-reply-of-requires c κs = search needs
-
 returns : tie.Need-returns
 unfolding stopsBy replyOf both
 returns c = rw (c .before .before .reply-of .ensures)
 
 pub stops-by-spec : {M : Type 1} → statement M
-stops-by-spec = tie.close (tie.spec reply-of-requires returns)
+stops-by-spec = tie.close (tie.spec (λ c κs. search needs) returns)

@@ -17,30 +17,6 @@ given s =
       parts = now (k .parts);
     }
 
-push-staged-requires : tie.Need-push-staged-requires
-push-staged-requires c κs = search needs
-
-cleared-requires : tie.Need-cleared-requires
-cleared-requires c κs = search needs
-
-same-length : tie.Need-same-length
-same-length c = search needs
-
-same-length-2 : tie.Need-same-length-2
-same-length-2 c = search needs
-
-same-length-3 : tie.Need-same-length-3
-same-length-3 c = search needs
-
-same-length-4 : tie.Need-same-length-4
-same-length-4 c = search needs
-
-same-length-5 : tie.Need-same-length-5
-same-length-5 c = search needs
-
-same-length-6 : tie.Need-same-length-6
-same-length-6 c = search needs
-
 returns : tie.Need-returns
 returns c =
     let s = c .before .before .before .before .before .before .before .before .before .before .before .before .before .before .before .before .before .before .before .before .before .before .before .before .before .before .before .before .before .before .before in λ line. ends-done (given s) (s .args .place) line (c .before .before .before .before .before .before .before .before .before .before .before .before .before .push-staged .ensures) (c .cleared .ensures)
@@ -49,12 +25,12 @@ pub end-spec : {M : Type 1} → statement M
 end-spec =
     tie.close
     (tie.spec
-    push-staged-requires
-    cleared-requires
-    same-length
-    same-length-2
-    same-length-3
-    same-length-4
-    same-length-5
-    same-length-6
+    (λ c κs. search needs)
+    (λ c κs. search needs)
+    (λ c. search needs)
+    (λ c. search needs)
+    (λ c. search needs)
+    (λ c. search needs)
+    (λ c. search needs)
+    (λ c. search needs)
     returns)

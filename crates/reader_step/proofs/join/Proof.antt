@@ -18,22 +18,10 @@ given s p =
       parts = now (k .parts);
     }
 
-add-member-requires : tie.Need-add-member-requires
-add-member-requires c κs = search needs
-
-added-requires : tie.Need-added-requires
-added-requires c κs = search needs
-
-same-length : tie.Need-same-length
-same-length c = search needs
-
-same-length-2 : tie.Need-same-length-2
-same-length-2 c = search needs
-
 returns : tie.Need-returns
 returns c =
     let s = c .before .before .before .before .before .before .before .before .before .before .before .before .before .before .before .before .before in λ p g. joins-done (given s p) (s .args .m) (c .before .before .before .before .before .add-member .ensures p) (c .added .ensures) g
 
 pub join-spec : {M : Type 1} → statement M
 join-spec =
-    tie.close (tie.spec add-member-requires added-requires same-length same-length-2 returns)
+    tie.close (tie.spec (λ c κs. search needs) (λ c κs. search needs) (λ c. search needs) (λ c. search needs) returns)

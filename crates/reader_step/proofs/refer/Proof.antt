@@ -5,15 +5,9 @@ use borrow.Author.Needs.{needs}
 use Rattle.reader_step.proofs.refer.Statement.{statement}
 use Rattle.reader_step.proofs.refer.Tie as tie
 
-add-ref-requires : tie.Need-add-ref-requires
-add-ref-requires c κs = search needs
-
-added-requires : tie.Need-added-requires
-added-requires c κs = search needs
-
 returns : tie.Need-returns
 returns c =
     let s = c .before .before .before .before .before .before in λ line o g. refers-done (record { overlay = o; reader = s .args .reader; parts = now (s .args .parts) }) (s .args .to) (c .before .add-ref .ensures) (c .added .ensures) g
 
 pub refer-spec : {M : Type 1} → statement M
-refer-spec = tie.close (tie.spec add-ref-requires added-requires returns)
+refer-spec = tie.close (tie.spec (λ c κs. search needs) (λ c κs. search needs) returns)

@@ -18,21 +18,9 @@ given s p =
       parts = now (k .parts);
     }
 
-add-tag-requires : tie.Need-add-tag-requires
-add-tag-requires c κs = search needs
-
-added-requires : tie.Need-added-requires
-added-requires c κs = search needs
-
-same-length : tie.Need-same-length
-same-length c = search needs
-
-same-length-2 : tie.Need-same-length-2
-same-length-2 c = search needs
-
 returns : tie.Need-returns
 returns c =
     let s = c .before .before .before .before .before .before .before .before .before .before .before .before .before .before .before .before .before .before in λ p g. tags-done (given s p) (s .args .t) (c .before .before .before .before .before .add-tag .ensures p) (c .added .ensures) g
 
 pub tag-spec : {M : Type 1} → statement M
-tag-spec = tie.close (tie.spec add-tag-requires added-requires same-length same-length-2 returns)
+tag-spec = tie.close (tie.spec (λ c κs. search needs) (λ c κs. search needs) (λ c. search needs) (λ c. search needs) returns)

@@ -11,25 +11,10 @@ use borrow.Author.Needs.{needs}
 use Rattle.reader_texts.proofs.is_refused.Statement.{statement}
 use Rattle.reader_texts.proofs.is_refused.Tie as tie
 
-lesser-requires : tie.Need-lesser-requires
-lesser-requires c κs = search needs
-
 slice-aggregate-find-text : tie.Need-slice-aggregate-find-text
 slice-aggregate-find-text c =
     let b = now (c .before .before .before .before .before .args .bytes) in
     sym (length-take-le (c .before .lesser .result) b (omega (arith, c .before .lesser .ensures)))
-
-find-text-requires : tie.Need-find-text-requires
-find-text-requires c κs = search needs
-
-enum-told : tie.Need-enum-told
-enum-told c = search needs
-
-enum-told-2 : tie.Need-enum-told-2
-enum-told-2 c = search needs
-
-fits-requires : tie.Need-fits-requires
-fits-requires c κs = search needs
 
 -- what the search over the used bytes found
 found : (c : tie.After-find-text)
@@ -61,12 +46,12 @@ pub is-refused-spec : {M : Type 1} → statement M
 is-refused-spec =
     tie.close
     (tie.spec
-    lesser-requires
+    (λ c κs. search needs)
     slice-aggregate-find-text
-    find-text-requires
-    enum-told
-    enum-told-2
-    fits-requires
+    (λ c κs. search needs)
+    (λ c. search needs)
+    (λ c. search needs)
+    (λ c κs. search needs)
     returns
     returns-2
     returns-3)

@@ -6,12 +6,6 @@ use borrow.Author.Needs.{needs}
 use Rattle.reader_texts.proofs.refused_through.Statement.{statement}
 use Rattle.reader_texts.proofs.refused_through.Tie as tie
 
-text-into-requires : tie.Need-text-into-requires
-text-into-requires c κs = search needs
-
-first-refused-requires : tie.Need-first-refused-requires
-first-refused-requires c κs = search needs
-
 returns : tie.Need-returns
 returns c =
     λ lies short.
@@ -21,4 +15,4 @@ returns c =
     rw e at (c .first-refused .ensures)
 
 pub refused-through-spec : {M : Type 1} → statement M
-refused-through-spec = tie.close (tie.spec text-into-requires first-refused-requires returns)
+refused-through-spec = tie.close (tie.spec (λ c κs. search needs) (λ c κs. search needs) returns)

@@ -8,22 +8,10 @@ use borrow.Author.Needs.{needs}
 use Rattle.reader_texts.proofs.take_first.Statement.{statement}
 use Rattle.reader_texts.proofs.take_first.Tie as tie
 
-lesser-requires : tie.Need-lesser-requires
-lesser-requires c κs = search needs
-
 slice-aggregate-store-text : tie.Need-slice-aggregate-store-text
 slice-aggregate-store-text c =
     let b = now (c .before .before .before .before .before .before .before .before .args .room) in
     sym (length-take-le (c .before .before .before .before .lesser .result) b (omega (arith, c .before .before .before .before .lesser .ensures)))
-
-store-text-requires : tie.Need-store-text-requires
-store-text-requires c κs = search needs
-
-same-length : tie.Need-same-length
-same-length c = search needs
-
-same-length-2 : tie.Need-same-length-2
-same-length-2 c = search needs
 
 returns : tie.Need-returns
 returns c =
@@ -34,9 +22,9 @@ pub take-first-spec : {M : Type 1} → statement M
 take-first-spec =
     tie.close
     (tie.spec
-    lesser-requires
+    (λ c κs. search needs)
     slice-aggregate-store-text
-    store-text-requires
-    same-length
-    same-length-2
+    (λ c κs. search needs)
+    (λ c. search needs)
+    (λ c. search needs)
     returns)

@@ -6,18 +6,6 @@ use borrow.Author.Needs.{needs}
 use Rattle.reader_texts.proofs.take_through.Statement.{statement}
 use Rattle.reader_texts.proofs.take_through.Tie as tie
 
-text-into-requires : tie.Need-text-into-requires
-text-into-requires c κs = search needs
-
-take-first-requires : tie.Need-take-first-requires
-take-first-requires c κs = search needs
-
-same-length : tie.Need-same-length
-same-length c = search needs
-
-same-length-2 : tie.Need-same-length-2
-same-length-2 c = search needs
-
 returns : tie.Need-returns
 returns c =
     λ lies short p.
@@ -28,4 +16,4 @@ returns c =
 
 pub take-through-spec : {M : Type 1} → statement M
 take-through-spec =
-    tie.close (tie.spec text-into-requires take-first-requires same-length same-length-2 returns)
+    tie.close (tie.spec (λ c κs. search needs) (λ c κs. search needs) (λ c. search needs) (λ c. search needs) returns)

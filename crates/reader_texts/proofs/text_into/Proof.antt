@@ -5,27 +5,6 @@ use borrow.Author.Needs.{needs}
 use Rattle.reader_texts.proofs.text_into.Statement.{statement}
 use Rattle.reader_texts.proofs.text_into.Tie as tie
 
-lesser-requires : tie.Need-lesser-requires
-lesser-requires c κs = search needs
-
-lesser-requires-2 : tie.Need-lesser-requires-2
-lesser-requires-2 c κs = search needs
-
-sub-unescape-into : tie.Need-sub-unescape-into
-sub-unescape-into c = search needs
-
-part-unescape-into-start : tie.Need-part-unescape-into-start
-part-unescape-into-start c = search needs
-
-part-unescape-into-end : tie.Need-part-unescape-into-end
-part-unescape-into-end c = search needs
-
-unescape-into-requires : tie.Need-unescape-into-requires
-unescape-into-requires c κs = search needs
-
-same-length : tie.Need-same-length
-same-length c = search needs
-
 returns : tie.Need-returns
 returns c =
     λ lies.
@@ -38,11 +17,11 @@ pub text-into-spec : {M : Type 1} → statement M
 text-into-spec =
     tie.close
     (tie.spec
-    lesser-requires
-    lesser-requires-2
-    sub-unescape-into
-    part-unescape-into-start
-    part-unescape-into-end
-    unescape-into-requires
-    same-length
+    (λ c κs. search needs)
+    (λ c κs. search needs)
+    (λ c. search needs)
+    (λ c. search needs)
+    (λ c. search needs)
+    (λ c κs. search needs)
+    (λ c. search needs)
     returns)

@@ -5,24 +5,6 @@ use borrow.Author.Needs.{needs}
 use Rattle.reader_words.proofs.mark_words.Statement.{statement}
 use Rattle.reader_words.proofs.mark_words.Tie as tie
 
-enum-told : tie.Need-enum-told
-enum-told c = search needs
-
-enum-known-stop : tie.Need-enum-known-stop
-enum-known-stop c = search needs
-
-reply-of-requires : tie.Need-reply-of-requires
-reply-of-requires c κs = search needs
-
-cast-t6 : tie.Need-cast-t6
-cast-t6 c = search needs
-
-bits-of-i32-requires : tie.Need-bits-of-i32-requires
-bits-of-i32-requires c κs = search needs
-
-cast-t8 : tie.Need-cast-t8
-cast-t8 c = search needs
-
 returns : tie.Need-returns
 returns c = rw (c .enum-told .given .1)
 
@@ -33,11 +15,11 @@ pub mark-words-spec : {M : Type 1} → statement M
 mark-words-spec =
     tie.close
     (tie.spec
-    enum-told
-    enum-known-stop
-    reply-of-requires
-    cast-t6
-    bits-of-i32-requires
-    cast-t8
+    (λ c. search needs)
+    (λ c. search needs)
+    (λ c κs. search needs)
+    (λ c. search needs)
+    (λ c κs. search needs)
+    (λ c. search needs)
     returns
     returns-2)

@@ -7,9 +7,6 @@ use borrow.Author.Needs.{needs}
 use Rattle.reader_words.proofs.refusal_in.Statement.{statement}
 use Rattle.reader_words.proofs.refusal_in.Tie as tie
 
-i32-of-bits-requires : tie.Need-i32-of-bits-requires
-i32-of-bits-requires c κs = search needs
-
 returns : tie.Need-returns
 unfolding refusalNumbered
 returns c = rw (c .match .keys1)
@@ -102,7 +99,7 @@ pub refusal-in-spec : {M : Type 1} → statement M
 refusal-in-spec =
     tie.close
     (tie.spec
-    i32-of-bits-requires
+    (λ c κs. search needs)
     returns
     returns-2
     returns-3

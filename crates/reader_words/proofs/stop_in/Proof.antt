@@ -9,15 +9,9 @@ returns : tie.Need-returns
 unfolding stopIn
 returns c = λ h. rw (c .if1 .taken)
 
-narrow-requires : tie.Need-narrow-requires
-narrow-requires c κs = search needs
-
-refusal-in-requires : tie.Need-refusal-in-requires
-refusal-in-requires c κs = search needs
-
 returns-2 : tie.Need-returns-2
 unfolding stopIn
 returns-2 c = λ h. rw (ne-eqb _ _ (c .before .before .if1 .left), c .refusal-in .ensures, c .before .narrow .ensures h)
 
 pub stop-in-spec : {M : Type 1} → statement M
-stop-in-spec = tie.close (tie.spec returns narrow-requires refusal-in-requires returns-2)
+stop-in-spec = tie.close (tie.spec returns (λ c κs. search needs) (λ c κs. search needs) returns-2)

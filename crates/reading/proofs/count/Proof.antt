@@ -7,12 +7,6 @@ use Rattle.reading.specs.declared.Read.the-variants.{Is}
 use Rattle.reading.proofs.count.Statement.{statement}
 use Rattle.reading.proofs.count.Tie as tie
 
-is-sound-requires : tie.Need-is-sound-requires
-is-sound-requires c κs = search needs
-
-count-in-requires : tie.Need-count-in-requires
-count-in-requires c κs = search needs
-
 returns : tie.Need-returns
 unfolding countOn
 returns c =
@@ -24,4 +18,4 @@ unfolding countOn
 returns-2 c = rw (← c .before .is-sound .ensures, c .if1 .left)
 
 pub count-spec : {M : Type 1} → statement M
-count-spec = tie.close (tie.spec is-sound-requires count-in-requires returns returns-2)
+count-spec = tie.close (tie.spec (λ c κs. search needs) (λ c κs. search needs) returns returns-2)

@@ -7,15 +7,6 @@ use Rattle.reading.proofs.Arms.{not-live, no-view}
 use Rattle.reading.proofs.get.Statement.{statement}
 use Rattle.reading.proofs.get.Tie as tie
 
-is-sound-requires : tie.Need-is-sound-requires
-is-sound-requires c κs = search needs
-
-standing-in-requires : tie.Need-standing-in-requires
-standing-in-requires c κs = search needs
-
-enum-known-at : tie.Need-enum-known-at
-enum-known-at c = search needs
-
 returns : tie.Need-returns
 unfolding getOn
 returns c =
@@ -23,9 +14,6 @@ returns c =
     let s = c .before .standing-in .ensures (now (a .na)) (now (a .wa)) (now (a .ra)) (now (a .ss)) (now (a .sb)) in
     rw (← c .before .before .before .is-sound .ensures, c .before .before .if1 .taken)
     (sym (no-view _ _ _ (c .before .standing-in .result) (not-live (c .before .standing-in .result) (c .match .keys2))) ∙ ap (liveView _ _ _) s)
-
-view-in-requires : tie.Need-view-in-requires
-view-in-requires c κs = search needs
 
 returns-2 : tie.Need-returns-2
 unfolding getOn
@@ -43,10 +31,10 @@ pub get-spec : {M : Type 1} → statement M
 get-spec =
     tie.close
     (tie.spec
-    is-sound-requires
-    standing-in-requires
-    enum-known-at
+    (λ c κs. search needs)
+    (λ c κs. search needs)
+    (λ c. search needs)
     returns
-    view-in-requires
+    (λ c κs. search needs)
     returns-2
     returns-3)

@@ -6,18 +6,6 @@ use Rattle.reading.specs.Reading.{hasOn, yes, isLiveNow}
 use Rattle.reading.proofs.has.Statement.{statement}
 use Rattle.reading.proofs.has.Tie as tie
 
-is-sound-requires : tie.Need-is-sound-requires
-is-sound-requires c κs = search needs
-
-standing-in-requires : tie.Need-standing-in-requires
-standing-in-requires c κs = search needs
-
-is-live-now-requires : tie.Need-is-live-now-requires
-is-live-now-requires c κs = search needs
-
-yes-requires : tie.Need-yes-requires
-yes-requires c κs = search needs
-
 returns : tie.Need-returns
 unfolding hasOn
 returns c =
@@ -32,9 +20,9 @@ pub has-spec : {M : Type 1} → statement M
 has-spec =
     tie.close
     (tie.spec
-    is-sound-requires
-    standing-in-requires
-    is-live-now-requires
-    yes-requires
+    (λ c κs. search needs)
+    (λ c κs. search needs)
+    (λ c κs. search needs)
+    (λ c κs. search needs)
     returns
     returns-2)

@@ -6,15 +6,6 @@ use Rattle.reading.specs.Reading.{idOn, idRead}
 use Rattle.reading.proofs.id_at.Statement.{statement}
 use Rattle.reading.proofs.id_at.Tie as tie
 
-is-sound-requires : tie.Need-is-sound-requires
-is-sound-requires c κs = search needs
-
-row-in-requires : tie.Need-row-in-requires
-row-in-requires c κs = search needs
-
-id-read-requires : tie.Need-id-read-requires
-id-read-requires c κs = search needs
-
 returns : tie.Need-returns
 unfolding idOn
 returns c =
@@ -27,4 +18,4 @@ returns-2 c = rw (← c .before .is-sound .ensures, c .if1 .left)
 
 pub id-at-spec : {M : Type 1} → statement M
 id-at-spec =
-    tie.close (tie.spec is-sound-requires row-in-requires id-read-requires returns returns-2)
+    tie.close (tie.spec (λ c κs. search needs) (λ c κs. search needs) (λ c κs. search needs) returns returns-2)

@@ -8,18 +8,6 @@ use Rattle.reading.specs.declared.Read.the-variants.{Is}
 use Rattle.reading.proofs.id_read.Statement.{statement}
 use Rattle.reading.proofs.id_read.Tie as tie
 
-enum-known-nth : tie.Need-enum-known-nth
-enum-known-nth c = search needs
-
-osm-id-of-rank-requires : tie.Need-osm-id-of-rank-requires
-osm-id-of-rank-requires c κs = search needs
-
-bits-of-i64-requires : tie.Need-bits-of-i64-requires
-bits-of-i64-requires c κs = search needs
-
-enum-told : tie.Need-enum-told
-enum-told c = search needs
-
 returns : tie.Need-returns
 returns c =
     let i = c .before .osm-id-of-rank in
@@ -33,9 +21,9 @@ pub id-read-spec : {M : Type 1} → statement M
 id-read-spec =
     tie.close
     (tie.spec
-    enum-known-nth
-    osm-id-of-rank-requires
-    bits-of-i64-requires
-    enum-told
+    (λ c. search needs)
+    (λ c κs. search needs)
+    (λ c κs. search needs)
+    (λ c. search needs)
     returns
     returns-2)

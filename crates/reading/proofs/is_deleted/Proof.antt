@@ -6,18 +6,6 @@ use Rattle.reading.specs.Reading.{isDeletedOn, yes, isDeletedNow}
 use Rattle.reading.proofs.is_deleted.Statement.{statement}
 use Rattle.reading.proofs.is_deleted.Tie as tie
 
-is-sound-requires : tie.Need-is-sound-requires
-is-sound-requires c κs = search needs
-
-standing-in-requires : tie.Need-standing-in-requires
-standing-in-requires c κs = search needs
-
-is-deleted-now-requires : tie.Need-is-deleted-now-requires
-is-deleted-now-requires c κs = search needs
-
-yes-requires : tie.Need-yes-requires
-yes-requires c κs = search needs
-
 returns : tie.Need-returns
 unfolding isDeletedOn
 returns c =
@@ -32,9 +20,9 @@ pub is-deleted-spec : {M : Type 1} → statement M
 is-deleted-spec =
     tie.close
     (tie.spec
-    is-sound-requires
-    standing-in-requires
-    is-deleted-now-requires
-    yes-requires
+    (λ c κs. search needs)
+    (λ c κs. search needs)
+    (λ c κs. search needs)
+    (λ c κs. search needs)
     returns
     returns-2)

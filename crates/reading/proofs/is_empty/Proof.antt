@@ -8,21 +8,6 @@ use Rattle.reading.specs.Reading.{isEmptyOn, yes, noIds}
 use Rattle.reading.proofs.is_empty.Statement.{statement}
 use Rattle.reading.proofs.is_empty.Tie as tie
 
-is-sound-requires : tie.Need-is-sound-requires
-is-sound-requires c κs = search needs
-
-element-copy-out-yes : tie.Need-element-copy-out-yes
-element-copy-out-yes c = search needs
-
-element-copy-out-yes-2 : tie.Need-element-copy-out-yes-2
-element-copy-out-yes-2 c = search needs
-
-element-copy-out-yes-3 : tie.Need-element-copy-out-yes-3
-element-copy-out-yes-3 c = search needs
-
-yes-requires : tie.Need-yes-requires
-yes-requires c κs = search needs
-
 -- three tests, each made whatever the others say
 all-three : (a b c : Bool) → (a && (b && c)) ≡ both a (both b c)
 all-three a b c = simp and-both
@@ -40,10 +25,10 @@ pub is-empty-spec : {M : Type 1} → statement M
 is-empty-spec =
     tie.close
     (tie.spec
-    is-sound-requires
-    element-copy-out-yes
-    element-copy-out-yes-2
-    element-copy-out-yes-3
-    yes-requires
+    (λ c κs. search needs)
+    (λ c. search needs)
+    (λ c. search needs)
+    (λ c. search needs)
+    (λ c κs. search needs)
     returns
     returns-2)

@@ -8,15 +8,6 @@ use Rattle.reading.specs.declared.Read.the-variants.{Is}
 use Rattle.reading.proofs.known_version.Statement.{statement}
 use Rattle.reading.proofs.known_version.Tie as tie
 
-is-sound-requires : tie.Need-is-sound-requires
-is-sound-requires c κs = search needs
-
-version-in-requires : tie.Need-version-in-requires
-version-in-requires c κs = search needs
-
-version-word-requires : tie.Need-version-word-requires
-version-word-requires c κs = search needs
-
 returns : tie.Need-returns
 unfolding knownOn
 returns c =
@@ -30,4 +21,4 @@ returns-2 c = rw (← c .before .is-sound .ensures, c .if1 .left)
 pub known-version-spec : {M : Type 1} → statement M
 known-version-spec =
     tie.close
-    (tie.spec is-sound-requires version-in-requires version-word-requires returns returns-2)
+    (tie.spec (λ c κs. search needs) (λ c κs. search needs) (λ c κs. search needs) returns returns-2)

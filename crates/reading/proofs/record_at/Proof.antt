@@ -6,27 +6,12 @@ use Rattle.reading.specs.Reading.{nthView, recordOn}
 use Rattle.reading.proofs.record_at.Statement.{statement}
 use Rattle.reading.proofs.record_at.Tie as tie
 
-is-sound-requires : tie.Need-is-sound-requires
-is-sound-requires c κs = search needs
-
-row-in-requires : tie.Need-row-in-requires
-row-in-requires c κs = search needs
-
-enum-known-row : tie.Need-enum-known-row
-enum-known-row c = search needs
-
-enum-told : tie.Need-enum-told
-enum-told c = search needs
-
 returns : tie.Need-returns
 unfolding recordOn
 returns c =
     let a = c .before .before .before .before .before .before .before .before .before .before .before .before .before .args in
     let s = sym (c .enum-told .given .1) ∙ c .before .before .row-in .ensures (now (a .na)) (now (a .wa)) (now (a .ra)) (now (a .ss)) (now (a .sb)) in
     rw (← c .before .before .before .before .is-sound .ensures, c .before .before .before .if1 .taken) (ap (nthView _ _ _) s)
-
-view-in-requires : tie.Need-view-in-requires
-view-in-requires c κs = search needs
 
 returns-2 : tie.Need-returns-2
 unfolding recordOn
@@ -44,11 +29,11 @@ pub record-at-spec : {M : Type 1} → statement M
 record-at-spec =
     tie.close
     (tie.spec
-    is-sound-requires
-    row-in-requires
-    enum-known-row
-    enum-told
+    (λ c κs. search needs)
+    (λ c κs. search needs)
+    (λ c. search needs)
+    (λ c. search needs)
     returns
-    view-in-requires
+    (λ c κs. search needs)
     returns-2
     returns-3)

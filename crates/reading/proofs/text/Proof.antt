@@ -11,26 +11,8 @@ use Rattle.reading.specs.Reading.{textOn, textView}
 use Rattle.reading.proofs.text.Statement.{statement}
 use Rattle.reading.proofs.text.Tie as tie
 
-is-sound-requires : tie.Need-is-sound-requires
-is-sound-requires c κs = search needs
-
-element-copy-out-lesser : tie.Need-element-copy-out-lesser
-element-copy-out-lesser c = search needs
-
-lesser-requires : tie.Need-lesser-requires
-lesser-requires c κs = search needs
-
 slice-aggregate-resolve : tie.Need-slice-aggregate-resolve
 slice-aggregate-resolve c = sym (length-take-le (c .before .lesser .result) (now (c .before .before .before .before .before .before .before .before .before .before .before .before .before .args .sb)) (omega arith))
-
-element-copy-out-resolve : tie.Need-element-copy-out-resolve
-element-copy-out-resolve c = search needs
-
-resolve-requires : tie.Need-resolve-requires
-resolve-requires c κs = search needs
-
-text-view-requires : tie.Need-text-view-requires
-text-view-requires c κs = search needs
 
 returns : tie.Need-returns
 unfolding textOn
@@ -49,12 +31,12 @@ pub text-spec : {M : Type 1} → statement M
 text-spec =
     tie.close
     (tie.spec
-    is-sound-requires
-    element-copy-out-lesser
-    lesser-requires
+    (λ c κs. search needs)
+    (λ c. search needs)
+    (λ c κs. search needs)
     slice-aggregate-resolve
-    element-copy-out-resolve
-    resolve-requires
-    text-view-requires
+    (λ c. search needs)
+    (λ c κs. search needs)
+    (λ c κs. search needs)
     returns
     returns-2)

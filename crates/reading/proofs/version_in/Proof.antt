@@ -5,33 +5,6 @@ use borrow.Author.Needs.{needs}
 use Rattle.reading.proofs.version_in.Statement.{statement}
 use Rattle.reading.proofs.version_in.Tie as tie
 
-enum-told : tie.Need-enum-told
-enum-told c = search needs
-
-element-copy-out-known-version : tie.Need-element-copy-out-known-version
-element-copy-out-known-version c = search needs
-
-known-version-requires : tie.Need-known-version-requires
-known-version-requires c κs = search needs
-
-enum-told-2 : tie.Need-enum-told-2
-enum-told-2 c = search needs
-
-element-copy-out-known-version-2 : tie.Need-element-copy-out-known-version-2
-element-copy-out-known-version-2 c = search needs
-
-known-version-requires-2 : tie.Need-known-version-requires-2
-known-version-requires-2 c κs = search needs
-
-enum-told-3 : tie.Need-enum-told-3
-enum-told-3 c = search needs
-
-element-copy-out-known-version-3 : tie.Need-element-copy-out-known-version-3
-element-copy-out-known-version-3 c = search needs
-
-known-version-requires-3 : tie.Need-known-version-requires-3
-known-version-requires-3 c κs = search needs
-
 returns : tie.Need-returns
 returns c spans bytes =
     let e = c .before .before .enum-told .given .1 in
@@ -51,15 +24,15 @@ pub version-in-spec : {M : Type 1} → statement M
 version-in-spec =
     tie.close
     (tie.spec
-    enum-told
-    element-copy-out-known-version
-    known-version-requires
-    enum-told-2
-    element-copy-out-known-version-2
-    known-version-requires-2
-    enum-told-3
-    element-copy-out-known-version-3
-    known-version-requires-3
+    (λ c. search needs)
+    (λ c. search needs)
+    (λ c κs. search needs)
+    (λ c. search needs)
+    (λ c. search needs)
+    (λ c κs. search needs)
+    (λ c. search needs)
+    (λ c. search needs)
+    (λ c κs. search needs)
     returns
     returns-2
     returns-3)

@@ -9,135 +9,6 @@ use borrow.Author.Needs.{needs}
 use Rattle.refusal.proofs.reply_of.Statement.{statement}
 use Rattle.refusal.proofs.reply_of.Tie as tie
 
-enum-told : tie.Need-enum-told
-enum-told c = search needs
-
-plain-requires : tie.Need-plain-requires
-plain-requires c κs = search needs
-
-enum-told-2 : tie.Need-enum-told-2
-enum-told-2 c = search needs
-
-plain-requires-2 : tie.Need-plain-requires-2
-plain-requires-2 c κs = search needs
-
-enum-told-3 : tie.Need-enum-told-3
-enum-told-3 c = search needs
-
-plain-requires-3 : tie.Need-plain-requires-3
-plain-requires-3 c κs = search needs
-
-enum-told-4 : tie.Need-enum-told-4
-enum-told-4 c = search needs
-
-plain-requires-4 : tie.Need-plain-requires-4
-plain-requires-4 c κs = search needs
-
-enum-told-5 : tie.Need-enum-told-5
-enum-told-5 c = search needs
-
-plain-requires-5 : tie.Need-plain-requires-5
-plain-requires-5 c κs = search needs
-
-enum-told-6 : tie.Need-enum-told-6
-enum-told-6 c = search needs
-
-plain-requires-6 : tie.Need-plain-requires-6
-plain-requires-6 c κs = search needs
-
-enum-told-7 : tie.Need-enum-told-7
-enum-told-7 c = search needs
-
-plain-requires-7 : tie.Need-plain-requires-7
-plain-requires-7 c κs = search needs
-
-enum-told-8 : tie.Need-enum-told-8
-enum-told-8 c = search needs
-
-plain-requires-8 : tie.Need-plain-requires-8
-plain-requires-8 c κs = search needs
-
-enum-told-9 : tie.Need-enum-told-9
-enum-told-9 c = search needs
-
-plain-requires-9 : tie.Need-plain-requires-9
-plain-requires-9 c κs = search needs
-
-enum-told-10 : tie.Need-enum-told-10
-enum-told-10 c = search needs
-
-plain-requires-10 : tie.Need-plain-requires-10
-plain-requires-10 c κs = search needs
-
-enum-told-11 : tie.Need-enum-told-11
-enum-told-11 c = search needs
-
-plain-requires-11 : tie.Need-plain-requires-11
-plain-requires-11 c κs = search needs
-
-enum-known-r : tie.Need-enum-known-r
-enum-known-r c = search needs
-
-enum-told-12 : tie.Need-enum-told-12
-enum-told-12 c = search needs
-
-plain-requires-12 : tie.Need-plain-requires-12
-plain-requires-12 c κs = search needs
-
-enum-told-13 : tie.Need-enum-told-13
-enum-told-13 c = search needs
-
-plain-requires-13 : tie.Need-plain-requires-13
-plain-requires-13 c κs = search needs
-
-enum-told-14 : tie.Need-enum-told-14
-enum-told-14 c = search needs
-
-plain-requires-14 : tie.Need-plain-requires-14
-plain-requires-14 c κs = search needs
-
-enum-told-15 : tie.Need-enum-told-15
-enum-told-15 c = search needs
-
-plain-requires-15 : tie.Need-plain-requires-15
-plain-requires-15 c κs = search needs
-
-enum-told-16 : tie.Need-enum-told-16
-enum-told-16 c = search needs
-
-plain-requires-16 : tie.Need-plain-requires-16
-plain-requires-16 c κs = search needs
-
-enum-told-17 : tie.Need-enum-told-17
-enum-told-17 c = search needs
-
-plain-requires-17 : tie.Need-plain-requires-17
-plain-requires-17 c κs = search needs
-
-enum-told-18 : tie.Need-enum-told-18
-enum-told-18 c = search needs
-
-plain-requires-18 : tie.Need-plain-requires-18
-plain-requires-18 c κs = search needs
-
-enum-told-19 : tie.Need-enum-told-19
-enum-told-19 c = search needs
-
-plain-requires-19 : tie.Need-plain-requires-19
-plain-requires-19 c κs = search needs
-
-enum-told-20 : tie.Need-enum-told-20
-enum-told-20 c = search needs
-
-plain-requires-20 : tie.Need-plain-requires-20
-plain-requires-20 c κs = search needs
-
-enum-told-21 : tie.Need-enum-told-21
-enum-told-21 c = search needs
-
-plain-requires-21 : tie.Need-plain-requires-21
-plain-requires-21 c κs = search needs
-
 returns : tie.Need-returns
 unfolding replyOf
 returns c = c .plain .ensures ∙ rw (c .before .enum-told .given .1)
@@ -232,49 +103,49 @@ pub reply-of-spec : {M : Type 1} → statement M
 reply-of-spec =
     tie.close
     (tie.spec
-    enum-told
-    plain-requires
-    enum-told-2
-    plain-requires-2
-    enum-told-3
-    plain-requires-3
-    enum-told-4
-    plain-requires-4
-    enum-told-5
-    plain-requires-5
-    enum-told-6
-    plain-requires-6
-    enum-told-7
-    plain-requires-7
-    enum-told-8
-    plain-requires-8
-    enum-told-9
-    plain-requires-9
-    enum-told-10
-    plain-requires-10
-    enum-told-11
-    plain-requires-11
-    enum-known-r
-    enum-told-12
-    plain-requires-12
-    enum-told-13
-    plain-requires-13
-    enum-told-14
-    plain-requires-14
-    enum-told-15
-    plain-requires-15
-    enum-told-16
-    plain-requires-16
-    enum-told-17
-    plain-requires-17
-    enum-told-18
-    plain-requires-18
-    enum-told-19
-    plain-requires-19
-    enum-told-20
-    plain-requires-20
-    enum-told-21
-    plain-requires-21
+    (λ c. search needs)
+    (λ c κs. search needs)
+    (λ c. search needs)
+    (λ c κs. search needs)
+    (λ c. search needs)
+    (λ c κs. search needs)
+    (λ c. search needs)
+    (λ c κs. search needs)
+    (λ c. search needs)
+    (λ c κs. search needs)
+    (λ c. search needs)
+    (λ c κs. search needs)
+    (λ c. search needs)
+    (λ c κs. search needs)
+    (λ c. search needs)
+    (λ c κs. search needs)
+    (λ c. search needs)
+    (λ c κs. search needs)
+    (λ c. search needs)
+    (λ c κs. search needs)
+    (λ c. search needs)
+    (λ c κs. search needs)
+    (λ c. search needs)
+    (λ c. search needs)
+    (λ c κs. search needs)
+    (λ c. search needs)
+    (λ c κs. search needs)
+    (λ c. search needs)
+    (λ c κs. search needs)
+    (λ c. search needs)
+    (λ c κs. search needs)
+    (λ c. search needs)
+    (λ c κs. search needs)
+    (λ c. search needs)
+    (λ c κs. search needs)
+    (λ c. search needs)
+    (λ c κs. search needs)
+    (λ c. search needs)
+    (λ c κs. search needs)
+    (λ c. search needs)
+    (λ c κs. search needs)
+    (λ c. search needs)
+    (λ c κs. search needs)
     returns
     returns-2
     returns-3

@@ -7,44 +7,17 @@ use borrow.Author.Needs.{needs}
 use Rattle.report.proofs.put_refused.Statement.{statement}
 use Rattle.report.proofs.put_refused.Tie as tie
 
-sub-put-line : tie.Need-sub-put-line
-sub-put-line c = search needs
-
-part-put-line-start : tie.Need-part-put-line-start
-part-put-line-start c = search needs
-
-part-put-line-end : tie.Need-part-put-line-end
-part-put-line-end c = search needs
-
-put-line-requires : tie.Need-put-line-requires
-put-line-requires c κs = search needs
-
-enum-known-left : tie.Need-enum-known-left
-enum-known-left c = search needs
-
-enum-told : tie.Need-enum-told
-enum-told c = search needs
-
-same-length : tie.Need-same-length
-same-length c = search needs
-
 returns : tie.Need-returns
 returns c =
     let a = c .before .before .before .before .before .before .before .args in
     let w = line-measured (now (a .out)) (a .refusal) (a .line) _ _ (c .before .before .before .before .put-line .ensures) in
     rw (w .0) (too-long (now (a .out)) (a .refusal) (a .line) (sym (c .enum-told .given .1) ∙ w .1))
 
-put-line-requires-2 : tie.Need-put-line-requires-2
-put-line-requires-2 c κs = search needs
-
 sub-result : tie.Need-sub-result
 sub-result c =
     let a = c .before .before .before .before .before .before .before .before .before .before .before .before .args in
     let w = line-measured (now (a .out)) (a .refusal) (a .line) _ _ (c .before .before .before .before .before .before .before .before .before .put-line .ensures) in
     omega (arith, room-left (now (a .out)) (a .refusal) (a .line) _ (sym (c .before .before .before .before .before .left .given .1) ∙ w .1))
-
-same-length-2 : tie.Need-same-length-2
-same-length-2 c = search needs
 
 returns-2 : tie.Need-returns-2
 returns-2 c =
@@ -56,15 +29,15 @@ pub put-refused-spec : {M : Type 1} → statement M
 put-refused-spec =
     tie.close
     (tie.spec
-    sub-put-line
-    part-put-line-start
-    part-put-line-end
-    put-line-requires
-    enum-known-left
-    enum-told
-    same-length
+    (λ c. search needs)
+    (λ c. search needs)
+    (λ c. search needs)
+    (λ c κs. search needs)
+    (λ c. search needs)
+    (λ c. search needs)
+    (λ c. search needs)
     returns
-    put-line-requires-2
+    (λ c κs. search needs)
     sub-result
-    same-length-2
+    (λ c. search needs)
     returns-2)

@@ -23,12 +23,6 @@ given s =
 lesser-requires : tie.Need-lesser-requires
 lesser-requires c κs = tt
 
-take-last-requires : tie.Need-take-last-requires
-take-last-requires c κs = search needs
-
-put-end-requires : tie.Need-put-end-requires
-put-end-requires c κs = search needs
-
 same-length : tie.Need-same-length
 same-length c = c .before .before .before .before .before .before .before .before .before .before .before .before .before .before .before .before .before .before .before .before .before .before .before .before .before .before .before .ni .given
 
@@ -66,8 +60,8 @@ finish-spec =
     tie.close
     (tie.spec
     lesser-requires
-    take-last-requires
-    put-end-requires
+    (λ c κs. search needs)
+    (λ c κs. search needs)
     same-length
     same-length-2
     same-length-3

@@ -19,35 +19,17 @@ given s =
       parts = now (a .ps);
     }
 
-end-requires : tie.Need-end-requires
-end-requires c κs = search needs
-
-enum-told : tie.Need-enum-told
-enum-told c = search needs
-
 put-page-requires : tie.Need-put-page-requires
 put-page-requires c κs =
     let s = c .before .before .before .before .before .before .before .before .before .before .before .before .before in
     let e = c .before .before .before .end in
     (end-overlay (given s) (e .result) (e .ensures) (c .before .enum-told .given .1), (end-lines (given s) (e .result) (e .ensures) (c .before .enum-told .given .1), s .pre))
 
-enum-known-refusal : tie.Need-enum-known-refusal
-enum-known-refusal c = search needs
-
-put-refusal-requires : tie.Need-put-refusal-requires
-put-refusal-requires c κs = search needs
-
-same-length : tie.Need-same-length
-same-length c = search needs
-
 returns : tie.Need-returns
 returns c =
     let s = c .before .before .before .before .before .before .before .before .before .before .before .before .before .before .before .before in
     let e = c .before .before .before .before .before .before .end in
     c .before .before .put-page .ensures ∙ ap (endOutput (now (s .args .out))) (ends-page (given s) (e .result) (e .ensures) (c .before .before .before .before .enum-told .given .1))
-
-same-length-2 : tie.Need-same-length-2
-same-length-2 c = search needs
 
 returns-2 : tie.Need-returns-2
 returns-2 c =
@@ -59,12 +41,12 @@ pub put-end-spec : {M : Type 1} → statement M
 put-end-spec =
     tie.close
     (tie.spec
-    end-requires
-    enum-told
+    (λ c κs. search needs)
+    (λ c. search needs)
     put-page-requires
-    enum-known-refusal
-    put-refusal-requires
-    same-length
+    (λ c. search needs)
+    (λ c κs. search needs)
+    (λ c. search needs)
     returns
-    same-length-2
+    (λ c. search needs)
     returns-2)

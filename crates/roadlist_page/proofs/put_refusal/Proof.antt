@@ -8,15 +8,6 @@ use borrow.Author.Needs.{needs}
 use Rattle.roadlist_page.proofs.put_refusal.Statement.{statement}
 use Rattle.roadlist_page.proofs.put_refusal.Tie as tie
 
-reply-of-requires : tie.Need-reply-of-requires
-reply-of-requires c κs = search needs
-
-put-refused-requires : tie.Need-put-refused-requires
-put-refused-requires c κs = search needs
-
-same-length : tie.Need-same-length
-same-length c = search needs
-
 returns : tie.Need-returns
 returns c =
     let s = c .before .before .before .before .before .before in
@@ -26,4 +17,4 @@ returns c =
     refused-put (now (a .out)) (s .pre) (a .refusal) (a .line) (omega arith) (y .result) f (y .ensures) _ _ (c .before .before .put-refused .ensures)
 
 pub put-refusal-spec : {M : Type 1} → statement M
-put-refusal-spec = tie.close (tie.spec reply-of-requires put-refused-requires same-length returns)
+put-refusal-spec = tie.close (tie.spec (λ c κs. search needs) (λ c κs. search needs) (λ c. search needs) returns)

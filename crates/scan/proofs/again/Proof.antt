@@ -6,15 +6,6 @@ use Rattle.scan.proofs.Walks.{found, find-name}
 use Rattle.scan.proofs.again.Statement.{statement}
 use Rattle.scan.proofs.again.Tie as tie
 
-value-at-requires : tie.Need-value-at-requires
-value-at-requires c κs = search needs
-
-enum-told : tie.Need-enum-told
-enum-told c = search needs
-
-enum-told-2 : tie.Need-enum-told-2
-enum-told-2 c = search needs
-
 returns : tie.Need-returns
 returns c =
     let a = c .before .before .before .before .before .args in
@@ -28,4 +19,4 @@ returns-2 c =
     ap found (sym (c .enum-told2 .given .1) ∙ c .before .before .value-at .ensures) ∙ find-name (now (a .t)) (now (a .name)) (a .at) p .is
 
 pub again-spec : {M : Type 1} → statement M
-again-spec = tie.close (tie.spec value-at-requires enum-told enum-told-2 returns returns-2)
+again-spec = tie.close (tie.spec (λ c κs. search needs) (λ c. search needs) (λ c. search needs) returns returns-2)

@@ -10,12 +10,6 @@ use Rattle.scan.proofs.attribute_at.Tie as tie
 returns : tie.Need-returns
 returns c = let a = c .before .before .args in sym (attribute-past (now (a .t)) (a .at) (omega arith))
 
-name-end-requires : tie.Need-name-end-requires
-name-end-requires c κs = search needs
-
-find-requires : tie.Need-find-requires
-find-requires c κs = search needs
-
 returns-2 : tie.Need-returns-2
 returns-2 c =
     let a = c .before .before .before .before .args in
@@ -24,4 +18,4 @@ returns-2 c =
 
 pub attribute-at-spec : {M : Type 1} → statement M
 attribute-at-spec =
-    tie.close (tie.spec returns name-end-requires find-requires returns-2)
+    tie.close (tie.spec returns (λ c κs. search needs) (λ c κs. search needs) returns-2)

@@ -13,15 +13,6 @@ use Rattle.scan.proofs.body_length.Tie as tie
 returns : tie.Need-returns
 returns c = omega (arith, judged (now (c .before .args .line)) .within)
 
-sub-if2 : tie.Need-sub-if2
-sub-if2 c = search needs
-
-shared-slice-read-if2 : tie.Need-shared-slice-read-if2
-shared-slice-read-if2 c = search needs
-
-sub-result : tie.Need-sub-result
-sub-result c = search needs
-
 returns-2 : tie.Need-returns-2
 returns-2 c =
     let s = now (c .before .before .before .args .line) in
@@ -32,4 +23,4 @@ returns-3 c = rw (ended-none (now (c .before .before .before .args .line)) (c .i
 
 pub body-length-spec : {M : Type 1} → statement M
 body-length-spec =
-    tie.close (tie.spec returns sub-if2 shared-slice-read-if2 sub-result returns-2 returns-3)
+    tie.close (tie.spec returns (λ c. search needs) (λ c. search needs) (λ c. search needs) returns-2 returns-3)

@@ -7,20 +7,11 @@ use Rattle.scan.proofs.Lines.{word-within, event-open, event-empty, eve
 use Rattle.scan.proofs.event.Statement.{statement}
 use Rattle.scan.proofs.event.Tie as tie
 
-find-requires : tie.Need-find-requires
-find-requires c κs = search needs
-
 slice-aggregate-w : tie.Need-slice-aggregate-w
 slice-aggregate-w c =
     let t = now (c .before .before .before .args .t) in
     let f = c .before .find in
     sym (length-take-le (f .result) t (word-within t (f .result) (f .ensures)))
-
-slice-aggregate-equal : tie.Need-slice-aggregate-equal
-slice-aggregate-equal c = search needs
-
-equal-requires : tie.Need-equal-requires
-equal-requires c κs = search needs
 
 starts-requires : tie.Need-starts-requires
 starts-requires c κs =
@@ -32,12 +23,6 @@ returns c =
     let t = now (c .before .before .before .before .before .before .before .args .t) in
     let f = c .before .before .before .before .before .find in
     (c .starts .ensures .0 ∙ sym (event-open t (f .result) (f .ensures) (sym (c .before .before .equal .ensures) ∙ c .before .if1 .taken)), c .starts .ensures .1)
-
-slice-aggregate-equal-2 : tie.Need-slice-aggregate-equal-2
-slice-aggregate-equal-2 c = search needs
-
-equal-requires-2 : tie.Need-equal-requires-2
-equal-requires-2 c κs = search needs
 
 starts-requires-2 : tie.Need-starts-requires-2
 starts-requires-2 c κs =
@@ -60,9 +45,6 @@ returns-3 c =
     let k = sym (c .before .before .equal2 .ensures) ∙ c .before .if2 .left in
     (sym (event-more t (f .result) (f .ensures) h k (c .if3 .taken)), tt)
 
-alone-requires : tie.Need-alone-requires
-alone-requires c κs = search needs
-
 returns-4 : tie.Need-returns-4
 returns-4 c =
     let t = now (c .before .before .before .before .before .before .before .before .before .before .before .args .t) in
@@ -75,16 +57,16 @@ pub event-spec : {M : Type 1} → statement M
 event-spec =
     tie.close
     (tie.spec
-    find-requires
+    (λ c κs. search needs)
     slice-aggregate-w
-    slice-aggregate-equal
-    equal-requires
+    (λ c. search needs)
+    (λ c κs. search needs)
     starts-requires
     returns
-    slice-aggregate-equal-2
-    equal-requires-2
+    (λ c. search needs)
+    (λ c κs. search needs)
     starts-requires-2
     returns-2
     returns-3
-    alone-requires
+    (λ c κs. search needs)
     returns-4)

@@ -31,9 +31,6 @@ part-escapes-right-start c = let d = stood (c .before .before .before) in omega 
 part-escapes-right-end : tie.Need-part-escapes-right-end
 part-escapes-right-end c = let d = stood (c .before .before .before) in omega (arith, d .end)
 
-escapes-right-requires : tie.Need-escapes-right-requires
-escapes-right-requires c κs = search needs
-
 returns-3 : tie.Need-returns-3
 returns-3 c =
     let a = c .before .before .before .before .before .args in
@@ -52,5 +49,5 @@ is-attr-spec =
     sub-escapes-right
     part-escapes-right-start
     part-escapes-right-end
-    escapes-right-requires
+    (λ c κs. search needs)
     returns-3)

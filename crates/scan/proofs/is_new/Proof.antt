@@ -10,9 +10,6 @@ use Rattle.scan.proofs.Places.{stands, lent-is}
 use Rattle.scan.proofs.is_new.Statement.{statement}
 use Rattle.scan.proofs.is_new.Tie as tie
 
-is-attr-requires : tie.Need-is-attr-requires
-is-attr-requires c κs = search needs
-
 sub-seen : tie.Need-sub-seen
 sub-seen c = stands _ _ _ _ (c .before .before .before .pre .0) .start
 
@@ -21,9 +18,6 @@ part-seen-start c = stands _ _ _ _ (c .before .before .before .pre .0) .start
 
 part-seen-end : tie.Need-part-seen-end
 part-seen-end c = let d = stands _ _ _ _ (c .before .before .before .pre .0) in omega (arith, d .equals, d .end)
-
-seen-requires : tie.Need-seen-requires
-seen-requires c κs = search needs
 
 -- whether the name is kept
 compared : (c : tie.After-seen)
@@ -49,11 +43,11 @@ pub is-new-spec : {M : Type 1} → statement M
 is-new-spec =
     tie.close
     (tie.spec
-    is-attr-requires
+    (λ c κs. search needs)
     sub-seen
     part-seen-start
     part-seen-end
-    seen-requires
+    (λ c κs. search needs)
     returns
     returns-2
     returns-3)

@@ -5,12 +5,6 @@ use borrow.Author.Needs.{needs}
 use Rattle.scan.proofs.legal_line.Statement.{statement}
 use Rattle.scan.proofs.legal_line.Tie as tie
 
-is-text-requires : tie.Need-is-text-requires
-is-text-requires c κs = search needs
-
-lacks-requires : tie.Need-lacks-requires
-lacks-requires c κs = search needs
-
 returns : tie.Need-returns
 unfolding legalLine both
 returns c = rw (c .lacks .ensures, ← c .before .before .is-text .ensures, c .before .if1 .taken)
@@ -20,4 +14,4 @@ unfolding legalLine both
 returns-2 c = rw (← c .before .is-text .ensures, c .if1 .left)
 
 pub legal-line-spec : {M : Type 1} → statement M
-legal-line-spec = tie.close (tie.spec is-text-requires lacks-requires returns returns-2)
+legal-line-spec = tie.close (tie.spec (λ c κs. search needs) (λ c κs. search needs) returns returns-2)

@@ -6,9 +6,6 @@ use Rattle.scan.proofs.Walks.{good-there, stand-good, stand-bad}
 use Rattle.scan.proofs.many_stand.Statement.{statement}
 use Rattle.scan.proofs.many_stand.Tie as tie
 
-attrs-good-requires : tie.Need-attrs-good-requires
-attrs-good-requires c κs = search needs
-
 once-requires : tie.Need-once-requires
 once-requires c κs =
     let a = c .before .before .before .args in
@@ -24,4 +21,4 @@ returns-2 : tie.Need-returns-2
 returns-2 c = sym (stand-bad _ (sym (c .before .attrs-good .ensures) ∙ c .if1 .left))
 
 pub many-stand-spec : {M : Type 1} → statement M
-many-stand-spec = tie.close (tie.spec attrs-good-requires once-requires returns returns-2)
+many-stand-spec = tie.close (tie.spec (λ c κs. search needs) once-requires returns returns-2)

@@ -7,18 +7,6 @@ use Rattle.scan.proofs.Pieces.{piece-byte, piece-last, piece-escape}
 use Rattle.scan.proofs.piece_at.Statement.{statement}
 use Rattle.scan.proofs.piece_at.Tie as tie
 
-shared-slice-read-b : tie.Need-shared-slice-read-b
-shared-slice-read-b c = search needs
-
-add-next : tie.Need-add-next
-add-next c = search needs
-
-shared-slice-read-letter : tie.Need-shared-slice-read-letter
-shared-slice-read-letter c = search needs
-
-letter-requires : tie.Need-letter-requires
-letter-requires c κs = search needs
-
 returns : tie.Need-returns
 returns c =
     let a = c .before .before .before .before .before .before .args in
@@ -38,10 +26,10 @@ pub piece-at-spec : {M : Type 1} → statement M
 piece-at-spec =
     tie.close
     (tie.spec
-    shared-slice-read-b
-    add-next
-    shared-slice-read-letter
-    letter-requires
+    (λ c. search needs)
+    (λ c. search needs)
+    (λ c. search needs)
+    (λ c κs. search needs)
     returns
     returns-2
     returns-3)

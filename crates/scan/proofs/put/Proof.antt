@@ -6,17 +6,8 @@ use borrow.Author.Needs.{needs}
 use Rattle.scan.proofs.put.Statement.{statement}
 use Rattle.scan.proofs.put.Tie as tie
 
-slice-write-out : tie.Need-slice-write-out
-slice-write-out c = search needs
-
-same-length : tie.Need-same-length
-same-length c = search needs
-
-returns : tie.Need-returns
-returns c = search needs
-
 returns-2 : tie.Need-returns-2
 returns-2 c = let a = c .before .args in sym (set-out (now (a .out)) (a .at) (a .b) (c .if1 .left))
 
 pub put-spec : {M : Type 1} → statement M
-put-spec = tie.close (tie.spec slice-write-out same-length returns returns-2)
+put-spec = tie.close (tie.spec (λ c. search needs) (λ c. search needs) (λ c. search needs) returns-2)

@@ -8,9 +8,6 @@ use Rattle.scan.proofs.Lines.{judged, plain-legal, plain-whole, scan-lo
 use Rattle.scan.proofs.scan.Statement.{statement}
 use Rattle.scan.proofs.scan.Tie as tie
 
-body-length-requires : tie.Need-body-length-requires
-body-length-requires c κs = search needs
-
 returns : tie.Need-returns
 returns c =
     let n = c .before .body-length in
@@ -22,18 +19,12 @@ slice-aggregate-t c =
     let n = c .before .before .body-length in
     sym (length-take-le (n .result) s (omega (arith, n .ensures, judged s .within)))
 
-plain-requires : tie.Need-plain-requires
-plain-requires c κs = search needs
-
 returns-2 : tie.Need-returns-2
 returns-2 c =
     let s = now (c .before .before .before .before .before .before .before .args .line) in
     let n = c .before .before .before .before .before .body-length in
     let k = plain-legal _ (sym (c .before .before .plain .ensures) ∙ c .before .if2 .taken) in
     (scan-open s (n .result) (n .ensures) (omega arith) k (c .if3 .taken), tt)
-
-event-requires : tie.Need-event-requires
-event-requires c κs = search needs
 
 returns-3 : tie.Need-returns-3
 returns-3 c =
@@ -44,21 +35,12 @@ returns-3 c =
       scan-lies s (n .result) (n .ensures) (c .event .result) (c .event .ensures .1),
     )
 
-legal-line-requires : tie.Need-legal-line-requires
-legal-line-requires c κs = search needs
-
 returns-4 : tie.Need-returns-4
 returns-4 c =
     let s = now (c .before .before .before .before .before .before .before .before .before .args .line) in
     let n = c .before .before .before .before .before .before .before .body-length in
     let k = sym (c .before .before .legal-line .ensures) ∙ c .before .if4 .taken in
     (scan-open s (n .result) (n .ensures) (omega arith) k (c .if5 .taken), tt)
-
-lacks-requires : tie.Need-lacks-requires
-lacks-requires c κs = search needs
-
-event-requires-2 : tie.Need-event-requires-2
-event-requires-2 c κs = search needs
 
 returns-5 : tie.Need-returns-5
 returns-5 c =
@@ -87,17 +69,17 @@ pub scan-spec : {M : Type 1} → statement M
 scan-spec =
     tie.close
     (tie.spec
-    body-length-requires
+    (λ c κs. search needs)
     returns
     slice-aggregate-t
-    plain-requires
+    (λ c κs. search needs)
     returns-2
-    event-requires
+    (λ c κs. search needs)
     returns-3
-    legal-line-requires
+    (λ c κs. search needs)
     returns-4
-    lacks-requires
-    event-requires-2
+    (λ c κs. search needs)
+    (λ c κs. search needs)
     returns-5
     returns-6
     returns-7)

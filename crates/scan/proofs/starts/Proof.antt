@@ -11,12 +11,6 @@ use Rattle.scan.proofs.starts.Tie as tie
 returns : tie.Need-returns
 returns c = let a = c .before .before .args in (sym (starts-alone (now (a .t)) (a .empty) (a .at) (c .if1 .taken)), tt)
 
-add-from : tie.Need-add-from
-add-from c = search needs
-
-find-requires : tie.Need-find-requires
-find-requires c κs = search needs
-
 returns-2 : tie.Need-returns-2
 returns-2 c =
     let a = c .before .before .before .before .args in
@@ -27,9 +21,6 @@ add-attrs-stand c =
     let a = c .before .before .before .before .args in
     let w = name-within (now (a .t)) (a .empty) (a .at + 1) (c .before .find .result) (omega arith) (c .before .find .ensures) in
     omega (arith, w .1, c .before .before .before .before .good .0 .1)
-
-attrs-stand-requires : tie.Need-attrs-stand-requires
-attrs-stand-requires c κs = search needs
 
 returns-3 : tie.Need-returns-3
 returns-3 c =
@@ -51,10 +42,10 @@ starts-spec =
     tie.close
     (tie.spec
     returns
-    add-from
-    find-requires
+    (λ c. search needs)
+    (λ c κs. search needs)
     returns-2
     add-attrs-stand
-    attrs-stand-requires
+    (λ c κs. search needs)
     returns-3
     returns-4)

@@ -5,18 +5,6 @@ use Rattle.sorted.proofs.Steps.{word-id}
 use Rattle.sorted.proofs.key_at.Statement.{statement}
 use Rattle.sorted.proofs.key_at.Tie as tie
 
-mul-i64-of-bits : tie.Need-mul-i64-of-bits
-mul-i64-of-bits c = search needs
-
-shared-slice-read-i64-of-bits : tie.Need-shared-slice-read-i64-of-bits
-shared-slice-read-i64-of-bits c = search needs
-
-i64-of-bits-requires : tie.Need-i64-of-bits-requires
-i64-of-bits-requires c κs = search needs
-
-osm-id-key-requires : tie.Need-osm-id-key-requires
-osm-id-key-requires c κs = search needs
-
 returns : tie.Need-returns
 returns c =
     let k = c .before .before .before .before .args in
@@ -26,8 +14,8 @@ pub key-at-spec : {M : Type 1} → statement M
 key-at-spec =
     tie.close
     (tie.spec
-    mul-i64-of-bits
-    shared-slice-read-i64-of-bits
-    i64-of-bits-requires
-    osm-id-key-requires
+    (λ c. search needs)
+    (λ c. search needs)
+    (λ c κs. search needs)
+    (λ c κs. search needs)
     returns)

@@ -6,15 +6,6 @@ use Rattle.sorted.specs.Lookup.{overlaps}
 use Rattle.sorted.proofs.overlap_in.Statement.{statement}
 use Rattle.sorted.proofs.overlap_in.Tie as tie
 
-blob-osm-first-key-requires : tie.Need-blob-osm-first-key-requires
-blob-osm-first-key-requires c κs = search needs
-
-blob-osm-last-key-requires : tie.Need-blob-osm-last-key-requires
-blob-osm-last-key-requires c κs = search needs
-
-any-in-requires : tie.Need-any-in-requires
-any-in-requires c κs = search needs
-
 returns : tie.Need-returns
 unfolding overlaps either
 returns c =
@@ -22,9 +13,6 @@ returns c =
     let lo = toZ-ofZ (k .fits .min-id) in
     let hi = toZ-ofZ (k .fits .max-id) in
     rw (← rw (lo, hi) at (c .before .before .before .blob-osm-first-key .ensures), ← rw (lo, hi) at (c .before .before .blob-osm-last-key .ensures), ← c .before .any-in .ensures, c .if1 .taken)
-
-any-in-requires-2 : tie.Need-any-in-requires-2
-any-in-requires-2 c κs = search needs
 
 returns-2 : tie.Need-returns-2
 unfolding overlaps either
@@ -38,9 +26,9 @@ pub overlap-in-spec : {M : Type 1} → statement M
 overlap-in-spec =
     tie.close
     (tie.spec
-    blob-osm-first-key-requires
-    blob-osm-last-key-requires
-    any-in-requires
+    (λ c κs. search needs)
+    (λ c κs. search needs)
+    (λ c κs. search needs)
     returns
-    any-in-requires-2
+    (λ c κs. search needs)
     returns-2)

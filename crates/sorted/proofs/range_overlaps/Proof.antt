@@ -7,12 +7,6 @@ use Rattle.sorted.specs.Lookup.{overlapOf}
 use Rattle.sorted.proofs.range_overlaps.Statement.{statement}
 use Rattle.sorted.proofs.range_overlaps.Tie as tie
 
-in-order-requires : tie.Need-in-order-requires
-in-order-requires c κs = search needs
-
-in-order-requires-2 : tie.Need-in-order-requires-2
-in-order-requires-2 c κs = search needs
-
 overlap-in-requires : tie.Need-overlap-in-requires
 overlap-in-requires c κs = (sym (c .before .before .before .in-order .ensures) ∙ c .before .before .if1 .taken, sym (c .before .in-order2 .ensures) ∙ c .if2 .taken)
 
@@ -40,8 +34,8 @@ pub range-overlaps-spec : {M : Type 1} → statement M
 range-overlaps-spec =
     tie.close
     (tie.spec
-    in-order-requires
-    in-order-requires-2
+    (λ c κs. search needs)
+    (λ c κs. search needs)
     overlap-in-requires
     returns
     returns-2

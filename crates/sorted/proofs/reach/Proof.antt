@@ -8,18 +8,6 @@ use Rattle.sorted.proofs.Seeks.{starts, goes, stays}
 use Rattle.sorted.proofs.reach.Statement.{statement}
 use Rattle.sorted.proofs.reach.Tie as tie
 
-osm-id-key-requires : tie.Need-osm-id-key-requires
-osm-id-key-requires c κs = search needs
-
-count-under-requires : tie.Need-count-under-requires
-count-under-requires c κs = search needs
-
-enum-told : tie.Need-enum-told
-enum-told c = search needs
-
-enum-known-place : tie.Need-enum-known-place
-enum-known-place c = search needs
-
 returns : tie.Need-returns
 returns c =
     let k = c .before .before .before .before .before .before .before in
@@ -45,10 +33,10 @@ pub reach-spec : {M : Type 1} → statement M
 reach-spec =
     tie.close
     (tie.spec
-    osm-id-key-requires
-    count-under-requires
-    enum-told
-    enum-known-place
+    (λ c κs. search needs)
+    (λ c κs. search needs)
+    (λ c. search needs)
+    (λ c. search needs)
     returns
     returns-2
     returns-3)

@@ -7,17 +7,8 @@ use Rattle.sorted.proofs.Steps.{smaller-counted, upTo-counted}
 use Rattle.sorted.proofs.upsert_range.Statement.{statement}
 use Rattle.sorted.proofs.upsert_range.Tie as tie
 
-in-order-requires : tie.Need-in-order-requires
-in-order-requires c κs = search needs
-
-osm-id-key-requires : tie.Need-osm-id-key-requires
-osm-id-key-requires c κs = search needs
-
 count-under-requires : tie.Need-count-under-requires
 count-under-requires c κs = sym (c .before .before .in-order .ensures) ∙ c .before .if1 .taken
-
-osm-id-key-requires-2 : tie.Need-osm-id-key-requires-2
-osm-id-key-requires-2 c κs = search needs
 
 count-under-requires-2 : tie.Need-count-under-requires-2
 count-under-requires-2 c κs = sym (c .before .before .before .before .in-order .ensures) ∙ c .before .before .before .if1 .taken
@@ -48,10 +39,10 @@ pub upsert-range-spec : {M : Type 1} → statement M
 upsert-range-spec =
     tie.close
     (tie.spec
-    in-order-requires
-    osm-id-key-requires
+    (λ c κs. search needs)
+    (λ c κs. search needs)
     count-under-requires
-    osm-id-key-requires-2
+    (λ c κs. search needs)
     count-under-requires-2
     returns
     returns-2

@@ -9,20 +9,8 @@ use Rattle.sound.specs.Cells.{cellOf}
 use Rattle.sound.proofs.note.Statement.{statement}
 use Rattle.sound.proofs.note.Tie as tie
 
-add-cells : tie.Need-add-cells
-add-cells c = search needs
-
-cast-cells : tie.Need-cast-cells
-cast-cells c = search needs
-
-element-write-cells : tie.Need-element-write-cells
-element-write-cells c = search needs
-
-returns : tie.Need-returns
-returns c = search needs
-
 returns-2 : tie.Need-returns-2
 returns-2 c = let a = c .before .args in sym (set-out (now (a .cells)) (a .at / 45) (cellOf (a .at)) (omega arith))
 
 pub note-spec : {M : Type 1} → statement M
-note-spec = tie.close (tie.spec add-cells cast-cells element-write-cells returns returns-2)
+note-spec = tie.close (tie.spec (λ c. search needs) (λ c. search needs) (λ c. search needs) (λ c. search needs) returns-2)

@@ -10,15 +10,6 @@ use borrow.Author.Needs.{needs}
 use Rattle.sound.proofs.rank_there.Statement.{statement}
 use Rattle.sound.proofs.rank_there.Tie as tie
 
-get-u64-requires : tie.Need-get-u64-requires
-get-u64-requires c κs = search needs
-
-i64-of-bits-requires : tie.Need-i64-of-bits-requires
-i64-of-bits-requires c κs = search needs
-
-osm-id-rank-requires : tie.Need-osm-id-rank-requires
-osm-id-rank-requires c κs = search needs
-
 returns : tie.Need-returns
 returns c =
     let s = sfits-toZ {w = w64} (fits-of-lt (c .before .before .get-u64 .ok)) in
@@ -28,4 +19,4 @@ returns c =
 
 pub rank-there-spec : {M : Type 1} → statement M
 rank-there-spec =
-    tie.close (tie.spec get-u64-requires i64-of-bits-requires osm-id-rank-requires returns)
+    tie.close (tie.spec (λ c κs. search needs) (λ c κs. search needs) (λ c κs. search needs) returns)

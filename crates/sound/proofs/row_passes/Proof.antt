@@ -10,9 +10,6 @@ use Rattle.sound.proofs.Passing.{passes-there, passes-past, passes-dele
 use Rattle.sound.proofs.row_passes.Statement.{statement}
 use Rattle.sound.proofs.row_passes.Tie as tie
 
-rank-there-requires : tie.Need-rank-there-requires
-rank-there-requires c κs = search needs
-
 starts-at-requires : tie.Need-starts-at-requires
 starts-at-requires c κs = (c .before .before .if2 .taken, c .before .before .before .before .before .before .pre)
 
@@ -31,4 +28,4 @@ returns-3 c = let a = c .before .before .before .args in passes-deleted (a .stri
 
 pub row-passes-spec : {M : Type 1} → statement M
 row-passes-spec =
-    tie.close (tie.spec rank-there-requires starts-at-requires returns returns-2 returns-3)
+    tie.close (tie.spec (λ c κs. search needs) starts-at-requires returns returns-2 returns-3)

@@ -18,13 +18,10 @@ returns c = let a = c .before .before .before .args in rw (lt-leb (a .used) (len
 slice-aggregate-used-sound : tie.Need-slice-aggregate-used-sound
 slice-aggregate-used-sound c = let a = c .before .before .before .before .args in sym (length-take-le (a .used) (now (a .arena)) (omega arith))
 
-used-sound-requires : tie.Need-used-sound-requires
-used-sound-requires c κs = search needs
-
 returns-2 : tie.Need-returns-2
 unfolding soundKindStore both
 returns-2 c = let a = c .before .before .before .before .before .args in rw (le-leb (a .used) (length (now (a .arena))) (omega arith)) (c .used-sound .ensures)
 
 pub sound-kind-store-spec : {M : Type 1} → statement M
 sound-kind-store-spec =
-    tie.close (tie.spec returns slice-aggregate-used-sound used-sound-requires returns-2)
+    tie.close (tie.spec returns slice-aggregate-used-sound (λ c κs. search needs) returns-2)

@@ -8,9 +8,6 @@ use Rattle.sound.proofs.Passing.{empty}
 use Rattle.sound.proofs.used_sound.Statement.{statement}
 use Rattle.sound.proofs.used_sound.Tie as tie
 
-is-rising-requires : tie.Need-is-rising-requires
-is-rising-requires c κs = search needs
-
 cells-pass-requires : tie.Need-cells-pass-requires
 cells-pass-requires c κs = empty _ refl
 
@@ -23,4 +20,4 @@ unfolding soundUsed
 returns-2 c = sym (both-no-right _ (both-no-left _ _ (sym (c .before .is-rising .ensures) ∙ c .if1 .left)))
 
 pub used-sound-spec : {M : Type 1} → statement M
-used-sound-spec = tie.close (tie.spec is-rising-requires cells-pass-requires returns returns-2)
+used-sound-spec = tie.close (tie.spec (λ c κs. search needs) cells-pass-requires returns returns-2)

@@ -7,24 +7,6 @@ use borrow.Author.Needs.{needs}
 use Rattle.stage.proofs.put_member.Statement.{statement}
 use Rattle.stage.proofs.put_member.Tie as tie
 
-put-at-requires : tie.Need-put-at-requires
-put-at-requires c κs = search needs
-
-cast-put-at : tie.Need-cast-put-at
-cast-put-at c = search needs
-
-put-at-requires-2 : tie.Need-put-at-requires-2
-put-at-requires-2 c κs = search needs
-
-cast-put-at-2 : tie.Need-cast-put-at-2
-cast-put-at-2 c = search needs
-
-put-at-requires-3 : tie.Need-put-at-requires-3
-put-at-requires-3 c κs = search needs
-
-same-length : tie.Need-same-length
-same-length c = search needs
-
 returns : tie.Need-returns
 returns c =
     let c3 = c .before .before in
@@ -39,10 +21,10 @@ pub put-member-spec : {M : Type 1} → statement M
 put-member-spec =
     tie.close
     (tie.spec
-    put-at-requires
-    cast-put-at
-    put-at-requires-2
-    cast-put-at-2
-    put-at-requires-3
-    same-length
+    (λ c κs. search needs)
+    (λ c. search needs)
+    (λ c κs. search needs)
+    (λ c. search needs)
+    (λ c κs. search needs)
+    (λ c. search needs)
     returns)

@@ -8,18 +8,6 @@ use borrow.Author.Needs.{needs}
 use Rattle.stage.proofs.put_tag.Statement.{statement}
 use Rattle.stage.proofs.put_tag.Tie as tie
 
-put-at-requires : tie.Need-put-at-requires
-put-at-requires c κs = search needs
-
-put-at-requires-2 : tie.Need-put-at-requires-2
-put-at-requires-2 c κs = search needs
-
-copy-at-requires : tie.Need-copy-at-requires
-copy-at-requires c κs = search needs
-
-same-length : tie.Need-same-length
-same-length c = search needs
-
 returns : tie.Need-returns
 returns c =
     let c3 = c .before .before in
@@ -32,4 +20,4 @@ returns c =
 
 pub put-tag-spec : {M : Type 1} → statement M
 put-tag-spec =
-    tie.close (tie.spec put-at-requires put-at-requires-2 copy-at-requires same-length returns)
+    tie.close (tie.spec (λ c κs. search needs) (λ c κs. search needs) (λ c κs. search needs) (λ c. search needs) returns)

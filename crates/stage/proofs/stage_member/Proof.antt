@@ -15,9 +15,6 @@ use Rattle.stage.proofs.stage_member.Tie as tie
 full : (c : tie.Then1) → let a = c .before .before .before .args in (a .at ≤ a .used) × (a .used + 13 ≤ length (now (a .parts)))
 full c = room _ _ _ _ (c .before .has-room .ensures) (c .if1 .taken)
 
-has-room-requires : tie.Need-has-room-requires
-has-room-requires c κs = search needs
-
 open-gap-requires : tie.Need-open-gap-requires
 open-gap-requires c κs = omega (arith, full (c .before))
 
@@ -26,15 +23,6 @@ sub-put-member c = omega (arith, full (c .before .before .before .before))
 
 part-put-member-start : tie.Need-part-put-member-start
 part-put-member-start c = omega (arith, full (c .before .before .before .before))
-
-part-put-member-end : tie.Need-part-put-member-end
-part-put-member-end c = search needs
-
-put-member-requires : tie.Need-put-member-requires
-put-member-requires c κs = search needs
-
-same-length : tie.Need-same-length
-same-length c = search needs
 
 returns : tie.Need-returns
 returns c =
@@ -54,12 +42,12 @@ pub stage-member-spec : {M : Type 1} → statement M
 stage-member-spec =
     tie.close
     (tie.spec
-    has-room-requires
+    (λ c κs. search needs)
     open-gap-requires
     sub-put-member
     part-put-member-start
-    part-put-member-end
-    put-member-requires
-    same-length
+    (λ c. search needs)
+    (λ c κs. search needs)
+    (λ c. search needs)
     returns
     returns-2)

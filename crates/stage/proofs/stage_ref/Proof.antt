@@ -14,17 +14,8 @@ use Rattle.stage.proofs.stage_ref.Tie as tie
 full : (c : tie.Then1) → let a = c .before .before .before .args in (a .at ≤ a .used) × (a .used + 8 ≤ length (now (a .parts)))
 full c = room _ _ _ _ (c .before .has-room .ensures) (c .if1 .taken)
 
-has-room-requires : tie.Need-has-room-requires
-has-room-requires c κs = search needs
-
 open-gap-requires : tie.Need-open-gap-requires
 open-gap-requires c κs = omega (arith, full (c .before))
-
-put-at-requires : tie.Need-put-at-requires
-put-at-requires c κs = search needs
-
-same-length : tie.Need-same-length
-same-length c = search needs
 
 returns : tie.Need-returns
 returns c =
@@ -42,4 +33,4 @@ returns-2 c =
 pub stage-ref-spec : {M : Type 1} → statement M
 stage-ref-spec =
     tie.close
-    (tie.spec has-room-requires open-gap-requires put-at-requires same-length returns returns-2)
+    (tie.spec (λ c κs. search needs) open-gap-requires (λ c κs. search needs) (λ c. search needs) returns returns-2)

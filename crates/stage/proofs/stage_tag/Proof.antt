@@ -15,23 +15,11 @@ use Rattle.stage.proofs.stage_tag.Tie as tie
 full : (c : tie.Then1) → let a = c .before .before .before .before .args in a .used + (8 + length (now (a .value))) ≤ length (now (a .parts))
 full c = room _ _ _ _ (c .before .has-room .ensures) (c .if1 .taken) .1
 
-has-room-requires : tie.Need-has-room-requires
-has-room-requires c κs = search needs
-
 sub-put-tag : tie.Need-sub-put-tag
 sub-put-tag c = omega (arith, full c)
 
 part-put-tag-start : tie.Need-part-put-tag-start
 part-put-tag-start c = omega (arith, full c)
-
-part-put-tag-end : tie.Need-part-put-tag-end
-part-put-tag-end c = search needs
-
-put-tag-requires : tie.Need-put-tag-requires
-put-tag-requires c κs = search needs
-
-same-length : tie.Need-same-length
-same-length c = search needs
 
 returns : tie.Need-returns
 returns c =
@@ -51,11 +39,11 @@ pub stage-tag-spec : {M : Type 1} → statement M
 stage-tag-spec =
     tie.close
     (tie.spec
-    has-room-requires
+    (λ c κs. search needs)
     sub-put-tag
     part-put-tag-start
-    part-put-tag-end
-    put-tag-requires
-    same-length
+    (λ c. search needs)
+    (λ c κs. search needs)
+    (λ c. search needs)
     returns
     returns-2)

@@ -8,15 +8,6 @@ use borrow.Author.Needs.{needs}
 use Rattle.stamp.proofs.accepted.Statement.{statement}
 use Rattle.stamp.proofs.accepted.Tie as tie
 
-read-six-requires : tie.Need-read-six-requires
-read-six-requires c κs = search needs
-
-enum-known-m : tie.Need-enum-known-m
-enum-known-m c = search needs
-
-enum-told : tie.Need-enum-told
-enum-told c = search needs
-
 returns : tie.Need-returns
 returns c = sym (no-moment _ (six-none _ (c .before .before .read-six .ensures) (c .enum-told .given .1)))
 
@@ -38,9 +29,9 @@ pub accepted-spec : {M : Type 1} → statement M
 accepted-spec =
     tie.close
     (tie.spec
-    read-six-requires
-    enum-known-m
-    enum-told
+    (λ c κs. search needs)
+    (λ c. search needs)
+    (λ c. search needs)
     returns
     taken-requires
     seconds-requires

@@ -6,12 +6,6 @@ use borrow.Author.Needs.{needs}
 use Rattle.stamp.proofs.parse_rfc3339_utc.Statement.{statement}
 use Rattle.stamp.proofs.parse_rfc3339_utc.Tie as tie
 
-separated-requires : tie.Need-separated-requires
-separated-requires c κs = search needs
-
-accepted-requires : tie.Need-accepted-requires
-accepted-requires c κs = search needs
-
 returns : tie.Need-returns
 returns c = c .accepted .ensures ∙ sym (of-shape _ (c .before .before .before .if1 .taken) (sym (c .before .before .separated .ensures) ∙ c .before .if2 .taken))
 
@@ -23,4 +17,4 @@ returns-3 c = sym (not-twenty (now (c .before .before .args .s)) (c .if1 .left))
 
 pub parse-rfc3339-utc-spec : {M : Type 1} → statement M
 parse-rfc3339-utc-spec =
-    tie.close (tie.spec separated-requires accepted-requires returns returns-2 returns-3)
+    tie.close (tie.spec (λ c κs. search needs) (λ c κs. search needs) returns returns-2 returns-3)

@@ -7,34 +7,10 @@ use borrow.Author.Needs.{needs}
 use Rattle.stamp.proofs.stamp_field.Statement.{statement}
 use Rattle.stamp.proofs.stamp_field.Tie as tie
 
-sub-read-i32 : tie.Need-sub-read-i32
-sub-read-i32 c = search needs
-
-part-read-i32-start : tie.Need-part-read-i32-start
-part-read-i32-start c = search needs
-
-part-read-i32-end : tie.Need-part-read-i32-end
-part-read-i32-end c = search needs
-
-read-i32-requires : tie.Need-read-i32-requires
-read-i32-requires c κs = search needs
-
-enum-known-b : tie.Need-enum-known-b
-enum-known-b c = search needs
-
-enum-told : tie.Need-enum-told
-enum-told c = search needs
-
 returns : tie.Need-returns
 returns c =
     let a = c .before .before .before .before .before .args in
     field-not (now (a .s)) (a .from) (a .to) (omega arith) (sym (c .before .before .read-i32 .ensures) ∙ c .enum-told .given .1)
-
-add-t11 : tie.Need-add-t11
-add-t11 c = search needs
-
-cast-t12 : tie.Need-cast-t12
-cast-t12 c = search needs
 
 returns-2 : tie.Need-returns-2
 returns-2 c =
@@ -60,15 +36,15 @@ pub stamp-field-spec : {M : Type 1} → statement M
 stamp-field-spec =
     tie.close
     (tie.spec
-    sub-read-i32
-    part-read-i32-start
-    part-read-i32-end
-    read-i32-requires
-    enum-known-b
-    enum-told
+    (λ c. search needs)
+    (λ c. search needs)
+    (λ c. search needs)
+    (λ c κs. search needs)
+    (λ c. search needs)
+    (λ c. search needs)
     returns
-    add-t11
-    cast-t12
+    (λ c. search needs)
+    (λ c. search needs)
     returns-2
     sub-t13
     cast-t14

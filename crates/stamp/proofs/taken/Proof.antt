@@ -15,27 +15,6 @@ returns c = sym (before-month (c .before .before .args .m) (c .if1 .taken))
 returns-2 : tie.Need-returns-2
 returns-2 c = sym (after-month (c .before .before .before .before .args .m) (c .if2 .taken))
 
-add-is-leap : tie.Need-add-is-leap
-add-is-leap c = search needs
-
-is-leap-requires : tie.Need-is-leap-requires
-is-leap-requires c κs = search needs
-
-sub-month-length : tie.Need-sub-month-length
-sub-month-length c = search needs
-
-cast-month-length : tie.Need-cast-month-length
-cast-month-length c = search needs
-
-month-length-requires : tie.Need-month-length-requires
-month-length-requires c κs = search needs
-
-cast-day : tie.Need-cast-day
-cast-day c = search needs
-
-add-day : tie.Need-add-day
-add-day c = search needs
-
 returns-3 : tie.Need-returns-3
 returns-3 c =
     let m = c .before .before .before .before .before .before .before .before .before .before .before .before .before .args .m in
@@ -47,11 +26,11 @@ taken-spec =
     (tie.spec
     returns
     returns-2
-    add-is-leap
-    is-leap-requires
-    sub-month-length
-    cast-month-length
-    month-length-requires
-    cast-day
-    add-day
+    (λ c. search needs)
+    (λ c κs. search needs)
+    (λ c. search needs)
+    (λ c. search needs)
+    (λ c κs. search needs)
+    (λ c. search needs)
+    (λ c. search needs)
     returns-3)

@@ -3,15 +3,6 @@ use borrow.Author.Needs.{needs}
 use Rattle.store.proofs.handle_in.Statement.{statement}
 use Rattle.store.proofs.handle_in.Tie as tie
 
-enum-known-answer : tie.Need-enum-known-answer
-enum-known-answer c = search needs
-
-enum-known-answer-2 : tie.Need-enum-known-answer-2
-enum-known-answer-2 c = search needs
-
-enum-told : tie.Need-enum-told
-enum-told c = search needs
-
 returns : tie.Need-returns
 returns c = rw (c .before .answer .given .1)
 
@@ -24,4 +15,4 @@ returns-3 c = rw (c .enum-told .given .1)
 pub handle-in-spec : {M : Type 1} → statement M
 handle-in-spec =
     tie.close
-    (tie.spec enum-known-answer enum-known-answer-2 enum-told returns returns-2 returns-3)
+    (tie.spec (λ c. search needs) (λ c. search needs) (λ c. search needs) returns returns-2 returns-3)

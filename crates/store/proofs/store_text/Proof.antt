@@ -5,27 +5,6 @@ use borrow.Author.Needs.{needs}
 use Rattle.store.proofs.store_text.Statement.{statement}
 use Rattle.store.proofs.store_text.Tie as tie
 
-element-copy-out-intern : tie.Need-element-copy-out-intern
-element-copy-out-intern c = search needs
-
-element-copy-out-intern-2 : tie.Need-element-copy-out-intern-2
-element-copy-out-intern-2 c = search needs
-
-intern-requires : tie.Need-intern-requires
-intern-requires c κs = search needs
-
-put-two-requires : tie.Need-put-two-requires
-put-two-requires c κs = search needs
-
-handle-in-requires : tie.Need-handle-in-requires
-handle-in-requires c κs = search needs
-
-same-length : tie.Need-same-length
-same-length c = search needs
-
-same-length-2 : tie.Need-same-length-2
-same-length-2 c = search needs
-
 returns : tie.Need-returns
 returns c =
     λ p.
@@ -36,11 +15,11 @@ pub store-text-spec : {M : Type 1} → statement M
 store-text-spec =
     tie.close
     (tie.spec
-    element-copy-out-intern
-    element-copy-out-intern-2
-    intern-requires
-    put-two-requires
-    handle-in-requires
-    same-length
-    same-length-2
+    (λ c. search needs)
+    (λ c. search needs)
+    (λ c κs. search needs)
+    (λ c κs. search needs)
+    (λ c κs. search needs)
+    (λ c. search needs)
+    (λ c. search needs)
     returns)

@@ -11,9 +11,6 @@ use borrow.Author.Needs.{needs}
 use Rattle.table.proofs.find_row.Statement.{statement}
 use Rattle.table.proofs.find_row.Tie as tie
 
-rows-held-requires : tie.Need-rows-held-requires
-rows-held-requires c κs = search needs
-
 -- the rows that are searched fit the words
 held-fit : (c : tie.After-rows-held) → 3 * c .rows-held .result ≤ length (now (c .before .before .args .table))
 held-fit c = rw (c .rows-held .ensures) (held-fits (now (c .before .before .args .table)) (c .before .before .args .count))
@@ -48,7 +45,7 @@ pub find-row-spec : {M : Type 1} → statement M
 find-row-spec =
     tie.close
     (tie.spec
-    rows-held-requires
+    (λ c κs. search needs)
     place-of-requires
     mul-if2
     mul-if2-2

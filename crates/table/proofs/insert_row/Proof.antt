@@ -6,21 +6,6 @@ use borrow.Author.Needs.{needs}
 use Rattle.table.proofs.insert_row.Statement.{statement}
 use Rattle.table.proofs.insert_row.Tie as tie
 
-mul-open-gap : tie.Need-mul-open-gap
-mul-open-gap c = search needs
-
-mul-open-gap-2 : tie.Need-mul-open-gap-2
-mul-open-gap-2 c = search needs
-
-open-gap-requires : tie.Need-open-gap-requires
-open-gap-requires c κs = search needs
-
-store-row-requires : tie.Need-store-row-requires
-store-row-requires c κs = search needs
-
-same-length : tie.Need-same-length
-same-length c = search needs
-
 returns : tie.Need-returns
 returns c =
     let a = c .before .before .before .before .before .before .before .before .before .args in
@@ -30,4 +15,4 @@ returns c =
 pub insert-row-spec : {M : Type 1} → statement M
 insert-row-spec =
     tie.close
-    (tie.spec mul-open-gap mul-open-gap-2 open-gap-requires store-row-requires same-length returns)
+    (tie.spec (λ c. search needs) (λ c. search needs) (λ c κs. search needs) (λ c κs. search needs) (λ c. search needs) returns)

@@ -18,28 +18,16 @@ found-i c = sym (c .before .before .find-row .ensures) ∙ c .i .given .1
 found-p : (c : tie.After-p) → let a = c .before .before .before .before .before .args in lookup (now (a .table)) (a .count) (a .rank) ≡ Place (c .p .given .0 .0)
 found-p c = sym (c .before .before .find-row .ensures) ∙ c .p .given .1
 
-find-row-requires : tie.Need-find-row-requires
-find-row-requires c κs = search needs
-
-enum-known-i : tie.Need-enum-known-i
-enum-known-i c = search needs
-
 store-row-requires : tie.Need-store-row-requires
 store-row-requires c κs =
     let a = c .before .before .before .before .before .before .before .args in
     omega (arith, lookup-at (now (a .table)) (a .rank) (a .count) (c .before .before .i .given .0 .0) (found-i (c .before .before)), held-fits (now (a .table)) (a .count))
-
-enum-known-p : tie.Need-enum-known-p
-enum-known-p c = search needs
 
 insert-row-requires : tie.Need-insert-row-requires
 insert-row-requires c κs =
     let a = c .before .before .before .before .before .before .before .before .args in
     let p = c .before .before .before .p .given .0 .0 in
     (omega (arith, lookup-place (now (a .table)) (a .rank) (a .count) p (found-p (c .before .before .before)), held-counted (now (a .table)) (a .count)), omega arith)
-
-same-length : tie.Need-same-length
-same-length c = search needs
 
 returns : tie.Need-returns
 returns c =
@@ -48,9 +36,6 @@ returns c =
     let i = c .before .before .before .before .before .i .given .0 .0 in
     rw (c .before .before .store-row .ensures) (sym (stored-known (now (a .table)) (a .count) row i (found-i (c .before .before .before .before .before))))
 
-same-length-2 : tie.Need-same-length-2
-same-length-2 c = search needs
-
 returns-2 : tie.Need-returns-2
 returns-2 c =
     let a = c .before .before .before .before .before .before .before .before .before .before .before .args in
@@ -58,9 +43,6 @@ returns-2 c =
     let p = c .before .before .before .before .before .before .p .given .0 .0 in
     rw (c .before .before .insert-row .ensures)
     (sym (stored-new (now (a .table)) (a .count) row p (found-p (c .before .before .before .before .before .before)) (omega arith)))
-
-same-length-3 : tie.Need-same-length-3
-same-length-3 c = search needs
 
 returns-3 : tie.Need-returns-3
 returns-3 c =
@@ -72,14 +54,14 @@ pub put-row-spec : {M : Type 1} → statement M
 put-row-spec =
     tie.close
     (tie.spec
-    find-row-requires
-    enum-known-i
+    (λ c κs. search needs)
+    (λ c. search needs)
     store-row-requires
-    enum-known-p
+    (λ c. search needs)
     insert-row-requires
-    same-length
+    (λ c. search needs)
     returns
-    same-length-2
+    (λ c. search needs)
     returns-2
-    same-length-3
+    (λ c. search needs)
     returns-3)

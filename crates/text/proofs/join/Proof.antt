@@ -9,15 +9,6 @@ use Rattle.text.proofs.join.Tie as tie
 returns : tie.Need-returns
 returns c = (sym (join-below _ _ (c .if1 .taken)), omega arith)
 
-mul-result : tie.Need-mul-result
-mul-result c = search needs
-
-cast-result : tie.Need-cast-result
-cast-result c = search needs
-
-add-result : tie.Need-add-result
-add-result c = search needs
-
 returns-2 : tie.Need-returns-2
 returns-2 c = (sym (join-yes _ _ (omega arith) (omega arith)), omega arith)
 
@@ -25,4 +16,4 @@ returns-3 : tie.Need-returns-3
 returns-3 c = (sym (join-above _ _ (c .if2 .left)), omega arith)
 
 pub join-spec : {M : Type 1} → statement M
-join-spec = tie.close (tie.spec returns mul-result cast-result add-result returns-2 returns-3)
+join-spec = tie.close (tie.spec returns (λ c. search needs) (λ c. search needs) (λ c. search needs) returns-2 returns-3)

@@ -5,20 +5,8 @@ use Rattle.text.proofs.Classes.{at-2}
 use Rattle.text.proofs.two.Statement.{statement}
 use Rattle.text.proofs.two.Tie as tie
 
-add-byte : tie.Need-add-byte
-add-byte c = search needs
-
-byte-requires : tie.Need-byte-requires
-byte-requires c κs = search needs
-
-join-requires : tie.Need-join-requires
-join-requires c κs = search needs
-
-size-requires : tie.Need-size-requires
-size-requires c κs = search needs
-
 returns : tie.Need-returns
 returns c = c .size .ensures ∙ rw (c .before .join .ensures .0, c .before .before .byte .ensures) (sym (at-2 (c .before .before .before .before .pre)))
 
 pub two-spec : {M : Type 1} → statement M
-two-spec = tie.close (tie.spec add-byte byte-requires join-requires size-requires returns)
+two-spec = tie.close (tie.spec (λ c. search needs) (λ c κs. search needs) (λ c κs. search needs) (λ c κs. search needs) returns)

@@ -17,15 +17,6 @@ use borrow.Author.Needs.{needs}
 use Rattle.values.proofs.coordinate.Statement.{statement}
 use Rattle.values.proofs.coordinate.Tie as tie
 
-value-requires : tie.Need-value-requires
-value-requires c κs = search needs
-
-enum-known-from : tie.Need-enum-known-from
-enum-known-from c = search needs
-
-enum-told : tie.Need-enum-told
-enum-told c = search needs
-
 returns : tie.Need-returns
 returns c =
     let a = c .before .before .before .before .before .args in
@@ -51,15 +42,6 @@ part-integer-32-start c = found c .0 .order
 part-integer-32-end : tie.Need-part-integer-32-end
 part-integer-32-end c = found c .0 .end
 
-integer-32-requires : tie.Need-integer-32-requires
-integer-32-requires c κs = search needs
-
-enum-known-b : tie.Need-enum-known-b
-enum-known-b c = search needs
-
-enum-told-2 : tie.Need-enum-told-2
-enum-told-2 c = search needs
-
 -- what is read of it is the field
 read : (c : tie.After-integer-32)
     → let a = c .before .before .before .before .before .before .before .before .args in
@@ -77,9 +59,6 @@ returns-3 c =
     let a = c .before .before .before .before .before .before .before .before .before .before .before .before .args in
     rw (← read (c .before .before .before .before), c .before .before .b .given .1) (sym (within-low (a .limit) (c .before .before .b .given .0 .0) (c .before .before .before .before .before .before .before .before .before .before .before .before .pre) (c .if1 .taken)))
 
-sub-if2 : tie.Need-sub-if2
-sub-if2 c = search needs
-
 returns-4 : tie.Need-returns-4
 returns-4 c =
     let a = c .before .before .before .before .before .before .before .before .before .before .before .before .before .args in
@@ -94,18 +73,18 @@ pub coordinate-spec : {M : Type 1} → statement M
 coordinate-spec =
     tie.close
     (tie.spec
-    value-requires
-    enum-known-from
-    enum-told
+    (λ c κs. search needs)
+    (λ c. search needs)
+    (λ c. search needs)
     returns
     sub-integer-32
     part-integer-32-start
     part-integer-32-end
-    integer-32-requires
-    enum-known-b
-    enum-told-2
+    (λ c κs. search needs)
+    (λ c. search needs)
+    (λ c. search needs)
     returns-2
     returns-3
-    sub-if2
+    (λ c. search needs)
     returns-4
     returns-5)

@@ -8,15 +8,6 @@ use borrow.Author.Needs.{needs}
 use Rattle.values.proofs.integer_32.Statement.{statement}
 use Rattle.values.proofs.integer_32.Tie as tie
 
-read-i32-requires : tie.Need-read-i32-requires
-read-i32-requires c κs = search needs
-
-enum-known-b : tie.Need-enum-known-b
-enum-known-b c = search needs
-
-enum-told : tie.Need-enum-told
-enum-told c = search needs
-
 returns : tie.Need-returns
 returns c = ap (integerIn w32) (sym (c .enum-told .given .1)) ∙ number-text w32 (now (c .before .before .before .before .args .v)) (c .before .before .read-i32 .ensures)
 
@@ -28,4 +19,4 @@ returns-2 c = ap (integerIn w32) (sym (c .before .b .given .1)) ∙ number-text 
 
 pub integer-32-spec : {M : Type 1} → statement M
 integer-32-spec =
-    tie.close (tie.spec read-i32-requires enum-known-b enum-told returns cast-t4 returns-2)
+    tie.close (tie.spec (λ c κs. search needs) (λ c. search needs) (λ c. search needs) returns cast-t4 returns-2)

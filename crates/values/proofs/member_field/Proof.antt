@@ -12,18 +12,6 @@ use borrow.Author.Needs.{needs}
 use Rattle.values.proofs.member_field.Statement.{statement}
 use Rattle.values.proofs.member_field.Tie as tie
 
-slice-aggregate-value : tie.Need-slice-aggregate-value
-slice-aggregate-value c = search needs
-
-value-requires : tie.Need-value-requires
-value-requires c κs = search needs
-
-enum-known-from : tie.Need-enum-known-from
-enum-known-from c = search needs
-
-enum-told : tie.Need-enum-told
-enum-told c = search needs
-
 returns : tie.Need-returns
 unfolding memberOf
 returns c =
@@ -56,18 +44,6 @@ part-name-of-end c =
     let v = found-at t n (a .at) (c .before .from .given .1) (c .before .before .before .value .ensures) in
     v .0 .end
 
-name-of-requires : tie.Need-name-of-requires
-name-of-requires c κs = search needs
-
-type-named-requires : tie.Need-type-named-requires
-type-named-requires c κs = search needs
-
-enum-known-kind : tie.Need-enum-known-kind
-enum-known-kind c = search needs
-
-enum-told-2 : tie.Need-enum-told-2
-enum-told-2 c = search needs
-
 returns-2 : tie.Need-returns-2
 unfolding memberOf
 returns-2 c =
@@ -78,21 +54,6 @@ returns-2 c =
     let e = text-got n (attributesAt t (a .at)) _ (v .1) in
     let k = ap typeField (sym (c .enum-told2 .given .1)) ∙ c .before .before .type-named .ensures ∙ ap typeNamed (c .before .before .before .name-of .ensures ∙ ap nameOf (part (v .0)) ∙ name-raw _) in
     (rw (← e, ← k), tt)
-
-slice-aggregate-wide-field : tie.Need-slice-aggregate-wide-field
-slice-aggregate-wide-field c = search needs
-
-wide-field-requires : tie.Need-wide-field-requires
-wide-field-requires c κs = search needs
-
-enum-known-r : tie.Need-enum-known-r
-enum-known-r c = search needs
-
-enum-known-reference : tie.Need-enum-known-reference
-enum-known-reference c = search needs
-
-role-requires : tie.Need-role-requires
-role-requires c κs = search needs
 
 returns-3 : tie.Need-returns-3
 unfolding memberOf
@@ -122,23 +83,23 @@ pub member-field-spec : {M : Type 1} → statement M
 member-field-spec =
     tie.close
     (tie.spec
-    slice-aggregate-value
-    value-requires
-    enum-known-from
-    enum-told
+    (λ c. search needs)
+    (λ c κs. search needs)
+    (λ c. search needs)
+    (λ c. search needs)
     returns
     sub-name-of
     part-name-of-start
     part-name-of-end
-    name-of-requires
-    type-named-requires
-    enum-known-kind
-    enum-told-2
+    (λ c κs. search needs)
+    (λ c κs. search needs)
+    (λ c. search needs)
+    (λ c. search needs)
     returns-2
-    slice-aggregate-wide-field
-    wide-field-requires
-    enum-known-r
-    enum-known-reference
-    role-requires
+    (λ c. search needs)
+    (λ c κs. search needs)
+    (λ c. search needs)
+    (λ c. search needs)
+    (λ c κs. search needs)
     returns-3
     returns-4)

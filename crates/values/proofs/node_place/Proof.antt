@@ -6,30 +6,6 @@ use borrow.Author.Needs.{needs}
 use Rattle.values.proofs.node_place.Statement.{statement}
 use Rattle.values.proofs.node_place.Tie as tie
 
-slice-aggregate-coordinate : tie.Need-slice-aggregate-coordinate
-slice-aggregate-coordinate c = search needs
-
-coordinate-requires : tie.Need-coordinate-requires
-coordinate-requires c κs = search needs
-
-enum-known-r : tie.Need-enum-known-r
-enum-known-r c = search needs
-
-enum-known-lat : tie.Need-enum-known-lat
-enum-known-lat c = search needs
-
-slice-aggregate-coordinate-2 : tie.Need-slice-aggregate-coordinate-2
-slice-aggregate-coordinate-2 c = search needs
-
-coordinate-requires-2 : tie.Need-coordinate-requires-2
-coordinate-requires-2 c κs = search needs
-
-enum-known-r-2 : tie.Need-enum-known-r-2
-enum-known-r-2 c = search needs
-
-enum-known-lon : tie.Need-enum-known-lon
-enum-known-lon c = search needs
-
 returns : tie.Need-returns
 unfolding latitude longitude
 returns c = let e = ap narrowField (sym (c .before .r .given .1)) ∙ c .before .before .before .coordinate .ensures in rw (← e)
@@ -52,14 +28,14 @@ pub node-place-spec : {M : Type 1} → statement M
 node-place-spec =
     tie.close
     (tie.spec
-    slice-aggregate-coordinate
-    coordinate-requires
-    enum-known-r
-    enum-known-lat
-    slice-aggregate-coordinate-2
-    coordinate-requires-2
-    enum-known-r-2
-    enum-known-lon
+    (λ c. search needs)
+    (λ c κs. search needs)
+    (λ c. search needs)
+    (λ c. search needs)
+    (λ c. search needs)
+    (λ c κs. search needs)
+    (λ c. search needs)
+    (λ c. search needs)
     returns
     returns-2
     returns-3)

@@ -7,18 +7,6 @@ use borrow.Author.Needs.{needs}
 use Rattle.values.proofs.role.Statement.{statement}
 use Rattle.values.proofs.role.Tie as tie
 
-slice-aggregate-value : tie.Need-slice-aggregate-value
-slice-aggregate-value c = search needs
-
-value-requires : tie.Need-value-requires
-value-requires c κs = search needs
-
-enum-known-from : tie.Need-enum-known-from
-enum-known-from c = search needs
-
-enum-told : tie.Need-enum-told
-enum-told c = search needs
-
 returns : tie.Need-returns
 returns c =
     let a = c .before .before .before .before .before .before .args in
@@ -38,4 +26,4 @@ returns-2 c =
 pub role-spec : {M : Type 1} → statement M
 role-spec =
     tie.close
-    (tie.spec slice-aggregate-value value-requires enum-known-from enum-told returns returns-2)
+    (tie.spec (λ c. search needs) (λ c κs. search needs) (λ c. search needs) (λ c. search needs) returns returns-2)

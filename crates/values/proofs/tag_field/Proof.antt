@@ -7,30 +7,6 @@ use borrow.Author.Needs.{needs}
 use Rattle.values.proofs.tag_field.Statement.{statement}
 use Rattle.values.proofs.tag_field.Tie as tie
 
-slice-aggregate-text-field : tie.Need-slice-aggregate-text-field
-slice-aggregate-text-field c = search needs
-
-text-field-requires : tie.Need-text-field-requires
-text-field-requires c κs = search needs
-
-enum-known-r : tie.Need-enum-known-r
-enum-known-r c = search needs
-
-enum-known-key : tie.Need-enum-known-key
-enum-known-key c = search needs
-
-slice-aggregate-text-field-2 : tie.Need-slice-aggregate-text-field-2
-slice-aggregate-text-field-2 c = search needs
-
-text-field-requires-2 : tie.Need-text-field-requires-2
-text-field-requires-2 c κs = search needs
-
-enum-known-r-2 : tie.Need-enum-known-r-2
-enum-known-r-2 c = search needs
-
-enum-known-value : tie.Need-enum-known-value
-enum-known-value c = search needs
-
 returns : tie.Need-returns
 unfolding tagOf
 returns c =
@@ -56,14 +32,14 @@ pub tag-field-spec : {M : Type 1} → statement M
 tag-field-spec =
     tie.close
     (tie.spec
-    slice-aggregate-text-field
-    text-field-requires
-    enum-known-r
-    enum-known-key
-    slice-aggregate-text-field-2
-    text-field-requires-2
-    enum-known-r-2
-    enum-known-value
+    (λ c. search needs)
+    (λ c κs. search needs)
+    (λ c. search needs)
+    (λ c. search needs)
+    (λ c. search needs)
+    (λ c κs. search needs)
+    (λ c. search needs)
+    (λ c. search needs)
     returns
     returns-2
     returns-3)

@@ -6,15 +6,6 @@ use borrow.Author.Needs.{needs}
 use Rattle.values.proofs.text_field.Statement.{statement}
 use Rattle.values.proofs.text_field.Tie as tie
 
-value-requires : tie.Need-value-requires
-value-requires c κs = search needs
-
-enum-known-from : tie.Need-enum-known-from
-enum-known-from c = search needs
-
-enum-told : tie.Need-enum-told
-enum-told c = search needs
-
 returns : tie.Need-returns
 returns c =
     let a = c .before .before .before .before .before .before .args in
@@ -31,4 +22,4 @@ returns-2 c =
     (text-missing n (attributesAt t (a .at)) (found-missing t n (a .at) (c .enum-told .given .1) (c .before .before .value .ensures)), tt)
 
 pub text-field-spec : {M : Type 1} → statement M
-text-field-spec = tie.close (tie.spec value-requires enum-known-from enum-told returns returns-2)
+text-field-spec = tie.close (tie.spec (λ c κs. search needs) (λ c. search needs) (λ c. search needs) returns returns-2)

@@ -9,15 +9,6 @@ use borrow.Author.Needs.{needs}
 use Rattle.values.proofs.type_named.Statement.{statement}
 use Rattle.values.proofs.type_named.Tie as tie
 
-enum-told : tie.Need-enum-told
-enum-told c = search needs
-
-enum-told-2 : tie.Need-enum-told-2
-enum-told-2 c = search needs
-
-enum-told-3 : tie.Need-enum-told-3
-enum-told-3 c = search needs
-
 returns : tie.Need-returns
 returns c = rw (c .enum-told .given .1)
 
@@ -32,4 +23,4 @@ returns-4 c = name-arm (λ n. bad MemberType ≡ typeNamed n) (N.OsmChange ∷ N
 
 pub type-named-spec : {M : Type 1} → statement M
 type-named-spec =
-    tie.close (tie.spec enum-told enum-told-2 enum-told-3 returns returns-2 returns-3 returns-4)
+    tie.close (tie.spec (λ c. search needs) (λ c. search needs) (λ c. search needs) returns returns-2 returns-3 returns-4)

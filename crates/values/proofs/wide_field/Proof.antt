@@ -10,15 +10,6 @@ use borrow.Author.Needs.{needs}
 use Rattle.values.proofs.wide_field.Statement.{statement}
 use Rattle.values.proofs.wide_field.Tie as tie
 
-value-requires : tie.Need-value-requires
-value-requires c κs = search needs
-
-enum-known-from : tie.Need-enum-known-from
-enum-known-from c = search needs
-
-enum-told : tie.Need-enum-told
-enum-told c = search needs
-
 returns : tie.Need-returns
 returns c =
     let a = c .before .before .before .before .before .args in
@@ -50,15 +41,6 @@ part-read-i64-end c =
     let v = found-at t n (a .at) (c .before .from .given .1) (c .before .before .before .value .ensures) in
     v .0 .end
 
-read-i64-requires : tie.Need-read-i64-requires
-read-i64-requires c κs = search needs
-
-enum-known-b : tie.Need-enum-known-b
-enum-known-b c = search needs
-
-enum-told-2 : tie.Need-enum-told-2
-enum-told-2 c = search needs
-
 returns-2 : tie.Need-returns-2
 returns-2 c =
     let a = c .before .before .before .before .before .before .before .before .before .before .args in
@@ -79,15 +61,15 @@ pub wide-field-spec : {M : Type 1} → statement M
 wide-field-spec =
     tie.close
     (tie.spec
-    value-requires
-    enum-known-from
-    enum-told
+    (λ c κs. search needs)
+    (λ c. search needs)
+    (λ c. search needs)
     returns
     sub-read-i64
     part-read-i64-start
     part-read-i64-end
-    read-i64-requires
-    enum-known-b
-    enum-told-2
+    (λ c κs. search needs)
+    (λ c. search needs)
+    (λ c. search needs)
     returns-2
     returns-3)

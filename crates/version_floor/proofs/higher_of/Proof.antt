@@ -6,21 +6,9 @@ use Rattle.version_floor.specs.Version.{higher}
 use Rattle.version_floor.proofs.higher_of.Statement.{statement}
 use Rattle.version_floor.proofs.higher_of.Tie as tie
 
-enum-known-a : tie.Need-enum-known-a
-enum-known-a c = search needs
-
-enum-told : tie.Need-enum-told
-enum-told c = search needs
-
 returns : tie.Need-returns
 unfolding higher
 returns c = rw (c .enum-told .given .1)
-
-enum-known-b : tie.Need-enum-known-b
-enum-known-b c = search needs
-
-enum-told-2 : tie.Need-enum-told-2
-enum-told-2 c = search needs
 
 returns-2 : tie.Need-returns-2
 unfolding higher
@@ -48,11 +36,11 @@ pub higher-of-spec : {M : Type 1} → statement M
 higher-of-spec =
     tie.close
     (tie.spec
-    enum-known-a
-    enum-told
+    (λ c. search needs)
+    (λ c. search needs)
     returns
-    enum-known-b
-    enum-told-2
+    (λ c. search needs)
+    (λ c. search needs)
     returns-2
     returns-3
     returns-4)

@@ -6,12 +6,6 @@ use Rattle.version_floor.specs.Version.{ofWord}
 use Rattle.version_floor.proofs.version_of_word.Statement.{statement}
 use Rattle.version_floor.proofs.version_of_word.Tie as tie
 
-cast-i32-of-bits : tie.Need-cast-i32-of-bits
-cast-i32-of-bits c = search needs
-
-i32-of-bits-requires : tie.Need-i32-of-bits-requires
-i32-of-bits-requires c κs = search needs
-
 returns : tie.Need-returns
 unfolding ofWord
 returns c =
@@ -23,4 +17,4 @@ unfolding ofWord
 returns-2 c = rw (le-ltb _ _ (c .if1 .left))
 
 pub version-of-word-spec : {M : Type 1} → statement M
-version-of-word-spec = tie.close (tie.spec cast-i32-of-bits i32-of-bits-requires returns returns-2)
+version-of-word-spec = tie.close (tie.spec (λ c. search needs) (λ c κs. search needs) returns returns-2)

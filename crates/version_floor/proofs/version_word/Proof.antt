@@ -8,21 +8,9 @@ use Rattle.version_floor.specs.Version.{wordOf}
 use Rattle.version_floor.proofs.version_word.Statement.{statement}
 use Rattle.version_floor.proofs.version_word.Tie as tie
 
-enum-known-v : tie.Need-enum-known-v
-enum-known-v c = search needs
-
-enum-told : tie.Need-enum-told
-enum-told c = search needs
-
 returns : tie.Need-returns
 unfolding wordOf
 returns c = rw (c .enum-told .given .1)
-
-bits-of-i32-requires : tie.Need-bits-of-i32-requires
-bits-of-i32-requires c κs = search needs
-
-cast-result : tie.Need-cast-result
-cast-result c = search needs
 
 returns-2 : tie.Need-returns-2
 unfolding wordOf
@@ -32,4 +20,4 @@ returns-2 c =
 
 pub version-word-spec : {M : Type 1} → statement M
 version-word-spec =
-    tie.close (tie.spec enum-known-v enum-told returns bits-of-i32-requires cast-result returns-2)
+    tie.close (tie.spec (λ c. search needs) (λ c. search needs) returns (λ c κs. search needs) (λ c. search needs) returns-2)

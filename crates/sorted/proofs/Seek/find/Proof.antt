@@ -9,14 +9,8 @@ use Rattle.sorted.proofs.Seeks.{found-at, found-none}
 use Rattle.sorted.proofs.Seek.find.Statement.{statement}
 use Rattle.sorted.proofs.Seek.find.Tie as tie
 
-in-order-requires : tie.Need-in-order-requires
-in-order-requires c κs = search needs
-
 reach-requires : tie.Need-reach-requires
 reach-requires c κs = sym (c .before .in-order .ensures) ∙ c .if1 .taken
-
-osm-id-key-requires : tie.Need-osm-id-key-requires
-osm-id-key-requires c κs = search needs
 
 count-under-requires : tie.Need-count-under-requires
 count-under-requires c κs = sym (c .before .before .before .in-order .ensures) ∙ c .before .before .if1 .taken
@@ -43,9 +37,9 @@ pub find-spec : {M : Type 1} → statement M
 find-spec =
     tie.close
     (tie.spec
-    in-order-requires
+    (λ c κs. search needs)
     reach-requires
-    osm-id-key-requires
+    (λ c κs. search needs)
     count-under-requires
     returns
     returns-2

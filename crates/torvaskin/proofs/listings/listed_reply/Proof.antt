@@ -4,12 +4,6 @@ use borrow.Author.Needs.{needs}
 use Rattle.torvaskin.proofs.listings.listed_reply.Statement.{statement}
 use Rattle.torvaskin.proofs.listings.listed_reply.Tie as tie
 
-enum-known-answer : tie.Need-enum-known-answer
-enum-known-answer c = search needs
-
-enum-known-answer-2 : tie.Need-enum-known-answer-2
-enum-known-answer-2 c = search needs
-
 reply-of-requires : tie.Need-reply-of-requires
 reply-of-requires c κs = tt
 
@@ -22,4 +16,4 @@ returns-2 c = rw (c .before .before .answer2 .given .1, c .reply-of .ensures)
 
 pub listed-reply-spec : {M : Type 1} → statement M
 listed-reply-spec =
-    tie.close (tie.spec enum-known-answer enum-known-answer-2 reply-of-requires returns returns-2)
+    tie.close (tie.spec (λ c. search needs) (λ c. search needs) reply-of-requires returns returns-2)

@@ -4,12 +4,6 @@ use borrow.Author.Needs.{needs}
 use Rattle.torvaskin.proofs.numbers.integer_number.Statement.{statement}
 use Rattle.torvaskin.proofs.numbers.integer_number.Tie as tie
 
-enum-known-i : tie.Need-enum-known-i
-enum-known-i c = search needs
-
-enum-told : tie.Need-enum-told
-enum-told c = search needs
-
 returns : tie.Need-returns
 returns c = ap integerNumber (sym (c .enum-told .given .1))
 
@@ -17,4 +11,4 @@ returns-2 : tie.Need-returns-2
 returns-2 c = ap integerNumber (sym (c .before .i .given .1))
 
 pub integer-number-spec : {M : Type 1} → statement M
-integer-number-spec = tie.close (tie.spec enum-known-i enum-told returns returns-2)
+integer-number-spec = tie.close (tie.spec (λ c. search needs) (λ c. search needs) returns returns-2)

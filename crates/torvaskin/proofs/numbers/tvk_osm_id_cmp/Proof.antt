@@ -17,15 +17,6 @@ told f g e = rw (toZ-ofZ f, toZ-ofZ g) at e
 osm-id-cmp-requires : tie.Need-osm-id-cmp-requires
 osm-id-cmp-requires c κs = tt
 
-enum-told : tie.Need-enum-told
-enum-told c = search needs
-
-enum-told-2 : tie.Need-enum-told-2
-enum-told-2 c = search needs
-
-enum-told-3 : tie.Need-enum-told-3
-enum-told-3 c = search needs
-
 returns : tie.Need-returns
 returns c = ap orderNumber (sym (c .enum-told .given .1) ∙ told (c .before .before .before .fits .a) (c .before .before .before .fits .b) (c .before .before .osm-id-cmp .ensures))
 
@@ -38,4 +29,4 @@ returns-3 c = ap orderNumber (sym (c .enum-told3 .given .1) ∙ told (c .before 
 pub tvk-osm-id-cmp-spec : {M : Type 1} → statement M
 tvk-osm-id-cmp-spec =
     tie.close
-    (tie.spec osm-id-cmp-requires enum-told enum-told-2 enum-told-3 returns returns-2 returns-3)
+    (tie.spec osm-id-cmp-requires (λ c. search needs) (λ c. search needs) (λ c. search needs) returns returns-2 returns-3)

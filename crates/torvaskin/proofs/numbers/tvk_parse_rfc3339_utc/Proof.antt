@@ -7,12 +7,6 @@ use Rattle.torvaskin.proofs.numbers.tvk_parse_rfc3339_utc.Tie as tie
 parse-rfc3339-utc-requires : tie.Need-parse-rfc3339-utc-requires
 parse-rfc3339-utc-requires c κs = tt
 
-enum-known-at : tie.Need-enum-known-at
-enum-known-at c = search needs
-
-enum-told : tie.Need-enum-told
-enum-told c = search needs
-
 returns : tie.Need-returns
 returns c = ap stampNumber (sym (c .enum-told .given .1) ∙ c .before .before .parse-rfc3339-utc .ensures)
 
@@ -21,4 +15,4 @@ returns-2 c = ap stampNumber (sym (c .before .at .given .1) ∙ c .before .befor
 
 pub tvk-parse-rfc3339-utc-spec : {M : Type 1} → statement M
 tvk-parse-rfc3339-utc-spec =
-    tie.close (tie.spec parse-rfc3339-utc-requires enum-known-at enum-told returns returns-2)
+    tie.close (tie.spec parse-rfc3339-utc-requires (λ c. search needs) (λ c. search needs) returns returns-2)

@@ -17,12 +17,6 @@ version-of-word-requires-2 c κs = tt
 admit-requires : tie.Need-admit-requires
 admit-requires c κs = tt
 
-enum-known-answer : tie.Need-enum-known-answer
-enum-known-answer c = search needs
-
-enum-told : tie.Need-enum-told
-enum-told c = search needs
-
 returns : tie.Need-returns
 returns c =
     rw (
@@ -53,7 +47,7 @@ tvk-version-admit-spec =
     new-requires
     version-of-word-requires-2
     admit-requires
-    enum-known-answer
-    enum-told
+    (λ c. search needs)
+    (λ c. search needs)
     returns
     returns-2)

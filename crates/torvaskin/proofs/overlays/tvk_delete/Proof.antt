@@ -10,9 +10,6 @@ use Rattle.torvaskin.proofs.overlays.tvk_delete.Tie as tie
 kind-of-number-requires : tie.Need-kind-of-number-requires
 kind-of-number-requires c κs = tt
 
-enum-known-k : tie.Need-enum-known-k
-enum-known-k c = search needs
-
 bits-of-i64-requires : tie.Need-bits-of-i64-requires
 bits-of-i64-requires c κs = tt
 
@@ -21,9 +18,6 @@ delete-requires c κs = tt
 
 kept-reply-requires : tie.Need-kept-reply-requires
 kept-reply-requires c κs = tt
-
-enum-told : tie.Need-enum-told
-enum-told c = search needs
 
 unknown-requires : tie.Need-unknown-requires
 unknown-requires c κs = tt
@@ -64,11 +58,11 @@ tvk-delete-spec =
     tie.close
     (tie.spec
     kind-of-number-requires
-    enum-known-k
+    (λ c. search needs)
     bits-of-i64-requires
     delete-requires
     kept-reply-requires
-    enum-told
+    (λ c. search needs)
     unknown-requires
     same-length
     same-length-2

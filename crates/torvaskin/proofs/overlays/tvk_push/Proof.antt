@@ -9,17 +9,11 @@ use Rattle.torvaskin.proofs.overlays.tvk_push.Tie as tie
 kind-of-number-requires : tie.Need-kind-of-number-requires
 kind-of-number-requires c κs = tt
 
-enum-known-k : tie.Need-enum-known-k
-enum-known-k c = search needs
-
 push-requires : tie.Need-push-requires
 push-requires c κs = tt
 
 kept-reply-requires : tie.Need-kept-reply-requires
 kept-reply-requires c κs = tt
-
-enum-told : tie.Need-enum-told
-enum-told c = search needs
 
 unknown-requires : tie.Need-unknown-requires
 unknown-requires c κs = tt
@@ -77,10 +71,10 @@ tvk-push-spec =
     tie.close
     (tie.spec
     kind-of-number-requires
-    enum-known-k
+    (λ c. search needs)
     push-requires
     kept-reply-requires
-    enum-told
+    (λ c. search needs)
     unknown-requires
     same-length
     same-length-2

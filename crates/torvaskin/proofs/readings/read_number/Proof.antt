@@ -4,12 +4,6 @@ use borrow.Author.Needs.{needs}
 use Rattle.torvaskin.proofs.readings.read_number.Statement.{statement}
 use Rattle.torvaskin.proofs.readings.read_number.Tie as tie
 
-enum-known-read : tie.Need-enum-known-read
-enum-known-read c = search needs
-
-enum-known-read-2 : tie.Need-enum-known-read-2
-enum-known-read-2 c = search needs
-
 reply-of-requires : tie.Need-reply-of-requires
 reply-of-requires c κs = tt
 
@@ -22,4 +16,4 @@ returns-2 c = rw (c .before .before .read2 .given .1, c .reply-of .ensures)
 
 pub read-number-spec : {M : Type 1} → statement M
 read-number-spec =
-    tie.close (tie.spec enum-known-read enum-known-read-2 reply-of-requires returns returns-2)
+    tie.close (tie.spec (λ c. search needs) (λ c. search needs) reply-of-requires returns returns-2)

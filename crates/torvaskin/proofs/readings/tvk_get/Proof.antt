@@ -8,9 +8,6 @@ use Rattle.torvaskin.proofs.readings.tvk_get.Tie as tie
 kind-of-number-requires : tie.Need-kind-of-number-requires
 kind-of-number-requires c κs = tt
 
-enum-known-k : tie.Need-enum-known-k
-enum-known-k c = search needs
-
 bits-of-i64-requires : tie.Need-bits-of-i64-requires
 bits-of-i64-requires c κs = tt
 
@@ -19,9 +16,6 @@ get-requires c κs = tt
 
 view-part-requires : tie.Need-view-part-requires
 view-part-requires c κs = tt
-
-enum-told : tie.Need-enum-told
-enum-told c = search needs
 
 no-view-requires : tie.Need-no-view-requires
 no-view-requires c κs = tt
@@ -41,11 +35,11 @@ tvk-get-spec =
     tie.close
     (tie.spec
     kind-of-number-requires
-    enum-known-k
+    (λ c. search needs)
     bits-of-i64-requires
     get-requires
     view-part-requires
-    enum-told
+    (λ c. search needs)
     no-view-requires
     returns
     returns-2)

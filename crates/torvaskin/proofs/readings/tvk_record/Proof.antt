@@ -7,17 +7,11 @@ use Rattle.torvaskin.proofs.readings.tvk_record.Tie as tie
 kind-of-number-requires : tie.Need-kind-of-number-requires
 kind-of-number-requires c κs = tt
 
-enum-known-k : tie.Need-enum-known-k
-enum-known-k c = search needs
-
 record-at-requires : tie.Need-record-at-requires
 record-at-requires c κs = tt
 
 view-part-requires : tie.Need-view-part-requires
 view-part-requires c κs = tt
-
-enum-told : tie.Need-enum-told
-enum-told c = search needs
 
 no-view-requires : tie.Need-no-view-requires
 no-view-requires c κs = tt
@@ -35,10 +29,10 @@ tvk-record-spec =
     tie.close
     (tie.spec
     kind-of-number-requires
-    enum-known-k
+    (λ c. search needs)
     record-at-requires
     view-part-requires
-    enum-told
+    (λ c. search needs)
     no-view-requires
     returns
     returns-2)

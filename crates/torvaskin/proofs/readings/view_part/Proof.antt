@@ -4,17 +4,8 @@ use borrow.Author.Needs.{needs}
 use Rattle.torvaskin.proofs.readings.view_part.Statement.{statement}
 use Rattle.torvaskin.proofs.readings.view_part.Tie as tie
 
-enum-known-view : tie.Need-enum-known-view
-enum-known-view c = search needs
-
-enum-told : tie.Need-enum-told
-enum-told c = search needs
-
 no-part-requires : tie.Need-no-part-requires
 no-part-requires c κs = tt
-
-enum-known-view-2 : tie.Need-enum-known-view-2
-enum-known-view-2 c = search needs
 
 reply-of-requires : tie.Need-reply-of-requires
 reply-of-requires c κs = tt
@@ -36,10 +27,10 @@ pub view-part-spec : {M : Type 1} → statement M
 view-part-spec =
     tie.close
     (tie.spec
-    enum-known-view
-    enum-told
+    (λ c. search needs)
+    (λ c. search needs)
     no-part-requires
-    enum-known-view-2
+    (λ c. search needs)
     reply-of-requires
     no-part-requires-2
     returns

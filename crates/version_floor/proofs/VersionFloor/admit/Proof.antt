@@ -8,21 +8,9 @@ use Rattle.version_floor.specs.declared.Admit.the-variants.{Below}
 use Rattle.version_floor.proofs.VersionFloor.admit.Statement.{statement}
 use Rattle.version_floor.proofs.VersionFloor.admit.Tie as tie
 
-enum-known-highest : tie.Need-enum-known-highest
-enum-known-highest c = search needs
-
-enum-told : tie.Need-enum-told
-enum-told c = search needs
-
 returns : tie.Need-returns
 unfolding admitOf
 returns c = rw (c .enum-told .given .1)
-
-enum-known-claim : tie.Need-enum-known-claim
-enum-known-claim c = search needs
-
-enum-told-2 : tie.Need-enum-told-2
-enum-told-2 c = search needs
 
 returns-2 : tie.Need-returns-2
 unfolding admitOf
@@ -50,11 +38,11 @@ pub admit-spec : {M : Type 1} → statement M
 admit-spec =
     tie.close
     (tie.spec
-    enum-known-highest
-    enum-told
+    (λ c. search needs)
+    (λ c. search needs)
     returns
-    enum-known-claim
-    enum-told-2
+    (λ c. search needs)
+    (λ c. search needs)
     returns-2
     returns-3
     returns-4)
