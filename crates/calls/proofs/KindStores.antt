@@ -37,7 +37,7 @@ use Rattle.kind_store.specs.WellFormed.{rowsIn, WellFormed}
 use Rattle.kind_store.specs.declared.Kept.the-variants.{Taken}
 use Rattle.kind_store.proofs.KindStores.{Laid, push-laid, push-fits, push-used, push-arena, delete-laid, delete-arena, delete-used}
 use Rattle.sound.specs.Sound.{SoundKindStore}
-use Rattle.listing.specs.Known.{recordIn, told, lastIn}
+use Rattle.listing.specs.Known.{recordIn, liveRecord, lastIn}
 use Rattle.calls.proofs.Rows.{whole-read, live-starts, record-read, record-legal}
 use Rattle.reader.proofs.Texts.{legal-agree}
 
@@ -76,7 +76,7 @@ module _ (strings : ℕ) (k : Kind) (s : KindStore) (w : SoundKindStore strings 
     last-other other n =
         rw (laid .rows, find-put-other (rank other) (rowOf id place floor) (rowsIn s) n) (last-stays t f h (rank other) (find (rank other) (rowsIn s)) refl)
 
-    last-own : lastOf k t f id ≡ cond (isLive place) (told f (recordIn k t place)) (some gone)
+    last-own : lastOf k t f id ≡ cond (isLive place) (liveRecord f (recordIn k t place)) (some gone)
     last-own = rw (laid .rows, find-put-same (rowOf id place floor) (rowsIn s))
 
 -- ---- an accepted push of a legal record under its own id

@@ -136,36 +136,36 @@ attr-back f a h e = go (parted f) refl e
 
 -- ---- the attributes of a line, in order
 
-pub attrs-legal : (as1 : List Attr) → all legalAttr as1 ≡ true → all legalField (attrFields as1) ≡ true
+pub attrs-legal : (attrs : List Attr) → all legalAttr attrs ≡ true → all legalField (attrFields attrs) ≡ true
 unfolding attrFields
 attrs-legal [] h = all-nil legalField
-attrs-legal (a ∷ as1) h =
-    all-cons legalField (attrField a) (attrFields as1) (attr-legal a (all-head legalAttr a as1 h)) (attrs-legal as1 (all-tail legalAttr a as1 h))
+attrs-legal (a ∷ attrs) h =
+    all-cons legalField (attrField a) (attrFields attrs) (attr-legal a (all-head legalAttr a attrs h)) (attrs-legal attrs (all-tail legalAttr a attrs h))
 
-pub attrs-read : (as1 : List Attr) → all legalAttr as1 ≡ true → attrsOf (attrFields as1) ≡ some as1
+pub attrs-read : (attrs : List Attr) → all legalAttr attrs ≡ true → attrsOf (attrFields attrs) ≡ some attrs
 unfolding attrsOf attrFields
 attrs-read [] h = refl
-attrs-read (a ∷ as1) h = rw (attr-reads a (all-head legalAttr a as1 h), attrs-read as1 (all-tail legalAttr a as1 h))
+attrs-read (a ∷ attrs) h = rw (attr-reads a (all-head legalAttr a attrs h), attrs-read attrs (all-tail legalAttr a attrs h))
 
 -- an attribute that is read, and those after it
-pub record Listed (o : Option Attr) (x : Option (List Attr)) (as1 : List Attr) : Type 0 where
+pub record Listed (o : Option Attr) (x : Option (List Attr)) (attrs : List Attr) : Type 0 where
   pub head : Attr
   pub tail : List Attr
   pub first : o ≡ some head
   pub then : x ≡ some tail
-  pub whole : as1 ≡ head ∷ tail
+  pub whole : attrs ≡ head ∷ tail
 
-pub listed : (o : Option Attr) (x : Option (List Attr)) (as1 : List Attr) → beside o x ≡ some as1 → Listed o x as1
-listed none x as1 e = no (cc)
-listed (some a) none as1 e = no (cc)
-listed (some a) (some t) as1 e = record { head = a; tail = t; first = refl; then = refl; whole = cc }
+pub listed : (o : Option Attr) (x : Option (List Attr)) (attrs : List Attr) → beside o x ≡ some attrs → Listed o x attrs
+listed none x attrs e = no (cc)
+listed (some a) none attrs e = no (cc)
+listed (some a) (some t) attrs e = record { head = a; tail = t; first = refl; then = refl; whole = cc }
 
-pub attrs-back : (fs : List Bytes) (as1 : List Attr) → all legalField fs ≡ true → attrsOf fs ≡ some as1
-    → (attrFields as1 ≡ fs) × (all legalAttr as1 ≡ true)
+pub attrs-back : (fs : List Bytes) (attrs : List Attr) → all legalField fs ≡ true → attrsOf fs ≡ some attrs
+    → (attrFields attrs ≡ fs) × (all legalAttr attrs ≡ true)
 unfolding attrsOf attrFields
-attrs-back [] as1 h e = let q : as1 ≡ [] = cc in (rw q, rw q (all-nil legalAttr))
-attrs-back (f ∷ fs) as1 h e =
-    let w = listed (attrOf f) (attrsOf fs) as1 e in
+attrs-back [] attrs h e = let q : attrs ≡ [] = cc in (rw q, rw q (all-nil legalAttr))
+attrs-back (f ∷ fs) attrs h e =
+    let w = listed (attrOf f) (attrsOf fs) attrs e in
     let x = attr-back f (w .head) (all-head legalField f fs h) (w .first) in
     let y = attrs-back fs (w .tail) (all-tail legalField f fs h) (w .then) in
     (rw (w .whole, x .0, y .0), rw (w .whole) (all-cons legalAttr (w .head) (w .tail) (x .1) (y .1)))
@@ -187,39 +187,39 @@ once [] ys zs a b h e = clash (named-in (a .name) ys zs b e) (not-true _ (both-l
 once (x ∷ xs) ys zs a b h e = once xs ys zs a b (both-right _ _ h) e
 
 -- where a name stands among attributes
-record Found (n : Bytes) (as1 : List Attr) : Type 0 where
+record Found (n : Bytes) (attrs : List Attr) : Type 0 where
   left : List Attr
   it : Attr
   right : List Attr
-  whole : as1 ≡ left ++ (it ∷ right)
+  whole : attrs ≡ left ++ (it ∷ right)
   is : n ≡ it .name
 
-found : (n : Bytes) (as1 : List Attr) → named n as1 ≡ true → Found n as1
+found : (n : Bytes) (attrs : List Attr) → named n attrs ≡ true → Found n attrs
 unfolding named
 found n [] h = clash h refl
-found n (a ∷ as1) h =
+found n (a ∷ attrs) h =
     byBool (same n (a .name))
-    (λ t. record { left = []; it = a; right = as1; whole = refl; is = same-yes n (a .name) t })
-    (λ t. let w = found n as1 (rw t at h) in
+    (λ t. record { left = []; it = a; right = attrs; whole = refl; is = same-yes n (a .name) t })
+    (λ t. let w = found n attrs (rw t at h) in
     record { left = a ∷ w .left; it = w .it; right = w .right; whole = ap (a ∷_) (w .whole); is = w .is })
 
 -- two places of a list with one name
-pub record Twice (as1 : List Attr) : Type 0 where
+pub record Twice (attrs : List Attr) : Type 0 where
   pub left : List Attr
   pub first : Attr
   pub middle : List Attr
   pub second : Attr
   pub right : List Attr
-  pub whole : as1 ≡ left ++ (first ∷ (middle ++ (second ∷ right)))
+  pub whole : attrs ≡ left ++ (first ∷ (middle ++ (second ∷ right)))
   pub is : first .name ≡ second .name
 
 -- a list that is not distinct has two
-pub twice : (as1 : List Attr) → noneTwice as1 ≡ false → Twice as1
+pub twice : (attrs : List Attr) → noneTwice attrs ≡ false → Twice attrs
 unfolding noneTwice both
 twice [] h = clash refl h
-twice (a ∷ as1) h =
-    byBool (named (a .name) as1)
-    (λ t. let w = found (a .name) as1 t in
+twice (a ∷ attrs) h =
+    byBool (named (a .name) attrs)
+    (λ t. let w = found (a .name) attrs t in
     record { left = []; first = a; middle = w .left; second = w .it; right = w .right; whole = ap (a ∷_) (w .whole); is = w .is })
-    (λ t. let w = twice as1 (rw t at h) in
+    (λ t. let w = twice attrs (rw t at h) in
     record { left = a ∷ w .left; first = w .first; middle = w .middle; second = w .second; right = w .right; whole = ap (a ∷_) (w .whole); is = w .is })

@@ -50,7 +50,7 @@ judge s f g k =
 -- ---- an event that is written
 
 fields-event : (e : Event) → all plainField (eventFields e) ≡ true → fields (tabbed (eventFields e)) ≡ eventFields e
-fields-event (starts empty n as1) h = fields-line (startWord empty) (n ∷ attrFields as1) h
+fields-event (starts empty n attrs) h = fields-line (startWord empty) (n ∷ attrFields attrs) h
 fields-event closes h = fields-line (ascii "close") [] h
 fields-event others h = fields-line (ascii "other") [] h
 
@@ -117,10 +117,10 @@ same-event d e h k q = let z : reads d ≡ reads e = sym (reads-back d h) ∙ ap
 
 -- ---- what an accepted event holds
 
-module _ (s : Bytes) (empty : Bool) (n : Bytes) (as1 : List Attr) (q : eventOf s ≡ reads (starts empty n as1)) where
-  parts-legal : legalParts (starts empty n as1) ≡ true
+module _ (s : Bytes) (empty : Bool) (n : Bytes) (attrs : List Attr) (q : eventOf s ≡ reads (starts empty n attrs)) where
+  parts-legal : legalParts (starts empty n attrs) ≡ true
   unfolding legalEvent
-  parts-legal = both-left _ _ (writes-back s (starts empty n as1) q .1)
+  parts-legal = both-left _ _ (writes-back s (starts empty n attrs) q .1)
 
   name-legal : legalName n ≡ true
   unfolding legalParts
@@ -140,23 +140,23 @@ module _ (s : Bytes) (empty : Bool) (n : Bytes) (as1 : List Attr) (q : eventOf s
   name-text = both-right _ _ (both-right _ _ name-legal)
 
   -- its attributes are legal, and none is there twice
-  pub attrs-legal : all legalAttr as1 ≡ true
+  pub attrs-legal : all legalAttr attrs ≡ true
   unfolding legalParts
   attrs-legal = both-left _ _ (both-right _ _ parts-legal)
 
-  pub attrs-once : noneTwice as1 ≡ true
+  pub attrs-once : noneTwice attrs ≡ true
   unfolding legalParts
   attrs-once = both-right _ _ (both-right _ _ parts-legal)
 
   -- each attribute's name is plain and text, and its value is text
-  pub attr-names-plain : all (λ a. plainField (a .name)) as1 ≡ true
+  pub attr-names-plain : all (λ a. plainField (a .name)) attrs ≡ true
   unfolding legalAttr legalName legalField
-  attr-names-plain = all-imp legalAttr (λ a. plainField (a .name)) (λ a h. both-left _ _ (both-right _ _ (both-left _ _ h))) as1 attrs-legal
+  attr-names-plain = all-imp legalAttr (λ a. plainField (a .name)) (λ a h. both-left _ _ (both-right _ _ (both-left _ _ h))) attrs attrs-legal
 
-  pub attr-names-text : all (λ a. isText (a .name)) as1 ≡ true
+  pub attr-names-text : all (λ a. isText (a .name)) attrs ≡ true
   unfolding legalAttr legalName legalField
-  attr-names-text = all-imp legalAttr (λ a. isText (a .name)) (λ a h. both-right _ _ (both-right _ _ (both-left _ _ h))) as1 attrs-legal
+  attr-names-text = all-imp legalAttr (λ a. isText (a .name)) (λ a h. both-right _ _ (both-right _ _ (both-left _ _ h))) attrs attrs-legal
 
-  pub values-text : all (λ a. isText (a .value)) as1 ≡ true
+  pub values-text : all (λ a. isText (a .value)) attrs ≡ true
   unfolding legalAttr
-  values-text = all-imp legalAttr (λ a. isText (a .value)) (λ a h. both-right _ _ (both-right _ _ h)) as1 attrs-legal
+  values-text = all-imp legalAttr (λ a. isText (a .value)) (λ a h. both-right _ _ (both-right _ _ h)) attrs attrs-legal

@@ -26,7 +26,7 @@ abbrev attr : Bytes → Bytes → Attr
 attr n v = record { name = n; value = v }
 
 abbrev opens : Bytes → Bytes → List Attr → Row
-opens s n as1 = record { bytes = s; reading = reads (starts false n as1) }
+opens s n attrs = record { bytes = s; reading = reads (starts false n attrs) }
 
 abbrev pub rows : List Row
 rows =

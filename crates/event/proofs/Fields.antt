@@ -41,22 +41,22 @@ other-legal = word-legal (ascii "other") refl refl
 
 pub event-legal : (e : Event) → legalParts e ≡ true → all legalField (eventFields e) ≡ true
 unfolding legalParts legalName
-event-legal (starts empty n as1) h =
-    all-cons legalField (startWord empty) (n ∷ attrFields as1) (start-legal empty)
-    (all-cons legalField n (attrFields as1) (both-right _ _ (both-left _ _ h)) (attrs-legal as1 (both-left _ _ (both-right _ _ h))))
+event-legal (starts empty n attrs) h =
+    all-cons legalField (startWord empty) (n ∷ attrFields attrs) (start-legal empty)
+    (all-cons legalField n (attrFields attrs) (both-right _ _ (both-left _ _ h)) (attrs-legal attrs (both-left _ _ (both-right _ _ h))))
 event-legal closes h = all-cons legalField (ascii "close") [] close-legal (all-nil legalField)
 event-legal others h = all-cons legalField (ascii "other") [] other-legal (all-nil legalField)
 
-starts-read : (empty : Bool) (n : Bytes) (as1 : List Attr) → legalParts (starts empty n as1) ≡ true
-    → startsFrom empty (n ∷ attrFields as1) ≡ reads (starts empty n as1)
+starts-read : (empty : Bool) (n : Bytes) (attrs : List Attr) → legalParts (starts empty n attrs) ≡ true
+    → startsFrom empty (n ∷ attrFields attrs) ≡ reads (starts empty n attrs)
 unfolding legalParts legalName
-starts-read empty n as1 h =
-    rw (not-true (isEmpty n) (both-left _ _ (both-left _ _ h)), attrs-read as1 (both-left _ _ (both-right _ _ h)), both-right _ _ (both-right _ _ h))
+starts-read empty n attrs h =
+    rw (not-true (isEmpty n) (both-left _ _ (both-left _ _ h)), attrs-read attrs (both-left _ _ (both-right _ _ h)), both-right _ _ (both-right _ _ h))
 
 pub fields-read : (e : Event) → legalParts e ≡ true → eventFrom (eventFields e) ≡ reads e
 unfolding same both
-fields-read (starts false n as1) h = starts-read false n as1 h
-fields-read (starts true n as1) h = starts-read true n as1 h
+fields-read (starts false n attrs) h = starts-read false n attrs h
+fields-read (starts true n attrs) h = starts-read true n attrs h
 fields-read closes h = refl
 fields-read others h = refl
 
@@ -67,15 +67,15 @@ Back : List Bytes → Event → Type 0
 Back fs e = (eventFields e ≡ fs) × (legalParts e ≡ true)
 
 startsWith-back : (empty : Bool) (n : Bytes) (fs : List Bytes) (o : Option (List Attr)) (e : Event) → legalName n ≡ true
-    → ((as1 : List Attr) → o ≡ some as1 → (attrFields as1 ≡ fs) × (all legalAttr as1 ≡ true))
+    → ((attrs : List Attr) → o ≡ some attrs → (attrFields attrs ≡ fs) × (all legalAttr attrs ≡ true))
     → startsWith empty n o ≡ reads e → Back (startWord empty ∷ n ∷ fs) e
 unfolding Back legalParts
 startsWith-back empty n fs none e h k q = no (cc)
-startsWith-back empty n fs (some as1) e h k q =
-    byBool (noneTwice as1)
-    (λ t. let z : reads (starts empty n as1) ≡ reads e = rw t at q in
-    let i : e ≡ starts empty n as1 = cc in
-    let w = k as1 refl in
+startsWith-back empty n fs (some attrs) e h k q =
+    byBool (noneTwice attrs)
+    (λ t. let z : reads (starts empty n attrs) ≡ reads e = rw t at q in
+    let i : e ≡ starts empty n attrs = cc in
+    let w = k attrs refl in
     rw i (ap (λ (x : List Bytes). startWord empty ∷ n ∷ x) (w .0), both-of h (both-of (w .1) t)))
     (λ t. let z : refused NotEventLine ≡ reads e = rw t at q in no (cc))
 
@@ -87,7 +87,7 @@ startsFrom-back empty (n ∷ fs) e h q =
     (λ t. let z : refused NotEventLine ≡ reads e = rw t at q in no (cc))
     (λ t. startsWith-back empty n fs (attrsOf fs) e
     (both-of (ap not t) (all-head legalField n fs h))
-    (λ as1 p. attrs-back fs as1 (all-tail legalField n fs h) p)
+    (λ attrs p. attrs-back fs attrs (all-tail legalField n fs h) p)
     (rw t at q))
 
 alone-back : (d : Event) (fs : List Bytes) (e : Event) → legalParts d ≡ true → alone d fs ≡ reads e → (fs ≡ []) × ((e ≡ d) × (legalParts e ≡ true))

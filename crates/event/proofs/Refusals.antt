@@ -30,7 +30,7 @@ by-cond false x y = y
 
 startsWith-fourth : (empty : Bool) (n : Bytes) (o : Option (List Attr)) → Fourth (startsWith empty n o)
 startsWith-fourth empty n none = is-none
-startsWith-fourth empty n (some as1) = by-cond (noneTwice as1) (is-event _) is-none
+startsWith-fourth empty n (some attrs) = by-cond (noneTwice attrs) (is-event _) is-none
 
 startsFrom-fourth : (empty : Bool) (fs : List Bytes) → Fourth (startsFrom empty fs)
 startsFrom-fourth empty [] = is-none

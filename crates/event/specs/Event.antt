@@ -81,9 +81,9 @@ unfoldable pub attrOf : Bytes → Option Attr
 attrOf f = attrFrom (parted f)
 
 abbrev pub beside : Option Attr → Option (List Attr) → Option (List Attr)
-beside none as1 = none
+beside none attrs = none
 beside (some a) none = none
-beside (some a) (some as1) = some (a ∷ as1)
+beside (some a) (some attrs) = some (a ∷ attrs)
 
 unfoldable pub attrsOf : List Bytes → Option (List Attr)
 attrsOf [] = some []
@@ -91,12 +91,12 @@ attrsOf (f ∷ fs) = beside (attrOf f) (attrsOf fs)
 
 unfoldable pub named : Bytes → List Attr → Bool
 named n [] = false
-named n (a ∷ as1) = cond (same n (a .name)) true (named n as1)
+named n (a ∷ attrs) = cond (same n (a .name)) true (named n attrs)
 
 -- "or an attribute twice"
 unfoldable pub noneTwice : List Attr → Bool
 noneTwice [] = true
-noneTwice (a ∷ as1) = both (not (named (a .name) as1)) (noneTwice as1)
+noneTwice (a ∷ attrs) = both (not (named (a .name) attrs)) (noneTwice attrs)
 
 -- the value of the attribute of a name, if there is one
 unfoldable pub valueOf : Bytes → List Attr → Option Bytes
@@ -112,7 +112,7 @@ orEmpty (some v) = v
 
 abbrev pub startsWith : Bool → Bytes → Option (List Attr) → Reading
 startsWith empty n none = refused NotEventLine
-startsWith empty n (some as1) = cond (noneTwice as1) (reads (starts empty n as1)) (refused NotEventLine)
+startsWith empty n (some attrs) = cond (noneTwice attrs) (reads (starts empty n attrs)) (refused NotEventLine)
 
 abbrev pub startsFrom : Bool → List Bytes → Reading
 startsFrom empty [] = refused NotEventLine
@@ -150,7 +150,7 @@ attrField a = a .name ++ (equalsSign ∷ escape (a .value))
 
 unfoldable pub attrFields : List Attr → List Bytes
 attrFields [] = []
-attrFields (a ∷ as1) = attrField a ∷ attrFields as1
+attrFields (a ∷ attrs) = attrField a ∷ attrFields attrs
 
 -- the word of an open or, where the test is true, an empty element
 abbrev pub startWord : Bool → Bytes
@@ -158,7 +158,7 @@ startWord false = ascii "open"
 startWord true = ascii "empty"
 
 abbrev pub eventFields : Event → List Bytes
-eventFields (starts empty n as1) = startWord empty ∷ n ∷ attrFields as1
+eventFields (starts empty n attrs) = startWord empty ∷ n ∷ attrFields attrs
 eventFields closes = ascii "close" ∷ []
 eventFields others = ascii "other" ∷ []
 

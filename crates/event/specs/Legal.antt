@@ -23,7 +23,7 @@ legalAttr a = both (legalName (a .name)) (both (all (λ b. not (eqb b equalsSign
 
 -- `open⇥NAME⇥attr=value..`, `empty⇥NAME⇥..`, `close`, `other`; "or an attribute twice" is refused
 unfoldable pub legalParts : Event → Bool
-legalParts (starts empty n as1) = both (legalName n) (both (all legalAttr as1) (noneTwice as1))
+legalParts (starts empty n attrs) = both (legalName n) (both (all legalAttr attrs) (noneTwice attrs))
 legalParts closes = true
 legalParts others = true
 

@@ -33,21 +33,6 @@ use Rattle.listing.proofs.Pages.{page-pieces}
 pub page-printed : (cap : ℕ) (xs ys zs : List Bytes) (p q r t : Printed) → q ≡ print cap xs p → r ≡ print cap ys q → t ≡ print cap zs r → t ≡ print cap (xs ++ ys ++ zs) p
 page-printed cap xs ys zs p q r t e1 e2 e3 = rw (print-append cap (xs ++ ys) zs p, print-append cap xs ys p, ← e1, ← e2) e3
 
--- lent bytes are bytes
-pub bytes-lent : (s : Bytes) → ((i : ℕ) → getD s i 0 < 256) → all isByte s ≡ true
-unfolding isByte
-bytes-lent [] h = all-nil isByte
-bytes-lent (b ∷ s) h = all-cons isByte b s (lt-ltb b 256 (h 0)) (bytes-lent s (λ i. h (suc i)))
-
-pub all-lent : (ni : List ℕ) (na : Bytes) (wi : List ℕ) (wa : Bytes) (ri : List ℕ) (ra : Bytes) (spans : List ℕ) (bytes : Bytes) (counts : List ℕ)
-    → all isByte na ≡ true → all isByte wa ≡ true → all isByte ra ≡ true → all isByte bytes ≡ true → InBytes (overlayOf ni na wi wa ri ra spans bytes counts)
-all-lent ni na wi wa ri ra spans bytes counts n w r t = record { arenas = arenas; texts = t }
-  where
-    arenas : (k : Kind) → all isByte (kindStoreOf k (overlayOf ni na wi wa ri ra spans bytes counts) .arena) ≡ true
-    arenas Node = n
-    arenas Way = w
-    arenas Relation = r
-
 -- ---- a page over the output
 
 module _ (out page : Bytes) where

@@ -28,13 +28,13 @@ unfoldable pub recordIn : Kind → KindStore → ℕ → Option (Record ℕ)
 recordIn k s at = heldIn (cutRecord k (drop at (take (s .used) (s .arena))))
 
 -- with its texts as texts
-abbrev pub told : (ℕ → Bytes) → Option (Record ℕ) → Option (Left Bytes)
-told f none = none
-told f (some r) = some (live (swapRecord f r))
+abbrev pub liveRecord : (ℕ → Bytes) → Option (Record ℕ) → Option (Left Bytes)
+liveRecord f none = none
+liveRecord f (some r) = some (live (swapRecord f r))
 
 abbrev pub lastIn : Kind → KindStore → (ℕ → Bytes) → Option Row → Option (Left Bytes)
 lastIn k s f none = none
-lastIn k s f (some r) = cond (isLive (r .place)) (told f (recordIn k s (r .place))) (some gone)
+lastIn k s f (some r) = cond (isLive (r .place)) (liveRecord f (recordIn k s (r .place))) (some gone)
 
 unfoldable pub knownIn : Overlay → Key → Known
 knownIn o key =

@@ -2,7 +2,7 @@
 use Prim.Native.Nat.{ℕ, _+_, _<_}
 use mathlib.Core.Path.{_≡_, refl}
 use mathlib.Core.Bool.{true}
-use mathlib.Core.List.{_++_}
+use mathlib.Core.List.{List, _++_}
 use lib.ListN.{length, take, drop}
 use mir.Syntax.{w64}
 use mir.Val.{SFits, toZ}
@@ -22,7 +22,8 @@ use Rattle.compact.specs.Fits.{fitsHead, fitsMeta}
 use Rattle.compact.specs.declared.ArenaMeta.{ArenaMeta}
 use Rattle.compact.specs.declared.PushHead.{PushHead}
 use Rattle.compact.proofs.Holds.{MetaHeld, meta-fits, node-fits, counts-fits, relation-fits}
-use Rattle.overlay.specs.Given.{headFits, metaFits}
+use Rattle.overlay.specs.Overlay.{overlayOf, kindStoreOf}
+use Rattle.overlay.specs.Given.{headFits, metaFits, InBytes}
 
 -- ---- metadata
 
@@ -109,3 +110,14 @@ head-small Relation h = all-append isByte _ _ (all-append isByte _ _ (bytes-le 8
 -- the bytes of a push
 pub written-small : (k : Kind) (h : Head) (m : Meta ℕ) (parts : Bytes) → all isByte parts ≡ true → all isByte (headBytes k h ++ metaBytes m ++ parts) ≡ true
 written-small k h m parts b = all-append isByte _ parts (all-append isByte (headBytes k h) (metaBytes m) (head-small k h) (meta-small m)) b
+
+-- ---- the bytes of lent slices are bytes
+
+pub lent-in-bytes : (ni : List ℕ) (na : Bytes) (wi : List ℕ) (wa : Bytes) (ri : List ℕ) (ra : Bytes) (ss : List ℕ) (sb : Bytes) (us : List ℕ)
+    → all isByte na ≡ true → all isByte wa ≡ true → all isByte ra ≡ true → all isByte sb ≡ true → InBytes (overlayOf ni na wi wa ri ra ss sb us)
+lent-in-bytes ni na wi wa ri ra ss sb us n w r t = record { arenas = arenas; texts = t }
+  where
+    arenas : (k : Kind) → all isByte (kindStoreOf k (overlayOf ni na wi wa ri ra ss sb us) .arena) ≡ true
+    arenas Node = n
+    arenas Way = w
+    arenas Relation = r

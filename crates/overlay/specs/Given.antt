@@ -1,7 +1,12 @@
 -- What a caller's numbers and a lent slice always are: each below the bound of its type.
+use Prim.Native.Nat.{ℕ}
 use mathlib.Core.Path.{_≡_}
 use mathlib.Core.Bool.{Bool, true}
+use mathlib.Core.List.{List}
 use lib.Dec.{ltb}
+use lib.ListN.{getD}
+use mir.Syntax.{w64}
+use mir.Val.{Fits}
 use Rattle.base.specs.Bytes.{both, all}
 use Rattle.little.specs.Little.{isByte}
 use Rattle.kind.specs.declared.Kind.{Kind}
@@ -23,3 +28,7 @@ metaFits m =
 pub record InBytes (o : Overlay) : Type 0 where
   pub arenas : (k : Kind) → all isByte (kindStoreOf k o .arena) ≡ true
   pub texts : all isByte (o .texts .bytes) ≡ true
+
+-- the words of a lent table are of 64 bits
+abbrev pub InWords : List ℕ → Type 0
+InWords ws = (i : ℕ) → Fits w64 (getD ws i 0)

@@ -32,7 +32,7 @@ Separates f a b = (r s : List Bytes) → f a ++ r ≡ f b ++ s → (a ≡ b) × 
 
 pub record Code {A : Type 0} (f : A → List Bytes) : Type 0 where
   pub allPlain : (a : A) → all plainField (f a) ≡ true
-  pub told : (a b : A) → Separates f a b
+  pub separates : (a b : A) → Separates f a b
 
 -- ---- codes of one field
 
@@ -40,7 +40,7 @@ pub record Code {A : Type 0} (f : A → List Bytes) : Type 0 where
 pub one : {A : Type 0} (w : A → Bytes) → ((a : A) → plainField (w a) ≡ true) → ((a b : A) → w a ≡ w b → a ≡ b) → Code (λ a. w a ∷ [])
 one w p i = record {
   allPlain = λ a. all-cons plainField (w a) [] (p a) (all-nil plainField);
-  told = λ a b r s e. (i a b (head-eq-of-cons-eq e), tail-eq-of-cons-eq e);
+  separates = λ a b r s e. (i a b (head-eq-of-cons-eq e), tail-eq-of-cons-eq e);
 }
 
 pub number-code : Code (λ n. numberText n ∷ [])
@@ -105,23 +105,23 @@ module _ {A : Type 0} (f : A → List Bytes) (c : Code f) where
   each-plain [] = all-nil plainField
   each-plain (a ∷ xs) = all-append plainField (f a) (each f xs) (c .allPlain a) (each-plain xs)
 
-  each-told : (xs ys : List A) (r s : List Bytes) → length xs ≡ length ys → each f xs ++ r ≡ each f ys ++ s → (xs ≡ ys) × (r ≡ s)
+  each-separates : (xs ys : List A) (r s : List Bytes) → length xs ≡ length ys → each f xs ++ r ≡ each f ys ++ s → (xs ≡ ys) × (r ≡ s)
   unfolding each
-  each-told [] [] r s l e = (refl, e)
-  each-told [] (y ∷ ys) r s l e = absurd (omega arith)
-  each-told (x ∷ xs) [] r s l e = absurd (omega arith)
-  each-told (x ∷ xs) (y ∷ ys) r s l e =
-      let h = c .told x y (each f xs ++ r) (each f ys ++ s) (simp append-assoc at e) in
-      let ih = each-told xs ys r s (omega arith) (h .1) in
+  each-separates [] [] r s l e = (refl, e)
+  each-separates [] (y ∷ ys) r s l e = absurd (omega arith)
+  each-separates (x ∷ xs) [] r s l e = absurd (omega arith)
+  each-separates (x ∷ xs) (y ∷ ys) r s l e =
+      let h = c .separates x y (each f xs ++ r) (each f ys ++ s) (simp append-assoc at e) in
+      let ih = each-separates xs ys r s (omega arith) (h .1) in
       (cc (h .0, ih .0), ih .1)
 
   pub counted-code : Code (counted f)
   unfolding counted all both
   counted-code = record {
     allPlain = λ xs. simp (number-plain, each-plain);
-    told = λ xs ys r s e.
-        let h = number-code .told (length xs) (length ys) (each f xs ++ r) (each f ys ++ s) e in
-        each-told xs ys r s (h .0) (h .1);
+    separates = λ xs ys r s e.
+        let h = number-code .separates (length xs) (length ys) (each f xs ++ r) (each f ys ++ s) e in
+        each-separates xs ys r s (h .0) (h .1);
   }
 
 -- ---- the parts of a record
@@ -130,10 +130,10 @@ pub member-code : Code memberFields
 unfolding all both
 member-code = record {
   allPlain = λ m. simp (number-plain, integer-plain, escape-plain);
-  told = λ a b r s e.
-      let h1 = number-code .told (kindNumber (a .type)) (kindNumber (b .type)) _ _ e in
-      let h2 = integer-code .told (a .ref) (b .ref) _ _ (h1 .1) in
-      let h3 = text-code .told (a .role) (b .role) r s (h2 .1) in
+  separates = λ a b r s e.
+      let h1 = number-code .separates (kindNumber (a .type)) (kindNumber (b .type)) _ _ e in
+      let h2 = integer-code .separates (a .ref) (b .ref) _ _ (h1 .1) in
+      let h3 = text-code .separates (a .role) (b .role) r s (h2 .1) in
       let k = same-kind (a .type) (b .type) (h1 .0) in
       (λ i. record { ref = h2 .0 i; type = k i; role = h3 .0 i }, h3 .1);
 }
@@ -142,9 +142,9 @@ pub tag-code : Code tagFields
 unfolding all both
 tag-code = record {
   allPlain = λ t. simp escape-plain;
-  told = λ a b r s e.
-      let h1 = text-code .told (a .key) (b .key) _ _ e in
-      let h2 = text-code .told (a .value) (b .value) r s (h1 .1) in
+  separates = λ a b r s e.
+      let h1 = text-code .separates (a .key) (b .key) _ _ e in
+      let h2 = text-code .separates (a .value) (b .value) r s (h1 .1) in
       (λ i. record { key = h1 .0 i; value = h2 .0 i }, h2 .1);
 }
 
@@ -152,13 +152,13 @@ pub meta-code : Code metaFields
 unfolding all both
 meta-code = record {
   allPlain = λ m. simp (number-plain, integer-plain, escape-plain);
-  told = λ a b r s e.
-      let h1 = number-code .told (a .flags) (b .flags) _ _ e in
-      let h2 = integer-code .told (a .version) (b .version) _ _ (h1 .1) in
-      let h3 = integer-code .told (a .timestamp) (b .timestamp) _ _ (h2 .1) in
-      let h4 = integer-code .told (a .changeset) (b .changeset) _ _ (h3 .1) in
-      let h5 = integer-code .told (a .uid) (b .uid) _ _ (h4 .1) in
-      let h6 = text-code .told (a .user) (b .user) r s (h5 .1) in
+  separates = λ a b r s e.
+      let h1 = number-code .separates (a .flags) (b .flags) _ _ e in
+      let h2 = integer-code .separates (a .version) (b .version) _ _ (h1 .1) in
+      let h3 = integer-code .separates (a .timestamp) (b .timestamp) _ _ (h2 .1) in
+      let h4 = integer-code .separates (a .changeset) (b .changeset) _ _ (h3 .1) in
+      let h5 = integer-code .separates (a .uid) (b .uid) _ _ (h4 .1) in
+      let h6 = text-code .separates (a .user) (b .user) r s (h5 .1) in
       (λ i. record { flags = h1 .0 i; version = h2 .0 i; timestamp = h3 .0 i; changeset = h4 .0 i; uid = h5 .0 i; user = h6 .0 i }, h6 .1);
 }
 
@@ -182,11 +182,11 @@ body-plain (members ms) = members-code .allPlain ms
 pub body-told : (a b : Body Bytes) → kindOf a ≡ kindOf b → Separates bodyFields a b
 unfolding bodyFields
 body-told (place x y) (place z w) k r s e =
-    let h1 = integer-code .told x z _ _ e in
-    let h2 = integer-code .told y w r s (h1 .1) in
+    let h1 = integer-code .separates x z _ _ e in
+    let h2 = integer-code .separates y w r s (h1 .1) in
     (cc (h1 .0, h2 .0), h2 .1)
-body-told (refs xs) (refs ys) k r s e = let h = refs-code .told xs ys r s e in (ap refs (h .0), h .1)
-body-told (members xs) (members ys) k r s e = let h = members-code .told xs ys r s e in (ap members (h .0), h .1)
+body-told (refs xs) (refs ys) k r s e = let h = refs-code .separates xs ys r s e in (ap refs (h .0), h .1)
+body-told (members xs) (members ys) k r s e = let h = members-code .separates xs ys r s e in (ap members (h .0), h .1)
 body-told (place x y) (refs ys) k r s e = no (cc)
 body-told (place x y) (members ys) k r s e = no (cc)
 body-told (refs xs) (place z w) k r s e = no (cc)
@@ -204,9 +204,9 @@ record-plain x =
 pub record-told : (a b : Record Bytes) → kindOf (a .body) ≡ kindOf (b .body) → Separates recordFields a b
 unfolding recordFields
 record-told a b k r s e =
-    let h1 = meta-code .told (a .meta) (b .meta) _ _ (simp append-assoc at e) in
+    let h1 = meta-code .separates (a .meta) (b .meta) _ _ (simp append-assoc at e) in
     let h2 = body-told (a .body) (b .body) k _ _ (h1 .1) in
-    let h3 = tags-code .told (a .tags) (b .tags) r s (h2 .1) in
+    let h3 = tags-code .separates (a .tags) (b .tags) r s (h2 .1) in
     (λ i. record { meta = h1 .0 i; body = h2 .0 i; tags = h3 .0 i }, h3 .1)
 
 -- the record of a live row is of the row's kind
@@ -233,9 +233,9 @@ row-plain r = simp (kind-plain, integer-plain, sign-plain, version-plain, last-p
 pub row-told : (a b : PageRow) → Fitting a → Fitting b → Separates rowFields a b
 unfolding rowFields
 row-told a b f g r s e =
-    let h1 = kind-code .told (a .key .kind) (b .key .kind) _ _ e in
-    let h2 = integer-code .told (a .key .id) (b .key .id) _ _ (h1 .1) in
-    let h3 = version-code .told (a .high) (b .high) _ _ (tail-eq-of-cons-eq (h2 .1)) in
+    let h1 = kind-code .separates (a .key .kind) (b .key .kind) _ _ e in
+    let h2 = integer-code .separates (a .key .id) (b .key .id) _ _ (h1 .1) in
+    let h3 = version-code .separates (a .high) (b .high) _ _ (tail-eq-of-cons-eq (h2 .1)) in
     let h4 = go (a .last) (b .last) f (rw (h1 .0) g) (head-eq-of-cons-eq (h2 .1)) (h3 .1) in
     (λ i. record { key = record { kind = h1 .0 i; id = h2 .0 i }; high = h3 .0 i; last = h4 .0 i }, h4 .1)
   where

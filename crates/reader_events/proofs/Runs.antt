@@ -78,16 +78,6 @@ given-after (l ∷ ls) s w =
     (λ a. rw (events-on l ls s a) (given-after ls (eventOn l s .state) (given-on s l w)))
     (λ r n a. rw (events-off l ls s r n a) (given-on s l w))
 
--- the bytes of lent slices are bytes
-pub lent-bytes : (ni : List ℕ) (na : Bytes) (wi : List ℕ) (wa : Bytes) (ri : List ℕ) (ra : Bytes) (spans : List ℕ) (bytes : Bytes) (used : List ℕ)
-    → all isByte na ≡ true → all isByte wa ≡ true → all isByte ra ≡ true → all isByte bytes ≡ true → InBytes (overlayOf ni na wi wa ri ra spans bytes used)
-lent-bytes ni na wi wa ri ra spans bytes used n w r t = record { arenas = arenas; texts = t }
-  where
-    arenas : (k : Kind) → all isByte (kindStoreOf k (overlayOf ni na wi wa ri ra spans bytes used) .arena) ≡ true
-    arenas Node = n
-    arenas Way = w
-    arenas Relation = r
-
 -- the numbers of a pending element fit their types
 pub head-fits : (h : PushHead) → h .id < 18446744073709551616 → h .lat < 4294967296 → h .lon < 4294967296 → h .count < 4294967296 → h .tags < 4294967296 → headFits h ≡ true
 unfolding headFits

@@ -32,18 +32,14 @@ use Rattle.listed.specs.declared.View.the-variants as view
 use Rattle.listed.specs.Listed.{rowsRead, isOn, rowsOn}
 use Rattle.listed.proofs.Lists.{rows-all, lists-all, on-rising, on-found, nth-at, missing-is}
 use Rattle.overlay.specs.Overlay.{Overlay, kindStoreOf}
-use Rattle.overlay.specs.Given.{InBytes}
+use Rattle.overlay.specs.Given.{InBytes, InWords}
 use Rattle.overlay.specs.Sound.{Sound, isSound}
 use Rattle.overlay.proofs.Decides.{decides}
 use Rattle.reading.specs.declared.Read.the-variants.{Is, Refused}
 use Rattle.reading.specs.Reading.{countOn, idOn, recordOn, getOn}
 use Rattle.reading.proofs.Records.{Shows, row-shows, live-view}
 
--- the words of a lent table are of 64 bits
-abbrev pub InWords : List ℕ → Type 0
-InWords ws = (i : ℕ) → Fits w64 (getD ws i 0)
-
--- and so is the rank of each row
+-- the rank of each row of a lent table is of 64 bits
 abbrev pub rankFits : Row → Bool
 rankFits r = ltb (r .rank) 18446744073709551616
 

@@ -82,13 +82,13 @@ kept-none t starts ends = record { room = omega arith; order = λ i h. no (omega
 
 -- none of them has a name that is kept
 unfoldable pub noneNamed : List Bytes → List Attr → Bool
-noneNamed [] as1 = true
-noneNamed (k ∷ ks) as1 = both (not (named k as1)) (noneNamed ks as1)
+noneNamed [] attrs = true
+noneNamed (k ∷ ks) attrs = both (not (named k attrs)) (noneNamed ks attrs)
 
 -- they stand, and so they do behind the kept names
 unfoldable pub standAfter : List Bytes → Option (List Attr) → Bool
 standAfter ks none = false
-standAfter ks (some as1) = both (noneTwice as1) (noneNamed ks as1)
+standAfter ks (some attrs) = both (noneTwice attrs) (noneNamed ks attrs)
 
 after-first : (x : Bool) → both x true ≡ x
 unfolding both
@@ -98,7 +98,7 @@ after-first false = refl
 pub stand-first : (o : Option (List Attr)) → standAfter [] o ≡ stand o
 unfolding standAfter stand noneNamed
 stand-first none = refl
-stand-first (some as1) = after-first (noneTwice as1)
+stand-first (some attrs) = after-first (noneTwice attrs)
 
 none-named : (ks : List Bytes) → noneNamed ks [] ≡ true
 unfolding noneNamed named both
@@ -112,24 +112,24 @@ stand-ends ks t at e = rw (ended t at e) (none-named ks)
 stand-wrong : (ks : List Bytes) (o : Option (List Attr)) → there o ≡ false → standAfter ks o ≡ false
 unfolding standAfter there
 stand-wrong ks none h = refl
-stand-wrong ks (some as1) h = clash refl h
+stand-wrong ks (some attrs) h = clash refl h
 
 module _ (a : Attr) where
-  named-not : (ks : List Bytes) (as1 : List Attr) → among (a .name) ks ≡ false → noneNamed ks (a ∷ as1) ≡ noneNamed ks as1
+  named-not : (ks : List Bytes) (attrs : List Attr) → among (a .name) ks ≡ false → noneNamed ks (a ∷ attrs) ≡ noneNamed ks attrs
   unfolding noneNamed named among either
-  named-not [] as1 h = refl
-  named-not (k ∷ ks) as1 h =
+  named-not [] attrs h = refl
+  named-not (k ∷ ks) attrs h =
       byBool (same k (a .name))
       (λ e. clash (rw e) h)
-      (λ e. let g : among (a .name) ks ≡ false = rw e at h in rw (e, named-not ks as1 g))
+      (λ e. let g : among (a .name) ks ≡ false = rw e at h in rw (e, named-not ks attrs g))
 
-  named-one : (ks : List Bytes) (as1 : List Attr) → among (a .name) ks ≡ true → noneNamed ks (a ∷ as1) ≡ false
+  named-one : (ks : List Bytes) (attrs : List Attr) → among (a .name) ks ≡ true → noneNamed ks (a ∷ attrs) ≡ false
   unfolding noneNamed named among either both
-  named-one [] as1 h = clash h refl
-  named-one (k ∷ ks) as1 h =
+  named-one [] attrs h = clash h refl
+  named-one (k ∷ ks) attrs h =
       byBool (same k (a .name))
       (λ e. rw e)
-      (λ e. let g : among (a .name) ks ≡ true = rw e at h in both-no-right (not (named k (a ∷ as1))) (named-one ks as1 g))
+      (λ e. let g : among (a .name) ks ≡ true = rw e at h in both-no-right (not (named k (a ∷ attrs))) (named-one ks attrs g))
 
   turned : (x y z : Bool) → both x (both y z) ≡ both (both y x) z
   unfolding both
@@ -140,12 +140,12 @@ module _ (a : Attr) where
   stand-on : (ks : List Bytes) (o : Option (List Attr)) → among (a .name) ks ≡ false → standAfter (a .name ∷ ks) o ≡ standAfter ks (beside (some a) o)
   unfolding standAfter noneTwice noneNamed
   stand-on ks none h = refl
-  stand-on ks (some as1) h = rw (named-not ks as1 h) (turned (noneTwice as1) (not (named (a .name) as1)) (noneNamed ks as1))
+  stand-on ks (some attrs) h = rw (named-not ks attrs h) (turned (noneTwice attrs) (not (named (a .name) attrs)) (noneNamed ks attrs))
 
   stand-again : (ks : List Bytes) (o : Option (List Attr)) → among (a .name) ks ≡ true → standAfter ks (beside (some a) o) ≡ false
   unfolding standAfter
   stand-again ks none h = refl
-  stand-again ks (some as1) h = both-no-right _ (named-one ks as1 h)
+  stand-again ks (some attrs) h = both-no-right _ (named-one ks attrs h)
 
 -- ---- a turn
 

@@ -75,11 +75,11 @@ judged s = go (unended s) refl
 stand-none : (empty : Bool) (n : Bytes) (o : Option (List Attr)) → stand o ≡ false → startsWith empty n o ≡ refused NotEventLine
 unfolding stand
 stand-none empty n none h = refl
-stand-none empty n (some as1) h = rw h
+stand-none empty n (some attrs) h = rw h
 
-stand-some : (empty : Bool) (n : Bytes) (o : Option (List Attr)) (as1 : List Attr) → o ≡ some as1 → stand o ≡ true → startsWith empty n o ≡ reads (starts empty n as1)
+stand-some : (empty : Bool) (n : Bytes) (o : Option (List Attr)) (attrs : List Attr) → o ≡ some attrs → stand o ≡ true → startsWith empty n o ≡ reads (starts empty n attrs)
 unfolding stand
-stand-some empty n o as1 e h = let k : noneTwice as1 ≡ true = rw e at h in rw (e, k)
+stand-some empty n o attrs e h = let k : noneTwice attrs ≡ true = rw e at h in rw (e, k)
 
 -- nothing follows the first word
 pub starts-alone : (t : Bytes) (empty : Bool) (at : ℕ) → at ≡ length t → startsFrom empty (fieldsAt t (at + 1)) ≡ refused NotEventLine

@@ -15,16 +15,16 @@ use Rattle.scan.specs.Scan.{attrsAt, attributeAt}
 use Rattle.scan.specs.Names.{namesOf}
 use Rattle.scan.proofs.Walks.{Step, attrs-end}
 
-not-named : (n : Bytes) (as1 : List Attr) → not (named n as1) ≡ all (differs n) (namesOf as1)
+not-named : (n : Bytes) (attrs : List Attr) → not (named n attrs) ≡ all (differs n) (namesOf attrs)
 unfolding named all differs namesOf both
 not-named n [] = refl
-not-named n (a ∷ as1) = byBool (same n (a .name)) (λ e. rw e) (λ e. rw e (not-named n as1))
+not-named n (a ∷ attrs) = byBool (same n (a .name)) (λ e. rw e) (λ e. rw e (not-named n attrs))
 
 -- "or an attribute twice"
-pub names-distinct : (as1 : List Attr) → noneTwice as1 ≡ distinct (namesOf as1)
+pub names-distinct : (attrs : List Attr) → noneTwice attrs ≡ distinct (namesOf attrs)
 unfolding noneTwice distinct namesOf
 names-distinct [] = refl
-names-distinct (a ∷ as1) = rw (not-named (a .name) as1, names-distinct as1)
+names-distinct (a ∷ attrs) = rw (not-named (a .name) attrs, names-distinct attrs)
 
 -- ---- names noted so far, and those behind them
 

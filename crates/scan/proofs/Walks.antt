@@ -32,7 +32,7 @@ there-beside : (o : Option Attr) (x : Option (List Attr)) → there (beside o x)
 unfolding there both
 there-beside none x = refl
 there-beside (some a) none = refl
-there-beside (some a) (some as1) = refl
+there-beside (some a) (some attrs) = refl
 
 module _ {t : Bytes} {at eq to : ℕ} (d : AttributeAt t at eq to) where
   pub attr-nameless : eq ≡ at → there (attrOf (slice at to t)) ≡ false
@@ -70,16 +70,16 @@ unfolding there
 some-there none h = clash h refl
 some-there (some x) h = (x, refl)
 
-pub good-some : (t : Bytes) (at : ℕ) (as1 : List Attr) → attrsOf (fieldsAt t at) ≡ some as1 → (Good t at) × (attrsAt t at ≡ as1)
+pub good-some : (t : Bytes) (at : ℕ) (attrs : List Attr) → attrsOf (fieldsAt t at) ≡ some attrs → (Good t at) × (attrsAt t at ≡ attrs)
 unfolding attrsAt
-good-some t at as1 e = (rw e, rw e)
+good-some t at attrs e = (rw e, rw e)
 
 pub good-there : (t : Bytes) (at : ℕ) → there (attrsOf (fieldsAt t at)) ≡ true → Good t at
 good-there t at h = let w = some-there (attrsOf (fieldsAt t at)) h in good-some t at (w .0) (w .1) .0
 
 -- the same of the bytes from a place on
-pub good-from : (t : Bytes) (at : ℕ) (as1 : List Attr) → at ≤ length t → attrsOf (fields (drop at t)) ≡ some as1 → Good t at
-good-from t at as1 h e = good-some t at as1 (rw (fields-within t at h) e) .0
+pub good-from : (t : Bytes) (at : ℕ) (attrs : List Attr) → at ≤ length t → attrsOf (fields (drop at t)) ≡ some attrs → Good t at
+good-from t at attrs h e = good-some t at attrs (rw (fields-within t at h) e) .0
 
 -- a good attribute: its places, its text, those behind it
 pub record Step (t : Bytes) (at eq to : ℕ) : Type 0 where
@@ -94,8 +94,8 @@ pub record Step (t : Bytes) (at eq to : ℕ) : Type 0 where
 pub lower : (a b : ℕ) → a ≤ b → (b ≡ a → ⊥) → a < b
 lower a b h n = byLt a b (λ l. l) (λ l. absurd (n (omega arith)))
 
-renamed : (a : Attr) (n : Bytes) (as1 bs : List Attr) → a .name ≡ n → bs ≡ as1 → a ∷ as1 ≡ record { name = n; value = a .value } ∷ bs
-renamed a n as1 bs p q = rw (← p, q)
+renamed : (a : Attr) (n : Bytes) (attrs bs : List Attr) → a .name ≡ n → bs ≡ attrs → a ∷ attrs ≡ record { name = n; value = a .value } ∷ bs
+renamed a n attrs bs p q = rw (← p, q)
 
 step-here : (t : Bytes) (at eq to : ℕ) → AttributeAt t at eq to → Good t at → Step t at eq to
 step-here t at eq to d g =
@@ -173,7 +173,7 @@ once-ends t at e = rw (attrs-end t at e)
 pub stand-bad : (o : Option (List Attr)) → there o ≡ false → stand o ≡ false
 unfolding there stand
 stand-bad none h = refl
-stand-bad (some as1) h = clash refl h
+stand-bad (some attrs) h = clash refl h
 
 pub stand-good : (t : Bytes) (at : ℕ) → Good t at → stand (attrsOf (fieldsAt t at)) ≡ noneTwice (attrsAt t at)
 unfolding stand
@@ -182,4 +182,4 @@ stand-good t at g = rw g
 pub stand-there : (o : Option (List Attr)) → stand o ≡ true → there o ≡ true
 unfolding there stand
 stand-there none h = clash h refl
-stand-there (some as1) h = refl
+stand-there (some attrs) h = refl

@@ -5,4 +5,4 @@ use Rattle.event.specs.Event.{Attr}
 
 unfoldable pub namesOf : List Attr → List Bytes
 namesOf [] = []
-namesOf (a ∷ as1) = a .name ∷ namesOf as1
+namesOf (a ∷ attrs) = a .name ∷ namesOf attrs

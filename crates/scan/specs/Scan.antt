@@ -30,7 +30,7 @@ fieldsAt t at = cond (leb at (length t)) (fields (drop at t)) []
 
 abbrev pub orNone : Option (List Attr) → List Attr
 orNone none = []
-orNone (some as1) = as1
+orNone (some attrs) = attrs
 
 -- the attributes of the fields from a place on
 unfoldable pub attrsAt : Bytes → ℕ → List Attr
@@ -43,7 +43,7 @@ Good t at = attrsOf (fieldsAt t at) ≡ some (attrsAt t at)
 -- whether they are, and no name is there twice
 unfoldable pub stand : Option (List Attr) → Bool
 stand none = false
-stand (some as1) = noneTwice as1
+stand (some attrs) = noneTwice attrs
 
 -- ---- events
 

@@ -59,3 +59,7 @@ module _ (w : Width) where
 
   pub compared : (x y : ℤ) → mag x < 2 ^ hbits w → mag y < 2 ^ hbits w → {t : Bool} → ltZ (toZ w (ofZ w x)) (toZ w (ofZ w y)) ≡ t → ltZ x y ≡ t
   compared x y h k e = rw (held x h, held y k) at e
+
+-- a number that is handed on as its bits is read back
+pub bits-back : {w : Width} {z : ℤ} {n : ℕ} → SFits w z → n ≡ ofZ w (toZ w (ofZ w z)) → toZ w n ≡ z
+bits-back f e = rw (e, toZ-ofZ f, toZ-ofZ f)

@@ -25,5 +25,4 @@ pub fn intern_by(
 pub fn index_held(ix: &mut [u16], spans: &[u64], bytes: &[u8], strings: u64, used: u64)
     ensures { λ _. ⌜ (IndexGiven (now (ix .entry)) (storeWith (now (spans .entry)) (now (bytes .entry)) strings used)
         → IndexGiven (now (ix .exit)) (storeWith (now (spans .entry)) (now (bytes .entry)) strings used)) ⌝ }
-{
-}
+{}

@@ -1,4 +1,3 @@
-pub mod Ids
 pub mod OverlayReplies
 pub mod OverlayFirst
 pub mod ReaderReplies

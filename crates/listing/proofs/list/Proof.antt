@@ -4,7 +4,9 @@ use native.Mathlib.Omega.{arith}
 use denote.Ref.{now}
 use Rattle.overlay.specs.Overlay.{Overlay, overlayOf}
 use Rattle.overlay.specs.Given.{InBytes}
-use Rattle.listing.proofs.Calls.{bytes-lent, all-lent, list-22, list-pieces}
+use Rattle.little.proofs.Littles.{bytes-of}
+use Rattle.overlay.proofs.Bounds.{lent-in-bytes}
+use Rattle.listing.proofs.Calls.{list-22, list-pieces}
 use borrow.Author.Needs.{needs}
 use Rattle.listing.proofs.list.Statement.{statement}
 use Rattle.listing.proofs.list.Tie as tie
@@ -22,11 +24,11 @@ in-bytes c =
     let w = r .before .before in
     let n = w .before .before in
     let a = n .before .before .args in
-    all-lent (now (a .ni)) (now (a .na)) (now (a .wi)) (now (a .wa)) (now (a .ri)) (now (a .ra)) (now (a .ss)) (now (a .sb)) (now (a .us))
-    (bytes-lent (now (a .na)) (λ i. omega (arith, n .shared-slice-known2 .given i)))
-    (bytes-lent (now (a .wa)) (λ i. omega (arith, w .shared-slice-known4 .given i)))
-    (bytes-lent (now (a .ra)) (λ i. omega (arith, r .shared-slice-known6 .given i)))
-    (bytes-lent (now (a .sb)) (λ i. omega (arith, t .shared-slice-known8 .given i)))
+    lent-in-bytes (now (a .ni)) (now (a .na)) (now (a .wi)) (now (a .wa)) (now (a .ri)) (now (a .ra)) (now (a .ss)) (now (a .sb)) (now (a .us))
+    (bytes-of (now (a .na)) (λ i l. omega (arith, n .shared-slice-known2 .given i)))
+    (bytes-of (now (a .wa)) (λ i l. omega (arith, w .shared-slice-known4 .given i)))
+    (bytes-of (now (a .ra)) (λ i l. omega (arith, r .shared-slice-known6 .given i)))
+    (bytes-of (now (a .sb)) (λ i l. omega (arith, t .shared-slice-known8 .given i)))
 
 returns : tie.Need-returns
 returns c =

@@ -7,7 +7,8 @@ use Rattle.overlay.specs.Given.{InBytes, headFits, metaFits}
 use Rattle.reader.specs.State.{State}
 use mathlib.Core.Path.{_≡_}
 use mathlib.Core.Bool.{true}
-use Rattle.reader_events.proofs.Runs.{lent-bytes, head-fits, meta-fits}
+use Rattle.overlay.proofs.Bounds.{lent-in-bytes}
+use Rattle.reader_events.proofs.Runs.{head-fits, meta-fits}
 use Rattle.reader_events.proofs.state_tested.Statement.{statement}
 use Rattle.reader_events.proofs.state_tested.Tie as tie
 
@@ -24,7 +25,7 @@ given s =
 in-bytes : (c : tie.After-state-sound) → InBytes (given (c .before .before .before .before .before .before .before .before .before .before .before) .overlay)
 in-bytes c =
     let a = c .before .before .before .before .before .before .before .before .before .before .before .args in
-    lent-bytes (now (a .ni)) (now (a .na)) (now (a .wi)) (now (a .wa)) (now (a .ri)) (now (a .ra)) (now (a .ss)) (now (a .sb)) (now (a .us))
+    lent-in-bytes (now (a .ni)) (now (a .na)) (now (a .wi)) (now (a .wa)) (now (a .ri)) (now (a .ra)) (now (a .ss)) (now (a .sb)) (now (a .us))
     (bytes-of (now (a .na)) (λ i l. omega (arith, c .before .before .before .before .before .before .before .before .before .shared-slice-known2 .given i)))
     (bytes-of (now (a .wa)) (λ i l. omega (arith, c .before .before .before .before .before .before .before .shared-slice-known4 .given i)))
     (bytes-of (now (a .ra)) (λ i l. omega (arith, c .before .before .before .before .before .shared-slice-known6 .given i)))

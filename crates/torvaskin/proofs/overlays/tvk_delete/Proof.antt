@@ -1,7 +1,7 @@
 -- What `direct::delete` leaves and answers; or nothing changes, and 22 or 17 is replied.
 use mathlib.Core.Path.{refl}
 use Rattle.torvaskin.specs.Overlays.{deleteReply}
-use Rattle.torvaskin.proofs.Ids.{id-is}
+use Rattle.signed.proofs.Bits.{bits-back}
 use Rattle.torvaskin.proofs.OverlayReplies.{replied-is, unknown-is}
 use borrow.Author.Needs.{needs}
 use Rattle.torvaskin.proofs.overlays.tvk_delete.Statement.{statement}
@@ -35,7 +35,7 @@ returns : tie.Need-returns
 unfolding deleteReply
 returns c =
     let w = c .before .before .before .before .before .before .before .before .before .before .before .before .before .before in
-    let d = id-is (w .before .before .before .before .before .before .before .before .before .before .before .fits .id) (c .before .before .before .before .before .before .before .before .bits-of-i64 .ensures) in
+    let d = bits-back (w .before .before .before .before .before .before .before .before .before .before .before .fits .id) (c .before .before .before .before .before .before .before .before .bits-of-i64 .ensures) in
     rw (← w .before .before .kind-of-number .ensures, w .k .given .1) (replied-is (c .kept-reply .ensures) (rw d at (c .before .before .before .before .before .before .before .delete .ensures)))
 
 same-length-4 : tie.Need-same-length-4
