@@ -27,11 +27,11 @@ bucketAt texts h = bucketOf (textOf texts h)
 abbrev pub handlesIn : List ℕ → ℕ
 handlesIn ix = getD ix 8192 0
 
-abbrev pub headIn : List ℕ → ℕ → ℕ
-headIn ix b = getD ix b 0
+abbrev pub bucketLast : List ℕ → ℕ → ℕ
+bucketLast ix b = getD ix b 0
 
-abbrev pub beforeIn : List ℕ → ℕ → ℕ
-beforeIn ix h = getD ix (4096 + h) 0
+abbrev pub handleBefore : List ℕ → ℕ → ℕ
+handleBefore ix h = getD ix (4096 + h) 0
 
 -- c is one more than the last handle below m whose bucket is b, or 0 where there is none
 pub record LastBelow (buckets : ℕ → ℕ) (b m c : ℕ) : Type 0 where
@@ -42,8 +42,8 @@ pub record LastBelow (buckets : ℕ → ℕ) (b m c : ℕ) : Type 0 where
 pub record Indexed (ix : List ℕ) (texts : List Bytes) : Type 0 where
   pub few : handlesIn ix ≤ length texts
   pub room : handlesIn ix ≤ 4096
-  pub heads : (b : ℕ) → b < 4096 → LastBelow (bucketAt texts) b (handlesIn ix) (headIn ix b)
-  pub befores : (h : ℕ) → h < handlesIn ix → LastBelow (bucketAt texts) (bucketAt texts h) h (beforeIn ix h)
+  pub heads : (b : ℕ) → b < 4096 → LastBelow (bucketAt texts) b (handlesIn ix) (bucketLast ix b)
+  pub befores : (h : ℕ) → h < handlesIn ix → LastBelow (bucketAt texts) (bucketAt texts h) h (handleBefore ix h)
 
 -- sound strings with an array of chains for them
 pub record IndexGiven (ix : List ℕ) (s : Store) : Type 0 where
