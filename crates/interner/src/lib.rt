@@ -47,7 +47,7 @@ fn equal(a: &[u8], b: &[u8]) -> bool
 }
 
 // Where the string of a handle lies.
-fn span_at(spans: &[u64], bytes: &[u8], h: usize) -> Span
+pub fn span_at(spans: &[u64], bytes: &[u8], h: usize) -> Span
     ensures { λ r. ⌜ r ≡ spanAt (now (spans .entry)) (now (bytes .entry)) h ⌝ }
 {
     if spans.len() / 2 <= h {
