@@ -1,22 +1,22 @@
 -- A search by a chain: the handles that it has passed do not have the text.
 use Prim.Native.Nat.{ℕ, zero, suc, _+_, _-_, _≤_, _<_}
-use mathlib.Core.Path.{_≡_, refl, sym, _∙_, ap}
+use mathlib.Core.Path.{_≡_, sym, _∙_, ap}
 use mathlib.Core.Bool.{true, false}
 use mathlib.Core.List.{List, []}
-use native.Mathlib.Nat.{zero-add, add-zero}
+use native.Mathlib.Nat.{zero-add}
 use native.Mathlib.Omega.{arith}
 use lib.ListN.{length, getD, length-map}
-use Rattle.base.specs.Bytes.{Bytes, both, same}
+use Rattle.base.specs.Bytes.{Bytes}
 use Rattle.base.proofs.Split.{byBool, byLt, byEq, both-left, both-right, clash}
 use Rattle.base.proofs.Lists.{same-yes}
-use Rattle.interner.specs.declared.Found.the-variants.{At, Not}
+use Rattle.interner.specs.declared.Found.the-variants.{At}
 use Rattle.interner.specs.Texts.{textOf}
 use Rattle.interner.specs.Strings.{bytesAt, isAt, findFrom, findIn, Store, usedOf}
 use Rattle.interner.specs.Sound.{handles, textsIn, countsWithin, soundUpTo, soundStrings}
 use Rattle.interner.proofs.Finds.{find-here, find-on}
 use Rattle.interner.proofs.Handles.{length-handles, made-at}
 use Rattle.interner.proofs.Checks.{upto-parts}
-use Rattle.text_index.specs.Index.{bucketOf, bucketAt, handlesIn, LastBelow, Indexed, IndexGiven}
+use Rattle.text_index.specs.Index.{bucketOf, bucketAt, handlesIn, LastBelow, IndexGiven}
 use Rattle.text_index.specs.Link.{ChainsGiven, FoundBelow}
 
 module _ (spans : List ℕ) (bytes : Bytes) where

@@ -1,12 +1,12 @@
 -- Laws of an array of chains that its users need.
-use Prim.Native.Nat.{ℕ, _-_, _≤_, _<_}
+use Prim.Native.Nat.{ℕ, _-_, _<_}
 use mathlib.Core.Path.{_≡_, refl, sym, _∙_}
 use mathlib.Core.List.{List, [], _++_}
 use native.Mathlib.Omega.{arith}
-use lib.ListN.{length, length-append, getD, replicate, getD-replicate, length-replicate, List·getD-append, List·getD-eq-default}
+use lib.ListN.{length-append, getD, replicate, getD-replicate, length-replicate, List·getD-append, List·getD-eq-default}
 use Rattle.base.specs.Bytes.{Bytes}
 use Rattle.base.proofs.Split.{byLt}
-use Rattle.text_index.specs.Index.{bucketOf, bucketAt, handlesIn, LastBelow, Indexed}
+use Rattle.text_index.specs.Index.{bucketAt, handlesIn, LastBelow, Indexed}
 
 -- the same buckets below m
 pub last-same : (f g : ℕ → ℕ) (b m c : ℕ) → ((h : ℕ) → h < m → g h ≡ f h) → LastBelow f b m c → LastBelow g b m c

@@ -1,13 +1,13 @@
 -- The array with one handle more.
-use Prim.Native.Nat.{ℕ, _+_, _-_, _≤_, _<_}
-use mathlib.Core.Path.{_≡_, refl, sym, _∙_, ap}
+use Prim.Native.Nat.{ℕ, _+_, _-_, _<_}
+use mathlib.Core.Path.{_≡_, sym, _∙_, ap}
 use mathlib.Core.Bool.{true}
 use mathlib.Core.List.{List}
 use native.Mathlib.Omega.{arith}
 use lib.ListN.{length, getD, set, length-set}
 use lib.Seq.{getD-set-same, getD-set-other}
 use Rattle.base.specs.Bytes.{Bytes}
-use Rattle.base.proofs.Split.{byLt, byEq}
+use Rattle.base.proofs.Split.{byEq}
 use Rattle.interner.specs.Strings.{spanned, bytesAt}
 use Rattle.interner.specs.Sound.{textsIn, soundUpTo}
 use Rattle.interner.proofs.Checks.{upto-parts}

@@ -2,13 +2,15 @@
 // It may hold fewer handles than the strings have; the others are searched one by one, so an empty slice serves where no array is kept.
 ghost use mathlib.Core.Path.{_≡_};
 ghost use mathlib.Core.Bool.{true};
-ghost use Prim.Native.Nat.{ℕ, _+_, _-_, _≤_, _<_};
+ghost use Prim.Native.Nat.{ℕ, _≤_, _<_};
 ghost use lib.ListN.{length, getD};
 ghost use Rattle.interner.specs.Strings.{spanned, bytesAt, findIn, storeWith, storeAfter, intern};
 ghost use Rattle.interner.specs.Sound.{textsIn};
 ghost use Rattle.text_index.specs.Index.{bucketOf, handlesIn, Indexed, IndexGiven};
 ghost use Rattle.text_index.specs.Link.{linked, ChainsGiven, FoundBelow};
-use interner::{Found, Span, Taken};
+use interner::Found;
+use interner::Span;
+use interner::Taken;
 
 fn wide(b: u8) -> u64
     ensures { λ r. ⌜ r ≡ b ⌝ }

@@ -1,6 +1,6 @@
 -- `intern_found`: the handle that was found, else the test for room, then the writer.
 use mathlib.Core.Path.{_≡_, sym, _∙_}
-use mathlib.Core.Bool.{true, false}
+use mathlib.Core.Bool.{true}
 use denote.Ref.{now}
 use Rattle.interner.specs.Strings.{storeWith, textRoom, takenAs}
 use Rattle.interner.proofs.Takes.{room-words, room-bytes}

@@ -3,7 +3,6 @@ use mathlib.Core.Path.{_≡_, sym, _∙_}
 use native.Mathlib.Omega.{arith}
 use denote.Ref.{now}
 use Rattle.text_index.specs.Index.{handlesIn}
-use Rattle.text_index.specs.Link.{ChainsGiven, FoundBelow}
 use Rattle.text_index.proofs.Chains.{held-few, found-chained, found-rest}
 use borrow.Author.Needs.{needs}
 use Rattle.text_index.proofs.find_by.Statement.{statement}

@@ -1,5 +1,5 @@
 -- `intern_by`: the search over the used bytes by the chains, then what it found is taken in.
-use mathlib.Core.Path.{_≡_, sym, _∙_}
+use mathlib.Core.Path.{_≡_, sym}
 use native.Mathlib.Omega.{arith}
 use denote.Ref.{now}
 use lib.ListN.{take}

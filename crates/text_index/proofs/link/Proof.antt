@@ -1,6 +1,5 @@
 -- `link` writes three entries.
 use native.Mathlib.Omega.{arith}
-use denote.Ref.{now}
 use lib.ListN.{length-set}
 use borrow.Author.Needs.{needs}
 use Rattle.text_index.proofs.link.Statement.{statement}

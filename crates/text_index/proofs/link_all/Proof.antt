@@ -47,10 +47,12 @@ loop-again c =
     let long : 8192 < length (l .ix) = omega (arith, s .pre .0, l .inv .1 .0) in
     let hh : l .h < 4096 = omega (arith, s .pre .1 .1, t) in (
       omega (arith, t),
-      (rw e (length-linked (l .ix) (b .result) (l .h) long (b .ensures .0) hh ∙ l .inv .1 .0),
-      λ count k m g.
-          rw e
-          (linked-more (now (a .spans)) (now (a .bytes)) count (l .ix) (b .result) (l .h) (g .sound) long (b .ensures .0) hh (omega (arith, t)) (b .ensures .1) (l .inv .1 .1 count k m g))),
+      (
+        rw e (length-linked (l .ix) (b .result) (l .h) long (b .ensures .0) hh ∙ l .inv .1 .0),
+        λ count k m g.
+            rw e
+            (linked-more (now (a .spans)) (now (a .bytes)) count (l .ix) (b .result) (l .h) (g .sound) long (b .ensures .0) hh (omega (arith, t)) (b .ensures .1) (l .inv .1 .1 count k m g)),
+      ),
     )
 
 same-length : tie.Need-same-length Inv-loop μ-loop
