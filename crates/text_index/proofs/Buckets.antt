@@ -7,7 +7,7 @@ use lib.Seq.{drop-cons, drop-length}
 use Rattle.base.specs.Bytes.{Bytes}
 use Rattle.text_index.specs.Index.{hashOn, bucketOf}
 
-pub hash-step : (t : Bytes) (i k : ℕ) → i < length t → hashOn k (drop i t) ≡ hashOn ((k * 31 + getD t i 0) % 4294967296) (drop (i + 1) t)
+pub hash-step : (t : Bytes) (i k : ℕ) → i < length t → hashOn k (drop i t) ≡ hashOn ((k * 16777619 + getD t i 0) % 4294967296) (drop (i + 1) t)
 unfolding hashOn
 hash-step t i k h = rw (drop-cons t i 0 h, add-one)
 

@@ -13,7 +13,7 @@ use Rattle.interner.specs.Sound.{textsOf, soundStrings}
 -- a number of 32 bits with some bytes told
 unfoldable pub hashOn : ℕ → Bytes → ℕ
 hashOn k [] = k
-hashOn k (b ∷ bs) = hashOn ((k * 31 + b) % 4294967296) bs
+hashOn k (b ∷ bs) = hashOn ((k * 16777619 + b) % 4294967296) bs
 
 -- the bucket of a text, below 4096
 unfoldable pub bucketOf : Bytes → ℕ

@@ -32,7 +32,7 @@ fn bucket(text: &[u8]) -> usize
     let mut k: u64 = 0;
     let mut i: usize = 0;
     while i < text.len() {
-        k = (k * 31 + wide(text[i])) % 4294967296;
+        k = (k * 16777619 + wide(text[i])) % 4294967296;
         i += 1;
     }
     (k * 2654435761 % 4294967296 / 1048576) as usize
@@ -50,7 +50,21 @@ fn entry(ix: &[u16], i: usize, most: usize) -> usize
     if e <= most { e } else { 0 }
 }
 
-// One more than the handle of a text among the first n, which the array holds, or 0 where there is none.
+// One more than the last handle of a text among the first n, one by one, or 0 where there is none.
+fn search_down(spans: &[u64], bytes: &[u8], n: usize, text: &[u8]) -> usize
+    ensures { λ r. ⌜ FoundBelow (now (spans .entry)) (now (bytes .entry)) (now (text .entry)) n r ⌝ }
+{
+    let mut c = n;
+    while 0 < c {
+        if interner::is_at(spans, bytes, text, c - 1) {
+            return c;
+        }
+        c -= 1;
+    }
+    0
+}
+
+// The same by the chain of its bucket, where the array holds n handles. A chain of more than 32 handles is left: so nobody's texts make it slower than a search one by one.
 fn find_chained(ix: &[u16], spans: &[u64], bytes: &[u8], n: usize, text: &[u8]) -> usize
     requires { ⌜ n ≤ 4096 ⌝ }
     ensures { λ r. ⌜ ((count : ℕ) → ChainsGiven (now (ix .entry)) (now (spans .entry)) (now (bytes .entry)) count → n ≡ handlesIn (now (ix .entry))
@@ -58,21 +72,26 @@ fn find_chained(ix: &[u16], spans: &[u64], bytes: &[u8], n: usize, text: &[u8]) 
 {
     let b = bucket(text);
     let mut c = entry(ix, b, n);
+    let mut left: usize = 32;
     while 0 < c {
+        if left == 0 {
+            return search_down(spans, bytes, c, text);
+        }
         if interner::is_at(spans, bytes, text, c - 1) {
             return c;
         }
         c = entry(ix, 4095 + c, c - 1);
+        left -= 1;
     }
     0
 }
 
-// The handle of a text: by the chains among the handles that the array holds, then one by one.
+// The handle of a text: by the chains among the handles that the array holds, then one by one. Few handles are searched one by one at once.
 fn find_by(ix: &[u16], spans: &[u64], bytes: &[u8], count: u64, text: &[u8]) -> Found
     ensures { λ r. ⌜ (ChainsGiven (now (ix .entry)) (now (spans .entry)) (now (bytes .entry)) count → r ≡ findIn (now (spans .entry)) (now (bytes .entry)) count (now (text .entry))) ⌝ }
 {
     let n = entry(ix, 8192, 4096);
-    if n == 0 {
+    if n < 16 {
         return interner::find_text(spans, bytes, count, text);
     }
     let c = find_chained(ix, spans, bytes, n, text);
