@@ -2,13 +2,13 @@
 ghost use mathlib.Core.Path.{_≡_};
 ghost use mathlib.Core.Bool.{true, false};
 ghost use mathlib.Core.List.{[], _∷_};
-ghost use Prim.Native.Nat.{_+_, _*_, _≤_, _<_};
+ghost use Prim.Native.Nat.{_+_, _-_, _*_, _≤_, _<_};
 ghost use lib.ListN.{length, take};
 ghost use lib.Dec.{leb};
 ghost use Rattle.base.specs.Bytes.{both, same};
 ghost use Rattle.little.specs.Little.{over};
 ghost use Rattle.distinct.specs.Distinct.{distinct, runsIn};
-ghost use Rattle.interner.specs.Strings.{spanAt, spanOf, isAt, findIn, storeWith, storeAfter, textTaken, intern};
+ghost use Rattle.interner.specs.Strings.{spanAt, spanOf, isAt, findFrom, findIn, storeWith, storeAfter, textTaken, takenAs, intern};
 ghost use Rattle.interner.specs.Sound.{soundUpTo, soundStrings, freshSpans};
 ghost use Rattle.interner.specs.Check.{newAt, legalAt, WordsNoted};
 use distinct::Distinctness;
@@ -47,7 +47,7 @@ fn equal(a: &[u8], b: &[u8]) -> bool
 }
 
 // Where the string of a handle lies.
-fn span_at(spans: &[u64], bytes: &[u8], h: usize) -> Span
+pub fn span_at(spans: &[u64], bytes: &[u8], h: usize) -> Span
     ensures { λ r. ⌜ r ≡ spanAt (now (spans .entry)) (now (bytes .entry)) h ⌝ }
 {
     if spans.len() / 2 <= h {
@@ -77,7 +77,7 @@ pub fn resolve(spans: &[u64], bytes: &[u8], count: u64, handle: u64) -> Span
 }
 
 // Whether the string of a handle is the text. Lengths are compared before bytes.
-fn is_at(spans: &[u64], bytes: &[u8], text: &[u8], h: usize) -> bool
+pub fn is_at(spans: &[u64], bytes: &[u8], text: &[u8], h: usize) -> bool
     ensures { λ r. ⌜ r ≡ isAt (now (spans .entry)) (now (bytes .entry)) (now (text .entry)) h ⌝ }
 {
     let Span::Part { start, len } = span_at(spans, bytes, h) else {
@@ -87,12 +87,12 @@ fn is_at(spans: &[u64], bytes: &[u8], text: &[u8], h: usize) -> bool
     equal(text, &bytes[start..end])
 }
 
-// The first of the held handles whose string is the text. Handles past the spans have none.
-pub fn find_text(spans: &[u64], bytes: &[u8], count: u64, text: &[u8]) -> Found
-    ensures { λ r. ⌜ r ≡ findIn (now (spans .entry)) (now (bytes .entry)) count (now (text .entry)) ⌝ }
+// The first handle from one on, of those that are held, whose string is the text. Handles past the spans have none.
+pub fn find_from(spans: &[u64], bytes: &[u8], from: usize, count: u64, text: &[u8]) -> Found
+    ensures { λ r. ⌜ r ≡ findFrom (now (spans .entry)) (now (bytes .entry)) (now (text .entry)) (count - from) from ⌝ }
 {
     let end = little::lesser(count as usize, spans.len() / 2);
-    let mut h: usize = 0;
+    let mut h = from;
     while h < end {
         if is_at(spans, bytes, text, h) {
             return Found::At(h as u64);
@@ -100,6 +100,13 @@ pub fn find_text(spans: &[u64], bytes: &[u8], count: u64, text: &[u8]) -> Found
         h += 1;
     }
     Found::Not
+}
+
+// The first of the held handles whose string is the text.
+pub fn find_text(spans: &[u64], bytes: &[u8], count: u64, text: &[u8]) -> Found
+    ensures { λ r. ⌜ r ≡ findIn (now (spans .entry)) (now (bytes .entry)) count (now (text .entry)) ⌝ }
+{
+    find_from(spans, bytes, 0, count, text)
 }
 
 // Whether one more string of a length fits what is lent.
@@ -152,12 +159,18 @@ fn add(spans: &mut [u64], bytes: &mut [u8], strings: u64, used: u64, text: &[u8]
     }
 }
 
-// Takes a text in: the handle of an equal one that is held, else the next handle, if there is room.
-pub fn intern(spans: &mut [u64], bytes: &mut [u8], strings: u64, used: u64, text: &[u8]) -> Taken
-    ensures { λ r. ⌜ storeAfter (now (spans .exit)) (now (bytes .exit)) r ≡ intern (storeWith (now (spans .entry)) (now (bytes .entry)) strings used) (now (text .entry)) ⌝ }
+// Takes a text in of which it is known whether it is held: its handle, else the next one, if there is room.
+pub fn intern_found(
+    spans: &mut [u64],
+    bytes: &mut [u8],
+    strings: u64,
+    used: u64,
+    text: &[u8],
+    found: Found,
+) -> Taken
+    ensures { λ r. ⌜ storeAfter (now (spans .exit)) (now (bytes .exit)) r ≡ takenAs (storeWith (now (spans .entry)) (now (bytes .entry)) strings used) (now (text .entry)) found ⌝ }
 {
-    let seen = little::lesser(used as usize, bytes.len());
-    if let Found::At(h) = find_text(spans, &bytes[..seen], strings, text) {
+    if let Found::At(h) = found {
         return Taken {
             answer: Interned::Held(h),
             strings,
@@ -173,6 +186,15 @@ pub fn intern(spans: &mut [u64], bytes: &mut [u8], strings: u64, used: u64, text
             used,
         }
     }
+}
+
+// Takes a text in: the handle of an equal one that is held, else the next handle, if there is room.
+pub fn intern(spans: &mut [u64], bytes: &mut [u8], strings: u64, used: u64, text: &[u8]) -> Taken
+    ensures { λ r. ⌜ storeAfter (now (spans .exit)) (now (bytes .exit)) r ≡ intern (storeWith (now (spans .entry)) (now (bytes .entry)) strings used) (now (text .entry)) ⌝ }
+{
+    let seen = little::lesser(used as usize, bytes.len());
+    let found = find_text(spans, &bytes[..seen], strings, text);
+    intern_found(spans, bytes, strings, used, text, found)
 }
 
 // ---- soundness

@@ -1,1 +1,4 @@
 pub mod Index
+pub mod Buckets
+pub mod Chains
+pub mod Links

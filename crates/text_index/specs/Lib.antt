@@ -1,1 +1,2 @@
 pub mod Index
+pub mod Link
