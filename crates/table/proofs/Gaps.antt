@@ -1,10 +1,11 @@
--- A gap of three words, opened a word at a time from the end; a row stored word by word, and in the gap.
+-- A gap of three words, opened a word at a time from the end, in a part that is lent; a row stored word by word, and in the gap.
 use Prim.Native.Nat.{ℕ, suc, _+_, _*_, _-_, _<_, _≤_}
-use mathlib.Core.Path.{_≡_, _∙_}
-use mathlib.Core.List.{List, [], _∷_, _++_, append-assoc}
+use mathlib.Core.Path.{_≡_, sym, _∙_}
+use mathlib.Core.List.{List, [], _∷_, _++_, append-nil, append-assoc}
 use native.Mathlib.Omega.{arith}
-use lib.ListN.{length, getD, take, drop, set, take-append-drop, List·getD-append}
-use lib.Seq.{take-append-le, take-take, drop-at, slice, slice-empty, slice-cons, take-suc, append-snoc, set-at, sets-eq, length-take-le, getD-take}
+use lib.ListN.{length, getD, take, drop, set, take-append-drop, drop-of-length-le, length-drop, List·getD-append}
+use borrow.Rule.Slice.PartMut.{midOf, postOf, putMid}
+use lib.Seq.{take-all, take-append-le, take-take, take-add, drop-drop, drop-at, slice, slice-empty, slice-cons, take-suc, append-snoc, set-at, sets-eq, length-take-le, getD-take}
 use Rattle.table.specs.declared.Row.{Row}
 use Rattle.table.specs.Words.{wordsOf, rowOver, gap, inserted}
 
@@ -44,6 +45,26 @@ module _ (ws : List ℕ) (used : ℕ) where
   pub gap-behind : (at : ℕ) → at + 3 ≤ length ws → drop (at + 3) (gap ws at used) ≡ slice at used ws ++ drop (used + 3) ws
   unfolding gap
   gap-behind at h = drop-at (take (at + 3) ws) (slice at used ws ++ drop (used + 3) ws) (at + 3) (length-take-le (at + 3) ws h)
+
+  -- a gap at the start of the words from `at` on
+  gap-part : (at : ℕ) → at ≤ used → used ≤ length ws → take at ws ++ gap (drop at ws) 0 (used - at) ≡ gap ws at used
+  unfolding gap
+  gap-part at h fits =
+      let part = drop at ws in
+      let x : at + (used - at) ≡ used = omega arith in
+      let y : at + (used - at + 3) ≡ used + 3 = omega arith in
+      let upTo : take used ws ≡ take at ws ++ take (used - at) part = rw x at (take-add at (used - at) ws) in
+      let moved : slice at used ws ≡ take (used - at) part = rw upTo (drop-at (take at ws) (take (used - at) part) at (length-take-le at ws (omega arith))) in
+      let rest : drop (used - at + 3) part ≡ drop (used + 3) ws = rw y at (drop-drop (used - at + 3) at ws) in
+      rw (take-add at 3 ws, moved, ← rest) (sym (append-assoc (take at ws) (take 3 part) (take (used - at) part ++ drop (used - at + 3) part)))
+
+  -- the same of `&mut ws[at..]`, as the borrow checker says it: `last` is what is left of the part
+  pub gap-lent : (last : List ℕ) (at : ℕ) → at ≤ used → used ≤ length ws → last ≡ gap (midOf at (length ws - at) ws) 0 (used - at) → putMid at (length ws - at) ws last ≡ gap ws at used
+  gap-lent last at h fits e =
+      let n : length (drop at ws) ≤ length ws - at = simp length-drop (omega arith) in
+      let m : midOf at (length ws - at) ws ≡ drop at ws = take-all (length ws - at) (drop at ws) n in
+      let q : postOf at (length ws - at) ws ≡ [] = drop-of-length-le (drop at ws) n in
+      rw (q, e, m, append-nil) (gap-part at h fits)
 
 -- a row stored word by word
 pub row-stored : (ws : List ℕ) (i : ℕ) (row : Row) → 3 * i + 3 ≤ length ws → set (set (set ws (3 * i) (row .rank)) (3 * i + 1) (row .place)) (3 * i + 2) (row .floor) ≡ rowOver ws i row

@@ -110,17 +110,25 @@ pub fn find_row(table: &[u64], count: u64, rank: u64) -> Found
     Found::Place(p)
 }
 
-// Moves the words from `at` up to `used` three further on, the last first.
+// Moves the first n words three further on, the last first; from place 0 on, so that it is compiled to one block move.
+fn move_up(words: &mut [u64], n: usize)
+    requires { ⌜ n + 3 ≤ length (now words) ⌝ }
+    ensures { λ _. ⌜ now (words .exit) ≡ gap (now (words .entry)) 0 n ⌝ }
+{
+    let mut i = n;
+    while 0 < i {
+        i -= 1;
+        let word = words[i];
+        words[i + 3] = word;
+    }
+}
+
+// Moves the words from `at` up to `used` three further on.
 fn open_gap(table: &mut [u64], at: usize, used: usize)
     requires { ⌜ (at ≤ used) × (used + 3 ≤ length (now table)) ⌝ }
     ensures { λ _. ⌜ now (table .exit) ≡ gap (now (table .entry)) at used ⌝ }
 {
-    let mut i = used;
-    while at < i {
-        i -= 1;
-        let word = table[i];
-        table[i + 3] = word;
-    }
+    move_up(&mut table[at..], used - at);
 }
 
 // A row over the i-th.
