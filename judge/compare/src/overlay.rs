@@ -1,7 +1,7 @@
 //! The C entries on lent storage behind the judge's trait.
 
 use judge::Meta;
-use judge::compare::call::{Answer, Call, Lines, Port, STAGED, Storage, UNWRITTEN};
+use judge::compare::call::{Answer, Call, Lines, Port, STAGED, Storage, UNWRITTEN, UNWRITTEN_WORD};
 use torvaskin::entry::{self, ArenaMeta, PushHead};
 use torvaskin::{Lent, Parts, Shared};
 
@@ -228,6 +228,10 @@ impl<L: Lend> Entries<L> {
             Call::IsDeleted(kind, id) => number(entry::is_deleted(p, kind, id)),
             Call::KnownVersion(kind, id) => number(entry::known_version(p, kind, id)),
             Call::Text(handle) => part(entry::text(p, handle)),
+            Call::LiveIds(kind, size) => self.lists(size, |ids, versions| entry::live_ids(p, kind, ids, versions)),
+            Call::DeletedIds(kind, size) => {
+                self.lists(size, |ids, versions| entry::deleted_ids(p, kind, ids, versions))
+            }
             Call::Listing(size) => {
                 let mut output = vec![UNWRITTEN; size];
                 let listed = self.0.bytes(&mut output, |out| entry::listing(p, out));
@@ -235,6 +239,13 @@ impl<L: Lend> Entries<L> {
             }
             ref call => panic!("{call:?}"),
         }
+    }
+
+    /// A call that fills two lists.
+    fn lists(&self, size: usize, fill: impl FnOnce(&mut [u64], &mut [u64]) -> entry::Number) -> Answer {
+        let (mut ids, mut versions) = (vec![UNWRITTEN_WORD; size], vec![UNWRITTEN_WORD; size]);
+        let filled = self.0.words(&mut ids, |ids| self.0.words(&mut versions, |versions| fill(ids, versions)));
+        Answer::Lists { number: filled.number, value: filled.value, ids, versions }
     }
 
     /// A call with a reader's words and parts.

@@ -273,6 +273,9 @@ pub enum Call {
     IsDeleted(u8, i64),
     KnownVersion(u8, i64),
     Text(u64),
+    /// The live ids of a kind, or the deleted ones, into two lists of so many words.
+    LiveIds(u8, usize),
+    DeletedIds(u8, usize),
     /// One line with its line feed, or a tail without one, to a reader by its number.
     Event(usize, Bytes),
     /// The whole lines of a run, one after the other.
@@ -334,6 +337,13 @@ pub enum Answer {
         line: u64,
         taken: usize,
     },
+    /// How many ids there are, and all of both lists.
+    Lists {
+        number: u32,
+        value: u64,
+        ids: Vec<u64>,
+        versions: Vec<u64>,
+    },
     /// How long the listing is, and all of the output.
     Listing {
         number: u32,
@@ -344,6 +354,7 @@ pub enum Answer {
 
 /// What an output holds before a listing.
 pub const UNWRITTEN: u8 = 0xa5;
+pub const UNWRITTEN_WORD: u64 = 0xa5a5_a5a5_a5a5_a5a5;
 
 impl Answer {
     pub fn number(&self) -> u32 {
@@ -353,6 +364,7 @@ impl Answer {
             | Self::Part { number, .. }
             | Self::Event { number, .. }
             | Self::Events { number, .. }
+            | Self::Lists { number, .. }
             | Self::Listing { number, .. } => number,
         }
     }
@@ -371,6 +383,17 @@ impl Answer {
         let (number, found) = answer.map_or_else(|number| (number, None), |found| (0, found));
         let (start, len) = found.unwrap_or((0, 0));
         Self::Part { number, found: u32::from(found.is_some()), start: start as usize, len: len as usize }
+    }
+
+    /// Ids with their known versions or the refusal, in lists of so many words: 19 where they are too few.
+    pub fn lists(size: usize, rows: Result<Vec<(i64, Option<i32>)>, u32>) -> Self {
+        let (mut ids, mut versions) = (vec![UNWRITTEN_WORD; size], vec![UNWRITTEN_WORD; size]);
+        let rows = rows.and_then(|rows| if rows.len() > size { Err(19) } else { Ok(rows) });
+        let (number, value) = rows.as_ref().map_or_else(|number| (*number, 0), |rows| (0, rows.len() as u64));
+        for (n, (id, known)) in rows.into_iter().flatten().enumerate() {
+            (ids[n], versions[n]) = (id.cast_unsigned(), word(known));
+        }
+        Self::Lists { number, value, ids, versions }
     }
 
     /// A listing or its refusal, in so many bytes: 19 where they are too few.

@@ -546,6 +546,7 @@ fn groups() -> Vec<Vec<Call>> {
         by_id(Call::IsDeleted),
         by_id(Call::KnownVersion),
         handles.map(Call::Text).into(),
+        (0..=3).flat_map(|kind| [Call::LiveIds(kind, 9), Call::DeletedIds(kind, 2)]).collect(),
     ];
     groups.extend(bad_acts());
     groups.extend(KINDS.into_iter().flat_map(good_acts));

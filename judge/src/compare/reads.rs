@@ -30,6 +30,9 @@ pub fn every_read(both: &mut Both<'_>) -> Result<(), String> {
             reads.extend([Call::LiveId(kind, n), Call::DeletedId(kind, n)]);
             reads.push(Call::Record(kind, n));
         }
+        for size in [ids.len(), ids.len() + 2, ids.len().saturating_sub(1), deleted.len(), 0] {
+            reads.extend([Call::LiveIds(kind, size), Call::DeletedIds(kind, size)]);
+        }
         ids.extend(deleted);
         let mut ids = some_of(&mut random, &ids);
         for n in 0..ids.len() {
@@ -47,7 +50,7 @@ pub fn every_read(both: &mut Both<'_>) -> Result<(), String> {
         reads.extend([Call::LiveCount(kind), Call::DeletedCount(kind)]);
         reads.extend([Call::LiveId(kind, 0), Call::DeletedId(kind, 0), Call::Record(kind, 0)]);
         reads.extend([Call::Get(kind, 1), Call::Has(kind, 1), Call::IsDeleted(kind, 1)]);
-        reads.push(Call::KnownVersion(kind, 1));
+        reads.extend([Call::KnownVersion(kind, 1), Call::LiveIds(kind, 9), Call::DeletedIds(kind, 0)]);
     }
     let texts = both.rust.texts();
     let held: Vec<u64> = (0..texts).collect();

@@ -100,6 +100,11 @@ impl Rust {
         Ok(Some((span.0.into(), span.1.into())))
     }
 
+    /// Ids, each with its known version.
+    fn known(&self, kind: Kind, ids: &[i64]) -> Vec<(i64, Option<i32>)> {
+        ids.iter().map(|id| (*id, self.overlay.known_version(kind, *id))).collect()
+    }
+
     /// What is read of a kind, or 17.
     fn of_kind(&self, kind: u8, read: impl FnOnce(Kind) -> Result<u64, u32>) -> Answer {
         Answer::value(kind_of(kind).and_then(read))
@@ -141,6 +146,12 @@ impl Rust {
                 self.of_kind(*kind, |k| Ok(super::ground::word(overlay.known_version(k, *id))))
             }
             Call::Text(handle) => Answer::part(self.text(*handle)),
+            Call::LiveIds(kind, size) => {
+                Answer::lists(*size, kind_of(*kind).map(|k| self.known(k, &overlay.sorted_ids(k).0)))
+            }
+            Call::DeletedIds(kind, size) => {
+                Answer::lists(*size, kind_of(*kind).map(|k| self.known(k, &overlay.sorted_ids(k).1)))
+            }
             Call::Event(reader, line) => self.event(sizes, *reader, line),
             Call::Events(..) => panic!("its lines are given one by one"),
             Call::End(reader) => stopped(self.readers[*reader].end()),

@@ -529,6 +529,13 @@ impl Words {
         Answer::value(row.map(|row| id_of(row.rank).cast_unsigned()))
     }
 
+    /// The live ids of a kind or the deleted ones, each with its known version.
+    fn known_ids(&self, lent: &Storage, kind: u8, live: bool) -> Result<Vec<(i64, Option<i32>)>, u32> {
+        let kind = self.asked(lent, kind)?;
+        let ids = rows(lent, kind).into_iter().filter(|row| row.is_live() == live).map(|row| id_of(row.rank));
+        Ok(ids.map(|id| (id, known(lent, kind, id))).collect())
+    }
+
     /// "contains no data at all": no id of any kind, live or deleted.
     fn is_empty(&self, lent: &Storage) -> Result<u64, u32> {
         self.checked(lent)?;
@@ -585,6 +592,8 @@ impl Port for Words {
                 Answer::value(kind.map(|kind| word(known(lent, kind, *id))))
             }
             Call::Text(handle) => Answer::part(self.text(lent, *handle)),
+            Call::LiveIds(kind, size) => Answer::lists(*size, self.known_ids(lent, *kind, true)),
+            Call::DeletedIds(kind, size) => Answer::lists(*size, self.known_ids(lent, *kind, false)),
             Call::Event(reader, line) => words_reader::event(self, lent, *reader, line),
             Call::Events(reader, run) => words_reader::events(self, lent, *reader, run),
             Call::End(reader) => words_reader::end(self, lent, *reader),

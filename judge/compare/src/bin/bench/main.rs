@@ -2,6 +2,7 @@
 //! rounds, and the ratio. Both sides are called through a trait object or a C entry, so that neither is inlined into the loop.
 
 mod documents;
+mod hostile;
 
 use compare::Library;
 use judge::compare::ground::Ground;
@@ -179,4 +180,5 @@ fn main() {
     documents::steps();
     documents::readings();
     documents::sizes();
+    hostile::hostile();
 }
