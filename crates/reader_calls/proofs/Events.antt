@@ -2,15 +2,23 @@
 use Prim.Native.Nat.{ℕ}
 use mathlib.Core.Path.{_≡_, refl, sym, _∙_, ap}
 use mathlib.Core.Bool.{true, false}
+use mathlib.Core.List.{[]}
 use lib.ListN.{length}
 use Rattle.base.specs.Bytes.{Bytes}
+use Rattle.base.proofs.Split.{both-left}
 use Rattle.refusal.specs.declared.Refusal.{Refusal}
 use Rattle.refusal.specs.declared.Refusal.the-variants as R
 use Rattle.event.specs.Event.{body}
 use Rattle.decision.specs.Decision.{decide}
 use Rattle.decide.specs.Decided.{meansDecided, DecidedInBounds}
 use Rattle.decide.specs.declared.Decided.{Decided}
+use Rattle.interner.specs.Sound.{textsOf, soundStrings}
+use Rattle.interner.proofs.Interns.{sound-of}
+use Rattle.text_index.specs.Index.{IndexGiven}
+use Rattle.text_index.proofs.Index.{indexed-none}
 use Rattle.overlay.specs.Overlay.{Overlay}
+use Rattle.overlay.specs.Sound.{isSound}
+use Rattle.overlay.proofs.Answers.{strings-sound}
 use Rattle.reader.specs.declared.Stop.the-variants.{Going, At}
 use Rattle.reader.specs.State.{State, stateSound}
 use Rattle.reader.specs.Step.{Step, goes, stops, stepOf}
@@ -64,3 +72,13 @@ module _ (line : Bytes) (s : State) where
 
     pub event-goes-on : stopMark (s .reader .stop) ≡ Going → {x : EventResult} → x ≡ stepped s (stepOf (decide line (s .reader .place)) s) → x ≡ eventOn line s
     event-goes-on g w = w ∙ sym (event-going line s e (unmarked (s .reader .stop) g))
+
+-- ---- an array of chains
+
+pub texts-sound : (o : Overlay) → isSound o ≡ true → soundStrings (o .texts) ≡ true
+texts-sound o e = sound-of (o .texts) (strings-sound o e)
+
+-- no array serves every sound state
+pub no-chains : (s : State) → stateSound s ≡ true → IndexGiven [] (s .overlay .texts)
+unfolding stateSound
+no-chains s e = record { sound = texts-sound (s .overlay) (both-left _ _ e); chains = indexed-none (textsOf (s .overlay .texts)) }
