@@ -2,7 +2,7 @@
 use Prim.Native.Nat.{ℕ}
 use mathlib.Core.Path.{_≡_, refl, sym, _∙_, ap}
 use mathlib.Core.Bool.{true, false}
-use mathlib.Core.List.{[]}
+use mathlib.Core.List.{List, []}
 use lib.ListN.{length}
 use Rattle.base.specs.Bytes.{Bytes}
 use Rattle.base.proofs.Split.{both-left}
@@ -37,9 +37,9 @@ module _ (line : Bytes) (s : State) where
   -- ---- a step
 
   -- what is given to it
-  step-given : stateSound s ≡ true → (d : Decided) → meansDecided (body line) d ≡ decide line (s .reader .place) → DecidedInBounds (body line) d → StepGiven (body line) d s
-  step-given e d f l =
-      record { strings = sound-strings s e; used = sound-used s e; short = λ n. short-line line (s .reader .place) (λ z. n (f ∙ z)); lies = l }
+  step-given : stateSound s ≡ true → (ix : List ℕ) → IndexGiven ix (s .overlay .texts) → (d : Decided) → meansDecided (body line) d ≡ decide line (s .reader .place) → DecidedInBounds (body line) d → StepGiven ix (body line) d s
+  step-given e ix i d f l =
+      record { strings = sound-strings s e; used = sound-used s e; short = λ n. short-line line (s .reader .place) (λ z. n (f ∙ z)); lies = l; indexed = i }
 
   abbrev done-result : StepDone → EventResult
   done-result x =
@@ -53,12 +53,12 @@ module _ (line : Bytes) (s : State) where
   result-is (stops r) = refl
 
   -- what is left after it; t is the line without its line feed
-  pub event-steps : stateSound s ≡ true → (t : Bytes) → t ≡ body line
+  pub event-steps : stateSound s ≡ true → (ix : List ℕ) → IndexGiven ix (s .overlay .texts) → (t : Bytes) → t ≡ body line
       → (d : Decided) → meansDecided (body line) d ≡ decide line (s .reader .place) → DecidedInBounds (body line) d → {q : Overlay} {ps : Bytes} {a : Stepped} {r : EventDone}
-      → (StepGiven t d s → record { overlay = q; parts = ps; answer = a } ≡ doneBy s (stepOf (meansDecided t d) s)) → r ≡ eventDone (s .reader) a
+      → (StepGiven ix t d s → record { overlay = q; parts = ps; answer = a } ≡ doneBy s (stepOf (meansDecided t d) s)) → r ≡ eventDone (s .reader) a
       → record { state = record { overlay = q; reader = r .reader; parts = ps }; answer = r .answer } ≡ stepped s (stepOf (decide line (s .reader .place)) s)
-  event-steps e t p d f l h g =
-      let w = (rw p at h) (step-given e d f l) in
+  event-steps e ix i t p d f l h g =
+      let w = (rw p at h) (step-given e ix i d f l) in
       rw (g, ← f) (ap done-result w ∙ result-is (stepOf (meansDecided (body line) d) s))
 
   -- ---- 22, and the stop mark

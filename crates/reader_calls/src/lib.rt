@@ -103,6 +103,7 @@ pub fn event_going(
         ss,
         sb,
         us,
+        ix,
         parts,
         reader,
         &line[..n],
