@@ -1,7 +1,7 @@
 -- Document 01, the acts of an event: "12 .. 13 .. 14 .. 15 ..", and the first of them is answered. "Nothing lent changes" at a refusal.
-use Prim.Native.Nat.{_<_, _≤_}
+use Prim.Native.Nat.{ℕ, _<_, _≤_}
 use mathlib.Core.Bool.{Bool, false, cond}
-use mathlib.Core.List.{[]}
+use mathlib.Core.List.{List, []}
 use lib.Dec.{eqb}
 use lib.IntN.{ℤ}
 use lib.ListN.{length, take}
@@ -15,6 +15,7 @@ use Rattle.version_floor.specs.declared.Admit.the-variants.{Admitted, Below}
 use Rattle.model.specs.Record.{Meta, Body, kindOf, flagged, claimOf}
 use Rattle.compact.specs.declared.ArenaMeta.{ArenaMeta}
 use Rattle.interner.specs.Strings.{Store}
+use Rattle.text_index.specs.Index.{IndexGiven}
 use Rattle.kind_store.specs.KindStore.{knownVersion, checked}
 use Rattle.kind_store.specs.declared.Kept.{Kept}
 use Rattle.kind_store.specs.declared.Kept.the-variants as K
@@ -100,11 +101,12 @@ pushStagedOn k x parts o = storePush k (x .head) (x .meta) (take (x .used) parts
 
 -- ---- what is given
 
--- the user lies in the line, and the handles of the overlay fit the metadata's field
-pub record ActGiven (line : Bytes) (m : Metadata) (o : Overlay) : Type 0 where
+-- the user lies in the line, the handles of the overlay fit the metadata's field, and its texts have an array of chains
+pub record ActGiven (ix : List ℕ) (line : Bytes) (m : Metadata) (o : Overlay) : Type 0 where
   pub lies : MetadataInBounds line m
   pub short : length line ≤ 16384
   pub few : o .texts .strings < 4294967296
+  pub indexed : IndexGiven ix (o .texts)
 
 -- a handle fits the metadata's field
 abbrev pub HandleFits : Handle → Type 0

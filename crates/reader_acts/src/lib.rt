@@ -159,16 +159,17 @@ pub fn begin_element(
     ss: &mut [u64],
     sb: &mut [u8],
     us: &mut [u64; 9],
+    ix: &[u16],
     meta: Metadata,
     line: &[u8],
 ) -> Begun
-    ensures { λ r. ⌜ ((p : KindParts) → ActGiven (now (line .entry)) meta (lentBeside p ss sb us)
+    ensures { λ r. ⌜ ((p : KindParts) → ActGiven (now (ix .entry)) (now (line .entry)) meta (lentBeside p ss sb us)
         → record { overlay = leftBeside p ss sb us; answer = r }
         ≡ beginOn (metaWritten (now (line .entry)) meta) (lentBeside p ss sb us)) ⌝ }
 {
     if meta.flags / 4 % 2 == 1 {
         let user = meta.user;
-        let handle = reader_texts::take_text(ss, sb, us, line, user);
+        let handle = reader_texts::take_text(ss, sb, us, ix, line, user);
         return begun_by(meta, handle);
     }
     Begun::With(arena_meta(meta, 0))
@@ -264,16 +265,17 @@ fn push_with_user(
     ss: &mut [u64],
     sb: &mut [u8],
     us: &mut [u64; 9],
+    ix: &[u16],
     kind: Kind,
     head: PushHead,
     meta: Metadata,
     line: &[u8],
 ) -> Kept
-    ensures { λ r. ⌜ (ActGiven (now (line .entry)) meta (lent ni na wi wa ri ra ss sb us)
+    ensures { λ r. ⌜ (ActGiven (now (ix .entry)) (now (line .entry)) meta (lent ni na wi wa ri ra ss sb us)
         → record { overlay = left ni na wi wa ri ra ss sb us; answer = r }
         ≡ userActOn (metaWritten (now (line .entry)) meta) (λ a q. storePush kind head a [] q) (lent ni na wi wa ri ra ss sb us)) ⌝ }
 {
-    match begin_element(ss, sb, us, meta, line) {
+    match begin_element(ss, sb, us, ix, meta, line) {
         Begun::With(a) => push_first(ni, na, wi, wa, ri, ra, ss, sb, us, line, 0, kind, head, a),
         Begun::Refused(r) => Kept::Refused(r),
     }
@@ -290,6 +292,7 @@ pub fn push_empty(
     ss: &mut [u64],
     sb: &mut [u8],
     us: &mut [u64; 9],
+    ix: &[u16],
     kind: Kind,
     id: u64,
     lat: u32,
@@ -297,7 +300,7 @@ pub fn push_empty(
     meta: Metadata,
     line: &[u8],
 ) -> Kept
-    ensures { λ r. ⌜ (ActGiven (now (line .entry)) meta (lent ni na wi wa ri ra ss sb us)
+    ensures { λ r. ⌜ (ActGiven (now (ix .entry)) (now (line .entry)) meta (lent ni na wi wa ri ra ss sb us)
         → record { overlay = left ni na wi wa ri ra ss sb us; answer = r }
         ≡ pushEmptyOn (toZ w64 id) (metaWritten (now (line .entry)) meta) (bodyIn kind lat lon) (lent ni na wi wa ri ra ss sb us)) ⌝ }
 {
@@ -306,7 +309,22 @@ pub fn push_empty(
     match act_answer::push_answer(ni, na, wi, wa, ri, ra, ss, sb, us, kind, id, claim, len) {
         Kept::Taken => {
             let head = head_for(kind, id, lat, lon);
-            push_with_user(ni, na, wi, wa, ri, ra, ss, sb, us, kind, head, meta, line)
+            push_with_user(
+                ni,
+                na,
+                wi,
+                wa,
+                ri,
+                ra,
+                ss,
+                sb,
+                us,
+                ix,
+                kind,
+                head,
+                meta,
+                line,
+            )
         }
         Kept::Refused(r) => refused_act(ss, sb, us, meta, line, r),
     }
@@ -325,16 +343,17 @@ fn delete_with_user(
     ss: &mut [u64],
     sb: &mut [u8],
     us: &mut [u64; 9],
+    ix: &[u16],
     kind: Kind,
     id: u64,
     meta: Metadata,
     line: &[u8],
 ) -> Kept
-    ensures { λ r. ⌜ (ActGiven (now (line .entry)) meta (lent ni na wi wa ri ra ss sb us)
+    ensures { λ r. ⌜ (ActGiven (now (ix .entry)) (now (line .entry)) meta (lent ni na wi wa ri ra ss sb us)
         → record { overlay = left ni na wi wa ri ra ss sb us; answer = r }
         ≡ userActOn (metaWritten (now (line .entry)) meta) (λ a q. storeDelete kind (toZ w64 id) (claimOf (metaWritten (now (line .entry)) meta)) q) (lent ni na wi wa ri ra ss sb us)) ⌝ }
 {
-    match begin_element(ss, sb, us, meta, line) {
+    match begin_element(ss, sb, us, ix, meta, line) {
         Begun::With(_) => store::store_delete(
             ni,
             na,
@@ -364,18 +383,34 @@ pub fn delete_element(
     ss: &mut [u64],
     sb: &mut [u8],
     us: &mut [u64; 9],
+    ix: &[u16],
     kind: Kind,
     id: u64,
     meta: Metadata,
     line: &[u8],
 ) -> Kept
-    ensures { λ r. ⌜ (ActGiven (now (line .entry)) meta (lent ni na wi wa ri ra ss sb us)
+    ensures { λ r. ⌜ (ActGiven (now (ix .entry)) (now (line .entry)) meta (lent ni na wi wa ri ra ss sb us)
         → record { overlay = left ni na wi wa ri ra ss sb us; answer = r }
         ≡ deleteElementOn kind (toZ w64 id) (metaWritten (now (line .entry)) meta) (lent ni na wi wa ri ra ss sb us)) ⌝ }
 {
     let claim = claimed(meta);
     match act_answer::delete_answer(ni, na, wi, wa, ri, ra, ss, sb, us, kind, id, claim) {
-        Kept::Taken => delete_with_user(ni, na, wi, wa, ri, ra, ss, sb, us, kind, id, meta, line),
+        Kept::Taken => delete_with_user(
+            ni,
+            na,
+            wi,
+            wa,
+            ri,
+            ra,
+            ss,
+            sb,
+            us,
+            ix,
+            kind,
+            id,
+            meta,
+            line,
+        ),
         Kept::Refused(r) => refused_act(ss, sb, us, meta, line, r),
     }
 }

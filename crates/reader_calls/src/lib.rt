@@ -3,6 +3,7 @@ ghost use mathlib.Core.Path.{_≡_};
 ghost use mathlib.Core.Bool.{true};
 ghost use Prim.Native.Nat.{_+_, _<_};
 ghost use Rattle.decision.specs.Decision.{decide};
+ghost use Rattle.text_index.specs.Index.{IndexGiven};
 ghost use Rattle.overlay.specs.Overlay.{lent, left};
 ghost use Rattle.reader.specs.State.{stateSound};
 ghost use Rattle.reader.specs.Step.{stepOf};
@@ -66,7 +67,7 @@ fn event_done(reader: EventReader, step: Stepped) -> EventDone
     }
 }
 
-// An event of a state that was found sound, whose reader is not stopped: its step.
+// An event of a state that was found sound, whose reader is not stopped: its step. The array of chains, or an empty slice, finds held texts.
 pub fn event_going(
     ni: &mut [u64],
     na: &mut [u8],
@@ -77,11 +78,13 @@ pub fn event_going(
     ss: &mut [u64],
     sb: &mut [u8],
     us: &mut [u64; 9],
+    ix: &[u16],
     parts: &mut [u8; 44432],
     reader: EventReader,
     line: &[u8],
 ) -> EventDone
     ensures { λ r. ⌜ (stateSound (record { overlay = lent ni na wi wa ri ra ss sb us; reader = reader; parts = now (parts .entry) }) ≡ true
+        → IndexGiven (now (ix .entry)) (lent ni na wi wa ri ra ss sb us .texts)
         → record { state = record { overlay = left ni na wi wa ri ra ss sb us; reader = r .reader; parts = now (parts .exit) }; answer = r .answer }
         ≡ stepped (record { overlay = lent ni na wi wa ri ra ss sb us; reader = reader; parts = now (parts .entry) })
         (stepOf (decide (now (line .entry)) (reader .place))
@@ -100,6 +103,7 @@ pub fn event_going(
         ss,
         sb,
         us,
+        ix,
         parts,
         reader,
         &line[..n],
@@ -129,7 +133,7 @@ pub fn event(
     if reader_sound::state_sound(ni, na, wi, wa, ri, ra, ss, sb, us, parts, reader) {
         let stop = reader.stop;
         let Stop::At(refusal, at) = reader_sound::mark_of(stop) else {
-            return event_going(ni, na, wi, wa, ri, ra, ss, sb, us, parts, reader, line);
+            return event_going(ni, na, wi, wa, ri, ra, ss, sb, us, &[], parts, reader, line);
         };
         let answer = EventAnswer::Refused(refusal, at);
         return EventDone { reader, answer };

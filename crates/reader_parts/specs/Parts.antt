@@ -2,6 +2,7 @@
 -- limit". A refused child changes nothing.
 use Prim.Native.Nat.{ℕ, _+_, _≤_, _<_}
 use mathlib.Core.Bool.{Bool, cond}
+use mathlib.Core.List.{List}
 use lib.Dec.{leb}
 use lib.IntN.{ℤ}
 use lib.ListN.{length}
@@ -17,6 +18,7 @@ use Rattle.compact.specs.Legal.{limits}
 use Rattle.compact.specs.declared.PushHead.{PushHead}
 use Rattle.stage.specs.Stage.{staged, refPart, memberPart, tagPart}
 use Rattle.overlay.specs.Overlay.{Overlay}
+use Rattle.text_index.specs.Index.{IndexGiven}
 use Rattle.store.specs.Calls.{storeText}
 use Rattle.store.specs.declared.Handle.{Handle}
 use Rattle.store.specs.declared.Handle.the-variants as H
@@ -26,11 +28,12 @@ use Rattle.reader.specs.Step.{Step, goes, stops, memberBits}
 use Rattle.reader_parts.specs.declared.Added.{Added}
 use Rattle.reader_parts.specs.declared.Added.the-variants as A
 
--- what a sound state and a line that is no longer than it may be give: a handle fits 32 bits, and what is staged lies within the lent bytes
-pub record ChildGiven (o : Overlay) (x : Pending) (parts line : Bytes) : Type 0 where
+-- what a sound state and a line that is no longer than it may be give: a handle fits 32 bits, what is staged lies within the lent bytes, and the array of chains is one for the overlay's texts
+pub record ChildGiven (ix : List ℕ) (o : Overlay) (x : Pending) (parts line : Bytes) : Type 0 where
   pub strings : o .texts .strings < 4294967296
   pub used : x .used ≤ length parts
   pub short : length line ≤ 16384
+  pub indexed : IndexGiven ix (o .texts)
 
 -- ---- the limits
 

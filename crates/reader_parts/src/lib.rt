@@ -154,6 +154,7 @@ fn tag_with(
     ss: &mut [u64],
     sb: &mut [u8],
     us: &mut [u64; 9],
+    ix: &[u16],
     parts: &mut [u8],
     kind: Kind,
     pending: Pending,
@@ -161,12 +162,12 @@ fn tag_with(
     key: Extent,
     value: &[u8],
 ) -> Added
-    ensures { λ r. ⌜ ((p : KindParts) → ChildGiven (lentBeside p ss sb us) pending (now (parts .entry)) (now (line .entry)) → ExtentInBounds (now (line .entry)) key
+    ensures { λ r. ⌜ ((p : KindParts) → ChildGiven (now (ix .entry)) (lentBeside p ss sb us) pending (now (parts .entry)) (now (line .entry)) → ExtentInBounds (now (line .entry)) key
         → record { overlay = leftBeside p ss sb us; parts = now (parts .exit); answer = r }
         ≡ addTag kind pending (record { key = textAt (now (line .entry)) key; value = now (value .entry) }) (now (parts .entry)) (lentBeside p ss sb us)) ⌝ }
 {
     if tag_fits(kind, pending, value.len()) {
-        return match reader_texts::take_text(ss, sb, us, line, key) {
+        return match reader_texts::take_text(ss, sb, us, ix, line, key) {
             Handle::Is(handle) => Added::Is(with_tag(parts, pending, handle, value)),
             Handle::Refused(refusal) => Added::Refused(refusal),
         };
@@ -179,6 +180,7 @@ fn tag_first(
     ss: &mut [u64],
     sb: &mut [u8],
     us: &mut [u64; 9],
+    ix: &[u16],
     parts: &mut [u8],
     kind: Kind,
     pending: Pending,
@@ -187,12 +189,23 @@ fn tag_first(
     room: &[u8],
     n: usize,
 ) -> Added
-    ensures { λ r. ⌜ ((p : KindParts) → ChildGiven (lentBeside p ss sb us) pending (now (parts .entry)) (now (line .entry)) → ExtentInBounds (now (line .entry)) key
+    ensures { λ r. ⌜ ((p : KindParts) → ChildGiven (now (ix .entry)) (lentBeside p ss sb us) pending (now (parts .entry)) (now (line .entry)) → ExtentInBounds (now (line .entry)) key
         → record { overlay = leftBeside p ss sb us; parts = now (parts .exit); answer = r }
         ≡ addTag kind pending (record { key = textAt (now (line .entry)) key; value = take n (now (room .entry)) }) (now (parts .entry)) (lentBeside p ss sb us)) ⌝ }
 {
     let end = little::lesser(n, room.len());
-    tag_with(ss, sb, us, parts, kind, pending, line, key, &room[..end])
+    tag_with(
+        ss,
+        sb,
+        us,
+        ix,
+        parts,
+        kind,
+        pending,
+        line,
+        key,
+        &room[..end],
+    )
 }
 
 // By an array that holds its value's text.
@@ -200,6 +213,7 @@ fn tag_through(
     ss: &mut [u64],
     sb: &mut [u8],
     us: &mut [u64; 9],
+    ix: &[u16],
     parts: &mut [u8],
     kind: Kind,
     pending: Pending,
@@ -208,12 +222,12 @@ fn tag_through(
     value: Extent,
     room: &mut [u8; 16384],
 ) -> Added
-    ensures { λ r. ⌜ ((p : KindParts) → ChildGiven (lentBeside p ss sb us) pending (now (parts .entry)) (now (line .entry)) → ExtentInBounds (now (line .entry)) key → ExtentInBounds (now (line .entry)) value
+    ensures { λ r. ⌜ ((p : KindParts) → ChildGiven (now (ix .entry)) (lentBeside p ss sb us) pending (now (parts .entry)) (now (line .entry)) → ExtentInBounds (now (line .entry)) key → ExtentInBounds (now (line .entry)) value
         → record { overlay = leftBeside p ss sb us; parts = now (parts .exit); answer = r }
         ≡ addTag kind pending (record { key = textAt (now (line .entry)) key; value = textAt (now (line .entry)) value }) (now (parts .entry)) (lentBeside p ss sb us)) ⌝ }
 {
     let n = reader_texts::text_into(room, line, value);
-    tag_first(ss, sb, us, parts, kind, pending, line, key, room, n)
+    tag_first(ss, sb, us, ix, parts, kind, pending, line, key, room, n)
 }
 
 // With its value's escapes resolved.
@@ -221,6 +235,7 @@ fn tag_resolved(
     ss: &mut [u64],
     sb: &mut [u8],
     us: &mut [u64; 9],
+    ix: &[u16],
     parts: &mut [u8],
     kind: Kind,
     pending: Pending,
@@ -228,7 +243,7 @@ fn tag_resolved(
     key: Extent,
     value: Extent,
 ) -> Added
-    ensures { λ r. ⌜ ((p : KindParts) → ChildGiven (lentBeside p ss sb us) pending (now (parts .entry)) (now (line .entry)) → ExtentInBounds (now (line .entry)) key → ExtentInBounds (now (line .entry)) value
+    ensures { λ r. ⌜ ((p : KindParts) → ChildGiven (now (ix .entry)) (lentBeside p ss sb us) pending (now (parts .entry)) (now (line .entry)) → ExtentInBounds (now (line .entry)) key → ExtentInBounds (now (line .entry)) value
         → record { overlay = leftBeside p ss sb us; parts = now (parts .exit); answer = r }
         ≡ addTag kind pending (record { key = textAt (now (line .entry)) key; value = textAt (now (line .entry)) value }) (now (parts .entry)) (lentBeside p ss sb us)) ⌝ }
 {
@@ -237,6 +252,7 @@ fn tag_resolved(
         ss,
         sb,
         us,
+        ix,
         parts,
         kind,
         pending,
@@ -252,6 +268,7 @@ pub fn add_tag(
     ss: &mut [u64],
     sb: &mut [u8],
     us: &mut [u64; 9],
+    ix: &[u16],
     parts: &mut [u8; 44432],
     kind: Kind,
     pending: Pending,
@@ -259,7 +276,7 @@ pub fn add_tag(
     key: Extent,
     value: Extent,
 ) -> Added
-    ensures { λ r. ⌜ ((p : KindParts) → ChildGiven (lentBeside p ss sb us) pending (now (parts .entry)) (now (line .entry)) → ExtentInBounds (now (line .entry)) key → ExtentInBounds (now (line .entry)) value
+    ensures { λ r. ⌜ ((p : KindParts) → ChildGiven (now (ix .entry)) (lentBeside p ss sb us) pending (now (parts .entry)) (now (line .entry)) → ExtentInBounds (now (line .entry)) key → ExtentInBounds (now (line .entry)) value
         → record { overlay = leftBeside p ss sb us; parts = now (parts .exit); answer = r }
         ≡ addTag kind pending (record { key = textAt (now (line .entry)) key; value = textAt (now (line .entry)) value }) (now (parts .entry)) (lentBeside p ss sb us)) ⌝ }
 {
@@ -267,9 +284,9 @@ pub fn add_tag(
     let from = little::lesser(value.from, to);
     let text = &line[from..to];
     if scan::lacks(text, b'\\') {
-        return tag_with(ss, sb, us, parts, kind, pending, line, key, text);
+        return tag_with(ss, sb, us, ix, parts, kind, pending, line, key, text);
     }
-    tag_resolved(ss, sb, us, parts, kind, pending, line, key, value)
+    tag_resolved(ss, sb, us, ix, parts, kind, pending, line, key, value)
 }
 
 // ---- a ref and a member
@@ -290,6 +307,7 @@ pub fn add_member(
     ss: &mut [u64],
     sb: &mut [u8],
     us: &mut [u64; 9],
+    ix: &[u16],
     parts: &mut [u8; 44432],
     kind: Kind,
     pending: Pending,
@@ -298,12 +316,12 @@ pub fn add_member(
     member_kind: Kind,
     role: Extent,
 ) -> Added
-    ensures { λ r. ⌜ ((p : KindParts) → ChildGiven (lentBeside p ss sb us) pending (now (parts .entry)) (now (line .entry)) → ExtentInBounds (now (line .entry)) role
+    ensures { λ r. ⌜ ((p : KindParts) → ChildGiven (now (ix .entry)) (lentBeside p ss sb us) pending (now (parts .entry)) (now (line .entry)) → ExtentInBounds (now (line .entry)) role
         → record { overlay = leftBeside p ss sb us; parts = now (parts .exit); answer = r }
         ≡ addMember kind pending (record { ref = toZ w64 reference; type = «member_kind»; role = textAt (now (line .entry)) role }) (now (parts .entry)) (lentBeside p ss sb us)) ⌝ }
 {
     if part_fits(pending, 2000) {
-        return match reader_texts::take_text(ss, sb, us, line, role) {
+        return match reader_texts::take_text(ss, sb, us, ix, line, role) {
             Handle::Is(handle) => {
                 let member = CompactMember {
                     reference,

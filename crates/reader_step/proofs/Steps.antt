@@ -2,6 +2,7 @@
 use Prim.Native.Nat.{ℕ, _≤_}
 use mathlib.Core.Path.{_≡_, refl, sym, _∙_, ap}
 use mathlib.Core.Bool.{Bool, true, false}
+use mathlib.Core.List.{List}
 use lib.IntN.{ℤ}
 use lib.ListN.{length}
 use mir.Syntax.{w64}
@@ -91,41 +92,41 @@ module _ (s : State) (p : Place) where
 
 -- ---- decision by decision
 
-module _ (s : State) {line : Bytes} where
-  act-given : (d : Decided) (m : Metadata) → StepGiven line d s → (meansDecided line d ≡ refuses LongLine → ⊥) → MetadataInBounds line m → ActGiven line m (s .overlay)
-  act-given d m g n l = record { lies = l; short = g .short n; few = g .strings }
+module _ (s : State) {ix : List ℕ} {line : Bytes} where
+  act-given : (d : Decided) (m : Metadata) → StepGiven ix line d s → (meansDecided line d ≡ refuses LongLine → ⊥) → MetadataInBounds line m → ActGiven ix line m (s .overlay)
+  act-given d m g n l = record { lies = l; short = g .short n; few = g .strings; indexed = g .indexed }
 
-  child-given : (d : Decided) → StepGiven line d s → (meansDecided line d ≡ refuses LongLine → ⊥) → ChildGiven (s .overlay) (s .reader .pending) (s .parts) line
-  child-given d g n = record { strings = g .strings; used = g .used; short = g .short n }
+  child-given : (d : Decided) → StepGiven ix line d s → (meansDecided line d ≡ refuses LongLine → ⊥) → ChildGiven ix (s .overlay) (s .reader .pending) (s .parts) line
+  child-given d g n = record { strings = g .strings; used = g .used; short = g .short n; indexed = g .indexed }
 
-  begins-given : (b : Beginning) → StepGiven line (D.Begins b) s → ActGiven line (b .meta) (s .overlay)
+  begins-given : (b : Beginning) → StepGiven ix line (D.Begins b) s → ActGiven ix line (b .meta) (s .overlay)
   begins-given b g = act-given _ (b .meta) g (λ e. no (cc)) (g .lies)
 
   pub empty-begins : (b : Beginning) {q : Overlay} {k : Kept} {r : Stepped} → b .empty ≡ true
-      → (ActGiven line (b .meta) (s .overlay) → record { overlay = q; answer = k } ≡ pushEmptyOn (toZ w64 (b .id)) (metaWritten line (b .meta)) (bodyIn (b .kind) (b .lat) (b .lon)) (s .overlay))
-      → r ≡ actStepped (b .place) k → StepGiven line (D.Begins b) s
+      → (ActGiven ix line (b .meta) (s .overlay) → record { overlay = q; answer = k } ≡ pushEmptyOn (toZ w64 (b .id)) (metaWritten line (b .meta)) (bodyIn (b .kind) (b .lat) (b .lon)) (s .overlay))
+      → r ≡ actStepped (b .place) k → StepGiven ix line (D.Begins b) s
       → record { overlay = q; parts = s .parts; answer = r } ≡ doneBy s (stepOf (meansDecided line (D.Begins b)) s)
   empty-begins b t e f g = rw t (empty-done s (b .place) (toZ w64 (b .id)) (metaWritten line (b .meta)) (bodyIn (b .kind) (b .lat) (b .lon)) (e (begins-given b g)) f)
 
   pub open-begins : (b : Beginning) {q : Overlay} {x : Begun} {h : PushHead} {r : Stepped} → b .empty ≡ false
-      → (ActGiven line (b .meta) (s .overlay) → record { overlay = q; answer = x } ≡ beginOn (metaWritten line (b .meta)) (s .overlay))
-      → h ≡ headFor (toZ w64 (b .id)) (bodyIn (b .kind) (b .lat) (b .lon)) → r ≡ beginStepped (b .place) h x → StepGiven line (D.Begins b) s
+      → (ActGiven ix line (b .meta) (s .overlay) → record { overlay = q; answer = x } ≡ beginOn (metaWritten line (b .meta)) (s .overlay))
+      → h ≡ headFor (toZ w64 (b .id)) (bodyIn (b .kind) (b .lat) (b .lon)) → r ≡ beginStepped (b .place) h x → StepGiven ix line (D.Begins b) s
       → record { overlay = q; parts = s .parts; answer = r } ≡ doneBy s (stepOf (meansDecided line (D.Begins b)) s)
   open-begins b t e h f g = rw t (begun-done s (b .place) (toZ w64 (b .id)) (metaWritten line (b .meta)) (bodyIn (b .kind) (b .lat) (b .lon)) (e (begins-given b g)) h f)
 
   pub deletes-done : (d : Deletion) {q : Overlay} {a : Kept} {r : Stepped}
-      → (ActGiven line (d .meta) (s .overlay) → record { overlay = q; answer = a } ≡ deleteElementOn (d .kind) (toZ w64 (d .id)) (metaWritten line (d .meta)) (s .overlay))
-      → r ≡ actStepped (d .place) a → StepGiven line (D.Deletes d) s
+      → (ActGiven ix line (d .meta) (s .overlay) → record { overlay = q; answer = a } ≡ deleteElementOn (d .kind) (toZ w64 (d .id)) (metaWritten line (d .meta)) (s .overlay))
+      → r ≡ actStepped (d .place) a → StepGiven ix line (D.Deletes d) s
       → record { overlay = q; parts = s .parts; answer = r } ≡ doneBy s (stepOf (meansDecided line (D.Deletes d)) s)
   deletes-done d e f g =
       act-done s (d .place) _ (deletes-step s (d .place) (d .kind) (toZ w64 (d .id)) (metaWritten line (d .meta)))
       (λ x. deletes-refused (s .overlay) x (d .kind) (toZ w64 (d .id)) (metaWritten line (d .meta))) (e (act-given (D.Deletes d) (d .meta) g (λ z. no (cc)) (g .lies))) f
 
   pub tags-done : (t : NewTag) {q : Overlay} {ps : Bytes} {a : Added} {r : Stepped}
-      → (ChildGiven (s .overlay) (s .reader .pending) (s .parts) line → ExtentInBounds line (t .key) → ExtentInBounds line (t .value)
+      → (ChildGiven ix (s .overlay) (s .reader .pending) (s .parts) line → ExtentInBounds line (t .key) → ExtentInBounds line (t .value)
       → record { overlay = q; parts = ps; answer = a }
       ≡ addTag (s .reader .place .kind) (s .reader .pending) (record { key = textAt line (t .key); value = textAt line (t .value) }) (s .parts) (s .overlay))
-      → r ≡ childStepped (t .place) a → StepGiven line (D.Tags t) s
+      → r ≡ childStepped (t .place) a → StepGiven ix line (D.Tags t) s
       → record { overlay = q; parts = ps; answer = r } ≡ doneBy s (stepOf (meansDecided line (D.Tags t)) s)
   tags-done t e f g =
       child-done s (t .place) _ (tag-step s (t .place) (record { key = textAt line (t .key); value = textAt line (t .value) }))
@@ -134,15 +135,15 @@ module _ (s : State) {line : Bytes} where
   pub refers-done : (to : NewRef) {ps : Bytes} {a : Added} {r : Stepped}
       → ((o : Overlay) → s .reader .pending .used ≤ length (s .parts)
       → record { overlay = o; parts = ps; answer = a } ≡ addRef (s .reader .place .kind) (s .reader .pending) (toZ w64 (to .reference)) (s .parts) o)
-      → r ≡ childStepped (to .place) a → StepGiven line (D.Refers to) s
+      → r ≡ childStepped (to .place) a → StepGiven ix line (D.Refers to) s
       → record { overlay = s .overlay; parts = ps; answer = r } ≡ doneBy s (stepOf (meansDecided line (D.Refers to)) s)
   refers-done to e f g = child-done s (to .place) _ (ref-step s (to .place) (toZ w64 (to .reference))) (e (s .overlay) (g .used)) f
 
   pub joins-done : (m : NewMember) {q : Overlay} {ps : Bytes} {a : Added} {r : Stepped}
-      → (ChildGiven (s .overlay) (s .reader .pending) (s .parts) line → ExtentInBounds line (m .role)
+      → (ChildGiven ix (s .overlay) (s .reader .pending) (s .parts) line → ExtentInBounds line (m .role)
       → record { overlay = q; parts = ps; answer = a }
       ≡ addMember (s .reader .place .kind) (s .reader .pending) (record { ref = toZ w64 (m .reference); type = m .kind; role = textAt line (m .role) }) (s .parts) (s .overlay))
-      → r ≡ childStepped (m .place) a → StepGiven line (D.Joins m) s
+      → r ≡ childStepped (m .place) a → StepGiven ix line (D.Joins m) s
       → record { overlay = q; parts = ps; answer = r } ≡ doneBy s (stepOf (meansDecided line (D.Joins m)) s)
   joins-done m e f g =
       child-done s (m .place) _ (member-step s (m .place) (record { ref = toZ w64 (m .reference); type = m .kind; role = textAt line (m .role) }))

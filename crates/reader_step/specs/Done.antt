@@ -1,12 +1,14 @@
 -- What a step of a reader leaves of overlay and lent bytes, with where the reader stands after it, or its refusal: "Nothing lent changes" then.
-use Prim.Native.Nat.{_≤_, _<_}
+use Prim.Native.Nat.{ℕ, _≤_, _<_}
 use mathlib.Core.Path.{_≡_}
+use mathlib.Core.List.{List}
 use lib.ListN.{length}
 use Rattle.base.specs.Bytes.{Bytes}
 use Rattle.refusal.specs.declared.Refusal.the-variants.{LongLine}
 use Rattle.decision.specs.Decision.{refuses}
 use Rattle.decide.specs.Decided.{meansDecided, DecidedInBounds}
 use Rattle.decide.specs.declared.Decided.{Decided}
+use Rattle.text_index.specs.Index.{IndexGiven}
 use Rattle.overlay.specs.Overlay.{Overlay}
 use Rattle.compact.specs.declared.PushHead.{PushHead}
 use Rattle.nesting.specs.declared.Place.{Place}
@@ -30,12 +32,13 @@ abbrev pub doneBy : State → Step → StepDone
 doneBy s (goes l) = record { overlay = l .overlay; parts = l .parts; answer = S.Goes (l .place) (l .pending) }
 doneBy s (stops r) = record { overlay = s .overlay; parts = s .parts; answer = S.Stops r }
 
--- what a sound state and a decided line give: a handle fits 32 bits, what is staged lies within the lent bytes, the line is no longer than it may be, its texts lie in it
-pub record StepGiven (line : Bytes) (d : Decided) (s : State) : Type 0 where
+-- what a sound state and a decided line give: a handle fits 32 bits, what is staged lies within the lent bytes, the line is no longer than it may be, its texts lie in it, the held texts have an array of chains
+pub record StepGiven (ix : List ℕ) (line : Bytes) (d : Decided) (s : State) : Type 0 where
   pub strings : s .overlay .texts .strings < 4294967296
   pub used : s .reader .pending .used ≤ length (s .parts)
   pub short : (meansDecided line d ≡ refuses LongLine → ⊥) → length line ≤ 16384
   pub lies : DecidedInBounds line d
+  pub indexed : IndexGiven ix (s .overlay .texts)
 
 -- ---- by the answers of the calls that it makes
 

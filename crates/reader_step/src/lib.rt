@@ -1,5 +1,7 @@
 // What is decided of an event, done in storage: one call a decision.
 ghost use mathlib.Core.Path.{_≡_};
+ghost use mathlib.Core.List.{List};
+ghost use Prim.Native.Nat.{ℕ};
 ghost use mir.Syntax.{w64};
 ghost use mir.Val.{toZ};
 ghost use Rattle.base.specs.Bytes.{Bytes};
@@ -114,10 +116,11 @@ fn push_empty(
     ss: &mut [u64],
     sb: &mut [u8],
     us: &mut [u64; 9],
+    ix: &[u16],
     line: &[u8],
     b: Beginning,
 ) -> Kept
-    ensures { λ r. ⌜ (ActGiven (now (line .entry)) (b .meta) (lent ni na wi wa ri ra ss sb us)
+    ensures { λ r. ⌜ (ActGiven (now (ix .entry)) (now (line .entry)) (b .meta) (lent ni na wi wa ri ra ss sb us)
         → record { overlay = left ni na wi wa ri ra ss sb us; answer = r }
         ≡ pushEmptyOn (toZ w64 (b .id)) (metaWritten (now (line .entry)) (b .meta)) (bodyIn (b .kind) (b .lat) (b .lon)) (lent ni na wi wa ri ra ss sb us)) ⌝ }
 {
@@ -133,6 +136,7 @@ fn push_empty(
         ss,
         sb,
         us,
+        ix,
         kind,
         b.id,
         b.lat,
@@ -153,21 +157,22 @@ fn begin(
     ss: &mut [u64],
     sb: &mut [u8],
     us: &mut [u64; 9],
+    ix: &[u16],
     line: &[u8],
     b: Beginning,
 ) -> Stepped
-    ensures { λ r. ⌜ ((reader : EventReader) (parts : Bytes) → StepGiven (now (line .entry)) (D.Begins b) (record { overlay = lent ni na wi wa ri ra ss sb us; reader = reader; parts = parts })
+    ensures { λ r. ⌜ ((reader : EventReader) (parts : Bytes) → StepGiven (now (ix .entry)) (now (line .entry)) (D.Begins b) (record { overlay = lent ni na wi wa ri ra ss sb us; reader = reader; parts = parts })
         → record { overlay = left ni na wi wa ri ra ss sb us; parts = parts; answer = r } ≡ doneBy (record { overlay = lent ni na wi wa ri ra ss sb us; reader = reader; parts = parts }) (stepOf (meansDecided (now (line .entry)) (D.Begins b)) (record { overlay = lent ni na wi wa ri ra ss sb us; reader = reader; parts = parts }))) ⌝ }
 {
     let place = b.place;
     if b.empty {
-        let answer = push_empty(ni, na, wi, wa, ri, ra, ss, sb, us, line, b);
+        let answer = push_empty(ni, na, wi, wa, ri, ra, ss, sb, us, ix, line, b);
         return cleared(place, answer);
     }
     let kind = b.kind;
     let meta = b.meta;
     let head = reader_acts::head_for(kind, b.id, b.lat, b.lon);
-    let answer = reader_acts::begin_element(ss, sb, us, meta, line);
+    let answer = reader_acts::begin_element(ss, sb, us, ix, meta, line);
     begun(place, head, answer)
 }
 
@@ -182,10 +187,11 @@ fn delete(
     ss: &mut [u64],
     sb: &mut [u8],
     us: &mut [u64; 9],
+    ix: &[u16],
     line: &[u8],
     d: Deletion,
 ) -> Stepped
-    ensures { λ r. ⌜ ((reader : EventReader) (parts : Bytes) → StepGiven (now (line .entry)) (D.Deletes d) (record { overlay = lent ni na wi wa ri ra ss sb us; reader = reader; parts = parts })
+    ensures { λ r. ⌜ ((reader : EventReader) (parts : Bytes) → StepGiven (now (ix .entry)) (now (line .entry)) (D.Deletes d) (record { overlay = lent ni na wi wa ri ra ss sb us; reader = reader; parts = parts })
         → record { overlay = left ni na wi wa ri ra ss sb us; parts = parts; answer = r } ≡ doneBy (record { overlay = lent ni na wi wa ri ra ss sb us; reader = reader; parts = parts }) (stepOf (meansDecided (now (line .entry)) (D.Deletes d)) (record { overlay = lent ni na wi wa ri ra ss sb us; reader = reader; parts = parts }))) ⌝ }
 {
     let place = d.place;
@@ -202,6 +208,7 @@ fn delete(
         ss,
         sb,
         us,
+        ix,
         kind,
         id,
         meta,
@@ -241,12 +248,13 @@ fn tag(
     ss: &mut [u64],
     sb: &mut [u8],
     us: &mut [u64; 9],
+    ix: &[u16],
     parts: &mut [u8; 44432],
     reader: EventReader,
     line: &[u8],
     t: NewTag,
 ) -> Stepped
-    ensures { λ r. ⌜ ((p : KindParts) → StepGiven (now (line .entry)) (D.Tags t) (record { overlay = lentBeside p ss sb us; reader = reader; parts = now (parts .entry) })
+    ensures { λ r. ⌜ ((p : KindParts) → StepGiven (now (ix .entry)) (now (line .entry)) (D.Tags t) (record { overlay = lentBeside p ss sb us; reader = reader; parts = now (parts .entry) })
         → record { overlay = leftBeside p ss sb us; parts = now (parts .exit); answer = r } ≡ doneBy (record { overlay = lentBeside p ss sb us; reader = reader; parts = now (parts .entry) }) (stepOf (meansDecided (now (line .entry)) (D.Tags t)) (record { overlay = lentBeside p ss sb us; reader = reader; parts = now (parts .entry) }))) ⌝ }
 {
     let pending = reader.pending;
@@ -255,12 +263,12 @@ fn tag(
     let key = t.key;
     let value = t.value;
     let place = t.place;
-    let answer = reader_parts::add_tag(ss, sb, us, parts, kind, pending, line, key, value);
+    let answer = reader_parts::add_tag(ss, sb, us, ix, parts, kind, pending, line, key, value);
     added(place, answer)
 }
 
 fn refer(parts: &mut [u8; 44432], reader: EventReader, to: NewRef) -> Stepped
-    ensures { λ r. ⌜ ((line : Bytes) (o : Overlay) → StepGiven line (D.Refers to) (record { overlay = o; reader = reader; parts = now (parts .entry) })
+    ensures { λ r. ⌜ ((ix : List ℕ) (line : Bytes) (o : Overlay) → StepGiven ix line (D.Refers to) (record { overlay = o; reader = reader; parts = now (parts .entry) })
         → record { overlay = o; parts = now (parts .exit); answer = r }
         ≡ doneBy (record { overlay = o; reader = reader; parts = now (parts .entry) })
         (stepOf (meansDecided line (D.Refers to)) (record { overlay = o; reader = reader; parts = now (parts .entry) }))) ⌝ }
@@ -277,12 +285,13 @@ fn join(
     ss: &mut [u64],
     sb: &mut [u8],
     us: &mut [u64; 9],
+    ix: &[u16],
     parts: &mut [u8; 44432],
     reader: EventReader,
     line: &[u8],
     m: NewMember,
 ) -> Stepped
-    ensures { λ r. ⌜ ((p : KindParts) → StepGiven (now (line .entry)) (D.Joins m) (record { overlay = lentBeside p ss sb us; reader = reader; parts = now (parts .entry) })
+    ensures { λ r. ⌜ ((p : KindParts) → StepGiven (now (ix .entry)) (now (line .entry)) (D.Joins m) (record { overlay = lentBeside p ss sb us; reader = reader; parts = now (parts .entry) })
         → record { overlay = leftBeside p ss sb us; parts = now (parts .exit); answer = r } ≡ doneBy (record { overlay = lentBeside p ss sb us; reader = reader; parts = now (parts .entry) }) (stepOf (meansDecided (now (line .entry)) (D.Joins m)) (record { overlay = lentBeside p ss sb us; reader = reader; parts = now (parts .entry) }))) ⌝ }
 {
     let pending = reader.pending;
@@ -296,6 +305,7 @@ fn join(
         ss,
         sb,
         us,
+        ix,
         parts,
         open,
         pending,
@@ -320,12 +330,13 @@ pub fn step(
     ss: &mut [u64],
     sb: &mut [u8],
     us: &mut [u64; 9],
+    ix: &[u16],
     parts: &mut [u8; 44432],
     reader: EventReader,
     line: &[u8],
     decided: Decided,
 ) -> Stepped
-    ensures { λ r. ⌜ (StepGiven (now (line .entry)) decided (record { overlay = lent ni na wi wa ri ra ss sb us; reader = reader; parts = now (parts .entry) })
+    ensures { λ r. ⌜ (StepGiven (now (ix .entry)) (now (line .entry)) decided (record { overlay = lent ni na wi wa ri ra ss sb us; reader = reader; parts = now (parts .entry) })
         → record { overlay = left ni na wi wa ri ra ss sb us; parts = now (parts .exit); answer = r }
         ≡ doneBy (record { overlay = lent ni na wi wa ri ra ss sb us; reader = reader; parts = now (parts .entry) })
         (stepOf (meansDecided (now (line .entry)) decided)
@@ -335,11 +346,11 @@ pub fn step(
     match decided {
         Decided::Refuses(r) => Stepped::Stops(r),
         Decided::Moves(place) => Stepped::Goes { place, pending },
-        Decided::Begins(b) => begin(ni, na, wi, wa, ri, ra, ss, sb, us, line, b),
-        Decided::Deletes(d) => delete(ni, na, wi, wa, ri, ra, ss, sb, us, line, d),
-        Decided::Tags(t) => tag(ss, sb, us, parts, reader, line, t),
+        Decided::Begins(b) => begin(ni, na, wi, wa, ri, ra, ss, sb, us, ix, line, b),
+        Decided::Deletes(d) => delete(ni, na, wi, wa, ri, ra, ss, sb, us, ix, line, d),
+        Decided::Tags(t) => tag(ss, sb, us, ix, parts, reader, line, t),
         Decided::Refers(to) => refer(parts, reader, to),
-        Decided::Joins(m) => join(ss, sb, us, parts, reader, line, m),
+        Decided::Joins(m) => join(ss, sb, us, ix, parts, reader, line, m),
         Decided::Ends(p) => end(ni, na, wi, wa, ri, ra, ss, sb, us, parts, reader, p),
     }
 }

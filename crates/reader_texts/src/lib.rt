@@ -6,6 +6,7 @@ ghost use lib.ListN.{length, take, getD};
 ghost use Rattle.little.specs.Little.{over};
 ghost use Rattle.interner.specs.Strings.{storeWith};
 ghost use Rattle.values.specs.Value.{textAt, ExtentInBounds};
+ghost use Rattle.text_index.specs.Index.{IndexGiven};
 ghost use Rattle.store.specs.Beside.{KindParts, lentBeside, leftBeside};
 ghost use Rattle.store.specs.Calls.{storeText};
 ghost use Rattle.reader_texts.specs.Texts.{refusedFor};
@@ -26,11 +27,19 @@ pub fn text_into(out: &mut [u8], line: &[u8], at: Extent) -> usize
 // ---- a text taken in
 
 // The text that the first n of some bytes are.
-fn take_first(ss: &mut [u64], sb: &mut [u8], us: &mut [u64; 9], room: &[u8], n: usize) -> Handle
-    ensures { λ r. ⌜ ((p : KindParts) → record { overlay = leftBeside p ss sb us; answer = r } ≡ storeText (take n (now (room .entry))) (lentBeside p ss sb us)) ⌝ }
+fn take_first(
+    ss: &mut [u64],
+    sb: &mut [u8],
+    us: &mut [u64; 9],
+    ix: &[u16],
+    room: &[u8],
+    n: usize,
+) -> Handle
+    ensures { λ r. ⌜ ((p : KindParts) → IndexGiven (now (ix .entry)) (lentBeside p ss sb us .texts)
+        → record { overlay = leftBeside p ss sb us; answer = r } ≡ storeText (take n (now (room .entry))) (lentBeside p ss sb us)) ⌝ }
 {
     let end = little::lesser(n, room.len());
-    store::store_text(ss, sb, us, &room[..end])
+    store::store_text_by(ss, sb, us, ix, &room[..end])
 }
 
 // The text of an extent, by an array that holds it.
@@ -38,15 +47,17 @@ fn take_through(
     ss: &mut [u64],
     sb: &mut [u8],
     us: &mut [u64; 9],
+    ix: &[u16],
     line: &[u8],
     at: Extent,
     room: &mut [u8; 16384],
 ) -> Handle
     ensures { λ r. ⌜ (ExtentInBounds (now (line .entry)) at → length (now (line .entry)) ≤ 16384
-        → (p : KindParts) → record { overlay = leftBeside p ss sb us; answer = r } ≡ storeText (textAt (now (line .entry)) at) (lentBeside p ss sb us)) ⌝ }
+        → (p : KindParts) → IndexGiven (now (ix .entry)) (lentBeside p ss sb us .texts)
+        → record { overlay = leftBeside p ss sb us; answer = r } ≡ storeText (textAt (now (line .entry)) at) (lentBeside p ss sb us)) ⌝ }
 {
     let n = text_into(room, line, at);
-    take_first(ss, sb, us, room, n)
+    take_first(ss, sb, us, ix, room, n)
 }
 
 // The text of an extent, its escapes resolved.
@@ -54,14 +65,16 @@ fn take_resolved(
     ss: &mut [u64],
     sb: &mut [u8],
     us: &mut [u64; 9],
+    ix: &[u16],
     line: &[u8],
     at: Extent,
 ) -> Handle
     ensures { λ r. ⌜ (ExtentInBounds (now (line .entry)) at → length (now (line .entry)) ≤ 16384
-        → (p : KindParts) → record { overlay = leftBeside p ss sb us; answer = r } ≡ storeText (textAt (now (line .entry)) at) (lentBeside p ss sb us)) ⌝ }
+        → (p : KindParts) → IndexGiven (now (ix .entry)) (lentBeside p ss sb us .texts)
+        → record { overlay = leftBeside p ss sb us; answer = r } ≡ storeText (textAt (now (line .entry)) at) (lentBeside p ss sb us)) ⌝ }
 {
     let mut room = [0u8; 16384];
-    take_through(ss, sb, us, line, at, &mut room)
+    take_through(ss, sb, us, ix, line, at, &mut room)
 }
 
 // Takes the text of an extent in: 13, or its handle.
@@ -69,19 +82,21 @@ pub fn take_text(
     ss: &mut [u64],
     sb: &mut [u8],
     us: &mut [u64; 9],
+    ix: &[u16],
     line: &[u8],
     at: Extent,
 ) -> Handle
     ensures { λ r. ⌜ (ExtentInBounds (now (line .entry)) at → length (now (line .entry)) ≤ 16384
-        → (p : KindParts) → record { overlay = leftBeside p ss sb us; answer = r } ≡ storeText (textAt (now (line .entry)) at) (lentBeside p ss sb us)) ⌝ }
+        → (p : KindParts) → IndexGiven (now (ix .entry)) (lentBeside p ss sb us .texts)
+        → record { overlay = leftBeside p ss sb us; answer = r } ≡ storeText (textAt (now (line .entry)) at) (lentBeside p ss sb us)) ⌝ }
 {
     let to = little::lesser(at.to, line.len());
     let from = little::lesser(at.from, to);
     let text = &line[from..to];
     if scan::lacks(text, b'\\') {
-        return store::store_text(ss, sb, us, text);
+        return store::store_text_by(ss, sb, us, ix, text);
     }
-    take_resolved(ss, sb, us, line, at)
+    take_resolved(ss, sb, us, ix, line, at)
 }
 
 // ---- whether a text would be refused: 13

@@ -8,6 +8,7 @@ ghost use mir.Val.{toZ};
 ghost use Rattle.model.specs.Record.{claimOf};
 ghost use Rattle.compact.specs.Held.{metaOf};
 ghost use Rattle.kind_store.specs.KindStore.{pushed, deleted};
+ghost use Rattle.text_index.specs.Index.{IndexGiven};
 ghost use Rattle.overlay.specs.Overlay.{lent, left};
 ghost use Rattle.store.specs.Lent.{kindStoreLent, kindStoreLeft, settingIn, othersKept};
 ghost use Rattle.store.specs.Beside.{KindParts, lentBeside, leftBeside};
@@ -15,6 +16,7 @@ ghost use Rattle.store.specs.Calls.{bytesOf, storePush, storeDelete, han
 use compact::ArenaMeta;
 use compact::PushHead;
 use interner::Interned;
+use interner::Taken;
 use kind::Kind;
 use kind_store::Kept;
 use refusal::Refusal;
@@ -47,14 +49,37 @@ fn handle_in(answer: Interned) -> Handle
     }
 }
 
+// Counts a text as taken in: 13, or its handle.
+fn count_taken(us: &mut [u64], taken: Taken) -> Handle
+    requires { ⌜ 7 < length (now us) ⌝ }
+    ensures { λ r. ⌜ (now (us .exit) ≡ set (set (now (us .entry)) 6 (taken .strings)) 7 (taken .used)) × (r ≡ handleIn (taken .answer)) ⌝ }
+{
+    put_two(us, 6, taken.strings, 7, taken.used);
+    let answer = taken.answer;
+    handle_in(answer)
+}
+
 // Takes a text in: 13, or its handle.
 pub fn store_text(ss: &mut [u64], sb: &mut [u8], us: &mut [u64; 9], text: &[u8]) -> Handle
     ensures { λ r. ⌜ ((p : KindParts) → record { overlay = leftBeside p ss sb us; answer = r } ≡ storeText (now (text .entry)) (lentBeside p ss sb us)) ⌝ }
 {
     let taken = interner::intern(ss, sb, us[6], us[7], text);
-    put_two(us, 6, taken.strings, 7, taken.used);
-    let answer = taken.answer;
-    handle_in(answer)
+    count_taken(us, taken)
+}
+
+// The same with an array of chains for the held texts.
+pub fn store_text_by(
+    ss: &mut [u64],
+    sb: &mut [u8],
+    us: &mut [u64; 9],
+    ix: &[u16],
+    text: &[u8],
+) -> Handle
+    ensures { λ r. ⌜ ((p : KindParts) → IndexGiven (now (ix .entry)) (lentBeside p ss sb us .texts)
+        → record { overlay = leftBeside p ss sb us; answer = r } ≡ storeText (now (text .entry)) (lentBeside p ss sb us)) ⌝ }
+{
+    let taken = text_index::intern_by(ix, ss, sb, us[6], us[7], text);
+    count_taken(us, taken)
 }
 
 // ---- a push

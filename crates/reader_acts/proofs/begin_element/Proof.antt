@@ -26,12 +26,12 @@ unfolding flagged
 returns c =
     let took = c .before .before .before .before .before in
     let named = took .before .before .before .before .before in
-    let s = named .before .before .before .before .before in
-    λ p g. begin-named (meta s) (given s p) (eq-eqb _ _ (named .if1 .taken)) (g .few) (took .take-text .ensures (g .lies .user) (g .short) p) (c .begun-by .ensures (now (s .args .line)))
+    let s = named .before .before .before .before .before .before in
+    λ p g. begin-named (meta s) (given s p) (eq-eqb _ _ (named .if1 .taken)) (g .few) (took .take-text .ensures (g .lies .user) (g .short) p (g .indexed)) (c .begun-by .ensures (now (s .args .line)))
 
 returns-2 : tie.Need-returns-2
 unfolding flagged
-returns-2 c = let s = c .before .before .before .before .before .before in
+returns-2 c = let s = c .before .before .before .before .before .before .before in
     λ p g. begin-unnamed (meta s) (given s p) (ne-eqb _ _ (c .before .if1 .left)) (c .arena-meta .ensures (now (s .args .line)))
 
 pub begin-element-spec : {M : Type 1} → statement M

@@ -27,7 +27,7 @@ returns c =
     let told = acted .before .before .before .before .before .before .before .before .before .before in
     let asked = told .before .before in
     let claims = asked .before .before .before .before .before .before .before .before .before .before in
-    let s = claims .before .before .before .before .before .before .before .before .before .before in
+    let s = claims .before .before .before .before .before .before .before .before .before .before .before in
     let k = s .args in
     λ g. deletes-taken (k .kind) (toZ w64 (k .id)) (meta s) (given s) (claims .claimed .ensures (now (k .line))) (asked .delete-answer .ensures) (told .enum-told .given .1) (acted .delete-with-user .ensures g)
 
@@ -36,7 +36,7 @@ returns-2 c =
     let told = c .before .before .before .before .before in
     let asked = told .before .before in
     let claims = asked .before .before .before .before .before .before .before .before .before .before in
-    let s = claims .before .before .before .before .before .before .before .before .before .before in
+    let s = claims .before .before .before .before .before .before .before .before .before .before .before in
     let k = s .args in
     λ g. deletes-not (k .kind) (toZ w64 (k .id)) (meta s) (given s) (claims .claimed .ensures (now (k .line))) (asked .delete-answer .ensures) _ (told .r .given .1) (c .refused-act .ensures (g .lies) (g .short))
 

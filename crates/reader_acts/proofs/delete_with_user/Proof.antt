@@ -41,13 +41,13 @@ returns c =
     let claims = deleted .before in
     let told = claims .before .before .before .before .before .before .before .before .before .before in
     let begun = told .before .before .before .before .before .before in
-    let s = begun .before .before .before .before .before .before .before .before .before .before .before .before .before in
+    let s = begun .before .before .before .before .before .before .before .before .before .before .before .before .before .before in
     λ g. user-acted (meta s) (act s) (given s) (begun .begin-element .ensures (beside s) g) _ (told .enum-told .given .1) (rw (claims .claimed .ensures (now (s .args .line))) at (deleted .store-delete .ensures))
 
 returns-2 : tie.Need-returns-2
 returns-2 c =
     let begun = c .before .before .before .before .before .before .before in
-    let s = begun .before .before .before .before .before .before .before .before .before .before .before .before .before in
+    let s = begun .before .before .before .before .before .before .before .before .before .before .before .before .before .before in
     λ g. user-not (meta s) (act s) (given s) (begun .begin-element .ensures (beside s) g) _ (c .before .r .given .1)
 
 pub delete-with-user-spec : {M : Type 1} → statement M

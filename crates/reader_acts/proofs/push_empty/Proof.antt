@@ -36,7 +36,7 @@ returns c =
     let asked = told .before .before in
     let long = asked .before .before .before .before .before .before .before .before .before .before in
     let claims = long .before in
-    let s = claims .before .before .before .before .before .before .before .before .before .before in
+    let s = claims .before .before .before .before .before .before .before .before .before .before .before in
     let k = s .args in
     λ g. empty-taken (k .kind) (toZ w64 (k .id)) (meta s) (given s) (bodyIn (k .kind) (k .lat) (k .lon)) (kind-read (k .kind) (k .lat) (k .lon)) (sfits-toZ {w = w64} (s .fits .id)) (version-fits s) (claims .claimed .ensures (now (k .line))) (long .empty-len .ensures) (asked .push-answer .ensures) (told .enum-told .given .1) (headed .head-for .ensures) (acted .push-with-user .ensures g)
 
@@ -46,7 +46,7 @@ returns-2 c =
     let asked = told .before .before in
     let long = asked .before .before .before .before .before .before .before .before .before .before in
     let claims = long .before in
-    let s = claims .before .before .before .before .before .before .before .before .before .before in
+    let s = claims .before .before .before .before .before .before .before .before .before .before .before in
     let k = s .args in
     λ g. empty-not (k .kind) (toZ w64 (k .id)) (meta s) (given s) (bodyIn (k .kind) (k .lat) (k .lon)) (kind-read (k .kind) (k .lat) (k .lon)) (sfits-toZ {w = w64} (s .fits .id)) (version-fits s) (claims .claimed .ensures (now (k .line))) (long .empty-len .ensures) (asked .push-answer .ensures) _ (told .r .given .1) (c .refused-act .ensures (g .lies) (g .short))
 

@@ -39,13 +39,13 @@ returns c =
     let pushed = c .before .before .before .before .before .before .before .before .before .before .before .before in
     let told = pushed .before .before .before .before .before .before .before .before .before .before .before in
     let begun = told .before .before .before .before .before .before in
-    let s = begun .before .before .before .before .before .before .before .before .before .before .before .before .before in
+    let s = begun .before .before .before .before .before .before .before .before .before .before .before .before .before .before in
     λ g. user-acted (meta s) (act s) (given s) (begun .begin-element .ensures (beside s) g) _ (told .a .given .1) (pushed .push-first .ensures)
 
 returns-2 : tie.Need-returns-2
 returns-2 c =
     let begun = c .before .before .before .before .before .before .before in
-    let s = begun .before .before .before .before .before .before .before .before .before .before .before .before .before in
+    let s = begun .before .before .before .before .before .before .before .before .before .before .before .before .before .before in
     λ g. user-not (meta s) (act s) (given s) (begun .begin-element .ensures (beside s) g) _ (c .before .r .given .1)
 
 pub push-with-user-spec : {M : Type 1} → statement M

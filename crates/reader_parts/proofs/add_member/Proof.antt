@@ -8,19 +8,19 @@ use Rattle.reader_parts.proofs.add_member.Tie as tie
 
 with-member-requires : tie.Need-with-member-requires
 with-member-requires c κs =
-    part-yes (c .before .before .before .before .before .before .before .before .before .before .before .before .before .before .before .before .before .before .before .args .pending) 2000 (sym (c .before .before .before .before .before .before .before .before .before .before .before .before .before .before .before .part-fits .ensures) ∙ c .before .before .before .before .before .before .before .before .before .before .before .before .before .before .if1 .taken)
+    part-yes (c .before .before .before .before .before .before .before .before .before .before .before .before .before .before .before .before .before .before .before .before .args .pending) 2000 (sym (c .before .before .before .before .before .before .before .before .before .before .before .before .before .before .before .part-fits .ensures) ∙ c .before .before .before .before .before .before .before .before .before .before .before .before .before .before .if1 .taken)
 
 returns : tie.Need-returns
 returns c =
     λ p g lies.
-    let k = c .before .before .before .before .before .before .before .before .before .before .before .take-text .ensures lies (g .short) p in
+    let k = c .before .before .before .before .before .before .before .before .before .before .before .take-text .ensures lies (g .short) p (g .indexed) in
     let e = c .before .before .before .before .before .handle .given .1 in
     let f = rw (c .before .before .before .kind-number .ensures, c .before .before .narrow .ensures (handle-fits _ _ _ _ _ k e (g .strings))) at (c .with-member .ensures (g .used)) in
-    rw (ofZ-toZ (c .before .before .before .before .before .before .before .before .before .before .before .before .before .before .before .before .before .before .before .before .fits .reference)) (staged-left _ _ _ _ _ _ _ _ _ _ k _ _ _ (sym (c .before .before .before .before .before .before .before .before .before .before .before .before .before .before .before .before .part-fits .ensures) ∙ c .before .before .before .before .before .before .before .before .before .before .before .before .before .before .before .if1 .taken) e f)
+    rw (ofZ-toZ (c .before .before .before .before .before .before .before .before .before .before .before .before .before .before .before .before .before .before .before .before .before .fits .reference)) (staged-left _ _ _ _ _ _ _ _ _ _ k _ _ _ (sym (c .before .before .before .before .before .before .before .before .before .before .before .before .before .before .before .before .part-fits .ensures) ∙ c .before .before .before .before .before .before .before .before .before .before .before .before .before .before .before .if1 .taken) e f)
 
 returns-2 : tie.Need-returns-2
 returns-2 c =
-    λ p g lies. refused-left _ _ _ _ _ _ _ _ _ _ (c .before .before .before .before .before .before .before .take-text .ensures lies (g .short) p) _ (c .before .refusal .given .1)
+    λ p g lies. refused-left _ _ _ _ _ _ _ _ _ _ (c .before .before .before .before .before .before .before .take-text .ensures lies (g .short) p (g .indexed)) _ (c .before .refusal .given .1)
 
 returns-3 : tie.Need-returns-3
 returns-3 c =

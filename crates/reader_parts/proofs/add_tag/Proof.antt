@@ -10,7 +10,7 @@ returns : tie.Need-returns
 returns c =
     λ p g lies there.
     let k = c .before .before .before .before .before .before .before .before .before .before in
-    let a = c .before .before .before .before .before .before .before .before .before .before .before .before .before .before .before .before .before .args in
+    let a = c .before .before .before .before .before .before .before .before .before .before .before .before .before .before .before .before .before .before .args in
     let e = extent-bare (now (a .line)) (a .value) there _ _ (k .before .before .before .lesser .ensures) (k .before .before .lesser2 .ensures) (sym (k .lacks .ensures) ∙ c .before .before .before .before .before .before .before .before .before .if1 .taken) in
     rw e at (c .before .before .before .before .tag-with .ensures p g lies)
 

@@ -10,7 +10,7 @@ use Rattle.reader_parts.proofs.tag_first.Tie as tie
 
 slice-aggregate-tag-with : tie.Need-slice-aggregate-tag-with
 slice-aggregate-tag-with c =
-    let b = now (c .before .before .before .before .before .before .before .before .before .before .before .args .room) in
+    let b = now (c .before .before .before .before .before .before .before .before .before .before .before .before .args .room) in
     sym (length-take-le (c .before .before .before .before .before .lesser .result) b (omega (arith, c .before .before .before .before .before .lesser .ensures)))
 
 returns : tie.Need-returns

@@ -10,7 +10,7 @@ returns : tie.Need-returns
 returns c =
     λ p g lies there.
     let i = c .before .before .before .before .before .before .before .before .before .before .before .before .before in
-    let a = c .before .before .before .before .before .before .before .before .before .before .before .before .before .before .before .before .before .before .before .args in
+    let a = c .before .before .before .before .before .before .before .before .before .before .before .before .before .before .before .before .before .before .before .before .args in
     let e = extent-whole (now (a .line)) (a .value) there (now (a .room)) _ _ (omega (arith, g .short, i .before .text-into-arg .given .0 .1)) (i .text-into .ensures there) in
     rw e at (c .before .before .before .before .before .before .tag-first .ensures p g lies)
 

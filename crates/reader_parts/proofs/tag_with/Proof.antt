@@ -9,19 +9,19 @@ use Rattle.reader_parts.proofs.tag_with.Tie as tie
 
 with-tag-requires : tie.Need-with-tag-requires
 with-tag-requires c κs =
-    let a = c .before .before .before .before .before .before .before .before .before .before .before .before .before .before .before .before .before .before .before .args in
+    let a = c .before .before .before .before .before .before .before .before .before .before .before .before .before .before .before .before .before .before .before .before .args in
     fits-yes (a .kind) (a .pending) (length (now (a .value))) (sym (c .before .before .before .before .before .before .before .before .before .before .before .before .before .tag-fits .ensures) ∙ c .before .before .before .before .before .before .before .before .before .before .before .before .if1 .taken)
 
 returns : tie.Need-returns
 returns c =
     λ p g lies.
-    let k = c .before .before .before .before .before .before .before .before .before .before .before .take-text .ensures lies (g .short) p in
+    let k = c .before .before .before .before .before .before .before .before .before .before .before .take-text .ensures lies (g .short) p (g .indexed) in
     let e = c .before .before .before .before .before .handle .given .1 in
     staged-left _ _ _ _ _ _ _ _ _ _ k _ _ _ (sym (c .before .before .before .before .before .before .before .before .before .before .before .before .before .before .before .before .tag-fits .ensures) ∙ c .before .before .before .before .before .before .before .before .before .before .before .before .before .before .before .if1 .taken) e (c .before .before .with-tag .ensures (handle-fits _ _ _ _ _ k e (g .strings)) (g .used))
 
 returns-2 : tie.Need-returns-2
 returns-2 c =
-    λ p g lies. refused-left _ _ _ _ _ _ _ _ _ _ (c .before .before .before .before .before .before .before .take-text .ensures lies (g .short) p) _ (c .before .refusal .given .1)
+    λ p g lies. refused-left _ _ _ _ _ _ _ _ _ _ (c .before .before .before .before .before .before .before .take-text .ensures lies (g .short) p (g .indexed)) _ (c .before .refusal .given .1)
 
 returns-3 : tie.Need-returns-3
 returns-3 c =

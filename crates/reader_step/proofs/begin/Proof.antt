@@ -28,11 +28,11 @@ beside s =
 
 returns : tie.Need-returns
 returns c =
-    let s = c .before .before .before .before .before .before .before .before .before .before .before .before .before .before .before .before .before .before .before .before .before .before .before .before .before .before .before .before .before .before .before .before .before .before .before .before .before .before in λ reader parts g. empty-begins (given s reader parts) (s .args .b) (c .before .before .before .before .before .before .before .before .before .before .before .before .before .before .before .before .before .before .before .before .before .before .before .before .before .before .before .if1 .taken) (c .before .before .before .before .before .before .before .before .before .before .before .before .before .before .before .before .before .push-empty .ensures) (c .cleared .ensures) g
+    let s = c .before .before .before .before .before .before .before .before .before .before .before .before .before .before .before .before .before .before .before .before .before .before .before .before .before .before .before .before .before .before .before .before .before .before .before .before .before .before .before in λ reader parts g. empty-begins (given s reader parts) (s .args .b) (c .before .before .before .before .before .before .before .before .before .before .before .before .before .before .before .before .before .before .before .before .before .before .before .before .before .before .before .if1 .taken) (c .before .before .before .before .before .before .before .before .before .before .before .before .before .before .before .before .before .push-empty .ensures) (c .cleared .ensures) g
 
 returns-2 : tie.Need-returns-2
 returns-2 c =
-    let s = c .before .before .before .before .before .before .before .before .before .before .before .before .before .before .before .before .before .before .before .before .before .before in λ reader parts g. open-begins (given s reader parts) (s .args .b) (c .before .before .before .before .before .before .before .before .before .before .before .if1 .left) (c .before .before .before .before .before .begin-element .ensures (beside s)) (c .before .before .before .before .before .before .before .before .before .head-for .ensures) (c .begun .ensures) g
+    let s = c .before .before .before .before .before .before .before .before .before .before .before .before .before .before .before .before .before .before .before .before .before .before .before in λ reader parts g. open-begins (given s reader parts) (s .args .b) (c .before .before .before .before .before .before .before .before .before .before .before .if1 .left) (c .before .before .before .before .before .begin-element .ensures (beside s)) (c .before .before .before .before .before .before .before .before .before .head-for .ensures) (c .begun .ensures) g
 
 pub begin-spec : {M : Type 1} → statement M
 begin-spec =

@@ -21,7 +21,7 @@ given s reader parts =
 
 returns : tie.Need-returns
 returns c =
-    let s = c .before .before .before .before .before .before .before .before .before .before .before .before .before .before .before .before .before .before .before .before .before .before .before .before .before .before .before .before .before .before .before .before .before .before .before .before .before .before in λ reader parts g. deletes-done (given s reader parts) (s .args .d) (c .before .before .before .before .before .before .before .before .before .before .before .before .before .before .before .before .before .delete-element .ensures) (c .cleared .ensures) g
+    let s = c .before .before .before .before .before .before .before .before .before .before .before .before .before .before .before .before .before .before .before .before .before .before .before .before .before .before .before .before .before .before .before .before .before .before .before .before .before .before .before in λ reader parts g. deletes-done (given s reader parts) (s .args .d) (c .before .before .before .before .before .before .before .before .before .before .before .before .before .before .before .before .before .delete-element .ensures) (c .cleared .ensures) g
 
 pub delete-spec : {M : Type 1} → statement M
 delete-spec =

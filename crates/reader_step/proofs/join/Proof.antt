@@ -20,7 +20,7 @@ given s p =
 
 returns : tie.Need-returns
 returns c =
-    let s = c .before .before .before .before .before .before .before .before .before .before .before .before .before .before .before .before .before in λ p g. joins-done (given s p) (s .args .m) (c .before .before .before .before .before .add-member .ensures p) (c .added .ensures) g
+    let s = c .before .before .before .before .before .before .before .before .before .before .before .before .before .before .before .before .before .before in λ p g. joins-done (given s p) (s .args .m) (c .before .before .before .before .before .add-member .ensures p) (c .added .ensures) g
 
 pub join-spec : {M : Type 1} → statement M
 join-spec =

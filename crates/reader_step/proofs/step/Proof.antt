@@ -26,35 +26,35 @@ beside s =
 
 returns : tie.Need-returns
 returns c =
-    let s = c .before .before .before .before .before .before .before .before .before .before .before .before .before in rw (c .before .decided .given .1) (λ g. refuses-done (given s) (now (s .args .line)) _)
+    let s = c .before .before .before .before .before .before .before .before .before .before .before .before .before .before in rw (c .before .decided .given .1) (λ g. refuses-done (given s) (now (s .args .line)) _)
 
 returns-2 : tie.Need-returns-2
 returns-2 c =
-    let s = c .before .before .before .before .before .before .before .before .before .before .before .before .before in rw (c .before .decided2 .given .1) (λ g. moves-done (given s) _ (now (s .args .line)))
+    let s = c .before .before .before .before .before .before .before .before .before .before .before .before .before .before in rw (c .before .decided2 .given .1) (λ g. moves-done (given s) _ (now (s .args .line)))
 
 returns-3 : tie.Need-returns-3
 returns-3 c =
-    let s = c .before .before .before .before .before .before .before .before .before .before .before .before .before .before .before .before .before .before .before .before .before .before .before .before .before .before .before .before .before .before .before .before .before .before .before .before .before .before .before in rw (c .before .before .before .before .before .before .before .before .before .before .before .before .before .before .before .before .before .before .before .before .before .before .before .before .before .before .before .decided3 .given .1) (c .before .before .before .before .before .before .before .before .before .before .before .before .before .before .before .before .begin .ensures (s .args .reader) (now (s .args .parts)))
+    let s = c .before .before .before .before .before .before .before .before .before .before .before .before .before .before .before .before .before .before .before .before .before .before .before .before .before .before .before .before .before .before .before .before .before .before .before .before .before .before .before .before in rw (c .before .before .before .before .before .before .before .before .before .before .before .before .before .before .before .before .before .before .before .before .before .before .before .before .before .before .before .decided3 .given .1) (c .before .before .before .before .before .before .before .before .before .before .before .before .before .before .before .before .begin .ensures (s .args .reader) (now (s .args .parts)))
 
 returns-4 : tie.Need-returns-4
 returns-4 c =
-    let s = c .before .before .before .before .before .before .before .before .before .before .before .before .before .before .before .before .before .before .before .before .before .before .before .before .before .before .before .before .before .before .before .before .before .before .before .before .before .before .before in rw (c .before .before .before .before .before .before .before .before .before .before .before .before .before .before .before .before .before .before .before .before .before .before .before .before .before .before .before .decided4 .given .1) (c .before .before .before .before .before .before .before .before .before .before .before .before .before .before .before .before .delete .ensures (s .args .reader) (now (s .args .parts)))
+    let s = c .before .before .before .before .before .before .before .before .before .before .before .before .before .before .before .before .before .before .before .before .before .before .before .before .before .before .before .before .before .before .before .before .before .before .before .before .before .before .before .before in rw (c .before .before .before .before .before .before .before .before .before .before .before .before .before .before .before .before .before .before .before .before .before .before .before .before .before .before .before .decided4 .given .1) (c .before .before .before .before .before .before .before .before .before .before .before .before .before .before .before .before .delete .ensures (s .args .reader) (now (s .args .parts)))
 
 returns-5 : tie.Need-returns-5
 returns-5 c =
-    let s = c .before .before .before .before .before .before .before .before .before .before .before .before .before .before .before .before .before .before .before .before .before .before in rw (c .before .before .before .before .before .before .before .before .before .before .decided5 .given .1) (c .before .before .before .before .tag .ensures (beside s))
+    let s = c .before .before .before .before .before .before .before .before .before .before .before .before .before .before .before .before .before .before .before .before .before .before .before in rw (c .before .before .before .before .before .before .before .before .before .before .decided5 .given .1) (c .before .before .before .before .tag .ensures (beside s))
 
 returns-6 : tie.Need-returns-6
 returns-6 c =
-    let s = c .before .before .before .before .before .before .before .before .before .before .before .before .before .before .before in rw (c .before .before .before .decided6 .given .1) (c .refer .ensures (now (s .args .line)) (given s .overlay))
+    let s = c .before .before .before .before .before .before .before .before .before .before .before .before .before .before .before .before in rw (c .before .before .before .decided6 .given .1) (c .refer .ensures (now (s .args .ix)) (now (s .args .line)) (given s .overlay))
 
 returns-7 : tie.Need-returns-7
 returns-7 c =
-    let s = c .before .before .before .before .before .before .before .before .before .before .before .before .before .before .before .before .before .before .before .before .before .before in rw (c .before .before .before .before .before .before .before .before .before .before .decided7 .given .1) (c .before .before .before .before .join .ensures (beside s))
+    let s = c .before .before .before .before .before .before .before .before .before .before .before .before .before .before .before .before .before .before .before .before .before .before .before in rw (c .before .before .before .before .before .before .before .before .before .before .decided7 .given .1) (c .before .before .before .before .join .ensures (beside s))
 
 returns-8 : tie.Need-returns-8
 returns-8 c =
-    let s = c .before .before .before .before .before .before .before .before .before .before .before .before .before .before .before .before .before .before .before .before .before .before .before .before .before .before .before .before .before .before .before .before .before .before .before .before in rw (c .before .before .before .before .before .before .before .before .before .before .before .before .before .before .before .before .before .before .before .before .before .before .before .before .decided8 .given .1) (λ g. c .before .before .before .before .before .before .before .before .before .before .before .before .end .ensures (now (s .args .line)))
+    let s = c .before .before .before .before .before .before .before .before .before .before .before .before .before .before .before .before .before .before .before .before .before .before .before .before .before .before .before .before .before .before .before .before .before .before .before .before .before in rw (c .before .before .before .before .before .before .before .before .before .before .before .before .before .before .before .before .before .before .before .before .before .before .before .before .decided8 .given .1) (λ g. c .before .before .before .before .before .before .before .before .before .before .before .before .end .ensures (now (s .args .line)))
 
 pub step-spec : {M : Type 1} → statement M
 step-spec =

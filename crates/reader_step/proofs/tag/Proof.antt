@@ -20,7 +20,7 @@ given s p =
 
 returns : tie.Need-returns
 returns c =
-    let s = c .before .before .before .before .before .before .before .before .before .before .before .before .before .before .before .before .before .before in λ p g. tags-done (given s p) (s .args .t) (c .before .before .before .before .before .add-tag .ensures p) (c .added .ensures) g
+    let s = c .before .before .before .before .before .before .before .before .before .before .before .before .before .before .before .before .before .before .before in λ p g. tags-done (given s p) (s .args .t) (c .before .before .before .before .before .add-tag .ensures p) (c .added .ensures) g
 
 pub tag-spec : {M : Type 1} → statement M
 tag-spec = tie.close (tie.spec (λ c κs. search needs) (λ c κs. search needs) (λ c. search needs) (λ c. search needs) returns)

@@ -8,11 +8,11 @@ use Rattle.reader_texts.proofs.take_text.Tie as tie
 
 returns : tie.Need-returns
 returns c =
-    λ lies short p.
+    λ lies short p given.
     let k = c .before .before .before .before .before .before .before .before .before in
-    let a = c .before .before .before .before .before .before .before .before .before .before .before .before .before .before .before .before .args in
+    let a = c .before .before .before .before .before .before .before .before .before .before .before .before .before .before .before .before .before .args in
     let e = extent-bare (now (a .line)) (a .at) lies _ _ (k .before .before .before .lesser .ensures) (k .before .before .lesser2 .ensures) (sym (k .lacks .ensures) ∙ c .before .before .before .before .before .before .before .before .if1 .taken) in
-    rw e at (c .before .before .before .before .store-text .ensures p)
+    rw e at (c .before .before .before .before .store-text-by .ensures p given)
 
 pub take-text-spec : {M : Type 1} → statement M
 take-text-spec =
