@@ -105,7 +105,7 @@ module _ (run : Bytes) (at : ℕ) (s : State) where
   unfolding pointOn
   point-none e = rw e
 
-  byLine : {C : Type 0} → ((to : ℕ) → lineEnd run at ≡ At to → C) → (lineEnd run at ≡ None → C) → C
+  pub byLine : {C : Type 0} → ((to : ℕ) → lineEnd run at ≡ At to → C) → (lineEnd run at ≡ None → C) → C
   byLine {C} f g = go (lineEnd run at) refl
     where
       go : (l : LineEnd) → lineEnd run at ≡ l → C

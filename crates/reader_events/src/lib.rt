@@ -5,6 +5,7 @@ ghost use Prim.Native.Nat.{_≤_};
 ghost use lib.ListN.{length};
 ghost use Rattle.base.specs.Bytes.{all};
 ghost use Rattle.little.specs.Little.{isByte};
+ghost use Rattle.text_index.specs.Index.{IndexGiven};
 ghost use Rattle.overlay.specs.Overlay.{lent, left};
 ghost use Rattle.lines.specs.Lines.{linesOf};
 ghost use Rattle.reader.specs.State.{stateSound};
@@ -39,18 +40,34 @@ fn line_event(
     ss: &mut [u64],
     sb: &mut [u8],
     us: &mut [u64; 9],
+    ix: &[u16],
     ps: &mut [u8; 44432],
     reader: EventReader,
     line: &[u8],
 ) -> EventDone
     ensures { λ r. ⌜ (RunGiven (record { overlay = lent ni na wi wa ri ra ss sb us; reader = reader; parts = now (ps .entry) })
+        → IndexGiven (now (ix .entry)) (lent ni na wi wa ri ra ss sb us .texts)
         → record { state = record { overlay = left ni na wi wa ri ra ss sb us; reader = r .reader; parts = now (ps .exit) }; answer = r .answer }
         ≡ eventOn (now (line .entry)) (record { overlay = lent ni na wi wa ri ra ss sb us; reader = reader; parts = now (ps .entry) })) ⌝ }
 {
     if reader.lines < 18446744073709551615 {
         let stop = reader.stop;
         let Stop::At(refusal, at) = reader_sound::mark_of(stop) else {
-            return reader_calls::event_going(ni, na, wi, wa, ri, ra, ss, sb, us, ps, reader, line);
+            return reader_calls::event_going(
+                ni,
+                na,
+                wi,
+                wa,
+                ri,
+                ra,
+                ss,
+                sb,
+                us,
+                ix,
+                ps,
+                reader,
+                line,
+            );
         };
         let answer = EventAnswer::Refused(refusal, at);
         return EventDone { reader, answer };
@@ -80,6 +97,7 @@ fn next_event(
     ss: &mut [u64],
     sb: &mut [u8],
     us: &mut [u64; 9],
+    ix: &[u16],
     ps: &mut [u8; 44432],
     reader: EventReader,
     run: &[u8],
@@ -87,6 +105,7 @@ fn next_event(
 ) -> EventsDone
     requires { ⌜ at ≤ length (now run) ⌝ }
     ensures { λ r. ⌜ (RunGiven (record { overlay = lent ni na wi wa ri ra ss sb us; reader = reader; parts = now (ps .entry) })
+        → IndexGiven (now (ix .entry)) (lent ni na wi wa ri ra ss sb us .texts)
         → record { result = record { state = record { overlay = left ni na wi wa ri ra ss sb us; reader = r .reader; parts = now (ps .exit) }; answer = r .answer }; taken = r .taken }
         ≡ pointOn (now (run .entry)) at (record { overlay = lent ni na wi wa ri ra ss sb us; reader = reader; parts = now (ps .entry) })) ⌝ }
     ensures { λ r. ⌜ r .taken ≤ length (now (run .entry)) ⌝ }
@@ -98,7 +117,21 @@ fn next_event(
             taken: at,
         };
     };
-    let done = line_event(ni, na, wi, wa, ri, ra, ss, sb, us, ps, reader, &run[at..to]);
+    let done = line_event(
+        ni,
+        na,
+        wi,
+        wa,
+        ri,
+        ra,
+        ss,
+        sb,
+        us,
+        ix,
+        ps,
+        reader,
+        &run[at..to],
+    );
     let reader = done.reader;
     let answer = done.answer;
     EventsDone {
@@ -109,6 +142,47 @@ fn next_event(
 }
 
 // ---- all lines
+
+// All lines, by an array of chains that is brought up to date before each.
+fn events_by(
+    ni: &mut [u64],
+    na: &mut [u8],
+    wi: &mut [u64],
+    wa: &mut [u8],
+    ri: &mut [u64],
+    ra: &mut [u8],
+    ss: &mut [u64],
+    sb: &mut [u8],
+    us: &mut [u64; 9],
+    ix: &mut [u16; 8193],
+    ps: &mut [u8; 44432],
+    reader: EventReader,
+    run: &[u8],
+) -> EventsDone
+    ensures { λ r. ⌜ (RunGiven (record { overlay = lent ni na wi wa ri ra ss sb us; reader = reader; parts = now (ps .entry) })
+        → IndexGiven (now (ix .entry)) (lent ni na wi wa ri ra ss sb us .texts)
+        → record { state = record { overlay = left ni na wi wa ri ra ss sb us; reader = r .reader; parts = now (ps .exit) }; answer = r .answer }
+        ≡ eventsOn (linesOf (now (run .entry))) (record { overlay = lent ni na wi wa ri ra ss sb us; reader = reader; parts = now (ps .entry) })) ⌝ }
+    ensures { λ r. ⌜ (RunGiven (record { overlay = lent ni na wi wa ri ra ss sb us; reader = reader; parts = now (ps .entry) })
+        → IndexGiven (now (ix .entry)) (lent ni na wi wa ri ra ss sb us .texts)
+        → r .taken ≡ takenBytes (linesOf (now (run .entry))) (record { overlay = lent ni na wi wa ri ra ss sb us; reader = reader; parts = now (ps .entry) })) ⌝ }
+    ensures { λ r. ⌜ r .taken ≤ length (now (run .entry)) ⌝ }
+{
+    let mut done = EventsDone {
+        reader,
+        answer: EventAnswer::Accepted,
+        taken: 0,
+    };
+    let mut more = true;
+    while more {
+        let reader = done.reader;
+        let at = done.taken;
+        text_index::index_held(ix, ss, sb, us[6], us[7]);
+        done = next_event(ni, na, wi, wa, ri, ra, ss, sb, us, ix, ps, reader, run, at);
+        more = at < done.taken;
+    }
+    done
+}
 
 // The same as `events` with no test of soundness: for a caller who knows that the state is sound but for its count of lines, since nothing else changed it after a test.
 pub fn events_untested(
@@ -132,19 +206,8 @@ pub fn events_untested(
         → r .taken ≡ takenBytes (linesOf (now (run .entry))) (record { overlay = lent ni na wi wa ri ra ss sb us; reader = reader; parts = now (ps .entry) })) ⌝ }
     ensures { λ r. ⌜ r .taken ≤ length (now (run .entry)) ⌝ }
 {
-    let mut done = EventsDone {
-        reader,
-        answer: EventAnswer::Accepted,
-        taken: 0,
-    };
-    let mut more = true;
-    while more {
-        let reader = done.reader;
-        let at = done.taken;
-        done = next_event(ni, na, wi, wa, ri, ra, ss, sb, us, ps, reader, run, at);
-        more = at < done.taken;
-    }
-    done
+    let mut ix = [0u16; 8193];
+    events_by(ni, na, wi, wa, ri, ra, ss, sb, us, &mut ix, ps, reader, run)
 }
 
 // ---- what is tested once

@@ -1,31 +1,15 @@
--- Line by line. The invariant: what is to come from the present place on, after the present state, is what all lines come to.
+-- All lines, by an array of zeros.
 use denote.Ref.{now}
-use mathlib.Core.Path.{refl, _∙_}
-use mathlib.Core.Bool.{true, false}
-use Prim.Native.Nat.{_≤_}
-use native.Mathlib.Omega.{arith}
-use lib.ListN.{length}
+use mathlib.Core.Path.{refl}
 use Rattle.overlay.specs.Overlay.{overlayOf}
 use Rattle.reader.specs.State.{State}
-use Rattle.reader_events.specs.Runs.{RunGiven}
-use Rattle.reader_events.proofs.Runs.{SameSizes, Running, toCome, run-start, run-on, run-less, run-all, run-by}
+use Rattle.reader_events.proofs.Chains.{zeros-given}
+use borrow.Author.Needs.{needs}
 use Rattle.reader_events.proofs.events_untested.Statement.{statement}
 use Rattle.reader_events.proofs.events_untested.Tie as tie
 
-abbrev Inv-loop : tie.InvT-loop
-Inv-loop ni₀ na₀ wi₀ wa₀ ri₀ ra₀ ss₀ sb₀ us₀ ps₀ run done₀ more₀ ni na wi wa ri ra ss sb us ps done more =
-    let s₀ : State = record { overlay = overlayOf ni₀ na₀ wi₀ wa₀ ri₀ ra₀ ss₀ sb₀ us₀; reader = done₀ .reader; parts = ps₀ } in
-    SameSizes ni₀ na₀ wi₀ wa₀ ri₀ ra₀ ss₀ sb₀ ni na wi wa ri ra ss sb
-    × ((done .taken ≤ length run)
-    × (RunGiven s₀
-    → Running run s₀ more (done .taken) (record { state = record { overlay = overlayOf ni na wi wa ri ra ss sb us; reader = done .reader; parts = ps }; answer = done .answer })))
-
-abbrev μ-loop : tie.MeasureT-loop
-μ-loop ni₀ na₀ wi₀ wa₀ ri₀ ra₀ ss₀ sb₀ us₀ ps₀ run done₀ more₀ ni na wi wa ri ra ss sb us ps done more =
-    toCome run more (done .taken)
-
 -- the state as it is lent
-abbrev given : tie.Start Inv-loop μ-loop → State
+abbrev given : tie.Start → State
 given s =
     let a = s .args in
     record {
@@ -34,69 +18,41 @@ given s =
       parts = now (a .ps);
     }
 
-loop-holds : tie.Need-loop-holds Inv-loop μ-loop
-loop-holds c =
-    let s = c .before .before .before .before .before .before .before .before .before in
-    (record { same-ni = refl; same-na = refl; same-wi = refl; same-wa = refl; same-ri = refl; same-ra = refl; same-spans = refl; same-bytes = refl }, (omega arith, λ g. run-start (now (s .args .run)) (given s) g))
+same-length : tie.Need-same-length
+same-length c = c .before .before .before .before .before .before .before .before .before .before .before .before .before .before .before .ni .given
 
-next-event-requires : tie.Need-next-event-requires Inv-loop μ-loop
-next-event-requires c κs = c .before .before .before .before .before .before .before .before .before .before .before .before .loop .inv .1 .0
+same-length-2 : tie.Need-same-length-2
+same-length-2 c = c .before .before .before .before .before .before .before .before .before .before .before .before .before .na .given
 
-loop-less : tie.Need-loop-less Inv-loop μ-loop
-loop-less c =
-    let l = c .before .before .before .before .before .before .before .before .before .before .before .before .before .before .before .before .before .before .before .before .before .before .before .before .before .before .before .before .before .before .loop in
-    let s = c .before .before .before .before .before .before .before .before .before .before .before .before .before .before .before .before .before .before .before .before .before .before .before .before .before .before .before .before .before .before .before .before .before .before .before .before .before .before .before .before in
-    rw (c .before .before .before .before .before .before .before .before .before .before .before .before .before .before .before .before .before .before .before .before .before .before .before .before .before .before .before .before .before .loop-test .taken) (run-less (now (s .args .run)) (l .done .taken) _ (l .inv .1 .0) (c .before .before .before .before .before .before .before .before .before .before .before .before .before .before .before .before .before .next-event .ensures .1))
+same-length-3 : tie.Need-same-length-3
+same-length-3 c = c .before .before .before .before .before .before .before .before .before .before .before .wi .given
 
-loop-again : tie.Need-loop-again Inv-loop μ-loop
-loop-again c =
-    let l = c .before .before .before .before .before .before .before .before .before .before .before .before .before .before .before .before .before .before .before .before .before .before .before .before .before .before .before .before .before .before .loop in
-    let s = c .before .before .before .before .before .before .before .before .before .before .before .before .before .before .before .before .before .before .before .before .before .before .before .before .before .before .before .before .before .before .before .before .before .before .before .before .before .before .before .before in
-    let n = c .before .before .before .before .before .before .before .before .before .before .before .before .before .before .before .before .before .next-event in
-    (record { same-ni = c .before .before .before .before .before .before .before .before .before .before .before .before .before .before .before .before .ni .given ∙ l .inv .0 .same-ni; same-na = c .before .before .before .before .before .before .before .before .before .before .before .before .before .before .na .given ∙ l .inv .0 .same-na; same-wi = c .before .before .before .before .before .before .before .before .before .before .before .before .wi .given ∙ l .inv .0 .same-wi; same-wa = c .before .before .before .before .before .before .before .before .before .before .wa .given ∙ l .inv .0 .same-wa; same-ri = c .before .before .before .before .before .before .before .before .ri .given ∙ l .inv .0 .same-ri; same-ra = c .before .before .before .before .before .before .ra .given ∙ l .inv .0 .same-ra; same-spans = c .before .before .before .before .ss .given ∙ l .inv .0 .same-spans; same-bytes = c .before .before .sb .given ∙ l .inv .0 .same-bytes }, (n .ensures .1, λ g. let w = run-by true (c .before .before .before .before .before .before .before .before .before .before .before .before .before .before .before .before .before .before .before .before .before .before .before .before .before .before .before .before .before .loop-test .taken) (l .inv .1 .1 g) in run-on (now (s .args .run)) (given s) (l .done .taken) _ w _ (n .ensures .0 (w .given))))
+same-length-4 : tie.Need-same-length-4
+same-length-4 c = c .before .before .before .before .before .before .before .before .before .wa .given
 
-same-length : tie.Need-same-length Inv-loop μ-loop
-same-length c = c .before .loop .inv .0 .same-ni
+same-length-5 : tie.Need-same-length-5
+same-length-5 c = c .before .before .before .before .before .before .before .ri .given
 
-same-length-2 : tie.Need-same-length-2 Inv-loop μ-loop
-same-length-2 c = c .before .loop .inv .0 .same-na
+same-length-6 : tie.Need-same-length-6
+same-length-6 c = c .before .before .before .before .before .ra .given
 
-same-length-3 : tie.Need-same-length-3 Inv-loop μ-loop
-same-length-3 c = c .before .loop .inv .0 .same-wi
+same-length-7 : tie.Need-same-length-7
+same-length-7 c = c .before .before .before .ss .given
 
-same-length-4 : tie.Need-same-length-4 Inv-loop μ-loop
-same-length-4 c = c .before .loop .inv .0 .same-wa
+same-length-8 : tie.Need-same-length-8
+same-length-8 c = c .before .sb .given
 
-same-length-5 : tie.Need-same-length-5 Inv-loop μ-loop
-same-length-5 c = c .before .loop .inv .0 .same-ri
-
-same-length-6 : tie.Need-same-length-6 Inv-loop μ-loop
-same-length-6 c = c .before .loop .inv .0 .same-ra
-
-same-length-7 : tie.Need-same-length-7 Inv-loop μ-loop
-same-length-7 c = c .before .loop .inv .0 .same-spans
-
-same-length-8 : tie.Need-same-length-8 Inv-loop μ-loop
-same-length-8 c = c .before .loop .inv .0 .same-bytes
-
-returns : tie.Need-returns Inv-loop μ-loop
+returns : tie.Need-returns
 returns c =
-    let s = c .before .before .before .before .before .before .before .before .before .before .before in
-    let i = c .before .loop .inv .1 in (
-      λ g. run-all (now (s .args .run)) (given s) _ _ (run-by false (c .loop-test .left) (i .1 g)) .0,
-      (λ g. run-all (now (s .args .run)) (given s) _ _ (run-by false (c .loop-test .left) (i .1 g)) .1, i .0),
-    )
+    let s = c .before .before .before .before .before .before .before .before .before .before .before .before .before .before .before .before .before .before .before .before .before .before .before .before .before .before .before .before .before .before .before .before .before .before .before .before .before in
+    let e = c .before .before .before .before .before .before .before .before .before .before .before .before .before .before .before .before .events-by .ensures in
+    (λ g. e .0 g (zeros-given _ (given s) refl g), (λ g. e .1 .0 g (zeros-given _ (given s) refl g), e .1 .1))
 
 pub events-untested-spec : {M : Type 1} → statement M
 events-untested-spec =
     tie.close
     (tie.spec
-    Inv-loop
-    μ-loop
-    loop-holds
-    next-event-requires
-    loop-less
-    loop-again
+    (λ c κs. search needs)
     same-length
     same-length-2
     same-length-3

@@ -51,21 +51,21 @@ same-length-8 c = c .before .sb .given
 
 returns : tie.Need-returns
 returns c =
-    λ g.
-    let s = c .before .before .before .before .before .before .before .before .before .before .before .before .before .before .before .before .before .before .before .before .before .before .before .before .before .before .before .before .before .before .before .before .before .before .before .before .before .before .before .before .before in
+    λ g i.
+    let s = c .before .before .before .before .before .before .before .before .before .before .before .before .before .before .before .before .before .before .before .before .before .before .before .before .before .before .before .before .before .before .before .before .before .before .before .before .before .before .before .before .before .before in
     let u = given-sound (given s) g (c .before .before .before .before .before .before .before .before .before .before .before .before .before .before .before .before .before .before .before .before .before .before .before .before .before .before .before .before .before .before .if1 .taken) in
-    event-goes-on (now (s .args .line)) (given s) u (sym (c .before .before .before .before .before .before .before .before .before .before .before .before .before .before .before .before .before .before .before .before .before .before .before .before .before .before .before .before .before .mark-of .ensures) ∙ c .before .before .before .before .before .before .before .before .before .before .before .before .before .before .before .before .before .before .before .before .before .before .before .before .before .before .before .enum-told .given .1) (c .before .before .before .before .before .before .before .before .before .before .before .before .before .before .before .before .event-going .ensures u)
+    event-goes-on (now (s .args .line)) (given s) u (sym (c .before .before .before .before .before .before .before .before .before .before .before .before .before .before .before .before .before .before .before .before .before .before .before .before .before .before .before .before .before .mark-of .ensures) ∙ c .before .before .before .before .before .before .before .before .before .before .before .before .before .before .before .before .before .before .before .before .before .before .before .before .before .before .before .enum-told .given .1) (c .before .before .before .before .before .before .before .before .before .before .before .before .before .before .before .before .event-going .ensures u i)
 
 returns-2 : tie.Need-returns-2
 returns-2 c =
-    λ g.
-    let s = c .before .before .before .before .before .before .before .before .before .before .before .before .before .before .before in
+    λ g i.
+    let s = c .before .before .before .before .before .before .before .before .before .before .before .before .before .before .before .before in
     event-marked (now (s .args .line)) (given s) (given-sound (given s) g (c .before .before .before .before .if1 .taken)) _ _ (sym (c .before .before .before .mark-of .ensures) ∙ c .before .refusal .given .1)
 
 returns-3 : tie.Need-returns-3
 returns-3 c =
-    λ g.
-    let s = c .before .before .before .before .before .before .before .before .before .before .before in
+    λ g i.
+    let s = c .before .before .before .before .before .before .before .before .before .before .before .before in
     event-unsound (now (s .args .line)) (given s) (counted-out (given s) (c .if1 .left))
 
 pub line-event-spec : {M : Type 1} → statement M

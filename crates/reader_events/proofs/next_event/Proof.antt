@@ -25,24 +25,24 @@ line-end-requires c κs = tt
 
 returns : tie.Need-returns
 returns c =
-    let s = c .before .before .before .before .before .before .before .before .before .before .before .before in
-    (λ g. point-none (now (s .args .run)) (s .args .at) (given s) (sym (c .before .before .line-end .ensures) ∙ c .enum-told .given .1), s .pre)
+    let s = c .before .before .before .before .before .before .before .before .before .before .before .before .before in
+    (λ g i. point-none (now (s .args .run)) (s .args .at) (given s) (sym (c .before .before .line-end .ensures) ∙ c .enum-told .given .1), s .pre)
 
 sub-line-event : tie.Need-sub-line-event
 sub-line-event c =
-    let s = c .before .before .before .before .before .before .before .before .before .before .before .before .before .before .before .before .before .before .before .before .before .before .before in
+    let s = c .before .before .before .before .before .before .before .before .before .before .before .before .before .before .before .before .before .before .before .before .before .before .before .before in
     let n = next-line (now (s .args .run)) (s .args .at) _ (sym (c .before .before .before .before .before .before .before .before .before .before .before .before .before .line-end .ensures) ∙ c .before .before .before .before .before .before .before .before .before .before .before .to .given .1) in
     omega (arith, n .forward)
 
 part-line-event-start : tie.Need-part-line-event-start
 part-line-event-start c =
-    let s = c .before .before .before .before .before .before .before .before .before .before .before .before .before .before .before .before .before .before .before .before .before .before .before in
+    let s = c .before .before .before .before .before .before .before .before .before .before .before .before .before .before .before .before .before .before .before .before .before .before .before .before in
     let n = next-line (now (s .args .run)) (s .args .at) _ (sym (c .before .before .before .before .before .before .before .before .before .before .before .before .before .line-end .ensures) ∙ c .before .before .before .before .before .before .before .before .before .before .before .to .given .1) in
     omega (arith, n .forward, n .within)
 
 part-line-event-end : tie.Need-part-line-event-end
 part-line-event-end c =
-    let s = c .before .before .before .before .before .before .before .before .before .before .before .before .before .before .before .before .before .before .before .before .before .before .before in
+    let s = c .before .before .before .before .before .before .before .before .before .before .before .before .before .before .before .before .before .before .before .before .before .before .before .before in
     let n = next-line (now (s .args .run)) (s .args .at) _ (sym (c .before .before .before .before .before .before .before .before .before .before .before .before .before .line-end .ensures) ∙ c .before .before .before .before .before .before .before .before .before .before .before .to .given .1) in
     omega (arith, n .forward, n .within)
 
@@ -78,11 +78,11 @@ same-length-8 c = c .before .before .before .sb .given
 
 returns-2 : tie.Need-returns-2
 returns-2 c =
-    let s = c .before .before .before .before .before .before .before .before .before .before .before .before .before .before .before .before .before .before .before .before .before .before .before .before .before .before .before .before .before .before .before .before .before .before .before .before .before .before .before .before .before .before .before in
+    let s = c .before .before .before .before .before .before .before .before .before .before .before .before .before .before .before .before .before .before .before .before .before .before .before .before .before .before .before .before .before .before .before .before .before .before .before .before .before .before .before .before .before .before .before .before in
     let a = s .args in
     let e = sym (c .before .before .before .before .before .before .before .before .before .before .before .before .before .before .before .before .before .before .before .before .before .before .before .before .before .before .before .before .before .before .before .before .before .line-end .ensures) ∙ c .before .before .before .before .before .before .before .before .before .before .before .before .before .before .before .before .before .before .before .before .before .before .before .before .before .before .before .before .before .before .before .to .given .1 in
     let n = next-line (now (a .run)) (a .at) _ e in (
-      λ g. point-line (now (a .run)) (a .at) (given s) _ e _ (event-part (now (a .run)) (a .at) (given s) _ (omega (arith, n .forward)) _ (c .before .before .before .before .before .before .before .before .before .before .before .before .before .before .before .before .before .before .line-event .ensures g)) _ (c .behind-line .ensures),
+      λ g i. point-line (now (a .run)) (a .at) (given s) _ e _ (event-part (now (a .run)) (a .at) (given s) _ (omega (arith, n .forward)) _ (c .before .before .before .before .before .before .before .before .before .before .before .before .before .before .before .before .before .before .line-event .ensures g i)) _ (c .behind-line .ensures),
       rw (c .behind-line .ensures) (behind-within (a .at) _ _ (c .before .before .before .before .before .before .before .before .before .before .before .before .before .before .before .before .before .before .line-event .result .answer) (s .pre) (n .within)),
     )
 
