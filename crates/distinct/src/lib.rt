@@ -1,9 +1,10 @@
-// Whether no two of some runs of bytes are equal: their indexes are sorted, and the order is checked. Nothing is proved of the sort; where the check
+// Runs of bytes compared: whether two are the same, and whether no two of many are: their indexes are sorted, and the order is checked. Nothing is proved of the sort; where the check
 // does not hold, nothing is told.
 ghost use mathlib.Core.Path.{_≡_};
 ghost use mathlib.Core.Bool.{true};
 ghost use Prim.Native.Nat.{_+_, _*_, _<_, _≤_};
 ghost use lib.ListN.{length, getD, take, drop, set};
+ghost use Rattle.base.specs.Bytes.{same};
 ghost use Rattle.distinct.specs.Distinct.{distinct, runStart, runLength, runIn, runsIn, RightOf};
 ghost use Rattle.distinct.specs.Check.{ComparedAs, Placed, IndexesAs, RisesAs};
 
@@ -19,6 +20,13 @@ enum Compared {
     Less,
     Same,
     Other,
+}
+
+// Whether two runs of bytes are the same.
+pub fn equal(a: &[u8], b: &[u8]) -> bool
+    ensures { λ r. ⌜ r ≡ same (now (a .entry)) (now (b .entry)) ⌝ }
+{
+    check::same(a, b)
 }
 
 // ---- a run as one word: its start and its length, and above them a number by which most runs are sorted

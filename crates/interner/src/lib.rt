@@ -39,13 +39,6 @@ pub struct Taken {
     pub used: u64,
 }
 
-// Whether two runs of bytes are the same.
-fn equal(a: &[u8], b: &[u8]) -> bool
-    ensures { λ r. ⌜ r ≡ same (now (a .entry)) (now (b .entry)) ⌝ }
-{
-    check::same(a, b)
-}
-
 // Where the string of a handle lies.
 pub fn span_at(spans: &[u64], bytes: &[u8], h: usize) -> Span
     ensures { λ r. ⌜ r ≡ spanAt (now (spans .entry)) (now (bytes .entry)) h ⌝ }
@@ -84,7 +77,7 @@ pub fn is_at(spans: &[u64], bytes: &[u8], text: &[u8], h: usize) -> bool
         return false;
     };
     let end = start + len;
-    equal(text, &bytes[start..end])
+    distinct::equal(text, &bytes[start..end])
 }
 
 // The first handle from one on, of those that are held, whose string is the text. Handles past the spans have none.

@@ -1,6 +1,6 @@
 // Little-endian numbers in lent bytes, by one writer and one reader for every width.
 ghost use mathlib.Core.Path.{_≡_};
-ghost use Prim.Native.Nat.{_-_, _≤_, min};
+ghost use Prim.Native.Nat.{_-_, _≤_, _<_, min};
 ghost use Rattle.little.specs.Little.{le, valueAt, over};
 
 // The smaller of two sizes.
@@ -8,6 +8,16 @@ pub fn lesser(a: usize, b: usize) -> usize
     ensures { λ r. ⌜ r ≡ min a b ⌝ }
 {
     if a < b { a } else { b }
+}
+
+// A word in 32 bits; one that does not fit them becomes 0.
+pub fn narrow(word: u64) -> u32
+    ensures { λ r. ⌜ (word < 4294967296 → r ≡ word) ⌝ }
+{
+    if word < 4294967296 {
+        return word as u32;
+    }
+    0
 }
 
 // The low n bytes of a number over the start of what is lent, as far as there is room.

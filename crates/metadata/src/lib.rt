@@ -49,22 +49,22 @@ enum MetaName {
 fn meta_name(s: &[u8]) -> MetaName
     ensures { λ r. ⌜ r ≡ metaName (now (s .entry)) ⌝ }
 {
-    if scan::equal(s, b"version") {
+    if distinct::equal(s, b"version") {
         return MetaName::Version;
     }
-    if scan::equal(s, b"timestamp") {
+    if distinct::equal(s, b"timestamp") {
         return MetaName::Timestamp;
     }
-    if scan::equal(s, b"changeset") {
+    if distinct::equal(s, b"changeset") {
         return MetaName::Changeset;
     }
-    if scan::equal(s, b"uid") {
+    if distinct::equal(s, b"uid") {
         return MetaName::Uid;
     }
-    if scan::equal(s, b"user") {
+    if distinct::equal(s, b"user") {
         return MetaName::User;
     }
-    if scan::equal(s, b"visible") {
+    if distinct::equal(s, b"visible") {
         return MetaName::Visible;
     }
     MetaName::Other
@@ -152,7 +152,7 @@ fn with_visible(m: Metadata, t: &[u8], from: usize, to: usize) -> MetaField
     ensures { λ r. ⌜ Reads (now (t .entry)) (metaAs names.Visible (metaWritten (now (t .entry)) m) (valueText (slice from to (now (t .entry))))) r ⌝ }
 {
     let mut n = m;
-    if scan::equal(&t[from..to], b"false") {
+    if distinct::equal(&t[from..to], b"false") {
         n.flags = mark(mark(m.flags, 1), 2);
         return MetaField::Is(n);
     }

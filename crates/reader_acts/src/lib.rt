@@ -100,21 +100,11 @@ fn empty_len(kind: Kind) -> usize
     }
 }
 
-// A handle of sound storage fits; another becomes 0.
-fn narrow(handle: u64) -> u32
-    ensures { λ r. ⌜ (handle < 4294967296 → r ≡ handle) ⌝ }
-{
-    if handle < 0x1_0000_0000 {
-        return handle as u32;
-    }
-    0
-}
-
 fn begun_by(meta: Metadata, handle: Handle) -> Begun
     ensures { λ r. ⌜ ((line : Bytes) → HandleFits handle → r ≡ begunBy (metaWritten line meta) handle) ⌝ }
 {
     match handle {
-        Handle::Is(n) => Begun::With(arena_meta(meta, narrow(n))),
+        Handle::Is(n) => Begun::With(arena_meta(meta, little::narrow(n))),
         Handle::Refused(r) => Begun::Refused(r),
     }
 }

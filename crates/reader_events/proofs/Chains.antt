@@ -1,16 +1,16 @@
 -- The array of chains over a run: an event's texts are those before it and perhaps one more, so an array for the texts before it is one for those after it.
-use Prim.Native.Nat.{ℕ, zero, suc}
+use Prim.Native.Nat.{ℕ}
 use mathlib.Core.Path.{_≡_, refl, sym, _∙_, ap}
 use mathlib.Core.Bool.{Bool, true}
 use mathlib.Core.List.{List, [], _++_, append-nil}
 use native.Mathlib.Omega.{arith}
 use lib.Dec.{ltb}
-use lib.ListN.{getD, replicate}
+use lib.ListN.{replicate}
 use Rattle.base.specs.Bytes.{Bytes}
 use Rattle.interner.specs.Sound.{textsOf}
 use Rattle.interner.proofs.Held.{grown-all}
-use Rattle.text_index.specs.Index.{Indexed, IndexGiven}
-use Rattle.text_index.proofs.Index.{indexed-more}
+use Rattle.text_index.specs.Index.{IndexGiven}
+use Rattle.text_index.proofs.Index.{indexed-more, indexed-fresh}
 use Rattle.reader.specs.State.{State}
 use Rattle.reader.specs.Given.{StateGiven}
 use Rattle.reader.specs.Event.{EventResult, eventOn}
@@ -22,18 +22,10 @@ use Rattle.reader_events.proofs.Runs.{Running, given-on, byLine, point-
 
 -- ---- an array of zeros
 
-indexed-zeros : (ix : List ℕ) (texts : List Bytes) → ((i : ℕ) → getD ix i 0 ≡ 0) → Indexed ix texts
-indexed-zeros ix texts z = record { few = omega (arith, z 8192) }
-
-zeros : (n i : ℕ) → getD {A = ℕ} (replicate n 0) i 0 ≡ 0
-zeros zero i = refl
-zeros (suc n) zero = refl
-zeros (suc n) (suc i) = zeros n i
-
--- holds no handle, so it is one for the texts of any sound state
+-- it holds no handle, so it is one for the texts of any sound state
 pub zeros-given : (ix : List ℕ) (s : State) → ix ≡ replicate 8193 0 → RunGiven s → IndexGiven ix (s .overlay .texts)
 zeros-given ix s e w =
-    record { sound = texts-sound (s .overlay) (w .overlay); chains = indexed-zeros ix (textsOf (s .overlay .texts)) (rw e (zeros 8193)) }
+    record { sound = texts-sound (s .overlay) (w .overlay); chains = rw e (indexed-fresh (textsOf (s .overlay .texts))) }
 
 -- ---- an event
 

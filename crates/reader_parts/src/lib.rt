@@ -84,16 +84,6 @@ fn over_limit(spans: &[u64], bytes: &[u8], used: &[u64; 9], line: &[u8], text: E
 
 // ---- a part staged, and the element with it
 
-// A handle in 32 bits, where it fits them.
-fn narrow(handle: u64) -> u32
-    ensures { λ r. ⌜ (handle < 4294967296 → r ≡ handle) ⌝ }
-{
-    if handle < 4294967296 {
-        return handle as u32;
-    }
-    0
-}
-
 fn with_tag(parts: &mut [u8], pending: Pending, key: u64, value: &[u8]) -> Pending
     requires { ⌜ (pending .head .tags < 256) × (length (now value) ≤ 16384) ⌝ }
     ensures { λ r. ⌜ (key < 4294967296 → pending .used ≤ length (now (parts .entry))
@@ -101,7 +91,7 @@ fn with_tag(parts: &mut [u8], pending: Pending, key: u64, value: &[u8]) -> Pendi
         × (r ≡ pendingWith (moreTags (pending .head)) (tagPart key (now (value .entry))) pending)) ⌝ }
 {
     let used = little::lesser(pending.used, parts.len());
-    stage::stage_tag(parts, used, narrow(key), value);
+    stage::stage_tag(parts, used, little::narrow(key), value);
     let mut head = pending.head;
     head.tags += 1;
     let meta = pending.meta;
@@ -326,7 +316,7 @@ pub fn add_member(
                 let member = CompactMember {
                     reference,
                     kind: kind::kind_number(member_kind),
-                    role: narrow(handle),
+                    role: little::narrow(handle),
                 };
                 Added::Is(with_member(parts, kind, pending, member))
             }

@@ -90,16 +90,6 @@ fn kind_in(n: u64) -> Kind
     }
 }
 
-// A word in 32 bits, where it fits them.
-fn narrow(word: u64) -> u32
-    ensures { λ r. ⌜ (word < 4294967296 → r ≡ word) ⌝ }
-{
-    if word < 4294967296 {
-        return word as u32;
-    }
-    0
-}
-
 fn narrow_byte(word: u64) -> u8
     ensures { λ r. ⌜ (word < 256 → r ≡ word) ⌝ }
 {
@@ -114,10 +104,10 @@ fn head_in(words: &[u64; 19]) -> PushHead
 {
     PushHead {
         id: words[3],
-        lat: narrow(words[4]),
-        lon: narrow(words[5]),
-        count: narrow(words[6]),
-        tags: narrow(words[7]),
+        lat: little::narrow(words[4]),
+        lon: little::narrow(words[5]),
+        count: little::narrow(words[6]),
+        tags: little::narrow(words[7]),
     }
 }
 
@@ -126,11 +116,11 @@ fn meta_in(words: &[u64; 19]) -> ArenaMeta
 {
     ArenaMeta {
         flags: narrow_byte(words[8]),
-        version: narrow(words[9]),
+        version: little::narrow(words[9]),
         timestamp: words[10],
         changeset: words[11],
-        uid: narrow(words[12]),
-        user: narrow(words[13]),
+        uid: little::narrow(words[12]),
+        user: little::narrow(words[13]),
     }
 }
 
@@ -169,7 +159,7 @@ fn stop_in(number: u64, line: u64, held: u64) -> Stop
     if number == 0 {
         return Stop::Going;
     }
-    let refusal = refusal_in(number, narrow(held));
+    let refusal = refusal_in(number, little::narrow(held));
     Stop::At(refusal, line)
 }
 

@@ -41,13 +41,6 @@ pub enum Value {
     Missing,
 }
 
-// Whether two runs of bytes are the same.
-pub fn equal(a: &[u8], b: &[u8]) -> bool
-    ensures { λ r. ⌜ r ≡ same (now (a .entry)) (now (b .entry)) ⌝ }
-{
-    check::same(a, b)
-}
-
 // The first place of a byte from a place on, or the end.
 fn find(t: &[u8], at: usize, c: u8) -> usize
     ensures { λ r. ⌜ r ≡ at + upTo c (drop at (now (t .entry))) ⌝ }
@@ -114,7 +107,7 @@ pub fn value_at(t: &[u8], name: &[u8], at: usize) -> Value
         let Attribute::At { eq, to } = attribute_at(t, p) else {
             return Value::Missing;
         };
-        if equal(name, &t[p..eq]) {
+        if distinct::equal(name, &t[p..eq]) {
             return Value::At { from: eq + 1, to };
         }
         p = to + 1;
@@ -390,7 +383,7 @@ fn seen(t: &[u8], name: &[u8], starts: &[usize; 16], ends: &[usize; 16], n: usiz
     while i < n {
         let from = starts[i];
         let to = ends[i];
-        if equal(&t[from..to], name) {
+        if distinct::equal(&t[from..to], name) {
             return true;
         }
         i += 1;
@@ -485,10 +478,10 @@ fn alone(w: &[u8]) -> Scanned
     ensures { λ r. ⌜ means (now (w .entry)) r ≡ lone (now (w .entry)) ⌝ }
     ensures { λ r. ⌜ InBounds (now (w .entry)) r ⌝ }
 {
-    if equal(w, b"close") {
+    if distinct::equal(w, b"close") {
         return Scanned::Closes;
     }
-    if equal(w, b"other") {
+    if distinct::equal(w, b"other") {
         return Scanned::Others;
     }
     Scanned::Refused(Refusal::NotEventLine)
@@ -501,10 +494,10 @@ fn event(t: &[u8]) -> Scanned
 {
     let to = find(t, 0, b'\t');
     let w = &t[..to];
-    if equal(w, b"open") {
+    if distinct::equal(w, b"open") {
         return starts(t, false, to);
     }
-    if equal(w, b"empty") {
+    if distinct::equal(w, b"empty") {
         return starts(t, true, to);
     }
     if to < t.len() {

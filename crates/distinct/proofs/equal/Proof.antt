@@ -4,8 +4,8 @@ use Rattle.base.specs.Bytes.{same}
 use Rattle.base.proofs.Split.{same-test}
 use Rattle.base.proofs.Lists.{same-yes, same-refl}
 use borrow.Author.Needs.{needs}
-use Rattle.interner.proofs.equal.Statement.{statement}
-use Rattle.interner.proofs.equal.Tie as tie
+use Rattle.distinct.proofs.equal.Statement.{statement}
+use Rattle.distinct.proofs.equal.Tie as tie
 
 returns : tie.Need-returns
 returns c =
