@@ -1,5 +1,5 @@
-// Runs of bytes compared: whether two are the same, and whether no two of many are: their indexes are sorted, and the order is checked. Nothing is proved of the sort; where the check
-// does not hold, nothing is told.
+// Runs of bytes compared: whether two are the same, and whether no two of many are. For many their indexes are sorted, and the order is checked. Nothing is proved of the
+// sort; where the check does not hold, nothing is told.
 ghost use mathlib.Core.Path.{_≡_};
 ghost use mathlib.Core.Bool.{true};
 ghost use Prim.Native.Nat.{_+_, _*_, _<_, _≤_};

@@ -5,7 +5,7 @@ ghost use mathlib.Core.List.{[], _∷_};
 ghost use Prim.Native.Nat.{_+_, _-_, _*_, _≤_, _<_};
 ghost use lib.ListN.{length, take};
 ghost use lib.Dec.{leb};
-ghost use Rattle.base.specs.Bytes.{both, same};
+ghost use Rattle.base.specs.Bytes.{both};
 ghost use Rattle.little.specs.Little.{over};
 ghost use Rattle.distinct.specs.Distinct.{distinct, runsIn};
 ghost use Rattle.interner.specs.Strings.{spanAt, spanOf, isAt, findFrom, findIn, storeWith, storeAfter, textTaken, takenAs, intern};

@@ -5,7 +5,7 @@ ghost use Prim.Native.Nat.{_+_, _≤_, _<_, min};
 ghost use lib.Dec.{eqb};
 ghost use lib.ListN.{length, take, drop, set};
 ghost use lib.Seq.{slice};
-ghost use Rattle.base.specs.Bytes.{same, all, both};
+ghost use Rattle.base.specs.Bytes.{all, both};
 ghost use Rattle.base.specs.Chars.{horizontalTab, equalsSign};
 ghost use Rattle.line.specs.Line.{fields};
 ghost use Rattle.event.specs.Event.{body, legalLine, eventOf, eventFrom, startsFrom, attrOf, attrsOf, named, noneTwice};
