@@ -82,10 +82,6 @@ pub counts-fits : (id count tags : ℕ) → id < 2 ^ 64 → count < 2 ^ 32 → t
 unfolding fitsHead countsHead
 counts-fits id count tags f g h = both-of (i64-fits f) (both-of (number-fits 4 g) (number-fits 4 h))
 
-pub relation-bytes : (h : Head) → headBytes Relation h ≡ headBytes Way h
-unfolding headBytes
-relation-bytes h = refl
-
 pub relation-fits : (h : Head) → fitsHead Relation h ≡ fitsHead Way h
 unfolding fitsHead
 relation-fits h = refl

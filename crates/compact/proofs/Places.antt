@@ -2,7 +2,7 @@
 use Prim.Native.Nat.{ℕ, zero, suc, _+_, _-_, _<_, _≤_}
 use mathlib.Core.Path.{_≡_, refl, sym, _∙_, ap}
 use mathlib.Core.Option.{Option, none, some}
-use mathlib.Core.List.{List, [], _∷_}
+use mathlib.Core.List.{List, _∷_}
 use native.Mathlib.Omega.{arith}
 use lib.IntN.{ℤ, pos}
 use lib.ListN.{length, take, drop, length-drop, drop-of-length-le}
@@ -62,10 +62,6 @@ pub number-off : (n : ℕ) (s : Bytes) (c : Cut ℕ) → cutNumber n s ≡ some 
 unfolding cutNumber
 number-off n s c h =
     first (λ t r. Off s n r × (length t ≡ n)) (bytes-off n s) h (λ t r o e. of-cut (λ v q. Off s n q) e (o .0))
-
-pub i32-off : (s : Bytes) (c : Cut ℤ) → cutI32 s ≡ some c → Off s 4 (c .rest)
-unfolding cutI32
-i32-off s c h = first (λ v r. Off s 4 r) (number-off 4 s) h (λ v r o e. of-cut (λ z q. Off s 4 q) e o)
 
 pub i64-off : (s : Bytes) (c : Cut ℤ) → cutI64 s ≡ some c → Off s 8 (c .rest)
 unfolding cutI64

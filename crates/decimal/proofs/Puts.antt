@@ -1,7 +1,7 @@
 -- What a writer leaves: for the writers here, byte by byte; for their callers, by its answer.
 use Prim.Native.Nat.{ℕ, zero, suc, _+_, _-_, _/_, _%_, _^_, _<_, _≤_}
-use mathlib.Core.Path.{_≡_, refl, sym, _∙_, ap}
-use mathlib.Core.List.{[], _∷_, _++_}
+use mathlib.Core.Path.{_≡_, _∙_, ap}
+use mathlib.Core.List.{_∷_, _++_}
 use native.Mathlib.Nat.{suc-add, zero-add}
 use native.Mathlib.Omega.{arith}
 use lib.IntN.{negsuc}
@@ -11,7 +11,6 @@ use mir.Val.{toZ, bits, hbits}
 use mir.Facts.{toZ-pos}
 use borrow.Author.Tests.{le-leb, lt-leb, le-ltb}
 use Rattle.base.specs.Bytes.{Bytes}
-use Rattle.base.proofs.Split.{byLe, no}
 use Rattle.line.specs.Decimal.{numberText, integerText}
 use Rattle.little.specs.Little.{over}
 use Rattle.little.proofs.Overs.{over-here, over-later, over-nothing, over-step}
@@ -64,21 +63,6 @@ module _ (s t : Bytes) where
   module _ (left : Bytes) where
     pub whole : (n : ℕ) → n ≤ length s → n ≡ length t → left ≡ over s 0 t → _≡_ {A = Wrote} (record { bytes = left; answer = End n }) (putText s t)
     whole n h e f = rw (put-whole (rw e at h)) (cc)
-
-    -- what its answer says
-    pub at-end : (n : ℕ) → _≡_ {A = Wrote} (record { bytes = left; answer = End n }) (putText s t) → (n ≤ length s) × ((n ≡ length t) × (left ≡ over s 0 t))
-    at-end n e =
-        byLe (length t) (length s)
-        (λ h. let q : End n ≡ End (length t) = ap (λ (w : Wrote). w .answer) (e ∙ put-whole h) in
-        let m : n ≡ length t = cc in
-        (omega arith, (m, ap (λ (w : Wrote). w .bytes) (e ∙ put-whole h))))
-        (λ h. let q : End n ≡ Full = ap (λ (w : Wrote). w .answer) (e ∙ put-nothing h) in no (cc))
-
-    pub at-full : _≡_ {A = Wrote} (record { bytes = left; answer = Full }) (putText s t) → (length s < length t) × (left ≡ s)
-    at-full e =
-        byLe (length t) (length s)
-        (λ h. let q : Full ≡ End (length t) = ap (λ (w : Wrote). w .answer) (e ∙ put-whole h) in no (cc))
-        (λ h. (h, ap (λ (w : Wrote). w .bytes) (e ∙ put-nothing h)))
 
 -- ---- integers by their bits, at any width
 

@@ -3,7 +3,7 @@ use Prim.Native.Nat.{ℕ}
 use mathlib.Core.Path.{_≡_, refl, sym, _∙_, ap}
 use mathlib.Core.Bool.{Bool, true, false, not}
 use mathlib.Core.Option.{Option, none, some, Option·map}
-use mathlib.Core.List.{List, [], _∷_, _++_}
+use mathlib.Core.List.{List, _∷_, _++_}
 use native.Mathlib.Omega.{arith}
 use lib.Dec.{eqb}
 use borrow.Author.Tests.{ne-eqb}
@@ -18,7 +18,7 @@ use Rattle.text.proofs.Texts.{all-imp, text-ascii, text-cut}
 use Rattle.text.proofs.Theorem.{text-nil}
 use Rattle.line.specs.Line.{plainField, fields, tabbed}
 use Rattle.line.proofs.Lines.{lacks, lacks-head, lacks-tail, plain-nil, plain-cons, plain-lacks, fields-lack, tabbed-fields}
-use Rattle.event.specs.Event.{unended, body, legalLine}
+use Rattle.event.specs.Event.{unended, legalLine}
 use Rattle.event.specs.Legal.{legalField}
 
 -- ---- where a line ends
@@ -49,17 +49,6 @@ unended-some (b ∷ []) t e =
 unended-some (b ∷ d ∷ s) t e =
     let w = onto b (unended (d ∷ s)) t e in
     rw (w .whole) (ap (b ∷_) (unended-some (d ∷ s) (w .rest) (w .then)))
-
--- what is measured and judged: all but the line feed at the end, or all where it is missing
-pub body-ended : (t : Bytes) → body (t ++ (10 ∷ [])) ≡ t
-body-ended t = rw (unended-line t)
-
-pub body-open : (s : Bytes) → ((t : Bytes) → s ≡ t ++ (10 ∷ []) → ⊥) → body s ≡ s
-body-open s n = go (unended s) refl
-  where
-    go : (o : Option Bytes) → unended s ≡ o → body s ≡ s
-    go none p = rw p
-    go (some t) p = absurd (n t (unended-some s t p))
 
 -- ---- tests that hold of fields together exactly when they hold of each
 

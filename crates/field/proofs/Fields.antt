@@ -4,7 +4,7 @@ use mathlib.Core.Path.{_≡_, refl, sym, _∙_, ap}
 use mathlib.Core.Bool.{Bool, true, false, cond}
 use mathlib.Core.Logic.{_↔_, _⊎_, inl, inr, ⊎-elim}
 use mathlib.Core.Option.{Option, none, some}
-use mathlib.Core.List.{List, [], _∷_, List·Memᴰ, List·Memᴰ·head, List·Memᴰ·tail}
+use mathlib.Core.List.{List, _∷_, List·Memᴰ}
 use lib.Dec.{leb}
 use lib.IntN.{ℤ, natAbs}
 use mir.Syntax.{Width, w32, w64}
@@ -66,14 +66,6 @@ pub record Given (n : Bytes) (attrs : List Attr) (v : Bytes) : Type 0 where
   pub name : n ≡ attr .name
   pub value : attr .value ≡ v
 
-pub value-given : (n : Bytes) (attrs : List Attr) {v : Bytes} → valueOf n attrs ≡ some v → Given n attrs v
-unfolding valueOf
-value-given n [] e = no (cc)
-value-given n (a ∷ attrs) {v} e =
-    byBool (same n (a .name))
-    (λ t. let h : some (a .value) ≡ some v = rw t at e in record { attr = a; among = List·Memᴰ·head refl; name = same-yes n (a .name) t; value = cc })
-    (λ t. let g = value-given n attrs (rw t at e) in record { attr = g .attr; among = List·Memᴰ·tail (g .among); name = g .name; value = g .value })
-
 -- a name has no value exactly when no attribute has the name
 pub value-none : (n : Bytes) (attrs : List Attr) → (valueOf n attrs ≡ none) ↔ (named n attrs ≡ false)
 unfolding valueOf named
@@ -98,10 +90,6 @@ module _ (n : Bytes) (attrs : List Attr) where
   pub text-got : (v : Bytes) → (textField n attrs ≡ got v) ↔ (valueOf n attrs ≡ some v)
   unfolding textField
   text-got v = or-got Missing (valueOf n attrs) v
-
-  -- a text that is read is an attribute's value
-  pub text-given : {v : Bytes} → textField n attrs ≡ got v → Given n attrs v
-  text-given {v} e = value-given n attrs (text-got v .0 e)
 
   -- "7 missing"
   pub text-bad : (r : Refusal) → (textField n attrs ≡ bad r) ↔ ((valueOf n attrs ≡ none) × (r ≡ Missing))

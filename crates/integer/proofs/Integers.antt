@@ -3,7 +3,7 @@ use Prim.Native.Nat.{ℕ, zero, suc, _+_, _-_, _^_, _<_, _≤_}
 use mathlib.Core.Path.{_≡_, refl, _∙_, ap, subst}
 use mathlib.Core.Bool.{true, cond}
 use mathlib.Core.Option.{Option, none, some, Option·map}
-use mathlib.Core.List.{[], _∷_}
+use mathlib.Core.List.{_∷_}
 use native.Mathlib.Omega.{arith}
 use native.Mathlib.Nat.{pow-suc, pow-le-pow-right, lt-of-lt-of-le}
 use lib.Pow.{pow-pos}
@@ -145,11 +145,6 @@ read-of w s e f = rw (integer-of w s e f)
 -- back from the bits
 pub read-back : (w : Width) (s : Bytes) {b : ℕ} → integer s ≡ some (toZ w b) → Fits w b → readOf w s ≡ Is b
 read-back w s {b} e f = read-of w s e (toZ-fits w b f) ∙ ap Is (ofZ-toZ f)
-
--- a text that is no integer of the width has no answer
-pub read-none : (w : Width) (s : Bytes) → integerOf w s ≡ none → readOf w s ≡ Not
-unfolding readOf integerAnswer
-read-none w s e = rw e
 
 pub read-not : (w : Width) (s : Bytes) → readOf w s ≡ Not → integerOf w s ≡ none
 unfolding readOf integerAnswer

@@ -7,7 +7,7 @@ use native.Mathlib.Omega.{arith}
 use lib.ListN.{length, take, drop}
 use borrow.Author.Tests.{leb-true, le-leb, lt-leb}
 use Rattle.base.specs.Bytes.{Bytes, both, same}
-use Rattle.base.proofs.Split.{byBool, both-left, both-right, both-of, both-no-left, both-no-right, no}
+use Rattle.base.proofs.Split.{byBool, both-right, both-of, both-no-left, both-no-right, no}
 use Rattle.interner.specs.declared.Found.the-variants.{At, Not}
 use Rattle.interner.specs.declared.Span.the-variants.{Part, Missing}
 use Rattle.interner.specs.Strings.{startOf, lengthOf, spanned, spanAt, isAt, findFrom}
@@ -18,10 +18,6 @@ module _ (spans : List ℕ) (bytes : Bytes) where
   pub spanned-yes : (h : ℕ) → 2 * h + 2 ≤ length spans → startOf spans h + lengthOf spans h ≤ length bytes → spanned spans bytes h ≡ true
   unfolding spanned
   spanned-yes h p q = both-of (le-leb _ _ p) (le-leb _ _ q)
-
-  pub spanned-words : (h : ℕ) → spanned spans bytes h ≡ true → 2 * h + 2 ≤ length spans
-  unfolding spanned
-  spanned-words h e = leb-true _ _ (both-left _ _ e)
 
   pub spanned-bytes : (h : ℕ) → spanned spans bytes h ≡ true → startOf spans h + lengthOf spans h ≤ length bytes
   unfolding spanned
@@ -90,7 +86,3 @@ module _ (spans : List ℕ) (bytes : Bytes) where
     pub find-past : (n h : ℕ) → length spans < 2 * h + 2 → findFrom spans bytes t n h ≡ Not
     find-past zero h p = find-none h
     find-past (suc n) h p = find-on n h (at-missing t h (sym (missing h (no-words h p)))) ∙ find-past n (suc h) (omega arith)
-
-    pub find-nowhere : (n h : ℕ) → ((j : ℕ) → h ≤ j → j < h + n → isAt spans bytes t j ≡ false) → findFrom spans bytes t n h ≡ Not
-    find-nowhere zero h f = find-none h
-    find-nowhere (suc n) h f = find-on n h (f h (omega arith) (omega arith)) ∙ find-nowhere n (suc h) (λ j a b. f j (omega arith) (omega arith))

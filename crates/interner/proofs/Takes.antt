@@ -6,9 +6,9 @@ use mathlib.Core.List.{List}
 use native.Mathlib.Omega.{arith}
 use lib.ListN.{length, take}
 use lib.Seq.{take-all}
-use borrow.Author.Tests.{leb-true, le-leb}
+use borrow.Author.Tests.{leb-true}
 use Rattle.base.specs.Bytes.{Bytes}
-use Rattle.base.proofs.Split.{byLe, both-left, both-right, both-of}
+use Rattle.base.proofs.Split.{byLe, both-left, both-right}
 use Rattle.interner.specs.declared.Found.the-variants.{At, Not}
 use Rattle.interner.specs.declared.Interned.the-variants.{Held, Full}
 use Rattle.interner.specs.Strings.{findIn, Store, usedOf, textRoom, textTaken, takenAs, intern}
@@ -33,10 +33,6 @@ module _ (s : Store) (t : Bytes) where
   pub room-bytes : textRoom s t ≡ true → s .used + length t ≤ length (s .bytes)
   unfolding textRoom
   room-bytes e = leb-true _ _ (both-right _ _ e)
-
-  pub room-yes : 2 * (s .strings) + 2 ≤ length (s .spans) → s .used + length t ≤ length (s .bytes) → textRoom s t ≡ true
-  unfolding textRoom
-  room-yes p q = both-of (le-leb _ _ p) (le-leb _ _ q)
 
 -- as many elements as there are, at most
 pub take-min : {A : Type 0} (n : ℕ) (l : List A) → take (min n (length l)) l ≡ take n l

@@ -3,7 +3,7 @@ use Prim.Native.Nat.{ℕ, zero, suc, _+_, _/_, _%_, _<_, _≤_}
 use mathlib.Core.Path.{_≡_, refl, sym, _∙_, ap}
 use mathlib.Core.Bool.{true, false}
 use mathlib.Core.Option.{none, some}
-use mathlib.Core.List.{[], _∷_}
+use mathlib.Core.List.{_∷_}
 use native.Mathlib.Omega.{arith}
 use lib.IntN.{ℤ, pos, negsuc}
 use lib.ListN.{length, getD}
@@ -141,8 +141,3 @@ pub integer-plain : (z : ℤ) → plainField (integerText z) ≡ true
 unfolding integerText breaks either
 integer-plain (pos n) = number-plain n
 integer-plain (negsuc n) = plain-cons 45 (numberText (suc n)) refl (number-plain (suc n))
-
-pub integer-some : (z : ℤ) → 0 < length (integerText z)
-unfolding integerText
-integer-some (pos n) = number-some n
-integer-some (negsuc n) = omega arith

@@ -2,7 +2,7 @@
 use Prim.Native.Nat.{ℕ}
 use mathlib.Core.Path.{_≡_, refl, sym, _∙_, ap}
 use mathlib.Core.Bool.{Bool, true, false, not}
-use mathlib.Core.List.{List, [], _∷_, _++_, append-assoc, cons≢nil}
+use mathlib.Core.List.{List, _∷_, _++_, append-assoc, cons≢nil}
 use native.Mathlib.Omega.{arith}
 use lib.Dec.{eqb}
 use borrow.Author.Tests.{eqb-false, eq-eqb, ne-eqb, not-true}
@@ -56,10 +56,6 @@ plain-nil = all-nil _
 pub plain-cons : (b : ℕ) (f : Bytes) → breaks b ≡ false → plainField f ≡ true → plainField (b ∷ f) ≡ true
 unfolding plainField
 plain-cons b f n h = all-cons _ b f (rw n) h
-
-pub plain-append : (f g : Bytes) → plainField f ≡ true → plainField g ≡ true → plainField (f ++ g) ≡ true
-unfolding plainField
-plain-append f g h k = all-append _ f g h k
 
 -- a plain field lacks each byte that breaks a line: tab, line feed, carriage return
 pub plain-lacks : (c : ℕ) → breaks c ≡ true → (f : Bytes) → plainField f ≡ true → lacks c f ≡ true

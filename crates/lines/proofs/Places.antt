@@ -1,7 +1,7 @@
 -- Lines where they lie: where the next one ends, byte by byte, what lies up to there, and what is kept.
 use Prim.Native.Nat.{ℕ, zero, suc, _+_, _-_, _<_, _≤_, min}
 use mathlib.Core.Path.{_≡_, refl, sym, _∙_, ap}
-use mathlib.Core.List.{List, [], _∷_, _++_, append-assoc, flatten}
+use mathlib.Core.List.{List, _∷_, _++_, append-assoc, flatten}
 use mathlib.Core.Logic.{inl}
 use native.Mathlib.Nat.{suc-add, zero-add}
 use native.Mathlib.Numerals.{add-one}
@@ -11,7 +11,7 @@ use lib.Seq.{slice, drop-cons, drop-drop, take-nil, take-append-seam, drop-appen
 use Rattle.base.specs.Bytes.{Bytes}
 use Rattle.base.proofs.Split.{no}
 use Rattle.little.specs.Little.{over}
-use Rattle.little.proofs.Overs.{Writing, begun, stored, written, over-start}
+use Rattle.little.proofs.Overs.{Writing, begun, stored, written}
 use Rattle.lines.specs.Lines.{ontoFirst, linesOf, restOf}
 use Rattle.lines.specs.Place.{behindFirst, lineEnd, Front, keepRest}
 use Rattle.lines.specs.declared.LineEnd.the-variants.{At, None}
@@ -132,8 +132,3 @@ module _ {s₀ : Bytes} {from to : ℕ} where
       let e : n ≡ length t = omega arith in
       let q : s ≡ over s₀ 0 t = written s n (drop n t) (w .writing) (inl (drop-of-length-le t {i = n} (omega arith))) in
       cc
-
--- and stand at the front, the bytes behind them as they were
-pub kept-front : (s : Bytes) (from to : ℕ) → let k = keepRest s from to in k .buffer ≡ slice from to s ++ drop (k .kept) s
-unfolding keepRest
-kept-front s from to = over-start s (slice from to s) (omega (arith, length-part from to s))

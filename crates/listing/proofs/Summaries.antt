@@ -3,7 +3,7 @@ use Prim.Native.Nat.{ℕ, zero, suc, _*_, _^_, _<_, _≤_}
 use mathlib.Core.Path.{_≡_, refl, sym, _∙_, ap, subst}
 use mathlib.Core.Bool.{Bool, true, false}
 use mathlib.Core.Option.{Option, none, some, Option·map}
-use mathlib.Core.List.{List, [], _∷_, _++_, map}
+use mathlib.Core.List.{List, _∷_, _++_, map}
 use native.Mathlib.Omega.{arith}
 use lib.Dec.{ltb, eqb}
 use lib.IntN.{ℤ}
@@ -224,10 +224,6 @@ rows-ranked : (ws : List ℕ) → ((i : ℕ) → getD ws i 0 < 2 ^ 64) → (i n 
 unfolding rowsFrom isRank
 rows-ranked ws h i zero = all-nil isRank
 rows-ranked ws h i (suc n) = all-cons isRank (rowAt ws i) (rowsFrom ws (suc i) n) (lt-ltb _ _ (h (3 * i))) (rows-ranked ws h (suc i) n)
-
-pub ranked-lent : (o : Overlay) → ((k : Kind) (i : ℕ) → getD (kindStoreOf k o .table) i 0 < 2 ^ 64) → Ranked o
-unfolding rowsOf
-ranked-lent o h = record { rows = λ k. rows-ranked (kindStoreOf k o .table) (h k) 0 (kindStoreOf k o .ids) }
 
 all-put : (p : table.Row → Bool) (n : table.Row) (rs : List table.Row) → p n ≡ true → all p rs ≡ true → all p (Rows.put n rs) ≡ true
 unfolding Rows.put

@@ -2,7 +2,7 @@
 use Prim.Native.Nat.{ℕ, zero, suc, _+_, _-_, _*_, _/_, _%_, _^_, _≤_, _<_, min}
 use mathlib.Core.Path.{_≡_, refl, sym, _∙_, ap}
 use mathlib.Core.Bool.{true}
-use mathlib.Core.List.{[], _∷_}
+use mathlib.Core.List.{_∷_}
 use native.Mathlib.Nat.{mod-eq-of-lt, pow-suc, pow-le-pow-right, one-le-pow}
 use native.Mathlib.Omega.{arith}
 use lib.Arith.{mod-mul}
@@ -11,8 +11,7 @@ use lib.Seq.{drop-cons, getD-take, getD-drop}
 use borrow.Author.Tests.{ltb-true, lt-ltb}
 use Rattle.base.specs.Bytes.{Bytes, all}
 use Rattle.base.proofs.Lists.{all-nil, all-cons, all-head, all-tail, all-left, all-right}
-use Rattle.little.specs.Little.{isByte, le, value, valueAt, over}
-use Rattle.little.proofs.Overs.{read-back, read-part}
+use Rattle.little.specs.Little.{isByte, le, value, valueAt}
 
 -- ---- bytes
 
@@ -110,18 +109,6 @@ le-injective n v w h g e = sym (value-back n v h) ∙ (ap value e ∙ value-back
 pub valueAt-within : (n : ℕ) (s : Bytes) (at : ℕ) → all isByte s ≡ true → valueAt n s at < 256 ^ n
 unfolding valueAt
 valueAt-within n s at h = value-within (take n (drop at s)) n (bytes-take n (drop at s) (bytes-drop at s h)) (omega (arith, length-take n (drop at s)))
-
--- a number that was written is read
-pub valueAt-le : (n : ℕ) (s : Bytes) (at v : ℕ) → at + n ≤ length s → v < 256 ^ n → valueAt n (over s at (le n v)) at ≡ v
-unfolding valueAt
-valueAt-le n s at v h g =
-    let r : take n (drop at (over s at (le n v))) ≡ le n v = rw length-le at (read-back s at (le n v) (rw length-le h)) in
-    rw r (value-back n v g)
-
--- a number read within what was written
-pub valueAt-over : (n : ℕ) (s : Bytes) (at : ℕ) (t : Bytes) (k : ℕ) → at + length t ≤ length s → k + n ≤ length t → valueAt n (over s at t) (at + k) ≡ valueAt n t k
-unfolding valueAt
-valueAt-over n s at t k h g = ap value (read-part s at t k n h g)
 
 -- ---- a reader on its way down: it has read the bytes from i on
 

@@ -1,7 +1,7 @@
 -- Laws of bytes over others: what `over` changes, what it leaves, and how writers go on one after another.
 use Prim.Native.Nat.{ℕ, zero, suc, _+_, _-_, _≤_, _<_}
 use mathlib.Core.Path.{_≡_, refl, sym, _∙_, ap}
-use mathlib.Core.List.{[], _∷_, _++_, append-nil, append-assoc}
+use mathlib.Core.List.{_∷_, _++_, append-nil, append-assoc}
 use native.Mathlib.Nat.{suc-add, zero-add, add-zero}
 use native.Mathlib.Omega.{arith}
 use mathlib.Core.Logic.{_⊎_, ⊎-elim}
@@ -64,14 +64,6 @@ getD-before [] at t i d h = rw over-none
 getD-before (x ∷ s) zero t i d h = absurd (omega arith)
 getD-before (x ∷ s) (suc at) t zero d h = rw over-later
 getD-before (x ∷ s) (suc at) t (suc i) d h = rw over-later (getD-before s at t i d (omega arith))
-
-pub getD-after : (s : Bytes) (at : ℕ) (t : Bytes) (i d : ℕ) → at + length t ≤ i → getD (over s at t) i d ≡ getD s i d
-getD-after [] at t i d h = rw over-none
-getD-after (x ∷ s) zero [] i d h = rw over-nothing
-getD-after (x ∷ s) zero (b ∷ t) zero d h = absurd (omega arith)
-getD-after (x ∷ s) zero (b ∷ t) (suc i) d h = rw over-here (getD-after s 0 t i d (omega arith))
-getD-after (x ∷ s) (suc at) t zero d h = absurd (omega arith)
-getD-after (x ∷ s) (suc at) t (suc i) d h = rw over-later (getD-after s at t i d (omega arith))
 
 -- ---- what it changes
 

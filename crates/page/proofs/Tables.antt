@@ -2,7 +2,7 @@
 use mathlib.Core.Path.{_≡_, refl, sym, _∙_, ap}
 use mathlib.Core.Bool.{true, cond}
 use mathlib.Core.Option.{Option, none, some, Option·map}
-use mathlib.Core.List.{List, [], _∷_, _++_}
+use mathlib.Core.List.{List, _∷_, _++_}
 use Rattle.base.specs.Bytes.{Bytes}
 use Rattle.base.proofs.Split.{clash, no}
 use Rattle.base.proofs.Strict.{byOrder, asymmetric}
@@ -235,10 +235,6 @@ known-append x [] bcts k = refl
 known-append x (a ∷ acts) bcts k = known-append (cond (sameKey k (keyOf a)) (learn a x) x) acts bcts k
 
 module _ (acts : List (Act Bytes)) (a : Act Bytes) where
-  pub summary-more : summary (acts ++ (a ∷ [])) ≡ putRow (rowAfter a (findKey (keyOf a) (summary acts))) (summary acts)
-  unfolding summary summaryFrom
-  summary-more = summary-append [] acts (a ∷ [])
-
   pub known-more : (k : Key) → known (acts ++ (a ∷ [])) k ≡ cond (sameKey k (keyOf a)) (learn a (known acts k)) (known acts k)
   unfolding known knownFrom
   known-more k = known-append nothing acts (a ∷ []) k

@@ -1,7 +1,7 @@
 -- Laws of printing: piece after piece, lent no bytes, lent the output, and the pieces of a line.
 use Prim.Native.Nat.{ℕ, _+_, _-_, _≤_, _<_}
 use mathlib.Core.Path.{_≡_, refl, sym, _∙_, ap}
-use mathlib.Core.List.{List, [], _∷_, _++_, append-assoc, append-nil}
+use mathlib.Core.List.{List, _∷_, _++_, append-assoc, append-nil}
 use native.Mathlib.Omega.{arith}
 use lib.ListN.{length, length-append}
 use borrow.Author.Tests.{le-leb, lt-leb}
@@ -93,24 +93,10 @@ module _ (cap : ℕ) (x out : Bytes) where
 
 -- ---- pieces one after the other
 
-pub print-none : (cap : ℕ) (p : Printed) → print cap [] p ≡ p
-unfolding print
-print-none cap p = refl
-
-pub print-more : (cap : ℕ) (x : Bytes) (xs : List Bytes) (p : Printed) → print cap (x ∷ xs) p ≡ print cap xs (printStep cap x p)
-unfolding print
-print-more cap x xs p = refl
-
 pub print-append : (cap : ℕ) (xs ys : List Bytes) (p : Printed) → print cap (xs ++ ys) p ≡ print cap ys (print cap xs p)
 unfolding print
 print-append cap [] ys p = refl
 print-append cap (x ∷ xs) ys p = print-append cap xs ys (printStep cap x p)
-
--- once a piece did not fit, nothing more is written
-pub print-full : (cap : ℕ) (xs : List Bytes) (out : Bytes) → print cap xs (record { out = out; room = Full }) ≡ record { out = out; room = Full }
-unfolding print
-print-full cap [] out = refl
-print-full cap (x ∷ xs) out = rw (step-full cap x out) (print-full cap xs out)
 
 pub length-print : (cap : ℕ) (xs : List Bytes) (p : Printed) → length (print cap xs p .out) ≡ length (p .out)
 unfolding print
@@ -143,14 +129,6 @@ unfolding print joinedPieces
 measured cap [] room = rw behind-nothing
 measured cap (x ∷ xs) room = rw (step-none cap x room, measured cap xs (behind room (length x)), behind-both, length-append)
 
-pub measured-fits : (cap : ℕ) (xs : List Bytes) (r : ℕ) → length (joinedPieces xs) ≤ r
-    → print cap xs (record { out = []; room = Left r }) ≡ record { out = []; room = Left (r - length (joinedPieces xs)) }
-measured-fits cap xs r h = rw (measured cap xs (Left r), behind-fits r (length (joinedPieces xs)) h)
-
-pub measured-full : (cap : ℕ) (xs : List Bytes) (r : ℕ) → r < length (joinedPieces xs)
-    → print cap xs (record { out = []; room = Left r }) ≡ record { out = []; room = Full }
-measured-full cap xs r h = rw (measured cap xs (Left r), behind-past r (length (joinedPieces xs)) h)
-
 -- ---- lent the output: what fits is written
 
 written-of : (cap : ℕ) (xs : List Bytes) (out : Bytes) (r : ℕ) → cap ≡ length out → length (joinedPieces xs) ≤ r → r ≤ cap
@@ -172,22 +150,10 @@ written xs out r h g = written-of (length out) xs out r refl h g
 
 -- ---- the pieces of a line
 
-pub tabs-none : tabs [] ≡ []
-unfolding tabs
-tabs-none = refl
-
-pub tabs-more : (f : Bytes) (fs : List Bytes) → tabs (f ∷ fs) ≡ tab ∷ f ∷ tabs fs
-unfolding tabs
-tabs-more f fs = refl
-
 pub tabs-append : (fs gs : List Bytes) → tabs (fs ++ gs) ≡ tabs fs ++ tabs gs
 unfolding tabs
 tabs-append [] gs = refl
 tabs-append (f ∷ fs) gs = ap (λ (t : List Bytes). tab ∷ f ∷ t) (tabs-append fs gs)
-
-pub line-parts : (f : Bytes) (fs : List Bytes) → linePieces (f ∷ fs) ≡ f ∷ (tabs fs ++ ((10 ∷ []) ∷ []))
-unfolding linePieces
-line-parts f fs = refl
 
 joined-tabs : (f : Bytes) (fs : List Bytes) → f ++ joinedPieces (tabs fs) ≡ tabbed (f ∷ fs)
 unfolding joinedPieces tabs tabbed

@@ -1,17 +1,15 @@
 -- Lines up to the first that is refused: those of one list behind another, and what a caller who streams keeps.
-use Prim.Native.Nat.{ℕ, _+_, _≤_}
+use Prim.Native.Nat.{ℕ, _+_}
 use mathlib.Core.Path.{_≡_, refl, sym, _∙_, ap}
-use mathlib.Core.List.{List, [], _∷_, _++_, append-assoc, flatten}
-use native.Mathlib.Omega.{arith}
-use lib.ListN.{length, take, drop, length-append}
+use mathlib.Core.List.{List, _∷_, _++_, flatten}
+use lib.ListN.{length, drop, length-append}
 use lib.Seq.{drop-append-seam}
 use Rattle.base.specs.Bytes.{Bytes}
 use Rattle.base.proofs.Split.{no}
 use Rattle.refusal.specs.declared.Refusal.{Refusal}
 use Rattle.lines.specs.Lines.{linesOf, restOf}
-use Rattle.lines.proofs.Lines.{lines-joined, lines-append}
+use Rattle.lines.proofs.Lines.{lines-joined}
 use Rattle.reader.specs.State.{State}
-use Rattle.reader.specs.declared.EventAnswer.{EventAnswer}
 use Rattle.reader.specs.declared.EventAnswer.the-variants as E
 use Rattle.reader.specs.Event.{EventResult, eventOn}
 use Rattle.reader.proofs.Answers.{byAnswer}
@@ -74,15 +72,6 @@ taken-all (l ∷ ls) s e =
     taken-on l ls s a ∙ (ap (length l +_) (taken-all ls (eventOn l s .state) (sym w ∙ e)) ∙ sym (length-append l (flatten ls))))
     (λ r n a. let z = sym (ap (λ (z : EventResult). z .answer) (events-off l ls s r n a)) ∙ e in no (cc))
 
--- never more than there are
-pub taken-within : (ls : List Bytes) (s : State) → takenBytes ls s ≤ length (flatten ls)
-unfolding flatten
-taken-within [] s = omega (arith, taken-none s)
-taken-within (l ∷ ls) s =
-    byAnswer (eventOn l s .answer)
-    (λ a. omega (arith, taken-on l ls s a, taken-within ls (eventOn l s .state), length-append l (flatten ls)))
-    (λ r n a. omega (arith, taken-off l ls s r n a))
-
 -- where one is refused, those before it: they are accepted, and its event is the last
 pub record RefusedLine (ls : List Bytes) (s : State) : Type 0 where
   pub before : List Bytes
@@ -93,51 +82,12 @@ pub record RefusedLine (ls : List Bytes) (s : State) : Type 0 where
   pub bytes : takenBytes ls s ≡ length (flatten before)
   pub last : eventsOn ls s ≡ eventOn line (eventsOn before s .state)
 
-pub taken-before : (ls : List Bytes) (s : State) (r : Refusal) (n : ℕ) → eventsOn ls s .answer ≡ E.Refused r n → RefusedLine ls s
-unfolding flatten
-taken-before [] s r n e = let z = sym (ap (λ (z : EventResult). z .answer) (events-none s)) ∙ e in no (cc)
-taken-before (l ∷ ls) s r n e =
-    byAnswer (eventOn l s .answer)
-    (λ a. let w = events-on l ls s a in
-    let q = taken-before ls (eventOn l s .state) r n (sym (ap (λ (z : EventResult). z .answer) w) ∙ e) in
-    let k = events-on l (q .before) s a in
-    record {
-      before = l ∷ q .before;
-      line = q .line;
-      behind = q .behind;
-      are = ap (l ∷_) (q .are);
-      accepted = ap (λ (z : EventResult). z .answer) k ∙ q .accepted;
-      bytes = taken-on l ls s a ∙ (ap (length l +_) (q .bytes) ∙ sym (length-append l (flatten (q .before))));
-      last = w ∙ (q .last ∙ ap (λ (z : EventResult). eventOn (q .line) (z .state)) (sym k));
-    })
-    (λ x m a. let k = events-none s in
-    record {
-      before = [];
-      line = l;
-      behind = ls;
-      are = refl;
-      accepted = ap (λ (z : EventResult). z .answer) k;
-      bytes = taken-off l ls s x m a;
-      last = events-off l ls s x m a ∙ ((λ i. record { state = eventOn l s .state; answer = sym a i }) ∙ ap (λ (z : EventResult). eventOn l (z .state)) (sym k));
-    })
-
 -- ---- a run that a caller reads piece by piece
 
 module _ (run : Bytes) (s : State) where
-  pub run-within : takenBytes (linesOf run) s ≤ length run
-  run-within = omega (arith, taken-within (linesOf run) s, length-append (flatten (linesOf run)) (restOf run), ap length (lines-joined run))
-
   module _ (a : eventsOn (linesOf run) s .answer ≡ E.Accepted) where
     -- behind the bytes that were taken lies the unfinished line
     pub run-rest : drop (takenBytes (linesOf run) s) run ≡ restOf run
     run-rest =
         rw (taken-all (linesOf run) s a)
         (ap (drop (length (flatten (linesOf run)))) (sym (lines-joined run)) ∙ drop-append-seam (flatten (linesOf run)) (restOf run))
-
-    -- so what follows is fed after it, and comes to what the whole comes to
-    pub run-more : (next : Bytes) → eventsOn (linesOf (run ++ next)) s ≡ eventsOn (linesOf (drop (takenBytes (linesOf run) s) run ++ next)) (eventsOn (linesOf run) s .state)
-    run-more next = rw (lines-append run next, run-rest) (events-more (linesOf run) (linesOf (restOf run ++ next)) s a)
-
-  -- after a refusal nothing that follows is looked at
-  pub run-enough : (r : Refusal) (n : ℕ) → eventsOn (linesOf run) s .answer ≡ E.Refused r n → (next : Bytes) → eventsOn (linesOf (run ++ next)) s ≡ eventsOn (linesOf run) s
-  run-enough r n e next = rw (lines-append run next) (events-enough (linesOf run) (linesOf (restOf run ++ next)) s r n e)

@@ -2,7 +2,7 @@
 use Prim.Native.Nat.{ℕ, _<_}
 use mathlib.Core.Path.{_≡_, refl, sym, _∙_, ap}
 use mathlib.Core.Bool.{true}
-use mathlib.Core.List.{[], _∷_, _++_, append-assoc}
+use mathlib.Core.List.{_∷_, _++_, append-assoc}
 use mathlib.Core.Logic.{_↔_}
 use native.Mathlib.Omega.{arith}
 use lib.IntN.{pos}
@@ -16,9 +16,9 @@ use Rattle.text.specs.Escape.{breaks}
 use Rattle.refusal.specs.Refusal.{numberOf, heldOf}
 use Rattle.refusal.specs.declared.Refusal.{Refusal}
 use Rattle.refusal.specs.declared.Refusal.the-variants.{Size, LongLine, NotText, NotEventLine, Misplaced, OutsideSection, Missing, NotInteger, NotTimestamp, CoordinateRange, MemberType, Regression, StringsFull, IdsFull, ArenaFull, TooManyParts, BadRecord, Unfinished, ShortOutput, NotInOrder, NoSuchNumber, Unsound}
-use Rattle.line.specs.Line.{plainField, fields, tabbed, line}
+use Rattle.line.specs.Line.{plainField, tabbed, line}
 use Rattle.line.specs.Decimal.{digitsBefore, numberText, integerText}
-use Rattle.line.proofs.Lines.{fields-line, line-code}
+use Rattle.line.proofs.Lines.{line-code}
 use Rattle.line.proofs.Decimals.{number-plain, number-injective, integer-plain, integer-injective, never-alone}
 use Rattle.kind.specs.declared.Kind.{Kind}
 use Rattle.kind.specs.declared.Kind.the-variants.{Node, Way, Relation}
@@ -94,10 +94,6 @@ module _ (r : Refusal) (n : ℕ) where
       (all-cons plainField _ _ (number-plain (numberOf r))
       (all-cons plainField _ _ (number-plain n)
       (all-cons plainField _ _ (held-plain r) (all-nil plainField))))
-
-  -- its four fields are read back
-  pub refused-fields : fields (tabbed (refusedFields r n)) ≡ refusedFields r n
-  refused-fields = fields-line (ascii "refused") (numberText (numberOf r) ∷ numberText n ∷ heldField r ∷ []) fields-plain
 
 -- number, held version and line are told from it, whatever follows, and so is where it ends
 pub refused-told : (r s : Refusal) (m n : ℕ) (x y : Bytes) → refusedLine r m ++ x ≡ refusedLine s n ++ y

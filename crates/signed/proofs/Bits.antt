@@ -49,10 +49,6 @@ module _ (w : Width) where
     pub of-high : 2 ^ hbits w ≤ ofZ w z → z ≡ negsuc (2 ^ bits w - suc (ofZ w z))
     of-high h = sym (toZ-ofZ f) ∙ rw (le-ltb (ofZ w z) (2 ^ hbits w) h)
 
-  -- two numbers with the same bits are the same
-  pub ofZ-inj : {a b : ℤ} → SFits w a → SFits w b → ofZ w a ≡ ofZ w b → a ≡ b
-  ofZ-inj f g e = sym (toZ-ofZ f) ∙ ap (toZ w) e ∙ toZ-ofZ g
-
   -- of a number in a field its bound is known: it is what is read back from its bits, and so a test of two such numbers is a test of them
   pub held : (z : ℤ) → mag z < 2 ^ hbits w → toZ w (ofZ w z) ≡ z
   held z h = toZ-ofZ (record { sfits = h })

@@ -2,7 +2,7 @@
 use Prim.Native.Nat.{ℕ, _+_, _*_, _≤_}
 use mathlib.Core.Path.{_≡_, refl, sym, _∙_, ap}
 use mathlib.Core.Bool.{true}
-use mathlib.Core.List.{List, [], _∷_, _++_, append-nil, append-assoc}
+use mathlib.Core.List.{List, _∷_, _++_, append-nil, append-assoc}
 use native.Mathlib.Omega.{arith}
 use native.Mathlib.Nat.{zero-add}
 use lib.Dec.{leb}
@@ -26,9 +26,6 @@ use Rattle.compact.proofs.Lengths.{length-i64, length-member, length-tag, lengt
 use Rattle.stage.specs.Stage.{insertedAt, staged, refPart, memberPart, tagPart}
 
 -- ---- the bytes of a part are those of its record
-
-pub ref-part : (z : ℤ) → refPart (ofZ w64 z) ≡ i64 z
-ref-part z = refl
 
 -- a member in bits
 abbrev pub inBits : Member ℕ → CompactMember

@@ -136,10 +136,6 @@ pub stamp-of : (s : Bytes) {z : ℤ} → stamp s ≡ some z → stampOf s ≡ At
 unfolding stampOf stampAnswer
 stamp-of s e = rw e
 
-pub stamp-none : (s : Bytes) → stamp s ≡ none → stampOf s ≡ Not
-unfolding stampOf stampAnswer
-stamp-none s e = rw e
-
 pub stamp-not : (s : Bytes) → stampOf s ≡ Not → stamp s ≡ none
 unfolding stampOf stampAnswer
 stamp-not s e = go (stamp s) e

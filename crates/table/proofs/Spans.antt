@@ -1,7 +1,7 @@
 -- Rows and the words that hold them: one from the other, and parts of the one as parts of the other.
 use Prim.Native.Nat.{ℕ, zero, suc, _+_, _*_, _-_, _<_, _≤_}
 use mathlib.Core.Path.{_≡_, refl, sym, _∙_, ap}
-use mathlib.Core.List.{List, [], _∷_, _++_, append-assoc}
+use mathlib.Core.List.{List, _∷_, _++_, append-assoc}
 use native.Mathlib.Omega.{arith}
 use lib.ListN.{length, getD, take, drop, length-append, length-take, length-drop, take-append-drop}
 use lib.Seq.{take-take, take-nil, drop-nil, drop-append-le, length-take-le, slice}
@@ -63,12 +63,6 @@ words-rows (a ∷ b ∷ []) (suc n) h = absurd (omega arith)
 words-rows (a ∷ b ∷ c ∷ ws) (suc n) h =
     let e : 3 * suc n ≡ suc (suc (suc (3 * n))) = omega arith in
     rw (e, from-shift a b c ws 0 n) (ap (λ t. a ∷ b ∷ c ∷ t) (words-rows ws n (omega arith)))
-
--- words that start with the same 3 * n words hold the same n rows
-pub rows-same : (ws vs : List ℕ) (n : ℕ) → 3 * n ≤ length ws → take (3 * n) ws ≡ take (3 * n) vs → rowsOf ws n ≡ rowsOf vs n
-rows-same ws vs n h e =
-    let x : vs ≡ wordsOf (rowsOf ws n) ++ drop (3 * n) vs = rw (words-rows ws n h, e) (sym (take-append-drop (3 * n) vs)) in
-    sym (ap (λ l. rowsOf l n) x ∙ rows-words (rowsOf ws n) (drop (3 * n) vs) n (rows-length ws n))
 
 pub words-append : (rs ss : List Row) → wordsOf (rs ++ ss) ≡ wordsOf rs ++ wordsOf ss
 unfolding wordsOf

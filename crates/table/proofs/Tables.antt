@@ -5,8 +5,7 @@ use mathlib.Core.Bool.{true}
 use mathlib.Core.Option.{Option, none, some}
 use mathlib.Core.List.{List, _++_}
 use native.Mathlib.Omega.{arith}
-use lib.ListN.{length, getD, drop, length-append}
-use lib.Seq.{drop-at}
+use lib.ListN.{length, drop, length-append}
 use borrow.Author.Tests.{le-leb, lt-leb, leb-true}
 use Rattle.base.proofs.Split.{byLe, both-left, both-right, both-of, no}
 use Rattle.table.specs.declared.Row.{Row}
@@ -15,8 +14,8 @@ use Rattle.table.specs.declared.Found.the-variants.{At, Place}
 use Rattle.table.specs.declared.Put.the-variants.{Replaced, Inserted, Full}
 use Rattle.table.specs.declared.Put.{Put}
 use Rattle.table.specs.Rows.{rising, find, put, smaller, positionOf}
-use Rattle.table.specs.Words.{rankAt, rowAt, rowsFrom, rowsOf, wordsOf, soundTable, held, lookup, rowOver, inserted, Stored, storedAt, stored, countAfter}
-use Rattle.table.proofs.Maps.{climbs, smaller-le, find-place, put-known, put-new, length-known, length-new, rising-put}
+use Rattle.table.specs.Words.{rowAt, rowsFrom, rowsOf, wordsOf, soundTable, held, lookup, rowOver, inserted, Stored, storedAt, stored, countAfter}
+use Rattle.table.proofs.Maps.{smaller-le, find-place, put-known, put-new, length-known, length-new, rising-put}
 use Rattle.table.proofs.Spans.{rows-length, rows-at, rows-words, words-length, words-over, words-inserted, length-over, length-inserted}
 use Rattle.table.proofs.Halves.{searched, lookup-at, lookup-place, position-known, position-new}
 
@@ -71,12 +70,6 @@ module _ (ws : List ℕ) (count : ℕ) (row : Row) where
 
 module _ (ws : List ℕ) (count : ℕ) (sound : soundTable ws count ≡ true) where
   -- a rank is below the next one
-  pub ranks-rise : (i : ℕ) → suc i < count → rankAt ws i < rankAt ws (suc i)
-  ranks-rise i h =
-      let d = rowAt ws i in
-      let x : getD (rowsOf ws count) i d ≡ rowAt ws i = rows-at ws count i d (omega arith) in
-      let y : getD (rowsOf ws count) (suc i) d ≡ rowAt ws (suc i) = rows-at ws count (suc i) d h in
-      rw (ap (λ r. r .rank) x, ap (λ r. r .rank) y) at (climbs (rowsOf ws count) (sound-rises ws count sound) i (suc i) d (omega arith) (omega (arith, rows-length ws count)))
 
   module _ (rank : ℕ) where
     -- the search by halves finds what the rows say
@@ -176,11 +169,3 @@ module _ (ws : List ℕ) (count : ℕ) (row : Row) (sound : soundTable ws count 
       rw e (sound-of (wordsOf rs ++ rest) (countAfter a count) (omega (arith, length-append (wordsOf rs) rest, words-length rs))
       (rw (rows-words rs rest (countAfter a count) l) (rising-put row (rowsOf ws count) (sound-rises ws count sound)))))
       (λ e. rw e sound)
-
-  -- the words past the rows are as they were
-  pub rest-stored : drop (3 * countAfter (stored ws count row .answer) count) (stored ws count row .words) ≡ drop (3 * countAfter (stored ws count row .answer) count) ws
-  rest-stored =
-      let rs = put row (rowsOf ws count) in
-      byStored
-      (λ a e l. rw e (drop-at (wordsOf rs) (drop (3 * countAfter a count) ws) (3 * countAfter a count) (omega (arith, words-length rs))))
-      (λ e. rw e)
