@@ -1,14 +1,13 @@
 -- The lines of lent bytes and what is left of them; a piece in its buffer.
-use Prim.Native.Nat.{ℕ, _+_, _-_, _<_, _≤_, min}
+use Prim.Native.Nat.{ℕ, _+_, _-_, _<_, _≤_}
 use mathlib.Core.Path.{_≡_, sym, _∙_, ap}
 use mathlib.Core.Bool.{true, false}
 use mathlib.Core.List.{List, [], _∷_, _++_}
 use native.Mathlib.Omega.{arith}
 use borrow.Author.Tests.{ltb-true, ltb-false}
 use lib.ListN.{length, take, drop, length-drop}
-use lib.Seq.{take-all, take-length}
 use Rattle.base.specs.Bytes.{Bytes}
-use Rattle.base.proofs.Split.{byLe, no}
+use Rattle.base.proofs.Split.{no}
 use Rattle.lines.specs.Lines.{linesOf, restOf}
 use Rattle.little.specs.Little.{over}
 use Rattle.little.proofs.Overs.{length-over, used-over}
@@ -21,7 +20,7 @@ use Rattle.reader.proofs.Answers.{byAnswer}
 use Rattle.reader_events.specs.Events.{eventsOn, takenBytes}
 use Rattle.reader_events.proofs.Onward.{events-more, events-off, run-rest}
 use Rattle.intake.specs.Feed.{pieceLines, Intake, IntakeResult, keptAfter, feedOn}
-use Rattle.intake.specs.Fronts.{isOver, keptFront}
+use Rattle.intake_buffer.specs.Fronts.{isOver, keptFront}
 use Rattle.intake.proofs.Pieces.{lines-short, lines-long, lines-enough}
 use Rattle.intake.proofs.Stops.{long-refused}
 
@@ -67,13 +66,6 @@ module _ (s : Bytes) (t : State) where
         (λ r n a. let c : false ≡ true = rw a at f in no (cc))
 
 -- ---- a piece in its buffer
-
--- so many bytes, of which there may be fewer
-pub take-min : (n : ℕ) (s : Bytes) → take (min n (length s)) s ≡ take n s
-take-min n s =
-    byLe n (length s)
-    (λ h. let e : min n (length s) ≡ n = omega arith in rw e)
-    (λ h. let e : min n (length s) ≡ length s = omega arith in rw e (take-length s ∙ sym (take-all n s (omega arith))))
 
 -- the buffer after a piece is copied into it, and how many of its bytes count
 module _ (t : State) (b p : Bytes) (held : ℕ) (room : held + length p ≤ length b) (joined : Bytes) (filled : ℕ) (is : joined ≡ over b held p) (are : filled ≡ held + length p) where

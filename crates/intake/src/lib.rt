@@ -1,8 +1,7 @@
 // An input in pieces: the whole lines of a piece are events, up to the first that is refused, and the unfinished line is held for the next piece.
 ghost use mathlib.Core.Path.{_≡_};
-ghost use Prim.Native.Nat.{_+_, _≤_, min};
+ghost use Prim.Native.Nat.{_≤_, min};
 ghost use lib.ListN.{length, take, drop};
-ghost use Rattle.little.specs.Little.{over};
 ghost use Rattle.overlay.specs.Overlay.{lent, left};
 ghost use Rattle.lines.specs.Lines.{restOf};
 ghost use Rattle.reader.specs.declared.EventAnswer.the-variants.{Accepted};
@@ -10,22 +9,11 @@ ghost use Rattle.reader.specs.Event.{eventOn};
 ghost use Rattle.reader_events.specs.Events.{eventsOn};
 ghost use Rattle.reader_events.specs.Runs.{RunGiven};
 ghost use Rattle.intake.specs.Feed.{pieceLines, feedOn};
-ghost use Rattle.intake.specs.Fronts.{isOver, keptFront};
 use reader::EventAnswer;
 use reader::EventReader;
 use reader_events::EventsDone;
 
 // ---- the lines of lent bytes
-
-// Whether what is left behind lines that were accepted is already too long for a line.
-fn is_over(answer: EventAnswer, rest: usize) -> bool
-    ensures { λ r. ⌜ r ≡ isOver answer rest ⌝ }
-{
-    match answer {
-        EventAnswer::Accepted => 16384 < rest,
-        EventAnswer::Refused(refusal, line) => false,
-    }
-}
 
 // What is left from a place on as an event. It is not taken.
 fn rest_event(
@@ -81,7 +69,7 @@ fn take_lines(
     let done = reader_events::events_untested(ni, na, wi, wa, ri, ra, ss, sb, us, ps, reader, run);
     let answer = done.answer;
     let at = done.taken;
-    if is_over(answer, run.len() - at) {
+    if intake_buffer::is_over(answer, run.len() - at) {
         let reader = done.reader;
         return rest_event(ni, na, wi, wa, ri, ra, ss, sb, us, ps, reader, run, at);
     }
@@ -123,28 +111,6 @@ pub struct Fed {
     pub answer: EventAnswer,
 }
 
-// A piece behind the bytes that are held. The answer is how many there are then.
-fn join_piece(buffer: &mut [u8], held: usize, piece: &[u8], got: usize) -> usize
-    requires { ⌜ held ≤ 16384 ⌝ }
-    requires { ⌜ length (now piece) ≤ 65536 ⌝ }
-    ensures { λ r. ⌜ now (buffer .exit) ≡ over (now (buffer .entry)) held (take got (now (piece .entry))) ⌝ }
-    ensures { λ r. ⌜ r ≡ held + length (take got (now (piece .entry))) ⌝ }
-{
-    let n = little::lesser(got, piece.len());
-    little::copy_at(buffer, held, &piece[..n]);
-    held + n
-}
-
-// What is held after lines that lay in a buffer: the bytes from one place up to another, moved to its front; after a refusal none.
-fn keep_front(buffer: &mut [u8], answer: EventAnswer, from: usize, to: usize) -> usize
-    ensures { λ r. ⌜ record { buffer = now (buffer .exit); kept = r } ≡ keptFront answer (now (buffer .entry)) from to ⌝ }
-{
-    match answer {
-        EventAnswer::Accepted => lines::keep_rest(buffer, from, to),
-        EventAnswer::Refused(refusal, line) => 0,
-    }
-}
-
 // A piece of the input, of which so many bytes were read: its whole lines are events, up to the first that is refused, and the unfinished line is held at the front
 // of the buffer. Of the bytes held so far at most 16,384 count. Soundness is not tested: for a caller who knows that the state is sound but for its count of lines.
 pub fn feed(
@@ -168,12 +134,12 @@ pub fn feed(
         ≡ feedOn (take got (now (piece .entry))) (record { state = record { overlay = lent ni na wi wa ri ra ss sb us; reader = fed .reader; parts = now (ps .entry) }; buffer = now (buffer .entry); held = min (fed .held) 16384 })) ⌝ }
 {
     let held = little::lesser(fed.held, 16384);
-    let n = join_piece(buffer, held, piece, got);
+    let n = intake_buffer::join_piece(buffer, held, piece, got);
     let reader = fed.reader;
     let done = take_front(ni, na, wi, wa, ri, ra, ss, sb, us, ps, reader, buffer, n);
     let reader = done.reader;
     let answer = done.answer;
-    let held = keep_front(buffer, answer, done.taken, n);
+    let held = intake_buffer::keep_front(buffer, answer, done.taken, n);
     Fed {
         reader,
         held,

@@ -26,7 +26,8 @@ use Rattle.store.specs.declared.Handle.the-variants as H
 use Rattle.direct.specs.Calls.{internOn}
 use Rattle.direct.specs.First.{internTable, restOfPush, restOfDelete, pushTable, deleteTable}
 use Rattle.direct.proofs.First.{push-first, delete-first, intern-first}
-use Rattle.torvaskin.specs.Overlays.{keptReply, handleText, unknown, setUpReply, allowReply, internReply, pushNamed, pushReply, deleteNamed, deleteReply}
+use Rattle.replies.specs.Overlays.{keptReply, handleText}
+use Rattle.torvaskin.specs.Overlays.{unknown, setUpReply, allowReply, internReply, pushNamed, pushReply, deleteNamed, deleteReply}
 
 kept-reply : (x : Option Refusal) → keptReply (keptBy x) ≡ replyBy x
 kept-reply none = refl

@@ -10,8 +10,9 @@ use Rattle.overlay.specs.Sound.{isSound}
 use Rattle.overlay.specs.Calls.{OverlayAfter, overlayRefused}
 use Rattle.store.specs.Calls.{Interning}
 use Rattle.store.specs.declared.Handle.{Handle}
-use Rattle.torvaskin.specs.Overlays.{replied, keptReply, unknownReply, unknown, interned, handleText}
-use Rattle.torvaskin.specs.declared.overlays.Text.{Text}
+use Rattle.replies.specs.Overlays.{keptReply, unknownReply, handleText}
+use Rattle.replies.specs.declared.Text.{Text}
+use Rattle.torvaskin.specs.Overlays.{replied, unknown, interned}
 
 pub replied-is : {x : Overlay} {a : Kept} {r : Reply} {y : OverlayAfter} → r ≡ keptReply a → record { overlay = x; answer = a } ≡ y → record { overlay = x; reply = r } ≡ replied y
 replied-is told e = rw (told, ← e)

@@ -1,40 +1,21 @@
 -- What an entry leaves and replies, from what an event and an end leave and answer; and where words are no reader's.
-use Prim.Native.Nat.{ℕ, _<_, _^_}
-use mathlib.Core.Path.{_≡_, ap}
+use Prim.Native.Nat.{ℕ}
+use mathlib.Core.Path.{_≡_}
 use mathlib.Core.Bool.{true, false}
 use mathlib.Core.List.{List}
-use lib.IntN.{ℤ}
-use lib.Signed.{mag}
-use mir.Syntax.{w32}
-use mir.Val.{toZ, ofZ, hbits}
 use Rattle.base.specs.Bytes.{Bytes}
-use Rattle.signed.proofs.Bits.{held}
-use Rattle.refusal.specs.Refusal.{replyOf}
-use Rattle.refusal.specs.declared.Reply.{Reply}
-use Rattle.refusal.specs.declared.Refusal.{Refusal}
 use Rattle.overlay.specs.Overlay.{Overlay}
 use Rattle.reader.specs.State.{State}
 use Rattle.reader.specs.Event.{eventOn, endOn}
 use Rattle.lines.specs.Lines.{linesOf}
 use Rattle.reader_events.specs.Events.{eventsOn, takenBytes}
 use Rattle.reader.specs.declared.EventAnswer.{EventAnswer}
-use Rattle.reader.specs.declared.EventAnswer.the-variants as E
 use Rattle.reader.specs.declared.EventReader.{EventReader}
 use Rattle.reader_words.specs.Words.{wordsOfReader, readerIn, isReader, readerOfWords}
-use Rattle.torvaskin.specs.declared.readers.EventReply.{EventReply}
-use Rattle.torvaskin.specs.declared.readers.EventsReply.{EventsReply}
-use Rattle.torvaskin.specs.Readers.{EventReplied, answerReply, noReader, takenReply, eventReply, eventsReply, endReply}
-
--- a refusal's reply, with its line
-pub refused-is : (r : Refusal) (line : ℕ) {x : Reply} → x ≡ replyOf r → mag (x .held) < 2 ^ hbits w32
-    → _≡_ {A = EventReply} (record { number = x .number; held = toZ w32 (ofZ w32 (x .held)); line = line }) (answerReply (E.Refused r line))
-unfolding replyOf
-refused-is r line {x} e h = rw (held w32 (x .held) h, e)
-
-pub refused-taken : (r : Refusal) (line taken : ℕ) {x : Reply} → x ≡ replyOf r → mag (x .held) < 2 ^ hbits w32
-    → _≡_ {A = EventsReply} (record { number = x .number; held = toZ w32 (ofZ w32 (x .held)); line = line; taken = taken }) (takenReply (answerReply (E.Refused r line)) taken)
-unfolding replyOf
-refused-taken r line taken {x} e h = rw (held w32 (x .held) h, e)
+use Rattle.replies.specs.Readers.{answerReply, noReader, takenReply}
+use Rattle.replies.specs.declared.EventReply.{EventReply}
+use Rattle.replies.specs.declared.EventsReply.{EventsReply}
+use Rattle.torvaskin.specs.Readers.{eventReply, eventsReply, endReply}
 
 module _ (o : Overlay) (w : List ℕ) (parts : Bytes) where
   module _ (i : isReader w ≡ true) {x : EventReader} (e : x ≡ readerIn w) where

@@ -29,7 +29,8 @@ use Rattle.reading.specs.declared.Read.the-variants.{Is, Refused}
 use Rattle.reading.specs.Reading.{countIn, countOn, isEmptyOn, idOn, recordOn, getOn, hasOn, isDeletedOn, knownOn, textOn}
 use Rattle.reading.specs.First.{readRefusal, viewRefusal, numberRows, readTable, numberTable}
 use Rattle.reading.proofs.First.{count-first, empty-first, has-first, is-deleted-first, known-first, get-first, id-first, text-first, record-first}
-use Rattle.torvaskin.specs.Readings.{readNumber, viewPart, unknownKind, numberFor, partFor, countNumber, idNumber, recordPart, getPart, hasNumber, isDeletedNumber, knownNumber}
+use Rattle.replies.specs.Readings.{readNumber, viewPart, unknownKind}
+use Rattle.torvaskin.specs.Readings.{numberFor, partFor, countNumber, idNumber, recordPart, getPart, hasNumber, isDeletedNumber, knownNumber}
 
 read-number : (x : Read) → readNumber x .number ≡ numberBy (readRefusal x)
 read-number (Is n) = refl

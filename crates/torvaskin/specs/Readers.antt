@@ -1,22 +1,18 @@
--- The C boundary of a reader: each answer's number and values, by one definition each. Words that are no reader's are refused 22, and nothing changes.
+-- The C boundary of a reader: what each entry leaves and replies. Words that are no reader's are refused 22, and nothing changes.
 use Prim.Native.Nat.{ℕ}
 use mathlib.Core.Option.{Option, none, some}
 use mathlib.Core.List.{List}
-use lib.IntN.{pos}
 use Rattle.base.specs.Bytes.{Bytes}
-use Rattle.refusal.specs.Refusal.{numberOf, heldOf}
-use Rattle.refusal.specs.declared.Refusal.the-variants as R
 use Rattle.overlay.specs.Overlay.{Overlay}
 use Rattle.reader.specs.State.{State}
 use Rattle.reader.specs.Event.{EventResult, eventOn, endOn}
-use Rattle.reader.specs.declared.EventAnswer.{EventAnswer}
-use Rattle.reader.specs.declared.EventAnswer.the-variants as E
 use Rattle.reader.specs.declared.EventReader.{EventReader}
 use Rattle.reader_words.specs.Words.{wordsOfReader, readerOfWords}
 use Rattle.lines.specs.Lines.{linesOf}
 use Rattle.reader_events.specs.Events.{eventsOn, takenBytes}
-use Rattle.torvaskin.specs.declared.readers.EventReply.{EventReply}
-use Rattle.torvaskin.specs.declared.readers.EventsReply.{EventsReply}
+use Rattle.replies.specs.Readers.{answerReply, noReader, takenReply}
+use Rattle.replies.specs.declared.EventReply.{EventReply}
+use Rattle.replies.specs.declared.EventsReply.{EventsReply}
 
 -- overlay, a reader's words and its parts, and the reply that a call gives
 pub record EventReplied : Type 0 where
@@ -24,15 +20,6 @@ pub record EventReplied : Type 0 where
   pub words : List ℕ
   pub parts : Bytes
   pub reply : EventReply
-
--- "A refusal returns its number, with the known version for 12 (0 otherwise)", and the event's line
-abbrev pub answerReply : EventAnswer → EventReply
-answerReply E.Accepted = record { number = 0; held = pos 0; line = 0 }
-answerReply (E.Refused r line) = record { number = numberOf r; held = heldOf r; line = line }
-
--- 22, which names no line
-abbrev pub noReader : EventReply
-noReader = answerReply (E.Refused R.Unsound 0)
 
 abbrev pub repliedEvent : EventResult → EventReplied
 repliedEvent x = record { overlay = x .state .overlay; words = wordsOfReader (x .state .reader); parts = x .state .parts; reply = answerReply (x .answer) }
@@ -52,10 +39,6 @@ pub record EventsReplied : Type 0 where
   pub words : List ℕ
   pub parts : Bytes
   pub reply : EventsReply
-
--- the reply of a run's last event, and how many bytes were taken
-abbrev pub takenReply : EventReply → ℕ → EventsReply
-takenReply r n = record { number = r .number; held = r .held; line = r .line; taken = n }
 
 abbrev pub repliedEvents : EventResult → ℕ → EventsReplied
 repliedEvents x n =

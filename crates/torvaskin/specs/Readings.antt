@@ -1,15 +1,11 @@
--- The C boundary of the readings: each answer's number and values, by one definition each; a kind goes by its number, and one above 2 is refused 17 where 22 is not.
+-- The C boundary of the readings: what each entry leaves and replies; a kind goes by its number, and one above 2 is refused 17 where 22 is not.
 use Prim.Native.Nat.{ℕ}
-use mathlib.Core.Bool.{Bool, true, false}
 use mathlib.Core.List.{List}
 use lib.IntN.{ℤ}
 use Rattle.kind.specs.Kind.{ofNumber}
 use Rattle.kind.specs.declared.Kind.{Kind}
 use Rattle.kind.specs.declared.Named.{Named}
 use Rattle.kind.specs.declared.Named.the-variants as K
-use Rattle.refusal.specs.Refusal.{numberOf}
-use Rattle.refusal.specs.declared.Refusal.{Refusal}
-use Rattle.refusal.specs.declared.Refusal.the-variants as R
 use Rattle.overlay.specs.Overlay.{Overlay}
 use Rattle.overlay.specs.Sound.{isSound}
 use Rattle.listed.specs.declared.Side.{Side}
@@ -17,29 +13,11 @@ use Rattle.listed.specs.declared.View.{View}
 use Rattle.listed.specs.declared.View.the-variants as view
 use Rattle.reading.specs.Reading.{countOn, idOn, recordOn, getOn, hasOn, isDeletedOn, knownOn}
 use Rattle.reading.specs.declared.Read.{Read}
-use Rattle.reading.specs.declared.Read.the-variants.{Is, Refused}
+use Rattle.reading.specs.declared.Read.the-variants.{Refused}
 use Rattle.bulk.specs.Bulk.{AllIds, allIdsOn}
-use Rattle.torvaskin.specs.declared.Number.{Number}
-use Rattle.torvaskin.specs.declared.readings.Part.{Part}
-
--- 0 with the number, or the refusal with 0
-abbrev pub readNumber : Read → Number
-readNumber (Is n) = record { number = 0; value = n }
-readNumber (Refused r) = record { number = numberOf r; value = 0 }
-
-abbrev pub noPart : ℕ → Part
-noPart n = record { number = n; found = 0; start = 0; len = 0 }
-
--- 0 and found 1 with a start and a length, 0 and found 0, or the refusal
-abbrev pub viewPart : View → Part
-viewPart (view.Part start len) = record { number = 0; found = 1; start = start; len = len }
-viewPart view.Nothing = noPart 0
-viewPart (view.Refused r) = noPart (numberOf r)
-
--- a kind's number above 2: 22, else 17
-abbrev pub unknownKind : Bool → Refusal
-unknownKind true = R.BadRecord
-unknownKind false = R.Unsound
+use Rattle.replies.specs.Readings.{readNumber, viewPart, unknownKind}
+use Rattle.replies.specs.declared.Number.{Number}
+use Rattle.replies.specs.declared.Part.{Part}
 
 abbrev pub numberFor : Named → (Kind → Read) → Overlay → Number
 numberFor (K.Is k) f o = readNumber (f k)

@@ -6,10 +6,3 @@ mod numbers;
 mod overlays;
 mod readers;
 mod readings;
-
-// A number that was read: 0 with it, or the refusal with 0.
-#[repr(C)]
-pub struct Number {
-    pub number: u32,
-    pub value: u64,
-}

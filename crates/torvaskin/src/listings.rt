@@ -1,27 +1,8 @@
 // The listing.
 ghost use mathlib.Core.Path.{_≡_};
 ghost use Rattle.overlay.specs.Overlay.{lent};
-ghost use Rattle.torvaskin.specs.Listings.{listedReply, listingReply};
-use listing::Listed;
-
-// 0 with the listing's length, or the refusal with 0.
-#[repr(C)]
-pub struct ListingReply {
-    pub number: u32,
-    pub length: usize,
-}
-
-fn listed_reply(answer: Listed) -> ListingReply
-    ensures { λ r. ⌜ r ≡ listedReply answer ⌝ }
-{
-    match answer {
-        Listed::Length(length) => ListingReply { number: 0, length },
-        Listed::Refused(refusal) => ListingReply {
-            number: refusal::reply_of(refusal).number,
-            length: 0,
-        },
-    }
-}
+ghost use Rattle.torvaskin.specs.Listings.{listingReply};
+use replies::ListingReply;
 
 // The listing at the start of the output: 22, 19, or its length.
 #[no_mangle]
@@ -40,5 +21,5 @@ pub extern "C" fn tvk_listing(
     ensures { λ r. ⌜ record { out = now (out .exit); reply = r }
         ≡ listingReply (now (out .entry)) (lent ni na wi wa ri ra ss sb us) ⌝ }
 {
-    listed_reply(listing::list(ni, na, wi, wa, ri, ra, ss, sb, us, out))
+    replies::listed_reply(listing::list(ni, na, wi, wa, ri, ra, ss, sb, us, out))
 }

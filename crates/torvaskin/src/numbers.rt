@@ -7,14 +7,10 @@ ghost use Rattle.version_floor.specs.Version.{admitOf, higher, wordOf, ofWord};
 ghost use Rattle.integer.specs.Integer.{readOf};
 ghost use Rattle.stamp.specs.Stamp.{stampOf};
 ghost use Rattle.text.specs.Check.{isText};
-ghost use Rattle.torvaskin.specs.Numbers.{orderNumber, truth, admitReply, integerNumber, stampNumber};
-use crate::Number;
-use integer::Integer;
-use osm_id::Ordering;
+ghost use Rattle.replies.specs.Numbers.{orderNumber, truth, admitReply, integerNumber, stampNumber};
 use osm_id::OsmIdKey;
 use refusal::Reply;
-use stamp::Stamp;
-use version_floor::Admit;
+use replies::Number;
 use version_floor::VersionFloor;
 
 #[no_mangle]
@@ -29,12 +25,7 @@ pub extern "C" fn tvk_osm_id_key(id: i64) -> OsmIdKey
 pub extern "C" fn tvk_osm_id_cmp(a: i64, b: i64) -> u8
     ensures { λ r. ⌜ r ≡ orderNumber (cmpOf a b) ⌝ }
 {
-    let order = osm_id::osm_id_cmp(a, b);
-    match order {
-        Ordering::Less => 0,
-        Ordering::Equal => 1,
-        Ordering::Greater => 2,
-    }
+    replies::order_number(osm_id::osm_id_cmp(a, b))
 }
 
 #[no_mangle]
@@ -64,11 +55,7 @@ pub extern "C" fn tvk_version_admit(floor: u64, claim: u64) -> Reply
     ensures { λ r. ⌜ r ≡ admitReply (admitOf (ofWord floor) (ofWord claim)) ⌝ }
 {
     let highest = version_floor::version_of_word(floor);
-    let answer = VersionFloor::new(highest).admit(version_floor::version_of_word(claim));
-    let Admit::Below(held) = answer else {
-        return Reply { number: 0, held: 0 };
-    };
-    Reply { number: 12, held }
+    replies::admit_reply(VersionFloor::new(highest).admit(version_floor::version_of_word(claim)))
 }
 
 #[no_mangle]
@@ -80,44 +67,25 @@ pub extern "C" fn tvk_version_raise(floor: u64, claim: u64) -> u64
     version_floor::version_word(raised)
 }
 
-fn integer_number(i: Integer) -> Number
-    ensures { λ r. ⌜ r ≡ integerNumber i ⌝ }
-{
-    let Integer::Is(value) = i else {
-        return Number {
-            number: 8,
-            value: 0,
-        };
-    };
-    Number { number: 0, value }
-}
-
 #[no_mangle]
 pub extern "C" fn tvk_read_i64(s: &[u8]) -> Number
     ensures { λ r. ⌜ r ≡ integerNumber (readOf w64 (now (s .entry))) ⌝ }
 {
-    integer_number(integer::read_i64(s))
+    replies::integer_number(integer::read_i64(s))
 }
 
 #[no_mangle]
 pub extern "C" fn tvk_read_i32(s: &[u8]) -> Number
     ensures { λ r. ⌜ r ≡ integerNumber (readOf w32 (now (s .entry))) ⌝ }
 {
-    integer_number(integer::read_i32(s))
+    replies::integer_number(integer::read_i32(s))
 }
 
 #[no_mangle]
 pub extern "C" fn tvk_parse_rfc3339_utc(s: &[u8]) -> Number
     ensures { λ r. ⌜ r ≡ stampNumber (stampOf (now (s .entry))) ⌝ }
 {
-    let at = stamp::parse_rfc3339_utc(s);
-    let Stamp::At(value) = at else {
-        return Number {
-            number: 9,
-            value: 0,
-        };
-    };
-    Number { number: 0, value }
+    replies::stamp_number(stamp::parse_rfc3339_utc(s))
 }
 
 // 1 for text, 0 for anything else.
@@ -125,5 +93,5 @@ pub extern "C" fn tvk_parse_rfc3339_utc(s: &[u8]) -> Number
 pub extern "C" fn tvk_is_text(s: &[u8]) -> u8
     ensures { λ r. ⌜ r ≡ truth (isText (now (s .entry))) ⌝ }
 {
-    if text::is_text(s) { 1 } else { 0 }
+    replies::truth(text::is_text(s))
 }

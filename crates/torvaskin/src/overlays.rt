@@ -4,42 +4,13 @@ ghost use mathlib.Core.Path.{_≡_};
 ghost use Rattle.compact.specs.Held.{metaOf};
 ghost use Rattle.overlay.specs.Overlay.{lent, left};
 ghost use Rattle.overlay.specs.Sound.{isSound};
-ghost use Rattle.torvaskin.specs.Overlays.{keptReply, handleText, soundReply, unknownReply, setUpReply, allowReply, internReply, pushReply, deleteReply};
+ghost use Rattle.replies.specs.Overlays.{soundReply, unknownReply};
+ghost use Rattle.torvaskin.specs.Overlays.{setUpReply, allowReply, internReply, pushReply, deleteReply};
 use compact::ArenaMeta;
 use compact::PushHead;
 use kind::Named;
-use kind_store::Kept;
-use refusal::Refusal;
 use refusal::Reply;
-use store::Handle;
-
-// What `intern` replies: 0 with the text's handle, or the refusal with 0.
-#[repr(C)]
-pub struct Text {
-    pub number: u32,
-    pub handle: u64,
-}
-
-fn kept_reply(answer: Kept) -> Reply
-    ensures { λ r. ⌜ r ≡ keptReply answer ⌝ }
-{
-    match answer {
-        Kept::Taken => Reply { number: 0, held: 0 },
-        Kept::Refused(refusal) => refusal::reply_of(refusal),
-    }
-}
-
-fn handle_text(answer: Handle) -> Text
-    ensures { λ r. ⌜ r ≡ handleText answer ⌝ }
-{
-    match answer {
-        Handle::Is(handle) => Text { number: 0, handle },
-        Handle::Refused(refusal) => Text {
-            number: refusal::reply_of(refusal).number,
-            handle: 0,
-        },
-    }
-}
+use replies::Text;
 
 // 1 for a size outside, else an empty overlay. Setting 0 refuses regression, any other allows it.
 #[no_mangle]
@@ -58,7 +29,7 @@ pub extern "C" fn tvk_set_up(
     ensures { λ r. ⌜ record { overlay = left ni na wi wa ri ra ss sb us; reply = r }
         ≡ setUpReply setting (lent ni na wi wa ri ra ss sb us) ⌝ }
 {
-    kept_reply(overlay::set_up(ni, na, wi, wa, ri, ra, ss, sb, us, setting))
+    replies::kept_reply(overlay::set_up(ni, na, wi, wa, ri, ra, ss, sb, us, setting))
 }
 
 // 22 for an unsound overlay, else 0.
@@ -76,10 +47,7 @@ pub extern "C" fn tvk_is_sound(
 ) -> Reply
     ensures { λ r. ⌜ r ≡ soundReply (isSound (lent ni na wi wa ri ra ss sb us)) ⌝ }
 {
-    if overlay::is_sound(ni, na, wi, wa, ri, ra, ss, sb, us) {
-        return Reply { number: 0, held: 0 };
-    }
-    refusal::reply_of(Refusal::Unsound)
+    replies::sound_reply(overlay::is_sound(ni, na, wi, wa, ri, ra, ss, sb, us))
 }
 
 // The reply where a kind's number means no kind: 22, else 17.
@@ -96,10 +64,7 @@ fn unknown(
 ) -> Reply
     ensures { λ r. ⌜ r ≡ unknownReply (isSound (lent ni na wi wa ri ra ss sb us)) ⌝ }
 {
-    if overlay::is_sound(ni, na, wi, wa, ri, ra, ss, sb, us) {
-        return refusal::reply_of(Refusal::BadRecord);
-    }
-    refusal::reply_of(Refusal::Unsound)
+    replies::unknown_reply(overlay::is_sound(ni, na, wi, wa, ri, ra, ss, sb, us))
 }
 
 // Sets the regression setting: 0 refuses regression, any other number allows it.
@@ -119,7 +84,7 @@ pub extern "C" fn tvk_allow_version_regression(
     ensures { λ r. ⌜ record { overlay = left ni na wi wa ri ra ss sb us; reply = r }
         ≡ allowReply setting (lent ni na wi wa ri ra ss sb us) ⌝ }
 {
-    kept_reply(overlay::allow_version_regression(ni, na, wi, wa, ri, ra, ss, sb, us, setting))
+    replies::kept_reply(overlay::allow_version_regression(ni, na, wi, wa, ri, ra, ss, sb, us, setting))
 }
 
 // Takes a text in: 22, 3, 13, or its handle.
@@ -139,7 +104,7 @@ pub extern "C" fn tvk_intern(
     ensures { λ r. ⌜ record { overlay = left ni na wi wa ri ra ss sb us; reply = r }
         ≡ internReply (now (text .entry)) (lent ni na wi wa ri ra ss sb us) ⌝ }
 {
-    handle_text(direct::intern(ni, na, wi, wa, ri, ra, ss, sb, us, text))
+    replies::handle_text(direct::intern(ni, na, wi, wa, ri, ra, ss, sb, us, text))
 }
 
 // A direct push of a node (kind 0), way (1) or relation (2).
@@ -163,7 +128,7 @@ pub extern "C" fn tvk_push(
         ≡ pushReply kind head meta (now (parts .entry)) (lent ni na wi wa ri ra ss sb us) ⌝ }
 {
     match kind::kind_of_number(kind) {
-        Named::Is(k) => kept_reply(direct::push(
+        Named::Is(k) => replies::kept_reply(direct::push(
             ni,
             na,
             wi,
@@ -202,7 +167,7 @@ pub extern "C" fn tvk_delete(
         ≡ deleteReply kind id (metaOf meta) (lent ni na wi wa ri ra ss sb us) ⌝ }
 {
     match kind::kind_of_number(kind) {
-        Named::Is(k) => kept_reply(direct::delete(
+        Named::Is(k) => replies::kept_reply(direct::delete(
             ni,
             na,
             wi,

@@ -1,68 +1,11 @@
 // A reader: an event, a run of events, and the end of its document.
 ghost use mathlib.Core.Path.{_≡_};
 ghost use Rattle.overlay.specs.Overlay.{lent, left};
-ghost use Rattle.torvaskin.specs.Readers.{answerReply, takenReply, eventReply, eventsReply, endReply};
+ghost use Rattle.torvaskin.specs.Readers.{eventReply, eventsReply, endReply};
 use reader::EventAnswer;
 use refusal::Refusal;
-
-// 0 for what is accepted, with zeros; else the refusal's number, with the known version for 12 and the event's line.
-#[repr(C)]
-pub struct EventReply {
-    pub number: u32,
-    pub held: i32,
-    pub line: u64,
-}
-
-fn event_reply(answer: EventAnswer) -> EventReply
-    ensures { λ r. ⌜ r ≡ answerReply answer ⌝ }
-{
-    match answer {
-        EventAnswer::Accepted => EventReply {
-            number: 0,
-            held: 0,
-            line: 0,
-        },
-        EventAnswer::Refused(refusal, line) => {
-            let reply = refusal::reply_of(refusal);
-            EventReply {
-                number: reply.number,
-                held: reply.held,
-                line,
-            }
-        }
-    }
-}
-
-// The same for a run, with how many of its bytes were taken.
-#[repr(C)]
-pub struct EventsReply {
-    pub number: u32,
-    pub held: i32,
-    pub line: u64,
-    pub taken: usize,
-}
-
-fn events_reply(answer: EventAnswer, taken: usize) -> EventsReply
-    ensures { λ r. ⌜ r ≡ takenReply (answerReply answer) taken ⌝ }
-{
-    match answer {
-        EventAnswer::Accepted => EventsReply {
-            number: 0,
-            held: 0,
-            line: 0,
-            taken,
-        },
-        EventAnswer::Refused(refusal, line) => {
-            let reply = refusal::reply_of(refusal);
-            EventsReply {
-                number: reply.number,
-                held: reply.held,
-                line,
-                taken,
-            }
-        }
-    }
-}
+use replies::EventReply;
+use replies::EventsReply;
 
 // An event by its line. Words that are no reader's are 22, and nothing changes.
 #[no_mangle]
@@ -89,9 +32,9 @@ pub extern "C" fn tvk_event(
         let after = done.reader;
         reader_words::put_reader(reader, after);
         let answer = done.answer;
-        return event_reply(answer);
+        return replies::event_reply(answer);
     }
-    event_reply(EventAnswer::Refused(Refusal::Unsound, 0))
+    replies::event_reply(EventAnswer::Refused(Refusal::Unsound, 0))
 }
 
 // The whole lines of a run as events, up to the first that is refused. What follows the bytes that were taken is the refused line, or the unfinished one, which a caller
@@ -120,9 +63,9 @@ pub extern "C" fn tvk_events(
         let after = done.reader;
         reader_words::put_reader(reader, after);
         let answer = done.answer;
-        return events_reply(answer, done.taken);
+        return replies::events_reply(answer, done.taken);
     }
-    events_reply(EventAnswer::Refused(Refusal::Unsound, 0), 0)
+    replies::events_reply(EventAnswer::Refused(Refusal::Unsound, 0), 0)
 }
 
 // The end of a document. It changes nothing.
@@ -144,7 +87,7 @@ pub extern "C" fn tvk_end(
 {
     if reader_words::is_reader(reader) {
         let read = reader_words::reader_in(reader);
-        return event_reply(reader_calls::end(ni, na, wi, wa, ri, ra, ss, sb, us, parts, read));
+        return replies::event_reply(reader_calls::end(ni, na, wi, wa, ri, ra, ss, sb, us, parts, read));
     }
-    event_reply(EventAnswer::Refused(Refusal::Unsound, 0))
+    replies::event_reply(EventAnswer::Refused(Refusal::Unsound, 0))
 }

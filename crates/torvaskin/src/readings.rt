@@ -6,80 +6,12 @@ ghost use Rattle.overlay.specs.Overlay.{lent};
 ghost use Rattle.overlay.specs.Sound.{isSound};
 ghost use Rattle.reading.specs.declared.Read.the-variants.{Refused};
 ghost use Rattle.reading.specs.Reading.{isEmptyOn, textOn};
-ghost use Rattle.torvaskin.specs.Readings.{readNumber, noPart, viewPart, unknownKind, countNumber, idNumber, recordPart, getPart, hasNumber, isDeletedNumber, knownNumber, idsReply};
-use crate::Number;
+ghost use Rattle.replies.specs.Readings.{readNumber, viewPart, unknownKind};
+ghost use Rattle.torvaskin.specs.Readings.{countNumber, idNumber, recordPart, getPart, hasNumber, isDeletedNumber, knownNumber, idsReply};
 use kind::Named;
 use listed::Side;
-use listed::View;
-use reading::Read;
-use refusal::Refusal;
-
-// Where something lies: 0 and found 1 with its start and length; 0 and found 0 where there is nothing; or the refusal.
-#[repr(C)]
-pub struct Part {
-    pub number: u32,
-    pub found: u32,
-    pub start: usize,
-    pub len: usize,
-}
-
-fn read_number(read: Read) -> Number
-    ensures { λ r. ⌜ r ≡ readNumber read ⌝ }
-{
-    match read {
-        Read::Is(value) => Number { number: 0, value },
-        Read::Refused(refusal) => Number {
-            number: refusal::reply_of(refusal).number,
-            value: 0,
-        },
-    }
-}
-
-fn no_part(number: u32) -> Part
-    ensures { λ r. ⌜ r ≡ noPart number ⌝ }
-{
-    Part {
-        number,
-        found: 0,
-        start: 0,
-        len: 0,
-    }
-}
-
-fn view_part(view: View) -> Part
-    ensures { λ r. ⌜ r ≡ viewPart view ⌝ }
-{
-    match view {
-        View::Part { start, len } => Part {
-            number: 0,
-            found: 1,
-            start,
-            len,
-        },
-        View::Nothing => no_part(0),
-        View::Refused(refusal) => no_part(refusal::reply_of(refusal).number),
-    }
-}
-
-// The refusal where a kind's number means no kind: 22, else 17.
-fn unknown_kind(
-    ni: &[u64],
-    na: &[u8],
-    wi: &[u64],
-    wa: &[u8],
-    ri: &[u64],
-    ra: &[u8],
-    ss: &[u64],
-    sb: &[u8],
-    us: &[u64; 9],
-) -> Refusal
-    ensures { λ r. ⌜ r ≡ unknownKind (isSound (lent ni na wi wa ri ra ss sb us)) ⌝ }
-{
-    if overlay::is_sound(ni, na, wi, wa, ri, ra, ss, sb, us) {
-        return Refusal::BadRecord;
-    }
-    Refusal::Unsound
-}
+use replies::Number;
+use replies::Part;
 
 // The replies where a kind's number means no kind.
 fn no_read(
@@ -95,8 +27,7 @@ fn no_read(
 ) -> Number
     ensures { λ r. ⌜ r ≡ readNumber (Refused (unknownKind (isSound (lent ni na wi wa ri ra ss sb us)))) ⌝ }
 {
-    let refusal = unknown_kind(ni, na, wi, wa, ri, ra, ss, sb, us);
-    read_number(Read::Refused(refusal))
+    replies::unknown_number(overlay::is_sound(ni, na, wi, wa, ri, ra, ss, sb, us))
 }
 
 fn no_view(
@@ -112,8 +43,7 @@ fn no_view(
 ) -> Part
     ensures { λ r. ⌜ r ≡ viewPart (view.Refused (unknownKind (isSound (lent ni na wi wa ri ra ss sb us)))) ⌝ }
 {
-    let refusal = unknown_kind(ni, na, wi, wa, ri, ra, ss, sb, us);
-    view_part(View::Refused(refusal))
+    replies::unknown_part(overlay::is_sound(ni, na, wi, wa, ri, ra, ss, sb, us))
 }
 
 // How many ids of a kind are live.
@@ -133,7 +63,7 @@ pub extern "C" fn tvk_live_count(
     ensures { λ r. ⌜ r ≡ countNumber kind Live (lent ni na wi wa ri ra ss sb us) ⌝ }
 {
     match kind::kind_of_number(kind) {
-        Named::Is(k) => read_number(reading::count(
+        Named::Is(k) => replies::read_number(reading::count(
             ni,
             na,
             wi,
@@ -167,7 +97,7 @@ pub extern "C" fn tvk_deleted_count(
     ensures { λ r. ⌜ r ≡ countNumber kind Deleted (lent ni na wi wa ri ra ss sb us) ⌝ }
 {
     match kind::kind_of_number(kind) {
-        Named::Is(k) => read_number(reading::count(
+        Named::Is(k) => replies::read_number(reading::count(
             ni,
             na,
             wi,
@@ -199,7 +129,7 @@ pub extern "C" fn tvk_is_empty(
 ) -> Number
     ensures { λ r. ⌜ r ≡ readNumber (isEmptyOn (lent ni na wi wa ri ra ss sb us)) ⌝ }
 {
-    read_number(reading::is_empty(ni, na, wi, wa, ri, ra, ss, sb, us))
+    replies::read_number(reading::is_empty(ni, na, wi, wa, ri, ra, ss, sb, us))
 }
 
 // The bits of the n-th live id in OSM order, or 21.
@@ -220,7 +150,7 @@ pub extern "C" fn tvk_live_id(
     ensures { λ r. ⌜ r ≡ idNumber kind Live n (lent ni na wi wa ri ra ss sb us) ⌝ }
 {
     match kind::kind_of_number(kind) {
-        Named::Is(k) => read_number(reading::id_at(
+        Named::Is(k) => replies::read_number(reading::id_at(
             ni,
             na,
             wi,
@@ -256,7 +186,7 @@ pub extern "C" fn tvk_deleted_id(
     ensures { λ r. ⌜ r ≡ idNumber kind Deleted n (lent ni na wi wa ri ra ss sb us) ⌝ }
 {
     match kind::kind_of_number(kind) {
-        Named::Is(k) => read_number(reading::id_at(
+        Named::Is(k) => replies::read_number(reading::id_at(
             ni,
             na,
             wi,
@@ -292,7 +222,7 @@ pub extern "C" fn tvk_record(
     ensures { λ r. ⌜ r ≡ recordPart kind n (lent ni na wi wa ri ra ss sb us) ⌝ }
 {
     match kind::kind_of_number(kind) {
-        Named::Is(k) => view_part(reading::record_at(ni, na, wi, wa, ri, ra, ss, sb, us, k, n)),
+        Named::Is(k) => replies::view_part(reading::record_at(ni, na, wi, wa, ri, ra, ss, sb, us, k, n)),
         Named::Unknown => no_view(ni, na, wi, wa, ri, ra, ss, sb, us),
     }
 }
@@ -315,7 +245,7 @@ pub extern "C" fn tvk_get(
     ensures { λ r. ⌜ r ≡ getPart kind id (lent ni na wi wa ri ra ss sb us) ⌝ }
 {
     match kind::kind_of_number(kind) {
-        Named::Is(k) => view_part(reading::get(
+        Named::Is(k) => replies::view_part(reading::get(
             ni,
             na,
             wi,
@@ -350,7 +280,7 @@ pub extern "C" fn tvk_has(
     ensures { λ r. ⌜ r ≡ hasNumber kind id (lent ni na wi wa ri ra ss sb us) ⌝ }
 {
     match kind::kind_of_number(kind) {
-        Named::Is(k) => read_number(reading::has(
+        Named::Is(k) => replies::read_number(reading::has(
             ni,
             na,
             wi,
@@ -385,7 +315,7 @@ pub extern "C" fn tvk_is_deleted(
     ensures { λ r. ⌜ r ≡ isDeletedNumber kind id (lent ni na wi wa ri ra ss sb us) ⌝ }
 {
     match kind::kind_of_number(kind) {
-        Named::Is(k) => read_number(reading::is_deleted(
+        Named::Is(k) => replies::read_number(reading::is_deleted(
             ni,
             na,
             wi,
@@ -420,7 +350,7 @@ pub extern "C" fn tvk_known_version(
     ensures { λ r. ⌜ r ≡ knownNumber kind id (lent ni na wi wa ri ra ss sb us) ⌝ }
 {
     match kind::kind_of_number(kind) {
-        Named::Is(k) => read_number(reading::known_version(
+        Named::Is(k) => replies::read_number(reading::known_version(
             ni,
             na,
             wi,
@@ -453,7 +383,7 @@ pub extern "C" fn tvk_text(
 ) -> Part
     ensures { λ r. ⌜ r ≡ viewPart (textOn handle (lent ni na wi wa ri ra ss sb us)) ⌝ }
 {
-    view_part(reading::text(ni, na, wi, wa, ri, ra, ss, sb, us, handle))
+    replies::view_part(reading::text(ni, na, wi, wa, ri, ra, ss, sb, us, handle))
 }
 
 // All live or all deleted ids of a kind in OSM order and the known version of each: 22, 17, 19, or how many they are.
@@ -478,7 +408,7 @@ fn ids_number(
     match kind::kind_of_number(kind) {
         Named::Is(k) => {
             let read = bulk::all_ids(ni, na, wi, wa, ri, ra, ss, sb, us, k, side, ids, versions);
-            read_number(read)
+            replies::read_number(read)
         }
         Named::Unknown => no_read(ni, na, wi, wa, ri, ra, ss, sb, us),
     }

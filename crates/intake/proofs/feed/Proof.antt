@@ -1,5 +1,5 @@
 -- The piece is joined to what is held, its lines are taken in, and the rest is kept.
-use mathlib.Core.Path.{_∙_, ap}
+use mathlib.Core.Path.{_≡_, _∙_, ap}
 use native.Mathlib.Omega.{arith}
 use lib.ListN.{length, take, length-take}
 use denote.Ref.{now}
@@ -33,7 +33,8 @@ take-front-requires c κs =
     let h = c .before .before .before .before .before .before .before .before .before .before .before .before .before .before .before .before .lesser in
     let j = c .before .before .before .before .before .before .before .before .before .before .before .before .before .join-piece in
     let room : h .result + length p ≤ length (now (a .buffer)) = omega (arith, h .ensures, length-take (a .got) (now (a .piece)), c .before .before .before .before .before .before .before .before .before .before .before .before .before .before .join-piece-arg2 .given, c .before .before .before .before .before .before .before .before .before .before .before .before .before .before .before .join-piece-arg .given) in
-    front-within (given s) (now (a .buffer)) p (h .result) room _ (j .result) (j .ensures .0) (j .ensures .1)
+    let are : j .result ≡ h .result + length p = omega (arith, j .ensures .1, room) in
+    front-within (given s) (now (a .buffer)) p (h .result) room _ (j .result) (j .ensures .0) are
 
 keep-front-requires : tie.Need-keep-front-requires
 keep-front-requires c κs = tt
@@ -71,8 +72,9 @@ returns c =
     let h = c .before .before .before .before .before .before .before .before .before .before .before .before .before .before .before .before .before .before .before .before .before .before .before .before .before .before .before .before .before .before .before .before .before .before .before .before .lesser in
     let j = c .before .before .before .before .before .before .before .before .before .before .before .before .before .before .before .before .before .before .before .before .before .before .before .before .before .before .before .before .before .before .before .before .before .join-piece in
     let room : h .result + length p ≤ length (now (a .buffer)) = omega (arith, h .ensures, length-take (a .got) (now (a .piece)), c .before .before .before .before .before .before .before .before .before .before .before .before .before .before .before .before .before .before .before .before .before .before .before .before .before .before .before .before .before .before .before .before .before .before .join-piece-arg2 .given, c .before .before .before .before .before .before .before .before .before .before .before .before .before .before .before .before .before .before .before .before .before .before .before .before .before .before .before .before .before .before .before .before .before .before .before .join-piece-arg .given) in
+    let are : j .result ≡ h .result + length p = omega (arith, j .ensures .1, room) in
     let w = c .before .before .before .before .before .before .before .before .before .before .before .before .before .before .before .before .before .before .before .take-front in
-    fed-by (given s) (now (a .buffer)) p (h .result) room _ (j .result) (j .ensures .0) (j .ensures .1) _ (w .result .taken) (w .ensures .0 g) (w .ensures .1 g) _ _ (c .keep-front .ensures)
+    fed-by (given s) (now (a .buffer)) p (h .result) room _ (j .result) (j .ensures .0) are _ (w .result .taken) (w .ensures .0 g) (w .ensures .1 g) _ _ (c .keep-front .ensures)
     ∙ ap (λ (n : ℕ). feedOn p (record { state = given s; buffer = now (a .buffer); held = n })) (h .ensures)
 
 pub feed-spec : {M : Type 1} → statement M

@@ -1,7 +1,4 @@
-use mir.Syntax.{w32}
-use Rattle.refusal.specs.Refusal.{replyOf}
-use Rattle.signed.proofs.Bits.{held}
-use borrow.Author.Needs.{needs}
+-- The floor's answer to the claim.
 use Rattle.torvaskin.proofs.numbers.tvk_version_admit.Statement.{statement}
 use Rattle.torvaskin.proofs.numbers.tvk_version_admit.Tie as tie
 
@@ -17,27 +14,17 @@ version-of-word-requires-2 c κs = tt
 admit-requires : tie.Need-admit-requires
 admit-requires c κs = tt
 
+admit-reply-requires : tie.Need-admit-reply-requires
+admit-reply-requires c κs = tt
+
 returns : tie.Need-returns
 returns c =
     rw (
-      ← c .before .before .before .before .before .version-of-word .ensures,
-      ← c .before .before .before .version-of-word2 .ensures,
-      ← c .before .before .before .before .new .ensures,
-      ← c .before .before .admit .ensures,
-      c .enum-told .given .1,
-    )
-
-returns-2 : tie.Need-returns-2
-unfolding replyOf
-returns-2 c =
-    rw (
-      ← c .before .before .before .before .before .before .version-of-word .ensures,
-      ← c .before .before .before .before .version-of-word2 .ensures,
-      ← c .before .before .before .before .before .new .ensures,
-      ← c .before .before .before .admit .ensures,
-      c .before .answer .given .1,
-      held w32 _ (c .known-told .given .0 .1),
-    )
+      ← c .before .before .before .before .version-of-word .ensures,
+      ← c .before .before .version-of-word2 .ensures,
+      ← c .before .before .before .new .ensures,
+      ← c .before .admit .ensures,
+    ) (c .admit-reply .ensures)
 
 pub tvk-version-admit-spec : {M : Type 1} → statement M
 tvk-version-admit-spec =
@@ -47,7 +34,5 @@ tvk-version-admit-spec =
     new-requires
     version-of-word-requires-2
     admit-requires
-    (λ c. search needs)
-    (λ c. search needs)
-    returns
-    returns-2)
+    admit-reply-requires
+    returns)
