@@ -12,6 +12,8 @@ use Rattle.overlay.specs.Overlay.{Overlay, kindStoreOf}
 use Rattle.overlay.specs.First.{unsoundRow}
 use Rattle.reading.specs.Reading.{countIn}
 
+abbrev pub shortRows : Kind → Side → List ℕ → List ℕ → Overlay → List (ConditionRow Refusal)
+shortRows k side ids versions o = row R.ShortOutput (ltb (min (length ids) (length versions)) (countIn side (kindStoreOf k o))) ∷ []
+
 abbrev pub allIdsTable : Kind → Side → List ℕ → List ℕ → Overlay → List (ConditionRow Refusal)
-allIdsTable k side ids versions o =
-    unsoundRow o ∷ row R.ShortOutput (ltb (min (length ids) (length versions)) (countIn side (kindStoreOf k o))) ∷ []
+allIdsTable k side ids versions o = unsoundRow o ∷ shortRows k side ids versions o

@@ -30,7 +30,10 @@ use Rattle.reading.specs.Reading.{countIn, countOn, isEmptyOn, idOn, recordOn, 
 use Rattle.reading.specs.First.{readRefusal, viewRefusal, numberRows, readTable, numberTable}
 use Rattle.reading.proofs.First.{count-first, empty-first, has-first, is-deleted-first, known-first, get-first, id-first, text-first, record-first}
 use Rattle.replies.specs.Readings.{readNumber, viewPart, unknownKind}
-use Rattle.torvaskin.specs.Readings.{numberFor, partFor, countNumber, idNumber, recordPart, getPart, hasNumber, isDeletedNumber, knownNumber}
+use Rattle.bulk.specs.Bulk.{allIdsOn}
+use Rattle.bulk.specs.First.{shortRows}
+use Rattle.bulk.proofs.First.{all-ids-first}
+use Rattle.torvaskin.specs.Readings.{idsFor, idsReply, numberFor, partFor, countNumber, idNumber, recordPart, getPart, hasNumber, isDeletedNumber, knownNumber}
 
 read-number : (x : Read) → readNumber x .number ≡ numberBy (readRefusal x)
 read-number (Is n) = refl
@@ -92,6 +95,19 @@ module _ (o : Overlay) where
   unfolding recordPart
   record-part-first b kind n =
       named-part (λ k. numberRows n (countIn Live (kindStoreOf k o))) (λ k. recordOn k n o) (λ k. record-first o b k n) (ofNumber kind)
+
+  -- ---- 22, 17, 19
+
+  ids-number : (side : Side) (ids versions : List ℕ) (n : Named) → idsFor n side ids versions o .reply .number ≡ numberFor n (λ k. allIdsOn k side ids versions o .answer) o .number
+  ids-number side ids versions (K.Is k) = refl
+  ids-number side ids versions K.Unknown = refl
+
+  pub ids-number-first : (kind : ℕ) (side : Side) (ids versions : List ℕ)
+      → idsReply kind side ids versions o .reply .number ≡ numberBy (firstOf (kindCallTable kind (λ k. shortRows k side ids versions o) o))
+  unfolding idsReply
+  ids-number-first kind side ids versions =
+      ids-number side ids versions (ofNumber kind)
+      ∙ named-number (λ k. shortRows k side ids versions o) (λ k. allIdsOn k side ids versions o .answer) (λ k. all-ids-first k side ids versions o) (ofNumber kind)
 
   -- ---- where no kind is given: 22; 22, 21
 
