@@ -4,7 +4,7 @@ use mathlib.Core.Path.{_≡_, refl, sym, _∙_, ap}
 use mathlib.Core.Bool.{Bool, true, false, cond}
 use mathlib.Core.Logic.{_↔_, _⊎_, inl, inr, ⊎-elim}
 use mathlib.Core.Option.{Option, none, some}
-use mathlib.Core.List.{List, _∷_, List·Memᴰ}
+use mathlib.Core.List.{List, [], _∷_, List·Memᴰ}
 use lib.Dec.{leb}
 use lib.IntN.{ℤ, natAbs}
 use mir.Syntax.{Width, w32, w64}

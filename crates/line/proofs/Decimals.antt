@@ -3,7 +3,7 @@ use Prim.Native.Nat.{ℕ, zero, suc, _+_, _/_, _%_, _<_, _≤_}
 use mathlib.Core.Path.{_≡_, refl, sym, _∙_, ap}
 use mathlib.Core.Bool.{true, false}
 use mathlib.Core.Option.{none, some}
-use mathlib.Core.List.{_∷_}
+use mathlib.Core.List.{[], _∷_}
 use native.Mathlib.Omega.{arith}
 use lib.IntN.{ℤ, pos, negsuc}
 use lib.ListN.{length, getD}

@@ -1,7 +1,7 @@
 -- Lines where they lie: where the next one ends, byte by byte, what lies up to there, and what is kept.
 use Prim.Native.Nat.{ℕ, zero, suc, _+_, _-_, _<_, _≤_, min}
 use mathlib.Core.Path.{_≡_, refl, sym, _∙_, ap}
-use mathlib.Core.List.{List, _∷_, _++_, append-assoc, flatten}
+use mathlib.Core.List.{List, [], _∷_, _++_, append-assoc, flatten}
 use mathlib.Core.Logic.{inl}
 use native.Mathlib.Nat.{suc-add, zero-add}
 use native.Mathlib.Numerals.{add-one}

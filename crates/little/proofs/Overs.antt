@@ -1,7 +1,7 @@
 -- Laws of bytes over others: what `over` changes, what it leaves, and how writers go on one after another.
 use Prim.Native.Nat.{ℕ, zero, suc, _+_, _-_, _≤_, _<_}
 use mathlib.Core.Path.{_≡_, refl, sym, _∙_, ap}
-use mathlib.Core.List.{_∷_, _++_, append-nil, append-assoc}
+use mathlib.Core.List.{[], _∷_, _++_, append-nil, append-assoc}
 use native.Mathlib.Nat.{suc-add, zero-add, add-zero}
 use native.Mathlib.Omega.{arith}
 use mathlib.Core.Logic.{_⊎_, ⊎-elim}

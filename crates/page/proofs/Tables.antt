@@ -2,7 +2,7 @@
 use mathlib.Core.Path.{_≡_, refl, sym, _∙_, ap}
 use mathlib.Core.Bool.{true, cond}
 use mathlib.Core.Option.{Option, none, some, Option·map}
-use mathlib.Core.List.{List, _∷_, _++_}
+use mathlib.Core.List.{List, [], _∷_, _++_}
 use Rattle.base.specs.Bytes.{Bytes}
 use Rattle.base.proofs.Split.{clash, no}
 use Rattle.base.proofs.Strict.{byOrder, asymmetric}

@@ -1,7 +1,7 @@
 -- Lines up to the first that is refused: those of one list behind another, and what a caller who streams keeps.
 use Prim.Native.Nat.{ℕ, _+_}
 use mathlib.Core.Path.{_≡_, refl, sym, _∙_, ap}
-use mathlib.Core.List.{List, _∷_, _++_, flatten}
+use mathlib.Core.List.{List, [], _∷_, _++_, flatten}
 use lib.ListN.{length, drop, length-append}
 use lib.Seq.{drop-append-seam}
 use Rattle.base.specs.Bytes.{Bytes}

@@ -1,7 +1,7 @@
 -- Rows and the words that hold them: one from the other, and parts of the one as parts of the other.
 use Prim.Native.Nat.{ℕ, zero, suc, _+_, _*_, _-_, _<_, _≤_}
 use mathlib.Core.Path.{_≡_, refl, sym, _∙_, ap}
-use mathlib.Core.List.{List, _∷_, _++_, append-assoc}
+use mathlib.Core.List.{List, [], _∷_, _++_, append-assoc}
 use native.Mathlib.Omega.{arith}
 use lib.ListN.{length, getD, take, drop, length-append, length-take, length-drop, take-append-drop}
 use lib.Seq.{take-take, take-nil, drop-nil, drop-append-le, length-take-le, slice}
