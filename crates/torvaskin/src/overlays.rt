@@ -84,7 +84,18 @@ pub extern "C" fn tvk_allow_version_regression(
     ensures { λ r. ⌜ record { overlay = left ni na wi wa ri ra ss sb us; reply = r }
         ≡ allowReply setting (lent ni na wi wa ri ra ss sb us) ⌝ }
 {
-    replies::kept_reply(overlay::allow_version_regression(ni, na, wi, wa, ri, ra, ss, sb, us, setting))
+    replies::kept_reply(overlay::allow_version_regression(
+        ni,
+        na,
+        wi,
+        wa,
+        ri,
+        ra,
+        ss,
+        sb,
+        us,
+        setting,
+    ))
 }
 
 // Takes a text in: 22, 3, 13, or its handle.

@@ -87,7 +87,19 @@ pub extern "C" fn tvk_end(
 {
     if reader_words::is_reader(reader) {
         let read = reader_words::reader_in(reader);
-        return replies::event_reply(reader_calls::end(ni, na, wi, wa, ri, ra, ss, sb, us, parts, read));
+        return replies::event_reply(reader_calls::end(
+            ni,
+            na,
+            wi,
+            wa,
+            ri,
+            ra,
+            ss,
+            sb,
+            us,
+            parts,
+            read,
+        ));
     }
     replies::event_reply(EventAnswer::Refused(Refusal::Unsound, 0))
 }

@@ -222,7 +222,19 @@ pub extern "C" fn tvk_record(
     ensures { λ r. ⌜ r ≡ recordPart kind n (lent ni na wi wa ri ra ss sb us) ⌝ }
 {
     match kind::kind_of_number(kind) {
-        Named::Is(k) => replies::view_part(reading::record_at(ni, na, wi, wa, ri, ra, ss, sb, us, k, n)),
+        Named::Is(k) => replies::view_part(reading::record_at(
+            ni,
+            na,
+            wi,
+            wa,
+            ri,
+            ra,
+            ss,
+            sb,
+            us,
+            k,
+            n,
+        )),
         Named::Unknown => no_view(ni, na, wi, wa, ri, ra, ss, sb, us),
     }
 }
