@@ -1,7 +1,6 @@
 -- The output and the reply are those of `listing::list`.
 use Rattle.torvaskin.specs.Listings.{listingReply}
 use Rattle.torvaskin.proofs.ListingReplies.{listing-is}
-use borrow.Author.Needs.{needs}
 use Rattle.torvaskin.proofs.listings.tvk_listing.Statement.{statement}
 use Rattle.torvaskin.proofs.listings.tvk_listing.Tie as tie
 

@@ -2,7 +2,6 @@
 use mathlib.Core.Path.{_∙_, ap}
 use mir.Facts.{toZ-ofZ}
 use Rattle.replies.specs.Lookups.{overlapNumber}
-use borrow.Author.Needs.{needs}
 use Rattle.torvaskin.proofs.lookups.tvk_range_overlaps.Statement.{statement}
 use Rattle.torvaskin.proofs.lookups.tvk_range_overlaps.Tie as tie
 

@@ -1,6 +1,5 @@
 -- The reply is that of `sorted::Seek::find`, with places as words.
 use mir.Facts.{toZ-ofZ}
-use borrow.Author.Needs.{needs}
 use Rattle.torvaskin.proofs.lookups.tvk_seek_find.Statement.{statement}
 use Rattle.torvaskin.proofs.lookups.tvk_seek_find.Tie as tie
 

@@ -1,5 +1,4 @@
 use mir.Facts.{toZ-ofZ}
-use borrow.Author.Needs.{needs}
 use Rattle.torvaskin.proofs.numbers.tvk_osm_id_rank.Statement.{statement}
 use Rattle.torvaskin.proofs.numbers.tvk_osm_id_rank.Tie as tie
 

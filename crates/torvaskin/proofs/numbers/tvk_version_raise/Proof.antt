@@ -1,6 +1,5 @@
 use mathlib.Core.Path.{_∙_, ap}
 use Rattle.version_floor.specs.Version.{wordOf}
-use borrow.Author.Needs.{needs}
 use Rattle.torvaskin.proofs.numbers.tvk_version_raise.Statement.{statement}
 use Rattle.torvaskin.proofs.numbers.tvk_version_raise.Tie as tie
 

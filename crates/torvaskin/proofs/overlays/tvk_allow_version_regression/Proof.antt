@@ -1,7 +1,6 @@
 -- The lent storage and the reply are those of `overlay::allow_version_regression`.
 use Rattle.torvaskin.specs.Overlays.{allowReply}
 use Rattle.torvaskin.proofs.OverlayReplies.{replied-is}
-use borrow.Author.Needs.{needs}
 use Rattle.torvaskin.proofs.overlays.tvk_allow_version_regression.Statement.{statement}
 use Rattle.torvaskin.proofs.overlays.tvk_allow_version_regression.Tie as tie
 

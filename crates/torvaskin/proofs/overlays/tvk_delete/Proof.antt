@@ -3,7 +3,6 @@ use mathlib.Core.Path.{refl}
 use Rattle.torvaskin.specs.Overlays.{deleteReply}
 use Rattle.signed.proofs.Bits.{bits-back}
 use Rattle.torvaskin.proofs.OverlayReplies.{replied-is, unknown-is}
-use borrow.Author.Needs.{needs}
 use Rattle.torvaskin.proofs.overlays.tvk_delete.Statement.{statement}
 use Rattle.torvaskin.proofs.overlays.tvk_delete.Tie as tie
 
@@ -58,11 +57,11 @@ tvk-delete-spec =
     tie.close
     (tie.spec
     kind-of-number-requires
-    (λ c. search needs)
+    (λ c. c .match .keys1)
     bits-of-i64-requires
     delete-requires
     kept-reply-requires
-    (λ c. search needs)
+    (λ c. c .match .keys2)
     unknown-requires
     same-length
     same-length-2

@@ -1,7 +1,6 @@
 -- The lent storage and the reply are those of `direct::intern`.
 use Rattle.torvaskin.specs.Overlays.{internReply}
 use Rattle.torvaskin.proofs.OverlayReplies.{interned-is}
-use borrow.Author.Needs.{needs}
 use Rattle.torvaskin.proofs.overlays.tvk_intern.Statement.{statement}
 use Rattle.torvaskin.proofs.overlays.tvk_intern.Tie as tie
 

@@ -2,7 +2,6 @@
 use mathlib.Core.Path.{refl}
 use Rattle.torvaskin.specs.Overlays.{pushReply}
 use Rattle.torvaskin.proofs.OverlayReplies.{replied-is, unknown-is}
-use borrow.Author.Needs.{needs}
 use Rattle.torvaskin.proofs.overlays.tvk_push.Statement.{statement}
 use Rattle.torvaskin.proofs.overlays.tvk_push.Tie as tie
 
@@ -71,10 +70,10 @@ tvk-push-spec =
     tie.close
     (tie.spec
     kind-of-number-requires
-    (λ c. search needs)
+    (λ c. c .match .keys1)
     push-requires
     kept-reply-requires
-    (λ c. search needs)
+    (λ c. c .match .keys2)
     unknown-requires
     same-length
     same-length-2

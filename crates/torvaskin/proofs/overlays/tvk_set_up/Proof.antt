@@ -1,7 +1,6 @@
 -- The lent storage and the reply are those of `overlay::set_up`.
 use Rattle.torvaskin.specs.Overlays.{setUpReply}
 use Rattle.torvaskin.proofs.OverlayReplies.{replied-is}
-use borrow.Author.Needs.{needs}
 use Rattle.torvaskin.proofs.overlays.tvk_set_up.Statement.{statement}
 use Rattle.torvaskin.proofs.overlays.tvk_set_up.Tie as tie
 

@@ -17,10 +17,10 @@ ids-number-spec =
     tie.close
     (tie.spec
     (λ c κs. search needs)
-    (λ c. search needs)
+    (λ c. c .match .keys1)
     (λ c κs. search needs)
     (λ c κs. search needs)
-    (λ c. search needs)
+    (λ c. c .match .keys2)
     (λ c κs. search needs)
     (λ c. search needs)
     (λ c. search needs)

@@ -1,7 +1,6 @@
 -- Where the record of the id lies, if it is live; or 22, else 17.
 use Rattle.torvaskin.specs.Readings.{getPart}
 use Rattle.signed.proofs.Bits.{bits-back}
-use borrow.Author.Needs.{needs}
 use Rattle.torvaskin.proofs.readings.tvk_get.Statement.{statement}
 use Rattle.torvaskin.proofs.readings.tvk_get.Tie as tie
 
@@ -35,11 +34,11 @@ tvk-get-spec =
     tie.close
     (tie.spec
     kind-of-number-requires
-    (λ c. search needs)
+    (λ c. c .match .keys1)
     bits-of-i64-requires
     get-requires
     view-part-requires
-    (λ c. search needs)
+    (λ c. c .match .keys2)
     no-view-requires
     returns
     returns-2)

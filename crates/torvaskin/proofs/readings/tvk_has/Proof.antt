@@ -1,7 +1,6 @@
 -- Whether the id is live; or 22, else 17.
 use Rattle.torvaskin.specs.Readings.{hasNumber}
 use Rattle.signed.proofs.Bits.{bits-back}
-use borrow.Author.Needs.{needs}
 use Rattle.torvaskin.proofs.readings.tvk_has.Statement.{statement}
 use Rattle.torvaskin.proofs.readings.tvk_has.Tie as tie
 
@@ -35,11 +34,11 @@ tvk-has-spec =
     tie.close
     (tie.spec
     kind-of-number-requires
-    (λ c. search needs)
+    (λ c. c .match .keys1)
     bits-of-i64-requires
     has-requires
     read-number-requires
-    (λ c. search needs)
+    (λ c. c .match .keys2)
     no-read-requires
     returns
     returns-2)

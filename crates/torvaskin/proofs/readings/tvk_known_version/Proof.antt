@@ -1,7 +1,6 @@
 -- The known version of the id; or 22, else 17.
 use Rattle.torvaskin.specs.Readings.{knownNumber}
 use Rattle.signed.proofs.Bits.{bits-back}
-use borrow.Author.Needs.{needs}
 use Rattle.torvaskin.proofs.readings.tvk_known_version.Statement.{statement}
 use Rattle.torvaskin.proofs.readings.tvk_known_version.Tie as tie
 
@@ -35,11 +34,11 @@ tvk-known-version-spec =
     tie.close
     (tie.spec
     kind-of-number-requires
-    (λ c. search needs)
+    (λ c. c .match .keys1)
     bits-of-i64-requires
     known-version-requires
     read-number-requires
-    (λ c. search needs)
+    (λ c. c .match .keys2)
     no-read-requires
     returns
     returns-2)

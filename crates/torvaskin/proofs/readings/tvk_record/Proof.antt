@@ -1,6 +1,5 @@
 -- Where the record of the n-th live id of the kind lies; or 22, else 17.
 use Rattle.torvaskin.specs.Readings.{recordPart}
-use borrow.Author.Needs.{needs}
 use Rattle.torvaskin.proofs.readings.tvk_record.Statement.{statement}
 use Rattle.torvaskin.proofs.readings.tvk_record.Tie as tie
 
@@ -29,10 +28,10 @@ tvk-record-spec =
     tie.close
     (tie.spec
     kind-of-number-requires
-    (λ c. search needs)
+    (λ c. c .match .keys1)
     record-at-requires
     view-part-requires
-    (λ c. search needs)
+    (λ c. c .match .keys2)
     no-view-requires
     returns
     returns-2)

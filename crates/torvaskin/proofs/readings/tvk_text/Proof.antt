@@ -1,5 +1,4 @@
 -- The part of `reading::text`.
-use borrow.Author.Needs.{needs}
 use Rattle.torvaskin.proofs.readings.tvk_text.Statement.{statement}
 use Rattle.torvaskin.proofs.readings.tvk_text.Tie as tie
 
