@@ -21,7 +21,7 @@ use Rattle.compact.specs.declared.PushHead.{PushHead}
 use Rattle.compact.proofs.Cuts.{pushed}
 use Rattle.legal.specs.Whole.{keptBytes}
 use Rattle.legal.proofs.Laws.{push-legal}
-use Rattle.interner.specs.Strings.{intern, added}
+use Rattle.interner.specs.Strings.{Store, intern, added}
 use Rattle.interner.specs.Texts.{handleOf, takeIn, textOf}
 use Rattle.interner.specs.Texts as Texts
 use Rattle.interner.specs.Sound.{textsOf}
@@ -41,9 +41,9 @@ use Rattle.direct.specs.Calls.{pushOn, deleteOn, internOn}
 use Rattle.store.specs.declared.Handle.the-variants as H
 use Rattle.overlay.proofs.Answers.{byKept, kind-store-back, strings-sound}
 use Rattle.store.proofs.Answers.{byHandle}
-use Rattle.direct.proofs.Answers.{byPushOn, pushStored, push-refused, push-taken, byDeleteOn, deleteStored, delete-refused, delete-taken, intern-refused, intern-taken}
+use Rattle.direct.proofs.Answers.{byPushOn, pushStored, push-refused, push-taken, byDeleteOn, deleteStored, delete-refused, delete-taken, byInternOn, intern-refused, intern-taken}
 use Rattle.overlay.proofs.Bounds.{id-given, over-small, written-small}
-use Rattle.overlay.proofs.KindStores.{kind-store-other, kind-store-texts, texts-kind-store, interned-sized}
+use Rattle.overlay.proofs.KindStores.{kind-store-same, kind-store-other, kind-store-texts, kind-store-setting, texts-kind-store, interned-sized}
 use Rattle.store.proofs.Keeps.{keptAs, storedAs, record-given, delete-arena, by-intern, grown}
 use Rattle.overlay.proofs.Keeps.{more-sound, put-sound, put-bytes}
 
@@ -141,6 +141,13 @@ module _ (k : Kind) (h : PushHead) (m : ArenaMeta) (parts : Bytes) (o : Overlay)
   pub push-texts : pushOn k h m parts o .overlay .texts ≡ o .texts
   push-texts = push-leaves (λ z. z .texts ≡ o .texts) (λ s. kind-store-texts k s o)
 
+  pub push-setting : pushOn k h m parts o .overlay .setting ≡ o .setting
+  push-setting = push-leaves (λ z. z .setting ≡ o .setting) (λ s. kind-store-setting k s o)
+
+  -- its own kind is as the store leaves it
+  pub push-kind-store : takenIn (pushOn k h m parts o .answer) ≡ true → kindStoreOf k (pushOn k h m parts o .overlay) ≡ pushStored k h m parts o .kindStore
+  push-kind-store e = rw (push-taken k h m parts o e .1 .1 .1) (kind-store-same k _ o)
+
 module _ (k : Kind) (id : ℤ) (m : Meta ℕ) (o : Overlay) where
   pub delete-leaves : (P : Overlay → Type 0) → ((s : KindStore) → P (withKindStore k s o)) → P (deleteOn k id m o .overlay)
   delete-leaves P f =
@@ -153,7 +160,21 @@ module _ (k : Kind) (id : ℤ) (m : Meta ℕ) (o : Overlay) where
   pub delete-texts : deleteOn k id m o .overlay .texts ≡ o .texts
   delete-texts = delete-leaves (λ z. z .texts ≡ o .texts) (λ s. kind-store-texts k s o)
 
+  pub delete-setting : deleteOn k id m o .overlay .setting ≡ o .setting
+  delete-setting = delete-leaves (λ z. z .setting ≡ o .setting) (λ s. kind-store-setting k s o)
+
+  pub delete-kind-store : takenIn (deleteOn k id m o .answer) ≡ true → kindStoreOf k (deleteOn k id m o .overlay) ≡ deleteStored k id m o .kindStore
+  delete-kind-store e = rw (delete-taken k id m o e .1 .1 .1) (kind-store-same k _ o)
+
 module _ (t : Bytes) (o : Overlay) where
+  pub intern-leaves : (P : Overlay → Type 0) → ((s : Store) → P (withTexts s o)) → P (internOn t o .overlay)
+  intern-leaves P f = byInternOn t o (λ s w. rw w (f (o .texts))) (λ s g w. rw w (f (o .texts))) (λ s g w. rw w (f (intern (o .texts) t .store)))
+
+  pub intern-kind-store : (j : Kind) → kindStoreOf j (internOn t o .overlay) ≡ kindStoreOf j o
+  intern-kind-store j = intern-leaves (λ z. kindStoreOf j z ≡ kindStoreOf j o) (λ s. texts-kind-store j s o)
+
+  pub intern-setting : internOn t o .overlay .setting ≡ o .setting
+  intern-setting = intern-leaves (λ z. z .setting ≡ o .setting) (λ s. refl)
 
 -- ---- each call keeps an overlay sound, accepted or refused
 
