@@ -28,8 +28,8 @@ use Rattle.reader_sound.specs.Mark.{stopMark}
 use Rattle.reader_sound.proofs.Mark.{unmarked, marked}
 use Rattle.reader_sound.proofs.Sound.{sound-used, sound-strings}
 use Rattle.reader_sound.proofs.Line.{short-line}
-use Rattle.reader_step.specs.Done.{StepDone, doneBy, StepGiven}
-use Rattle.reader_step.specs.declared.Stepped.{Stepped}
+use Rattle.reader_elements.specs.Done.{StepDone, doneBy, StepGiven}
+use Rattle.reader_elements.specs.declared.Stepped.{Stepped}
 use Rattle.reader_calls.specs.Done.{eventDone}
 use Rattle.reader_calls.specs.declared.EventDone.{EventDone}
 

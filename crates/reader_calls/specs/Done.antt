@@ -4,8 +4,8 @@ use Rattle.reader.specs.Event.{stoppedAt}
 use Rattle.reader.specs.declared.Stop.the-variants.{Going}
 use Rattle.reader.specs.declared.EventAnswer.the-variants as E
 use Rattle.reader.specs.declared.EventReader.{EventReader}
-use Rattle.reader_step.specs.declared.Stepped.{Stepped}
-use Rattle.reader_step.specs.declared.Stepped.the-variants as S
+use Rattle.reader_elements.specs.declared.Stepped.{Stepped}
+use Rattle.reader_elements.specs.declared.Stepped.the-variants as S
 use Rattle.reader_calls.specs.declared.EventDone.{EventDone}
 
 abbrev pub eventDone : EventReader → Stepped → EventDone

@@ -14,7 +14,7 @@ use nesting::Level;
 use reader::EventAnswer;
 use reader::EventReader;
 use reader::Stop;
-use reader_step::Stepped;
+use reader_elements::Stepped;
 use refusal::Refusal;
 
 // ---- an event

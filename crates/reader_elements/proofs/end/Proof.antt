@@ -2,10 +2,10 @@
 use denote.Ref.{now}
 use Rattle.overlay.specs.Overlay.{overlayOf}
 use Rattle.reader.specs.State.{State}
-use Rattle.reader_step.proofs.Steps.{ends-done}
+use Rattle.reader_elements.proofs.Elements.{ends-done}
 use borrow.Author.Needs.{needs}
-use Rattle.reader_step.proofs.end.Statement.{statement}
-use Rattle.reader_step.proofs.end.Tie as tie
+use Rattle.reader_elements.proofs.end.Statement.{statement}
+use Rattle.reader_elements.proofs.end.Tie as tie
 
 -- overlay, reader and parts as they were lent
 abbrev given : tie.Start → State

@@ -5,10 +5,10 @@ use Rattle.overlay.specs.Overlay.{overlayOf}
 use Rattle.reader.specs.declared.EventReader.{EventReader}
 use Rattle.reader.specs.State.{State}
 use Rattle.store.specs.Beside.{KindParts}
-use Rattle.reader_step.proofs.Steps.{empty-begins, open-begins}
+use Rattle.reader_elements.proofs.Elements.{empty-begins, open-begins}
 use borrow.Author.Needs.{needs}
-use Rattle.reader_step.proofs.begin.Statement.{statement}
-use Rattle.reader_step.proofs.begin.Tie as tie
+use Rattle.reader_elements.proofs.begin.Statement.{statement}
+use Rattle.reader_elements.proofs.begin.Tie as tie
 
 -- the overlay as it was lent, with a reader and its parts
 abbrev given : tie.Start → EventReader → Bytes → State

@@ -1,7 +1,7 @@
 -- The head and the metadata, or the refusal.
 use borrow.Author.Needs.{needs}
-use Rattle.reader_step.proofs.begun.Statement.{statement}
-use Rattle.reader_step.proofs.begun.Tie as tie
+use Rattle.reader_elements.proofs.begun.Statement.{statement}
+use Rattle.reader_elements.proofs.begun.Tie as tie
 
 returns : tie.Need-returns
 returns c = rw (c .before .answer .given .1)

@@ -18,10 +18,8 @@ use Rattle.reader.specs.State.{State, noPending}
 use Rattle.reader.specs.Step.{Step, goes, stops}
 use Rattle.reader_acts.specs.declared.Begun.{Begun}
 use Rattle.reader_acts.specs.declared.Begun.the-variants as B
-use Rattle.reader_parts.specs.declared.Added.{Added}
-use Rattle.reader_parts.specs.declared.Added.the-variants as A
-use Rattle.reader_step.specs.declared.Stepped.{Stepped}
-use Rattle.reader_step.specs.declared.Stepped.the-variants as S
+use Rattle.reader_elements.specs.declared.Stepped.{Stepped}
+use Rattle.reader_elements.specs.declared.Stepped.the-variants as S
 
 pub record StepDone : Type 0 where
   pub overlay : Overlay
@@ -41,11 +39,6 @@ pub record StepGiven (ix : List ℕ) (line : Bytes) (d : Decided) (s : State) : 
   pub indexed : IndexGiven ix (s .overlay .texts)
 
 -- ---- by the answers of the calls that it makes
-
--- a child of the open element
-abbrev pub childStepped : Place → Added → Stepped
-childStepped p (A.Is x) = S.Goes p x
-childStepped p (A.Refused r) = S.Stops r
 
 -- an act: nothing is staged any more
 abbrev pub actStepped : Place → Kept → Stepped

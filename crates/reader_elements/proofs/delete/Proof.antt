@@ -4,10 +4,10 @@ use Rattle.base.specs.Bytes.{Bytes}
 use Rattle.overlay.specs.Overlay.{overlayOf}
 use Rattle.reader.specs.declared.EventReader.{EventReader}
 use Rattle.reader.specs.State.{State}
-use Rattle.reader_step.proofs.Steps.{deletes-done}
+use Rattle.reader_elements.proofs.Elements.{deletes-done}
 use borrow.Author.Needs.{needs}
-use Rattle.reader_step.proofs.delete.Statement.{statement}
-use Rattle.reader_step.proofs.delete.Tie as tie
+use Rattle.reader_elements.proofs.delete.Statement.{statement}
+use Rattle.reader_elements.proofs.delete.Tie as tie
 
 -- the overlay as it was lent, with a reader and its parts
 abbrev given : tie.Start → EventReader → Bytes → State

@@ -1,7 +1,7 @@
 -- Nothing is staged any more, or the refusal.
 use borrow.Author.Needs.{needs}
-use Rattle.reader_step.proofs.cleared.Statement.{statement}
-use Rattle.reader_step.proofs.cleared.Tie as tie
+use Rattle.reader_elements.proofs.cleared.Statement.{statement}
+use Rattle.reader_elements.proofs.cleared.Tie as tie
 
 returns : tie.Need-returns
 returns c = rw (c .before .enum-told .given .1, c .no-pending .ensures)
