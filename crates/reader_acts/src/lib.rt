@@ -298,23 +298,8 @@ pub fn push_empty(
     let len = empty_len(kind);
     match act_answer::push_answer(ni, na, wi, wa, ri, ra, ss, sb, us, kind, id, claim, len) {
         Kept::Taken => {
-            let head = head_for(kind, id, lat, lon);
-            push_with_user(
-                ni,
-                na,
-                wi,
-                wa,
-                ri,
-                ra,
-                ss,
-                sb,
-                us,
-                ix,
-                kind,
-                head,
-                meta,
-                line,
-            )
+            let h = head_for(kind, id, lat, lon);
+            push_with_user(ni, na, wi, wa, ri, ra, ss, sb, us, ix, kind, h, meta, line)
         }
         Kept::Refused(r) => refused_act(ss, sb, us, meta, line, r),
     }
@@ -385,22 +370,9 @@ pub fn delete_element(
 {
     let claim = claimed(meta);
     match act_answer::delete_answer(ni, na, wi, wa, ri, ra, ss, sb, us, kind, id, claim) {
-        Kept::Taken => delete_with_user(
-            ni,
-            na,
-            wi,
-            wa,
-            ri,
-            ra,
-            ss,
-            sb,
-            us,
-            ix,
-            kind,
-            id,
-            meta,
-            line,
-        ),
+        Kept::Taken => {
+            delete_with_user(ni, na, wi, wa, ri, ra, ss, sb, us, ix, kind, id, meta, line)
+        }
         Kept::Refused(r) => refused_act(ss, sb, us, meta, line, r),
     }
 }

@@ -91,24 +91,10 @@ pub fn event_going(
         (record { overlay = lent ni na wi wa ri ra ss sb us; reader = reader; parts = now (parts .entry) }))) ⌝ }
 {
     let place = reader.place;
-    let decided = decide::decide(line, place);
+    let d = decide::decide(line, place);
     let n = scan::body_length(line);
-    let step = reader_step::step(
-        ni,
-        na,
-        wi,
-        wa,
-        ri,
-        ra,
-        ss,
-        sb,
-        us,
-        ix,
-        parts,
-        reader,
-        &line[..n],
-        decided,
-    );
+    let t = &line[..n];
+    let step = reader_step::step(ni, na, wi, wa, ri, ra, ss, sb, us, ix, parts, reader, t, d);
     event_done(reader, step)
 }
 

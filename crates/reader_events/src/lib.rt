@@ -18,6 +18,7 @@ use reader::EventAnswer;
 use reader::EventReader;
 use reader::Stop;
 use reader_calls::EventDone;
+use reader_calls::event_going;
 use refusal::Refusal;
 
 // The reader after a run, what its last event answered, and how many bytes of the run were taken.
@@ -53,21 +54,7 @@ fn line_event(
     if reader.lines < 18446744073709551615 {
         let stop = reader.stop;
         let Stop::At(refusal, at) = reader_sound::mark_of(stop) else {
-            return reader_calls::event_going(
-                ni,
-                na,
-                wi,
-                wa,
-                ri,
-                ra,
-                ss,
-                sb,
-                us,
-                ix,
-                ps,
-                reader,
-                line,
-            );
+            return event_going(ni, na, wi, wa, ri, ra, ss, sb, us, ix, ps, reader, line);
         };
         let answer = EventAnswer::Refused(refusal, at);
         return EventDone { reader, answer };
@@ -117,21 +104,8 @@ fn next_event(
             taken: at,
         };
     };
-    let done = line_event(
-        ni,
-        na,
-        wi,
-        wa,
-        ri,
-        ra,
-        ss,
-        sb,
-        us,
-        ix,
-        ps,
-        reader,
-        &run[at..to],
-    );
+    let line = &run[at..to];
+    let done = line_event(ni, na, wi, wa, ri, ra, ss, sb, us, ix, ps, reader, line);
     let reader = done.reader;
     let answer = done.answer;
     EventsDone {

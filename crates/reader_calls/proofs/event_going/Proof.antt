@@ -22,10 +22,10 @@ given s =
       parts = now (k .parts);
     }
 
-slice-aggregate-step : tie.Need-slice-aggregate-step
-slice-aggregate-step c =
-    let s = now (c .before .before .before .before .before .before .before .before .before .before .before .before .before .before .before .before .before .before .before .before .before .before .before .before .args .line) in
-    sym (length-take-le (c .before .before .before .before .before .before .before .before .before .before .before .body-length .result) s (omega (arith, c .before .before .before .before .before .before .before .before .before .before .before .body-length .ensures, judged s .within)))
+slice-aggregate-t : tie.Need-slice-aggregate-t
+slice-aggregate-t c =
+    let s = now (c .before .before .before .before .before .before .before .before .before .before .before .before .before .before .args .line) in
+    sym (length-take-le (c .before .body-length .result) s (omega (arith, c .before .body-length .ensures, judged s .within)))
 
 returns : tie.Need-returns
 returns c =
@@ -40,7 +40,7 @@ event-going-spec =
     (tie.spec
     (λ c κs. search needs)
     (λ c κs. search needs)
-    slice-aggregate-step
+    slice-aggregate-t
     (λ c κs. search needs)
     (λ c κs. search needs)
     (λ c. search needs)

@@ -28,22 +28,22 @@ returns c =
     let s = c .before .before .before .before .before .before .before .before .before .before .before .before .before in
     (λ g i. point-none (now (s .args .run)) (s .args .at) (given s) (sym (c .before .before .line-end .ensures) ∙ c .enum-told .given .1), s .pre)
 
-sub-line-event : tie.Need-sub-line-event
-sub-line-event c =
-    let s = c .before .before .before .before .before .before .before .before .before .before .before .before .before .before .before .before .before .before .before .before .before .before .before .before in
-    let n = next-line (now (s .args .run)) (s .args .at) _ (sym (c .before .before .before .before .before .before .before .before .before .before .before .before .before .line-end .ensures) ∙ c .before .before .before .before .before .before .before .before .before .before .before .to .given .1) in
+sub-line : tie.Need-sub-line
+sub-line c =
+    let s = c .before .before .before .before .before .before .before .before .before .before .before .before .before .before in
+    let n = next-line (now (s .args .run)) (s .args .at) _ (sym (c .before .before .before .line-end .ensures) ∙ c .before .to .given .1) in
     omega (arith, n .forward)
 
-part-line-event-start : tie.Need-part-line-event-start
-part-line-event-start c =
-    let s = c .before .before .before .before .before .before .before .before .before .before .before .before .before .before .before .before .before .before .before .before .before .before .before .before in
-    let n = next-line (now (s .args .run)) (s .args .at) _ (sym (c .before .before .before .before .before .before .before .before .before .before .before .before .before .line-end .ensures) ∙ c .before .before .before .before .before .before .before .before .before .before .before .to .given .1) in
+part-line-start : tie.Need-part-line-start
+part-line-start c =
+    let s = c .before .before .before .before .before .before .before .before .before .before .before .before .before .before in
+    let n = next-line (now (s .args .run)) (s .args .at) _ (sym (c .before .before .before .line-end .ensures) ∙ c .before .to .given .1) in
     omega (arith, n .forward, n .within)
 
-part-line-event-end : tie.Need-part-line-event-end
-part-line-event-end c =
-    let s = c .before .before .before .before .before .before .before .before .before .before .before .before .before .before .before .before .before .before .before .before .before .before .before .before in
-    let n = next-line (now (s .args .run)) (s .args .at) _ (sym (c .before .before .before .before .before .before .before .before .before .before .before .before .before .line-end .ensures) ∙ c .before .before .before .before .before .before .before .before .before .before .before .to .given .1) in
+part-line-end : tie.Need-part-line-end
+part-line-end c =
+    let s = c .before .before .before .before .before .before .before .before .before .before .before .before .before .before in
+    let n = next-line (now (s .args .run)) (s .args .at) _ (sym (c .before .before .before .line-end .ensures) ∙ c .before .to .given .1) in
     omega (arith, n .forward, n .within)
 
 line-event-requires : tie.Need-line-event-requires
@@ -94,9 +94,9 @@ next-event-spec =
     (λ c. search needs)
     (λ c. search needs)
     returns
-    sub-line-event
-    part-line-event-start
-    part-line-event-end
+    sub-line
+    part-line-start
+    part-line-end
     line-event-requires
     behind-line-requires
     same-length
