@@ -47,14 +47,15 @@ fn soundness(name: &str, parts: Owned) {
     println!("soundness of {name}\t{:.1} µs", took / 1_000.0);
 }
 
-/// Spans of 57,344 bytes that begin one byte after the other.
+/// Spans of 57,344 bytes that overlap, out of order. They differ, if at all, by where one letter stands near their ends.
 fn overlapping(equal: bool) -> Owned {
     let mut parts = Sizes::MOST.allocate().expect("within limits");
-    for (i, byte) in parts.bytes.iter_mut().enumerate() {
-        *byte = if equal { b'a' } else { b'a' + (mixed(i as u64) % 26) as u8 };
+    parts.bytes.fill(b'a');
+    if !equal {
+        parts.bytes[57_343] = b'b';
     }
     for (i, span) in parts.spans[2..].chunks_mut(2).enumerate() {
-        span.copy_from_slice(&[i as u64, 57_344]);
+        span.copy_from_slice(&[i as u64 * 1_171 % 4_096, 57_344]);
     }
     parts.counts[6] = 4_096;
     parts.counts[7] = 65_536;
