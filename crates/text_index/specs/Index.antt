@@ -10,7 +10,7 @@ use Rattle.interner.specs.Texts.{textOf}
 use Rattle.interner.specs.Strings.{Store}
 use Rattle.interner.specs.Sound.{textsOf, soundStrings}
 
--- a number of 32 bits with some bytes told
+-- the hash of bytes behind others whose hash is k, in 32 bits
 unfoldable pub hashOn : ℕ → Bytes → ℕ
 hashOn k [] = k
 hashOn k (b ∷ bs) = hashOn ((k * 16777619 + b) % 4294967296) bs

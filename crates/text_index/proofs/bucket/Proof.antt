@@ -1,4 +1,4 @@
--- `bucket` tells the bytes in order. The invariant: what is still to be told decides.
+-- `bucket` takes the bytes in order. The invariant: the hash of what is left, behind what was taken, is that of the whole text.
 use Prim.Native.Nat.{_-_, _≤_, _<_}
 use mathlib.Core.Path.{_≡_, refl, sym, _∙_}
 use native.Mathlib.Omega.{arith}
