@@ -41,7 +41,7 @@ fn claim_admit(
 fn has_id_room(table: &[u64], ids: u64, id: u64) -> bool
     ensures { λ r. ⌜ ((arena : Bytes) (used : ℕ) → r ≡ idRoom (kindStoreWith (now (table .entry)) ids arena used) (toZ w64 id)) ⌝ }
 {
-    match table::find_row(table, ids, osm_id::osm_id_rank(signed::i64_of_bits(id))) {
+    match table::find_row(table, ids, osm_id::rank_of_bits(id)) {
         Found::At(_) => true,
         Found::Place(_) => (ids as usize) < table.len() / 3,
     }

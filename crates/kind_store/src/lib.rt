@@ -81,17 +81,10 @@ fn version_found(kind: Kind, table: &[u64], arena: &[u8], found: Found) -> Versi
     }
 }
 
-// The rank of an id that is given in bits.
-fn rank_of(id: u64) -> u64
-    ensures { λ r. ⌜ r ≡ rank (toZ w64 id) ⌝ }
-{
-    osm_id::osm_id_rank(signed::i64_of_bits(id))
-}
-
 pub fn known_version(kind: Kind, table: &[u64], ids: u64, arena: &[u8], id: u64) -> Version
     ensures { λ r. ⌜ ((used : ℕ) → r ≡ knownVersion kind (kindStoreWith (now (table .entry)) ids (now (arena .entry)) used) (toZ w64 id)) ⌝ }
 {
-    let found = table::find_row(table, ids, rank_of(id));
+    let found = table::find_row(table, ids, osm_id::rank_of_bits(id));
     version_found(kind, table, arena, found)
 }
 
@@ -123,7 +116,7 @@ fn has_room(table: &[u64], ids: u64, found: Found) -> bool
 fn set_row(table: &mut [u64], ids: u64, id: u64, place: u64, floor: u64) -> u64
     ensures { λ r. ⌜ (now (table .exit) ≡ stored (now (table .entry)) ids (record { rank = rank (toZ w64 id); place = place; floor = floor }) .words) × (r ≡ countAfter (stored (now (table .entry)) ids (record { rank = rank (toZ w64 id); place = place; floor = floor }) .answer) ids) ⌝ }
 {
-    match table::put_row(table, ids, rank_of(id), place, floor) {
+    match table::put_row(table, ids, osm_id::rank_of_bits(id), place, floor) {
         Put::Replaced => ids,
         Put::Inserted => ids + 1,
         Put::Full => ids,
@@ -269,7 +262,7 @@ pub fn push(
 ) -> Outcome
     ensures { λ r. ⌜ record { kindStore = kindStoreWith (now (table .exit)) (r .ids) (now (arena .exit)) (r .used); answer = r .answer } ≡ pushed kind setting (kindStoreWith (now (table .entry)) ids (now (arena .entry)) used) (toZ w64 (head .id)) (claimOf (metaOf meta)) (headBytes kind (headIn kind head) ++ metaBytes (metaOf meta) ++ now (parts .entry)) ⌝ }
 {
-    let found = table::find_row(table, ids, rank_of(head.id));
+    let found = table::find_row(table, ids, osm_id::rank_of_bits(head.id));
     let version = version_found(kind, table, arena, found);
     let Admit::Below(held) = check(setting, version, compact::claim(meta)) else {
         return push_admitted(
@@ -337,7 +330,7 @@ pub fn delete(
 ) -> Outcome
     ensures { λ r. ⌜ record { kindStore = kindStoreWith (now (table .exit)) (r .ids) (now (arena .entry)) (r .used); answer = r .answer } ≡ deleted kind setting (kindStoreWith (now (table .entry)) ids (now (arena .entry)) used) (toZ w64 id) claim ⌝ }
 {
-    let found = table::find_row(table, ids, rank_of(id));
+    let found = table::find_row(table, ids, osm_id::rank_of_bits(id));
     let version = version_found(kind, table, arena, found);
     let Admit::Below(held) = check(setting, version, claim) else {
         return delete_admitted(kind, table, ids, arena, used, id, claim, found, version);

@@ -6,9 +6,6 @@ use mathlib.Core.Logic.{_↔_}
 use mathlib.Core.Option.{Option, none, some}
 use mathlib.Core.List.{List}
 use lib.IntN.{ℤ}
-use mir.Facts.{toZ-ofZ, sfits-toZ}
-use mir.Syntax.{w64}
-use mir.Val.{Fits, toZ, ofZ}
 use Rattle.base.proofs.Split.{byBool, no}
 use Rattle.osm_id.specs.Order.{rank}
 use Rattle.kind_store.specs.KindStore.{isLive}
@@ -21,10 +18,6 @@ use Rattle.table.proofs.Tables.{found-row, found-none}
 use Rattle.listed.specs.declared.Standing.{Standing}
 use Rattle.listed.specs.declared.Standing.the-variants.{Live, Deleted, Unknown}
 use Rattle.listed.specs.Listed.{rowStanding, standingAt, standingOf}
-
--- the rank of an id that is given in bits
-pub bits-rank : {id r : ℕ} {z : ℤ} → Fits w64 id → z ≡ toZ w64 id → r ≡ rank (toZ w64 (ofZ w64 z)) → r ≡ rank (toZ w64 id)
-bits-rank f e g = g ∙ (ap (λ (z : ℤ). rank (toZ w64 (ofZ w64 z))) e ∙ ap rank (toZ-ofZ (sfits-toZ {w = w64} f)))
 
 module _ (table : List ℕ) (ids : ℕ) (id : ℤ) where
   pub standing-at : (f : Found) → f ≡ lookup table ids (rank id) → standingOf table ids id ≡ standingAt table f

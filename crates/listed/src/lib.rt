@@ -96,7 +96,7 @@ fn row_standing(row: Row) -> Standing
 pub fn standing_of(table: &[u64], ids: u64, id: u64) -> Standing
     ensures { λ r. ⌜ r ≡ standingOf (now (table .entry)) ids (toZ w64 id) ⌝ }
 {
-    let rank = osm_id::osm_id_rank(signed::i64_of_bits(id));
+    let rank = osm_id::rank_of_bits(id);
     match table::find_row(table, ids, rank) {
         Found::At(i) => row_standing(table::row_at(table, i)),
         Found::Place(_) => Standing::Unknown,

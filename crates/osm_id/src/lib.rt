@@ -1,5 +1,7 @@
 // OSM element ids: their canonical order, their keys, and their rank in that order (osm_id.rs).
 ghost use mathlib.Core.Path.{_≡_};
+ghost use mir.Syntax.{w64};
+ghost use mir.Val.{toZ};
 ghost use Rattle.osm_id.specs.Order.{osmKeyOf, cmpOf, firstKey, lastKey, rank, idOf};
 
 // The canonical-order key: class 0 for zero, 1 for a negative id, 2 for a positive one; and the magnitude.
@@ -37,11 +39,10 @@ pub fn osm_id_key(id: i64) -> OsmIdKey
     }
 }
 
-// The rank of an id: its place among all ids in canonical order. Id tables hold it, since plain `<` is that order.
-pub fn osm_id_rank(id: i64) -> u64
-    ensures { λ r. ⌜ r ≡ rank id ⌝ }
+// The rank of an id that is given in bits: its place among all ids in canonical order. Id tables hold it, since plain `<` is that order.
+pub fn rank_of_bits(bits: u64) -> u64
+    ensures { λ r. ⌜ r ≡ rank (toZ w64 bits) ⌝ }
 {
-    let bits = signed::bits_of_i64(id);
     if bits == 0 {
         return 0;
     }
@@ -49,6 +50,12 @@ pub fn osm_id_rank(id: i64) -> u64
         return bits + 0x8000_0000_0000_0000;
     }
     (0xffff_ffff_ffff_ffff - bits) + 1
+}
+
+pub fn osm_id_rank(id: i64) -> u64
+    ensures { λ r. ⌜ r ≡ rank id ⌝ }
+{
+    rank_of_bits(signed::bits_of_i64(id))
 }
 
 // The id of a rank.

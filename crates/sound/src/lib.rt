@@ -21,7 +21,7 @@ use table::Row;
 fn rank_there(bytes: &[u8], place: usize) -> u64
     ensures { λ r. ⌜ (r ≡ rank (toZ w64 (valueAt 8 (now (bytes .entry)) place))) × (idOf r ≡ toZ w64 (valueAt 8 (now (bytes .entry)) place)) ⌝ }
 {
-    osm_id::osm_id_rank(signed::i64_of_bits(little::get_u64(bytes, place)))
+    osm_id::rank_of_bits(little::get_u64(bytes, place))
 }
 
 // ---- where records start

@@ -11,7 +11,7 @@ returns : tie.Need-returns
 unfolding knownVersion
 returns c = let k = c .before .before .before .before .before .args in
     λ used. c .version-found .ensures
-    ∙ ap (knownAt (k .kind) (now (k .table)) (now (k .arena))) (c .before .find-row .ensures ∙ ap (lookup (now (k .table)) (k .ids)) (c .before .before .rank-of .ensures))
+    ∙ ap (knownAt (k .kind) (now (k .table)) (now (k .arena))) (c .before .find-row .ensures ∙ ap (lookup (now (k .table)) (k .ids)) (c .before .before .rank-of-bits .ensures))
 
 pub known-version-spec : {M : Type 1} → statement M
 known-version-spec =

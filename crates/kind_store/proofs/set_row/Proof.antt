@@ -15,17 +15,17 @@ add-result c = let k = c .before .before .before .before .before .before .before
 returns : tie.Need-returns
 unfolding countAfter
 returns c = let k = c .before .before .before .before .before .before .before .before .args in
-    set-as (now (k .table)) (k .ids) (k .place) (k .floor) (c .before .before .before .before .before .rank-of .ensures) (c .before .before .before .before .put-row .ensures) (c .enum-told .given .1)
+    set-as (now (k .table)) (k .ids) (k .place) (k .floor) (c .before .before .before .before .before .rank-of-bits .ensures) (c .before .before .before .before .put-row .ensures) (c .enum-told .given .1)
 
 returns-2 : tie.Need-returns-2
 unfolding countAfter
 returns-2 c = let k = c .before .before .before .before .before .before .before .before .args in
-    rw add-one (set-as (now (k .table)) (k .ids) (k .place) (k .floor) (c .before .before .before .before .before .rank-of .ensures) (c .before .before .before .before .put-row .ensures) (c .enum-told2 .given .1))
+    rw add-one (set-as (now (k .table)) (k .ids) (k .place) (k .floor) (c .before .before .before .before .before .rank-of-bits .ensures) (c .before .before .before .before .put-row .ensures) (c .enum-told2 .given .1))
 
 returns-3 : tie.Need-returns-3
 unfolding countAfter
 returns-3 c = let k = c .before .before .before .before .before .before .before .before .args in
-    set-as (now (k .table)) (k .ids) (k .place) (k .floor) (c .before .before .before .before .before .rank-of .ensures) (c .before .before .before .before .put-row .ensures) (c .enum-told3 .given .1)
+    set-as (now (k .table)) (k .ids) (k .place) (k .floor) (c .before .before .before .before .before .rank-of-bits .ensures) (c .before .before .before .before .put-row .ensures) (c .enum-told3 .given .1)
 
 pub set-row-spec : {M : Type 1} → statement M
 set-row-spec =

@@ -6,7 +6,7 @@ use mir.Syntax.{w64}
 use Rattle.table.specs.Words.{lookup}
 use Rattle.table.specs.declared.Found.the-variants.{At, Place}
 use Rattle.listed.specs.Listed.{rowStanding}
-use Rattle.listed.proofs.Standings.{bits-rank, standing-at}
+use Rattle.listed.proofs.Standings.{standing-at}
 use borrow.Author.Needs.{needs}
 use Rattle.listed.proofs.standing_of.Statement.{statement}
 use Rattle.listed.proofs.standing_of.Tie as tie
@@ -14,8 +14,8 @@ use Rattle.listed.proofs.standing_of.Tie as tie
 returns : tie.Need-returns
 returns c =
     let b = c .before .before .before .before .before in
-    let a = b .before .before .before .before .args in
-    let r = bits-rank (b .before .before .before .before .fits .id) (b .before .before .i64-of-bits .ensures) (b .before .osm-id-rank .ensures) in
+    let a = b .before .before .before .args in
+    let r = b .before .rank-of-bits .ensures in
     let f = c .before .before .before .i .given in
     let e = sym (f .1) ∙ (b .find-row .ensures ∙ ap (lookup (now (a .table)) (a .ids)) r) in
     c .row-standing .ensures ∙ (ap rowStanding (c .before .row-at .ensures) ∙ sym (standing-at (now (a .table)) (a .ids) (toZ w64 (a .id)) (At (f .0 .0)) e))
@@ -23,8 +23,8 @@ returns c =
 returns-2 : tie.Need-returns-2
 returns-2 c =
     let b = c .before .before in
-    let a = b .before .before .before .before .args in
-    let r = bits-rank (b .before .before .before .before .fits .id) (b .before .before .i64-of-bits .ensures) (b .before .osm-id-rank .ensures) in
+    let a = b .before .before .before .args in
+    let r = b .before .rank-of-bits .ensures in
     let f = c .enum-told .given in
     let e = sym (f .1) ∙ (b .find-row .ensures ∙ ap (lookup (now (a .table)) (a .ids)) r) in
     sym (standing-at (now (a .table)) (a .ids) (toZ w64 (a .id)) (Place (f .0 .0)) e)
@@ -33,7 +33,6 @@ pub standing-of-spec : {M : Type 1} → statement M
 standing-of-spec =
     tie.close
     (tie.spec
-    (λ c κs. search needs)
     (λ c κs. search needs)
     (λ c κs. search needs)
     (λ c. search needs)
