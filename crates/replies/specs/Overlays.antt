@@ -9,6 +9,7 @@ use Rattle.kind_store.specs.declared.Kept.the-variants.{Taken, Refused}
 use Rattle.store.specs.declared.Handle.{Handle}
 use Rattle.store.specs.declared.Handle.the-variants as H
 use Rattle.replies.specs.declared.Text.{Text}
+use Rattle.replies.specs.Readings.{unknownKind}
 
 -- 0 for what is taken, else the refusal
 abbrev pub keptReply : Kept → Reply
@@ -22,8 +23,7 @@ soundReply false = replyOf R.Unsound
 
 -- a kind's number above 2: 22, else 17
 abbrev pub unknownReply : Bool → Reply
-unknownReply true = replyOf R.BadRecord
-unknownReply false = replyOf R.Unsound
+unknownReply sound = replyOf (unknownKind sound)
 
 -- 0 with the text's handle, or the refusal with 0
 abbrev pub handleText : Handle → Text

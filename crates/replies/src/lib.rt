@@ -128,10 +128,8 @@ pub fn sound_reply(sound: bool) -> Reply
 pub fn unknown_reply(sound: bool) -> Reply
     ensures { λ r. ⌜ r ≡ unknownReply sound ⌝ }
 {
-    if sound {
-        return refusal::reply_of(Refusal::BadRecord);
-    }
-    refusal::reply_of(Refusal::Unsound)
+    let refusal = unknown_kind(sound);
+    refusal::reply_of(refusal)
 }
 
 // ---- a reader

@@ -1,18 +1,12 @@
--- 17, or 22 before it.
+-- The reply of the refusal.
+use mathlib.Core.Path.{_∙_, ap}
+use Rattle.refusal.specs.Refusal.{replyOf}
+use borrow.Author.Needs.{needs}
 use Rattle.replies.proofs.unknown_reply.Statement.{statement}
 use Rattle.replies.proofs.unknown_reply.Tie as tie
 
-reply-of-requires : tie.Need-reply-of-requires
-reply-of-requires c κs = tt
-
 returns : tie.Need-returns
-returns c = rw (c .before .if1 .taken) (c .reply-of .ensures)
-
-reply-of-requires-2 : tie.Need-reply-of-requires-2
-reply-of-requires-2 c κs = tt
-
-returns-2 : tie.Need-returns-2
-returns-2 c = rw (c .before .if1 .left) (c .reply-of2 .ensures)
+returns c = c .reply-of .ensures ∙ ap replyOf (c .before .unknown-kind .ensures)
 
 pub unknown-reply-spec : {M : Type 1} → statement M
-unknown-reply-spec = tie.close (tie.spec reply-of-requires returns reply-of-requires-2 returns-2)
+unknown-reply-spec = tie.close (tie.spec (λ c κs. search needs) (λ c κs. search needs) returns)
