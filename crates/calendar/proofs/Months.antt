@@ -1,45 +1,42 @@
--- Laws of month lengths: the table's rule, bounds, and the days of the first months.
-use Prim.Native.Nat.{ℕ, zero, suc, _+_, _-_, _*_, _<_, _≤_}
+-- Laws of month lengths: the formula, bounds, and the days of the first months.
+use Prim.Native.Nat.{ℕ, zero, suc, _+_, _-_, _*_, _/_, _%_, _<_, _≤_}
 use mathlib.Core.Path.{_≡_, refl}
-use mathlib.Core.Logic.{_⊎_, inl, inr}
 use mathlib.Core.Bool.{Bool, true, false, cond}
-use mathlib.Core.List.{List, [], _∷_}
 use native.Mathlib.Omega.{arith}
 use native.Mathlib.Numerals.{add-one, sub-one}
 use lib.Dec.{eqb}
-use lib.ListN.{getD}
 use borrow.Author.Tests.{eqb-true, ne-eqb}
 use Rattle.base.specs.Bytes.{both, either}
-use Rattle.base.proofs.Split.{no}
-use Rattle.base.proofs.Table.{rule}
+use Rattle.base.proofs.Split.{both-left, both-right, by-either, byEq, no}
 use Rattle.calendar.specs.Calendar.{monthDays, monthsDays}
 
--- the table of twelve
-unfoldable pub lengths : List ℕ
-lengths = 31 ∷ 28 ∷ 31 ∷ 30 ∷ 31 ∷ 30 ∷ 31 ∷ 31 ∷ 30 ∷ 31 ∷ 30 ∷ 31 ∷ []
-
--- the entry at k is the length of month k + 1 in a common year
-unfoldable right : ℕ → ℕ → Bool
-right k n = eqb n (monthDays false (suc k))
-
-pub table : (k : ℕ) → k < 12 → getD lengths k 0 ≡ monthDays false (suc k)
-unfolding lengths right both either monthDays
-table k h = eqb-true (getD lengths k 0) (monthDays false (suc k)) (rule right lengths refl k h)
-
-pub february : monthDays true 2 ≡ 29
+pub february : (l : Bool) → monthDays l 2 ≡ cond l 29 28
 unfolding monthDays
-february = refl
+february l = refl
 
--- only February asks for the year
-pub any-year : (l : Bool) (m : ℕ) → (m ≡ 2 → ⊥) → monthDays l m ≡ monthDays false m
-unfolding monthDays
-any-year l m h = rw (ne-eqb m 2 h)
+-- a test that each number below n passes
+abbrev allBelow : (ℕ → Bool) → ℕ → Bool
+allBelow f zero = true
+allBelow f (suc n) = both (f n) (allBelow f n)
 
--- a month by its entry in the table
-pub from-table : (l : Bool) (m : ℕ) → (m ≡ 0 → ⊥) → m ≤ 12 → (l ≡ false) ⊎ (m ≡ 2 → ⊥) → getD lengths (m - 1) 0 ≡ monthDays l m
-from-table l zero z h e = absurd (z refl)
-from-table l (suc k) z h (inl f) = rw (sub-one, f) (table k h)
-from-table l (suc k) z h (inr f) = rw (sub-one, any-year l (suc k) f) (table k h)
+each-below : (f : ℕ → Bool) (n : ℕ) → allBelow f n ≡ true → (k : ℕ) → k < n → f k ≡ true
+each-below f zero t k h = absurd (omega arith)
+each-below f (suc n) t k h = byEq k n (λ e. rw e (both-left _ _ t)) (λ e. each-below f n (both-right _ _ t) k (omega arith))
+
+-- the month after k months is February, or has the formula's length
+unfoldable right : Bool → ℕ → Bool
+right l k = either (eqb (suc k) 2) (eqb (monthDays l (suc k)) (30 + (suc k + suc k / 8) % 2))
+
+-- all twelve months by one test that antt computes
+twelve : (l : Bool) → allBelow (right l) 12 ≡ true
+unfolding right both either monthDays
+twelve l = refl
+
+-- document 02, request 5: for a month other than February, 30 plus the remainder by two of the month plus the month divided by eight, rounded down
+pub month-formula : (l : Bool) (m : ℕ) → 1 ≤ m → m ≤ 12 → (m ≡ 2 → ⊥) → monthDays l m ≡ 30 + (m + m / 8) % 2
+unfolding right
+month-formula l zero z h e = no (omega arith)
+month-formula l (suc k) z h e = by-either _ _ (each-below (right l) 12 (twelve l) k h) (λ t. absurd (e (eqb-true (suc k) 2 t))) (λ t. eqb-true _ _ t)
 
 pub no-month : (l : Bool) → monthDays l 0 ≡ 31
 unfolding monthDays either

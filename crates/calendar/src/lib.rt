@@ -3,9 +3,6 @@ ghost use mathlib.Core.Path.{_≡_};
 ghost use Prim.Native.Nat.{_-_};
 ghost use Rattle.calendar.specs.Calendar.{leap, monthDays, monthsDays, yearsDays};
 
-// The months' lengths in a common year.
-const MONTHS: [u8; 12] = [31, 28, 31, 30, 31, 30, 31, 31, 30, 31, 30, 31];
-
 pub fn is_leap(year: u32) -> bool
     ensures { λ r. ⌜ r ≡ leap year ⌝ }
 {
@@ -18,7 +15,7 @@ pub fn is_leap(year: u32) -> bool
     year % 4 == 0
 }
 
-// The length of a month, 1 to 12; 31 for any other number.
+// The length of a month, 1 to 12; 31 for any other number. But for February, 31 and 30 days come in turn from January, and anew from August, the 8th month.
 pub fn month_length(leap_year: bool, month: u8) -> u8
     ensures { λ r. ⌜ r ≡ monthDays «leap_year» month ⌝ }
 {
@@ -32,8 +29,9 @@ pub fn month_length(leap_year: bool, month: u8) -> u8
         if leap_year {
             return 29;
         }
+        return 28;
     }
-    MONTHS[(month - 1) as usize]
+    30 + (month + month / 8) % 2
 }
 
 // The days of the year before a month.
