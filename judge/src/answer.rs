@@ -5,6 +5,7 @@ use std::collections::HashMap;
 use quick_xml::events::{BytesEnd, BytesStart, BytesText, Event};
 use quick_xml::lines::{Line, escape, judge_line};
 
+use crate::ground;
 use crate::nesting::Place;
 use crate::osc::CompactDiffOverlay;
 use crate::osc::xml_parse::{JudgeStaged, JudgeSteps, judge_drive};
@@ -185,7 +186,8 @@ impl Stop {
     }
 }
 
-/// Lent sizes. The published Rust has none: 13 to 16 and 19 are document 01's words.
+/// Lent sizes. The published Rust has none: 13 to 16 and 19 are document 01's words. With them a sign in a timestamp
+/// is 9, as document 02 words it.
 #[derive(Clone, Copy, Debug, PartialEq, Eq)]
 pub struct Sizes {
     /// For each kind.
@@ -289,7 +291,10 @@ impl Reader {
             Line::Close => Event::End(BytesEnd),
             Line::Other => Event::Text(BytesText),
             Line::Open { empty, content, name_len } => {
-                let start = BytesStart::from_content(content, name_len);
+                let start = match sizes {
+                    Some(_) => BytesStart::from_content(without_signs(content, name_len), name_len),
+                    None => BytesStart::from_content(content, name_len),
+                };
                 if empty { Event::Empty(start) } else { Event::Start(start) }
             }
         };
@@ -348,6 +353,18 @@ impl Reader {
     }
 }
 
+/// An element's name and fields, a timestamp that the Rust takes in spite of a sign without its value: the Rust refuses
+/// that with 9, at the same place.
+fn without_signs(content: &str, name_len: usize) -> String {
+    let (name, fields) = content.split_at(name_len);
+    let field = |field| match str::strip_prefix(field, "timestamp=").map(str::as_bytes) {
+        Some(value) if ground::stamp(value) != ground::stamp_with_signs(value) => "timestamp=",
+        _ => field,
+    };
+    let fields: Vec<&str> = fields.split('\t').map(field).collect();
+    name.to_owned() + &fields.join("\t")
+}
+
 /// What a program prints for event lines.
 #[derive(Clone, Debug, PartialEq, Eq)]
 pub enum Outcome {
@@ -399,7 +416,7 @@ pub fn split_lines(input: &[u8]) -> Vec<(&[u8], bool)> {
         .collect()
 }
 
-/// Event lines one at a time into a new overlay, with lent sizes: 13 to 16 and 19 too.
+/// Event lines one at a time into a new overlay, with lent sizes: 13 to 16 and 19 too, and 9 for a sign.
 pub fn run_sized(input: &[u8], allow_regression: bool, sizes: &Sizes) -> (Outcome, Overlay) {
     let mut overlay = Overlay::new();
     overlay.allow_version_regression(allow_regression);

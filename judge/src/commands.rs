@@ -1,4 +1,5 @@
-//! Stand-in for `parse_rfc3339_utc`, whose file is not among the published ones: document 01's words.
+//! Stand-in for `parse_rfc3339_utc`, whose file is not among the published ones: document 01's words, by which a
+//! field may have a sign. Document 02's request 6 changes nothing here: the Rust goes on taking signs.
 
 use std::fmt;
 

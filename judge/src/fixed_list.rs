@@ -4,8 +4,8 @@
 use std::collections::HashSet;
 
 use crate::compare::ground::{
-    EDGE_STAMPS, GOOD_STAMPS, Ground, Judge, edge_ids, edge_integers, edge_versions, random_integer, random_stamp,
-    text_vectors, version,
+    EDGE_STAMPS, Ground, Judge, edge_ids, edge_integers, edge_versions, random_integer, random_stamp, text_vectors,
+    version,
 };
 use crate::random::Random;
 
@@ -130,7 +130,7 @@ fn list() -> List {
         let other = random_integer(&mut random);
         list.integer(&other);
     }
-    for stamp in GOOD_STAMPS.iter().chain(&EDGE_STAMPS) {
+    for stamp in EDGE_STAMPS {
         list.stamp(stamp.as_bytes());
         for _ in 0..6 {
             let mut damaged = stamp.as_bytes().to_vec();

@@ -51,9 +51,20 @@ pub fn read_i32(bytes: &[u8]) -> Option<i32> {
     std::str::from_utf8(bytes).ok()?.parse().ok()
 }
 
-/// None stands for 9. Document 01's words, not the published Rust: see commands.rs.
-pub fn stamp(bytes: &[u8]) -> Option<i64> {
+/// The Rust's reader, which takes signs. Document 01's words, not the published Rust: see commands.rs.
+pub fn stamp_with_signs(bytes: &[u8]) -> Option<i64> {
     crate::parse_rfc3339_utc(std::str::from_utf8(bytes).ok()?).ok()
+}
+
+/// Document 02, request 6: every field of a timestamp is digits. Equality with the Rust reads over these texts.
+pub fn digit_fields(bytes: &[u8]) -> bool {
+    let digits = |field| bytes.get(field).is_some_and(|f: &[u8]| f.iter().all(u8::is_ascii_digit));
+    [0..4, 5..7, 8..10, 11..13, 14..16, 17..19].into_iter().all(digits)
+}
+
+/// None stands for 9: the Rust's answer where every field is digits, and no other text is taken.
+pub fn stamp(bytes: &[u8]) -> Option<i64> {
+    stamp_with_signs(bytes).filter(|_| digit_fields(bytes))
 }
 
 /// Rust's UTF-8 reader, and XML 1.0's characters.

@@ -1,5 +1,6 @@
 //! Inputs for both sides: event sequences from every level, and documents at random.
 
+use crate::ground;
 use crate::lines::escape;
 use crate::random::Random;
 
@@ -274,10 +275,12 @@ impl Documents {
         }
         if self.random.once_in(3) {
             let stamp = crate::compare::ground::random_stamp(&mut self.random);
+            // Where damage is wanted, signs may stand in it.
+            let read = if self.style.damage == 0 { ground::stamp } else { ground::stamp_with_signs };
             let stamp = String::from_utf8(stamp)
                 .ok()
-                .filter(|s| crate::parse_rfc3339_utc(s).is_ok())
-                .unwrap_or_else(|| "2024-01-01T-1:00:00Z".to_owned());
+                .filter(|s| read(s.as_bytes()).is_some())
+                .unwrap_or_else(|| "2024-01-01T23:00:00Z".to_owned());
             list.push(format!("timestamp={stamp}"));
         }
         if self.random.once_in(3) {
@@ -425,7 +428,7 @@ impl Documents {
                 let mut fields = fields;
                 let at = self.random.below(fields.len());
                 if let Some(equals) = fields[at].iter().position(|&b| b == b'=') {
-                    let bad: [&[u8]; 25] = [
+                    let bad: [&[u8]; 27] = [
                         b"",
                         b"x",
                         b"1.5",
@@ -446,6 +449,8 @@ impl Documents {
                         b"0x1",
                         b"2024-01-01T00:00:60Z",
                         b"2023-02-29T00:00:00Z",
+                        b"2024-01-01T-1:00:00Z",
+                        b"+024-01-01T00:00:00Z",
                         b"0",
                         b"2147483647",
                         b"-900000001",

@@ -1,4 +1,4 @@
-//! The inputs of docs/DIFFERENCES.md, run: what the Rust does, and that document 01's rule differs.
+//! The inputs of docs/DIFFERENCES.md, run: what the Rust does, and that document 01's rule differs, or document 02's.
 
 use std::panic::{AssertUnwindSafe, catch_unwind};
 
@@ -148,12 +148,31 @@ fn d8_a_number_past_its_list() {
 }
 
 #[test]
+fn d9_signs_in_a_timestamp() {
+    use judge::ground::{stamp, stamp_with_signs};
+    for (text, seconds) in [
+        ("2024-01-01T-1:00:00Z", 1_704_063_600),
+        ("2024-01--1T00:00:00Z", 1_703_894_400),
+        ("-001-01-01T00:00:00Z", -62_198_755_200),
+        ("2024-01-01T+1:00:00Z", 1_704_070_800),
+    ] {
+        assert_eq!(stamp_with_signs(text.as_bytes()), Some(seconds));
+        assert_eq!(stamp(text.as_bytes()), None);
+        let input =
+            format!("open\tosmChange\nopen\tcreate\nempty\tway\tid=1\ttimestamp={text}\tversion=x\nclose\nclose\n");
+        let (outcome, _) = run_sized(input.as_bytes(), false, &Sizes::ROADLIST);
+        assert_eq!(outcome.print(), b"refused\t9\t3\t-\n");
+        let input = input.replace("\tversion=x", "");
+        let listed = format!("w\t1\t+\t?\t1\t0\t{seconds}\t0\t0\t\t0\t0\n");
+        assert_eq!(run(input.as_bytes(), false).0.print(), listed.as_bytes());
+        let (outcome, _) = run_sized(input.as_bytes(), false, &Sizes::ROADLIST);
+        assert_eq!(outcome.print(), b"refused\t9\t3\t-\n");
+    }
+}
+
+#[test]
 fn rfc_3339() {
     use judge::ground::stamp;
-    assert_eq!(stamp(b"2024-01-01T-1:00:00Z"), Some(1_704_063_600));
-    assert_eq!(stamp(b"2024-01-01T+1:00:00Z"), Some(1_704_070_800));
-    assert_eq!(stamp(b"2024-01--1T00:00:00Z"), Some(1_703_894_400));
-    assert_eq!(stamp(b"-001-01-01T00:00:00Z"), Some(-62_198_755_200));
     assert_eq!(stamp(b"2016-12-31T23:59:60Z"), None);
     assert_eq!(stamp(b"2024-01-01t00:00:00Z"), None);
     assert_eq!(stamp(b"2024-01-01T00:00:00z"), None);

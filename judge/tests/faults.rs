@@ -9,6 +9,7 @@ use judge::compare::program::{self, Program, edge_numbers_met, expected};
 use judge::compare::reads::{everything, nothing, the_listing};
 use judge::compare::words::{Words, rows};
 use judge::compare::{Compared, direct, overlay};
+use judge::ground::stamp_with_signs;
 use judge::{KINDS, Sizes, run_sized};
 
 /// What a fault makes of a call: what was lent before it, what is lent after it, and its answer.
@@ -72,8 +73,23 @@ fn is_change(call: &Call) -> bool {
     matches!(call, Call::Push(..) | Call::Delete(..) | Call::Event(..))
 }
 
+/// The line with a 0 for each sign that begins a field of its timestamp.
+fn digits_for_signs(line: &[u8]) -> Vec<u8> {
+    let mut line = line.to_vec();
+    let name = b"\ttimestamp=";
+    if let Some(at) = line.windows(name.len()).position(|w| w == name) {
+        for field in [0, 5, 8, 11, 14, 17] {
+            match line.get_mut(at + name.len() + field) {
+                Some(byte @ (b'+' | b'-')) => *byte = b'0',
+                _ => {}
+            }
+        }
+    }
+    line
+}
+
 /// Each fault, with the comparisons that must find it, by their numbers above.
-const FAULTS: [(&str, Fault, &[usize]); 25] = [
+const FAULTS: [(&str, Fault, &[usize]); 26] = [
     (
         "refuses all",
         |_, before, lent, answer| {
@@ -102,6 +118,16 @@ const FAULTS: [(&str, Fault, &[usize]); 25] = [
     ),
     ("cries full", |_, _, _, answer| swapped(answer, 0, 15), &[1, 2, 3, 6, 8, 9]),
     ("swaps 14 and 15", |_, _, _, answer| swapped(answer, 14, 15), &[1, 2, 3, 4, 8, 9]),
+    (
+        "a sign in a timestamp taken",
+        |call, before, lent, answer| {
+            if let (Call::Event(n, line), 9) = (call, answer.number()) {
+                *lent = before.clone();
+                *answer = Words::default().call(lent, &Call::Event(*n, digits_for_signs(line)));
+            }
+        },
+        &[8],
+    ),
     ("swaps 5 and 6", |_, _, _, answer| swapped(answer, 6, 5), &[6, 7, 8, 9]),
     (
         "forgets the version held",
@@ -328,7 +354,7 @@ through! {
     6 version_raise(floor: u64, claim: u64) -> u64, |f, _, g| if g == NONE { f } else { g };
     7 read_i64(s: &[u8]) -> (u32, i64), |s, g| if s.len() > 20 { (8, 0) } else { g };
     8 read_i32(s: &[u8]) -> (u32, i64), |s, g| if s == b"-2147483649" { (0, 0) } else { g };
-    9 stamp(s: &[u8]) -> (u32, i64), |s, g| if s.starts_with(b"2000-02-29") { (9, 0) } else { g };
+    9 stamp(s: &[u8]) -> (u32, i64), |s, g| stamp_with_signs(s).map_or(g, |v| (0, v));
     10 is_text(s: &[u8]) -> u8, |s, g| g | u8::from(s == "\u{fffe}".as_bytes());
 }
 

@@ -1,3 +1,2 @@
 pub mod Months
 pub mod Years
-pub mod Difference

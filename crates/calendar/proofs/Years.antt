@@ -6,12 +6,10 @@ use native.Mathlib.Omega.{arith}
 use native.Mathlib.Nat.{mod-lt, div-add-mod', suc-mul, div-eq-of-lt}
 use lib.Arith.{digits-div}
 use lib.Dec.{eqb}
-use lib.IntN.{pos, negsuc, _-ℤ_}
-use borrow.Author.Tests.{eq-eqb, ne-eqb, eqb-true}
+use borrow.Author.Tests.{eq-eqb, ne-eqb}
 use Rattle.base.specs.Bytes.{both, either}
-use Rattle.base.proofs.Split.{both-of, either-right, byBool, byEq, same-test, no}
-use Rattle.calendar.specs.Calendar.{leap, monthDays, monthsDays, yearDays, yearsDays, yearsBack, yearStart}
-use Rattle.calendar.proofs.Difference.{plain, negative, same}
+use Rattle.base.proofs.Split.{both-of, either-right, byBool, byEq}
+use Rattle.calendar.specs.Calendar.{leap, monthDays, monthsDays, yearDays, yearsDays}
 
 module _ (y : ℕ) where
   pub leap-400 : y % 400 ≡ 0 → leap y ≡ true
@@ -99,53 +97,3 @@ years-formula y = omega (arith, years-count y)
 
 pub years-high : (y : ℕ) → yearsDays y ≤ 366 * y
 years-high y = omega (arith, years-formula y)
-
--- zero together
-abbrev Together : ℕ → ℕ → Type 0
-Together a b = (a ≡ 0 → b ≡ 0) × (b ≡ 0 → a ≡ 0)
-
-together : (a b : ℕ) → Together a b → eqb a 0 ≡ eqb b 0
-together a b t = same-test (eqb a 0) (eqb b 0) (λ e. eq-eqb b 0 (t .0 (eqb-true a 0 e))) (λ e. eq-eqb a 0 (t .1 (eqb-true b 0 e)))
-
-leap-alike : (x y : ℕ) → Together (x % 4) (y % 4) → Together (x % 100) (y % 100) → Together (x % 400) (y % 400) → leap x ≡ leap y
-unfolding leap
-leap-alike x y a b d = cc (together (x % 4) (y % 4) a, together (x % 100) (y % 100) b, together (x % 400) (y % 400) d)
-
-year-alike : (x y : ℕ) → leap x ≡ leap y → yearDays x ≡ yearDays y
-unfolding yearDays
-year-alike x y e = rw e
-
--- the calendar repeats after 400 years, so after 1200, and is the same backwards
-pub leap-shift : (x y : ℕ) → x ≡ y + 1200 → leap x ≡ leap y
-leap-shift x y e = leap-alike x y (omega arith) (omega arith) (omega arith)
-
-pub leap-mirror : (x y : ℕ) → x + y ≡ 1200 → leap x ≡ leap y
-leap-mirror x y e = leap-alike x y (omega arith) (omega arith) (omega arith)
-
-pub years-shift : (x y : ℕ) → x ≡ y + 1200 → yearsDays x ≡ yearsDays y + 438291
-years-shift x zero e = omega (arith, years-formula x, years-none)
-years-shift zero (suc y) e = no (omega arith)
-years-shift (suc x) (suc y) e =
-    let last : x ≡ y + 1200 = omega arith in
-    omega (arith, years-shift x y last, years-more x, years-more y, year-alike x y (leap-shift x y last))
-
-pub back-none : yearsBack 0 ≡ 0
-unfolding yearsBack
-back-none = refl
-
-pub back-more : (k : ℕ) → yearsBack (suc k) ≡ yearsBack k + yearDays (suc k)
-unfolding yearsBack
-back-more k = refl
-
-pub years-mirror : (x k : ℕ) → x + k ≡ 1200 → yearsDays x + yearsBack k ≡ 438291
-years-mirror x zero e = omega (arith, years-formula x, back-none)
-years-mirror x (suc k) e = omega (arith, years-mirror (suc x) k (omega arith), years-more x, back-more k, year-alike x (suc k) (leap-mirror x (suc k) e))
-
--- a signed year from -1200 on, counted as i from year -1200: its first day, and by leap-shift and leap-mirror whether it is a leap year
-pub start-pos : (i n : ℕ) → i ≡ n + 1200 → yearStart (pos n) ≡ pos (yearsDays i) -ℤ pos 438291
-unfolding yearStart
-start-pos i n e = plain (yearsDays n) ∙ same (yearsDays n) 0 (yearsDays i) 438291 (omega (arith, years-shift i n e))
-
-pub start-neg : (i k : ℕ) → i + suc k ≡ 1200 → yearStart (negsuc k) ≡ pos (yearsDays i) -ℤ pos 438291
-unfolding yearStart
-start-neg i k e = negative (yearsBack (suc k)) ∙ same 0 (yearsBack (suc k)) (yearsDays i) 438291 (omega (arith, years-mirror i (suc k) e))

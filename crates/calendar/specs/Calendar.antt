@@ -1,8 +1,7 @@
 -- The calendar of RFC 3339: the Gregorian calendar, also before it was in use. Days are counted one year and one month at a time.
-use Prim.Native.Nat.{ℕ, zero, suc, _+_, _-_, _%_}
-use mathlib.Core.Bool.{Bool, true, false, cond, not}
+use Prim.Native.Nat.{ℕ, zero, suc, _+_, _%_}
+use mathlib.Core.Bool.{Bool, cond, not}
 use lib.Dec.{eqb}
-use lib.IntN.{ℤ, pos, negsuc, negℤ, natAbs}
 use Rattle.base.specs.Bytes.{both, either}
 
 -- RFC 3339, appendix C: a year is a leap year if it is divisible by 4, and by 400 if it is divisible by 100
@@ -27,13 +26,3 @@ yearDays y = monthsDays (leap y) 12
 unfoldable pub yearsDays : ℕ → ℕ
 yearsDays zero = 0
 yearsDays (suc y) = yearsDays y + yearDays y
-
--- the days of the k years before year 0
-unfoldable pub yearsBack : ℕ → ℕ
-yearsBack zero = 0
-yearsBack (suc k) = yearsBack k + yearDays (suc k)
-
--- the first day of a year, counted from the first day of year 0
-unfoldable pub yearStart : ℤ → ℤ
-yearStart (pos y) = pos (yearsDays y)
-yearStart (negsuc k) = negℤ (pos (yearsBack (suc k)))

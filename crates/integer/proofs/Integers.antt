@@ -1,11 +1,10 @@
 -- Laws of integer fields: what the reader of both widths gives, and what an answer says.
 use Prim.Native.Nat.{ℕ, zero, suc, _+_, _-_, _^_, _<_, _≤_}
-use mathlib.Core.Path.{_≡_, refl, _∙_, ap, subst}
+use mathlib.Core.Path.{_≡_, refl, _∙_, ap}
 use mathlib.Core.Bool.{true, cond}
 use mathlib.Core.Option.{Option, none, some, Option·map}
 use mathlib.Core.List.{[], _∷_}
 use native.Mathlib.Omega.{arith}
-use native.Mathlib.Nat.{pow-suc, pow-le-pow-right, lt-of-lt-of-le}
 use lib.Pow.{pow-pos}
 use lib.Dec.{eqb}
 use lib.ListN.{length, getD, drop}
@@ -17,9 +16,9 @@ use mir.Facts.{fits-ofZ, toZ-ofZ, ofZ-toZ}
 use mir.ValLaws.{toZ-fits}
 use borrow.Author.Tests.{le-leb, lt-leb, lt-ltb, le-ltb, eq-eqb, ne-eqb, ltb-true}
 use Rattle.base.specs.Bytes.{Bytes, isDigit, all}
-use Rattle.base.proofs.Split.{no, byBool, byLt, byLe, byEq}
+use Rattle.base.proofs.Split.{no, byBool, byLt, byLe}
 use Rattle.base.proofs.Lists.{all-head}
-use Rattle.integer.proofs.Digits.{digit-is, digits-of, digits-below}
+use Rattle.integer.proofs.Digits.{digit-is, digits-of}
 use Rattle.integer.specs.Integer.{decimal, digits, integer, holds, ofWidth, integerOf, integerAnswer, readOf}
 use Rattle.integer.specs.Bounded.{atMost, bitsOf, readBits}
 use Rattle.integer.specs.declared.Integer.{Integer}
@@ -154,7 +153,7 @@ read-not w s e = go (integerOf w s) e
     go none q = refl
     go (some z) q = no (cc)
 
--- ---- texts of digits, and short texts
+-- ---- texts of digits
 
 -- digits alone are read as their number
 pub integer-digits : (s : Bytes) → 0 < length s → all isDigit s ≡ true → integer s ≡ some (pos (decimal 0 s))
@@ -163,32 +162,3 @@ integer-digits [] l h = no (omega arith)
 integer-digits (b ∷ s) l h =
     let d = digit-is b (all-head isDigit b s h) in
     rw (ne-eqb b 43 (λ q. omega arith), ne-eqb b 45 (λ q. omega arith), digits-of (b ∷ s) l h)
-
--- a number that k + 1 bytes can write: below 10 ^ (k + 1), and as a negative number above -(10 ^ k)
-abbrev pub Within : ℕ → ℤ → Type 0
-Within k (pos n) = n < 10 ^ suc k
-Within k (negsuc n) = suc n < 10 ^ k
-
-mapped : {A : Type 0} (f : ℕ → A) (m : Option ℕ) {z : A} → Option·map f m ≡ some z → (n : ℕ) × ((m ≡ some n) × (f n ≡ z))
-mapped f none e = no (cc)
-mapped f (some n) e = (n, (refl, cc))
-
-minus-within : (k n : ℕ) → n < 10 ^ k → Within k (negℤ (pos n))
-minus-within k zero h = rw pow-suc (omega arith)
-minus-within k (suc n) h = h
-
-shorter : (s : Bytes) (k : ℕ) {n : ℕ} → length s ≤ k → digits s ≡ some n → n < 10 ^ k
-shorter s k h e = lt-of-lt-of-le (digits-below s e) (pow-le-pow-right (omega arith) h)
-
-pub integer-within : (s : Bytes) (k : ℕ) {z : ℤ} → length s ≤ suc k → integer s ≡ some z → Within k z
-unfolding integer
-integer-within [] k l e = no (cc)
-integer-within (b ∷ s) k {z} l e =
-    byEq b 43
-    (λ p. let m = mapped pos (digits s) (rw (eq-eqb b 43 p) at e) in
-    subst (λ y. Within k y) (m .1 .1) (rw pow-suc (omega (arith, shorter s k (omega arith) (m .1 .0)))))
-    (λ p. byEq b 45
-    (λ q. let m = mapped (λ n. negℤ (pos n)) (digits s) (rw (ne-eqb b 43 p, eq-eqb b 45 q) at e) in
-    subst (λ y. Within k y) (m .1 .1) (minus-within k (m .0) (shorter s k (omega arith) (m .1 .0))))
-    (λ q. let m = mapped pos (digits (b ∷ s)) (rw (ne-eqb b 43 p, ne-eqb b 45 q) at e) in
-    subst (λ y. Within k y) (m .1 .1) (shorter (b ∷ s) (suc k) l (m .1 .0))))

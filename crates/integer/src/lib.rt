@@ -66,6 +66,13 @@ fn read_signed(s: &[u8], most: u64, ones: u64) -> Integer
     magnitude(s, 0, most)
 }
 
+// The number of a text of digits alone, without a sign, if it is at most `most`.
+pub fn read_digits(text: &[u8], most: u64) -> Integer
+    ensures { λ r. ⌜ r ≡ atMost most (digits (now (text .entry))) ⌝ }
+{
+    magnitude(text, 0, most)
+}
+
 pub fn read_i64(s: &[u8]) -> Integer
     ensures { λ r. ⌜ r ≡ readOf w64 (now (s .entry)) ⌝ }
 {

@@ -1,154 +1,135 @@
--- The timestamp reader against RFC 3339: on texts whose fields are digits it takes exactly the date-times of the kept form, with their value.
-use Prim.Native.Nat.{ℕ, zero, suc, _+_, _-_, _*_, _≤_}
+-- The timestamp reader against RFC 3339: it takes exactly the date-times of the kept form, with their value.
+use Prim.Native.Nat.{ℕ, _≤_}
 use mathlib.Core.Path.{_≡_, refl, sym, ap, _∙_}
 use mathlib.Core.Logic.{_↔_, _⊎_, ⊎-elim}
 use mathlib.Core.Bool.{true, false, cond}
 use mathlib.Core.Option.{Option, none, some}
 use native.Mathlib.Omega.{arith}
-use lib.ListN.{take, drop}
-use lib.IntN.{ℤ, pos, _-ℤ_, +ℤ-idr}
-use borrow.Author.Tests.{leb-true, le-leb}
-use Rattle.base.specs.Bytes.{Bytes, both}
-use Rattle.base.proofs.Split.{both-left, both-right, byBool, no}
-use Rattle.integer.specs.Integer.{decimal}
-use Rattle.calendar.specs.Calendar.{leap, monthDays, monthsDays, yearsDays, yearStart}
-use Rattle.calendar.proofs.Months.{month-bounds}
-use Rattle.calendar.proofs.Difference.{plus, times, unit}
-use Rattle.stamp.specs.Stamp.{shaped, nonzero, takenMoment, daysOf, secondsOf, moment, acceptedMoment, stamp}
+use lib.IntN.{ℤ, +ℤ-idr}
+use borrow.Author.Tests.{le-leb}
+use Rattle.base.specs.Bytes.{Bytes, all, both, isDigit}
+use Rattle.base.proofs.Split.{byBool, no}
+use Rattle.integer.specs.Integer.{decimal, digits}
+use Rattle.calendar.specs.Calendar.{leap, monthDays}
+use Rattle.stamp.specs.declared.Moment.{Moment}
+use Rattle.stamp.specs.Stamp.{stampField, shaped, takenMoment, daysOf, epoch, secondsOf, moment, acceptedMoment, stamp}
+use Rattle.stamp.proofs.Reading.{field-small}
+use Rattle.stamp.proofs.Judging.{MomentRanges, moment-ranges}
+use Rattle.stamp.proofs.Bounds.{Fields, moment-is}
 use Rattle.rfc3339.specs.Rfc3339.{upper, lower, utc, east, west, DateTime, dateTime, offsetMinutes, Ranges, fromYear0, sinceEpoch, fraction, IsDateTime}
-use Rattle.rfc3339.specs.Form.{KeepsForm, AllDigits}
-use Rattle.rfc3339.proofs.Texts.{Shape, Places, number, numbers, unmarked, signed, shape, reads, year-numbers, spelled, unmarked-shape, written-digits, unmarked-moment}
+use Rattle.rfc3339.specs.Form.{KeepsForm}
+use Rattle.rfc3339.proofs.Texts.{Shape, momentOf, dateTimeOf, moment-back, unmarked, shape, spelled, unmarked-shape, written-moment}
 use Rattle.rfc3339.proofs.Forms.{Unmarked, kept-unmarked, is-unmarked}
 
 -- ---- the ranges and the value
 
-places : (t : DateTime) → Ranges t → Places t
-places t r = omega (arith, month-bounds (leap (t .year)) (t .month))
+-- the reader takes what is within the ranges, but for second 60
+ranges-taken : (t : DateTime) → Ranges t → t .second ≤ 59 → takenMoment (momentOf t) ≡ true
+unfolding takenMoment momentOf both
+ranges-taken t r l =
+    rw (
+      le-leb 1 (t .month) (r .month1),
+      le-leb (t .month) 12 (r .month12),
+      le-leb 1 (t .mday) (r .mday1),
+      le-leb (t .mday) (monthDays (leap (t .year)) (t .month)) (r .mday),
+      le-leb (t .hour) 23 (r .hour),
+      le-leb (t .minute) 59 (r .minute),
+      le-leb (t .second) 59 l,
+    )
 
-nonzero-of : (n : ℕ) → 1 ≤ n → nonzero (pos n) ≡ true
-unfolding nonzero
-nonzero-of zero l = no (omega arith)
-nonzero-of (suc n) l = refl
-
-nonzero-is : (n : ℕ) → nonzero (pos n) ≡ true → 1 ≤ n
-unfolding nonzero
-nonzero-is zero e = no (cc)
-nonzero-is (suc n) e = omega arith
-
-module _ (t : DateTime) where
-  -- the reader takes what is within the ranges, but for second 60
-  ranges-taken : Ranges t → t .second ≤ 59 → takenMoment (signed t) ≡ true
-  unfolding takenMoment signed both
-  ranges-taken r l =
-      rw (
-        le-leb 1 (t .month) (r .month1),
-        le-leb (t .month) 12 (r .month12),
-        nonzero-of (t .mday) (r .mday1),
-        le-leb (t .mday) (monthDays (leap (t .year)) (t .month)) (r .mday),
-        le-leb (t .hour) 23 (r .hour),
-        le-leb (t .minute) 59 (r .minute),
-        le-leb (t .second) 59 l,
-      )
-
+module _ (m : Moment) where
   -- and of a year of four digits nothing else
-  taken-ranges : t .year ≤ 9999 → takenMoment (signed t) ≡ true → Ranges (unmarked t) × (t .second ≤ 59)
-  unfolding takenMoment signed
-  taken-ranges y h =
-      let h1 = both-right _ _ h in
-      let h2 = both-right _ _ h1 in
-      let h3 = both-right _ _ h2 in
-      let l : t .second ≤ 59 = leb-true _ _ (both-right _ _ h3) in
-      let r : Ranges (unmarked t) =
+  taken-ranges : m .year ≤ 9999 → MomentRanges m → Ranges (dateTimeOf m)
+  unfolding dateTimeOf
+  taken-ranges y b =
       record {
         year = y;
-        month1 = leb-true _ _ (both-left _ _ (both-left _ _ h));
-        month12 = leb-true _ _ (both-right _ _ (both-left _ _ h));
-        mday1 = nonzero-is (t .mday) (both-left _ _ (both-left _ _ h1));
-        mday = leb-true _ _ (both-right _ _ (both-left _ _ h1));
-        hour = leb-true _ _ (both-left _ _ h2);
-        minute = leb-true _ _ (both-left _ _ h3);
+        month1 = b .month1;
+        month12 = b .month12;
+        mday1 = b .day1;
+        mday = b .day;
+        hour = b .hour;
+        minute = b .minute;
         second = omega arith;
         second60 = λ e. no (omega arith);
         secfrac = tt;
         offset = tt;
-      } in
-      (r, l)
+      }
 
   -- and it gives the seconds from the epoch
-  seconds : 1 ≤ t .mday → secondsOf (signed t) ≡ sinceEpoch (unmarked t)
-  unfolding secondsOf daysOf signed yearStart sinceEpoch fromYear0 offsetMinutes
-  seconds l =
-      let days : ℕ = yearsDays (t .year) + monthsDays (leap (t .year)) (t .month - 1) + (t .mday - 1) in
-      rw (
-        unit (t .mday) l,
-        times days (yearsDays 1970) 86400,
-        plus (days * 86400) (yearsDays 1970 * 86400) (t .hour * 3600),
-        plus (days * 86400 + t .hour * 3600) (yearsDays 1970 * 86400) (t .minute * 60),
-        plus (days * 86400 + t .hour * 3600 + t .minute * 60) (yearsDays 1970 * 86400) (t .second),
-      )
-      (sym (+ℤ-idr (pos (fromYear0 t) -ℤ pos (yearsDays 1970 * 86400))))
+  seconds : secondsOf m ≡ sinceEpoch (dateTimeOf m)
+  unfolding secondsOf daysOf epoch sinceEpoch fromYear0 offsetMinutes dateTimeOf
+  seconds = sym (+ℤ-idr (secondsOf m))
 
 -- ---- the theorem
 
--- the answer at a text of the shape whose fields are a date-time's numbers
-answers : (s : Bytes) (t : DateTime) → shaped s ≡ true → moment s ≡ some (signed t) → stamp s ≡ cond (takenMoment (signed t)) (some (secondsOf (signed t))) none
+-- the answer at a text of the shape whose fields are a moment's numbers
+answers : (s : Bytes) (m : Moment) → shaped s ≡ true → moment s ≡ some m → stamp s ≡ cond (takenMoment m) (some (secondsOf m)) none
 unfolding stamp acceptedMoment
-answers s t h m = rw (h, m)
+answers s m h e = rw (h, e)
+
+unread : (s : Bytes) → shaped s ≡ true → moment s ≡ none → stamp s ≡ none
+unfolding stamp acceptedMoment
+unread s h e = rw (h, e)
 
 unshaped : (s : Bytes) → shaped s ≡ false → stamp s ≡ none
 unfolding stamp
 unshaped s h = rw h
 
-module _ (s : Bytes) (v : ℤ) where
-  shape-kept : Shape s → number s 17 2 ≤ 59 → KeepsForm s
-  unfolding number decimal
-  shape-kept u l =
-      record {
-        bytes20 = u .long;
-        capitalT = u .at10;
-        capitalZ = u .at19;
-        noSecond60 = λ e. let w : decimal 0 (take 2 (drop 17 s)) ≡ 60 = ap (decimal 0) e in omega arith;
-      }
+shape-kept : (s : Bytes) → Shape s → (m : Moment) → Fields s m → m .second ≤ 59 → KeepsForm s
+unfolding stampField digits decimal all isDigit both
+shape-kept s u m f l =
+    record {
+      bytes20 = u .long;
+      capitalT = u .at10;
+      capitalZ = u .at19;
+      noSecond60 = λ e. let w : some 60 ≡ some (m .second) = ap digits (sym e) ∙ f .second in let q : 60 ≡ m .second = cc in omega arith;
+    }
 
-  read : AllDigits s → stamp s ≡ some v → KeepsForm s × IsDateTime s v
-  unfolding numbers fraction
-  read d e =
+module _ (s : Bytes) (v : ℤ) where
+  read-moment : Shape s → (m : Moment) → Fields s m → takenMoment m ≡ true → secondsOf m ≡ v → KeepsForm s × IsDateTime s v
+  unfolding dateTimeOf fraction
+  read-moment u m f l z =
+      let b = moment-ranges m l in
+      let r = taken-ranges m (field-small s 0 4 (omega arith) (f .year)) b in
+      (shape-kept s u m f (b .second), record { parts = dateTimeOf m; ranges = r; text = spelled s u m f; seconds = sym z ∙ seconds m; whole = refl })
+
+  read : stamp s ≡ some v → KeepsForm s × IsDateTime s v
+  read e =
       byBool (shaped s)
-      (λ h. let u = shape s h in
-      let t : DateTime = numbers s in
-      let a = answers s t h (reads s u d) in
-      byBool (takenMoment (signed t))
-      (λ l. let w : some (secondsOf (signed t)) ≡ some v = sym (rw l at a) ∙ e in
-      let z : secondsOf (signed t) ≡ v = cc in
-      let r = taken-ranges t (year-numbers s u d) l in
-      (shape-kept u (r .1), record { parts = t; ranges = r .0; text = spelled s u d; seconds = sym z ∙ seconds t (r .0 .mday1); whole = refl }))
-      (λ l. let w : none ≡ some v = sym (rw l at a) ∙ e in no (cc)))
+      (λ h. go h (moment s) refl)
       (λ h. let w : none ≡ some v = sym (unshaped s h) ∙ e in no (cc))
+    where
+      go : shaped s ≡ true → (o : Option Moment) → moment s ≡ o → KeepsForm s × IsDateTime s v
+      go h none p = let w : none ≡ some v = sym (unread s h p) ∙ e in no (cc)
+      go h (some m) p =
+          let a = answers s m h p in
+          byBool (takenMoment m)
+          (λ l. let w : some (secondsOf m) ≡ some v = sym (rw l at a) ∙ e in read-moment (shape s h) m (moment-is s m p) l (cc))
+          (λ l. let w : none ≡ some v = sym (rw l at a) ∙ e in no (cc))
 
 -- a date-time with nothing but its numbers is taken, with its value
 unmarked-taken : (t : DateTime) → Ranges t → Unmarked t → stamp (dateTime t) ≡ some (sinceEpoch t)
 unmarked-taken t r p =
-    let a = answers (dateTime (unmarked t)) t (unmarked-shape t) (unmarked-moment t (places t r)) in
-    rw (is-unmarked t p) (a ∙ rw (ranges-taken t r (p .second), seconds t (r .mday1)))
+    let u : t ≡ unmarked t = is-unmarked t p in
+    let h : shaped (dateTime t) ≡ true = ap (λ d. shaped (dateTime d)) u ∙ unmarked-shape t in
+    let z : secondsOf (momentOf t) ≡ sinceEpoch t = seconds (momentOf t) ∙ ap sinceEpoch (moment-back t ∙ sym u) in
+    answers (dateTime t) (momentOf t) h (written-moment t r) ∙ rw (ranges-taken t r (p .second), z)
 
 module _ (s : Bytes) (v : ℤ) where
-  -- A date-time of section 5.6 that keeps the form is read as its value; this way digits need not be asked for.
+  -- A date-time of section 5.6 that keeps the form is read as its value.
   pub accepts : KeepsForm s → IsDateTime s v → stamp s ≡ some v
   accepts k i =
       let p : Unmarked (i .parts) = kept-unmarked (i .parts) (i .ranges) (rw (← i .text) k) in
       rw (i .text, i .seconds) (unmarked-taken (i .parts) (i .ranges) p)
 
-  -- A text whose fields are digits is read, as v, exactly when it keeps the form and is a date-time of section 5.6 whose value is v.
-  pub exactly : AllDigits s → (stamp s ≡ some v) ↔ (KeepsForm s × IsDateTime s v)
-  exactly d = (read s v d, λ (k, i). accepts k i)
+  -- A text is read, as v, exactly when it keeps the form and is a date-time of section 5.6 whose value is v.
+  pub exactly : (stamp s ≡ some v) ↔ (KeepsForm s × IsDateTime s v)
+  exactly = (read s v, λ (k, i). accepts k i)
 
-  -- So on texts of digits that keep the form the reader and the RFC agree.
-  pub on-kept : KeepsForm s → AllDigits s → (stamp s ≡ some v) ↔ IsDateTime s v
-  on-kept k d = (λ e. exactly d .0 e .1, accepts k)
-
--- Every date-time has digits in the fields, so the theorem speaks of all of them.
-pub covers : (t : DateTime) → Ranges t → AllDigits (dateTime t)
-covers t r = written-digits t (places t r)
+  -- So on texts that keep the form the reader and the RFC agree.
+  pub on-kept : KeepsForm s → (stamp s ≡ some v) ↔ IsDateTime s v
+  on-kept k = (λ e. exactly .0 e .1, accepts k)
 
 -- ---- what RFC 3339 has and the reader refuses
 
@@ -159,7 +140,7 @@ module _ (t : DateTime) (r : Ranges t) where
     where
       go : (o : Option ℤ) → stamp (dateTime t) ≡ o → o ≡ none
       go none e = refl
-      go (some v) e = absurd (n (exactly (dateTime t) v (covers t r) .0 e .0))
+      go (some v) e = absurd (n (exactly (dateTime t) v .0 e .0))
 
   marks-refused : (Unmarked t → ⊥) → stamp (dateTime t) ≡ none
   marks-refused n = unkept-refused (λ k. n (kept-unmarked t r k))

@@ -10,8 +10,9 @@ use lib.IntN.{ℤ}
 use Rattle.base.specs.Bytes.{Bytes, all, both, isDigit}
 use Rattle.base.proofs.Split.{clash, no}
 use Rattle.base.proofs.Lists.{all-head, all-tail}
+use Rattle.stamp.specs.Stamp.{moment}
 use Rattle.rfc3339.specs.Rfc3339.{Case, upper, lower, Offset, utc, east, west, DateTime, letter, two, four, timeNumoffset, timeOffset, optional, partialTime, fullDate, fullTime, dateTime, SomeDigits, Ranges, sinceEpoch, IsDateTime}
-use Rattle.rfc3339.proofs.Texts.{numbers, marked, unmarked, written-numbers}
+use Rattle.rfc3339.proofs.Texts.{momentOf, dateTimeOf, marked, unmarked, moment-back, written-moment}
 use Rattle.rfc3339.proofs.Forms.{afterSecond, at10, two-alone}
 
 letter-alone : (b : Char) (c d : Case) → letter b c ≡ letter b d → c ≡ d
@@ -68,11 +69,13 @@ after19 t = refl
 
 pub one-reading : (t u : DateTime) → Ranges t → Ranges u → dateTime t ≡ dateTime u → t ≡ u
 one-reading t u r q e =
-    let n : unmarked t ≡ unmarked u = sym (written-numbers t) ∙ ap numbers e ∙ written-numbers u in
+    let w : some (momentOf t) ≡ some (momentOf u) = sym (written-moment t r) ∙ ap moment e ∙ written-moment u q in
+    let m : momentOf t ≡ momentOf u = cc in
+    let n : unmarked t ≡ unmarked u = sym (moment-back t) ∙ ap dateTimeOf m ∙ moment-back u in
     let c : t .separator ≡ u .separator = letter-alone "T" (t .separator) (u .separator) (sym (at10 t) ∙ ap (λ s. getD s 10 0) e ∙ at10 u) in
     let z = after-alone (t .secfrac) (u .secfrac) (t .offset) (u .offset) (r .secfrac) (q .secfrac) (sym (after19 t) ∙ ap (drop 19) e ∙ after19 u) in
-    let m : marked (unmarked t) (t .separator) (t .secfrac) (t .offset) ≡ marked (unmarked u) (u .separator) (u .secfrac) (u .offset) = rw (n, c, z .0, z .1) in
-    m
+    let d : marked (unmarked t) (t .separator) (t .secfrac) (t .offset) ≡ marked (unmarked u) (u .separator) (u .secfrac) (u .offset) = rw (n, c, z .0, z .1) in
+    d
 
 pub one-value : (s : Bytes) (v w : ℤ) → IsDateTime s v → IsDateTime s w → v ≡ w
 one-value s v w i j =

@@ -7,7 +7,8 @@ use mir.Syntax.{w64}
 use mir.Val.{ofZ}
 use borrow.Author.Tests.{eq-eqb, ne-eqb}
 use Rattle.base.specs.Bytes.{Bytes, both}
-use Rattle.stamp.specs.Stamp.{Moment, separated, shaped, moment, takenMoment, secondsOf, acceptedMoment, stamp, stampAnswer, stampOf}
+use Rattle.stamp.specs.Stamp.{separated, shaped, moment, takenMoment, secondsOf, acceptedMoment, stamp, stampAnswer, stampOf}
+use Rattle.stamp.specs.declared.Moment.{Moment}
 use Rattle.stamp.specs.declared.Stamp.the-variants.{At, Not}
 
 module _ (o : Option Moment) where

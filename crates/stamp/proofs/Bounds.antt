@@ -1,40 +1,23 @@
--- A stamp's seconds fit 64 bits, so its answer gives them back: every moment that is read has small numbers.
-use Prim.Native.Nat.{ℕ, _+_, _-_, _*_, _<_, _≤_}
-use mathlib.Core.Path.{_≡_, refl, sym, _∙_, ap}
+-- A stamp's seconds fit 64 bits, so its answer gives them back.
+use Prim.Native.Nat.{ℕ, _+_, _*_, _≤_}
+use mathlib.Core.Path.{_≡_, refl}
 use mathlib.Core.Option.{Option, none, some, bind}
 use native.Mathlib.Omega.{arith}
-use lib.ListN.{take, drop, length-take}
-use lib.IntN.{ℤ, pos, negsuc, _-ℤ_}
+use lib.IntN.{ℤ}
 use mir.Syntax.{w64}
 use mir.Val.{Fits, SFits, ofZ, toZ}
 use mir.Facts.{fits-ofZ, toZ-ofZ}
 use borrow.Author.Tests.{lt-ltb, le-ltb}
 use Rattle.base.specs.Bytes.{Bytes}
 use Rattle.base.proofs.Split.{byLt, byBool, no}
-use Rattle.integer.proofs.Integers.{Within, integer-within}
-use Rattle.calendar.specs.Calendar.{leap, monthsDays, yearsDays}
-use Rattle.stamp.specs.Stamp.{Moment, stampField, shaped, moment, takenMoment, secondsOf, acceptedMoment, stamp, stampAnswer, stampOf}
-use Rattle.stamp.specs.Raised.{lowered, momentOf, Small, Dated, epoch}
-use Rattle.stamp.specs.declared.Raised.{Raised}
+use Rattle.calendar.specs.Calendar.{leap}
+use Rattle.calendar.proofs.Months.{month-bounds}
+use Rattle.stamp.specs.Stamp.{stampField, shaped, moment, takenMoment, daysOf, secondsOf, acceptedMoment, stamp, stampAnswer, stampOf}
+use Rattle.stamp.specs.declared.Moment.{Moment}
 use Rattle.stamp.specs.declared.Stamp.the-variants.{At, Not}
-use Rattle.stamp.proofs.Numbers.{low-pos, low-neg}
-use Rattle.stamp.proofs.Judging.{in-month}
-use Rattle.stamp.proofs.Counting.{days-are, days-small, seconds-are}
-
--- a number of at most four bytes is a raised one
-record Held (z : ℤ) : Type 0 where
-  n : ℕ
-  is : z ≡ lowered n
-  small : n ≤ 10999
-
-held : (z : ℤ) → Within 3 z → Held z
-held (pos k) h = record { n = k + 1000; is = ap pos (omega arith) ∙ sym (low-pos (k + 1000) (omega arith)); small = omega arith }
-held (negsuc k) h = record { n = 999 - k; is = ap negsuc (omega arith) ∙ sym (low-neg (999 - k) (omega arith)); small = omega arith }
-
-module _ (s : Bytes) where
-  field-held : (from count : ℕ) {z : ℤ} → count ≤ 4 → stampField s from count ≡ some z → Held z
-  unfolding stampField
-  field-held from count {z} l e = held z (integer-within (take count (drop from s)) 3 (simp length-take (omega arith)) e)
+use Rattle.stamp.proofs.Reading.{field-small}
+use Rattle.stamp.proofs.Judging.{MomentRanges, moment-ranges}
+use Rattle.stamp.proofs.Counting.{epoch-is, days-high}
 
 going : {A B : Type 0} (o : Option A) (f : A → Option B) {y : B} → bind o f ≡ some y → (x : A) × ((o ≡ some x) × (f x ≡ some y))
 unfolding bind
@@ -62,41 +45,16 @@ moment-is s t e =
     let q : some (record { year = y .0; month = m .0; day = d .0; hour = h .0; minute = i .0; second = x .0 }) ≡ some t = x .1 .1 in
     record { year = cc; month = cc; day = cc; hour = cc; minute = cc; second = cc }
 
--- a moment that is read is one of small raised numbers
-record Lifted (t : Moment) : Type 0 where
-  m : Raised
-  is : t ≡ momentOf m
-  small : Small m
-
-lifted : (s : Bytes) (t : Moment) → Fields s t → Lifted t
-unfolding momentOf
-lifted s t f =
-    let y = field-held s 0 4 (omega arith) (f .year) in
-    let m = field-held s 5 2 (omega arith) (f .month) in
-    let d = field-held s 8 2 (omega arith) (f .day) in
-    let h = field-held s 11 2 (omega arith) (f .hour) in
-    let i = field-held s 14 2 (omega arith) (f .minute) in
-    let x = field-held s 17 2 (omega arith) (f .second) in
-    record {
-      m = record { year = y .n; month = m .n; day = d .n; hour = h .n; minute = i .n; second = x .n };
-      is = rw (← y .is, ← m .is, ← d .is, ← h .is, ← i .is, ← x .is);
-      small = record { year = y .small; month = m .small; day = d .small; hour = h .small; minute = i .small; second = x .small };
-    }
-
--- the difference of a small number and the epoch
-fits-near : (n : ℕ) → n < 1000000000000 → SFits w64 (pos n -ℤ pos epoch)
-fits-near n h =
-    byLt n epoch
-    (λ l. rw (lt-ltb n epoch l) (record { sfits = omega arith }))
-    (λ l. rw (le-ltb n epoch l) (record { sfits = omega arith }))
-
-seconds-fit : (m : Raised) → Dated m → SFits w64 (secondsOf (momentOf m))
-seconds-fit m d =
-    let y : ℕ = yearsDays (m .year + 200) in
-    let k : ℕ = monthsDays (leap (m .year + 200)) (m .month - 1000 - 1) in
-    let days : y + k + m .day < 5000000 = days-small m y k d refl refl in
-    let s = d .small in
-    rw (seconds-are m (y + k + m .day) (days-are m y k (d .first) refl refl)) (fits-near ((y + k + m .day) * 86400 + m .hour * 3600 + m .minute * 60 + m .second) (omega arith))
+-- seconds of a year up to 9999 are near the epoch
+seconds-fit : (t : Moment) → t .year ≤ 9999 → MomentRanges t → SFits w64 (secondsOf t)
+unfolding secondsOf
+seconds-fit t y b =
+    let month = month-bounds (leap (t .year)) (t .month) in
+    let high = days-high t in
+    rw epoch-is
+    (byLt (daysOf t * 86400 + t .hour * 3600 + t .minute * 60 + t .second) 62167219200
+    (λ l. rw (lt-ltb _ _ l) (record { sfits = omega arith }))
+    (λ l. rw (le-ltb _ _ l) (record { sfits = omega arith })))
 
 -- a moment that is read and taken: its seconds
 accepted-fits : (s : Bytes) (o : Option Moment) {z : ℤ} → moment s ≡ o → acceptedMoment o ≡ some z → SFits w64 z
@@ -105,10 +63,8 @@ accepted-fits s none p q = no (cc)
 accepted-fits s (some t) {z} p q =
     byBool (takenMoment t)
     (λ h. let v : some (secondsOf t) ≡ some z = rw h at q in
-    let l = lifted s t (moment-is s t p) in
-    let d = in-month (l .m) (rw (l .is) at h) in
-    let e : z ≡ secondsOf (momentOf (l .m)) = cc (l .is) in
-    rw e (seconds-fit (l .m) (record { small = l .small; first = d .0; last = d .1 })))
+    let e : z ≡ secondsOf t = cc in
+    rw e (seconds-fit t (field-small s 0 4 (omega arith) (moment-is s t p .year)) (moment-ranges t h)))
     (λ h. let v : none ≡ some z = rw h at q in no (cc))
 
 pub stamp-fits : (s : Bytes) {z : ℤ} → stamp s ≡ some z → SFits w64 z

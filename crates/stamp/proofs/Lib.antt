@@ -1,4 +1,3 @@
-pub mod Numbers
 pub mod Reading
 pub mod Judging
 pub mod Counting

@@ -1,84 +1,61 @@
--- Laws of reading: a field of at most four bytes, from the bits that the integer reader gives.
-use Prim.Native.Nat.{ℕ, suc, _+_, _-_, _<_, _≤_}
-use mathlib.Core.Path.{_≡_, refl, sym, _∙_, ap, subst}
+-- Laws of reading: a field from the number of its digits, and the six fields in their order.
+use Prim.Native.Nat.{ℕ, _^_, _<_, _≤_}
+use mathlib.Core.Path.{_≡_, refl}
 use mathlib.Core.Option.{Option, none, some, bind}
 use native.Mathlib.Omega.{arith}
-use lib.ListN.{length, take, drop, length-take, length-drop}
-use lib.IntN.{ℤ, pos, negsuc}
-use mir.Syntax.{w32}
-use mir.Val.{SFits, toZ}
-use borrow.Author.Tests.{lt-ltb, le-ltb}
+use native.Mathlib.Nat.{pow-le-pow-right, lt-of-lt-of-le}
+use lib.ListN.{length, take, drop, length-take}
+use borrow.Author.Tests.{le-leb}
 use Rattle.base.specs.Bytes.{Bytes}
 use Rattle.base.proofs.Split.{no}
-use Rattle.integer.specs.Integer.{integer, readOf, integerOf}
+use Rattle.integer.specs.Integer.{digits}
+use Rattle.integer.specs.Bounded.{atMost}
+use Rattle.integer.specs.declared.Integer.{Integer}
 use Rattle.integer.specs.declared.Integer.the-variants.{Is, Not}
-use Rattle.integer.proofs.Integers.{Within, integer-within, integer-of, read-is, read-not}
-use Rattle.stamp.specs.Stamp.{stampField, moment, Moment}
-use Rattle.stamp.specs.Raised.{lowered, momentOf, Small, ReadField, ReadSix}
+use Rattle.integer.proofs.Digits.{digits-below}
+use Rattle.stamp.specs.Stamp.{stampField, moment, fieldAnswer, sixAnswer}
 use Rattle.stamp.specs.declared.Field.{Field}
 use Rattle.stamp.specs.declared.Field.the-variants as field
-use Rattle.stamp.specs.declared.Raised.{Raised}
+use Rattle.stamp.specs.declared.Moment.{Moment}
 use Rattle.stamp.specs.declared.Six.{Six}
-use Rattle.stamp.specs.declared.Six.the-variants as numbers
-use Rattle.stamp.proofs.Numbers.{low-pos, low-neg}
+use Rattle.stamp.specs.declared.Six.the-variants as six
 
--- a number of at most four bytes is one of 32 bits
-fits-short : (z : ℤ) → Within 3 z → SFits w32 z
-fits-short (pos n) h = record { sfits = omega arith }
-fits-short (negsuc n) h = record { sfits = omega arith }
+-- ---- a field
 
-module _ (t : Bytes) (l : length t ≤ 4) where
-  short-not : readOf w32 t ≡ Not → integer t ≡ none
-  short-not e = go (integer t) refl
-    where
-      go : (z : Option ℤ) → integer t ≡ z → z ≡ none
-      go none q = refl
-      go (some z) q = let y : integerOf w32 t ≡ some z = integer-of w32 t q (fits-short z (integer-within t 3 l q)) in let n : integerOf w32 t ≡ none = read-not w32 t e in no (cc)
+-- at most four digits write no number above 9999
+pub field-small : (s : Bytes) (from count : ℕ) {n : ℕ} → count ≤ 4 → stampField s from count ≡ some n → n ≤ 9999
+unfolding stampField
+field-small s from count {n} l e =
+    let short : length (take count (drop from s)) ≤ 4 = simp length-take (omega arith) in
+    let few : n < 10 ^ 4 = lt-of-lt-of-le (digits-below (take count (drop from s)) e) (pow-le-pow-right (omega arith) short) in
+    omega arith
 
-  module _ (b : ℕ) (e : readOf w32 t ≡ Is b) where
-    short-low : b < 2147483648 → (integer t ≡ some (lowered (b + 1000))) × (b + 1000 ≤ 10999)
-    short-low h =
-        let z : toZ w32 b ≡ pos b = rw (lt-ltb b 2147483648 h) in
-        let i : integer t ≡ some (pos b) = rw z at (read-is w32 t e .0) in
-        let w : b < 10000 = integer-within t 3 l i in
-        (i ∙ ap some (ap pos (omega arith) ∙ sym (low-pos (b + 1000) (omega arith))), omega arith)
+-- a field's answer, from the answer of the reader of numbers up to 9999
+abbrev pub fieldIn : Integer → Field
+fieldIn Not = field.Not
+fieldIn (Is n) = field.Is n
 
-    short-high : 2147483648 ≤ b → (4294966296 ≤ b) × ((integer t ≡ some (lowered (b - 4294966296))) × (b - 4294966296 ≤ 10999))
-    short-high h =
-        let z : toZ w32 b ≡ negsuc (4294967296 - suc b) = rw (le-ltb b 2147483648 h) in
-        let i : integer t ≡ some (negsuc (4294967296 - suc b)) = rw z at (read-is w32 t e .0) in
-        let w : suc (4294967296 - suc b) < 1000 = integer-within t 3 l i in
-        let f : b < 4294967296 = read-is w32 t e .1 .fits in
-        (omega arith, (i ∙ ap some (ap negsuc (omega arith) ∙ sym (low-neg (b - 4294966296) (omega arith))), omega arith))
-
--- a field from a place up to another, at most four bytes after it
-module _ (s : Bytes) (from to : ℕ) (h : to ≤ from + 4) where
-  abbrev part : Bytes
-  part = take (to - from) (drop from s)
-
-  short : length part ≤ 4
-  short = simp (length-take, length-drop) (omega arith)
-
-  pub field-not : readOf w32 part ≡ Not → stampField s from (to - from) ≡ none
-  unfolding stampField
-  field-not e = short-not part short e
-
-  pub field-low : (b : ℕ) → readOf w32 part ≡ Is b → b < 2147483648 → (stampField s from (to - from) ≡ some (lowered (b + 1000))) × (b + 1000 ≤ 10999)
-  unfolding stampField
-  field-low b e k = short-low part short b e k
-
-  pub field-high : (b : ℕ) → readOf w32 part ≡ Is b → 2147483648 ≤ b → (4294966296 ≤ b) × ((stampField s from (to - from) ≡ some (lowered (b - 4294966296))) × (b - 4294966296 ≤ 10999))
-  unfolding stampField
-  field-high b e k = short-high part short b e k
+pub field-read : (s : Bytes) (from count : ℕ) → count ≤ 4 → fieldIn (atMost 9999 (digits (take count (drop from s)))) ≡ fieldAnswer (stampField s from count)
+unfolding stampField atMost fieldAnswer
+field-read s from count l = go (digits (take count (drop from s))) refl
+  where
+    go : (o : Option ℕ) → stampField s from count ≡ o → fieldIn (atMost 9999 o) ≡ fieldAnswer o
+    go none e = refl
+    go (some n) e = rw (le-leb n 9999 (field-small s from count l e))
 
 -- what a field's answer says
-pub field-none : {z : Option ℤ} (r : Field) → ReadField z r → r ≡ field.Not → z ≡ none
-field-none {z} r h e = subst (ReadField z) e h
+pub field-none : (z : Option ℕ) {r : Field} → r ≡ fieldAnswer z → r ≡ field.Not → z ≡ none
+unfolding fieldAnswer
+field-none none e h = refl
+field-none (some n) e h = no (cc)
 
-pub field-some : {z : Option ℤ} {n : ℕ} (r : Field) → ReadField z r → r ≡ field.Is n → (z ≡ some (lowered n)) × (n ≤ 10999)
-field-some {z} r h e = subst (ReadField z) e h
+pub field-some : (z : Option ℕ) {n : ℕ} {r : Field} → r ≡ fieldAnswer z → r ≡ field.Is n → z ≡ some n
+unfolding fieldAnswer
+field-some none e h = no (cc)
+field-some (some n) e h = cc
 
--- the fields in their order: the first that is no integer, or all six
+-- ---- the fields in their order: the first that is not digits, or all six
+
 stopped : {A B : Type 0} (o : Option A) (f : A → Option B) → o ≡ none → bind o f ≡ none
 unfolding bind
 stopped o f e = rw e
@@ -117,9 +94,22 @@ module _ (s : Bytes) where
   unfolding moment bind
   moment-of t y m d h i x = rw (y, m, d, h, i, x)
 
--- what the answer for all six says
-pub six-none : {o : Option Moment} (r : Six) → ReadSix o r → r ≡ numbers.Not → o ≡ none
-six-none {o} r h e = subst (ReadSix o) e h
+-- the answer for all six, and what it says
+module _ (o : Option Moment) where
+  pub six-not : o ≡ none → six.Not ≡ sixAnswer o
+  unfolding sixAnswer
+  six-not e = rw e
 
-pub six-some : {o : Option Moment} {m : Raised} (r : Six) → ReadSix o r → r ≡ numbers.Are m → (o ≡ some (momentOf m)) × Small m
-six-some {o} r h e = subst (ReadSix o) e h
+  pub six-are : {t : Moment} → o ≡ some t → six.Are t ≡ sixAnswer o
+  unfolding sixAnswer
+  six-are e = rw e
+
+pub six-none : (o : Option Moment) {r : Six} → r ≡ sixAnswer o → r ≡ six.Not → o ≡ none
+unfolding sixAnswer
+six-none none e h = refl
+six-none (some t) e h = no (cc)
+
+pub six-some : (o : Option Moment) {t : Moment} {r : Six} → r ≡ sixAnswer o → r ≡ six.Are t → o ≡ some t
+unfolding sixAnswer
+six-some none e h = no (cc)
+six-some (some t) e h = cc

@@ -1,2 +1,1 @@
 pub mod Stamp
-pub mod Raised

@@ -1,23 +1,27 @@
--- Document 01: "`parse_rfc3339_utc` takes 20 bytes, RFC 3339's separators, and reads its fields by the same integer reader".
-use Prim.Native.Nat.{ℕ, zero, suc, _-_}
-use mathlib.Core.Bool.{Bool, true, false, cond}
+-- Document 01: "`parse_rfc3339_utc` takes 20 bytes, RFC 3339's separators"; document 02, request 6: "Every field of a timestamp must now be digits."
+use Prim.Native.Nat.{ℕ, _+_, _-_, _*_}
+use mathlib.Core.Bool.{Bool, cond}
 use mathlib.Core.Option.{Option, none, some, bind}
-use lib.Dec.{eqb}
+use lib.Dec.{eqb, leb}
 use lib.ListN.{length, getD, take, drop}
-use lib.IntN.{ℤ, pos, negsuc, _+ℤ_, _-ℤ_, _*ℤ_, natAbs}
-use lib.Signed.{leZ}
+use lib.IntN.{ℤ, pos, _-ℤ_}
 use mir.Syntax.{w64}
 use mir.Val.{ofZ}
 use Rattle.base.specs.Bytes.{Bytes, both}
 use Rattle.base.specs.Chars.{minusSign, colon, letterT, letterZ}
-use Rattle.integer.specs.Integer.{integer}
-use Rattle.calendar.specs.Calendar.{leap, monthDays, monthsDays, yearsDays, yearStart}
+use Rattle.integer.specs.Integer.{digits}
+use Rattle.calendar.specs.Calendar.{leap, monthDays, monthsDays, yearsDays}
+use Rattle.stamp.specs.declared.Field.{Field}
+use Rattle.stamp.specs.declared.Field.the-variants as field
+use Rattle.stamp.specs.declared.Moment.{Moment}
+use Rattle.stamp.specs.declared.Six.{Six}
+use Rattle.stamp.specs.declared.Six.the-variants as six
 use Rattle.stamp.specs.declared.Stamp.{Stamp}
 use Rattle.stamp.specs.declared.Stamp.the-variants.{At, Not}
 
--- a field of a stamp: the integer of count bytes from a place on
-unfoldable pub stampField : Bytes → ℕ → ℕ → Option ℤ
-stampField s from count = integer (take count (drop from s))
+-- a field of a stamp: the number of count digits from a place on
+unfoldable pub stampField : Bytes → ℕ → ℕ → Option ℕ
+stampField s from count = digits (take count (drop from s))
 
 -- RFC 3339's separators in a text of 20 bytes: ....-..-..T..:..:..Z
 unfoldable pub separated : Bytes → Bool
@@ -33,38 +37,28 @@ separated s =
 unfoldable pub shaped : Bytes → Bool
 shaped s = both (eqb (length s) 20) (separated s)
 
-pub record Moment : Type 0 where
-  pub year : ℤ
-  pub month : ℤ
-  pub day : ℤ
-  pub hour : ℤ
-  pub minute : ℤ
-  pub second : ℤ
-
-unfoldable pub nonzero : ℤ → Bool
-nonzero (pos zero) = false
-nonzero (pos (suc n)) = true
-nonzero (negsuc n) = true
-
 -- "only hour, minute, second above 23, 59, 59, day 0, day above the month's length and month outside 1 to 12 are refused"
 unfoldable pub takenMoment : Moment → Bool
 takenMoment t =
-    both (both (leZ (pos 1) (t .month)) (leZ (t .month) (pos 12)))
-    (both (both (nonzero (t .day)) (leZ (t .day) (pos (monthDays (leap (natAbs (t .year))) (natAbs (t .month))))))
-    (both (leZ (t .hour) (pos 23))
-    (both (leZ (t .minute) (pos 59))
-    (leZ (t .second) (pos 59)))))
+    both (both (leb 1 (t .month)) (leb (t .month) 12))
+    (both (both (leb 1 (t .day)) (leb (t .day) (monthDays (leap (t .year)) (t .month))))
+    (both (leb (t .hour) 23)
+    (both (leb (t .minute) 59)
+    (leb (t .second) 59))))
 
--- the days from 1970-01-01 to the moment's date
-unfoldable pub daysOf : Moment → ℤ
-daysOf t =
-    yearStart (t .year) +ℤ pos (monthsDays (leap (natAbs (t .year))) (natAbs (t .month) - 1)) +ℤ (t .day -ℤ pos 1) -ℤ pos (yearsDays 1970)
+-- the days from the first day of year 0 to the moment's date
+unfoldable pub daysOf : Moment → ℕ
+daysOf t = yearsDays (t .year) + monthsDays (leap (t .year)) (t .month - 1) + (t .day - 1)
+
+-- 1970-01-01T00:00:00Z in seconds from the first day of year 0
+unfoldable pub epoch : ℕ
+epoch = yearsDays 1970 * 86400
 
 -- the seconds from 1970-01-01T00:00:00Z to the moment
 unfoldable pub secondsOf : Moment → ℤ
-secondsOf t = daysOf t *ℤ pos 86400 +ℤ t .hour *ℤ pos 3600 +ℤ t .minute *ℤ pos 60 +ℤ t .second
+secondsOf t = pos (daysOf t * 86400 + t .hour * 3600 + t .minute * 60 + t .second) -ℤ pos epoch
 
--- the fields in their order; all must be integers
+-- the fields in their order; all must be digits
 unfoldable pub moment : Bytes → Option Moment
 moment s =
     bind (stampField s 0 4) (λ y.
@@ -81,6 +75,16 @@ acceptedMoment (some t) = cond (takenMoment t) (some (secondsOf t)) none
 
 unfoldable pub stamp : Bytes → Option ℤ
 stamp s = cond (shaped s) (acceptedMoment (moment s)) none
+
+-- ---- the answers
+
+unfoldable pub fieldAnswer : Option ℕ → Field
+fieldAnswer none = field.Not
+fieldAnswer (some n) = field.Is n
+
+unfoldable pub sixAnswer : Option Moment → Six
+sixAnswer none = six.Not
+sixAnswer (some t) = six.Are t
 
 -- the reader's answer: the bits of the seconds
 unfoldable pub stampAnswer : Option ℤ → Stamp

@@ -1,13 +1,12 @@
-// Timestamps: the seconds from 1970-01-01T00:00:00Z of a date-time in UTC, as document 01 words `parse_rfc3339_utc`.
-// A field may be negative, from -999 on; inside, each is held as the number raised by 1000.
+// Timestamps: the seconds from 1970-01-01T00:00:00Z of a date-time in UTC, as document 01 words `parse_rfc3339_utc`; each field is digits.
 ghost use mathlib.Core.Path.{_≡_};
 ghost use Prim.Native.Nat.{_+_, _-_, _≤_};
 ghost use lib.ListN.{length};
 ghost use lib.IntN.{pos, _-ℤ_};
+ghost use mathlib.Core.Bool.{true};
 ghost use mir.Syntax.{w64};
 ghost use mir.Val.{ofZ};
-ghost use Rattle.stamp.specs.Stamp.{stampField, separated, shaped, moment, takenMoment, secondsOf, acceptedMoment, stampAnswer, stampOf};
-ghost use Rattle.stamp.specs.Raised.{ReadField, ReadSix, momentOf, Small, Dated, Days, epoch};
+ghost use Rattle.stamp.specs.Stamp.{stampField, separated, moment, takenMoment, daysOf, epoch, secondsOf, acceptedMoment, fieldAnswer, sixAnswer, stampAnswer, stampOf};
 use integer::Integer;
 
 // A stamp's answer: the bits of the seconds in two's complement, or that the text is no such date-time.
@@ -16,39 +15,36 @@ pub enum Stamp {
     Not,
 }
 
-// A field's number, raised by 1000, or that the text is no integer.
+// A field's number, or that the text is not digits.
 enum Field {
     Is(u32),
     Not,
 }
 
-// The six numbers of a stamp, each raised by 1000.
-struct Raised {
-    year: u32,
-    month: u32,
-    day: u32,
-    hour: u32,
-    minute: u32,
-    second: u32,
+// The six numbers of a stamp.
+pub struct Moment {
+    pub year: u32,
+    pub month: u32,
+    pub day: u32,
+    pub hour: u32,
+    pub minute: u32,
+    pub second: u32,
 }
 
 enum Six {
-    Are(Raised),
+    Are(Moment),
     Not,
 }
 
-// A field of a stamp, of at most four bytes: the integer reader's today.
+// A field of a stamp, of at most four bytes.
 fn stamp_field(s: &[u8], from: usize, to: usize) -> Field
     requires { ⌜ (from ≤ to) × ((to ≤ from + 4) × (to ≤ length (now s))) ⌝ }
-    ensures { λ r. ⌜ ReadField (stampField (now (s .entry)) from (to - from)) r ⌝ }
+    ensures { λ r. ⌜ r ≡ fieldAnswer (stampField (now (s .entry)) from (to - from)) ⌝ }
 {
-    let Integer::Is(b) = integer::read_i32(&s[from..to]) else {
+    let Integer::Is(n) = integer::read_digits(&s[from..to], 9999) else {
         return Field::Not;
     };
-    if b < 0x8000_0000 {
-        return Field::Is((b + 1000) as u32);
-    }
-    Field::Is((b - 0xffff_fc18) as u32)
+    Field::Is(n as u32)
 }
 
 // The separators of a text of 20 bytes.
@@ -62,7 +58,7 @@ fn separated(s: &[u8]) -> bool
 
 fn read_six(s: &[u8]) -> Six
     requires { ⌜ length (now s) ≡ 20 ⌝ }
-    ensures { λ r. ⌜ ReadSix (moment (now (s .entry))) r ⌝ }
+    ensures { λ r. ⌜ r ≡ sixAnswer (moment (now (s .entry))) ⌝ }
 {
     let Field::Is(year) = stamp_field(s, 0, 4) else {
         return Six::Not;
@@ -82,7 +78,7 @@ fn read_six(s: &[u8]) -> Six
     let Field::Is(second) = stamp_field(s, 17, 19) else {
         return Six::Not;
     };
-    Six::Are(Raised {
+    Six::Are(Moment {
         year,
         month,
         day,
@@ -92,34 +88,31 @@ fn read_six(s: &[u8]) -> Six
     })
 }
 
-// Year -1200 is year 0 for the calendar, which repeats after 400 years.
-fn taken(m: Raised) -> bool
-    requires { ⌜ Small m ⌝ }
-    ensures { λ r. ⌜ r ≡ takenMoment (momentOf m) ⌝ }
+fn taken(m: Moment) -> bool
+    ensures { λ r. ⌜ r ≡ takenMoment m ⌝ }
 {
-    if m.month < 1001 {
+    if m.month < 1 {
         return false;
     }
-    if 1012 < m.month {
+    if 12 < m.month {
         return false;
     }
-    let last = calendar::month_length(calendar::is_leap(m.year + 200), (m.month - 1000) as u8);
-    let day = (m.day != 1000) & (m.day <= 1000 + last as u32);
-    day & ((m.hour <= 1023) & ((m.minute <= 1059) & (m.second <= 1059)))
+    let last = calendar::month_length(calendar::is_leap(m.year), m.month as u8);
+    let day = (1 <= m.day) & (m.day <= last as u32);
+    day & ((m.hour <= 23) & ((m.minute <= 59) & (m.second <= 59)))
 }
 
-// The days from the first day of year -1200 to the moment's date, 1001 more since the day is raised and counts from 1.
-fn days(m: Raised) -> u64
-    requires { ⌜ Dated m ⌝ }
-    ensures { λ r. ⌜ Days m r ⌝ }
+// The days from the first day of year 0 to the moment's date.
+fn days(m: Moment) -> u64
+    requires { ⌜ takenMoment m ≡ true ⌝ }
+    ensures { λ r. ⌜ r ≡ daysOf m ⌝ }
 {
-    let year = m.year + 200;
-    let months = calendar::days_before_month(calendar::is_leap(year), (m.month - 1000) as u8);
-    calendar::days_before_year(year) + months + m.day as u64
+    let months = calendar::days_before_month(calendar::is_leap(m.year), m.month as u8);
+    calendar::days_before_year(m.year) + months + (m.day as u64 - 1)
 }
 
-// 1970-01-01T00:00:00Z in the count of `seconds`.
-const EPOCH: u64 = 100_125_709_000;
+// 1970-01-01T00:00:00Z in seconds from the first day of year 0.
+const EPOCH: u64 = 62_167_219_200;
 
 fn since_epoch(total: u64) -> u64
     ensures { λ r. ⌜ r ≡ ofZ w64 (pos total -ℤ pos epoch) ⌝ }
@@ -130,9 +123,9 @@ fn since_epoch(total: u64) -> u64
     0xffff_ffff_ffff_ffff - (EPOCH - total - 1)
 }
 
-fn seconds(m: Raised) -> u64
-    requires { ⌜ Dated m ⌝ }
-    ensures { λ r. ⌜ r ≡ ofZ w64 (secondsOf (momentOf m)) ⌝ }
+fn seconds(m: Moment) -> u64
+    requires { ⌜ takenMoment m ≡ true ⌝ }
+    ensures { λ r. ⌜ r ≡ ofZ w64 (secondsOf m) ⌝ }
 {
     since_epoch(days(m) * 86400 + m.hour as u64 * 3600 + m.minute as u64 * 60 + m.second as u64)
 }

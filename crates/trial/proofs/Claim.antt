@@ -12,8 +12,8 @@ unfolding mathlib.Core.Option.bind
     Rattle.osm_id.specs.Order.sameId Rattle.osm_id.specs.Order.osmKeyOf Rattle.osm_id.specs.Order.rank Rattle.osm_id.specs.Order.idOf
     Rattle.version_floor.specs.Version.higher Rattle.version_floor.specs.Version.admitOf Rattle.version_floor.specs.Version.wordOf Rattle.version_floor.specs.Version.ofWord
     Rattle.integer.specs.Integer.decimal Rattle.integer.specs.Integer.digits Rattle.integer.specs.Integer.integer Rattle.integer.specs.Integer.holds Rattle.integer.specs.Integer.ofWidth Rattle.integer.specs.Integer.integerOf
-    Rattle.calendar.specs.Calendar.leap Rattle.calendar.specs.Calendar.monthDays Rattle.calendar.specs.Calendar.monthsDays Rattle.calendar.specs.Calendar.yearDays Rattle.calendar.specs.Calendar.yearsDays Rattle.calendar.specs.Calendar.yearsBack Rattle.calendar.specs.Calendar.yearStart
-    Rattle.stamp.specs.Stamp.stampField Rattle.stamp.specs.Stamp.separated Rattle.stamp.specs.Stamp.shaped Rattle.stamp.specs.Stamp.nonzero Rattle.stamp.specs.Stamp.takenMoment Rattle.stamp.specs.Stamp.daysOf Rattle.stamp.specs.Stamp.secondsOf Rattle.stamp.specs.Stamp.moment Rattle.stamp.specs.Stamp.acceptedMoment Rattle.stamp.specs.Stamp.stamp
+    Rattle.calendar.specs.Calendar.leap Rattle.calendar.specs.Calendar.monthDays Rattle.calendar.specs.Calendar.monthsDays Rattle.calendar.specs.Calendar.yearDays Rattle.calendar.specs.Calendar.yearsDays
+    Rattle.stamp.specs.Stamp.stampField Rattle.stamp.specs.Stamp.separated Rattle.stamp.specs.Stamp.shaped Rattle.stamp.specs.Stamp.takenMoment Rattle.stamp.specs.Stamp.daysOf Rattle.stamp.specs.Stamp.epoch Rattle.stamp.specs.Stamp.secondsOf Rattle.stamp.specs.Stamp.moment Rattle.stamp.specs.Stamp.acceptedMoment Rattle.stamp.specs.Stamp.stamp
     Rattle.text.specs.Char.from-to Rattle.text.specs.Char.xmlChar Rattle.text.specs.Char.utf8
     Rattle.text.specs.Check.joinedBits Rattle.text.specs.Check.decoded Rattle.text.specs.Check.begins Rattle.text.specs.Check.charLen Rattle.text.specs.Check.textAfter Rattle.text.specs.Check.isText
     Rattle.text.specs.Escape.escaped Rattle.text.specs.Escape.escape Rattle.text.specs.Escape.meaning Rattle.text.specs.Escape.byteBefore Rattle.text.specs.Escape.unescapeFrom

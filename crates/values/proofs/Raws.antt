@@ -20,7 +20,8 @@ use Rattle.text.proofs.Escapes.{bare, bare-nil, bare-cons, bare-append, read-by
 use Rattle.integer.specs.Integer.{digits, integer, ofWidth, integerOf}
 use Rattle.integer.proofs.Digits.{digit-is, digits-is}
 use Rattle.integer.proofs.Integers.{integer-of-is}
-use Rattle.stamp.specs.Stamp.{stampField, separated, shaped, Moment, moment, acceptedMoment, stamp}
+use Rattle.stamp.specs.declared.Moment.{Moment}
+use Rattle.stamp.specs.Stamp.{stampField, separated, shaped, moment, acceptedMoment, stamp}
 use Rattle.stamp.proofs.Reading.{no-year, no-month, no-day, no-hour, no-minute, no-second}
 use Rattle.event.specs.Event.{orEmpty}
 use Rattle.scan.specs.Piece.{valueText}
@@ -109,9 +110,9 @@ module _ (s : Bytes) (m : Moment) (e : moment s ≡ some m) where
   unfolding stampField
   field-bare from n none-then = go (stampField s from n) refl
     where
-      go : (o : Option ℤ) → stampField s from n ≡ o → bare (take n (drop from s)) ≡ true
+      go : (o : Option ℕ) → stampField s from n ≡ o → bare (take n (drop from s)) ≡ true
       go none p = let z : none ≡ some m = sym (none-then p) ∙ e in no (cc)
-      go (some z) p = integer-bare (take n (drop from s)) z p
+      go (some z) p = digits-bare (take n (drop from s)) (digits-is (take n (drop from s)) p .1 .0)
 
 moment-bare : (s : Bytes) (m : Moment) → moment s ≡ some m → shaped s ≡ true → bare s ≡ true
 unfolding shaped separated breaks either

@@ -48,7 +48,7 @@ fn told(lines: &str) -> (Answer, Storage) {
     (answer, lent)
 }
 
-/// The port's side of docs/DIFFERENCES.md: D1, and 16 of a reader in D6.
+/// The port's side of docs/DIFFERENCES.md: D1, 16 of a reader in D6, and D9.
 #[test]
 fn differences() {
     let refused = |number, line| {
@@ -60,6 +60,10 @@ fn differences() {
     let tags = "empty\ttag\tk=a\tv=b\n".repeat(257);
     let (answer, _) = told(&format!("open\tosmChange\nopen\tcreate\nopen\tway\tid=1\n{tags}"));
     assert_eq!(answer, refused(16, 260));
+    for stamp in ["2024-01-01T-1:00:00Z", "2024-01--1T00:00:00Z", "-001-01-01T00:00:00Z", "2024-01-01T+1:00:00Z"] {
+        let (answer, _) = told(&format!("open\tosmChange\nopen\tcreate\nempty\tway\tid=1\ttimestamp={stamp}\n"));
+        assert_eq!(answer, refused(9, 3));
+    }
 }
 
 /// Document 01's input A.

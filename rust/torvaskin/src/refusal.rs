@@ -48,7 +48,7 @@ reasons! {
         "Ask the supplier of the file.";
     NotInteger = 8, "A field should be a whole number of its size and is not.",
         "Ask the supplier of the file.";
-    NotTimestamp = 9, "A timestamp is not of the form 2024-01-31T12:00:00Z, or names a day or hour that does not exist.",
+    NotTimestamp = 9, "A timestamp is not of the form 2024-01-31T12:00:00Z, has a sign in a number, or names a day or hour that does not exist.",
         "Ask the supplier of the file.";
     CoordinateRange = 10, "A coordinate lies outside the globe.",
         "Ask the supplier of the file.";

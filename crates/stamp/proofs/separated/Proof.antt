@@ -1,6 +1,6 @@
 -- `separated`: the six tests are the definition's.
 use Rattle.stamp.specs.Stamp.{separated}
-use Rattle.stamp.proofs.Numbers.{and-both}
+use Rattle.stamp.proofs.Judging.{and-both}
 use borrow.Author.Needs.{needs}
 use Rattle.stamp.proofs.separated.Statement.{statement}
 use Rattle.stamp.proofs.separated.Tie as tie

@@ -1,10 +1,8 @@
--- `taken`: each test on a raised number is the definition's test on the number.
-use Prim.Native.Nat.{_-_}
+-- `taken`: each test is the definition's.
 use mathlib.Core.Path.{sym, _∙_, ap}
 use native.Mathlib.Omega.{arith}
 use Rattle.calendar.specs.Calendar.{monthDays}
-use Rattle.stamp.proofs.Numbers.{and-both}
-use Rattle.stamp.proofs.Judging.{before-month, after-month, of-month}
+use Rattle.stamp.proofs.Judging.{and-both, before-month, after-month, of-month}
 use borrow.Author.Needs.{needs}
 use Rattle.stamp.proofs.taken.Statement.{statement}
 use Rattle.stamp.proofs.taken.Tie as tie
@@ -17,8 +15,8 @@ returns-2 c = sym (after-month (c .before .before .before .before .args .m) (c .
 
 returns-3 : tie.Need-returns-3
 returns-3 c =
-    let m = c .before .before .before .before .before .before .before .before .before .before .before .before .before .args .m in
-    simp and-both (sym (of-month m _ (omega arith) (omega arith) (c .before .before .before .before .before .month-length .ensures ∙ ap (λ l. monthDays l (m .month - 1000)) (c .before .before .before .before .before .before .before .is-leap .ensures))))
+    let m = c .before .before .before .before .before .before .before .before .before .before .before .before .args .m in
+    simp and-both (sym (of-month m _ (omega arith) (omega arith) (c .before .before .before .before .before .month-length .ensures ∙ ap (λ l. monthDays l (m .month)) (c .before .before .before .before .before .before .before .is-leap .ensures))))
 
 pub taken-spec : {M : Type 1} → statement M
 taken-spec =
@@ -26,11 +24,8 @@ taken-spec =
     (tie.spec
     returns
     returns-2
-    (λ c. search needs)
     (λ c κs. search needs)
     (λ c. search needs)
-    (λ c. search needs)
     (λ c κs. search needs)
-    (λ c. search needs)
     (λ c. search needs)
     returns-3)
