@@ -16,7 +16,7 @@ use Rattle.interner.proofs.Held.{take-held, take-new, grown-all, text-stays-all
 use Rattle.model.specs.Act.{Act}
 use Rattle.field.specs.Field.{Field, got, bad}
 use Rattle.acts.specs.Turn.{Reader, fresh, Turn, turn}
-use Rattle.acts.specs.Call.{Call, interns, pushes, deletes, reads, ends, Answered, World, begin, turned, outcome, actsBefore, worldAfter, actsFrom, actsOf, lineRead, linesRead}
+use Rattle.acts.specs.Call.{Call, interns, pushes, deletes, reads, ends, allows, Answered, World, begin, turned, outcome, actsBefore, worldAfter, actsFrom, actsOf, lineRead, linesRead}
 use Rattle.acts.proofs.Turns.{actIn, KindAgrees, fresh-agrees, turn-agrees}
 
 -- ---- refused calls
@@ -135,6 +135,7 @@ lines-left w n (reads m s) ls =
     (λ q. rw (turn-left w m n (turn s (w .readers m)), q) (ap (λ (k : ℕ). readerAfter (readerLeft (w .readers k) (turn s (w .readers k))) ls) (sym (eqb-true n m q))))
     (λ q. rw (turn-left w m n (turn s (w .readers m)), q))
 lines-left w n (ends m) ls = refl
+lines-left w n (allows setting) ls = refl
 
 -- where a reader stands goes by its own accepted lines alone
 pub reader-alone : (w : World) (cs : List Answered) (n : ℕ) → worldAfter w cs .readers n ≡ readerAfter (w .readers n) (linesRead n cs)
@@ -172,6 +173,7 @@ textsBy w (pushes id r) = []
 textsBy w (deletes k id m) = []
 textsBy w (reads n s) = turnTexts (turn s (w .readers n))
 textsBy w (ends n) = []
+textsBy w (allows setting) = []
 
 -- and those of a list of calls, in order
 unfoldable pub textsFrom : World → List Answered → List Bytes
@@ -190,6 +192,7 @@ call-texts w (reads n s) = go (turn s (w .readers n))
     go (got t) = refl
     go (bad x) = refl
 call-texts w (ends n) = refl
+call-texts w (allows setting) = refl
 
 take-append : (held xs ys : List Bytes) → takeAll held (xs ++ ys) ≡ takeAll (takeAll held xs) ys
 unfolding takeAll

@@ -1,4 +1,4 @@
--- Condition 3: "Each gets its own list of these calls, refused ones included: intern, direct push, direct delete, a reader's event, a reader's end".
+-- Condition 3: "Each gets its own list of these calls, refused ones included: intern, direct push, direct delete, a reader's event, a reader's end". And the regression setting.
 use Prim.Native.Nat.{ℕ}
 use mathlib.Core.Bool.{Bool, true, false, cond}
 use mathlib.Core.Option.{Option, none, some}
@@ -21,6 +21,8 @@ pub data Call : Type 0 where
   deletes : Kind → ℤ → Meta ℕ → Call
   reads : ℕ → Bytes → Call
   ends : ℕ → Call
+  -- the regression setting: no act, no text, no line
+  allows : ℕ → Call
 
 -- a call and whether its reply accepted it
 pub record Answered : Type 0 where
@@ -63,6 +65,7 @@ outcome w (pushes id r) = pushOf w id r
 outcome w (deletes k id m) = record { world = w; act = some (delete k id (claimOf m)) }
 outcome w (reads n s) = turned w n (turn s (w .readers n))
 outcome w (ends n) = quiet w
+outcome w (allows setting) = quiet w
 
 abbrev pub actsBefore : Option (Act Bytes) → List (Act Bytes) → List (Act Bytes)
 actsBefore none acts = acts
@@ -88,6 +91,7 @@ lineRead n (pushes id r) ls = ls
 lineRead n (deletes k id m) ls = ls
 lineRead n (reads m s) ls = cond (eqb n m) (s ∷ ls) ls
 lineRead n (ends m) ls = ls
+lineRead n (allows setting) ls = ls
 
 unfoldable pub linesRead : ℕ → List Answered → List Bytes
 linesRead n [] = []

@@ -11,7 +11,7 @@ use native.Mathlib.Omega.{arith}
 use mir.Syntax.{w64}
 use mir.Val.{toZ}
 use mir.Facts.{fits-of-lt, sfits-toZ}
-use borrow.Author.Tests.{ltb-true, lt-ltb, eq-eqb, ne-eqb}
+use borrow.Author.Tests.{ltb-true, lt-ltb, eq-eqb, ne-eqb, eqb-true}
 use Rattle.base.specs.Bytes.{Bytes, all}
 use Rattle.base.proofs.Split.{byBool, byEq, both-left, both-right, no}
 use Rattle.base.proofs.Lists.{all-head, all-tail}
@@ -34,11 +34,12 @@ use Rattle.interner.specs.declared.Interned.the-variants as I
 use Rattle.kind_store.proofs.Claims.{Narrow}
 use Rattle.field.specs.Field.{Field, got}
 use Rattle.acts.specs.Turn.{Turn, turn}
-use Rattle.acts.specs.Call.{Call, Answered, World, outcome, turned, actsBefore, worldAfter, actsFrom, linesRead}
+use Rattle.acts.specs.Call.{Call, Answered, World, Outcome, quiet, outcome, turned, actsBefore, worldAfter, actsFrom, linesRead}
 use Rattle.acts.specs.Call as Call
 use Rattle.acts.proofs.Calls.{refusedCall, takenCall, world-append, acts-append, own-reader, other-reader, textsFrom, texts-after}
 use Rattle.overlay.specs.Overlay.{Overlay}
 use Rattle.overlay.specs.Given.{headFits, metaFits}
+use Rattle.overlay.specs.Calls.{allowOn}
 use Rattle.direct.specs.Calls.{pushOn, deleteOn, internOn}
 use Rattle.store.specs.Calls.{handleIn}
 use Rattle.store.specs.declared.Handle.the-variants as H
@@ -57,8 +58,8 @@ use Rattle.reader.proofs.Answers.{byAnswer, event-counts, end-keeps}
 use Rattle.reader.proofs.Acts.{TakesIn, no-text, a-text, Acts, no-act, a-push, a-delete, Acted, Fine, more-strings, same-text}
 use Rattle.reader.proofs.Events.{event-accepted, byRefused}
 use Rattle.reader.proofs.Keeps.{Ready, event-ready, ready-more, ready-means}
-use Rattle.calls.specs.Ask.{Ask, interns, pushes, deletes, reads, ends, callOf, Storage, stateOf, withState, withOverlay, eventTaken, leaves, accepts, after, answered, askFits}
-use Rattle.calls.proofs.Reflects.{Reflects, reflects-push, reflects-delete, reflects-text}
+use Rattle.calls.specs.Ask.{Ask, interns, pushes, deletes, reads, ends, allows, callOf, Storage, stateOf, withState, withOverlay, eventTaken, leaves, accepts, after, answered, askFits, refusing}
+use Rattle.calls.proofs.Reflects.{Reflects, reflects-push, reflects-delete, reflects-text, reflects-setting}
 
 -- ---- the calls that a turn makes
 
@@ -80,43 +81,44 @@ is-held (I.Held h) n e = refl
 is-held (I.New h) n e = refl
 is-held I.Full n e = no cc
 
-module _ (setting : ℕ) where
-  takes-reflects : {o q : Overlay} {ts held : List Bytes} {acts : List (Act Bytes)} → TakesIn o ts q → Reflects setting o held acts → Reflects setting q (takeAll held ts) acts
+module _ (refused : Bool) where
+  takes-reflects : {o q : Overlay} {ts held : List Bytes} {acts : List (Act Bytes)} → TakesIn o ts q → Reflects refused o held acts → Reflects refused q (takeAll held ts) acts
   unfolding takeAll
   takes-reflects no-text w = w
   takes-reflects {o} {held = held} {acts = acts} (a-text t n l e) w =
       let p = intern-taken t o n e in
-      rw (p .1 .1 .1) (reflects-text setting o held acts w t l (is-held (intern (o .texts) t .answer) n (p .1 .1 .0)))
+      rw (p .1 .1 .1) (reflects-text refused o held acts w t l (is-held (intern (o .texts) t .answer) n (p .1 .1 .0)))
 
-  acts-reflect : {o q : Overlay} {a : Option (Act Bytes)} {held : List Bytes} {acts : List (Act Bytes)} → Acts o a q → Reflects setting o held acts
-      → Reflects setting q held (acts ++ actsBefore a [])
+  acts-reflect : {o q : Overlay} {a : Option (Act Bytes)} {held : List Bytes} {acts : List (Act Bytes)} → Acts o a q → Reflects refused o held acts
+      → Reflects refused q held (acts ++ actsBefore a [])
   acts-reflect no-act w = rw append-nil w
   acts-reflect {o} {held = held} {acts = acts} (a-push k h m parts r f g b made e) w =
       let p = push-kept k h m parts o f g b e in
       let q : p .held ≡ r = cc (p .made) in
-      rw (p .left, w .texts, ← q) (reflects-push setting o held acts w k (keptAs h (p .held)) (p .fits) (p .lawful) (p .stored))
+      rw (p .left, w .texts, ← q) (reflects-push refused o held acts w k (keptAs h (p .held)) (p .fits) (p .lawful) (p .stored))
   acts-reflect {o} {held = held} {acts = acts} (a-delete k id m f g e) w =
       let p = delete-kept k (toZ w64 id) (metaOf m) o e in
-      rw (p .left) (reflects-delete setting o held acts w k (toZ w64 id) (claimOf (metaOf m)) (given-id id f) (given-claim (metaOf m) (meta-given m g)) (p .stored))
+      rw (p .left) (reflects-delete refused o held acts w k (toZ w64 id) (claimOf (metaOf m)) (given-id id f) (given-claim (metaOf m) (meta-given m g)) (p .stored))
 
 -- ---- what is lent agrees with the calls and their replies
 
-pub record Agrees (setting : ℕ) (l : Storage) (w : World) (acts : List (Act Bytes)) : Type 0 where
-  pub overlay : Reflects setting (l .overlay) (w .texts) acts
+-- whether regression was refused throughout: without it nothing is said of the highest versions
+pub record Agrees (refused : Bool) (l : Storage) (w : World) (acts : List (Act Bytes)) : Type 0 where
+  pub overlay : Reflects refused (l .overlay) (w .texts) acts
   pub ready : (n : ℕ) → Ready (l .overlay .texts .strings) (l .readers n) (l .parts n)
   pub readers : (n : ℕ) → readerOf (stateOf n l) ≡ w .readers n
 
-pub agrees-fine : {setting : ℕ} {l : Storage} {w : World} {acts : List (Act Bytes)} → Agrees setting l w acts → Fine (l .overlay)
+pub agrees-fine : {refused : Bool} {l : Storage} {w : World} {acts : List (Act Bytes)} → Agrees refused l w acts → Fine (l .overlay)
 agrees-fine {l = l} g = record { sound = decides (l .overlay) (g .overlay .bytes) .1 (g .overlay .sound); bytes = g .overlay .bytes }
 
 -- a call and its reply
 abbrev pub answerOf : Ask → Storage → Answered
 answerOf c l = record { call = callOf c; accepted = accepts c l }
 
-module _ (setting : ℕ) (l : Storage) (w : World) (acts : List (Act Bytes)) (g : Agrees setting l w acts) where
+module _ (refused : Bool) (l : Storage) (w : World) (acts : List (Act Bytes)) (g : Agrees refused l w acts) where
   -- the overlay after a call by its reply: the texts and the acts that it adds
   abbrev Adds : Overlay → Answered → Type 0
-  Adds q a = Reflects setting q (worldAfter w (a ∷ []) .texts) (acts ++ actsFrom w (a ∷ []))
+  Adds q a = Reflects refused q (worldAfter w (a ∷ []) .texts) (acts ++ actsFrom w (a ∷ []))
 
   same-adds : (c : Call) → Adds (l .overlay) (refusedCall c)
   unfolding worldAfter actsFrom
@@ -135,7 +137,7 @@ module _ (setting : ℕ) (l : Storage) (w : World) (acts : List (Act Bytes)) (g 
     left-means n = ready-means (l .overlay .texts .strings) (l .readers n) (l .parts n) (g .ready n) (l .overlay) q (same-text (l .overlay) q _ grown) ∙ g .readers n
 
     -- a direct call
-    direct : ((n : ℕ) → worldAfter w (a ∷ []) .readers n ≡ w .readers n) → Agrees setting (withOverlay q l) (worldAfter w (a ∷ [])) (acts ++ actsFrom w (a ∷ []))
+    direct : ((n : ℕ) → worldAfter w (a ∷ []) .readers n ≡ w .readers n) → Agrees refused (withOverlay q l) (worldAfter w (a ∷ [])) (acts ++ actsFrom w (a ∷ []))
     direct e = record { overlay = adds; ready = left-ready; readers = λ n. left-means n ∙ sym (e n) }
 
     -- an event or an end of a reader
@@ -150,13 +152,13 @@ module _ (setting : ℕ) (l : Storage) (w : World) (acts : List (Act Bytes)) (g 
           (λ e. rw (eq-eqb m n e) (ap (λ (o : Overlay). readerOf (record { overlay = o; reader = t .reader; parts = t .parts })) (sym same) ∙ (means ∙ ap (worldAfter w (a ∷ []) .readers) (sym e))))
           (λ e. rw (ne-eqb m n e) (left-means m ∙ sym (others m e)))
 
-      of-reader : Agrees setting (withState n t l) (worldAfter w (a ∷ [])) (acts ++ actsFrom w (a ∷ []))
+      of-reader : Agrees refused (withState n t l) (worldAfter w (a ∷ [])) (acts ++ actsFrom w (a ∷ []))
       of-reader = rw same (record { overlay = adds; ready = reader-ready; readers = reader-means })
 
   -- ---- each call
 
   abbrev Goes : Ask → Type 0
-  Goes c = Agrees setting (leaves c l) (worldAfter w (answerOf c l ∷ [])) (acts ++ actsFrom w (answerOf c l ∷ []))
+  Goes c = Agrees refused (leaves c l) (worldAfter w (answerOf c l ∷ [])) (acts ++ actsFrom w (answerOf c l ∷ []))
 
   -- a direct call leaves each reader
   readers-left : (c : Call) (b : Bool) → ((n : ℕ) → outcome w c .world .readers n ≡ w .readers n) → (n : ℕ) → worldAfter w (record { call = c; accepted = b } ∷ []) .readers n ≡ w .readers n
@@ -175,21 +177,21 @@ module _ (setting : ℕ) (l : Storage) (w : World) (acts : List (Act Bytes)) (g 
   push-adds k h m parts f v b =
       byKept (pushOn k h m parts (l .overlay) .answer)
       (λ e. let p = push-kept k h m parts (l .overlay) f v b e in
-      rw (e, p .made) (rw (g .overlay .texts) at (acts-reflect setting (a-push k h m parts (p .held) f v b (p .made) e) (g .overlay))))
+      rw (e, p .made) (rw (g .overlay .texts) at (acts-reflect refused (a-push k h m parts (p .held) f v b (p .made) e) (g .overlay))))
       (λ r e. rw (e, push-refused k h m parts (l .overlay) r e) (same-adds (callOf (pushes k h m parts))))
 
   delete-adds : (k : Kind) (id : ℕ) (m : ArenaMeta) → id < 18446744073709551616 → metaFits m ≡ true → Adds (deleteOn k (toZ w64 id) (metaOf m) (l .overlay) .overlay) (answerOf (deletes k id m) l)
   unfolding worldAfter actsFrom outcome
   delete-adds k id m f v =
       byKept (deleteOn k (toZ w64 id) (metaOf m) (l .overlay) .answer)
-      (λ e. rw e (acts-reflect setting (a-delete k id m f v e) (g .overlay)))
+      (λ e. rw e (acts-reflect refused (a-delete k id m f v e) (g .overlay)))
       (λ r e. rw (e, delete-refused k (toZ w64 id) (metaOf m) (l .overlay) r e) (same-adds (callOf (deletes k id m))))
 
   intern-adds : (t : Bytes) → Adds (internOn t (l .overlay) .overlay) (answerOf (interns t) l)
   unfolding worldAfter actsFrom outcome takeAll
   intern-adds t =
       byHandle (internOn t (l .overlay) .answer)
-      (λ n e. rw (e, append-nil) (takes-reflects setting (a-text t n (intern-taken t (l .overlay) n e .1 .0) e) (g .overlay)))
+      (λ n e. rw (e, append-nil) (takes-reflects refused (a-text t n (intern-taken t (l .overlay) n e .1 .0) e) (g .overlay)))
       (λ r e. rw (e, intern-refused t (l .overlay) r e) (same-adds (callOf (interns t))))
 
   -- a refused event changes its stop mark alone, which its reader's meaning does not look at
@@ -201,8 +203,8 @@ module _ (setting : ℕ) (l : Storage) (w : World) (acts : List (Act Bytes)) (g 
   read-adds : (n : ℕ) (line : Bytes) (t : Turn) (q : Overlay) → turn line (w .readers n) ≡ got t → Acted (l .overlay) t q → Adds q (takenCall (Call.reads n line))
   unfolding worldAfter actsFrom outcome
   read-adds n line t q k a =
-      subst (λ (f : Field Turn). Reflects setting q (turned w n f .world .texts) (acts ++ actsBefore (turned w n f .act) [])) (sym k)
-      (acts-reflect setting (a .acted) (takes-reflects setting (a .taken) (g .overlay)))
+      subst (λ (f : Field Turn). Reflects refused q (turned w n f .world .texts) (acts ++ actsBefore (turned w n f .act) [])) (sym k)
+      (acts-reflect refused (a .acted) (takes-reflects refused (a .taken) (g .overlay)))
 
   read-goes : (n : ℕ) (line : Bytes) → Goes (reads n line)
   unfolding worldAfter
@@ -221,42 +223,52 @@ module _ (setting : ℕ) (l : Storage) (w : World) (acts : List (Act Bytes)) (g 
       let own : Ready (l .overlay .texts .strings) (t .reader) (t .parts) = rw (e .0) at v in
       rw a (of-reader (l .overlay) (refusedCall c) (same-adds c) n t (e .0) own (e .1 ∙ g .readers n) (λ i e. refl)))
 
-  -- an end leaves all as it was, whatever it answers
-  end-same : (n : ℕ) (b : Bool) → (worldAfter w (record { call = Call.ends n; accepted = b } ∷ []) ≡ w) × (actsFrom w (record { call = Call.ends n; accepted = b } ∷ []) ≡ [])
-  unfolding worldAfter actsFrom outcome
-  end-same n true = (refl, refl)
-  end-same n false = (refl, refl)
+  -- an end and the setting leave the texts and the acts as they were, whatever they answer
+  quiet-same : (c : Call) (b : Bool) → outcome w c ≡ quiet w → (worldAfter w (record { call = c; accepted = b } ∷ []) ≡ w) × (actsFrom w (record { call = c; accepted = b } ∷ []) ≡ [])
+  unfolding worldAfter actsFrom
+  quiet-same c true e = (ap (λ (z : Outcome). z .world) e, ap (λ (z : Outcome). actsBefore (z .act) []) e)
+  quiet-same c false e = (refl, refl)
 
   end-goes : (n : ℕ) → Goes (ends n)
+  unfolding outcome
   end-goes n =
       let s = stateOf n l in
       let a = answerOf (ends n) l in
-      let z = end-same n (a .accepted) in
+      let z = quiet-same (Call.ends n) (a .accepted) refl in
       let k = end-keeps s in
       let adds : Adds (l .overlay) a = rw (z .0, z .1, append-nil) (g .overlay) in
       let own : Ready (l .overlay .texts .strings) (endOn s .state .reader) (endOn s .state .parts) = rw k (g .ready n) in
       of-reader (l .overlay) a adds n (endOn s .state) (ap (λ (y : State). y .overlay) k) own (ap readerOf k ∙ (g .readers n ∙ ap (λ (y : World). y .readers n) (sym (z .0))))
       (λ m e. ap (λ (y : World). y .readers m) (z .0))
 
-  pub agrees-call : (c : Ask) → askFits c ≡ true → Goes c
+  allow-adds : (setting : ℕ) → (refused ≡ true → setting ≡ 0) → Adds (allowOn setting (l .overlay) .overlay) (answerOf (allows setting) l)
+  unfolding outcome
+  allow-adds setting r =
+      let z = quiet-same (Call.allows setting) (accepts (allows setting) l) refl in
+      rw (z .0, z .1, append-nil) (reflects-setting refused (l .overlay) (w .texts) acts (g .overlay) setting r)
+
+  -- where regression is refused throughout, the call does not allow it
+  pub agrees-call : (c : Ask) → askFits c ≡ true → (refused ≡ true → refusing c ≡ true) → Goes c
   unfolding askFits outcome
-  agrees-call (interns t) f = direct _ _ (intern-adds t) (readers-left _ _ (λ n. refl))
-  agrees-call (pushes k h m parts) f =
+  agrees-call (interns t) f r = direct _ _ (intern-adds t) (readers-left _ _ (λ n. refl))
+  agrees-call (pushes k h m parts) f r =
       direct _ _ (push-adds k h m parts (both-left _ _ f) (both-left _ _ (both-right _ _ f)) (both-right _ _ (both-right _ _ f))) (readers-left _ _ (push-leaves (toZ w64 (h .id)) (pushedRecord k (headIn k h) (metaOf m) parts)))
-  agrees-call (deletes k id m) f = direct _ _ (delete-adds k id m (ltb-true _ _ (both-left _ _ f)) (both-right _ _ f)) (readers-left _ _ (λ n. refl))
-  agrees-call (reads n line) f = read-goes n line
-  agrees-call (ends n) f = end-goes n
+  agrees-call (deletes k id m) f r = direct _ _ (delete-adds k id m (ltb-true _ _ (both-left _ _ f)) (both-right _ _ f)) (readers-left _ _ (λ n. refl))
+  agrees-call (reads n line) f r = read-goes n line
+  agrees-call (ends n) f r = end-goes n
+  agrees-call (allows setting) f r = direct _ _ (allow-adds setting (λ z. eqb-true setting 0 (r z))) (readers-left _ _ (λ n. refl))
 
 -- ---- a list of calls
 
-pub agrees-calls : (setting : ℕ) (cs : List Ask) (l : Storage) (w : World) (acts : List (Act Bytes)) → all askFits cs ≡ true → Agrees setting l w acts
-    → Agrees setting (after l cs) (worldAfter w (answered l cs)) (acts ++ actsFrom w (answered l cs))
+pub agrees-calls : (refused : Bool) (cs : List Ask) (l : Storage) (w : World) (acts : List (Act Bytes)) → all askFits cs ≡ true → (refused ≡ true → all refusing cs ≡ true) → Agrees refused l w acts
+    → Agrees refused (after l cs) (worldAfter w (answered l cs)) (acts ++ actsFrom w (answered l cs))
 unfolding after answered worldAfter actsFrom
-agrees-calls setting [] l w acts f g = rw append-nil g
-agrees-calls setting (c ∷ cs) l w acts f g =
+agrees-calls refused [] l w acts f r g = rw append-nil g
+agrees-calls refused (c ∷ cs) l w acts f r g =
     let a = answerOf c l in
     let u = worldAfter w (a ∷ []) in
-    let i = agrees-calls setting cs (leaves c l) u (acts ++ actsFrom w (a ∷ [])) (all-tail askFits c cs f) (agrees-call setting l w acts g c (all-head askFits c cs f)) in
+    let k = agrees-call refused l w acts g c (all-head askFits c cs f) (λ z. all-head refusing c cs (r z)) in
+    let i = agrees-calls refused cs (leaves c l) u (acts ++ actsFrom w (a ∷ [])) (all-tail askFits c cs f) (λ z. all-tail refusing c cs (r z)) k in
     rw (world-append w (a ∷ []) (answered (leaves c l) cs), acts-append w (a ∷ []) (answered (leaves c l) cs), ← append-assoc acts (actsFrom w (a ∷ [])) (actsFrom u (answered (leaves c l) cs))) i
 
 -- ---- the count of lines: an event's line is one more than the lines that its reader has taken
@@ -282,6 +294,7 @@ module _ (n : ℕ) where
       byEq n m
       (λ q. rw (eq-eqb n m q, end-keeps (stateOf m l), q) (byBool (accepts (ends m) l) (λ e. rw e) (λ e. rw e)))
       (λ q. rw (ne-eqb n m q) (byBool (accepts (ends m) l) (λ e. rw e) (λ e. rw e)))
+  call-lines (allows setting) l ds = byBool (accepts (allows setting) l) (λ e. rw e) (λ e. rw e)
 
   pub lines-counted : (cs : List Ask) (l : Storage) → after l cs .readers n .lines ≡ l .readers n .lines + length (linesRead n (answered l cs))
   unfolding after answered linesRead

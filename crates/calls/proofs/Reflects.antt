@@ -48,16 +48,16 @@ use Rattle.sound.proofs.Keeps as Sounds
 use Rattle.overlay.specs.Overlay.{Overlay, kindStoreOf, withKindStore, withTexts, largest, sizesFit, kindStoreFits, textsFit, empty}
 use Rattle.overlay.specs.Given.{InBytes}
 use Rattle.overlay.specs.Sound.{Sound}
-use Rattle.overlay.specs.Calls.{OverlayAfter, setUp}
+use Rattle.overlay.specs.Calls.{OverlayAfter, setUp, allowOn}
 use Rattle.store.specs.Calls.{Interning}
 use Rattle.direct.specs.Calls.{internOn}
 use Rattle.overlay.proofs.Decides.{decides}
-use Rattle.overlay.proofs.Answers.{bySetUp}
+use Rattle.overlay.proofs.Answers.{bySetUp, byAllow}
 use Rattle.direct.proofs.Answers.{intern-store}
-use Rattle.overlay.proofs.Keeps.{setup-sound, setup-bytes}
+use Rattle.overlay.proofs.Keeps.{setup-sound, setup-bytes, allow-sound, allow-bytes}
 use Rattle.direct.proofs.Keeps.{intern-sound, intern-bytes}
 use Rattle.overlay.proofs.Bounds.{over-small}
-use Rattle.overlay.proofs.KindStores.{kind-store-same, kind-store-other, kind-store-texts, kind-store-setting, each-kind-store, texts-kind-store, sized-kind-store, sized-texts, put-sized}
+use Rattle.overlay.proofs.KindStores.{kind-store-same, kind-store-other, kind-store-texts, kind-store-setting, each-kind-store, texts-kind-store, setting-kind-store, sized-kind-store, sized-texts, put-sized}
 use Rattle.calls.specs.Known.{Regresses}
 use Rattle.listing.specs.Known.{knownIn}
 use Rattle.listing.specs.Table.{isRank, Ranked}
@@ -72,13 +72,13 @@ use Rattle.calls.proofs.Tells.{Tells, keyIn, pushOf, push-key, id-fits,
 abbrev pub named : Act Bytes → Bool
 named a = fitsSigned w64 (keyOf a .id)
 
--- an overlay of a setting, the texts that were taken in, in the order of their handles, and the accepted acts, in order
-pub record Reflects (setting : ℕ) (o : Overlay) (held : List Bytes) (acts : List (Act Bytes)) : Type 0 where
+-- an overlay, the texts that were taken in, in the order of their handles, and the accepted acts, in order; whether regression was refused throughout
+pub record Reflects (refused : Bool) (o : Overlay) (held : List Bytes) (acts : List (Act Bytes)) : Type 0 where
   pub sound : Sound o
   pub bytes : InBytes o
-  pub set : o .setting ≡ setting
+  pub set : refused ≡ true → o .setting ≡ 0
   pub texts : textsOf (o .texts) ≡ held
-  pub tells : (k : Kind) → Tells k (o .setting) (kindStoreOf k o) held acts
+  pub tells : (k : Kind) → Tells k refused (kindStoreOf k o) held acts
   pub ids : all named acts ≡ true
   pub ranks : Ranked o
 
@@ -101,7 +101,7 @@ span-lent : (o : Overlay) → sizesFit largest o ≡ true → 2 ≤ length (o .t
 unfolding textsFit
 span-lent o h = omega (arith, leb-true 1 (length (o .texts .spans) / 2) (both-left _ _ (sized-texts largest o h)))
 
-module _ (setting : ℕ) (o : Overlay) (held : List Bytes) (acts : List (Act Bytes)) (w : Reflects setting o held acts) where
+module _ (refused : Bool) (o : Overlay) (held : List Bytes) (acts : List (Act Bytes)) (w : Reflects refused o held acts) where
   -- each kind store is fair
   pub well-formed-of : (k : Kind) → WellFormed k (kindStoreOf k o)
   well-formed-of k = well-formed-sound (o .texts .strings) k (kindStoreOf k o) (w .sound .kindStores k) (w .bytes .arenas k) (arena-short (kindStoreOf k o) (sized-kind-store largest o (w .sound .sizes) k))
@@ -111,7 +111,7 @@ module _ (setting : ℕ) (o : Overlay) (held : List Bytes) (acts : List (Act Byt
   module _ (k : Kind) (t : KindStore) (a : Act Bytes) (kind : k ≡ keyOf a .kind) where
     -- the kind store of the kind put anew, where it is sound, of bytes and of its size, and tells of the act
     put-reflects : SoundKindStore (o .texts .strings) k t → all isByte (t .arena) ≡ true → length (t .table) ≡ length (kindStoreOf k o .table) → length (t .arena) ≡ length (kindStoreOf k o .arena)
-        → Tells k (o .setting) t held (acts ++ (a ∷ [])) → named a ≡ true → all isRank (rowsIn t) ≡ true → Reflects setting (withKindStore k t o) held (acts ++ (a ∷ []))
+        → Tells k refused t held (acts ++ (a ∷ [])) → named a ≡ true → all isRank (rowsIn t) ≡ true → Reflects refused (withKindStore k t o) held (acts ++ (a ∷ []))
     put-reflects s b e f told n r =
         record {
           sound = record {
@@ -123,12 +123,12 @@ module _ (setting : ℕ) (o : Overlay) (held : List Bytes) (acts : List (Act Byt
             arenas = each-kind-store (λ j z. all isByte (z .arena) ≡ true) k t o b (w .bytes .arenas);
             texts = rw kind-store-texts (w .bytes .texts);
           };
-          set = kind-store-setting k t o ∙ w .set;
+          set = λ z. kind-store-setting k t o ∙ w .set z;
           texts = rw kind-store-texts (w .texts);
           tells = λ j.
               byKind j k
-              (λ q. rw (q, kind-store-same k t o, kind-store-setting k t o) told)
-              (λ q. rw (kind-store-other j k t o q, kind-store-setting k t o) (tells-other j (o .setting) (kindStoreOf j o) held acts a (λ z. q (z ∙ sym kind)) (w .tells j)));
+              (λ q. rw (q, kind-store-same k t o) told)
+              (λ q. rw (kind-store-other j k t o q) (tells-other j refused (kindStoreOf j o) held acts a (λ z. q (z ∙ sym kind)) (w .tells j)));
           ids = all-append named acts (a ∷ []) (w .ids) (all-cons named a [] n (all-nil named));
           ranks = ranked-kind-store k t o r (w .ranks);
         }
@@ -136,7 +136,7 @@ module _ (setting : ℕ) (o : Overlay) (held : List Bytes) (acts : List (Act Byt
   -- an accepted push of a legal record
   module _ (k : Kind) (x : KeptRecord) (fits : fitsKept k x ≡ true) (lawful : legal (o .texts .strings) (x .held) ≡ true)
       (taken : pushed k (o .setting) (kindStoreOf k o) (x .id) (claimOf (x .held .meta)) (keptBytes x) .answer ≡ Taken) where
-    pub reflects-push : Reflects setting (withKindStore k (pushed k (o .setting) (kindStoreOf k o) (x .id) (claimOf (x .held .meta)) (keptBytes x) .kindStore) o) held (acts ++ (pushOf held x ∷ []))
+    pub reflects-push : Reflects refused (withKindStore k (pushed k (o .setting) (kindStoreOf k o) (x .id) (claimOf (x .held .meta)) (keptBytes x) .kindStore) o) held (acts ++ (pushOf held x ∷ []))
     reflects-push =
         let strings = o .texts .strings in
         let s = kindStoreOf k o in
@@ -148,12 +148,12 @@ module _ (setting : ℕ) (o : Overlay) (held : List Bytes) (acts : List (Act Byt
         (Sounds.push-sound strings k (o .setting) s c x fits lawful (signed-fits (x .id) i) p taken)
         (rw (push-arena k (o .setting) s (x .id) c (keptBytes x) taken) (over-small (s .arena) (s .used) (keptBytes x) (w .bytes .arenas k) (record-small strings (x .id) (x .held) lawful)))
         (l .words) (l .size)
-        (tells-push strings k (o .setting) s held acts p (well-formed-of k) (w .tells k) x fits lawful taken) i
+        (tells-push strings k refused (o .setting) s held acts p (well-formed-of k) (w .tells k) x fits lawful taken (w .set)) i
         (rw (l .rows) (ranked-put (x .id) _ _ (signed-fits (x .id) i) (rowsIn s) (w .ranks .rows k)))
 
   -- an accepted delete
   module _ (k : Kind) (id : ℤ) (claim : Version) (fits : fitsSigned w64 id ≡ true) (narrow : Narrow claim) (taken : deleted k (o .setting) (kindStoreOf k o) id claim .answer ≡ Taken) where
-    pub reflects-delete : Reflects setting (withKindStore k (deleted k (o .setting) (kindStoreOf k o) id claim .kindStore) o) held (acts ++ (delete k id claim ∷ []))
+    pub reflects-delete : Reflects refused (withKindStore k (deleted k (o .setting) (kindStoreOf k o) id claim .kindStore) o) held (acts ++ (delete k id claim ∷ []))
     reflects-delete =
         let strings = o .texts .strings in
         let s = kindStoreOf k o in
@@ -163,12 +163,12 @@ module _ (setting : ℕ) (o : Overlay) (held : List Bytes) (acts : List (Act Byt
         (Sounds.delete-sound strings k (o .setting) s id claim p taken)
         (rw (delete-arena k (o .setting) s id claim (well-formed-of k) taken) (w .bytes .arenas k))
         (l .words) (l .size)
-        (tells-delete strings k (o .setting) s held acts p (well-formed-of k) (w .tells k) id claim (signed-fits id fits) narrow taken) fits
+        (tells-delete strings k refused (o .setting) s held acts p (well-formed-of k) (w .tells k) id claim (signed-fits id fits) narrow taken) fits
         (rw (l .rows) (ranked-put id _ _ (signed-fits id fits) (rowsIn s) (w .ranks .rows k)))
 
   -- a text taken in: the held handles keep their texts
   pub reflects-text : (t : Bytes) → isText t ≡ true → internAccepted (intern (o .texts) t .answer) ≡ true
-      → Reflects setting (withTexts (intern (o .texts) t .store) o) (takeIn held t) acts
+      → Reflects refused (withTexts (intern (o .texts) t .store) o) (takeIn held t) acts
   reflects-text t l a =
       let e : internOn t o .overlay ≡ withTexts (intern (o .texts) t .store) o = ap (λ (z : Interning). z .overlay) (intern-store t o (decides o (w .bytes) .1 (w .sound)) l) in
       let n : length held ≡ o .texts .strings = ap length (sym (w .texts)) ∙ Interns.length-texts (o .texts) in
@@ -178,21 +178,37 @@ module _ (setting : ℕ) (o : Overlay) (held : List Bytes) (acts : List (Act Byt
         set = w .set;
         texts = Interns.texts-after (o .texts) t (Interns.sound-parts (o .texts) (w .sound .strings)) a ∙ ap (λ (z : List Bytes). takeIn z t) (w .texts);
         tells = λ k.
-            rw (texts-kind-store k (intern (o .texts) t .store) o) (tells-texts (o .texts .strings) k (o .setting) (kindStoreOf k o) held acts (w .sound .kindStores k) (well-formed-of k) (w .tells k)
+            rw (texts-kind-store k (intern (o .texts) t .store) o) (tells-texts (o .texts .strings) k refused (o .setting) (kindStoreOf k o) held acts (w .sound .kindStores k) (well-formed-of k) (w .tells k)
             (takeIn held t) (λ h g. sym (text-stays held t h (rw n g))));
         ids = w .ids;
         ranks = ranked-texts (intern (o .texts) t .store) o (w .ranks);
       }
 
+  -- the setting stored: where regression is refused throughout, it is 0
+  pub reflects-setting : (setting : ℕ) → (refused ≡ true → setting ≡ 0) → Reflects refused (allowOn setting o .overlay) held acts
+  reflects-setting setting z =
+      byAllow setting o (λ u e. clash (decides o (w .bytes) .1 (w .sound)) u)
+      (λ u e.
+      let f = ap (λ (x : OverlayAfter). x .overlay) e in
+      rw e (record {
+        sound = subst Sound f (allow-sound setting o (w .sound));
+        bytes = subst InBytes f (allow-bytes setting o (w .bytes));
+        set = z;
+        texts = w .texts;
+        tells = λ k. rw (setting-kind-store k setting o) (w .tells k);
+        ids = w .ids;
+        ranks = record { rows = λ k. rw (setting-kind-store k setting o) (w .ranks .rows k) };
+      }))
+
   -- ---- what that comes to
 
-  -- while regression is refused, what the overlay knows of an id is what the acts come to
-  pub page-reflects : setting ≡ 0 → (key : Key) → SFits w64 (key .id) → knownIn o key ≡ Summary.known acts key
+  -- where regression was refused throughout, what the overlay knows of an id is what the acts come to
+  pub page-reflects : refused ≡ true → (key : Key) → SFits w64 (key .id) → knownIn o key ≡ Summary.known acts key
   unfolding knownIn
   page-reflects z key f =
       let t = w .tells (key .kind) in
       let l = ap (λ (x : List Bytes). lastOf (key .kind) (kindStoreOf (key .kind) o) (textOf x) (key .id)) (w .texts) ∙ t .last (key .id) f in
-      let h = t .high (w .set ∙ z) (key .id) f in
+      let h = t .high z (key .id) f in
       λ i. record { last = l i; high = h i }
 
   -- of an id that has not 64 bits nothing is known
@@ -200,11 +216,11 @@ module _ (setting : ℕ) (o : Overlay) (held : List Bytes) (acts : List (Act Byt
   unfolding Summary.known
   ids-reflect key f = unnamed Summary.nothing acts key (w .ids) f
 
-  -- T13: what the store refuses 12, while regression is refused
-  module _ (z : setting ≡ 0) (k : Kind) (id : ℤ) (fits : SFits w64 id) (claim : Version) (v : ℤ) where
+  -- T13: what the store refuses 12, where regression was refused throughout
+  module _ (z : refused ≡ true) (k : Kind) (id : ℤ) (fits : SFits w64 id) (claim : Version) (v : ℤ) where
     regresses : (admitOf (knownVersion k (kindStoreOf k o) id) claim ≡ Below v) ↔ Regresses acts (keyIn k id) claim v
     regresses =
-        let h = w .tells k .high (w .set ∙ z) id fits in
+        let h = w .tells k .high z id fits in
         let b = below-is (knownVersion k (kindStoreOf k o) id) claim v in (
           λ e. let r = b .0 e in record { version = r .0; claims = r .1 .1 .0; known = sym h ∙ r .1 .0; below = r .1 .1 .1 },
           λ r. b .1 (r .version, (h ∙ r .known, (r .claims, r .below))),
@@ -213,7 +229,7 @@ module _ (setting : ℕ) (o : Overlay) (held : List Bytes) (acts : List (Act Byt
     -- an answer that is given where the check refuses
     as-checked : (P : ℕ → Type 0) → P 0 ↔ (admitOf (knownVersion k (kindStoreOf k o) id) claim ≡ Below v) → P (o .setting) ↔ Regresses acts (keyIn k id) claim v
     as-checked P e =
-        let f = subst (λ (n : ℕ). P n ↔ (admitOf (knownVersion k (kindStoreOf k o) id) claim ≡ Below v)) (sym (w .set ∙ z)) e in
+        let f = subst (λ (n : ℕ). P n ↔ (admitOf (knownVersion k (kindStoreOf k o) id) claim ≡ Below v)) (sym (w .set z)) e in
         (λ x. regresses .0 (f .0 x), λ x. f .1 (regresses .1 x))
 
     pub admit-regresses : (checked (o .setting) (knownVersion k (kindStoreOf k o) id) claim ≡ Below v) ↔ Regresses acts (keyIn k id) claim v
@@ -228,20 +244,20 @@ module _ (setting : ℕ) (o : Overlay) (held : List Bytes) (acts : List (Act Byt
 
 -- ---- an empty overlay stands for no act
 
-pub reflects-empty : (setting : ℕ) (o : Overlay) → sizesFit largest o ≡ true → InBytes o → Reflects setting (empty setting o) noTexts []
-reflects-empty setting o fit b = bySetUp setting o (λ s e. clash fit s) (λ s e. go (ap (λ (z : OverlayAfter). z .answer) e) (ap (λ (z : OverlayAfter). z .overlay) e))
+pub reflects-empty : (refused : Bool) (setting : ℕ) (o : Overlay) → (refused ≡ true → setting ≡ 0) → sizesFit largest o ≡ true → InBytes o → Reflects refused (empty setting o) noTexts []
+reflects-empty refused setting o set fit b = bySetUp setting o (λ s e. clash fit s) (λ s e. go (ap (λ (z : OverlayAfter). z .answer) e) (ap (λ (z : OverlayAfter). z .overlay) e))
   where
-    told : (k : Kind) → Tells k setting (kindStoreOf k (empty setting o)) noTexts []
-    told Node = tells-nothing Node setting (o .nodes .table) (o .nodes .arena) noTexts
-    told Way = tells-nothing Way setting (o .ways .table) (o .ways .arena) noTexts
-    told Relation = tells-nothing Relation setting (o .relations .table) (o .relations .arena) noTexts
+    told : (k : Kind) → Tells k refused (kindStoreOf k (empty setting o)) noTexts []
+    told Node = tells-nothing Node refused (o .nodes .table) (o .nodes .arena) noTexts
+    told Way = tells-nothing Way refused (o .ways .table) (o .ways .arena) noTexts
+    told Relation = tells-nothing Relation refused (o .relations .table) (o .relations .arena) noTexts
 
-    go : setUp setting o .answer ≡ Taken → setUp setting o .overlay ≡ empty setting o → Reflects setting (empty setting o) noTexts []
+    go : setUp setting o .answer ≡ Taken → setUp setting o .overlay ≡ empty setting o → Reflects refused (empty setting o) noTexts []
     go e f =
         record {
           sound = subst Sound f (setup-sound setting o (ap takenIn e));
           bytes = subst InBytes f (setup-bytes setting o b);
-          set = refl;
+          set = set;
           texts = Interns.fresh-texts (o .texts .spans) (o .texts .bytes) (span-lent o fit);
           tells = told;
           ids = all-nil named;

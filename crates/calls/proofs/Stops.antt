@@ -17,7 +17,7 @@ use Rattle.reader.specs.Event.{eventOn}
 use Rattle.reader.proofs.Answers.{answer-is, byEvent, byAnswer, event-counts, end-keeps}
 use Rattle.reader.proofs.Events.{byRefused}
 use Rattle.reader.proofs.Keeps.{ready-sound}
-use Rattle.calls.specs.Ask.{Ask, interns, pushes, deletes, reads, ends, callOf, Storage, stateOf, eventTaken, leaves, accepts, after, answered, askFits, isEventOf, stoppedIn}
+use Rattle.calls.specs.Ask.{Ask, interns, pushes, deletes, reads, ends, allows, callOf, Storage, stateOf, eventTaken, leaves, accepts, after, answered, askFits, isEventOf, stoppedIn}
 use Rattle.calls.proofs.Lists.{Agrees, agrees-fine, answerOf, agrees-call, call-lines}
 
 either-false : (a : Bool) → a ≡ either a false
@@ -60,15 +60,17 @@ module _ (n : ℕ) where
       (λ q. rw (eq-eqb n m q, q) (event-stopped line (stateOf m l) (rw q at e)))
       (λ q. rw (ne-eqb n m q) (either-false _))
   call-stopped (ends m) l e = byEq n m (λ q. rw (eq-eqb n m q, end-keeps (stateOf m l), q) (either-false _)) (λ q. rw (ne-eqb n m q) (either-false _))
+  call-stopped (allows setting) l e = either-false _
 
-  pub stopped-calls : (setting : ℕ) (cs : List Ask) (l : Storage) (w : World) (acts : List (Act Bytes)) → all askFits cs ≡ true → Agrees setting l w acts
+  -- whatever the settings
+  pub stopped-calls : (cs : List Ask) (l : Storage) (w : World) (acts : List (Act Bytes)) → all askFits cs ≡ true → Agrees false l w acts
       → l .readers n .lines + length (linesRead n (answered l cs)) < 18446744073709551615
       → isStopped (after l cs .readers n .stop) ≡ either (isStopped (l .readers n .stop)) (stoppedIn n (answered l cs))
   unfolding after answered stoppedIn
-  stopped-calls setting [] l w acts f g h = either-false _
-  stopped-calls setting (c ∷ cs) l w acts f g h =
+  stopped-calls [] l w acts f g h = either-false _
+  stopped-calls (c ∷ cs) l w acts f g h =
       let a = answerOf c l in
       let e = ready-sound (stateOf n l) (agrees-fine g) (g .ready n) (omega arith) in
-      let k = agrees-call setting l w acts g c (all-head askFits c cs f) in
-      let i = stopped-calls setting cs (leaves c l) (worldAfter w (a ∷ [])) (acts ++ actsFrom w (a ∷ [])) (all-tail askFits c cs f) k (omega (arith, call-lines n c l (answered (leaves c l) cs))) in
+      let k = agrees-call false l w acts g c (all-head askFits c cs f) (λ z. clash z refl) in
+      let i = stopped-calls cs (leaves c l) (worldAfter w (a ∷ [])) (acts ++ actsFrom w (a ∷ [])) (all-tail askFits c cs f) k (omega (arith, call-lines n c l (answered (leaves c l) cs))) in
       i ∙ (ap (λ (b : Bool). either b (stoppedIn n (answered (leaves c l) cs))) (call-stopped c l e) ∙ either-assoc _ _ _)

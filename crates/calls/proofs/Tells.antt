@@ -49,11 +49,11 @@ use Rattle.calls.proofs.KindStores.{lastOf, last-agrees, push-last, pus
 abbrev pub keyIn : Kind → ℤ → Key
 keyIn k id = record { kind = k; id = id }
 
--- a kind store of a kind and the accepted acts; the highest version only while regression is refused
-pub record Tells (k : Kind) (setting : ℕ) (s : KindStore) (held : List Bytes) (acts : List (Act Bytes)) : Type 0 where
+-- a kind store of a kind and the accepted acts; the highest version only where regression was refused throughout
+pub record Tells (k : Kind) (refused : Bool) (s : KindStore) (held : List Bytes) (acts : List (Act Bytes)) : Type 0 where
   pub used : s .used ≡ pushedBytes k acts
   pub last : (id : ℤ) → SFits w64 id → lastOf k s (textOf held) id ≡ Summary.known acts (keyIn k id) .last
-  pub high : setting ≡ 0 → (id : ℤ) → SFits w64 id → knownVersion k s id ≡ Summary.known acts (keyIn k id) .high
+  pub high : refused ≡ true → (id : ℤ) → SFits w64 id → knownVersion k s id ≡ Summary.known acts (keyIn k id) .high
 
 -- ---- what is known after one act more
 
@@ -66,14 +66,14 @@ module _ (acts : List (Act Bytes)) (a : Act Bytes) (key : Key) where
 
 -- ---- an act on an id of the kind
 
-module _ (k : Kind) (setting : ℕ) (s t : KindStore) (held : List Bytes) (acts : List (Act Bytes)) (a : Act Bytes) (id : ℤ) (fits : SFits w64 id) (own : keyIn k id ≡ keyOf a) where
+module _ (k : Kind) (refused : Bool) (s t : KindStore) (held : List Bytes) (acts : List (Act Bytes)) (a : Act Bytes) (id : ℤ) (fits : SFits w64 id) (own : keyIn k id ≡ keyOf a) where
   -- what holds of its own id and of the others makes what holds of all
-  tells-on : Tells k setting s held acts → t .used ≡ s .used + pushedBy k a
+  tells-on : Tells k refused s held acts → t .used ≡ s .used + pushedBy k a
       → lastOf k t (textOf held) id ≡ some (leftBy a)
       → ((other : ℤ) → (rank other ≡ rank id → ⊥) → lastOf k t (textOf held) other ≡ lastOf k s (textOf held) other)
-      → (setting ≡ 0 → knownVersion k t id ≡ higher (knownVersion k s id) (claimedBy a))
+      → (refused ≡ true → knownVersion k t id ≡ higher (knownVersion k s id) (claimedBy a))
       → ((other : ℤ) → (rank other ≡ rank id → ⊥) → knownVersion k t other ≡ knownVersion k s other)
-      → Tells k setting t held (acts ++ (a ∷ []))
+      → Tells k refused t held (acts ++ (a ∷ []))
   tells-on w used last lasts high highs =
       record {
         used = used ∙ (ap (λ (n : ℕ). n + pushedBy k a) (w .used) ∙ sym (pushed-more k acts a));
@@ -99,9 +99,9 @@ pushed-other : (k : Kind) (a : Act Bytes) → (k ≡ keyOf a .kind → ⊥) → 
 pushed-other k (push id r) n = ap (λ (t : Bool). cond t (recordLength r) 0) (other-kind k (kindOf (r .body)) n)
 pushed-other k (delete j id claim) n = refl
 
-pub tells-other : (k : Kind) (setting : ℕ) (s : KindStore) (held : List Bytes) (acts : List (Act Bytes)) (a : Act Bytes) → (k ≡ keyOf a .kind → ⊥)
-    → Tells k setting s held acts → Tells k setting s held (acts ++ (a ∷ []))
-tells-other k setting s held acts a n w =
+pub tells-other : (k : Kind) (refused : Bool) (s : KindStore) (held : List Bytes) (acts : List (Act Bytes)) (a : Act Bytes) → (k ≡ keyOf a .kind → ⊥)
+    → Tells k refused s held acts → Tells k refused s held (acts ++ (a ∷ []))
+tells-other k refused s held acts a n w =
     let other : (id : ℤ) → keyIn k id ≡ keyOf a → ⊥ = λ id e. n (ap (λ (x : Key). x .kind) e) in
     record {
       used = rw (pushed-more k acts a, pushed-other k a n) (omega (arith, w .used));
@@ -146,32 +146,32 @@ pushOf held x = push (x .id) (swapRecord (textOf held) (x .held))
 pub push-key : (k : Kind) (held : List Bytes) (x : KeptRecord) → fitsKept k x ≡ true → keyIn k (x .id) ≡ keyOf (pushOf held x)
 push-key k held x fits = ap (λ (j : Kind). keyIn j (x .id)) (sym (kept-kind k x fits)) ∙ sym (act-key (textOf held) (push (x .id) (x .held)))
 
-module _ (strings : ℕ) (k : Kind) (setting : ℕ) (s : KindStore) (held : List Bytes) (acts : List (Act Bytes)) (w : SoundKindStore strings k s) (well-formed : WellFormed k s) (told : Tells k setting s held acts) where
+module _ (strings : ℕ) (k : Kind) (refused : Bool) (setting : ℕ) (s : KindStore) (held : List Bytes) (acts : List (Act Bytes)) (w : SoundKindStore strings k s) (well-formed : WellFormed k s) (told : Tells k refused s held acts) where
   module _ (x : KeptRecord) (fits : fitsKept k x ≡ true) (lawful : legal strings (x .held) ≡ true)
       (taken : pushed k setting s (x .id) (claimOf (x .held .meta)) (keptBytes x) .answer ≡ Taken) where
     own-used : pushed k setting s (x .id) (claimOf (x .held .meta)) (keptBytes x) .kindStore .used ≡ s .used + pushedBy k (pushOf held x)
     own-used =
         rw (push-used k setting s (x .id) (claimOf (x .held .meta)) (keptBytes x) taken, body-kind (textOf held) (x .held .body), kept-kind k x fits, Numbers.same-refl k, record-length (textOf held) (x .id) (x .held))
 
-    pub tells-push : Tells k setting (pushed k setting s (x .id) (claimOf (x .held .meta)) (keptBytes x) .kindStore) held (acts ++ (pushOf held x ∷ []))
-    tells-push =
+    pub tells-push : (refused ≡ true → setting ≡ 0) → Tells k refused (pushed k setting s (x .id) (claimOf (x .held .meta)) (keptBytes x) .kindStore) held (acts ++ (pushOf held x ∷ []))
+    tells-push set =
         let claim = claimOf (x .held .meta) in
         let t = pushed k setting s (x .id) claim (keptBytes x) .kindStore in
         let h = headOf (x .id) (x .held .body) (length (x .held .tags)) in
-        tells-on k setting s t held acts (pushOf held x) (x .id) (signed-fits (x .id) (id-fits k x fits)) (push-key k held x fits) told own-used
+        tells-on k refused s t held acts (pushOf held x) (x .id) (signed-fits (x .id) (id-fits k x fits)) (push-key k held x fits) told own-used
         (push-last strings k setting s x fits lawful w taken (textOf held) (well-formed .short))
         (push-last-other strings k setting s x fits lawful w taken (textOf held))
-        (λ z. bytes-raise k setting s (x .id) h (x .held .meta) (partsBytes (x .held)) (keptBytes x) (kept-parts k x fits) well-formed (meta-fits k x fits) taken z
+        (λ z. bytes-raise k setting s (x .id) h (x .held .meta) (partsBytes (x .held)) (keptBytes x) (kept-parts k x fits) well-formed (meta-fits k x fits) taken (set z)
         ∙ ap (higher (knownVersion k s (x .id))) (sym (act-claim (textOf held) (push (x .id) (x .held)))))
         (push-other k setting s (x .id) claim (keptBytes x) taken well-formed)
 
   -- ---- an accepted delete
 
   pub tells-delete : (id : ℤ) (claim : Version) → SFits w64 id → Narrow claim → deleted k setting s id claim .answer ≡ Taken
-      → Tells k setting (deleted k setting s id claim .kindStore) held (acts ++ (delete k id claim ∷ []))
+      → Tells k refused (deleted k setting s id claim .kindStore) held (acts ++ (delete k id claim ∷ []))
   tells-delete id claim f n taken =
       let t = deleted k setting s id claim .kindStore in
-      tells-on k setting s t held acts (delete k id claim) id f refl told (omega (arith, delete-used k setting s id claim well-formed taken))
+      tells-on k refused s t held acts (delete k id claim) id f refl told (omega (arith, delete-used k setting s id claim well-formed taken))
       (delete-last strings k setting s id claim w well-formed taken (textOf held))
       (delete-last-other strings k setting s id claim w well-formed taken (textOf held))
       (λ z. delete-raises k setting s id claim well-formed taken n)
@@ -179,7 +179,7 @@ module _ (strings : ℕ) (k : Kind) (setting : ℕ) (s : KindStore) (held : List
 
   -- ---- more texts held
 
-  pub tells-texts : (more : List Bytes) → ((h : ℕ) → h < strings → textOf held h ≡ textOf more h) → Tells k setting s more acts
+  pub tells-texts : (more : List Bytes) → ((h : ℕ) → h < strings → textOf held h ≡ textOf more h) → Tells k refused s more acts
   tells-texts more a =
       record {
         used = told .used;
@@ -189,9 +189,9 @@ module _ (strings : ℕ) (k : Kind) (setting : ℕ) (s : KindStore) (held : List
 
 -- ---- a kind store that holds nothing
 
-pub tells-nothing : (k : Kind) (setting : ℕ) (table : List ℕ) (arena : Bytes) (held : List Bytes) → Tells k setting (kindStoreWith table 0 arena 0) held []
+pub tells-nothing : (k : Kind) (refused : Bool) (table : List ℕ) (arena : Bytes) (held : List Bytes) → Tells k refused (kindStoreWith table 0 arena 0) held []
 unfolding pushedBytes Summary.known Summary.knownFrom rowsOf rowsFrom find
-tells-nothing k setting table arena held =
+tells-nothing k refused table arena held =
     record {
       used = refl;
       last = λ id f. refl;

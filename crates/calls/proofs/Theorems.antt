@@ -1,8 +1,8 @@
--- T7 to T10 and T13 over lists of calls, refused ones included: `intern`, direct pushes and deletes, events and ends of any readers, on an overlay that starts empty, whatever
--- its sizes. The acts are those of the calls and their replies.
+-- T7 to T10 and T13 over lists of calls, refused ones included: `intern`, direct pushes and deletes, events and ends of any readers, the regression setting, on an overlay that
+-- starts empty, whatever its sizes. The acts are those of the calls and their replies.
 use Prim.Native.Nat.{ℕ, _+_, _^_, _<_}
 use mathlib.Core.Path.{_≡_, refl, _∙_, ap}
-use mathlib.Core.Bool.{true, false}
+use mathlib.Core.Bool.{Bool, true, false}
 use mathlib.Core.Logic.{_↔_}
 use mathlib.Core.Option.{some}
 use mathlib.Core.List.{List, []}
@@ -13,7 +13,9 @@ use lib.ListN.{length}
 use mir.Syntax.{w64}
 use mir.Val.{SFits, toZ}
 use mir.Facts.{fits-of-lt, sfits-toZ}
+use borrow.Author.Tests.{eqb-true}
 use Rattle.base.specs.Bytes.{Bytes, either, all}
+use Rattle.base.proofs.Split.{both-left, both-right, both-of, clash}
 use Rattle.kind.specs.declared.Kind.{Kind}
 use Rattle.refusal.specs.declared.Refusal.the-variants.{Regression}
 use Rattle.model.specs.Record.{claimOf}
@@ -33,13 +35,14 @@ use Rattle.kind_store.specs.declared.Kept.the-variants.{Refused}
 use Rattle.field.specs.Field.{got}
 use Rattle.acts.specs.Turn.{Turn, turn}
 use Rattle.acts.specs.Call.{begin, worldAfter, actsOf, linesRead}
-use Rattle.overlay.specs.Overlay.{Overlay, kindStoreOf, largest, sizesFit, empty}
+use Rattle.overlay.specs.Overlay.{Overlay, kindStoreOf, withSetting, largest, sizesFit, empty}
 use Rattle.overlay.specs.Given.{InBytes, headFits}
 use Rattle.overlay.specs.Sound.{isSound}
 use Rattle.overlay.specs.Calls.{OverlayAfter}
 use Rattle.direct.specs.Calls.{pushOn, deleteOn, internOn}
 use Rattle.store.specs.declared.Handle.the-variants as H
 use Rattle.direct.proofs.Answers.{push-store, delete-store}
+use Rattle.overlay.proofs.Answers.{byAllow}
 use Rattle.overlay.proofs.Bounds.{id-given}
 use Rattle.overlay.proofs.Decides.{decides}
 use Rattle.direct.proofs.Keeps.{intern-kept}
@@ -49,7 +52,7 @@ use Rattle.reader.specs.Given.{StateGiven}
 use Rattle.reader.specs.Event.{eventOn}
 use Rattle.reader.proofs.Keeps.{fresh-ready, fresh-means, ready-sound}
 use Rattle.reader.proofs.Regressions.{event-regression, act-fits}
-use Rattle.calls.specs.Ask.{Ask, started, stateOf, askFits, PartsGiven, storageAfter, replies, stoppedIn}
+use Rattle.calls.specs.Ask.{Ask, allows, started, stateOf, leaves, accepts, askFits, PartsGiven, refusing, refusedThroughout, storageAfter, replies, stoppedIn}
 use Rattle.calls.specs.Known.{Regresses, pushedBytes}
 use Rattle.listing.specs.Known.{knownIn}
 use Rattle.calls.proofs.Reflects.{Reflects, reflects-empty, page-reflects, push-regresses, delete-regresses, admit-regresses}
@@ -58,19 +61,21 @@ use Rattle.calls.proofs.Lists.{Agrees, agrees-fine, agrees-calls, lines
 
 module _ (setting : ℕ) (o : Overlay) (sizes : sizesFit largest o ≡ true) (lent : InBytes o) (parts : ℕ → Bytes) (room : PartsGiven parts) where
   -- an empty overlay and fresh readers agree with no calls
-  pub agrees-started : Agrees setting (started setting o parts) begin []
-  agrees-started =
-      let w = reflects-empty setting o sizes lent in
+  pub agrees-started : (refused : Bool) → (refused ≡ true → setting ≡ 0) → Agrees refused (started setting o parts) begin []
+  agrees-started refused set =
+      let w = reflects-empty refused setting o set sizes lent in
       let e = decides (empty setting o) (w .bytes) .1 (w .sound) in
       record { overlay = w; ready = λ n. fresh-ready (empty setting o) e (parts n) (room .bytes n) (room .room n); readers = λ n. fresh-means (empty setting o) e (parts n) }
 
   module _ (cs : List Ask) (given : all askFits cs ≡ true) where
-    pub agrees-after : Agrees setting (storageAfter setting o parts cs) (worldAfter begin (replies setting o parts cs)) (actsOf (replies setting o parts cs))
+    pub agrees-after : Agrees (refusedThroughout setting cs) (storageAfter setting o parts cs) (worldAfter begin (replies setting o parts cs)) (actsOf (replies setting o parts cs))
     unfolding actsOf
-    agrees-after = agrees-calls setting cs (started setting o parts) begin [] given agrees-started
+    agrees-after =
+        let r = refusedThroughout setting cs in
+        agrees-calls r cs (started setting o parts) begin [] given (both-right _ _) (agrees-started r (λ z. eqb-true setting 0 (both-left _ _ z)))
 
     -- what the overlay holds is what the accepted calls come to
-    pub reflects-after : Reflects setting (storageAfter setting o parts cs .overlay) (worldAfter begin (replies setting o parts cs) .texts) (actsOf (replies setting o parts cs))
+    pub reflects-after : Reflects (refusedThroughout setting cs) (storageAfter setting o parts cs .overlay) (worldAfter begin (replies setting o parts cs) .texts) (actsOf (replies setting o parts cs))
     reflects-after = agrees-after .overlay
 
     -- no list of calls makes the overlay unsound, however long it is
@@ -85,7 +90,12 @@ module _ (setting : ℕ) (o : Overlay) (sizes : sizesFit largest o ≡ true) (le
     pub stopped-after : (n : ℕ) → length (linesRead n (replies setting o parts cs)) < 18446744073709551615
         → isStopped (storageAfter setting o parts cs .readers n .stop) ≡ stoppedIn n (replies setting o parts cs)
     unfolding either
-    stopped-after n h = stopped-calls n setting cs (started setting o parts) begin [] given agrees-started (omega arith)
+    stopped-after n h = stopped-calls n cs (started setting o parts) begin [] given (agrees-started false (λ z. clash z refl)) (omega arith)
+
+    -- the regression setting is accepted after every list: it is stored, and nothing else of the overlay changes
+    pub setting-stored : (s : ℕ) → (accepts (allows s) (storageAfter setting o parts cs) ≡ true)
+        × (leaves (allows s) (storageAfter setting o parts cs) .overlay ≡ withSetting s (storageAfter setting o parts cs .overlay))
+    setting-stored s = byAllow s (storageAfter setting o parts cs .overlay) (λ u e. clash sound-after u) (λ u e. (rw e, rw e))
 
     -- T7: the held texts are those of the accepted calls, and the handle of each is its place
     pub texts-held : textsOf (storageAfter setting o parts cs .overlay .texts) ≡ worldAfter begin (replies setting o parts cs) .texts
@@ -99,19 +109,22 @@ module _ (setting : ℕ) (o : Overlay) (sizes : sizesFit largest o ≡ true) (le
     pub used-bytes : (k : Kind) → kindStoreOf k (storageAfter setting o parts cs .overlay) .used ≡ pushedBytes k (actsOf (replies setting o parts cs))
     used-bytes k = agrees-after .overlay .tells k .used
 
--- while regression is refused
-module _ (o : Overlay) (sizes : sizesFit largest o ≡ true) (lent : InBytes o) (parts : ℕ → Bytes) (room : PartsGiven parts) (cs : List Ask) (given : all askFits cs ≡ true) where
-  agrees : Agrees 0 (storageAfter 0 o parts cs) (worldAfter begin (replies 0 o parts cs)) (actsOf (replies 0 o parts cs))
+-- where regression is refused throughout: set up with 0, and no call of the list allows it
+module _ (o : Overlay) (sizes : sizesFit largest o ≡ true) (lent : InBytes o) (parts : ℕ → Bytes) (room : PartsGiven parts) (cs : List Ask) (given : all askFits cs ≡ true) (refuses : all refusing cs ≡ true) where
+  throughout : refusedThroughout 0 cs ≡ true
+  throughout = both-of refl refuses
+
+  agrees : Agrees (refusedThroughout 0 cs) (storageAfter 0 o parts cs) (worldAfter begin (replies 0 o parts cs)) (actsOf (replies 0 o parts cs))
   agrees = agrees-after 0 o sizes lent parts room cs given
 
   -- T9: the known version is the highest that accepted acts claimed
   pub known-highest : (k : Kind) (id : ℤ) → SFits w64 id
       → KindStore.knownVersion k (kindStoreOf k (storageAfter 0 o parts cs .overlay)) id ≡ Summary.known (actsOf (replies 0 o parts cs)) (record { kind = k; id = id }) .high
-  known-highest k id f = let s = agrees .overlay in s .tells k .high (s .set) id f
+  known-highest k id f = agrees .overlay .tells k .high throughout id f
 
   -- T10: with what the last act left, that is all that the overlay tells of an id
   pub page-known : (key : Key) → SFits w64 (key .id) → knownIn (storageAfter 0 o parts cs .overlay) key ≡ Summary.known (actsOf (replies 0 o parts cs)) key
-  page-known key f = page-reflects 0 _ _ _ (agrees .overlay) refl key f
+  page-known key f = page-reflects _ _ _ _ (agrees .overlay) throughout key f
 
   -- T13: an act that passes the earlier checks is refused 12 exactly where its version is below the highest, and the refusal names the highest
   pub regression-push : (k : Kind) (h : PushHead) (m : ArenaMeta) (bytes : Bytes) → headFits h ≡ true
@@ -121,7 +134,7 @@ module _ (o : Overlay) (sizes : sizesFit largest o ≡ true) (lent : InBytes o) 
   regression-push k h m bytes f l v =
       let q = storageAfter 0 o parts cs .overlay in
       let e = ap (λ (z : OverlayAfter). z .answer) (push-store k h m bytes q (agrees-fine agrees .sound) l) in
-      rw e (push-regresses 0 q _ _ (agrees .overlay) refl k (toZ w64 (h .id)) (id-given h f) (claimOf (metaOf m)) v _)
+      rw e (push-regresses _ q _ _ (agrees .overlay) throughout k (toZ w64 (h .id)) (id-given h f) (claimOf (metaOf m)) v _)
 
   pub regression-delete : (k : Kind) (id : ℕ) (m : ArenaMeta) → id < 2 ^ 64 → legalMeta (storageAfter 0 o parts cs .overlay .texts .strings) (metaOf m) ≡ true → (v : ℤ)
       → (deleteOn k (toZ w64 id) (metaOf m) (storageAfter 0 o parts cs .overlay) .answer ≡ Refused (Regression v))
@@ -129,7 +142,7 @@ module _ (o : Overlay) (sizes : sizesFit largest o ≡ true) (lent : InBytes o) 
   regression-delete k id m f l v =
       let q = storageAfter 0 o parts cs .overlay in
       let e = ap (λ (z : OverlayAfter). z .answer) (delete-store k (toZ w64 id) (metaOf m) q (agrees-fine agrees .sound) l) in
-      rw e (delete-regresses 0 q _ _ (agrees .overlay) refl k (toZ w64 id) (sfits-toZ {w = w64} (fits-of-lt f)) (claimOf (metaOf m)) v)
+      rw e (delete-regresses _ q _ _ (agrees .overlay) throughout k (toZ w64 id) (sfits-toZ {w = w64} (fits-of-lt f)) (claimOf (metaOf m)) v)
 
   -- and so is an act that a reader's event makes, at the line that is one more than those that the reader has taken, unless one of its events was refused before or the count
   -- of its lines is at its largest
@@ -145,5 +158,5 @@ module _ (o : Overlay) (sizes : sizesFit largest o ≡ true) (lent : InBytes o) 
       let going = stopped-after 0 o sizes lent parts room cs given n below ∙ never in
       let i = ap (turn line) (agrees .readers n) ∙ h in
       let x = rw c at (event-regression line s g e going t a i k v) in
-      let y = admit-regresses 0 (s .overlay) _ _ (agrees .overlay) refl (keyOf a .kind) (keyOf a .id) (act-fits line s g e going t a i k) (claimedBy a) v in
+      let y = admit-regresses _ (s .overlay) _ _ (agrees .overlay) throughout (keyOf a .kind) (keyOf a .id) (act-fits line s g e going t a i k) (claimedBy a) v in
       (λ z. y .0 (x .0 z), λ z. x .1 (y .1 z))

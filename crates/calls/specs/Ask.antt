@@ -1,5 +1,5 @@
--- Condition 3: "Each gets its own list of these calls, refused ones included: intern, direct push, direct delete, a reader's event, a reader's end". The calls as they are
--- made: "Each call gets the overlay, and each event or end its reader, as last left; readers begin fresh, anywhere in a list."
+-- Condition 3: "Each gets its own list of these calls, refused ones included: intern, direct push, direct delete, a reader's event, a reader's end". And the regression setting.
+-- The calls as they are made: "Each call gets the overlay, and each event or end its reader, as last left; readers begin fresh, anywhere in a list."
 use Prim.Native.Nat.{ℕ}
 use mathlib.Core.Path.{_≡_}
 use mathlib.Core.Bool.{Bool, true, false, not, cond}
@@ -18,6 +18,7 @@ use Rattle.compact.specs.declared.PushHead.{PushHead}
 use Rattle.kind_store.specs.KindStore.{takenIn}
 use Rattle.overlay.specs.Overlay.{Overlay, empty}
 use Rattle.overlay.specs.Given.{headFits, metaFits}
+use Rattle.overlay.specs.Calls.{allowOn}
 use Rattle.direct.specs.Calls.{pushOn, deleteOn, internOn}
 use Rattle.store.specs.declared.Handle.{Handle}
 use Rattle.store.specs.declared.Handle.the-variants as H
@@ -36,6 +37,8 @@ pub data Ask : Type 0 where
   deletes : Kind → ℕ → ArenaMeta → Ask
   reads : ℕ → Bytes → Ask
   ends : ℕ → Ask
+  -- the regression setting, at any moment
+  allows : ℕ → Ask
 
 -- the call that the acts are defined from
 abbrev pub callOf : Ask → Call
@@ -44,6 +47,7 @@ callOf (pushes k h m parts) = Call.pushes (toZ w64 (h .id)) (pushedRecord k (hea
 callOf (deletes k id m) = Call.deletes k (toZ w64 id) (metaOf m)
 callOf (reads n line) = Call.reads n line
 callOf (ends n) = Call.ends n
+callOf (allows setting) = Call.allows setting
 
 -- ---- what is lent: the overlay, and to each reader its own storage
 
@@ -71,7 +75,7 @@ withOverlay o l = record { overlay = o; readers = l .readers; parts = l .parts }
 
 -- ---- one call: what it leaves, and whether its reply accepted it
 
--- "accepted unless refused": of a push or a delete by `takenIn`
+-- "accepted unless refused": of a push, a delete or the setting by `takenIn`
 abbrev pub handled : Handle → Bool
 handled (H.Is h) = true
 handled (H.Refused r) = false
@@ -86,6 +90,7 @@ leaves (pushes k h m parts) l = withOverlay (pushOn k h m parts (l .overlay) .ov
 leaves (deletes k id m) l = withOverlay (deleteOn k (toZ w64 id) (metaOf m) (l .overlay) .overlay) l
 leaves (reads n line) l = withState n (eventOn line (stateOf n l) .state) l
 leaves (ends n) l = withState n (endOn (stateOf n l) .state) l
+leaves (allows setting) l = withOverlay (allowOn setting (l .overlay) .overlay) l
 
 abbrev pub accepts : Ask → Storage → Bool
 accepts (interns t) l = handled (internOn t (l .overlay) .answer)
@@ -93,6 +98,7 @@ accepts (pushes k h m parts) l = takenIn (pushOn k h m parts (l .overlay) .answe
 accepts (deletes k id m) l = takenIn (deleteOn k (toZ w64 id) (metaOf m) (l .overlay) .answer)
 accepts (reads n line) l = eventTaken (eventOn line (stateOf n l) .answer)
 accepts (ends n) l = eventTaken (endOn (stateOf n l) .answer)
+accepts (allows setting) l = takenIn (allowOn setting (l .overlay) .answer)
 
 -- ---- a list of calls
 
@@ -111,10 +117,28 @@ askFits (pushes k h m parts) = both (headFits h) (both (metaFits m) (all isByte 
 askFits (deletes k id m) = both (ltb id 18446744073709551616) (metaFits m)
 askFits (reads n line) = all isByte line
 askFits (ends n) = true
+askFits (allows setting) = true
 
 pub record PartsGiven (parts : ℕ → Bytes) : Type 0 where
   pub bytes : (n : ℕ) → all isByte (parts n) ≡ true
   pub room : (n : ℕ) → length (parts n) ≡ 44432
+
+-- ---- "refuse regression throughout"
+
+-- a call that does not allow regression: any but a setting other than 0
+abbrev pub refusing : Ask → Bool
+refusing (interns t) = true
+refusing (pushes k h m parts) = true
+refusing (deletes k id m) = true
+refusing (reads n line) = true
+refusing (ends n) = true
+refusing (allows setting) = eqb setting 0
+
+-- set up with regression refused, and no call of the list allows it
+abbrev pub refusedThroughout : ℕ → List Ask → Bool
+refusedThroughout setting cs = both (eqb setting 0) (all refusing cs)
+
+-- ---- from set-up on
 
 -- a list on an overlay that starts empty: what it leaves, and the calls with their replies
 abbrev pub storageAfter : ℕ → Overlay → (ℕ → Bytes) → List Ask → Storage
@@ -130,6 +154,7 @@ isEventOf n (Call.pushes id r) = false
 isEventOf n (Call.deletes k id m) = false
 isEventOf n (Call.reads m line) = eqb n m
 isEventOf n (Call.ends m) = false
+isEventOf n (Call.allows setting) = false
 
 unfoldable pub stoppedIn : ℕ → List Answered → Bool
 stoppedIn n [] = false

@@ -12,7 +12,7 @@ use mir.Syntax.{w64}
 use mir.Val.{toZ}
 use borrow.Author.Tests.{eq-eqb, ne-eqb}
 use Rattle.base.specs.Bytes.{Bytes, all}
-use Rattle.base.proofs.Split.{byEq, no}
+use Rattle.base.proofs.Split.{byEq, no, clash}
 use Rattle.base.proofs.Lists.{all-head, all-tail}
 use Rattle.kind.specs.declared.Kind.{Kind}
 use Rattle.refusal.specs.Refusal.{numberOf}
@@ -55,7 +55,7 @@ use Rattle.reader.proofs.Answers.{byAnswer, end-done, end-18}
 use Rattle.reader.proofs.Events.{event-accepted, event-11}
 use Rattle.reader.proofs.Keeps.{ready-sound}
 use Rattle.calls.specs.Ask as Ask
-use Rattle.calls.specs.Ask.{Ask, interns, pushes, reads, callOf, Storage, started, stateOf, leaves, accepts, answered, askFits, storageAfter, replies, stoppedIn}
+use Rattle.calls.specs.Ask.{Ask, interns, pushes, reads, callOf, Storage, started, stateOf, leaves, accepts, answered, askFits, refusedThroughout, storageAfter, replies, stoppedIn}
 use Rattle.calls.proofs.Lists.{Agrees, agrees-fine, answerOf, agrees-call}
 use Rattle.calls.proofs.Theorems.{agrees-started, agrees-after, lines-after, stopped-after}
 use Rattle.condition.specs.Condition3.{Start}
@@ -197,7 +197,7 @@ module _ (n : ℕ) where
   push-quiet w id none = refl
   push-quiet w id (some r) = refl
 
-  module _ (setting : ℕ) (l : Storage) (w : World) (acts : List (Act Bytes)) (g : Agrees setting l w acts) {ls : List Bytes} {xs : List (Act Bytes)} {q : Reader} where
+  module _ (l : Storage) (w : World) (acts : List (Act Bytes)) (g : Agrees false l w acts) {ls : List Bytes} {xs : List (Act Bytes)} {q : Reader} where
     own : (m : ℕ) (line : Bytes) → n ≡ m → Takes (worldAfter w (answerOf (reads m line) l ∷ []) .readers n) ls xs q
         → (bs : List (Act Bytes)) × Takes (w .readers n) (cond (accepts (reads m line) l) (lineRead n (callOf (reads m line)) ls) ls) bs q
     unfolding worldAfter
@@ -221,21 +221,24 @@ module _ (n : ℕ) where
         (λ z. own m line z k)
         (λ z. quiet-takes w (callOf (reads m line)) _ (other-reader w m n line z) (rw (ne-eqb n m z)) k)
     call-takes (Ask.ends m) k = quiet-takes w (callOf (Ask.ends m)) _ refl refl k
+    call-takes (Ask.allows setting) k = quiet-takes w (callOf (Ask.allows setting)) _ refl refl k
 
-  pub takes-calls : (setting : ℕ) (cs : List Ask) (l : Storage) (w : World) (acts : List (Act Bytes)) → all askFits cs ≡ true → Agrees setting l w acts
+  -- whatever the settings
+  pub takes-calls : (cs : List Ask) (l : Storage) (w : World) (acts : List (Act Bytes)) → all askFits cs ≡ true → Agrees false l w acts
       → (bs : List (Act Bytes)) × Takes (w .readers n) (linesRead n (answered l cs)) bs (worldAfter w (answered l cs) .readers n)
   unfolding answered linesRead worldAfter
-  takes-calls setting [] l w acts f g = ([], done)
-  takes-calls setting (c ∷ cs) l w acts f g =
+  takes-calls [] l w acts f g = ([], done)
+  takes-calls (c ∷ cs) l w acts f g =
       let a = answerOf c l in
       let u = worldAfter w (a ∷ []) in
-      let i = takes-calls setting cs (leaves c l) u (acts ++ actsFrom w (a ∷ [])) (all-tail askFits c cs f) (agrees-call setting l w acts g c (all-head askFits c cs f)) in
-      rw (world-append w (a ∷ []) (answered (leaves c l) cs)) (call-takes setting l w acts g c (i .1))
+      let k = agrees-call false l w acts g c (all-head askFits c cs f) (λ z. clash z refl) in
+      let i = takes-calls cs (leaves c l) u (acts ++ actsFrom w (a ∷ [])) (all-tail askFits c cs f) k in
+      rw (world-append w (a ∷ []) (answered (leaves c l) cs)) (call-takes l w acts g c (i .1))
 
 -- ---- the reader after a list of calls
 
 module _ (setting : ℕ) (o : Overlay) (ps : ℕ → Bytes) (given : Start o ps) (cs : List Ask) (fits : all askFits cs ≡ true) (n : ℕ) where
-  agrees : Agrees setting (storageAfter setting o ps cs) (worldAfter begin (replies setting o ps cs)) (actsOf (replies setting o ps cs))
+  agrees : Agrees (refusedThroughout setting cs) (storageAfter setting o ps cs) (worldAfter begin (replies setting o ps cs)) (actsOf (replies setting o ps cs))
   agrees = agrees-after setting o (given .sizes) (given .bytes) ps (given .parts) cs fits
 
   abbrev state : State
@@ -245,7 +248,7 @@ module _ (setting : ℕ) (o : Overlay) (ps : ℕ → Bytes) (given : Start o ps)
   marks-lead : run start (marksRead setting o ps cs n) ≡ some (state .reader .place)
   unfolding readerOf
   marks-lead =
-      let t = takes-calls n setting cs (started setting o ps) begin [] fits (agrees-started setting o (given .sizes) (given .bytes) ps (given .parts)) in
+      let t = takes-calls n cs (started setting o ps) begin [] fits (agrees-started setting o (given .sizes) (given .bytes) ps (given .parts) false (λ z. clash z refl)) in
       lines-lead fresh-agrees (t .1) .runs ∙ ap (λ (r : Reader). some (r .place)) (sym (agrees .readers n))
 
   module _ (never : stoppedIn n (replies setting o ps cs) ≡ false) (below : length (linesRead n (replies setting o ps cs)) < 18446744073709551615) where

@@ -1,7 +1,7 @@
--- T6, up to the view that is returned: after any list of calls, under either setting, a view reads as the record of the last accepted act on its id.
+-- T6, up to the view that is returned: after any list of calls, whatever its settings, a view reads as the record of the last accepted act on its id.
 use Prim.Native.Nat.{ℕ, _<_}
 use mathlib.Core.Path.{_≡_, refl, sym, _∙_, ap, subst}
-use mathlib.Core.Bool.{true}
+use mathlib.Core.Bool.{Bool, true}
 use mathlib.Core.Option.{Option, none, some}
 use mathlib.Core.List.{List, [], append-nil}
 use lib.IntN.{ℤ}
@@ -9,7 +9,7 @@ use mir.Syntax.{w64}
 use mir.Val.{SFits, toZ}
 use mir.Facts.{fits-of-lt, sfits-toZ}
 use Rattle.base.specs.Bytes.{Bytes, all}
-use Rattle.base.proofs.Split.{byBool, both-left, both-right}
+use Rattle.base.proofs.Split.{byBool, both-left, both-right, both-of}
 use Rattle.kind.specs.declared.Kind.{Kind}
 use Rattle.osm_id.specs.Order.{rank, idOf}
 use Rattle.osm_id.proofs.Orders.{id-rank}
@@ -45,7 +45,7 @@ use Rattle.listing.specs.Known.{lastIn}
 use Rattle.listing.specs.Table.{isRank}
 use Rattle.listing.proofs.Rows.{row-starts, record-read, record-kind}
 use Rattle.acts.specs.Call.{actsOf}
-use Rattle.calls.specs.Ask.{Ask, askFits, storageAfter, replies}
+use Rattle.calls.specs.Ask.{Ask, askFits, refusing, storageAfter, replies}
 use Rattle.calls.proofs.Reflects.{Reflects}
 use Rattle.calls.proofs.Theorems.{reflects-after}
 use Rattle.condition.specs.Condition3.{Start}
@@ -56,7 +56,7 @@ kept-read : (strings : ℕ) (k : Kind) (x : KeptRecord) → fitsKept k x ≡ tru
 unfolding fitsKept legal
 kept-read strings k x f l e = rw (← e) (rw append-nil at (read-record (x .id) (x .held) [] (both-right _ _ f) (both-left _ _ (both-right _ _ l)) .whole))
 
-module _ (setting : ℕ) (o : Overlay) (held : List Bytes) (acts : List (Act Bytes)) (w : Reflects setting o held acts) where
+module _ (refused : Bool) (o : Overlay) (held : List Bytes) (acts : List (Act Bytes)) (w : Reflects refused o held acts) where
   -- a held handle's text is what `text` shows
   text-seen : (h : ℕ) → h < o .texts .strings → textOf (textsOf (o .texts)) h ≡ textSeen o h
   unfolding textSeen
@@ -115,14 +115,16 @@ module _ (setting : ℕ) (o : Overlay) (held : List Bytes) (acts : List (Act Byt
             ∙ shows-left k (toZ w64 id) (id-signed o (w .bytes) (w .sound) k Live (w .ranks .rows k) n id e) .get;
       }
 
-  pub highest-reflect : setting ≡ 0 → ReadsHighest o acts
+  pub highest-reflect : refused ≡ true → ReadsHighest o acts
   unfolding knownOn
-  highest-reflect z k id f = rw (decides o (w .bytes) .1 (w .sound), w .tells k .high (w .set ∙ z) (toZ w64 id) (sfits-toZ {w = w64} (fits-of-lt f)))
+  highest-reflect z k id f = rw (decides o (w .bytes) .1 (w .sound), w .tells k .high z (toZ w64 id) (sfits-toZ {w = w64} (fits-of-lt f)))
 
 -- after any list of calls
 pub reads-last : (setting : ℕ) (o : Overlay) (ps : ℕ → Bytes) → Start o ps → (cs : List Ask) → all askFits cs ≡ true
     → ReadsLast (storageAfter setting o ps cs .overlay) (actsOf (replies setting o ps cs))
-reads-last setting o ps s cs f = reads-reflect setting _ _ _ (reflects-after setting o (s .sizes) (s .bytes) ps (s .parts) cs f)
+reads-last setting o ps s cs f = reads-reflect _ _ _ _ (reflects-after setting o (s .sizes) (s .bytes) ps (s .parts) cs f)
 
-pub reads-highest : (o : Overlay) (ps : ℕ → Bytes) → Start o ps → (cs : List Ask) → all askFits cs ≡ true → ReadsHighest (storageAfter 0 o ps cs .overlay) (actsOf (replies 0 o ps cs))
-reads-highest o ps s cs f = highest-reflect 0 _ _ _ (reflects-after 0 o (s .sizes) (s .bytes) ps (s .parts) cs f) refl
+-- after one that refuses regression throughout
+pub reads-highest : (o : Overlay) (ps : ℕ → Bytes) → Start o ps → (cs : List Ask) → all askFits cs ≡ true → all refusing cs ≡ true
+    → ReadsHighest (storageAfter 0 o ps cs .overlay) (actsOf (replies 0 o ps cs))
+reads-highest o ps s cs f r = highest-reflect _ _ _ _ (reflects-after 0 o (s .sizes) (s .bytes) ps (s .parts) cs f) (both-of refl r)

@@ -44,7 +44,8 @@ pub record Start (o : Overlay) (ps : ℕ → Bytes) : Type 0 where
   pub bytes : InBytes o
   pub parts : PartsGiven ps
 
--- ---- a list of calls on such storage, "refuse regression throughout" and "readers begin fresh, anywhere in a list"
+-- ---- a list of calls on such storage: "readers begin fresh, anywhere in a list"; "refuse regression throughout": set up with 0, and no call of the list allows it, which is tested by
+-- `all refusing` (calls/specs/Ask)
 
 module _ (o : Overlay) (ps : ℕ → Bytes) (cs : List Ask) where
   -- what is lent, as the list leaves it

@@ -78,6 +78,6 @@ pub record ReadsLast (o : Overlay) (acts : List (Act Bytes)) : Type 0 where
   pub asked : (k : Kind) (id : ℕ) → id < 2 ^ 64 → ShowsLeft o k (toZ w64 id) (known acts (record { kind = k; id = toZ w64 id }) .last)
   pub numbered : (k : Kind) (n id : ℕ) → idOn k Live n o ≡ Is id → seenIn o k (recordOn k n o) ≡ leftSeen (toZ w64 id) (known acts (record { kind = k; id = toZ w64 id }) .last)
 
--- while regression is refused, the known version that is read is the highest that accepted acts claimed, or none
+-- where regression was refused throughout, the known version that is read is the highest that accepted acts claimed, or none
 abbrev pub ReadsHighest : Overlay → List (Act Bytes) → Type 0
 ReadsHighest o acts = (k : Kind) (id : ℕ) → id < 2 ^ 64 → knownOn k (toZ w64 id) o ≡ Is (wordOf (known acts (record { kind = k; id = toZ w64 id }) .high))

@@ -19,6 +19,7 @@ use Rattle.compact.specs.declared.ArenaMeta.{ArenaMeta}
 use Rattle.kind_store.specs.declared.Kept.{Kept}
 use Rattle.kind_store.specs.declared.Kept.the-variants.{Taken, Refused}
 use Rattle.overlay.specs.Overlay.{overlayOf}
+use Rattle.overlay.specs.Calls.{allowOn}
 use Rattle.direct.specs.Calls.{pushOn, deleteOn, internOn}
 use Rattle.store.specs.declared.Handle.{Handle}
 use Rattle.store.specs.declared.Handle.the-variants as H
@@ -91,6 +92,7 @@ answerTo (Ask.pushes k h m parts) l = pushOn k h m parts (l .overlay) .answer
 answerTo (Ask.deletes k id m) l = deleteOn k (toZ w64 id) (metaOf m) (l .overlay) .answer
 answerTo (Ask.reads n line) l = keptAt (eventOn line (stateOf n l) .answer)
 answerTo (Ask.ends n) l = keptAt (endOn (stateOf n l) .answer)
+answerTo (Ask.allows setting) l = allowOn setting (l .overlay) .answer
 
 -- "Each call gets the overlay .. as last left"
 unfoldable pub allAgree : Storage → List Separates → Bool
