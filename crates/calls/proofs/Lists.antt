@@ -18,12 +18,11 @@ use Rattle.base.proofs.Lists.{all-head, all-tail}
 use Rattle.little.specs.Little.{isByte}
 use Rattle.refusal.specs.declared.Refusal.{Refusal}
 use Rattle.kind.specs.declared.Kind.{Kind}
-use Rattle.version_floor.specs.declared.Version.the-variants.{Is}
-use Rattle.model.specs.Record.{Meta, Record, claimOf, flagged}
+use Rattle.model.specs.Record.{Record, claimOf}
 use Rattle.model.specs.Act.{Act}
 use Rattle.compact.specs.Cut.{pushedRecord}
 use Rattle.compact.specs.Held.{metaOf, headIn}
-use Rattle.compact.specs.Fits.{fitsSigned, fitsMeta}
+use Rattle.compact.specs.Fits.{fitsSigned}
 use Rattle.compact.specs.declared.ArenaMeta.{ArenaMeta}
 use Rattle.compact.specs.declared.PushHead.{PushHead}
 use Rattle.interner.specs.Texts.{internAccepted, takeAll}
@@ -31,7 +30,7 @@ use Rattle.interner.specs.Strings.{intern}
 use Rattle.interner.specs.Sound.{textsOf}
 use Rattle.interner.specs.declared.Interned.{Interned}
 use Rattle.interner.specs.declared.Interned.the-variants as I
-use Rattle.kind_store.proofs.Claims.{Narrow}
+use Rattle.kind_store.proofs.Claims.{given-claim}
 use Rattle.field.specs.Field.{Field, got}
 use Rattle.acts.specs.Turn.{Turn, turn}
 use Rattle.acts.specs.Call.{Call, Answered, World, Outcome, quiet, outcome, turned, actsBefore, worldAfter, actsFrom, linesRead}
@@ -63,17 +62,10 @@ use Rattle.calls.proofs.Reflects.{Reflects, reflects-push, reflects-del
 
 -- ---- the calls that a turn makes
 
--- the id and the version that a caller gives are of 64 and of 32 bits
+-- the id that a caller gives is of 64 bits
 given-id : (id : ℕ) → id < 18446744073709551616 → fitsSigned w64 (toZ w64 id) ≡ true
 unfolding fitsSigned
 given-id id h = lt-ltb _ _ (sfits-toZ {w = w64} (fits-of-lt h) .sfits)
-
-given-claim : (m : Meta ℕ) → fitsMeta m ≡ true → Narrow (claimOf m)
-unfolding claimOf fitsMeta fitsSigned
-given-claim m h x e =
-    byBool (flagged 8 (m .flags))
-    (λ t. let q : m .version ≡ x = cc (rw t at e) in rw (← q) (record { sfits = ltb-true _ _ (both-left _ _ (both-right _ _ h)) }))
-    (λ t. no (cc (rw t at e)))
 
 -- a handle that is answered was not refused 13
 is-held : (i : Interned) (n : ℕ) → handleIn i ≡ H.Is n → internAccepted i ≡ true

@@ -11,14 +11,13 @@ use mir.Syntax.{w64}
 use mir.Val.{SFits}
 use borrow.Author.Tests.{leb-true}
 use Rattle.base.specs.Bytes.{Bytes, all}
-use Rattle.base.proofs.Split.{byBool, both-left, both-right, clash}
+use Rattle.base.proofs.Split.{both-left, both-right, clash}
 use Rattle.base.proofs.Lists.{all-nil, all-cons, all-head, all-tail, all-append}
 use Rattle.little.specs.Little.{isByte}
 use Rattle.text.specs.Check.{isText}
-use Rattle.kind.specs.Kind.{sameKind}
 use Rattle.kind.specs.declared.Kind.{Kind}
 use Rattle.kind.specs.declared.Kind.the-variants.{Node, Way, Relation}
-use Rattle.kind.proofs.Numbers as Numbers
+use Rattle.kind.proofs.Numbers.{byKind}
 use Rattle.version_floor.specs.declared.Version.{Version}
 use Rattle.version_floor.specs.Version.{admitOf}
 use Rattle.version_floor.specs.declared.Admit.the-variants.{Below}
@@ -82,12 +81,9 @@ pub record Reflects (refused : Bool) (o : Overlay) (held : List Bytes) (acts : L
   pub ids : all named acts ≡ true
   pub ranks : Ranked o
 
-arena-short : (s : KindStore) → kindStoreFits largest s ≡ true → length (s .arena) < 2 ^ 63
+pub arena-short : (s : KindStore) → kindStoreFits largest s ≡ true → length (s .arena) < 2 ^ 63
 unfolding kindStoreFits
 arena-short s h = omega (arith, leb-true (length (s .arena)) 1048576 (both-right _ _ (both-right _ _ h)))
-
-byKind : {C : Type 0} (j k : Kind) → (j ≡ k → C) → ((j ≡ k → ⊥) → C) → C
-byKind j k f g = byBool (sameKind j k) (λ t. f (Numbers.same-yes j k t)) (λ t. g (λ e. clash (rw e (Numbers.same-refl k)) t))
 
 -- what no act names is not known
 unnamed : (x : Summary.Known) (acts : List (Act Bytes)) (key : Key) → all named acts ≡ true → fitsSigned w64 (key .id) ≡ false → Summary.knownFrom x acts key ≡ x

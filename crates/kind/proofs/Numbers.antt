@@ -5,7 +5,7 @@ use mathlib.Core.Bool.{Bool, true, false}
 use native.Mathlib.Omega.{arith}
 use lib.Dec.{eqb}
 use borrow.Author.Tests.{eqb-true}
-use Rattle.base.proofs.Split.{clash}
+use Rattle.base.proofs.Split.{byBool, clash}
 use Rattle.kind.specs.Kind.{kindNumber, ofNumber, sameKind}
 use Rattle.kind.specs.declared.Kind.{Kind}
 use Rattle.kind.specs.declared.Kind.the-variants.{Node, Way, Relation}
@@ -41,3 +41,7 @@ unfolding sameKind
 same-refl Node = refl
 same-refl Way = refl
 same-refl Relation = refl
+
+-- two kinds are one or not
+pub byKind : {C : Type 0} (j k : Kind) → (j ≡ k → C) → ((j ≡ k → ⊥) → C) → C
+byKind j k f g = byBool (sameKind j k) (λ t. f (same-yes j k t)) (λ t. g (λ e. clash (rw e (same-refl k)) t))

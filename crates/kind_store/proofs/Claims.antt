@@ -25,7 +25,7 @@ use Rattle.model.specs.Record.{Meta, flagged, claimOf}
 use Rattle.compact.specs.Layout.{Head, headLen, headBytes, metaBytes}
 use Rattle.compact.specs.Held.{metaOf}
 use Rattle.compact.specs.View.{metaAt}
-use Rattle.compact.specs.Fits.{fitsNumber, fitsMeta}
+use Rattle.compact.specs.Fits.{fitsNumber, fitsSigned, fitsMeta}
 use Rattle.compact.proofs.Format.{signed-again}
 use Rattle.compact.proofs.Lengths.{length-head}
 use Rattle.kind_store.specs.KindStore.{versionAt}
@@ -80,6 +80,14 @@ narrow-none x e = no (cc)
 
 pub narrow-higher : (v w : Version) → Narrow v → Narrow w → Narrow (higher v w)
 narrow-higher v w f g x e = byHigher v w (λ h. f x (sym h ∙ e)) (λ h. g x (sym h ∙ e))
+
+-- of metadata that fits
+pub given-claim : (m : Meta ℕ) → fitsMeta m ≡ true → Narrow (claimOf m)
+unfolding claimOf fitsMeta fitsSigned
+given-claim m h x e =
+    byBool (flagged 8 (m .flags))
+    (λ t. let q : m .version ≡ x = cc (rw t at e) in rw (← q) (record { sfits = ltb-true _ _ (both-left _ _ (both-right _ _ h)) }))
+    (λ t. no (cc (rw t at e)))
 
 pub narrow-at : (k : Kind) (arena : Bytes) (place : ℕ) → all isByte arena ≡ true → Narrow (versionAt k arena place)
 unfolding versionAt claimOf metaOf metaAt

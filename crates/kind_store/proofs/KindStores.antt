@@ -260,7 +260,7 @@ module _ (k : Kind) (setting : ℕ) (s : KindStore) (id : ℤ) (claim : Version)
         (λ l. rw push-used (omega arith))
 
 -- the floor of an id is not above its known version
-floor-under : (k : Kind) (s : KindStore) (id : ℤ) → soundTable (s .table) (s .ids) ≡ true → higher (knownVersion k s id) (ofWord (floorOf s id)) ≡ knownVersion k s id
+pub floor-under : (k : Kind) (s : KindStore) (id : ℤ) → soundTable (s .table) (s .ids) ≡ true → higher (knownVersion k s id) (ofWord (floorOf s id)) ≡ knownVersion k s id
 unfolding knownOf
 floor-under k s id sound = go (find (rank id) (rowsIn s)) refl
   where
