@@ -64,7 +64,7 @@ module _ (refused : Bool) (o : Overlay) (held : List Bytes) (acts : List (Act By
 
   module _ (k : Kind) where
     -- the view of a place at which a record starts
-    view-seen : (at : ℕ) (x : KeptRecord) → recordAt at (w .sound .kindStores k .whole .kept) ≡ some x
+    pub view-seen : (at : ℕ) (x : KeptRecord) → recordAt at (w .sound .kindStores k .whole .kept) ≡ some x
         → seenIn o k (viewIn (o .texts .strings) k (kindStoreOf k o) at) ≡ seen (x .id) (swapRecord (textOf held) (x .held))
     view-seen at x h =
         let s = kindStoreOf k o in

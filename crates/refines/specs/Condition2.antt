@@ -1,0 +1,89 @@
+-- Condition 2: "Equal to the Rust on every event sequence and call in document 01's domain". The library is the definitions that the contracts of its public calls cite; the Rust is crate
+-- `published`; the calls of a list that lie in the domain are told by document 01's table (`inDomain`). What differs is in `Domain`, `Calls` and `Numbers`, and nowhere else: D1 in
+-- `turnLeft`, D2 in `rustView`, D3 in `directOutside`, D9 and coordinates in `byDocuments`, stopped readers in `going`, lines refused 2, 3 and 4 in `onReading`.
+use Prim.Native.Nat.{ℕ}
+use mathlib.Core.Path.{_≡_}
+use mathlib.Core.Bool.{Bool}
+use mathlib.Core.Option.{Option, none, some}
+use mathlib.Core.List.{List}
+use lib.IntN.{ℤ}
+use lib.ListN.{length, getElem?}
+use mir.Syntax.{w64}
+use mir.Val.{SFits}
+use Rattle.base.specs.Bytes.{Bytes}
+use Rattle.kind.specs.declared.Kind.{Kind}
+use Rattle.interner.specs.Sound.{textsOf}
+use Rattle.kind_store.specs.KindStore.{knownVersion}
+use Rattle.overlay.specs.Overlay.{Overlay, kindStoreOf}
+use Rattle.listed.specs.declared.Side.{Side}
+use Rattle.listed.specs.declared.Side.the-variants.{Live}
+use Rattle.reading.specs.declared.Read.the-variants.{Is}
+use Rattle.reading.specs.Reading.{yes, countOn, idOn, recordOn, getOn, hasOn, isDeletedOn}
+use Rattle.calls.specs.Ask.{Ask, Storage, stateOf, started, storageAfter}
+use Rattle.condition.specs.Views.{Seen, absent, seen, unread, seenIn}
+use Rattle.published.specs.Std.{get}
+use Rattle.published.specs.Interner.{StringTable}
+use Rattle.published.specs.Parse.{CompactDiffOverlay, get-data, has, is-deleted, stored-version}
+use Rattle.published.specs.Sorted.{table-record}
+use Rattle.refines.specs.Same.{version}
+use Rattle.refines.specs.OneKind.{allowed, rowOf, floorIn}
+use Rattle.refines.specs.Overlays.{fieldsOf, metaOff, SameTexts, SameOverlay}
+use Rattle.refines.specs.Records.{RecordRead}
+use Rattle.refines.specs.Numbers.{sortedKind, idsOn, numbered}
+use Rattle.refines.specs.Reading.{SameReader}
+use Rattle.refines.specs.Calls.{RustHeld, rustStarted, domain, tolds, rustAfter, rustTolds}
+
+-- a record as both sides' readers read it: none on either side, or one that the Rust's accessors and iterators read as ours do. A reader that is refused reads nothing.
+abbrev pub RecordAs : (Bytes → Bool) → StringTable → Option Bytes → Seen → Type 0
+RecordAs from-utf8 strings none absent = Unit {0}
+RecordAs from-utf8 strings (some s) (seen id r) = RecordRead from-utf8 strings s id r
+RecordAs from-utf8 strings none (seen id r) = ⊥
+RecordAs from-utf8 strings none unread = ⊥
+RecordAs from-utf8 strings (some s) absent = ⊥
+RecordAs from-utf8 strings (some s) unread = ⊥
+
+-- ---- what an overlay holds, record by record
+
+module _ (from-utf8 : Bytes → Bool) (o : Overlay) (r : CompactDiffOverlay) (k : Kind) where
+  -- of an id: live or deleted, its record, its floor, its known version
+  pub record SameId (id : ℤ) : Type 0 where
+    pub live : hasOn k id o ≡ yes (has (fieldsOf k r) id)
+    pub deleted : isDeletedOn k id o ≡ yes (is-deleted (fieldsOf k r) id)
+    pub read : RecordAs from-utf8 (r .interner .strings) (get-data (fieldsOf k r) id) (seenIn o k (getOn k id o))
+    pub floor : version (get (fieldsOf k r .floors) id) ≡ floorIn (rowOf (kindStoreOf k o) id)
+    pub known : version (stored-version (metaOff k) (fieldsOf k r) id) ≡ knownVersion k (kindStoreOf k o) id
+
+  -- by number: how many, each id, and the record of each live one, by `KindTable::build`
+  pub record SameNumbers : Type 0 where
+    pub count : (side : Side) → countOn k side o ≡ Is (length (idsOn side (sortedKind k r)))
+    pub ids : (side : Side) (n : ℕ) → idOn k side n o ≡ numbered (getElem? (idsOn side (sortedKind k r)) n)
+    pub read : (n id : ℕ) → idOn k Live n o ≡ Is id → RecordAs from-utf8 (r .interner .strings) (table-record (sortedKind k r) n) (seenIn o k (recordOn k n o))
+
+pub record SameHeld (from-utf8 : Bytes → Bool) (l : Storage) (w : RustHeld) : Type 0 where
+  pub ids : (k : Kind) (id : ℤ) → SFits w64 id → SameId from-utf8 (l .overlay) (w .overlay) k id
+  pub numbers : (k : Kind) → SameNumbers from-utf8 (l .overlay) (w .overlay) k
+  -- the same texts under the same handles
+  pub texts : SameTexts (textsOf (l .overlay .texts)) (w .overlay .interner)
+  pub setting : w .overlay .allow-version-regression ≡ allowed (l .overlay .setting)
+  -- each reader's place and staged element
+  pub readers : (n : ℕ) → SameReader (stateOf n l) (w .states n) (w .staged n)
+
+-- ---- the theorem's statement
+
+module _ (setting : ℕ) (o : Overlay) (ps : ℕ → Bytes) (cs : List Ask) where
+  -- what the library is left with, and the Rust, given the calls in the domain
+  abbrev pub ours : Storage
+  ours = storageAfter setting o ps cs
+
+  abbrev pub rusts : RustHeld
+  rusts = rustAfter (rustStarted setting) (domain (started setting o ps) cs)
+
+  pub record Condition2 (from-utf8 : Bytes → Bool) : Type 0 where
+    -- the callers are told the same, call by call
+    pub told : rustTolds (rustStarted setting) (domain (started setting o ps) cs) ≡ tolds (started setting o ps) cs
+    -- and after the list both hold the same
+    pub same : SameHeld from-utf8 ours rusts
+
+-- the stronger law of the base: the same arena bytes, and the same offsets of records in them
+pub record SameBytes (setting : ℕ) (o : Overlay) (ps : ℕ → Bytes) (cs : List Ask) : Type 0 where
+  pub overlay : SameOverlay (ours setting o ps cs .overlay) (rusts setting o ps cs .overlay)

@@ -1,0 +1,12 @@
+pub mod Same
+pub mod OneKind
+pub mod Overlays
+pub mod Records
+pub mod Driving
+pub mod Reading
+pub mod Lookups
+pub mod Numbers
+pub mod Domain
+pub mod Calls
+pub mod Differences
+pub mod Condition2

@@ -1,0 +1,1 @@
+// That the library does what the published Rust does, as `published` sets it out: condition 2. It has no code.
