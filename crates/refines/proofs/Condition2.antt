@@ -4,11 +4,12 @@ use mathlib.Core.Path.{_≡_}
 use mathlib.Core.Bool.{Bool, true}
 use mathlib.Core.Option.{some}
 use mathlib.Core.List.{List}
+use native.Mathlib.Omega.{arith}
 use lib.IntN.{ℤ}
 use mir.Syntax.{w64}
 use mir.Val.{SFits, toZ}
 use Rattle.base.specs.Bytes.{Bytes, all}
-use Rattle.base.proofs.Split.{both-right}
+use Rattle.base.proofs.Split.{byLt, both-right}
 use Rattle.kind.specs.declared.Kind.{Kind}
 use Rattle.osm_id.specs.Order.{rank}
 use Rattle.text.specs.Check.{isText}
@@ -31,10 +32,13 @@ use Rattle.listed.proofs.Views.{view-is, view-bytes}
 use Rattle.listing.specs.Table.{isRank}
 use Rattle.listing.proofs.Rows.{row-starts}
 use Rattle.overlay.specs.Overlay.{Overlay, kindStoreOf}
+use Rattle.overlay.specs.Given.{InBytes}
+use Rattle.overlay.specs.Sound.{Sound}
 use Rattle.overlay.proofs.Decides.{decides}
-use Rattle.reading.specs.Reading.{getOn, viewIn}
+use Rattle.reading.specs.Reading.{knownOn, textOn, getOn, viewIn}
 use Rattle.reading.proofs.Records.{live-view, deleted-reads, unknown-reads}
 use Rattle.reading.proofs.Numbers.{record-get, id-signed}
+use Rattle.reading.proofs.Texts.{text-is, text-bytes, text-missing}
 use Rattle.reader.proofs.Steps.{empty-text}
 use Rattle.calls.specs.Ask.{Ask, Storage, started, storageAfter, askFits}
 use Rattle.calls.proofs.Reflects.{Reflects}
@@ -42,11 +46,13 @@ use Rattle.calls.proofs.Theorems.{reflects-after}
 use Rattle.condition.specs.Condition3.{Start}
 use Rattle.condition.specs.Views.{seenIn}
 use Rattle.condition.proofs.Views.{view-seen}
+use Rattle.published.specs.Interner.{resolve}
 use Rattle.published.specs.Parse.{CompactDiffOverlay}
-use Rattle.refines.specs.Overlays.{fieldsOf, SameOverlay}
+use Rattle.refines.specs.Overlays.{fieldsOf, SameTexts, SameOverlay}
 use Rattle.refines.specs.Numbers.{rustView}
-use Rattle.refines.specs.Condition2.{RecordAs, SameId, SameNumbers, SameHeld, Condition2, SameBytes}
+use Rattle.refines.specs.Condition2.{RecordAs, textRead, SameId, SameNumbers, SameHeld, Condition2, SameBytes}
 use Rattle.refines.specs.Calls.{RustHeld, rustStarted, domain, tolds, rustAfter, rustTolds}
+use Rattle.refines.proofs.Maps.{elem-past}
 use Rattle.refines.proofs.Acts.{same-stored}
 use Rattle.refines.proofs.Directs.{well-sound}
 use Rattle.refines.proofs.ReadBack.{record-read}
@@ -85,6 +91,7 @@ module _ (from-utf8 : Bytes → Bool) (texts : (t : Bytes) → isText t ≡ true
       (λ e. rw (unknown-reads o (w .bytes) (w .sound) k id f e .1 .1) tt)
 
   same-id : (id : ℤ) → SFits w64 id → SameId from-utf8 o r k id
+  unfolding knownOn
   same-id id f =
       let s = same .core .kinds k in
       record {
@@ -92,7 +99,7 @@ module _ (from-utf8 : Bytes → Bool) (texts : (t : Bytes) → isText t ≡ true
         deleted = deleted-same o (w .bytes) (w .sound) r k s id f;
         read = rw (data-by-id o (w .bytes) (w .sound) r k s id f) (id-read id f);
         floor = s .floors id f;
-        known = same-stored k (kindStoreOf k o) (fieldsOf k r) (well-sound o (w .sound) (w .bytes) k) s id f;
+        known = rw (decides o (w .bytes) .1 (w .sound), same-stored k (kindStoreOf k o) (fieldsOf k r) (well-sound o (w .sound) (w .bytes) k) s id f);
       }
 
   same-numbers : SameNumbers from-utf8 o r k
@@ -107,6 +114,15 @@ module _ (from-utf8 : Bytes → Bool) (texts : (t : Bytes) → isText t ≡ true
             (id-read (toZ w64 id) (id-signed o (w .bytes) (w .sound) k Live (w .ranks .rows k) n id e));
       }
 
+-- a text by its handle
+text-same : (o : Overlay) → InBytes o → Sound o → (r : CompactDiffOverlay) → SameTexts (textsOf (o .texts)) (r .interner) → (h : ℕ) → resolve (r .interner .strings) h ≡ textRead o (textOn h o)
+unfolding resolve
+text-same o b w r same h =
+    let n = length-texts (o .texts) in
+    byLt h (o .texts .strings)
+    (λ l. rw (text-is o b w h l, text-bytes o b w h l) (same .resolves h (omega arith)))
+    (λ l. rw (text-missing o b w h .1 l, elem-past (r .interner .strings .table) h (omega (arith, same .count, n))))
+
 -- what stays the same of a reader, an overlay and its records, from what is the same of the bytes
 module _ (from-utf8 : Bytes → Bool) (texts : (t : Bytes) → isText t ≡ true → from-utf8 t ≡ true) (refused : Bool) (l : Storage) (held : List Bytes) (acts : List (Act Bytes)) where
   pub alike-held : Reflects refused (l .overlay) held acts → (r : RustHeld) → Alike l r → SameHeld from-utf8 l r
@@ -114,7 +130,8 @@ module _ (from-utf8 : Bytes → Bool) (texts : (t : Bytes) → isText t ≡ true
       record {
         ids = same-id from-utf8 texts refused (l .overlay) acts held w (r .overlay) (h .overlay);
         numbers = same-numbers from-utf8 texts refused (l .overlay) acts held w (r .overlay) (h .overlay);
-        texts = h .overlay .core .texts;
+        texts = text-same (l .overlay) (w .bytes) (w .sound) (r .overlay) (h .overlay .core .texts);
+        handles = h .overlay .core .texts .lookup;
         setting = h .overlay .core .allows;
         readers = h .readers;
       }

@@ -25,7 +25,7 @@ use Rattle.published.specs.Sorted as Rust'
 use Rattle.refines.specs.Same.{osmKey}
 use Rattle.refines.specs.Lookups.{placeFrom, foundFrom, SameLookups}
 use Rattle.refines.proofs.Ids.{same-key, same-first, same-last, cmp-greater}
-use Rattle.refines.proofs.Maps.{eq-yes, eq-self}
+use Rattle.refines.proofs.Maps.{eq-yes, eq-self, elem-past}
 
 -- ---- comparisons of keys
 
@@ -111,11 +111,6 @@ elem-at : (ids : List ℤ) (k : ℕ) → k < length ids → getElem? ids k ≡ s
 elem-at [] k h = absurd (omega arith)
 elem-at (a ∷ ids) zero h = refl
 elem-at (a ∷ ids) (suc k) h = elem-at ids k (omega arith)
-
-elem-past : (ids : List ℤ) (k : ℕ) → length ids ≤ k → getElem? ids k ≡ none
-elem-past [] k h = refl
-elem-past (a ∷ ids) zero h = absurd (omega arith)
-elem-past (a ∷ ids) (suc k) h = elem-past ids k (omega arith)
 
 -- ---- range_overlaps
 

@@ -1,8 +1,11 @@
--- Hash maps and sets: what is found after a key was put in or taken out.
+-- Hash maps and sets: what is found after a key was put in or taken out; and a list past its end.
+use Prim.Native.Nat.{ℕ, zero, suc, _≤_}
 use mathlib.Core.Path.{_≡_, refl, sym, _∙_, ap}
 use mathlib.Core.Bool.{true, false, cond}
 use mathlib.Core.Option.{none, some}
-use mathlib.Core.List.{[], _∷_}
+use mathlib.Core.List.{List, [], _∷_}
+use native.Mathlib.Omega.{arith}
+use lib.ListN.{length, getElem?}
 use lib.IntN.{ℤ, pos, negsuc}
 use borrow.Author.Tests.{eq-eqb, eqb-true}
 use Rattle.base.proofs.Split.{byBool, clash}
@@ -68,3 +71,9 @@ contains-own s k = rw (eq-self k)
 pub contains-other : (s : HashSet) (k j : ℤ) → (j ≡ k → ⊥) → contains (insertInto s k) j ≡ contains s j
 unfolding contains insertInto
 contains-other s k j n = rw (eq-no k j (λ e. n (sym e))) (contains-kept s k j n)
+
+-- xs.get(n)
+pub elem-past : {A : Type 0} (xs : List A) (n : ℕ) → length xs ≤ n → getElem? xs n ≡ none
+elem-past [] n l = refl
+elem-past (x ∷ xs) zero l = absurd (omega arith)
+elem-past (x ∷ xs) (suc n) l = elem-past xs n (omega arith)

@@ -50,6 +50,7 @@ use Rattle.published.specs.Sorted.{into-sorted, kind-sorted, table-record}
 use Rattle.refines.specs.OneKind.{SameKind}
 use Rattle.refines.specs.Overlays.{fieldsOf}
 use Rattle.refines.specs.Numbers.{sortedKind, idsOn, numbered, toArenaEnd, rustView}
+use Rattle.refines.proofs.Maps.{elem-past}
 use Rattle.refines.proofs.Built.{built-ids, built-offsets, built-deleted, built-arena}
 
 -- ---- lists by number
@@ -70,11 +71,6 @@ place-at : (rs : List Row) (n : ℕ) (d : Row) → n < length rs → getElem? (m
 place-at [] n d l = absurd (omega arith)
 place-at (q ∷ rs) zero d l = refl
 place-at (q ∷ rs) (suc n) d l = place-at rs n d (omega arith)
-
-place-past : (rs : List Row) (n : ℕ) → length rs ≤ n → getElem? (map (λ (q : Row). q .place) rs) n ≡ none
-place-past [] n l = refl
-place-past (q ∷ rs) zero l = absurd (omega arith)
-place-past (q ∷ rs) (suc n) l = place-past rs n (omega arith)
 
 -- ---- the view of a live row
 
@@ -139,7 +135,7 @@ module _ (o : Overlay) (b : InBytes o) (w : Sound o) (ranks : Ranked o) (r : Com
       (λ l.
       let q = on-found (getD live n d .rank) (rowsIn (kindStoreOf k o)) rises Live (getD live n d) (find-row live (on-rising Live (rowsIn (kindStoreOf k o)) rises) n d l) in
       rw (place-at live n d l, nth-at live n d l) (row-viewed (o .texts .strings) k (kindStoreOf k o) (w .kindStores k) (getD live n d .rank) (getD live n d) (q .0) (q .1)))
-      (λ l. rw (place-past live n l, missing-is live n .1 l)))
+      (λ l. rw (elem-past (map (λ (q : Row). q .place) live) n (rw (length-map live (λ (q : Row). q .place)) l), missing-is live n .1 l)))
 
   -- ours and the used bytes behind it
   pub record-runs-on : (n at len : ℕ) → recordOn k n o ≡ view.Part at len

@@ -7,27 +7,30 @@ use mathlib.Core.Bool.{Bool}
 use mathlib.Core.Option.{Option, none, some}
 use mathlib.Core.List.{List}
 use lib.IntN.{ℤ}
-use lib.ListN.{length, getElem?}
+use lib.ListN.{length, getElem?, take, drop}
 use mir.Syntax.{w64}
 use mir.Val.{SFits}
 use Rattle.base.specs.Bytes.{Bytes}
 use Rattle.kind.specs.declared.Kind.{Kind}
+use Rattle.interner.specs.Texts.{handleOf}
 use Rattle.interner.specs.Sound.{textsOf}
-use Rattle.kind_store.specs.KindStore.{knownVersion}
+use Rattle.version_floor.specs.Version.{wordOf}
 use Rattle.overlay.specs.Overlay.{Overlay, kindStoreOf}
 use Rattle.listed.specs.declared.Side.{Side}
 use Rattle.listed.specs.declared.Side.the-variants.{Live}
+use Rattle.listed.specs.declared.View.{View}
+use Rattle.listed.specs.declared.View.the-variants as view
 use Rattle.reading.specs.declared.Read.the-variants.{Is}
-use Rattle.reading.specs.Reading.{yes, countOn, idOn, recordOn, getOn, hasOn, isDeletedOn}
+use Rattle.reading.specs.Reading.{yes, countOn, idOn, recordOn, getOn, hasOn, isDeletedOn, knownOn, textOn}
 use Rattle.calls.specs.Ask.{Ask, Storage, stateOf, started, storageAfter}
 use Rattle.condition.specs.Views.{Seen, absent, seen, unread, seenIn}
 use Rattle.published.specs.Std.{get}
-use Rattle.published.specs.Interner.{StringTable}
+use Rattle.published.specs.Interner.{StringTable, resolve, getText}
 use Rattle.published.specs.Parse.{CompactDiffOverlay, get-data, has, is-deleted, stored-version}
 use Rattle.published.specs.Sorted.{table-record}
 use Rattle.refines.specs.Same.{version}
 use Rattle.refines.specs.OneKind.{allowed, rowOf, floorIn}
-use Rattle.refines.specs.Overlays.{fieldsOf, metaOff, SameTexts, SameOverlay}
+use Rattle.refines.specs.Overlays.{fieldsOf, metaOff, SameOverlay}
 use Rattle.refines.specs.Records.{RecordRead}
 use Rattle.refines.specs.Numbers.{sortedKind, idsOn, numbered}
 use Rattle.refines.specs.Reading.{SameReader}
@@ -42,6 +45,12 @@ RecordAs from-utf8 strings none unread = ⊥
 RecordAs from-utf8 strings (some s) absent = ⊥
 RecordAs from-utf8 strings (some s) unread = ⊥
 
+-- a text, by the call that reads one: none where 21
+abbrev pub textRead : Overlay → View → Option Bytes
+textRead o (view.Part at n) = some (take n (drop at (o .texts .bytes)))
+textRead o view.Nothing = none
+textRead o (view.Refused r) = none
+
 -- ---- what an overlay holds, record by record
 
 module _ (from-utf8 : Bytes → Bool) (o : Overlay) (r : CompactDiffOverlay) (k : Kind) where
@@ -51,7 +60,7 @@ module _ (from-utf8 : Bytes → Bool) (o : Overlay) (r : CompactDiffOverlay) (k 
     pub deleted : isDeletedOn k id o ≡ yes (is-deleted (fieldsOf k r) id)
     pub read : RecordAs from-utf8 (r .interner .strings) (get-data (fieldsOf k r) id) (seenIn o k (getOn k id o))
     pub floor : version (get (fieldsOf k r .floors) id) ≡ floorIn (rowOf (kindStoreOf k o) id)
-    pub known : version (stored-version (metaOff k) (fieldsOf k r) id) ≡ knownVersion k (kindStoreOf k o) id
+    pub known : knownOn k id o ≡ Is (wordOf (version (stored-version (metaOff k) (fieldsOf k r) id)))
 
   -- by number: how many, each id, and the record of each live one, by `KindTable::build`
   pub record SameNumbers : Type 0 where
@@ -62,8 +71,9 @@ module _ (from-utf8 : Bytes → Bool) (o : Overlay) (r : CompactDiffOverlay) (k 
 pub record SameHeld (from-utf8 : Bytes → Bool) (l : Storage) (w : RustHeld) : Type 0 where
   pub ids : (k : Kind) (id : ℤ) → SFits w64 id → SameId from-utf8 (l .overlay) (w .overlay) k id
   pub numbers : (k : Kind) → SameNumbers from-utf8 (l .overlay) (w .overlay) k
-  -- the same texts under the same handles
-  pub texts : SameTexts (textsOf (l .overlay .texts)) (w .overlay .interner)
+  -- the same texts under the same handles: as they are read, and as they are found when one is taken in
+  pub texts : (h : ℕ) → resolve (w .overlay .interner .strings) h ≡ textRead (l .overlay) (textOn h (l .overlay))
+  pub handles : (t : Bytes) → getText (w .overlay .interner .lookup) t ≡ handleOf t (textsOf (l .overlay .texts))
   pub setting : w .overlay .allow-version-regression ≡ allowed (l .overlay .setting)
   -- each reader's place and staged element
   pub readers : (n : ℕ) → SameReader (stateOf n l) (w .states n) (w .staged n)
