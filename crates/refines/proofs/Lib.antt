@@ -8,6 +8,7 @@ pub mod Readers
 pub mod Keyed
 pub mod Acts
 pub mod Stores
+pub mod Sinks
 pub mod Driven
 pub mod Turns
 pub mod Refusing

@@ -69,7 +69,8 @@ use Rattle.published.specs.XmlParse.{CompactSink, Staging, DriveState, sink-wit
 use Rattle.published.specs.XmlParse as X
 use Rattle.refines.specs.OneKind.{SameKind, keyed, once}
 use Rattle.refines.specs.Overlays.{fieldsOf, SameOverlay}
-use Rattle.refines.specs.Driving.{driveState, doneAs}
+use Rattle.refines.specs.Driving.{driveState}
+use Rattle.refines.proofs.Sinks.{doneAs}
 use Rattle.refines.specs.Driving as D
 use Rattle.refines.specs.Reading.{SameReader}
 use Rattle.refines.specs.Domain.{eventOutside, directOutside, inside, going, inDomain}

@@ -25,7 +25,8 @@ use Rattle.published.specs.Compact as C
 use Rattle.published.specs.XmlParse as X
 use Rattle.field.specs.Field as F
 use Rattle.refines.specs.Driving as D
-use Rattle.refines.specs.Driving.{fieldOf, attribute, bytesStart, byDocuments, coordinate7, metaSoFar, userOf}
+use Rattle.refines.specs.Driving.{attribute, bytesStart, byDocuments, coordinate7}
+use Rattle.refines.proofs.Sinks.{fieldOf, metaSoFar, userOf}
 
 -- ---- integers
 

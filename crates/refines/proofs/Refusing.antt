@@ -47,7 +47,8 @@ use Rattle.published.specs.XmlParse as X
 use Rattle.refines.specs.OneKind.{allowed, SameKind}
 use Rattle.refines.specs.Overlays.{elementKind, pushRecord, fieldsOf, SameCore}
 use Rattle.refines.specs.Domain.{eventOutside, inside}
-use Rattle.refines.specs.Driving.{RustTurn, userOf, sunkAt, doneAs}
+use Rattle.refines.specs.Driving.{RustTurn}
+use Rattle.refines.proofs.Sinks.{deletedAt, userOf, sunkAt, doneAs}
 use Rattle.refines.specs.Driving as D
 use Rattle.refines.specs.Reading.{stagingOf}
 use Rattle.refines.proofs.Stores.{refuse-push, refuse-delete}
@@ -138,7 +139,7 @@ module _ (s : State) (g : StateGiven s) (e : stateSound s ≡ true) (well : (k :
       let cl = claim-same m (l .legal) n in
       told-admit _ (checked (s .overlay .setting) (knownVersion j (kindStoreOf j (s .overlay)) i) (claimOf m))
       (takingUser m (s .overlay) (λ a o. S.onAfter (storeDelete j i (claimOf m) o) (clearsTo s p)))
-      (λ v a. ap (D.deletedAt p) (ap (delete-kind (user-interned (k .overlay) (userOf m)) (elementKind j) i) (sym (meta-handled (k .overlay) m (l .legal) n refl))
+      (λ v a. ap (deletedAt p) (ap (delete-kind (user-interned (k .overlay) (userOf m)) (elementKind j) i) (sym (meta-handled (k .overlay) m (l .legal) n refl))
       ∙ refuse-delete (s .overlay) (user-interned (k .overlay) (userOf m)) well (user-kinds (userOf m)) (user-allows (userOf m)) j i (metaOf (bitsWithUser m n)) (l .fits) v (rw cl a)))
       (λ a. told-user _ m (s .overlay) (λ a o. S.onAfter (storeDelete j i (claimOf m) o) (clearsTo s p)) (λ h q same set.
       told-kept _ (storeDelete j i (claimOf m) q .answer) (clearsTo s p (storeDelete j i (claimOf m) q .overlay)) (λ y z.

@@ -80,7 +80,8 @@ use Rattle.published.specs.XmlParse.{CompactSink, Staging, end-element, sink-wi
 use Rattle.published.specs.XmlParse as X
 use Rattle.refines.specs.Overlays as W
 use Rattle.refines.specs.Overlays.{elementKind, arenaMeta, pushRecord, fieldsOf, SameCore}
-use Rattle.refines.specs.Driving.{driveState, userOf, metaHandled, stagingFor, begun, sunkAt, goes, doneAs}
+use Rattle.refines.specs.Driving.{driveState, goes}
+use Rattle.refines.proofs.Sinks.{userOf, metaHandled, stagingFor, begun, sunkAt, doneAs}
 use Rattle.refines.specs.Reading.{stagingOf, stagedAs, ifPushed, ifOpen}
 use Rattle.refines.proofs.Stores.{store-pushes, store-deletes}
 use Rattle.refines.proofs.Texts.{texts-intern, handle-intern}

@@ -16,15 +16,16 @@ use Rattle.published.specs.XmlParse.{DriveState, Staging}
 use Rattle.refines.specs.Overlays.{elementKind, arenaMeta, memberPart}
 use Rattle.refines.specs.Driving.{driveState}
 
-abbrev pub latIn : Body ℕ → ℤ
-latIn (place lat lon) = lat
-latIn (refs rs) = pos 0
-latIn (members ms) = pos 0
+-- a node's place, and 0 of the others: let (lat, lon) = if kind == ElementKind::Node { .. } else { (0, 0) };
+abbrev pub latOf : {S : Type 0} → Body S → ℤ
+latOf (place lat lon) = lat
+latOf (refs rs) = pos 0
+latOf (members ms) = pos 0
 
-abbrev pub lonIn : Body ℕ → ℤ
-lonIn (place lat lon) = lon
-lonIn (refs rs) = pos 0
-lonIn (members ms) = pos 0
+abbrev pub lonOf : {S : Type 0} → Body S → ℤ
+lonOf (place lat lon) = lon
+lonOf (refs rs) = pos 0
+lonOf (members ms) = pos 0
 
 abbrev pub refsIn : Body ℕ → List ℤ
 refsIn (place lat lon) = []
@@ -42,8 +43,8 @@ stagingOf id r =
     record {
       kind = elementKind (kindOf (r .body));
       id = id;
-      lat = latIn (r .body);
-      lon = lonIn (r .body);
+      lat = latOf (r .body);
+      lon = lonOf (r .body);
       meta = arenaMeta (r .meta);
       tag-keys = map (λ (t : Tag ℕ). t .key) (r .tags);
       tag-values = map (λ (t : Tag ℕ). t .value) (r .tags);

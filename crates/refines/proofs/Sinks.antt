@@ -1,0 +1,64 @@
+-- What the library decides of an event, done by the Rust's sink.
+use mathlib.Core.Bool.{true, false, cond}
+use mathlib.Core.Option.{Option, none, some}
+use mathlib.Core.List.{[]}
+use lib.IntN.{ℤ}
+use Rattle.base.specs.Bytes.{Bytes}
+use Rattle.kind.specs.Kind.{kindNumber}
+use Rattle.refusal.specs.declared.Refusal.the-variants as R
+use Rattle.nesting.specs.declared.Place.{Place}
+use Rattle.model.specs.Record.{Meta, Body, refs, members, kindOf, flagged}
+use Rattle.field.specs.Field.{Field, got, bad}
+use Rattle.decision.specs.Decision.{Decision, refuses, moves, begins, deletes, tags, refers, joins, ends}
+use Rattle.published.specs.Std.{Result, Ok, Err}
+use Rattle.published.specs.Compact.{ArenaMeta}
+use Rattle.published.specs.Parse.{CompactDiffOverlay, intern-in, handle-in, delete-kind}
+use Rattle.published.specs.XmlParse.{Error, CompactSink, Staging, Sunk, MetaSoFar, or-empty, flags-of, user-interned, user-handle, sink-with, staged, add-tag, add-ref, add-member, end-element}
+use Rattle.refines.specs.Overlays.{elementKind}
+use Rattle.refines.specs.Driving.{refusalOf, driveState, RustTurn, goes, stops, turnFrom}
+use Rattle.refines.specs.Reading.{latOf, lonOf}
+
+abbrev pub fieldOf : {A B : Type 0} → (A → B) → Result A Error → Field B
+fieldOf f (Ok a) = got (f a)
+fieldOf f (Err e) = bad (refusalOf e)
+
+-- ---- metadata
+
+abbrev pub metaSoFar : MetaSoFar → Meta Bytes
+metaSoFar m = record { flags = flags-of m; version = m .version; timestamp = m .timestamp; changeset = m .changeset; uid = m .uid; user = or-empty (m .user) }
+
+abbrev pub userOf : Meta Bytes → Option Bytes
+userOf m = cond (flagged 4 (m .flags)) (some (m .user)) none
+
+abbrev pub metaHandled : CompactDiffOverlay → Meta Bytes → ArenaMeta
+metaHandled o m =
+    record { flags = m .flags; version = m .version; timestamp = m .timestamp; changeset = m .changeset; uid = m .uid; user-id = user-handle o (userOf m) }
+
+-- ---- the library's decision, done by the Rust's sink
+
+abbrev pub sunkAt : Place → Sunk → RustTurn
+sunkAt p x = turnFrom (driveState p) (x .sink) (x .result)
+
+abbrev pub stagingFor : CompactDiffOverlay → ℤ → Meta Bytes → Body Bytes → Staging
+stagingFor o id m b =
+    record { kind = elementKind (kindOf b); id = id; lat = latOf b; lon = lonOf b; meta = metaHandled o m; tag-keys = []; tag-values = []; refs = []; members = [] }
+
+abbrev pub begun : CompactSink → ℤ → Meta Bytes → Body Bytes → CompactSink
+begun s id m b = sink-with (user-interned (s .overlay) (userOf m)) (some (stagingFor (s .overlay) id m b))
+
+abbrev pub deletedAt : Place → Result CompactDiffOverlay ℤ → RustTurn
+deletedAt p (Ok o) = goes (driveState p) (sink-with o none)
+deletedAt p (Err v) = stops (R.Regression v)
+
+unfoldable pub doneAs : Decision → CompactSink → RustTurn
+doneAs (refuses r) s = stops r
+doneAs (moves p) s = goes (driveState p) s
+doneAs (begins true p id m b) s = sunkAt p (end-element (begun s id m b))
+doneAs (begins false p id m b) s = goes (driveState p) (begun s id m b)
+doneAs (deletes k p id m) s = deletedAt p (delete-kind (user-interned (s .overlay) (userOf m)) (elementKind k) id (metaHandled (s .overlay) m))
+doneAs (tags p t) s = sunkAt p (staged (intern-in (s .overlay) (t .key)) (s .staging) (add-tag (handle-in (s .overlay) (t .key)) (t .value)))
+doneAs (refers p z) s = sunkAt p (staged (s .overlay) (s .staging) (add-ref z))
+doneAs (joins p m) s =
+    sunkAt p (staged (intern-in (s .overlay) (m .role)) (s .staging)
+    (add-member (record { ref-id = m .ref; type-byte = kindNumber (m .type); role-id = handle-in (s .overlay) (m .role) })))
+doneAs (ends p) s = sunkAt p (end-element s)
