@@ -107,8 +107,8 @@ version-at s offset meta-off =
     bind (index s (offset + meta-off)) (λ flags. cond (clear flags META-FLAG-HAS-VERSION) none (read-i32-le s (offset + meta-off + M-VERSION)))
 
 -- fn arena_append_meta(arena: &mut Vec<u8>, meta: &ArenaMeta)
-unfoldable pub meta-appended : ArenaMeta → Bytes
-meta-appended m = (m .flags % 256) ∷ i32 (m .version) ++ i64 (m .timestamp) ++ i64 (m .changeset) ++ i32 (m .uid) ++ u32 (m .user-id)
+unfoldable pub arena-append-meta : ArenaMeta → Bytes
+arena-append-meta m = (m .flags % 256) ∷ i32 (m .version) ++ i64 (m .timestamp) ++ i64 (m .changeset) ++ i32 (m .uid) ++ u32 (m .user-id)
 
 -- struct Metadata (block_builder)
 pub record Metadata : Type 0 where
@@ -148,9 +148,9 @@ pub record MemberPart : Type 0 where
   pub role-id : ℕ
 
 -- fn append_tags
-unfoldable pub tags-appended : List TagPart → Bytes
-tags-appended [] = []
-tags-appended (t ∷ ts) = u32 (t .key-id) ++ u32 (length (t .value)) ++ t .value ++ tags-appended ts
+unfoldable pub append-tags : List TagPart → Bytes
+append-tags [] = []
+append-tags (t ∷ ts) = u32 (t .key-id) ++ u32 (length (t .value)) ++ t .value ++ append-tags ts
 
 unfoldable pub refs-appended : List ℤ → Bytes
 refs-appended [] = []
@@ -161,14 +161,14 @@ members-appended [] = []
 members-appended (m ∷ ms) = i64 (m .ref-id) ++ (m .type-byte % 256) ∷ u32 (m .role-id) ++ members-appended ms
 
 -- what arena_append_node, arena_append_way, arena_append_relation append; each returns the arena's length before
-unfoldable pub node-appended : ℤ → ℤ → ℤ → List TagPart → ArenaMeta → Bytes
-node-appended id lat lon tags meta = i64 id ++ i32 lat ++ i32 lon ++ u32 (length tags) ++ meta-appended meta ++ tags-appended tags
+unfoldable pub arena-append-node : ℤ → ℤ → ℤ → List TagPart → ArenaMeta → Bytes
+arena-append-node id lat lon tags meta = i64 id ++ i32 lat ++ i32 lon ++ u32 (length tags) ++ arena-append-meta meta ++ append-tags tags
 
-unfoldable pub way-appended : ℤ → List ℤ → List TagPart → ArenaMeta → Bytes
-way-appended id refs tags meta = i64 id ++ u32 (length refs) ++ u32 (length tags) ++ meta-appended meta ++ refs-appended refs ++ tags-appended tags
+unfoldable pub arena-append-way : ℤ → List ℤ → List TagPart → ArenaMeta → Bytes
+arena-append-way id refs tags meta = i64 id ++ u32 (length refs) ++ u32 (length tags) ++ arena-append-meta meta ++ refs-appended refs ++ append-tags tags
 
-unfoldable pub relation-appended : ℤ → List MemberPart → List TagPart → ArenaMeta → Bytes
-relation-appended id members tags meta = i64 id ++ u32 (length members) ++ u32 (length tags) ++ meta-appended meta ++ members-appended members ++ tags-appended tags
+unfoldable pub arena-append-relation : ℤ → List MemberPart → List TagPart → ArenaMeta → Bytes
+arena-append-relation id members tags meta = i64 id ++ u32 (length members) ++ u32 (length tags) ++ arena-append-meta meta ++ members-appended members ++ append-tags tags
 
 -- ---- iterators
 

@@ -1,4 +1,4 @@
--- interner.rs. The refusals past 2^32 are left out: no call of the domain comes near.
+-- interner.rs. The refusals past 2^32 are left out: no call of the domain comes near. `strings` and `into_strings` are the field of that name.
 use Prim.Native.Nat.{ℕ}
 use mathlib.Core.Bool.{cond}
 use mathlib.Core.Option.{Option, none, some}
@@ -56,7 +56,7 @@ intern-as i s none =
 unfoldable pub intern : StringInterner → Bytes → Interned
 intern i s = intern-as i s (getText (i .lookup) s)
 
--- self.data.get(start..start + len), of the span of an id; none where `resolve` panics
+-- self.data.get(start..start + len), of the span of an id; none where `resolve` panics. That a span begins and ends between characters is left out: each is a whole text.
 abbrev pub resolve-in : Bytes → Option Span → Option Bytes
 resolve-in bytes none = none
 resolve-in bytes (some p) = slice bytes (p .offset) (p .len)

@@ -1,17 +1,18 @@
 -- parse.rs: `CompactDiffOverlay`. Its fields of one kind stand together, and what push_* and delete_* do to them is written once: the three of each differ in the kind's fields and in
--- the append alone.
+-- the append alone. Left out: files, sizes on the heap, and the iterators over a map's keys, whose order is the map's own (`node_ids`, `deleted_ids`).
 use Prim.Native.Nat.{ℕ}
 use mathlib.Core.Bool.{Bool, true, false, cond}
 use mathlib.Core.Option.{Option, none, some, bind}
-use mathlib.Core.List.{List, [], _++_}
+use mathlib.Core.List.{List, [], _∷_, _++_}
 use lib.IntN.{ℤ}
 use lib.ListN.{length}
-use Rattle.base.specs.Bytes.{Bytes}
+use Rattle.base.specs.Bytes.{Bytes, both}
 use Rattle.published.specs.Std.{Result, Ok, Err, map-ok, ElementKind, Node, Way, Relation, maxZ, slice-from, HashMap, get, insert, remove, HashSet, contains, insertInto, removeFrom}
 use Rattle.published.specs.VersionFloor.{admit}
+use Rattle.published.specs.VersionFloor as VersionFloor
 use Rattle.published.specs.Interner.{StringInterner}
 use Rattle.published.specs.Interner as Interner
-use Rattle.published.specs.Compact.{ArenaMeta, TagPart, MemberPart, META-OFF, version-claim, version-at, node-appended, way-appended, relation-appended}
+use Rattle.published.specs.Compact.{ArenaMeta, TagPart, MemberPart, META-OFF, version-claim, version-at, arena-append-node, arena-append-way, arena-append-relation}
 
 -- node_arena, node_index, deleted_nodes, node_version_floors; and the same of ways and of relations
 pub record KindFields : Type 0 where
@@ -79,6 +80,18 @@ has s id = is-some (get (s .index) id)
 unfoldable pub is-deleted : KindFields → ℤ → Bool
 is-deleted s id = contains (s .deleted) id
 
+-- self.node_index.is_empty(), self.deleted_nodes.is_empty()
+abbrev pub no-entries : {A : Type 0} → List A → Bool
+no-entries [] = true
+no-entries (e ∷ m) = false
+
+abbrev pub no-ids : KindFields → Bool
+no-ids s = both (no-entries (s .index)) (no-entries (s .deleted))
+
+-- fn is_empty(&self) -> bool
+unfoldable pub is-empty : CompactDiffOverlay → Bool
+is-empty o = both (no-ids (o .nodes)) (both (no-ids (o .ways)) (no-ids (o .relations)))
+
 -- ---- the version gate
 -- .and_then(|&offset| version_at(self.arena, offset, self.meta_off))
 abbrev pub live-version : ℕ → Bytes → Option ℕ → Option ℤ
@@ -97,7 +110,7 @@ stored-version meta-off s id = max-or (live-version meta-off (s .arena) (get (s 
 
 -- fn check_version_advance(&self, kind, id, store, incoming_version) -> ParseResult<()>; the error carries `stored`
 unfoldable pub check-version-advance : Bool → ℕ → KindFields → ℤ → ℤ → Result (Unit {0}) ℤ
-check-version-advance allow meta-off s id incoming = cond allow (Ok tt) (admit (stored-version meta-off s id) (some incoming))
+check-version-advance allow meta-off s id incoming = cond allow (Ok tt) (admit (VersionFloor.new (stored-version meta-off s id)) (some incoming))
 
 -- floors.entry(id).and_modify(|v| *v = (*v).max(highest)).or_insert(highest);
 abbrev pub modified : Option ℤ → ℤ → ℤ
@@ -131,8 +144,8 @@ unfoldable pub push : Bool → ℕ → KindFields → ℤ → Bytes → ArenaMet
 push allow meta-off s id bytes meta = push-with allow meta-off s id bytes (version-claim meta)
 
 -- let carried = ..stored_version(id); raise_floor(..); self.deleted.insert(id); self.index.remove(&id);
-abbrev pub dropped : ℕ → KindFields → ℤ → Option ℤ → KindFields
-dropped meta-off s id claim =
+abbrev pub marked-deleted : ℕ → KindFields → ℤ → Option ℤ → KindFields
+marked-deleted meta-off s id claim =
     record {
       arena = s .arena;
       index = remove (s .index) id;
@@ -142,8 +155,8 @@ dropped meta-off s id claim =
 
 -- delete_node, delete_way, delete_relation, given meta.version_claim()
 abbrev pub delete-with : Bool → ℕ → KindFields → ℤ → Option ℤ → Result KindFields ℤ
-delete-with allow meta-off s id (some claim) = after-check (check-version-advance allow meta-off s id claim) (dropped meta-off s id (some claim))
-delete-with allow meta-off s id none = Ok (dropped meta-off s id none)
+delete-with allow meta-off s id (some claim) = after-check (check-version-advance allow meta-off s id claim) (marked-deleted meta-off s id (some claim))
+delete-with allow meta-off s id none = Ok (marked-deleted meta-off s id none)
 
 unfoldable pub delete : Bool → ℕ → KindFields → ℤ → ArenaMeta → Result KindFields ℤ
 delete allow meta-off s id meta = delete-with allow meta-off s id (version-claim meta)
@@ -152,15 +165,15 @@ delete allow meta-off s id meta = delete-with allow meta-off s id (version-claim
 
 -- fn push_node(&mut self, id, lat, lon, tags, meta) -> ParseResult<()>
 unfoldable pub push-node : CompactDiffOverlay → ℤ → ℤ → ℤ → List TagPart → ArenaMeta → Result CompactDiffOverlay ℤ
-push-node o id lat lon tags meta = map-ok (with-fields o Node) (push (o .allow-version-regression) (META-OFF Node) (o .nodes) id (node-appended id lat lon tags meta) meta)
+push-node o id lat lon tags meta = map-ok (with-fields o Node) (push (o .allow-version-regression) (META-OFF Node) (o .nodes) id (arena-append-node id lat lon tags meta) meta)
 
 -- fn push_way(&mut self, id, refs, tags, meta) -> ParseResult<()>
 unfoldable pub push-way : CompactDiffOverlay → ℤ → List ℤ → List TagPart → ArenaMeta → Result CompactDiffOverlay ℤ
-push-way o id refs tags meta = map-ok (with-fields o Way) (push (o .allow-version-regression) (META-OFF Way) (o .ways) id (way-appended id refs tags meta) meta)
+push-way o id refs tags meta = map-ok (with-fields o Way) (push (o .allow-version-regression) (META-OFF Way) (o .ways) id (arena-append-way id refs tags meta) meta)
 
 -- fn push_relation(&mut self, id, members, tags, meta) -> ParseResult<()>
 unfoldable pub push-relation : CompactDiffOverlay → ℤ → List MemberPart → List TagPart → ArenaMeta → Result CompactDiffOverlay ℤ
-push-relation o id members tags meta = map-ok (with-fields o Relation) (push (o .allow-version-regression) (META-OFF Relation) (o .relations) id (relation-appended id members tags meta) meta)
+push-relation o id members tags meta = map-ok (with-fields o Relation) (push (o .allow-version-regression) (META-OFF Relation) (o .relations) id (arena-append-relation id members tags meta) meta)
 
 -- fn delete_node, delete_way, delete_relation (&mut self, id: i64, meta: &ArenaMeta) -> ParseResult<()>, by the kind
 unfoldable pub delete-kind : CompactDiffOverlay → ElementKind → ℤ → ArenaMeta → Result CompactDiffOverlay ℤ

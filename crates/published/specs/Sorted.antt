@@ -60,7 +60,7 @@ kind-table d Node = d .nodes
 kind-table d Way = d .ways
 kind-table d Relation = d .relations
 
--- ids.partition_point(p), of a list on whose front part p holds
+-- ids.partition_point(p), of a list on whose front part p holds and on whose rest it does not, as of each list in order
 unfoldable pub partition-point : (ℤ → Bool) → List ℤ → ℕ
 partition-point p [] = 0
 partition-point p (x ∷ xs) = cond (p x) (suc (partition-point p xs)) 0
@@ -98,7 +98,7 @@ abbrev pub seek-start : Option ℕ → List ℤ → ℤ → ℕ
 seek-start none ids id = partition-point (λ x. is-lt (osm-id-cmp x id)) ids
 seek-start (some pos) ids id = pos
 
-pub record Sought : Type 0 where
+pub record SeekFound : Type 0 where
   pub seek : Option ℕ
   pub found : Option ℕ
 
@@ -107,7 +107,7 @@ found-at pos none id = none
 found-at pos (some x) id = cond (eqZ x id) (some pos) none
 
 -- fn find(&mut self, ids: &[i64], id: i64) -> Option<usize>
-unfoldable pub find : Option ℕ → List ℤ → ℤ → Sought
+unfoldable pub find : Option ℕ → List ℤ → ℤ → SeekFound
 find seek ids id =
     let pos = seek-on (seek-start seek ids id) (drop (seek-start seek ids id) ids) id in
     record { seek = some pos; found = found-at pos (getElem? ids pos) id }

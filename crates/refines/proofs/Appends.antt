@@ -21,12 +21,12 @@ same-le (suc n) v = rw (same-le n (v / 256))
 same-i64 : (z : ℤ) → C.i64 z ≡ le 8 (ofZ w64 z)
 same-i64 z = same-le 8 (ofZ w64 z)
 
-pub same-meta : (m : Meta ℕ) → C.meta-appended (arenaMeta m) ≡ metaBytes m
-unfolding C.meta-appended metaBytes le
+pub same-meta : (m : Meta ℕ) → C.arena-append-meta (arenaMeta m) ≡ metaBytes m
+unfolding C.arena-append-meta metaBytes le
 same-meta m = rw (same-le 4 (ofZ w32 (m .version)), same-le 8 (ofZ w64 (m .timestamp)), same-le 8 (ofZ w64 (m .changeset)), same-le 4 (ofZ w32 (m .uid)), same-le 4 (m .user))
 
-same-tags : (ts : List (Tag ℕ)) → C.tags-appended (map tagPart ts) ≡ joinedBytes tagBytes ts
-unfolding C.tags-appended joinedBytes tagBytes
+same-tags : (ts : List (Tag ℕ)) → C.append-tags (map tagPart ts) ≡ joinedBytes tagBytes ts
+unfolding C.append-tags joinedBytes tagBytes
 same-tags [] = refl
 same-tags (t ∷ ts) = rw (same-tags ts, same-le 4 (t .key), same-le 4 (length (t .value))) (simp append-assoc)
 
@@ -42,7 +42,7 @@ same-members (m ∷ ms) = rw (same-members ms, same-le 8 (ofZ w64 (m .ref)), sam
 
 body-bytes : (id : ℤ) (b : Body ℕ) (tags : List (Tag ℕ)) (m : Meta ℕ)
     → bodyAppended id b (map tagPart tags) (arenaMeta m) ≡ headBytes (kindOf b) (headOf id b (length tags)) ++ metaBytes m ++ (bodyBytes b ++ joinedBytes tagBytes tags)
-unfolding C.node-appended C.way-appended C.relation-appended headBytes headOf bodyBytes
+unfolding C.arena-append-node C.arena-append-way C.arena-append-relation headBytes headOf bodyBytes
 body-bytes id (place lat lon) tags m =
     rw (length-map tags tagPart, same-meta m, same-tags tags, same-le 8 (ofZ w64 id), same-le 4 (ofZ w32 lat), same-le 4 (ofZ w32 lon), same-le 4 (length tags)) (simp append-assoc)
 body-bytes id (refs rs) tags m =

@@ -110,9 +110,9 @@ module _ (np : NotPublished) (s : CompactSink) (d : DriveState) (k : ElementKind
   failed-comes t true next q x h y z n = h
   failed-comes t false next q x h y z n = h
 
-  staged-comes : (b : Bool) (next : DriveState) (id : ℤ) (m : MetaSoFar) (c : Result Coordinates Error) → DrivenLeaves (m .user) (comes b next (X.stage-with np s k id m c))
+  staged-comes : (b : Bool) (next : DriveState) (id : ℤ) (m : MetaSoFar) (c : Result Coordinates Error) → DrivenLeaves (m .user) (comes b next (X.begin-staged np s k id m c))
   staged-comes b next id m (Err x) = failed-comes (m .user) b next _ x refl
-  staged-comes true next id m (Ok c) = after-sunk (user-interned (s .overlay) (m .user)) d d (end-element (X.stage-with np s k id m (Ok c) .sink)) (ends-leave (X.stage-with np s k id m (Ok c) .sink))
+  staged-comes true next id m (Ok c) = after-sunk (user-interned (s .overlay) (m .user)) d d (end-element (X.begin-staged np s k id m (Ok c) .sink)) (ends-leave (X.begin-staged np s k id m (Ok c) .sink))
   staged-comes false next id m (Ok c) = taken _ _
 
   deleted-comes : (b : Bool) (next : DriveState) (t : Option Bytes) (st : Option Staging) (x : Result CompactDiffOverlay ℤ) → DrivenLeaves t (comes b next (X.deleted-as (sink-with (user-interned (s .overlay) t) st) x))

@@ -195,14 +195,14 @@ module _ (p : Place) (attrs : List Attr) (name : Bytes) (s : CompactSink) where
   staged-comes false k id m b e = rw (same-user m, e)
 
   body-comes : (empty : Bool) (k : Kind) (id : ℤ) (m : MetaSoFar)
-      → comes empty k (X.stage-with byDocuments s (elementKind k) id m (X.coordinates byDocuments (elementKind k) start)) ≡ doneAs (onField (bodyFor k attrs) (λ b. begins empty (nextPlace empty k) id (metaSoFar m) b)) s
+      → comes empty k (X.begin-staged byDocuments s (elementKind k) id m (X.coordinates byDocuments (elementKind k) start)) ≡ doneAs (onField (bodyFor k attrs) (λ b. begins empty (nextPlace empty k) id (metaSoFar m) b)) s
   unfolding latitude longitude doneAs
   body-comes empty K.Way id m = staged-comes empty K.Way id m (refs []) refl
   body-comes empty K.Relation id m = staged-comes empty K.Relation id m (members []) refl
   body-comes empty K.Node id m =
       rw (← same-coordinate name attrs (ascii "lat7") 900000000, ← same-coordinate name attrs (ascii "lon7") 1800000000) (go (byDocuments .lat start) (byDocuments .lon start))
     where
-      go : (x y : Result ℤ Error) → comes empty K.Node (X.stage-with byDocuments s O.Node id m (X.then x (λ lat. X.then y (λ lon. Ok (record { lat = lat; lon = lon })))))
+      go : (x y : Result ℤ Error) → comes empty K.Node (X.begin-staged byDocuments s O.Node id m (X.then x (λ lat. X.then y (λ lon. Ok (record { lat = lat; lon = lon })))))
           ≡ doneAs (onField (andThen (fieldOf (λ a. a) x) (λ lat. andThen (fieldOf (λ a. a) y) (λ lon. got (place lat lon)))) (λ b. begins empty (nextPlace empty K.Node) id (metaSoFar m) b)) s
       go (Err e) y = failed-comes empty K.Node (X.sink-with (X.user-interned (s .overlay) (m .user)) (s .staging)) e
       go (Ok lat) (Err e) = failed-comes empty K.Node (X.sink-with (X.user-interned (s .overlay) (m .user)) (s .staging)) e

@@ -36,7 +36,7 @@ use Rattle.published.specs.Interner.{StringTable, resolve}
 use Rattle.published.specs.Compact.{Iter, Yielded, yielded, collect, collect-from}
 use Rattle.published.specs.Compact as Rust
 use Rattle.refines.specs.Overlays.{elementKind}
-use Rattle.refines.specs.Records.{tagText, memberItem, metadataOf, RecordRead}
+use Rattle.refines.specs.Records.{tagText, memberItem, metadataRead, RecordRead}
 
 -- ---- bytes and flags
 
@@ -167,7 +167,7 @@ module _ (from-utf8 : Bytes → Bool) (texts : (t : Bytes) → isText t ≡ true
         (λ t. by-either (flagged 4 flags) (eqb user 0) g (λ u. clash u t) (λ u. rw (clear-not, t, eqb-true user 0 u, empty)))
 
     meta-read : (at : ℕ) (m : Meta ℕ) (xs : List Bytes) (r : Bytes) → fitsMeta m ≡ true → legalMeta (length held) m ≡ true → Lie s at (metaBytes m ∷ xs) r
-        → Rust.read-meta strings s at ≡ some (metadataOf (swapMeta (textOf held) m))
+        → Rust.read-meta strings s at ≡ some (metadataRead (swapMeta (textOf held) m))
     unfolding Rust.read-meta bind metaBytes fitsMeta legalMeta
     meta-read at m xs r h1 g1 w =
         let h2 = both-right _ _ h1 in let h3 = both-right _ _ h2 in let h4 = both-right _ _ h3 in let h5 = both-right _ _ h4 in

@@ -164,9 +164,9 @@ module _ (o : Overlay) (r : CompactDiffOverlay) (well : (k : Kind) → WellForme
         let p : version c ≡ claimOf m = same-claim m in
         let taken : KindStore.deleted k (o .setting) s id (version c) .answer ≡ Taken = rw p e in
         let same = delete-same k (o .setting) s (fieldsOf k r) (well k) (w .kinds k) id f c (rw p narrow) taken in (
-          withFields k r (P.dropped (metaOff k) (fieldsOf k r) id c),
+          withFields k r (P.marked-deleted (metaOff k) (fieldsOf k r) id c),
           (
             rw (rust-delete, delete-ok k (o .setting) s (fieldsOf k r) (well k) (w .kinds k) id f c (delete-admitted k (o .setting) s id (version c) taken)),
-            rw (← p) (put-core k (KindStore.deleted k (o .setting) s id (version c) .kindStore) (P.dropped (metaOff k) (fieldsOf k r) id c) same),
+            rw (← p) (put-core k (KindStore.deleted k (o .setting) s id (version c) .kindStore) (P.marked-deleted (metaOff k) (fieldsOf k r) id c) same),
           ),
         )

@@ -35,7 +35,7 @@ abbrev pub answerFrom : Option ℕ → Sought
 answerFrom none = A.Nowhere
 answerFrom (some p) = A.At p
 
-abbrev pub foundFrom : Rust.Sought → Found
+abbrev pub foundFrom : Rust.SeekFound → Found
 foundFrom s = record { place = placeFrom (s .seek); answer = answerFrom (s .found) }
 
 pub record SameLookups (live deleted : List ℤ) : Type 0 where

@@ -24,7 +24,7 @@ use Rattle.compact.specs.declared.PushHead.{PushHead}
 use Rattle.published.specs.Std.{Result, Ok, ElementKind}
 use Rattle.published.specs.Std as Rust
 use Rattle.published.specs.Interner.{StringInterner, getText, resolve}
-use Rattle.published.specs.Compact.{ArenaMeta, TagPart, MemberPart, META-OFF, node-appended, way-appended, relation-appended}
+use Rattle.published.specs.Compact.{ArenaMeta, TagPart, MemberPart, META-OFF, arena-append-node, arena-append-way, arena-append-relation}
 use Rattle.published.specs.Parse.{KindFields, CompactDiffOverlay, fields-of, with-fields, push-node, push-way, push-relation, delete-kind}
 use Rattle.refines.specs.OneKind.{allowed, SameKind}
 
@@ -68,9 +68,9 @@ rustDelete k id m r = delete-kind r (elementKind k) (toZ w64 id) (arenaMeta (met
 
 -- what it appends
 abbrev pub bodyAppended : ℤ → Body ℕ → List TagPart → ArenaMeta → Bytes
-bodyAppended id (place lat lon) tags meta = node-appended id lat lon tags meta
-bodyAppended id (refs rs) tags meta = way-appended id rs tags meta
-bodyAppended id (members ms) tags meta = relation-appended id (map memberPart ms) tags meta
+bodyAppended id (place lat lon) tags meta = arena-append-node id lat lon tags meta
+bodyAppended id (refs rs) tags meta = arena-append-way id rs tags meta
+bodyAppended id (members ms) tags meta = arena-append-relation id (map memberPart ms) tags meta
 
 abbrev pub recordAppended : ℤ → Record ℕ → Bytes
 recordAppended id r = bodyAppended id (r .body) (map tagPart (r .tags)) (arenaMeta (r .meta))

@@ -18,8 +18,8 @@ abbrev pub memberItem : Member Bytes → MemberItem
 memberItem m = record { member-type = elementKind (m .type); ref-id = m .ref; role = m .role }
 
 -- "None" without flag 1; that a version was given (flag 8) it does not tell
-abbrev pub metadataOf : Meta Bytes → Option Metadata
-metadataOf m =
+abbrev pub metadataRead : Meta Bytes → Option Metadata
+metadataRead m =
     cond (flagged 1 (m .flags))
     (some (record { version = m .version; timestamp = m .timestamp; changeset = m .changeset; uid = m .uid; user = m .user; visible = not (flagged 2 (m .flags)) }))
     none
@@ -32,6 +32,6 @@ BodyRead strings s (members ms) = Rust.members strings s ≡ some (map memberIte
 
 pub record RecordRead (from-utf8 : Bytes → Bool) (strings : StringTable) (s : Bytes) (i : ℤ) (r : Record Bytes) : Type 0 where
   pub id : Rust.record-id s ≡ some i
-  pub metadata : Rust.metadata (elementKind (kindOf (r .body))) strings s ≡ some (metadataOf (r .meta))
+  pub metadata : Rust.metadata (elementKind (kindOf (r .body))) strings s ≡ some (metadataRead (r .meta))
   pub body : BodyRead strings s (r .body)
   pub tags : Rust.tags from-utf8 (elementKind (kindOf (r .body))) strings s ≡ some (map tagText (r .tags))
