@@ -40,7 +40,7 @@ going-before : (line : Bytes) (s : State) → eventOn line s .answer ≡ E.Accep
 going-before line s a =
     byEvent line s (λ u w. let z = answer-is w a in no (cc)) (λ r n u g t w. let z = answer-is w a in no (cc)) (λ r u g f w. let z = answer-is w a in no (cc)) (λ l u g f w. g)
 
-event-stopped : (line : Bytes) (s : State) → stateSound s ≡ true
+pub event-stopped : (line : Bytes) (s : State) → stateSound s ≡ true
     → isStopped (eventOn line s .state .reader .stop) ≡ either (isStopped (s .reader .stop)) (both true (not (eventTaken (eventOn line s .answer))))
 unfolding either both
 event-stopped line s e =

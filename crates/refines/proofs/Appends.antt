@@ -1,7 +1,7 @@
 -- compact.rs: what is appended for a record is the library's record bytes.
 use Prim.Native.Nat.{ℕ, zero, suc, _/_}
-use mathlib.Core.Path.{_≡_, refl}
-use mathlib.Core.List.{List, [], _∷_, _++_, map, append-assoc}
+use mathlib.Core.Path.{_≡_, refl, ap}
+use mathlib.Core.List.{List, [], _∷_, _++_, map, append-assoc, append-nil}
 use lib.IntN.{ℤ}
 use lib.ListN.{length, length-map}
 use mir.Syntax.{w32, w64}
@@ -9,9 +9,30 @@ use mir.Val.{ofZ}
 use Rattle.little.specs.Little.{le}
 use Rattle.model.specs.Record.{Meta, Member, Tag, Body, place, refs, members, Record, kindOf}
 use Rattle.compact.specs.Layout.{metaBytes, memberBytes, tagBytes, joinedBytes, headBytes, headOf, bodyBytes, partsBytes, recordBytes}
-use Rattle.published.specs.Std.{toLe}
+use Rattle.base.specs.Bytes.{Bytes}
+use Rattle.published.specs.Std.{Result, toLe}
+use Rattle.published.specs.Compact.{ArenaMeta, TagPart, arena-append-node, arena-append-way, arena-append-relation}
 use Rattle.published.specs.Compact as C
-use Rattle.refines.specs.Overlays.{arenaMeta, tagPart, memberPart, bodyAppended, recordAppended}
+use Rattle.published.specs.Parse.{CompactDiffOverlay, push-node, push-way, push-relation}
+use Rattle.refines.specs.Overlays.{arenaMeta, tagPart, memberPart, refsIn, membersIn}
+
+-- push_node, push_way or push_relation of a record
+abbrev pub pushBody : CompactDiffOverlay → ℤ → Body ℕ → List TagPart → ArenaMeta → Result CompactDiffOverlay ℤ
+pushBody o id (place lat lon) tags meta = push-node o id lat lon tags meta
+pushBody o id (refs rs) tags meta = push-way o id rs tags meta
+pushBody o id (members ms) tags meta = push-relation o id (map memberPart ms) tags meta
+
+abbrev pub pushRecord : CompactDiffOverlay → ℤ → Record ℕ → Result CompactDiffOverlay ℤ
+pushRecord o id r = pushBody o id (r .body) (map tagPart (r .tags)) (arenaMeta (r .meta))
+
+-- what it appends
+abbrev pub bodyAppended : ℤ → Body ℕ → List TagPart → ArenaMeta → Bytes
+bodyAppended id (place lat lon) tags meta = arena-append-node id lat lon tags meta
+bodyAppended id (refs rs) tags meta = arena-append-way id rs tags meta
+bodyAppended id (members ms) tags meta = arena-append-relation id (map memberPart ms) tags meta
+
+abbrev pub recordAppended : ℤ → Record ℕ → Bytes
+recordAppended id r = bodyAppended id (r .body) (map tagPart (r .tags)) (arenaMeta (r .meta))
 
 pub same-le : (n v : ℕ) → toLe n v ≡ le n v
 unfolding toLe le
@@ -53,3 +74,14 @@ body-bytes id (members ms) tags m =
 pub same-bytes : (id : ℤ) (r : Record ℕ) → recordAppended id r ≡ recordBytes id r
 unfolding recordBytes partsBytes
 same-bytes id r = body-bytes id (r .body) (r .tags) (r .meta)
+
+same-body : (b : Body ℕ) → C.refs-appended (refsIn b) ++ C.members-appended (map memberPart (membersIn b)) ≡ bodyBytes b
+unfolding bodyBytes C.refs-appended C.members-appended
+same-body (place lat lon) = refl
+same-body (refs rs) = rw (append-nil, same-refs rs)
+same-body (members ms) = same-members ms
+
+-- refs, members and tags as they lie in the parts of a direct push
+pub same-parts : (r : Record ℕ) → C.refs-appended (refsIn (r .body)) ++ C.members-appended (map memberPart (membersIn (r .body))) ++ C.append-tags (map tagPart (r .tags)) ≡ partsBytes r
+unfolding partsBytes
+same-parts r = rw (same-tags (r .tags)) (ap (λ (x : Bytes). x ++ joinedBytes tagBytes (r .tags)) (same-body (r .body)))

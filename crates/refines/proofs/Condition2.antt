@@ -1,6 +1,6 @@
 -- Condition 2: what both hold, told record by record, from what they hold byte by byte; and the theorem.
 use Prim.Native.Nat.{ℕ}
-use mathlib.Core.Path.{_≡_}
+use mathlib.Core.Path.{_≡_, refl, _∙_}
 use mathlib.Core.Bool.{Bool, true}
 use mathlib.Core.Option.{some}
 use mathlib.Core.List.{List}
@@ -13,9 +13,11 @@ use Rattle.base.proofs.Split.{byLt, both-right}
 use Rattle.kind.specs.declared.Kind.{Kind}
 use Rattle.osm_id.specs.Order.{rank}
 use Rattle.text.specs.Check.{isText}
+use Rattle.interner.specs.Texts.{textOf}
 use Rattle.interner.specs.Sound.{textsOf}
 use Rattle.interner.proofs.Interns.{length-texts}
 use Rattle.model.specs.Act.{Act}
+use Rattle.model.proofs.Swaps.{body-kind}
 use Rattle.compact.specs.Cut.{KeptRecord}
 use Rattle.compact.specs.Fits.{fitsKept}
 use Rattle.compact.specs.Legal.{legal}
@@ -30,7 +32,7 @@ use Rattle.sound.specs.Sound.{soundRow}
 use Rattle.listed.specs.declared.Side.the-variants.{Live}
 use Rattle.listed.proofs.Views.{view-is, view-bytes}
 use Rattle.listing.specs.Table.{isRank}
-use Rattle.listing.proofs.Rows.{row-starts}
+use Rattle.listing.proofs.Rows.{row-starts, record-kind}
 use Rattle.overlay.specs.Overlay.{Overlay, kindStoreOf}
 use Rattle.overlay.specs.Given.{InBytes}
 use Rattle.overlay.specs.Sound.{Sound}
@@ -51,19 +53,21 @@ use Rattle.published.specs.Parse.{CompactDiffOverlay}
 use Rattle.refines.specs.Overlays.{fieldsOf, SameTexts, SameOverlay}
 use Rattle.refines.specs.Numbers.{rustView}
 use Rattle.refines.specs.Condition2.{RecordAs, textRead, SameId, SameNumbers, SameHeld, Condition2, SameBytes}
+use Rattle.refines.specs.Domain.{noPast}
 use Rattle.refines.specs.Calls.{RustHeld, rustStarted, domain, tolds, rustAfter, rustTolds}
 use Rattle.refines.proofs.Maps.{elem-past}
 use Rattle.refines.proofs.Acts.{same-stored}
 use Rattle.refines.proofs.Directs.{well-sound}
 use Rattle.refines.proofs.ReadBack.{record-read}
 use Rattle.refines.proofs.Numbers.{by-row, data-by-id, has-same, deleted-same, ids-by-number, counts, record-by-number}
+use Rattle.refines.proofs.Empties.{empty-same}
 use Rattle.refines.proofs.Lists.{Alike, lists-agree, started-alike}
 
 module _ (from-utf8 : Bytes → Bool) (texts : (t : Bytes) → isText t ≡ true → from-utf8 t ≡ true) (refused : Bool) (o : Overlay) (acts : List (Act Bytes)) (held : List Bytes)
     (w : Reflects refused o held acts) (r : CompactDiffOverlay) (same : SameOverlay o r) (k : Kind) where
   -- the record at a place at which one starts
   place-read : (at : ℕ) (x : KeptRecord) → recordAt at (w .sound .kindStores k .whole .kept) ≡ some x
-      → RecordAs from-utf8 (r .interner .strings) (rustView (kindStoreOf k o) (viewIn (o .texts .strings) k (kindStoreOf k o) at)) (seenIn o k (viewIn (o .texts .strings) k (kindStoreOf k o) at))
+      → RecordAs k from-utf8 (r .interner .strings) (rustView (kindStoreOf k o) (viewIn (o .texts .strings) k (kindStoreOf k o) at)) (seenIn o k (viewIn (o .texts .strings) k (kindStoreOf k o) at))
   unfolding fitsKept
   place-read at x h =
       let s = kindStoreOf k o in
@@ -71,19 +75,21 @@ module _ (from-utf8 : Bytes → Bool) (texts : (t : Bytes) → isText t ≡ true
       let n = o .texts .strings in
       let f = record-passes (fitsKept k) at (v .kept) x (v .fits) h in
       let l = record-passes (λ (y : KeptRecord). legal n (y .held)) at (v .kept) x (v .legals) h in
-      rw (view-seen refused o held acts w k at x h, view-is n k (s .arena) (s .used) v at x h, view-bytes n k (s .arena) (s .used) v at x h, ← w .texts)
-      (record-read from-utf8 texts (textsOf (o .texts)) (r .interner .strings) (same .core .texts .resolves) (empty-text o (decides o (w .bytes) .1 (w .sound)) .0) (x .id) (x .held)
-      _ (both-right _ _ f) (rw (length-texts (o .texts)) l))
+      rw (view-seen refused o held acts w k at x h, view-is n k (s .arena) (s .used) v at x h, view-bytes n k (s .arena) (s .used) v at x h, ← w .texts) (
+        body-kind (textOf (textsOf (o .texts))) (x .held .body) ∙ record-kind n k s (w .sound .kindStores k) at x h,
+        record-read from-utf8 texts (textsOf (o .texts)) (r .interner .strings) (same .core .texts .resolves) (empty-text o (decides o (w .bytes) .1 (w .sound)) .0) (x .id) (x .held)
+            _ (both-right _ _ f) (rw (length-texts (o .texts)) l),
+      )
 
   -- the record of a live row
   row-read : (id : ℤ) (q : Row) → find (rank id) (rowsIn (kindStoreOf k o)) ≡ some q → isLive (q .place) ≡ true
-      → RecordAs from-utf8 (r .interner .strings) (rustView (kindStoreOf k o) (viewIn (o .texts .strings) k (kindStoreOf k o) (q .place))) (seenIn o k (viewIn (o .texts .strings) k (kindStoreOf k o) (q .place)))
+      → RecordAs k from-utf8 (r .interner .strings) (rustView (kindStoreOf k o) (viewIn (o .texts .strings) k (kindStoreOf k o) (q .place))) (seenIn o k (viewIn (o .texts .strings) k (kindStoreOf k o) (q .place)))
   row-read id q e t =
       let s = w .sound .kindStores k in
       let x = row-starts (s .whole .kept) q (find-passes (soundRow (s .whole .kept)) (rank id) (rowsIn (kindStoreOf k o)) q (s .rows) e) t in
       place-read (q .place) (x .0) (x .1 .0)
 
-  id-read : (id : ℤ) → SFits w64 id → RecordAs from-utf8 (r .interner .strings) (rustView (kindStoreOf k o) (getOn k id o)) (seenIn o k (getOn k id o))
+  id-read : (id : ℤ) → SFits w64 id → RecordAs k from-utf8 (r .interner .strings) (rustView (kindStoreOf k o) (getOn k id o)) (seenIn o k (getOn k id o))
   id-read id f =
       by-row o (w .bytes) (w .sound) r k (same .core .kinds k) id f
       (λ q e t. rw (live-view o (w .bytes) (w .sound) k id f q e t) (row-read id q e t))
@@ -98,6 +104,7 @@ module _ (from-utf8 : Bytes → Bool) (texts : (t : Bytes) → isText t ≡ true
         live = has-same o (w .bytes) (w .sound) r k s id f;
         deleted = deleted-same o (w .bytes) (w .sound) r k s id f;
         read = rw (data-by-id o (w .bytes) (w .sound) r k s id f) (id-read id f);
+        viewed = data-by-id o (w .bytes) (w .sound) r k s id f;
         floor = s .floors id f;
         known = rw (decides o (w .bytes) .1 (w .sound), same-stored k (kindStoreOf k o) (fieldsOf k r) (well-sound o (w .sound) (w .bytes) k) s id f);
       }
@@ -109,6 +116,7 @@ module _ (from-utf8 : Bytes → Bool) (texts : (t : Bytes) → isText t ≡ true
       record {
         count = counts o (w .bytes) (w .sound) (w .ranks) r k s;
         ids = ids-by-number o (w .bytes) (w .sound) (w .ranks) r k s;
+        viewed = record-by-number o (w .bytes) (w .sound) (w .ranks) r k s;
         read = λ n id e.
             rw (record-by-number o (w .bytes) (w .sound) (w .ranks) r k s n, record-get o (w .bytes) (w .sound) k (w .ranks .rows k) n id e)
             (id-read (toZ w64 id) (id-signed o (w .bytes) (w .sound) k Live (w .ranks .rows k) n id e));
@@ -130,6 +138,7 @@ module _ (from-utf8 : Bytes → Bool) (texts : (t : Bytes) → isText t ≡ true
       record {
         ids = same-id from-utf8 texts refused (l .overlay) acts held w (r .overlay) (h .overlay);
         numbers = same-numbers from-utf8 texts refused (l .overlay) acts held w (r .overlay) (h .overlay);
+        empty = empty-same (l .overlay) (w .bytes) (w .sound) (w .ranks) (r .overlay) (h .overlay .core .kinds);
         texts = text-same (l .overlay) (w .bytes) (w .sound) (r .overlay) (h .overlay .core .texts);
         handles = h .overlay .core .texts .lookup;
         setting = h .overlay .core .allows;
@@ -137,8 +146,8 @@ module _ (from-utf8 : Bytes → Bool) (texts : (t : Bytes) → isText t ≡ true
       }
 
 module _ (setting : ℕ) (o : Overlay) (ps : ℕ → Bytes) (start : Start o ps) (cs : List Ask) (given : all askFits cs ≡ true) where
-  agree : (rustTolds (rustStarted setting) (domain (started setting o ps) cs) ≡ tolds (started setting o ps) cs) × Alike (storageAfter setting o ps cs) (rustAfter (rustStarted setting) (domain (started setting o ps) cs))
-  agree = lists-agree cs (started setting o ps) (rustStarted setting) (started-alike setting o ps start) given
+  agree : (rustTolds (rustStarted setting) (domain noPast (started setting o ps) cs) ≡ tolds noPast (started setting o ps) cs) × Alike (storageAfter setting o ps cs) (rustAfter (rustStarted setting) (domain noPast (started setting o ps) cs))
+  agree = lists-agree cs noPast (started setting o ps) (rustStarted setting) (started-alike setting o ps start) (λ n. (refl, refl)) given
 
   -- Condition 2. No bound on the list, none on the readers that it names; whatever std::str::from_utf8 takes besides what is text here.
   pub condition-2 : (from-utf8 : Bytes → Bool) → ((t : Bytes) → isText t ≡ true → from-utf8 t ≡ true) → Condition2 setting o ps cs from-utf8

@@ -1,12 +1,13 @@
 -- A direct call on an overlay: `intern`, push, delete, the regression setting. Done, or refused 12, it is so on both sides, with the same left.
 use Prim.Native.Nat.{ℕ, _<_}
-use mathlib.Core.Path.{_≡_, sym, _∙_, ap, subst}
+use mathlib.Core.Path.{_≡_, refl, sym, _∙_, ap, subst}
 use mathlib.Core.Bool.{true}
-use mathlib.Core.Option.{some, Option·some-injective}
+use mathlib.Core.List.{List, [], _∷_, _++_, map, append-nil}
+use mathlib.Core.Option.{Option, none, some, Option·some-injective}
 use native.Mathlib.Omega.{arith}
 use lib.IntN.{ℤ}
 use lib.ListN.{length}
-use mir.Syntax.{w64}
+use mir.Syntax.{w32, w64}
 use mir.Val.{SFits, toZ}
 use mir.Facts.{fits-of-lt, sfits-toZ}
 use borrow.Author.Tests.{leb-true}
@@ -16,9 +17,10 @@ use Rattle.little.specs.Little.{isByte}
 use Rattle.kind.specs.declared.Kind.{Kind}
 use Rattle.kind.specs.declared.Kind.the-variants as K
 use Rattle.refusal.specs.declared.Refusal.the-variants as R
-use Rattle.model.specs.Record.{claimOf}
-use Rattle.compact.specs.Cut.{pushedRecord}
-use Rattle.compact.specs.Held.{metaOf, headIn}
+use Rattle.model.specs.Record.{Meta, Tag, Body, place, refs, members, Record, kindOf, claimOf}
+use Rattle.compact.specs.Layout.{Head}
+use Rattle.compact.specs.Cut.{Cut, found, thenCut, times, usedUp, whole, cutTag, cutBody, cutParts, pushedRecord}
+use Rattle.compact.specs.Held.{metaOf, headIn, nodeHead}
 use Rattle.compact.specs.declared.ArenaMeta.{ArenaMeta}
 use Rattle.compact.specs.declared.PushHead.{PushHead}
 use Rattle.compact.proofs.Cuts.{pushed}
@@ -45,9 +47,11 @@ use Rattle.direct.proofs.Answers.{byFault, push-store, push-taken, push-refusal
 use Rattle.direct.proofs.Keeps.{push-kept, push-sound, push-bytes, delete-sound, delete-bytes, intern-kept, intern-sound, intern-bytes, intern-kind-store, intern-setting}
 use Rattle.calls.proofs.Rows.{well-formed-sound}
 use Rattle.published.specs.Std.{Result, Ok, Err}
-use Rattle.published.specs.Parse.{CompactDiffOverlay, intern-in, handle-in, allow}
+use Rattle.published.specs.Compact.{refs-appended, members-appended, append-tags}
+use Rattle.published.specs.Parse.{CompactDiffOverlay, intern-in, handle-in, allow, delete-kind}
 use Rattle.refines.specs.OneKind.{allowed, SameKind}
-use Rattle.refines.specs.Overlays.{rustPush, rustDelete, fieldsOf, SameCore, SameOverlay}
+use Rattle.refines.specs.Overlays.{elementKind, arenaMeta, metaWords, tagPart, memberPart, refsIn, membersIn, pushHanded, rustPush, rustDelete, fieldsOf, SameCore, SameOverlay}
+use Rattle.refines.proofs.Appends.{pushRecord, same-parts}
 use Rattle.refines.proofs.Stores.{refuse-push, refuse-delete, store-pushes, store-deletes}
 use Rattle.refines.proofs.Texts.{texts-intern, handle-intern}
 
@@ -57,6 +61,53 @@ unfolding kindStoreFits
 well-sound o sound bytes k =
     well-formed-sound (o .texts .strings) k (kindStoreOf k o) (sound .kindStores k) (bytes .arenas k)
     (omega (arith, leb-true (length (kindStoreOf k o .arena)) 1048576 (both-right _ _ (both-right _ _ (sized-kind-store largest o (sound .sizes) k)))))
+
+-- ---- what is handed to the Rust
+
+-- a node's place is that of its head
+place-given : (h : Head) (m : Meta ℕ) (parts : Bytes) (x : Record ℕ) → pushedRecord K.Node h m parts ≡ some x → x .body ≡ place (h .lat) (h .lon)
+unfolding pushedRecord cutParts cutBody thenCut
+place-given h m parts x e = go (times cutTag (h .tags) parts) e
+  where
+    up : (ts : List (Tag ℕ)) (q : Bytes) → usedUp (record { meta = m; body = place (h .lat) (h .lon); tags = ts }) q ≡ some x → x .body ≡ place (h .lat) (h .lon)
+    up ts [] e = let z : record { meta = m; body = place (h .lat) (h .lon); tags = ts } ≡ x = Option·some-injective _ _ e in ap (λ (y : Record ℕ). y .body) (sym z)
+    up ts (b ∷ q) e = no cc
+
+    go : (o : Option (Cut (List (Tag ℕ)))) → whole (thenCut o (λ ts r. found (record { meta = m; body = place (h .lat) (h .lon); tags = ts }) r)) ≡ some x → x .body ≡ place (h .lat) (h .lon)
+    go none e = no cc
+    go (some c) e = up (c .item) (c .rest) e
+
+meta-words : (m : ArenaMeta) → metaWords m ≡ arenaMeta (metaOf m)
+unfolding metaOf
+meta-words m = refl
+
+body-given : (k : Kind) (h : PushHead) (m : ArenaMeta) (parts : Bytes) (x : Record ℕ) → k ≡ K.Node → pushedRecord k (headIn k h) (metaOf m) parts ≡ some x
+    → x .body ≡ place (toZ w32 (h .lat)) (toZ w32 (h .lon))
+unfolding headIn nodeHead
+body-given k h m parts x e made = place-given (headIn K.Node h) (metaOf m) parts x (rw e at made)
+
+as-record : (k : Kind) (h : PushHead) (m : ArenaMeta) (r : CompactDiffOverlay) (meta : Meta ℕ) (body : Body ℕ) (tags : List (Tag ℕ)) → kindOf body ≡ k → meta ≡ metaOf m
+    → (k ≡ K.Node → body ≡ place (toZ w32 (h .lat)) (toZ w32 (h .lon)))
+    → pushHanded k h m (some (record { meta = meta; body = body; tags = tags })) r ≡ pushRecord r (toZ w64 (h .id)) (record { meta = meta; body = body; tags = tags })
+unfolding metaOf
+as-record K.Node h m r meta body tags e q n = rw (n refl, q)
+as-record K.Way h m r meta (refs rs) tags e q n = rw q
+as-record K.Way h m r meta (place lat lon) tags e q n = no cc
+as-record K.Way h m r meta (members ms) tags e q n = no cc
+as-record K.Relation h m r meta (members ms) tags e q n = rw q
+as-record K.Relation h m r meta (place lat lon) tags e q n = no cc
+as-record K.Relation h m r meta (refs rs) tags e q n = no cc
+
+module _ (k : Kind) (h : PushHead) (m : ArenaMeta) (parts : Bytes) (b : all isByte parts ≡ true) (x : Record ℕ) (made : pushedRecord k (headIn k h) (metaOf m) parts ≡ some x) where
+  -- the parts are the bytes that the Rust appends for them
+  pub parts-handed : parts ≡ refs-appended (refsIn (x .body)) ++ members-appended (map memberPart (membersIn (x .body))) ++ append-tags (map tagPart (x .tags))
+  parts-handed = (rw append-nil at (pushed k (headIn k h) (metaOf m) parts x b made .here .is)) ∙ sym (same-parts x)
+
+  -- and the record is pushed that they make
+  handed : (r : CompactDiffOverlay) → rustPush k h m parts r ≡ pushRecord r (toZ w64 (h .id)) x
+  handed r =
+      let p = pushed k (headIn k h) (metaOf m) parts x b made in
+      rw made (as-record k h m r (x .meta) (x .body) (x .tags) (p .kind) (p .meta) (λ e. body-given k h m parts x e made))
 
 -- what is done on both sides: the Rust answers, and holds the same
 abbrev pub Does : Overlay → Result CompactDiffOverlay ℤ → Type 0
@@ -78,7 +129,7 @@ module _ (o : Overlay) (r : CompactDiffOverlay) (w : SameOverlay o r) where
         let v = store-pushes o r well (w .core) k h m parts (p .held) (id-given h f) (p .kind) (p .meta) (p .bytes) a in (
           v .0,
           (
-            rw (p .made) (v .1 .0),
+            handed k h m parts b (p .held) (p .made) r ∙ v .1 .0,
             record { sound = push-sound k h m parts o f g b (w .sound); bytes = push-bytes k h m parts o b (w .bytes); core = subst (λ (z : OverlayAfter). SameCore (z .overlay) (v .0)) (sym q) (v .1 .1) },
           ),
         )
@@ -91,7 +142,7 @@ module _ (o : Overlay) (r : CompactDiffOverlay) (w : SameOverlay o r) where
         (λ s legal a.
         let x = push-legal (o .texts .strings) (pushedRecord k (headIn k h) (metaOf m) parts) legal in
         let p = pushed k (headIn k h) (metaOf m) parts (x .0) b (x .1 .0) in
-        rw (x .1 .0) (refuse-push o r well (w .core .kinds) (w .core .allows) k (toZ w64 (h .id)) (x .0) (id-given h f) (p .kind) v
+        handed k h m parts b (x .0) (x .1 .0) r ∙ (refuse-push o r well (w .core .kinds) (w .core .allows) k (toZ w64 (h .id)) (x .0) (id-given h f) (p .kind) v
         (rw (p .meta) (push-12 k (o .setting) (kindStoreOf k o) (toZ w64 (h .id)) (claimOf (metaOf m)) (bytesOf k h m parts) v .0 a))))
 
   -- ---- delete
@@ -108,7 +159,7 @@ module _ (o : Overlay) (r : CompactDiffOverlay) (w : SameOverlay o r) where
         let v = store-deletes o r well (w .core) k (toZ w64 n) (metaOf m) deleted-fits (given-claim (metaOf m) (meta-given m g)) a in (
           v .0,
           (
-            v .1 .0,
+            ap (delete-kind r (elementKind k) (toZ w64 n)) (meta-words m) ∙ v .1 .0,
             record { sound = delete-sound k (toZ w64 n) (metaOf m) o (w .sound); bytes = delete-bytes k (toZ w64 n) (metaOf m) o (w .bytes); core = subst (λ (z : OverlayAfter). SameCore (z .overlay) (v .0)) (sym q) (v .1 .1) },
           ),
         )
@@ -117,7 +168,7 @@ module _ (o : Overlay) (r : CompactDiffOverlay) (w : SameOverlay o r) where
     delete-refuses v e =
         delete-refusal k (toZ w64 n) (metaOf m) o (R.Regression v) e
         (λ s q. no cc) (λ s l q. no cc)
-        (λ s l a. refuse-delete o r well (w .core .kinds) (w .core .allows) k (toZ w64 n) (metaOf m) deleted-fits v
+        (λ s l a. ap (delete-kind r (elementKind k) (toZ w64 n)) (meta-words m) ∙ refuse-delete o r well (w .core .kinds) (w .core .allows) k (toZ w64 n) (metaOf m) deleted-fits v
         (delete-12 k (o .setting) (kindStoreOf k o) (toZ w64 n) (claimOf (metaOf m)) v .0 a))
 
   -- ---- a text, and the setting

@@ -24,8 +24,8 @@ use Rattle.reader.specs.declared.EventAnswer.{EventAnswer}
 use Rattle.reader.specs.Table.{RefusalAt, answerBy, eventTable, endTable}
 use Rattle.reader.proofs.Tables.{event-first, end-first}
 use Rattle.calls.specs.Ask.{Ask, interns, pushes, deletes, reads, ends, allows, Storage, stateOf}
-use Rattle.refines.specs.Domain.{eventOutside, directOutside, inside, firstInside, firstAtInside, going, inDomain}
-use Rattle.refines.specs.Calls.{Told, handle, done, refused, handleTold, keptTold, answerTold, told}
+use Rattle.refines.specs.Domain.{Past, eventOutside, directOutside, insideOf, firstInside, firstAtInside, byTable, going, inDomain}
+use Rattle.refines.specs.Told.{Told, handle, done, refused, handleTold, keptTold, answerTold, told}
 
 -- the numbers outside, of an event or an end and of any other call
 abbrev pub outsideOf : Ask → List ℕ
@@ -39,7 +39,7 @@ outsideOf (allows setting) = directOutside
 abbrev pub toldInside : List ℕ → Told → Bool
 toldInside numbers (handle n) = true
 toldInside numbers done = true
-toldInside numbers (refused r) = inside numbers r
+toldInside numbers (refused number held) = insideOf numbers number
 
 kept-first : (x : Option Refusal) → firstInside x ≡ toldInside directOutside (keptTold (keptBy x))
 kept-first none = refl
@@ -53,17 +53,16 @@ answer-first : (x : Option RefusalAt) → firstAtInside x ≡ toldInside eventOu
 answer-first none = refl
 answer-first (some t) = refl
 
-pub domain-is : (c : Ask) (l : Storage) → inDomain c l ≡ both (going c l) (toldInside (outsideOf c) (told c l))
-domain-is (interns t) l = ap (both true) (ap firstInside (sym (intern-first t (l .overlay))) ∙ handle-first (internOn t (l .overlay) .answer))
-domain-is (pushes k h m parts) l =
-    ap (both true) (kept-first (firstOf (pushTable k h m parts (l .overlay))) ∙ ap (λ (x : Kept). toldInside directOutside (keptTold x)) (sym (push-first k h m parts (l .overlay))))
-domain-is (deletes k id m) l =
-    ap (both true)
-    (kept-first (firstOf (deleteTable k (toZ w64 id) (metaOf m) (l .overlay))) ∙ ap (λ (x : Kept). toldInside directOutside (keptTold x)) (sym (delete-first k (toZ w64 id) (metaOf m) (l .overlay))))
-domain-is (reads n line) l =
-    ap (both (going (reads n line) l))
-    (answer-first (firstOf (eventTable line (stateOf n l))) ∙ ap (λ (x : EventAnswer). toldInside eventOutside (answerTold x)) (sym (event-first line (stateOf n l))))
-domain-is (ends n) l =
-    ap (both (going (ends n) l)) (answer-first (firstOf (endTable (stateOf n l))) ∙ ap (λ (x : EventAnswer). toldInside eventOutside (answerTold x)) (sym (end-first (stateOf n l))))
-domain-is (allows setting) l =
-    ap (both true) (kept-first (firstOf (allowTable (l .overlay))) ∙ ap (λ (x : Kept). toldInside directOutside (keptTold x)) (sym (allow-first setting (l .overlay))))
+table-told : (c : Ask) (l : Storage) → byTable c l ≡ toldInside (outsideOf c) (told c l)
+table-told (interns t) l = ap firstInside (sym (intern-first t (l .overlay))) ∙ handle-first (internOn t (l .overlay) .answer)
+table-told (pushes k h m parts) l =
+    kept-first (firstOf (pushTable k h m parts (l .overlay))) ∙ ap (λ (x : Kept). toldInside directOutside (keptTold x)) (sym (push-first k h m parts (l .overlay)))
+table-told (deletes k id m) l =
+    kept-first (firstOf (deleteTable k (toZ w64 id) (metaOf m) (l .overlay))) ∙ ap (λ (x : Kept). toldInside directOutside (keptTold x)) (sym (delete-first k (toZ w64 id) (metaOf m) (l .overlay)))
+table-told (reads n line) l =
+    answer-first (firstOf (eventTable line (stateOf n l))) ∙ ap (λ (x : EventAnswer). toldInside eventOutside (answerTold x)) (sym (event-first line (stateOf n l)))
+table-told (ends n) l = answer-first (firstOf (endTable (stateOf n l))) ∙ ap (λ (x : EventAnswer). toldInside eventOutside (answerTold x)) (sym (end-first (stateOf n l)))
+table-told (allows setting) l = kept-first (firstOf (allowTable (l .overlay))) ∙ ap (λ (x : Kept). toldInside directOutside (keptTold x)) (sym (allow-first setting (l .overlay)))
+
+pub domain-is : (c : Ask) (p : Past) (l : Storage) → inDomain c p l ≡ both (going c p) (toldInside (outsideOf c) (told c l))
+domain-is c p l = ap (both (going c p)) (table-told c l)

@@ -33,9 +33,9 @@ use Rattle.published.specs.Parse.{CompactDiffOverlay, delete-kind}
 use Rattle.published.specs.XmlParse.{Error, BytesStart, MetaSoFar, CompactSink, Staging, Sunk, DriveState, action-for, handle-element-child, parse-tag, parse-nd, parse-member, parse-i64-attr, parse-str-attr, begin-element, handle-open, handle-close, drive-event, end-element, sunk-then, ended}
 use Rattle.published.specs.XmlParse as X
 use Rattle.refines.specs.Overlays.{elementKind}
-use Rattle.refines.specs.Driving.{refusalOf, attribute, bytesStart, byDocuments, rustEvent, action, level, driveState, RustTurn, goes, stops, turnFrom, driven}
+use Rattle.refines.specs.Driving.{attribute, bytesStart, byDocuments, rustEvent, action, level, driveState}
 use Rattle.refines.specs.Reading.{latOf, lonOf}
-use Rattle.refines.proofs.Sinks.{fieldOf, metaSoFar, doneAs, deletedAt}
+use Rattle.refines.proofs.Sinks.{refusalOf, RustTurn, goes, stops, turnFrom, driven, fieldOf, metaSoFar, doneAs, deletedAt}
 use Rattle.refines.proofs.Readers.{same-integer-field, same-text-field, same-coordinate, same-metadata, same-user, same-tag, same-nd, same-attr, field-then}
 
 -- ---- names: a name is told by the Rust as its spelling is

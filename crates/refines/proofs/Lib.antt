@@ -16,7 +16,8 @@ pub mod Directs
 pub mod ReadBack
 pub mod Built
 pub mod Numbers
+pub mod Empties
 pub mod Domains
 pub mod Lists
-pub mod Differences
 pub mod Condition2
+pub mod Differences

@@ -191,6 +191,13 @@ module _ (from-utf8 : Bytes → Bool) (texts : (t : Bytes) → isText t ≡ true
         )
         (byBool (flagged 1 (m .flags)) (λ t. rw t) (λ t. rw t))
 
+    flags-read : (at : ℕ) (m : Meta ℕ) (xs : List Bytes) (r : Bytes) → fitsMeta m ≡ true → Lie s at (metaBytes m ∷ xs) r → index s at ≡ some (m .flags)
+    unfolding metaBytes fitsMeta
+    flags-read at m xs r h w =
+        let w1 : Lie s at (le 1 (m .flags) ∷ i32 (m .version) ∷ i64 (m .timestamp) ∷ i64 (m .changeset) ∷ i32 (m .uid) ∷ u32 (m .user) ∷ xs) r =
+        record { is = simp append-assoc at (w .is); within = w .within } in
+        read-byte (m .flags) (both-left _ _ h) w1
+
     member-here : (at n : ℕ) (m : Member ℕ) (q : Bytes) → both (fitsMember m) (handle (length held) (m .role)) ≡ true → Lie s at (memberBytes m ∷ []) q
         → Rust.member-next strings s (record { offset = at; remaining = suc n }) ≡ yielded (memberItem (swapMember (textOf held) m)) (at + length (memberBytes m)) (suc n - 1)
     unfolding Rust.member-next bind memberBytes fitsMember
@@ -272,6 +279,7 @@ module _ (from-utf8 : Bytes → Bool) (texts : (t : Bytes) → isText t ≡ true
         let w6 = later 29 49 (length-meta m) refl w5 in
         record {
           id = read-i64 id (both-left _ _ h1) w1;
+          flags = flags-read 20 m _ q fm w5;
           metadata = meta-read 20 m _ q fm lm w5;
           body = (read-i32 lat (both-left _ _ h2) w2, read-i32 lon (both-left _ _ h3) w3);
           tags = rw (read-u32 (length ts) (both-right _ _ h3) w4) (tags-collected ts 49 q ft lt lk w6);
@@ -287,6 +295,7 @@ module _ (from-utf8 : Bytes → Bool) (texts : (t : Bytes) → isText t ≡ true
         let n = read-u32 (length rs) (both-left _ _ h2) w2 in
         record {
           id = read-i64 id (both-left _ _ h1) w1;
+          flags = flags-read 16 m _ q fm w4;
           metadata = meta-read 16 m _ q fm lm w4;
           body = rw n (refs-collected s rs 45 _ fb (record { is = w5 .is; within = w5 .within }));
           tags = rw (n, read-u32 (length ts) (both-right _ _ h2) w3) (tags-collected ts (45 + length rs * 8) q ft lt lk w6);
@@ -302,6 +311,7 @@ module _ (from-utf8 : Bytes → Bool) (texts : (t : Bytes) → isText t ≡ true
         let n = read-u32 (length ms) (both-left _ _ h2) w2 in
         record {
           id = read-i64 id (both-left _ _ h1) w1;
+          flags = flags-read 16 m _ q fm w4;
           metadata = meta-read 16 m _ q fm lm w4;
           body = rw n (members-collected ms 45 _ fb lb (record { is = w5 .is; within = w5 .within }));
           tags = rw (n, read-u32 (length ts) (both-right _ _ h2) w3) (tags-collected ts (45 + length ms * 13) q ft lt lk w6);

@@ -24,7 +24,7 @@ use Rattle.published.specs.XmlParse.{Error, find-attr, parse-i64-attr, parse-st
 use Rattle.published.specs.Compact as C
 use Rattle.published.specs.XmlParse as X
 use Rattle.field.specs.Field as F
-use Rattle.refines.specs.Driving as D
+use Rattle.refines.specs.Driving as Driving
 use Rattle.refines.specs.Driving.{attribute, bytesStart, byDocuments, coordinate7}
 use Rattle.refines.proofs.Sinks.{fieldOf, metaSoFar, userOf}
 
@@ -105,14 +105,14 @@ module _ (name : Bytes) (attrs : List Attr) (n : Bytes) where
   unfolding integerField textField
   same-coordinate limit = rw (same-attr attrs n) (go (valueOf n attrs))
     where
-      within : (z : ℤ) → field (D.limited limit z) ≡ F.coordinateWithin limit z
+      within : (z : ℤ) → field (Driving.limited limit z) ≡ F.coordinateWithin limit z
       within z = byBool (leb (natAbs z) limit) (λ t. rw t) (λ t. rw t)
 
-      read : (z : Option ℤ) → field (X.then (X.ok-or X.not-integer z) (D.limited limit)) ≡ andThen (F.anInteger z) (F.coordinateWithin limit)
+      read : (z : Option ℤ) → field (X.then (X.ok-or X.not-integer z) (Driving.limited limit)) ≡ andThen (F.anInteger z) (F.coordinateWithin limit)
       read none = refl
       read (some z) = within z
 
-      go : (o : Option Bytes) → field (X.then (X.then (X.ok-or X.missing-attr o) (λ v. X.ok-or X.not-integer (parse-int 31 v))) (D.limited limit))
+      go : (o : Option Bytes) → field (X.then (X.then (X.ok-or X.missing-attr o) (λ v. X.ok-or X.not-integer (parse-int 31 v))) (Driving.limited limit))
           ≡ andThen (andThen (F.required o) (λ v. F.anInteger (integerOf w32 v))) (F.coordinateWithin limit)
       go none = refl
       go (some v) = rw (same-i32 v) (read (integerOf w32 v))

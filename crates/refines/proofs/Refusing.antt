@@ -12,6 +12,7 @@ use Rattle.base.specs.Bytes.{Bytes, both, all}
 use Rattle.base.proofs.Split.{byBool, clash, no}
 use Rattle.kind.specs.declared.Kind.{Kind}
 use Rattle.kind.specs.declared.Kind.the-variants as K
+use Rattle.refusal.specs.Refusal.{numberOf}
 use Rattle.refusal.specs.declared.Refusal.{Refusal}
 use Rattle.refusal.specs.declared.Refusal.the-variants as R
 use Rattle.version_floor.specs.declared.Admit.{Admit}
@@ -45,11 +46,11 @@ use Rattle.published.specs.Parse.{CompactDiffOverlay, delete-kind}
 use Rattle.published.specs.XmlParse.{CompactSink, Staging, end-element, user-interned, user-handle}
 use Rattle.published.specs.XmlParse as X
 use Rattle.refines.specs.OneKind.{allowed, SameKind}
-use Rattle.refines.specs.Overlays.{elementKind, pushRecord, fieldsOf, SameCore}
-use Rattle.refines.specs.Domain.{eventOutside, inside}
-use Rattle.refines.specs.Driving.{RustTurn}
-use Rattle.refines.proofs.Sinks.{deletedAt, userOf, sunkAt, doneAs}
-use Rattle.refines.specs.Driving as D
+use Rattle.refines.specs.Overlays.{elementKind, fieldsOf, SameCore}
+use Rattle.refines.specs.Domain.{eventOutside, insideOf}
+use Rattle.refines.proofs.Appends.{pushRecord}
+use Rattle.refines.proofs.Sinks.{RustTurn, deletedAt, userOf, sunkAt, doneAs}
+use Rattle.refines.proofs.Sinks as D
 use Rattle.refines.specs.Reading.{stagingOf}
 use Rattle.refines.proofs.Stores.{refuse-push, refuse-delete}
 use Rattle.refines.proofs.Turns.{bare, bare-staging, meta-handled, kind-in, push-as, Ordered, stagedAt, held, stands}
@@ -69,10 +70,10 @@ allows-user r (some t) = refl
 module _ (t : RustTurn) where
   abbrev ToldOf : Step → Type 0
   ToldOf (S.goes l) = Unit {0}
-  ToldOf (S.stops x) = inside eventOutside x ≡ true → t ≡ D.stops x
+  ToldOf (S.stops x) = insideOf eventOutside (numberOf x) ≡ true → t ≡ D.stops x
 
   told-handle : (i : Interned) (f : ℕ → Step) → ((n : ℕ) → ToldOf (f n)) → ToldOf (onHandle i f)
-  unfolding inside all both
+  unfolding insideOf all both
   told-handle (I.Held n) f h = h n
   told-handle (I.New n) f h = h n
   told-handle I.Full f h = λ z. clash z refl
@@ -86,7 +87,7 @@ module _ (t : RustTurn) where
       (λ b. rw b (h 0 o (λ k. refl) refl))
 
   told-within : (b : Bool) (l : S.Advanced) → ToldOf (cond b (S.goes l) (S.stops R.TooManyParts))
-  unfolding inside all both
+  unfolding insideOf all both
   told-within true l = tt
   told-within false l = λ z. clash z refl
 
@@ -94,7 +95,7 @@ module _ (t : RustTurn) where
   told-admit Admitted x f g = g refl
   told-admit (Below v) x f g = λ z. f v refl
 
-  told-kept : (y : Kept) (x : Step) → ((r : Refusal) → y ≡ Kept.Refused r → inside eventOutside r ≡ true → t ≡ D.stops r) → ToldOf x → ToldOf (S.onKept y x)
+  told-kept : (y : Kept) (x : Step) → ((r : Refusal) → y ≡ Kept.Refused r → insideOf eventOutside (numberOf r) ≡ true → t ≡ D.stops r) → ToldOf x → ToldOf (S.onKept y x)
   told-kept Kept.Taken x f g = g
   told-kept (Kept.Refused r) x f g = f r refl
 
@@ -113,7 +114,7 @@ module _ (s : State) (g : StateGiven s) (e : stateSound s ≡ true) (well : (k :
   refused-turn p r i v x a = rw (push-as r i (x .meta) (x .body) (x .tags), a)
 
   empty-told : (p : Place) (i : ℤ) (m : Meta Bytes) (b : Body Bytes) → Lawful (s .reader .place) (begins true p i m b) → ToldOf (doneAs (begins true p i m b) k) (stepOf (begins true p i m b) s)
-  unfolding stepOf doneAs end-element inside all both
+  unfolding stepOf doneAs end-element insideOf all both
   empty-told p i m b l =
       let n = user-handle (k .overlay) (userOf m) in
       let x = bare (metaOf (bitsWithUser m n)) (bodyIn b) in
@@ -133,7 +134,7 @@ module _ (s : State) (g : StateGiven s) (e : stateSound s ≡ true) (well : (k :
       (λ t f. clash (rw t at f) refl) (λ t f. clash (rw t at f) refl)) tt))
 
   delete-told : (j : Kind) (p : Place) (i : ℤ) (m : Meta Bytes) → Lawful (s .reader .place) (deletes j p i m) → ToldOf (doneAs (deletes j p i m) k) (stepOf (deletes j p i m) s)
-  unfolding stepOf doneAs inside all both
+  unfolding stepOf doneAs insideOf all both
   delete-told j p i m l =
       let n = user-handle (k .overlay) (userOf m) in
       let cl = claim-same m (l .legal) n in
@@ -150,7 +151,7 @@ module _ (s : State) (g : StateGiven s) (e : stateSound s ≡ true) (well : (k :
       (λ t f. clash (rw t at f) refl)) tt))
 
   end-told : (p : Place) → Ordered (s .reader .place) (ends p) → ToldOf (doneAs (ends p) k) (stepOf (ends p) s)
-  unfolding stepOf doneAs end-element inside all both
+  unfolding stepOf doneAs end-element insideOf all both
   end-told p h =
       let x = s .reader .pending in
       let j = s .reader .place .kind in
@@ -177,5 +178,5 @@ module _ (s : State) (g : StateGiven s) (e : stateSound s ≡ true) (well : (k :
   told (joins p x) l h = told-handle _ (Strings.intern (s .overlay .texts) (x .role) .answer) _ (λ n. told-within _ (partWithin s 2000) _)
   told (ends p) l h = end-told p h
 
-  pub refused-told : (d : Decision) → Lawful (s .reader .place) d → Ordered (s .reader .place) d → (x : Refusal) → stepOf d s ≡ S.stops x → inside eventOutside x ≡ true → doneAs d k ≡ D.stops x
+  pub refused-told : (d : Decision) → Lawful (s .reader .place) d → Ordered (s .reader .place) d → (x : Refusal) → stepOf d s ≡ S.stops x → insideOf eventOutside (numberOf x) ≡ true → doneAs d k ≡ D.stops x
   refused-told d l h x f = subst (λ (y : Step). ToldOf (doneAs d k) y) f (told d l h)

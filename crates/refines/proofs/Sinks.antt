@@ -1,10 +1,12 @@
 -- What the library decides of an event, done by the Rust's sink.
 use mathlib.Core.Bool.{true, false, cond}
+use mathlib.Core.Path.{_≡_, refl}
 use mathlib.Core.Option.{Option, none, some}
 use mathlib.Core.List.{[]}
 use lib.IntN.{ℤ}
 use Rattle.base.specs.Bytes.{Bytes}
 use Rattle.kind.specs.Kind.{kindNumber}
+use Rattle.refusal.specs.declared.Refusal.{Refusal}
 use Rattle.refusal.specs.declared.Refusal.the-variants as R
 use Rattle.nesting.specs.declared.Place.{Place}
 use Rattle.model.specs.Record.{Meta, Body, refs, members, kindOf, flagged}
@@ -13,10 +15,39 @@ use Rattle.decision.specs.Decision.{Decision, refuses, moves, begins, deletes, 
 use Rattle.published.specs.Std.{Result, Ok, Err}
 use Rattle.published.specs.Compact.{ArenaMeta}
 use Rattle.published.specs.Parse.{CompactDiffOverlay, intern-in, handle-in, delete-kind}
-use Rattle.published.specs.XmlParse.{Error, CompactSink, Staging, Sunk, MetaSoFar, or-empty, flags-of, user-interned, user-handle, sink-with, staged, add-tag, add-ref, add-member, end-element}
+use Rattle.published.specs.XmlParse.{misplaced, outside-section, missing-attr, not-integer, bad-timestamp, bad-coordinate, unknown-member-type, version-regression, truncated, internal, Driven, Error, DriveState, Error, CompactSink, Staging, Sunk, MetaSoFar, or-empty, flags-of, user-interned, user-handle, sink-with, staged, add-tag, add-ref, add-member, end-element}
 use Rattle.refines.specs.Overlays.{elementKind}
-use Rattle.refines.specs.Driving.{refusalOf, driveState, RustTurn, goes, stops, turnFrom}
+use Rattle.refines.specs.Driving.{driveState}
+use Rattle.refines.specs.Told.{refusedTold}
+use Rattle.refines.specs.Calls.{errorTold}
 use Rattle.refines.specs.Reading.{latOf, lonOf}
+
+-- ---- the library's refusal of an error: as `errorTold` has its number
+
+abbrev pub refusalOf : Error → Refusal
+refusalOf misplaced = R.Misplaced
+refusalOf outside-section = R.OutsideSection
+refusalOf missing-attr = R.Missing
+refusalOf not-integer = R.NotInteger
+refusalOf bad-timestamp = R.NotTimestamp
+refusalOf bad-coordinate = R.CoordinateRange
+refusalOf unknown-member-type = R.MemberType
+refusalOf (version-regression v) = R.Regression v
+refusalOf truncated = R.Unfinished
+refusalOf internal = R.Unsound
+
+-- ---- what an event comes to for the Rust: it goes on, or it stops. What a refused event leaves is not looked at: the Rust may keep its user's name (DIFFERENCES D1).
+
+pub data RustTurn : Type 0 where
+  goes : DriveState → CompactSink → RustTurn
+  stops : Refusal → RustTurn
+
+abbrev pub turnFrom : DriveState → CompactSink → Result (Unit {0}) Error → RustTurn
+turnFrom d s (Ok u) = goes d s
+turnFrom d s (Err e) = stops (refusalOf e)
+
+abbrev pub driven : Driven → RustTurn
+driven x = turnFrom (x .state) (x .sink) (x .result)
 
 abbrev pub fieldOf : {A B : Type 0} → (A → B) → Result A Error → Field B
 fieldOf f (Ok a) = got (f a)
@@ -62,3 +93,16 @@ doneAs (joins p m) s =
     sunkAt p (staged (intern-in (s .overlay) (m .role)) (s .staging)
     (add-member (record { ref-id = m .ref; type-byte = kindNumber (m .type); role-id = handle-in (s .overlay) (m .role) })))
 doneAs (ends p) s = sunkAt p (end-element s)
+
+-- the numbers are the refusals'
+pub error-told : (e : Error) → errorTold e ≡ refusedTold (refusalOf e)
+error-told misplaced = refl
+error-told outside-section = refl
+error-told missing-attr = refl
+error-told not-integer = refl
+error-told bad-timestamp = refl
+error-told bad-coordinate = refl
+error-told unknown-member-type = refl
+error-told (version-regression v) = refl
+error-told truncated = refl
+error-told internal = refl

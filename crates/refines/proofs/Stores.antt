@@ -35,9 +35,9 @@ use Rattle.published.specs.Parse as P
 use Rattle.published.specs.Parse.{KindFields, CompactDiffOverlay, delete-kind}
 use Rattle.refines.specs.Same.{version}
 use Rattle.refines.specs.OneKind.{allowed, SameKind}
-use Rattle.refines.specs.Overlays.{elementKind, arenaMeta, tagPart, pushBody, pushRecord, bodyAppended, recordAppended, fieldsOf, withFields, metaOff, SameCore}
+use Rattle.refines.specs.Overlays.{elementKind, arenaMeta, tagPart, fieldsOf, withFields, metaOff, SameCore}
 use Rattle.refines.proofs.Acts.{clear-flag, push-err, push-ok, push-same, floorsLeft, delete-err, delete-ok, delete-same}
-use Rattle.refines.proofs.Appends.{same-bytes}
+use Rattle.refines.proofs.Appends.{pushBody, pushRecord, bodyAppended, recordAppended, same-bytes}
 
 -- ---- claims
 

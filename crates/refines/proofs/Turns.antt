@@ -79,9 +79,10 @@ use Rattle.published.specs.Parse.{CompactDiffOverlay, intern-in, handle-in}
 use Rattle.published.specs.XmlParse.{CompactSink, Staging, end-element, sink-with, user-interned, user-handle, push-staged, zip-tags}
 use Rattle.published.specs.XmlParse as X
 use Rattle.refines.specs.Overlays as W
-use Rattle.refines.specs.Overlays.{elementKind, arenaMeta, pushRecord, fieldsOf, SameCore}
-use Rattle.refines.specs.Driving.{driveState, goes}
-use Rattle.refines.proofs.Sinks.{userOf, metaHandled, stagingFor, begun, sunkAt, doneAs}
+use Rattle.refines.specs.Overlays.{elementKind, arenaMeta, fieldsOf, SameCore}
+use Rattle.refines.specs.Driving.{driveState}
+use Rattle.refines.proofs.Appends.{pushRecord}
+use Rattle.refines.proofs.Sinks.{goes, userOf, metaHandled, stagingFor, begun, sunkAt, doneAs}
 use Rattle.refines.specs.Reading.{stagingOf, stagedAs, ifPushed, ifOpen}
 use Rattle.refines.proofs.Stores.{store-pushes, store-deletes}
 use Rattle.refines.proofs.Texts.{texts-intern, handle-intern}

@@ -1,6 +1,6 @@
 -- Condition 2: "Equal to the Rust on every event sequence and call in document 01's domain". The library is the definitions that the contracts of its public calls cite; the Rust is crate
--- `published`; the calls of a list that lie in the domain are told by document 01's table (`inDomain`). What differs is in `Domain`, `Calls` and `Numbers`, and nowhere else: D1 in
--- `turnLeft`, D2 in `rustView`, D3 in `directOutside`, D9 and coordinates in `byDocuments`, stopped readers in `going`, lines refused 2, 3 and 4 in `onReading`.
+-- `published`; which calls of a list lie in the domain is told by document 01's table (`inDomain`). What differs stands in these places of the statement, and nowhere else: D1 in
+-- `turnLeft`, D2 in `rustView`, D3 in `directOutside`, D9 and coordinates in `byDocuments`, stopped readers in `going`, lines refused 2, 3 and 4 in `readingTold`.
 use Prim.Native.Nat.{ℕ}
 use mathlib.Core.Path.{_≡_}
 use mathlib.Core.Bool.{Bool}
@@ -12,6 +12,7 @@ use mir.Syntax.{w64}
 use mir.Val.{SFits}
 use Rattle.base.specs.Bytes.{Bytes}
 use Rattle.kind.specs.declared.Kind.{Kind}
+use Rattle.model.specs.Record.{kindOf}
 use Rattle.interner.specs.Texts.{handleOf}
 use Rattle.interner.specs.Sound.{textsOf}
 use Rattle.version_floor.specs.Version.{wordOf}
@@ -21,29 +22,30 @@ use Rattle.listed.specs.declared.Side.the-variants.{Live}
 use Rattle.listed.specs.declared.View.{View}
 use Rattle.listed.specs.declared.View.the-variants as view
 use Rattle.reading.specs.declared.Read.the-variants.{Is}
-use Rattle.reading.specs.Reading.{yes, countOn, idOn, recordOn, getOn, hasOn, isDeletedOn, knownOn, textOn}
+use Rattle.reading.specs.Reading.{yes, countOn, idOn, recordOn, getOn, hasOn, isDeletedOn, knownOn, isEmptyOn, textOn}
 use Rattle.calls.specs.Ask.{Ask, Storage, stateOf, started, storageAfter}
 use Rattle.condition.specs.Views.{Seen, absent, seen, unread, seenIn}
 use Rattle.published.specs.Std.{get}
 use Rattle.published.specs.Interner.{StringTable, resolve, getText}
-use Rattle.published.specs.Parse.{CompactDiffOverlay, get-data, has, is-deleted, stored-version}
+use Rattle.published.specs.Parse.{CompactDiffOverlay, get-data, has, is-deleted, is-empty, stored-version}
 use Rattle.published.specs.Sorted.{table-record}
 use Rattle.refines.specs.Same.{version}
 use Rattle.refines.specs.OneKind.{allowed, rowOf, floorIn}
 use Rattle.refines.specs.Overlays.{fieldsOf, metaOff, SameOverlay}
 use Rattle.refines.specs.Records.{RecordRead}
-use Rattle.refines.specs.Numbers.{sortedKind, idsOn, numbered}
+use Rattle.refines.specs.Numbers.{sortedKind, idsOn, numbered, rustView}
 use Rattle.refines.specs.Reading.{SameReader}
+use Rattle.refines.specs.Domain.{noPast}
 use Rattle.refines.specs.Calls.{RustHeld, rustStarted, domain, tolds, rustAfter, rustTolds}
 
--- a record as both sides' readers read it: none on either side, or one that the Rust's accessors and iterators read as ours do. A reader that is refused reads nothing.
-abbrev pub RecordAs : (Bytes → Bool) → StringTable → Option Bytes → Seen → Type 0
-RecordAs from-utf8 strings none absent = Unit {0}
-RecordAs from-utf8 strings (some s) (seen id r) = RecordRead from-utf8 strings s id r
-RecordAs from-utf8 strings none (seen id r) = ⊥
-RecordAs from-utf8 strings none unread = ⊥
-RecordAs from-utf8 strings (some s) absent = ⊥
-RecordAs from-utf8 strings (some s) unread = ⊥
+-- a record of a kind as both sides' readers read it: none on either side, or one that the Rust's accessors and iterators read as ours do. Ours are never refused there.
+abbrev pub RecordAs : Kind → (Bytes → Bool) → StringTable → Option Bytes → Seen → Type 0
+RecordAs k from-utf8 strings none absent = Unit {0}
+RecordAs k from-utf8 strings (some s) (seen id r) = (kindOf (r .body) ≡ k) × RecordRead from-utf8 strings s id r
+RecordAs k from-utf8 strings none (seen id r) = ⊥
+RecordAs k from-utf8 strings none unread = ⊥
+RecordAs k from-utf8 strings (some s) absent = ⊥
+RecordAs k from-utf8 strings (some s) unread = ⊥
 
 -- a text, by the call that reads one: none where 21
 abbrev pub textRead : Overlay → View → Option Bytes
@@ -58,7 +60,9 @@ module _ (from-utf8 : Bytes → Bool) (o : Overlay) (r : CompactDiffOverlay) (k 
   pub record SameId (id : ℤ) : Type 0 where
     pub live : hasOn k id o ≡ yes (has (fieldsOf k r) id)
     pub deleted : isDeletedOn k id o ≡ yes (is-deleted (fieldsOf k r) id)
-    pub read : RecordAs from-utf8 (r .interner .strings) (get-data (fieldsOf k r) id) (seenIn o k (getOn k id o))
+    pub read : RecordAs k from-utf8 (r .interner .strings) (get-data (fieldsOf k r) id) (seenIn o k (getOn k id o))
+    -- its view, where ours ends with the record (D2)
+    pub viewed : get-data (fieldsOf k r) id ≡ rustView (kindStoreOf k o) (getOn k id o)
     pub floor : version (get (fieldsOf k r .floors) id) ≡ floorIn (rowOf (kindStoreOf k o) id)
     pub known : knownOn k id o ≡ Is (wordOf (version (stored-version (metaOff k) (fieldsOf k r) id)))
 
@@ -66,11 +70,13 @@ module _ (from-utf8 : Bytes → Bool) (o : Overlay) (r : CompactDiffOverlay) (k 
   pub record SameNumbers : Type 0 where
     pub count : (side : Side) → countOn k side o ≡ Is (length (idsOn side (sortedKind k r)))
     pub ids : (side : Side) (n : ℕ) → idOn k side n o ≡ numbered (getElem? (idsOn side (sortedKind k r)) n)
-    pub read : (n id : ℕ) → idOn k Live n o ≡ Is id → RecordAs from-utf8 (r .interner .strings) (table-record (sortedKind k r) n) (seenIn o k (recordOn k n o))
+    pub viewed : (n : ℕ) → table-record (sortedKind k r) n ≡ rustView (kindStoreOf k o) (recordOn k n o)
+    pub read : (n id : ℕ) → idOn k Live n o ≡ Is id → RecordAs k from-utf8 (r .interner .strings) (table-record (sortedKind k r) n) (seenIn o k (recordOn k n o))
 
 pub record SameHeld (from-utf8 : Bytes → Bool) (l : Storage) (w : RustHeld) : Type 0 where
   pub ids : (k : Kind) (id : ℤ) → SFits w64 id → SameId from-utf8 (l .overlay) (w .overlay) k id
   pub numbers : (k : Kind) → SameNumbers from-utf8 (l .overlay) (w .overlay) k
+  pub empty : isEmptyOn (l .overlay) ≡ yes (is-empty (w .overlay))
   -- the same texts under the same handles: as they are read, and as they are found when one is taken in
   pub texts : (h : ℕ) → resolve (w .overlay .interner .strings) h ≡ textRead (l .overlay) (textOn h (l .overlay))
   pub handles : (t : Bytes) → getText (w .overlay .interner .lookup) t ≡ handleOf t (textsOf (l .overlay .texts))
@@ -86,11 +92,11 @@ module _ (setting : ℕ) (o : Overlay) (ps : ℕ → Bytes) (cs : List Ask) wher
   ours = storageAfter setting o ps cs
 
   abbrev pub rusts : RustHeld
-  rusts = rustAfter (rustStarted setting) (domain (started setting o ps) cs)
+  rusts = rustAfter (rustStarted setting) (domain noPast (started setting o ps) cs)
 
   pub record Condition2 (from-utf8 : Bytes → Bool) : Type 0 where
     -- the callers are told the same, call by call
-    pub told : rustTolds (rustStarted setting) (domain (started setting o ps) cs) ≡ tolds (started setting o ps) cs
+    pub told : rustTolds (rustStarted setting) (domain noPast (started setting o ps) cs) ≡ tolds noPast (started setting o ps) cs
     -- and after the list both hold the same
     pub same : SameHeld from-utf8 ours rusts
 

@@ -6,6 +6,7 @@ pub mod Driving
 pub mod Reading
 pub mod Lookups
 pub mod Numbers
+pub mod Told
 pub mod Domain
 pub mod Calls
 pub mod Differences

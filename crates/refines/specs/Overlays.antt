@@ -2,10 +2,10 @@
 use Prim.Native.Nat.{ℕ, _<_}
 use mathlib.Core.Path.{_≡_}
 use mathlib.Core.Option.{Option, none, some}
-use mathlib.Core.List.{List, map}
+use mathlib.Core.List.{List, [], map}
 use lib.IntN.{ℤ}
 use lib.ListN.{length}
-use mir.Syntax.{w64}
+use mir.Syntax.{w32, w64}
 use mir.Val.{toZ}
 use Rattle.base.specs.Bytes.{Bytes}
 use Rattle.kind.specs.Kind.{kindNumber}
@@ -24,7 +24,7 @@ use Rattle.compact.specs.declared.PushHead.{PushHead}
 use Rattle.published.specs.Std.{Result, Ok, ElementKind}
 use Rattle.published.specs.Std as Rust
 use Rattle.published.specs.Interner.{StringInterner, getText, resolve}
-use Rattle.published.specs.Compact.{ArenaMeta, TagPart, MemberPart, META-OFF, arena-append-node, arena-append-way, arena-append-relation}
+use Rattle.published.specs.Compact.{ArenaMeta, TagPart, MemberPart, META-OFF}
 use Rattle.published.specs.Parse.{KindFields, CompactDiffOverlay, fields-of, with-fields, push-node, push-way, push-relation, delete-kind}
 use Rattle.refines.specs.OneKind.{allowed, SameKind}
 
@@ -44,36 +44,35 @@ tagPart t = record { key-id = t .key; value = t .value }
 abbrev pub memberPart : Member ℕ → MemberPart
 memberPart m = record { ref-id = m .ref; type-byte = kindNumber (m .type); role-id = m .role }
 
--- push_node, push_way or push_relation of a record
-abbrev pub pushBody : CompactDiffOverlay → ℤ → Body ℕ → List TagPart → ArenaMeta → Result CompactDiffOverlay ℤ
-pushBody o id (place lat lon) tags meta = push-node o id lat lon tags meta
-pushBody o id (refs rs) tags meta = push-way o id rs tags meta
-pushBody o id (members ms) tags meta = push-relation o id (map memberPart ms) tags meta
+-- ---- a direct push or delete, as the Rust makes it: its numbers from the words that the caller gives; its refs, members and tags from the bytes of the parts, which are just what the
+-- Rust appends for them (`parts-handed`)
 
-abbrev pub pushRecord : CompactDiffOverlay → ℤ → Record ℕ → Result CompactDiffOverlay ℤ
-pushRecord o id r = pushBody o id (r .body) (map tagPart (r .tags)) (arenaMeta (r .meta))
+abbrev pub metaWords : Bits.ArenaMeta → ArenaMeta
+metaWords m =
+    record { flags = m .flags; version = toZ w32 (m .version); timestamp = toZ w64 (m .timestamp); changeset = toZ w64 (m .changeset); uid = toZ w32 (m .uid); user-id = m .user }
 
--- ---- a direct push or delete, as the Rust makes it
+abbrev pub refsIn : {S : Type 0} → Body S → List ℤ
+refsIn (place lat lon) = []
+refsIn (refs rs) = rs
+refsIn (members ms) = []
 
--- parts that make no record cannot be handed to the Rust; they are 17
-abbrev pub pushResult : CompactDiffOverlay → ℤ → Option (Record ℕ) → Result CompactDiffOverlay ℤ
-pushResult r id none = Ok r
-pushResult r id (some x) = pushRecord r id x
+abbrev pub membersIn : {S : Type 0} → Body S → List (Member S)
+membersIn (place lat lon) = []
+membersIn (refs rs) = []
+membersIn (members ms) = ms
+
+-- parts that are cut short, or not as many as are counted, or with a member of no type, are 17, and nothing is handed to the Rust
+abbrev pub pushHanded : Kind → PushHead → Bits.ArenaMeta → Option (Record ℕ) → CompactDiffOverlay → Result CompactDiffOverlay ℤ
+pushHanded k h m none r = Ok r
+pushHanded K.Node h m (some x) r = push-node r (toZ w64 (h .id)) (toZ w32 (h .lat)) (toZ w32 (h .lon)) (map tagPart (x .tags)) (metaWords m)
+pushHanded K.Way h m (some x) r = push-way r (toZ w64 (h .id)) (refsIn (x .body)) (map tagPart (x .tags)) (metaWords m)
+pushHanded K.Relation h m (some x) r = push-relation r (toZ w64 (h .id)) (map memberPart (membersIn (x .body))) (map tagPart (x .tags)) (metaWords m)
 
 abbrev pub rustPush : Kind → PushHead → Bits.ArenaMeta → Bytes → CompactDiffOverlay → Result CompactDiffOverlay ℤ
-rustPush k h m parts r = pushResult r (toZ w64 (h .id)) (pushedRecord k (headIn k h) (metaOf m) parts)
+rustPush k h m parts r = pushHanded k h m (pushedRecord k (headIn k h) (metaOf m) parts) r
 
 abbrev pub rustDelete : Kind → ℕ → Bits.ArenaMeta → CompactDiffOverlay → Result CompactDiffOverlay ℤ
-rustDelete k id m r = delete-kind r (elementKind k) (toZ w64 id) (arenaMeta (metaOf m))
-
--- what it appends
-abbrev pub bodyAppended : ℤ → Body ℕ → List TagPart → ArenaMeta → Bytes
-bodyAppended id (place lat lon) tags meta = arena-append-node id lat lon tags meta
-bodyAppended id (refs rs) tags meta = arena-append-way id rs tags meta
-bodyAppended id (members ms) tags meta = arena-append-relation id (map memberPart ms) tags meta
-
-abbrev pub recordAppended : ℤ → Record ℕ → Bytes
-recordAppended id r = bodyAppended id (r .body) (map tagPart (r .tags)) (arenaMeta (r .meta))
+rustDelete k id m r = delete-kind r (elementKind k) (toZ w64 id) (metaWords m)
 
 -- ---- the two sides hold the same
 

@@ -1,7 +1,7 @@
 -- A reader beside the Rust's state and staged element.
 use mathlib.Core.Path.{_≡_}
 use mathlib.Core.Option.{Option, none, some}
-use mathlib.Core.List.{List, [], map}
+use mathlib.Core.List.{map}
 use lib.IntN.{ℤ, pos}
 use mir.Syntax.{w64}
 use mir.Val.{toZ}
@@ -10,10 +10,10 @@ use Rattle.nesting.specs.declared.Action.{Action}
 use Rattle.nesting.specs.declared.Action.the-variants as A
 use Rattle.nesting.specs.declared.Level.{Level}
 use Rattle.nesting.specs.declared.Level.the-variants as L
-use Rattle.model.specs.Record.{Member, Tag, Body, place, refs, members, Record, kindOf}
+use Rattle.model.specs.Record.{Tag, Body, place, refs, members, Record, kindOf}
 use Rattle.reader.specs.State.{State, pendingRecord}
 use Rattle.published.specs.XmlParse.{DriveState, Staging}
-use Rattle.refines.specs.Overlays.{elementKind, arenaMeta, memberPart}
+use Rattle.refines.specs.Overlays.{elementKind, arenaMeta, memberPart, refsIn, membersIn}
 use Rattle.refines.specs.Driving.{driveState}
 
 -- a node's place, and 0 of the others: let (lat, lon) = if kind == ElementKind::Node { .. } else { (0, 0) };
@@ -26,16 +26,6 @@ abbrev pub lonOf : {S : Type 0} → Body S → ℤ
 lonOf (place lat lon) = lon
 lonOf (refs rs) = pos 0
 lonOf (members ms) = pos 0
-
-abbrev pub refsIn : Body ℕ → List ℤ
-refsIn (place lat lon) = []
-refsIn (refs rs) = rs
-refsIn (members ms) = []
-
-abbrev pub membersIn : Body ℕ → List (Member ℕ)
-membersIn (place lat lon) = []
-membersIn (refs rs) = []
-membersIn (members ms) = ms
 
 -- the element that is being put together, as the Rust holds it
 abbrev pub stagingOf : ℤ → Record ℕ → Staging
