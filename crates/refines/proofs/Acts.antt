@@ -42,7 +42,7 @@ use Rattle.published.specs.Compact as C
 use Rattle.published.specs.Parse as P
 use Rattle.published.specs.Parse.{KindFields}
 use Rattle.refines.specs.Same.{version, admission}
-use Rattle.refines.specs.OneKind.{allowed, rowOf, floorIn, keyed, once, SameKind}
+use Rattle.refines.specs.OneKind.{allowed, rowOf, floorIn, keyed, once, SameFields}
 use Rattle.refines.specs.Overlays.{metaOff}
 use Rattle.refines.proofs.Versions.{same-admit, same-max}
 use Rattle.refines.proofs.Keyed.{keyed-remove, keyed-insert, once-remove, once-insert}
@@ -102,7 +102,7 @@ same-max-or (some a) (some b) = same-max a b
 
 -- ---- the stored version is the known version
 
-module _ (k : Kind) (s : KindStore) (r : KindFields) (well : WellFormed k s) (same : SameKind s r) (id : ℤ) (fits : SFits w64 id) where
+module _ (k : Kind) (s : KindStore) (r : KindFields) (well : WellFormed k s) (same : SameFields s r) (id : ℤ) (fits : SFits w64 id) where
   pub same-stored : version (P.stored-version (metaOff k) r id) ≡ knownVersion k s id
   unfolding P.stored-version knownOf liveVersion
   same-stored =
@@ -174,7 +174,7 @@ raised-own floors id (some a) (some b) h =
 
 -- ---- the row of an id set on one side, its entries on the other
 
-module _ (s t : KindStore) (r q : KindFields) (id : ℤ) (place floor : ℕ) (fits : SFits w64 id) (laid : Laid s id place floor t) (same : SameKind s r) where
+module _ (s t : KindStore) (r q : KindFields) (id : ℤ) (place floor : ℕ) (fits : SFits w64 id) (laid : Laid s id place floor t) (same : SameFields s r) where
   row-own : rowOf t id ≡ some (record { rank = rank id; place = place; floor = floor })
   row-own = rw (laid .rows) (find-put-same (record { rank = rank id; place = place; floor = floor }) (rowsIn s))
 
@@ -185,7 +185,7 @@ module _ (s t : KindStore) (r q : KindFields) (id : ℤ) (place floor : ℕ) (fi
       → get (q .index) id ≡ cond (isLive place) (some place) none → ((j : ℤ) → (j ≡ id → ⊥) → get (q .index) j ≡ get (r .index) j)
       → contains (q .deleted) id ≡ cond (isLive place) false true → ((j : ℤ) → (j ≡ id → ⊥) → contains (q .deleted) j ≡ contains (r .deleted) j)
       → version (get (q .floors) id) ≡ ofWord floor → ((j : ℤ) → (j ≡ id → ⊥) → get (q .floors) j ≡ get (r .floors) j)
-      → keyed (q .index) ≡ true → once (q .deleted) ≡ true → SameKind t q
+      → keyed (q .index) ≡ true → once (q .deleted) ≡ true → SameFields t q
   same-laid a l o os d ds f fs x y =
       record {
         arena = a;
@@ -203,7 +203,7 @@ not-live : isLive gone ≡ false
 unfolding isLive
 not-live = refl
 
-module _ (k : Kind) (setting : ℕ) (s : KindStore) (r : KindFields) (well : WellFormed k s) (same : SameKind s r) (id : ℤ) (fits : SFits w64 id) where
+module _ (k : Kind) (setting : ℕ) (s : KindStore) (r : KindFields) (well : WellFormed k s) (same : SameFields s r) (id : ℤ) (fits : SFits w64 id) where
   -- the check answers the same
   check-below : (x v : ℤ) → checked setting (knownVersion k s id) (Is x) ≡ Below v → P.check-version-advance (allowed setting) (metaOff k) r id x ≡ Err v
   unfolding P.check-version-advance checked
@@ -255,7 +255,7 @@ module _ (k : Kind) (setting : ℕ) (s : KindStore) (r : KindFields) (well : Wel
     floors-other none j n = byBool (eqb setting 0) (λ t. rw t (raised-other (r .floors) id j (P.stored-version (metaOff k) r id) none n)) (λ t. rw t)
 
     pub push-same : (c : Option ℤ) → pushed k setting s id (version c) bytes .answer ≡ Taken
-        → SameKind (pushed k setting s id (version c) bytes .kindStore) (P.appended r (floorsLeft c) id bytes)
+        → SameFields (pushed k setting s id (version c) bytes .kindStore) (P.appended r (floorsLeft c) id bytes)
     unfolding isLive
     push-same c e =
         let t = pushed k setting s id (version c) bytes .kindStore in
@@ -285,7 +285,7 @@ module _ (k : Kind) (setting : ℕ) (s : KindStore) (r : KindFields) (well : Wel
   delete-ok (some x) e = rw (check-taken x e)
 
   pub delete-same : (c : Option ℤ) → Narrow (version c) → deleted k setting s id (version c) .answer ≡ Taken
-      → SameKind (deleted k setting s id (version c) .kindStore) (P.marked-deleted (metaOff k) r id c)
+      → SameFields (deleted k setting s id (version c) .kindStore) (P.marked-deleted (metaOff k) r id c)
   delete-same c narrow e =
       let t = deleted k setting s id (version c) .kindStore in
       let u : t .used ≡ s .used = delete-used k setting s id (version c) well e in

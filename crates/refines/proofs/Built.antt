@@ -32,7 +32,7 @@ use Rattle.published.specs.Std.{is-lt, Entry, HashMap, get, HashSet, contains}
 use Rattle.published.specs.OsmId.{osm-id-cmp}
 use Rattle.published.specs.Parse.{KindFields, is-some}
 use Rattle.published.specs.Sorted.{put-sorted, sort-by-id, build, kind-sorted}
-use Rattle.refines.specs.OneKind.{offsetIn, deletedIn, keyed, once, SameKind}
+use Rattle.refines.specs.OneKind.{offsetIn, deletedIn, keyed, once, SameFields}
 use Rattle.refines.proofs.Lookups.{lt-id}
 use Rattle.refines.proofs.Maps.{eq-self, eq-no, byId}
 use Rattle.refines.proofs.Keyed.{tested-fits}
@@ -209,7 +209,7 @@ placed q = record { rank = q .rank; place = q .place; floor = 0 }
 abbrev named : Row → Row
 named q = record { rank = q .rank; place = 0; floor = 0 }
 
-module _ (s : KindStore) (r : KindFields) (same : SameKind s r) (rises : rising (rowsIn s) ≡ true) (ranks : all isRank (rowsIn s) ≡ true) where
+module _ (s : KindStore) (r : KindFields) (same : SameFields s r) (rises : rising (rowsIn s) ≡ true) (ranks : all isRank (rowsIn s) ≡ true) where
   rows-past : (j : ℕ) → 2 ^ 64 ≤ j → find j (rowsIn s) ≡ none
   unfolding isRank
   rows-past j l = go (find j (rowsIn s)) refl

@@ -49,7 +49,7 @@ use Rattle.calls.proofs.Rows.{well-formed-sound}
 use Rattle.published.specs.Std.{Result, Ok, Err}
 use Rattle.published.specs.Compact.{refs-appended, members-appended, append-tags}
 use Rattle.published.specs.Parse.{CompactDiffOverlay, intern-in, handle-in, allow, delete-kind}
-use Rattle.refines.specs.OneKind.{allowed, SameKind}
+use Rattle.refines.specs.OneKind.{allowed, SameFields}
 use Rattle.refines.specs.Overlays.{elementKind, arenaMeta, metaWords, tagPart, memberPart, refsIn, membersIn, pushHanded, rustPush, rustDelete, fieldsOf, SameCore, SameOverlay}
 use Rattle.refines.proofs.Appends.{pushRecord, same-parts}
 use Rattle.refines.proofs.Stores.{refuse-push, refuse-delete, store-pushes, store-deletes}
@@ -190,7 +190,7 @@ module _ (o : Overlay) (r : CompactDiffOverlay) (w : SameOverlay o r) where
         },
       )
     where
-      left : (k : Kind) → SameKind (kindStoreOf k o) (fieldsOf k (intern-in r t))
+      left : (k : Kind) → SameFields (kindStoreOf k o) (fieldsOf k (intern-in r t))
       left K.Node = w .core .kinds K.Node
       left K.Way = w .core .kinds K.Way
       left K.Relation = w .core .kinds K.Relation
@@ -204,7 +204,7 @@ module _ (o : Overlay) (r : CompactDiffOverlay) (w : SameOverlay o r) where
         core = record { kinds = λ k. rw (after, setting-kind-store k setting o) (left k); texts = rw after (w .core .texts); allows = rw after };
       }
     where
-      left : (k : Kind) → SameKind (kindStoreOf k o) (fieldsOf k (allow r (allowed setting)))
+      left : (k : Kind) → SameFields (kindStoreOf k o) (fieldsOf k (allow r (allowed setting)))
       left K.Node = w .core .kinds K.Node
       left K.Way = w .core .kinds K.Way
       left K.Relation = w .core .kinds K.Relation

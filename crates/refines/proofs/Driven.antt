@@ -34,7 +34,7 @@ use Rattle.published.specs.XmlParse.{Error, BytesStart, MetaSoFar, CompactSink,
 use Rattle.published.specs.XmlParse as X
 use Rattle.refines.specs.Overlays.{elementKind}
 use Rattle.refines.specs.Driving.{attribute, bytesStart, byDocuments, rustEvent, action, level, driveState}
-use Rattle.refines.specs.Reading.{latOf, lonOf}
+use Rattle.refines.specs.Staged.{latOf, lonOf}
 use Rattle.refines.proofs.Sinks.{refusalOf, RustTurn, goes, stops, turnFrom, driven, fieldOf, metaSoFar, doneAs, deletedAt}
 use Rattle.refines.proofs.Readers.{same-integer-field, same-text-field, same-coordinate, same-metadata, same-user, same-tag, same-nd, same-attr, field-then}
 

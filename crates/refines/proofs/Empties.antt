@@ -23,7 +23,7 @@ use Rattle.published.specs.Std.{is-lt, Entry}
 use Rattle.published.specs.OsmId.{osm-id-cmp}
 use Rattle.published.specs.Parse.{KindFields, CompactDiffOverlay, no-entries, no-ids, is-empty}
 use Rattle.published.specs.Sorted.{put-sorted, sort-by-id, build, kind-sorted, into-sorted}
-use Rattle.refines.specs.OneKind.{SameKind}
+use Rattle.refines.specs.OneKind.{SameFields}
 use Rattle.refines.specs.Overlays.{fieldsOf}
 use Rattle.refines.specs.Numbers.{sortedKind, idsOn}
 use Rattle.refines.proofs.Numbers.{counts}
@@ -67,7 +67,7 @@ sorted-length K.Node r = rw (live-length (r .nodes), deleted-length (r .nodes))
 sorted-length K.Way r = rw (live-length (r .ways), deleted-length (r .ways))
 sorted-length K.Relation r = rw (live-length (r .relations), deleted-length (r .relations))
 
-kind-empty : (o : Overlay) → InBytes o → Sound o → Ranked o → (r : CompactDiffOverlay) (k : Kind) → SameKind (kindStoreOf k o) (fieldsOf k r)
+kind-empty : (o : Overlay) → InBytes o → Sound o → Ranked o → (r : CompactDiffOverlay) (k : Kind) → SameFields (kindStoreOf k o) (fieldsOf k r)
     → eqb (kindStoreOf k o .ids) 0 ≡ no-ids (fieldsOf k r)
 kind-empty o b w ranks r k same =
     let all = counts-all o b w k _ _ (counts o b w ranks r k same Live) (counts o b w ranks r k same Deleted) in
@@ -75,7 +75,7 @@ kind-empty o b w ranks r k same =
 
 -- ---- fn is_empty(&self) -> bool
 
-pub empty-same : (o : Overlay) → InBytes o → Sound o → Ranked o → (r : CompactDiffOverlay) → ((k : Kind) → SameKind (kindStoreOf k o) (fieldsOf k r)) → isEmptyOn o ≡ yes (is-empty r)
+pub empty-same : (o : Overlay) → InBytes o → Sound o → Ranked o → (r : CompactDiffOverlay) → ((k : Kind) → SameFields (kindStoreOf k o) (fieldsOf k r)) → isEmptyOn o ≡ yes (is-empty r)
 unfolding isEmptyOn noIds is-empty
 empty-same o b w ranks r same =
     let empty : (k : Kind) → eqb (kindStoreOf k o .ids) 0 ≡ no-ids (fieldsOf k r) = λ k. kind-empty o b w ranks r k (same k) in

@@ -70,13 +70,13 @@ use Rattle.published.specs.Parse.{CompactDiffOverlay}
 use Rattle.published.specs.Parse as Parse
 use Rattle.published.specs.XmlParse.{Error, CompactSink, Staging, DriveState, sink-with, end-test}
 use Rattle.published.specs.XmlParse as X
-use Rattle.refines.specs.OneKind.{SameKind, keyed, once}
+use Rattle.refines.specs.OneKind.{SameFields, keyed, once}
 use Rattle.refines.specs.Overlays.{fieldsOf, SameOverlay}
 use Rattle.refines.specs.Driving.{driveState}
 use Rattle.refines.proofs.Sinks.{RustTurn, turnFrom, driven, error-told, doneAs}
 use Rattle.refines.specs.Driving as Driving
 use Rattle.refines.proofs.Sinks as D
-use Rattle.refines.specs.Reading.{SameReader}
+use Rattle.refines.specs.Staged.{SameReader}
 use Rattle.refines.specs.Domain.{Past, eventPast, pastAfter, eventOutside, directOutside, insideOf, readerGoing, going, inDomain}
 use Rattle.refines.specs.Told.{Told, handle, done, refused, refusedTold, handleTold, keptTold, answerTold, told}
 use Rattle.refines.specs.Calls.{RustHeld, rustStarted, withRust, unitTold, driverTurn, readingTold, readingLeft, turnLeft, rustTold, rustLeaves, domain, tolds, rustAfter, rustTolds}
@@ -465,7 +465,7 @@ lists-agree (c ∷ cs) p l w h v f =
 
 -- ---- the start
 
-empty-kind : (s : KindStore) → SameKind (emptied s) Parse.no-fields
+empty-kind : (s : KindStore) → SameFields (emptied s) Parse.no-fields
 unfolding get contains rowsOf rowsFrom find keyed once
 empty-kind s = record { arena = refl; within = omega arith; offsets = λ id f. refl; deleted = λ id f. refl; floors = λ id f. refl; index-keyed = refl; deleted-once = refl }
 
@@ -479,7 +479,7 @@ started-alike setting o ps start =
       readers = λ n. record { state = refl; staged = refl };
     }
   where
-    kinds : (k : Kind) → SameKind (kindStoreOf k (empty setting o)) (fieldsOf k (rustStarted setting .overlay))
+    kinds : (k : Kind) → SameFields (kindStoreOf k (empty setting o)) (fieldsOf k (rustStarted setting .overlay))
     kinds K.Node = empty-kind (o .nodes)
     kinds K.Way = empty-kind (o .ways)
     kinds K.Relation = empty-kind (o .relations)

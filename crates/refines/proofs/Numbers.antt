@@ -47,7 +47,7 @@ use Rattle.reading.proofs.Numbers.{count-is, record-row, record-missing}
 use Rattle.published.specs.Std.{slice-from}
 use Rattle.published.specs.Parse.{CompactDiffOverlay, get-data, has, is-deleted}
 use Rattle.published.specs.Sorted.{into-sorted, kind-sorted, table-record}
-use Rattle.refines.specs.OneKind.{SameKind}
+use Rattle.refines.specs.OneKind.{SameFields}
 use Rattle.refines.specs.Overlays.{fieldsOf}
 use Rattle.refines.specs.Numbers.{sortedKind, idsOn, numbered, toArenaEnd, rustView}
 use Rattle.refines.proofs.Maps.{elem-past}
@@ -94,7 +94,7 @@ row-viewed strings k s w n q e t =
     ∙ rw (le-leb (x .place) (length (take (s .used) (s .arena))) (omega arith)) (ap some (sym (runs-on (x .place) (length (keptBytes (x .held))) s (omega arith))))
     ∙ sym (ap (rustView s) (x .is))
 
-module _ (o : Overlay) (b : InBytes o) (w : Sound o) (ranks : Ranked o) (r : CompactDiffOverlay) (k : Kind) (same : SameKind (kindStoreOf k o) (fieldsOf k r)) where
+module _ (o : Overlay) (b : InBytes o) (w : Sound o) (ranks : Ranked o) (r : CompactDiffOverlay) (k : Kind) (same : SameFields (kindStoreOf k o) (fieldsOf k r)) where
   tested : isSound o ≡ true
   tested = decides o b .1 w
 
@@ -156,7 +156,7 @@ module _ (o : Overlay) (b : InBytes o) (w : Sound o) (ranks : Ranked o) (r : Com
 
 -- ---- by id
 
-module _ (o : Overlay) (b : InBytes o) (w : Sound o) (r : CompactDiffOverlay) (k : Kind) (same : SameKind (kindStoreOf k o) (fieldsOf k r)) (id : ℤ) (f : SFits w64 id) where
+module _ (o : Overlay) (b : InBytes o) (w : Sound o) (r : CompactDiffOverlay) (k : Kind) (same : SameFields (kindStoreOf k o) (fieldsOf k r)) (id : ℤ) (f : SFits w64 id) where
   -- an id is live, or deleted, or not known
   pub by-row : {C : Type 0} → ((q : Row) → find (rank id) (rowsIn (kindStoreOf k o)) ≡ some q → isLive (q .place) ≡ true → C)
       → ((q : Row) → find (rank id) (rowsIn (kindStoreOf k o)) ≡ some q → isLive (q .place) ≡ false → C) → (find (rank id) (rowsIn (kindStoreOf k o)) ≡ none → C) → C

@@ -45,13 +45,13 @@ use Rattle.published.specs.Std.{Err}
 use Rattle.published.specs.Parse.{CompactDiffOverlay, delete-kind}
 use Rattle.published.specs.XmlParse.{CompactSink, Staging, end-element, user-interned, user-handle}
 use Rattle.published.specs.XmlParse as X
-use Rattle.refines.specs.OneKind.{allowed, SameKind}
+use Rattle.refines.specs.OneKind.{allowed, SameFields}
 use Rattle.refines.specs.Overlays.{elementKind, fieldsOf, SameCore}
 use Rattle.refines.specs.Domain.{eventOutside, insideOf}
 use Rattle.refines.proofs.Appends.{pushRecord}
 use Rattle.refines.proofs.Sinks.{RustTurn, deletedAt, userOf, sunkAt, doneAs}
 use Rattle.refines.proofs.Sinks as D
-use Rattle.refines.specs.Reading.{stagingOf}
+use Rattle.refines.specs.Staged.{stagingOf}
 use Rattle.refines.proofs.Stores.{refuse-push, refuse-delete}
 use Rattle.refines.proofs.Turns.{bare, bare-staging, meta-handled, kind-in, push-as, Ordered, stagedAt, held, stands}
 
@@ -103,7 +103,7 @@ module _ (t : RustTurn) where
 
 module _ (s : State) (g : StateGiven s) (e : stateSound s ≡ true) (well : (k : Kind) → WellFormed k (kindStoreOf k (s .overlay)))
     (k : CompactSink) (w : SameCore (s .overlay) (k .overlay)) (st : k .staging ≡ stagedAt (s .reader .place) (s .reader .pending) (s .parts)) where
-  user-kinds : (u : Option Bytes) (j : Kind) → SameKind (kindStoreOf j (s .overlay)) (fieldsOf j (user-interned (k .overlay) u))
+  user-kinds : (u : Option Bytes) (j : Kind) → SameFields (kindStoreOf j (s .overlay)) (fieldsOf j (user-interned (k .overlay) u))
   user-kinds u j = rw (fields-user (k .overlay) u j) (w .kinds j)
 
   user-allows : (u : Option Bytes) → user-interned (k .overlay) u .allow-version-regression ≡ allowed (s .overlay .setting)

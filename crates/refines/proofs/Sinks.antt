@@ -20,7 +20,7 @@ use Rattle.refines.specs.Overlays.{elementKind}
 use Rattle.refines.specs.Driving.{driveState}
 use Rattle.refines.specs.Told.{refusedTold}
 use Rattle.refines.specs.Calls.{errorTold}
-use Rattle.refines.specs.Reading.{latOf, lonOf}
+use Rattle.refines.specs.Staged.{latOf, lonOf}
 
 -- ---- the library's refusal of an error: as `errorTold` has its number
 

@@ -34,7 +34,7 @@ use Rattle.published.specs.Compact as C
 use Rattle.published.specs.Parse as P
 use Rattle.published.specs.Parse.{KindFields, CompactDiffOverlay, delete-kind}
 use Rattle.refines.specs.Same.{version}
-use Rattle.refines.specs.OneKind.{allowed, SameKind}
+use Rattle.refines.specs.OneKind.{allowed, SameFields}
 use Rattle.refines.specs.Overlays.{elementKind, arenaMeta, tagPart, fieldsOf, withFields, metaOff, SameCore}
 use Rattle.refines.proofs.Acts.{clear-flag, push-err, push-ok, push-same, floorsLeft, delete-err, delete-ok, delete-same}
 use Rattle.refines.proofs.Appends.{pushBody, pushRecord, bodyAppended, recordAppended, same-bytes}
@@ -94,7 +94,7 @@ fields-rest K.Relation r s = (refl, refl)
 
 -- ---- a regression, whatever texts are held
 
-module _ (o : Overlay) (r : CompactDiffOverlay) (well : (k : Kind) → WellFormed k (kindStoreOf k o)) (kinds : (k : Kind) → SameKind (kindStoreOf k o) (fieldsOf k r)) (allows : r .allow-version-regression ≡ allowed (o .setting)) where
+module _ (o : Overlay) (r : CompactDiffOverlay) (well : (k : Kind) → WellFormed k (kindStoreOf k o)) (kinds : (k : Kind) → SameFields (kindStoreOf k o) (fieldsOf k r)) (allows : r .allow-version-regression ≡ allowed (o .setting)) where
   pub refuse-push : (k : Kind) (id : ℤ) (x : Record ℕ) → SFits w64 id → kindOf (x .body) ≡ k → (v : ℤ) → checked (o .setting) (knownVersion k (kindStoreOf k o) id) (claimOf (x .meta)) ≡ Below v → pushRecord r id x ≡ Err v
   unfolding P.push
   refuse-push k id x f kind v e =
@@ -115,7 +115,7 @@ module _ (o : Overlay) (r : CompactDiffOverlay) (well : (k : Kind) → WellForme
 -- ---- an act that is taken
 
 module _ (o : Overlay) (r : CompactDiffOverlay) (well : (k : Kind) → WellFormed k (kindStoreOf k o)) (w : SameCore o r) where
-  put-core : (k : Kind) (t : KindStore) (s : KindFields) → SameKind t s → SameCore (withKindStore k t o) (withFields k r s)
+  put-core : (k : Kind) (t : KindStore) (s : KindFields) → SameFields t s → SameCore (withKindStore k t o) (withFields k r s)
   put-core k t s same =
       record {
         kinds = λ j. byKind j k (λ e. rw (e, fields-same k r s, kind-store-same k t o) same) (λ n. rw (kind-store-other j k t o n, fields-other j k r s n) (w .kinds j));

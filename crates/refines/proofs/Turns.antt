@@ -83,7 +83,7 @@ use Rattle.refines.specs.Overlays.{elementKind, arenaMeta, fieldsOf, Sam
 use Rattle.refines.specs.Driving.{driveState}
 use Rattle.refines.proofs.Appends.{pushRecord}
 use Rattle.refines.proofs.Sinks.{goes, userOf, metaHandled, stagingFor, begun, sunkAt, doneAs}
-use Rattle.refines.specs.Reading.{stagingOf, stagedAs, ifPushed, ifOpen}
+use Rattle.refines.specs.Staged.{stagingOf, stagedAs, ifPushed, ifOpen}
 use Rattle.refines.proofs.Stores.{store-pushes, store-deletes}
 use Rattle.refines.proofs.Texts.{texts-intern, handle-intern}
 

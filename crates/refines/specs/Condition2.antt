@@ -34,7 +34,7 @@ use Rattle.refines.specs.OneKind.{allowed, rowOf, floorIn}
 use Rattle.refines.specs.Overlays.{fieldsOf, metaOff, SameOverlay}
 use Rattle.refines.specs.Records.{RecordRead}
 use Rattle.refines.specs.Numbers.{sortedKind, idsOn, numbered, rustView}
-use Rattle.refines.specs.Reading.{SameReader}
+use Rattle.refines.specs.Staged.{SameReader}
 use Rattle.refines.specs.Domain.{noPast}
 use Rattle.refines.specs.Calls.{RustHeld, rustStarted, domain, tolds, rustAfter, rustTolds}
 

@@ -3,7 +3,7 @@ pub mod OneKind
 pub mod Overlays
 pub mod Records
 pub mod Driving
-pub mod Reading
+pub mod Staged
 pub mod Lookups
 pub mod Numbers
 pub mod Told

@@ -51,7 +51,7 @@ unfoldable pub once : HashSet → Bool
 once [] = true
 once (x ∷ s) = both (fitsSigned w64 x) (both (not (contains s x)) (once s))
 
-pub record SameKind (s : KindStore) (r : KindFields) : Type 0 where
+pub record SameFields (s : KindStore) (r : KindFields) : Type 0 where
   pub arena : r .arena ≡ take (s .used) (s .arena)
   pub within : s .used ≤ length (s .arena)
   pub offsets : (id : ℤ) → SFits w64 id → get (r .index) id ≡ offsetIn (rowOf s id)

@@ -26,7 +26,7 @@ use Rattle.published.specs.Std as Rust
 use Rattle.published.specs.Interner.{StringInterner, getText, resolve}
 use Rattle.published.specs.Compact.{ArenaMeta, TagPart, MemberPart, META-OFF}
 use Rattle.published.specs.Parse.{KindFields, CompactDiffOverlay, fields-of, with-fields, push-node, push-way, push-relation, delete-kind}
-use Rattle.refines.specs.OneKind.{allowed, SameKind}
+use Rattle.refines.specs.OneKind.{allowed, SameFields}
 
 -- ---- what a caller hands to the Rust: the same values in its own types
 
@@ -92,7 +92,7 @@ pub record SameTexts (held : List Bytes) (i : StringInterner) : Type 0 where
 
 -- kinds, texts and setting
 pub record SameCore (o : Overlay) (r : CompactDiffOverlay) : Type 0 where
-  pub kinds : (k : Kind) → SameKind (kindStoreOf k o) (fieldsOf k r)
+  pub kinds : (k : Kind) → SameFields (kindStoreOf k o) (fieldsOf k r)
   pub texts : SameTexts (textsOf (o .texts)) (r .interner)
   pub allows : r .allow-version-regression ≡ allowed (o .setting)
 
