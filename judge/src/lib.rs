@@ -15,6 +15,8 @@ pub use answer::*;
 pub use commands::parse_rfc3339_utc;
 pub use fixed_list::{fixed_list, fixed_questions};
 
+pub use osc::definitions;
+
 pub mod compare;
 pub mod produce;
 pub mod random;

@@ -20,3 +20,6 @@ include!(concat!(env!("OUT_DIR"), "/osc_modules.rs"));
 
 /// Calls that the published files keep to the `osc` module.
 pub(crate) mod direct;
+
+/// Answers as equations about the definitions of the crate `published`.
+pub mod definitions;

@@ -20,7 +20,7 @@ fn elements(tails: &[&str]) -> Vec<Bytes> {
 }
 
 /// Thirteen names with good fields.
-const GOOD: [&str; 13] = [
+pub(crate) const GOOD: [&str; 13] = [
     "osmChange",
     "create",
     "modify",
@@ -255,7 +255,7 @@ impl Documents {
         let known = self.given.get(&(kind, id)).copied();
         let version = match (self.random.below(30), known) {
             (0, _) => *self.random.pick(&[i32::MIN, i32::MAX, -1, 0]),
-            (1..=3, Some(v)) if self.style.damage > 0 => v.saturating_sub(1),
+            (1..=8, Some(v)) if self.style.damage > 0 => v.saturating_sub(1),
             (_, Some(v)) => v.saturating_add(self.random.below(3) as i32),
             (_, None) => self.random.below(7) as i32 - 1,
         };
@@ -275,12 +275,16 @@ impl Documents {
         }
         if self.random.once_in(3) {
             let stamp = crate::compare::ground::random_stamp(&mut self.random);
-            // Where damage is wanted, signs may stand in it.
-            let read = if self.style.damage == 0 { ground::stamp } else { ground::stamp_with_signs };
             let stamp = String::from_utf8(stamp)
                 .ok()
-                .filter(|s| read(s.as_bytes()).is_some())
+                .filter(|s| ground::stamp(s.as_bytes()).is_some())
                 .unwrap_or_else(|| "2024-01-01T23:00:00Z".to_owned());
+            // Where damage is wanted, a sign may stand in it.
+            let signed = ["2024-01-01T-1:00:00Z", "2024-01-01T+1:00:00Z", "+024-01-01T00:00:00Z"];
+            let stamp = match self.style.damage > 0 && self.random.once_in(12) {
+                true => (*self.random.pick(&signed)).to_owned(),
+                false => stamp,
+            };
             list.push(format!("timestamp={stamp}"));
         }
         if self.random.once_in(3) {

@@ -50,9 +50,9 @@ pub fn seed_and_rounds() -> (u64, u64) {
     (number("TORVASKIN_SEED").unwrap_or(1), number("TORVASKIN_ROUNDS").unwrap_or(1))
 }
 
-/// The longest event sequence from a level: TORVASKIN_DEPTH, 3 where unset.
+/// The longest event sequence from a level: TORVASKIN_DEPTH, 2 where unset.
 pub fn depth() -> usize {
-    number("TORVASKIN_DEPTH").map_or(3, |n| n as usize)
+    number("TORVASKIN_DEPTH").map_or(2, |n| n as usize)
 }
 
 fn number(name: &str) -> Option<u64> {

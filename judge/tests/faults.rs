@@ -417,7 +417,7 @@ fn every_other_fault_is_found() {
     ] {
         assert_eq!(program::limits(&Program1(sizes)).is_err(), found, "{sizes:?}");
     }
-    assert!(program::documents(&Program1(good), 1, 1).is_ok_and(|n| n == 600));
+    assert!(program::documents(&Program1(good), 1, 1).is_ok_and(|n| n == 60));
     assert_eq!(expected(b"close"), b"refused\t4\t1\t-\n");
     let (numbers, plain) = edge_numbers_met();
     for number in [0, 2, 3, 4, 12, 13, 14, 15, 16, 18, 19] {

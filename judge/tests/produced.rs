@@ -18,7 +18,7 @@ fn each_document(style: Style, count: usize, mut each: impl FnMut(Vec<u8>, bool)
 #[test]
 fn valid_documents_are_accepted() {
     let mut sizes = Vec::new();
-    each_document(Style::VALID, 5_000, |input, allow| {
+    each_document(Style::VALID, 1_000, |input, allow| {
         let (outcome, _) = run(&input, allow);
         let Outcome::Listing(listing) = outcome else {
             panic!("{outcome:?}\n{}", String::from_utf8_lossy(&input));
@@ -26,13 +26,13 @@ fn valid_documents_are_accepted() {
         sizes.push(listing.len());
     });
     let long = sizes.iter().filter(|&&n| n > 300).count();
-    assert!(long > 1_000, "{long} long listings");
+    assert!(long > 200, "{long} long listings");
 }
 
 #[test]
 fn damaged_documents_meet_every_number() {
     let mut numbers = BTreeMap::new();
-    each_document(Style::DAMAGED, 20_000, |input, allow| {
+    each_document(Style::DAMAGED, 5_000, |input, allow| {
         let number = match run(&input, allow).0 {
             Outcome::Listing(_) => 0,
             Outcome::Refused(stop) => stop.number,
@@ -42,14 +42,14 @@ fn damaged_documents_meet_every_number() {
     println!("{numbers:?}");
     for number in [0, 2, 3, 4, 5, 6, 7, 8, 9, 11, 12, 18] {
         let count = numbers.get(&number).copied().unwrap_or(0);
-        assert!(count >= 10, "{number}: {count} of {numbers:?}");
+        assert!(count >= 3, "{number}: {count} of {numbers:?}");
     }
 }
 
 #[test]
 fn steps_are_the_driver() {
     for style in [Style::VALID, Style::DAMAGED] {
-        each_document(style, 5_000, |input, allow| {
+        each_document(style, 1_000, |input, allow| {
             let (outcome, driven) = run(&input, allow);
             // One event at a time, the overlay left as the Rust leaves it.
             let mut overlay = Overlay::new();

@@ -19,3 +19,18 @@ impl Clone for StringInterner {
         }
     }
 }
+
+impl StringInterner {
+    /// The handle under which each text is looked up, and the number of such texts.
+    pub(super) fn judge_lookup(&self) -> (Vec<Option<u32>>, usize) {
+        let held = |text: String| self.lookup.get(&text).copied();
+        (self.judge_texts().into_iter().map(held).collect(), self.lookup.len())
+    }
+}
+
+impl StringTable {
+    /// A table of any spans.
+    pub(super) fn judge_of(data: &str, table: &[(u32, u32)]) -> Self {
+        Self { data: data.to_owned(), table: table.to_vec() }
+    }
+}

@@ -36,7 +36,40 @@ impl CompactDiffOverlay {
     pub(crate) fn judge_allows(&self) -> bool {
         self.allow_version_regression
     }
+
+    pub(super) fn judge_lookup(&self) -> (Vec<Option<u32>>, usize) {
+        self.interner.judge_lookup()
+    }
+
+    /// The same overlay with other fields of one kind.
+    pub(super) fn judge_with(mut self, kind: ElementKind, fields: JudgeFields) -> Self {
+        let (arena, index, deleted, floors) = fields;
+        match kind {
+            ElementKind::Node => {
+                (self.node_arena, self.node_index) = (arena, index);
+                (self.deleted_nodes, self.node_version_floors) = (deleted, floors);
+            }
+            ElementKind::Way => {
+                (self.way_arena, self.way_index) = (arena, index);
+                (self.deleted_ways, self.way_version_floors) = (deleted, floors);
+            }
+            ElementKind::Relation => {
+                (self.relation_arena, self.relation_index) = (arena, index);
+                (self.deleted_relations, self.relation_version_floors) = (deleted, floors);
+            }
+        }
+        self
+    }
+
+    pub(super) fn judge_check(&self, kind: ElementKind, id: i64, incoming: i32) -> ParseResult<()> {
+        self.check_version_advance(kind, id, self.judge_store(kind), incoming)
+    }
+
+    pub(super) const JUDGE_RAISE: fn(&mut FxHashMap<i64, i32>, i64, Option<i32>, &ArenaMeta) = Self::raise_floor;
 }
+
+/// Arena, index, deleted ids and floors of a kind.
+pub(super) type JudgeFields = (Vec<u8>, FxHashMap<i64, usize>, HashSet<i64>, FxHashMap<i64, i32>);
 
 impl Clone for CompactDiffOverlay {
     fn clone(&self) -> Self {

@@ -8,3 +8,18 @@ impl Seek {
         self.0
     }
 }
+
+impl KindTable {
+    /// A table of any lists.
+    pub(super) fn judge_of(arena: Vec<u8>, ids: Vec<i64>, offsets: Vec<usize>) -> Self {
+        Self { arena, ids, offsets, deleted: Vec::new() }
+    }
+
+    pub(super) fn judge_offsets(&self) -> &[usize] {
+        &self.offsets
+    }
+
+    pub(super) fn judge_record(&self, i: usize) -> &[u8] {
+        self.record(i)
+    }
+}

@@ -65,18 +65,46 @@ impl JudgeSteps {
         Self { level: Level::Doc, section: OscAction::Create, open: ElementKind::Node, staging: None }
     }
 
+    /// Any such state.
+    pub(crate) fn at(place: Place, staging: Option<JudgeStaged>) -> Self {
+        Self {
+            level: JUDGE_LEVELS[usize::from(place.level)],
+            section: JUDGE_SECTIONS[usize::from(place.section)],
+            open: JUDGE_KINDS[usize::from(place.kind)],
+            staging,
+        }
+    }
+
     /// One turn of `drive_osc`'s loop.
     pub(crate) fn step(&mut self, overlay: &mut CompactDiffOverlay, event: &Event<'_>) -> ParseResult<()> {
         let path = Path::new("events");
+        self.with(overlay, |state, sink| match event {
+            Event::Start(e) => handle_open(e, false, state, sink, path),
+            Event::Empty(e) => handle_open(e, true, state, sink, path),
+            Event::End(_) => handle_close(state, sink, path),
+            _ => Ok(()),
+        })
+    }
+
+    /// The sink's `begin_element` alone.
+    pub(crate) fn begin(
+        &mut self,
+        overlay: &mut CompactDiffOverlay,
+        kind: ElementKind,
+        e: &quick_xml::events::BytesStart<'_>,
+    ) -> ParseResult<()> {
+        self.with(overlay, |state, sink| sink.begin_element(state.section, kind, e))
+    }
+
+    fn with(
+        &mut self,
+        overlay: &mut CompactDiffOverlay,
+        f: impl FnOnce(&mut DriveState, &mut CompactSink<'_>) -> ParseResult<()>,
+    ) -> ParseResult<()> {
         let mut state = DriveState { level: self.level, section: self.section, open: self.open };
         let mut sink = CompactSink::new(overlay);
         sink.staging = self.staging.take().map(JudgeStaged::give);
-        let reply = match event {
-            Event::Start(e) => handle_open(e, false, &mut state, &mut sink, path),
-            Event::Empty(e) => handle_open(e, true, &mut state, &mut sink, path),
-            Event::End(_) => handle_close(&mut state, &mut sink, path),
-            _ => Ok(()),
-        };
+        let reply = f(&mut state, &mut sink);
         self.staging = sink.staging.take().map(JudgeStaged::take);
         self.level = state.level;
         self.section = state.section;
@@ -112,3 +140,10 @@ fn judge_number<T: PartialEq>(values: &[T], value: &T) -> u8 {
     let at = values.iter().position(|v| v == value);
     at.expect("every value is there") as u8
 }
+
+pub(crate) fn judge_action(name: &str) -> Option<u8> {
+    action_for(name).map(|action| judge_number(&JUDGE_SECTIONS, &action))
+}
+
+pub(super) const JUDGE_META: fn(&quick_xml::events::BytesStart<'_>, &mut CompactDiffOverlay) -> ParseResult<ArenaMeta> =
+    arena_meta;

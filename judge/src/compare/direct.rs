@@ -123,7 +123,7 @@ fn every_sequence(both: &mut Both<'_>, calls: &[Call], depth: usize, after: Afte
 pub fn calls(port: &dyn Port, seed: u64, rounds: u64, after: After) -> Compared {
     let mut both = Both::new(port);
     let mut random = Random::new(seed);
-    for n in 0..500 * rounds {
+    for n in 0..50 * rounds {
         both.set_up(&some_sizes(&mut random, n), *random.pick(&SETTINGS[..2]))?;
         for _ in 0..1 + random.below(60) {
             random_call(&mut both, &mut random)?;
@@ -143,7 +143,7 @@ pub fn long_lists(port: &dyn Port, seed: u64, rounds: u64, after: After) -> Comp
     let mut both = Both::new(port);
     let mut random = Random::new(seed);
     let mut numbers = BTreeSet::new();
-    for n in 0..4 * rounds {
+    for n in 0..rounds {
         let mut near = |n: usize| n + random.below(n / 2);
         let ids = [near(240), near(240), near(240)];
         let arenas = [near(24_000), near(24_000), near(24_000)];

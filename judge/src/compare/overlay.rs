@@ -77,7 +77,7 @@ pub fn documents(port: &dyn Port, seed: u64, rounds: u64) -> Result<(u64, u64), 
     let mut both = Both::new(port);
     let mut sources = [Documents::new(seed, Style::VALID), Documents::new(seed + 1, Style::DAMAGED)];
     let mut read = 0;
-    for n in 0..1_500 * rounds {
+    for n in 0..200 * rounds {
         let source = &mut sources[(n % 2) as usize];
         source.forget();
         let sizes = some_sizes(&mut source.random, n / 2);
@@ -123,8 +123,8 @@ pub fn readers(port: &dyn Port, seed: u64, rounds: u64) -> Compared {
     let mut both = Both::new(port);
     let mut random = Random::new(seed);
     let mut source = Documents::new(seed ^ 0x5555, Style::DAMAGED);
-    source.style.damage = 120;
-    for n in 0..400 * rounds {
+    source.style.damage = 60;
+    for n in 0..80 * rounds {
         source.forget();
         both.set_up(&some_sizes(&mut random, n), u64::from(n % 8 >= 6))?;
         let count = 1 + random.below(4);

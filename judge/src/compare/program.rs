@@ -35,7 +35,7 @@ pub fn limits(program: &dyn Program) -> Compared {
 pub fn documents(program: &dyn Program, seed: u64, rounds: u64) -> Compared {
     let mut tally = Tally::new();
     let mut sources = [Documents::new(seed, Style::VALID), Documents::new(seed + 1, Style::DAMAGED)];
-    for n in 0..600 * rounds {
+    for n in 0..60 * rounds {
         let source = &mut sources[(n % 2) as usize];
         source.forget();
         let input = source.document().concat();
