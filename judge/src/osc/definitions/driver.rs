@@ -1,6 +1,8 @@
 //! xml_parse.rs, the driver and its sink: `handle_open` and `handle_close` at every level, section and open kind, with
 //! and without a staged element; `begin_element` with good and bad attributes. The whole state after each.
 
+use std::ops::Range;
+
 use quick_xml::events::{BytesEnd, Event};
 
 use super::attributes::{STAMP, element, stamps, start};
@@ -25,14 +27,14 @@ fn before() -> Overlay {
     overlay
 }
 
-/// A staged element that was begun before.
-fn begun(kind: ElementKind) -> JudgeStaged {
+/// A staged element that was begun before, with a version.
+fn begun(kind: ElementKind, version: i32) -> JudgeStaged {
     let mut staged = JudgeStaged {
         kind,
         id: 1,
         lat: 0,
         lon: 0,
-        meta: (9, 2, 0, 0, 0, 0),
+        meta: (9, version, 0, 0, 0, 0),
         tag_keys: vec![1],
         tag_values: vec!["v".to_owned()],
         refs: vec![],
@@ -46,23 +48,27 @@ fn begun(kind: ElementKind) -> JudgeStaged {
     staged
 }
 
-/// A state of the driver: where it stands, and what is staged.
+/// A state of the driver: where it stands, and what is staged, which the page has under a name.
 #[derive(Clone)]
 struct Stand {
     place: Place,
+    sink: String,
     staged: Option<JudgeStaged>,
 }
 
 impl Stand {
-    fn state(&self) -> String {
-        place(self.place)
+    fn bare(place: Place) -> Self {
+        Self { place, sink: "sink-none".to_owned(), staged: None }
     }
 
-    fn sink(&self) -> String {
-        self.staged
-            .as_ref()
-            .map_or("sink-none", |s| ["sink-node", "sink-way", "sink-relation"][s.kind as usize])
-            .to_owned()
+    /// With an element of the open kind staged.
+    fn with_staged(place: Place, (name, version): (&str, i32)) -> Self {
+        let kind = KINDS[usize::from(place.kind)];
+        Self { place, sink: format!("{name}-{kind}"), staged: Some(begun(kind, version)) }
+    }
+
+    fn state(&self) -> String {
+        place(self.place)
     }
 
     /// What a call answers and leaves.
@@ -74,19 +80,26 @@ impl Stand {
     }
 }
 
-/// Every level, section and open kind; nothing staged, or an element of the open kind.
-fn stands() -> Vec<Stand> {
-    let mut out = Vec::new();
-    for number in 0..63 {
-        let place = Place { level: number / 9, section: number / 3 % 3, kind: number % 3 };
-        let kind = KINDS[usize::from(place.kind)];
-        out.extend([None, Some(begun(kind))].map(|staged| Stand { place, staged }));
-    }
-    out
+/// Staged elements: at the version that is held, and below it.
+const GOING: (&str, i32) = ("sink", 2);
+const STALE: (&str, i32) = ("stale", 1);
+
+/// Every level, section and open kind.
+fn places() -> impl Iterator<Item = Place> {
+    (0..63).map(|n| Place { level: n / 9, section: n / 3 % 3, kind: n % 3 })
 }
 
-/// Children with something missing or bad.
-const BAD: [&str; 9] = [
+/// At each place nothing staged, or an element of the open kind.
+fn stands(level: impl Fn(u8) -> bool) -> Vec<Stand> {
+    let here = places().filter(|place| level(place.level));
+    here.flat_map(|place| [Stand::bare(place), Stand::with_staged(place, GOING)]).collect()
+}
+
+/// Elements below the version that is held, then children with something missing or bad.
+const BAD: [&str; 12] = [
+    "node|id=1|version=1|lat7=3|lon7=-4|user=w",
+    "way|id=1|version=1|user=w",
+    "relation|id=1|version=1",
     "tag|k=a",
     "tag|v=b",
     "nd",
@@ -111,9 +124,11 @@ fn defined(name: &'static str) -> Page {
     page.define("before", "CompactDiffOverlay", &overlay(&before()));
     page.define("unchanged", "Told", "overlay before");
     page.define("sink-none", "CompactSink", "XmlParse.sink-with before none");
-    for kind in KINDS {
-        let sink = format!("XmlParse.sink-with before {}", atom(staged(Some(&begun(kind)))));
-        page.define(&format!("sink-{kind}"), "CompactSink", &sink);
+    for (name, version) in [GOING, STALE] {
+        for kind in KINDS {
+            let sink = format!("XmlParse.sink-with before {}", atom(staged(Some(&begun(kind, version)))));
+            page.define(&format!("{name}-{kind}"), "CompactSink", &sink);
+        }
     }
     page
 }
@@ -125,11 +140,16 @@ pub(super) fn page() -> Page {
         page.define(&format!("element-{n}"), "BytesStart", &element(name, &attributes));
     }
     page.about("unchanged", [row("overlay before".to_owned(), told(&before()))]);
-    page.about("handle-open", stands().iter().flat_map(|stand| (0..GOOD.len()).flat_map(|n| open(stand, n))));
-    let in_element: Vec<Stand> = stands().into_iter().filter(|stand| stand.place.level == 3).collect();
-    let bad = GOOD.len()..GOOD.len() + BAD.len();
-    page.about("handle-child", in_element.iter().flat_map(|stand| bad.clone().flat_map(|n| open(stand, n))));
-    page.about("handle-close", stands().iter().map(close));
+    let opened = |stands: Vec<Stand>, numbers: Range<usize>| -> Vec<Row> {
+        let each = |stand: &Stand| -> Vec<Row> { numbers.clone().flat_map(|n| open(stand, n)).collect() };
+        stands.iter().flat_map(each).collect()
+    };
+    let good = GOOD.len();
+    page.about("handle-open", opened(stands(|_| true), 0..good));
+    page.about("handle-stale", opened(stands(|level| level == 2), good..good + 3));
+    page.about("handle-child", opened(stands(|level| level == 3), good + 3..good + BAD.len()));
+    let stale = places().map(|place| Stand::with_staged(place, STALE));
+    page.about("handle-close", stands(|_| true).into_iter().chain(stale).map(|stand| close(&stand)));
     page
 }
 
@@ -141,14 +161,14 @@ fn open(stand: &Stand, number: usize) -> [Row; 2] {
         let e = start(name, &attributes);
         let event = if empty { Event::Empty(e) } else { Event::Start(e) };
         let answer = stand.after(|steps, overlay| steps.step(&mut overlay.inner, &event));
-        let arguments = [format!("element-{number}"), empty.to_string(), stand.state(), stand.sink()];
+        let arguments = [format!("element-{number}"), empty.to_string(), stand.state(), stand.sink.clone()];
         row(format!("of-driven ({})", call("XmlParse.handle-open np", &arguments)), answer)
     })
 }
 
 fn close(stand: &Stand) -> Row {
     let answer = stand.after(|steps, overlay| steps.step(&mut overlay.inner, &Event::End(BytesEnd)));
-    row(format!("of-driven ({})", call("XmlParse.handle-close", &[stand.state(), stand.sink()])), answer)
+    row(format!("of-driven ({})", call("XmlParse.handle-close", &[stand.state(), stand.sink.clone()])), answer)
 }
 
 /// Attributes of an element: one choice of each, in either order.
@@ -190,11 +210,11 @@ pub(super) fn begin_page() -> Page {
 }
 
 fn begin(kind: ElementKind, section: u8, given: &[(&str, &str)]) -> Row {
-    let stand = Stand { place: Place { level: 2, section, kind: 0 }, staged: None };
+    let stand = Stand::bare(Place { level: 2, section, kind: 0 });
     let e = start(kind.as_str(), given);
     let answer = stand.after(|steps, overlay| steps.begin(&mut overlay.inner, kind, &e));
     let action = super::state::action(section).to_owned();
-    let arguments = [stand.sink(), action, kind_name(kind).to_owned(), element(kind.as_str(), given)];
+    let arguments = [stand.sink.clone(), action, kind_name(kind).to_owned(), element(kind.as_str(), given)];
     let question = call("XmlParse.begin-element np", &arguments);
     row(format!("of-sunk ({}) ({question})", stand.state()), answer)
 }
