@@ -1,7 +1,7 @@
 -- parse.rs, one kind: the stored version, a push and a delete.
 use Prim.Native.Nat.{ℕ, zero, suc, _+_, _/_, _%_, _^_, _<_, _≤_}
 use mathlib.Core.Path.{_≡_, refl, sym, _∙_, ap}
-use mathlib.Core.Bool.{true, false, cond}
+use mathlib.Core.Bool.{true, false, cond, not}
 use mathlib.Core.Option.{Option, none, some, bind}
 use mathlib.Core.List.{[], _∷_}
 use native.Mathlib.Omega.{arith}
@@ -50,7 +50,7 @@ use Rattle.refines.proofs.Maps.{byId, get-removed, get-kept, get-own, g
 
 -- ---- the version that a record claims
 
-from-value : (bs : Bytes) → fromLe bs ≡ value bs
+pub from-value : (bs : Bytes) → fromLe bs ≡ value bs
 unfolding fromLe value
 from-value [] = refl
 from-value (b ∷ bs) = rw (from-value bs)
@@ -62,7 +62,7 @@ one-byte [] (suc i) = refl
 one-byte (b ∷ s) zero = omega arith
 one-byte (b ∷ s) (suc i) = one-byte s i
 
-pub clear-flag : (flags bit : ℕ) → C.clear flags bit ≡ cond (flagged bit flags) false true
+pub clear-flag : (flags bit : ℕ) → C.clear flags bit ≡ not (flagged bit flags)
 unfolding C.clear flagged
 clear-flag flags bit =
     byEq (flags / bit % 2) 1

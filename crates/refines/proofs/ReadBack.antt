@@ -1,7 +1,7 @@
 -- compact.rs: its accessors and iterators do not panic on the bytes of a legal record, whatever follows them, and read what was appended, texts resolved.
-use Prim.Native.Nat.{ℕ, zero, suc, _+_, _-_, _*_, _/_, _%_, _^_, _<_, _≤_}
+use Prim.Native.Nat.{ℕ, zero, suc, _+_, _-_, _*_, _^_, _<_, _≤_}
 use mathlib.Core.Path.{_≡_, refl, _∙_, ap}
-use mathlib.Core.Bool.{Bool, true, not}
+use mathlib.Core.Bool.{Bool, true}
 use mathlib.Core.Option.{Option, none, some, bind}
 use mathlib.Core.List.{List, [], _∷_, _++_, map, map-map, append-assoc}
 use native.Mathlib.Omega.{arith}
@@ -14,7 +14,7 @@ use mir.Syntax.{w32, w64}
 use mir.Val.{ofZ}
 use borrow.Author.Tests.{ltb-true, le-leb, eqb-true}
 use Rattle.base.specs.Bytes.{Bytes, both, either, all}
-use Rattle.base.proofs.Split.{byBool, byEq, both-left, both-right, both-of, by-either, clash}
+use Rattle.base.proofs.Split.{byBool, both-left, both-right, both-of, by-either, clash}
 use Rattle.base.proofs.Lists.{all-nil, all-cons, all-head, all-tail}
 use Rattle.little.specs.Little.{le, value}
 use Rattle.little.proofs.Littles.{length-le, value-back}
@@ -37,13 +37,9 @@ use Rattle.published.specs.Compact.{Iter, Yielded, yielded, collect, collect-fr
 use Rattle.published.specs.Compact as Rust
 use Rattle.refines.specs.Overlays.{elementKind}
 use Rattle.refines.specs.Records.{tagText, memberItem, metadataRead, RecordRead}
+use Rattle.refines.proofs.Acts.{from-value, clear-flag}
 
 -- ---- bytes and flags
-
-from-value : (bs : Bytes) → fromLe bs ≡ value bs
-unfolding fromLe value
-from-value [] = refl
-from-value (b ∷ bs) = rw (from-value bs)
 
 from-le : (n v : ℕ) → fitsNumber n v ≡ true → fromLe (le n v) ≡ v
 unfolding fitsNumber
@@ -54,13 +50,6 @@ index-first [] zero = refl
 index-first [] (suc i) = refl
 index-first (b ∷ s) zero = refl
 index-first (b ∷ s) (suc i) = index-first s i
-
-clear-not : (flags bit : ℕ) → Rust.clear flags bit ≡ not (flagged bit flags)
-unfolding Rust.clear flagged
-clear-not flags bit =
-    byEq (flags / bit % 2) 1
-    (λ e. rw e)
-    (λ n. let z : flags / bit % 2 ≡ 0 = omega arith in rw z)
 
 type-back : (k : Kind) → Rust.byte-to-member-type (kindNumber k) ≡ some (elementKind k)
 unfolding Rust.byte-to-member-type
@@ -163,8 +152,8 @@ module _ (from-utf8 : Bytes → Bool) (texts : (t : Bytes) → isText t ≡ true
     unfolding bind
     user-read at flags user xs r h g k w =
         byBool (flagged 4 flags)
-        (λ t. rw (clear-not, t, read-u32 user h w) (resolved user k))
-        (λ t. by-either (flagged 4 flags) (eqb user 0) g (λ u. clash u t) (λ u. rw (clear-not, t, eqb-true user 0 u, empty)))
+        (λ t. rw (clear-flag, t, read-u32 user h w) (resolved user k))
+        (λ t. by-either (flagged 4 flags) (eqb user 0) g (λ u. clash u t) (λ u. rw (clear-flag, t, eqb-true user 0 u, empty)))
 
     meta-read : (at : ℕ) (m : Meta ℕ) (xs : List Bytes) (r : Bytes) → fitsMeta m ≡ true → legalMeta (length held) m ≡ true → Lie s at (metaBytes m ∷ xs) r
         → Rust.read-meta strings s at ≡ some (metadataRead (swapMeta (textOf held) m))
@@ -181,13 +170,13 @@ module _ (from-utf8 : Bytes → Bool) (texts : (t : Bytes) → isText t ≡ true
         let w6 = later 4 (at + 25) (length-le 4 _) (omega arith) w5 in
         rw (
           read-byte (m .flags) (both-left _ _ h1) w1,
-          clear-not (m .flags) 1,
+          clear-flag (m .flags) 1,
           read-i32 (m .version) (both-left _ _ h2) w2,
           read-i64 (m .timestamp) (both-left _ _ h3) w3,
           read-i64 (m .changeset) (both-left _ _ h4) w4,
           read-i32 (m .uid) (both-left _ _ h5) w5,
           user-read at (m .flags) (m .user) xs r (both-right _ _ h5) (both-left _ _ g2) (both-right _ _ g2) w6,
-          clear-not (m .flags) 2,
+          clear-flag (m .flags) 2,
         )
         (byBool (flagged 1 (m .flags)) (λ t. rw t) (λ t. rw t))
 
