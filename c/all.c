@@ -1,4 +1,4 @@
-/* Calls every entry and every wrapper and compares what they answer. Each part has a size of its own, and each is filled to its end: a part handed on in another's place is
+/* Calls every entry and every wrapper and compares what they answer. Each part of the blocks has a size of its own, and each is filled to its end: a part taken for another is
    found. Prints how many answers were as written here; ends with 1 where one was not. */
 #include "torvaskin.h"
 
@@ -29,17 +29,37 @@ static void bytes(const void *is, size_t len, const char *must, size_t must_len,
     }
 }
 
-/* 5 nodes, 4 ways, 3 relations, 8 strings; guards stand between the parts */
-static struct {
-    uint64_t a, node_ids[15], b, way_ids[12], c, relation_ids[9], d, spans[16], e;
-} words;
-static struct {
-    uint8_t a[8], node_arena[245], b[8], way_arena[263], c[8], relation_arena[197], d[8], bytes[35], e[8];
-} bits;
+/* 5 nodes, 4 ways, 3 relations, 8 strings; a guard stands before and behind each block */
+#define WORDS TVK_WORDS(5, 4, 3, 8)
+#define BITS TVK_BYTES(245, 263, 197, 35)
+static const struct tvk_sizes sizes = {{5, 245}, {4, 263}, {3, 197}, 8, 35};
+static uint64_t words[1 + WORDS + 1];
+static uint8_t bits[8 + BITS + 8];
 static struct tvk_reader reader, second;
-static struct tvk_overlay o = {TVK_LEND(words.node_ids),     TVK_LEND(bits.node_arena),     TVK_LEND(words.way_ids), TVK_LEND(bits.way_arena),
-                               TVK_LEND(words.relation_ids), TVK_LEND(bits.relation_arena), TVK_LEND(words.spans),   TVK_LEND(bits.bytes),
-                               {0}};
+static struct tvk_overlay o = {words + 1, WORDS, bits + 8, BITS, {0}};
+
+/* what is lent, to be compared with what is left */
+static uint64_t words_before[1 + WORDS + 1], counters_before[TVK_COUNTERS];
+static uint8_t bits_before[8 + BITS + 8];
+
+static void keep(void)
+{
+    memcpy(words_before, words, sizeof words);
+    memcpy(bits_before, bits, sizeof bits);
+    memcpy(counters_before, o.counters, sizeof o.counters);
+}
+
+static int kept(void)
+{
+    return memcmp(words_before, words, sizeof words) == 0 && memcmp(bits_before, bits, sizeof bits) == 0 && memcmp(counters_before, o.counters, sizeof o.counters) == 0;
+}
+
+/* the eight sizes in the order in which the counters have them */
+static uint64_t *size_at(struct tvk_sizes *z, size_t i)
+{
+    uint64_t *at[] = {&z->nodes.ids, &z->ways.ids, &z->relations.ids, &z->nodes.bytes, &z->ways.bytes, &z->relations.bytes, &z->strings, &z->string_bytes};
+    return at[i];
+}
 
 static struct tvk_meta version(int32_t v)
 {
@@ -129,6 +149,92 @@ static void lists(void)
     SAME(tvk_ids_seek_find(not_in_order, 2, 0, 4).number, TVK_NOT_IN_ORDER);
 }
 
+/* ---- set-up: 1 for sizes that are out of range or are not those of the blocks, with nothing written */
+
+static void refused_set_up(struct tvk_sizes z)
+{
+    keep();
+    SAME(tvk_overlay_set_up(&o, z, 1).number, TVK_SIZE);
+    SAME(kept(), 1);
+}
+
+static void set_up(void)
+{
+    static const struct tvk_sizes largest = {{TVK_MAX_IDS, TVK_MAX_ARENA}, {TVK_MAX_IDS, TVK_MAX_ARENA}, {TVK_MAX_IDS, TVK_MAX_ARENA}, TVK_MAX_STRINGS, TVK_MAX_STRING_BYTES};
+    const uint64_t half = UINT64_C(1) << 63;
+    struct tvk_sizes z;
+
+    SAME(sizeof(struct tvk_kind_size), 16);
+    SAME(sizeof(struct tvk_sizes), 64);
+    SAME(WORDS, 52);
+    SAME(BITS, 740);
+    SAME(tvk_sizes_words(sizes), 52);
+    SAME(tvk_sizes_bytes(sizes), 740);
+    SAME(tvk_sizes_words(largest), 45056);
+    SAME(tvk_sizes_bytes(largest), 3211264);
+    memset(o.counters, 0x5a, sizeof o.counters);
+    SAME(tvk_overlay_is_sound(&o).number, TVK_UNSOUND);
+    for (size_t i = 0; i < 8; i++) {
+        /* a size too many, and one too few, for the blocks */
+        z = sizes;
+        ++*size_at(&z, i);
+        refused_set_up(z);
+        *size_at(&z, i) -= 2;
+        refused_set_up(z);
+        /* sizes out of range have no blocks */
+        z = largest;
+        ++*size_at(&z, i);
+        SAME(tvk_sizes_words(z), 0);
+        SAME(tvk_sizes_bytes(z), 0);
+        refused_set_up(z);
+    }
+    /* sums that come to the blocks' lengths again, past the largest word; no ids and no strings */
+    z = sizes;
+    z.nodes.bytes += half;
+    z.ways.bytes += half;
+    refused_set_up(z);
+    z = sizes;
+    z.ways.ids += half;
+    z.relations.ids += half;
+    refused_set_up(z);
+    z = sizes;
+    z.strings += half;
+    refused_set_up(z);
+    z = sizes;
+    z.nodes.ids = 9;
+    z.ways.ids = 0;
+    refused_set_up(z);
+    z = sizes;
+    z.strings = 0;
+    o.words_len -= 16;
+    refused_set_up(z);
+    o.words_len += 16;
+    /* blocks that are longer and shorter than the sizes say */
+    for (size_t i = 0; i < 2; i++) {
+        size_t *len = i == 0 ? &o.words_len : &o.bytes_len;
+        ++*len;
+        refused_set_up(sizes);
+        *len -= 2;
+        refused_set_up(sizes);
+        ++*len;
+    }
+
+    /* 0 writes the counters and the span of handle 0 */
+    keep();
+    SAME(tvk_overlay_set_up(&o, sizes, 6).number, 0);
+    words_before[1 + 36] = words_before[1 + 37] = 0;
+    memcpy(counters_before, o.counters, sizeof o.counters);
+    SAME(kept(), 1);
+    for (size_t i = 0; i < TVK_LENT_IDS; i++)
+        SAME(o.counters[i], i == TVK_USED_STRINGS ? 1 : i == TVK_SETTING ? 6 : 0);
+    for (size_t i = 0; i < 8; i++) {
+        z = sizes;
+        SAME(o.counters[TVK_LENT_IDS + i], *size_at(&z, i));
+        struct tvk_sizes in = tvk_sizes_in(o.counters);
+        SAME(*size_at(&in, i), *size_at(&z, i));
+    }
+}
+
 /* ---- an overlay filled by direct calls: every part to its last element */
 
 static void direct(void)
@@ -137,11 +243,7 @@ static void direct(void)
     struct tvk_parts p;
     struct tvk_head h;
 
-    SAME(tvk_overlay_is_sound(&o).number, TVK_UNSOUND);
-    o.way_ids.len = 2;
-    SAME(tvk_overlay_set_up(&o, 0).number, TVK_SIZE);
-    o.way_ids.len = 12;
-    SAME(tvk_overlay_set_up(&o, 0).number, 0);
+    SAME(tvk_overlay_set_up(&o, sizes, 0).number, 0);
     SAME(tvk_overlay_is_sound(&o).number, 0);
     SAME(tvk_overlay_is_empty(&o).value, 1);
 
@@ -158,8 +260,8 @@ static void direct(void)
     SAME(tvk_overlay_intern(&o, "8", 1).handle, 6);
     SAME(tvk_overlay_intern(&o, "x", 1).handle, 7);
     SAME(tvk_overlay_intern(&o, "y", 1).number, TVK_STRINGS_FULL);
-    SAME(o.counts[6], 8);
-    SAME(o.counts[7], 34);
+    SAME(o.counters[TVK_USED_STRINGS], 8);
+    SAME(o.counters[TVK_USED_STRING_BYTES], 34);
 
     /* nodes of 49 bytes: five fill 245 */
     h = head_of(-7);
@@ -178,8 +280,8 @@ static void direct(void)
     SAME(tvk_overlay_push(&o, TVK_NODE, head_of(4), tvk_no_meta(), NULL, 0).number, 0);
     SAME(tvk_overlay_push(&o, TVK_NODE, head_of(5), version(1), NULL, 0).number, TVK_IDS_FULL);
     SAME(tvk_overlay_push(&o, TVK_NODE, head_of(4), version(1), NULL, 0).number, TVK_ARENA_FULL);
-    SAME(o.counts[0], 5);
-    SAME(o.counts[3], 245);
+    SAME(o.counters[TVK_USED_IDS + TVK_NODE], 5);
+    SAME(o.counters[TVK_USED_ARENA + TVK_NODE], 245);
 
     /* a way with refs after a tag: the refs are laid out first */
     p = tvk_parts_in(buffer, sizeof buffer);
@@ -190,8 +292,8 @@ static void direct(void)
     BYTES(buffer, p.used, "\1\0\0\0\0\0\0\0\xfe\xff\xff\xff\xff\xff\xff\xff\1\0\0\0\11\0\0\0Quay Road\2\0\0\0\0\0\0\0");
     struct tvk_meta all = {15, -5, -6, 77, -8, 4};
     SAME(tvk_overlay_push_parts(&o, TVK_WAY, head_of(10), all, &p).number, 0);
-    SAME(o.counts[4], 86);
-    BYTES(bits.way_arena, 86,
+    SAME(o.counters[TVK_USED_ARENA + TVK_WAY], 86);
+    BYTES(tvk_overlay_arena(&o, TVK_WAY).at, 86,
           "\12\0\0\0\0\0\0\0\2\0\0\0\2\0\0\0\17\xfb\xff\xff\xff\xfa\xff\xff\xff\xff\xff\xff\xff\115\0\0\0\0\0\0\0\xf8\xff\xff\xff\4\0\0\0"
           "\1\0\0\0\0\0\0\0\xfe\xff\xff\xff\xff\xff\xff\xff\1\0\0\0\11\0\0\0Quay Road\2\0\0\0\0\0\0\0");
     /* what does not fit its buffer is refused, and the buffer's end is kept */
@@ -220,8 +322,8 @@ static void direct(void)
     SAME(tvk_parts_tag(&p, 3, "1234567890", 10), 1);
     SAME(tvk_overlay_push_parts(&o, TVK_WAY, head_of(12), version(1), &p).number, 0);
     SAME(tvk_overlay_push_parts(&o, TVK_WAY, head_of(13), version(1), &p).number, TVK_IDS_FULL);
-    SAME(o.counts[1], 4);
-    SAME(o.counts[4], 263);
+    SAME(o.counters[TVK_USED_IDS + TVK_WAY], 4);
+    SAME(o.counters[TVK_USED_ARENA + TVK_WAY], 263);
 
     /* relations of 58, 80 and 59 bytes */
     p = tvk_parts_in(buffer, sizeof buffer);
@@ -238,8 +340,8 @@ static void direct(void)
     SAME(tvk_parts_tag(&p, 1, "123456", 6), 1);
     SAME(tvk_overlay_push_parts(&o, TVK_RELATION, head_of(22), version(1), &p).number, 0);
     SAME(tvk_overlay_push_parts(&o, TVK_RELATION, head_of(23), version(1), &p).number, TVK_IDS_FULL);
-    SAME(o.counts[2], 3);
-    SAME(o.counts[5], 197);
+    SAME(o.counters[TVK_USED_IDS + TVK_RELATION], 3);
+    SAME(o.counters[TVK_USED_ARENA + TVK_RELATION], 197);
 
     /* deletes; the regression setting */
     r = tvk_overlay_delete(&o, TVK_NODE, -7, version(2));
@@ -250,7 +352,7 @@ static void direct(void)
     SAME(tvk_overlay_delete(&o, TVK_RELATION, 99, version(1)).number, TVK_IDS_FULL);
     SAME(tvk_overlay_delete(&o, 4, 1, version(1)).number, TVK_BAD_RECORD);
     SAME(tvk_overlay_allow_version_regression(&o, 1).number, 0);
-    SAME(o.counts[8], 1);
+    SAME(o.counters[TVK_SETTING], 1);
     SAME(tvk_overlay_delete(&o, TVK_NODE, 3, version(0)).number, 0);
     SAME(tvk_overlay_allow_version_regression(&o, 0).number, 0);
     SAME(tvk_overlay_is_sound(&o).number, 0);
@@ -281,7 +383,9 @@ static void readings(void)
     SAME(tvk_overlay_arena(&o, TVK_RELATION).at[v.start], 21);
     SAME(tvk_overlay_arena(&o, TVK_NODE).len, 245);
     SAME(tvk_overlay_arena(&o, TVK_WAY).len, 263);
+    SAME(tvk_overlay_arena(&o, TVK_RELATION).len, 197);
     SAME(tvk_overlay_arena(&o, 3).len, 0);
+    SAME(tvk_overlay_string_bytes(&o).len, 35);
     SAME(tvk_overlay_record(&o, TVK_RELATION, 3).number, TVK_NO_SUCH_NUMBER);
     v = tvk_overlay_get(&o, TVK_WAY, 11);
     SAME(v.found, 1);
@@ -297,7 +401,7 @@ static void readings(void)
     SAME(tvk_i32_of(tvk_overlay_known_version(&o, TVK_WAY, 10).value), -5);
     SAME(tvk_overlay_known_version(&o, TVK_NODE, 4).value, TVK_NO_VERSION);
     v = tvk_overlay_text(&o, 4);
-    BYTES(o.bytes.at + v.start, v.len, "surveyor");
+    BYTES(tvk_overlay_string_bytes(&o).at + v.start, v.len, "surveyor");
     SAME(tvk_overlay_text(&o, 0).len, 0);
     SAME(tvk_overlay_text(&o, 8).number, TVK_NO_SUCH_NUMBER);
 
@@ -340,16 +444,152 @@ static void readings(void)
     SAME(page[l.length], 'x');
 }
 
-/* ---- readers */
+/* ---- where the parts lie in the blocks */
+
+static void places(void)
+{
+    static const size_t tables[] = {0, 15, 27}, arenas[] = {0, 245, 508};
+    static const int64_t first[] = {-7, -10, 20};
+    static const uint8_t first_byte[] = {0xf9, 10, 20};
+
+    for (uint8_t k = 0; k < 3; k++) {
+        /* the first row is of the first id in OSM order, the first record of the first push */
+        SAME(o.words[tables[k]], tvk_osm_id_rank(first[k]));
+        SAME(tvk_overlay_arena(&o, k).at - o.bytes, arenas[k]);
+        SAME(o.bytes[arenas[k]], first_byte[k]);
+    }
+    SAME(o.words[36] + o.words[37] + o.words[38], 0);
+    SAME(o.words[39], 4);
+    SAME(o.words[50], 33);
+    SAME(o.words[51], 1);
+    SAME(tvk_overlay_string_bytes(&o).at - o.bytes, 705);
+    BYTES(o.bytes + 705, 13, "namemaxweight");
+
+    /* no counters lead outside the block */
+    struct tvk_overlay damaged = o;
+    damaged.counters[TVK_LENT_ARENA + TVK_WAY] = UINT64_MAX;
+    SAME(tvk_overlay_arena(&damaged, TVK_NODE).len, 245);
+    SAME(tvk_overlay_arena(&damaged, TVK_WAY).len, 495);
+    SAME(tvk_overlay_arena(&damaged, TVK_RELATION).len, 0);
+    SAME(tvk_overlay_arena(&damaged, TVK_RELATION).at - o.bytes, 740);
+    SAME(tvk_overlay_string_bytes(&damaged).len, 0);
+    damaged.counters[TVK_LENT_ARENA + TVK_NODE] = 741;
+    SAME(tvk_overlay_arena(&damaged, TVK_NODE).len, 740);
+    SAME(tvk_overlay_arena(&damaged, TVK_WAY).len, 0);
+    memset(damaged.counters, 0, sizeof damaged.counters);
+    SAME(tvk_overlay_arena(&damaged, TVK_RELATION).len, 0);
+    SAME(tvk_overlay_string_bytes(&damaged).len, 740);
+}
+
+/* ---- an overlay that was saved: its counters say how long its blocks are */
+
+static void saved(void)
+{
+    static uint64_t other_words[WORDS];
+    static uint8_t other_bytes[BITS];
+    static char page[512], other_page[512];
+    struct tvk_overlay other;
+
+    memcpy(other.counters, o.counters, sizeof o.counters);
+    other.words = other_words;
+    other.words_len = tvk_sizes_words(tvk_sizes_in(other.counters));
+    other.bytes = other_bytes;
+    other.bytes_len = tvk_sizes_bytes(tvk_sizes_in(other.counters));
+    SAME(other.words_len, WORDS);
+    SAME(other.bytes_len, BITS);
+    memcpy(other_words, o.words, sizeof other_words);
+    memcpy(other_bytes, o.bytes, sizeof other_bytes);
+    SAME(tvk_overlay_is_sound(&other).number, 0);
+    struct tvk_listing_reply l = tvk_overlay_listing(&o, page, sizeof page);
+    SAME(l.number, 0);
+    SAME(tvk_overlay_listing(&other, other_page, sizeof other_page).length, l.length);
+    SAME(memcmp(page, other_page, l.length), 0);
+}
+
+/* ---- blocks that are not those of the sizes: 22 from every call, with nothing changed */
 
 static const char document[] = "open\tosmChange\nopen\tmodify\nopen\tnode\tid=7\tversion=3\tlat7=10\tlon7=-20\nempty\ttag\tk=name\tv=A\nclose\nclose\nclose\n";
+
+static void refused(void)
+{
+    uint64_t ids[8], versions[8];
+    char page[512];
+
+    keep();
+    SAME(tvk_overlay_is_sound(&o).number, TVK_UNSOUND);
+    SAME(tvk_overlay_allow_version_regression(&o, 1).number, TVK_UNSOUND);
+    SAME(tvk_overlay_intern(&o, "name", 4).number, TVK_UNSOUND);
+    SAME(tvk_overlay_is_empty(&o).number, TVK_UNSOUND);
+    SAME(tvk_overlay_text(&o, 0).number, TVK_UNSOUND);
+    for (uint8_t k = 0; k < 4; k++) {
+        SAME(tvk_overlay_push(&o, k, head_of(1), version(9), NULL, 0).number, TVK_UNSOUND);
+        SAME(tvk_overlay_delete(&o, k, 1, version(9)).number, TVK_UNSOUND);
+        SAME(tvk_overlay_live_count(&o, k).number, TVK_UNSOUND);
+        SAME(tvk_overlay_deleted_count(&o, k).number, TVK_UNSOUND);
+        SAME(tvk_overlay_live_id(&o, k, 0).number, TVK_UNSOUND);
+        SAME(tvk_overlay_deleted_id(&o, k, 0).number, TVK_UNSOUND);
+        SAME(tvk_overlay_record(&o, k, 0).number, TVK_UNSOUND);
+        SAME(tvk_overlay_get(&o, k, 1).number, TVK_UNSOUND);
+        SAME(tvk_overlay_has(&o, k, 1).number, TVK_UNSOUND);
+        SAME(tvk_overlay_is_deleted(&o, k, 1).number, TVK_UNSOUND);
+        SAME(tvk_overlay_known_version(&o, k, 1).number, TVK_UNSOUND);
+        SAME(tvk_overlay_live_ids(&o, k, ids, versions, 8).number, TVK_UNSOUND);
+        SAME(tvk_overlay_deleted_ids(&o, k, ids, versions, 8).number, TVK_UNSOUND);
+    }
+    SAME(tvk_overlay_listing(&o, page, sizeof page).number, TVK_UNSOUND);
+    SAME(tvk_reader_event(&second, &o, document, 15).number, TVK_UNSOUND);
+    SAME(tvk_reader_events(&second, &o, document, sizeof document - 1).number, TVK_UNSOUND);
+    SAME(tvk_reader_end(&second, &o).number, TVK_UNSOUND);
+    SAME(second.words[0] + second.words[15] + second.words[16], 0);
+    SAME(kept(), 1);
+}
+
+static void other_blocks(void)
+{
+    /* sizes whose parts lie beside each other in a block */
+    static const size_t beside[][2] = {{TVK_LENT_IDS + TVK_NODE, TVK_LENT_IDS + TVK_WAY},
+                                       {TVK_LENT_IDS + TVK_WAY, TVK_LENT_IDS + TVK_RELATION},
+                                       {TVK_LENT_ARENA + TVK_NODE, TVK_LENT_ARENA + TVK_WAY},
+                                       {TVK_LENT_ARENA + TVK_WAY, TVK_LENT_ARENA + TVK_RELATION},
+                                       {TVK_LENT_ARENA + TVK_RELATION, TVK_LENT_STRING_BYTES}};
+
+    for (size_t i = 0; i < 2; i++) {
+        size_t *len = i == 0 ? &o.words_len : &o.bytes_len;
+        ++*len;
+        refused();
+        *len -= 2;
+        refused();
+        ++*len;
+    }
+    /* a damaged size: the parts do not fill the block */
+    for (size_t i = TVK_LENT_IDS; i < TVK_COUNTERS; i++) {
+        ++o.counters[i];
+        refused();
+        o.counters[i] -= 2;
+        refused();
+        ++o.counters[i];
+    }
+    /* two: they fill it, but one begins at another place */
+    for (size_t i = 0; i < 5; i++) {
+        for (size_t k = 0; k < 2; k++) {
+            ++o.counters[beside[i][k]];
+            --o.counters[beside[i][1 - k]];
+            refused();
+            --o.counters[beside[i][k]];
+            ++o.counters[beside[i][1 - k]];
+        }
+    }
+    SAME(tvk_overlay_is_sound(&o).number, 0);
+}
+
+/* ---- readers */
 
 static void readers(void)
 {
     const size_t len = sizeof document - 1;
     char page[64];
 
-    SAME(tvk_overlay_set_up(&o, 0).number, 0);
+    SAME(tvk_overlay_set_up(&o, sizes, 0).number, 0);
     SAME(tvk_reader_end(&reader, &o).number, TVK_UNFINISHED);
     SAME(tvk_reader_end(&reader, &o).line, 1);
     SAME(tvk_reader_event(&reader, &o, "open\tosmChange\n", 15).number, 0);
@@ -398,44 +638,55 @@ static void readers(void)
     SAME(reader.words[0], 7);
 }
 
-/* ---- parts that are empty by NULL: an overlay of one id a kind, no arenas and the empty text alone */
+/* ---- a block that is empty by NULL: an overlay of one id a kind, no arenas and the empty text alone */
 
-static void empty_parts(void)
+static void empty_block(void)
 {
-    uint64_t ids[3][3], spans[2];
-    struct tvk_overlay small = {{ids[0], 3}, {NULL, 0}, {ids[1], 3}, {NULL, 0}, {ids[2], 3}, {NULL, 0}, {spans, 2}, {NULL, 0}, {0}};
+    static const struct tvk_sizes least = {{1, 0}, {1, 0}, {1, 0}, 1, 0};
+    uint64_t small_words[TVK_WORDS(1, 1, 1, 1)];
+    struct tvk_overlay small = {TVK_LEND(small_words), NULL, 0, {0}};
     char page[16];
 
-    SAME(tvk_overlay_set_up(&small, 0).number, 0);
+    SAME(small.words_len, 11);
+    SAME(tvk_overlay_set_up(&small, least, 0).number, 0);
     SAME(tvk_overlay_push(&small, TVK_NODE, head_of(1), version(1), NULL, 0).number, TVK_ARENA_FULL);
     SAME(tvk_overlay_delete(&small, TVK_RELATION, 1, version(2)).number, 0);
     SAME(tvk_overlay_intern(&small, "a", 1).number, TVK_STRINGS_FULL);
     struct tvk_listing_reply l = tvk_overlay_listing(&small, page, sizeof page);
     BYTES(page, l.length, "r\t1\t-\t2\n");
-    small.way_ids.at = NULL;
+    SAME(tvk_overlay_arena(&small, TVK_WAY).len, 0);
+    SAME(tvk_overlay_string_bytes(&small).len, 0);
+    small.words = NULL;
     SAME(tvk_overlay_is_sound(&small).number, TVK_UNSOUND);
-    SAME(tvk_overlay_set_up(&small, 0).number, TVK_SIZE);
+    SAME(tvk_overlay_set_up(&small, least, 0).number, TVK_SIZE);
 }
 
 static void guards(void)
 {
-    SAME(words.a + words.b + words.c + words.d + words.e, 5 * UINT64_C(0xa5a5));
-    for (size_t i = 0; i < 8; i++)
-        SAME(bits.a[i] + bits.b[i] + bits.c[i] + bits.d[i] + bits.e[i], 5 * 0xa5);
+    SAME(words[0], UINT64_C(0xa5a5));
+    SAME(words[1 + WORDS], UINT64_C(0xa5a5));
+    for (size_t i = 0; i < 8; i++) {
+        SAME(bits[i], 0xa5);
+        SAME(bits[8 + BITS + i], 0xa5);
+    }
 }
 
 int main(void)
 {
-    memset(&words, 0x77, sizeof words);
-    memset(&bits, 0xa5, sizeof bits);
-    words.a = words.b = words.c = words.d = words.e = 0xa5a5;
+    memset(words, 0x77, sizeof words);
+    memset(bits, 0xa5, sizeof bits);
+    words[0] = words[1 + WORDS] = 0xa5a5;
     numbers();
     lists();
+    set_up();
     direct();
     readings();
+    places();
+    saved();
+    other_blocks();
     readers();
     guards();
-    empty_parts();
+    empty_block();
     printf("%lu answers are as they must be, %lu are not\n", right, wrong);
     return wrong == 0 ? 0 : 1;
 }

@@ -47,7 +47,7 @@ int main(void)
     struct tvk_reply pushed;
     struct tvk_listing_reply listing;
 
-    if (tvk_overlay_set_up(&overlay, 0).number != 0)
+    if (tvk_overlay_set_up(&overlay, overlay_sizes, 0).number != 0)
         return 1;
     events = tvk_reader_events(&reader, &overlay, lines, sizeof lines - 1);
     if (events.number != 0) {

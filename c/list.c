@@ -7,7 +7,7 @@ static char input[1048576], page[65536];
 
 int main(void)
 {
-    if (tvk_overlay_set_up(&overlay, 0).number != TVK_ACCEPTED)
+    if (tvk_overlay_set_up(&overlay, overlay_sizes, 0).number != TVK_ACCEPTED)
         return 1;
     size_t length = fread(input, 1, sizeof input, stdin);
     struct tvk_events_reply events = tvk_reader_events(&reader, &overlay, input, length);

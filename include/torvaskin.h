@@ -1,21 +1,25 @@
 /* Torvaskin for C99 and C++11 and later. `./library` writes this file and libtorvaskin.a into one folder; link the archive behind the program's own files.
 
    The entries (first half) are what the archive exports; each is proved to do what is said here, on any words and bytes that it is lent. The wrappers (second half)
-   are inline C: each hands a struct's parts on to its entry in order, and nothing proves it; c/all.c calls every one. tvk_GROUP_NAME is the wrapper of tvk_NAME.
+   are inline C: each hands a struct's fields on to its entry in order, and nothing proves it; c/all.c calls every one. tvk_GROUP_NAME is the wrapper of tvk_NAME.
 
-   What is lent. An overlay lives in nine parts that its caller keeps and lends to every call, in this order:
+   What is lent. An overlay lives in two blocks and its counters, which its caller keeps and lends to every call, in this order:
 
-     ni na  wi wa  ri ra   for nodes, ways and relations each the id table (TVK_ID_WORDS words an id) and the arena (bytes), which holds records end to end
-     ss sb                 the spans (TVK_STRING_WORDS words a string) and the string bytes
-     us                    TVK_COUNTERS words: used ids of the three kinds, used arena bytes of the three, used strings, used string bytes, the regression setting
+     words      the id tables of nodes, ways and relations, TVK_ID_WORDS words an id; behind them the spans, TVK_STRING_WORDS words a string
+     bytes      the arenas of nodes, ways and relations, which hold records end to end; behind them the string bytes
+     counters   TVK_COUNTERS words: what is used, the regression setting, and the sizes that set-up was given
 
-   A reader lives in two parts more: TVK_READER_WORDS words, all 0 for a fresh reader, and TVK_STAGED_BYTES bytes for the element that it is in.
+   The sizes say where the parts of a block begin and end. The parts are all of the block: TVK_WORDS and TVK_BYTES say how long it must be, and a block of another length is
+   refused, with 1 by set-up and with 22 by every later call. So a saved overlay (its words, bytes and counters) says its own sizes: tvk_sizes_in reads them from the counters,
+   tvk_sizes_words and tvk_sizes_bytes say how long the blocks are. There is no lending a longer block later: a new overlay is set up and filled again.
+
+   A reader lives in two arrays more: TVK_READER_WORDS words, all 0 for a fresh reader, and TVK_STAGED_BYTES bytes for the element that it is in.
 
    What a caller owes at every call, since no proof sees it:
 
      - Each pointer is valid for its length and aligned for its type; an entry's pointer is never NULL, that of an empty slice neither. A wrapper takes NULL for
        "empty".
-     - Each part that a call may write (what is not const here) lies apart from every other part and from every argument.
+     - What a call may write (what is not const here) lies apart from everything else that the call is handed.
      - Nothing else writes what is lent while the call runs. An entry keeps no state of its own: calls on different overlays may run at once.
      - TVK_STACK_BYTES bytes of stack are free.
 
@@ -50,7 +54,7 @@ extern "C" {
 
 #define TVK_ID_WORDS 3
 #define TVK_STRING_WORDS 2
-#define TVK_COUNTERS 9
+#define TVK_COUNTERS 17
 #define TVK_READER_WORDS 19
 #define TVK_STAGED_BYTES 44432
 
@@ -59,6 +63,21 @@ extern "C" {
 #define TVK_MAX_ARENA 1048576
 #define TVK_MAX_STRINGS 4096
 #define TVK_MAX_STRING_BYTES 65536
+
+/* How long a block is: words for so many ids of nodes, ways, relations and so many strings; bytes for so many arena bytes of the same and so many string bytes. */
+#define TVK_WORDS(nodes, ways, relations, strings) (TVK_ID_WORDS * ((nodes) + (ways) + (relations)) + TVK_STRING_WORDS * (strings))
+#define TVK_BYTES(nodes, ways, relations, strings) ((nodes) + (ways) + (relations) + (strings))
+
+/* Places among the counters. Where there is one a kind, the place is that of nodes, and a kind's is its number further: counters[TVK_USED_IDS + TVK_WAY]. */
+#define TVK_USED_IDS 0           /* a kind's known ids, live and deleted */
+#define TVK_USED_ARENA 3         /* used bytes of a kind's arena */
+#define TVK_USED_STRINGS 6       /* held strings, the empty text among them */
+#define TVK_USED_STRING_BYTES 7  /* used string bytes */
+#define TVK_SETTING 8            /* the regression setting: 0 refuses regression */
+#define TVK_LENT_IDS 9           /* from here on the sizes: a kind's ids */
+#define TVK_LENT_ARENA 12        /* bytes of a kind's arena */
+#define TVK_LENT_STRINGS 15      /* strings */
+#define TVK_LENT_STRING_BYTES 16 /* string bytes */
 
 /* Of a line, without its line feed; and of one element. A push's parts within these limits are at most TVK_STAGED_BYTES long. */
 #define TVK_MAX_LINE 16384
@@ -80,7 +99,7 @@ extern "C" {
 /* ---- refusals */
 
 #define TVK_ACCEPTED 0
-#define TVK_SIZE 1              /* a lent size outside what may be lent */
+#define TVK_SIZE 1              /* a size outside what may be lent, or blocks that are not as long as the sizes say */
 #define TVK_LONG_LINE 2         /* a line over TVK_MAX_LINE bytes */
 #define TVK_NOT_TEXT 3          /* not well-formed UTF-8 of XML 1.0 characters, or a carriage return in a line */
 #define TVK_NOT_EVENT_LINE 4    /* not an event line with its line feed, or an attribute twice */
@@ -101,9 +120,23 @@ extern "C" {
 #define TVK_SHORT_OUTPUT 19     /* an output shorter than the listing */
 #define TVK_NOT_IN_ORDER 20     /* ids not strictly in OSM order */
 #define TVK_NO_SUCH_NUMBER 21   /* a number not below its list's count, or a handle that is not held */
-#define TVK_UNSOUND 22          /* damaged storage, or words that are no reader's */
+#define TVK_UNSOUND 22          /* damaged storage, blocks that are not as long as the sizes say, or words that are no reader's */
 
 /* ---- structs */
+
+/* The sizes of an overlay: of a kind its ids and the bytes of its arena; strings; string bytes. */
+struct tvk_kind_size {
+    uint64_t ids;
+    uint64_t bytes;
+};
+
+struct tvk_sizes {
+    struct tvk_kind_size nodes;
+    struct tvk_kind_size ways;
+    struct tvk_kind_size relations;
+    uint64_t strings;
+    uint64_t string_bytes;
+};
 
 /* An id's place in OSM order: class 0 for 0, 1 for negative ids, 2 for positive ones; magnitude its distance from 0. */
 struct tvk_osm_key {
@@ -225,116 +258,85 @@ uint8_t tvk_is_text(const uint8_t *s, size_t s_len);
 
 /* ==== entries: an overlay */
 
-/* Makes what is lent an empty overlay, whatever it held: 1, or 0. Setting 0 refuses regression, any other allows it. */
-struct tvk_reply tvk_set_up(const uint64_t *ni, size_t ni_len, const uint8_t *na, size_t na_len, const uint64_t *wi, size_t wi_len, const uint8_t *wa, size_t wa_len,
-                            const uint64_t *ri, size_t ri_len, const uint8_t *ra, size_t ra_len, uint64_t *ss, size_t ss_len, const uint8_t *sb, size_t sb_len,
-                            uint64_t us[9], uint64_t setting);
+/* Makes what is lent an empty overlay of these sizes, whatever it held: 1, with nothing written, or 0. Setting 0 refuses regression, any other allows it. */
+struct tvk_reply tvk_set_up(uint64_t *words, size_t words_len, const uint8_t *bytes, size_t bytes_len, uint64_t counters[TVK_COUNTERS], struct tvk_sizes sizes,
+                            uint64_t setting);
 
 /* 22, or 0. */
-struct tvk_reply tvk_is_sound(const uint64_t *ni, size_t ni_len, const uint8_t *na, size_t na_len, const uint64_t *wi, size_t wi_len, const uint8_t *wa, size_t wa_len,
-                              const uint64_t *ri, size_t ri_len, const uint8_t *ra, size_t ra_len, const uint64_t *ss, size_t ss_len, const uint8_t *sb, size_t sb_len,
-                              const uint64_t us[9]);
+struct tvk_reply tvk_is_sound(const uint64_t *words, size_t words_len, const uint8_t *bytes, size_t bytes_len, const uint64_t counters[TVK_COUNTERS]);
 
 /* Changes the regression setting: 22, or 0. */
-struct tvk_reply tvk_allow_version_regression(const uint64_t *ni, size_t ni_len, const uint8_t *na, size_t na_len, const uint64_t *wi, size_t wi_len,
-                                              const uint8_t *wa, size_t wa_len, const uint64_t *ri, size_t ri_len, const uint8_t *ra, size_t ra_len,
-                                              const uint64_t *ss, size_t ss_len, const uint8_t *sb, size_t sb_len, uint64_t us[9], uint64_t setting);
+struct tvk_reply tvk_allow_version_regression(const uint64_t *words, size_t words_len, const uint8_t *bytes, size_t bytes_len, uint64_t counters[TVK_COUNTERS],
+                                              uint64_t setting);
 
 /* Takes a text in: 22, 3, 13, or its handle: that of an equal text, else the next. Handle 0 is the empty text. */
-struct tvk_handle tvk_intern(const uint64_t *ni, size_t ni_len, const uint8_t *na, size_t na_len, const uint64_t *wi, size_t wi_len, const uint8_t *wa, size_t wa_len,
-                             const uint64_t *ri, size_t ri_len, const uint8_t *ra, size_t ra_len, uint64_t *ss, size_t ss_len, uint8_t *sb, size_t sb_len,
-                             uint64_t us[9], const uint8_t *text, size_t text_len);
+struct tvk_handle tvk_intern(uint64_t *words, size_t words_len, uint8_t *bytes, size_t bytes_len, uint64_t counters[TVK_COUNTERS], const uint8_t *text, size_t text_len);
 
 /* A direct push: 22, 17, 3, 10, 16, 12, 14, 15, or 0. parts: a way's refs (8 bytes each) or a relation's members (13 bytes: ref, type byte, role's handle in 4), then the
    tags (key's handle in 4 bytes, value's length in 4, the value's bytes); numbers little-endian. tvk_parts_ref, tvk_parts_member and tvk_parts_tag lay them out. */
-struct tvk_reply tvk_push(uint64_t *ni, size_t ni_len, uint8_t *na, size_t na_len, uint64_t *wi, size_t wi_len, uint8_t *wa, size_t wa_len,
-                          uint64_t *ri, size_t ri_len, uint8_t *ra, size_t ra_len, const uint64_t *ss, size_t ss_len, const uint8_t *sb, size_t sb_len,
-                          uint64_t us[9], uint8_t kind, struct tvk_head head, struct tvk_meta meta, const uint8_t *parts, size_t parts_len);
+struct tvk_reply tvk_push(uint64_t *words, size_t words_len, uint8_t *bytes, size_t bytes_len, uint64_t counters[TVK_COUNTERS], uint8_t kind, struct tvk_head head,
+                          struct tvk_meta meta, const uint8_t *parts, size_t parts_len);
 
 /* A direct delete: 22, 17, 12, 14, or 0. */
-struct tvk_reply tvk_delete(uint64_t *ni, size_t ni_len, const uint8_t *na, size_t na_len, uint64_t *wi, size_t wi_len, const uint8_t *wa, size_t wa_len,
-                            uint64_t *ri, size_t ri_len, const uint8_t *ra, size_t ra_len, const uint64_t *ss, size_t ss_len, const uint8_t *sb, size_t sb_len,
-                            uint64_t us[9], uint8_t kind, int64_t id, struct tvk_meta meta);
+struct tvk_reply tvk_delete(uint64_t *words, size_t words_len, const uint8_t *bytes, size_t bytes_len, uint64_t counters[TVK_COUNTERS], uint8_t kind, int64_t id,
+                            struct tvk_meta meta);
 
 /* ==== entries: a reader */
 
 /* One event by its line, line feed included: 22; what stopped the reader; 2, 3, 4; 5, 6; 7 to 11; 12 to 16; or 0. A refusal but 22 stops the reader, and its later events and
    its end repeat number, held and line. */
-struct tvk_event_reply tvk_event(uint64_t *ni, size_t ni_len, uint8_t *na, size_t na_len, uint64_t *wi, size_t wi_len, uint8_t *wa, size_t wa_len,
-                                 uint64_t *ri, size_t ri_len, uint8_t *ra, size_t ra_len, uint64_t *ss, size_t ss_len, uint8_t *sb, size_t sb_len,
-                                 uint64_t us[9], uint64_t reader[19], uint8_t parts[44432], const uint8_t *line, size_t line_len);
+struct tvk_event_reply tvk_event(uint64_t *words, size_t words_len, uint8_t *bytes, size_t bytes_len, uint64_t counters[TVK_COUNTERS], uint64_t reader[TVK_READER_WORDS],
+                                 uint8_t parts[TVK_STAGED_BYTES], const uint8_t *line, size_t line_len);
 
 /* The whole lines of a run as events one after another, up to the first that is refused: what tvk_event would leave and reply, with one test for 22. What follows the bytes
    taken is the refused line, or where nothing is refused the unfinished one: hand it over again with what comes after it. A run without a line feed is 0, with nothing
    taken and nothing changed, but for words that are no reader's: 22. */
-struct tvk_events_reply tvk_events(uint64_t *ni, size_t ni_len, uint8_t *na, size_t na_len, uint64_t *wi, size_t wi_len, uint8_t *wa, size_t wa_len,
-                                   uint64_t *ri, size_t ri_len, uint8_t *ra, size_t ra_len, uint64_t *ss, size_t ss_len, uint8_t *sb, size_t sb_len,
-                                   uint64_t us[9], uint64_t reader[19], uint8_t parts[44432], const uint8_t *run, size_t run_len);
+struct tvk_events_reply tvk_events(uint64_t *words, size_t words_len, uint8_t *bytes, size_t bytes_len, uint64_t counters[TVK_COUNTERS], uint64_t reader[TVK_READER_WORDS],
+                                   uint8_t parts[TVK_STAGED_BYTES], const uint8_t *run, size_t run_len);
 
 /* The end of a document: 22; what stopped the reader; 18; or 0. It changes nothing. */
-struct tvk_event_reply tvk_end(const uint64_t *ni, size_t ni_len, const uint8_t *na, size_t na_len, const uint64_t *wi, size_t wi_len, const uint8_t *wa, size_t wa_len,
-                               const uint64_t *ri, size_t ri_len, const uint8_t *ra, size_t ra_len, const uint64_t *ss, size_t ss_len, const uint8_t *sb, size_t sb_len,
-                               const uint64_t us[9], const uint64_t reader[19], const uint8_t parts[44432]);
+struct tvk_event_reply tvk_end(const uint64_t *words, size_t words_len, const uint8_t *bytes, size_t bytes_len, const uint64_t counters[TVK_COUNTERS],
+                               const uint64_t reader[TVK_READER_WORDS], const uint8_t parts[TVK_STAGED_BYTES]);
 
 /* ==== entries: readings, which change nothing. Each is 22 first; one that takes a kind is then 17 for a number above 2. */
 
 /* How many ids of a kind are live, and how many deleted. */
-struct tvk_number tvk_live_count(const uint64_t *ni, size_t ni_len, const uint8_t *na, size_t na_len, const uint64_t *wi, size_t wi_len, const uint8_t *wa, size_t wa_len,
-                                 const uint64_t *ri, size_t ri_len, const uint8_t *ra, size_t ra_len, const uint64_t *ss, size_t ss_len, const uint8_t *sb, size_t sb_len,
-                                 const uint64_t us[9], uint8_t kind);
-struct tvk_number tvk_deleted_count(const uint64_t *ni, size_t ni_len, const uint8_t *na, size_t na_len, const uint64_t *wi, size_t wi_len, const uint8_t *wa, size_t wa_len,
-                                    const uint64_t *ri, size_t ri_len, const uint8_t *ra, size_t ra_len, const uint64_t *ss, size_t ss_len, const uint8_t *sb, size_t sb_len,
-                                    const uint64_t us[9], uint8_t kind);
+struct tvk_number tvk_live_count(const uint64_t *words, size_t words_len, const uint8_t *bytes, size_t bytes_len, const uint64_t counters[TVK_COUNTERS], uint8_t kind);
+struct tvk_number tvk_deleted_count(const uint64_t *words, size_t words_len, const uint8_t *bytes, size_t bytes_len, const uint64_t counters[TVK_COUNTERS], uint8_t kind);
 
 /* 1 where no id of any kind is known, else 0. */
-struct tvk_number tvk_is_empty(const uint64_t *ni, size_t ni_len, const uint8_t *na, size_t na_len, const uint64_t *wi, size_t wi_len, const uint8_t *wa, size_t wa_len,
-                               const uint64_t *ri, size_t ri_len, const uint8_t *ra, size_t ra_len, const uint64_t *ss, size_t ss_len, const uint8_t *sb, size_t sb_len,
-                               const uint64_t us[9]);
+struct tvk_number tvk_is_empty(const uint64_t *words, size_t words_len, const uint8_t *bytes, size_t bytes_len, const uint64_t counters[TVK_COUNTERS]);
 
 /* The bits of the n-th live id, and of the n-th deleted id, of a kind in OSM order, from 0; or 21. */
-struct tvk_number tvk_live_id(const uint64_t *ni, size_t ni_len, const uint8_t *na, size_t na_len, const uint64_t *wi, size_t wi_len, const uint8_t *wa, size_t wa_len,
-                              const uint64_t *ri, size_t ri_len, const uint8_t *ra, size_t ra_len, const uint64_t *ss, size_t ss_len, const uint8_t *sb, size_t sb_len,
-                              const uint64_t us[9], uint8_t kind, uint64_t n);
-struct tvk_number tvk_deleted_id(const uint64_t *ni, size_t ni_len, const uint8_t *na, size_t na_len, const uint64_t *wi, size_t wi_len, const uint8_t *wa, size_t wa_len,
-                                 const uint64_t *ri, size_t ri_len, const uint8_t *ra, size_t ra_len, const uint64_t *ss, size_t ss_len, const uint8_t *sb, size_t sb_len,
-                                 const uint64_t us[9], uint8_t kind, uint64_t n);
+struct tvk_number tvk_live_id(const uint64_t *words, size_t words_len, const uint8_t *bytes, size_t bytes_len, const uint64_t counters[TVK_COUNTERS], uint8_t kind,
+                              uint64_t n);
+struct tvk_number tvk_deleted_id(const uint64_t *words, size_t words_len, const uint8_t *bytes, size_t bytes_len, const uint64_t counters[TVK_COUNTERS], uint8_t kind,
+                                 uint64_t n);
 
 /* Where the record of the n-th live id lies in its kind's arena; or 21. */
-struct tvk_view tvk_record(const uint64_t *ni, size_t ni_len, const uint8_t *na, size_t na_len, const uint64_t *wi, size_t wi_len, const uint8_t *wa, size_t wa_len,
-                           const uint64_t *ri, size_t ri_len, const uint8_t *ra, size_t ra_len, const uint64_t *ss, size_t ss_len, const uint8_t *sb, size_t sb_len,
-                           const uint64_t us[9], uint8_t kind, uint64_t n);
+struct tvk_view tvk_record(const uint64_t *words, size_t words_len, const uint8_t *bytes, size_t bytes_len, const uint64_t counters[TVK_COUNTERS], uint8_t kind, uint64_t n);
 
 /* Where the record of an id lies in its kind's arena; found 0 where the id is not live. */
-struct tvk_view tvk_get(const uint64_t *ni, size_t ni_len, const uint8_t *na, size_t na_len, const uint64_t *wi, size_t wi_len, const uint8_t *wa, size_t wa_len,
-                        const uint64_t *ri, size_t ri_len, const uint8_t *ra, size_t ra_len, const uint64_t *ss, size_t ss_len, const uint8_t *sb, size_t sb_len,
-                        const uint64_t us[9], uint8_t kind, int64_t id);
+struct tvk_view tvk_get(const uint64_t *words, size_t words_len, const uint8_t *bytes, size_t bytes_len, const uint64_t counters[TVK_COUNTERS], uint8_t kind, int64_t id);
 
 /* 1 where an id is live, and where it is deleted; else 0. */
-struct tvk_number tvk_has(const uint64_t *ni, size_t ni_len, const uint8_t *na, size_t na_len, const uint64_t *wi, size_t wi_len, const uint8_t *wa, size_t wa_len,
-                          const uint64_t *ri, size_t ri_len, const uint8_t *ra, size_t ra_len, const uint64_t *ss, size_t ss_len, const uint8_t *sb, size_t sb_len,
-                          const uint64_t us[9], uint8_t kind, int64_t id);
-struct tvk_number tvk_is_deleted(const uint64_t *ni, size_t ni_len, const uint8_t *na, size_t na_len, const uint64_t *wi, size_t wi_len, const uint8_t *wa, size_t wa_len,
-                                 const uint64_t *ri, size_t ri_len, const uint8_t *ra, size_t ra_len, const uint64_t *ss, size_t ss_len, const uint8_t *sb, size_t sb_len,
-                                 const uint64_t us[9], uint8_t kind, int64_t id);
+struct tvk_number tvk_has(const uint64_t *words, size_t words_len, const uint8_t *bytes, size_t bytes_len, const uint64_t counters[TVK_COUNTERS], uint8_t kind, int64_t id);
+struct tvk_number tvk_is_deleted(const uint64_t *words, size_t words_len, const uint8_t *bytes, size_t bytes_len, const uint64_t counters[TVK_COUNTERS], uint8_t kind,
+                                 int64_t id);
 
 /* The known version of an id as a version word: the larger of the live record's version and the floor, or the one that exists. */
-struct tvk_number tvk_known_version(const uint64_t *ni, size_t ni_len, const uint8_t *na, size_t na_len, const uint64_t *wi, size_t wi_len, const uint8_t *wa, size_t wa_len,
-                                    const uint64_t *ri, size_t ri_len, const uint8_t *ra, size_t ra_len, const uint64_t *ss, size_t ss_len, const uint8_t *sb, size_t sb_len,
-                                    const uint64_t us[9], uint8_t kind, int64_t id);
+struct tvk_number tvk_known_version(const uint64_t *words, size_t words_len, const uint8_t *bytes, size_t bytes_len, const uint64_t counters[TVK_COUNTERS], uint8_t kind,
+                                    int64_t id);
 
 /* Where the text of a handle lies in the string bytes; or 21. */
-struct tvk_view tvk_text(const uint64_t *ni, size_t ni_len, const uint8_t *na, size_t na_len, const uint64_t *wi, size_t wi_len, const uint8_t *wa, size_t wa_len,
-                         const uint64_t *ri, size_t ri_len, const uint8_t *ra, size_t ra_len, const uint64_t *ss, size_t ss_len, const uint8_t *sb, size_t sb_len,
-                         const uint64_t us[9], uint64_t handle);
+struct tvk_view tvk_text(const uint64_t *words, size_t words_len, const uint8_t *bytes, size_t bytes_len, const uint64_t counters[TVK_COUNTERS], uint64_t handle);
 
 /* The bits of all live ids, and of all deleted ids, of a kind in OSM order, and the known version of each as a version word, at the start of two lists that share no word: 19
    where one of them is shorter, with nothing written; or 0 with how many ids they are. What lies past them is left as it is. */
-struct tvk_number tvk_live_ids(const uint64_t *ni, size_t ni_len, const uint8_t *na, size_t na_len, const uint64_t *wi, size_t wi_len, const uint8_t *wa, size_t wa_len,
-                               const uint64_t *ri, size_t ri_len, const uint8_t *ra, size_t ra_len, const uint64_t *ss, size_t ss_len, const uint8_t *sb, size_t sb_len,
-                               const uint64_t us[9], uint8_t kind, uint64_t *ids, size_t ids_len, uint64_t *versions, size_t versions_len);
-struct tvk_number tvk_deleted_ids(const uint64_t *ni, size_t ni_len, const uint8_t *na, size_t na_len, const uint64_t *wi, size_t wi_len, const uint8_t *wa, size_t wa_len,
-                                  const uint64_t *ri, size_t ri_len, const uint8_t *ra, size_t ra_len, const uint64_t *ss, size_t ss_len, const uint8_t *sb, size_t sb_len,
-                                  const uint64_t us[9], uint8_t kind, uint64_t *ids, size_t ids_len, uint64_t *versions, size_t versions_len);
+struct tvk_number tvk_live_ids(const uint64_t *words, size_t words_len, const uint8_t *bytes, size_t bytes_len, const uint64_t counters[TVK_COUNTERS], uint8_t kind,
+                               uint64_t *ids, size_t ids_len, uint64_t *versions, size_t versions_len);
+struct tvk_number tvk_deleted_ids(const uint64_t *words, size_t words_len, const uint8_t *bytes, size_t bytes_len, const uint64_t counters[TVK_COUNTERS], uint8_t kind,
+                                  uint64_t *ids, size_t ids_len, uint64_t *versions, size_t versions_len);
 
 /* ==== entries: lookups in lists of ids, which are handed over as their bits, strictly in OSM order; else 20 */
 
@@ -350,65 +352,48 @@ struct tvk_cursor tvk_seek_find(const uint64_t *ids, size_t ids_len, size_t plac
 /* ==== entries: the listing */
 
 /* Writes the listing at the start of the output: 22, 19, or 0 with its length. What lies past it is left as it is. */
-struct tvk_listing_reply tvk_listing(const uint64_t *ni, size_t ni_len, const uint8_t *na, size_t na_len, const uint64_t *wi, size_t wi_len, const uint8_t *wa, size_t wa_len,
-                                     const uint64_t *ri, size_t ri_len, const uint8_t *ra, size_t ra_len, const uint64_t *ss, size_t ss_len, const uint8_t *sb, size_t sb_len,
-                                     const uint64_t us[9], uint8_t *out, size_t out_len);
+struct tvk_listing_reply tvk_listing(const uint64_t *words, size_t words_len, const uint8_t *bytes, size_t bytes_len, const uint64_t counters[TVK_COUNTERS], uint8_t *out,
+                                     size_t out_len);
 
 /* ==== wrappers: what is lent, in a struct */
 
-struct tvk_words {
-    uint64_t *at;
-    size_t len;
-};
-
-struct tvk_bytes {
-    uint8_t *at;
-    size_t len;
-};
-
-/* The nine parts of an overlay: eight that lie somewhere else, and the counters. A part whose pointer is NULL counts as empty. */
+/* An overlay: its two blocks, which lie somewhere else, and its counters. A block whose pointer is NULL counts as empty. */
 struct tvk_overlay {
-    struct tvk_words node_ids;
-    struct tvk_bytes node_arena;
-    struct tvk_words way_ids;
-    struct tvk_bytes way_arena;
-    struct tvk_words relation_ids;
-    struct tvk_bytes relation_arena;
-    struct tvk_words spans;
-    struct tvk_bytes bytes;
-    uint64_t counts[TVK_COUNTERS];
+    uint64_t *words;
+    size_t words_len;
+    uint8_t *bytes;
+    size_t bytes_len;
+    uint64_t counters[TVK_COUNTERS];
 };
 
-/* The two parts of a reader. Large: let it be static or in memory of its own. */
+/* The two arrays of a reader. Large: let it be static or in memory of its own. */
 struct tvk_reader {
     uint64_t words[TVK_READER_WORDS];
     uint8_t staged[TVK_STAGED_BYTES];
 };
 
-/* an array as a part: {pointer, how many} */
-#define TVK_LEND(array) {(array), sizeof(array) / sizeof((array)[0])}
+/* an array as a block: its pointer, and how many */
+#define TVK_LEND(array) (array), sizeof(array) / sizeof((array)[0])
 
-/* Static storage for so many ids and arena bytes a kind, strings and string bytes, and an overlay of that name over it; it is still to be set up. */
-#define TVK_STATIC_OVERLAY(name, ids, arena, strings, string_bytes)                                                                                   \
-    static uint64_t name##_node_ids[TVK_ID_WORDS * (ids)], name##_way_ids[TVK_ID_WORDS * (ids)], name##_relation_ids[TVK_ID_WORDS * (ids)];           \
-    static uint8_t name##_node_arena[arena], name##_way_arena[arena], name##_relation_arena[arena];                                                   \
-    static uint64_t name##_spans[TVK_STRING_WORDS * (strings)];                                                                                       \
-    static uint8_t name##_bytes[string_bytes];                                                                                                        \
-    static struct tvk_overlay name = {TVK_LEND(name##_node_ids),     TVK_LEND(name##_node_arena),     TVK_LEND(name##_way_ids), TVK_LEND(name##_way_arena), \
-                                      TVK_LEND(name##_relation_ids), TVK_LEND(name##_relation_arena), TVK_LEND(name##_spans),   TVK_LEND(name##_bytes),   \
-                                      {0}}
+/* Static storage for so many ids and arena bytes a kind, strings and string bytes, an overlay of that name over it, and its sizes as NAME_sizes. It is still to be set up:
+   tvk_overlay_set_up(&NAME, NAME_sizes, setting). */
+#define TVK_STATIC_OVERLAY(name, ids, arena, strings, string_bytes)                                                                \
+    static const struct tvk_sizes name##_sizes = {{(ids), (arena)}, {(ids), (arena)}, {(ids), (arena)}, (strings), (string_bytes)}; \
+    static uint64_t name##_words[TVK_WORDS(ids, ids, ids, strings)];                                                               \
+    static uint8_t name##_bytes[TVK_BYTES(arena, arena, arena, string_bytes)];                                                     \
+    static struct tvk_overlay name = {TVK_LEND(name##_words), TVK_LEND(name##_bytes), {0}}
 
-/* where an empty part lies: somewhere that is not NULL, which no call reads or writes */
-static inline uint64_t *tvk_words_at(struct tvk_words w)
+/* where an empty slice lies: somewhere that is not NULL, which no call reads or writes */
+static inline uint64_t *tvk_words_at(uint64_t *words)
 {
     static uint64_t none;
-    return w.at != NULL ? w.at : &none;
+    return words != NULL ? words : &none;
 }
 
-static inline uint8_t *tvk_bytes_at(struct tvk_bytes b)
+static inline uint8_t *tvk_bytes_at(uint8_t *bytes)
 {
     static uint8_t none;
-    return b.at != NULL ? b.at : &none;
+    return bytes != NULL ? bytes : &none;
 }
 
 static inline const uint64_t *tvk_ids_at(const int64_t *ids)
@@ -428,19 +413,17 @@ static inline size_t tvk_len_of(const void *at, size_t len)
     return at != NULL ? len : 0;
 }
 
-#define TVK_PART_WORDS(w) tvk_words_at(w), tvk_len_of((w).at, (w).len)
-#define TVK_PART_BYTES(b) tvk_bytes_at(b), tvk_len_of((b).at, (b).len)
-#define TVK_LENT(o)                                                                                                                                     \
-    TVK_PART_WORDS((o)->node_ids), TVK_PART_BYTES((o)->node_arena), TVK_PART_WORDS((o)->way_ids), TVK_PART_BYTES((o)->way_arena),                       \
-        TVK_PART_WORDS((o)->relation_ids), TVK_PART_BYTES((o)->relation_arena), TVK_PART_WORDS((o)->spans), TVK_PART_BYTES((o)->bytes), (o)->counts
+#define TVK_SOME_WORDS(words, len) tvk_words_at(words), tvk_len_of((words), (len))
+#define TVK_SOME_BYTES(bytes, len) tvk_bytes_at(bytes), tvk_len_of((bytes), (len))
+#define TVK_LENT(o) TVK_SOME_WORDS((o)->words, (o)->words_len), TVK_SOME_BYTES((o)->bytes, (o)->bytes_len), (o)->counters
 #define TVK_TEXT(text, len) tvk_text_at(text), tvk_len_of((text), (len))
 #define TVK_IDS(ids, len) tvk_ids_at(ids), tvk_len_of((ids), (len))
 
 /* ---- an overlay */
 
-static inline struct tvk_reply tvk_overlay_set_up(struct tvk_overlay *o, uint64_t setting)
+static inline struct tvk_reply tvk_overlay_set_up(struct tvk_overlay *o, struct tvk_sizes sizes, uint64_t setting)
 {
-    return tvk_set_up(TVK_LENT(o), setting);
+    return tvk_set_up(TVK_LENT(o), sizes, setting);
 }
 
 static inline struct tvk_reply tvk_overlay_is_sound(const struct tvk_overlay *o)
@@ -526,22 +509,17 @@ static inline struct tvk_view tvk_overlay_text(const struct tvk_overlay *o, uint
 /* two lists of the same length */
 static inline struct tvk_number tvk_overlay_live_ids(const struct tvk_overlay *o, uint8_t kind, uint64_t *ids, uint64_t *versions, size_t len)
 {
-    struct tvk_words i = {ids, len};
-    struct tvk_words v = {versions, len};
-    return tvk_live_ids(TVK_LENT(o), kind, TVK_PART_WORDS(i), TVK_PART_WORDS(v));
+    return tvk_live_ids(TVK_LENT(o), kind, TVK_SOME_WORDS(ids, len), TVK_SOME_WORDS(versions, len));
 }
 
 static inline struct tvk_number tvk_overlay_deleted_ids(const struct tvk_overlay *o, uint8_t kind, uint64_t *ids, uint64_t *versions, size_t len)
 {
-    struct tvk_words i = {ids, len};
-    struct tvk_words v = {versions, len};
-    return tvk_deleted_ids(TVK_LENT(o), kind, TVK_PART_WORDS(i), TVK_PART_WORDS(v));
+    return tvk_deleted_ids(TVK_LENT(o), kind, TVK_SOME_WORDS(ids, len), TVK_SOME_WORDS(versions, len));
 }
 
 static inline struct tvk_listing_reply tvk_overlay_listing(const struct tvk_overlay *o, void *out, size_t len)
 {
-    struct tvk_bytes page = {(uint8_t *)out, len};
-    return tvk_listing(TVK_LENT(o), TVK_PART_BYTES(page));
+    return tvk_listing(TVK_LENT(o), TVK_SOME_BYTES((uint8_t *)out, len));
 }
 
 /* ---- a reader */
@@ -603,8 +581,8 @@ static inline struct tvk_cursor tvk_ids_seek_find(const int64_t *ids, size_t len
 #undef TVK_IDS
 #undef TVK_TEXT
 #undef TVK_LENT
-#undef TVK_PART_BYTES
-#undef TVK_PART_WORDS
+#undef TVK_SOME_BYTES
+#undef TVK_SOME_WORDS
 
 /* ==== helpers, which call no entry */
 
@@ -614,12 +592,85 @@ static inline void tvk_reader_clear(struct tvk_reader *r)
     memset(r->words, 0, sizeof r->words);
 }
 
+/* ---- sizes, and the parts of the bytes */
+
+/* the sizes behind counters, as set-up wrote them */
+static inline struct tvk_sizes tvk_sizes_in(const uint64_t counters[TVK_COUNTERS])
+{
+    const uint64_t *ids = counters + TVK_LENT_IDS;
+    const uint64_t *arena = counters + TVK_LENT_ARENA;
+    struct tvk_sizes sizes = {{ids[TVK_NODE], arena[TVK_NODE]}, {ids[TVK_WAY], arena[TVK_WAY]}, {ids[TVK_RELATION], arena[TVK_RELATION]}, 0, 0};
+    sizes.strings = counters[TVK_LENT_STRINGS];
+    sizes.string_bytes = counters[TVK_LENT_STRING_BYTES];
+    return sizes;
+}
+
+static inline int tvk_kind_size_fits(struct tvk_kind_size size)
+{
+    return 1 <= size.ids && size.ids <= TVK_MAX_IDS && size.bytes <= TVK_MAX_ARENA;
+}
+
+/* whether each size is one that may be lent */
+static inline int tvk_sizes_fit(struct tvk_sizes sizes)
+{
+    return tvk_kind_size_fits(sizes.nodes) && tvk_kind_size_fits(sizes.ways) && tvk_kind_size_fits(sizes.relations) && 1 <= sizes.strings &&
+           sizes.strings <= TVK_MAX_STRINGS && sizes.string_bytes <= TVK_MAX_STRING_BYTES;
+}
+
+/* How long the blocks of these sizes are. Where a size is none that may be lent, both are 0; the words of an overlay never are. */
+static inline size_t tvk_sizes_words(struct tvk_sizes sizes)
+{
+    return tvk_sizes_fit(sizes) ? (size_t)TVK_WORDS(sizes.nodes.ids, sizes.ways.ids, sizes.relations.ids, sizes.strings) : 0;
+}
+
+static inline size_t tvk_sizes_bytes(struct tvk_sizes sizes)
+{
+    return tvk_sizes_fit(sizes) ? (size_t)TVK_BYTES(sizes.nodes.bytes, sizes.ways.bytes, sizes.relations.bytes, sizes.string_bytes) : 0;
+}
+
+/* bytes of a block: where they lie, and how many */
+struct tvk_bytes {
+    uint8_t *at;
+    size_t len;
+};
+
+/* Where the first arenas, so many, end in the bytes. What the block does not have is missing at its end: no counters lead outside it. */
+static inline size_t tvk_arenas_end(const struct tvk_overlay *o, size_t arenas)
+{
+    size_t left = tvk_len_of(o->bytes, o->bytes_len);
+    size_t end = 0;
+    for (size_t kind = 0; kind < arenas; kind++) {
+        uint64_t size = o->counters[TVK_LENT_ARENA + kind];
+        size_t part = size < left ? (size_t)size : left;
+        end += part;
+        left -= part;
+    }
+    return end;
+}
+
+static inline struct tvk_bytes tvk_bytes_between(const struct tvk_overlay *o, size_t from, size_t to)
+{
+    struct tvk_bytes part = {NULL, 0};
+    if (o->bytes != NULL) {
+        part.at = o->bytes + from;
+        part.len = to - from;
+    }
+    return part;
+}
+
 /* the arena that a view of a kind's record counts in; empty where the number is no kind */
 static inline struct tvk_bytes tvk_overlay_arena(const struct tvk_overlay *o, uint8_t kind)
 {
-    struct tvk_bytes none = {NULL, 0};
-    return kind == TVK_NODE ? o->node_arena : kind == TVK_WAY ? o->way_arena : kind == TVK_RELATION ? o->relation_arena : none;
+    return kind <= TVK_RELATION ? tvk_bytes_between(o, tvk_arenas_end(o, kind), tvk_arenas_end(o, kind + 1u)) : tvk_bytes_between(o, 0, 0);
 }
+
+/* the string bytes, in which a view of a text counts */
+static inline struct tvk_bytes tvk_overlay_string_bytes(const struct tvk_overlay *o)
+{
+    return tvk_bytes_between(o, tvk_arenas_end(o, 3), tvk_len_of(o->bytes, o->bytes_len));
+}
+
+/* ---- numbers */
 
 /* the signed number of bits in a word */
 static inline int64_t tvk_i64_of(uint64_t bits)

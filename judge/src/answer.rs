@@ -204,6 +204,12 @@ impl Sizes {
     pub const ROADLIST: Self =
         Self { ids: [512; 3], arenas: [8_192; 3], strings: 512, string_bytes: 8_192, output: 65_536 };
 
+    /// As numbers: ids of the three kinds, arena bytes of the same, strings, string bytes.
+    pub fn numbers(&self) -> [u64; 8] {
+        let ([a, b, c], [d, e, f]) = (self.ids, self.arenas);
+        [a, b, c, d, e, f, self.strings, self.string_bytes].map(|size| size as u64)
+    }
+
     /// The first of 13, 14 and 15 that the overlay's state would not fit.
     pub(crate) fn exceeded(&self, state: &State) -> Option<u32> {
         let kinds = || state.kinds.iter().enumerate();

@@ -7,10 +7,10 @@ use judge::compare::ground::{self, Ground, Judge, NONE};
 use judge::compare::lookups::{self, JudgeLookups, LookupPort};
 use judge::compare::program::{self, Program, edge_numbers_met, expected};
 use judge::compare::reads::{everything, nothing, the_listing};
-use judge::compare::words::{Words, rows};
+use judge::compare::words::{Words, is_sound, rows};
 use judge::compare::{Compared, direct, overlay};
 use judge::ground::stamp_with_signs;
-use judge::{KINDS, Sizes, run_sized};
+use judge::{KINDS, Kind, Sizes, run_sized};
 
 /// What a fault makes of a call: what was lent before it, what is lent after it, and its answer.
 type Fault = fn(&Call, &Storage, &mut Storage, &mut Answer);
@@ -89,7 +89,7 @@ fn digits_for_signs(line: &[u8]) -> Vec<u8> {
 }
 
 /// Each fault, with the comparisons that must find it, by their numbers above.
-const FAULTS: [(&str, Fault, &[usize]); 26] = [
+const FAULTS: [(&str, Fault, &[usize]); 34] = [
     (
         "refuses all",
         |_, before, lent, answer| {
@@ -110,8 +110,8 @@ const FAULTS: [(&str, Fault, &[usize]); 26] = [
     (
         "invents used bytes",
         |call, _, lent, _| {
-            if is_change(call) && lent.counts[4] > 0 {
-                lent.counts[4] += 1;
+            if is_change(call) && lent.counters[4] > 0 {
+                lent.counters[4] += 1;
             }
         },
         &[1, 2, 3, 6, 8, 9],
@@ -150,8 +150,8 @@ const FAULTS: [(&str, Fault, &[usize]); 26] = [
     (
         "writes past the record",
         |call, _, lent, _| {
-            let end = lent.counts[4] as usize;
-            if let (true, Some(byte)) = (is_change(call), lent.arenas[1].get_mut(end)) {
+            let end = lent.counters[4] as usize;
+            if let (true, Some(byte)) = (is_change(call), lent.arena_mut(Kind::Way).get_mut(end)) {
                 *byte = !*byte;
             }
         },
@@ -160,8 +160,8 @@ const FAULTS: [(&str, Fault, &[usize]); 26] = [
     (
         "writes past the rows",
         |call, _, lent, _| {
-            let end = 3 * lent.counts[1] as usize;
-            if let (true, Some(word)) = (is_change(call), lent.tables[1].get_mut(end)) {
+            let end = 3 * lent.counters[1] as usize;
+            if let (true, Some(word)) = (is_change(call), lent.table_mut(Kind::Way).get_mut(end)) {
                 *word = !*word;
             }
         },
@@ -190,8 +190,8 @@ const FAULTS: [(&str, Fault, &[usize]); 26] = [
     (
         "clears the arenas at set-up",
         |call, _, lent, answer| {
-            if matches!(call, Call::SetUp(_)) && answer.number() == 0 {
-                lent.arenas.iter_mut().for_each(|arena| arena.fill(0));
+            if matches!(call, Call::SetUp(..)) && answer.number() == 0 {
+                KINDS.iter().for_each(|kind| lent.arena_mut(*kind).fill(0));
             }
         },
         &[0, 1, 10],
@@ -200,7 +200,7 @@ const FAULTS: [(&str, Fault, &[usize]); 26] = [
         "keeps one bit of the setting",
         |call, _, lent, _| {
             if let Call::Allow(_) = call {
-                lent.counts[8] &= 1;
+                lent.counters[8] &= 1;
             }
         },
         &[1, 2, 3, 10],
@@ -209,8 +209,9 @@ const FAULTS: [(&str, Fault, &[usize]); 26] = [
         "a floor dropped",
         |call, _, lent, answer| {
             if matches!(call, Call::Push(..)) && answer.number() == 0 {
-                let (rows, _) = lent.tables[1].as_chunks_mut::<3>();
-                rows[..lent.counts[1] as usize].iter_mut().for_each(|row| row[2] = NO_FLOOR);
+                let known = lent.counters[1] as usize;
+                let (rows, _) = lent.table_mut(Kind::Way).as_chunks_mut::<3>();
+                rows[..known].iter_mut().for_each(|row| row[2] = NO_FLOOR);
             }
         },
         &[1, 2, 3],
@@ -283,7 +284,7 @@ const FAULTS: [(&str, Fault, &[usize]); 26] = [
         "a record to the arena's end",
         |call, _, lent, answer| {
             if let (Call::Get(kind @ 0..=2, _), Answer::Part { found: 1, start, len, .. }) = (call, answer) {
-                *len = lent.counts[3 + usize::from(*kind)] as usize - *start;
+                *len = lent.counters[3 + usize::from(*kind)] as usize - *start;
             }
         },
         &[1, 2, 10],
@@ -300,11 +301,99 @@ const FAULTS: [(&str, Fault, &[usize]); 26] = [
     (
         "one more id than the most",
         |call, _, lent, answer| {
-            if matches!(call, Call::IsSound) && lent.tables[2].len() / 3 == 4_097 {
+            if matches!(call, Call::IsSound) && lent.table(Kind::Relation).len() / 3 == 4_097 {
                 swapped(answer, 22, 0);
             }
         },
         &[12],
+    ),
+    (
+        "a block lent longer later",
+        |call, before, _, answer| {
+            let mut shorter = before.clone();
+            if matches!(call, Call::IsSound) && shorter.bytes.pop().is_some() && is_sound(&shorter) {
+                swapped(answer, 22, 0);
+            }
+        },
+        &[12],
+    ),
+    (
+        "words left over",
+        |call, before, _, answer| {
+            let mut shorter = before.clone();
+            if matches!(call, Call::IsSound) && shorter.words.pop().is_some() && is_sound(&shorter) {
+                swapped(answer, 22, 0);
+            }
+        },
+        &[12],
+    ),
+    (
+        "sizes whose sum comes round",
+        |call, before, lent, answer| {
+            if let (Call::SetUp(sizes, setting), 1) = (call, answer.number()) {
+                let sizes = sizes.map(|size| size % (1 << 63));
+                *answer = Words::default().call(lent, &Call::SetUp(sizes, *setting));
+                if answer.number() == 1 {
+                    *lent = before.clone();
+                }
+            }
+        },
+        &[0],
+    ),
+    (
+        "sizes that leave a byte over",
+        |call, before, lent, answer| {
+            if let (Call::SetUp(sizes, setting), 1) = (call, answer.number()) {
+                let mut shorter = before.clone();
+                let last = shorter.bytes.pop();
+                *answer = Words::default().call(&mut shorter, &Call::SetUp(*sizes, *setting));
+                shorter.bytes.extend(last);
+                *lent = shorter;
+            }
+        },
+        &[0, 12],
+    ),
+    (
+        "a size not written",
+        |call, before, lent, answer| {
+            if matches!(call, Call::SetUp(..)) && answer.number() == 0 {
+                lent.counters[16] = before.counters[16];
+            }
+        },
+        &[0, 1, 12],
+    ),
+    (
+        "sizes written on 1",
+        |call, _, lent, answer| {
+            if let (Call::SetUp(sizes, _), 1) = (call, answer.number()) {
+                lent.give(sizes);
+            }
+        },
+        &[0, 10, 12],
+    ),
+    (
+        "a size changed by a push",
+        |call, _, lent, answer| {
+            if matches!(call, Call::Push(..)) && answer.number() == 0 {
+                lent.counters[12] += 1;
+                lent.counters[13] = lent.counters[13].saturating_sub(1);
+            }
+        },
+        &[1, 2, 3, 4, 5, 10],
+    ),
+    (
+        "ways by the sizes of nodes",
+        |call, before, _, answer| {
+            if let Call::Push(1, ..) = call {
+                let mut other = before.clone();
+                other.counters[13] = before.counters[12];
+                let full = Words { told: Some(true) }.call(&mut other, call).number() == 15;
+                if full {
+                    swapped(answer, 0, 15);
+                }
+            }
+        },
+        &[2],
     ),
     (
         "a word that is no code taken",

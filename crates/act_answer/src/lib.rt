@@ -7,9 +7,12 @@ ghost use mir.Syntax.{w64};
 ghost use mir.Val.{toZ};
 ghost use Rattle.base.specs.Bytes.{Bytes};
 ghost use Rattle.kind_store.specs.KindStore.{kindStoreWith, knownVersion, checked, idRoom};
-ghost use Rattle.overlay.specs.Overlay.{lent};
+ghost use Rattle.overlay.specs.Lent.{lent};
 ghost use Rattle.store.specs.Lent.{kindStoreLent, settingIn};
-ghost use Rattle.act_answer.specs.Answer.{roomAnswer, kindStoreAnswer, pushAnswer, deleteAnswer};
+ghost use Rattle.act_answer.specs.Answer.{roomAnswer, kindStoreAnswer, recordFits, pushAnswer, deleteAnswer};
+use blocks::ARENA;
+use blocks::COUNTERS;
+use blocks::SETTING;
 use kind::Kind;
 use kind_store::Kept;
 use refusal::Refusal;
@@ -77,7 +80,7 @@ fn answer_at(
     kind: Kind,
     table: &[u64],
     arena: &[u8],
-    used: &[u64; 9],
+    used: &[u64; COUNTERS],
     id: u64,
     claim: Version,
     fits: bool,
@@ -86,66 +89,83 @@ fn answer_at(
     ensures { λ r. ⌜ r ≡ kindStoreAnswer kind (settingIn used) (kindStoreLent at table arena used) (toZ w64 id) claim fits ⌝ }
 {
     let ids = used[at];
-    let Admit::Below(held) = claim_admit(kind, used[8], table, ids, arena, id, claim) else {
+    let Admit::Below(held) = claim_admit(kind, used[SETTING], table, ids, arena, id, claim) else {
         return room_answer(has_id_room(table, ids, id), fits);
     };
     Kept::Refused(Refusal::Regression(held))
 }
 
+// A push of a record of so many bytes on that kind.
+fn push_answer_at(
+    at: usize,
+    kind: Kind,
+    table: &[u64],
+    arena: &[u8],
+    used: &[u64; COUNTERS],
+    id: u64,
+    claim: Version,
+    len: usize,
+) -> Kept
+    requires { ⌜ at < 3 ⌝ }
+    ensures { λ r. ⌜ r ≡ kindStoreAnswer kind (settingIn used) (kindStoreLent at table arena used) (toZ w64 id) claim (recordFits (kindStoreLent at table arena used) len) ⌝ }
+{
+    let fits = record_fits(arena, used[at + ARENA], len);
+    answer_at(at, kind, table, arena, used, id, claim, fits)
+}
+
 // A push of a record of so many bytes: 12, 14, 15 or taken.
 pub fn push_answer(
-    ni: &[u64],
-    na: &[u8],
-    wi: &[u64],
-    wa: &[u8],
-    ri: &[u64],
-    ra: &[u8],
-    ss: &[u64],
-    sb: &[u8],
-    us: &[u64; 9],
+    words: &[u64],
+    bytes: &[u8],
+    counters: &[u64; COUNTERS],
     kind: Kind,
     id: u64,
     claim: Version,
     len: usize,
 ) -> Kept
-    ensures { λ r. ⌜ r ≡ pushAnswer kind (toZ w64 id) claim len (lent ni na wi wa ri ra ss sb us) ⌝ }
+    ensures { λ r. ⌜ r ≡ pushAnswer kind (toZ w64 id) claim len (lent words bytes counters) ⌝ }
 {
-    match kind {
-        Kind::Node => {
-            let fits = record_fits(na, us[3], len);
-            answer_at(0, kind, ni, na, us, id, claim, fits)
-        }
-        Kind::Way => {
-            let fits = record_fits(wa, us[4], len);
-            answer_at(1, kind, wi, wa, us, id, claim, fits)
-        }
-        Kind::Relation => {
-            let fits = record_fits(ra, us[5], len);
-            answer_at(2, kind, ri, ra, us, id, claim, fits)
-        }
-    }
+    let p = blocks::part_in(kind, counters, words.len(), bytes.len());
+    let from = p.from;
+    let to = p.to;
+    let first = p.first;
+    let end = p.end;
+    push_answer_at(
+        p.at,
+        kind,
+        &words[from..to],
+        &bytes[first..end],
+        counters,
+        id,
+        claim,
+        len,
+    )
 }
 
 // A delete: 12, 14 or taken.
 pub fn delete_answer(
-    ni: &[u64],
-    na: &[u8],
-    wi: &[u64],
-    wa: &[u8],
-    ri: &[u64],
-    ra: &[u8],
-    ss: &[u64],
-    sb: &[u8],
-    us: &[u64; 9],
+    words: &[u64],
+    bytes: &[u8],
+    counters: &[u64; COUNTERS],
     kind: Kind,
     id: u64,
     claim: Version,
 ) -> Kept
-    ensures { λ r. ⌜ r ≡ deleteAnswer kind (toZ w64 id) claim (lent ni na wi wa ri ra ss sb us) ⌝ }
+    ensures { λ r. ⌜ r ≡ deleteAnswer kind (toZ w64 id) claim (lent words bytes counters) ⌝ }
 {
-    match kind {
-        Kind::Node => answer_at(0, kind, ni, na, us, id, claim, true),
-        Kind::Way => answer_at(1, kind, wi, wa, us, id, claim, true),
-        Kind::Relation => answer_at(2, kind, ri, ra, us, id, claim, true),
-    }
+    let p = blocks::part_in(kind, counters, words.len(), bytes.len());
+    let from = p.from;
+    let to = p.to;
+    let first = p.first;
+    let end = p.end;
+    answer_at(
+        p.at,
+        kind,
+        &words[from..to],
+        &bytes[first..end],
+        counters,
+        id,
+        claim,
+        true,
+    )
 }

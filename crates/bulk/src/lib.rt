@@ -1,20 +1,20 @@
 // All ids of a kind that are live, or all that are deleted, each with its known version, into two lent lists in one call. It first tests that the
 // overlay is sound (22).
 ghost use mathlib.Core.Path.{_≡_};
-ghost use mathlib.Core.List.{List, map};
+ghost use mathlib.Core.List.{map};
 ghost use Prim.Native.Nat.{ℕ, _≤_};
 ghost use lib.ListN.{length};
 ghost use mir.Syntax.{w64};
 ghost use mir.Val.{toZ};
-ghost use Rattle.base.specs.Bytes.{Bytes};
 ghost use Rattle.version_floor.specs.Version.{wordOf};
 ghost use Rattle.little.specs.Little.{over};
 ghost use Rattle.kind_store.specs.KindStore.{kindStoreWith, knownVersion};
 ghost use Rattle.listed.specs.Listed.{rowsRead, rowsOn};
-ghost use Rattle.overlay.specs.Overlay.{lent, kindStoreOf};
-ghost use Rattle.reading.specs.Lent.{kindStoresLent};
+ghost use Rattle.overlay.specs.Lent.{lent};
+ghost use Rattle.overlay.specs.Overlay.{kindStoreOf};
 ghost use Rattle.bulk.specs.Bulk.{allIdsOn};
 ghost use Rattle.bulk.specs.Rows.{rowId, rowVersion, kindIds};
+use blocks::COUNTERS;
 use kind::Kind;
 use listed::Side;
 use reading::Read;
@@ -90,49 +90,49 @@ fn put_kind(
 
 // The list of one kind of the three.
 fn put_one(
-    ni: &[u64],
-    na: &[u8],
-    wi: &[u64],
-    wa: &[u8],
-    ri: &[u64],
-    ra: &[u8],
-    us: &[u64; 9],
-    kind: Kind,
-    side: Side,
-    ids: &mut [u64],
-    versions: &mut [u64],
-) -> Read
-    ensures { λ r. ⌜ ((ss : List ℕ) (sb : Bytes) → record { ids = now (ids .exit); versions = now (versions .exit); answer = r }
-        ≡ kindIds kind side (kindStoreOf kind (kindStoresLent ss sb ni na wi wa ri ra us)) (now (ids .entry)) (now (versions .entry))) ⌝ }
-{
-    match kind {
-        Kind::Node => put_kind(kind, side, ni, us[0], na, ids, versions),
-        Kind::Way => put_kind(kind, side, wi, us[1], wa, ids, versions),
-        Kind::Relation => put_kind(kind, side, ri, us[2], ra, ids, versions),
-    }
-}
-
-// The bits of all live or all deleted ids of a kind in OSM order, and the known version of each as a word: 22, 19, or how many they are.
-pub fn all_ids(
-    ni: &[u64],
-    na: &[u8],
-    wi: &[u64],
-    wa: &[u8],
-    ri: &[u64],
-    ra: &[u8],
-    ss: &[u64],
-    sb: &[u8],
-    us: &[u64; 9],
+    words: &[u64],
+    bytes: &[u8],
+    counters: &[u64; COUNTERS],
     kind: Kind,
     side: Side,
     ids: &mut [u64],
     versions: &mut [u64],
 ) -> Read
     ensures { λ r. ⌜ record { ids = now (ids .exit); versions = now (versions .exit); answer = r }
-        ≡ allIdsOn kind side (now (ids .entry)) (now (versions .entry)) (lent ni na wi wa ri ra ss sb us) ⌝ }
+        ≡ kindIds kind side (kindStoreOf kind (lent words bytes counters)) (now (ids .entry)) (now (versions .entry)) ⌝ }
 {
-    if overlay::is_sound(ni, na, wi, wa, ri, ra, ss, sb, us) {
-        return put_one(ni, na, wi, wa, ri, ra, us, kind, side, ids, versions);
+    let p = blocks::part_in(kind, counters, words.len(), bytes.len());
+    let at = p.at;
+    let from = p.from;
+    let to = p.to;
+    let first = p.first;
+    let end = p.end;
+    put_kind(
+        kind,
+        side,
+        &words[from..to],
+        counters[at],
+        &bytes[first..end],
+        ids,
+        versions,
+    )
+}
+
+// The bits of all live or all deleted ids of a kind in OSM order, and the known version of each as a word: 22, 19, or how many they are.
+pub fn all_ids(
+    words: &[u64],
+    bytes: &[u8],
+    counters: &[u64; COUNTERS],
+    kind: Kind,
+    side: Side,
+    ids: &mut [u64],
+    versions: &mut [u64],
+) -> Read
+    ensures { λ r. ⌜ record { ids = now (ids .exit); versions = now (versions .exit); answer = r }
+        ≡ allIdsOn kind side (now (ids .entry)) (now (versions .entry)) (lent words bytes counters) ⌝ }
+{
+    if overlay::is_sound(words, bytes, counters) {
+        return put_one(words, bytes, counters, kind, side, ids, versions);
     }
     Read::Refused(Refusal::Unsound)
 }

@@ -1,5 +1,5 @@
 -- What an overlay holds is what the texts that were taken in and the acts that were accepted come to. One act or one text more keeps that, whoever makes it: a direct call or a reader's event.
-use Prim.Native.Nat.{ℕ, _/_, _^_, _<_, _≤_}
+use Prim.Native.Nat.{ℕ}
 use mathlib.Core.Path.{_≡_, refl, sym, _∙_, ap, subst}
 use mathlib.Core.Bool.{Bool, true, false}
 use mathlib.Core.Logic.{_↔_}
@@ -9,9 +9,8 @@ use lib.IntN.{ℤ}
 use lib.ListN.{length}
 use mir.Syntax.{w64}
 use mir.Val.{SFits}
-use borrow.Author.Tests.{leb-true}
 use Rattle.base.specs.Bytes.{Bytes, all}
-use Rattle.base.proofs.Split.{both-left, both-right, clash}
+use Rattle.base.proofs.Split.{clash}
 use Rattle.base.proofs.Lists.{all-nil, all-cons, all-head, all-tail, all-append}
 use Rattle.little.specs.Little.{isByte}
 use Rattle.text.specs.Check.{isText}
@@ -44,7 +43,8 @@ use Rattle.kind_store.proofs.Claims.{Narrow}
 use Rattle.kind_store.proofs.KindStores.{push-laid, push-arena, delete-laid, delete-arena}
 use Rattle.sound.specs.Sound.{SoundKindStore}
 use Rattle.sound.proofs.Keeps as Sounds
-use Rattle.overlay.specs.Overlay.{Overlay, kindStoreOf, withKindStore, withTexts, largest, sizesFit, kindStoreFits, textsFit, empty}
+use Rattle.blocks.specs.Sizes.{largest}
+use Rattle.overlay.specs.Overlay.{Overlay, kindStoreOf, withKindStore, withTexts, sizesFit, empty}
 use Rattle.overlay.specs.Given.{InBytes}
 use Rattle.overlay.specs.Sound.{Sound}
 use Rattle.overlay.specs.Calls.{OverlayAfter, setUp, allowOn}
@@ -56,7 +56,8 @@ use Rattle.direct.proofs.Answers.{intern-store}
 use Rattle.overlay.proofs.Keeps.{setup-sound, setup-bytes, allow-sound, allow-bytes}
 use Rattle.direct.proofs.Keeps.{intern-sound, intern-bytes}
 use Rattle.overlay.proofs.Bounds.{over-small}
-use Rattle.overlay.proofs.KindStores.{kind-store-same, kind-store-other, kind-store-texts, kind-store-setting, each-kind-store, texts-kind-store, setting-kind-store, sized-kind-store, sized-texts, put-sized}
+use Rattle.overlay.proofs.KindStores.{kind-store-same, kind-store-other, kind-store-texts, kind-store-setting, each-kind-store, texts-kind-store, setting-kind-store}
+use Rattle.overlay.proofs.Tiles.{sized-arena, span-lent, put-sized}
 use Rattle.calls.specs.Known.{Regresses}
 use Rattle.listing.specs.Known.{knownIn}
 use Rattle.listing.specs.Table.{isRank, Ranked}
@@ -81,10 +82,6 @@ pub record Reflects (refused : Bool) (o : Overlay) (held : List Bytes) (acts : L
   pub ids : all named acts ≡ true
   pub ranks : Ranked o
 
-pub arena-short : (s : KindStore) → kindStoreFits largest s ≡ true → length (s .arena) < 2 ^ 63
-unfolding kindStoreFits
-arena-short s h = omega (arith, leb-true (length (s .arena)) 1048576 (both-right _ _ (both-right _ _ h)))
-
 -- what no act names is not known
 unnamed : (x : Summary.Known) (acts : List (Act Bytes)) (key : Key) → all named acts ≡ true → fitsSigned w64 (key .id) ≡ false → Summary.knownFrom x acts key ≡ x
 unfolding Summary.knownFrom
@@ -92,15 +89,10 @@ unnamed x [] key h f = refl
 unnamed x (a ∷ acts) key h f =
     rw (other-key key (keyOf a) (λ e. clash (all-head named a acts h) (rw e at f))) (unnamed x acts key (all-tail named a acts h) f)
 
--- one string is lent at least
-span-lent : (o : Overlay) → sizesFit largest o ≡ true → 2 ≤ length (o .texts .spans)
-unfolding textsFit
-span-lent o h = omega (arith, leb-true 1 (length (o .texts .spans) / 2) (both-left _ _ (sized-texts largest o h)))
-
 module _ (refused : Bool) (o : Overlay) (held : List Bytes) (acts : List (Act Bytes)) (w : Reflects refused o held acts) where
   -- each kind store is fair
   pub well-formed-of : (k : Kind) → WellFormed k (kindStoreOf k o)
-  well-formed-of k = well-formed-sound (o .texts .strings) k (kindStoreOf k o) (w .sound .kindStores k) (w .bytes .arenas k) (arena-short (kindStoreOf k o) (sized-kind-store largest o (w .sound .sizes) k))
+  well-formed-of k = well-formed-sound (o .texts .strings) k (kindStoreOf k o) (w .sound .kindStores k) (w .bytes .arenas k) (omega (arith, sized-arena o (w .sound .sizes) k))
 
   -- ---- an act on a kind
 
@@ -241,18 +233,18 @@ module _ (refused : Bool) (o : Overlay) (held : List Bytes) (acts : List (Act By
 -- ---- an empty overlay stands for no act
 
 pub reflects-empty : (refused : Bool) (setting : ℕ) (o : Overlay) → (refused ≡ true → setting ≡ 0) → sizesFit largest o ≡ true → InBytes o → Reflects refused (empty setting o) noTexts []
-reflects-empty refused setting o set fit b = bySetUp setting o (λ s e. clash fit s) (λ s e. go (ap (λ (z : OverlayAfter). z .answer) e) (ap (λ (z : OverlayAfter). z .overlay) e))
+reflects-empty refused setting o set fit b = bySetUp (o .sizes) setting o (λ s e. clash fit s) (λ s e. go (ap (λ (z : OverlayAfter). z .answer) e) (ap (λ (z : OverlayAfter). z .overlay) e))
   where
     told : (k : Kind) → Tells k refused (kindStoreOf k (empty setting o)) noTexts []
     told Node = tells-nothing Node refused (o .nodes .table) (o .nodes .arena) noTexts
     told Way = tells-nothing Way refused (o .ways .table) (o .ways .arena) noTexts
     told Relation = tells-nothing Relation refused (o .relations .table) (o .relations .arena) noTexts
 
-    go : setUp setting o .answer ≡ Taken → setUp setting o .overlay ≡ empty setting o → Reflects refused (empty setting o) noTexts []
+    go : setUp (o .sizes) setting o .answer ≡ Taken → setUp (o .sizes) setting o .overlay ≡ empty setting o → Reflects refused (empty setting o) noTexts []
     go e f =
         record {
-          sound = subst Sound f (setup-sound setting o (ap takenIn e));
-          bytes = subst InBytes f (setup-bytes setting o b);
+          sound = subst Sound f (setup-sound (o .sizes) setting o (ap takenIn e));
+          bytes = subst InBytes f (setup-bytes (o .sizes) setting o b);
           set = set;
           texts = Interns.fresh-texts (o .texts .spans) (o .texts .bytes) (span-lent o fit);
           tells = told;

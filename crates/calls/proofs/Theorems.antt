@@ -31,18 +31,19 @@ use Rattle.interner.specs.Texts.{handleOf, takeIn}
 use Rattle.interner.specs.Sound.{textsOf}
 use Rattle.page.specs.Summary as Summary
 use Rattle.kind_store.specs.KindStore as KindStore
-use Rattle.kind_store.specs.declared.Kept.the-variants.{Refused}
+use Rattle.kind_store.specs.declared.Kept.the-variants.{Taken, Refused}
 use Rattle.field.specs.Field.{got}
 use Rattle.acts.specs.Turn.{Turn, turn}
 use Rattle.acts.specs.Call.{begin, worldAfter, actsOf, linesRead}
-use Rattle.overlay.specs.Overlay.{Overlay, kindStoreOf, withSetting, largest, sizesFit, empty}
+use Rattle.blocks.specs.Sizes.{largest}
+use Rattle.overlay.specs.Overlay.{Overlay, kindStoreOf, withSetting, sizesFit, empty}
 use Rattle.overlay.specs.Given.{InBytes, headFits}
 use Rattle.overlay.specs.Sound.{isSound}
-use Rattle.overlay.specs.Calls.{OverlayAfter}
+use Rattle.overlay.specs.Calls.{OverlayAfter, setUp}
 use Rattle.direct.specs.Calls.{pushOn, deleteOn, internOn}
 use Rattle.store.specs.declared.Handle.the-variants as H
 use Rattle.direct.proofs.Answers.{push-store, delete-store}
-use Rattle.overlay.proofs.Answers.{byAllow}
+use Rattle.overlay.proofs.Answers.{bySetUp, byAllow}
 use Rattle.overlay.proofs.Bounds.{id-given}
 use Rattle.overlay.proofs.Decides.{decides}
 use Rattle.direct.proofs.Keeps.{intern-kept}
@@ -58,6 +59,10 @@ use Rattle.listing.specs.Known.{knownIn}
 use Rattle.calls.proofs.Reflects.{Reflects, reflects-empty, page-reflects, push-regresses, delete-regresses, admit-regresses}
 use Rattle.calls.proofs.Stops.{stopped-calls}
 use Rattle.calls.proofs.Lists.{Agrees, agrees-fine, agrees-calls, lines-counted}
+
+-- set-up with the overlay's sizes leaves what the calls start with
+pub set-up-starts : (setting : ℕ) (o : Overlay) → sizesFit largest o ≡ true → (parts : ℕ → Bytes) → setUp (o .sizes) setting o ≡ record { overlay = started setting o parts .overlay; answer = Taken }
+set-up-starts setting o sizes parts = bySetUp (o .sizes) setting o (λ s e. clash sizes s) (λ s e. e)
 
 module _ (setting : ℕ) (o : Overlay) (sizes : sizesFit largest o ≡ true) (lent : InBytes o) (parts : ℕ → Bytes) (room : PartsGiven parts) where
   -- an empty overlay and fresh readers agree with no calls

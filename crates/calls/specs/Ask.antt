@@ -56,7 +56,7 @@ pub record Storage : Type 0 where
   pub readers : ℕ → EventReader
   pub parts : ℕ → Bytes
 
--- "start empty"; "readers begin fresh", whatever bytes are lent to them
+-- "start empty", set up with the overlay's sizes (proofs/Theorems: set-up-starts); "readers begin fresh", whatever bytes are lent to them
 abbrev pub started : ℕ → Overlay → (ℕ → Bytes) → Storage
 started setting o parts = record { overlay = empty setting o; readers = λ n. freshReader; parts = parts }
 

@@ -6,18 +6,32 @@ use mathlib.Core.List.{List, _++_}
 use lib.ListN.{length, drop}
 use lib.Seq.{take-append-seam, drop-append-seam}
 use Rattle.base.specs.Bytes.{Bytes, all}
+use Rattle.kind.specs.declared.Kind.the-variants.{Node, Way, Relation}
 use Rattle.interner.proofs.Interns as Interns
-use Rattle.overlay.specs.Overlay.{Overlay}
+use Rattle.kind_store.specs.KindStore.{takenIn}
+use Rattle.blocks.specs.declared.Sizes.{Sizes}
+use Rattle.overlay.specs.Overlay.{Overlay, withSizes}
+use Rattle.overlay.specs.Given.{InBytes}
+use Rattle.overlay.specs.Calls.{setUp}
+use Rattle.overlay.proofs.Answers.{setup-taken}
 use Rattle.page.proofs.Theorem.{same-page}
 use Rattle.listing.specs.declared.Listed.the-variants.{Length}
 use Rattle.listing.specs.Call.{Output}
 use Rattle.listing.proofs.First.{list-acts}
 use Rattle.page.specs.Summary.{summary}
 use Rattle.page.specs.Listing.{listing}
-use Rattle.calls.specs.Ask.{Ask, askFits, refusing}
+use Rattle.calls.specs.Ask.{Ask, PartsGiven, started, askFits, refusing}
 use Rattle.calls.proofs.Reflects.{ids-reflect}
 use Rattle.calls.proofs.Theorems.{reflects-after, texts-held, page-known, regression-push, regression-delete, regression-event}
 use Rattle.condition.specs.Condition3.{Start, storageLeft, worldLeft, acceptedActs, listedAfter, pageLength, PageListed, RegressionRefused, Condition3}
+
+-- Whatever is lent: where set-up takes the sizes that it is given, what is lent with these sizes is such a start, and set-up leaves what the lists begin with.
+pub taken-start : (z : Sizes) (setting : ℕ) (o : Overlay) (ps : ℕ → Bytes) → takenIn (setUp z setting o .answer) ≡ true → InBytes o → PartsGiven ps
+    → Start (withSizes z o) ps × (setUp z setting o .overlay ≡ started setting (withSizes z o) ps .overlay)
+taken-start z setting o ps taken lent parts =
+    let t = setup-taken z setting o taken in
+    let b : InBytes (withSizes z o) = record { arenas = λ k. elim k [ Node ↦ lent .arenas Node | Way ↦ lent .arenas Way | Relation ↦ lent .arenas Relation ]; texts = lent .texts } in
+    (record { sizes = t .0; bytes = b; parts = parts }, t .1)
 
 module _ (o : Overlay) (ps : ℕ → Bytes) (cs : List Ask) (start : Start o ps) (given : all askFits cs ≡ true) (refuses : all refusing cs ≡ true) where
   -- an output that is long enough gets the page of the accepted acts

@@ -23,7 +23,8 @@ use Rattle.compact.specs.declared.PushHead.{PushHead}
 use Rattle.legal.specs.Judge.{faultFor}
 use Rattle.legal.specs.declared.Fault.the-variants as F
 use Rattle.kind_store.specs.declared.Kept.the-variants.{Refused}
-use Rattle.overlay.specs.Overlay.{Overlay, largest, sizesFit}
+use Rattle.blocks.specs.Sizes.{largest}
+use Rattle.overlay.specs.Overlay.{Overlay, sizesFit}
 use Rattle.overlay.specs.Given.{InBytes, headFits}
 use Rattle.direct.specs.Calls.{pushOn, deleteOn}
 use Rattle.page.specs.Summary.{known, summary}
@@ -38,7 +39,8 @@ use Rattle.reader.specs.Event.{eventOn}
 use Rattle.calls.specs.Ask.{Ask, Storage, stateOf, PartsGiven, storageAfter, replies, stoppedIn}
 use Rattle.calls.specs.Known.{Regresses}
 
--- "any two overlays, whatever their sizes, that start empty": what is lent, with any content; set-up takes its sizes, bytes are bytes, and each reader is lent its bytes
+-- "any two overlays, whatever their sizes, that start empty": what is lent, with any content, and the sizes with which it is set up; set-up takes them, bytes are bytes, and each
+-- reader is lent its bytes
 pub record Start (o : Overlay) (ps : ℕ → Bytes) : Type 0 where
   pub sizes : sizesFit largest o ≡ true
   pub bytes : InBytes o

@@ -33,7 +33,8 @@ use Rattle.kind_store.specs.KindStore as KindStore
 use Rattle.kind_store.specs.declared.Kept.the-variants.{Taken}
 use Rattle.kind_store.proofs.KindStores.{delete-laid, push-laid, push-arena}
 use Rattle.sound.proofs.Keeps as Sounds
-use Rattle.overlay.specs.Overlay.{Overlay, kindStoreOf, withKindStore, withTexts, largest}
+use Rattle.blocks.specs.Sizes.{largest}
+use Rattle.overlay.specs.Overlay.{Overlay, kindStoreOf, withKindStore, withTexts}
 use Rattle.overlay.specs.Given.{headFits, metaFits, InBytes}
 use Rattle.overlay.specs.Sound.{Sound, isSound}
 use Rattle.store.specs.Calls.{bytesOf, handleIn}
@@ -43,7 +44,8 @@ use Rattle.overlay.proofs.Answers.{byKept, kind-store-back, strings-sound}
 use Rattle.store.proofs.Answers.{byHandle}
 use Rattle.direct.proofs.Answers.{byPushOn, pushStored, push-refused, push-taken, byDeleteOn, deleteStored, delete-refused, delete-taken, byInternOn, intern-refused, intern-taken}
 use Rattle.overlay.proofs.Bounds.{id-given, over-small, written-small}
-use Rattle.overlay.proofs.KindStores.{kind-store-same, kind-store-other, kind-store-texts, kind-store-setting, texts-kind-store, interned-sized}
+use Rattle.overlay.proofs.KindStores.{kind-store-same, kind-store-other, kind-store-texts, kind-store-setting, texts-kind-store}
+use Rattle.overlay.proofs.Tiles.{interned-sized}
 use Rattle.store.proofs.Keeps.{keptAs, storedAs, record-given, delete-arena, by-intern, grown}
 use Rattle.overlay.proofs.Keeps.{more-sound, put-sound, put-bytes}
 

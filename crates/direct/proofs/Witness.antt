@@ -23,10 +23,14 @@ use Rattle.legal.specs.Judge.{faultFor}
 use Rattle.legal.specs.declared.Fault.the-variants as F
 use Rattle.table.specs.Words.{held, halve, answerAt, lookup, stored, storedAt, countAfter}
 use Rattle.append.specs.Append.{append}
-use Rattle.kind_store.specs.KindStore.{knownVersion, checked, idRoom, rowed, recordJoined, pushed, takenIn}
+use Rattle.kind_store.specs.KindStore.{kindStoreWith, knownVersion, checked, idRoom, rowed, recordJoined, pushed, takenIn}
 use Rattle.kind_store.specs.declared.Kept.the-variants.{Taken}
 use Rattle.kind_store.proofs.KindStores.{push-used}
-use Rattle.overlay.specs.Overlay.{Overlay, overlayOf, kindStoreOf, sizesFit, kindStoreFits, textsFit, empty}
+use Rattle.interner.specs.Strings.{storeWith}
+use Rattle.blocks.specs.declared.KindSize.{KindSize}
+use Rattle.blocks.specs.declared.Sizes.{Sizes}
+use Rattle.blocks.specs.Sizes.{sizesInRange, kindFits, stringsFit}
+use Rattle.overlay.specs.Overlay.{Overlay, kindStoreOf, withSizes, kindTiled, textsTiled, tiled, sizesFit, empty}
 use Rattle.overlay.specs.Given.{headFits, metaFits, InBytes}
 use Rattle.overlay.specs.Sound.{Sound}
 use Rattle.overlay.specs.Calls.{OverlayAfter, setUp}
@@ -39,12 +43,16 @@ use Rattle.overlay.proofs.Keeps.{setup-sound, setup-bytes}
 use Rattle.direct.proofs.Keeps.{push-sound}
 
 -- one id and 60 arena bytes a kind, one string
+abbrev sizes : Sizes
+sizes = let kind : KindSize = record { ids = 1; bytes = 60 } in record { nodes = kind; ways = kind; relations = kind; strings = 1; «string_bytes» = 0 }
+
 abbrev given : Overlay
 given =
-    overlayOf (replicate 3 0) (replicate 60 0) (replicate 3 0) (replicate 60 0) (replicate 3 0) (replicate 60 0) (replicate 2 0) [] (replicate 9 0)
+    let kind = kindStoreWith (replicate 3 0) 0 (replicate 60 0) 0 in
+    record { nodes = kind; ways = kind; relations = kind; texts = storeWith (replicate 2 0) [] 0 0; setting = 0; sizes = sizes }
 
-set-up : takenIn (setUp 0 given .answer) ≡ true
-unfolding setUp sizesFit kindStoreFits textsFit both
+set-up : takenIn (setUp sizes 0 given .answer) ≡ true
+unfolding setUp sizesFit sizesInRange kindFits stringsFit tiled kindTiled textsTiled both
 set-up = refl
 
 arena-bytes : (k : Kind) → all isByte (kindStoreOf k given .arena) ≡ true
@@ -57,13 +65,13 @@ given-bytes : InBytes given
 given-bytes = record { arenas = arena-bytes; texts = all-nil isByte }
 
 abbrev begun : Overlay
-begun = empty 0 given
+begun = empty 0 (withSizes sizes given)
 
 begun-sound : Sound begun
-begun-sound = rw (setup-taken 0 given set-up .1) at (setup-sound 0 given set-up)
+begun-sound = rw (setup-taken sizes 0 given set-up .1) at (setup-sound sizes 0 given set-up)
 
 begun-bytes : InBytes begun
-begun-bytes = rw (setup-taken 0 given set-up .1) at (setup-bytes 0 given given-bytes)
+begun-bytes = rw (setup-taken sizes 0 given set-up .1) at (setup-bytes sizes 0 given given-bytes)
 
 -- node 7 at version 3
 abbrev head : PushHead

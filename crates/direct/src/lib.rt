@@ -4,8 +4,10 @@ ghost use mathlib.Core.Path.{_≡_};
 ghost use mir.Syntax.{w64};
 ghost use mir.Val.{toZ};
 ghost use Rattle.compact.specs.Held.{metaOf};
-ghost use Rattle.overlay.specs.Overlay.{lent, left};
+ghost use Rattle.overlay.specs.Lent.{lent, left};
 ghost use Rattle.direct.specs.Calls.{internOn, pushOn, deleteOn};
+use blocks::COUNTERS;
+use blocks::STRINGS;
 use compact::ArenaMeta;
 use compact::PushHead;
 use kind::Kind;
@@ -16,23 +18,16 @@ use store::Handle;
 
 // Takes a text in: 22, 3, 13, or its handle.
 pub fn intern(
-    ni: &[u64],
-    na: &[u8],
-    wi: &[u64],
-    wa: &[u8],
-    ri: &[u64],
-    ra: &[u8],
-    ss: &mut [u64],
-    sb: &mut [u8],
-    us: &mut [u64; 9],
+    words: &mut [u64],
+    bytes: &mut [u8],
+    counters: &mut [u64; COUNTERS],
     text: &[u8],
 ) -> Handle
-    ensures { λ r. ⌜ record { overlay = left ni na wi wa ri ra ss sb us; answer = r }
-        ≡ internOn (now (text .entry)) (lent ni na wi wa ri ra ss sb us) ⌝ }
+    ensures { λ r. ⌜ record { overlay = left words bytes counters; answer = r } ≡ internOn (now (text .entry)) (lent words bytes counters) ⌝ }
 {
-    if overlay::is_sound(ni, na, wi, wa, ri, ra, ss, sb, us) {
+    if overlay::is_sound(words, bytes, counters) {
         if text::is_text(text) {
-            return store::store_text(ss, sb, us, text);
+            return store::store_text(words, bytes, counters, text);
         }
         return Handle::Refused(Refusal::NotText);
     }
@@ -41,26 +36,20 @@ pub fn intern(
 
 // A direct push of a node, way or relation: 22; 17, 3, 10, 16; then 12, 14, 15.
 pub fn push(
-    ni: &mut [u64],
-    na: &mut [u8],
-    wi: &mut [u64],
-    wa: &mut [u8],
-    ri: &mut [u64],
-    ra: &mut [u8],
-    ss: &[u64],
-    sb: &[u8],
-    us: &mut [u64; 9],
+    words: &mut [u64],
+    bytes: &mut [u8],
+    counters: &mut [u64; COUNTERS],
     kind: Kind,
     head: PushHead,
     meta: ArenaMeta,
     parts: &[u8],
 ) -> Kept
-    ensures { λ r. ⌜ record { overlay = left ni na wi wa ri ra ss sb us; answer = r }
-        ≡ pushOn kind head meta (now (parts .entry)) (lent ni na wi wa ri ra ss sb us) ⌝ }
+    ensures { λ r. ⌜ record { overlay = left words bytes counters; answer = r } ≡ pushOn kind head meta (now (parts .entry)) (lent words bytes counters) ⌝ }
 {
-    if overlay::is_sound(ni, na, wi, wa, ri, ra, ss, sb, us) {
-        let Fault::Refused(refusal) = legal::push_fault(kind, head, meta, parts, us[6]) else {
-            return store::store_push(ni, na, wi, wa, ri, ra, ss, sb, us, kind, head, meta, parts);
+    if overlay::is_sound(words, bytes, counters) {
+        let Fault::Refused(refusal) = legal::push_fault(kind, head, meta, parts, counters[STRINGS])
+        else {
+            return store::store_push(words, bytes, counters, kind, head, meta, parts);
         };
         return Kept::Refused(refusal);
     }
@@ -69,26 +58,19 @@ pub fn push(
 
 // A direct delete: 22; 17 of its metadata; then 12, 14.
 pub fn delete(
-    ni: &mut [u64],
-    na: &[u8],
-    wi: &mut [u64],
-    wa: &[u8],
-    ri: &mut [u64],
-    ra: &[u8],
-    ss: &[u64],
-    sb: &[u8],
-    us: &mut [u64; 9],
+    words: &mut [u64],
+    bytes: &[u8],
+    counters: &mut [u64; COUNTERS],
     kind: Kind,
     id: u64,
     meta: ArenaMeta,
 ) -> Kept
-    ensures { λ r. ⌜ record { overlay = left ni na wi wa ri ra ss sb us; answer = r }
-        ≡ deleteOn kind (toZ w64 id) (metaOf meta) (lent ni na wi wa ri ra ss sb us) ⌝ }
+    ensures { λ r. ⌜ record { overlay = left words bytes counters; answer = r } ≡ deleteOn kind (toZ w64 id) (metaOf meta) (lent words bytes counters) ⌝ }
 {
-    if overlay::is_sound(ni, na, wi, wa, ri, ra, ss, sb, us) {
-        if legal::legal_meta(meta, us[6]) {
+    if overlay::is_sound(words, bytes, counters) {
+        if legal::legal_meta(meta, counters[STRINGS]) {
             let claim = compact::claim(meta);
-            return store::store_delete(ni, na, wi, wa, ri, ra, ss, sb, us, kind, id, claim);
+            return store::store_delete(words, bytes, counters, kind, id, claim);
         }
         return Kept::Refused(Refusal::BadRecord);
     }

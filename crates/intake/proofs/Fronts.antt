@@ -10,7 +10,7 @@ use Rattle.base.specs.Bytes.{Bytes}
 use Rattle.base.proofs.Split.{no}
 use Rattle.lines.specs.Lines.{linesOf, restOf}
 use Rattle.little.specs.Little.{over}
-use Rattle.little.proofs.Overs.{length-over, used-over}
+use Rattle.little.proofs.Overs.{used-over}
 use Rattle.lines.specs.Place.{Front, keepRest}
 use Rattle.lines.proofs.Lines.{rest-lacks}
 use Rattle.reader.specs.State.{State}
@@ -71,9 +71,6 @@ module _ (s : Bytes) (t : State) where
 module _ (t : State) (b p : Bytes) (held : ℕ) (room : held + length p ≤ length b) (joined : Bytes) (filled : ℕ) (is : joined ≡ over b held p) (are : filled ≡ held + length p) where
   abbrev intake : Intake
   intake = record { state = t; buffer = b; held = held }
-
-  pub front-within : filled ≤ length joined
-  front-within = rw (is, length-over b held p) (omega arith)
 
   front : take filled joined ≡ take held b ++ p
   front = rw (is, are) (used-over b held p room)

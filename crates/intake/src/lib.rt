@@ -2,13 +2,14 @@
 ghost use mathlib.Core.Path.{_≡_};
 ghost use Prim.Native.Nat.{_≤_, min};
 ghost use lib.ListN.{length, take, drop};
-ghost use Rattle.overlay.specs.Overlay.{lent, left};
 ghost use Rattle.lines.specs.Lines.{restOf};
+ghost use Rattle.reader.specs.Lent.{stateLent, stateLeft};
 ghost use Rattle.reader.specs.declared.EventAnswer.the-variants.{Accepted};
 ghost use Rattle.reader.specs.Event.{eventOn};
 ghost use Rattle.reader_events.specs.Events.{eventsOn};
 ghost use Rattle.reader_events.specs.Runs.{RunGiven};
 ghost use Rattle.intake.specs.Feed.{pieceLines, feedOn};
+use blocks::COUNTERS;
 use reader::EventAnswer;
 use reader::EventReader;
 use reader_events::EventsDone;
@@ -17,25 +18,19 @@ use reader_events::EventsDone;
 
 // What is left from a place on as an event. It is not taken.
 fn rest_event(
-    ni: &mut [u64],
-    na: &mut [u8],
-    wi: &mut [u64],
-    wa: &mut [u8],
-    ri: &mut [u64],
-    ra: &mut [u8],
-    ss: &mut [u64],
-    sb: &mut [u8],
-    us: &mut [u64; 9],
+    words: &mut [u64],
+    bytes: &mut [u8],
+    counters: &mut [u64; COUNTERS],
     ps: &mut [u8; 44432],
     reader: EventReader,
     run: &[u8],
     at: usize,
 ) -> EventsDone
     requires { ⌜ at ≤ length (now run) ⌝ }
-    ensures { λ r. ⌜ record { state = record { overlay = left ni na wi wa ri ra ss sb us; reader = r .reader; parts = now (ps .exit) }; answer = r .answer }
-        ≡ eventOn (drop at (now (run .entry))) (record { overlay = lent ni na wi wa ri ra ss sb us; reader = reader; parts = now (ps .entry) }) ⌝ }
+    ensures { λ r. ⌜ record { state = stateLeft words bytes counters ps (r .reader); answer = r .answer }
+        ≡ eventOn (drop at (now (run .entry))) (stateLent words bytes counters ps reader) ⌝ }
 {
-    let done = reader_calls::event(ni, na, wi, wa, ri, ra, ss, sb, us, ps, reader, &run[at..]);
+    let done = reader_calls::event(words, bytes, counters, ps, reader, &run[at..]);
     let reader = done.reader;
     let answer = done.answer;
     EventsDone {
@@ -47,59 +42,47 @@ fn rest_event(
 
 // The whole lines as events, up to the first that is refused, and then what is left where it is already too long. Where nothing is refused, what is left is the unfinished line.
 fn take_lines(
-    ni: &mut [u64],
-    na: &mut [u8],
-    wi: &mut [u64],
-    wa: &mut [u8],
-    ri: &mut [u64],
-    ra: &mut [u8],
-    ss: &mut [u64],
-    sb: &mut [u8],
-    us: &mut [u64; 9],
+    words: &mut [u64],
+    bytes: &mut [u8],
+    counters: &mut [u64; COUNTERS],
     ps: &mut [u8; 44432],
     reader: EventReader,
     run: &[u8],
 ) -> EventsDone
-    ensures { λ r. ⌜ (RunGiven (record { overlay = lent ni na wi wa ri ra ss sb us; reader = reader; parts = now (ps .entry) })
-        → record { state = record { overlay = left ni na wi wa ri ra ss sb us; reader = r .reader; parts = now (ps .exit) }; answer = r .answer }
-        ≡ eventsOn (pieceLines (now (run .entry))) (record { overlay = lent ni na wi wa ri ra ss sb us; reader = reader; parts = now (ps .entry) })) ⌝ }
-    ensures { λ r. ⌜ (RunGiven (record { overlay = lent ni na wi wa ri ra ss sb us; reader = reader; parts = now (ps .entry) })
+    ensures { λ r. ⌜ (RunGiven (stateLent words bytes counters ps reader)
+        → record { state = stateLeft words bytes counters ps (r .reader); answer = r .answer }
+        ≡ eventsOn (pieceLines (now (run .entry))) (stateLent words bytes counters ps reader)) ⌝ }
+    ensures { λ r. ⌜ (RunGiven (stateLent words bytes counters ps reader)
         → r .answer ≡ Accepted → drop (r .taken) (now (run .entry)) ≡ restOf (now (run .entry))) ⌝ }
 {
-    let done = reader_events::events_untested(ni, na, wi, wa, ri, ra, ss, sb, us, ps, reader, run);
+    let done = reader_events::events_untested(words, bytes, counters, ps, reader, run);
     let answer = done.answer;
     let at = done.taken;
     if intake_buffer::is_over(answer, run.len() - at) {
         let reader = done.reader;
-        return rest_event(ni, na, wi, wa, ri, ra, ss, sb, us, ps, reader, run, at);
+        return rest_event(words, bytes, counters, ps, reader, run, at);
     }
     done
 }
 
 // Of a buffer only the first bytes, as many as there are.
 fn take_front(
-    ni: &mut [u64],
-    na: &mut [u8],
-    wi: &mut [u64],
-    wa: &mut [u8],
-    ri: &mut [u64],
-    ra: &mut [u8],
-    ss: &mut [u64],
-    sb: &mut [u8],
-    us: &mut [u64; 9],
+    words: &mut [u64],
+    bytes: &mut [u8],
+    counters: &mut [u64; COUNTERS],
     ps: &mut [u8; 44432],
     reader: EventReader,
     buffer: &[u8],
     n: usize,
 ) -> EventsDone
     requires { ⌜ n ≤ length (now buffer) ⌝ }
-    ensures { λ r. ⌜ (RunGiven (record { overlay = lent ni na wi wa ri ra ss sb us; reader = reader; parts = now (ps .entry) })
-        → record { state = record { overlay = left ni na wi wa ri ra ss sb us; reader = r .reader; parts = now (ps .exit) }; answer = r .answer }
-        ≡ eventsOn (pieceLines (take n (now (buffer .entry)))) (record { overlay = lent ni na wi wa ri ra ss sb us; reader = reader; parts = now (ps .entry) })) ⌝ }
-    ensures { λ r. ⌜ (RunGiven (record { overlay = lent ni na wi wa ri ra ss sb us; reader = reader; parts = now (ps .entry) })
+    ensures { λ r. ⌜ (RunGiven (stateLent words bytes counters ps reader)
+        → record { state = stateLeft words bytes counters ps (r .reader); answer = r .answer }
+        ≡ eventsOn (pieceLines (take n (now (buffer .entry)))) (stateLent words bytes counters ps reader)) ⌝ }
+    ensures { λ r. ⌜ (RunGiven (stateLent words bytes counters ps reader)
         → r .answer ≡ Accepted → drop (r .taken) (take n (now (buffer .entry))) ≡ restOf (take n (now (buffer .entry)))) ⌝ }
 {
-    take_lines(ni, na, wi, wa, ri, ra, ss, sb, us, ps, reader, &buffer[..n])
+    take_lines(words, bytes, counters, ps, reader, &buffer[..n])
 }
 
 // ---- a piece of the input
@@ -114,29 +97,23 @@ pub struct Fed {
 // A piece of the input, of which so many bytes were read: its whole lines are events, up to the first that is refused, and the unfinished line is held at the front
 // of the buffer. Of the bytes held so far at most 16,384 count. Soundness is not tested: for a caller who knows that the state is sound but for its count of lines.
 pub fn feed(
-    ni: &mut [u64],
-    na: &mut [u8],
-    wi: &mut [u64],
-    wa: &mut [u8],
-    ri: &mut [u64],
-    ra: &mut [u8],
-    ss: &mut [u64],
-    sb: &mut [u8],
-    us: &mut [u64; 9],
+    words: &mut [u64],
+    bytes: &mut [u8],
+    counters: &mut [u64; COUNTERS],
     ps: &mut [u8; 44432],
     fed: Fed,
     buffer: &mut [u8; 81920],
     piece: &[u8; 65536],
     got: usize,
 ) -> Fed
-    ensures { λ r. ⌜ (RunGiven (record { overlay = lent ni na wi wa ri ra ss sb us; reader = fed .reader; parts = now (ps .entry) })
-        → record { intake = record { state = record { overlay = left ni na wi wa ri ra ss sb us; reader = r .reader; parts = now (ps .exit) }; buffer = now (buffer .exit); held = r .held }; answer = r .answer }
-        ≡ feedOn (take got (now (piece .entry))) (record { state = record { overlay = lent ni na wi wa ri ra ss sb us; reader = fed .reader; parts = now (ps .entry) }; buffer = now (buffer .entry); held = min (fed .held) 16384 })) ⌝ }
+    ensures { λ r. ⌜ (RunGiven (stateLent words bytes counters ps (fed .reader))
+        → record { intake = record { state = stateLeft words bytes counters ps (r .reader); buffer = now (buffer .exit); held = r .held }; answer = r .answer }
+        ≡ feedOn (take got (now (piece .entry))) (record { state = stateLent words bytes counters ps (fed .reader); buffer = now (buffer .entry); held = min (fed .held) 16384 })) ⌝ }
 {
     let held = little::lesser(fed.held, 16384);
     let n = intake_buffer::join_piece(buffer, held, piece, got);
     let reader = fed.reader;
-    let done = take_front(ni, na, wi, wa, ri, ra, ss, sb, us, ps, reader, buffer, n);
+    let done = take_front(words, bytes, counters, ps, reader, buffer, n);
     let reader = done.reader;
     let answer = done.answer;
     let held = intake_buffer::keep_front(buffer, answer, done.taken, n);

@@ -1,7 +1,7 @@
 -- What the definitions of a push and a delete say, case by case.
 use Prim.Native.Nat.{ℕ, suc, _*_, _/_, _≤_}
 use mathlib.Core.Path.{_≡_, refl, sym, _∙_, ap}
-use mathlib.Core.Bool.{Bool, true, false}
+use mathlib.Core.Bool.{Bool, true, false, cond}
 use mathlib.Core.List.{List}
 use native.Mathlib.Omega.{arith}
 use lib.Dec.{ltb, leb}
@@ -30,7 +30,7 @@ use Rattle.table.specs.declared.Found.the-variants.{At, Place}
 use Rattle.table.specs.declared.Put.{Put}
 use Rattle.table.proofs.Tables.{stored-known, stored-full}
 use Rattle.kind_store.specs.declared.Kept.the-variants.{Taken, Refused}
-use Rattle.kind_store.specs.KindStore.{KindStore, kindStoreWith, knownVersion, knownAt, floorOf, floorAt, floorAfter, checked, idRoom, roomAt, kindStoreRefused, gone, rowed, recordJoined, pushedAs, pushed, deletedAs, deleted}
+use Rattle.kind_store.specs.KindStore.{KindStore, KindStoreAfter, kindStoreWith, knownVersion, knownAt, floorOf, floorAt, floorAfter, checked, idRoom, roomAt, kindStoreRefused, gone, rowed, recordJoined, pushedAs, pushed, deletedAs, deleted}
 
 -- a row that was inserted had room
 pub inserted-room : (ws : List ℕ) (count : ℕ) (row : Row) → stored ws count row .answer ≡ answers.Inserted → 3 * suc count ≤ length ws
@@ -121,6 +121,19 @@ module _ (k : Kind) (s : KindStore) (id : ℤ) where
     pub deleted-as : (b : Admit) → checked setting (knownVersion k s id) claim ≡ b → deleted k setting s id claim ≡ deletedAs k s id claim b
     unfolding deleted
     deleted-as b e = rw e
+
+  -- a push by the row that was found, the version that is known and the one that is claimed
+  module _ (setting : ℕ) (claim : Version) (bytes : Bytes) {r : ℕ} {f : Found} {v c : Version} {a : Admit} (e : r ≡ rank id) (row : f ≡ lookup (s .table) (s .ids) r)
+      (known : v ≡ knownAt k (s .table) (s .arena) f) (q : c ≡ claim) (check : a ≡ checked setting v c) where
+    pub push-checked : {b : Admit} → a ≡ b → pushedAs k setting s id claim bytes b ≡ pushed k setting s id claim bytes
+    push-checked {b} g = sym (pushed-as setting claim bytes b (checked-as setting claim (known-as (found-as e row) known) q check g))
+
+    pub push-goes : {x n : ℕ} {z : KindStoreAfter} → a ≡ Admitted → x ≡ floorAt (s .table) f → n ≡ floorAfter setting v c x
+        → z ≡ cond (roomAt (s .table) (s .ids) f) (recordJoined s id n bytes) (kindStoreRefused s IdsFull) → z ≡ pushed k setting s id claim bytes
+    unfolding idRoom
+    push-goes g p t w =
+        let floor = carried-as setting claim (known-as (found-as e row) known) q (floor-as (found-as e row) p) t in
+        w ∙ rw (← push-checked g, ← floor, ← found-as e row)
 
   module _ (claim : Version) where
     pub delete-room : (t : List ℕ) (n : ℕ) {v x : Version} {f : ℕ} → idRoom s id ≡ true → v ≡ knownVersion k s id → x ≡ higher v claim → f ≡ wordOf x

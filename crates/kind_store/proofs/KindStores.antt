@@ -142,7 +142,7 @@ known-narrow k s id well-formed = go (find (rank id) (rowsIn s)) refl
 
 -- ---- after an accepted act
 
-known-kept : (k : Kind) (a b : Bytes) (used : ℕ) (r : Row) → (isLive (r .place) ≡ true → r .place + (headLen k + 29) ≤ used) → take used a ≡ take used b → knownOf k a r ≡ knownOf k b r
+pub known-kept : (k : Kind) (a b : Bytes) (used : ℕ) (r : Row) → (isLive (r .place) ≡ true → r .place + (headLen k + 29) ≤ used) → take used a ≡ take used b → knownOf k a r ≡ knownOf k b r
 unfolding knownOf liveVersion
 known-kept k a b used r h e = byBool (isLive (r .place)) (λ t. rw (t, version-same k a b used (r .place) (h t) e)) (λ t. rw t)
 

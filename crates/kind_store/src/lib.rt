@@ -1,5 +1,6 @@
 // One kind's id table and arena (parse.rs): the known version of an id, a push and a delete.
 ghost use mathlib.Core.Path.{_≡_};
+ghost use mathlib.Core.Bool.{cond};
 ghost use mathlib.Core.List.{_++_};
 ghost use Prim.Native.Nat.{ℕ};
 ghost use mir.Syntax.{w64};
@@ -10,8 +11,9 @@ ghost use Rattle.compact.specs.Layout.{headLen, headBytes, metaBytes};
 ghost use Rattle.compact.specs.Held.{metaOf, headIn};
 ghost use Rattle.append.specs.Append.{append};
 ghost use Rattle.version_floor.specs.declared.Admit.the-variants.{Admitted};
+ghost use Rattle.refusal.specs.declared.Refusal.the-variants.{IdsFull};
 ghost use Rattle.table.specs.Words.{lookup, stored, countAfter};
-ghost use Rattle.kind_store.specs.KindStore.{kindStoreWith, liveVersion, knownOf, knownAt, knownVersion, floorAt, checked, roomAt, floorAfter, recordJoined, pushedAs, pushed, deletedAs, deleted};
+ghost use Rattle.kind_store.specs.KindStore.{kindStoreWith, liveVersion, knownOf, knownAt, knownVersion, floorAt, checked, roomAt, floorAfter, kindStoreRefused, recordJoined, pushed, deletedAs, deleted};
 use append::Appended;
 use compact::ArenaMeta;
 use compact::CompactNode;
@@ -64,7 +66,8 @@ fn live_version(kind: Kind, arena: &[u8], row: Row) -> Version
     Version::Absent
 }
 
-fn row_version(kind: Kind, arena: &[u8], row: Row) -> Version
+// The known version that a row says: the larger of its record's and its floor, or the one that exists.
+pub fn row_version(kind: Kind, arena: &[u8], row: Row) -> Version
     ensures { λ r. ⌜ r ≡ knownOf kind (now (arena .entry)) row ⌝ }
 {
     let live = live_version(kind, arena, row);
@@ -216,30 +219,24 @@ fn join(
     }
 }
 
-// A push that passed 12: 14, 15, or taken.
+// A push that passed 12, with the floor word that it leaves: 14, 15, or taken.
 fn push_admitted(
     kind: Kind,
-    setting: u64,
     table: &mut [u64],
     ids: u64,
     arena: &mut [u8],
     used: u64,
+    floor: u64,
     head: PushHead,
     meta: ArenaMeta,
     parts: &[u8],
     found: Found,
-    version: Version,
 ) -> Outcome
-    requires { ⌜ (found ≡ lookup (now table) ids (rank (toZ w64 (head .id)))) × (version ≡ knownVersion kind (kindStoreWith (now table) ids (now arena) used) (toZ w64 (head .id))) ⌝ }
-    ensures { λ r. ⌜ record { kindStore = kindStoreWith (now (table .exit)) (r .ids) (now (arena .exit)) (r .used); answer = r .answer } ≡ pushedAs kind setting (kindStoreWith (now (table .entry)) ids (now (arena .entry)) used) (toZ w64 (head .id)) (claimOf (metaOf meta)) (headBytes kind (headIn kind head) ++ metaBytes (metaOf meta) ++ now (parts .entry)) Admitted ⌝ }
+    ensures { λ r. ⌜ record { kindStore = kindStoreWith (now (table .exit)) (r .ids) (now (arena .exit)) (r .used); answer = r .answer }
+        ≡ (let s = kindStoreWith (now (table .entry)) ids (now (arena .entry)) used in
+        cond (roomAt (s .table) (s .ids) found) (recordJoined s (toZ w64 (head .id)) floor (headBytes kind (headIn kind head) ++ metaBytes (metaOf meta) ++ now (parts .entry))) (kindStoreRefused s IdsFull)) ⌝ }
 {
     if has_room(table, ids, found) {
-        let floor = floor_after(
-            setting,
-            version,
-            compact::claim(meta),
-            floor_found(table, found),
-        );
         return join(kind, table, ids, arena, used, floor, head, meta, parts);
     }
     Outcome {
@@ -264,19 +261,20 @@ pub fn push(
 {
     let found = table::find_row(table, ids, osm_id::rank_of_bits(head.id));
     let version = version_found(kind, table, arena, found);
-    let Admit::Below(held) = check(setting, version, compact::claim(meta)) else {
+    let claim = compact::claim(meta);
+    let Admit::Below(held) = check(setting, version, claim) else {
+        let floor = floor_after(setting, version, claim, floor_found(table, found));
         return push_admitted(
             kind,
-            setting,
             table,
             ids,
             arena,
             used,
+            floor,
             head,
             meta,
             parts,
             found,
-            version,
         );
     };
     Outcome {

@@ -1,19 +1,17 @@
 -- The call: measured first, lent the output's end; then written, where it fits.
-use Prim.Native.Nat.{ℕ, suc, _-_, _<_, _≤_}
+use Prim.Native.Nat.{ℕ, _+_, _-_, _<_, _≤_, min}
 use mathlib.Core.Path.{_≡_, refl, sym, _∙_, ap}
 use mathlib.Core.Bool.{true, false}
 use mathlib.Core.List.{List, [], _∷_, _++_}
 use native.Mathlib.Omega.{arith}
-use lib.ListN.{length, getD, drop, length-take}
-use borrow.Author.Tests.{le-leb, lt-leb, lt-ltb}
+use lib.ListN.{length, getD, take, drop, length-take}
+use lib.Seq.{take-all, take-take}
+use borrow.Author.Tests.{le-leb, lt-leb}
 use borrow.Rule.Slice.PartMut.{midOf, putMid, put-same}
-use Rattle.base.specs.Bytes.{Bytes, all}
+use Rattle.base.specs.Bytes.{Bytes}
 use Rattle.base.proofs.Split.{byLe, no}
-use Rattle.base.proofs.Lists.{all-nil, all-cons}
-use Rattle.little.specs.Little.{isByte}
 use Rattle.little.proofs.Overs.{over-start}
 use Rattle.kind.specs.declared.Kind.{Kind}
-use Rattle.kind.specs.declared.Kind.the-variants.{Node, Way, Relation}
 use Rattle.refusal.specs.declared.Refusal.the-variants as R
 use Rattle.print.specs.declared.Room.{Room}
 use Rattle.print.specs.declared.Room.the-variants.{Left, Full}
@@ -21,13 +19,52 @@ use Rattle.print.specs.Print.{Printed, print, joinedPieces}
 use Rattle.print.specs.Piece.{behind}
 use Rattle.print.proofs.Prints as Prints
 use Rattle.print.proofs.Prints.{print-append, behind-fits, behind-past, room-print, length-print}
-use Rattle.overlay.specs.Overlay.{Overlay, overlayOf, kindStoreOf}
+use Rattle.fields.specs.Fields.{heldText}
+use Rattle.table.specs.Words.{rowsOf, held}
+use Rattle.rows.specs.Lines.{rowPieces, kindPieces}
+use Rattle.kind_store.specs.KindStore.{KindStore}
+use Rattle.blocks.specs.declared.KindPart.{KindPart}
+use Rattle.blocks.specs.declared.TextPart.{TextPart}
+use Rattle.blocks.specs.Blocks.{cut, sizesIn, partIn, textPartIn}
+use Rattle.blocks.proofs.Cuts.{cut-all}
+use Rattle.overlay.specs.Overlay.{Overlay, kindStoreOf}
+use Rattle.overlay.specs.Lent.{kindStoreIn, overlayIn}
+use Rattle.overlay.proofs.Puts.{kind-store-in}
 use Rattle.overlay.specs.Given.{InBytes}
 use Rattle.overlay.specs.Sound.{isSound}
 use Rattle.listing.specs.declared.Listed.the-variants.{Length, Refused}
-use Rattle.listing.specs.Pieces.{piecesOf}
+use Rattle.listing.specs.Pieces.{kindLines, piecesOf}
 use Rattle.listing.specs.Call.{Output, notListed, pageOf, pageOver, listingOn}
 use Rattle.listing.proofs.Pages.{page-pieces}
+
+-- the used bytes that are lent of a part: as many as are counted and as there are
+cut-used : (first end used n : ℕ) (s : Bytes) → n ≡ min used (end - first) → cut first (first + n) s ≡ take used (cut first end s)
+cut-used first end used n s e =
+    let t = drop first s in
+    byLe used (end - first)
+    (λ l. let m : first + n - first ≡ used = omega arith in rw m (sym (take-take used (end - first) t l)))
+    (λ l. let m : first + n - first ≡ end - first = omega arith in
+    rw m (sym (take-all used (take (end - first) t) (omega (arith, length-take (end - first) t)))))
+
+-- the lines of a kind, with the used bytes of its part of the blocks
+pub kind-printed : (k : Kind) (words bytes counters : List ℕ) (p : KindPart) → p ≡ partIn k (sizesIn counters) (length words) (length bytes)
+    → (n : ℕ) → n ≡ min (getD counters (p .at + 3) 0) (p .end - p .first) → (f : ℕ → Bytes) (cap : ℕ) (x y : Printed)
+    → y ≡ print cap (rowPieces f k (cut (p .first) (p .first + n) bytes) (rowsOf (cut (p .from) (p .to) words) (held (cut (p .from) (p .to) words) (getD counters (p .at) 0)))) x
+    → y ≡ print cap (kindPieces f k (kindStoreOf k (overlayIn words bytes counters))) x
+kind-printed k words bytes counters p q n m f cap x y e =
+    rw (cut-used (p .first) (p .end) (getD counters (p .at + 3) 0) n bytes m) at e
+    ∙ ap (λ (s : KindStore). print cap (kindPieces f k s) x) (kind-store-in k words bytes counters p q)
+
+-- the lines of a kind, with the used bytes of the strings' part
+pub texts-printed : (k : Kind) (words bytes counters : List ℕ) (t : TextPart) → t ≡ textPartIn (sizesIn counters) (length words) (length bytes)
+    → (n : ℕ) → n ≡ min (getD counters 7 0) (length bytes - t .bytes) → (cap : ℕ) (x y : Printed)
+    → y ≡ print cap (kindPieces (heldText (cut (t .spans) (length words) words) (cut (t .bytes) (t .bytes + n) bytes) (getD counters 6 0)) k (kindStoreOf k (overlayIn words bytes counters))) x
+    → y ≡ print cap (kindLines k (overlayIn words bytes counters)) x
+texts-printed k words bytes counters t r n m cap x y e =
+    let u : cut (t .bytes) (t .bytes + n) bytes ≡ take (getD counters 7 0) (drop (t .bytes) bytes) =
+    cut-used (t .bytes) (length bytes) (getD counters 7 0) n bytes m ∙ ap (take (getD counters 7 0)) (cut-all (t .bytes) bytes) in
+    let v : cut (t .spans) (length words) words ≡ drop (t .spans) words = cut-all (t .spans) words in
+    e ∙ rw (u, v, r)
 
 -- three kinds, one after the other
 pub page-printed : (cap : ℕ) (xs ys zs : List Bytes) (p q r t : Printed) → q ≡ print cap xs p → r ≡ print cap ys q → t ≡ print cap zs r → t ≡ print cap (xs ++ ys ++ zs) p

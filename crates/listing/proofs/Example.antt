@@ -1,12 +1,11 @@
 -- An example, by computation: storage that holds what input A of document 01 leaves is sound, its page is output A, and what the call makes of three outputs.
-use Prim.Native.Nat.{ℕ, _+_, _^_}
+use Prim.Native.Nat.{_+_, _^_}
 use mathlib.Core.Path.{_≡_, refl}
 use mathlib.Core.Bool.{true}
-use mathlib.Core.List.{List, [], _∷_, _++_}
+use mathlib.Core.List.{[], _∷_, _++_}
 use lib.ListN.{replicate}
 use Rattle.base.specs.Bytes.{Bytes, both, either, all, same}
 use Rattle.little.specs.Little.{value, valueAt}
-use Rattle.kind.specs.Kind.{ofNumber}
 use Rattle.osm_id.specs.Order.{rank, idOf, sameId}
 use Rattle.version_floor.specs.Version.{higher, ofWord}
 use Rattle.text.specs.Char.{from-to, xmlChar, utf8}
@@ -30,7 +29,10 @@ use Rattle.table.specs.Rows.{rising, risingFrom}
 use Rattle.table.specs.Words.{soundTable, rowsFrom, rowsOf, held, halve, answerAt, lookup}
 use Rattle.kind_store.specs.KindStore.{isLive, versionAt, liveVersion, knownOf, knownVersion}
 use Rattle.sound.specs.Check.{soundKindStore, soundUsed, rowPasses, recordThere, idThere, comesTo}
-use Rattle.overlay.specs.Overlay.{Overlay, overlayOf, sizesFit, kindStoreFits, textsFit}
+use Rattle.blocks.specs.Blocks.{endsOf}
+use Rattle.blocks.specs.Sizes as Sizes
+use Rattle.overlay.specs.Overlay.{Overlay, kindTiled, textsTiled, tiled, sizesFit}
+use Rattle.overlay.specs.Lent.{overlayIn}
 use Rattle.overlay.specs.Sound.{isSound, kindStoresSound}
 use Rattle.page.specs.Listing.{kindField, versionField, each, counted, bodyFields, recordFields, rowFields, listing}
 use Rattle.listing.specs.Known.{recordIn}
@@ -44,11 +46,11 @@ node =
     (7 ∷ replicate 7 0) ++ (10 ∷ 0 ∷ 0 ∷ 0 ∷ 236 ∷ 255 ∷ 255 ∷ 255 ∷ 1 ∷ 0 ∷ 0 ∷ 0 ∷ 9 ∷ 3 ∷ 0 ∷ 0 ∷ 0 ∷ []) ++ replicate 24 0
     ++ (1 ∷ 0 ∷ 0 ∷ 0 ∷ 1 ∷ 0 ∷ 0 ∷ 0 ∷ 65 ∷ [])
 
--- the node is live at place 0 and has no floor; way -4 is deleted, with floor 2; the texts are the empty one and `name`
+-- the node is live at place 0 and has no floor; way -4 is deleted, with floor 2; there is room for one relation; the texts are the empty one and `name`
 abbrev storedA : Overlay
 storedA =
-    overlayOf ((2 ^ 63 + 7) ∷ 0 ∷ (2 ^ 32) ∷ []) node (4 ∷ (2 ^ 63) ∷ 2 ∷ []) [] (0 ∷ 0 ∷ 0 ∷ []) [] (0 ∷ 0 ∷ 0 ∷ 4 ∷ []) (110 ∷ 97 ∷ 109 ∷ 101 ∷ [])
-    (1 ∷ 1 ∷ 0 ∷ 58 ∷ 0 ∷ 0 ∷ 2 ∷ 4 ∷ 0 ∷ [])
+    overlayIn ((2 ^ 63 + 7) ∷ 0 ∷ (2 ^ 32) ∷ 4 ∷ (2 ^ 63) ∷ 2 ∷ 0 ∷ 0 ∷ 0 ∷ 0 ∷ 0 ∷ 0 ∷ 4 ∷ []) (node ++ (110 ∷ 97 ∷ 109 ∷ 101 ∷ []))
+    (1 ∷ 1 ∷ 0 ∷ 58 ∷ 0 ∷ 0 ∷ 2 ∷ 4 ∷ 0 ∷ 1 ∷ 1 ∷ 1 ∷ 58 ∷ 0 ∷ 0 ∷ 2 ∷ 4 ∷ [])
 
 abbrev outputA : Bytes
 outputA =
@@ -56,12 +58,12 @@ outputA =
     119 ∷ 9 ∷ 45 ∷ 52 ∷ 9 ∷ 45 ∷ 9 ∷ 50 ∷ 10 ∷ []
 
 pub stored-page : pageOf storedA ≡ outputA
-unfolding tableOf kindTable rowsOf rowsFrom leftAt isLive recordIn cutRecord cutHead cutMeta cutI32 cutI64 cutNumber cutBytes thenCut value valueAt cutParts cutBody times cutTag textsIn handles knownVersion lookup held halve answerAt both knownOf liveVersion versionAt metaOf metaAt claimOf flagged higher ofWord rank idOf rowFields kindField versionField recordFields bodyFields counted each listing numberText digitsBefore integerText line tabbed escape escaped
+unfolding endsOf tableOf kindTable rowsOf rowsFrom leftAt isLive recordIn cutRecord cutHead cutMeta cutI32 cutI64 cutNumber cutBytes thenCut value valueAt cutParts cutBody times cutTag textsIn handles knownVersion lookup held halve answerAt both knownOf liveVersion versionAt metaOf metaAt claimOf flagged higher ofWord rank idOf rowFields kindField versionField recordFields bodyFields counted each listing numberText digitsBefore integerText line tabbed escape escaped
 stored-page = refl
 
 -- that storage is sound
 pub stored-sound : isSound storedA ≡ true
-unfolding isSound sizesFit kindStoreFits textsFit both either all same soundStrings Strings.countsWithin soundUpTo spanWithin spanned textsIn handles distinct differs firstEmpty isText textAfter charLen begins decoded utf8 xmlChar from-to kindStoresSound soundKindStore soundUsed wholeRecords wholeBy afterLegal legal legalHandles legalMeta bodyHandles legalTexts inRange withinLimits valueBytes flagged sameId soundTable rising risingFrom rowsOf rowsFrom rowPasses isLive recordThere idThere comesTo recordEnd endOf cutRecord cutHead cutMeta cutI32 cutI64 cutNumber cutBytes thenCut value valueAt cutParts cutBody times cutTag idOf
+unfolding endsOf isSound sizesFit Sizes.sizesInRange Sizes.kindFits Sizes.stringsFit tiled kindTiled textsTiled both either all same soundStrings Strings.countsWithin soundUpTo spanWithin spanned textsIn handles distinct differs firstEmpty isText textAfter charLen begins decoded utf8 xmlChar from-to kindStoresSound soundKindStore soundUsed wholeRecords wholeBy afterLegal legal legalHandles legalMeta bodyHandles legalTexts inRange withinLimits valueBytes flagged sameId soundTable rising risingFrom rowsOf rowsFrom rowPasses isLive recordThere idThere comesTo recordEnd endOf cutRecord cutHead cutMeta cutI32 cutI64 cutNumber cutBytes thenCut value valueAt cutParts cutBody times cutTag idOf
 stored-sound = refl
 
 -- the call: an output of 46 bytes gets the page and keeps its last two, one of 44 is enough, and one of 43 gets 19 and keeps all

@@ -2,9 +2,16 @@
 ghost use mathlib.Core.Path.{_≡_};
 ghost use Rattle.print.specs.Print.{print, joinedPieces};
 ghost use Rattle.print.specs.declared.Room.the-variants.{Left};
-ghost use Rattle.overlay.specs.Overlay.{lent};
-ghost use Rattle.listing.specs.Pieces.{piecesOf};
+ghost use Rattle.fields.specs.Fields.{heldText};
+ghost use Rattle.rows.specs.Lines.{kindPieces};
+ghost use Rattle.overlay.specs.Overlay.{kindStoreOf};
+ghost use Rattle.overlay.specs.Lent.{lent};
+ghost use Rattle.listing.specs.Pieces.{kindLines, piecesOf};
 ghost use Rattle.listing.specs.Call.{pageOver, listingOn};
+use blocks::ARENA;
+use blocks::COUNTERS;
+use blocks::STRING_BYTES;
+use blocks::STRINGS;
 use kind::Kind;
 use print::Room;
 use refusal::Refusal;
@@ -15,77 +22,116 @@ pub enum Listed {
     Refused(Refusal),
 }
 
+// The lines of one kind, with the spans of the strings and their used bytes.
+fn put_rows(
+    words: &[u64],
+    bytes: &[u8],
+    counters: &[u64; COUNTERS],
+    kind: Kind,
+    spans: &[u64],
+    texts: &[u8],
+    out: &mut [u8],
+    cap: usize,
+    room: Room,
+) -> Room
+    ensures { λ r. ⌜ record { out = now (out .exit); room = r }
+        ≡ print cap (kindPieces (heldText (now (spans .entry)) (now (texts .entry)) (lent words bytes counters .texts .strings)) kind (kindStoreOf kind (lent words bytes counters)))
+        (record { out = now (out .entry); room = room }) ⌝ }
+{
+    let p = blocks::part_in(kind, counters, words.len(), bytes.len());
+    let at = p.at;
+    let from = p.from;
+    let to = p.to;
+    let first = p.first;
+    let n = little::lesser(counters[at + ARENA] as usize, p.end - first);
+    rows::put_lines(
+        out,
+        cap,
+        room,
+        kind,
+        &words[from..to],
+        counters[at],
+        &bytes[first..first + n],
+        spans,
+        texts,
+        counters[STRINGS],
+    )
+}
+
+// The lines of one kind.
+fn put_kind(
+    words: &[u64],
+    bytes: &[u8],
+    counters: &[u64; COUNTERS],
+    kind: Kind,
+    out: &mut [u8],
+    cap: usize,
+    room: Room,
+) -> Room
+    ensures { λ r. ⌜ record { out = now (out .exit); room = r }
+        ≡ print cap (kindLines kind (lent words bytes counters)) (record { out = now (out .entry); room = room }) ⌝ }
+{
+    let t = blocks::texts_in(counters, words.len(), bytes.len());
+    let c = t.spans;
+    let f = t.bytes;
+    let n = little::lesser(counters[STRING_BYTES] as usize, bytes.len() - f);
+    put_rows(
+        words,
+        bytes,
+        counters,
+        kind,
+        &words[c..],
+        &bytes[f..f + n],
+        out,
+        cap,
+        room,
+    )
+}
+
 // "Kinds n, w, r in that order", with so much room. Lent no bytes it only measures.
 fn put_page(
-    ni: &[u64],
-    na: &[u8],
-    wi: &[u64],
-    wa: &[u8],
-    ri: &[u64],
-    ra: &[u8],
-    ss: &[u64],
-    sb: &[u8],
-    us: &[u64; 9],
+    words: &[u64],
+    bytes: &[u8],
+    counters: &[u64; COUNTERS],
     out: &mut [u8],
     cap: usize,
 ) -> Room
     ensures { λ r. ⌜ record { out = now (out .exit); room = r }
-        ≡ print cap (piecesOf (lent ni na wi wa ri ra ss sb us)) (record { out = now (out .entry); room = Left cap }) ⌝ }
+        ≡ print cap (piecesOf (lent words bytes counters)) (record { out = now (out .entry); room = Left cap }) ⌝ }
 {
-    let end = little::lesser(us[7] as usize, sb.len());
-    let texts = &sb[..end];
-    let n = us[6];
-    let room = Room::Left(cap);
-    let kind = Kind::Node;
-    let room = rows::put_lines(out, cap, room, kind, ni, us[0], na, us[3], ss, texts, n);
-    let kind = Kind::Way;
-    let room = rows::put_lines(out, cap, room, kind, wi, us[1], wa, us[4], ss, texts, n);
-    let kind = Kind::Relation;
-    rows::put_lines(out, cap, room, kind, ri, us[2], ra, us[5], ss, texts, n)
+    let room = put_kind(
+        words,
+        bytes,
+        counters,
+        Kind::Node,
+        out,
+        cap,
+        Room::Left(cap),
+    );
+    let room = put_kind(words, bytes, counters, Kind::Way, out, cap, room);
+    put_kind(words, bytes, counters, Kind::Relation, out, cap, room)
 }
 
 // The page over the first bytes of the output, or 19: first measured, lent the output's end, then written.
-fn put_listing(
-    ni: &[u64],
-    na: &[u8],
-    wi: &[u64],
-    wa: &[u8],
-    ri: &[u64],
-    ra: &[u8],
-    ss: &[u64],
-    sb: &[u8],
-    us: &[u64; 9],
-    out: &mut [u8],
-) -> Listed
+fn put_listing(words: &[u64], bytes: &[u8], counters: &[u64; COUNTERS], out: &mut [u8]) -> Listed
     ensures { λ r. ⌜ record { out = now (out .exit); answer = r }
-        ≡ pageOver (now (out .entry)) (joinedPieces (piecesOf (lent ni na wi wa ri ra ss sb us))) ⌝ }
+        ≡ pageOver (now (out .entry)) (joinedPieces (piecesOf (lent words bytes counters))) ⌝ }
 {
     let end = out.len();
-    let Room::Left(left) = put_page(ni, na, wi, wa, ri, ra, ss, sb, us, &mut out[end..], end) else {
+    let Room::Left(left) = put_page(words, bytes, counters, &mut out[end..], end) else {
         return Listed::Refused(Refusal::ShortOutput);
     };
-    put_page(ni, na, wi, wa, ri, ra, ss, sb, us, out, end);
+    put_page(words, bytes, counters, out, end);
     Listed::Length(end - left)
 }
 
 // The listing of an overlay at the start of the output: 22, 19, or its length.
-pub fn list(
-    ni: &[u64],
-    na: &[u8],
-    wi: &[u64],
-    wa: &[u8],
-    ri: &[u64],
-    ra: &[u8],
-    ss: &[u64],
-    sb: &[u8],
-    us: &[u64; 9],
-    out: &mut [u8],
-) -> Listed
+pub fn list(words: &[u64], bytes: &[u8], counters: &[u64; COUNTERS], out: &mut [u8]) -> Listed
     ensures { λ r. ⌜ record { out = now (out .exit); answer = r }
-        ≡ listingOn (now (out .entry)) (lent ni na wi wa ri ra ss sb us) ⌝ }
+        ≡ listingOn (now (out .entry)) (lent words bytes counters) ⌝ }
 {
-    if overlay::is_sound(ni, na, wi, wa, ri, ra, ss, sb, us) {
-        return put_listing(ni, na, wi, wa, ri, ra, ss, sb, us, out);
+    if overlay::is_sound(words, bytes, counters) {
+        return put_listing(words, bytes, counters, out);
     }
     Listed::Refused(Refusal::Unsound)
 }

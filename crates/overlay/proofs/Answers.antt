@@ -6,7 +6,6 @@ use mathlib.Core.List.{List, []}
 use native.Mathlib.Omega.{arith}
 use lib.ListN.{length, drop}
 use lib.Seq.{drop-cons, drop-length}
-use Rattle.base.specs.Bytes.{Bytes}
 use Rattle.base.proofs.Split.{byBool, both-left, both-right, no, clash}
 use Rattle.kind.specs.declared.Kind.{Kind}
 use Rattle.kind.specs.declared.Kind.the-variants.{Node, Way, Relation}
@@ -16,27 +15,37 @@ use Rattle.interner.proofs.Interns as Interns
 use Rattle.kind_store.specs.KindStore.{takenIn}
 use Rattle.kind_store.specs.declared.Kept.{Kept}
 use Rattle.kind_store.specs.declared.Kept.the-variants.{Taken, Refused}
-use Rattle.overlay.specs.Overlay.{Overlay, overlayOf, countsOf, kindStoreOf, withKindStore, withSetting, largest, sizesFit, empty}
+use Rattle.blocks.specs.Sizes.{largest}
+use Rattle.overlay.specs.Overlay.{Overlay, countersOf, kindStoreOf, withKindStore, withSetting, withSizes, sizesFit, empty}
+use Rattle.overlay.specs.Lent.{overlayIn}
+use Rattle.blocks.specs.declared.Sizes.{Sizes}
 use Rattle.overlay.specs.Sound.{isSound}
 use Rattle.overlay.specs.Calls.{OverlayAfter, overlayRefused, setUp, allowOn}
 
 -- ---- the parts of an overlay
 
 -- the counters of what is lent are the counters lent
-pub kept-counts : (ni : List ℕ) (na : Bytes) (wi : List ℕ) (wa : Bytes) (ri : List ℕ) (ra : Bytes) (spans : List ℕ) (bytes : Bytes) (used : List ℕ)
-    → length used ≡ 9 → countsOf (overlayOf ni na wi wa ri ra spans bytes used) ≡ used
-kept-counts ni na wi wa ri ra spans bytes used e =
-    let z : drop 9 used ≡ [] = rw e at (drop-length used) in
+pub kept-counters : (words bytes counters : List ℕ) → length counters ≡ 17 → countersOf (overlayIn words bytes counters) ≡ counters
+kept-counters words bytes counters e =
+    let z : drop 17 counters ≡ [] = rw e at (drop-length counters) in
     cc (
-      drop-cons used 0 0 (omega arith),
-      drop-cons used 1 0 (omega arith),
-      drop-cons used 2 0 (omega arith),
-      drop-cons used 3 0 (omega arith),
-      drop-cons used 4 0 (omega arith),
-      drop-cons used 5 0 (omega arith),
-      drop-cons used 6 0 (omega arith),
-      drop-cons used 7 0 (omega arith),
-      drop-cons used 8 0 (omega arith),
+      drop-cons counters 0 0 (omega arith),
+      drop-cons counters 1 0 (omega arith),
+      drop-cons counters 2 0 (omega arith),
+      drop-cons counters 3 0 (omega arith),
+      drop-cons counters 4 0 (omega arith),
+      drop-cons counters 5 0 (omega arith),
+      drop-cons counters 6 0 (omega arith),
+      drop-cons counters 7 0 (omega arith),
+      drop-cons counters 8 0 (omega arith),
+      drop-cons counters 9 0 (omega arith),
+      drop-cons counters 10 0 (omega arith),
+      drop-cons counters 11 0 (omega arith),
+      drop-cons counters 12 0 (omega arith),
+      drop-cons counters 13 0 (omega arith),
+      drop-cons counters 14 0 (omega arith),
+      drop-cons counters 15 0 (omega arith),
+      drop-cons counters 16 0 (omega arith),
     )
 
 -- a kind store that is put back changes nothing
@@ -63,27 +72,27 @@ taken-as {a} e f = sym (ap (λ (z : OverlayAfter). takenIn (z .answer)) e) ∙ f
 
 -- ---- set-up
 
-module _ (setting : ℕ) (o : Overlay) where
+module _ (z : Sizes) (setting : ℕ) (o : Overlay) where
   -- set-up is refused 1, or taken
   pub bySetUp : {C : Type 0}
-      → (sizesFit largest o ≡ false → setUp setting o ≡ overlayRefused o R.Size → C)
-      → (sizesFit largest o ≡ true → setUp setting o ≡ record { overlay = empty setting o; answer = Taken } → C) → C
+      → (sizesFit largest (withSizes z o) ≡ false → setUp z setting o ≡ overlayRefused o R.Size → C)
+      → (sizesFit largest (withSizes z o) ≡ true → setUp z setting o ≡ record { overlay = empty setting (withSizes z o); answer = Taken } → C) → C
   unfolding setUp
-  bySetUp f g = byBool (sizesFit largest o) (λ e. g e (rw e)) (λ e. f e (rw e))
+  bySetUp f g = byBool (sizesFit largest (withSizes z o)) (λ e. g e (rw e)) (λ e. f e (rw e))
 
   -- a refusal changes nothing
-  pub setup-refused : (r : Refusal) → setUp setting o .answer ≡ Refused r → setUp setting o .overlay ≡ o
-  setup-refused r e = bySetUp (λ s w. ap (λ (z : OverlayAfter). z .overlay) w) (λ s w. let z = answered w e in no (cc))
+  pub setup-refused : (r : Refusal) → setUp z setting o .answer ≡ Refused r → setUp z setting o .overlay ≡ o
+  setup-refused r e = bySetUp (λ s w. ap (λ (w : OverlayAfter). w .overlay) w) (λ s w. let v = answered w e in no (cc))
 
   -- 1 exactly where a lent size is outside, and no other refusal
-  pub setup-1 : sizesFit largest o ≡ false → setUp setting o .answer ≡ Refused R.Size
-  setup-1 e = bySetUp (λ s w. ap (λ (z : OverlayAfter). z .answer) w) (λ s w. clash s e)
+  pub setup-1 : sizesFit largest (withSizes z o) ≡ false → setUp z setting o .answer ≡ Refused R.Size
+  setup-1 e = bySetUp (λ s w. ap (λ (w : OverlayAfter). w .answer) w) (λ s w. clash s e)
 
-  pub setup-1-only : (r : Refusal) → setUp setting o .answer ≡ Refused r → (r ≡ R.Size) × (sizesFit largest o ≡ false)
-  setup-1-only r e = bySetUp (λ s w. let z = answered w e in (cc, s)) (λ s w. let z = answered w e in no (cc))
+  pub setup-1-only : (r : Refusal) → setUp z setting o .answer ≡ Refused r → (r ≡ R.Size) × (sizesFit largest (withSizes z o) ≡ false)
+  setup-1-only r e = bySetUp (λ s w. let v = answered w e in (cc, s)) (λ s w. let v = answered w e in no (cc))
 
-  pub setup-taken : takenIn (setUp setting o .answer) ≡ true → (sizesFit largest o ≡ true) × (setUp setting o .overlay ≡ empty setting o)
-  setup-taken e = bySetUp (λ s w. let z : false ≡ true = taken-as w e in no (cc)) (λ s w. (s, ap (λ (z : OverlayAfter). z .overlay) w))
+  pub setup-taken : takenIn (setUp z setting o .answer) ≡ true → (sizesFit largest (withSizes z o) ≡ true) × (setUp z setting o .overlay ≡ empty setting (withSizes z o))
+  setup-taken e = bySetUp (λ s w. let v : false ≡ true = taken-as w e in no (cc)) (λ s w. (s, ap (λ (w : OverlayAfter). w .overlay) w))
 
 -- ---- the regression setting
 

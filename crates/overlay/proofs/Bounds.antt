@@ -1,5 +1,5 @@
 -- What the bounds of a caller's numbers give: a head and metadata that fit their fields, an id of 64 bits, and bytes.
-use Prim.Native.Nat.{ℕ, _+_, _<_}
+use Prim.Native.Nat.{ℕ, _+_, _-_, _<_}
 use mathlib.Core.Path.{_≡_, refl}
 use mathlib.Core.Bool.{true}
 use mathlib.Core.List.{List, _++_}
@@ -22,7 +22,11 @@ use Rattle.compact.specs.Fits.{fitsHead, fitsMeta}
 use Rattle.compact.specs.declared.ArenaMeta.{ArenaMeta}
 use Rattle.compact.specs.declared.PushHead.{PushHead}
 use Rattle.compact.proofs.Holds.{MetaHeld, meta-fits, node-fits, counts-fits, relation-fits}
-use Rattle.overlay.specs.Overlay.{overlayOf, kindStoreOf}
+use Rattle.blocks.specs.declared.KindPart.{KindPart}
+use Rattle.blocks.specs.Blocks.{sizesIn, partIn, textPartIn}
+use Rattle.overlay.specs.Overlay.{kindStoreOf}
+use Rattle.overlay.specs.Lent.{overlayIn}
+use Rattle.overlay.proofs.Puts.{kind-store-for}
 use Rattle.overlay.specs.Given.{headFits, metaFits, InBytes}
 
 -- ---- metadata
@@ -113,11 +117,11 @@ written-small k h m parts b = all-append isByte _ parts (all-append isByte (head
 
 -- ---- the bytes of lent slices are bytes
 
-pub lent-in-bytes : (ni : List ℕ) (na : Bytes) (wi : List ℕ) (wa : Bytes) (ri : List ℕ) (ra : Bytes) (ss : List ℕ) (sb : Bytes) (us : List ℕ)
-    → all isByte na ≡ true → all isByte wa ≡ true → all isByte ra ≡ true → all isByte sb ≡ true → InBytes (overlayOf ni na wi wa ri ra ss sb us)
-lent-in-bytes ni na wi wa ri ra ss sb us n w r t = record { arenas = arenas; texts = t }
+pub lent-in-bytes : (words bytes counters : List ℕ) → all isByte bytes ≡ true → InBytes (overlayIn words bytes counters)
+lent-in-bytes words bytes counters b = record { arenas = arenas; texts = bytes-drop (textPartIn (sizesIn counters) (length words) (length bytes) .bytes) bytes b }
   where
-    arenas : (k : Kind) → all isByte (kindStoreOf k (overlayOf ni na wi wa ri ra ss sb us) .arena) ≡ true
-    arenas Node = n
-    arenas Way = w
-    arenas Relation = r
+    part : Kind → KindPart
+    part k = partIn k (sizesIn counters) (length words) (length bytes)
+
+    arenas : (k : Kind) → all isByte (kindStoreOf k (overlayIn words bytes counters) .arena) ≡ true
+    arenas k = rw (kind-store-for k (sizesIn counters) words bytes counters) (bytes-take (part k .end - part k .first) (drop (part k .first) bytes) (bytes-drop (part k .first) bytes b))

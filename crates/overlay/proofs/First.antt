@@ -7,6 +7,7 @@ use mathlib.Core.List.{List, _∷_}
 use Rattle.refusal.specs.declared.Refusal.{Refusal}
 use Rattle.refusal.specs.declared.Refusal.the-variants as R
 use Rattle.overlay.specs.Overlay.{Overlay}
+use Rattle.blocks.specs.declared.Sizes.{Sizes}
 use Rattle.overlay.specs.Sound.{isSound}
 use Rattle.overlay.specs.Calls.{setUp, allowOn}
 use Rattle.refusal.specs.First.{ConditionRow, firstOf}
@@ -15,9 +16,9 @@ use Rattle.overlay.proofs.Answers.{bySetUp, byAllow}
 
 -- ---- set-up: 1
 
-pub setup-first : (setting : ℕ) (o : Overlay) → setUp setting o .answer ≡ keptBy (firstOf (setUpTable o))
+pub setup-first : (z : Sizes) (setting : ℕ) (o : Overlay) → setUp z setting o .answer ≡ keptBy (firstOf (setUpTable z o))
 unfolding firstOf
-setup-first setting o = bySetUp setting o (λ s w. rw (w, s)) (λ s w. rw (w, s))
+setup-first z setting o = bySetUp z setting o (λ s w. rw (w, s)) (λ s w. rw (w, s))
 
 -- ---- the regression setting: 22
 

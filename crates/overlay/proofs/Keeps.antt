@@ -1,12 +1,9 @@
 -- Set-up makes a sound overlay; the regression setting and a kind store put anew keep one sound, and its bytes bytes.
-use Prim.Native.Nat.{ℕ, _≤_, _/_}
+use Prim.Native.Nat.{ℕ, _≤_}
 use mathlib.Core.Path.{_≡_, refl, sym, _∙_}
 use mathlib.Core.Bool.{true}
-use native.Mathlib.Omega.{arith}
 use lib.ListN.{length, take}
-use borrow.Author.Tests.{leb-true}
 use Rattle.base.specs.Bytes.{all}
-use Rattle.base.proofs.Split.{both-left}
 use Rattle.little.specs.Little.{isByte}
 use Rattle.little.proofs.Overs.{length-over}
 use Rattle.kind.specs.declared.Kind.{Kind}
@@ -18,12 +15,15 @@ use Rattle.interner.proofs.Interns as Interns
 use Rattle.kind_store.specs.KindStore.{KindStore, takenIn}
 use Rattle.sound.specs.Sound.{SoundKindStore}
 use Rattle.sound.proofs.Keeps as Sounds
-use Rattle.overlay.specs.Overlay.{Overlay, kindStoreOf, withKindStore, largest, sizesFit, textsFit, kindStoreFits, emptied, empty}
+use Rattle.blocks.specs.Sizes.{largest}
+use Rattle.overlay.specs.Overlay.{Overlay, kindStoreOf, kindSizeOf, withKindStore, withSizes, tiled, sizesFit, emptied, empty}
+use Rattle.blocks.specs.declared.Sizes.{Sizes}
 use Rattle.overlay.specs.Given.{InBytes}
 use Rattle.overlay.specs.Sound.{Sound}
 use Rattle.overlay.specs.Calls.{setUp, allowOn}
 use Rattle.overlay.proofs.Answers.{byKept, setup-refused, setup-taken, byAllow}
-use Rattle.overlay.proofs.KindStores.{kind-store-texts, each-kind-store, sized-kind-store, sized-texts, sized-of, kind-store-sized, texts-sized, put-sized, setting-kind-store}
+use Rattle.overlay.proofs.KindStores.{kind-store-texts, each-kind-store, setting-kind-store}
+use Rattle.overlay.proofs.Tiles.{KindTiled, sized-tiled, sized-range, sized-of, span-lent, put-sized}
 
 -- ---- set-up makes a sound overlay
 
@@ -33,36 +33,46 @@ module _ (setting : ℕ) (o : Overlay) where
   emptied-kind-store P f Way = f Way
   emptied-kind-store P f Relation = f Relation
 
-  -- one string is lent at least
-  span-lent : sizesFit largest o ≡ true → 2 ≤ length (o .texts .spans)
-  unfolding textsFit
-  span-lent h = omega (arith, leb-true 1 (length (o .texts .spans) / 2) (both-left _ _ (sized-texts largest o h)))
+  emptied-sizes : (k : Kind) → kindSizeOf k (empty setting o) ≡ kindSizeOf k o
+  emptied-sizes Node = refl
+  emptied-sizes Way = refl
+  emptied-sizes Relation = refl
+
+  empty-sized : sizesFit largest o ≡ true → sizesFit largest (empty setting o) ≡ true
+  empty-sized h =
+      let w = sized-tiled o largest h in
+      let kinds = emptied-kind-store (λ k s. KindTiled (kindSizeOf k o) s) (λ k. record { table = w .kinds k .table; arena = w .kinds k .arena }) in
+      sized-of (empty setting o) largest (sized-range o largest h)
+      (record { kinds = λ k. rw emptied-sizes (kinds k); spans = length-over (o .texts .spans) 0 _ ∙ w .spans; bytes = w .bytes })
 
   empty-sound : sizesFit largest o ≡ true → Sound (empty setting o)
   empty-sound h =
       record {
-        sizes =
-            sized-of largest (empty setting o)
-            (emptied-kind-store (λ k s. kindStoreFits largest s ≡ true) (λ k. kind-store-sized largest (kindStoreOf k o) (emptied (kindStoreOf k o)) refl refl (sized-kind-store largest o h k)))
-            (texts-sized largest (o .texts) (empty setting o .texts) (length-over (o .texts .spans) 0 _) refl (sized-texts largest o h));
-        strings = Interns.sound-of (freshStore (o .texts .spans) (o .texts .bytes)) (Interns.fresh-sound (o .texts .spans) (o .texts .bytes) (span-lent h));
+        sizes = empty-sized h;
+        strings = Interns.sound-of (freshStore (o .texts .spans) (o .texts .bytes)) (Interns.fresh-sound (o .texts .spans) (o .texts .bytes) (span-lent o h));
         kindStores = emptied-kind-store (SoundKindStore 1) (λ k. Sounds.empty-sound 1 k (kindStoreOf k o .table) (kindStoreOf k o .arena));
       }
 
-  pub setup-sound : takenIn (setUp setting o .answer) ≡ true → Sound (setUp setting o .overlay)
-  setup-sound e = let t = setup-taken setting o e in rw (t .1) (empty-sound (t .0))
+-- other sizes leave each kind store
+sized-kind-store-same : (z : Sizes) (o : Overlay) → InBytes o → (k : Kind) → all isByte (kindStoreOf k (withSizes z o) .arena) ≡ true
+sized-kind-store-same z o w Node = w .arenas Node
+sized-kind-store-same z o w Way = w .arenas Way
+sized-kind-store-same z o w Relation = w .arenas Relation
 
-pub setup-bytes : (setting : ℕ) (o : Overlay) → InBytes o → InBytes (setUp setting o .overlay)
-setup-bytes setting o w =
-    byKept (setUp setting o .answer)
-    (λ e. rw (setup-taken setting o e .1) (record { arenas = emptied-kind-store setting o (λ k (s : KindStore). all isByte (s .arena) ≡ true) (w .arenas); texts = w .texts }))
-    (λ r e. rw (setup-refused setting o r e) w)
+pub setup-sound : (z : Sizes) (setting : ℕ) (o : Overlay) → takenIn (setUp z setting o .answer) ≡ true → Sound (setUp z setting o .overlay)
+setup-sound z setting o e = let t = setup-taken z setting o e in rw (t .1) (empty-sound setting (withSizes z o) (t .0))
+
+pub setup-bytes : (z : Sizes) (setting : ℕ) (o : Overlay) → InBytes o → InBytes (setUp z setting o .overlay)
+setup-bytes z setting o w =
+    byKept (setUp z setting o .answer)
+    (λ e. rw (setup-taken z setting o e .1) (record { arenas = emptied-kind-store setting (withSizes z o) (λ k (s : KindStore). all isByte (s .arena) ≡ true) (sized-kind-store-same z o w); texts = w .texts }))
+    (λ r e. rw (setup-refused z setting o r e) w)
 
 -- ---- the regression setting keeps an overlay sound, and its bytes bytes
 
 module _ (setting : ℕ) (o : Overlay) where
   pub allow-sound : Sound o → Sound (allowOn setting o .overlay)
-  unfolding sizesFit
+  unfolding sizesFit tiled
   allow-sound w =
       byAllow setting o (λ s e. rw e w)
       (λ s e. rw e (record { sizes = w .sizes; strings = w .strings; kindStores = λ k. rw setting-kind-store (w .kindStores k) }))

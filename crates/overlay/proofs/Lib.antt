@@ -1,7 +1,9 @@
+pub mod KindStores
+pub mod Tiles
+pub mod Puts
 pub mod Parts
 pub mod Decides
 pub mod Answers
 pub mod Bounds
-pub mod KindStores
 pub mod Keeps
 pub mod First

@@ -5,7 +5,9 @@ use Rattle.refusal.specs.declared.Refusal.{Refusal}
 use Rattle.refusal.specs.declared.Refusal.the-variants as R
 use Rattle.kind_store.specs.declared.Kept.{Kept}
 use Rattle.kind_store.specs.declared.Kept.the-variants.{Taken, Refused}
-use Rattle.overlay.specs.Overlay.{Overlay, withSetting, largest, sizesFit, empty}
+use Rattle.blocks.specs.Sizes.{largest}
+use Rattle.overlay.specs.Overlay.{Overlay, withSetting, withSizes, sizesFit, empty}
+use Rattle.blocks.specs.declared.Sizes.{Sizes}
 use Rattle.overlay.specs.Sound.{isSound}
 
 -- an overlay and the answer that a call gives
@@ -16,10 +18,10 @@ pub record OverlayAfter : Type 0 where
 abbrev pub overlayRefused : Overlay → Refusal → OverlayAfter
 overlayRefused o r = record { overlay = o; answer = Refused r }
 
--- ---- set-up: 1, or an empty overlay with its regression setting
+-- ---- set-up: 1, or an empty overlay with its sizes and its regression setting
 
-unfoldable pub setUp : ℕ → Overlay → OverlayAfter
-setUp setting o = cond (sizesFit largest o) (record { overlay = empty setting o; answer = Taken }) (overlayRefused o R.Size)
+unfoldable pub setUp : Sizes → ℕ → Overlay → OverlayAfter
+setUp z setting o = cond (sizesFit largest (withSizes z o)) (record { overlay = empty setting (withSizes z o); answer = Taken }) (overlayRefused o R.Size)
 
 -- ---- "each call but lookups in lists, first: 22 unsound storage"
 

@@ -15,7 +15,9 @@ use Rattle.refusal.specs.declared.Refusal.{Refusal}
 use Rattle.refusal.specs.declared.Refusal.the-variants as R
 use Rattle.kind_store.specs.declared.Kept.{Kept}
 use Rattle.kind_store.specs.declared.Kept.the-variants.{Taken, Refused}
-use Rattle.overlay.specs.Overlay.{Overlay, largest, sizesFit}
+use Rattle.blocks.specs.Sizes.{largest}
+use Rattle.overlay.specs.Overlay.{Overlay, withSizes, sizesFit}
+use Rattle.blocks.specs.declared.Sizes.{Sizes}
 use Rattle.overlay.specs.Sound.{isSound}
 
 -- an answer by its refusal, if there is one
@@ -24,8 +26,8 @@ keptBy none = Taken
 keptBy (some r) = Refused r
 
 -- set-up: 1
-abbrev pub setUpTable : Overlay → List (ConditionRow Refusal)
-setUpTable o = row R.Size (not (sizesFit largest o)) ∷ []
+abbrev pub setUpTable : Sizes → Overlay → List (ConditionRow Refusal)
+setUpTable z o = row R.Size (not (sizesFit largest (withSizes z o))) ∷ []
 
 -- "each call but lookups in lists, first: 22 unsound storage"
 abbrev pub unsoundRow : Overlay → ConditionRow Refusal

@@ -1,4 +1,5 @@
 pub mod Overlay
+pub mod Lent
 pub mod Given
 pub mod Sound
 pub mod Calls

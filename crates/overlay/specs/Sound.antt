@@ -9,7 +9,8 @@ use Rattle.kind.specs.declared.Kind.the-variants.{Node, Way, Relation}
 use Rattle.interner.specs.Sound.{soundStrings}
 use Rattle.sound.specs.Sound.{SoundKindStore}
 use Rattle.sound.specs.Check.{soundKindStore}
-use Rattle.overlay.specs.Overlay.{Overlay, kindStoreOf, largest, sizesFit}
+use Rattle.blocks.specs.Sizes.{largest}
+use Rattle.overlay.specs.Overlay.{Overlay, kindStoreOf, sizesFit}
 
 pub record Sound (o : Overlay) : Type 0 where
   pub sizes : sizesFit largest o ≡ true

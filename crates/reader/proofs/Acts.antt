@@ -27,14 +27,15 @@ use Rattle.interner.specs.Sound.{textsOf}
 use Rattle.interner.proofs.Interns.{length-texts}
 use Rattle.interner.proofs.Held.{grown-all, text-stays-all}
 use Rattle.kind_store.specs.KindStore.{takenIn}
-use Rattle.overlay.specs.Overlay.{Overlay, largest, textsFit}
+use Rattle.blocks.specs.Sizes.{largest}
+use Rattle.overlay.specs.Overlay.{Overlay}
 use Rattle.overlay.specs.Sound.{Sound, isSound}
 use Rattle.overlay.specs.Given.{headFits, metaFits, InBytes}
 use Rattle.direct.specs.Calls.{pushOn, deleteOn, internOn}
 use Rattle.store.specs.declared.Handle.the-variants as H
 use Rattle.overlay.proofs.Answers.{strings-sound}
 use Rattle.overlay.proofs.Decides.{decides}
-use Rattle.overlay.proofs.KindStores.{sized-texts}
+use Rattle.overlay.proofs.Tiles.{sized-spans}
 use Rattle.direct.proofs.Keeps.{intern-kept, push-sound, push-bytes, push-texts, delete-sound, delete-bytes, delete-texts, intern-sound, intern-bytes}
 use Rattle.acts.specs.Turn.{Turn}
 use Rattle.reader.proofs.Small.{text-small}
@@ -112,9 +113,8 @@ module _ (o q : Overlay) (ts : List Bytes) (e : textsOf (q .texts) ≡ takeAll (
 
 -- at most 4,096 strings
 pub strings-few : (o : Overlay) → isSound o ≡ true → o .texts .strings ≤ 4096
-unfolding isSound textsFit
+unfolding isSound
 strings-few o e =
-    let z = sized-texts largest o (both-left _ _ e) in
+    let z = sized-spans o (both-left _ _ e) in
     let w = strings-sound o e .words in
-    let l = leb-true (length (o .texts .spans) / 2) 4096 (both-left _ _ (both-right _ _ z)) in
     omega arith

@@ -1,4 +1,5 @@
 pub mod State
+pub mod Lent
 pub mod Given
 pub mod Step
 pub mod Event

@@ -1,23 +1,22 @@
-// The acts of an event, over the nine lent parts: an element that begins, the push of an empty element or of one whose parts are staged, a delete.
+// The acts of an event, over what is lent: an element that begins, the push of an empty element or of one whose parts are staged, a delete.
 // What is refused changes nothing lent: the act's answer is asked first, and only then is the user's text taken in.
 ghost use mathlib.Core.Path.{_≡_};
 ghost use Prim.Native.Nat.{_+_, _<_, _≤_};
 ghost use mathlib.Core.List.{[]};
-ghost use lib.ListN.{length, take, getD};
+ghost use lib.ListN.{length, take};
 ghost use mir.Syntax.{w64};
 ghost use mir.Val.{toZ};
 ghost use Rattle.base.specs.Bytes.{Bytes};
 ghost use Rattle.model.specs.Record.{claimOf};
 ghost use Rattle.compact.specs.Layout.{headLen};
-ghost use Rattle.overlay.specs.Overlay.{lent, left};
+ghost use Rattle.overlay.specs.Lent.{lent, left};
 ghost use Rattle.kind_store.specs.declared.Kept.the-variants as K;
-ghost use Rattle.interner.specs.Strings.{storeWith};
-ghost use Rattle.store.specs.Beside.{KindParts, lentBeside, leftBeside};
 ghost use Rattle.store.specs.Calls.{storePush, storeDelete};
 ghost use Rattle.values.specs.Value.{bodyIn};
 ghost use Rattle.metadata.specs.Metadata.{metaWritten, MetadataInBounds};
 ghost use Rattle.reader.specs.Step.{bitsWithUser, headFor};
 ghost use Rattle.reader_acts.specs.Acts.{begunBy, beginOn, userActOn, userFull, refusalAfter, pushEmptyOn, deleteElementOn, pushStagedOn, ActGiven, HandleFits};
+use blocks::COUNTERS;
 use compact::ArenaMeta;
 use compact::CompactNode;
 use compact::CompactRelation;
@@ -112,33 +111,39 @@ fn begun_by(meta: Metadata, handle: Handle) -> Begun
 // ---- the user that metadata names
 
 // 13, of that user.
-fn user_refused(spans: &[u64], bytes: &[u8], used: &[u64; 9], meta: Metadata, line: &[u8]) -> bool
+fn user_refused(
+    words: &[u64],
+    bytes: &[u8],
+    counters: &[u64; COUNTERS],
+    meta: Metadata,
+    line: &[u8],
+) -> bool
     ensures { λ r. ⌜ (MetadataInBounds (now (line .entry)) meta → length (now (line .entry)) ≤ 16384
-        → r ≡ userFull (metaWritten (now (line .entry)) meta) (storeWith (now (spans .entry)) (now (bytes .entry)) (getD (now (used .entry)) 6 0) (getD (now (used .entry)) 7 0))) ⌝ }
+        → r ≡ userFull (metaWritten (now (line .entry)) meta) (lent words bytes counters .texts)) ⌝ }
 {
     if meta.flags / 4 % 2 == 1 {
         let user = meta.user;
-        return reader_texts::text_refused(spans, bytes, used, line, user);
+        return reader_texts::text_refused(words, bytes, counters, line, user);
     }
     false
 }
 
 // The answer of an act that is refused: 12 itself, then 13, then 14 or 15.
 fn refused_act(
-    spans: &[u64],
+    words: &[u64],
     bytes: &[u8],
-    used: &[u64; 9],
+    counters: &[u64; COUNTERS],
     meta: Metadata,
     line: &[u8],
     refusal: Refusal,
 ) -> Kept
     ensures { λ r. ⌜ (MetadataInBounds (now (line .entry)) meta → length (now (line .entry)) ≤ 16384
-        → r ≡ K.Refused (refusalAfter (userFull (metaWritten (now (line .entry)) meta) (storeWith (now (spans .entry)) (now (bytes .entry)) (getD (now (used .entry)) 6 0) (getD (now (used .entry)) 7 0))) refusal)) ⌝ }
+        → r ≡ K.Refused (refusalAfter (userFull (metaWritten (now (line .entry)) meta) (lent words bytes counters .texts)) refusal)) ⌝ }
 {
     if refusal::reply_of(refusal).number == 12 {
         return Kept::Refused(refusal);
     }
-    if user_refused(spans, bytes, used, meta, line) {
+    if user_refused(words, bytes, counters, meta, line) {
         return Kept::Refused(Refusal::StringsFull);
     }
     Kept::Refused(refusal)
@@ -146,20 +151,20 @@ fn refused_act(
 
 // An element begins: 13, or its metadata with its user's handle.
 pub fn begin_element(
-    ss: &mut [u64],
-    sb: &mut [u8],
-    us: &mut [u64; 9],
+    words: &mut [u64],
+    bytes: &mut [u8],
+    counters: &mut [u64; COUNTERS],
     ix: &[u16],
     meta: Metadata,
     line: &[u8],
 ) -> Begun
-    ensures { λ r. ⌜ ((p : KindParts) → ActGiven (now (ix .entry)) (now (line .entry)) meta (lentBeside p ss sb us)
-        → record { overlay = leftBeside p ss sb us; answer = r }
-        ≡ beginOn (metaWritten (now (line .entry)) meta) (lentBeside p ss sb us)) ⌝ }
+    ensures { λ r. ⌜ (ActGiven (now (ix .entry)) (now (line .entry)) meta (lent words bytes counters)
+        → record { overlay = left words bytes counters; answer = r }
+        ≡ beginOn (metaWritten (now (line .entry)) meta) (lent words bytes counters)) ⌝ }
 {
     if meta.flags / 4 % 2 == 1 {
         let user = meta.user;
-        let handle = reader_texts::take_text(ss, sb, us, ix, line, user);
+        let handle = reader_texts::take_text(words, bytes, counters, ix, line, user);
         return begun_by(meta, handle);
     }
     Begun::With(arena_meta(meta, 0))
@@ -168,72 +173,40 @@ pub fn begin_element(
 // ---- an element that ends
 
 fn push_first(
-    ni: &mut [u64],
-    na: &mut [u8],
-    wi: &mut [u64],
-    wa: &mut [u8],
-    ri: &mut [u64],
-    ra: &mut [u8],
-    ss: &[u64],
-    sb: &[u8],
-    us: &mut [u64; 9],
+    words: &mut [u64],
+    bytes: &mut [u8],
+    counters: &mut [u64; COUNTERS],
     parts: &[u8],
     n: usize,
     kind: Kind,
     head: PushHead,
     meta: ArenaMeta,
 ) -> Kept
-    ensures { λ r. ⌜ record { overlay = left ni na wi wa ri ra ss sb us; answer = r }
-        ≡ storePush kind head meta (take n (now (parts .entry))) (lent ni na wi wa ri ra ss sb us) ⌝ }
+    ensures { λ r. ⌜ record { overlay = left words bytes counters; answer = r }
+        ≡ storePush kind head meta (take n (now (parts .entry))) (lent words bytes counters) ⌝ }
 {
     let end = little::lesser(n, parts.len());
-    store::store_push(
-        ni,
-        na,
-        wi,
-        wa,
-        ri,
-        ra,
-        ss,
-        sb,
-        us,
-        kind,
-        head,
-        meta,
-        &parts[..end],
-    )
+    store::store_push(words, bytes, counters, kind, head, meta, &parts[..end])
 }
 
 // Pushes the element whose parts are staged: 12, 14, 15, or taken.
 pub fn push_staged(
-    ni: &mut [u64],
-    na: &mut [u8],
-    wi: &mut [u64],
-    wa: &mut [u8],
-    ri: &mut [u64],
-    ra: &mut [u8],
-    ss: &[u64],
-    sb: &[u8],
-    us: &mut [u64; 9],
+    words: &mut [u64],
+    bytes: &mut [u8],
+    counters: &mut [u64; COUNTERS],
     parts: &[u8; 44432],
     kind: Kind,
     pending: Pending,
 ) -> Kept
-    ensures { λ r. ⌜ record { overlay = left ni na wi wa ri ra ss sb us; answer = r }
-        ≡ pushStagedOn kind pending (now (parts .entry)) (lent ni na wi wa ri ra ss sb us) ⌝ }
+    ensures { λ r. ⌜ record { overlay = left words bytes counters; answer = r }
+        ≡ pushStagedOn kind pending (now (parts .entry)) (lent words bytes counters) ⌝ }
 {
     let head = pending.head;
     let meta = pending.meta;
     push_first(
-        ni,
-        na,
-        wi,
-        wa,
-        ri,
-        ra,
-        ss,
-        sb,
-        us,
+        words,
+        bytes,
+        counters,
         parts,
         pending.used,
         kind,
@@ -246,42 +219,30 @@ pub fn push_staged(
 
 // The user is taken in, and the element is pushed.
 fn push_with_user(
-    ni: &mut [u64],
-    na: &mut [u8],
-    wi: &mut [u64],
-    wa: &mut [u8],
-    ri: &mut [u64],
-    ra: &mut [u8],
-    ss: &mut [u64],
-    sb: &mut [u8],
-    us: &mut [u64; 9],
+    words: &mut [u64],
+    bytes: &mut [u8],
+    counters: &mut [u64; COUNTERS],
     ix: &[u16],
     kind: Kind,
     head: PushHead,
     meta: Metadata,
     line: &[u8],
 ) -> Kept
-    ensures { λ r. ⌜ (ActGiven (now (ix .entry)) (now (line .entry)) meta (lent ni na wi wa ri ra ss sb us)
-        → record { overlay = left ni na wi wa ri ra ss sb us; answer = r }
-        ≡ userActOn (metaWritten (now (line .entry)) meta) (λ a q. storePush kind head a [] q) (lent ni na wi wa ri ra ss sb us)) ⌝ }
+    ensures { λ r. ⌜ (ActGiven (now (ix .entry)) (now (line .entry)) meta (lent words bytes counters)
+        → record { overlay = left words bytes counters; answer = r }
+        ≡ userActOn (metaWritten (now (line .entry)) meta) (λ a q. storePush kind head a [] q) (lent words bytes counters)) ⌝ }
 {
-    match begin_element(ss, sb, us, ix, meta, line) {
-        Begun::With(a) => push_first(ni, na, wi, wa, ri, ra, ss, sb, us, line, 0, kind, head, a),
+    match begin_element(words, bytes, counters, ix, meta, line) {
+        Begun::With(a) => push_first(words, bytes, counters, line, 0, kind, head, a),
         Begun::Refused(r) => Kept::Refused(r),
     }
 }
 
 // Pushes an empty element: 12, 13, 14, 15, or taken.
 pub fn push_empty(
-    ni: &mut [u64],
-    na: &mut [u8],
-    wi: &mut [u64],
-    wa: &mut [u8],
-    ri: &mut [u64],
-    ra: &mut [u8],
-    ss: &mut [u64],
-    sb: &mut [u8],
-    us: &mut [u64; 9],
+    words: &mut [u64],
+    bytes: &mut [u8],
+    counters: &mut [u64; COUNTERS],
     ix: &[u16],
     kind: Kind,
     id: u64,
@@ -290,18 +251,18 @@ pub fn push_empty(
     meta: Metadata,
     line: &[u8],
 ) -> Kept
-    ensures { λ r. ⌜ (ActGiven (now (ix .entry)) (now (line .entry)) meta (lent ni na wi wa ri ra ss sb us)
-        → record { overlay = left ni na wi wa ri ra ss sb us; answer = r }
-        ≡ pushEmptyOn (toZ w64 id) (metaWritten (now (line .entry)) meta) (bodyIn kind lat lon) (lent ni na wi wa ri ra ss sb us)) ⌝ }
+    ensures { λ r. ⌜ (ActGiven (now (ix .entry)) (now (line .entry)) meta (lent words bytes counters)
+        → record { overlay = left words bytes counters; answer = r }
+        ≡ pushEmptyOn (toZ w64 id) (metaWritten (now (line .entry)) meta) (bodyIn kind lat lon) (lent words bytes counters)) ⌝ }
 {
     let claim = claimed(meta);
     let len = empty_len(kind);
-    match act_answer::push_answer(ni, na, wi, wa, ri, ra, ss, sb, us, kind, id, claim, len) {
+    match act_answer::push_answer(words, bytes, counters, kind, id, claim, len) {
         Kept::Taken => {
             let h = head_for(kind, id, lat, lon);
-            push_with_user(ni, na, wi, wa, ri, ra, ss, sb, us, ix, kind, h, meta, line)
+            push_with_user(words, bytes, counters, ix, kind, h, meta, line)
         }
-        Kept::Refused(r) => refused_act(ss, sb, us, meta, line, r),
+        Kept::Refused(r) => refused_act(words, bytes, counters, meta, line, r),
     }
 }
 
@@ -309,70 +270,43 @@ pub fn push_empty(
 
 // The user is taken in, and the id is deleted.
 fn delete_with_user(
-    ni: &mut [u64],
-    na: &mut [u8],
-    wi: &mut [u64],
-    wa: &mut [u8],
-    ri: &mut [u64],
-    ra: &mut [u8],
-    ss: &mut [u64],
-    sb: &mut [u8],
-    us: &mut [u64; 9],
+    words: &mut [u64],
+    bytes: &mut [u8],
+    counters: &mut [u64; COUNTERS],
     ix: &[u16],
     kind: Kind,
     id: u64,
     meta: Metadata,
     line: &[u8],
 ) -> Kept
-    ensures { λ r. ⌜ (ActGiven (now (ix .entry)) (now (line .entry)) meta (lent ni na wi wa ri ra ss sb us)
-        → record { overlay = left ni na wi wa ri ra ss sb us; answer = r }
-        ≡ userActOn (metaWritten (now (line .entry)) meta) (λ a q. storeDelete kind (toZ w64 id) (claimOf (metaWritten (now (line .entry)) meta)) q) (lent ni na wi wa ri ra ss sb us)) ⌝ }
+    ensures { λ r. ⌜ (ActGiven (now (ix .entry)) (now (line .entry)) meta (lent words bytes counters)
+        → record { overlay = left words bytes counters; answer = r }
+        ≡ userActOn (metaWritten (now (line .entry)) meta) (λ a q. storeDelete kind (toZ w64 id) (claimOf (metaWritten (now (line .entry)) meta)) q) (lent words bytes counters)) ⌝ }
 {
-    match begin_element(ss, sb, us, ix, meta, line) {
-        Begun::With(_) => store::store_delete(
-            ni,
-            na,
-            wi,
-            wa,
-            ri,
-            ra,
-            ss,
-            sb,
-            us,
-            kind,
-            id,
-            claimed(meta),
-        ),
+    match begin_element(words, bytes, counters, ix, meta, line) {
+        Begun::With(_) => store::store_delete(words, bytes, counters, kind, id, claimed(meta)),
         Begun::Refused(r) => Kept::Refused(r),
     }
 }
 
 // Deletes an id: 12, 13, 14, or taken.
 pub fn delete_element(
-    ni: &mut [u64],
-    na: &mut [u8],
-    wi: &mut [u64],
-    wa: &mut [u8],
-    ri: &mut [u64],
-    ra: &mut [u8],
-    ss: &mut [u64],
-    sb: &mut [u8],
-    us: &mut [u64; 9],
+    words: &mut [u64],
+    bytes: &mut [u8],
+    counters: &mut [u64; COUNTERS],
     ix: &[u16],
     kind: Kind,
     id: u64,
     meta: Metadata,
     line: &[u8],
 ) -> Kept
-    ensures { λ r. ⌜ (ActGiven (now (ix .entry)) (now (line .entry)) meta (lent ni na wi wa ri ra ss sb us)
-        → record { overlay = left ni na wi wa ri ra ss sb us; answer = r }
-        ≡ deleteElementOn kind (toZ w64 id) (metaWritten (now (line .entry)) meta) (lent ni na wi wa ri ra ss sb us)) ⌝ }
+    ensures { λ r. ⌜ (ActGiven (now (ix .entry)) (now (line .entry)) meta (lent words bytes counters)
+        → record { overlay = left words bytes counters; answer = r }
+        ≡ deleteElementOn kind (toZ w64 id) (metaWritten (now (line .entry)) meta) (lent words bytes counters)) ⌝ }
 {
     let claim = claimed(meta);
-    match act_answer::delete_answer(ni, na, wi, wa, ri, ra, ss, sb, us, kind, id, claim) {
-        Kept::Taken => {
-            delete_with_user(ni, na, wi, wa, ri, ra, ss, sb, us, ix, kind, id, meta, line)
-        }
-        Kept::Refused(r) => refused_act(ss, sb, us, meta, line, r),
+    match act_answer::delete_answer(words, bytes, counters, kind, id, claim) {
+        Kept::Taken => { delete_with_user(words, bytes, counters, ix, kind, id, meta, line) }
+        Kept::Refused(r) => refused_act(words, bytes, counters, meta, line, r),
     }
 }

@@ -4,12 +4,14 @@ ghost use mathlib.Core.Bool.{true};
 ghost use Prim.Native.Nat.{_+_, _<_};
 ghost use Rattle.decision.specs.Decision.{decide};
 ghost use Rattle.text_index.specs.Index.{IndexGiven};
-ghost use Rattle.overlay.specs.Overlay.{lent, left};
+ghost use Rattle.overlay.specs.Lent.{lent};
+ghost use Rattle.reader.specs.Lent.{stateLent, stateLeft};
 ghost use Rattle.reader.specs.State.{stateSound};
 ghost use Rattle.reader.specs.Step.{stepOf};
 ghost use Rattle.reader.specs.Event.{stepped, eventOn, endOn};
 ghost use Rattle.reader.specs.Table.{isDone};
 ghost use Rattle.reader_calls.specs.Done.{eventDone};
+use blocks::COUNTERS;
 use nesting::Level;
 use reader::EventAnswer;
 use reader::EventReader;
@@ -69,57 +71,45 @@ fn event_done(reader: EventReader, step: Stepped) -> EventDone
 
 // An event of a state that was found sound, whose reader is not stopped: its step. The array of chains, or an empty slice, finds held texts.
 pub fn event_going(
-    ni: &mut [u64],
-    na: &mut [u8],
-    wi: &mut [u64],
-    wa: &mut [u8],
-    ri: &mut [u64],
-    ra: &mut [u8],
-    ss: &mut [u64],
-    sb: &mut [u8],
-    us: &mut [u64; 9],
+    words: &mut [u64],
+    bytes: &mut [u8],
+    counters: &mut [u64; COUNTERS],
     ix: &[u16],
     parts: &mut [u8; 44432],
     reader: EventReader,
     line: &[u8],
 ) -> EventDone
-    ensures { λ r. ⌜ (stateSound (record { overlay = lent ni na wi wa ri ra ss sb us; reader = reader; parts = now (parts .entry) }) ≡ true
-        → IndexGiven (now (ix .entry)) (lent ni na wi wa ri ra ss sb us .texts)
-        → record { state = record { overlay = left ni na wi wa ri ra ss sb us; reader = r .reader; parts = now (parts .exit) }; answer = r .answer }
-        ≡ stepped (record { overlay = lent ni na wi wa ri ra ss sb us; reader = reader; parts = now (parts .entry) })
+    ensures { λ r. ⌜ (stateSound (stateLent words bytes counters parts reader) ≡ true
+        → IndexGiven (now (ix .entry)) (lent words bytes counters .texts)
+        → record { state = stateLeft words bytes counters parts (r .reader); answer = r .answer }
+        ≡ stepped (stateLent words bytes counters parts reader)
         (stepOf (decide (now (line .entry)) (reader .place))
-        (record { overlay = lent ni na wi wa ri ra ss sb us; reader = reader; parts = now (parts .entry) }))) ⌝ }
+        (stateLent words bytes counters parts reader))) ⌝ }
 {
     let place = reader.place;
     let d = decide::decide(line, place);
     let n = scan::body_length(line);
     let t = &line[..n];
-    let step = reader_step::step(ni, na, wi, wa, ri, ra, ss, sb, us, ix, parts, reader, t, d);
+    let step = reader_step::step(words, bytes, counters, ix, parts, reader, t, d);
     event_done(reader, step)
 }
 
 // An event by its line: 22, the stop mark, or its step: 2 to 16, or it is accepted. A refused event changes its reader's stop mark alone, and 22 and a repeated refusal nothing.
 pub fn event(
-    ni: &mut [u64],
-    na: &mut [u8],
-    wi: &mut [u64],
-    wa: &mut [u8],
-    ri: &mut [u64],
-    ra: &mut [u8],
-    ss: &mut [u64],
-    sb: &mut [u8],
-    us: &mut [u64; 9],
+    words: &mut [u64],
+    bytes: &mut [u8],
+    counters: &mut [u64; COUNTERS],
     parts: &mut [u8; 44432],
     reader: EventReader,
     line: &[u8],
 ) -> EventDone
-    ensures { λ r. ⌜ record { state = record { overlay = left ni na wi wa ri ra ss sb us; reader = r .reader; parts = now (parts .exit) }; answer = r .answer }
-        ≡ eventOn (now (line .entry)) (record { overlay = lent ni na wi wa ri ra ss sb us; reader = reader; parts = now (parts .entry) }) ⌝ }
+    ensures { λ r. ⌜ record { state = stateLeft words bytes counters parts (r .reader); answer = r .answer }
+        ≡ eventOn (now (line .entry)) (stateLent words bytes counters parts reader) ⌝ }
 {
-    if reader_sound::state_sound(ni, na, wi, wa, ri, ra, ss, sb, us, parts, reader) {
+    if reader_sound::state_sound(words, bytes, counters, parts, reader) {
         let stop = reader.stop;
         let Stop::At(refusal, at) = reader_sound::mark_of(stop) else {
-            return event_going(ni, na, wi, wa, ri, ra, ss, sb, us, &[], parts, reader, line);
+            return event_going(words, bytes, counters, &[], parts, reader, line);
         };
         let answer = EventAnswer::Refused(refusal, at);
         return EventDone { reader, answer };
@@ -146,22 +136,16 @@ fn is_done(level: Level) -> bool
 
 // The end of a document: 22, the stop mark, or 18 where the level is not Done. It changes nothing.
 pub fn end(
-    ni: &[u64],
-    na: &[u8],
-    wi: &[u64],
-    wa: &[u8],
-    ri: &[u64],
-    ra: &[u8],
-    ss: &[u64],
-    sb: &[u8],
-    us: &[u64; 9],
+    words: &[u64],
+    bytes: &[u8],
+    counters: &[u64; COUNTERS],
     parts: &[u8; 44432],
     reader: EventReader,
 ) -> EventAnswer
-    ensures { λ r. ⌜ record { state = record { overlay = left ni na wi wa ri ra ss sb us; reader = reader; parts = now (parts .exit) }; answer = r }
-        ≡ endOn (record { overlay = lent ni na wi wa ri ra ss sb us; reader = reader; parts = now (parts .entry) }) ⌝ }
+    ensures { λ r. ⌜ record { state = stateLeft words bytes counters parts reader; answer = r }
+        ≡ endOn (stateLent words bytes counters parts reader) ⌝ }
 {
-    if reader_sound::state_sound(ni, na, wi, wa, ri, ra, ss, sb, us, parts, reader) {
+    if reader_sound::state_sound(words, bytes, counters, parts, reader) {
         let stop = reader.stop;
         let Stop::At(refusal, line) = reader_sound::mark_of(stop) else {
             let place = reader.place;

@@ -7,12 +7,14 @@ ghost use Rattle.values.specs.Value.{bodyIn};
 ghost use Rattle.metadata.specs.Metadata.{metaWritten};
 ghost use Rattle.decide.specs.Decided.{meansDecided};
 ghost use Rattle.decide.specs.declared.Decided.the-variants as D;
-ghost use Rattle.overlay.specs.Overlay.{lent, left};
+ghost use Rattle.overlay.specs.Lent.{lent, left};
+ghost use Rattle.reader.specs.Lent.{stateLent};
 ghost use Rattle.reader.specs.declared.EventReader.{EventReader};
 ghost use Rattle.reader.specs.State.{noPending};
 ghost use Rattle.reader.specs.Step.{stepOf};
 ghost use Rattle.reader_acts.specs.Acts.{ActGiven, pushEmptyOn};
 ghost use Rattle.reader_elements.specs.Done.{StepGiven, doneBy, actStepped, beginStepped};
+use blocks::COUNTERS;
 use compact::ArenaMeta;
 use compact::PushHead;
 use decide::Beginning;
@@ -90,35 +92,23 @@ fn begun(place: Place, head: PushHead, answer: Begun) -> Stepped
 
 // An empty element is pushed.
 fn push_empty(
-    ni: &mut [u64],
-    na: &mut [u8],
-    wi: &mut [u64],
-    wa: &mut [u8],
-    ri: &mut [u64],
-    ra: &mut [u8],
-    ss: &mut [u64],
-    sb: &mut [u8],
-    us: &mut [u64; 9],
+    words: &mut [u64],
+    bytes: &mut [u8],
+    counters: &mut [u64; COUNTERS],
     ix: &[u16],
     line: &[u8],
     b: Beginning,
 ) -> Kept
-    ensures { λ r. ⌜ (ActGiven (now (ix .entry)) (now (line .entry)) (b .meta) (lent ni na wi wa ri ra ss sb us)
-        → record { overlay = left ni na wi wa ri ra ss sb us; answer = r }
-        ≡ pushEmptyOn (toZ w64 (b .id)) (metaWritten (now (line .entry)) (b .meta)) (bodyIn (b .kind) (b .lat) (b .lon)) (lent ni na wi wa ri ra ss sb us)) ⌝ }
+    ensures { λ r. ⌜ (ActGiven (now (ix .entry)) (now (line .entry)) (b .meta) (lent words bytes counters)
+        → record { overlay = left words bytes counters; answer = r }
+        ≡ pushEmptyOn (toZ w64 (b .id)) (metaWritten (now (line .entry)) (b .meta)) (bodyIn (b .kind) (b .lat) (b .lon)) (lent words bytes counters)) ⌝ }
 {
     let kind = b.kind;
     let meta = b.meta;
     reader_acts::push_empty(
-        ni,
-        na,
-        wi,
-        wa,
-        ri,
-        ra,
-        ss,
-        sb,
-        us,
+        words,
+        bytes,
+        counters,
         ix,
         kind,
         b.id,
@@ -131,96 +121,63 @@ fn push_empty(
 
 // An element begins; one that is empty ends too, and is pushed.
 pub fn begin(
-    ni: &mut [u64],
-    na: &mut [u8],
-    wi: &mut [u64],
-    wa: &mut [u8],
-    ri: &mut [u64],
-    ra: &mut [u8],
-    ss: &mut [u64],
-    sb: &mut [u8],
-    us: &mut [u64; 9],
+    words: &mut [u64],
+    bytes: &mut [u8],
+    counters: &mut [u64; COUNTERS],
     ix: &[u16],
     line: &[u8],
     b: Beginning,
 ) -> Stepped
-    ensures { λ r. ⌜ ((reader : EventReader) (parts : Bytes) → StepGiven (now (ix .entry)) (now (line .entry)) (D.Begins b) (record { overlay = lent ni na wi wa ri ra ss sb us; reader = reader; parts = parts })
-        → record { overlay = left ni na wi wa ri ra ss sb us; parts = parts; answer = r } ≡ doneBy (record { overlay = lent ni na wi wa ri ra ss sb us; reader = reader; parts = parts }) (stepOf (meansDecided (now (line .entry)) (D.Begins b)) (record { overlay = lent ni na wi wa ri ra ss sb us; reader = reader; parts = parts }))) ⌝ }
+    ensures { λ r. ⌜ ((reader : EventReader) (parts : Bytes) → StepGiven (now (ix .entry)) (now (line .entry)) (D.Begins b) (record { overlay = lent words bytes counters; reader = reader; parts = parts })
+        → record { overlay = left words bytes counters; parts = parts; answer = r } ≡ doneBy (record { overlay = lent words bytes counters; reader = reader; parts = parts }) (stepOf (meansDecided (now (line .entry)) (D.Begins b)) (record { overlay = lent words bytes counters; reader = reader; parts = parts }))) ⌝ }
 {
     let place = b.place;
     if b.empty {
-        let answer = push_empty(ni, na, wi, wa, ri, ra, ss, sb, us, ix, line, b);
+        let answer = push_empty(words, bytes, counters, ix, line, b);
         return cleared(place, answer);
     }
     let kind = b.kind;
     let meta = b.meta;
     let head = reader_acts::head_for(kind, b.id, b.lat, b.lon);
-    let answer = reader_acts::begin_element(ss, sb, us, ix, meta, line);
+    let answer = reader_acts::begin_element(words, bytes, counters, ix, meta, line);
     begun(place, head, answer)
 }
 
 // An id is deleted.
 pub fn delete(
-    ni: &mut [u64],
-    na: &mut [u8],
-    wi: &mut [u64],
-    wa: &mut [u8],
-    ri: &mut [u64],
-    ra: &mut [u8],
-    ss: &mut [u64],
-    sb: &mut [u8],
-    us: &mut [u64; 9],
+    words: &mut [u64],
+    bytes: &mut [u8],
+    counters: &mut [u64; COUNTERS],
     ix: &[u16],
     line: &[u8],
     d: Deletion,
 ) -> Stepped
-    ensures { λ r. ⌜ ((reader : EventReader) (parts : Bytes) → StepGiven (now (ix .entry)) (now (line .entry)) (D.Deletes d) (record { overlay = lent ni na wi wa ri ra ss sb us; reader = reader; parts = parts })
-        → record { overlay = left ni na wi wa ri ra ss sb us; parts = parts; answer = r } ≡ doneBy (record { overlay = lent ni na wi wa ri ra ss sb us; reader = reader; parts = parts }) (stepOf (meansDecided (now (line .entry)) (D.Deletes d)) (record { overlay = lent ni na wi wa ri ra ss sb us; reader = reader; parts = parts }))) ⌝ }
+    ensures { λ r. ⌜ ((reader : EventReader) (parts : Bytes) → StepGiven (now (ix .entry)) (now (line .entry)) (D.Deletes d) (record { overlay = lent words bytes counters; reader = reader; parts = parts })
+        → record { overlay = left words bytes counters; parts = parts; answer = r } ≡ doneBy (record { overlay = lent words bytes counters; reader = reader; parts = parts }) (stepOf (meansDecided (now (line .entry)) (D.Deletes d)) (record { overlay = lent words bytes counters; reader = reader; parts = parts }))) ⌝ }
 {
     let place = d.place;
     let kind = d.kind;
     let id = d.id;
     let meta = d.meta;
-    let answer = reader_acts::delete_element(
-        ni,
-        na,
-        wi,
-        wa,
-        ri,
-        ra,
-        ss,
-        sb,
-        us,
-        ix,
-        kind,
-        id,
-        meta,
-        line,
-    );
+    let answer = reader_acts::delete_element(words, bytes, counters, ix, kind, id, meta, line);
     cleared(place, answer)
 }
 
 // The element that stands open ends, and is pushed.
 pub fn end(
-    ni: &mut [u64],
-    na: &mut [u8],
-    wi: &mut [u64],
-    wa: &mut [u8],
-    ri: &mut [u64],
-    ra: &mut [u8],
-    ss: &[u64],
-    sb: &[u8],
-    us: &mut [u64; 9],
+    words: &mut [u64],
+    bytes: &mut [u8],
+    counters: &mut [u64; COUNTERS],
     parts: &[u8; 44432],
     reader: EventReader,
     place: Place,
 ) -> Stepped
     ensures { λ r. ⌜ ((line : Bytes)
-        → record { overlay = left ni na wi wa ri ra ss sb us; parts = now (parts .entry); answer = r } ≡ doneBy (record { overlay = lent ni na wi wa ri ra ss sb us; reader = reader; parts = now (parts .entry) }) (stepOf (meansDecided line (D.Ends place)) (record { overlay = lent ni na wi wa ri ra ss sb us; reader = reader; parts = now (parts .entry) }))) ⌝ }
+        → record { overlay = left words bytes counters; parts = now (parts .entry); answer = r } ≡ doneBy (stateLent words bytes counters parts reader) (stepOf (meansDecided line (D.Ends place)) (stateLent words bytes counters parts reader))) ⌝ }
 {
     let pending = reader.pending;
     let at = reader.place;
     let kind = at.kind;
-    let answer = reader_acts::push_staged(ni, na, wi, wa, ri, ra, ss, sb, us, parts, kind, pending);
+    let answer = reader_acts::push_staged(words, bytes, counters, parts, kind, pending);
     cleared(place, answer)
 }

@@ -10,22 +10,18 @@ use borrow.Rule.Slice.PartMut.{midOf}
 use lib.Dec.{ltb}
 use lib.ListN.{length, drop}
 use lib.Seq.{slice}
-use Rattle.base.specs.Bytes.{Bytes, both, all}
+use Rattle.base.specs.Bytes.{Bytes, both}
 use Rattle.base.proofs.Split.{both-of, both-left, both-right, both-no-right, byLe}
 use Rattle.refusal.specs.declared.Refusal.the-variants as R
-use Rattle.kind.specs.declared.Kind.{Kind}
-use Rattle.kind.specs.declared.Kind.the-variants.{Node, Way, Relation}
-use Rattle.little.specs.Little.{isByte}
 use Rattle.scan.proofs.Places.{lent-is}
 use Rattle.lines.specs.Lines.{linesOf}
 use Rattle.lines.specs.Place.{lineEnd}
 use Rattle.lines.specs.declared.LineEnd.{LineEnd}
 use Rattle.lines.specs.declared.LineEnd.the-variants.{At, None}
 use Rattle.lines.proofs.Places.{NextLine, next-line, no-line, length-part}
-use Rattle.overlay.specs.Overlay.{overlayOf, kindStoreOf}
 use Rattle.compact.specs.declared.ArenaMeta.{ArenaMeta}
 use Rattle.compact.specs.declared.PushHead.{PushHead}
-use Rattle.overlay.specs.Given.{InBytes, headFits, metaFits}
+use Rattle.overlay.specs.Given.{headFits, metaFits}
 use Rattle.reader.specs.declared.EventAnswer.{EventAnswer}
 use Rattle.reader.specs.declared.EventAnswer.the-variants as E
 use Rattle.reader.specs.State.{State, readerSound, stateSound}
@@ -213,12 +209,6 @@ pub run-by : {run : Bytes} {s₀ : State} {more : Bool} {at : ℕ} {x : EventRes
 run-by {run} {s₀} {more} {at} {x} b m w = subst (λ (z : Bool). Running run s₀ z at x) m w
 
 -- what is lent keeps its sizes
-pub record SameSizes (ni₀ na₀ wi₀ wa₀ ri₀ ra₀ spans₀ bytes₀ ni na wi wa ri ra spans bytes : List ℕ) : Type 0 where
-  pub same-ni : length ni ≡ length ni₀
-  pub same-na : length na ≡ length na₀
-  pub same-wi : length wi ≡ length wi₀
-  pub same-wa : length wa ≡ length wa₀
-  pub same-ri : length ri ≡ length ri₀
-  pub same-ra : length ra ≡ length ra₀
-  pub same-spans : length spans ≡ length spans₀
+pub record SameSizes (words₀ bytes₀ words bytes : List ℕ) : Type 0 where
+  pub same-words : length words ≡ length words₀
   pub same-bytes : length bytes ≡ length bytes₀

@@ -6,13 +6,15 @@ ghost use lib.ListN.{length};
 ghost use Rattle.base.specs.Bytes.{all};
 ghost use Rattle.little.specs.Little.{isByte};
 ghost use Rattle.text_index.specs.Index.{IndexGiven};
-ghost use Rattle.overlay.specs.Overlay.{lent, left};
+ghost use Rattle.overlay.specs.Lent.{lent};
 ghost use Rattle.lines.specs.Lines.{linesOf};
+ghost use Rattle.reader.specs.Lent.{stateLent, stateLeft};
 ghost use Rattle.reader.specs.State.{stateSound};
 ghost use Rattle.reader.specs.Given.{StateGiven};
 ghost use Rattle.reader.specs.Event.{eventOn};
 ghost use Rattle.reader_events.specs.Events.{eventsOn, takenBytes};
 ghost use Rattle.reader_events.specs.Runs.{RunGiven, behindLine, pointOn};
+use blocks::COUNTERS;
 use lines::LineEnd;
 use reader::EventAnswer;
 use reader::EventReader;
@@ -32,29 +34,23 @@ pub struct EventsDone {
 
 // A line as an event of a state that is sound but for its count of lines: 22 where that is at its largest, the stop mark, or its step.
 fn line_event(
-    ni: &mut [u64],
-    na: &mut [u8],
-    wi: &mut [u64],
-    wa: &mut [u8],
-    ri: &mut [u64],
-    ra: &mut [u8],
-    ss: &mut [u64],
-    sb: &mut [u8],
-    us: &mut [u64; 9],
+    words: &mut [u64],
+    bytes: &mut [u8],
+    counters: &mut [u64; COUNTERS],
     ix: &[u16],
     ps: &mut [u8; 44432],
     reader: EventReader,
     line: &[u8],
 ) -> EventDone
-    ensures { λ r. ⌜ (RunGiven (record { overlay = lent ni na wi wa ri ra ss sb us; reader = reader; parts = now (ps .entry) })
-        → IndexGiven (now (ix .entry)) (lent ni na wi wa ri ra ss sb us .texts)
-        → record { state = record { overlay = left ni na wi wa ri ra ss sb us; reader = r .reader; parts = now (ps .exit) }; answer = r .answer }
-        ≡ eventOn (now (line .entry)) (record { overlay = lent ni na wi wa ri ra ss sb us; reader = reader; parts = now (ps .entry) })) ⌝ }
+    ensures { λ r. ⌜ (RunGiven (stateLent words bytes counters ps reader)
+        → IndexGiven (now (ix .entry)) (lent words bytes counters .texts)
+        → record { state = stateLeft words bytes counters ps (r .reader); answer = r .answer }
+        ≡ eventOn (now (line .entry)) (stateLent words bytes counters ps reader)) ⌝ }
 {
     if reader.lines < 18446744073709551615 {
         let stop = reader.stop;
         let Stop::At(refusal, at) = reader_sound::mark_of(stop) else {
-            return event_going(ni, na, wi, wa, ri, ra, ss, sb, us, ix, ps, reader, line);
+            return event_going(words, bytes, counters, ix, ps, reader, line);
         };
         let answer = EventAnswer::Refused(refusal, at);
         return EventDone { reader, answer };
@@ -75,15 +71,9 @@ fn behind_line(at: usize, to: usize, answer: EventAnswer) -> usize
 
 // The next line, if there is one.
 fn next_event(
-    ni: &mut [u64],
-    na: &mut [u8],
-    wi: &mut [u64],
-    wa: &mut [u8],
-    ri: &mut [u64],
-    ra: &mut [u8],
-    ss: &mut [u64],
-    sb: &mut [u8],
-    us: &mut [u64; 9],
+    words: &mut [u64],
+    bytes: &mut [u8],
+    counters: &mut [u64; COUNTERS],
     ix: &[u16],
     ps: &mut [u8; 44432],
     reader: EventReader,
@@ -91,10 +81,10 @@ fn next_event(
     at: usize,
 ) -> EventsDone
     requires { ⌜ at ≤ length (now run) ⌝ }
-    ensures { λ r. ⌜ (RunGiven (record { overlay = lent ni na wi wa ri ra ss sb us; reader = reader; parts = now (ps .entry) })
-        → IndexGiven (now (ix .entry)) (lent ni na wi wa ri ra ss sb us .texts)
-        → record { result = record { state = record { overlay = left ni na wi wa ri ra ss sb us; reader = r .reader; parts = now (ps .exit) }; answer = r .answer }; taken = r .taken }
-        ≡ pointOn (now (run .entry)) at (record { overlay = lent ni na wi wa ri ra ss sb us; reader = reader; parts = now (ps .entry) })) ⌝ }
+    ensures { λ r. ⌜ (RunGiven (stateLent words bytes counters ps reader)
+        → IndexGiven (now (ix .entry)) (lent words bytes counters .texts)
+        → record { result = record { state = stateLeft words bytes counters ps (r .reader); answer = r .answer }; taken = r .taken }
+        ≡ pointOn (now (run .entry)) at (stateLent words bytes counters ps reader)) ⌝ }
     ensures { λ r. ⌜ r .taken ≤ length (now (run .entry)) ⌝ }
 {
     let LineEnd::At(to) = lines::line_end(run, at) else {
@@ -105,7 +95,7 @@ fn next_event(
         };
     };
     let line = &run[at..to];
-    let done = line_event(ni, na, wi, wa, ri, ra, ss, sb, us, ix, ps, reader, line);
+    let done = line_event(words, bytes, counters, ix, ps, reader, line);
     let reader = done.reader;
     let answer = done.answer;
     EventsDone {
@@ -119,27 +109,21 @@ fn next_event(
 
 // All lines, by an array of chains that is brought up to date before each.
 fn events_by(
-    ni: &mut [u64],
-    na: &mut [u8],
-    wi: &mut [u64],
-    wa: &mut [u8],
-    ri: &mut [u64],
-    ra: &mut [u8],
-    ss: &mut [u64],
-    sb: &mut [u8],
-    us: &mut [u64; 9],
+    words: &mut [u64],
+    bytes: &mut [u8],
+    counters: &mut [u64; COUNTERS],
     ix: &mut [u16; 8193],
     ps: &mut [u8; 44432],
     reader: EventReader,
     run: &[u8],
 ) -> EventsDone
-    ensures { λ r. ⌜ (RunGiven (record { overlay = lent ni na wi wa ri ra ss sb us; reader = reader; parts = now (ps .entry) })
-        → IndexGiven (now (ix .entry)) (lent ni na wi wa ri ra ss sb us .texts)
-        → record { state = record { overlay = left ni na wi wa ri ra ss sb us; reader = r .reader; parts = now (ps .exit) }; answer = r .answer }
-        ≡ eventsOn (linesOf (now (run .entry))) (record { overlay = lent ni na wi wa ri ra ss sb us; reader = reader; parts = now (ps .entry) })) ⌝ }
-    ensures { λ r. ⌜ (RunGiven (record { overlay = lent ni na wi wa ri ra ss sb us; reader = reader; parts = now (ps .entry) })
-        → IndexGiven (now (ix .entry)) (lent ni na wi wa ri ra ss sb us .texts)
-        → r .taken ≡ takenBytes (linesOf (now (run .entry))) (record { overlay = lent ni na wi wa ri ra ss sb us; reader = reader; parts = now (ps .entry) })) ⌝ }
+    ensures { λ r. ⌜ (RunGiven (stateLent words bytes counters ps reader)
+        → IndexGiven (now (ix .entry)) (lent words bytes counters .texts)
+        → record { state = stateLeft words bytes counters ps (r .reader); answer = r .answer }
+        ≡ eventsOn (linesOf (now (run .entry))) (stateLent words bytes counters ps reader)) ⌝ }
+    ensures { λ r. ⌜ (RunGiven (stateLent words bytes counters ps reader)
+        → IndexGiven (now (ix .entry)) (lent words bytes counters .texts)
+        → r .taken ≡ takenBytes (linesOf (now (run .entry))) (stateLent words bytes counters ps reader)) ⌝ }
     ensures { λ r. ⌜ r .taken ≤ length (now (run .entry)) ⌝ }
 {
     let mut done = EventsDone {
@@ -151,8 +135,8 @@ fn events_by(
     while more {
         let reader = done.reader;
         let at = done.taken;
-        text_index::index_held(ix, ss, sb, us[6], us[7]);
-        done = next_event(ni, na, wi, wa, ri, ra, ss, sb, us, ix, ps, reader, run, at);
+        store::index_texts(ix, words, bytes, counters);
+        done = next_event(words, bytes, counters, ix, ps, reader, run, at);
         more = at < done.taken;
     }
     done
@@ -160,28 +144,22 @@ fn events_by(
 
 // The same as `events` with no test of soundness: for a caller who knows that the state is sound but for its count of lines, since nothing else changed it after a test.
 pub fn events_untested(
-    ni: &mut [u64],
-    na: &mut [u8],
-    wi: &mut [u64],
-    wa: &mut [u8],
-    ri: &mut [u64],
-    ra: &mut [u8],
-    ss: &mut [u64],
-    sb: &mut [u8],
-    us: &mut [u64; 9],
+    words: &mut [u64],
+    bytes: &mut [u8],
+    counters: &mut [u64; COUNTERS],
     ps: &mut [u8; 44432],
     reader: EventReader,
     run: &[u8],
 ) -> EventsDone
-    ensures { λ r. ⌜ (RunGiven (record { overlay = lent ni na wi wa ri ra ss sb us; reader = reader; parts = now (ps .entry) })
-        → record { state = record { overlay = left ni na wi wa ri ra ss sb us; reader = r .reader; parts = now (ps .exit) }; answer = r .answer }
-        ≡ eventsOn (linesOf (now (run .entry))) (record { overlay = lent ni na wi wa ri ra ss sb us; reader = reader; parts = now (ps .entry) })) ⌝ }
-    ensures { λ r. ⌜ (RunGiven (record { overlay = lent ni na wi wa ri ra ss sb us; reader = reader; parts = now (ps .entry) })
-        → r .taken ≡ takenBytes (linesOf (now (run .entry))) (record { overlay = lent ni na wi wa ri ra ss sb us; reader = reader; parts = now (ps .entry) })) ⌝ }
+    ensures { λ r. ⌜ (RunGiven (stateLent words bytes counters ps reader)
+        → record { state = stateLeft words bytes counters ps (r .reader); answer = r .answer }
+        ≡ eventsOn (linesOf (now (run .entry))) (stateLent words bytes counters ps reader)) ⌝ }
+    ensures { λ r. ⌜ (RunGiven (stateLent words bytes counters ps reader)
+        → r .taken ≡ takenBytes (linesOf (now (run .entry))) (stateLent words bytes counters ps reader)) ⌝ }
     ensures { λ r. ⌜ r .taken ≤ length (now (run .entry)) ⌝ }
 {
     let mut ix = [0u16; 8193];
-    events_by(ni, na, wi, wa, ri, ra, ss, sb, us, &mut ix, ps, reader, run)
+    events_by(words, bytes, counters, &mut ix, ps, reader, run)
 }
 
 // ---- what is tested once
@@ -195,23 +173,17 @@ fn known_bytes(bytes: &[u8]) -> usize
 
 // Whether overlay and reader are sound; and what they are because they are lent.
 fn state_tested(
-    ni: &[u64],
-    na: &[u8],
-    wi: &[u64],
-    wa: &[u8],
-    ri: &[u64],
-    ra: &[u8],
-    ss: &[u64],
-    sb: &[u8],
-    us: &[u64; 9],
+    words: &[u64],
+    bytes: &[u8],
+    counters: &[u64; COUNTERS],
     ps: &[u8; 44432],
     reader: EventReader,
 ) -> bool
-    ensures { λ r. ⌜ r ≡ stateSound (record { overlay = lent ni na wi wa ri ra ss sb us; reader = reader; parts = now (ps .entry) }) ⌝ }
-    ensures { λ r. ⌜ StateGiven (record { overlay = lent ni na wi wa ri ra ss sb us; reader = reader; parts = now (ps .entry) }) ⌝ }
+    ensures { λ r. ⌜ r ≡ stateSound (stateLent words bytes counters ps reader) ⌝ }
+    ensures { λ r. ⌜ StateGiven (stateLent words bytes counters ps reader) ⌝ }
 {
     known_bytes(ps);
-    reader_sound::state_sound(ni, na, wi, wa, ri, ra, ss, sb, us, ps, reader)
+    reader_sound::state_sound(words, bytes, counters, ps, reader)
 }
 
 // ---- the call
@@ -219,22 +191,16 @@ fn state_tested(
 // The whole lines of a run as events, up to the first that is refused. What follows the bytes that were taken is the refused line, or the unfinished one, which a caller
 // lends again with what comes after it.
 pub fn events(
-    ni: &mut [u64],
-    na: &mut [u8],
-    wi: &mut [u64],
-    wa: &mut [u8],
-    ri: &mut [u64],
-    ra: &mut [u8],
-    ss: &mut [u64],
-    sb: &mut [u8],
-    us: &mut [u64; 9],
+    words: &mut [u64],
+    bytes: &mut [u8],
+    counters: &mut [u64; COUNTERS],
     ps: &mut [u8; 44432],
     reader: EventReader,
     run: &[u8],
 ) -> EventsDone
-    ensures { λ r. ⌜ record { state = record { overlay = left ni na wi wa ri ra ss sb us; reader = r .reader; parts = now (ps .exit) }; answer = r .answer }
-        ≡ eventsOn (linesOf (now (run .entry))) (record { overlay = lent ni na wi wa ri ra ss sb us; reader = reader; parts = now (ps .entry) }) ⌝ }
-    ensures { λ r. ⌜ r .taken ≡ takenBytes (linesOf (now (run .entry))) (record { overlay = lent ni na wi wa ri ra ss sb us; reader = reader; parts = now (ps .entry) }) ⌝ }
+    ensures { λ r. ⌜ record { state = stateLeft words bytes counters ps (r .reader); answer = r .answer }
+        ≡ eventsOn (linesOf (now (run .entry))) (stateLent words bytes counters ps reader) ⌝ }
+    ensures { λ r. ⌜ r .taken ≡ takenBytes (linesOf (now (run .entry))) (stateLent words bytes counters ps reader) ⌝ }
 {
     let LineEnd::At(_) = lines::line_end(run, 0) else {
         return EventsDone {
@@ -243,8 +209,8 @@ pub fn events(
             taken: 0,
         };
     };
-    if state_tested(ni, na, wi, wa, ri, ra, ss, sb, us, ps, reader) {
-        return events_untested(ni, na, wi, wa, ri, ra, ss, sb, us, ps, reader, run);
+    if state_tested(words, bytes, counters, ps, reader) {
+        return events_untested(words, bytes, counters, ps, reader, run);
     }
     EventsDone {
         reader,

@@ -13,8 +13,10 @@ use Rattle.refusal.specs.declared.Refusal.{Refusal}
 use Rattle.refusal.specs.declared.Refusal.the-variants as R
 use Rattle.kind.specs.declared.Kind.{Kind}
 use Rattle.kind.specs.declared.Kind.the-variants as K
+use Rattle.model.specs.Record.{Member, Tag}
+use Rattle.compact.specs.Legal.{limits}
 use Rattle.compact.specs.declared.PushHead.{PushHead}
-use Rattle.stage.specs.Stage.{staged}
+use Rattle.stage.specs.Stage.{staged, memberPart, tagPart}
 use Rattle.interner.specs.declared.Found.{Found}
 use Rattle.interner.specs.declared.Found.the-variants as F
 use Rattle.interner.specs.declared.Interned.the-variants as I
@@ -26,9 +28,10 @@ use Rattle.store.specs.Calls.{Interning, storeText}
 use Rattle.store.specs.declared.Handle.{Handle}
 use Rattle.store.specs.declared.Handle.the-variants as H
 use Rattle.reader.specs.declared.Pending.{Pending}
-use Rattle.reader.specs.State.{middle, valuesIn}
+use Rattle.reader.specs.State.{middle, valuesIn, moreTags, moreParts}
+use Rattle.reader.specs.Step.{memberBits}
 use Rattle.reader_texts.specs.Texts.{refusedFor}
-use Rattle.reader_parts.specs.Parts.{notAdded, partAdded, tagFits, partFits, refusalOver, pendingWith, addPart, addWith}
+use Rattle.reader_parts.specs.Parts.{Adding, tagFits, partFits, refusalOver, pendingWith, addPart, addWith}
 use Rattle.reader_parts.specs.declared.Added.{Added}
 use Rattle.reader_parts.specs.declared.Added.the-variants as A
 
@@ -74,9 +77,6 @@ module _ (t : Bytes) (o : Overlay) where
       is-inj : {a b : ℕ} → H.Is a ≡ H.Is b → a ≡ b
       is-inj r = cc
 
-  pub handle-fits : (q : Overlay) (a : Handle) (n : ℕ) → record { overlay = q; answer = a } ≡ storeText t o → a ≡ H.Is n → o .texts .strings < 4294967296 → n < 4294967296
-  handle-fits q a n e k h = let f = handle-few n (sym (ap (λ (i : Interning). i .answer) e) ∙ k) in omega arith
-
   -- a refused one changes nothing
   pub text-kept : (r : Refusal) → storeText t o .answer ≡ H.Refused r → storeText t o .overlay ≡ o
   text-kept r e =
@@ -102,52 +102,91 @@ module _ (t : Bytes) (o : Overlay) where
 
 -- ---- a child with a text
 
-module _ (within : Bool) (t : Bytes) (h : PushHead) (at : ℕ) (part : ℕ → Bytes) (x : Pending) (parts : Bytes) (o : Overlay) where
-  pub with-staged : (n : ℕ) → within ≡ true → storeText t o .answer ≡ H.Is n → addWith within t h at part x parts o ≡ partAdded h at (part n) x parts (storeText t o .overlay)
-  unfolding addWith
-  with-staged n w e = rw (e, w)
+-- one, and what it is added to: whether it is within the limits, its text, and by the text's handle its part
+pub record TextChild : Type 0 where
+  pub within : Bool
+  pub text : Bytes
+  pub head : PushHead
+  pub at : ℕ
+  pub part : ℕ → Bytes
+  pub pending : Pending
+  pub parts : Bytes
+  pub overlay : Overlay
 
-  pub with-refused : (r : Refusal) → storeText t o .answer ≡ H.Refused r → addWith within t h at part x parts o ≡ notAdded r parts o
-  unfolding addWith
-  with-refused r e = rw e
+abbrev pub tagChild : Kind → Pending → Tag Bytes → Bytes → Overlay → TextChild
+tagChild k x t parts o =
+    record {
+      within = tagFits k x (length (t .value));
+      text = t .key;
+      head = moreTags (x .head);
+      at = x .used;
+      part = λ key. tagPart key (t .value);
+      pending = x;
+      parts = parts;
+      overlay = o;
+    }
+
+abbrev pub memberChild : Kind → Pending → Member Bytes → Bytes → Overlay → TextChild
+memberChild k x m parts o =
+    record {
+      within = partFits x (limits .members);
+      text = m .role;
+      head = moreParts (x .head);
+      at = middle k (x .head .count);
+      part = λ role. memberPart (memberBits m role);
+      pending = x;
+      parts = parts;
+      overlay = o;
+    }
+
+abbrev pub textAdded : TextChild → Adding
+textAdded y = addWith (y .within) (y .text) (y .head) (y .at) (y .part) (y .pending) (y .parts) (y .overlay)
+
+module _ (y : TextChild) where
+  -- what the calls left is what is to be left: its text taken in
+  module _ {q : Overlay} {a : Handle} (stored : record { overlay = q; answer = a } ≡ storeText (y .text) (y .overlay)) where
+    answered : storeText (y .text) (y .overlay) .answer ≡ a
+    answered = sym (ap (λ (i : Interning). i .answer) stored)
+
+    after : storeText (y .text) (y .overlay) .overlay ≡ q
+    after = sym (ap (λ (i : Interning). i .overlay) stored)
+
+    -- the handle fits 32 bits
+    pub handle-fits : {n : ℕ} → a ≡ H.Is n → y .overlay .texts .strings < 4294967296 → n < 4294967296
+    handle-fits {n} e h = let f = handle-few (y .text) (y .overlay) n (answered ∙ e) in omega arith
+
+    -- and the part is staged
+    pub staged-left : {n : ℕ} {s : Bytes} {r : Pending} → y .within ≡ true → a ≡ H.Is n
+        → (s ≡ staged (y .parts) (y .pending .used) (y .at) (y .part n)) × (r ≡ pendingWith (y .head) (y .part n) (y .pending))
+        → record { overlay = q; parts = s; answer = A.Is r } ≡ textAdded y
+    unfolding addWith
+    staged-left w e f = rw (answered ∙ e, w, f .0, f .1, after)
+
+    -- its text refused
+    pub refused-left : {r : Refusal} → a ≡ H.Refused r → record { overlay = q; parts = y .parts; answer = A.Refused r } ≡ textAdded y
+    unfolding addWith
+    refused-left {r} e =
+        let z : q ≡ y .overlay = sym after ∙ text-kept (y .text) (y .overlay) r (answered ∙ e) in
+        rw (answered ∙ e, z)
 
   -- over the limits: 13 where the text would be refused, else 16
-  pub with-over : within ≡ false → addWith within t h at part x parts o ≡ notAdded (refusalOver (refusedFor (o .texts) t)) parts o
+  pub over-left : {r : Added} → y .within ≡ false → r ≡ A.Refused (refusalOver (refusedFor (y .overlay .texts) (y .text)))
+      → record { overlay = y .overlay; parts = y .parts; answer = r } ≡ textAdded y
   unfolding addWith
-  with-over w =
-      byBool (refusedFor (o .texts) t)
-      (λ f. rw (f, text-full t o f))
-      (λ f. let k = text-held t o f in rw (f, k .1, w))
-
-  -- what the calls left is what is to be left: the part staged, its text refused, over the limits
-  module _ (q : Overlay) (a : Handle) (stored : record { overlay = q; answer = a } ≡ storeText t o) where
-    pub staged-left : (n : ℕ) (s : Bytes) (r : Pending) → within ≡ true → a ≡ H.Is n → (s ≡ staged parts (x .used) at (part n)) × (r ≡ pendingWith h (part n) x)
-        → record { overlay = q; parts = s; answer = A.Is r } ≡ addWith within t h at part x parts o
-    staged-left n s r w e f =
-        let k : storeText t o .answer ≡ H.Is n = sym (ap (λ (i : Interning). i .answer) stored) ∙ e in
-        let g : storeText t o .overlay ≡ q = sym (ap (λ (i : Interning). i .overlay) stored) in
-        rw (with-staged n w k, f .0, f .1, g)
-
-    pub refused-left : (r : Refusal) → a ≡ H.Refused r → record { overlay = q; parts = parts; answer = A.Refused r } ≡ addWith within t h at part x parts o
-    refused-left r e =
-        let k : storeText t o .answer ≡ H.Refused r = sym (ap (λ (i : Interning). i .answer) stored) ∙ e in
-        let g : storeText t o .overlay ≡ q = sym (ap (λ (i : Interning). i .overlay) stored) in
-        let z : q ≡ o = sym g ∙ text-kept t o r k in
-        rw (with-refused r k, z)
-
-  pub over-left : (r : Added) → within ≡ false → r ≡ A.Refused (refusalOver (refusedFor (o .texts) t)) → record { overlay = o; parts = parts; answer = r } ≡ addWith within t h at part x parts o
-  over-left r w e = rw (with-over w, e)
+  over-left w e =
+      byBool (refusedFor (y .overlay .texts) (y .text))
+      (λ f. rw (e, f, text-full (y .text) (y .overlay) f))
+      (λ f. let k = text-held (y .text) (y .overlay) f in rw (e, f, k .1, w))
 
   -- a refused child changes nothing
-  pub with-kept : (r : Refusal) → addWith within t h at part x parts o .answer ≡ A.Refused r
-      → (addWith within t h at part x parts o .overlay ≡ o) × (addWith within t h at part x parts o .parts ≡ parts)
+  pub text-child-kept : (r : Refusal) → textAdded y .answer ≡ A.Refused r → (textAdded y .overlay ≡ y .overlay) × (textAdded y .parts ≡ y .parts)
   unfolding addWith
-  with-kept r e =
-      byBool (refusedFor (o .texts) t)
-      (λ f. let k = text-full t o f in (rw k, rw k))
-      (λ f. let k = text-held t o f in
-      byBool within
-      (λ w. let q : A.Is (pendingWith h (part (k .0)) x) ≡ A.Refused r = rw (k .1, w) at e in let z : _≡_ {A = ℕ} 0 1 = cc in no z)
+  text-child-kept r e =
+      byBool (refusedFor (y .overlay .texts) (y .text))
+      (λ f. let k = text-full (y .text) (y .overlay) f in (rw k, rw k))
+      (λ f. let k = text-held (y .text) (y .overlay) f in
+      byBool (y .within)
+      (λ w. let q : A.Is (pendingWith (y .head) (y .part (k .0)) (y .pending)) ≡ A.Refused r = rw (k .1, w) at e in let z : _≡_ {A = ℕ} 0 1 = cc in no z)
       (λ w. (rw (k .1, w), rw (k .1, w))))
 
 -- ---- a child with none
@@ -203,8 +242,9 @@ middle-most K.Relation n = omega arith
 
 -- ---- the element with a part more, of n bytes
 
-pub part-grown : (h : PushHead) (part : Bytes) (x r : Pending) (used n : ℕ) → used ≡ x .used → length part ≡ n → r ≡ record { head = h; meta = x .meta; used = used + n } → r ≡ pendingWith h part x
-part-grown h part x r used n e l k = rw (k, e, l)
+pub part-grown : {h : PushHead} (part : Bytes) (x : Pending) {r : Pending} {used n : ℕ} → used ≡ x .used → length part ≡ n
+    → r ≡ record { head = h; meta = x .meta; used = used + n } → r ≡ pendingWith h part x
+part-grown part x e l k = rw (k, e, l)
 
-pub as-used : (used len r : ℕ) → r ≡ min used len → used ≤ len → r ≡ used
-as-used used len r e h = omega arith
+pub as-used : (used len : ℕ) {r : ℕ} → r ≡ min used len → used ≤ len → r ≡ used
+as-used used len e h = omega arith

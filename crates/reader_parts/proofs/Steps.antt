@@ -22,7 +22,7 @@ use Rattle.reader.specs.State.{State, moreParts}
 use Rattle.reader.specs.Step.{onHandle, withText, stages, partWithin, partPlace, stepOf}
 use Rattle.reader_parts.specs.Parts.{Adding, addPart, onText, addWith, addTag, addRef, addMember, childStep}
 use Rattle.reader_parts.specs.declared.Added.the-variants as A
-use Rattle.reader_parts.proofs.Adds.{with-kept, part-kept}
+use Rattle.reader_parts.proofs.Adds.{text-child-kept, part-kept}
 
 pub record ChildStep (d : Decision) (s : State) (p : Place) (a : Adding) : Type 0 where
   pub step : stepOf d s ≡ childStep p a
@@ -48,7 +48,7 @@ module _ (s : State) (p : Place) where
   text-child d within t h at part e =
       record {
         step = e ∙ text-steps (intern (s .overlay .texts) t .answer) within h at part (storeText t (s .overlay) .overlay);
-        kept = with-kept within t h at part (s .reader .pending) (s .parts) (s .overlay);
+        kept = text-child-kept (record { within = within; text = t; head = h; at = at; part = part; pending = s .reader .pending; parts = s .parts; overlay = s .overlay });
       }
 
   part-child : (d : Decision) (within : Bool) (h : PushHead) (at : ℕ) (part : Bytes)

@@ -1,20 +1,22 @@
 // Children of the element that a reader is putting together: one tag, ref or member more. A refused child changes nothing, so the limits are asked before a text is taken in.
 ghost use mathlib.Core.Path.{_≡_};
 ghost use Prim.Native.Nat.{_+_, _≤_, _<_};
-ghost use lib.ListN.{length, getD, take};
+ghost use lib.ListN.{length};
 ghost use mir.Syntax.{w64};
 ghost use mir.Val.{toZ};
 ghost use Rattle.stage.specs.Stage.{staged, refPart, memberPart, tagPart};
-ghost use Rattle.interner.specs.Strings.{storeWith};
 ghost use Rattle.values.specs.Value.{textAt, ExtentInBounds};
 ghost use Rattle.overlay.specs.Overlay.{Overlay};
-ghost use Rattle.store.specs.Beside.{KindParts, lentBeside, leftBeside};
+ghost use Rattle.overlay.specs.Lent.{lent, left};
 ghost use Rattle.reader.specs.State.{middle, valuesIn, moreTags, moreParts};
 ghost use Rattle.reader_texts.specs.Texts.{refusedFor};
 ghost use Rattle.reader_parts.specs.Parts.{ChildGiven, tagFits, partFits, refusalOver, pendingWith, addTag, addRef, addMember};
 ghost use Rattle.reader_parts.specs.declared.Added.the-variants as added;
+use blocks::COUNTERS;
 use compact::CompactMember;
 use compact::PushHead;
+use decide::NewMember;
+use decide::NewTag;
 use kind::Kind;
 use reader::Pending;
 use refusal::Refusal;
@@ -72,11 +74,17 @@ fn part_fits(pending: Pending, limit: u32) -> bool
 }
 
 // What a child with a text is answered that is not within them: 13 if its text would be refused, else 16.
-fn over_limit(spans: &[u64], bytes: &[u8], used: &[u64; 9], line: &[u8], text: Extent) -> Added
+fn over_limit(
+    words: &[u64],
+    bytes: &[u8],
+    counters: &[u64; COUNTERS],
+    line: &[u8],
+    text: Extent,
+) -> Added
     ensures { λ r. ⌜ (ExtentInBounds (now (line .entry)) text → length (now (line .entry)) ≤ 16384
-        → r ≡ added.Refused (refusalOver (refusedFor (storeWith (now (spans .entry)) (now (bytes .entry)) (getD (now (used .entry)) 6 0) (getD (now (used .entry)) 7 0)) (textAt (now (line .entry)) text)))) ⌝ }
+        → r ≡ added.Refused (refusalOver (refusedFor (lent words bytes counters .texts) (textAt (now (line .entry)) text)))) ⌝ }
 {
-    if reader_texts::text_refused(spans, bytes, used, line, text) {
+    if reader_texts::text_refused(words, bytes, counters, line, text) {
         return Added::Refused(Refusal::StringsFull);
     }
     Added::Refused(Refusal::TooManyParts)
@@ -141,9 +149,9 @@ fn with_member(parts: &mut [u8], kind: Kind, pending: Pending, member: CompactMe
 
 // With its value's text.
 fn tag_with(
-    ss: &mut [u64],
-    sb: &mut [u8],
-    us: &mut [u64; 9],
+    words: &mut [u64],
+    bytes: &mut [u8],
+    counters: &mut [u64; COUNTERS],
     ix: &[u16],
     parts: &mut [u8],
     kind: Kind,
@@ -152,131 +160,87 @@ fn tag_with(
     key: Extent,
     value: &[u8],
 ) -> Added
-    ensures { λ r. ⌜ ((p : KindParts) → ChildGiven (now (ix .entry)) (lentBeside p ss sb us) pending (now (parts .entry)) (now (line .entry)) → ExtentInBounds (now (line .entry)) key
-        → record { overlay = leftBeside p ss sb us; parts = now (parts .exit); answer = r }
-        ≡ addTag kind pending (record { key = textAt (now (line .entry)) key; value = now (value .entry) }) (now (parts .entry)) (lentBeside p ss sb us)) ⌝ }
+    ensures { λ r. ⌜ (ChildGiven (now (ix .entry)) (lent words bytes counters) pending (now (parts .entry)) (now (line .entry)) → ExtentInBounds (now (line .entry)) key
+        → record { overlay = left words bytes counters; parts = now (parts .exit); answer = r }
+        ≡ addTag kind pending (record { key = textAt (now (line .entry)) key; value = now (value .entry) }) (now (parts .entry)) (lent words bytes counters)) ⌝ }
 {
     if tag_fits(kind, pending, value.len()) {
-        return match reader_texts::take_text(ss, sb, us, ix, line, key) {
+        return match reader_texts::take_text(words, bytes, counters, ix, line, key) {
             Handle::Is(handle) => Added::Is(with_tag(parts, pending, handle, value)),
             Handle::Refused(refusal) => Added::Refused(refusal),
         };
     }
-    over_limit(ss, sb, us, line, key)
+    over_limit(words, bytes, counters, line, key)
 }
 
-// The first n of some bytes are its value's text.
-fn tag_first(
-    ss: &mut [u64],
-    sb: &mut [u8],
-    us: &mut [u64; 9],
-    ix: &[u16],
-    parts: &mut [u8],
-    kind: Kind,
-    pending: Pending,
-    line: &[u8],
-    key: Extent,
-    room: &[u8],
-    n: usize,
-) -> Added
-    ensures { λ r. ⌜ ((p : KindParts) → ChildGiven (now (ix .entry)) (lentBeside p ss sb us) pending (now (parts .entry)) (now (line .entry)) → ExtentInBounds (now (line .entry)) key
-        → record { overlay = leftBeside p ss sb us; parts = now (parts .exit); answer = r }
-        ≡ addTag kind pending (record { key = textAt (now (line .entry)) key; value = take n (now (room .entry)) }) (now (parts .entry)) (lentBeside p ss sb us)) ⌝ }
-{
-    let end = little::lesser(n, room.len());
-    tag_with(
-        ss,
-        sb,
-        us,
-        ix,
-        parts,
-        kind,
-        pending,
-        line,
-        key,
-        &room[..end],
-    )
-}
-
-// By an array that holds its value's text.
-fn tag_through(
-    ss: &mut [u64],
-    sb: &mut [u8],
-    us: &mut [u64; 9],
-    ix: &[u16],
-    parts: &mut [u8],
-    kind: Kind,
-    pending: Pending,
-    line: &[u8],
-    key: Extent,
-    value: Extent,
-    room: &mut [u8; 16384],
-) -> Added
-    ensures { λ r. ⌜ ((p : KindParts) → ChildGiven (now (ix .entry)) (lentBeside p ss sb us) pending (now (parts .entry)) (now (line .entry)) → ExtentInBounds (now (line .entry)) key → ExtentInBounds (now (line .entry)) value
-        → record { overlay = leftBeside p ss sb us; parts = now (parts .exit); answer = r }
-        ≡ addTag kind pending (record { key = textAt (now (line .entry)) key; value = textAt (now (line .entry)) value }) (now (parts .entry)) (lentBeside p ss sb us)) ⌝ }
-{
-    let n = reader_texts::text_into(room, line, value);
-    tag_first(ss, sb, us, ix, parts, kind, pending, line, key, room, n)
-}
-
-// With its value's escapes resolved.
+// With its value's escapes resolved: an array holds the text.
 fn tag_resolved(
-    ss: &mut [u64],
-    sb: &mut [u8],
-    us: &mut [u64; 9],
+    words: &mut [u64],
+    bytes: &mut [u8],
+    counters: &mut [u64; COUNTERS],
     ix: &[u16],
     parts: &mut [u8],
     kind: Kind,
     pending: Pending,
     line: &[u8],
-    key: Extent,
-    value: Extent,
+    tag: NewTag,
 ) -> Added
-    ensures { λ r. ⌜ ((p : KindParts) → ChildGiven (now (ix .entry)) (lentBeside p ss sb us) pending (now (parts .entry)) (now (line .entry)) → ExtentInBounds (now (line .entry)) key → ExtentInBounds (now (line .entry)) value
-        → record { overlay = leftBeside p ss sb us; parts = now (parts .exit); answer = r }
-        ≡ addTag kind pending (record { key = textAt (now (line .entry)) key; value = textAt (now (line .entry)) value }) (now (parts .entry)) (lentBeside p ss sb us)) ⌝ }
+    ensures { λ r. ⌜ (ChildGiven (now (ix .entry)) (lent words bytes counters) pending (now (parts .entry)) (now (line .entry)) → ExtentInBounds (now (line .entry)) (tag .key) → ExtentInBounds (now (line .entry)) (tag .value)
+        → record { overlay = left words bytes counters; parts = now (parts .exit); answer = r }
+        ≡ addTag kind pending (record { key = textAt (now (line .entry)) (tag .key); value = textAt (now (line .entry)) (tag .value) }) (now (parts .entry)) (lent words bytes counters)) ⌝ }
 {
     let mut room = [0u8; 16384];
-    tag_through(
-        ss,
-        sb,
-        us,
+    let n = reader_texts::text_into(&mut room, line, tag.value);
+    let end = little::lesser(n, 16384);
+    tag_with(
+        words,
+        bytes,
+        counters,
         ix,
         parts,
         kind,
         pending,
         line,
-        key,
-        value,
-        &mut room,
+        tag.key,
+        &room[..end],
     )
 }
 
 // A tag more: 13 of its key, 16, or the tag staged.
 pub fn add_tag(
-    ss: &mut [u64],
-    sb: &mut [u8],
-    us: &mut [u64; 9],
+    words: &mut [u64],
+    bytes: &mut [u8],
+    counters: &mut [u64; COUNTERS],
     ix: &[u16],
     parts: &mut [u8; 44432],
     kind: Kind,
     pending: Pending,
     line: &[u8],
-    key: Extent,
-    value: Extent,
+    tag: NewTag,
 ) -> Added
-    ensures { λ r. ⌜ ((p : KindParts) → ChildGiven (now (ix .entry)) (lentBeside p ss sb us) pending (now (parts .entry)) (now (line .entry)) → ExtentInBounds (now (line .entry)) key → ExtentInBounds (now (line .entry)) value
-        → record { overlay = leftBeside p ss sb us; parts = now (parts .exit); answer = r }
-        ≡ addTag kind pending (record { key = textAt (now (line .entry)) key; value = textAt (now (line .entry)) value }) (now (parts .entry)) (lentBeside p ss sb us)) ⌝ }
+    ensures { λ r. ⌜ (ChildGiven (now (ix .entry)) (lent words bytes counters) pending (now (parts .entry)) (now (line .entry)) → ExtentInBounds (now (line .entry)) (tag .key) → ExtentInBounds (now (line .entry)) (tag .value)
+        → record { overlay = left words bytes counters; parts = now (parts .exit); answer = r }
+        ≡ addTag kind pending (record { key = textAt (now (line .entry)) (tag .key); value = textAt (now (line .entry)) (tag .value) }) (now (parts .entry)) (lent words bytes counters)) ⌝ }
 {
+    let value = tag.value;
     let to = little::lesser(value.to, line.len());
     let from = little::lesser(value.from, to);
     let text = &line[from..to];
     if scan::lacks(text, b'\\') {
-        return tag_with(ss, sb, us, ix, parts, kind, pending, line, key, text);
+        return tag_with(
+            words,
+            bytes,
+            counters,
+            ix,
+            parts,
+            kind,
+            pending,
+            line,
+            tag.key,
+            text,
+        );
     }
-    tag_resolved(ss, sb, us, ix, parts, kind, pending, line, key, value)
+    tag_resolved(words, bytes, counters, ix, parts, kind, pending, line, tag)
 }
 
 // ---- a ref and a member
@@ -294,34 +258,33 @@ pub fn add_ref(parts: &mut [u8; 44432], kind: Kind, pending: Pending, reference:
 
 // A member more: 13 of its role, 16, or the member staged.
 pub fn add_member(
-    ss: &mut [u64],
-    sb: &mut [u8],
-    us: &mut [u64; 9],
+    words: &mut [u64],
+    bytes: &mut [u8],
+    counters: &mut [u64; COUNTERS],
     ix: &[u16],
     parts: &mut [u8; 44432],
     kind: Kind,
     pending: Pending,
     line: &[u8],
-    reference: u64,
-    member_kind: Kind,
-    role: Extent,
+    member: NewMember,
 ) -> Added
-    ensures { λ r. ⌜ ((p : KindParts) → ChildGiven (now (ix .entry)) (lentBeside p ss sb us) pending (now (parts .entry)) (now (line .entry)) → ExtentInBounds (now (line .entry)) role
-        → record { overlay = leftBeside p ss sb us; parts = now (parts .exit); answer = r }
-        ≡ addMember kind pending (record { ref = toZ w64 reference; type = «member_kind»; role = textAt (now (line .entry)) role }) (now (parts .entry)) (lentBeside p ss sb us)) ⌝ }
+    ensures { λ r. ⌜ (ChildGiven (now (ix .entry)) (lent words bytes counters) pending (now (parts .entry)) (now (line .entry)) → ExtentInBounds (now (line .entry)) (member .role)
+        → record { overlay = left words bytes counters; parts = now (parts .exit); answer = r }
+        ≡ addMember kind pending (record { ref = toZ w64 (member .reference); type = member .kind; role = textAt (now (line .entry)) (member .role) }) (now (parts .entry)) (lent words bytes counters)) ⌝ }
 {
     if part_fits(pending, 2000) {
-        return match reader_texts::take_text(ss, sb, us, ix, line, role) {
+        return match reader_texts::take_text(words, bytes, counters, ix, line, member.role) {
             Handle::Is(handle) => {
-                let member = CompactMember {
-                    reference,
+                let member_kind = member.kind;
+                let compact = CompactMember {
+                    reference: member.reference,
                     kind: kind::kind_number(member_kind),
                     role: little::narrow(handle),
                 };
-                Added::Is(with_member(parts, kind, pending, member))
+                Added::Is(with_member(parts, kind, pending, compact))
             }
             Handle::Refused(refusal) => Added::Refused(refusal),
         };
     }
-    over_limit(ss, sb, us, line, role)
+    over_limit(words, bytes, counters, line, member.role)
 }

@@ -1,8 +1,10 @@
 // What an event and an end test first: whether overlay and reader are sound (22), and whether the reader's stop mark stops it.
 ghost use mathlib.Core.Path.{_≡_};
-ghost use Rattle.overlay.specs.Overlay.{lent};
+ghost use Rattle.reader.specs.Lent.{stateLent};
 ghost use Rattle.reader.specs.State.{stopsBy, pendingSound, stateSound};
 ghost use Rattle.reader_sound.specs.Mark.{stopMark};
+use blocks::COUNTERS;
+use blocks::STRINGS;
 use compact::ArenaMeta;
 use compact::PushHead;
 use kind::Kind;
@@ -30,25 +32,19 @@ fn pending_sound(strings: u64, kind: Kind, parts: &[u8], pending: Pending) -> bo
 
 // Whether overlay and reader are sound.
 pub fn state_sound(
-    ni: &[u64],
-    na: &[u8],
-    wi: &[u64],
-    wa: &[u8],
-    ri: &[u64],
-    ra: &[u8],
-    ss: &[u64],
-    sb: &[u8],
-    us: &[u64; 9],
+    words: &[u64],
+    bytes: &[u8],
+    counters: &[u64; COUNTERS],
     parts: &[u8; 44432],
     reader: EventReader,
 ) -> bool
-    ensures { λ r. ⌜ r ≡ stateSound (record { overlay = lent ni na wi wa ri ra ss sb us; reader = reader; parts = now (parts .entry) }) ⌝ }
+    ensures { λ r. ⌜ r ≡ stateSound (stateLent words bytes counters parts reader) ⌝ }
 {
-    if overlay::is_sound(ni, na, wi, wa, ri, ra, ss, sb, us) {
+    if overlay::is_sound(words, bytes, counters) {
         let place = reader.place;
         let kind = place.kind;
         let pending = reader.pending;
-        let staged = pending_sound(us[6], kind, parts, pending);
+        let staged = pending_sound(counters[STRINGS], kind, parts, pending);
         return staged & (reader.lines < 18446744073709551615);
     }
     false

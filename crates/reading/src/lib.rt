@@ -1,16 +1,18 @@
 // What is read of an overlay: counts, ids and records by number, what is known of an id, and texts by handle. Each reading first tests that
 // the overlay is sound (22).
 ghost use mathlib.Core.Path.{_≡_};
-ghost use mathlib.Core.List.{List};
-ghost use Prim.Native.Nat.{ℕ};
-ghost use lib.ListN.{getD};
-ghost use Rattle.base.specs.Bytes.{Bytes};
+ghost use lib.ListN.{take, getD};
 ghost use mir.Syntax.{w64};
 ghost use mir.Val.{toZ};
+ghost use Rattle.interner.specs.Strings.{usedOf, spanOf};
 ghost use Rattle.kind_store.specs.KindStore.{knownVersion};
-ghost use Rattle.overlay.specs.Overlay.{lent, kindStoreOf};
-ghost use Rattle.reading.specs.Lent.{tablesLent, arenasLent, kindStoresLent};
+ghost use Rattle.overlay.specs.Lent.{lent};
+ghost use Rattle.overlay.specs.Overlay.{kindStoreOf};
 ghost use Rattle.reading.specs.Reading.{yes, countIn, countOn, isEmptyOn, rowIn, idRead, idOn, viewIn, recordOn, standingIn, getOn, isLiveNow, hasOn, isDeletedNow, isDeletedOn, knownOn, textView, textOn};
+use blocks::ARENA;
+use blocks::COUNTERS;
+use blocks::STRING_BYTES;
+use blocks::STRINGS;
 use interner::Span;
 use kind::Kind;
 use listed::Nth;
@@ -29,95 +31,101 @@ pub enum Read {
 // ---- one kind of the three
 
 // How many ids are on a list of a kind.
-fn count_in(ni: &[u64], wi: &[u64], ri: &[u64], us: &[u64; 9], kind: Kind, side: Side) -> u64
-    ensures { λ r. ⌜ ((na wa ra : Bytes) (ss : List ℕ) (sb : Bytes)
-        → r ≡ countIn side (kindStoreOf kind (tablesLent na wa ra ss sb ni wi ri us))) ⌝ }
+fn count_in(words: &[u64], bytes: &[u8], counters: &[u64; COUNTERS], kind: Kind, side: Side) -> u64
+    ensures { λ r. ⌜ r ≡ countIn side (kindStoreOf kind (lent words bytes counters)) ⌝ }
 {
-    match kind {
-        Kind::Node => listed::count_on(side, ni, us[0]),
-        Kind::Way => listed::count_on(side, wi, us[1]),
-        Kind::Relation => listed::count_on(side, ri, us[2]),
-    }
+    let p = blocks::part_in(kind, counters, words.len(), bytes.len());
+    let at = p.at;
+    let from = p.from;
+    let to = p.to;
+    listed::count_on(side, &words[from..to], counters[at])
 }
 
 // The row of a number on a list of a kind.
-fn row_in(ni: &[u64], wi: &[u64], ri: &[u64], us: &[u64; 9], kind: Kind, side: Side, n: u64) -> Nth
-    ensures { λ r. ⌜ ((na wa ra : Bytes) (ss : List ℕ) (sb : Bytes)
-        → r ≡ rowIn side n (kindStoreOf kind (tablesLent na wa ra ss sb ni wi ri us))) ⌝ }
+fn row_in(
+    words: &[u64],
+    bytes: &[u8],
+    counters: &[u64; COUNTERS],
+    kind: Kind,
+    side: Side,
+    n: u64,
+) -> Nth
+    ensures { λ r. ⌜ r ≡ rowIn side n (kindStoreOf kind (lent words bytes counters)) ⌝ }
 {
-    match kind {
-        Kind::Node => listed::row_on(side, ni, us[0], n),
-        Kind::Way => listed::row_on(side, wi, us[1], n),
-        Kind::Relation => listed::row_on(side, ri, us[2], n),
-    }
+    let p = blocks::part_in(kind, counters, words.len(), bytes.len());
+    let at = p.at;
+    let from = p.from;
+    let to = p.to;
+    listed::row_on(side, &words[from..to], counters[at], n)
 }
 
 // What is known of an id of a kind.
-fn standing_in(ni: &[u64], wi: &[u64], ri: &[u64], us: &[u64; 9], kind: Kind, id: u64) -> Standing
-    ensures { λ r. ⌜ ((na wa ra : Bytes) (ss : List ℕ) (sb : Bytes)
-        → r ≡ standingIn (kindStoreOf kind (tablesLent na wa ra ss sb ni wi ri us)) (toZ w64 id)) ⌝ }
+fn standing_in(
+    words: &[u64],
+    bytes: &[u8],
+    counters: &[u64; COUNTERS],
+    kind: Kind,
+    id: u64,
+) -> Standing
+    ensures { λ r. ⌜ r ≡ standingIn (kindStoreOf kind (lent words bytes counters)) (toZ w64 id) ⌝ }
 {
-    match kind {
-        Kind::Node => listed::standing_of(ni, us[0], id),
-        Kind::Way => listed::standing_of(wi, us[1], id),
-        Kind::Relation => listed::standing_of(ri, us[2], id),
-    }
+    let p = blocks::part_in(kind, counters, words.len(), bytes.len());
+    let at = p.at;
+    let from = p.from;
+    let to = p.to;
+    listed::standing_of(&words[from..to], counters[at], id)
 }
 
 // The view of a kind's record.
-fn view_in(na: &[u8], wa: &[u8], ra: &[u8], used: &[u64; 9], kind: Kind, at: u64) -> View
-    ensures { λ r. ⌜ ((ni wi ri spans : List ℕ) (bytes : Bytes)
-        → r ≡ viewIn (getD (now (used .entry)) 6 0) kind (kindStoreOf kind (arenasLent ni wi ri spans bytes na wa ra used)) at) ⌝ }
+fn view_in(words: &[u64], bytes: &[u8], counters: &[u64; COUNTERS], kind: Kind, offset: u64) -> View
+    ensures { λ r. ⌜ r ≡ viewIn (getD (now (counters .entry)) 6 0) kind (kindStoreOf kind (lent words bytes counters)) offset ⌝ }
 {
-    match kind {
-        Kind::Node => listed::view_at(kind, na, used[3], used[6], at),
-        Kind::Way => listed::view_at(kind, wa, used[4], used[6], at),
-        Kind::Relation => listed::view_at(kind, ra, used[5], used[6], at),
-    }
+    let p = blocks::part_in(kind, counters, words.len(), bytes.len());
+    let at = p.at;
+    let first = p.first;
+    let end = p.end;
+    listed::view_at(
+        kind,
+        &bytes[first..end],
+        counters[at + ARENA],
+        counters[STRINGS],
+        offset,
+    )
 }
 
 // The known version of an id of a kind.
 fn version_in(
-    ni: &[u64],
-    na: &[u8],
-    wi: &[u64],
-    wa: &[u8],
-    ri: &[u64],
-    ra: &[u8],
-    us: &[u64; 9],
+    words: &[u64],
+    bytes: &[u8],
+    counters: &[u64; COUNTERS],
     kind: Kind,
     id: u64,
 ) -> Version
-    ensures { λ r. ⌜ ((ss : List ℕ) (sb : Bytes)
-        → r ≡ knownVersion kind (kindStoreOf kind (kindStoresLent ss sb ni na wi wa ri ra us)) (toZ w64 id)) ⌝ }
+    ensures { λ r. ⌜ r ≡ knownVersion kind (kindStoreOf kind (lent words bytes counters)) (toZ w64 id) ⌝ }
 {
-    match kind {
-        Kind::Node => kind_store::known_version(kind, ni, us[0], na, id),
-        Kind::Way => kind_store::known_version(kind, wi, us[1], wa, id),
-        Kind::Relation => kind_store::known_version(kind, ri, us[2], ra, id),
-    }
+    let p = blocks::part_in(kind, counters, words.len(), bytes.len());
+    let at = p.at;
+    let from = p.from;
+    let to = p.to;
+    let first = p.first;
+    let end = p.end;
+    kind_store::known_version(kind, &words[from..to], counters[at], &bytes[first..end], id)
 }
 
 // ---- counts
 
 // How many ids of a kind are live, or deleted.
 pub fn count(
-    ni: &[u64],
-    na: &[u8],
-    wi: &[u64],
-    wa: &[u8],
-    ri: &[u64],
-    ra: &[u8],
-    ss: &[u64],
-    sb: &[u8],
-    us: &[u64; 9],
+    words: &[u64],
+    bytes: &[u8],
+    counters: &[u64; COUNTERS],
     kind: Kind,
     side: Side,
 ) -> Read
-    ensures { λ r. ⌜ r ≡ countOn kind side (lent ni na wi wa ri ra ss sb us) ⌝ }
+    ensures { λ r. ⌜ r ≡ countOn kind side (lent words bytes counters) ⌝ }
 {
-    if overlay::is_sound(ni, na, wi, wa, ri, ra, ss, sb, us) {
-        return Read::Is(count_in(ni, wi, ri, us, kind, side));
+    if overlay::is_sound(words, bytes, counters) {
+        return Read::Is(count_in(words, bytes, counters, kind, side));
     }
     Read::Refused(Refusal::Unsound)
 }
@@ -129,21 +137,11 @@ fn yes(b: bool) -> Read
 }
 
 // Whether no id of any kind is known.
-pub fn is_empty(
-    ni: &[u64],
-    na: &[u8],
-    wi: &[u64],
-    wa: &[u8],
-    ri: &[u64],
-    ra: &[u8],
-    ss: &[u64],
-    sb: &[u8],
-    us: &[u64; 9],
-) -> Read
-    ensures { λ r. ⌜ r ≡ isEmptyOn (lent ni na wi wa ri ra ss sb us) ⌝ }
+pub fn is_empty(words: &[u64], bytes: &[u8], counters: &[u64; COUNTERS]) -> Read
+    ensures { λ r. ⌜ r ≡ isEmptyOn (lent words bytes counters) ⌝ }
 {
-    if overlay::is_sound(ni, na, wi, wa, ri, ra, ss, sb, us) {
-        return yes((us[0] == 0) & ((us[1] == 0) & (us[2] == 0)));
+    if overlay::is_sound(words, bytes, counters) {
+        return yes((counters[0] == 0) & ((counters[1] == 0) & (counters[2] == 0)));
     }
     Read::Refused(Refusal::Unsound)
 }
@@ -161,48 +159,36 @@ fn id_read(nth: Nth) -> Read
 
 // The bits of the n-th live or deleted id of a kind in OSM order, or 21.
 pub fn id_at(
-    ni: &[u64],
-    na: &[u8],
-    wi: &[u64],
-    wa: &[u8],
-    ri: &[u64],
-    ra: &[u8],
-    ss: &[u64],
-    sb: &[u8],
-    us: &[u64; 9],
+    words: &[u64],
+    bytes: &[u8],
+    counters: &[u64; COUNTERS],
     kind: Kind,
     side: Side,
     n: u64,
 ) -> Read
-    ensures { λ r. ⌜ r ≡ idOn kind side n (lent ni na wi wa ri ra ss sb us) ⌝ }
+    ensures { λ r. ⌜ r ≡ idOn kind side n (lent words bytes counters) ⌝ }
 {
-    if overlay::is_sound(ni, na, wi, wa, ri, ra, ss, sb, us) {
-        return id_read(row_in(ni, wi, ri, us, kind, side, n));
+    if overlay::is_sound(words, bytes, counters) {
+        return id_read(row_in(words, bytes, counters, kind, side, n));
     }
     Read::Refused(Refusal::Unsound)
 }
 
 // The view of the record of the n-th live id of a kind, or 21.
 pub fn record_at(
-    ni: &[u64],
-    na: &[u8],
-    wi: &[u64],
-    wa: &[u8],
-    ri: &[u64],
-    ra: &[u8],
-    ss: &[u64],
-    sb: &[u8],
-    us: &[u64; 9],
+    words: &[u64],
+    bytes: &[u8],
+    counters: &[u64; COUNTERS],
     kind: Kind,
     n: u64,
 ) -> View
-    ensures { λ r. ⌜ r ≡ recordOn kind n (lent ni na wi wa ri ra ss sb us) ⌝ }
+    ensures { λ r. ⌜ r ≡ recordOn kind n (lent words bytes counters) ⌝ }
 {
-    if overlay::is_sound(ni, na, wi, wa, ri, ra, ss, sb, us) {
-        let Nth::At(row) = row_in(ni, wi, ri, us, kind, Side::Live, n) else {
+    if overlay::is_sound(words, bytes, counters) {
+        let Nth::At(row) = row_in(words, bytes, counters, kind, Side::Live, n) else {
             return View::Refused(Refusal::NoSuchNumber);
         };
-        return view_in(na, wa, ra, us, kind, row.place);
+        return view_in(words, bytes, counters, kind, row.place);
     }
     View::Refused(Refusal::Unsound)
 }
@@ -210,26 +196,14 @@ pub fn record_at(
 // ---- by id, which is given in bits
 
 // The view of an id's record, if the id is live.
-pub fn get(
-    ni: &[u64],
-    na: &[u8],
-    wi: &[u64],
-    wa: &[u8],
-    ri: &[u64],
-    ra: &[u8],
-    ss: &[u64],
-    sb: &[u8],
-    us: &[u64; 9],
-    kind: Kind,
-    id: u64,
-) -> View
-    ensures { λ r. ⌜ r ≡ getOn kind (toZ w64 id) (lent ni na wi wa ri ra ss sb us) ⌝ }
+pub fn get(words: &[u64], bytes: &[u8], counters: &[u64; COUNTERS], kind: Kind, id: u64) -> View
+    ensures { λ r. ⌜ r ≡ getOn kind (toZ w64 id) (lent words bytes counters) ⌝ }
 {
-    if overlay::is_sound(ni, na, wi, wa, ri, ra, ss, sb, us) {
-        let Standing::Live(at) = standing_in(ni, wi, ri, us, kind, id) else {
+    if overlay::is_sound(words, bytes, counters) {
+        let Standing::Live(at) = standing_in(words, bytes, counters, kind, id) else {
             return View::Nothing;
         };
-        return view_in(na, wa, ra, us, kind, at);
+        return view_in(words, bytes, counters, kind, at);
     }
     View::Refused(Refusal::Unsound)
 }
@@ -253,67 +227,43 @@ fn is_deleted_now(standing: Standing) -> bool
 }
 
 // Whether an id is live.
-pub fn has(
-    ni: &[u64],
-    na: &[u8],
-    wi: &[u64],
-    wa: &[u8],
-    ri: &[u64],
-    ra: &[u8],
-    ss: &[u64],
-    sb: &[u8],
-    us: &[u64; 9],
-    kind: Kind,
-    id: u64,
-) -> Read
-    ensures { λ r. ⌜ r ≡ hasOn kind (toZ w64 id) (lent ni na wi wa ri ra ss sb us) ⌝ }
+pub fn has(words: &[u64], bytes: &[u8], counters: &[u64; COUNTERS], kind: Kind, id: u64) -> Read
+    ensures { λ r. ⌜ r ≡ hasOn kind (toZ w64 id) (lent words bytes counters) ⌝ }
 {
-    if overlay::is_sound(ni, na, wi, wa, ri, ra, ss, sb, us) {
-        return yes(is_live_now(standing_in(ni, wi, ri, us, kind, id)));
+    if overlay::is_sound(words, bytes, counters) {
+        return yes(is_live_now(standing_in(words, bytes, counters, kind, id)));
     }
     Read::Refused(Refusal::Unsound)
 }
 
 // Whether an id is deleted.
 pub fn is_deleted(
-    ni: &[u64],
-    na: &[u8],
-    wi: &[u64],
-    wa: &[u8],
-    ri: &[u64],
-    ra: &[u8],
-    ss: &[u64],
-    sb: &[u8],
-    us: &[u64; 9],
+    words: &[u64],
+    bytes: &[u8],
+    counters: &[u64; COUNTERS],
     kind: Kind,
     id: u64,
 ) -> Read
-    ensures { λ r. ⌜ r ≡ isDeletedOn kind (toZ w64 id) (lent ni na wi wa ri ra ss sb us) ⌝ }
+    ensures { λ r. ⌜ r ≡ isDeletedOn kind (toZ w64 id) (lent words bytes counters) ⌝ }
 {
-    if overlay::is_sound(ni, na, wi, wa, ri, ra, ss, sb, us) {
-        return yes(is_deleted_now(standing_in(ni, wi, ri, us, kind, id)));
+    if overlay::is_sound(words, bytes, counters) {
+        return yes(is_deleted_now(standing_in(words, bytes, counters, kind, id)));
     }
     Read::Refused(Refusal::Unsound)
 }
 
 // The known version of an id as a word: below 2^32 its bits, else none.
 pub fn known_version(
-    ni: &[u64],
-    na: &[u8],
-    wi: &[u64],
-    wa: &[u8],
-    ri: &[u64],
-    ra: &[u8],
-    ss: &[u64],
-    sb: &[u8],
-    us: &[u64; 9],
+    words: &[u64],
+    bytes: &[u8],
+    counters: &[u64; COUNTERS],
     kind: Kind,
     id: u64,
 ) -> Read
-    ensures { λ r. ⌜ r ≡ knownOn kind (toZ w64 id) (lent ni na wi wa ri ra ss sb us) ⌝ }
+    ensures { λ r. ⌜ r ≡ knownOn kind (toZ w64 id) (lent words bytes counters) ⌝ }
 {
-    if overlay::is_sound(ni, na, wi, wa, ri, ra, ss, sb, us) {
-        let version = version_in(ni, na, wi, wa, ri, ra, us, kind, id);
+    if overlay::is_sound(words, bytes, counters) {
+        let version = version_in(words, bytes, counters, kind, id);
         return Read::Is(version_floor::version_word(version));
     }
     Read::Refused(Refusal::Unsound)
@@ -330,24 +280,36 @@ fn text_view(span: Span) -> View
     }
 }
 
-// Where the text of a handle lies among the string bytes, or 21.
-pub fn text(
-    ni: &[u64],
-    na: &[u8],
-    wi: &[u64],
-    wa: &[u8],
-    ri: &[u64],
-    ra: &[u8],
-    ss: &[u64],
-    sb: &[u8],
-    us: &[u64; 9],
-    handle: u64,
-) -> View
-    ensures { λ r. ⌜ r ≡ textOn handle (lent ni na wi wa ri ra ss sb us) ⌝ }
+// The view of a handle's text among the used bytes of the strings, or 21.
+fn text_at(spans: &[u64], strings: &[u8], count: u64, used: u64, handle: u64) -> View
+    ensures { λ r. ⌜ r ≡ textView (spanOf (now (spans .entry)) (take used (now (strings .entry))) count handle) ⌝ }
 {
-    if overlay::is_sound(ni, na, wi, wa, ri, ra, ss, sb, us) {
-        let n = little::lesser(us[7] as usize, sb.len());
-        return text_view(interner::resolve(ss, &sb[..n], us[6], handle));
+    let n = little::lesser(used as usize, strings.len());
+    text_view(interner::resolve(spans, &strings[..n], count, handle))
+}
+
+// The same over what the blocks have of the strings.
+fn text_in(words: &[u64], bytes: &[u8], counters: &[u64; COUNTERS], handle: u64) -> View
+    ensures { λ r. ⌜ r ≡ textView (spanOf (lent words bytes counters .texts .spans) (usedOf (lent words bytes counters .texts)) (lent words bytes counters .texts .strings) handle) ⌝ }
+{
+    let t = blocks::texts_in(counters, words.len(), bytes.len());
+    let c = t.spans;
+    let f = t.bytes;
+    text_at(
+        &words[c..],
+        &bytes[f..],
+        counters[STRINGS],
+        counters[STRING_BYTES],
+        handle,
+    )
+}
+
+// Where the text of a handle lies among the string bytes, or 21.
+pub fn text(words: &[u64], bytes: &[u8], counters: &[u64; COUNTERS], handle: u64) -> View
+    ensures { λ r. ⌜ r ≡ textOn handle (lent words bytes counters) ⌝ }
+{
+    if overlay::is_sound(words, bytes, counters) {
+        return text_in(words, bytes, counters, handle);
     }
     View::Refused(Refusal::Unsound)
 }

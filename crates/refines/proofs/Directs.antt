@@ -6,13 +6,11 @@ use mathlib.Core.List.{List, [], _∷_, _++_, map, append-nil}
 use mathlib.Core.Option.{Option, none, some, Option·some-injective}
 use native.Mathlib.Omega.{arith}
 use lib.IntN.{ℤ}
-use lib.ListN.{length}
 use mir.Syntax.{w32, w64}
 use mir.Val.{SFits, toZ}
 use mir.Facts.{fits-of-lt, sfits-toZ}
-use borrow.Author.Tests.{leb-true}
 use Rattle.base.specs.Bytes.{Bytes, all}
-use Rattle.base.proofs.Split.{both-right, no}
+use Rattle.base.proofs.Split.{no}
 use Rattle.little.specs.Little.{isByte}
 use Rattle.kind.specs.declared.Kind.{Kind}
 use Rattle.kind.specs.declared.Kind.the-variants as K
@@ -32,14 +30,15 @@ use Rattle.kind_store.specs.WellFormed.{WellFormed}
 use Rattle.kind_store.specs.declared.Kept.the-variants.{Taken, Refused}
 use Rattle.kind_store.proofs.Answers.{push-12, delete-12}
 use Rattle.kind_store.proofs.Claims.{given-claim}
-use Rattle.overlay.specs.Overlay.{Overlay, kindStoreOf, largest, kindStoreFits}
+use Rattle.overlay.specs.Overlay.{Overlay, kindStoreOf}
 use Rattle.overlay.specs.Sound.{Sound}
 use Rattle.overlay.specs.Given.{headFits, metaFits, InBytes}
 use Rattle.overlay.specs.Calls.{OverlayAfter, allowOn}
 use Rattle.overlay.proofs.Answers.{is-taken, allow-taken}
 use Rattle.overlay.proofs.Bounds.{id-given, meta-given}
 use Rattle.overlay.proofs.Keeps.{allow-sound, allow-bytes}
-use Rattle.overlay.proofs.KindStores.{setting-kind-store, sized-kind-store}
+use Rattle.overlay.proofs.KindStores.{setting-kind-store}
+use Rattle.overlay.proofs.Tiles.{sized-arena}
 use Rattle.store.specs.Calls.{bytesOf, storePush, storeDelete}
 use Rattle.store.specs.declared.Handle.the-variants as H
 use Rattle.direct.specs.Calls.{pushOn, deleteOn, internOn}
@@ -57,10 +56,9 @@ use Rattle.refines.proofs.Texts.{texts-intern, handle-intern}
 
 -- a sound overlay of bytes is well-formed
 pub well-sound : (o : Overlay) → Sound o → InBytes o → (k : Kind) → WellFormed k (kindStoreOf k o)
-unfolding kindStoreFits
 well-sound o sound bytes k =
     well-formed-sound (o .texts .strings) k (kindStoreOf k o) (sound .kindStores k) (bytes .arenas k)
-    (omega (arith, leb-true (length (kindStoreOf k o .arena)) 1048576 (both-right _ _ (both-right _ _ (sized-kind-store largest o (sound .sizes) k)))))
+    (omega (arith, sized-arena o (sound .sizes) k))
 
 -- ---- what is handed to the Rust
 

@@ -84,7 +84,7 @@ pub record SameHeld (from-utf8 : Bytes → Bool) (l : Storage) (w : RustHeld) : 
   -- each reader's place and staged element
   pub readers : (n : ℕ) → SameReader (stateOf n l) (w .states n) (w .staged n)
 
--- ---- the theorem's statement
+-- ---- the theorem's statement: an overlay that is set up with its sizes (`Start` of condition/specs/Condition3) and a list of calls. The Rust has no sizes, and none are compared.
 
 module _ (setting : ℕ) (o : Overlay) (ps : ℕ → Bytes) (cs : List Ask) where
   -- what the library is left with, and the Rust, given the calls in the domain

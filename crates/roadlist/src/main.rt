@@ -1,5 +1,6 @@
 // The program: event lines from standard input, the listing or the `refused` line to standard output. What it takes in and prints is proved in `intake` and `roadlist_page`; here is what
 // it lends, and what it reads and writes.
+use blocks::COUNTERS;
 use intake::Fed;
 use libc::STDERR_FILENO;
 use libc::STDIN_FILENO;
@@ -37,15 +38,9 @@ fn is_going(reading: Reading) -> bool {
 
 // One read, and what it brought.
 fn read_piece(
-    ni: &mut [u64; 1536],
-    na: &mut [u8; 8192],
-    wi: &mut [u64; 1536],
-    wa: &mut [u8; 8192],
-    ri: &mut [u64; 1536],
-    ra: &mut [u8; 8192],
-    ss: &mut [u64; 1024],
-    sb: &mut [u8; 8192],
-    us: &mut [u64; 9],
+    words: &mut [u64; 5632],
+    bytes: &mut [u8; 32768],
+    counters: &mut [u64; COUNTERS],
     ps: &mut [u8; 44432],
     buf: &mut [u8; 81920],
     piece: &mut [u8; 65536],
@@ -62,7 +57,7 @@ fn read_piece(
         return Run { fed, reading };
     }
     let n = io::count(got, piece);
-    let fed = intake::feed(ni, na, wi, wa, ri, ra, ss, sb, us, ps, fed, buf, piece, n);
+    let fed = intake::feed(words, bytes, counters, ps, fed, buf, piece, n);
     let answer = fed.answer;
     let reading = after(answer);
     Run { fed, reading }
@@ -70,15 +65,9 @@ fn read_piece(
 
 // Pieces up to the end of the input, or to the first refusal. A proved loop has to end, and nothing says that an input does: so it counts down from a number that no run uses up (a read takes time).
 fn read_all(
-    ni: &mut [u64; 1536],
-    na: &mut [u8; 8192],
-    wi: &mut [u64; 1536],
-    wa: &mut [u8; 8192],
-    ri: &mut [u64; 1536],
-    ra: &mut [u8; 8192],
-    ss: &mut [u64; 1024],
-    sb: &mut [u8; 8192],
-    us: &mut [u64; 9],
+    words: &mut [u64; 5632],
+    bytes: &mut [u8; 32768],
+    counters: &mut [u64; COUNTERS],
     ps: &mut [u8; 44432],
     buf: &mut [u8; 81920],
     piece: &mut [u8; 65536],
@@ -91,7 +80,7 @@ fn read_all(
     while turns > 0 && going {
         turns -= 1;
         let fed = run.fed;
-        run = read_piece(ni, na, wi, wa, ri, ra, ss, sb, us, ps, buf, piece, fed);
+        run = read_piece(words, bytes, counters, ps, buf, piece, fed);
         let reading = run.reading;
         going = is_going(reading);
     }
@@ -115,60 +104,42 @@ fn write_out(out: &[u8], written: usize, number: u32) {
 
 // The overlay is set up empty and the reader is fresh, so what each piece needs holds from the start on (roadlist_page, proofs/Printed).
 fn read_and_print(
-    ni: &mut [u64; 1536],
-    na: &mut [u8; 8192],
-    wi: &mut [u64; 1536],
-    wa: &mut [u8; 8192],
-    ri: &mut [u64; 1536],
-    ra: &mut [u8; 8192],
-    ss: &mut [u64; 1024],
-    sb: &mut [u8; 8192],
-    us: &mut [u64; 9],
+    words: &mut [u64; 5632],
+    bytes: &mut [u8; 32768],
+    counters: &mut [u64; COUNTERS],
     ps: &mut [u8; 44432],
     buf: &mut [u8; 81920],
     piece: &mut [u8; 65536],
     out: &mut [u8; 65536],
 ) {
-    let reader = roadlist_page::start(ni, na, wi, wa, ri, ra, ss, sb, us, ps);
+    let reader = roadlist_page::start(words, bytes, counters, ps);
     let fed = Fed {
         reader,
         held: 0,
         answer: EventAnswer::Accepted,
     };
-    let run = read_all(ni, na, wi, wa, ri, ra, ss, sb, us, ps, buf, piece, fed);
+    let run = read_all(words, bytes, counters, ps, buf, piece, fed);
     let fed = run.fed;
     let reading = run.reading;
     let Reading::Ended = reading else {
         return;
     };
-    let ended = roadlist_page::finish(ni, na, wi, wa, ri, ra, ss, sb, us, ps, fed, buf, out);
+    let ended = roadlist_page::finish(words, bytes, counters, ps, fed, buf, out);
     write_out(out, ended.written, ended.number);
 }
 
 fn main() {
-    let mut ni = [0u64; 1536];
-    let mut na = [0u8; 8192];
-    let mut wi = [0u64; 1536];
-    let mut wa = [0u8; 8192];
-    let mut ri = [0u64; 1536];
-    let mut ra = [0u8; 8192];
-    let mut spans = [0u64; 1024];
-    let mut bytes = [0u8; 8192];
-    let mut used = [0u64; 9];
+    let mut words = [0u64; 5632];
+    let mut bytes = [0u8; 32768];
+    let mut counters = [0u64; 17];
     let mut parts = [0u8; 44432];
     let mut buffer = [0u8; 81920];
     let mut piece = [0u8; 65536];
     let mut out = [0u8; 65536];
     read_and_print(
-        &mut ni,
-        &mut na,
-        &mut wi,
-        &mut wa,
-        &mut ri,
-        &mut ra,
-        &mut spans,
+        &mut words,
         &mut bytes,
-        &mut used,
+        &mut counters,
         &mut parts,
         &mut buffer,
         &mut piece,

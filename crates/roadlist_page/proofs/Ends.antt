@@ -2,7 +2,7 @@
 use Prim.Native.Nat.{ℕ, _+_, _^_, _<_, _≤_}
 use mathlib.Core.Path.{_≡_, refl, sym, _∙_, ap, subst}
 use mathlib.Core.Bool.{true, false}
-use mathlib.Core.List.{[], _∷_, _++_}
+use mathlib.Core.List.{List, [], _∷_, _++_}
 use native.Mathlib.Omega.{arith}
 use borrow.Author.Tests.{le-leb, lt-leb, ltb-true}
 use mir.Syntax.{w32}
@@ -10,16 +10,22 @@ use mir.Val.{SFits}
 use lib.ListN.{length, take, drop}
 use lib.Seq.{length-take-le}
 use Rattle.base.specs.Bytes.{Bytes, both}
-use Rattle.base.proofs.Split.{byLe, both-left, both-right, no}
+use Rattle.base.proofs.Split.{byLe, both-left, both-right, clash, no}
 use Rattle.refusal.specs.Refusal.{heldOf, replyOf}
 use Rattle.refusal.specs.declared.Reply.{Reply}
 use Rattle.refusal.specs.declared.Refusal.{Refusal}
 use Rattle.refusal.specs.declared.Refusal.the-variants as R
 use Rattle.little.proofs.Overs.{over-start}
 use Rattle.kind_store.specs.declared.Kept.{Kept}
-use Rattle.overlay.specs.Overlay.{Overlay}
+use Rattle.blocks.specs.declared.Sizes.{Sizes}
+use Rattle.blocks.specs.Blocks.{sizesIn}
+use Rattle.blocks.specs.Sizes.{largest, kindFits, stringsFit, sizesInRange, filled, fitted}
+use Rattle.overlay.specs.Overlay.{Overlay, withSizes, sizesFit, empty}
+use Rattle.overlay.specs.Lent.{overlayFor, overlayIn}
 use Rattle.overlay.specs.Sound.{isSound}
 use Rattle.overlay.specs.Calls.{OverlayAfter, setUp}
+use Rattle.overlay.proofs.Tiles.{fits-in}
+use Rattle.overlay.proofs.Answers.{bySetUp}
 use Rattle.lines.specs.Lines.{lastLine}
 use Rattle.listing.specs.Call.{Output, pageOf, pageOver, listingOn, notListed}
 use Rattle.listing.specs.declared.Listed.{Listed}
@@ -32,14 +38,36 @@ use Rattle.reader.specs.declared.EventAnswer.{EventAnswer}
 use Rattle.reader.specs.declared.EventAnswer.the-variants as E
 use Rattle.reader.specs.Event.{EventResult, eventOn, endOn}
 use Rattle.reader.proofs.Answers.{byEnd, end-22, answer-is}
-use Rattle.roadlist_page.specs.Roadlist.{startOn, refusedEnding, pageEnding, endingAt}
+use Rattle.roadlist_page.specs.Roadlist.{programSizes, startOn, refusedEnding, pageEnding, endingAt}
 use Rattle.intake.specs.Feed.{Intake, keptLine, stateAtEnd}
 use Rattle.roadlist_page.specs.Finish.{EndOutput, endOutput, Finished, finishOn}
 
-pub started-by : (o : Overlay) (parts : Bytes) (q : Overlay) (k : Kept) → _≡_ {A = OverlayAfter} (record { overlay = q; answer = k }) (setUp 0 o)
-    → (r : EventReader) → r ≡ freshReader → _≡_ {A = State} (record { overlay = q; reader = r; parts = parts }) (startOn o parts)
+-- ---- the start
+
+-- the sizes fit the blocks
+pub program-fits : (words bytes counters : List ℕ) → length words ≡ 5632 → length bytes ≡ 32768
+    → sizesFit largest (withSizes programSizes (overlayFor programSizes words bytes counters)) ≡ true
+unfolding fitted filled sizesInRange kindFits stringsFit both
+program-fits words bytes counters w b =
+    let e : fitted largest programSizes (length words) (length bytes) ≡ true = rw (w, b) refl in
+    sym (fits-in programSizes words bytes counters) ∙ e
+
+-- so set-up stores them, and what it leaves is the overlay that its counters name
+pub started-by : (words bytes counters parts : List ℕ) → length words ≡ 5632 → length bytes ≡ 32768 → (z : Sizes) → z ≡ programSizes
+    → (v c : List ℕ) (k : Kept) → _≡_ {A = OverlayAfter} (record { overlay = overlayFor z v bytes c; answer = k }) (setUp z 0 (overlayFor z words bytes counters))
+    → (r : EventReader) → r ≡ freshReader
+    → _≡_ {A = State} (record { overlay = overlayIn v bytes c; reader = r; parts = parts }) (startOn (overlayFor programSizes words bytes counters) parts)
 unfolding startOn
-started-by o parts q k e r f = λ i. record { overlay = e i .overlay; reader = f i; parts = parts }
+started-by words bytes counters parts w b z p v c k e r f =
+    let o = overlayFor programSizes words bytes counters in
+    let g : _≡_ {A = OverlayAfter} (record { overlay = overlayFor programSizes v bytes c; answer = k }) (setUp programSizes 0 o) = rw p at e in
+    let t = program-fits words bytes counters w b in
+    let made : setUp programSizes 0 o .overlay ≡ empty 0 (withSizes programSizes o) =
+    bySetUp programSizes 0 o (λ n x. clash t n) (λ n x. ap (λ (y : OverlayAfter). y .overlay) x) in
+    let left : overlayFor programSizes v bytes c ≡ setUp programSizes 0 o .overlay = ap (λ (y : OverlayAfter). y .overlay) g in
+    let stored : sizesIn c ≡ programSizes = ap (λ (y : Overlay). y .sizes) (left ∙ made) in
+    let is : overlayIn v bytes c ≡ setUp programSizes 0 o .overlay = ap (λ (y : Sizes). overlayFor y v bytes c) stored ∙ left in
+    λ i. record { overlay = is i; reader = f i; parts = parts }
 
 -- ---- a last line
 

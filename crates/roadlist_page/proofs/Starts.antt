@@ -1,23 +1,27 @@
 -- What the program lends is set up and sound, and stays so while events come: 22 cannot occur below 2^64 - 1 lines.
-use Prim.Native.Nat.{ℕ, zero, suc, _+_, _<_, _≤_}
+use Prim.Native.Nat.{ℕ, zero, suc, _+_, _-_, _<_, _≤_}
 use mathlib.Core.Path.{_≡_, refl, sym, _∙_, ap}
 use mathlib.Core.Bool.{true, false}
 use mathlib.Core.List.{List, [], _∷_, foldl}
 use native.Mathlib.Omega.{arith}
-use lib.ListN.{length, replicate, length-replicate}
+use lib.ListN.{length, drop, replicate, length-replicate}
 use Rattle.base.specs.Bytes.{Bytes, both, all}
 use Rattle.base.proofs.Split.{clash, no, both-of}
 use Rattle.refusal.specs.declared.Refusal.{Refusal}
 use Rattle.refusal.specs.declared.Refusal.the-variants as R
 use Rattle.kind.specs.declared.Kind.{Kind}
-use Rattle.kind.specs.declared.Kind.the-variants.{Node, Way, Relation}
 use Rattle.little.specs.Little.{isByte}
+use Rattle.little.proofs.Littles.{bytes-take, bytes-drop}
 use Rattle.kind_store.specs.KindStore.{takenIn}
-use Rattle.overlay.specs.Overlay.{Overlay, kindStoreOf, largest, kindStoreFits, textsFit, sizesFit}
+use Rattle.blocks.specs.declared.KindPart.{KindPart}
+use Rattle.blocks.specs.Blocks.{partIn, textPartIn}
+use Rattle.blocks.specs.Sizes.{largest}
+use Rattle.overlay.specs.Overlay.{kindStoreOf, withSizes, sizesFit}
 use Rattle.overlay.specs.Calls.{OverlayAfter, setUp}
 use Rattle.overlay.specs.Given.{InBytes}
 use Rattle.overlay.proofs.Decides.{decides}
 use Rattle.overlay.proofs.Answers.{bySetUp}
+use Rattle.overlay.proofs.Puts.{kind-store-for}
 use Rattle.overlay.proofs.Keeps.{setup-sound, setup-bytes}
 use Rattle.lines.specs.Lines.{inputLines}
 use Rattle.lines.specs.Stream.{afterInput}
@@ -33,7 +37,8 @@ use Rattle.reader.specs.State.{stopsBy}
 use Rattle.reader_events.specs.Runs.{RunGiven}
 use Rattle.reader_events.proofs.Runs.{given-of}
 use Rattle.intake.specs.Feed.{afterEvent}
-use Rattle.roadlist_page.specs.Roadlist.{programLends, startOn, programStart}
+use Rattle.roadlist_page.specs.Roadlist.{programSizes, programLends, startOn, programStart}
+use Rattle.roadlist_page.proofs.Ends.{program-fits}
 
 -- ---- the start
 
@@ -42,31 +47,44 @@ unfolding all isByte both
 zeros-bytes zero = refl
 zeros-bytes (suc n) = zeros-bytes n
 
+-- what is lent
+abbrev words : List ℕ
+words = replicate 5632 0
+
+abbrev bytes : Bytes
+bytes = replicate 32768 0
+
+abbrev counters : List ℕ
+counters = replicate 17 0
+
 lends-bytes : InBytes programLends
 unfolding programLends
-lends-bytes = record { arenas = each; texts = zeros-bytes 8192 }
+lends-bytes = record { arenas = each; texts = bytes-drop (textPartIn programSizes (length words) (length bytes) .bytes) bytes (zeros-bytes 32768) }
   where
+    part : Kind → KindPart
+    part k = partIn k programSizes (length words) (length bytes)
+
     each : (k : Kind) → all isByte (kindStoreOf k programLends .arena) ≡ true
-    each Node = zeros-bytes 8192
-    each Way = zeros-bytes 8192
-    each Relation = zeros-bytes 8192
+    each k =
+        rw (kind-store-for k programSizes words bytes counters)
+        (bytes-take (part k .end - part k .first) (drop (part k .first) bytes) (bytes-drop (part k .first) bytes (zeros-bytes 32768)))
 
-lends-fit : sizesFit largest programLends ≡ true
-unfolding programLends sizesFit kindStoreFits textsFit both
-lends-fit = refl
+lends-fit : sizesFit largest (withSizes programSizes programLends) ≡ true
+unfolding programLends
+lends-fit = program-fits words bytes counters (length-replicate {A = ℕ} 5632 0) (length-replicate {A = ℕ} 32768 0)
 
-lends-taken : takenIn (setUp 0 programLends .answer) ≡ true
-lends-taken = bySetUp 0 programLends (λ s w. clash lends-fit s) (λ s w. ap (λ (z : OverlayAfter). takenIn (z .answer)) w)
+lends-taken : takenIn (setUp programSizes 0 programLends .answer) ≡ true
+lends-taken = bySetUp programSizes 0 programLends (λ s w. clash lends-fit s) (λ s w. ap (λ (z : OverlayAfter). takenIn (z .answer)) w)
 
 pub start-fine : Fine (programStart .overlay)
 unfolding programStart startOn
 start-fine =
-    let b = setup-bytes 0 programLends lends-bytes in
-    record { sound = decides (setUp 0 programLends .overlay) b .1 (setup-sound 0 programLends lends-taken); bytes = b }
+    let b = setup-bytes programSizes 0 programLends lends-bytes in
+    record { sound = decides (setUp programSizes 0 programLends .overlay) b .1 (setup-sound programSizes 0 programLends lends-taken); bytes = b }
 
 pub start-ready : ReadyIn programStart
 unfolding programStart startOn
-start-ready = fresh-ready (setUp 0 programLends .overlay) (start-fine .sound) (replicate 44432 0) (zeros-bytes 44432) (length-replicate {A = ℕ} 44432 0)
+start-ready = fresh-ready (setUp programSizes 0 programLends .overlay) (start-fine .sound) (replicate 44432 0) (zeros-bytes 44432) (length-replicate {A = ℕ} 44432 0)
 
 -- so the first piece finds what `intake::feed` needs, and it tests nothing
 pub start-given : RunGiven programStart

@@ -8,7 +8,10 @@ use Rattle.base.specs.Bytes.{Bytes}
 use Rattle.refusal.specs.Refusal.{numberOf}
 use Rattle.refusal.specs.declared.Refusal.{Refusal}
 use Rattle.refusal.specs.declared.Refusal.the-variants as R
-use Rattle.overlay.specs.Overlay.{Overlay, overlayOf}
+use Rattle.overlay.specs.Overlay.{Overlay}
+use Rattle.overlay.specs.Lent.{overlayFor}
+use Rattle.blocks.specs.declared.KindSize.{KindSize}
+use Rattle.blocks.specs.declared.Sizes.{Sizes}
 use Rattle.overlay.specs.Calls.{setUp}
 use Rattle.lines.specs.Stream.{afterInput}
 use Rattle.listing.specs.Call.{pageOf}
@@ -19,15 +22,18 @@ use Rattle.reader.specs.declared.EventAnswer.the-variants as E
 use Rattle.reader.specs.Event.{endOn}
 use Rattle.intake.specs.Feed.{afterEvent}
 
--- what is lent, all of it 0 at first: three words an id, two a string, nine counters
+abbrev pub programSizes : Sizes
+programSizes =
+    let kind : KindSize = record { ids = 512; bytes = 8192 } in
+    record { nodes = kind; ways = kind; relations = kind; strings = 512; «string_bytes» = 8192 }
+
+-- what is lent, all of it 0 at first: three words an id and two a string, the bytes, the counters
 unfoldable pub programLends : Overlay
-programLends =
-    overlayOf (replicate 1536 0) (replicate 8192 0) (replicate 1536 0) (replicate 8192 0) (replicate 1536 0) (replicate 8192 0) (replicate 1024 0) (replicate 8192 0)
-    (replicate 9 0)
+programLends = overlayFor programSizes (replicate 5632 0) (replicate 32768 0) (replicate 17 0)
 
 -- an empty overlay, regression refused (setting 0), and one fresh reader
 unfoldable pub startOn : Overlay → Bytes → State
-startOn o parts = record { overlay = setUp 0 o .overlay; reader = freshReader; parts = parts }
+startOn o parts = record { overlay = setUp programSizes 0 o .overlay; reader = freshReader; parts = parts }
 
 unfoldable pub programStart : State
 programStart = startOn programLends (replicate 44432 0)

@@ -3,12 +3,16 @@ ghost use mathlib.Core.Path.{_≡_};
 ghost use mathlib.Core.Bool.{true};
 ghost use Prim.Native.Nat.{_≤_, _<_, min};
 ghost use lib.ListN.{length};
-ghost use Rattle.overlay.specs.Overlay.{overlayOf, lent, left};
+ghost use Rattle.overlay.specs.Lent.{overlayIn, lent, left, lentFor};
 ghost use Rattle.overlay.specs.Sound.{isSound};
+ghost use Rattle.reader.specs.Lent.{stateLent, stateLeft};
 ghost use Rattle.reader.specs.State.{freshReader};
 ghost use Rattle.intake.specs.Feed.{stateAtEnd};
-ghost use Rattle.roadlist_page.specs.Roadlist.{startOn, refusedEnding, pageEnding, endingAt};
+ghost use Rattle.roadlist_page.specs.Roadlist.{programSizes, startOn, refusedEnding, pageEnding, endingAt};
 ghost use Rattle.roadlist_page.specs.Finish.{endOutput, finishOn};
+use blocks::COUNTERS;
+use blocks::KindSize;
+use blocks::Sizes;
 use compact::ArenaMeta;
 use compact::PushHead;
 use intake::Fed;
@@ -56,50 +60,55 @@ fn fresh_reader() -> EventReader
     }
 }
 
+// "512 ids and 8,192 arena bytes a kind, 512 strings, 8,192 string bytes"
+fn program_sizes() -> Sizes
+    ensures { λ r. ⌜ r ≡ programSizes ⌝ }
+{
+    let kind = KindSize {
+        ids: 512,
+        bytes: 8192,
+    };
+    Sizes {
+        nodes: kind,
+        ways: kind,
+        relations: kind,
+        strings: 512,
+        string_bytes: 8192,
+    }
+}
+
 // An empty overlay, regression refused, and a fresh reader.
 pub fn start(
-    ni: &[u64],
-    na: &[u8],
-    wi: &[u64],
-    wa: &[u8],
-    ri: &[u64],
-    ra: &[u8],
-    ss: &mut [u64],
-    sb: &[u8],
-    us: &mut [u64; 9],
+    words: &mut [u64; 5632],
+    bytes: &[u8; 32768],
+    counters: &mut [u64; COUNTERS],
     ps: &[u8; 44432],
 ) -> EventReader
-    ensures { λ r. ⌜ record { overlay = left ni na wi wa ri ra ss sb us; reader = r; parts = now (ps .exit) }
-        ≡ startOn (lent ni na wi wa ri ra ss sb us) (now (ps .entry)) ⌝ }
+    ensures { λ r. ⌜ stateLeft words bytes counters ps r
+        ≡ startOn (lentFor programSizes words bytes counters) (now (ps .entry)) ⌝ }
 {
-    overlay::set_up(ni, na, wi, wa, ri, ra, ss, sb, us, 0);
+    overlay::set_up(words, bytes, counters, program_sizes(), 0);
     fresh_reader()
 }
 
 // A last line without its line feed is an event too.
 fn take_last(
-    ni: &mut [u64],
-    na: &mut [u8],
-    wi: &mut [u64],
-    wa: &mut [u8],
-    ri: &mut [u64],
-    ra: &mut [u8],
-    ss: &mut [u64],
-    sb: &mut [u8],
-    us: &mut [u64; 9],
+    words: &mut [u64],
+    bytes: &mut [u8],
+    counters: &mut [u64; COUNTERS],
     ps: &mut [u8; 44432],
     reader: EventReader,
     buffer: &[u8],
     n: usize,
 ) -> EventReader
     requires { ⌜ n ≤ length (now buffer) ⌝ }
-    ensures { λ r. ⌜ record { overlay = left ni na wi wa ri ra ss sb us; reader = r; parts = now (ps .exit) }
-        ≡ stateAtEnd (record { state = record { overlay = lent ni na wi wa ri ra ss sb us; reader = reader; parts = now (ps .entry) }; buffer = now (buffer .entry); held = n }) ⌝ }
+    ensures { λ r. ⌜ stateLeft words bytes counters ps r
+        ≡ stateAtEnd (record { state = stateLent words bytes counters ps reader; buffer = now (buffer .entry); held = n }) ⌝ }
 {
     if n == 0 {
         return reader;
     }
-    let done = reader_calls::event(ni, na, wi, wa, ri, ra, ss, sb, us, ps, reader, &buffer[..n]);
+    let done = reader_calls::event(words, bytes, counters, ps, reader, &buffer[..n]);
     done.reader
 }
 
@@ -124,25 +133,19 @@ fn put_refusal(out: &mut [u8], refusal: Refusal, line: u64) -> Ended
 
 // The listing, or 19.
 fn put_page(
-    ni: &[u64],
-    na: &[u8],
-    wi: &[u64],
-    wa: &[u8],
-    ri: &[u64],
-    ra: &[u8],
-    ss: &[u64],
-    sb: &[u8],
-    us: &[u64; 9],
+    words: &[u64],
+    bytes: &[u8],
+    counters: &[u64; COUNTERS],
     out: &mut [u8],
     lines: u64,
 ) -> Ended
-    requires { ⌜ isSound (overlayOf (now ni) (now na) (now wi) (now wa) (now ri) (now ra) (now ss) (now sb) (now us)) ≡ true ⌝ }
+    requires { ⌜ isSound (overlayIn (now words) (now bytes) (now counters)) ≡ true ⌝ }
     requires { ⌜ lines < 18446744073709551615 ⌝ }
     requires { ⌜ length (now out) ≡ 65536 ⌝ }
     ensures { λ r. ⌜ record { out = now (out .exit); written = r .written; number = r .number }
-        ≡ endOutput (now (out .entry)) (pageEnding (lent ni na wi wa ri ra ss sb us) lines) ⌝ }
+        ≡ endOutput (now (out .entry)) (pageEnding (lent words bytes counters) lines) ⌝ }
 {
-    match listing::list(ni, na, wi, wa, ri, ra, ss, sb, us, out) {
+    match listing::list(words, bytes, counters, out) {
         Listed::Length(n) => Ended {
             written: n,
             number: 0,
@@ -153,54 +156,42 @@ fn put_page(
 
 // What the end answers: its refusal, or the page.
 fn put_end(
-    ni: &[u64],
-    na: &[u8],
-    wi: &[u64],
-    wa: &[u8],
-    ri: &[u64],
-    ra: &[u8],
-    ss: &[u64],
-    sb: &[u8],
-    us: &[u64; 9],
+    words: &[u64],
+    bytes: &[u8],
+    counters: &[u64; COUNTERS],
     ps: &[u8; 44432],
     reader: EventReader,
     out: &mut [u8],
 ) -> Ended
     requires { ⌜ length (now out) ≡ 65536 ⌝ }
     ensures { λ r. ⌜ record { out = now (out .exit); written = r .written; number = r .number }
-        ≡ endOutput (now (out .entry)) (endingAt (record { overlay = lent ni na wi wa ri ra ss sb us; reader = reader; parts = now (ps .entry) })) ⌝ }
+        ≡ endOutput (now (out .entry)) (endingAt (stateLent words bytes counters ps reader)) ⌝ }
 {
-    match reader_calls::end(ni, na, wi, wa, ri, ra, ss, sb, us, ps, reader) {
-        EventAnswer::Accepted => put_page(ni, na, wi, wa, ri, ra, ss, sb, us, out, reader.lines),
+    match reader_calls::end(words, bytes, counters, ps, reader) {
+        EventAnswer::Accepted => put_page(words, bytes, counters, out, reader.lines),
         EventAnswer::Refused(refusal, line) => put_refusal(out, refusal, line),
     }
 }
 
 // The end of the input: a last line, the end of the document, then the listing or the `refused` line at the start of the output. Of the bytes held at most 16,384 count.
 pub fn finish(
-    ni: &mut [u64],
-    na: &mut [u8],
-    wi: &mut [u64],
-    wa: &mut [u8],
-    ri: &mut [u64],
-    ra: &mut [u8],
-    ss: &mut [u64],
-    sb: &mut [u8],
-    us: &mut [u64; 9],
+    words: &mut [u64],
+    bytes: &mut [u8],
+    counters: &mut [u64; COUNTERS],
     ps: &mut [u8; 44432],
     fed: Fed,
     buffer: &[u8; 81920],
     out: &mut [u8; 65536],
 ) -> Ended
     ensures { λ r. ⌜ record {
-      overlay = left ni na wi wa ri ra ss sb us;
+      overlay = left words bytes counters;
       parts = now (ps .exit);
       output = record { out = now (out .exit); written = r .written; number = r .number };
     }
-        ≡ finishOn (now (out .entry)) (record { state = record { overlay = lent ni na wi wa ri ra ss sb us; reader = fed .reader; parts = now (ps .entry) }; buffer = now (buffer .entry); held = min (fed .held) 16384 }) ⌝ }
+        ≡ finishOn (now (out .entry)) (record { state = stateLent words bytes counters ps (fed .reader); buffer = now (buffer .entry); held = min (fed .held) 16384 }) ⌝ }
 {
     let held = little::lesser(fed.held, 16384);
     let reader = fed.reader;
-    let reader = take_last(ni, na, wi, wa, ri, ra, ss, sb, us, ps, reader, buffer, held);
-    put_end(ni, na, wi, wa, ri, ra, ss, sb, us, ps, reader, out)
+    let reader = take_last(words, bytes, counters, ps, reader, buffer, held);
+    put_end(words, bytes, counters, ps, reader, out)
 }

@@ -10,7 +10,7 @@ use Rattle.kind.specs.declared.Kind.{Kind}
 use Rattle.osm_id.specs.Order.{idOf}
 use Rattle.table.specs.Words.{rowsOf, held}
 use Rattle.table.specs.declared.Row.{Row}
-use Rattle.kind_store.specs.KindStore.{KindStore, isLive, knownVersion}
+use Rattle.kind_store.specs.KindStore.{KindStore, isLive, knownOf}
 use Rattle.page.specs.Listing.{kindField, versionField}
 use Rattle.print.specs.Print.{linePieces}
 use Rattle.fields.specs.Fields.{recordFieldsAt}
@@ -20,18 +20,19 @@ abbrev pub signOf : Bool → Bytes
 signOf true = ascii "+"
 signOf false = ascii "-"
 
--- "A deleted line ends there. A live one goes on"
-abbrev pub lastAt : (ℕ → Bytes) → Kind → Bytes → ℕ → ℕ → List Bytes
-lastAt f k arena used place = cond (isLive place) (recordFieldsAt f k (drop place (take used arena))) []
+-- "A deleted line ends there. A live one goes on": the record at its place in the arena's used bytes
+abbrev pub lastAt : (ℕ → Bytes) → Kind → Bytes → ℕ → List Bytes
+lastAt f k arena place = cond (isLive place) (recordFieldsAt f k (drop place arena)) []
 
-unfoldable pub rowFieldsAt : (ℕ → Bytes) → Kind → KindStore → Row → List Bytes
-rowFieldsAt f k s r =
-    kindField k ∷ integerText (idOf (r .rank)) ∷ signOf (isLive (r .place)) ∷ versionField (knownVersion k s (idOf (r .rank))) ∷ lastAt f k (s .arena) (s .used) (r .place)
+-- a row's line; its known version is the one that the row itself says
+unfoldable pub rowFieldsAt : (ℕ → Bytes) → Kind → Bytes → Row → List Bytes
+rowFieldsAt f k arena r =
+    kindField k ∷ integerText (idOf (r .rank)) ∷ signOf (isLive (r .place)) ∷ versionField (knownOf k arena r) ∷ lastAt f k arena (r .place)
 
-unfoldable pub rowPieces : (ℕ → Bytes) → Kind → KindStore → List Row → List Bytes
-rowPieces f k s [] = []
-rowPieces f k s (r ∷ rs) = linePieces (rowFieldsAt f k s r) ++ rowPieces f k s rs
+unfoldable pub rowPieces : (ℕ → Bytes) → Kind → Bytes → List Row → List Bytes
+rowPieces f k arena [] = []
+rowPieces f k arena (r ∷ rs) = linePieces (rowFieldsAt f k arena r) ++ rowPieces f k arena rs
 
--- the rows of a kind: those counted, as far as the words go
+-- the rows of a kind: those counted, as far as the words go; of its arena the used bytes
 abbrev pub kindPieces : (ℕ → Bytes) → Kind → KindStore → List Bytes
-kindPieces f k s = rowPieces f k s (rowsOf (s .table) (held (s .table) (s .ids)))
+kindPieces f k s = rowPieces f k (take (s .used) (s .arena)) (rowsOf (s .table) (held (s .table) (s .ids)))

@@ -6,9 +6,9 @@ ghost use mir.Val.{toZ};
 ghost use Rattle.line.specs.Decimal.{integerText};
 ghost use Rattle.page.specs.Listing.{kindField, versionField};
 ghost use Rattle.print.specs.Print.{printStep, print, tabs, linePieces};
-ghost use Rattle.kind_store.specs.KindStore.{kindStoreWith};
+ghost use Rattle.table.specs.Words.{rowsOf, held};
 ghost use Rattle.fields.specs.Fields.{heldText};
-ghost use Rattle.rows.specs.Lines.{signOf, lastAt, rowFieldsAt, kindPieces};
+ghost use Rattle.rows.specs.Lines.{signOf, lastAt, rowFieldsAt, rowPieces};
 use kind::Kind;
 use print::Room;
 use table::Row;
@@ -71,19 +71,17 @@ fn put_last(
     room: Room,
     kind: Kind,
     arena: &[u8],
-    used: u64,
     place: u64,
     spans: &[u64],
     bytes: &[u8],
     strings: u64,
 ) -> Room
     ensures { λ r. ⌜ record { out = now (out .exit); room = r }
-        ≡ print cap (tabs (lastAt (heldText (now (spans .entry)) (now (bytes .entry)) strings) kind (now (arena .entry)) used place)) (record { out = now (out .entry); room = room }) ⌝ }
+        ≡ print cap (tabs (lastAt (heldText (now (spans .entry)) (now (bytes .entry)) strings) kind (now (arena .entry)) place)) (record { out = now (out .entry); room = room }) ⌝ }
 {
     if place < 0x8000_0000_0000_0000 {
-        let n = little::lesser(used as usize, arena.len());
-        let at = little::lesser(place as usize, n);
-        return fields::put_record(out, cap, room, kind, &arena[at..n], spans, bytes, strings);
+        let at = little::lesser(place as usize, arena.len());
+        return fields::put_record(out, cap, room, kind, &arena[at..], spans, bytes, strings);
     }
     room
 }
@@ -94,38 +92,25 @@ fn put_line(
     cap: usize,
     room: Room,
     kind: Kind,
-    table: &[u64],
-    ids: u64,
     arena: &[u8],
-    used: u64,
     spans: &[u64],
     bytes: &[u8],
     strings: u64,
     row: Row,
 ) -> Room
     ensures { λ r. ⌜ record { out = now (out .exit); room = r }
-        ≡ print cap (linePieces (rowFieldsAt (heldText (now (spans .entry)) (now (bytes .entry)) strings) kind (kindStoreWith (now (table .entry)) ids (now (arena .entry)) used) row)) (record { out = now (out .entry); room = room }) ⌝ }
+        ≡ print cap (linePieces (rowFieldsAt (heldText (now (spans .entry)) (now (bytes .entry)) strings) kind (now (arena .entry)) row)) (record { out = now (out .entry); room = room }) ⌝ }
 {
     let id = signed::bits_of_i64(osm_id::osm_id_of_rank(row.rank));
-    let version = kind_store::known_version(kind, table, ids, arena, id);
-    let live = row.place < 0x8000_0000_0000_0000;
+    let version = kind_store::row_version(kind, arena, row);
+    let place = row.place;
+    let live = place < 0x8000_0000_0000_0000;
     let room = put_key(out, cap, room, kind, id, live, version);
-    let room = put_last(
-        out,
-        cap,
-        room,
-        kind,
-        arena,
-        used,
-        row.place,
-        spans,
-        bytes,
-        strings,
-    );
+    let room = put_last(out, cap, room, kind, arena, place, spans, bytes, strings);
     print::put_bytes(out, cap, room, b"\n")
 }
 
-// The lines of a kind's rows: those counted, as far as the words go.
+// The lines of a kind's rows: those counted, as far as the words go. Of the kind's arena the used bytes are lent.
 pub fn put_lines(
     out: &mut [u8],
     cap: usize,
@@ -134,32 +119,19 @@ pub fn put_lines(
     table: &[u64],
     ids: u64,
     arena: &[u8],
-    used: u64,
     spans: &[u64],
     bytes: &[u8],
     strings: u64,
 ) -> Room
     ensures { λ r. ⌜ record { out = now (out .exit); room = r }
-        ≡ print cap (kindPieces (heldText (now (spans .entry)) (now (bytes .entry)) strings) kind (kindStoreWith (now (table .entry)) ids (now (arena .entry)) used)) (record { out = now (out .entry); room = room }) ⌝ }
+        ≡ print cap (rowPieces (heldText (now (spans .entry)) (now (bytes .entry)) strings) kind (now (arena .entry)) (rowsOf (now (table .entry)) (held (now (table .entry)) ids))) (record { out = now (out .entry); room = room }) ⌝ }
 {
     let n = little::lesser(ids as usize, table.len() / 3);
     let mut left = room;
     let mut i: usize = 0;
     while i < n {
-        left = put_line(
-            out,
-            cap,
-            left,
-            kind,
-            table,
-            ids,
-            arena,
-            used,
-            spans,
-            bytes,
-            strings,
-            table::row_at(table, i),
-        );
+        let row = table::row_at(table, i);
+        left = put_line(out, cap, left, kind, arena, spans, bytes, strings, row);
         i += 1;
     }
     left

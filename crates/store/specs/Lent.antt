@@ -5,7 +5,7 @@ use mathlib.Core.List.{List}
 use denote.Ref.{RefT, now}
 use lib.ListN.{getD}
 use Rattle.kind_store.specs.KindStore.{KindStore, kindStoreWith}
-use Rattle.overlay.specs.Overlay.{Lent}
+use Rattle.overlay.specs.Lent.{Lent}
 
 -- the kind store at one of the two moments
 abbrev pub kindStoreAt : (Lent → RefT (List ℕ)) → ℕ → Lent → Lent → Lent → KindStore

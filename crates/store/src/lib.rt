@@ -1,4 +1,4 @@
-// The store's row of the table, over the nine lent parts and with no test of soundness: 13 for a text, 12, 14, 15 for a push, 12, 14 for a delete.
+// The store's row of the table, over what is lent and with no test of soundness: 13 for a text, 12, 14, 15 for a push, 12, 14 for a delete.
 // A caller makes the tests of the rows before it first.
 ghost use mathlib.Core.Path.{_≡_};
 ghost use Prim.Native.Nat.{_+_, _<_};
@@ -9,10 +9,14 @@ ghost use Rattle.model.specs.Record.{claimOf};
 ghost use Rattle.compact.specs.Held.{metaOf};
 ghost use Rattle.kind_store.specs.KindStore.{pushed, deleted};
 ghost use Rattle.text_index.specs.Index.{IndexGiven};
-ghost use Rattle.overlay.specs.Overlay.{lent, left};
+ghost use Rattle.overlay.specs.Lent.{lent, left};
 ghost use Rattle.store.specs.Lent.{kindStoreLent, kindStoreLeft, settingIn, othersKept};
-ghost use Rattle.store.specs.Beside.{KindParts, lentBeside, leftBeside};
 ghost use Rattle.store.specs.Calls.{bytesOf, storePush, storeDelete, handleIn, storeText};
+use blocks::ARENA;
+use blocks::COUNTERS;
+use blocks::SETTING;
+use blocks::STRING_BYTES;
+use blocks::STRINGS;
 use compact::ArenaMeta;
 use compact::PushHead;
 use interner::Interned;
@@ -50,36 +54,76 @@ fn handle_in(answer: Interned) -> Handle
 }
 
 // Counts a text as taken in: 13, or its handle.
-fn count_taken(us: &mut [u64], taken: Taken) -> Handle
-    requires { ⌜ 7 < length (now us) ⌝ }
-    ensures { λ r. ⌜ (now (us .exit) ≡ set (set (now (us .entry)) 6 (taken .strings)) 7 (taken .used)) × (r ≡ handleIn (taken .answer)) ⌝ }
+fn count_taken(counters: &mut [u64], taken: Taken) -> Handle
+    requires { ⌜ 7 < length (now counters) ⌝ }
+    ensures { λ r. ⌜ (now (counters .exit) ≡ set (set (now (counters .entry)) 6 (taken .strings)) 7 (taken .used)) × (r ≡ handleIn (taken .answer)) ⌝ }
 {
-    put_two(us, 6, taken.strings, 7, taken.used);
+    put_two(counters, STRINGS, taken.strings, STRING_BYTES, taken.used);
     let answer = taken.answer;
     handle_in(answer)
 }
 
 // Takes a text in: 13, or its handle.
-pub fn store_text(ss: &mut [u64], sb: &mut [u8], us: &mut [u64; 9], text: &[u8]) -> Handle
-    ensures { λ r. ⌜ ((p : KindParts) → record { overlay = leftBeside p ss sb us; answer = r } ≡ storeText (now (text .entry)) (lentBeside p ss sb us)) ⌝ }
+pub fn store_text(
+    words: &mut [u64],
+    bytes: &mut [u8],
+    counters: &mut [u64; COUNTERS],
+    text: &[u8],
+) -> Handle
+    ensures { λ r. ⌜ record { overlay = left words bytes counters; answer = r } ≡ storeText (now (text .entry)) (lent words bytes counters) ⌝ }
 {
-    let taken = interner::intern(ss, sb, us[6], us[7], text);
-    count_taken(us, taken)
+    let t = blocks::texts_in(counters, words.len(), bytes.len());
+    let c = t.spans;
+    let f = t.bytes;
+    let taken = interner::intern(
+        &mut words[c..],
+        &mut bytes[f..],
+        counters[STRINGS],
+        counters[STRING_BYTES],
+        text,
+    );
+    count_taken(counters, taken)
 }
 
 // The same with an array of chains for the held texts.
 pub fn store_text_by(
-    ss: &mut [u64],
-    sb: &mut [u8],
-    us: &mut [u64; 9],
+    words: &mut [u64],
+    bytes: &mut [u8],
+    counters: &mut [u64; COUNTERS],
     ix: &[u16],
     text: &[u8],
 ) -> Handle
-    ensures { λ r. ⌜ ((p : KindParts) → IndexGiven (now (ix .entry)) (lentBeside p ss sb us .texts)
-        → record { overlay = leftBeside p ss sb us; answer = r } ≡ storeText (now (text .entry)) (lentBeside p ss sb us)) ⌝ }
+    ensures { λ r. ⌜ (IndexGiven (now (ix .entry)) (lent words bytes counters .texts)
+        → record { overlay = left words bytes counters; answer = r } ≡ storeText (now (text .entry)) (lent words bytes counters)) ⌝ }
 {
-    let taken = text_index::intern_by(ix, ss, sb, us[6], us[7], text);
-    count_taken(us, taken)
+    let t = blocks::texts_in(counters, words.len(), bytes.len());
+    let c = t.spans;
+    let f = t.bytes;
+    let taken = text_index::intern_by(
+        ix,
+        &mut words[c..],
+        &mut bytes[f..],
+        counters[STRINGS],
+        counters[STRING_BYTES],
+        text,
+    );
+    count_taken(counters, taken)
+}
+
+// Brings an array of chains up to date with the held texts.
+pub fn index_texts(ix: &mut [u16], words: &[u64], bytes: &[u8], counters: &[u64; COUNTERS])
+    ensures { λ _. ⌜ (IndexGiven (now (ix .entry)) (lent words bytes counters .texts) → IndexGiven (now (ix .exit)) (lent words bytes counters .texts)) ⌝ }
+{
+    let t = blocks::texts_in(counters, words.len(), bytes.len());
+    let c = t.spans;
+    let f = t.bytes;
+    text_index::index_held(
+        ix,
+        &words[c..],
+        &bytes[f..],
+        counters[STRINGS],
+        counters[STRING_BYTES],
+    );
 }
 
 // ---- a push
@@ -90,7 +134,7 @@ fn push_at(
     kind: Kind,
     table: &mut [u64],
     arena: &mut [u8],
-    used: &mut [u64; 9],
+    used: &mut [u64; COUNTERS],
     head: PushHead,
     meta: ArenaMeta,
     parts: &[u8],
@@ -101,36 +145,49 @@ fn push_at(
         × othersKept at used ⌝ }
 {
     let ids = used[at];
-    let end = used[at + 3];
-    let o = kind_store::push(kind, used[8], table, ids, arena, end, head, meta, parts);
+    let end = used[at + ARENA];
+    let o = kind_store::push(
+        kind,
+        used[SETTING],
+        table,
+        ids,
+        arena,
+        end,
+        head,
+        meta,
+        parts,
+    );
     put_two(used, at, o.ids, at + 3, o.used);
     o.answer
 }
 
 // A push whose record is legal: 12, 14, 15, or taken.
 pub fn store_push(
-    ni: &mut [u64],
-    na: &mut [u8],
-    wi: &mut [u64],
-    wa: &mut [u8],
-    ri: &mut [u64],
-    ra: &mut [u8],
-    ss: &[u64],
-    sb: &[u8],
-    us: &mut [u64; 9],
+    words: &mut [u64],
+    bytes: &mut [u8],
+    counters: &mut [u64; COUNTERS],
     kind: Kind,
     head: PushHead,
     meta: ArenaMeta,
     parts: &[u8],
 ) -> Kept
-    ensures { λ r. ⌜ record { overlay = left ni na wi wa ri ra ss sb us; answer = r }
-        ≡ storePush kind head meta (now (parts .entry)) (lent ni na wi wa ri ra ss sb us) ⌝ }
+    ensures { λ r. ⌜ record { overlay = left words bytes counters; answer = r } ≡ storePush kind head meta (now (parts .entry)) (lent words bytes counters) ⌝ }
 {
-    match kind {
-        Kind::Node => push_at(0, kind, ni, na, us, head, meta, parts),
-        Kind::Way => push_at(1, kind, wi, wa, us, head, meta, parts),
-        Kind::Relation => push_at(2, kind, ri, ra, us, head, meta, parts),
-    }
+    let p = blocks::part_in(kind, counters, words.len(), bytes.len());
+    let from = p.from;
+    let to = p.to;
+    let first = p.first;
+    let end = p.end;
+    push_at(
+        p.at,
+        kind,
+        &mut words[from..to],
+        &mut bytes[first..end],
+        counters,
+        head,
+        meta,
+        parts,
+    )
 }
 
 // ---- a delete
@@ -141,7 +198,7 @@ fn delete_at(
     kind: Kind,
     table: &mut [u64],
     arena: &[u8],
-    used: &mut [u64; 9],
+    used: &mut [u64; COUNTERS],
     id: u64,
     claim: Version,
 ) -> Kept
@@ -150,33 +207,35 @@ fn delete_at(
         × othersKept at used ⌝ }
 {
     let ids = used[at];
-    let end = used[at + 3];
-    let o = kind_store::delete(kind, used[8], table, ids, arena, end, id, claim);
+    let end = used[at + ARENA];
+    let o = kind_store::delete(kind, used[SETTING], table, ids, arena, end, id, claim);
     put_two(used, at, o.ids, at + 3, o.used);
     o.answer
 }
 
 // A delete whose metadata is legal: 12, 14, or taken.
 pub fn store_delete(
-    ni: &mut [u64],
-    na: &[u8],
-    wi: &mut [u64],
-    wa: &[u8],
-    ri: &mut [u64],
-    ra: &[u8],
-    ss: &[u64],
-    sb: &[u8],
-    us: &mut [u64; 9],
+    words: &mut [u64],
+    bytes: &[u8],
+    counters: &mut [u64; COUNTERS],
     kind: Kind,
     id: u64,
     claim: Version,
 ) -> Kept
-    ensures { λ r. ⌜ record { overlay = left ni na wi wa ri ra ss sb us; answer = r }
-        ≡ storeDelete kind (toZ w64 id) claim (lent ni na wi wa ri ra ss sb us) ⌝ }
+    ensures { λ r. ⌜ record { overlay = left words bytes counters; answer = r } ≡ storeDelete kind (toZ w64 id) claim (lent words bytes counters) ⌝ }
 {
-    match kind {
-        Kind::Node => delete_at(0, kind, ni, na, us, id, claim),
-        Kind::Way => delete_at(1, kind, wi, wa, us, id, claim),
-        Kind::Relation => delete_at(2, kind, ri, ra, us, id, claim),
-    }
+    let p = blocks::part_in(kind, counters, words.len(), bytes.len());
+    let from = p.from;
+    let to = p.to;
+    let first = p.first;
+    let end = p.end;
+    delete_at(
+        p.at,
+        kind,
+        &mut words[from..to],
+        &bytes[first..end],
+        counters,
+        id,
+        claim,
+    )
 }

@@ -16,6 +16,7 @@ use Rattle.refusal.specs.declared.Refusal.the-variants as R
 use Rattle.model.specs.Record.{Meta}
 use Rattle.compact.specs.declared.ArenaMeta.{ArenaMeta}
 use Rattle.compact.specs.declared.PushHead.{PushHead}
+use Rattle.blocks.specs.declared.Sizes.{Sizes}
 use Rattle.overlay.specs.Overlay.{Overlay}
 use Rattle.overlay.specs.Sound.{isSound}
 use Rattle.overlay.specs.First.{keptBy, setUpTable, allowTable, unsoundRow, kindRows, kindCallTable, numberBy, replyBy}
@@ -36,9 +37,9 @@ kept-reply (some r) = refl
 -- ---- set-up: 1; the regression setting: 22; intern: 22, 3, 13
 
 module _ (setting : ℕ) (o : Overlay) where
-  pub setup-reply-first : setUpReply setting o .reply ≡ replyBy (firstOf (setUpTable o))
+  pub setup-reply-first : (z : Sizes) → setUpReply z setting o .reply ≡ replyBy (firstOf (setUpTable z o))
   unfolding setUpReply
-  setup-reply-first = ap keptReply (setup-first setting o) ∙ kept-reply (firstOf (setUpTable o))
+  setup-reply-first z = ap keptReply (setup-first z setting o) ∙ kept-reply (firstOf (setUpTable z o))
 
   pub allow-reply-first : allowReply setting o .reply ≡ replyBy (firstOf (allowTable o))
   unfolding allowReply

@@ -10,6 +10,7 @@ use Rattle.refusal.specs.declared.Refusal.the-variants as R
 use Rattle.model.specs.Record.{Meta}
 use Rattle.compact.specs.declared.ArenaMeta.{ArenaMeta}
 use Rattle.compact.specs.declared.PushHead.{PushHead}
+use Rattle.blocks.specs.declared.Sizes.{Sizes}
 use Rattle.overlay.specs.Overlay.{Overlay}
 use Rattle.overlay.specs.Calls.{OverlayAfter, ifSound, overlayRefused, setUp, allowOn}
 use Rattle.direct.specs.Calls.{pushOn, deleteOn, internOn}
@@ -25,8 +26,8 @@ pub record Replied : Type 0 where
 abbrev pub replied : OverlayAfter → Replied
 replied a = record { overlay = a .overlay; reply = keptReply (a .answer) }
 
-unfoldable pub setUpReply : ℕ → Overlay → Replied
-setUpReply setting o = replied (setUp setting o)
+unfoldable pub setUpReply : Sizes → ℕ → Overlay → Replied
+setUpReply z setting o = replied (setUp z setting o)
 
 unfoldable pub allowReply : ℕ → Overlay → Replied
 allowReply setting o = replied (allowOn setting o)

@@ -1,7 +1,8 @@
 // A reader: an event, a run of events, and the end of its document.
 ghost use mathlib.Core.Path.{_≡_};
-ghost use Rattle.overlay.specs.Overlay.{lent, left};
+ghost use Rattle.overlay.specs.Lent.{lent, left};
 ghost use Rattle.torvaskin.specs.Readers.{eventReply, eventsReply, endReply};
+use blocks::COUNTERS;
 use reader::EventAnswer;
 use refusal::Refusal;
 use replies::EventReply;
@@ -10,25 +11,19 @@ use replies::EventsReply;
 // An event by its line. Words that are no reader's are 22, and nothing changes.
 #[no_mangle]
 pub extern "C" fn tvk_event(
-    ni: &mut [u64],
-    na: &mut [u8],
-    wi: &mut [u64],
-    wa: &mut [u8],
-    ri: &mut [u64],
-    ra: &mut [u8],
-    ss: &mut [u64],
-    sb: &mut [u8],
-    us: &mut [u64; 9],
+    words: &mut [u64],
+    bytes: &mut [u8],
+    counters: &mut [u64; COUNTERS],
     reader: &mut [u64; 19],
     parts: &mut [u8; 44432],
     line: &[u8],
 ) -> EventReply
-    ensures { λ r. ⌜ record { overlay = left ni na wi wa ri ra ss sb us; words = now (reader .exit); parts = now (parts .exit); reply = r }
-        ≡ eventReply (now (line .entry)) (lent ni na wi wa ri ra ss sb us) (now (reader .entry)) (now (parts .entry)) ⌝ }
+    ensures { λ r. ⌜ record { overlay = left words bytes counters; words = now (reader .exit); parts = now (parts .exit); reply = r }
+        ≡ eventReply (now (line .entry)) (lent words bytes counters) (now (reader .entry)) (now (parts .entry)) ⌝ }
 {
     if reader_words::is_reader(reader) {
         let read = reader_words::reader_in(reader);
-        let done = reader_calls::event(ni, na, wi, wa, ri, ra, ss, sb, us, parts, read, line);
+        let done = reader_calls::event(words, bytes, counters, parts, read, line);
         let after = done.reader;
         reader_words::put_reader(reader, after);
         let answer = done.answer;
@@ -41,25 +36,19 @@ pub extern "C" fn tvk_event(
 // hands over again with what comes after it. Words that are no reader's are 22, and nothing changes.
 #[no_mangle]
 pub extern "C" fn tvk_events(
-    ni: &mut [u64],
-    na: &mut [u8],
-    wi: &mut [u64],
-    wa: &mut [u8],
-    ri: &mut [u64],
-    ra: &mut [u8],
-    ss: &mut [u64],
-    sb: &mut [u8],
-    us: &mut [u64; 9],
+    words: &mut [u64],
+    bytes: &mut [u8],
+    counters: &mut [u64; COUNTERS],
     reader: &mut [u64; 19],
     parts: &mut [u8; 44432],
     run: &[u8],
 ) -> EventsReply
-    ensures { λ r. ⌜ record { overlay = left ni na wi wa ri ra ss sb us; words = now (reader .exit); parts = now (parts .exit); reply = r }
-        ≡ eventsReply (now (run .entry)) (lent ni na wi wa ri ra ss sb us) (now (reader .entry)) (now (parts .entry)) ⌝ }
+    ensures { λ r. ⌜ record { overlay = left words bytes counters; words = now (reader .exit); parts = now (parts .exit); reply = r }
+        ≡ eventsReply (now (run .entry)) (lent words bytes counters) (now (reader .entry)) (now (parts .entry)) ⌝ }
 {
     if reader_words::is_reader(reader) {
         let read = reader_words::reader_in(reader);
-        let done = reader_events::events(ni, na, wi, wa, ri, ra, ss, sb, us, parts, read, run);
+        let done = reader_events::events(words, bytes, counters, parts, read, run);
         let after = done.reader;
         reader_words::put_reader(reader, after);
         let answer = done.answer;
@@ -71,35 +60,17 @@ pub extern "C" fn tvk_events(
 // The end of a document. It changes nothing.
 #[no_mangle]
 pub extern "C" fn tvk_end(
-    ni: &[u64],
-    na: &[u8],
-    wi: &[u64],
-    wa: &[u8],
-    ri: &[u64],
-    ra: &[u8],
-    ss: &[u64],
-    sb: &[u8],
-    us: &[u64; 9],
+    words: &[u64],
+    bytes: &[u8],
+    counters: &[u64; COUNTERS],
     reader: &[u64; 19],
     parts: &[u8; 44432],
 ) -> EventReply
-    ensures { λ r. ⌜ r ≡ endReply (lent ni na wi wa ri ra ss sb us) (now (reader .entry)) (now (parts .entry)) ⌝ }
+    ensures { λ r. ⌜ r ≡ endReply (lent words bytes counters) (now (reader .entry)) (now (parts .entry)) ⌝ }
 {
     if reader_words::is_reader(reader) {
         let read = reader_words::reader_in(reader);
-        return replies::event_reply(reader_calls::end(
-            ni,
-            na,
-            wi,
-            wa,
-            ri,
-            ra,
-            ss,
-            sb,
-            us,
-            parts,
-            read,
-        ));
+        return replies::event_reply(reader_calls::end(words, bytes, counters, parts, read));
     }
     replies::event_reply(EventAnswer::Refused(Refusal::Unsound, 0))
 }

@@ -39,7 +39,9 @@ unfolding mathlib.Core.Option.bind
     Rattle.table.specs.Words.rowsFrom Rattle.table.specs.Words.rowsOf Rattle.table.specs.Words.wordsOf Rattle.table.specs.Words.soundTable Rattle.table.specs.Words.held Rattle.table.specs.Words.halve Rattle.table.specs.Words.answerAt Rattle.table.specs.Words.lookup Rattle.table.specs.Words.rowOver Rattle.table.specs.Words.inserted Rattle.table.specs.Words.storedAt Rattle.table.specs.Words.stored Rattle.table.specs.Words.countAfter
     Rattle.kind_store.specs.KindStore.isLive Rattle.kind_store.specs.KindStore.versionAt Rattle.kind_store.specs.KindStore.liveVersion Rattle.kind_store.specs.KindStore.knownOf Rattle.kind_store.specs.KindStore.knownVersion Rattle.kind_store.specs.KindStore.floorOf Rattle.kind_store.specs.KindStore.checked Rattle.kind_store.specs.KindStore.idRoom Rattle.kind_store.specs.KindStore.rowed Rattle.kind_store.specs.KindStore.recordJoined Rattle.kind_store.specs.KindStore.pushed Rattle.kind_store.specs.KindStore.deleted
     Rattle.sound.specs.Check.comesTo Rattle.sound.specs.Check.idThere Rattle.sound.specs.Check.recordThere Rattle.sound.specs.Check.rowPasses Rattle.sound.specs.Check.soundUsed Rattle.sound.specs.Check.soundKindStore
-    Rattle.overlay.specs.Overlay.kindStoreFits Rattle.overlay.specs.Overlay.textsFit Rattle.overlay.specs.Overlay.sizesFit
+    Rattle.blocks.specs.Blocks.endsOf
+    Rattle.blocks.specs.Sizes.kindFits Rattle.blocks.specs.Sizes.stringsFit Rattle.blocks.specs.Sizes.sizesInRange
+    Rattle.overlay.specs.Overlay.kindTiled Rattle.overlay.specs.Overlay.textsTiled Rattle.overlay.specs.Overlay.tiled Rattle.overlay.specs.Overlay.sizesFit
     Rattle.overlay.specs.Sound.kindStoresSound Rattle.overlay.specs.Sound.isSound
     Rattle.direct.specs.Calls.pushOn Rattle.direct.specs.Calls.deleteOn Rattle.direct.specs.Calls.internOn
     Rattle.page.specs.Listing.kindField Rattle.page.specs.Listing.versionField Rattle.page.specs.Listing.each Rattle.page.specs.Listing.counted Rattle.page.specs.Listing.bodyFields Rattle.page.specs.Listing.recordFields Rattle.page.specs.Listing.rowFields Rattle.page.specs.Listing.listing

@@ -18,7 +18,10 @@ use Rattle.compact.specs.Held.{metaOf}
 use Rattle.compact.specs.declared.ArenaMeta.{ArenaMeta}
 use Rattle.kind_store.specs.declared.Kept.{Kept}
 use Rattle.kind_store.specs.declared.Kept.the-variants.{Taken, Refused}
-use Rattle.overlay.specs.Overlay.{overlayOf}
+use Rattle.blocks.specs.declared.KindSize.{KindSize}
+use Rattle.blocks.specs.declared.Sizes.{Sizes}
+use Rattle.overlay.specs.Overlay.{withSizes}
+use Rattle.overlay.specs.Lent.{overlayFor}
 use Rattle.overlay.specs.Calls.{allowOn}
 use Rattle.direct.specs.Calls.{pushOn, deleteOn, internOn}
 use Rattle.store.specs.declared.Handle.{Handle}
@@ -110,9 +113,16 @@ isPage page out (L.Refused r) = false
 abbrev pub lists : Bytes → Output → Bool
 lists page x = isPage page (x .out) (x .answer)
 
--- an empty overlay that refuses regression: four ids and 256 arena bytes a kind, two strings, 8 string bytes, nine counters; fresh readers
+-- four ids and 256 arena bytes a kind, two strings, 8 string bytes
+abbrev pub smallKind : KindSize
+smallKind = record { ids = 4; bytes = 256 }
+
+abbrev pub smallSizes : Sizes
+smallSizes = record { nodes = smallKind; ways = smallKind; relations = smallKind; strings = 2; «string_bytes» = 8 }
+
+-- an empty overlay of these sizes that refuses regression, in 40 words, 776 bytes and seventeen counters; fresh readers
 abbrev pub small : Storage
-small = started 0 (overlayOf (zeros 12) (zeros 256) (zeros 12) (zeros 256) (zeros 12) (zeros 256) (zeros 4) (zeros 8) (zeros 9)) (λ n. zeros 44432)
+small = started 0 (withSizes smallSizes (overlayFor smallSizes (zeros 40) (zeros 776) (zeros 17))) (λ n. zeros 44432)
 
 unfoldable pub right : TrialRow → Bool
 right (key-of id class magnitude) = both (eqb (osmKeyOf id .class) class) (eqb (osmKeyOf id .magnitude) magnitude)

@@ -1,62 +1,50 @@
 //! The C entries on lent storage behind the judge's trait.
 
 use judge::Meta;
-use judge::compare::call::{Answer, Call, Lines, Port, STAGED, Storage, UNWRITTEN, UNWRITTEN_WORD};
-use torvaskin::entry::{self, ArenaMeta, PushHead};
-use torvaskin::{Lent, Parts, Shared};
+use judge::compare::call::{Answer, Call, Given, Lines, Port, STAGED, Storage, UNWRITTEN, UNWRITTEN_WORD};
+use torvaskin::entry::{self, ArenaMeta, KindSize, PushHead};
+use torvaskin::{Blocks, Lent, Shared};
 
-/// How many elements stand before and past each lent part.
+/// How many elements stand before and past each lent block.
 const GUARD: usize = 16;
 
 const WORD: u64 = 0xa5a5_a5a5_a5a5_a5a5;
 const BYTE: u8 = 0xa5;
 
-fn guarded<T: Copy>(part: &[T], guard: T) -> Vec<T> {
-    let mut all = vec![guard; part.len() + 2 * GUARD];
-    all[GUARD..GUARD + part.len()].copy_from_slice(part);
+fn guarded<T: Copy>(block: &[T], guard: T) -> Vec<T> {
+    let mut all = vec![guard; block.len() + 2 * GUARD];
+    all[GUARD..GUARD + block.len()].copy_from_slice(block);
     all
 }
 
-/// A part without its guards.
+/// A block without its guards.
 fn inside<T>(all: &mut [T]) -> &mut [T] {
     let past = all.len() - GUARD;
     &mut all[GUARD..past]
 }
 
-/// Takes a part back; a guard that was touched is a fault of the library.
-fn back<T: Copy + PartialEq>(part: &mut [T], all: &[T], guard: T) {
+/// Takes a block back; a guard that was touched is a fault of the library.
+fn back<T: Copy + PartialEq>(block: &mut [T], all: &[T], guard: T) {
     let (before, rest) = all.split_at(GUARD);
-    let (inside, past) = rest.split_at(part.len());
+    let (inside, past) = rest.split_at(block.len());
     let mut guards = before.iter().chain(past);
-    assert!(guards.all(|g| *g == guard), "written outside a part");
-    part.copy_from_slice(inside);
+    assert!(guards.all(|g| *g == guard), "written outside a block");
+    block.copy_from_slice(inside);
 }
 
 /// A slice that is as long as an array.
-fn whole<T, const LEN: usize>(part: &mut [T]) -> &mut [T; LEN] {
-    part.try_into().expect("of its length")
+fn whole<T, const LEN: usize>(block: &mut [T]) -> &mut [T; LEN] {
+    block.try_into().expect("of its length")
 }
 
-/// The parts where they lie.
-pub fn parts(lent: &mut Storage) -> Lent<'_> {
-    Parts {
-        ids: lent.tables.each_mut().map(Vec::as_mut_slice),
-        arenas: lent.arenas.each_mut().map(Vec::as_mut_slice),
-        spans: &mut lent.spans,
-        bytes: &mut lent.bytes,
-        counts: &mut lent.counts,
-    }
+/// The blocks where they lie.
+pub fn blocks(lent: &mut Storage) -> Lent<'_> {
+    Blocks { words: &mut lent.words, bytes: &mut lent.bytes, counters: &mut lent.counters }
 }
 
 /// The same, to be read.
 pub fn shared(lent: &Storage) -> Shared<'_> {
-    Parts {
-        ids: lent.tables.each_ref().map(Vec::as_slice),
-        arenas: lent.arenas.each_ref().map(Vec::as_slice),
-        spans: &lent.spans,
-        bytes: &lent.bytes,
-        counts: &lent.counts,
-    }
+    Blocks { words: &lent.words, bytes: &lent.bytes, counters: &lent.counters }
 }
 
 /// How storage is lent to a call.
@@ -76,24 +64,16 @@ pub struct Between;
 
 impl Lend for Between {
     fn lend(&self, lent: &mut Storage, call: impl FnOnce(Lent<'_>) -> Answer) -> Answer {
-        let mut tables = lent.tables.each_ref().map(|table| guarded(table, WORD));
-        let mut arenas = lent.arenas.each_ref().map(|arena| guarded(arena, BYTE));
-        let (mut spans, mut bytes) = (guarded(&lent.spans, WORD), guarded(&lent.bytes, BYTE));
-        let mut counts = guarded(&lent.counts, WORD);
-        let answer = call(Parts {
-            ids: tables.each_mut().map(|table| inside(table)),
-            arenas: arenas.each_mut().map(|arena| inside(arena)),
-            spans: inside(&mut spans),
+        let (mut words, mut bytes) = (guarded(&lent.words, WORD), guarded(&lent.bytes, BYTE));
+        let mut counters = guarded(&lent.counters, WORD);
+        let answer = call(Blocks {
+            words: inside(&mut words),
             bytes: inside(&mut bytes),
-            counts: whole(inside(&mut counts)),
+            counters: whole(inside(&mut counters)),
         });
-        for k in 0..3 {
-            back(&mut lent.tables[k], &tables[k], WORD);
-            back(&mut lent.arenas[k], &arenas[k], BYTE);
-        }
-        back(&mut lent.spans, &spans, WORD);
+        back(&mut lent.words, &words, WORD);
         back(&mut lent.bytes, &bytes, BYTE);
-        back(&mut lent.counts, &counts, WORD);
+        back(&mut lent.counters, &counters, WORD);
         answer
     }
 
@@ -116,21 +96,21 @@ impl Lend for Between {
     }
 }
 
-/// Each part in memory of its own, of exactly its length, for a tool that sees accesses outside: the
+/// Each block in memory of its own, of exactly its length, for a tool that sees accesses outside: the
 /// vectors of a copied storage are as long as their memory, and arrays are moved into boxes.
 #[derive(Clone, Copy)]
 pub struct Exact;
 
 impl Lend for Exact {
     fn lend(&self, lent: &mut Storage, call: impl FnOnce(Lent<'_>) -> Answer) -> Answer {
-        let mut counts = Box::new(lent.counts);
-        let answer = call(Parts { counts: &mut counts, ..parts(lent) });
-        lent.counts = *counts;
+        let mut counters = Box::new(lent.counters);
+        let answer = call(Blocks { counters: &mut counters, ..blocks(lent) });
+        lent.counters = *counters;
         answer
     }
 
     fn read(&self, lent: &Storage, call: impl FnOnce(Shared<'_>) -> Answer) -> Answer {
-        call(Parts { counts: &Box::new(lent.counts), ..shared(lent) })
+        call(Blocks { counters: &Box::new(lent.counters), ..shared(lent) })
     }
 
     fn words<R>(&self, words: &mut [u64], call: impl FnOnce(&mut [u64]) -> R) -> R {
@@ -187,10 +167,21 @@ fn meta_in(meta: &Meta) -> ArenaMeta {
     }
 }
 
+fn sizes_in(sizes: &Given) -> entry::Sizes {
+    let [nodes, ways, relations, node_bytes, way_bytes, relation_bytes, strings, string_bytes] = *sizes;
+    entry::Sizes {
+        nodes: KindSize { ids: nodes, bytes: node_bytes },
+        ways: KindSize { ids: ways, bytes: way_bytes },
+        relations: KindSize { ids: relations, bytes: relation_bytes },
+        strings,
+        string_bytes,
+    }
+}
+
 /// A call that changes the overlay.
 fn changing(p: Lent<'_>, call: &Call) -> Answer {
     match call {
-        Call::SetUp(setting) => reply(entry::set_up(p, *setting)),
+        Call::SetUp(sizes, setting) => reply(entry::set_up(p, sizes_in(sizes), *setting)),
         Call::Allow(setting) => reply(entry::allow_version_regression(p, *setting)),
         Call::Intern(text) => {
             let text = entry::intern(p, text);

@@ -50,7 +50,7 @@ fn parts_not_as_counted() {
 /// An empty overlay in the sizes that `roadlist` lends, with a fresh reader.
 fn empty() -> Storage {
     let mut lent = Storage::drawn(&mut Random::new(1), &Sizes::ROADLIST);
-    assert_eq!(LIBRARY.call(&mut lent, &Call::SetUp(0)).number(), 0);
+    assert_eq!(LIBRARY.call(&mut lent, &Call::SetUp(Sizes::ROADLIST.numbers(), 0)).number(), 0);
     lent.readers = vec![Lines::fresh(&mut Random::new(2))];
     lent
 }
@@ -88,7 +88,7 @@ fn record_lengths() {
         let (mut lent, mut push) = (empty(), plain(kind, 1));
         change(&mut push);
         assert_eq!(LIBRARY.call(&mut lent, &push.call()).number(), 0);
-        assert_eq!(lent.counts[3 + kind as usize], len);
+        assert_eq!(lent.counters[3 + kind as usize], len);
     }
 }
 

@@ -39,7 +39,7 @@ fn several_readers() {
 /// The last answer to lines given to a fresh reader of an empty overlay, and what is lent then.
 fn told(lines: &str) -> (Answer, Storage) {
     let mut lent = Storage::drawn(&mut Random::new(1), &Sizes::ROADLIST);
-    assert_eq!(LIBRARY.call(&mut lent, &Call::SetUp(0)).number(), 0);
+    assert_eq!(LIBRARY.call(&mut lent, &Call::SetUp(Sizes::ROADLIST.numbers(), 0)).number(), 0);
     lent.readers = vec![Lines::fresh(&mut Random::new(2))];
     let mut answer = Answer::reply(Ok(()));
     for line in lines.split_inclusive('\n') {
@@ -56,7 +56,7 @@ fn differences() {
         Answer::Event { number, held, line }
     };
     let (answer, lent) = told("open\tosmChange\nopen\tcreate\nempty\tnode\tid=1\tuser=u\n");
-    assert_eq!((answer, lent.counts[6]), (refused(7, 3), 1));
+    assert_eq!((answer, lent.counters[6]), (refused(7, 3), 1));
     let tags = "empty\ttag\tk=a\tv=b\n".repeat(257);
     let (answer, _) = told(&format!("open\tosmChange\nopen\tcreate\nopen\tway\tid=1\n{tags}"));
     assert_eq!(answer, refused(16, 260));

@@ -2,7 +2,7 @@
 
 use compare::Library;
 use compare::overlay::{Between, Entries};
-use judge::compare::call::{Call, Lines, Port, Push, Storage};
+use judge::compare::call::{Call, Given, Lines, Port, Push, Storage};
 use judge::compare::lookups::LookupPort;
 use judge::random::Random;
 use judge::{Kind, Meta, Sizes};
@@ -20,7 +20,7 @@ fn cited(test: &str) -> u32 {
 /// Storage of sizes that set-up takes, empty, with a fresh reader.
 fn empty() -> Storage {
     let mut lent = Storage::drawn(&mut Random::new(1), &Sizes::ROADLIST);
-    assert_eq!(LIBRARY.call(&mut lent, &Call::SetUp(0)).number(), 0);
+    assert_eq!(LIBRARY.call(&mut lent, &Call::SetUp(Sizes::ROADLIST.numbers(), 0)).number(), 0);
     lent.readers = vec![Lines::fresh(&mut Random::new(2))];
     lent
 }
@@ -35,14 +35,29 @@ fn number(change: impl Fn(&mut Storage), call: &Call) -> u32 {
 #[test]
 fn sizes_of_set_up() {
     let refused = cited("sizes_of_set_up");
-    let set_up = |change: fn(&mut Storage)| number(change, &Call::SetUp(0));
-    assert_eq!(set_up(|_| ()), 0);
-    assert_eq!(set_up(|s| s.tables[0].truncate(2)), refused);
-    assert_eq!(set_up(|s| s.tables[1].resize(3 * 4_097, 0)), refused);
-    assert_eq!(set_up(|s| s.arenas[2].resize(1_048_577, 0)), refused);
-    assert_eq!(set_up(|s| s.spans.truncate(1)), refused);
-    assert_eq!(set_up(|s| s.spans.resize(2 * 4_097, 0)), refused);
-    assert_eq!(set_up(|s| s.bytes.resize(65_537, 0)), refused);
+    let set_up = |lent: &mut Storage, sizes| LIBRARY.call(lent, &Call::SetUp(sizes, 0)).number();
+    let of_sizes = |change: fn(&mut Given)| {
+        let mut sizes = Sizes::ROADLIST.numbers();
+        change(&mut sizes);
+        set_up(&mut empty().resized(&sizes), sizes)
+    };
+    assert_eq!(of_sizes(|_| ()), 0);
+    assert_eq!(of_sizes(|sizes| sizes[0] = 0), refused);
+    assert_eq!(of_sizes(|sizes| sizes[1] = 4_097), refused);
+    assert_eq!(of_sizes(|sizes| sizes[5] = 1_048_577), refused);
+    assert_eq!(of_sizes(|sizes| sizes[6] = 0), refused);
+    assert_eq!(of_sizes(|sizes| sizes[6] = 4_097), refused);
+    assert_eq!(of_sizes(|sizes| sizes[7] = 65_537), refused);
+    let in_blocks = |change: fn(&mut Storage)| {
+        let mut lent = empty();
+        change(&mut lent);
+        set_up(&mut lent, Sizes::ROADLIST.numbers())
+    };
+    assert_eq!(in_blocks(|_| ()), 0);
+    assert_eq!(in_blocks(|lent| lent.words.push(0)), refused);
+    assert_eq!(in_blocks(|lent| lent.words.truncate(2)), refused);
+    assert_eq!(in_blocks(|lent| lent.bytes.push(0)), refused);
+    assert_eq!(in_blocks(|lent| lent.bytes.clear()), refused);
 }
 
 #[test]
@@ -89,10 +104,12 @@ fn damaged_storage() {
     let refused = cited("damaged_storage");
     let sound = |change: fn(&mut Storage)| number(change, &Call::IsSound);
     assert_eq!(sound(|_| ()), 0);
-    assert_eq!(sound(|s| s.counts[0] = 513), refused);
-    assert_eq!(sound(|s| s.counts[3] = 10), refused);
-    assert_eq!(sound(|s| s.spans[1] = 1), refused);
-    assert_eq!(sound(|s| s.bytes.resize(65_537, 0)), refused);
+    assert_eq!(sound(|s| s.counters[0] = 513), refused);
+    assert_eq!(sound(|s| s.counters[3] = 10), refused);
+    assert_eq!(sound(|s| s.spans_mut()[1] = 1), refused);
+    assert_eq!(sound(|s| *s = s.resized(&[512, 512, 512, 8_192, 8_192, 8_192, 512, 65_537])), refused);
+    assert_eq!(sound(|s| s.counters[9] = 511), refused);
+    assert_eq!(sound(|s| s.bytes.push(0)), refused);
     let event = |change: fn(&mut Storage)| number(change, &Call::Event(0, b"other\n".into()));
     assert_eq!(event(|_| ()), 0);
     assert_eq!(event(|s| s.readers[0].words[0] = 7), refused);

@@ -3,7 +3,7 @@
 use compare::overlay::{Between, Entries};
 use judge::compare::call::{Answer, Call, Lines, Port, Push, Storage};
 use judge::random::Random;
-use judge::{Kind, Meta, Sizes};
+use judge::{KINDS, Kind, Meta, Sizes};
 
 const LIBRARY: &dyn Port = &Entries(Between);
 const PAGE: &str = include_str!("../../../docs/STORAGE.md");
@@ -44,7 +44,7 @@ fn bytes(heading: &str, bytes: &[u8]) {
 /// An empty overlay with a fresh reader.
 fn empty(sizes: &Sizes) -> Storage {
     let mut lent = Storage::drawn(&mut Random::new(1), sizes);
-    taken(&mut lent, &Call::SetUp(0));
+    taken(&mut lent, &Call::SetUp(sizes.numbers(), 0));
     lent.readers = vec![Lines::fresh(&mut Random::new(2))];
     lent
 }
@@ -71,12 +71,12 @@ fn listing(lent: &mut Storage) -> Answer {
 #[test]
 fn input_a() {
     let lent = after_input_a(10);
-    words("## Counters", &lent.counts);
-    words("### Table of nodes", &lent.tables[0][..3]);
-    words("### Table of ways", &lent.tables[1][..3]);
-    words("### Spans", &lent.spans[..4]);
-    bytes("### String bytes", &lent.bytes[..4]);
-    bytes("### Arena of nodes", &lent.arenas[0][..58]);
+    words("## Counters", &lent.counters);
+    words("### Table of nodes", &lent.table(Kind::Node)[..3]);
+    words("### Table of ways", &lent.table(Kind::Way)[..3]);
+    words("### Spans", &lent.spans()[..4]);
+    bytes("### String bytes", &lent.string_bytes()[..4]);
+    bytes("### Arena of nodes", &lent.arena(Kind::Node)[..58]);
 }
 
 #[test]
@@ -85,13 +85,13 @@ fn way_and_relation() {
     let mut way = Push::plain(Kind::Way, -3, Meta::default());
     way.refs = vec![7, -12];
     taken(&mut lent, &way.call());
-    bytes("### Arena of ways", &lent.arenas[1][..lent.counts[4] as usize]);
-    assert_eq!(way.parts(), lent.arenas[1][45..61]);
+    bytes("### Arena of ways", &lent.arena(Kind::Way)[..lent.counters[4] as usize]);
+    assert_eq!(way.parts(), lent.arena(Kind::Way)[45..61]);
     let mut relation = Push::plain(Kind::Relation, 9, Meta { flags: 5, user: 1, ..Meta::default() });
     relation.members = vec![(-3, 1, 0)];
     relation.tags = vec![(1, b"yes".into())];
     taken(&mut lent, &relation.call());
-    bytes("### Arena of relations", &lent.arenas[2][..lent.counts[5] as usize]);
+    bytes("### Arena of relations", &lent.arena(Kind::Relation)[..lent.counters[5] as usize]);
 }
 
 #[test]
@@ -108,7 +108,7 @@ fn lengths() {
         let mut lent = empty(&sizes);
         let mut push = Push::plain(kind, 1, Meta::default());
         taken(&mut lent, &push.call());
-        let without = lent.counts[3 + k];
+        let without = lent.counters[3 + k];
         match kind {
             Kind::Node => (),
             Kind::Way => push.refs = vec![0; 2_000],
@@ -116,37 +116,72 @@ fn lengths() {
         }
         push.tags = vec![(0, vec![b'v'; 64]); 256];
         taken(&mut lent, &push.call());
-        let whole = lent.counts[3 + k] - without;
+        let whole = lent.counters[3 + k] - without;
         let row = format!("| {kind} | {without} | {},{:03} |", whole / 1_000, whole % 1_000);
         assert!(section("### Lengths").any(|line| line == row), "{row}");
     }
 }
 
-/// The used fronts and the counters are an overlay, in parts of other sizes too; a reader goes on in them.
-#[test]
-fn carried_over() {
-    let mut from = after_input_a(4);
-    let sizes = Sizes { ids: [1, 4_096, 7], arenas: [58, 1 << 20, 0], strings: 2, string_bytes: 4, output: 0 };
-    let mut to = Storage::drawn(&mut Random::new(3), &sizes);
-    let c = from.counts.map(|n| n as usize);
-    for k in 0..3 {
-        to.tables[k][..3 * c[k]].copy_from_slice(&from.tables[k][..3 * c[k]]);
-        to.arenas[k][..c[3 + k]].copy_from_slice(&from.arenas[k][..c[3 + k]]);
+/// The used fronts and the counters of an overlay in other blocks, which hold anything else.
+fn moved(from: &Storage, sizes: &Sizes) -> Storage {
+    let mut to = Storage::drawn(&mut Random::new(3), sizes);
+    to.give(&sizes.numbers());
+    let used = from.counters.map(|n| n as usize);
+    for kind in KINDS {
+        let (ids, bytes) = (3 * used[kind as usize], used[3 + kind as usize]);
+        to.table_mut(kind)[..ids].copy_from_slice(&from.table(kind)[..ids]);
+        to.arena_mut(kind)[..bytes].copy_from_slice(&from.arena(kind)[..bytes]);
     }
-    to.spans[..2 * c[6]].copy_from_slice(&from.spans[..2 * c[6]]);
-    to.bytes[..c[7]].copy_from_slice(&from.bytes[..c[7]]);
-    to.counts = from.counts;
+    to.spans_mut()[..2 * used[6]].copy_from_slice(&from.spans()[..2 * used[6]]);
+    to.string_bytes_mut()[..used[7]].copy_from_slice(&from.string_bytes()[..used[7]]);
+    to.counters = from.counters;
     let mut reader = Lines::fresh(&mut Random::new(4));
     reader.words = from.readers[0].words;
     reader.parts[..9].copy_from_slice(&from.readers[0].parts[..9]);
     to.readers = vec![reader];
-    taken(&mut to, &Call::IsSound);
-    for lent in [&mut from, &mut to] {
+    to
+}
+
+/// The used fronts and all counters are an overlay in other blocks of the same sizes; a reader goes on in them. In blocks of other sizes they
+/// are one once these stand behind the counters, and 22 before.
+#[test]
+fn carried_over() {
+    let mut from = after_input_a(4);
+    let sizes = Sizes { ids: [1, 4_096, 7], arenas: [58, 1 << 20, 0], strings: 2, string_bytes: 4, output: 0 };
+    let (mut same, mut other) = (moved(&from, &Sizes::ROADLIST), moved(&from, &sizes));
+    assert_eq!(LIBRARY.call(&mut other, &Call::IsSound).number(), 22);
+    other.give(&sizes.numbers());
+    for lent in [&mut from, &mut same, &mut other] {
+        taken(lent, &Call::IsSound);
         for line in include_str!("../../../samples/example.events").split_inclusive('\n').skip(4) {
             taken(lent, &Call::Event(0, line.into()));
         }
     }
-    assert_eq!(listing(&mut from), listing(&mut to));
+    let listed = listing(&mut from);
+    assert_eq!((listing(&mut same), listing(&mut other)), (listed.clone(), listed));
+}
+
+/// A block that is lent longer or shorter than at set-up is 22, and nothing is changed.
+#[test]
+fn lent_longer() {
+    let changes: [fn(&mut Storage); 6] = [
+        |lent| lent.words.push(0),
+        |lent| lent.words.extend([0; 3]),
+        |lent| _ = lent.words.pop(),
+        |lent| lent.bytes.push(0),
+        |lent| lent.bytes.extend([0; 8_192]),
+        |lent| _ = lent.bytes.pop(),
+    ];
+    for change in changes {
+        let mut lent = after_input_a(4);
+        change(&mut lent);
+        let before = lent.clone();
+        let push = Push::plain(Kind::Way, 1, Meta::default()).call();
+        for call in [Call::IsSound, Call::Intern(b"new".into()), push, Call::Event(0, b"close\n".into())] {
+            assert_eq!(LIBRARY.call(&mut lent, &call).number(), 22);
+            assert!(lent == before);
+        }
+    }
 }
 
 /// Damage that leaves a sound overlay is not seen; damage that does not is 22.
@@ -154,9 +189,16 @@ fn carried_over() {
 fn not_seen() {
     let mut lent = after_input_a(10);
     let before = listing(&mut lent);
-    lent.arenas[0][57] = b'B';
+    lent.arena_mut(Kind::Node)[57] = b'B';
     taken(&mut lent, &Call::IsSound);
     assert_ne!(listing(&mut lent), before);
-    lent.arenas[0][57] = 0xff;
+    lent.arena_mut(Kind::Node)[57] = 0xff;
     assert_eq!(LIBRARY.call(&mut lent, &Call::IsSound).number(), 22);
+    // One size, then another that takes it back from a part that holds nothing.
+    let mut lent = after_input_a(10);
+    lent.counters[13] += 1;
+    assert_eq!(LIBRARY.call(&mut lent, &Call::IsSound).number(), 22);
+    lent.counters[14] -= 1;
+    taken(&mut lent, &Call::IsSound);
+    assert_eq!(listing(&mut lent), before);
 }

@@ -1,7 +1,7 @@
 //! The Rust and a port, given the same calls.
 
 use super::Tally;
-use super::call::{Answer, Call, Lines, Port, Push, Storage, in_turn};
+use super::call::{Answer, Call, Given, Lines, Port, Push, Storage, in_turn};
 use super::rust::Rust;
 use crate::answer::Sizes;
 use crate::random::Random;
@@ -49,13 +49,21 @@ impl<'a> Both<'a> {
         if let Call::Events(n, run) = call {
             return in_turn(run, |line| self.told(&Call::Event(*n, line.into())));
         }
-        let answer = self.rust.call(&self.lent.sizes(), call);
+        let answer = match call {
+            Call::SetUp(sizes, setting) => {
+                self.rust.set_up(sizes, self.lent.words.len(), self.lent.bytes.len(), *setting)
+            }
+            call => self.rust.call(&self.lent.sizes(), call),
+        };
         let number = answer.number();
+        if let (Call::SetUp(sizes, _), 0) = (call, number) {
+            self.expected.give(sizes);
+        }
         if number == 0 && call.is_change() {
             self.expected.hold(&self.rust.overlay.state());
         }
         match call {
-            Call::SetUp(setting) | Call::Allow(setting) if number == 0 => self.expected.counts[8] = *setting,
+            Call::SetUp(_, setting) | Call::Allow(setting) if number == 0 => self.expected.counters[8] = *setting,
             Call::Event(n, _) => self.rust.hold_reader(*n, &mut self.expected.readers[*n]),
             _ => {}
         }
@@ -76,24 +84,30 @@ impl<'a> Both<'a> {
 
     /// A new overlay in storage that holds anything; where it is refused the old one stays.
     pub(super) fn set_up(&mut self, sizes: &Sizes, setting: u64) -> Result<u32, String> {
+        self.set_up_in(sizes, &sizes.numbers(), setting)
+    }
+
+    /// The same in blocks of other sizes than are given.
+    pub(super) fn set_up_in(&mut self, blocks: &Sizes, given: &Given, setting: u64) -> Result<u32, String> {
         self.log.clear();
-        self.log.push(format!("{sizes:?}"));
-        let lent = Storage::drawn(&mut self.random, sizes);
+        self.log.push(format!("{blocks:?}"));
+        let lent = Storage::drawn(&mut self.random, blocks);
         let old = std::mem::replace(&mut self.lent, lent);
         let expected = std::mem::replace(&mut self.expected, self.lent.clone());
-        let number = self.call(&Call::SetUp(setting))?;
+        let number = self.call(&Call::SetUp(*given, setting))?;
         if number != 0 {
             (self.lent, self.expected) = (old, expected);
         }
         Ok(number)
     }
 
-    /// The same overlay in other sizes.
+    /// The same overlay moved into blocks of other sizes, which stand behind its counters then.
     pub(super) fn lend(&mut self, sizes: &Sizes) {
         self.log.push(format!("lent anew: {sizes:?}"));
         let mut lent = Storage::drawn(&mut self.random, sizes);
+        lent.give(&sizes.numbers());
         lent.hold(&self.rust.overlay.state());
-        lent.counts[8] = self.lent.counts[8];
+        lent.counters[8] = self.lent.counters[8];
         lent.readers = std::mem::take(&mut self.lent.readers);
         self.expected = lent.clone();
         self.lent = lent;

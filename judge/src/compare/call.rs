@@ -1,23 +1,27 @@
 //! The calls on lent storage, as a C caller makes them, and what is lent to them.
 
+use std::ops::Range;
+
 use super::ground::{Ground, Judge, version, word};
 use crate::answer::{KINDS, Kind, KindState, Meta, Sizes, State};
 use crate::produce::Bytes;
 use crate::random::Random;
 
-/// What is lent to the library, as its caller holds it.
+/// Sizes as set-up is given them and the last eight counters hold them: ids of nodes, ways and relations, arena bytes of the same, strings,
+/// string bytes. They need not be sizes of anything.
+pub type Given = [u64; 8];
+
+/// What is lent to the library, as its caller holds it: two blocks and the counters, which say how the blocks are cut into parts.
 #[derive(Clone, Debug, PartialEq, Eq)]
 pub struct Storage {
-    /// For each kind three words a row: rank, place or 2^63 and above for deleted, floor or 2^32 and
-    /// above for none.
-    pub tables: [Vec<u64>; 3],
-    pub arenas: [Vec<u8>; 3],
-    /// Two words a string: start, length.
-    pub spans: Vec<u64>,
+    /// The id tables of nodes, ways and relations, three words a row: rank, place or 2^63 and above for deleted, floor or 2^32 and above for
+    /// none. Then the spans, two words a string: start, length.
+    pub words: Vec<u64>,
+    /// The arenas of nodes, ways and relations, then the string bytes.
     pub bytes: Vec<u8>,
     /// Used ids of the three kinds, used arena bytes of the same, held strings, used string bytes, the
-    /// regression setting (0 refuses).
-    pub counts: [u64; 9],
+    /// regression setting (0 refuses); then the sizes.
+    pub counters: [u64; 17],
     pub readers: Vec<Lines>,
 }
 
@@ -62,9 +66,27 @@ impl Lines {
     }
 }
 
+/// Where three parts lie in a block, one behind the other, and what is behind them. What the block does not have is missing at its end.
+fn ranges(sizes: [u64; 3], each: u64, block: usize) -> [Range<usize>; 4] {
+    let mut from = 0;
+    let mut next = |size: usize| {
+        let part = from..block.min(size.saturating_add(from));
+        from = part.end;
+        part
+    };
+    let [nodes, ways, relations] = sizes.map(|size| next(size.saturating_mul(each).try_into().unwrap_or(usize::MAX)));
+    [nodes, ways, relations, next(usize::MAX)]
+}
+
+/// A part as long as it is to be: cut off at its end, or with sevens behind it.
+fn resized<T: Copy + From<u8>>(part: &[T], len: u64) -> Vec<T> {
+    let mut part = part.to_vec();
+    part.resize(usize::try_from(len).expect("a length"), T::from(7));
+    part
+}
+
 impl Storage {
-    /// Lent parts of these sizes that hold any words and bytes, with words past the last whole row or
-    /// span at times, and any counters.
+    /// Blocks of these sizes that hold any words and bytes, and any counters.
     pub fn drawn(random: &mut Random, sizes: &Sizes) -> Self {
         let words = |random: &mut Random, len: usize| -> Vec<u64> {
             let word = |r: &mut Random| match r.below(4) {
@@ -75,78 +97,136 @@ impl Storage {
             };
             (0..len).map(|_| word(random)).collect()
         };
-        let spare = [(); 4].map(|()| random.below(3));
-        let counts = words(random, 9);
+        let counters = words(random, 17);
         Self {
-            tables: std::array::from_fn(|k| words(random, 3 * sizes.ids[k] + spare[k])),
-            arenas: std::array::from_fn(|k| drawn_bytes(random, sizes.arenas[k])),
-            spans: words(random, 2 * sizes.strings + spare[3] % 2),
-            bytes: drawn_bytes(random, sizes.string_bytes),
-            counts: std::array::from_fn(|n| counts[n]),
+            words: words(random, 3 * sizes.ids.iter().sum::<usize>() + 2 * sizes.strings),
+            bytes: drawn_bytes(random, sizes.arenas.iter().sum::<usize>() + sizes.string_bytes),
+            counters: std::array::from_fn(|n| counters[n]),
             readers: Vec::new(),
         }
     }
 
+    /// The sizes behind the counters.
+    pub fn given(&self) -> Given {
+        let [.., a, b, c, d, e, f, g, h] = self.counters;
+        [a, b, c, d, e, f, g, h]
+    }
+
+    /// The same, of an overlay that is sound.
     pub fn sizes(&self) -> Sizes {
-        Sizes {
-            ids: self.tables.each_ref().map(|table| table.len() / 3),
-            arenas: self.arenas.each_ref().map(Vec::len),
-            strings: self.spans.len() / 2,
-            string_bytes: self.bytes.len(),
-            output: 0,
-        }
+        let [a, b, c, d, e, f, strings, string_bytes] = self.given().map(|size| size as usize);
+        Sizes { ids: [a, b, c], arenas: [d, e, f], strings, string_bytes, output: 0 }
+    }
+
+    /// Writes sizes behind the counters; the blocks stay.
+    pub fn give(&mut self, sizes: &Given) {
+        self.counters[9..].copy_from_slice(sizes);
+    }
+
+    fn word_ranges(&self) -> [Range<usize>; 4] {
+        let [a, b, c, ..] = self.given();
+        ranges([a, b, c], 3, self.words.len())
+    }
+
+    fn byte_ranges(&self) -> [Range<usize>; 4] {
+        let [_, _, _, a, b, c, ..] = self.given();
+        ranges([a, b, c], 1, self.bytes.len())
+    }
+
+    /// A kind's id table, as the sizes behind the counters cut it.
+    pub fn table(&self, kind: Kind) -> &[u64] {
+        &self.words[self.word_ranges()[kind as usize].clone()]
+    }
+
+    pub fn table_mut(&mut self, kind: Kind) -> &mut [u64] {
+        let at = self.word_ranges()[kind as usize].clone();
+        &mut self.words[at]
+    }
+
+    /// Its arena.
+    pub fn arena(&self, kind: Kind) -> &[u8] {
+        &self.bytes[self.byte_ranges()[kind as usize].clone()]
+    }
+
+    pub fn arena_mut(&mut self, kind: Kind) -> &mut [u8] {
+        let at = self.byte_ranges()[kind as usize].clone();
+        &mut self.bytes[at]
+    }
+
+    pub fn spans(&self) -> &[u64] {
+        &self.words[self.word_ranges()[3].clone()]
+    }
+
+    pub fn spans_mut(&mut self) -> &mut [u64] {
+        let at = self.word_ranges()[3].clone();
+        &mut self.words[at]
+    }
+
+    pub fn string_bytes(&self) -> &[u8] {
+        &self.bytes[self.byte_ranges()[3].clone()]
+    }
+
+    pub fn string_bytes_mut(&mut self) -> &mut [u8] {
+        let at = self.byte_ranges()[3].clone();
+        &mut self.bytes[at]
+    }
+
+    /// The same parts in blocks of other sizes, which stand behind the counters then.
+    pub fn resized(&self, sizes: &Given) -> Self {
+        let [a, b, c, d, e, f, strings, string_bytes] = *sizes;
+        let tables = KINDS.into_iter().zip([a, b, c]).flat_map(|(kind, ids)| resized(self.table(kind), 3 * ids));
+        let arenas = KINDS.into_iter().zip([d, e, f]).flat_map(|(kind, bytes)| resized(self.arena(kind), bytes));
+        let mut lent = Self {
+            words: tables.chain(resized(self.spans(), 2 * strings)).collect(),
+            bytes: arenas.chain(resized(self.string_bytes(), string_bytes)).collect(),
+            ..self.clone()
+        };
+        lent.give(sizes);
+        lent
     }
 
     /// Writes a state over the used parts and their counters; everything else stays.
     pub fn hold(&mut self, state: &State) {
-        for (k, kind) in state.kinds.iter().enumerate() {
-            let rows = rows_of(kind);
-            self.counts[k] = rows.len() as u64;
-            self.counts[3 + k] = kind.arena.len() as u64;
-            write_front(&mut self.tables[k], rows.as_flattened());
-            write_front(&mut self.arenas[k], &kind.arena);
+        for (kind, held) in KINDS.into_iter().zip(&state.kinds) {
+            let rows = rows_of(held);
+            self.counters[kind as usize] = rows.len() as u64;
+            self.counters[3 + kind as usize] = held.arena.len() as u64;
+            write_front(self.table_mut(kind), rows.as_flattened());
+            write_front(self.arena_mut(kind), &held.arena);
         }
         let spans = state.spans.iter();
         let spans: Vec<u64> = spans.flat_map(|s| [s.0.into(), s.1.into()]).collect();
-        write_front(&mut self.spans, &spans);
-        write_front(&mut self.bytes, &state.string_bytes);
-        self.counts[6] = state.spans.len() as u64;
-        self.counts[7] = state.string_bytes.len() as u64;
+        write_front(self.spans_mut(), &spans);
+        write_front(self.string_bytes_mut(), &state.string_bytes);
+        self.counters[6] = state.spans.len() as u64;
+        self.counters[7] = state.string_bytes.len() as u64;
     }
 
-    /// The words that are lent: tables, spans, counters, readers.
-    pub fn words(&mut self) -> impl Iterator<Item = &mut u64> {
+    /// The words that are lent: the block's, the counters, readers'.
+    pub fn all_words(&mut self) -> impl Iterator<Item = &mut u64> {
         let readers = self.readers.iter_mut().flat_map(|r| &mut r.words);
-        let tables = self.tables.iter_mut().flatten();
-        let counted = tables.chain(&mut self.spans).chain(&mut self.counts);
-        counted.chain(readers)
+        self.words.iter_mut().chain(&mut self.counters).chain(readers)
     }
 
-    /// The bytes that are lent: arenas, string bytes, the parts of elements.
-    pub fn bytes(&mut self) -> impl Iterator<Item = &mut u8> {
+    /// The bytes that are lent: the block's, the parts of elements.
+    pub fn all_bytes(&mut self) -> impl Iterator<Item = &mut u8> {
         let readers = self.readers.iter_mut().flat_map(|r| &mut r.parts);
-        let arenas = self.arenas.iter_mut().flatten();
-        arenas.chain(&mut self.bytes).chain(readers)
+        self.bytes.iter_mut().chain(readers)
     }
 
-    /// The parts by name, as numbers.
+    /// What is lent by name, as numbers.
     fn named(&self) -> Vec<(String, Vec<u64>)> {
         let numbers = |bytes: &[u8]| bytes.iter().copied().map(u64::from).collect();
-        let mut parts = vec![
-            ("counters".into(), self.counts.into()),
-            ("spans".into(), self.spans.clone()),
-            ("string bytes".into(), numbers(&self.bytes)),
+        let mut lent = vec![
+            ("counters".into(), self.counters.into()),
+            ("words".into(), self.words.clone()),
+            ("bytes".into(), numbers(&self.bytes)),
         ];
-        for kind in KINDS {
-            let (table, arena) = (&self.tables[kind as usize], &self.arenas[kind as usize]);
-            parts.push((format!("table of {kind}s"), table.clone()));
-            parts.push((format!("arena of {kind}s"), numbers(arena)));
-        }
         for (n, reader) in self.readers.iter().enumerate() {
-            parts.push((format!("words of reader {n}"), reader.words.into()));
-            parts.push((format!("parts of reader {n}"), numbers(&reader.parts)));
+            lent.push((format!("words of reader {n}"), reader.words.into()));
+            lent.push((format!("parts of reader {n}"), numbers(&reader.parts)));
         }
-        parts
+        lent
     }
 
     /// Where another storage differs from this one, and how.
@@ -256,7 +336,8 @@ pub fn claiming(version: Option<i32>) -> Meta {
 /// A call with its arguments; of a push the parts are laid out as in a record.
 #[derive(Clone, Debug)]
 pub enum Call {
-    SetUp(u64),
+    /// In these sizes, with this regression setting.
+    SetUp(Given, u64),
     IsSound,
     Allow(u64),
     Intern(Bytes),
@@ -289,7 +370,7 @@ impl Call {
     /// Whether it changes the overlay where it is accepted.
     pub fn is_change(&self) -> bool {
         use Call::{Allow, Delete, Event, Events, Intern, Push, SetUp};
-        matches!(self, SetUp(_) | Allow(_) | Intern(_) | Push(..) | Delete(..) | Event(..) | Events(..))
+        matches!(self, SetUp(..) | Allow(_) | Intern(_) | Push(..) | Delete(..) | Event(..) | Events(..))
     }
 
     /// For a report.

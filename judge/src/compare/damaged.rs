@@ -1,8 +1,8 @@
-//! Damaged storage: each byte, word and counter of small overlays and readers changed in turn, lent sizes
-//! at and past their ends, records at and past their limits, and storages at random. Each answer, and
-//! all that is lent after it, is compared with document 01's words.
+//! Damaged storage: each byte, word, counter and size of small overlays and readers changed in turn, sizes
+//! at and past their ends, sizes and blocks that do not fit each other, records at and past their limits,
+//! and storages at random. Each answer, and all that is lent after it, is compared with document 01's words.
 
-use super::call::{Call, DELETED, Head, Lines, NO_FLOOR, Port, Push, Storage, claiming};
+use super::call::{Call, DELETED, Given, Head, Lines, NO_FLOOR, Port, Push, Storage, claiming};
 use super::words::{Words, is_sound, rank, record_bytes};
 use super::{Compared, Tally};
 use crate::answer::{KINDS, Kind, Meta};
@@ -48,13 +48,15 @@ struct Both<'a> {
     port: &'a dyn Port,
     /// One group for each entry, and for a push and a delete one for each kind.
     groups: Vec<Vec<Call>>,
+    /// Whether set-up is one of the calls.
+    sets_up: bool,
     storages: usize,
     tally: Tally,
 }
 
 impl<'a> Both<'a> {
     fn new(port: &'a dyn Port, groups: Vec<Vec<Call>>) -> Self {
-        Self { port, groups, storages: 0, tally: Tally::new() }
+        Self { port, groups, sets_up: true, storages: 0, tally: Tally::new() }
     }
 
     /// Each call on both sides, which are given the storage as it was.
@@ -83,30 +85,33 @@ impl<'a> Both<'a> {
             true => group.clone(),
             false => group[turn % group.len()..][..1].to_vec(),
         };
-        let calls: Vec<Call> = self.groups.iter().flat_map(of_group).collect();
+        let mut calls: Vec<Call> = self.groups.iter().flat_map(of_group).collect();
+        if self.sets_up {
+            calls.extend(of_group(&set_ups(lent)));
+        }
         self.calls(what, lent, sound, &calls)
     }
 
     /// A storage that was made from another by a change.
     fn changed(&mut self, base: &Storage, lent: &Storage) -> Result<(), String> {
-        let (words, setting) = (base.tables[0].len(), base.counts[8]);
+        let (sizes, setting) = (base.given(), base.counters[8]);
         let changes = || base.changes(lent).join("; ");
-        let what = || format!("in tables of {words} words, setting {setting}: {}", changes());
+        let what = || format!("in sizes {sizes:?}, setting {setting}: {}", changes());
         self.storage(what, lent)
     }
 
     /// Every word that is changed to every value given for it.
     fn each_word(&mut self, base: &Storage, values: impl Fn(usize, u64) -> Vec<u64>) -> Result<(), String> {
         let mut lent = base.clone();
-        let all: Vec<u64> = lent.words().map(|word| *word).collect();
+        let all: Vec<u64> = lent.all_words().map(|word| *word).collect();
         for (n, &old) in all.iter().enumerate() {
             for value in values(n, old) {
                 if value != old {
-                    *lent.words().nth(n).expect("a word") = value;
+                    *lent.all_words().nth(n).expect("a word") = value;
                     self.changed(base, &lent)?;
                 }
             }
-            *lent.words().nth(n).expect("a word") = old;
+            *lent.all_words().nth(n).expect("a word") = old;
         }
         Ok(())
     }
@@ -115,13 +120,13 @@ impl<'a> Both<'a> {
     fn each_byte(&mut self, base: &Storage, values: Values) -> Result<(), String> {
         self.changed(base, base)?;
         let mut lent = base.clone();
-        let all: Vec<u8> = lent.bytes().map(|byte| *byte).collect();
+        let all: Vec<u8> = lent.all_bytes().map(|byte| *byte).collect();
         for (n, &old) in all.iter().enumerate().filter(|(n, _)| *n < 3_000 || n % 997 == 0) {
             for value in values.of(n, old) {
-                *lent.bytes().nth(n).expect("a byte") = value;
+                *lent.all_bytes().nth(n).expect("a byte") = value;
                 self.changed(base, &lent)?;
             }
-            *lent.bytes().nth(n).expect("a byte") = old;
+            *lent.all_bytes().nth(n).expect("a byte") = old;
         }
         self.each_word(base, |n, old| {
             let bytes = old.to_le_bytes();
@@ -137,25 +142,33 @@ impl<'a> Both<'a> {
         })
     }
 
-    /// Every word as a whole: to the first numbers, to the ends of widths and to the other words; places
-    /// and the used bytes of arenas to every number up to one past the arena.
+    /// Every word as a whole: to the first numbers, to the ends of widths, to the limits of sizes and to the other words; places and the used
+    /// bytes of arenas to every number up to one past the arena; sizes to what makes their sums come round.
     fn each_whole_word(&mut self, base: &Storage) -> Result<(), String> {
-        let all: Vec<u64> = base.clone().words().map(|word| *word).collect();
-        let table = base.tables[0].len();
-        let counters = all.len() - 9 - 19 * base.readers.len();
-        let longest = base.arenas.iter().map(Vec::len).max().unwrap_or(0) as u64;
+        let mut places = Vec::new();
+        let mut table = 0;
+        for kind in KINDS {
+            places.extend([1, 4, 7].map(|place| table + place));
+            table += base.table(kind).len();
+        }
+        let counters = base.words.len();
+        let longest = KINDS.map(|kind| base.arena(kind).len()).into_iter().max().unwrap_or(0) as u64;
         let mut edges = vec![255, 256, u64::MAX - 1, u64::MAX];
-        for edge in [1 << 31, NO_FLOOR, 1 << 62, DELETED] {
+        for edge in [4_096, 1 << 16, 1 << 20, 1 << 31, NO_FLOOR, 1 << 62, DELETED] {
             edges.extend([edge - 1, edge, edge + 1]);
         }
-        edges.extend(&all);
+        edges.extend(base.clone().all_words().map(|word| *word));
         edges.sort_unstable();
         edges.dedup();
-        self.each_word(base, |n, _| {
-            let is_place = n < 3 * table && [1, 4, 7].contains(&(n % table));
+        self.each_word(base, |n, old| {
             let is_used = (counters + 3..counters + 6).contains(&n);
-            let most = if is_place || is_used { longest } else { 32 };
-            (0..=most + 1).chain(edges.iter().copied()).collect()
+            let most = if places.contains(&n) || is_used { longest } else { 32 };
+            let of_size = match (counters + 9..counters + 17).contains(&n) {
+                true => [1, 2, 3, 1 << 62, 1 << 63, u64::MAX / 3, u64::MAX / 3 + 1].to_vec(),
+                false => Vec::new(),
+            };
+            let of_size = of_size.into_iter().flat_map(|more| [old.wrapping_add(more), old.wrapping_sub(more)]);
+            (0..=most + 1).chain(edges.iter().copied()).chain(of_size).collect()
         })
     }
 
@@ -185,6 +198,7 @@ pub fn whole_words(port: &dyn Port) -> Compared {
 /// Every word of readers and every staged byte; then every byte of the overlay that one reads into.
 pub fn readers(port: &dyn Port, values: Values) -> Compared {
     let mut both = Both::new(port, reader_calls());
+    both.sets_up = false;
     let bases = small_readers();
     for base in &bases {
         one_reader(&mut both, base, values)?;
@@ -230,8 +244,9 @@ fn reader_values(all: &[u64; 19], n: usize) -> Vec<u64> {
     values
 }
 
-/// Lent sizes at and past their ends, with nothing in use and with the small overlay: no element, too
-/// few for one id or one string, words left over, the most, one more.
+/// Sizes at and past their ends, with nothing in use and with small overlays: none, too few for what is in use, the most, one more; in
+/// blocks of these sizes, in the blocks as they were, and with the sizes as they were in the blocks of the others. Then sizes that do not
+/// fit the blocks, and such that do and cut them at other places.
 pub fn sizes(port: &dyn Port) -> Compared {
     let mut both = Both::new(port, groups());
     sized(&mut both, &[4_096, 1 << 20, 4_096, 65_536])?;
@@ -239,34 +254,72 @@ pub fn sizes(port: &dyn Port) -> Compared {
 }
 
 /// The sizes given, and one more: ids, arena, strings, string bytes.
-fn sized(both: &mut Both<'_>, [ids, arena, strings, bytes]: &[usize; 4]) -> Result<(), String> {
-    let (rows, pairs) = (3 * ids, 2 * strings);
-    for base in [lend(3, 0, 2, 0), small(false, 0)] {
-        let mut lents = Vec::new();
-        let mut change = |change: &dyn Fn(&mut Storage)| {
-            let mut lent = base.clone();
-            change(&mut lent);
-            lents.push(lent);
-        };
-        for kind in 0..3 {
-            for len in [0, 1, 2, 3, 4, 8, 9, 10, rows, rows + 2, rows + 3] {
-                change(&|lent| lent.tables[kind].resize(len, 7));
-            }
-            for len in [0, 1, 7, *arena, arena + 1] {
-                change(&|lent| lent.arenas[kind].resize(len, 7));
+fn sized(both: &mut Both<'_>, [ids, arena, strings, bytes]: &[u64; 4]) -> Result<(), String> {
+    for base in [lend(&[1, 1, 1, 0, 0, 0, 1, 0]), lend(&[3, 2, 4, 60, 50, 70, 5, 9]), small(false, 0), small(true, 0)] {
+        for n in 0..8 {
+            let ends: &[u64] = match n {
+                0..3 => &[0, 1, 2, 3, 4, *ids, ids + 1],
+                3..6 => &[0, 1, 7, *arena, arena + 1],
+                6 => &[0, 1, 2, 3, 4, 5, 6, *strings, strings + 1],
+                _ => &[0, 1, 7, *bytes, bytes + 1],
+            };
+            for end in ends {
+                let mut sizes = base.given();
+                sizes[n] = *end;
+                one_fit(both, &base, &sizes)?;
             }
         }
-        for len in [0, 1, 2, 3, 4, 9, 10, 11, pairs, pairs + 1, pairs + 2] {
-            change(&|lent| lent.spans.resize(len, 7));
-        }
-        for len in [0, 1, 7, *bytes, bytes + 1] {
-            change(&|lent| lent.bytes.resize(len, 7));
-        }
-        for lent in lents {
+        for lent in not_fitting(&base) {
             both.changed(&base, &lent)?;
         }
     }
     Ok(())
+}
+
+/// Other sizes in blocks of theirs, in the blocks as they were, and blocks of theirs with the sizes as they were.
+fn one_fit(both: &mut Both<'_>, base: &Storage, sizes: &Given) -> Result<(), String> {
+    let fitting = base.resized(sizes);
+    let (mut sizes_alone, mut blocks_alone) = (base.clone(), fitting.clone());
+    sizes_alone.give(sizes);
+    blocks_alone.give(&base.given());
+    for lent in [fitting, sizes_alone, blocks_alone] {
+        both.changed(base, &lent)?;
+    }
+    Ok(())
+}
+
+/// Blocks that are longer or shorter by little, or empty. Of two sizes one more and the other less, both past the half of all numbers, and
+/// the two exchanged: where both are of one block, it is cut at another place, or the sum comes round.
+fn not_fitting(base: &Storage) -> Vec<Storage> {
+    let mut lents = Vec::new();
+    let mut change = |change: &dyn Fn(&mut Storage)| {
+        let mut lent = base.clone();
+        change(&mut lent);
+        lents.push(lent);
+    };
+    let (words, bytes) = (base.words.len(), base.bytes.len());
+    for more in [1, 2, 3, 6, 400] {
+        change(&|lent| lent.words.resize(words + more, 7));
+        change(&|lent| lent.words.truncate(words.saturating_sub(more)));
+        change(&|lent| lent.bytes.resize(bytes + more, 7));
+        change(&|lent| lent.bytes.truncate(bytes.saturating_sub(more)));
+    }
+    change(&|lent| (lent.words.push(7), lent.bytes.push(7)).0);
+    change(&|lent| lent.words.clear());
+    change(&|lent| lent.bytes.clear());
+    for (n, other) in (0..64).map(|pair| (9 + pair / 8, 9 + pair % 8)).filter(|(n, other)| n != other) {
+        change(&|lent| lent.counters.swap(n, other));
+        for (more, less) in [(1, 1), (2, 3), (3, 2), (1 << 62, 1 << 62), (1 << 63, 1 << 63)] {
+            change(&|lent| {
+                lent.counters[n] = lent.counters[n].wrapping_add(more);
+                lent.counters[other] = lent.counters[other].wrapping_sub(less);
+            });
+        }
+    }
+    change(&|lent| lent.counters[9..].fill(0));
+    change(&|lent| lent.counters[9..].fill(u64::MAX));
+    change(&|lent| lent.counters[9..].rotate_left(1));
+    lents
 }
 
 /// Records at and past the limits of an element, pushed and stored; the most ids and strings in use.
@@ -297,17 +350,18 @@ pub fn limits(port: &dyn Port) -> Compared {
 fn one_limit(both: &mut Both<'_>, push: &Push) -> Result<(), String> {
     let (kind, call) = (push.kind as usize, [push.call()]);
     let record = record_bytes(push.kind, &push.head(), &push.meta, &push.parts());
-    let mut lent = lend(6, record.len(), 4, 1);
+    let len = record.len() as u64;
+    let mut lent = lend(&[2, 2, 2, len, len, len, 2, 1]);
     Words::default().call(&mut lent, &Call::Intern(b"k".to_vec()));
-    let what = || format!("{:?} in {} bytes", push.head(), record.len());
+    let what = || format!("{:?} in {len} bytes", push.head());
     both.calls(what, &lent, true, &call)?;
-    let mut short = lent.clone();
-    short.arenas[kind].pop();
-    both.calls(what, &short, true, &call)?;
-    lent.arenas[kind].copy_from_slice(&record);
-    lent.counts[3 + kind] = record.len() as u64;
-    lent.tables[kind][..3].copy_from_slice(&[rank(push.id), 0, NO_FLOOR]);
-    lent.counts[kind] = 1;
+    let mut sizes = lent.given();
+    sizes[3 + kind] -= 1;
+    both.calls(what, &lent.resized(&sizes), true, &call)?;
+    lent.arena_mut(push.kind).copy_from_slice(&record);
+    lent.counters[3 + kind] = len;
+    lent.table_mut(push.kind)[..3].copy_from_slice(&[rank(push.id), 0, NO_FLOOR]);
+    lent.counters[kind] = 1;
     both.storage(what, &lent)
 }
 
@@ -335,12 +389,14 @@ fn most_in_use(both: &mut Both<'_>) -> Result<(), String> {
         let start = 16 * handle.saturating_sub(1);
         [start as u64, text_of(handle).len() as u64]
     };
+    let tables = [table(|n| 49 * n), table(|_| DELETED), vec![0; 3]].concat();
+    let (arena, texts) = ((1..=4_096).flat_map(record), (0..4_096).map(text_of).collect::<String>());
+    let [used, room] = [[4_096, 4_096, 0], [4_096, 4_096, 1]];
+    let counters = [&used[..], &[49 * 4_096, 0, 0, 4_096, 65_536, 0], &room, &[49 * 4_096, 0, 0, 4_096, 65_536]];
     let base = Storage {
-        tables: [table(|n| 49 * n), table(|_| DELETED), vec![0; 3]],
-        arenas: [(1..=4_096).flat_map(record).collect(), vec![], vec![]],
-        spans: (0..4_096).flat_map(span).collect(),
-        bytes: (0..4_096).map(text_of).collect::<String>().into_bytes(),
-        counts: [4_096, 4_096, 0, 49 * 4_096, 0, 0, 4_096, 65_536, 0],
+        words: tables.into_iter().chain((0..4_096).flat_map(span)).collect(),
+        bytes: arena.chain(texts.into_bytes()).collect(),
+        counters: counters.concat().try_into().expect("17"),
         readers: Vec::new(),
     };
     let last = 4_095;
@@ -350,13 +406,14 @@ fn most_in_use(both: &mut Both<'_>) -> Result<(), String> {
         change(&mut lent);
         lents.push(lent);
     };
-    change(&|lent| lent.spans.copy_within(2..4, 2 * last));
-    change(&|lent| lent.spans[2 * last + 1] += 1);
-    change(&|lent| lent.bytes[65_535] = 0);
-    change(&|lent| lent.tables[0][3 * last] -= 1);
-    change(&|lent| lent.tables[1][3 * last] -= 1);
-    change(&|lent| lent.tables[0][3 * last + 1] -= 49);
-    change(&|lent| *lent.arenas[0].last_mut().expect("a byte") = 1);
+    change(&|lent| lent.spans_mut().copy_within(2..4, 2 * last));
+    change(&|lent| lent.spans_mut()[2 * last + 1] += 1);
+    change(&|lent| lent.string_bytes_mut()[65_535] = 0);
+    change(&|lent| lent.table_mut(Kind::Node)[3 * last] -= 1);
+    change(&|lent| lent.table_mut(Kind::Way)[3 * last] -= 1);
+    change(&|lent| lent.table_mut(Kind::Node)[3 * last + 1] -= 49);
+    change(&|lent| *lent.arena_mut(Kind::Node).last_mut().expect("a byte") = 1);
+    change(&|lent| lent.counters[9..12].rotate_left(1));
     let calls = [
         Call::IsSound,
         Call::Intern(b"new".to_vec()),
@@ -378,7 +435,7 @@ fn most_in_use(both: &mut Both<'_>) -> Result<(), String> {
 /// Storages at random: small ones of any elements, and overlays of some calls with several changes.
 pub fn random(port: &dyn Port, seed: u64, rounds: u64) -> Compared {
     let mut both = Both::new(port, groups());
-    at_random(&mut both, seed, 10_000 * rounds)?;
+    at_random(&mut both, seed, 12_000 * rounds)?;
     both.done()
 }
 
@@ -389,7 +446,7 @@ fn at_random(both: &mut Both<'_>, seed: u64, times: u64) -> Result<(), String> {
         let lent = any_storage(&mut random);
         both.storage(|| format!("{lent:?}"), &lent)?;
         let mut base = bases[n as usize % 4].clone();
-        for call in both.groups.concat() {
+        for call in both.groups.concat().into_iter().chain(set_ups(&base)) {
             if random.once_in(40) {
                 Words { told: Some(true) }.call(&mut base, &call);
             }
@@ -411,7 +468,7 @@ pub fn short(port: &dyn Port) -> Compared {
     }
     sized(&mut both, &[4, 400, 6, 40])?;
     at_random(&mut both, 1, 300)?;
-    both.groups = reader_calls();
+    (both.groups, both.sets_up) = (reader_calls(), false);
     for base in &small_readers()[1..6] {
         one_reader(&mut both, base, Values::One)?;
     }
@@ -531,7 +588,6 @@ fn groups() -> Vec<Vec<Call>> {
     };
     let handles = [0, 1, 2, 4, 5, 6, 1 << 32, u64::MAX];
     let mut groups = vec![
-        vec![Call::SetUp(0), Call::SetUp(7)],
         vec![Call::IsSound],
         vec![Call::Allow(0), Call::Allow(1 << 32)],
         texts.into_iter().chain(not_texts).map(Call::Intern).collect(),
@@ -552,6 +608,21 @@ fn groups() -> Vec<Vec<Call>> {
     groups.extend(KINDS.into_iter().flat_map(good_acts));
     groups.push([0, 300, 700, 100_000].map(Call::Listing).into());
     groups
+}
+
+/// Set-ups in lent blocks: of the sizes behind the counters, of others that are all of the blocks, of these with one more.
+fn set_ups(lent: &Storage) -> Vec<Call> {
+    let (words, bytes) = (lent.words.len() as u64, lent.bytes.len() as u64);
+    // Of one, two and three strings one leaves whole rows.
+    let strings = (1..=3).find(|strings| words.saturating_sub(2 * strings) % 3 == 0).unwrap_or(1);
+    let rows = words.saturating_sub(2 * strings) / 3;
+    let string_bytes = (bytes / 4).min(65_536);
+    let (ids, arena) = (rows / 3, (bytes - string_bytes) / 3);
+    let (last_ids, last_arena) = (rows - 2 * ids, bytes - string_bytes - 2 * arena);
+    let others = [ids, ids, last_ids, arena, arena, last_arena, strings, string_bytes];
+    let mut one_off = others;
+    one_off[(words + bytes) as usize % 8] += 1;
+    vec![Call::SetUp(lent.given(), 0), Call::SetUp(others, 7), Call::SetUp(one_off, 0)]
 }
 
 /// What a reader is asked: an event of each kind, and its end.
@@ -580,21 +651,17 @@ fn reader_calls() -> Vec<Vec<Call>> {
 
 // ---- the storages
 
-/// An empty overlay in so many words and bytes, all drawn.
-fn lend(table: usize, arena: usize, spans: usize, bytes: usize) -> Storage {
+/// An empty overlay of these sizes; what it is lent is drawn.
+fn lend(sizes: &Given) -> Storage {
     let mut random = Random::new(1);
-    let mut words = |len: usize| -> Vec<u64> { (0..len).map(|_| random.draw()).collect() };
-    let (tables, spans) = ([table; 3].map(&mut words), words(spans));
-    let mut draw = |len: usize| -> Vec<u8> { (0..len).map(|_| random.draw() as u8).collect() };
+    let [a, b, c, d, e, f, strings, bytes] = *sizes;
     let mut lent = Storage {
-        tables,
-        arenas: [arena; 3].map(&mut draw),
-        spans,
-        bytes: draw(bytes),
-        counts: [0; 9],
+        words: (0..3 * (a + b + c) + 2 * strings).map(|_| random.draw()).collect(),
+        bytes: (0..d + e + f + bytes).map(|_| random.draw() as u8).collect(),
+        counters: [0; 17],
         readers: Vec::new(),
     };
-    Words::default().call(&mut lent, &Call::SetUp(0));
+    taken(&mut lent, &[Call::SetUp(*sizes, 0)]);
     lent
 }
 
@@ -607,9 +674,9 @@ fn taken(lent: &mut Storage, calls: &[Call]) {
 }
 
 /// A small overlay of three ids a kind, one of them deleted, one pushed twice, and of five texts. All
-/// that is lent is in use, or there is room: for two ids, for some pushes, for two texts.
+/// that is lent is in use, or there is room: for an id or more, for some pushes, for two texts.
 fn small(room: bool, setting: u64) -> Storage {
-    let mut lent = lend(17, 400, 15, 30);
+    let mut lent = lend(&[5, 4, 6, 400, 400, 400, 7, 30]);
     let mut calls = vec![Call::Allow(setting)];
     // One text begins with another.
     calls.extend(["", "k", "Straße", "€🚚", "ka"].map(|text| Call::Intern(text.into())));
@@ -626,19 +693,12 @@ fn small(room: bool, setting: u64) -> Storage {
         ]);
     }
     taken(&mut lent, &calls);
-    let used = lent.counts.map(|count| count as usize);
-    for kind in 0..3 {
-        let rest = if room { 60 } else { 0 };
-        lent.arenas[kind].truncate(used[3 + kind] + rest);
-        if !room {
-            lent.tables[kind].truncate(3 * used[kind]);
-        }
-    }
-    if !room {
-        lent.spans.truncate(2 * used[6]);
-        lent.bytes.truncate(used[7]);
-    }
-    lent
+    let [a, b, c, d, e, f, strings, bytes, ..] = lent.counters;
+    let sizes = match room {
+        true => [5, 4, 6, d + 60, e + 50, f + 70, 7, 30],
+        false => [a, b, c, d, e, f, strings, bytes],
+    };
+    lent.resized(&sizes)
 }
 
 /// Small overlays: full, with room, and both in the other setting.
@@ -665,7 +725,9 @@ fn small_readers() -> Vec<Storage> {
     let make = |(n, lines): (usize, String)| {
         let mut lent = small(n % 2 == 1, 0);
         // Room for what the events bring.
-        lent.arenas.iter_mut().for_each(|arena| arena.resize(arena.len() + 150, 7));
+        let mut sizes = lent.given();
+        sizes[3..6].iter_mut().for_each(|bytes| *bytes += 150);
+        lent = lent.resized(&sizes);
         lent.readers = vec![Lines::fresh(&mut Random::new(5))];
         for line in lines.split_inclusive('\n') {
             let event = Call::Event(0, line.into());
@@ -686,45 +748,69 @@ fn any_word(random: &mut Random) -> u64 {
     }
 }
 
-/// A small storage of any elements, its counters mostly small.
+/// A small storage of any elements, its counters mostly small, its sizes mostly those of the blocks.
 fn any_storage(random: &mut Random) -> Storage {
-    let mut words = |most: usize| -> Vec<u64> {
-        let len = random.below(most);
-        (0..len).map(|_| any_word(random)).collect()
-    };
-    let (tables, spans) = ([13; 3].map(&mut words), words(13));
-    let mut bytes = |most: usize| -> Vec<u8> {
-        let len = random.below(most);
-        (0..len).map(|_| any_word(random) as u8).collect()
-    };
-    let (arenas, bytes) = ([120; 3].map(&mut bytes), bytes(12));
-    let mut counts = [0; 9].map(|_: u64| match random.below(8) {
+    let mut size = |most: usize| random.below(most) as u64;
+    let [a, b, c, d, e, f] = [5, 5, 5, 120, 120, 120].map(&mut size);
+    let (strings, bytes) = (size(7), size(12));
+    let mut counters = [0; 17].map(|_: u64| match random.below(8) {
         0 => any_word(random),
         _ => random.below(3) as u64,
     });
     if random.once_in(2) {
-        counts[3..6].fill(0);
+        counters[3..6].fill(0);
     }
-    Storage { tables, arenas, spans, bytes, counts, readers: Vec::new() }
+    let mut lent = Storage {
+        words: (0..3 * (a + b + c) + 2 * strings).map(|_| any_word(random)).collect(),
+        bytes: (0..d + e + f + bytes).map(|_| any_word(random) as u8).collect(),
+        counters,
+        readers: Vec::new(),
+    };
+    lent.give(&[a, b, c, d, e, f, strings, bytes]);
+    if random.once_in(6) {
+        change_sizes(random, &mut lent);
+    }
+    lent
 }
 
-/// A word, a counter or a byte changed, a word of another place, or two rows exchanged.
-fn change_any(random: &mut Random, lent: &mut Storage) {
-    let (len, any) = (lent.words().count(), any_word(random));
-    let (from, to) = (random.below(len), random.below(len));
-    let other = *lent.words().nth(from).expect("a word");
+/// A size changed, two of them exchanged or one more and the other less, a block longer or shorter.
+fn change_sizes(random: &mut Random, lent: &mut Storage) {
+    let (one, other) = (9 + random.below(8), 9 + random.below(8));
+    let more = *random.pick(&[1, 2, 3, 1 << 63]);
     match random.below(5) {
-        0 => *lent.words().nth(to).expect("a word") = other,
-        1 => *lent.words().nth(to).expect("a word") = any,
-        2 => lent.counts[random.below(9)] = any,
-        3 => {
-            let (table, row) = (random.below(3), 3 * random.below(2));
-            lent.tables[table][row..row + 6].rotate_left(3);
+        0 => lent.counters[one] = any_word(random),
+        1 => lent.counters.swap(one, other),
+        2 => {
+            lent.counters[one] = lent.counters[one].wrapping_add(more);
+            lent.counters[other] = lent.counters[other].wrapping_sub(more);
         }
+        3 => lent.words.resize((lent.words.len() + random.below(7)).saturating_sub(3), 7),
+        _ => lent.bytes.resize((lent.bytes.len() + random.below(7)).saturating_sub(3), 7),
+    }
+}
+
+/// A word, a counter or a byte changed, a word of another place, two rows exchanged, or sizes and blocks.
+fn change_any(random: &mut Random, lent: &mut Storage) {
+    let (len, any) = (lent.all_words().count(), any_word(random));
+    let (from, to) = (random.below(len), random.below(len));
+    let other = *lent.all_words().nth(from).expect("a word");
+    match random.below(6) {
+        0 => *lent.all_words().nth(to).expect("a word") = other,
+        1 => *lent.all_words().nth(to).expect("a word") = any,
+        2 => lent.counters[random.below(17)] = any,
+        3 => {
+            let (kind, row) = (*random.pick(&KINDS), 3 * random.below(2));
+            if let Some(rows) = lent.table_mut(kind).get_mut(row..row + 6) {
+                rows.rotate_left(3);
+            }
+        }
+        4 => change_sizes(random, lent),
         _ => {
-            let len = lent.bytes().count();
-            let byte = lent.bytes().nth(random.below(len)).expect("a byte");
-            *byte = *random.pick(&[0, 1, 255, byte.wrapping_add(1), byte.wrapping_sub(1)]);
+            let len = lent.all_bytes().count();
+            let byte = lent.all_bytes().nth(random.below(len.max(1)));
+            if let Some(byte) = byte {
+                *byte = *random.pick(&[0, 1, 255, byte.wrapping_add(1), byte.wrapping_sub(1)]);
+            }
         }
     }
 }

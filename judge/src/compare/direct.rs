@@ -5,7 +5,7 @@ use std::collections::BTreeSet;
 
 use super::Compared;
 use super::both::Both;
-use super::call::{Call, Head, Port, Push, claiming};
+use super::call::{Call, Given, Head, Port, Push, claiming};
 use crate::answer::{KINDS, Kind, MOST_MEMBERS, MOST_REFS, MOST_TAGS, MOST_VALUE_BYTES, Meta, Sizes};
 use crate::osc::compact::JUDGE_HEADS;
 use crate::produce::Bytes;
@@ -27,7 +27,8 @@ fn sizes_of(numbers: [usize; 8]) -> Sizes {
     Sizes { ids: [node, way, relation], arenas: [nodes, ways, relations], strings, string_bytes, output: 0 }
 }
 
-/// Sizes at and past their ends, two at a time; a refused set-up leaves the overlay as it was.
+/// Sizes at and past their ends, two at a time, in blocks of these sizes; then sizes that are not those of the blocks, and others that are. A
+/// refused set-up leaves the overlay as it was, and what it was lent too.
 pub fn set_ups(port: &dyn Port, after: After) -> Compared {
     let (ids, arena) = ([0, 1, 2, 4_096, 4_097], [0, 1, 2, 1_048_576, 1_048_577]);
     let ends = [ids, ids, ids, arena, arena, arena, ids, [0, 1, 2, 65_536, 65_537]];
@@ -46,16 +47,56 @@ pub fn set_ups(port: &dyn Port, after: After) -> Compared {
         }
     }
     let mut both = Both::new(port);
-    for (n, sizes) in all.into_iter().enumerate() {
+    let in_blocks = all.into_iter().map(|numbers| (numbers, sizes_of(numbers).numbers()));
+    let in_others = not_of_blocks(good);
+    for (n, (blocks, given)) in in_blocks.chain(in_others).enumerate() {
         both.set_up(&sizes_of(good), 0)?;
         both.intern(b"a")?;
-        both.set_up(&sizes_of(sizes), SETTINGS[n % 5])?;
+        both.set_up_in(&sizes_of(blocks), &given, SETTINGS[n % 5])?;
         both.call(&Call::IsSound)?;
         both.intern(b"b")?;
         both.push(&Push::plain(KINDS[n % 3], 7, claiming(Some(1))))?;
         after(&mut both)?;
     }
     both.tally.done()
+}
+
+/// Sizes of blocks, and what is given in their place: blocks that are longer and shorter; one size more, less, past any block and such that
+/// its sum comes round; of two sizes one more and the other less, both past the half of all numbers, and the two exchanged.
+fn not_of_blocks(good: [usize; 8]) -> Vec<([usize; 8], Given)> {
+    let given = sizes_of(good).numbers();
+    let mut all = Vec::new();
+    for n in 0..8 {
+        for more in [1, 2, 3, 700] {
+            let (mut longer, mut shorter) = (good, good);
+            longer[n] += more;
+            shorter[n] = shorter[n].saturating_sub(more);
+            all.extend([(longer, given), (shorter, given)]);
+        }
+        let mut change = |change: &dyn Fn(&mut Given)| {
+            let mut given = given;
+            change(&mut given);
+            all.push((good, given));
+        };
+        for more in [1, 2, 3, 1 << 32, 1 << 62, 1 << 63, u64::MAX / 3, u64::MAX / 3 + 1, 2 * (u64::MAX / 3) + 1] {
+            change(&|given| given[n] = given[n].wrapping_add(more));
+            change(&|given| given[n] = given[n].wrapping_sub(more));
+        }
+        for other in 0..n {
+            change(&|given| given.swap(n, other));
+            for (more, less) in [(1, 1), (2, 3), (3, 2), (1 << 63, 1 << 63), (1 << 62, 1 << 62)] {
+                change(&|given| {
+                    given[n] = given[n].wrapping_add(more);
+                    given[other] = given[other].wrapping_sub(less);
+                });
+                change(&|given| {
+                    given[n] = given[n].wrapping_sub(less);
+                    given[other] = given[other].wrapping_add(more);
+                });
+            }
+        }
+    }
+    all
 }
 
 /// Pushes and deletes of every kind, id and version given.

@@ -1,8 +1,8 @@
 //! The published Rust behind the calls: its refusals, then document 01's words for those that it has
 //! not.
 
-use super::call::{Answer, Call, Head, Lines, Push, kind_of, write_front};
-use super::words::{first_fault, in_sizes, meta_is_legal, pushed};
+use super::call::{Answer, Call, Given, Head, Lines, Push, kind_of, write_front};
+use super::words::{first_fault, meta_is_legal, pushed, sizes_fit};
 use super::words_reader::Reading;
 use crate::answer::{Change, Kind, Meta, Overlay, Reader, Refusal, Sizes, Stop};
 use crate::lines;
@@ -116,15 +116,20 @@ impl Rust {
         stopped(reader.line(&mut self.overlay, body, ended, Change::None, Some(sizes)))
     }
 
+    /// In blocks of so many words and bytes.
+    pub fn set_up(&mut self, sizes: &Given, words: usize, bytes: usize, setting: u64) -> Answer {
+        if !sizes_fit(sizes, words, bytes) {
+            return Answer::reply(Err((1, 0)));
+        }
+        *self = Self::default();
+        self.overlay.allow_version_regression(setting != 0);
+        Answer::reply(Ok(()))
+    }
+
     pub fn call(&mut self, sizes: &Sizes, call: &Call) -> Answer {
         let overlay = &self.overlay;
         match call {
-            Call::SetUp(_) if !in_sizes(sizes) => Answer::reply(Err((1, 0))),
-            Call::SetUp(setting) => {
-                *self = Self::default();
-                self.overlay.allow_version_regression(*setting != 0);
-                Answer::reply(Ok(()))
-            }
+            Call::SetUp(..) => panic!("it needs the blocks"),
             Call::IsSound => Answer::reply(Ok(())),
             Call::Allow(setting) => {
                 self.overlay.allow_version_regression(*setting != 0);

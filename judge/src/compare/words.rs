@@ -2,7 +2,7 @@
 
 use std::collections::BTreeSet;
 
-use super::call::{Answer, Call, DELETED, Head, NO_FLOOR, Port, Storage, floor_of, kind_of};
+use super::call::{Answer, Call, DELETED, Given, Head, NO_FLOOR, Port, Storage, floor_of, kind_of};
 use super::words_reader;
 use crate::answer::{self, KINDS, Kind, MOST_MEMBERS, MOST_REFS, MOST_TAGS, MOST_VALUE_BYTES, Meta};
 use crate::ground::is_text;
@@ -58,30 +58,30 @@ fn first<T>(all: &[T], count: u64) -> &[T] {
 
 /// The counted rows of a kind, as far as the words go.
 pub fn rows(lent: &Storage, kind: Kind) -> Vec<Row> {
-    let (rows, _) = lent.tables[kind as usize].as_chunks::<3>();
-    first(rows, lent.counts[kind as usize]).iter().map(|&[rank, place, floor]| Row { rank, place, floor }).collect()
+    let (rows, _) = lent.table(kind).as_chunks::<3>();
+    first(rows, lent.counters[kind as usize]).iter().map(|&[rank, place, floor]| Row { rank, place, floor }).collect()
 }
 
 /// The used bytes of a kind's arena.
 fn used(lent: &Storage, kind: Kind) -> &[u8] {
-    first(&lent.arenas[kind as usize], lent.counts[3 + kind as usize])
+    first(lent.arena(kind), lent.counters[3 + kind as usize])
 }
 
 /// The held texts by handle, "string spans within the used bytes".
 fn texts(lent: &Storage) -> Option<Vec<&[u8]>> {
-    let bytes = first(&lent.bytes, lent.counts[7]);
+    let bytes = first(lent.string_bytes(), lent.counters[7]);
     let text = |&[start, len]: &[u64; 2]| {
         let start = usize::try_from(start).ok()?;
         let end = start.checked_add(usize::try_from(len).ok()?)?;
         bytes.get(start..end)
     };
-    let (spans, _) = lent.spans.as_chunks::<2>();
-    first(spans, lent.counts[6]).iter().map(text).collect()
+    let (spans, _) = lent.spans().as_chunks::<2>();
+    first(spans, lent.counters[6]).iter().map(text).collect()
 }
 
 /// While it is 0, regression is refused.
 fn refuses_regression(lent: &Storage) -> bool {
-    lent.counts[8] == 0
+    lent.counters[8] == 0
 }
 
 /// Bytes from whose front the parts of a record are cut; none where they are cut short.
@@ -188,21 +188,27 @@ fn record_at(lent: &Storage, kind: Kind, place: u64) -> Option<(Record<'_>, usiz
 }
 
 /// "ids 1 to 4,096 a kind, arena 0 to 1,048,576 bytes a kind, strings 1 to 4,096, string bytes 0 to
-/// 65,536". A later call that is lent another size is unsound.
-pub fn in_sizes(sizes: &answer::Sizes) -> bool {
-    sizes.ids.iter().all(|ids| (1..=4_096).contains(ids))
-        && sizes.arenas.iter().all(|&arena| arena <= 1_048_576)
-        && (1..=4_096).contains(&sizes.strings)
-        && sizes.string_bytes <= 65_536
+/// 65,536".
+fn in_range(sizes: &Given) -> bool {
+    let least = [1, 1, 1, 0, 0, 0, 1, 0];
+    let most = [4_096, 4_096, 4_096, 1_048_576, 1_048_576, 1_048_576, 4_096, 65_536];
+    sizes.iter().zip(least).zip(most).all(|((size, least), most)| (least..=most).contains(size))
+}
+
+/// The parts are all of the blocks: three words an id, two a string.
+fn tile(sizes: &Given, words: usize, bytes: usize) -> bool {
+    let [a, b, c, d, e, f, strings, string_bytes] = sizes.map(u128::from);
+    3 * (a + b + c) + 2 * strings == words as u128 && d + e + f + string_bytes == bytes as u128
+}
+
+/// What set-up takes; a later call with other sizes behind the counters, or in other blocks, is unsound.
+pub fn sizes_fit(sizes: &Given, words: usize, bytes: usize) -> bool {
+    in_range(sizes) && tile(sizes, words, bytes)
 }
 
 /// "counts within lent sizes".
 fn counts_fit(lent: &Storage) -> bool {
-    let sizes = lent.sizes();
-    let ([a, b, c], [d, e, f]) = (sizes.ids, sizes.arenas);
-    let sizes = [a, b, c, d, e, f, sizes.strings, sizes.string_bytes];
-    let within = |(&count, size): (&u64, usize)| count <= size as u64;
-    lent.counts.iter().zip(sizes).all(within)
+    lent.counters.iter().zip(lent.given()).all(|(&count, size)| count <= size)
 }
 
 /// 17 of metadata: "1 present, 2 hidden, 4 has user, 8 has version; the last three need 1", "a field
@@ -251,7 +257,7 @@ fn whole_records(lent: &Storage, kind: Kind) -> Option<BTreeSet<(u64, i64)>> {
     while !rest.0.is_empty() {
         let start = (used.len() - rest.0.len()) as u64;
         let record = rest.record(kind)?;
-        first_fault(kind, &record, lent.counts[6]).ok()?;
+        first_fault(kind, &record, lent.counters[6]).ok()?;
         records.insert((start, record.head.id));
     }
     Some(records)
@@ -279,7 +285,7 @@ fn kind_is_sound(lent: &Storage, kind: Kind) -> bool {
 
 /// Document 01's list, of the overlay.
 pub fn is_sound(lent: &Storage) -> bool {
-    in_sizes(&lent.sizes())
+    sizes_fit(&lent.given(), lent.words.len(), lent.bytes.len())
         && counts_fit(lent)
         && strings_are_sound(lent)
         && KINDS.iter().all(|&kind| kind_is_sound(lent, kind))
@@ -313,7 +319,7 @@ pub fn admitted(lent: &Storage, kind: Kind, id: i64, claim: Option<i32>) -> Resu
 
 /// 14: "new id, ids full".
 fn has_room(lent: &Storage, kind: Kind, id: i64) -> Result<(), (u32, i32)> {
-    let full = rows(lent, kind).len() == lent.tables[kind as usize].len() / 3;
+    let full = rows(lent, kind).len() == lent.table(kind).len() / 3;
     if full && row_of(lent, kind, id).is_none() {
         return Err((14, 0));
     }
@@ -325,12 +331,12 @@ fn set_row(lent: &mut Storage, kind: Kind, row: Row) {
     let rows = rows(lent, kind);
     let place = rows.iter().filter(|r| r.rank < row.rank).count();
     let is_new = rows.iter().all(|r| r.rank != row.rank);
-    let table = &mut lent.tables[kind as usize];
+    let table = lent.table_mut(kind);
     if is_new {
         table.copy_within(3 * place..3 * rows.len(), 3 * place + 3);
-        lent.counts[kind as usize] = rows.len() as u64 + 1;
     }
     table[3 * place..3 * place + 3].copy_from_slice(&[row.rank, row.place, row.floor]);
+    lent.counters[kind as usize] += u64::from(is_new);
 }
 
 /// A record as it is stored: head, metadata, parts.
@@ -372,10 +378,10 @@ pub fn store_push(lent: &mut Storage, kind: Kind, head: &Head, meta: &Meta, part
     };
     let record = record_bytes(kind, head, meta, parts);
     let place = used(lent, kind).len();
-    let rest = &mut lent.arenas[kind as usize][place..];
+    let rest = &mut lent.arena_mut(kind)[place..];
     let to = rest.get_mut(..record.len()).ok_or((15, 0))?;
     to.copy_from_slice(&record);
-    lent.counts[3 + kind as usize] = (place + record.len()) as u64;
+    lent.counters[3 + kind as usize] = (place + record.len()) as u64;
     let (rank, place) = (rank(head.id), place as u64);
     set_row(lent, kind, Row { rank, place, floor });
     Ok(())
@@ -398,14 +404,14 @@ pub fn store_text(lent: &mut Storage, text: &[u8]) -> Result<u32, u32> {
     if let Some(handle) = texts.iter().position(|held| *held == text) {
         return Ok(handle as u32);
     }
-    let (handle, start) = (texts.len(), lent.counts[7] as usize);
-    let (spans, _) = lent.spans.as_chunks_mut::<2>();
-    let span = spans.get_mut(handle).ok_or(13u32)?;
-    let bytes = lent.bytes[start..].get_mut(..text.len()).ok_or(13u32)?;
-    *span = [start as u64, text.len() as u64];
-    bytes.copy_from_slice(text);
-    lent.counts[6] = handle as u64 + 1;
-    lent.counts[7] = (start + text.len()) as u64;
+    let (handle, start) = (texts.len(), lent.counters[7] as usize);
+    if handle == lent.spans().len() / 2 || text.len() > lent.string_bytes().len() - start {
+        return Err(13);
+    }
+    lent.spans_mut()[2 * handle..][..2].copy_from_slice(&[start as u64, text.len() as u64]);
+    lent.string_bytes_mut()[start..][..text.len()].copy_from_slice(text);
+    lent.counters[6] = handle as u64 + 1;
+    lent.counters[7] = (start + text.len()) as u64;
     Ok(handle as u32)
 }
 
@@ -475,13 +481,14 @@ impl Words {
         kind_of(kind)
     }
 
-    /// 1, or no id, no record and the empty text alone.
-    fn set_up(lent: &mut Storage, setting: u64) -> Result<(), (u32, i32)> {
-        if !in_sizes(&lent.sizes()) {
+    /// 1, or no id, no record and the empty text alone; and the sizes behind the counters.
+    fn set_up(lent: &mut Storage, sizes: &Given, setting: u64) -> Result<(), (u32, i32)> {
+        if !sizes_fit(sizes, lent.words.len(), lent.bytes.len()) {
             return Err((1, 0));
         }
-        lent.spans[..2].fill(0);
-        lent.counts = [0, 0, 0, 0, 0, 0, 1, 0, setting];
+        lent.counters[..9].copy_from_slice(&[0, 0, 0, 0, 0, 0, 1, 0, setting]);
+        lent.give(sizes);
+        lent.spans_mut()[..2].fill(0);
         Ok(())
     }
 
@@ -490,14 +497,14 @@ impl Words {
         let plain = |number: u32| (number, 0);
         let kind = self.asked(lent, kind).map_err(plain)?;
         let record = pushed(kind, head, meta, parts).ok_or((17, 0))?;
-        first_fault(kind, &record, lent.counts[6]).map_err(plain)?;
+        first_fault(kind, &record, lent.counters[6]).map_err(plain)?;
         store_push(lent, kind, head, meta, parts)
     }
 
     /// 22; 17; 12, 14.
     fn delete(&self, lent: &mut Storage, kind: u8, id: i64, meta: &Meta) -> Result<(), (u32, i32)> {
         let kind = self.asked(lent, kind).map_err(|number| (number, 0))?;
-        if !meta_is_legal(meta, lent.counts[6]) {
+        if !meta_is_legal(meta, lent.counters[6]) {
             return Err((17, 0));
         }
         store_delete(lent, kind, id, meta)
@@ -555,9 +562,9 @@ impl Words {
 
     fn text(&self, lent: &Storage, handle: u64) -> Result<Option<(u64, u64)>, u32> {
         self.checked(lent)?;
-        let (spans, _) = lent.spans.as_chunks::<2>();
+        let (spans, _) = lent.spans().as_chunks::<2>();
         let handle = usize::try_from(handle).unwrap_or(usize::MAX);
-        let span = first(spans, lent.counts[6]).get(handle).ok_or(21u32)?;
+        let span = first(spans, lent.counters[6]).get(handle).ok_or(21u32)?;
         Ok(Some((span[0], span[1])))
     }
 }
@@ -566,12 +573,12 @@ impl Port for Words {
     fn call(&self, lent: &mut Storage, call: &Call) -> Answer {
         let plain = |answer: Result<(), u32>| Answer::reply(answer.map_err(|n| (n, 0)));
         match call {
-            Call::SetUp(setting) => Answer::reply(Self::set_up(lent, *setting)),
+            Call::SetUp(sizes, setting) => Answer::reply(Self::set_up(lent, sizes, *setting)),
             Call::IsSound => plain(self.checked(lent)),
             Call::Allow(setting) => {
                 let sound = self.checked(lent);
                 if sound.is_ok() {
-                    lent.counts[8] = *setting;
+                    lent.counters[8] = *setting;
                 }
                 plain(sound)
             }

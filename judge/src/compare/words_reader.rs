@@ -126,7 +126,7 @@ fn answer((number, held, line): (u32, i32, u64)) -> Answer {
 /// repeat of its stop mark. "a refused event, except for 22, stops its reader": 2 to 16.
 fn going(words: &Words, lent: &Storage, n: usize) -> Result<Reading, Answer> {
     let Lines { words: held, parts } = &lent.readers[n];
-    let sound = |r: &Reading| words.checked(lent).is_ok() && r.is_sound(parts, lent.counts[6]);
+    let sound = |r: &Reading| words.checked(lent).is_ok() && r.is_sound(parts, lent.counters[6]);
     let reading = Reading::of(held).filter(sound);
     let reading = reading.ok_or_else(|| answer((22, 0, 0)))?;
     if (2..=16).contains(&reading.stop.0) {

@@ -6,11 +6,12 @@
 
 #![allow(unsafe_code)]
 
+use crate::blocks::{Blocks, Lent, Shared};
 use crate::ffi;
 pub use crate::ffi::{
-    ArenaMeta, Cursor, EventReply, EventsReply, ListingReply, Number, OsmIdKey, Part, Places, PushHead, Reply, Text,
+    ArenaMeta, Cursor, EventReply, EventsReply, KindSize, ListingReply, Number, OsmIdKey, Part, Places, PushHead,
+    Reply, Sizes, Text,
 };
-use crate::parts::{Lent, Parts, Shared};
 use crate::reader::STAGED;
 
 fn read<T>(part: &[T]) -> (*const T, usize) {
@@ -22,116 +23,109 @@ fn write<T>(part: &mut [T]) -> (*mut T, usize) {
     (part.as_mut_ptr(), len)
 }
 
-/// Calls an entry with the lent parts, then its own arguments.
+/// Calls an entry with the lent blocks, then its own arguments.
 macro_rules! entry {
-    ($name:ident, $lend:ident, $parts:expr $(, $own:expr)*) => {{
-        let Parts { ids: [ni, wi, ri], arenas: [na, wa, ra], spans: ss, bytes: sb, counts: us } = $parts;
-        let ((ni, ni_len), (wi, wi_len), (ri, ri_len)) = ($lend(ni), $lend(wi), $lend(ri));
-        let ((na, na_len), (wa, wa_len), (ra, ra_len)) = ($lend(na), $lend(wa), $lend(ra));
-        let ((ss, ss_len), (sb, sb_len)) = ($lend(ss), $lend(sb));
-        // SAFETY: the parts are borrowed, to be written where the entry may write, so they are valid and apart; so are its own arguments.
-        unsafe {
-            ffi::$name(
-                ni, ni_len, na, na_len, wi, wi_len, wa, wa_len, ri, ri_len, ra, ra_len, ss, ss_len, sb, sb_len, us
-                $(, $own)*
-            )
-        }
+    ($name:ident, $lend:ident, $blocks:expr $(, $own:expr)*) => {{
+        let Blocks { words, bytes, counters } = $blocks;
+        let ((words, words_len), (bytes, bytes_len)) = ($lend(words), $lend(bytes));
+        // SAFETY: the blocks are borrowed, to be written where the entry may write, so they are valid and apart; so are its own arguments.
+        unsafe { ffi::$name(words, words_len, bytes, bytes_len, counters $(, $own)*) }
     }};
 }
 
-pub fn set_up(parts: Lent<'_>, setting: u64) -> Reply {
-    entry!(tvk_set_up, write, parts, setting)
+pub fn set_up(blocks: Lent<'_>, sizes: Sizes, setting: u64) -> Reply {
+    entry!(tvk_set_up, write, blocks, sizes, setting)
 }
 
-pub fn is_sound(parts: Shared<'_>) -> Reply {
-    entry!(tvk_is_sound, read, parts)
+pub fn is_sound(blocks: Shared<'_>) -> Reply {
+    entry!(tvk_is_sound, read, blocks)
 }
 
-pub fn allow_version_regression(parts: Lent<'_>, setting: u64) -> Reply {
-    entry!(tvk_allow_version_regression, write, parts, setting)
+pub fn allow_version_regression(blocks: Lent<'_>, setting: u64) -> Reply {
+    entry!(tvk_allow_version_regression, write, blocks, setting)
 }
 
-pub fn intern(parts: Lent<'_>, text: &[u8]) -> Text {
-    entry!(tvk_intern, write, parts, text.as_ptr(), text.len())
+pub fn intern(blocks: Lent<'_>, text: &[u8]) -> Text {
+    entry!(tvk_intern, write, blocks, text.as_ptr(), text.len())
 }
 
-pub fn push(parts: Lent<'_>, kind: u8, head: PushHead, meta: ArenaMeta, own: &[u8]) -> Reply {
-    entry!(tvk_push, write, parts, kind, head, meta, own.as_ptr(), own.len())
+pub fn push(blocks: Lent<'_>, kind: u8, head: PushHead, meta: ArenaMeta, own: &[u8]) -> Reply {
+    entry!(tvk_push, write, blocks, kind, head, meta, own.as_ptr(), own.len())
 }
 
-pub fn delete(parts: Lent<'_>, kind: u8, id: i64, meta: ArenaMeta) -> Reply {
-    entry!(tvk_delete, write, parts, kind, id, meta)
+pub fn delete(blocks: Lent<'_>, kind: u8, id: i64, meta: ArenaMeta) -> Reply {
+    entry!(tvk_delete, write, blocks, kind, id, meta)
 }
 
-pub fn live_count(parts: Shared<'_>, kind: u8) -> Number {
-    entry!(tvk_live_count, read, parts, kind)
+pub fn live_count(blocks: Shared<'_>, kind: u8) -> Number {
+    entry!(tvk_live_count, read, blocks, kind)
 }
 
-pub fn deleted_count(parts: Shared<'_>, kind: u8) -> Number {
-    entry!(tvk_deleted_count, read, parts, kind)
+pub fn deleted_count(blocks: Shared<'_>, kind: u8) -> Number {
+    entry!(tvk_deleted_count, read, blocks, kind)
 }
 
-pub fn is_empty(parts: Shared<'_>) -> Number {
-    entry!(tvk_is_empty, read, parts)
+pub fn is_empty(blocks: Shared<'_>) -> Number {
+    entry!(tvk_is_empty, read, blocks)
 }
 
-pub fn live_id(parts: Shared<'_>, kind: u8, n: u64) -> Number {
-    entry!(tvk_live_id, read, parts, kind, n)
+pub fn live_id(blocks: Shared<'_>, kind: u8, n: u64) -> Number {
+    entry!(tvk_live_id, read, blocks, kind, n)
 }
 
-pub fn deleted_id(parts: Shared<'_>, kind: u8, n: u64) -> Number {
-    entry!(tvk_deleted_id, read, parts, kind, n)
+pub fn deleted_id(blocks: Shared<'_>, kind: u8, n: u64) -> Number {
+    entry!(tvk_deleted_id, read, blocks, kind, n)
 }
 
-pub fn live_ids(parts: Shared<'_>, kind: u8, ids: &mut [u64], versions: &mut [u64]) -> Number {
+pub fn live_ids(blocks: Shared<'_>, kind: u8, ids: &mut [u64], versions: &mut [u64]) -> Number {
     let ((ids, ids_len), (versions, versions_len)) = (write(ids), write(versions));
-    entry!(tvk_live_ids, read, parts, kind, ids, ids_len, versions, versions_len)
+    entry!(tvk_live_ids, read, blocks, kind, ids, ids_len, versions, versions_len)
 }
 
-pub fn deleted_ids(parts: Shared<'_>, kind: u8, ids: &mut [u64], versions: &mut [u64]) -> Number {
+pub fn deleted_ids(blocks: Shared<'_>, kind: u8, ids: &mut [u64], versions: &mut [u64]) -> Number {
     let ((ids, ids_len), (versions, versions_len)) = (write(ids), write(versions));
-    entry!(tvk_deleted_ids, read, parts, kind, ids, ids_len, versions, versions_len)
+    entry!(tvk_deleted_ids, read, blocks, kind, ids, ids_len, versions, versions_len)
 }
 
-pub fn record(parts: Shared<'_>, kind: u8, n: u64) -> Part {
-    entry!(tvk_record, read, parts, kind, n)
+pub fn record(blocks: Shared<'_>, kind: u8, n: u64) -> Part {
+    entry!(tvk_record, read, blocks, kind, n)
 }
 
-pub fn get(parts: Shared<'_>, kind: u8, id: i64) -> Part {
-    entry!(tvk_get, read, parts, kind, id)
+pub fn get(blocks: Shared<'_>, kind: u8, id: i64) -> Part {
+    entry!(tvk_get, read, blocks, kind, id)
 }
 
-pub fn has(parts: Shared<'_>, kind: u8, id: i64) -> Number {
-    entry!(tvk_has, read, parts, kind, id)
+pub fn has(blocks: Shared<'_>, kind: u8, id: i64) -> Number {
+    entry!(tvk_has, read, blocks, kind, id)
 }
 
-pub fn is_deleted(parts: Shared<'_>, kind: u8, id: i64) -> Number {
-    entry!(tvk_is_deleted, read, parts, kind, id)
+pub fn is_deleted(blocks: Shared<'_>, kind: u8, id: i64) -> Number {
+    entry!(tvk_is_deleted, read, blocks, kind, id)
 }
 
-pub fn known_version(parts: Shared<'_>, kind: u8, id: i64) -> Number {
-    entry!(tvk_known_version, read, parts, kind, id)
+pub fn known_version(blocks: Shared<'_>, kind: u8, id: i64) -> Number {
+    entry!(tvk_known_version, read, blocks, kind, id)
 }
 
-pub fn text(parts: Shared<'_>, handle: u64) -> Part {
-    entry!(tvk_text, read, parts, handle)
+pub fn text(blocks: Shared<'_>, handle: u64) -> Part {
+    entry!(tvk_text, read, blocks, handle)
 }
 
-pub fn listing(parts: Shared<'_>, out: &mut [u8]) -> ListingReply {
+pub fn listing(blocks: Shared<'_>, out: &mut [u8]) -> ListingReply {
     let (out, out_len) = write(out);
-    entry!(tvk_listing, read, parts, out, out_len)
+    entry!(tvk_listing, read, blocks, out, out_len)
 }
 
-pub fn event(parts: Lent<'_>, reader: &mut [u64; 19], staged: &mut [u8; STAGED], line: &[u8]) -> EventReply {
-    entry!(tvk_event, write, parts, reader, staged, line.as_ptr(), line.len())
+pub fn event(blocks: Lent<'_>, reader: &mut [u64; 19], staged: &mut [u8; STAGED], line: &[u8]) -> EventReply {
+    entry!(tvk_event, write, blocks, reader, staged, line.as_ptr(), line.len())
 }
 
-pub fn events(parts: Lent<'_>, reader: &mut [u64; 19], staged: &mut [u8; STAGED], run: &[u8]) -> EventsReply {
-    entry!(tvk_events, write, parts, reader, staged, run.as_ptr(), run.len())
+pub fn events(blocks: Lent<'_>, reader: &mut [u64; 19], staged: &mut [u8; STAGED], run: &[u8]) -> EventsReply {
+    entry!(tvk_events, write, blocks, reader, staged, run.as_ptr(), run.len())
 }
 
-pub fn end(parts: Shared<'_>, reader: &[u64; 19], staged: &[u8; STAGED]) -> EventReply {
-    entry!(tvk_end, read, parts, reader, staged)
+pub fn end(blocks: Shared<'_>, reader: &[u64; 19], staged: &[u8; STAGED]) -> EventReply {
+    entry!(tvk_end, read, blocks, reader, staged)
 }
 
 /// Calls an entry on numbers and slices that it only reads.

@@ -86,6 +86,25 @@ pub struct ArenaMeta {
     pub user: u32,
 }
 
+/// The lent sizes of a kind: rows of its id table, bytes of its arena.
+#[repr(C)]
+#[derive(Clone, Copy, Debug, PartialEq, Eq)]
+pub struct KindSize {
+    pub ids: u64,
+    pub bytes: u64,
+}
+
+/// The lent sizes.
+#[repr(C)]
+#[derive(Clone, Copy, Debug, PartialEq, Eq)]
+pub struct Sizes {
+    pub nodes: KindSize,
+    pub ways: KindSize,
+    pub relations: KindSize,
+    pub strings: u64,
+    pub string_bytes: u64,
+}
+
 /// 0 with the listing's length, or a refusal's number with 0.
 #[repr(C)]
 #[derive(Clone, Copy, Debug, PartialEq, Eq)]
@@ -129,27 +148,27 @@ unsafe extern "C" {
     pub fn tvk_range_overlaps(live: *const u64, live_len: usize, deleted: *const u64, deleted_len: usize, min: i64, max: i64) -> Number;
     pub fn tvk_upsert_range(ids: *const u64, ids_len: usize, first: i64, last: i64) -> Places;
     pub fn tvk_seek_find(ids: *const u64, ids_len: usize, place: usize, id: i64) -> Cursor;
-    pub fn tvk_set_up(ni: *const u64, ni_len: usize, na: *const u8, na_len: usize, wi: *const u64, wi_len: usize, wa: *const u8, wa_len: usize, ri: *const u64, ri_len: usize, ra: *const u8, ra_len: usize, ss: *mut u64, ss_len: usize, sb: *const u8, sb_len: usize, us: *mut [u64; 9], setting: u64) -> Reply;
-    pub fn tvk_is_sound(ni: *const u64, ni_len: usize, na: *const u8, na_len: usize, wi: *const u64, wi_len: usize, wa: *const u8, wa_len: usize, ri: *const u64, ri_len: usize, ra: *const u8, ra_len: usize, ss: *const u64, ss_len: usize, sb: *const u8, sb_len: usize, us: *const [u64; 9]) -> Reply;
-    pub fn tvk_allow_version_regression(ni: *const u64, ni_len: usize, na: *const u8, na_len: usize, wi: *const u64, wi_len: usize, wa: *const u8, wa_len: usize, ri: *const u64, ri_len: usize, ra: *const u8, ra_len: usize, ss: *const u64, ss_len: usize, sb: *const u8, sb_len: usize, us: *mut [u64; 9], setting: u64) -> Reply;
-    pub fn tvk_intern(ni: *const u64, ni_len: usize, na: *const u8, na_len: usize, wi: *const u64, wi_len: usize, wa: *const u8, wa_len: usize, ri: *const u64, ri_len: usize, ra: *const u8, ra_len: usize, ss: *mut u64, ss_len: usize, sb: *mut u8, sb_len: usize, us: *mut [u64; 9], text: *const u8, text_len: usize) -> Text;
-    pub fn tvk_push(ni: *mut u64, ni_len: usize, na: *mut u8, na_len: usize, wi: *mut u64, wi_len: usize, wa: *mut u8, wa_len: usize, ri: *mut u64, ri_len: usize, ra: *mut u8, ra_len: usize, ss: *const u64, ss_len: usize, sb: *const u8, sb_len: usize, us: *mut [u64; 9], kind: u8, head: PushHead, meta: ArenaMeta, parts: *const u8, parts_len: usize) -> Reply;
-    pub fn tvk_delete(ni: *mut u64, ni_len: usize, na: *const u8, na_len: usize, wi: *mut u64, wi_len: usize, wa: *const u8, wa_len: usize, ri: *mut u64, ri_len: usize, ra: *const u8, ra_len: usize, ss: *const u64, ss_len: usize, sb: *const u8, sb_len: usize, us: *mut [u64; 9], kind: u8, id: i64, meta: ArenaMeta) -> Reply;
-    pub fn tvk_live_count(ni: *const u64, ni_len: usize, na: *const u8, na_len: usize, wi: *const u64, wi_len: usize, wa: *const u8, wa_len: usize, ri: *const u64, ri_len: usize, ra: *const u8, ra_len: usize, ss: *const u64, ss_len: usize, sb: *const u8, sb_len: usize, us: *const [u64; 9], kind: u8) -> Number;
-    pub fn tvk_deleted_count(ni: *const u64, ni_len: usize, na: *const u8, na_len: usize, wi: *const u64, wi_len: usize, wa: *const u8, wa_len: usize, ri: *const u64, ri_len: usize, ra: *const u8, ra_len: usize, ss: *const u64, ss_len: usize, sb: *const u8, sb_len: usize, us: *const [u64; 9], kind: u8) -> Number;
-    pub fn tvk_is_empty(ni: *const u64, ni_len: usize, na: *const u8, na_len: usize, wi: *const u64, wi_len: usize, wa: *const u8, wa_len: usize, ri: *const u64, ri_len: usize, ra: *const u8, ra_len: usize, ss: *const u64, ss_len: usize, sb: *const u8, sb_len: usize, us: *const [u64; 9]) -> Number;
-    pub fn tvk_live_id(ni: *const u64, ni_len: usize, na: *const u8, na_len: usize, wi: *const u64, wi_len: usize, wa: *const u8, wa_len: usize, ri: *const u64, ri_len: usize, ra: *const u8, ra_len: usize, ss: *const u64, ss_len: usize, sb: *const u8, sb_len: usize, us: *const [u64; 9], kind: u8, n: u64) -> Number;
-    pub fn tvk_deleted_id(ni: *const u64, ni_len: usize, na: *const u8, na_len: usize, wi: *const u64, wi_len: usize, wa: *const u8, wa_len: usize, ri: *const u64, ri_len: usize, ra: *const u8, ra_len: usize, ss: *const u64, ss_len: usize, sb: *const u8, sb_len: usize, us: *const [u64; 9], kind: u8, n: u64) -> Number;
-    pub fn tvk_record(ni: *const u64, ni_len: usize, na: *const u8, na_len: usize, wi: *const u64, wi_len: usize, wa: *const u8, wa_len: usize, ri: *const u64, ri_len: usize, ra: *const u8, ra_len: usize, ss: *const u64, ss_len: usize, sb: *const u8, sb_len: usize, us: *const [u64; 9], kind: u8, n: u64) -> Part;
-    pub fn tvk_get(ni: *const u64, ni_len: usize, na: *const u8, na_len: usize, wi: *const u64, wi_len: usize, wa: *const u8, wa_len: usize, ri: *const u64, ri_len: usize, ra: *const u8, ra_len: usize, ss: *const u64, ss_len: usize, sb: *const u8, sb_len: usize, us: *const [u64; 9], kind: u8, id: i64) -> Part;
-    pub fn tvk_has(ni: *const u64, ni_len: usize, na: *const u8, na_len: usize, wi: *const u64, wi_len: usize, wa: *const u8, wa_len: usize, ri: *const u64, ri_len: usize, ra: *const u8, ra_len: usize, ss: *const u64, ss_len: usize, sb: *const u8, sb_len: usize, us: *const [u64; 9], kind: u8, id: i64) -> Number;
-    pub fn tvk_is_deleted(ni: *const u64, ni_len: usize, na: *const u8, na_len: usize, wi: *const u64, wi_len: usize, wa: *const u8, wa_len: usize, ri: *const u64, ri_len: usize, ra: *const u8, ra_len: usize, ss: *const u64, ss_len: usize, sb: *const u8, sb_len: usize, us: *const [u64; 9], kind: u8, id: i64) -> Number;
-    pub fn tvk_known_version(ni: *const u64, ni_len: usize, na: *const u8, na_len: usize, wi: *const u64, wi_len: usize, wa: *const u8, wa_len: usize, ri: *const u64, ri_len: usize, ra: *const u8, ra_len: usize, ss: *const u64, ss_len: usize, sb: *const u8, sb_len: usize, us: *const [u64; 9], kind: u8, id: i64) -> Number;
-    pub fn tvk_text(ni: *const u64, ni_len: usize, na: *const u8, na_len: usize, wi: *const u64, wi_len: usize, wa: *const u8, wa_len: usize, ri: *const u64, ri_len: usize, ra: *const u8, ra_len: usize, ss: *const u64, ss_len: usize, sb: *const u8, sb_len: usize, us: *const [u64; 9], handle: u64) -> Part;
-    pub fn tvk_live_ids(ni: *const u64, ni_len: usize, na: *const u8, na_len: usize, wi: *const u64, wi_len: usize, wa: *const u8, wa_len: usize, ri: *const u64, ri_len: usize, ra: *const u8, ra_len: usize, ss: *const u64, ss_len: usize, sb: *const u8, sb_len: usize, us: *const [u64; 9], kind: u8, ids: *mut u64, ids_len: usize, versions: *mut u64, versions_len: usize) -> Number;
-    pub fn tvk_deleted_ids(ni: *const u64, ni_len: usize, na: *const u8, na_len: usize, wi: *const u64, wi_len: usize, wa: *const u8, wa_len: usize, ri: *const u64, ri_len: usize, ra: *const u8, ra_len: usize, ss: *const u64, ss_len: usize, sb: *const u8, sb_len: usize, us: *const [u64; 9], kind: u8, ids: *mut u64, ids_len: usize, versions: *mut u64, versions_len: usize) -> Number;
-    pub fn tvk_listing(ni: *const u64, ni_len: usize, na: *const u8, na_len: usize, wi: *const u64, wi_len: usize, wa: *const u8, wa_len: usize, ri: *const u64, ri_len: usize, ra: *const u8, ra_len: usize, ss: *const u64, ss_len: usize, sb: *const u8, sb_len: usize, us: *const [u64; 9], out: *mut u8, out_len: usize) -> ListingReply;
-    pub fn tvk_event(ni: *mut u64, ni_len: usize, na: *mut u8, na_len: usize, wi: *mut u64, wi_len: usize, wa: *mut u8, wa_len: usize, ri: *mut u64, ri_len: usize, ra: *mut u8, ra_len: usize, ss: *mut u64, ss_len: usize, sb: *mut u8, sb_len: usize, us: *mut [u64; 9], reader: *mut [u64; 19], parts: *mut [u8; 44432], line: *const u8, line_len: usize) -> EventReply;
-    pub fn tvk_events(ni: *mut u64, ni_len: usize, na: *mut u8, na_len: usize, wi: *mut u64, wi_len: usize, wa: *mut u8, wa_len: usize, ri: *mut u64, ri_len: usize, ra: *mut u8, ra_len: usize, ss: *mut u64, ss_len: usize, sb: *mut u8, sb_len: usize, us: *mut [u64; 9], reader: *mut [u64; 19], parts: *mut [u8; 44432], run: *const u8, run_len: usize) -> EventsReply;
-    pub fn tvk_end(ni: *const u64, ni_len: usize, na: *const u8, na_len: usize, wi: *const u64, wi_len: usize, wa: *const u8, wa_len: usize, ri: *const u64, ri_len: usize, ra: *const u8, ra_len: usize, ss: *const u64, ss_len: usize, sb: *const u8, sb_len: usize, us: *const [u64; 9], reader: *const [u64; 19], parts: *const [u8; 44432]) -> EventReply;
+    pub fn tvk_set_up(words: *mut u64, words_len: usize, bytes: *const u8, bytes_len: usize, counters: *mut [u64; 17], sizes: Sizes, setting: u64) -> Reply;
+    pub fn tvk_is_sound(words: *const u64, words_len: usize, bytes: *const u8, bytes_len: usize, counters: *const [u64; 17]) -> Reply;
+    pub fn tvk_allow_version_regression(words: *const u64, words_len: usize, bytes: *const u8, bytes_len: usize, counters: *mut [u64; 17], setting: u64) -> Reply;
+    pub fn tvk_intern(words: *mut u64, words_len: usize, bytes: *mut u8, bytes_len: usize, counters: *mut [u64; 17], text: *const u8, text_len: usize) -> Text;
+    pub fn tvk_push(words: *mut u64, words_len: usize, bytes: *mut u8, bytes_len: usize, counters: *mut [u64; 17], kind: u8, head: PushHead, meta: ArenaMeta, parts: *const u8, parts_len: usize) -> Reply;
+    pub fn tvk_delete(words: *mut u64, words_len: usize, bytes: *const u8, bytes_len: usize, counters: *mut [u64; 17], kind: u8, id: i64, meta: ArenaMeta) -> Reply;
+    pub fn tvk_live_count(words: *const u64, words_len: usize, bytes: *const u8, bytes_len: usize, counters: *const [u64; 17], kind: u8) -> Number;
+    pub fn tvk_deleted_count(words: *const u64, words_len: usize, bytes: *const u8, bytes_len: usize, counters: *const [u64; 17], kind: u8) -> Number;
+    pub fn tvk_is_empty(words: *const u64, words_len: usize, bytes: *const u8, bytes_len: usize, counters: *const [u64; 17]) -> Number;
+    pub fn tvk_live_id(words: *const u64, words_len: usize, bytes: *const u8, bytes_len: usize, counters: *const [u64; 17], kind: u8, n: u64) -> Number;
+    pub fn tvk_deleted_id(words: *const u64, words_len: usize, bytes: *const u8, bytes_len: usize, counters: *const [u64; 17], kind: u8, n: u64) -> Number;
+    pub fn tvk_record(words: *const u64, words_len: usize, bytes: *const u8, bytes_len: usize, counters: *const [u64; 17], kind: u8, n: u64) -> Part;
+    pub fn tvk_get(words: *const u64, words_len: usize, bytes: *const u8, bytes_len: usize, counters: *const [u64; 17], kind: u8, id: i64) -> Part;
+    pub fn tvk_has(words: *const u64, words_len: usize, bytes: *const u8, bytes_len: usize, counters: *const [u64; 17], kind: u8, id: i64) -> Number;
+    pub fn tvk_is_deleted(words: *const u64, words_len: usize, bytes: *const u8, bytes_len: usize, counters: *const [u64; 17], kind: u8, id: i64) -> Number;
+    pub fn tvk_known_version(words: *const u64, words_len: usize, bytes: *const u8, bytes_len: usize, counters: *const [u64; 17], kind: u8, id: i64) -> Number;
+    pub fn tvk_text(words: *const u64, words_len: usize, bytes: *const u8, bytes_len: usize, counters: *const [u64; 17], handle: u64) -> Part;
+    pub fn tvk_live_ids(words: *const u64, words_len: usize, bytes: *const u8, bytes_len: usize, counters: *const [u64; 17], kind: u8, ids: *mut u64, ids_len: usize, versions: *mut u64, versions_len: usize) -> Number;
+    pub fn tvk_deleted_ids(words: *const u64, words_len: usize, bytes: *const u8, bytes_len: usize, counters: *const [u64; 17], kind: u8, ids: *mut u64, ids_len: usize, versions: *mut u64, versions_len: usize) -> Number;
+    pub fn tvk_listing(words: *const u64, words_len: usize, bytes: *const u8, bytes_len: usize, counters: *const [u64; 17], out: *mut u8, out_len: usize) -> ListingReply;
+    pub fn tvk_event(words: *mut u64, words_len: usize, bytes: *mut u8, bytes_len: usize, counters: *mut [u64; 17], reader: *mut [u64; 19], parts: *mut [u8; 44432], line: *const u8, line_len: usize) -> EventReply;
+    pub fn tvk_events(words: *mut u64, words_len: usize, bytes: *mut u8, bytes_len: usize, counters: *mut [u64; 17], reader: *mut [u64; 19], parts: *mut [u8; 44432], run: *const u8, run_len: usize) -> EventsReply;
+    pub fn tvk_end(words: *const u64, words_len: usize, bytes: *const u8, bytes_len: usize, counters: *const [u64; 17], reader: *const [u64; 19], parts: *const [u8; 44432]) -> EventReply;
 }

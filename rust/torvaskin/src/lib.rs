@@ -27,7 +27,7 @@
 //!
 //! | There | Here |
 //! |---|---|
-//! | `CompactDiffOverlay::new()` | [`Overlay::new`] with [`Sizes`], or [`Overlay::set_up`] in [`Lent`] parts |
+//! | `CompactDiffOverlay::new()` | [`Overlay::new`] with [`Sizes`], or [`Overlay::set_up`] in [`Lent`] blocks |
 //! | `parse_osc_file_into(path, &mut overlay)` | a [`Reader`] and its event lines |
 //! | `push_way(id, &refs, &tags, &meta)`, `delete_way(id, &meta)` | [`Overlay::push`] of a [`Record`], [`Overlay::delete`] |
 //! | `get_way(id)`, `has_way(id)`, `is_deleted(kind, id)` | [`Overlay::get`], [`Overlay::has`], [`Overlay::is_deleted`] |
@@ -38,6 +38,7 @@
 
 #![deny(missing_docs, unsafe_code, unsafe_op_in_unsafe_fn)]
 
+mod blocks;
 #[doc(hidden)]
 #[allow(missing_docs)]
 pub mod entry;
@@ -46,13 +47,12 @@ mod ffi;
 pub mod fields;
 pub mod lists;
 mod overlay;
-mod parts;
 mod reader;
 mod record;
 mod refusal;
 
+pub use blocks::{Blocks, Lent, Owned, Shared, Sizes, Storage};
 pub use overlay::{Name, Overlay};
-pub use parts::{Lent, Owned, Parts, Shared, Sizes, Storage};
 pub use reader::{Reader, STAGED};
 pub use record::{Body, ElementKind, Handle, Member, Metadata, Record};
 pub use refusal::{Reason, Refusal};

@@ -53,20 +53,22 @@ impl Name for &str {
 impl Overlay {
     /// An empty overlay in storage of these sizes. Refused 1 for a size outside.
     pub fn new(sizes: &Sizes) -> Result<Self, Refusal> {
-        Self::set_up(sizes.allocate()?)
+        Self::set_up(sizes.allocate()?, sizes)
     }
 }
 
 impl<S: Storage> Overlay<S> {
-    /// An empty overlay in this storage, whatever it holds. Refused 1 for a size outside.
-    pub fn set_up(storage: S) -> Result<Self, Refusal> {
+    /// An empty overlay in this storage, whatever it holds. Refused 1 for a size outside, and for blocks that are longer or shorter than the
+    /// sizes take ([`Sizes::words`], [`Sizes::bytes`]).
+    pub fn set_up(storage: S, sizes: &Sizes) -> Result<Self, Refusal> {
         let mut overlay = Self { storage };
-        let reply = entry::set_up(overlay.storage.lent(), 0);
+        let reply = entry::set_up(overlay.storage.lent(), sizes.given(), 0);
         Refusal::unless_taken(reply.number, reply.held, 0)?;
         Ok(overlay)
     }
 
-    /// The overlay that this storage holds since an earlier one was given back. Where it holds none, calls are refused 22.
+    /// The overlay that this storage holds since an earlier one was given back. Where it holds none, or its blocks are longer or shorter than
+    /// at set-up, calls are refused 22.
     ///
     /// ```
     /// use torvaskin::{ElementKind, Overlay, Sizes};
@@ -75,7 +77,7 @@ impl<S: Storage> Overlay<S> {
     /// overlay.delete(ElementKind::Node, 1, None)?;
     /// let mut storage = overlay.into_storage();
     /// assert!(Overlay::kept(storage.clone()).is_deleted(ElementKind::Node, 1)?);
-    /// storage.counts[0] = 700;
+    /// storage.counters[0] = 700;
     /// assert_eq!(Overlay::kept(storage).is_sound().unwrap_err().number(), 22);
     /// # Ok::<(), torvaskin::Refusal>(())
     /// ```
@@ -115,9 +117,22 @@ impl<S: Storage> Overlay<S> {
     /// ```
     pub fn used(&self) -> Result<Sizes, Refusal> {
         self.is_sound()?;
-        let [nodes, ways, relations, na, wa, ra, strings, string_bytes, _] =
-            self.storage.shared().counts.map(|count| count as usize);
+        let [nodes, ways, relations, na, wa, ra, strings, string_bytes, ..] =
+            self.storage.shared().counters.map(|count| count as usize);
         Ok(Sizes { ids: [nodes, ways, relations], arenas: [na, wa, ra], strings, string_bytes })
+    }
+
+    /// How much was lent at set-up.
+    ///
+    /// ```
+    /// use torvaskin::{Overlay, Sizes};
+    ///
+    /// assert_eq!(Overlay::new(&Sizes::ROADLIST)?.sizes()?, Sizes::ROADLIST);
+    /// # Ok::<(), torvaskin::Refusal>(())
+    /// ```
+    pub fn sizes(&self) -> Result<Sizes, Refusal> {
+        self.is_sound()?;
+        Ok(self.storage.shared().sizes())
     }
 
     /// Sets whether a change may claim a version below the known one.
@@ -167,10 +182,10 @@ impl<S: Storage> Overlay<S> {
     /// # Ok::<(), torvaskin::Refusal>(())
     /// ```
     pub fn push<N: Name>(&mut self, record: &Record<'_, N>) -> Result<(), Refusal> {
-        let counts = *self.storage.shared().counts;
+        let counters = *self.storage.shared().counters;
         let pushed = self.push_parts(record);
         if pushed.is_err() {
-            *self.storage.lent().counts = counts;
+            *self.storage.lent().counters = counters;
         }
         pushed
     }
@@ -299,10 +314,10 @@ impl<S: Storage> Overlay<S> {
 
     /// The text of a handle. Refused 21 where it is not held.
     pub fn text(&self, handle: Handle) -> Result<&str, Refusal> {
-        let parts = self.storage.shared();
-        let part = entry::text(parts, handle.0.into());
+        let blocks = self.storage.shared();
+        let part = entry::text(blocks, handle.0.into());
         Refusal::unless_taken(part.number, 0, 0)?;
-        let text = cut(parts.bytes, part.start, part.len).and_then(|text| std::str::from_utf8(text).ok());
+        let text = cut(blocks.texts().bytes, part.start, part.len).and_then(|text| std::str::from_utf8(text).ok());
         text.ok_or(Refusal::UNSOUND)
     }
 
@@ -358,30 +373,29 @@ impl<S: Storage> Overlay<S> {
         kind: ElementKind,
         fill: fn(Shared<'_>, u8, &mut [u64], &mut [u64]) -> Number,
     ) -> Result<Vec<(i64, Option<i32>)>, Refusal> {
-        let parts = self.storage.shared();
-        let most = parts.ids[kind as usize].len() / 3;
+        let blocks = self.storage.shared();
+        let most = blocks.part(kind).rows.len();
         let (mut ids, mut versions) = (vec![0; most], vec![0; most]);
-        let count = value(fill(parts, kind as u8, &mut ids, &mut versions))?;
+        let count = value(fill(blocks, kind as u8, &mut ids, &mut versions))?;
         let known = ids.into_iter().zip(versions).map(|(id, word)| (id.cast_signed(), version_in(word)));
         Ok(known.take(usize::try_from(count).unwrap_or(most)).collect())
     }
 
     /// The records of the live ids in OSM order, with one test of what is lent.
     pub fn records(&self, kind: ElementKind) -> Result<Vec<Record<'_>>, Refusal> {
-        let parts = self.storage.shared();
+        let blocks = self.storage.shared();
+        let (arena, texts) = (blocks.part(kind).arena, blocks.texts());
         let live = self.rows(kind)?.filter(|row| row.1 < DELETED);
-        let records = live.map(|(_, start)| {
-            Record::read(kind, parts.arenas[kind as usize].get(usize::try_from(start).ok()?..)?, &parts)
-        });
+        let records = live.map(|(_, start)| Record::read(kind, arena.get(usize::try_from(start).ok()?..)?, texts));
         records.collect::<Option<_>>().ok_or(Refusal::UNSOUND)
     }
 
     /// The known ids, and where the record of each starts.
     fn rows(&self, kind: ElementKind) -> Result<impl Iterator<Item = (i64, u64)>, Refusal> {
         self.is_sound()?;
-        let parts = self.storage.shared();
-        let (rows, _) = parts.ids[kind as usize].as_chunks();
-        let used = usize::try_from(parts.counts[kind as usize]).unwrap_or(rows.len());
+        let blocks = self.storage.shared();
+        let rows = blocks.part(kind).rows;
+        let used = usize::try_from(blocks.counters[kind as usize]).unwrap_or(rows.len());
         Ok(rows.iter().take(used).map(|[rank, start, _]| (id_of(*rank), *start)))
     }
 
@@ -391,9 +405,9 @@ impl<S: Storage> Overlay<S> {
         if part.found == 0 {
             return Ok(None);
         }
-        let parts = self.storage.shared();
-        let data = cut(parts.arenas[kind as usize], part.start, part.len);
-        let record = data.and_then(|data| Record::read(kind, data, &parts));
+        let blocks = self.storage.shared();
+        let data = cut(blocks.part(kind).arena, part.start, part.len);
+        let record = data.and_then(|data| Record::read(kind, data, blocks.texts()));
         record.map(Some).ok_or(Refusal::UNSOUND)
     }
 

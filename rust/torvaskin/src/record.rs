@@ -1,6 +1,6 @@
 //! Elements: what is pushed, and what is read.
 
-use crate::parts::Shared;
+use crate::blocks::TextPart;
 
 /// A node, a way or a relation.
 #[derive(Clone, Copy, Debug, PartialEq, Eq, Hash)]
@@ -154,7 +154,7 @@ impl<'a> Record<'a> {
     }
 
     /// The record at the start of these bytes; nothing where they are no whole record.
-    pub(crate) fn read(kind: ElementKind, mut data: &'a [u8], parts: &Shared<'a>) -> Option<Self> {
+    pub(crate) fn read(kind: ElementKind, mut data: &'a [u8], texts: TextPart<'a>) -> Option<Self> {
         let data = &mut data;
         let id = i64::from_le_bytes(take(data)?);
         let place = match kind {
@@ -163,7 +163,7 @@ impl<'a> Record<'a> {
         };
         let count = if kind == ElementKind::Node { 0 } else { u32::from_le_bytes(take(data)?) };
         let tags = u32::from_le_bytes(take(data)?);
-        let metadata = read_metadata(data, parts)?;
+        let metadata = read_metadata(data, texts)?;
         let body = match kind {
             ElementKind::Node => Body::Node { lat: place[0], lon: place[1] },
             ElementKind::Way => {
@@ -171,11 +171,11 @@ impl<'a> Record<'a> {
                 Body::Way { refs: refs.collect::<Option<_>>()? }
             }
             ElementKind::Relation => {
-                let members = (0..count).map(|_| read_member(data, parts));
+                let members = (0..count).map(|_| read_member(data, texts));
                 Body::Relation { members: members.collect::<Option<_>>()? }
             }
         };
-        let tags = (0..tags).map(|_| read_tag(data, parts)).collect::<Option<_>>()?;
+        let tags = (0..tags).map(|_| read_tag(data, texts)).collect::<Option<_>>()?;
         Some(Self { id, body, metadata, tags })
     }
 }
@@ -208,13 +208,13 @@ fn take<const LEN: usize>(data: &mut &[u8]) -> Option<[u8; LEN]> {
     Some(*first)
 }
 
-fn read_metadata<'a>(data: &mut &'a [u8], parts: &Shared<'a>) -> Option<Option<Metadata<&'a str>>> {
+fn read_metadata<'a>(data: &mut &'a [u8], texts: TextPart<'a>) -> Option<Option<Metadata<&'a str>>> {
     let [flags] = take(data)?;
     let version = i32::from_le_bytes(take(data)?);
     let timestamp = i64::from_le_bytes(take(data)?);
     let changeset = i64::from_le_bytes(take(data)?);
     let uid = i32::from_le_bytes(take(data)?);
-    let user = text(parts, take(data)?)?;
+    let user = text(texts, take(data)?)?;
     let metadata = Metadata {
         version: (flags & HAS_VERSION != 0).then_some(version),
         timestamp,
@@ -231,14 +231,14 @@ pub(crate) const HIDDEN: u8 = 2;
 pub(crate) const HAS_USER: u8 = 4;
 pub(crate) const HAS_VERSION: u8 = 8;
 
-fn read_member<'a>(data: &mut &'a [u8], parts: &Shared<'a>) -> Option<Member<&'a str>> {
+fn read_member<'a>(data: &mut &'a [u8], texts: TextPart<'a>) -> Option<Member<&'a str>> {
     let id = i64::from_le_bytes(take(data)?);
     let [kind] = take(data)?;
-    Some(Member { kind: *ElementKind::ALL.get(usize::from(kind))?, id, role: text(parts, take(data)?)? })
+    Some(Member { kind: *ElementKind::ALL.get(usize::from(kind))?, id, role: text(texts, take(data)?)? })
 }
 
-fn read_tag<'a>(data: &mut &'a [u8], parts: &Shared<'a>) -> Option<(&'a str, &'a str)> {
-    let key = text(parts, take(data)?)?;
+fn read_tag<'a>(data: &mut &'a [u8], texts: TextPart<'a>) -> Option<(&'a str, &'a str)> {
+    let key = text(texts, take(data)?)?;
     let len = u32::from_le_bytes(take(data)?) as usize;
     let (value, rest) = data.split_at_checked(len)?;
     *data = rest;
@@ -246,10 +246,9 @@ fn read_tag<'a>(data: &mut &'a [u8], parts: &Shared<'a>) -> Option<(&'a str, &'a
 }
 
 /// The text of a handle.
-fn text<'a>(parts: &Shared<'a>, handle: [u8; 4]) -> Option<&'a str> {
-    let (spans, _) = parts.spans.as_chunks();
-    let [start, len] = *spans.get(u32::from_le_bytes(handle) as usize)?;
-    std::str::from_utf8(cut(parts.bytes, start.try_into().ok()?, len.try_into().ok()?)?).ok()
+fn text<'a>(texts: TextPart<'a>, handle: [u8; 4]) -> Option<&'a str> {
+    let [start, len] = *texts.spans.get(u32::from_le_bytes(handle) as usize)?;
+    std::str::from_utf8(cut(texts.bytes, start.try_into().ok()?, len.try_into().ok()?)?).ok()
 }
 
 /// So many bytes from a place on.

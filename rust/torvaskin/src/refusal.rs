@@ -33,7 +33,7 @@ macro_rules! reasons {
 #[rustfmt::skip]
 reasons! {
     Size = 1, "The overlay was set up with too little or too much storage.",
-        "Set it up again with 1 to 4,096 ids and 0 to 1,048,576 bytes of records a kind, 1 to 4,096 strings and 0 to 65,536 string bytes.";
+        "Set it up again with 1 to 4,096 ids and 0 to 1,048,576 bytes of records a kind, 1 to 4,096 strings and 0 to 65,536 string bytes, in blocks of exactly these sizes.";
     LongLine = 2, "A line of the input is longer than 16,384 bytes.",
         "Ask the supplier of the file: no change that is taken has so long a line.";
     NotText = 3, "A line, or a text handed in by a program, is not proper text: damaged characters, or a carriage return in a line.",
@@ -74,7 +74,7 @@ reasons! {
         "A fault of the calling program.";
     NoSuchNumber = 21, "A program asked for an id or a record by a number that its list does not have, or for a text by a handle that is not held.",
         "A fault of the calling program.";
-    Unsound = 22, "The stored data is damaged, or a part was lent with a size that set-up would refuse; of a record's reader, its bytes are cut short.",
+    Unsound = 22, "The stored data is damaged, or it was lent in blocks of other lengths than at set-up; of a record's reader, its bytes are cut short.",
         "Do not use the listing. Start with an empty overlay, lent as at set-up, and read the files again.";
 }
 

@@ -2,11 +2,17 @@
 //! sizes. No call panics; what is unsound is refused 22 by every call; what is refused changes nothing. Each test prints how many calls were
 //! made, and how many were answered by each number.
 
+use std::cell::Cell;
+
 use torvaskin::{
-    Body, ElementKind, Handle, Member, Metadata, Overlay, Owned, Reader, Record, Refusal, STAGED, Sizes, Storage,
+    Body, ElementKind, Handle, Member, Metadata, Overlay, Owned, Reader, Record, Refusal, STAGED, Shared, Sizes,
+    Storage,
 };
 
 const KINDS: [ElementKind; 3] = ElementKind::ALL;
+
+/// What is lent for the small overlay.
+const SMALL: Sizes = Sizes { ids: [4, 5, 3], arenas: [260, 250, 240], strings: 6, string_bytes: 40 };
 
 /// Calls by the number of their answer.
 #[derive(Default)]
@@ -65,8 +71,7 @@ struct Lent {
 impl Lent {
     /// A small overlay of three ids a kind, one of them deleted, under a reader in the midst of a way.
     fn small() -> Self {
-        let sizes = Sizes { ids: [4; 3], arenas: [260; 3], strings: 6, string_bytes: 40 };
-        let mut overlay = Overlay::new(&sizes).expect("within limits");
+        let mut overlay = Overlay::new(&SMALL).expect("within limits");
         let metadata =
             Metadata { version: Some(3), timestamp: 1, changeset: -9, uid: 258, user: Some("ß"), hidden: false };
         let records = [
@@ -97,18 +102,15 @@ impl Lent {
         Self { storage: overlay.into_storage(), words, staged }
     }
 
-    /// Every lent word: tables, spans, counters, the reader's.
+    /// Every lent word: tables, spans, counters and sizes, the reader's.
     fn all_words(&mut self) -> Vec<&mut u64> {
-        let parts = self.storage.lent();
-        let words = parts.ids.into_iter().flatten().chain(parts.spans).chain(parts.counts);
-        words.chain(self.words.iter_mut()).collect()
+        let blocks = self.storage.lent();
+        blocks.words.iter_mut().chain(blocks.counters).chain(self.words.iter_mut()).collect()
     }
 
     /// Every lent byte: arenas, string bytes, of the staged ones the used and a few more.
     fn all_bytes(&mut self) -> Vec<&mut u8> {
-        let parts = self.storage.lent();
-        let bytes = parts.arenas.into_iter().flatten().chain(parts.bytes);
-        bytes.chain(self.staged.iter_mut().take(40)).collect()
+        self.storage.bytes.iter_mut().chain(self.staged.iter_mut().take(40)).collect()
     }
 
     /// Every call on what is lent, each on it as it is.
@@ -134,8 +136,20 @@ impl Lent {
         }
         assert!(numbers.iter().all(|number| (*number == 22) != sound), "{sound} {numbers:?}");
         self.reader_calls(tally, sound);
-        let set_up = Overlay::set_up(self.storage.clone()).expect("sizes as before");
-        assert!(set_up.is_empty() == Ok(true));
+        self.set_up(tally);
+    }
+
+    /// Set-up takes blocks of its sizes, whatever they hold; in others it is refused 1 and changes nothing.
+    fn set_up(&self, tally: &mut Tally) {
+        let mut storage = self.storage.clone();
+        let empty =
+            Overlay::set_up(&mut storage, &SMALL).and_then(|overlay| Ok((overlay.is_empty()?, overlay.sizes()?)));
+        let number = tally.count(&empty);
+        if (storage.words.len(), storage.bytes.len()) == (SMALL.words(), SMALL.bytes()) {
+            assert_eq!(empty, Ok((true, SMALL)));
+        } else {
+            assert!(number == 1 && storage == self.storage);
+        }
     }
 
     /// Every reading call. All of them see what the test of soundness says.
@@ -144,6 +158,8 @@ impl Lent {
         let sound = tally.count(&overlay.is_sound());
         let see = |number: u32| assert!(number == sound || (number != 22 && sound == 0), "{number} for {sound}");
         see(tally.count(&overlay.is_empty()));
+        see(tally.count(&overlay.used()));
+        see(tally.count(&overlay.sizes()));
         for kind in KINDS {
             see(tally.count(&overlay.live_count(kind)));
             see(tally.count(&overlay.deleted_count(kind)));
@@ -273,7 +289,8 @@ fn in_pairs() {
     tally.print("in pairs");
 }
 
-/// Several words and bytes at random; storage and readers of nothing but random words and bytes; parts of any lengths.
+/// Several words and bytes at random; storage and readers of nothing but random words and bytes; blocks of any lengths, and of those that the
+/// sizes behind the counters then take.
 #[test]
 fn at_random() {
     let (base, mut tally, mut random) = (Lent::small(), Tally::default(), Random(1));
@@ -291,17 +308,155 @@ fn at_random() {
             lent.all_words().into_iter().for_each(|word| *word = random.word());
             lent.all_bytes().into_iter().for_each(|byte| *byte = random.word() as u8);
         }
+        let storage = &mut lent.storage;
         if round % 5 == 0 {
-            let storage = &mut lent.storage;
-            let part = random.below(3);
-            storage.ids[part].truncate(3 + random.below(9));
-            storage.arenas[part].truncate(random.below(260));
-            storage.spans.truncate(2 + random.below(9));
-            storage.bytes.truncate(random.below(40));
+            storage.words.resize(random.below(90), 7);
+            storage.bytes.resize(random.below(900), 7);
+        }
+        if round % 10 < 3 {
+            let sizes = &mut storage.counters[9..];
+            sizes[random.below(8)] = 1 + random.below(300) as u64;
+            sizes[random.below(8)] = random.below(5) as u64;
+            fit(storage);
         }
         lent.every_call(&mut tally);
     }
     tally.print("at random");
+}
+
+/// Makes the blocks as long as the sizes behind the counters take, where these are small.
+fn fit(storage: &mut Owned) {
+    let sizes = &storage.counters[9..];
+    if sizes.iter().all(|size| *size < 1_000) {
+        let sum = |sizes: &[u64]| sizes.iter().sum::<u64>() as usize;
+        let (words, bytes) = (3 * sum(&sizes[..3]) + 2 * sum(&sizes[6..7]), sum(&sizes[3..6]) + sum(&sizes[7..]));
+        storage.words.resize(words, 7);
+        storage.bytes.resize(bytes, 7);
+    }
+}
+
+/// Blocks that are lent longer or shorter than at set-up are 22, and at set-up 1; with all that was lent they are an overlay again.
+#[test]
+fn lent_longer_and_shorter() {
+    let (base, mut tally) = (Lent::small(), Tally::default());
+    let (words, bytes) = (SMALL.words(), SMALL.bytes());
+    for (words, bytes) in [
+        (words + 1, bytes),
+        (words - 1, bytes),
+        (words, bytes + 1),
+        (words, bytes - 1),
+        (words + 1, bytes - 1),
+        (words + 3, bytes),
+        (words, bytes + 260),
+        (0, bytes),
+        (words, 0),
+        (0, 0),
+    ] {
+        let mut lent = base.clone();
+        lent.storage.words.resize(words, 0);
+        lent.storage.bytes.resize(bytes, 0);
+        assert_eq!(lent.reads(&mut tally), 22);
+        lent.every_call(&mut tally);
+    }
+    assert_eq!(base.reads(&mut tally), 0);
+    tally.print("lent longer and shorter");
+}
+
+/// Storage that hands out other blocks than before from some borrowing on.
+struct Fickle<'a> {
+    first: &'a mut Owned,
+    then: &'a mut Owned,
+    /// How often it hands out the first.
+    left: Cell<usize>,
+}
+
+impl Fickle<'_> {
+    /// Whether this borrowing is one of the first.
+    fn is_first(&self) -> bool {
+        self.left.replace(self.left.get().saturating_sub(1)) > 0
+    }
+}
+
+impl Storage for Fickle<'_> {
+    fn shared(&self) -> Shared<'_> {
+        if self.is_first() { self.first.shared() } else { self.then.shared() }
+    }
+
+    fn lent(&mut self) -> torvaskin::Lent<'_> {
+        if self.is_first() { self.first.lent() } else { self.then.lent() }
+    }
+}
+
+type FickleCall = fn(&mut Overlay<Fickle<'_>>, ElementKind) -> Result<(), Refusal>;
+
+/// Blocks and sizes that change between a test and what is read by it: any answer, no panic.
+#[test]
+fn storage_that_changes() {
+    let (base, mut tally) = (Lent::small(), Tally::default());
+    let mut others = vec![base.storage.clone()];
+    for n in 0..17 {
+        for value in [0, 1, 2, 7, 300, 1 << 62, 1 << 63, u64::MAX / 3, u64::MAX] {
+            let mut storage = base.storage.clone();
+            storage.counters[n] = value;
+            others.push(storage);
+        }
+    }
+    for (words, bytes) in [(0, 0), (1, 1), (30, 100), (SMALL.words(), 0), (0, SMALL.bytes())] {
+        let mut storage = base.storage.clone();
+        storage.words.resize(words, 0);
+        storage.bytes.resize(bytes, 0);
+        others.push(storage);
+    }
+    let calls: [FickleCall; 10] = [
+        |overlay, _| overlay.used().map(drop),
+        |overlay, _| overlay.sizes().map(drop),
+        |overlay, kind| overlay.records(kind).map(drop),
+        |overlay, kind| overlay.record(kind, 0).map(drop),
+        |overlay, kind| overlay.get(kind, [5, -1, i64::MAX][kind as usize]).map(drop),
+        |overlay, kind| overlay.live_versions(kind).map(drop),
+        |overlay, kind| overlay.text(Handle(kind as u32)).map(drop),
+        |overlay, kind| overlay.push(&with_handles(kind, 6, Handle(1))),
+        |overlay, kind| overlay.push(&Record::way(6, []).tag("new", ["k", "", "v"][kind as usize])),
+        |overlay, _| overlay.listing(1_000).map(drop),
+    ];
+    for (other, left) in others.iter().flat_map(|other| (0..4).map(move |left| (other, left))) {
+        for (call, kind) in calls.iter().flat_map(|call| KINDS.map(|kind| (call, kind))) {
+            let (mut first, mut then) = (base.storage.clone(), other.clone());
+            let storage = Fickle { first: &mut first, then: &mut then, left: Cell::new(left) };
+            tally.count(&call(&mut Overlay::kept(storage), kind));
+        }
+    }
+    tally.print("storage that changes");
+}
+
+/// The sizes of an overlay as numbers: ids and arenas of the three kinds, strings, string bytes.
+fn of([a, b, c, d, e, f, strings, string_bytes]: [usize; 8]) -> Sizes {
+    Sizes { ids: [a, b, c], arenas: [d, e, f], strings, string_bytes }
+}
+
+/// Sizes at their ends and past them, alone and with another that makes the sum come out, some of them only where it comes round: taken where
+/// each is within its ends and the blocks are as long as they take, else refused 1 with nothing changed.
+#[test]
+fn sizes_at_their_ends() {
+    let (base, mut tally) = (Lent::small(), Tally::default());
+    let least = [1, 1, 1, 0, 0, 0, 1, 0];
+    let most = [4_096, 4_096, 4_096, 1 << 20, 1 << 20, 1 << 20, 4_096, 1 << 16];
+    let small = [4, 5, 3, 260, 250, 240, 6, 40];
+    let ends = |n: usize| [0, 1, most[n], most[n] + 1, usize::MAX / 3 + 1, 1 << 63, small[n] ^ 1 << 63, usize::MAX];
+    let cases = (0..64).flat_map(|pair| ends(pair / 8).map(|size| (pair / 8, pair % 8, size)));
+    for (n, other, size) in cases {
+        let mut numbers = small;
+        numbers[other] = small[other].wrapping_add(small[n]).wrapping_sub(size);
+        numbers[n] = size;
+        let sizes = of(numbers);
+        let within = (0..8).all(|n| (least[n]..=most[n]).contains(&numbers[n]));
+        assert_eq!(tally.count(&Overlay::new(&sizes)), u32::from(!within), "{sizes:?}");
+        let fits = within && (sizes.words(), sizes.bytes()) == (SMALL.words(), SMALL.bytes());
+        let mut storage = base.storage.clone();
+        assert_eq!(tally.count(&Overlay::set_up(&mut storage, &sizes)), u32::from(!fits), "{sizes:?}");
+        assert!(fits || storage == base.storage);
+    }
+    tally.print("sizes at their ends");
 }
 
 /// Calls at random on one overlay, many of them refused: what is refused leaves the listing, what is pushed is read back, and the overlay stays
@@ -428,6 +583,7 @@ fn largest() {
     tally.count(&overlay.listing(listing.len()));
     assert_eq!(tally.count(&overlay.listing(listing.len() - 1)), 19);
     let storage = overlay.into_storage();
-    assert_eq!(*storage.counts, [0, 4_096, 4_096, 0, 1 << 20, 0, 4_096, 65_536, 0]);
+    assert_eq!(storage.counters[..9], [0, 4_096, 4_096, 0, 1 << 20, 0, 4_096, 65_536, 0]);
+    assert_eq!(storage.counters[9..], [4_096, 4_096, 4_096, 1 << 20, 1 << 20, 1 << 20, 4_096, 65_536]);
     tally.print("largest");
 }

@@ -1,4 +1,6 @@
--- The kind chooses its table, its arena and its counters.
+-- The kind chooses its part of the blocks and its counters.
+use denote.Ref.{now}
+use Rattle.overlay.proofs.Puts.{kind-store-in}
 use Rattle.act_answer.specs.Answer.{pushAnswer}
 use borrow.Author.Needs.{needs}
 use Rattle.act_answer.proofs.push_answer.Statement.{statement}
@@ -6,32 +8,23 @@ use Rattle.act_answer.proofs.push_answer.Tie as tie
 
 returns : tie.Need-returns
 unfolding pushAnswer
-returns c = let e = c .before .before .before .enum-told .given .1 in rw (e, ← c .before .record-fits .ensures) (rw e at (c .answer-at .ensures))
-
-returns-2 : tie.Need-returns-2
-unfolding pushAnswer
-returns-2 c = let e = c .before .before .before .enum-told2 .given .1 in rw (e, ← c .before .record-fits2 .ensures) (rw e at (c .answer-at2 .ensures))
-
-returns-3 : tie.Need-returns-3
-unfolding pushAnswer
-returns-3 c = let e = c .before .before .before .enum-told3 .given .1 in rw (e, ← c .before .record-fits3 .ensures) (rw e at (c .answer-at3 .ensures))
+returns c =
+    let s : tie.Start = search in
+    let k = s .args in
+    let p : tie.After-part-in = search in
+    rw (← kind-store-in (k .kind) (now (k .words)) (now (k .bytes)) (now (k .counters)) _ (p .part-in .ensures .0)) (c .push-answer-at .ensures)
 
 pub push-answer-spec : {M : Type 1} → statement M
 push-answer-spec =
     tie.close
     (tie.spec
-    (λ c. search needs)
-    (λ c. search needs)
-    (λ c κs. search needs)
     (λ c κs. search needs)
     (λ c. search needs)
     (λ c. search needs)
-    (λ c κs. search needs)
-    (λ c κs. search needs)
     (λ c. search needs)
     (λ c. search needs)
+    (λ c. search needs)
+    (λ c. search needs)
+    (λ c. search needs)
     (λ c κs. search needs)
-    (λ c κs. search needs)
-    returns
-    returns-2
-    returns-3)
+    returns)

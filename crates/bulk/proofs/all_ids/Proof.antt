@@ -1,7 +1,6 @@
 -- The soundness test, then the list of one kind.
-use mathlib.Core.Path.{sym, _∙_}
 use denote.Ref.{now}
-use Rattle.overlay.specs.Overlay.{overlayOf}
+use Rattle.overlay.specs.Lent.{overlayIn}
 use Rattle.reading.specs.Reading.{countOn}
 use Rattle.bulk.specs.Bulk.{allIdsOn}
 use Rattle.bulk.proofs.Numbers.{rows-numbers}
@@ -11,10 +10,13 @@ use Rattle.bulk.proofs.all_ids.Tie as tie
 
 returns : tie.Need-returns
 returns c =
-    let a = c .before .before .before .before .before .before .before .before .before .before .before .before .before .before .before .before .before .before .before .args in
-    let s = sym (c .before .before .before .before .before .before .before .before .is-sound .ensures) ∙ c .before .before .before .before .before .before .before .if1 .taken in
-    c .before .before .before .before .put-one .ensures (now (a .ss)) (now (a .sb))
-    ∙ rows-numbers (a .kind) (a .side) (overlayOf (now (a .ni)) (now (a .na)) (now (a .wi)) (now (a .wa)) (now (a .ri)) (now (a .ra)) (now (a .ss)) (now (a .sb)) (now (a .us))) s (now (a .ids)) (now (a .versions))
+    let s : tie.After-is-sound = search in
+    let i : tie.Then1 = search in
+    let w : tie.After-put-one = search in
+    let b : tie.Start = search in
+    let k = b .args in
+    let sound = rw (s .is-sound .ensures) at (i .if1 .taken) in
+    rw (← rows-numbers (k .kind) (k .side) (overlayIn (now (k .words)) (now (k .bytes)) (now (k .counters))) sound (now (k .ids)) (now (k .versions))) (w .put-one .ensures)
 
 returns-2 : tie.Need-returns-2
 unfolding allIdsOn countOn

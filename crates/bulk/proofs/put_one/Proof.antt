@@ -1,44 +1,35 @@
--- Each kind with its own table, arena and counters.
+-- What is lent of a kind is its kind store.
+use Prim.Native.Nat.{_+_}
 use denote.Ref.{now}
 use lib.ListN.{getD}
+use Rattle.overlay.proofs.Puts.{kind-store-in}
 use borrow.Author.Needs.{needs}
 use Rattle.bulk.proofs.put_one.Statement.{statement}
 use Rattle.bulk.proofs.put_one.Tie as tie
 
 returns : tie.Need-returns
-returns c ss sb =
-    let e = c .before .before .before .before .before .before .before .before .enum-told .given .1 in
-    rw e (rw e at (c .before .before .before .before .put-kind .ensures (getD (now (c .before .before .before .before .before .before .before .before .before .before .before .before .before .before .before .before .before .before .args .us)) 3 0)))
-
-returns-2 : tie.Need-returns-2
-returns-2 c ss sb =
-    let e = c .before .before .before .before .before .before .before .before .enum-told2 .given .1 in
-    rw e (rw e at (c .before .before .before .before .put-kind2 .ensures (getD (now (c .before .before .before .before .before .before .before .before .before .before .before .before .before .before .before .before .before .before .args .us)) 4 0)))
-
-returns-3 : tie.Need-returns-3
-returns-3 c ss sb =
-    let e = c .before .before .before .before .before .before .before .before .enum-told3 .given .1 in
-    rw e (rw e at (c .before .before .before .before .put-kind3 .ensures (getD (now (c .before .before .before .before .before .before .before .before .before .before .before .before .before .before .before .before .before .before .args .us)) 5 0)))
+returns c =
+    let s : tie.Start = search in
+    let p : tie.After-part-in = search in
+    let w : tie.After-put-kind = search in
+    let k = s .args in
+    rw (← kind-store-in (k .kind) (now (k .words)) (now (k .bytes)) (now (k .counters)) _ (p .part-in .ensures .0)) (w .put-kind .ensures (getD (now (k .counters)) (p .part-in .result .at + 3) 0))
 
 pub put-one-spec : {M : Type 1} → statement M
 put-one-spec =
     tie.close
     (tie.spec
+    (λ c κs. search needs)
+    (λ c. search needs)
+    (λ c. search needs)
+    (λ c. search needs)
+    (λ c. search needs)
+    (λ c. search needs)
+    (λ c. search needs)
+    (λ c. search needs)
     (λ c. search needs)
     (λ c. search needs)
     (λ c κs. search needs)
     (λ c. search needs)
     (λ c. search needs)
-    (λ c κs. search needs)
-    (λ c. search needs)
-    (λ c. search needs)
-    (λ c κs. search needs)
-    (λ c. search needs)
-    (λ c. search needs)
-    returns
-    (λ c. search needs)
-    (λ c. search needs)
-    returns-2
-    (λ c. search needs)
-    (λ c. search needs)
-    returns-3)
+    returns)

@@ -1,8 +1,8 @@
 -- 22, 3, or what the store answers.
 use mathlib.Core.Path.{sym, _∙_}
 use denote.Ref.{now}
-use Rattle.overlay.specs.Overlay.{Overlay, overlayOf}
-use Rattle.store.specs.Beside.{KindParts}
+use Rattle.overlay.specs.Overlay.{Overlay}
+use Rattle.overlay.specs.Lent.{overlayIn}
 use Rattle.direct.proofs.Parts.{intern-unsound, intern-not-text, intern-text}
 use borrow.Author.Needs.{needs}
 use Rattle.direct.proofs.intern.Statement.{statement}
@@ -10,32 +10,33 @@ use Rattle.direct.proofs.intern.Tie as tie
 
 -- the overlay as it was lent
 abbrev given : tie.Start → Overlay
-given s =
-    let k = s .args in
-    overlayOf (now (k .ni)) (now (k .na)) (now (k .wi)) (now (k .wa)) (now (k .ri)) (now (k .ra)) (now (k .ss)) (now (k .sb)) (now (k .us))
-
--- what stands beside the strings
-abbrev beside : tie.Start → KindParts
-beside s =
-    let k = s .args in
-    record { ni = now (k .ni); na = now (k .na); wi = now (k .wi); wa = now (k .wa); ri = now (k .ri); ra = now (k .ra) }
+given s = overlayIn (now (s .args .words)) (now (s .args .bytes)) (now (s .args .counters))
 
 returns : tie.Need-returns
 returns c =
-    let w = c .before .before .before .before .before .before .before .before in
-    let s = w .before .before .before .before .before .before .before .before .before .before .before .before .before .before .before .before in
-    intern-text (given s) (now (s .args .text)) (sym (w .before .before .before .is-sound .ensures) ∙ w .before .before .if1 .taken) (sym (w .before .is-text .ensures) ∙ w .if2 .taken) _
-    (c .before .before .before .before .store-text .ensures (beside s))
+    let s : tie.Start = search in
+    let d : tie.After-is-sound = search in
+    let i : tie.Then1 = search in
+    let t : tie.After-is-text = search in
+    let j : tie.Then2 = search in
+    let w : tie.After-store-text = search in
+    intern-text (given s) (now (s .args .text)) (sym (d .is-sound .ensures) ∙ i .if1 .taken) (sym (t .is-text .ensures) ∙ j .if2 .taken) _ (w .store-text .ensures)
 
 returns-2 : tie.Need-returns-2
 returns-2 c =
-    let s = c .before .before .before .before .before .before .before .before .before .before .before .before .before .before .before .before in
-    intern-not-text (given s) (now (s .args .text)) (sym (c .before .before .before .is-sound .ensures) ∙ c .before .before .if1 .taken) (sym (c .before .is-text .ensures) ∙ c .if2 .left)
+    let s : tie.Start = search in
+    let d : tie.After-is-sound = search in
+    let i : tie.Then1 = search in
+    let t : tie.After-is-text = search in
+    let j : tie.Else2 = search in
+    intern-not-text (given s) (now (s .args .text)) (sym (d .is-sound .ensures) ∙ i .if1 .taken) (sym (t .is-text .ensures) ∙ j .if2 .left)
 
 returns-3 : tie.Need-returns-3
 returns-3 c =
-    let s = c .before .before .before .before .before .before .before .before .before .before .before .before .before .before in
-    intern-unsound (given s) (now (s .args .text)) (sym (c .before .is-sound .ensures) ∙ c .if1 .left)
+    let s : tie.Start = search in
+    let d : tie.After-is-sound = search in
+    let i : tie.Else1 = search in
+    intern-unsound (given s) (now (s .args .text)) (sym (d .is-sound .ensures) ∙ i .if1 .left)
 
 pub intern-spec : {M : Type 1} → statement M
 intern-spec =

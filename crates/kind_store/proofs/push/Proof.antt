@@ -1,62 +1,54 @@
--- The row is searched once; 12 is answered with the known version, and every other case goes on.
+-- The row is searched once; 12 is answered with the known version, and every other case goes on with the floor that the push leaves.
 use mathlib.Core.List.{_++_}
-use mathlib.Core.Path.{sym, _∙_, _≡_}
-use lib.IntN.{ℤ}
 use mir.Val.{toZ}
 use mir.Syntax.{w32, w64}
 use denote.Ref.{now}
-use Rattle.base.specs.Bytes.{Bytes}
 use Rattle.signed.proofs.Bits.{held}
-use Rattle.osm_id.specs.Order.{rank}
-use Rattle.version_floor.specs.declared.Admit.the-variants.{Admitted, Below}
-use Rattle.version_floor.specs.declared.Admit.{Admit}
-use Rattle.version_floor.specs.declared.Version.{Version}
+use Rattle.version_floor.specs.declared.Admit.the-variants.{Below}
 use Rattle.model.specs.Record.{claimOf}
-use Rattle.compact.specs.Held.{metaOf}
+use Rattle.compact.specs.Held.{metaOf, headIn}
 use Rattle.compact.specs.Layout.{headBytes, metaBytes}
-use Rattle.table.specs.Words.{lookup}
-use Rattle.compact.specs.Held.{headIn}
-use Rattle.kind_store.specs.KindStore.{kindStoreWith, KindStore, knownVersion, pushedAs, pushed}
-use Rattle.kind_store.proofs.Acts.{found-as, known-as, checked-as, pushed-as}
+use Rattle.kind_store.specs.KindStore.{kindStoreWith}
+use Rattle.kind_store.proofs.Acts.{push-checked, push-goes}
 use borrow.Author.Needs.{needs}
 use Rattle.kind_store.proofs.push.Statement.{statement}
 use Rattle.kind_store.proofs.push.Tie as tie
 
--- what is known once the check has answered
-module _ (c : tie.After-check) where
-  abbrev kindStore : KindStore
-  kindStore = let k = c .before .before .before .before .before .before .before .before .before .before .before .args in kindStoreWith (now (k .table)) (k .ids) (now (k .arena)) (k .used)
-
-  abbrev id : ℤ
-  id = toZ w64 (c .before .before .before .before .before .before .before .before .before .before .before .args .head .id)
-
-  found : c .before .before .before .before .before .find-row .result ≡ lookup (kindStore .table) (kindStore .ids) (rank id)
-  found = found-as (c .before .before .before .before .before .before .before .before .before .before .before .args .kind) kindStore id (c .before .before .before .before .before .before .rank-of-bits .ensures) (c .before .before .before .before .before .find-row .ensures)
-
-  version : c .before .before .version-found .result ≡ knownVersion (c .before .before .before .before .before .before .before .before .before .before .before .args .kind) kindStore id
-  version = known-as (c .before .before .before .before .before .before .before .before .before .before .before .args .kind) kindStore id found (c .before .before .version-found .ensures)
-
-  abbrev claim : Version
-  claim = claimOf (metaOf (c .before .before .before .before .before .before .before .before .before .before .before .args .meta))
-
-  abbrev bytes : Bytes
-  bytes = let k = c .before .before .before .before .before .before .before .before .before .before .before .args in headBytes (k .kind) (headIn (k .kind) (k .head)) ++ metaBytes (metaOf (k .meta)) ++ now (k .parts)
-
-  answer : (b : Admit) → c .check .result ≡ b → pushed (c .before .before .before .before .before .before .before .before .before .before .before .args .kind) (c .before .before .before .before .before .before .before .before .before .before .before .args .setting) kindStore id claim bytes ≡ pushedAs (c .before .before .before .before .before .before .before .before .before .before .before .args .kind) (c .before .before .before .before .before .before .before .before .before .before .before .args .setting) kindStore id claim bytes b
-  answer b e =
-      let k = c .before .before .before .before .before .before .before .before .before .before .before .args in
-      pushed-as (k .kind) kindStore id (k .setting) claim bytes b (checked-as (k .kind) kindStore id (k .setting) claim version (c .before .claim .ensures) (c .check .ensures) e)
-
-push-admitted-requires : tie.Need-push-admitted-requires
-push-admitted-requires c κs = let w = c .before .before .before .before in (found w, version w)
-
+-- the first two places are looked for first: a search does not reach them once the others are there
 returns : tie.Need-returns
-returns c = c .before .before .before .before .push-admitted .ensures ∙ sym (answer (c .before .before .before .before .before .before .before .before .before) Admitted (c .before .before .before .before .before .before .before .enum-told .given .1))
+returns c =
+    let ranked : tie.After-rank-of-bits = search in
+    let start : tie.Start = search in
+    let pushed : tie.After-push-admitted = search in
+    let carried : tie.After-floor-after = search in
+    let floor : tie.After-floor-found = search in
+    let told : tie.After-enum-told = search in
+    let checked : tie.After-check = search in
+    let claimed : tie.After-claim = search in
+    let known : tie.After-version-found = search in
+    let row : tie.After-find-row = search in
+    let a = start .args in
+    let s = kindStoreWith (now (a .table)) (a .ids) (now (a .arena)) (a .used) in
+    let bytes = headBytes (a .kind) (headIn (a .kind) (a .head)) ++ metaBytes (metaOf (a .meta)) ++ now (a .parts) in
+    push-goes (a .kind) s (toZ w64 (a .head .id)) (a .setting) (claimOf (metaOf (a .meta))) bytes (ranked .rank-of-bits .ensures) (row .find-row .ensures)
+    (known .version-found .ensures) (claimed .claim .ensures) (checked .check .ensures) (told .enum-told .given .1) (floor .floor-found .ensures) (carried .floor-after .ensures)
+    (pushed .push-admitted .ensures)
 
 returns-2 : tie.Need-returns-2
 returns-2 c =
+    let ranked : tie.After-rank-of-bits = search in
+    let start : tie.Start = search in
+    let row : tie.After-find-row = search in
+    let known : tie.After-version-found = search in
+    let claimed : tie.After-claim = search in
+    let checked : tie.After-check = search in
+    let a = start .args in
+    let s = kindStoreWith (now (a .table)) (a .ids) (now (a .arena)) (a .used) in
+    let bytes = headBytes (a .kind) (headIn (a .kind) (a .head)) ++ metaBytes (metaOf (a .meta)) ++ now (a .parts) in
     let z = c .before .held .given in
-    rw (held w32 (z .0 .0) (c .known-told .given .0 .1)) (sym (answer (c .before .before .before) (Below (z .0 .0)) (z .1)))
+    rw (held w32 (z .0 .0) (c .known-told .given .0 .1))
+    (push-checked (a .kind) s (toZ w64 (a .head .id)) (a .setting) (claimOf (metaOf (a .meta))) bytes (ranked .rank-of-bits .ensures) (row .find-row .ensures)
+    (known .version-found .ensures) (claimed .claim .ensures) (checked .check .ensures) (z .1))
 
 pub push-spec : {M : Type 1} → statement M
 push-spec =
@@ -69,7 +61,9 @@ push-spec =
     (λ c κs. search needs)
     (λ c. search needs)
     (λ c. search needs)
-    push-admitted-requires
+    (λ c κs. search needs)
+    (λ c κs. search needs)
+    (λ c κs. search needs)
     (λ c. search needs)
     (λ c. search needs)
     returns

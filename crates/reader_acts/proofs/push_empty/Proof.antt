@@ -4,7 +4,8 @@ use mir.Syntax.{w32, w64}
 use mir.Val.{SFits, toZ}
 use mir.Facts.{sfits-toZ, fits-of-lt}
 use denote.Ref.{now}
-use Rattle.overlay.specs.Overlay.{Overlay, overlayOf}
+use Rattle.overlay.specs.Overlay.{Overlay}
+use Rattle.overlay.specs.Lent.{overlayIn}
 use Rattle.metadata.specs.Metadata.{metaWritten}
 use Rattle.base.specs.Bytes.{Bytes}
 use Rattle.model.specs.Record.{Meta}
@@ -17,9 +18,7 @@ use Rattle.reader_acts.proofs.push_empty.Tie as tie
 
 -- the overlay as it was lent
 abbrev given : tie.Start → Overlay
-given s =
-    let k = s .args in
-    overlayOf (now (k .ni)) (now (k .na)) (now (k .wi)) (now (k .wa)) (now (k .ri)) (now (k .ra)) (now (k .ss)) (now (k .sb)) (now (k .us))
+given s = overlayIn (now (s .args .words)) (now (s .args .bytes)) (now (s .args .counters))
 
 -- the metadata as it is written
 abbrev meta : tie.Start → Meta Bytes
@@ -30,23 +29,23 @@ version-fits s = sfits-toZ {w = w32} {n = s .args .meta .version} (fits-of-lt (o
 
 returns : tie.Need-returns
 returns c =
-    let acted = c .before .before .before .before .before .before .before .before .before .before .before .before .before .before .before .before in
-    let headed = acted .before .before .before .before .before .before .before .before .before .before in
-    let told = headed .before in
-    let asked = told .before .before in
-    let long = asked .before .before .before .before .before .before .before .before .before .before in
-    let claims = long .before in
-    let s = claims .before .before .before .before .before .before .before .before .before .before .before in
+    let acted : tie.After-push-with-user = c .before .before .before .before in
+    let headed : tie.After-head-for = acted .before .before .before .before in
+    let told : tie.After-enum-told = headed .before in
+    let asked : tie.After-push-answer = told .before .before in
+    let long : tie.After-empty-len = asked .before .before .before .before in
+    let claims : tie.After-claimed = long .before in
+    let s : tie.Start = claims .before .before .before .before .before in
     let k = s .args in
     λ g. empty-taken (k .kind) (toZ w64 (k .id)) (meta s) (given s) (bodyIn (k .kind) (k .lat) (k .lon)) (kind-read (k .kind) (k .lat) (k .lon)) (sfits-toZ {w = w64} (s .fits .id)) (version-fits s) (claims .claimed .ensures (now (k .line))) (long .empty-len .ensures) (asked .push-answer .ensures) (told .enum-told .given .1) (headed .head-for .ensures) (acted .push-with-user .ensures g)
 
 returns-2 : tie.Need-returns-2
 returns-2 c =
-    let told = c .before .before .before .before .before in
-    let asked = told .before .before in
-    let long = asked .before .before .before .before .before .before .before .before .before .before in
-    let claims = long .before in
-    let s = claims .before .before .before .before .before .before .before .before .before .before .before in
+    let told : tie.After-r = c .before .before .before .before .before in
+    let asked : tie.After-push-answer = told .before .before in
+    let long : tie.After-empty-len = asked .before .before .before .before in
+    let claims : tie.After-claimed = long .before in
+    let s : tie.Start = claims .before .before .before .before .before in
     let k = s .args in
     λ g. empty-not (k .kind) (toZ w64 (k .id)) (meta s) (given s) (bodyIn (k .kind) (k .lat) (k .lon)) (kind-read (k .kind) (k .lat) (k .lon)) (sfits-toZ {w = w64} (s .fits .id)) (version-fits s) (claims .claimed .ensures (now (k .line))) (long .empty-len .ensures) (asked .push-answer .ensures) _ (told .r .given .1) (c .refused-act .ensures (g .lies) (g .short))
 
@@ -64,19 +63,7 @@ push-empty-spec =
     (λ c κs. search needs)
     (λ c. search needs)
     (λ c. search needs)
-    (λ c. search needs)
-    (λ c. search needs)
-    (λ c. search needs)
-    (λ c. search needs)
-    (λ c. search needs)
-    (λ c. search needs)
     returns
-    (λ c. search needs)
-    (λ c. search needs)
-    (λ c. search needs)
-    (λ c. search needs)
-    (λ c. search needs)
-    (λ c. search needs)
     (λ c. search needs)
     (λ c. search needs)
     returns-2)

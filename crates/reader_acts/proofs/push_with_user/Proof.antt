@@ -1,13 +1,13 @@
 -- 13, or the push of the store with no parts.
 use mathlib.Core.List.{[]}
 use denote.Ref.{now}
-use Rattle.overlay.specs.Overlay.{Overlay, overlayOf}
+use Rattle.overlay.specs.Overlay.{Overlay}
+use Rattle.overlay.specs.Lent.{overlayIn}
 use Rattle.metadata.specs.Metadata.{metaWritten}
-use Rattle.store.specs.Beside.{KindParts}
+use Rattle.base.specs.Bytes.{Bytes}
 use Rattle.store.specs.Calls.{storePush}
 use Rattle.compact.specs.declared.ArenaMeta.{ArenaMeta}
 use Rattle.overlay.specs.Calls.{OverlayAfter}
-use Rattle.base.specs.Bytes.{Bytes}
 use Rattle.model.specs.Record.{Meta}
 use Rattle.reader_acts.proofs.Laws.{user-acted, user-not}
 use borrow.Author.Needs.{needs}
@@ -16,15 +16,7 @@ use Rattle.reader_acts.proofs.push_with_user.Tie as tie
 
 -- the overlay as it was lent
 abbrev given : tie.Start → Overlay
-given s =
-    let k = s .args in
-    overlayOf (now (k .ni)) (now (k .na)) (now (k .wi)) (now (k .wa)) (now (k .ri)) (now (k .ra)) (now (k .ss)) (now (k .sb)) (now (k .us))
-
--- what stands beside the strings
-abbrev beside : tie.Start → KindParts
-beside s =
-    let k = s .args in
-    record { ni = now (k .ni); na = now (k .na); wi = now (k .wi); wa = now (k .wa); ri = now (k .ri); ra = now (k .ra) }
+given s = overlayIn (now (s .args .words)) (now (s .args .bytes)) (now (s .args .counters))
 
 -- the metadata as it is written
 abbrev meta : tie.Start → Meta Bytes
@@ -36,17 +28,18 @@ act s a q = storePush (s .args .kind) (s .args .head) a [] q
 
 returns : tie.Need-returns
 returns c =
-    let pushed = c .before .before .before .before .before .before .before .before .before .before .before .before in
-    let told = pushed .before .before .before .before .before .before .before .before .before .before .before in
-    let begun = told .before .before .before .before .before .before in
-    let s = begun .before .before .before .before .before .before .before .before .before .before .before .before .before .before in
-    λ g. user-acted (meta s) (act s) (given s) (begun .begin-element .ensures (beside s) g) _ (told .a .given .1) (pushed .push-first .ensures)
+    let s : tie.Start = search in
+    let begun : tie.After-begin-element = search in
+    let told : tie.After-a = search in
+    let pushed : tie.After-push-first = search in
+    λ g. user-acted (meta s) (act s) (given s) (begun .begin-element .ensures g) _ (told .a .given .1) (pushed .push-first .ensures)
 
 returns-2 : tie.Need-returns-2
 returns-2 c =
-    let begun = c .before .before .before .before .before .before .before in
-    let s = begun .before .before .before .before .before .before .before .before .before .before .before .before .before .before in
-    λ g. user-not (meta s) (act s) (given s) (begun .begin-element .ensures (beside s) g) _ (c .before .r .given .1)
+    let s : tie.Start = search in
+    let begun : tie.After-begin-element = search in
+    let told : tie.After-r = search in
+    λ g. user-not (meta s) (act s) (given s) (begun .begin-element .ensures g) _ (told .r .given .1)
 
 pub push-with-user-spec : {M : Type 1} → statement M
 push-with-user-spec =
@@ -55,12 +48,6 @@ push-with-user-spec =
     (λ c κs. search needs)
     (λ c. search needs)
     (λ c κs. search needs)
-    (λ c. search needs)
-    (λ c. search needs)
-    (λ c. search needs)
-    (λ c. search needs)
-    (λ c. search needs)
-    (λ c. search needs)
     (λ c. search needs)
     (λ c. search needs)
     (λ c. search needs)

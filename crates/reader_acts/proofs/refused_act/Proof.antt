@@ -2,9 +2,8 @@
 use mathlib.Core.Path.{sym, _∙_, ap}
 use Rattle.refusal.specs.declared.Reply.{Reply}
 use Rattle.kind_store.specs.declared.Kept.the-variants as K
-use lib.ListN.{getD}
 use denote.Ref.{now}
-use Rattle.interner.specs.Strings.{storeWith}
+use Rattle.overlay.specs.Lent.{overlayIn}
 use Rattle.metadata.specs.Metadata.{metaWritten}
 use Rattle.reader_acts.specs.Acts.{userFull}
 use Rattle.refusal.specs.Refusal.{replyOf}
@@ -16,7 +15,7 @@ use Rattle.reader_acts.proofs.refused_act.Tie as tie
 returns : tie.Need-returns
 unfolding replyOf
 returns c = let k = c .before .before .before .before .before .before .args in
-    let full = userFull (metaWritten (now (k .line)) (k .meta)) (storeWith (now (k .spans)) (now (k .bytes)) (getD (now (k .used)) 6 0) (getD (now (k .used)) 7 0)) in
+    let full = userFull (metaWritten (now (k .line)) (k .meta)) (overlayIn (now (k .words)) (now (k .bytes)) (now (k .counters)) .texts) in
     λ lies short. ap K.Refused (sym (before-text full (c .before .before .before .before .before .before .args .refusal) (sym (ap (λ (z : Reply). z .number) (c .before .before .reply-of .ensures)) ∙ c .if1 .taken)))
 
 returns-2 : tie.Need-returns-2

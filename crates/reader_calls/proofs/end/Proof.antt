@@ -2,7 +2,7 @@
 use mathlib.Core.Path.{sym, _∙_}
 use native.Mathlib.Omega.{arith}
 use denote.Ref.{now}
-use Rattle.overlay.specs.Overlay.{overlayOf}
+use Rattle.overlay.specs.Lent.{overlayIn}
 use Rattle.reader.specs.State.{State}
 use Rattle.reader_sound.proofs.Sound.{sound-lines}
 use Rattle.reader_calls.proofs.Ends.{end-unsound, end-marked, end-is-done, end-unfinished}
@@ -14,26 +14,48 @@ use Rattle.reader_calls.proofs.end.Tie as tie
 abbrev given : tie.Start → State
 given s =
     let k = s .args in
-    record {
-      overlay = overlayOf (now (k .ni)) (now (k .na)) (now (k .wi)) (now (k .wa)) (now (k .ri)) (now (k .ra)) (now (k .ss)) (now (k .sb)) (now (k .us));
-      reader = k .reader;
-      parts = now (k .parts);
-    }
+    record { overlay = overlayIn (now (k .words)) (now (k .bytes)) (now (k .counters)); reader = k .reader; parts = now (k .parts) }
 
 returns : tie.Need-returns
-returns c = end-is-done (given (c .before .before .before .before .before .before .before .before .before .before .before .before .before .before .before .before)) (sym (c .before .before .before .before .before .before .before .state-sound .ensures) ∙ c .before .before .before .before .before .before .if1 .taken) (sym (c .before .before .before .before .before .mark-of .ensures) ∙ c .before .before .before .enum-told .given .1) (sym (c .before .is-done .ensures) ∙ c .if2 .taken)
+returns c =
+    let t : tie.After-enum-told = c .before .before .before in
+    let m : tie.After-mark-of = t .before .before in
+    let i : tie.Then1 = m .before in
+    let d : tie.After-state-sound = i .before in
+    let s : tie.Start = d .before .before .before in
+    end-is-done (given s) (sym (d .state-sound .ensures) ∙ i .if1 .taken) (sym (m .mark-of .ensures) ∙ t .enum-told .given .1) (sym (c .before .is-done .ensures) ∙ c .if2 .taken)
 
-add-t21 : tie.Need-add-t21
-add-t21 c = let l = sound-lines (given (c .before .before .before .before .before .before .before .before .before .before .before .before .before .before .before .before .before)) (sym (c .before .before .before .before .before .before .before .before .state-sound .ensures) ∙ c .before .before .before .before .before .before .before .if1 .taken) in omega arith
+add-t15 : tie.Need-add-t15
+add-t15 c =
+    let t : tie.After-enum-told = c .before .before .before .before in
+    let m : tie.After-mark-of = t .before .before in
+    let i : tie.Then1 = m .before in
+    let d : tie.After-state-sound = i .before in
+    let s : tie.Start = d .before .before .before in
+    let l = sound-lines (given s) (sym (d .state-sound .ensures) ∙ i .if1 .taken) in omega arith
 
 returns-2 : tie.Need-returns-2
-returns-2 c = end-unfinished (given (c .before .before .before .before .before .before .before .before .before .before .before .before .before .before .before .before .before)) (sym (c .before .before .before .before .before .before .before .before .state-sound .ensures) ∙ c .before .before .before .before .before .before .before .if1 .taken) (sym (c .before .before .before .before .before .before .mark-of .ensures) ∙ c .before .before .before .before .enum-told .given .1) (sym (c .before .before .is-done .ensures) ∙ c .before .if2 .left)
+returns-2 c =
+    let t : tie.After-enum-told = c .before .before .before .before in
+    let m : tie.After-mark-of = t .before .before in
+    let i : tie.Then1 = m .before in
+    let d : tie.After-state-sound = i .before in
+    let s : tie.Start = d .before .before .before in
+    end-unfinished (given s) (sym (d .state-sound .ensures) ∙ i .if1 .taken) (sym (m .mark-of .ensures) ∙ t .enum-told .given .1) (sym (c .before .before .is-done .ensures) ∙ c .before .if2 .left)
 
 returns-3 : tie.Need-returns-3
-returns-3 c = end-marked (given (c .before .before .before .before .before .before .before .before .before .before .before .before .before .before)) (sym (c .before .before .before .before .before .state-sound .ensures) ∙ c .before .before .before .before .if1 .taken) _ _ (sym (c .before .before .before .mark-of .ensures) ∙ c .before .refusal .given .1)
+returns-3 c =
+    let t : tie.After-refusal = c .before in
+    let m : tie.After-mark-of = t .before .before in
+    let i : tie.Then1 = m .before in
+    let d : tie.After-state-sound = i .before in
+    let s : tie.Start = d .before .before .before in
+    end-marked (given s) (sym (d .state-sound .ensures) ∙ i .if1 .taken) _ _ (sym (m .mark-of .ensures) ∙ t .refusal .given .1)
 
 returns-4 : tie.Need-returns-4
-returns-4 c = end-unsound (given (c .before .before .before .before .before .before .before .before .before .before)) (sym (c .before .state-sound .ensures) ∙ c .if1 .left)
+returns-4 c =
+    let s : tie.Start = c .before .before .before .before in
+    end-unsound (given s) (sym (c .before .state-sound .ensures) ∙ c .if1 .left)
 
 pub end-spec : {M : Type 1} → statement M
 end-spec =
@@ -45,7 +67,7 @@ end-spec =
     (λ c. search needs)
     (λ c κs. search needs)
     returns
-    add-t21
+    add-t15
     returns-2
     returns-3
     returns-4)

@@ -8,11 +8,15 @@ use Rattle.reader_parts.proofs.add_tag.Tie as tie
 
 returns : tie.Need-returns
 returns c =
-    λ p g lies there.
-    let k = c .before .before .before .before .before .before .before .before .before .before in
-    let a = c .before .before .before .before .before .before .before .before .before .before .before .before .before .before .before .before .before .before .args in
-    let e = extent-bare (now (a .line)) (a .value) there _ _ (k .before .before .before .lesser .ensures) (k .before .before .lesser2 .ensures) (sym (k .lacks .ensures) ∙ c .before .before .before .before .before .before .before .before .before .if1 .taken) in
-    rw e at (c .before .before .before .before .tag-with .ensures p g lies)
+    let w : tie.After-tag-with = search in
+    let i : tie.Then1 = search in
+    let k : tie.After-lacks = search in
+    let from : tie.After-lesser2 = search in
+    let to : tie.After-lesser = search in
+    let s : tie.Start = search in
+    λ g lies there.
+    let e = extent-bare (now (s .args .line)) (s .args .tag .value) there _ _ (to .lesser .ensures) (from .lesser2 .ensures) (sym (k .lacks .ensures) ∙ i .if1 .taken) in
+    rw e at (w .tag-with .ensures g lies)
 
 pub add-tag-spec : {M : Type 1} → statement M
 add-tag-spec =

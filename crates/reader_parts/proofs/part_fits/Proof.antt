@@ -5,7 +5,8 @@ use Rattle.reader_parts.proofs.part_fits.Tie as tie
 
 returns : tie.Need-returns
 returns c =
-    below-one-more (c .before .before .args .pending .head .count) (c .before .before .args .limit)
+    let s : tie.Start = search in
+    below-one-more (s .args .pending .head .count) (s .args .limit)
 
 pub part-fits-spec : {M : Type 1} → statement M
 part-fits-spec = tie.close (tie.spec returns)

@@ -2,30 +2,53 @@
 use mathlib.Core.Path.{sym, _∙_}
 use denote.Ref.{now}
 use lib.ListN.{length}
-use Rattle.reader_parts.proofs.Adds.{fits-yes, handle-fits, staged-left, refused-left, over-left}
+use Rattle.values.specs.Value.{textAt}
+use Rattle.overlay.specs.Lent.{overlayIn}
+use Rattle.reader_parts.proofs.Adds.{TextChild, tagChild, fits-yes, handle-fits, staged-left, refused-left, over-left}
 use borrow.Author.Needs.{needs}
 use Rattle.reader_parts.proofs.tag_with.Statement.{statement}
 use Rattle.reader_parts.proofs.tag_with.Tie as tie
 
+-- the tag as it is written, and what was lent
+abbrev child : tie.Start → TextChild
+child s =
+    let k = s .args in
+    tagChild (k .kind) (k .pending) (record { key = textAt (now (k .line)) (k .key); value = now (k .value) }) (now (k .parts))
+    (overlayIn (now (k .words)) (now (k .bytes)) (now (k .counters)))
+
 with-tag-requires : tie.Need-with-tag-requires
 with-tag-requires c κs =
-    let a = c .before .before .before .before .before .before .before .before .before .before .before .before .before .before .before .before .before .before .before .before .args in
-    fits-yes (a .kind) (a .pending) (length (now (a .value))) (sym (c .before .before .before .before .before .before .before .before .before .before .before .before .before .tag-fits .ensures) ∙ c .before .before .before .before .before .before .before .before .before .before .before .before .if1 .taken)
+    let i : tie.Then1 = search in
+    let k : tie.After-tag-fits = search in
+    let s : tie.Start = search in
+    fits-yes (s .args .kind) (s .args .pending) (length (now (s .args .value))) (sym (k .tag-fits .ensures) ∙ i .if1 .taken)
 
 returns : tie.Need-returns
 returns c =
-    λ p g lies.
-    let k = c .before .before .before .before .before .before .before .before .before .before .before .take-text .ensures lies (g .short) p (g .indexed) in
-    let e = c .before .before .before .before .before .handle .given .1 in
-    staged-left _ _ _ _ _ _ _ _ _ _ k _ _ _ (sym (c .before .before .before .before .before .before .before .before .before .before .before .before .before .before .before .before .tag-fits .ensures) ∙ c .before .before .before .before .before .before .before .before .before .before .before .before .before .before .before .if1 .taken) e (c .before .before .with-tag .ensures (handle-fits _ _ _ _ _ k e (g .strings)) (g .used))
+    let t : tie.After-take-text = search in
+    let i : tie.Then1 = search in
+    let k : tie.After-tag-fits = search in
+    let s : tie.Start = search in
+    let h : tie.After-handle = search in
+    let w : tie.After-with-tag = search in
+    λ g lies.
+    let stored = t .take-text .ensures lies (g .short) (g .indexed) in
+    let is = h .handle .given .1 in
+    staged-left (child s) stored (sym (k .tag-fits .ensures) ∙ i .if1 .taken) is (w .with-tag .ensures (handle-fits (child s) stored is (g .strings)) (g .used))
 
 returns-2 : tie.Need-returns-2
 returns-2 c =
-    λ p g lies. refused-left _ _ _ _ _ _ _ _ _ _ (c .before .before .before .before .before .before .before .take-text .ensures lies (g .short) p (g .indexed)) _ (c .before .refusal .given .1)
+    let r : tie.After-refusal = search in
+    let t : tie.After-take-text = search in
+    let s : tie.Start = search in
+    λ g lies. refused-left (child s) (t .take-text .ensures lies (g .short) (g .indexed)) (r .refusal .given .1)
 
 returns-3 : tie.Need-returns-3
 returns-3 c =
-    λ p g lies. over-left _ _ _ _ _ _ _ _ _ (sym (c .before .before .before .before .before .tag-fits .ensures) ∙ c .before .before .before .before .if1 .left) (c .over-limit .ensures lies (g .short))
+    let i : tie.Else1 = search in
+    let k : tie.After-tag-fits = search in
+    let s : tie.Start = search in
+    λ g lies. over-left (child s) (sym (k .tag-fits .ensures) ∙ i .if1 .left) (c .over-limit .ensures lies (g .short))
 
 pub tag-with-spec : {M : Type 1} → statement M
 tag-with-spec =

@@ -7,8 +7,9 @@ use Rattle.reader_parts.proofs.values_size.Tie as tie
 
 add-before : tie.Need-add-before
 add-before c =
-    let a = c .before .before .args in
-    omega (arith, middle-most (a .kind) (a .head .count), c .before .middle-size .ensures)
+    let m : tie.After-middle-size = search in
+    let s : tie.Start = search in
+    omega (arith, middle-most (s .args .kind) (s .args .head .count), m .middle-size .ensures)
 
 pub values-size-spec : {M : Type 1} → statement M
 values-size-spec =

@@ -7,7 +7,9 @@ use Rattle.reader_step.proofs.refer.Tie as tie
 
 returns : tie.Need-returns
 returns c =
-    let s = c .before .before .before .before .before .before in λ ix line o g. refers-done (record { overlay = o; reader = s .args .reader; parts = now (s .args .parts) }) (s .args .to) (c .before .add-ref .ensures) (c .added .ensures) g
+    let w : tie.After-add-ref = search in
+    let s : tie.Start = search in
+    λ ix line o g. refers-done (record { overlay = o; reader = s .args .reader; parts = now (s .args .parts) }) (s .args .to) (w .add-ref .ensures) (c .added .ensures) g
 
 pub refer-spec : {M : Type 1} → statement M
 refer-spec = tie.close (tie.spec (λ c κs. search needs) (λ c κs. search needs) returns)

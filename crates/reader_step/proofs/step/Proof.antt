@@ -1,8 +1,7 @@
 -- One call a decision.
 use denote.Ref.{now}
-use Rattle.overlay.specs.Overlay.{overlayOf}
+use Rattle.overlay.specs.Lent.{overlayIn}
 use Rattle.reader.specs.State.{State}
-use Rattle.store.specs.Beside.{KindParts}
 use Rattle.reader_step.proofs.Steps.{refuses-done, moves-done}
 use borrow.Author.Needs.{needs}
 use Rattle.reader_step.proofs.step.Statement.{statement}
@@ -12,49 +11,58 @@ use Rattle.reader_step.proofs.step.Tie as tie
 abbrev given : tie.Start → State
 given s =
     let k = s .args in
-    record {
-      overlay = overlayOf (now (k .ni)) (now (k .na)) (now (k .wi)) (now (k .wa)) (now (k .ri)) (now (k .ra)) (now (k .ss)) (now (k .sb)) (now (k .us));
-      reader = k .reader;
-      parts = now (k .parts);
-    }
-
--- what stands beside the strings
-abbrev beside : tie.Start → KindParts
-beside s =
-    let k = s .args in
-    record { ni = now (k .ni); na = now (k .na); wi = now (k .wi); wa = now (k .wa); ri = now (k .ri); ra = now (k .ra) }
+    record { overlay = overlayIn (now (k .words)) (now (k .bytes)) (now (k .counters)); reader = k .reader; parts = now (k .parts) }
 
 returns : tie.Need-returns
 returns c =
-    let s = c .before .before .before .before .before .before .before .before .before .before .before .before .before .before in rw (c .before .decided .given .1) (λ g. refuses-done (given s) (now (s .args .line)) _)
+    let told : tie.After-decided = search in
+    let s : tie.Start = search in
+    rw (told .decided .given .1) (λ g. refuses-done (given s) (now (s .args .line)) _)
 
 returns-2 : tie.Need-returns-2
 returns-2 c =
-    let s = c .before .before .before .before .before .before .before .before .before .before .before .before .before .before in rw (c .before .decided2 .given .1) (λ g. moves-done (given s) _ (now (s .args .line)))
+    let told : tie.After-decided2 = search in
+    let s : tie.Start = search in
+    rw (told .decided2 .given .1) (λ g. moves-done (given s) _ (now (s .args .line)))
 
 returns-3 : tie.Need-returns-3
 returns-3 c =
-    let s = c .before .before .before .before .before .before .before .before .before .before .before .before .before .before .before .before .before .before .before .before .before .before .before .before .before .before .before .before .before .before .before .before .before .before .before .before .before .before .before .before in rw (c .before .before .before .before .before .before .before .before .before .before .before .before .before .before .before .before .before .before .before .before .before .before .before .before .before .before .before .decided3 .given .1) (c .before .before .before .before .before .before .before .before .before .before .before .before .before .before .before .before .begin .ensures (s .args .reader) (now (s .args .parts)))
+    let did : tie.After-begin = search in
+    let told : tie.After-decided3 = search in
+    let s : tie.Start = search in
+    rw (told .decided3 .given .1) (did .begin .ensures (s .args .reader) (now (s .args .parts)))
 
 returns-4 : tie.Need-returns-4
 returns-4 c =
-    let s = c .before .before .before .before .before .before .before .before .before .before .before .before .before .before .before .before .before .before .before .before .before .before .before .before .before .before .before .before .before .before .before .before .before .before .before .before .before .before .before .before in rw (c .before .before .before .before .before .before .before .before .before .before .before .before .before .before .before .before .before .before .before .before .before .before .before .before .before .before .before .decided4 .given .1) (c .before .before .before .before .before .before .before .before .before .before .before .before .before .before .before .before .delete .ensures (s .args .reader) (now (s .args .parts)))
+    let did : tie.After-delete = search in
+    let told : tie.After-decided4 = search in
+    let s : tie.Start = search in
+    rw (told .decided4 .given .1) (did .delete .ensures (s .args .reader) (now (s .args .parts)))
 
 returns-5 : tie.Need-returns-5
 returns-5 c =
-    let s = c .before .before .before .before .before .before .before .before .before .before .before .before .before .before .before .before .before .before .before .before .before .before .before in rw (c .before .before .before .before .before .before .before .before .before .before .decided5 .given .1) (c .before .before .before .before .tag .ensures (beside s))
+    let did : tie.After-tag = search in
+    let told : tie.After-decided5 = search in
+    rw (told .decided5 .given .1) (did .tag .ensures)
 
 returns-6 : tie.Need-returns-6
 returns-6 c =
-    let s = c .before .before .before .before .before .before .before .before .before .before .before .before .before .before .before .before in rw (c .before .before .before .decided6 .given .1) (c .refer .ensures (now (s .args .ix)) (now (s .args .line)) (given s .overlay))
+    let told : tie.After-decided6 = search in
+    let s : tie.Start = search in
+    rw (told .decided6 .given .1) (c .refer .ensures (now (s .args .ix)) (now (s .args .line)) (given s .overlay))
 
 returns-7 : tie.Need-returns-7
 returns-7 c =
-    let s = c .before .before .before .before .before .before .before .before .before .before .before .before .before .before .before .before .before .before .before .before .before .before .before in rw (c .before .before .before .before .before .before .before .before .before .before .decided7 .given .1) (c .before .before .before .before .join .ensures (beside s))
+    let did : tie.After-join = search in
+    let told : tie.After-decided7 = search in
+    rw (told .decided7 .given .1) (did .join .ensures)
 
 returns-8 : tie.Need-returns-8
 returns-8 c =
-    let s = c .before .before .before .before .before .before .before .before .before .before .before .before .before .before .before .before .before .before .before .before .before .before .before .before .before .before .before .before .before .before .before .before .before .before .before .before .before in rw (c .before .before .before .before .before .before .before .before .before .before .before .before .before .before .before .before .before .before .before .before .before .before .before .before .decided8 .given .1) (λ g. c .before .before .before .before .before .before .before .before .before .before .before .before .end .ensures (now (s .args .line)))
+    let did : tie.After-end = search in
+    let told : tie.After-decided8 = search in
+    let s : tie.Start = search in
+    rw (told .decided8 .given .1) (λ g. did .end .ensures (now (s .args .line)))
 
 pub step-spec : {M : Type 1} → statement M
 step-spec =
@@ -78,19 +86,7 @@ step-spec =
     returns-2
     (λ c. search needs)
     (λ c. search needs)
-    (λ c. search needs)
-    (λ c. search needs)
-    (λ c. search needs)
-    (λ c. search needs)
-    (λ c. search needs)
-    (λ c. search needs)
     returns-3
-    (λ c. search needs)
-    (λ c. search needs)
-    (λ c. search needs)
-    (λ c. search needs)
-    (λ c. search needs)
-    (λ c. search needs)
     (λ c. search needs)
     (λ c. search needs)
     returns-4
@@ -101,12 +97,6 @@ step-spec =
     (λ c. search needs)
     (λ c. search needs)
     returns-7
-    (λ c. search needs)
-    (λ c. search needs)
-    (λ c. search needs)
-    (λ c. search needs)
-    (λ c. search needs)
-    (λ c. search needs)
     (λ c. search needs)
     (λ c. search needs)
     returns-8)

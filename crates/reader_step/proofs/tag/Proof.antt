@@ -1,26 +1,27 @@
 -- The answer of the tag.
 use denote.Ref.{now}
-use Rattle.overlay.specs.Overlay.{overlayOf}
+use Rattle.overlay.specs.Lent.{overlayIn}
 use Rattle.reader.specs.State.{State}
-use Rattle.store.specs.Beside.{KindParts}
 use Rattle.reader_step.proofs.Steps.{tags-done}
 use borrow.Author.Needs.{needs}
 use Rattle.reader_step.proofs.tag.Statement.{statement}
 use Rattle.reader_step.proofs.tag.Tie as tie
 
--- the overlay that the lent strings make with what stands beside them, the reader and its parts
-abbrev given : tie.Start → KindParts → State
-given s p =
+-- overlay, reader and parts as they were lent
+abbrev given : tie.Start → State
+given s =
     let k = s .args in
     record {
-      overlay = overlayOf (p .ni) (p .na) (p .wi) (p .wa) (p .ri) (p .ra) (now (k .ss)) (now (k .sb)) (now (k .us));
+      overlay = overlayIn (now (k .words)) (now (k .bytes)) (now (k .counters));
       reader = k .reader;
       parts = now (k .parts);
     }
 
 returns : tie.Need-returns
 returns c =
-    let s = c .before .before .before .before .before .before .before .before .before .before .before .before .before .before .before .before .before .before .before in λ p g. tags-done (given s p) (s .args .t) (c .before .before .before .before .before .add-tag .ensures p) (c .added .ensures) g
+    let w : tie.After-add-tag = search in
+    let s : tie.Start = search in
+    λ g. tags-done (given s) (s .args .t) (w .add-tag .ensures) (c .added .ensures) g
 
 pub tag-spec : {M : Type 1} → statement M
 tag-spec = tie.close (tie.spec (λ c κs. search needs) (λ c κs. search needs) (λ c. search needs) (λ c. search needs) returns)

@@ -1,17 +1,12 @@
 -- The soundness test, then the count of the kind.
-use mathlib.Core.Path.{ap}
-use denote.Ref.{now}
 use borrow.Author.Needs.{needs}
 use Rattle.reading.specs.Reading.{countOn}
-use Rattle.reading.specs.declared.Read.the-variants.{Is}
 use Rattle.reading.proofs.count.Statement.{statement}
 use Rattle.reading.proofs.count.Tie as tie
 
 returns : tie.Need-returns
 unfolding countOn
-returns c =
-    let a = c .before .before .before .before .before .before .before .before .before .before .before .args in
-    rw (← c .before .before .is-sound .ensures, c .before .if1 .taken) (ap Is (c .count-in .ensures (now (a .na)) (now (a .wa)) (now (a .ra)) (now (a .ss)) (now (a .sb))))
+returns c = rw (← c .before .before .is-sound .ensures, c .before .if1 .taken, ← c .count-in .ensures)
 
 returns-2 : tie.Need-returns-2
 unfolding countOn

@@ -1,16 +1,15 @@
 -- The soundness test, then the id of the kind's row.
-use mathlib.Core.Path.{_∙_, ap}
-use denote.Ref.{now}
 use borrow.Author.Needs.{needs}
-use Rattle.reading.specs.Reading.{idOn, idRead}
+use Rattle.reading.specs.Reading.{idOn}
 use Rattle.reading.proofs.id_at.Statement.{statement}
 use Rattle.reading.proofs.id_at.Tie as tie
 
 returns : tie.Need-returns
 unfolding idOn
 returns c =
-    let a = c .before .before .before .before .before .before .before .before .before .before .before .before .args in
-    rw (← c .before .before .before .is-sound .ensures, c .before .before .if1 .taken) (c .id-read .ensures ∙ ap idRead (c .before .row-in .ensures (now (a .na)) (now (a .wa)) (now (a .ra)) (now (a .ss)) (now (a .sb))))
+    let s : tie.After-is-sound = search in
+    let i : tie.Then1 = search in
+    rw (← s .is-sound .ensures, i .if1 .taken, ← c .before .row-in .ensures) (c .id-read .ensures)
 
 returns-2 : tie.Need-returns-2
 unfolding idOn

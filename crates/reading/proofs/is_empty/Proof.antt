@@ -15,7 +15,9 @@ all-three a b c = simp and-both
 returns : tie.Need-returns
 unfolding isEmptyOn noIds
 returns c =
-    rw (← c .before .before .before .before .before .is-sound .ensures, c .before .before .before .before .if1 .taken) (c .yes .ensures ∙ ap yes (all-three _ _ _))
+    let s : tie.After-is-sound = search in
+    let i : tie.Then1 = search in
+    rw (← s .is-sound .ensures, i .if1 .taken) (c .yes .ensures ∙ ap yes (all-three _ _ _))
 
 returns-2 : tie.Need-returns-2
 unfolding isEmptyOn

@@ -1,18 +1,15 @@
 -- The soundness test, then the known version as a word.
-use mathlib.Core.Path.{_∙_, ap}
-use denote.Ref.{now}
 use borrow.Author.Needs.{needs}
-use Rattle.version_floor.specs.Version.{wordOf}
 use Rattle.reading.specs.Reading.{knownOn}
-use Rattle.reading.specs.declared.Read.the-variants.{Is}
 use Rattle.reading.proofs.known_version.Statement.{statement}
 use Rattle.reading.proofs.known_version.Tie as tie
 
 returns : tie.Need-returns
 unfolding knownOn
 returns c =
-    let a = c .before .before .before .before .before .before .before .before .before .before .before .before .args in
-    rw (← c .before .before .before .is-sound .ensures, c .before .before .if1 .taken) (ap Is (c .version-word .ensures ∙ ap wordOf (c .before .version-in .ensures (now (a .ss)) (now (a .sb)))))
+    let s : tie.After-is-sound = search in
+    let i : tie.Then1 = search in
+    rw (← s .is-sound .ensures, i .if1 .taken, ← c .before .version-in .ensures, ← c .version-word .ensures)
 
 returns-2 : tie.Need-returns-2
 unfolding knownOn

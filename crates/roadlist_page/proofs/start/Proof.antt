@@ -1,29 +1,20 @@
 -- The overlay is set up, and the reader is fresh.
 use denote.Ref.{now}
-use Rattle.overlay.specs.Overlay.{Overlay, overlayOf}
+use native.Mathlib.Omega.{arith}
 use Rattle.roadlist_page.proofs.Ends.{started-by}
+use borrow.Author.Needs.{needs}
 use Rattle.roadlist_page.proofs.start.Statement.{statement}
 use Rattle.roadlist_page.proofs.start.Tie as tie
 
--- the overlay as it is lent
-abbrev given : tie.Start → Overlay
-given s =
-    let a = s .args in
-    overlayOf (now (a .ni)) (now (a .na)) (now (a .wi)) (now (a .wa)) (now (a .ri)) (now (a .ra)) (now (a .ss)) (now (a .sb)) (now (a .us))
-
-set-up-requires : tie.Need-set-up-requires
-set-up-requires c κs = tt
-
-fresh-reader-requires : tie.Need-fresh-reader-requires
-fresh-reader-requires c κs = tt
-
-same-length : tie.Need-same-length
-same-length c = c .before .before .ss .given
-
 returns : tie.Need-returns
 returns c =
-    let s = c .before .before .before .before .before .before .before .before .before .before .before .before .before .before in
-    started-by (given s) (now (s .args .ps)) _ _ (c .before .before .before .set-up .ensures) _ (c .fresh-reader .ensures)
+    let s : tie.Start = search in
+    let w : tie.After-set-up-arg = search in
+    let b : tie.After-set-up-arg2 = search in
+    let z : tie.After-program-sizes = search in
+    let u : tie.After-set-up = search in
+    let k = s .args in
+    started-by (now (k .words)) (now (k .bytes)) (now (k .counters)) (now (k .ps)) (omega (arith, w .set-up-arg .given)) (omega (arith, b .set-up-arg2 .given)) _ (z .program-sizes .ensures) (u .set-up .last .0) (u .set-up .last .1 .1 .0) _ (u .set-up .ensures) _ (c .fresh-reader .ensures)
 
 pub start-spec : {M : Type 1} → statement M
-start-spec = tie.close (tie.spec set-up-requires fresh-reader-requires same-length returns)
+start-spec = tie.close (tie.spec (λ c κs. search needs) (λ c κs. search needs) (λ c κs. search needs) returns)

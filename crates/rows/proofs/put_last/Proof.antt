@@ -11,10 +11,12 @@ use Rattle.rows.proofs.put_last.Tie as tie
 returns : tie.Need-returns
 unfolding isLive
 returns c =
-    let n = c .before .before .before .before .before .before in
-    let a = n .before .before .before .before .before .before .args in
-    rw (lt-ltb _ _ (n .before .if1 .taken), ← view-from (now (a .arena)) (a .used) (a .place) (n .lesser .result) (c .before .before .before .before .before .lesser2 .result) (n .lesser .ensures) (c .before .before .before .before .before .lesser2 .ensures))
-    (c .before .before .put-record .ensures)
+    let live : tie.Then1 = search in
+    let found : tie.After-lesser = search in
+    let put : tie.After-put-record = search in
+    let start : tie.Start = search in
+    rw (lt-ltb _ _ (live .if1 .taken), ← view-from (now (start .args .arena)) (start .args .place) (found .lesser .result) (found .lesser .ensures))
+    (put .put-record .ensures)
 
 returns-2 : tie.Need-returns-2
 unfolding isLive tabs print
@@ -24,7 +26,6 @@ pub put-last-spec : {M : Type 1} → statement M
 put-last-spec =
     tie.close
     (tie.spec
-    (λ c κs. search needs)
     (λ c κs. search needs)
     (λ c. search needs)
     (λ c. search needs)

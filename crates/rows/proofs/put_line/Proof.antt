@@ -20,17 +20,20 @@ use Rattle.rows.proofs.put_line.Tie as tie
 returns : tie.Need-returns
 unfolding rowFieldsAt isLive
 returns c =
-    let l = c .before .before .before .before .before .before .before in
-    let k = l .before .before .before .before in
-    let v = k .before .before .before in
-    let i = v .before .before in
-    let a = i .before .before .before .before .before .before .args in
-    let r = i .osm-id-of-rank in
+    let line : tie.After-put-bytes = search in
+    let last : tie.After-put-last = search in
+    let key : tie.After-put-key = search in
+    let known : tie.After-row-version = search in
+    let bits : tie.After-bits-of-i64 = search in
+    let ranked : tie.After-osm-id-of-rank = search in
+    let start : tie.Start = search in
+    let a = start .args in
+    let r = ranked .osm-id-of-rank in
     let f : SFits w64 (r .result) = record { sfits = r .ok } in
-    let e : toZ w64 (v .before .bits-of-i64 .result) ≡ idOf (a .row .rank) = ap (toZ w64) (v .before .bits-of-i64 .ensures ∙ ap (ofZ w64) (toZ-ofZ f)) ∙ (toZ-ofZ f ∙ r .ensures) in
-    rw (← e, ← v .known-version .ensures (a .used))
-    (line-printed (a .cap) (kindField (a .kind)) (integerText (toZ w64 (v .before .bits-of-i64 .result))) (signOf (ltb (a .row .place) (2 ^ 63))) (versionField (v .known-version .result))
-    (lastAt (heldText (now (a .spans)) (now (a .bytes)) (a .strings)) (a .kind) (now (a .arena)) (a .used) (a .row .place)) _ _ _ _ (k .put-key .ensures) (l .put-last .ensures) (c .before .before .put-bytes .ensures))
+    let e : toZ w64 (bits .bits-of-i64 .result) ≡ idOf (a .row .rank) = ap (toZ w64) (bits .bits-of-i64 .ensures ∙ ap (ofZ w64) (toZ-ofZ f)) ∙ (toZ-ofZ f ∙ r .ensures) in
+    rw (← e, ← known .row-version .ensures)
+    (line-printed (a .cap) (kindField (a .kind)) (integerText (toZ w64 (bits .bits-of-i64 .result))) (signOf (ltb (a .row .place) (2 ^ 63))) (versionField (known .row-version .result))
+    (lastAt (heldText (now (a .spans)) (now (a .bytes)) (a .strings)) (a .kind) (now (a .arena)) (a .row .place)) _ _ _ _ (key .put-key .ensures) (last .put-last .ensures) (line .put-bytes .ensures))
 
 pub put-line-spec : {M : Type 1} → statement M
 put-line-spec =

@@ -5,7 +5,6 @@ use native.Mathlib.Omega.{arith}
 use denote.Ref.{now}
 use lib.ListN.{length}
 use Rattle.table.specs.Words.{rowsFrom, rowsOf, held}
-use Rattle.kind_store.specs.KindStore.{kindStoreWith}
 use Rattle.print.specs.Print.{print}
 use Rattle.fields.specs.Fields.{heldText}
 use Rattle.rows.specs.Lines.{rowPieces}
@@ -15,34 +14,47 @@ use Rattle.rows.proofs.put_lines.Statement.{statement}
 use Rattle.rows.proofs.put_lines.Tie as tie
 
 abbrev Inv-loop : tie.InvT-loop
-Inv-loop out₀ cap kind table ids arena used spans bytes strings n left₀ i₀ out left i =
+Inv-loop out₀ cap kind table ids arena spans bytes strings n left₀ i₀ out left i =
     (i ≤ n) × ((length out ≡ length out₀)
-    × (print cap (rowPieces (heldText spans bytes strings) kind (kindStoreWith table ids arena used) (rowsFrom table i (n - i))) (record { out = out; room = left })
-    ≡ print cap (rowPieces (heldText spans bytes strings) kind (kindStoreWith table ids arena used) (rowsOf table n)) (record { out = out₀; room = left₀ })))
+    × (print cap (rowPieces (heldText spans bytes strings) kind arena (rowsFrom table i (n - i))) (record { out = out; room = left })
+    ≡ print cap (rowPieces (heldText spans bytes strings) kind arena (rowsOf table n)) (record { out = out₀; room = left₀ })))
 
 abbrev μ-loop : tie.MeasureT-loop
-μ-loop out₀ cap kind table ids arena used spans bytes strings n left₀ i₀ out left i = n - i
+μ-loop out₀ cap kind table ids arena spans bytes strings n left₀ i₀ out left i = n - i
 
 loop-holds : tie.Need-loop-holds Inv-loop μ-loop
 loop-holds c =
-    let a = c .before .before .before .before .before .before .args in
-    (omega arith, (refl, rows-start (a .cap) (heldText (now (a .spans)) (now (a .bytes)) (a .strings)) (a .kind) (kindStoreWith (now (a .table)) (a .ids) (now (a .arena)) (a .used)) (c .lesser .result) _))
+    let start : tie.Start Inv-loop μ-loop = search in
+    let a = start .args in
+    (omega arith, (refl, rows-start (a .cap) (heldText (now (a .spans)) (now (a .bytes)) (a .strings)) (a .kind) (now (a .arena)) (now (a .table)) (c .lesser .result) _))
 
 loop-again : tie.Need-loop-again Inv-loop μ-loop
 loop-again c =
-    let l = c .before .before .before .before .before .before in
-    let a = l .before .before .before .before .before .before .before .args in
-    let e = rw (c .before .before .before .row-at .ensures) at (c .before .before .put-line .ensures) in
-    (omega arith, (omega arith, rows-next (a .cap) (heldText (now (a .spans)) (now (a .bytes)) (a .strings)) (a .kind) (kindStoreWith (now (a .table)) (a .ids) (now (a .arena)) (a .used)) (l .before .lesser .result) (l .loop .i) _ _ (omega arith) e ∙ l .loop .inv .1 .1))
+    let put : tie.After-put-line Inv-loop μ-loop = search in
+    let row : tie.After-row-at Inv-loop μ-loop = search in
+    let turn : tie.At-loop Inv-loop μ-loop = search in
+    let count : tie.After-lesser Inv-loop μ-loop = search in
+    let start : tie.Start Inv-loop μ-loop = search in
+    let a = start .args in
+    let e = rw (row .row-at .ensures) at (put .put-line .ensures) in (
+      omega arith,
+      (
+        omega arith,
+        rows-next (a .cap) (heldText (now (a .spans)) (now (a .bytes)) (a .strings)) (a .kind) (now (a .arena)) (now (a .table)) (count .lesser .result) (turn .loop .i) _ _ (omega arith) e
+            ∙ turn .loop .inv .1 .1,
+      ),
+    )
 
 returns : tie.Need-returns Inv-loop μ-loop
 unfolding held
 returns c =
-    let l = c .before .loop in
-    let n = c .before .before .lesser in
-    let a = c .before .before .before .before .before .before .before .before .args in
-    rw (← n .ensures)
-    (sym (rows-end (a .cap) (heldText (now (a .spans)) (now (a .bytes)) (a .strings)) (a .kind) (kindStoreWith (now (a .table)) (a .ids) (now (a .arena)) (a .used)) (n .result) (l .i) _ (omega arith)) ∙ l .inv .1 .1)
+    let turn : tie.At-loop Inv-loop μ-loop = search in
+    let count : tie.After-lesser Inv-loop μ-loop = search in
+    let start : tie.Start Inv-loop μ-loop = search in
+    let a = start .args in
+    rw (← count .lesser .ensures)
+    (sym (rows-end (a .cap) (heldText (now (a .spans)) (now (a .bytes)) (a .strings)) (a .kind) (now (a .arena)) (now (a .table)) (count .lesser .result) (turn .loop .i) _ (omega arith))
+    ∙ turn .loop .inv .1 .1)
 
 pub put-lines-spec : {M : Type 1} → statement M
 put-lines-spec =

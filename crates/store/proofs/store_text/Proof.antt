@@ -7,15 +7,27 @@ use Rattle.store.proofs.store_text.Tie as tie
 
 returns : tie.Need-returns
 returns c =
-    λ p.
-    let k = c .before .before .before .before .before .before .before .before .before .before .before .before .before .before .args in
-    let e = c .count-taken .ensures in
-    texts-after (p .ni) (p .na) (p .wi) (p .wa) (p .ri) (p .ra) (now (k .ss)) (now (k .sb)) (now (k .us)) _ (c .before .count-taken-arg .given .0 .1) _ _ _ _ (now (k .text)) (c .before .before .before .before .before .before .intern .ensures) (e .0) (e .1)
+    let s : tie.Start = search in
+    let k = s .args in
+    let e : tie.After-texts-in = search in
+    let w : tie.After-intern = search in
+    let l : tie.After-count-taken-arg = search in
+    let n : tie.After-count-taken = search in
+    let t = n .count-taken .ensures in
+    texts-after (now (k .words)) (now (k .bytes)) (now (k .counters)) _ (l .count-taken-arg .given .0 .1) _ (e .texts-in .ensures .0) _ _ (w .intern .kept .0) (w .intern .kept .1 .0) _ _ (now (k .text)) (w .intern .ensures) (t .0) (t .1)
 
 pub store-text-spec : {M : Type 1} → statement M
 store-text-spec =
     tie.close
     (tie.spec
+    (λ c κs. search needs)
+    (λ c. search needs)
+    (λ c. search needs)
+    (λ c. search needs)
+    (λ c. search needs)
+    (λ c. search needs)
+    (λ c. search needs)
+    (λ c. search needs)
     (λ c. search needs)
     (λ c. search needs)
     (λ c κs. search needs)

@@ -44,7 +44,7 @@ pub fn document(ids: &[i64], texts: i64) -> String {
 
 /// A document by one batch into an empty overlay.
 fn batch(lent: Lent<'_>, input: &str) {
-    let mut overlay = torvaskin::Overlay::set_up(lent).expect("set up");
+    let mut overlay = torvaskin::Overlay::set_up(lent, &Sizes::MOST).expect("set up");
     let mut reader = Reader::new();
     assert_eq!(reader.events(&mut overlay, input).expect("taken"), input.len());
     reader.end(&overlay).expect("done");
@@ -148,7 +148,7 @@ pub fn readings() {
         "intern, 4,095 texts, each",
         texts.len(),
         || {
-            let mut overlay = torvaskin::Overlay::set_up(lent.lent()).expect("set up");
+            let mut overlay = torvaskin::Overlay::set_up(lent.lent(), &Sizes::MOST).expect("set up");
             for text in &texts {
                 black_box(overlay.intern(text).expect("taken"));
             }

@@ -4,18 +4,35 @@ use crate::least;
 use std::hint::black_box;
 use torvaskin::{Overlay, Owned, Reader, Sizes};
 
+/// Storage of an empty overlay.
+fn empty() -> Owned {
+    Overlay::new(&Sizes::MOST).expect("within limits").into_storage()
+}
+
+/// The spans behind that of the empty text.
+fn spans(lent: &mut Owned) -> impl Iterator<Item = &mut [u64; 2]> {
+    let (spans, _) = lent.words[Sizes::MOST.words() - 2 * Sizes::MOST.strings..].as_chunks_mut();
+    spans.iter_mut().skip(1)
+}
+
+/// The string bytes.
+fn string_bytes(lent: &mut Owned) -> &mut [u8] {
+    &mut lent.bytes[Sizes::MOST.bytes() - Sizes::MOST.string_bytes..]
+}
+
 /// Storage that holds these texts behind the empty one.
 fn holding(texts: &[String]) -> Owned {
-    let mut parts = Sizes::MOST.allocate().expect("within limits");
+    let mut lent = empty();
     let mut used = 0;
-    for (text, span) in texts.iter().zip(parts.spans[2..].chunks_mut(2)) {
-        parts.bytes[used..used + text.len()].copy_from_slice(text.as_bytes());
-        span.copy_from_slice(&[used as u64, text.len() as u64]);
-        used += text.len();
+    for (text, span) in texts.iter().zip(spans(&mut lent)) {
+        *span = [used, text.len() as u64];
+        used += text.len() as u64;
     }
-    parts.counts[6] = texts.len() as u64 + 1;
-    parts.counts[7] = used as u64;
-    parts
+    let all = texts.concat();
+    string_bytes(&mut lent)[..all.len()].copy_from_slice(all.as_bytes());
+    lent.counters[6] = texts.len() as u64 + 1;
+    lent.counters[7] = used;
+    lent
 }
 
 /// A number whose digits look random.
@@ -41,25 +58,25 @@ fn one_bucket(count: usize) -> Vec<String> {
     (0u64..).map(|i| format!("{i:x}")).filter(|text| bucket(text) == 0).take(count).collect()
 }
 
-fn soundness(name: &str, parts: Owned) {
-    let overlay = Overlay::kept(parts);
+fn soundness(name: &str, lent: Owned) {
+    let overlay = Overlay::kept(lent);
     let took = least(1, || _ = black_box(overlay.is_sound()));
     println!("soundness of {name}\t{:.1} µs", took / 1_000.0);
 }
 
 /// Spans of 57,344 bytes that overlap, out of order. They differ, if at all, by where one letter stands near their ends.
 fn overlapping(equal: bool) -> Owned {
-    let mut parts = Sizes::MOST.allocate().expect("within limits");
-    parts.bytes.fill(b'a');
+    let mut lent = empty();
+    string_bytes(&mut lent).fill(b'a');
     if !equal {
-        parts.bytes[57_343] = b'b';
+        string_bytes(&mut lent)[57_343] = b'b';
     }
-    for (i, span) in parts.spans[2..].chunks_mut(2).enumerate() {
-        span.copy_from_slice(&[i as u64 * 1_171 % 4_096, 57_344]);
+    for (i, span) in (0..).zip(spans(&mut lent)) {
+        *span = [i * 1_171 % 4_096, 57_344];
     }
-    parts.counts[6] = 4_096;
-    parts.counts[7] = 65_536;
-    parts
+    lent.counters[6] = 4_096;
+    lent.counters[7] = 65_536;
+    lent
 }
 
 /// The first line of a document, with attributes of these names as far as so many bytes hold them.
@@ -111,7 +128,7 @@ fn keys(name: &str, keys: &[String]) {
     let count = input.lines().count();
     let mut lent = Sizes::MOST.allocate().expect("within limits");
     let line = least(count, || {
-        let mut overlay = Overlay::set_up(&mut lent).expect("set up");
+        let mut overlay = Overlay::set_up(&mut lent, &Sizes::MOST).expect("set up");
         assert_eq!(Reader::new().events(&mut overlay, &input).expect("taken"), input.len());
     });
     println!("document of {count} lines, {} keys {name}: a line\t{line:.0} ns", keys.len());

@@ -44,7 +44,7 @@ fn parse<T: std::str::FromStr + Into<i64>>(s: &[u8]) -> u64 {
 
 /// Ways of so many refs pushed one after the other into an empty overlay.
 fn pushes(lent: Lent<'_>, ways: i64, refs: &[i64]) {
-    let mut overlay = torvaskin::Overlay::set_up(lent).expect("set up");
+    let mut overlay = torvaskin::Overlay::set_up(lent, &Sizes::MOST).expect("set up");
     let mut way = Record::way(0, refs.iter().copied()).version(1);
     for id in 1..=ways {
         way.id = id;
@@ -79,7 +79,7 @@ fn soundness() {
             overlay.push(&way).expect("taken");
         }
         let sound = least(1, || overlay.is_sound().expect("sound"));
-        let used = overlay.into_storage().counts[4];
+        let used = overlay.into_storage().counters[4];
         println!(
             "soundness, {ways} ways of 12 tags, ids {name}, {used} bytes\t{sound:.0} ns\t{:.2} ns a byte",
             sound / used as f64

@@ -1,0 +1,4 @@
+pub mod Cuts
+pub mod Orders
+pub mod Ranges
+pub mod Tiling
