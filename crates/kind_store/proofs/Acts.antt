@@ -9,7 +9,7 @@ use lib.IntN.{ℤ}
 use lib.ListN.{length}
 use borrow.Author.Tests.{le-leb, leb-true, lt-ltb, ltb-true}
 use Rattle.base.specs.Bytes.{Bytes}
-use Rattle.base.proofs.Split.{byLe, same-test, no}
+use Rattle.base.proofs.Split.{same-test}
 use Rattle.kind.specs.declared.Kind.{Kind}
 use Rattle.kind.specs.declared.Kind.the-variants.{Node, Way, Relation}
 use Rattle.osm_id.specs.Order.{rank}
@@ -22,26 +22,12 @@ use Rattle.compact.specs.Layout.{headLen}
 use Rattle.append.proofs.Joins as joins
 use Rattle.append.specs.Append.{append}
 use Rattle.append.specs.declared.Appended.the-variants.{End, Full}
-use Rattle.table.specs.declared.Put.the-variants as answers
 use Rattle.table.specs.Words.{lookup, stored, countAfter}
 use Rattle.table.specs.declared.Row.{Row}
 use Rattle.table.specs.declared.Found.{Found}
-use Rattle.table.specs.declared.Found.the-variants.{At, Place}
 use Rattle.table.specs.declared.Put.{Put}
-use Rattle.table.proofs.Tables.{stored-known, stored-full}
 use Rattle.kind_store.specs.declared.Kept.the-variants.{Taken, Refused}
 use Rattle.kind_store.specs.KindStore.{KindStore, KindStoreAfter, kindStoreWith, knownVersion, knownAt, floorOf, floorAt, floorAfter, checked, idRoom, roomAt, kindStoreRefused, gone, rowed, recordJoined, pushedAs, pushed, deletedAs, deleted}
-
--- a row that was inserted had room
-pub inserted-room : (ws : List ℕ) (count : ℕ) (row : Row) → stored ws count row .answer ≡ answers.Inserted → 3 * suc count ≤ length ws
-inserted-room ws count row e = go (lookup ws count (row .rank)) refl
-  where
-    go : (o : Found) → lookup ws count (row .rank) ≡ o → 3 * suc count ≤ length ws
-    go (At i) f = let x = ap (λ s. s .answer) (stored-known ws count row i f) in no (cc)
-    go (Place p) f =
-        byLe (3 * suc count) (length ws)
-        (λ h. h)
-        (λ h. let x = ap (λ s. s .answer) (stored-full ws count row p f h) in no (cc))
 
 -- a third of the words is that many rows
 pub rows-held : (n l : ℕ) → ltb n (l / 3) ≡ leb (3 * suc n) l
@@ -50,15 +36,16 @@ rows-held n l =
     (λ t. le-leb (3 * suc n) l (omega (arith, ltb-true n (l / 3) t)))
     (λ t. lt-ltb n (l / 3) (omega (arith, leb-true (3 * suc n) l t)))
 
--- a row stored under a rank, and what is counted by the answer
-module _ (ws : List ℕ) (ids place floor : ℕ) {t : List ℕ} {a : Put} where
-  pub set-as : {r k : ℕ} → r ≡ k → record { words = t; answer = a } ≡ stored ws ids (record { rank = r; place = place; floor = floor })
-      → {b : Put} → a ≡ b
-      → (t ≡ stored ws ids (record { rank = k; place = place; floor = floor }) .words) × (countAfter b ids ≡ countAfter (stored ws ids (record { rank = k; place = place; floor = floor }) .answer) ids)
-  set-as e w f = rw (← e, ← w, f) (refl, refl)
+-- a row stored, and what is counted by the answer
+pub set-as : (ws : List ℕ) (ids : ℕ) (row : Row) {t : List ℕ} {a b : Put} → record { words = t; answer = a } ≡ stored ws ids row → a ≡ b
+    → (t ≡ stored ws ids row .words) × (countAfter b ids ≡ countAfter (stored ws ids row .answer) ids)
+set-as ws ids row w f = rw (← w, f) (refl, refl)
 
-  pub set-room : (r : ℕ) → record { words = t; answer = a } ≡ stored ws ids (record { rank = r; place = place; floor = floor }) → a ≡ answers.Inserted → 3 * suc ids ≤ length ws
-  set-room r w f = inserted-room ws ids (record { rank = r; place = place; floor = floor }) (sym (ap (λ s. s .answer) w) ∙ f)
+-- the row of an id set where it was found: what is stored then, and how many rows are counted
+abbrev pub RowSet : KindStore → ℕ → ℕ → ℕ → List ℕ → ℕ → Type 0
+RowSet s r place floor t n =
+    (t ≡ stored (s .table) (s .ids) (record { rank = r; place = place; floor = floor }) .words)
+    × (n ≡ countAfter (stored (s .table) (s .ids) (record { rank = r; place = place; floor = floor }) .answer) (s .ids))
 
 pub head-most : (k : Kind) → headLen k ≤ 20
 head-most Node = omega arith
@@ -73,12 +60,11 @@ module _ (s : KindStore) (id : ℤ) (floor : ℕ) (bytes : Bytes) where
   unfolding recordJoined
   join-full a e = rw (← e, joins.refused (s .arena) (s .used) bytes a (sym e) .0)
 
-  pub join-end : (a : Bytes) (e : ℕ) (t : List ℕ) (n : ℕ) → record { arena = a; answer = End e } ≡ append (s .arena) (s .used) bytes
-      → t ≡ stored (s .table) (s .ids) (record { rank = rank id; place = s .used; floor = floor }) .words
-      → n ≡ countAfter (stored (s .table) (s .ids) (record { rank = rank id; place = s .used; floor = floor }) .answer) (s .ids)
+  pub join-end : {a : Bytes} {e n r : ℕ} {t : List ℕ} {f : Found} → record { arena = a; answer = End e } ≡ append (s .arena) (s .used) bytes
+      → r ≡ rank id → (f ≡ lookup (s .table) (s .ids) r → RowSet s r (s .used) floor t n) → f ≡ lookup (s .table) (s .ids) (rank id)
       → record { kindStore = kindStoreWith t n a e; answer = Taken } ≡ recordJoined s id floor bytes
   unfolding recordJoined rowed
-  join-end a e t n w p q = rw (← w, p, q)
+  join-end w p g q = let x = (rw p at g) q in rw (← w, x .0, x .1)
 
 -- ---- an act, by what was found and by the answer of its checks
 
@@ -129,19 +115,18 @@ module _ (k : Kind) (s : KindStore) (id : ℤ) where
     push-checked {b} g = sym (pushed-as setting claim bytes b (checked-as setting claim (known-as (found-as e row) known) q check g))
 
     pub push-goes : {x n : ℕ} {z : KindStoreAfter} → a ≡ Admitted → x ≡ floorAt (s .table) f → n ≡ floorAfter setting v c x
-        → z ≡ cond (roomAt (s .table) (s .ids) f) (recordJoined s id n bytes) (kindStoreRefused s IdsFull) → z ≡ pushed k setting s id claim bytes
+        → (f ≡ lookup (s .table) (s .ids) (rank id) → z ≡ cond (roomAt (s .table) (s .ids) f) (recordJoined s id n bytes) (kindStoreRefused s IdsFull)) → z ≡ pushed k setting s id claim bytes
     unfolding idRoom
     push-goes g p t w =
         let floor = carried-as setting claim (known-as (found-as e row) known) q (floor-as (found-as e row) p) t in
-        w ∙ rw (← push-checked g, ← floor, ← found-as e row)
+        w (found-as e row) ∙ rw (← push-checked g, ← floor, ← found-as e row)
 
   module _ (claim : Version) where
-    pub delete-room : (t : List ℕ) (n : ℕ) {v x : Version} {f : ℕ} → idRoom s id ≡ true → v ≡ knownVersion k s id → x ≡ higher v claim → f ≡ wordOf x
-        → t ≡ stored (s .table) (s .ids) (record { rank = rank id; place = gone; floor = f }) .words
-        → n ≡ countAfter (stored (s .table) (s .ids) (record { rank = rank id; place = gone; floor = f }) .answer) (s .ids)
+    pub delete-room : {t : List ℕ} {n r : ℕ} {v x : Version} {f : ℕ} {g : Found} → idRoom s id ≡ true → v ≡ knownVersion k s id → x ≡ higher v claim → f ≡ wordOf x
+        → r ≡ rank id → (g ≡ lookup (s .table) (s .ids) r → RowSet s r gone f t n) → g ≡ lookup (s .table) (s .ids) (rank id)
         → record { kindStore = kindStoreWith t n (s .arena) (s .used); answer = Taken } ≡ deletedAs k s id claim Admitted
     unfolding rowed
-    delete-room t n r e x f p q = rw (r, ← e, ← x, ← f, p, q)
+    delete-room room e x f p w q = let y = (rw p at w) q in rw (room, ← e, ← x, ← f, y .0, y .1)
 
     pub delete-full : idRoom s id ≡ false → deletedAs k s id claim Admitted ≡ kindStoreRefused s IdsFull
     delete-full e = rw e

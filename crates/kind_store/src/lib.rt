@@ -115,11 +115,12 @@ fn has_room(table: &[u64], ids: u64, found: Found) -> bool
 
 // ---- a row set
 
-// Sets the row of an id, and says how many rows are counted then.
-fn set_row(table: &mut [u64], ids: u64, id: u64, place: u64, floor: u64) -> u64
-    ensures { λ r. ⌜ (now (table .exit) ≡ stored (now (table .entry)) ids (record { rank = rank (toZ w64 id); place = place; floor = floor }) .words) × (r ≡ countAfter (stored (now (table .entry)) ids (record { rank = rank (toZ w64 id); place = place; floor = floor }) .answer) ids) ⌝ }
+// Sets a row where its rank was found, and says how many rows are counted then.
+fn set_row(table: &mut [u64], ids: u64, found: Found, row: Row) -> u64
+    ensures { λ r. ⌜ (found ≡ lookup (now (table .entry)) ids (row .rank)
+        → (now (table .exit) ≡ stored (now (table .entry)) ids row .words) × (r ≡ countAfter (stored (now (table .entry)) ids row .answer) ids)) ⌝ }
 {
-    match table::put_row(table, ids, osm_id::rank_of_bits(id), place, floor) {
+    match table::put_row(table, ids, found, row) {
         Put::Replaced => ids,
         Put::Inserted => ids + 1,
         Put::Full => ids,
@@ -202,8 +203,11 @@ fn join(
     head: PushHead,
     meta: ArenaMeta,
     parts: &[u8],
+    found: Found,
 ) -> Outcome
-    ensures { λ r. ⌜ record { kindStore = kindStoreWith (now (table .exit)) (r .ids) (now (arena .exit)) (r .used); answer = r .answer } ≡ recordJoined (kindStoreWith (now (table .entry)) ids (now (arena .entry)) used) (toZ w64 (head .id)) floor (headBytes kind (headIn kind head) ++ metaBytes (metaOf meta) ++ now (parts .entry)) ⌝ }
+    ensures { λ r. ⌜ (found ≡ lookup (now (table .entry)) ids (rank (toZ w64 (head .id)))
+        → record { kindStore = kindStoreWith (now (table .exit)) (r .ids) (now (arena .exit)) (r .used); answer = r .answer }
+        ≡ recordJoined (kindStoreWith (now (table .entry)) ids (now (arena .entry)) used) (toZ w64 (head .id)) floor (headBytes kind (headIn kind head) ++ metaBytes (metaOf meta) ++ now (parts .entry))) ⌝ }
 {
     let Appended::End(end) = append_record(kind, arena, used as usize, head, meta, parts) else {
         return Outcome {
@@ -212,9 +216,14 @@ fn join(
             used,
         };
     };
+    let row = Row {
+        rank: osm_id::rank_of_bits(head.id),
+        place: used,
+        floor,
+    };
     Outcome {
         answer: Kept::Taken,
-        ids: set_row(table, ids, head.id, used, floor),
+        ids: set_row(table, ids, found, row),
         used: end as u64,
     }
 }
@@ -232,12 +241,24 @@ fn push_admitted(
     parts: &[u8],
     found: Found,
 ) -> Outcome
-    ensures { λ r. ⌜ record { kindStore = kindStoreWith (now (table .exit)) (r .ids) (now (arena .exit)) (r .used); answer = r .answer }
+    ensures { λ r. ⌜ (found ≡ lookup (now (table .entry)) ids (rank (toZ w64 (head .id)))
+        → record { kindStore = kindStoreWith (now (table .exit)) (r .ids) (now (arena .exit)) (r .used); answer = r .answer }
         ≡ (let s = kindStoreWith (now (table .entry)) ids (now (arena .entry)) used in
-        cond (roomAt (s .table) (s .ids) found) (recordJoined s (toZ w64 (head .id)) floor (headBytes kind (headIn kind head) ++ metaBytes (metaOf meta) ++ now (parts .entry))) (kindStoreRefused s IdsFull)) ⌝ }
+        cond (roomAt (s .table) (s .ids) found) (recordJoined s (toZ w64 (head .id)) floor (headBytes kind (headIn kind head) ++ metaBytes (metaOf meta) ++ now (parts .entry))) (kindStoreRefused s IdsFull))) ⌝ }
 {
     if has_room(table, ids, found) {
-        return join(kind, table, ids, arena, used, floor, head, meta, parts);
+        return join(
+            kind,
+            table,
+            ids,
+            arena,
+            used,
+            floor,
+            head,
+            meta,
+            parts,
+            found,
+        );
     }
     Outcome {
         answer: Kept::Refused(Refusal::IdsFull),
@@ -303,9 +324,14 @@ fn delete_admitted(
 {
     if has_room(table, ids, found) {
         let floor = version_floor::version_word(version_floor::higher_of(version, claim));
+        let row = Row {
+            rank: osm_id::rank_of_bits(id),
+            place: 0x8000_0000_0000_0000,
+            floor,
+        };
         return Outcome {
             answer: Kept::Taken,
-            ids: set_row(table, ids, id, 0x8000_0000_0000_0000, floor),
+            ids: set_row(table, ids, found, row),
             used,
         };
     }

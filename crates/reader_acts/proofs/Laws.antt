@@ -7,20 +7,19 @@ use lib.ListN.{take}
 use Rattle.base.specs.Bytes.{Bytes}
 use Rattle.base.proofs.Split.{byBool, no}
 use Rattle.refusal.specs.declared.Refusal.{Refusal}
-use Rattle.refusal.specs.declared.Refusal.the-variants.{StringsFull}
 use Rattle.kind.specs.declared.Kind.{Kind}
 use Rattle.nesting.specs.declared.Place.{Place}
 use Rattle.version_floor.specs.declared.Admit.{Admit}
 use Rattle.version_floor.specs.declared.Admit.the-variants.{Admitted, Below}
 use Rattle.model.specs.Record.{Meta, Body, kindOf, flagged, claimOf}
 use Rattle.compact.specs.declared.ArenaMeta.{ArenaMeta}
-use Rattle.interner.specs.Strings.{Store, intern}
+use Rattle.interner.specs.Strings.{intern}
 use Rattle.interner.specs.declared.Interned.{Interned}
 use Rattle.interner.specs.declared.Interned.the-variants as I
 use Rattle.kind_store.specs.KindStore.{knownVersion, checked}
 use Rattle.kind_store.specs.declared.Kept.{Kept}
 use Rattle.kind_store.specs.declared.Kept.the-variants as K
-use Rattle.overlay.specs.Overlay.{Overlay, kindStoreOf, withTexts}
+use Rattle.overlay.specs.Overlay.{Overlay, kindStoreOf}
 use Rattle.overlay.specs.Calls.{OverlayAfter, overlayRefused}
 use Rattle.store.specs.Calls.{Interning, handleIn, storeText}
 use Rattle.store.specs.declared.Handle.{Handle}
@@ -29,27 +28,21 @@ use Rattle.decision.specs.Decision.{begins, deletes, ends}
 use Rattle.reader.specs.declared.Pending.{Pending}
 use Rattle.reader.specs.State.{State}
 use Rattle.reader.specs.Step.{Step, goes, stops, onHandle, takingUser, bitsWithUser, headFor, unlessBelow, onKept, onAfter, unlessRegression, clearsTo, stepOf}
-use Rattle.reader_acts.specs.Acts.{AfterBegun, begunBy, beginOn, byBegun, admitted, actKeptAs, actKept, actOn, userActOn, userFull, pushEmptyOn, deleteElementOn, pushStagedOn, HandleFits}
+use Rattle.reader_acts.specs.Acts.{AfterBegun, begunBy, beginOn, byBegun, admitted, actKeptAs, actKept, actOn, pushEmptyOn, deleteElementOn, pushStagedOn, HandleFits}
 use Rattle.reader_acts.specs.declared.Begun.{Begun}
 use Rattle.reader_acts.specs.declared.Begun.the-variants as B
 use Rattle.reader_acts.proofs.Handles.{byIntern, handle-fits}
 
 -- ---- the user that metadata names
 
--- 13 changes nothing; else the metadata has its user's handle, and only texts came in
-pub byBeginning : {C : Type 0} (m : Meta Bytes) (o : Overlay)
-    → (userFull m (o .texts) ≡ true → beginOn m o ≡ record { overlay = o; answer = B.Refused StringsFull } → C)
-    → ((n : ℕ) (t : Store) → userFull m (o .texts) ≡ false → beginOn m o ≡ record { overlay = withTexts t o; answer = B.With (bitsWithUser m n) } → C) → C
-unfolding beginOn
-byBeginning m o f g =
-    byBool (flagged 4 (m .flags))
-    (λ t. byIntern (o .texts) (m .user) (λ h l e. g h (o .texts) (rw (t, e)) (rw (t, e))) (λ q e. g (o .texts .strings) q (rw (t, e)) (rw (t, e))) (λ e. f (rw (t, e)) (rw (t, e))))
-    (λ t. g 0 (o .texts) (rw t) (rw t))
-
 module _ (m : Meta Bytes) (o : Overlay) where
+  -- 13 changes nothing
   pub begin-refused : (r : Refusal) → beginOn m o .answer ≡ B.Refused r → beginOn m o .overlay ≡ o
+  unfolding beginOn
   begin-refused r e =
-      byBeginning m o (λ t w. ap (λ (z : AfterBegun). z .overlay) w) (λ n q t w. let z = sym (ap (λ (z : AfterBegun). z .answer) w) ∙ e in no (cc))
+      byBool (flagged 4 (m .flags))
+      (λ t. byIntern (o .texts) (m .user) (λ h l i. rw (t, i)) (λ q i. let z : B.With (bitsWithUser m (o .texts .strings)) ≡ B.Refused r = rw (t, i) at e in no (cc)) (λ i. rw (t, i)))
+      (λ t. rw t)
 
   -- a user that is named, by its handle
   pub begin-named : flagged 4 (m .flags) ≡ true → o .texts .strings < 4294967296 → {q : Overlay} {h : Handle} {r : Begun}
@@ -72,14 +65,6 @@ module _ (m : Meta Bytes) (o : Overlay) where
       go (I.Held h) = refl
       go (I.New h) = refl
       go I.Full = refl
-
--- what follows it, where it is known to be taken
-module _ (m : Meta Bytes) (act : ArenaMeta → Overlay → OverlayAfter) (o : Overlay) {q : Overlay} {b : Begun} (begun : record { overlay = q; answer = b } ≡ beginOn m o) where
-  pub user-acted : (a : ArenaMeta) → b ≡ B.With a → {x : OverlayAfter} → x ≡ act a q → x ≡ userActOn m act o
-  user-acted a e f = rw (← begun, e) f
-
-  pub user-not : (r : Refusal) → b ≡ B.Refused r → record { overlay = q; answer = K.Refused r } ≡ userActOn m act o
-  user-not r e = rw (← begun, e)
 
 -- an element that begins
 pub begins-step : (s : State) (p : Place) (id : ℤ) (m : Meta Bytes) (b : Body Bytes)

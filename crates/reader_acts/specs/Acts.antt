@@ -1,20 +1,18 @@
 -- Document 01, the acts of an event: "12 .. 13 .. 14 .. 15 ..", and the first of them is answered. "Nothing lent changes" at a refusal.
 use Prim.Native.Nat.{ℕ, _<_, _≤_}
-use mathlib.Core.Bool.{Bool, false, cond}
+use mathlib.Core.Path.{_≡_}
+use mathlib.Core.Bool.{cond}
 use mathlib.Core.List.{List, []}
-use lib.Dec.{eqb}
 use lib.IntN.{ℤ}
 use lib.ListN.{length, take}
 use Rattle.base.specs.Bytes.{Bytes}
 use Rattle.refusal.specs.declared.Refusal.{Refusal}
-use Rattle.refusal.specs.declared.Refusal.the-variants.{Regression, StringsFull}
-use Rattle.refusal.specs.Refusal.{numberOf}
+use Rattle.refusal.specs.declared.Refusal.the-variants.{Regression}
 use Rattle.kind.specs.declared.Kind.{Kind}
 use Rattle.version_floor.specs.declared.Admit.{Admit}
 use Rattle.version_floor.specs.declared.Admit.the-variants.{Admitted, Below}
 use Rattle.model.specs.Record.{Meta, Body, kindOf, flagged, claimOf}
 use Rattle.compact.specs.declared.ArenaMeta.{ArenaMeta}
-use Rattle.interner.specs.Strings.{Store}
 use Rattle.text_index.specs.Index.{IndexGiven}
 use Rattle.kind_store.specs.KindStore.{knownVersion, checked}
 use Rattle.kind_store.specs.declared.Kept.{Kept}
@@ -26,7 +24,6 @@ use Rattle.store.specs.declared.Handle.{Handle}
 use Rattle.store.specs.declared.Handle.the-variants as H
 use Rattle.metadata.specs.Metadata.{MetadataInBounds}
 use Rattle.metadata.specs.declared.Metadata.{Metadata}
-use Rattle.reader_texts.specs.Texts.{refusedFor}
 use Rattle.reader.specs.declared.Pending.{Pending}
 use Rattle.reader.specs.Step.{bitsWithUser, headFor}
 use Rattle.reader_acts.specs.declared.Begun.{Begun}
@@ -75,18 +72,6 @@ actOn k id m act o =
     admitted o (checked (o .setting) (knownVersion k (kindStoreOf k o) id) (claimOf m))
     (byBegun (overlayRefused o) (λ a. actKept o (act a (beginOn m o .overlay))) (beginOn m o .answer))
 
--- the same where the act is known to be taken: 13, or the act
-abbrev pub userActOn : Meta Bytes → (ArenaMeta → Overlay → OverlayAfter) → Overlay → OverlayAfter
-userActOn m act o = byBegun (overlayRefused (beginOn m o .overlay)) (λ a. act a (beginOn m o .overlay)) (beginOn m o .answer)
-
--- 13 of the user that metadata names
-abbrev pub userFull : Meta Bytes → Store → Bool
-userFull m texts = cond (flagged 4 (m .flags)) (refusedFor texts (m .user)) false
-
--- the answer of an act that is refused: 12 itself, then 13, then 14 or 15
-abbrev pub refusalAfter : Bool → Refusal → Refusal
-refusalAfter full r = cond (eqb (numberOf r) 12) r (cond full StringsFull r)
-
 -- an element that begins and ends at once is pushed: 12, 13, 14, 15
 abbrev pub pushEmptyOn : ℤ → Meta Bytes → Body Bytes → Overlay → OverlayAfter
 pushEmptyOn id m b o = actOn (kindOf b) id m (λ a q. storePush (kindOf b) (headFor id b) a [] q) o
@@ -99,6 +84,24 @@ deleteElementOn k id m o = actOn k id m (λ a q. storeDelete k id (claimOf m) q)
 abbrev pub pushStagedOn : Kind → Pending → Bytes → Overlay → OverlayAfter
 pushStagedOn k x parts o = storePush k (x .head) (x .meta) (take (x .used) parts) o
 
+-- ---- an act done once: with the handle that the user's text has or will get, and the text behind it (proofs/Once: this is `actOn`)
+
+-- that handle, or 13; without a user it is 0
+abbrev pub handleFor : Meta Bytes → Overlay → Handle
+handleFor m o = cond (flagged 4 (m .flags)) (storeText (m .user) o .answer) (H.Is 0)
+
+-- the text taken in
+abbrev pub withUser : Meta Bytes → Overlay → Overlay
+withUser m o = cond (flagged 4 (m .flags)) (storeText (m .user) o .overlay) o
+
+-- the text behind an act that was taken; a refused one is left as it is
+abbrev pub thenUser : Meta Bytes → Overlay → Kept → OverlayAfter
+thenUser m q K.Taken = record { overlay = withUser m q; answer = K.Taken }
+thenUser m q (K.Refused r) = overlayRefused q r
+
+abbrev pub thenUserOn : Meta Bytes → OverlayAfter → OverlayAfter
+thenUserOn m a = thenUser m (a .overlay) (a .answer)
+
 -- ---- what is given
 
 -- the user lies in the line, the handles of the overlay fit the metadata's field, and its texts have an array of chains
@@ -107,6 +110,10 @@ pub record ActGiven (ix : List ℕ) (line : Bytes) (m : Metadata) (o : Overlay) 
   pub short : length line ≤ 16384
   pub few : o .texts .strings < 4294967296
   pub indexed : IndexGiven ix (o .texts)
+
+-- the user's text has or will get that handle
+abbrev pub UserIs : Meta Bytes → Overlay → ℕ → Type 0
+UserIs m o n = handleFor m o ≡ H.Is n
 
 -- a handle fits the metadata's field
 abbrev pub HandleFits : Handle → Type 0

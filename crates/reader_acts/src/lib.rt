@@ -1,26 +1,23 @@
 // The acts of an event, over what is lent: an element that begins, the push of an empty element or of one whose parts are staged, a delete.
-// What is refused changes nothing lent: the act's answer is asked first, and only then is the user's text taken in.
+// What is refused changes nothing lent: the handle that the user's text has or will get is found first, the act is done with it, and the text is taken in behind an act that was taken.
 ghost use mathlib.Core.Path.{_≡_};
-ghost use Prim.Native.Nat.{_+_, _<_, _≤_};
 ghost use mathlib.Core.List.{[]};
-ghost use lib.ListN.{length, take};
+ghost use lib.ListN.{take};
 ghost use mir.Syntax.{w64};
 ghost use mir.Val.{toZ};
 ghost use Rattle.base.specs.Bytes.{Bytes};
 ghost use Rattle.model.specs.Record.{claimOf};
-ghost use Rattle.compact.specs.Layout.{headLen};
 ghost use Rattle.overlay.specs.Lent.{lent, left};
-ghost use Rattle.kind_store.specs.declared.Kept.the-variants as K;
-ghost use Rattle.store.specs.Calls.{storePush, storeDelete};
+ghost use Rattle.overlay.specs.Calls.{overlayRefused};
+ghost use Rattle.store.specs.Calls.{storePush};
+ghost use Rattle.act_answer.specs.Answer.{claimAnswer};
 ghost use Rattle.values.specs.Value.{bodyIn};
-ghost use Rattle.metadata.specs.Metadata.{metaWritten, MetadataInBounds};
+ghost use Rattle.metadata.specs.Metadata.{metaWritten};
 ghost use Rattle.reader.specs.Step.{bitsWithUser, headFor};
-ghost use Rattle.reader_acts.specs.Acts.{begunBy, beginOn, userActOn, userFull, refusalAfter, pushEmptyOn, deleteElementOn, pushStagedOn, ActGiven, HandleFits};
+ghost use Rattle.reader_acts.specs.Acts.{begunBy, beginOn, admitted, handleFor, thenUser, thenUserOn, withUser, pushEmptyOn, deleteElementOn, pushStagedOn, ActGiven, HandleFits, UserIs};
 use blocks::COUNTERS;
+use blocks::STRINGS;
 use compact::ArenaMeta;
-use compact::CompactNode;
-use compact::CompactRelation;
-use compact::CompactWay;
 use compact::PushHead;
 use kind::Kind;
 use kind_store::Kept;
@@ -28,6 +25,7 @@ use metadata::Metadata;
 use reader::Pending;
 use refusal::Refusal;
 use store::Handle;
+use version_floor::Admit;
 use version_floor::Version;
 
 // What an element begins with: its metadata with its user's handle, or 13.
@@ -88,17 +86,6 @@ fn claimed(meta: Metadata) -> Version
     compact::claim(arena_meta(meta, 0))
 }
 
-// How long the record of an empty element is.
-fn empty_len(kind: Kind) -> usize
-    ensures { λ r. ⌜ r ≡ headLen kind + 29 ⌝ }
-{
-    match kind {
-        Kind::Node => CompactNode::HEADER_LEN,
-        Kind::Way => CompactWay::HEADER_LEN,
-        Kind::Relation => CompactRelation::HEADER_LEN,
-    }
-}
-
 fn begun_by(meta: Metadata, handle: Handle) -> Begun
     ensures { λ r. ⌜ ((line : Bytes) → HandleFits handle → r ≡ begunBy (metaWritten line meta) handle) ⌝ }
 {
@@ -108,46 +95,7 @@ fn begun_by(meta: Metadata, handle: Handle) -> Begun
     }
 }
 
-// ---- the user that metadata names
-
-// 13, of that user.
-fn user_refused(
-    words: &[u64],
-    bytes: &[u8],
-    counters: &[u64; COUNTERS],
-    meta: Metadata,
-    line: &[u8],
-) -> bool
-    ensures { λ r. ⌜ (MetadataInBounds (now (line .entry)) meta → length (now (line .entry)) ≤ 16384
-        → r ≡ userFull (metaWritten (now (line .entry)) meta) (lent words bytes counters .texts)) ⌝ }
-{
-    if meta.flags / 4 % 2 == 1 {
-        let user = meta.user;
-        return reader_texts::text_refused(words, bytes, counters, line, user);
-    }
-    false
-}
-
-// The answer of an act that is refused: 12 itself, then 13, then 14 or 15.
-fn refused_act(
-    words: &[u64],
-    bytes: &[u8],
-    counters: &[u64; COUNTERS],
-    meta: Metadata,
-    line: &[u8],
-    refusal: Refusal,
-) -> Kept
-    ensures { λ r. ⌜ (MetadataInBounds (now (line .entry)) meta → length (now (line .entry)) ≤ 16384
-        → r ≡ K.Refused (refusalAfter (userFull (metaWritten (now (line .entry)) meta) (lent words bytes counters .texts)) refusal)) ⌝ }
-{
-    if refusal::reply_of(refusal).number == 12 {
-        return Kept::Refused(refusal);
-    }
-    if user_refused(words, bytes, counters, meta, line) {
-        return Kept::Refused(Refusal::StringsFull);
-    }
-    Kept::Refused(refusal)
-}
+// ---- an element that begins
 
 // An element begins: 13, or its metadata with its user's handle.
 pub fn begin_element(
@@ -215,9 +163,94 @@ pub fn push_staged(
     )
 }
 
+// ---- an act and the user that its metadata names
+
+// The handle that the user's text has or will get, or 13; without a user it is 0.
+fn user_handle(
+    words: &[u64],
+    bytes: &[u8],
+    counters: &[u64; COUNTERS],
+    ix: &[u16],
+    meta: Metadata,
+    line: &[u8],
+) -> Handle
+    ensures { λ r. ⌜ (ActGiven (now (ix .entry)) (now (line .entry)) meta (lent words bytes counters)
+        → r ≡ handleFor (metaWritten (now (line .entry)) meta) (lent words bytes counters)) ⌝ }
+{
+    if meta.flags / 4 % 2 == 1 {
+        let user = meta.user;
+        return reader_texts::text_handle(words, bytes, counters, ix, line, user);
+    }
+    Handle::Is(0)
+}
+
+// An act whose user's text is refused: 12 if its claim is below the known version, else that refusal.
+fn user_refused(
+    words: &[u64],
+    bytes: &[u8],
+    counters: &[u64; COUNTERS],
+    kind: Kind,
+    id: u64,
+    meta: Metadata,
+    refusal: Refusal,
+) -> Kept
+    ensures { λ r. ⌜ ((line : Bytes) → record { overlay = lent words bytes counters; answer = r }
+        ≡ admitted (lent words bytes counters) (claimAnswer kind (toZ w64 id) (claimOf (metaWritten line meta)) (lent words bytes counters)) (overlayRefused (lent words bytes counters) refusal)) ⌝ }
+{
+    let claim = claimed(meta);
+    let Admit::Below(held) = act_answer::claim_below(words, bytes, counters, kind, id, claim) else {
+        return Kept::Refused(refusal);
+    };
+    Kept::Refused(Refusal::Regression(held))
+}
+
+// The user's text taken in, by its handle: one below the count is held.
+fn take_user(
+    words: &mut [u64],
+    bytes: &mut [u8],
+    counters: &mut [u64; COUNTERS],
+    ix: &[u16],
+    meta: Metadata,
+    line: &[u8],
+    user: u64,
+)
+    ensures { λ _. ⌜ (ActGiven (now (ix .entry)) (now (line .entry)) meta (lent words bytes counters)
+        → UserIs (metaWritten (now (line .entry)) meta) (lent words bytes counters) user
+        → left words bytes counters ≡ withUser (metaWritten (now (line .entry)) meta) (lent words bytes counters)) ⌝ }
+{
+    if counters[STRINGS] <= user {
+        let at = meta.user;
+        reader_texts::take_text(words, bytes, counters, ix, line, at);
+    }
+}
+
+// What follows an act: the user's text where it was taken.
+fn then_user(
+    words: &mut [u64],
+    bytes: &mut [u8],
+    counters: &mut [u64; COUNTERS],
+    ix: &[u16],
+    meta: Metadata,
+    line: &[u8],
+    user: u64,
+    kept: Kept,
+) -> Kept
+    ensures { λ r. ⌜ (ActGiven (now (ix .entry)) (now (line .entry)) meta (lent words bytes counters)
+        → UserIs (metaWritten (now (line .entry)) meta) (lent words bytes counters) user
+        → record { overlay = left words bytes counters; answer = r } ≡ thenUser (metaWritten (now (line .entry)) meta) (lent words bytes counters) kept) ⌝ }
+{
+    match kept {
+        Kept::Taken => {
+            take_user(words, bytes, counters, ix, meta, line, user);
+            Kept::Taken
+        }
+        Kept::Refused(refusal) => Kept::Refused(refusal),
+    }
+}
+
 // ---- an element that begins and ends at once
 
-// The user is taken in, and the element is pushed.
+// Pushes it with its user's handle, and takes the text in behind the push.
 fn push_with_user(
     words: &mut [u64],
     bytes: &mut [u8],
@@ -227,15 +260,16 @@ fn push_with_user(
     head: PushHead,
     meta: Metadata,
     line: &[u8],
+    user: u64,
 ) -> Kept
     ensures { λ r. ⌜ (ActGiven (now (ix .entry)) (now (line .entry)) meta (lent words bytes counters)
+        → UserIs (metaWritten (now (line .entry)) meta) (lent words bytes counters) user
         → record { overlay = left words bytes counters; answer = r }
-        ≡ userActOn (metaWritten (now (line .entry)) meta) (λ a q. storePush kind head a [] q) (lent words bytes counters)) ⌝ }
+        ≡ thenUserOn (metaWritten (now (line .entry)) meta) (storePush kind head (bitsWithUser (metaWritten (now (line .entry)) meta) user) [] (lent words bytes counters))) ⌝ }
 {
-    match begin_element(words, bytes, counters, ix, meta, line) {
-        Begun::With(a) => push_first(words, bytes, counters, line, 0, kind, head, a),
-        Begun::Refused(r) => Kept::Refused(r),
-    }
+    let a = arena_meta(meta, little::narrow(user));
+    let kept = push_first(words, bytes, counters, line, 0, kind, head, a);
+    then_user(words, bytes, counters, ix, meta, line, user, kept)
 }
 
 // Pushes an empty element: 12, 13, 14, 15, or taken.
@@ -255,39 +289,16 @@ pub fn push_empty(
         → record { overlay = left words bytes counters; answer = r }
         ≡ pushEmptyOn (toZ w64 id) (metaWritten (now (line .entry)) meta) (bodyIn kind lat lon) (lent words bytes counters)) ⌝ }
 {
-    let claim = claimed(meta);
-    let len = empty_len(kind);
-    match act_answer::push_answer(words, bytes, counters, kind, id, claim, len) {
-        Kept::Taken => {
-            let h = head_for(kind, id, lat, lon);
-            push_with_user(words, bytes, counters, ix, kind, h, meta, line)
+    match user_handle(words, bytes, counters, ix, meta, line) {
+        Handle::Is(user) => {
+            let head = head_for(kind, id, lat, lon);
+            push_with_user(words, bytes, counters, ix, kind, head, meta, line, user)
         }
-        Kept::Refused(r) => refused_act(words, bytes, counters, meta, line, r),
+        Handle::Refused(r) => user_refused(words, bytes, counters, kind, id, meta, r),
     }
 }
 
 // ---- a delete
-
-// The user is taken in, and the id is deleted.
-fn delete_with_user(
-    words: &mut [u64],
-    bytes: &mut [u8],
-    counters: &mut [u64; COUNTERS],
-    ix: &[u16],
-    kind: Kind,
-    id: u64,
-    meta: Metadata,
-    line: &[u8],
-) -> Kept
-    ensures { λ r. ⌜ (ActGiven (now (ix .entry)) (now (line .entry)) meta (lent words bytes counters)
-        → record { overlay = left words bytes counters; answer = r }
-        ≡ userActOn (metaWritten (now (line .entry)) meta) (λ a q. storeDelete kind (toZ w64 id) (claimOf (metaWritten (now (line .entry)) meta)) q) (lent words bytes counters)) ⌝ }
-{
-    match begin_element(words, bytes, counters, ix, meta, line) {
-        Begun::With(_) => store::store_delete(words, bytes, counters, kind, id, claimed(meta)),
-        Begun::Refused(r) => Kept::Refused(r),
-    }
-}
 
 // Deletes an id: 12, 13, 14, or taken.
 pub fn delete_element(
@@ -304,9 +315,11 @@ pub fn delete_element(
         → record { overlay = left words bytes counters; answer = r }
         ≡ deleteElementOn kind (toZ w64 id) (metaWritten (now (line .entry)) meta) (lent words bytes counters)) ⌝ }
 {
-    let claim = claimed(meta);
-    match act_answer::delete_answer(words, bytes, counters, kind, id, claim) {
-        Kept::Taken => { delete_with_user(words, bytes, counters, ix, kind, id, meta, line) }
-        Kept::Refused(r) => refused_act(words, bytes, counters, meta, line, r),
+    match user_handle(words, bytes, counters, ix, meta, line) {
+        Handle::Is(user) => {
+            let kept = store::store_delete(words, bytes, counters, kind, id, claimed(meta));
+            then_user(words, bytes, counters, ix, meta, line, user, kept)
+        }
+        Handle::Refused(r) => user_refused(words, bytes, counters, kind, id, meta, r),
     }
 }

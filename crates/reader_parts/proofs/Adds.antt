@@ -27,10 +27,10 @@ use Rattle.overlay.specs.Overlay.{Overlay}
 use Rattle.store.specs.Calls.{Interning, storeText}
 use Rattle.store.specs.declared.Handle.{Handle}
 use Rattle.store.specs.declared.Handle.the-variants as H
+use Rattle.store.proofs.Answers.{byHandle}
 use Rattle.reader.specs.declared.Pending.{Pending}
 use Rattle.reader.specs.State.{middle, valuesIn, moreTags, moreParts}
 use Rattle.reader.specs.Step.{memberBits}
-use Rattle.reader_texts.specs.Texts.{refusedFor}
 use Rattle.reader_parts.specs.Parts.{Adding, tagFits, partFits, refusalOver, pendingWith, addPart, addWith}
 use Rattle.reader_parts.specs.declared.Added.{Added}
 use Rattle.reader_parts.specs.declared.Added.the-variants as A
@@ -84,21 +84,6 @@ module _ (t : Bytes) (o : Overlay) where
       (λ k b i. rw i)
       (λ i. let q : H.Is (o .texts .strings) ≡ H.Refused r = rw i at e in let z : _≡_ {A = ℕ} 0 1 = cc in no z)
       (λ i. rw i)
-
-  -- whether it would be refused
-  pub text-full : refusedFor (o .texts) t ≡ true → storeText t o .answer ≡ H.Refused R.StringsFull
-  text-full e =
-      byIntern (o .texts) t
-      (λ k b i. let z : _≡_ {A = Bool} false true = rw i at e in let q : _≡_ {A = ℕ} 0 1 = cc in no q)
-      (λ i. let z : _≡_ {A = Bool} false true = rw i at e in let q : _≡_ {A = ℕ} 0 1 = cc in no q)
-      (λ i. rw i)
-
-  pub text-held : refusedFor (o .texts) t ≡ false → (h : ℕ) × (storeText t o .answer ≡ H.Is h)
-  text-held e =
-      byIntern (o .texts) t
-      (λ k b i. (k, rw i))
-      (λ i. (o .texts .strings, rw i))
-      (λ i. let z : _≡_ {A = Bool} true false = rw i at e in let q : _≡_ {A = ℕ} 0 1 = cc in no q)
 
 -- ---- a child with a text
 
@@ -170,24 +155,24 @@ module _ (y : TextChild) where
         rw (answered ∙ e, z)
 
   -- over the limits: 13 where the text would be refused, else 16
-  pub over-left : {r : Added} → y .within ≡ false → r ≡ A.Refused (refusalOver (refusedFor (y .overlay .texts) (y .text)))
+  pub over-left : {r : Added} → y .within ≡ false → r ≡ A.Refused (refusalOver (storeText (y .text) (y .overlay) .answer))
       → record { overlay = y .overlay; parts = y .parts; answer = r } ≡ textAdded y
   unfolding addWith
   over-left w e =
-      byBool (refusedFor (y .overlay .texts) (y .text))
-      (λ f. rw (e, f, text-full (y .text) (y .overlay) f))
-      (λ f. let k = text-held (y .text) (y .overlay) f in rw (e, f, k .1, w))
+      byHandle (storeText (y .text) (y .overlay) .answer)
+      (λ n f. rw (e, f, w))
+      (λ r f. rw (e, f))
 
   -- a refused child changes nothing
   pub text-child-kept : (r : Refusal) → textAdded y .answer ≡ A.Refused r → (textAdded y .overlay ≡ y .overlay) × (textAdded y .parts ≡ y .parts)
   unfolding addWith
   text-child-kept r e =
-      byBool (refusedFor (y .overlay .texts) (y .text))
-      (λ f. let k = text-full (y .text) (y .overlay) f in (rw k, rw k))
-      (λ f. let k = text-held (y .text) (y .overlay) f in
+      byHandle (storeText (y .text) (y .overlay) .answer)
+      (λ n f.
       byBool (y .within)
-      (λ w. let q : A.Is (pendingWith (y .head) (y .part (k .0)) (y .pending)) ≡ A.Refused r = rw (k .1, w) at e in let z : _≡_ {A = ℕ} 0 1 = cc in no z)
-      (λ w. (rw (k .1, w), rw (k .1, w))))
+      (λ w. let q : A.Is (pendingWith (y .head) (y .part n) (y .pending)) ≡ A.Refused r = rw (f, w) at e in let z : _≡_ {A = ℕ} 0 1 = cc in no z)
+      (λ w. (rw (f, w), rw (f, w))))
+      (λ x f. (rw f, rw f))
 
 -- ---- a child with none
 

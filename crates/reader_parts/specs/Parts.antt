@@ -46,8 +46,9 @@ abbrev pub partFits : Pending → ℕ → Bool
 partFits x limit = leb (x .head .count + 1) limit
 
 -- the refusal of a child with a text that is not within them: 13 where the text would be refused, else 16
-abbrev pub refusalOver : Bool → Refusal
-refusalOver full = cond full R.StringsFull R.TooManyParts
+abbrev pub refusalOver : Handle → Refusal
+refusalOver (H.Is h) = R.TooManyParts
+refusalOver (H.Refused r) = r
 
 -- ---- a child
 

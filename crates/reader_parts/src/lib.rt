@@ -6,10 +6,11 @@ ghost use mir.Syntax.{w64};
 ghost use mir.Val.{toZ};
 ghost use Rattle.stage.specs.Stage.{staged, refPart, memberPart, tagPart};
 ghost use Rattle.values.specs.Value.{textAt, ExtentInBounds};
+ghost use Rattle.text_index.specs.Index.{IndexGiven};
 ghost use Rattle.overlay.specs.Overlay.{Overlay};
 ghost use Rattle.overlay.specs.Lent.{lent, left};
+ghost use Rattle.store.specs.Calls.{storeText};
 ghost use Rattle.reader.specs.State.{middle, valuesIn, moreTags, moreParts};
-ghost use Rattle.reader_texts.specs.Texts.{refusedFor};
 ghost use Rattle.reader_parts.specs.Parts.{ChildGiven, tagFits, partFits, refusalOver, pendingWith, addTag, addRef, addMember};
 ghost use Rattle.reader_parts.specs.declared.Added.the-variants as added;
 use blocks::COUNTERS;
@@ -78,16 +79,18 @@ fn over_limit(
     words: &[u64],
     bytes: &[u8],
     counters: &[u64; COUNTERS],
+    ix: &[u16],
     line: &[u8],
     text: Extent,
 ) -> Added
     ensures { λ r. ⌜ (ExtentInBounds (now (line .entry)) text → length (now (line .entry)) ≤ 16384
-        → r ≡ added.Refused (refusalOver (refusedFor (lent words bytes counters .texts) (textAt (now (line .entry)) text)))) ⌝ }
+        → IndexGiven (now (ix .entry)) (lent words bytes counters .texts)
+        → r ≡ added.Refused (refusalOver (storeText (textAt (now (line .entry)) text) (lent words bytes counters) .answer))) ⌝ }
 {
-    if reader_texts::text_refused(words, bytes, counters, line, text) {
-        return Added::Refused(Refusal::StringsFull);
+    match reader_texts::text_handle(words, bytes, counters, ix, line, text) {
+        Handle::Is(_) => Added::Refused(Refusal::TooManyParts),
+        Handle::Refused(refusal) => Added::Refused(refusal),
     }
-    Added::Refused(Refusal::TooManyParts)
 }
 
 // ---- a part staged, and the element with it
@@ -170,7 +173,7 @@ fn tag_with(
             Handle::Refused(refusal) => Added::Refused(refusal),
         };
     }
-    over_limit(words, bytes, counters, line, key)
+    over_limit(words, bytes, counters, ix, line, key)
 }
 
 // With its value's escapes resolved: an array holds the text.
@@ -286,5 +289,5 @@ pub fn add_member(
             Handle::Refused(refusal) => Added::Refused(refusal),
         };
     }
-    over_limit(words, bytes, counters, line, member.role)
+    over_limit(words, bytes, counters, ix, line, member.role)
 }

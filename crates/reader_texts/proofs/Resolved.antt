@@ -1,4 +1,4 @@
--- The text of an extent: no longer than its line, so an array of a line's largest length holds it whole; and what `intern` would answer it, by its cases.
+-- The text of an extent: no longer than its line, so an array of a line's largest length holds it whole.
 use Prim.Native.Nat.{ℕ, suc, _-_, _≤_, min}
 use mathlib.Core.Path.{_≡_, sym, _∙_}
 use mathlib.Core.Bool.{Bool, true, false, not}
@@ -18,12 +18,8 @@ use Rattle.event.specs.Event.{orEmpty}
 use Rattle.scan.specs.Piece.{valueText}
 use Rattle.scan.proofs.Places.{lent-is}
 use Rattle.scan.proofs.Pieces.{text-bare}
-use Rattle.interner.specs.declared.Found.the-variants.{At, Not}
-use Rattle.interner.specs.Strings.{findIn, Store, usedOf, textRoom}
-use Rattle.interner.proofs.Takes.{held, new, full}
 use Rattle.values.specs.Value.{textAt, ExtentInBounds}
 use Rattle.values.specs.declared.Extent.{Extent}
-use Rattle.reader_texts.specs.Texts.{refusedFor}
 
 -- ---- a text is no longer than the value that writes it
 
@@ -73,14 +69,10 @@ module _ (line : Bytes) (at : Extent) (lies : ExtentInBounds line at) where
   pub extent-whole : (s last : Bytes) (n : ℕ) → length line ≤ length s → (last ≡ over s 0 (textAt line at)) × (n ≡ length (textAt line at)) → take n last ≡ textAt line at
   extent-whole s last n h e = let k = extent-shorter in rw (e .0, e .1) (read-back s 0 (textAt line at) (omega arith))
 
--- ---- what `intern` would answer
-
-module _ (s : Store) (t : Bytes) where
-  pub held-not-refused : (h : ℕ) → findIn (s .spans) (usedOf s) (s .strings) t ≡ At h → refusedFor s t ≡ false
-  held-not-refused h e = rw (held s t h e)
-
-  pub room-not-refused : findIn (s .spans) (usedOf s) (s .strings) t ≡ Not → textRoom s t ≡ true → refusedFor s t ≡ false
-  room-not-refused e r = rw (new s t e r)
-
-  pub full-refused : findIn (s .spans) (usedOf s) (s .strings) t ≡ Not → textRoom s t ≡ false → refusedFor s t ≡ true
-  full-refused e r = rw (full s t e r)
+  -- as an array of a line's largest length does, up to the lesser of both lengths
+  pub extent-held : (s last : Bytes) (n end : ℕ) → length s ≡ 16384 → length line ≤ 16384 → (last ≡ over s 0 (textAt line at)) × (n ≡ length (textAt line at))
+      → end ≡ min n 16384 → take end last ≡ textAt line at
+  extent-held s last n end l short e m =
+      let k = extent-shorter in
+      let same : end ≡ n = omega (arith, e .1) in
+      rw same (extent-whole s last n (omega arith) e)

@@ -110,6 +110,30 @@ pub fn store_text_by(
     count_taken(counters, taken)
 }
 
+// What that would answer, with nothing taken in: 13, or the handle that the text has or would get.
+pub fn handle_by(
+    words: &[u64],
+    bytes: &[u8],
+    counters: &[u64; COUNTERS],
+    ix: &[u16],
+    text: &[u8],
+) -> Handle
+    ensures { λ r. ⌜ (IndexGiven (now (ix .entry)) (lent words bytes counters .texts) → r ≡ storeText (now (text .entry)) (lent words bytes counters) .answer) ⌝ }
+{
+    let t = blocks::texts_in(counters, words.len(), bytes.len());
+    let c = t.spans;
+    let f = t.bytes;
+    let answer = text_index::answer_by(
+        ix,
+        &words[c..],
+        &bytes[f..],
+        counters[STRINGS],
+        counters[STRING_BYTES],
+        text,
+    );
+    handle_in(answer)
+}
+
 // Brings an array of chains up to date with the held texts.
 pub fn index_texts(ix: &mut [u16], words: &[u64], bytes: &[u8], counters: &[u64; COUNTERS])
     ensures { λ _. ⌜ (IndexGiven (now (ix .entry)) (lent words bytes counters .texts) → IndexGiven (now (ix .exit)) (lent words bytes counters .texts)) ⌝ }

@@ -2,6 +2,7 @@
 ghost use mathlib.Core.Path.{_≡_};
 ghost use Prim.Native.Nat.{ℕ, _+_, _*_, _≤_, _<_};
 ghost use lib.ListN.{length, getD};
+ghost use Rattle.table.specs.declared.Put.the-variants as P;
 ghost use Rattle.table.specs.Words.{rowAt, soundTable, held, halve, lookup, rowOver, gap, inserted, stored};
 
 // A row: the id's rank in OSM order; where its record starts, or that it is deleted; its floor. Every word means something.
@@ -151,24 +152,31 @@ fn insert_row(table: &mut [u64], p: usize, n: usize, row: Row)
     store_row(table, p, row);
 }
 
-// Replaces the row of the rank, or inserts it in its place and moves the later rows up by one.
-pub fn put_row(table: &mut [u64], count: u64, rank: u64, place: u64, floor: u64) -> Put
-    ensures { λ r. ⌜ record { words = now (table .exit); answer = r } ≡ stored (now (table .entry)) count (record { rank = rank; place = place; floor = floor }) ⌝ }
+// Stores a row by where its rank was found: over the row there, or inserted in its place and the later rows moved up by one. Where
+// the table has no such row or place, nothing is stored.
+pub fn put_row(table: &mut [u64], count: u64, found: Found, row: Row) -> Put
+    ensures { λ r. ⌜ (found ≡ lookup (now (table .entry)) count (row .rank)
+        → record { words = now (table .exit); answer = r } ≡ stored (now (table .entry)) count row) ⌝ }
+    ensures { λ r. ⌜ (r ≡ P.Inserted → 3 * count + 3 ≤ length (now (table .entry))) ⌝ }
 {
-    let row = Row { rank, place, floor };
-    match find_row(table, count, rank) {
+    let n = count as usize;
+    let most = table.len() / 3;
+    match found {
         Found::At(i) => {
-            store_row(table, i, row);
-            Put::Replaced
+            if i < most {
+                store_row(table, i, row);
+                return Put::Replaced;
+            }
+            Put::Full
         }
         Found::Place(p) => {
-            let n = count as usize;
-            if n < table.len() / 3 {
-                insert_row(table, p, n, row);
-                Put::Inserted
-            } else {
-                Put::Full
+            if n < most {
+                if p <= n {
+                    insert_row(table, p, n, row);
+                    return Put::Inserted;
+                }
             }
+            Put::Full
         }
     }
 }

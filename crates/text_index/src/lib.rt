@@ -3,12 +3,13 @@
 ghost use mathlib.Core.Path.{_≡_};
 ghost use mathlib.Core.Bool.{true};
 ghost use Prim.Native.Nat.{ℕ, _≤_, _<_};
-ghost use lib.ListN.{length, getD};
+ghost use lib.ListN.{length, getD, take};
 ghost use Rattle.interner.specs.Strings.{spanned, bytesAt, findIn, storeWith, storeAfter, intern};
 ghost use Rattle.interner.specs.Sound.{textsIn};
 ghost use Rattle.text_index.specs.Index.{bucketOf, handlesIn, Indexed, IndexGiven};
 ghost use Rattle.text_index.specs.Link.{linked, ChainsGiven, FoundBelow};
 use interner::Found;
+use interner::Interned;
 use interner::Span;
 use interner::Taken;
 
@@ -101,6 +102,15 @@ fn find_by(ix: &[u16], spans: &[u64], bytes: &[u8], count: u64, text: &[u8]) -> 
     interner::find_from(spans, bytes, n, count, text)
 }
 
+// The same among all held handles, over the bytes in use.
+fn find_held(ix: &[u16], spans: &[u64], bytes: &[u8], strings: u64, used: u64, text: &[u8]) -> Found
+    ensures { λ r. ⌜ (IndexGiven (now (ix .entry)) (storeWith (now (spans .entry)) (now (bytes .entry)) strings used)
+        → r ≡ findIn (now (spans .entry)) (take used (now (bytes .entry))) strings (now (text .entry))) ⌝ }
+{
+    let seen = little::lesser(used as usize, bytes.len());
+    find_by(ix, spans, &bytes[..seen], strings, text)
+}
+
 // Takes a text in as `interner::intern` does.
 pub fn intern_by(
     ix: &[u16],
@@ -113,9 +123,31 @@ pub fn intern_by(
     ensures { λ r. ⌜ (IndexGiven (now (ix .entry)) (storeWith (now (spans .entry)) (now (bytes .entry)) strings used)
         → storeAfter (now (spans .exit)) (now (bytes .exit)) r ≡ intern (storeWith (now (spans .entry)) (now (bytes .entry)) strings used) (now (text .entry))) ⌝ }
 {
-    let seen = little::lesser(used as usize, bytes.len());
-    let found = find_by(ix, spans, &bytes[..seen], strings, text);
+    let found = find_held(ix, spans, bytes, strings, used, text);
     interner::intern_found(spans, bytes, strings, used, text, found)
+}
+
+// What that would answer, with nothing taken in.
+pub fn answer_by(
+    ix: &[u16],
+    spans: &[u64],
+    bytes: &[u8],
+    strings: u64,
+    used: u64,
+    text: &[u8],
+) -> Interned
+    ensures { λ r. ⌜ (IndexGiven (now (ix .entry)) (storeWith (now (spans .entry)) (now (bytes .entry)) strings used)
+        → r ≡ intern (storeWith (now (spans .entry)) (now (bytes .entry)) strings used) (now (text .entry)) .answer) ⌝ }
+{
+    match find_held(ix, spans, bytes, strings, used, text) {
+        Found::At(h) => Interned::Held(h),
+        Found::Not => {
+            if interner::fits(spans.len(), bytes.len(), strings, used, text.len()) {
+                return Interned::New(strings);
+            }
+            Interned::Full
+        }
+    }
 }
 
 // ---- more handles

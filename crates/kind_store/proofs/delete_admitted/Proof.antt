@@ -3,30 +3,41 @@ use mathlib.Core.Path.{sym}
 use mir.Val.{toZ}
 use mir.Syntax.{w64}
 use denote.Ref.{now}
-use Rattle.kind_store.specs.KindStore.{kindStoreWith}
+use Rattle.kind_store.specs.KindStore.{KindStore, kindStoreWith}
 use Rattle.kind_store.proofs.Acts.{room-as, delete-room, delete-full}
 use borrow.Author.Needs.{needs}
 use Rattle.kind_store.proofs.delete_admitted.Statement.{statement}
 use Rattle.kind_store.proofs.delete_admitted.Tie as tie
 
+-- the kind store as it was lent
+abbrev given : tie.Start → KindStore
+given s = kindStoreWith (now (s .args .table)) (s .args .ids) (now (s .args .arena)) (s .args .used)
+
 returns : tie.Need-returns
-returns c = let k = c .before .before .before .before .before .before .before .before .before .before .before .args in
-    let s = kindStoreWith (now (k .table)) (k .ids) (now (k .arena)) (k .used) in
-    let id = toZ w64 (k .id) in
-    let found = c .before .before .before .before .before .before .before .before .before .before .before .pre .0 in
-    let room = room-as (k .kind) s id found (c .before .before .before .before .before .before .before .has-room .ensures) (c .before .before .before .before .before .before .if1 .taken) in
-    delete-room (k .kind) s id (k .claim) _ _ room (c .before .before .before .before .before .before .before .before .before .before .before .pre .1) (c .before .before .before .before .before .higher-of .ensures) (c .before .before .before .before .version-word .ensures) (c .before .before .set-row .ensures .0) (c .before .before .set-row .ensures .1)
+returns c =
+    let row : tie.After-set-row = search in
+    let word : tie.After-version-word = search in
+    let higher : tie.After-higher-of = search in
+    let ranked : tie.After-rank-of-bits = search in
+    let taken : tie.Then1 = search in
+    let room : tie.After-has-room = search in
+    let s : tie.Start = search in
+    let id = toZ w64 (s .args .id) in
+    let roomy = room-as (s .args .kind) (given s) id (s .pre .0) (room .has-room .ensures) (taken .if1 .taken) in
+    delete-room (s .args .kind) (given s) id (s .args .claim) roomy (s .pre .1) (higher .higher-of .ensures) (word .version-word .ensures) (ranked .rank-of-bits .ensures) (row .set-row .ensures) (s .pre .0)
 
 returns-2 : tie.Need-returns-2
-returns-2 c = let k = c .before .before .before .before .before .args in
-    let s = kindStoreWith (now (k .table)) (k .ids) (now (k .arena)) (k .used) in
-    let id = toZ w64 (k .id) in
-    sym (delete-full (k .kind) s id (k .claim) (room-as (k .kind) s id (c .before .before .before .before .before .pre .0) (c .before .has-room .ensures) (c .if1 .left)))
+returns-2 c =
+    let room : tie.After-has-room = search in
+    let s : tie.Start = search in
+    let id = toZ w64 (s .args .id) in
+    sym (delete-full (s .args .kind) (given s) id (s .args .claim) (room-as (s .args .kind) (given s) id (s .pre .0) (room .has-room .ensures) (c .if1 .left)))
 
 pub delete-admitted-spec : {M : Type 1} → statement M
 delete-admitted-spec =
     tie.close
     (tie.spec
+    (λ c κs. search needs)
     (λ c κs. search needs)
     (λ c κs. search needs)
     (λ c κs. search needs)

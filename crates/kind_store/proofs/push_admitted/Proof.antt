@@ -8,12 +8,12 @@ returns c =
     let room : tie.After-has-room = search in
     let taken : tie.Then1 = search in
     let joined : tie.After-join = search in
-    rw (← room .has-room .ensures, taken .if1 .taken) (joined .join .ensures)
+    λ e. rw (← room .has-room .ensures, taken .if1 .taken) (joined .join .ensures e)
 
 returns-2 : tie.Need-returns-2
 returns-2 c =
     let room : tie.After-has-room = search in
-    rw (← room .has-room .ensures, c .if1 .left)
+    λ e. rw (← room .has-room .ensures, c .if1 .left)
 
 pub push-admitted-spec : {M : Type 1} → statement M
 push-admitted-spec =

@@ -1,13 +1,14 @@
--- The answer is asked for first; where it is "taken" the text and the act follow.
+-- The handle of the user's text is found first: with one the id is deleted and the text follows, without one it is refused.
+use mathlib.Core.Path.{sym, _∙_}
 use mir.Syntax.{w64}
 use mir.Val.{toZ}
 use denote.Ref.{now}
+use Rattle.base.specs.Bytes.{Bytes}
+use Rattle.model.specs.Record.{Meta}
 use Rattle.overlay.specs.Overlay.{Overlay}
 use Rattle.overlay.specs.Lent.{overlayIn}
 use Rattle.metadata.specs.Metadata.{metaWritten}
-use Rattle.base.specs.Bytes.{Bytes}
-use Rattle.model.specs.Record.{Meta}
-use Rattle.reader_acts.proofs.Asked.{deletes-taken, deletes-not}
+use Rattle.reader_acts.proofs.Once.{behind, delete-done, delete-not}
 use borrow.Author.Needs.{needs}
 use Rattle.reader_acts.proofs.delete_element.Statement.{statement}
 use Rattle.reader_acts.proofs.delete_element.Tie as tie
@@ -20,32 +21,42 @@ given s = overlayIn (now (s .args .words)) (now (s .args .bytes)) (now (s .args 
 abbrev meta : tie.Start → Meta Bytes
 meta s = metaWritten (now (s .args .line)) (s .args .meta)
 
+-- the start, from the first call
+abbrev start : tie.After-user-handle → tie.Start
+start c = search
+
 returns : tie.Need-returns
 returns c =
-    let acted : tie.After-delete-with-user = c .before .before .before .before in
-    let told : tie.After-enum-told = acted .before .before .before .before in
-    let asked : tie.After-delete-answer = told .before .before in
-    let claims : tie.After-claimed = asked .before .before .before .before in
-    let s : tie.Start = claims .before .before .before .before .before in
+    let then : tie.After-then-user = search in
+    let deleted : tie.After-store-delete = search in
+    let claims : tie.After-claimed = search in
+    let told : tie.After-user = search in
+    let asked : tie.After-user-handle = search in
+    let s = start asked in
     let k = s .args in
-    λ g. deletes-taken (k .kind) (toZ w64 (k .id)) (meta s) (given s) (claims .claimed .ensures (now (k .line))) (asked .delete-answer .ensures) (told .enum-told .given .1) (acted .delete-with-user .ensures g)
+    λ g.
+    let is = asked .user-handle .ensures g in
+    let n = told .user .given .1 in
+    let w = rw (claims .claimed .ensures (now (k .line))) at (deleted .store-delete .ensures) in
+    delete-done (k .kind) (toZ w64 (k .id)) (meta s) (given s) is n
+    (behind (now (k .ix)) (now (k .line)) (k .meta) (meta s) (given s) g _ (sym is ∙ n) (k .kind) _ w (then .then-user .ensures))
 
 returns-2 : tie.Need-returns-2
 returns-2 c =
-    let told : tie.After-r = c .before .before .before .before .before in
-    let asked : tie.After-delete-answer = told .before .before in
-    let claims : tie.After-claimed = asked .before .before .before .before in
-    let s : tie.Start = claims .before .before .before .before .before in
+    let told : tie.After-r = search in
+    let asked : tie.After-user-handle = search in
+    let s = start asked in
     let k = s .args in
-    λ g. deletes-not (k .kind) (toZ w64 (k .id)) (meta s) (given s) (claims .claimed .ensures (now (k .line))) (asked .delete-answer .ensures) _ (told .r .given .1) (c .refused-act .ensures (g .lies) (g .short))
+    λ g. delete-not (k .kind) (toZ w64 (k .id)) (meta s) (given s) (asked .user-handle .ensures g) (told .r .given .1) (c .user-refused .ensures (now (k .line)))
 
 pub delete-element-spec : {M : Type 1} → statement M
 delete-element-spec =
     tie.close
     (tie.spec
     (λ c κs. search needs)
-    (λ c κs. search needs)
     (λ c. search needs)
+    (λ c κs. search needs)
+    (λ c κs. search needs)
     (λ c κs. search needs)
     (λ c. search needs)
     (λ c κs. search needs)

@@ -1,15 +1,14 @@
--- 13, or the push of the store with no parts.
-use mathlib.Core.List.{[]}
+-- The push is the store's with no parts, and the text follows it.
+use mathlib.Core.Path.{_∙_, ap}
 use denote.Ref.{now}
+use Rattle.base.specs.Bytes.{Bytes}
+use Rattle.model.specs.Record.{Meta}
 use Rattle.overlay.specs.Overlay.{Overlay}
 use Rattle.overlay.specs.Lent.{overlayIn}
 use Rattle.metadata.specs.Metadata.{metaWritten}
-use Rattle.base.specs.Bytes.{Bytes}
-use Rattle.store.specs.Calls.{storePush}
-use Rattle.compact.specs.declared.ArenaMeta.{ArenaMeta}
-use Rattle.overlay.specs.Calls.{OverlayAfter}
-use Rattle.model.specs.Record.{Meta}
-use Rattle.reader_acts.proofs.Laws.{user-acted, user-not}
+use Rattle.reader.specs.Step.{bitsWithUser}
+use Rattle.reader_acts.proofs.Handles.{user-fits}
+use Rattle.reader_acts.proofs.Once.{behind}
 use borrow.Author.Needs.{needs}
 use Rattle.reader_acts.proofs.push_with_user.Statement.{statement}
 use Rattle.reader_acts.proofs.push_with_user.Tie as tie
@@ -22,36 +21,26 @@ given s = overlayIn (now (s .args .words)) (now (s .args .bytes)) (now (s .args 
 abbrev meta : tie.Start → Meta Bytes
 meta s = metaWritten (now (s .args .line)) (s .args .meta)
 
--- the act that follows
-abbrev act : tie.Start → ArenaMeta → Overlay → OverlayAfter
-act s a q = storePush (s .args .kind) (s .args .head) a [] q
-
 returns : tie.Need-returns
 returns c =
-    let s : tie.Start = search in
-    let begun : tie.After-begin-element = search in
-    let told : tie.After-a = search in
+    let then : tie.After-then-user = search in
     let pushed : tie.After-push-first = search in
-    λ g. user-acted (meta s) (act s) (given s) (begun .begin-element .ensures g) _ (told .a .given .1) (pushed .push-first .ensures)
-
-returns-2 : tie.Need-returns-2
-returns-2 c =
+    let bits : tie.After-arena-meta = search in
+    let short : tie.After-narrow = search in
     let s : tie.Start = search in
-    let begun : tie.After-begin-element = search in
-    let told : tie.After-r = search in
-    λ g. user-not (meta s) (act s) (given s) (begun .begin-element .ensures g) _ (told .r .given .1)
+    let k = s .args in
+    λ g user.
+    let e = bits .arena-meta .ensures (now (k .line)) ∙ ap (bitsWithUser (meta s)) (short .narrow .ensures (user-fits (meta s) (given s) _ user (g .few))) in
+    behind (now (k .ix)) (now (k .line)) (k .meta) (meta s) (given s) g _ user (k .kind) _ (rw e at (pushed .push-first .ensures)) (then .then-user .ensures)
 
 pub push-with-user-spec : {M : Type 1} → statement M
 push-with-user-spec =
     tie.close
     (tie.spec
     (λ c κs. search needs)
-    (λ c. search needs)
+    (λ c κs. search needs)
+    (λ c κs. search needs)
     (λ c κs. search needs)
     (λ c. search needs)
     (λ c. search needs)
-    (λ c. search needs)
-    returns
-    (λ c. search needs)
-    (λ c. search needs)
-    returns-2)
+    returns)

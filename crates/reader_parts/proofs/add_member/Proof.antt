@@ -55,7 +55,7 @@ returns-3 c =
     let i : tie.Else1 = search in
     let k : tie.After-part-fits = search in
     let s : tie.Start = search in
-    λ g lies. over-left (child s) (sym (k .part-fits .ensures) ∙ i .if1 .left) (c .over-limit .ensures lies (g .short))
+    λ g lies. over-left (child s) (sym (k .part-fits .ensures) ∙ i .if1 .left) (c .over-limit .ensures lies (g .short) (g .indexed))
 
 pub add-member-spec : {M : Type 1} → statement M
 add-member-spec =

@@ -5,13 +5,14 @@ use Rattle.reader_parts.proofs.over_limit.Tie as tie
 
 returns : tie.Need-returns
 returns c =
-    let t : tie.After-text-refused = search in
-    λ lies short. rw (← t .text-refused .ensures lies short, c .if1 .taken)
+    let t : tie.After-text-handle = search in
+    λ lies short given. rw (← t .text-handle .ensures lies short given, c .enum-told .given .1)
 
 returns-2 : tie.Need-returns-2
 returns-2 c =
-    let t : tie.After-text-refused = search in
-    λ lies short. rw (← t .text-refused .ensures lies short, c .if1 .left)
+    let r : tie.After-refusal = search in
+    let t : tie.After-text-handle = search in
+    λ lies short given. rw (← t .text-handle .ensures lies short given, r .refusal .given .1)
 
 pub over-limit-spec : {M : Type 1} → statement M
-over-limit-spec = tie.close (tie.spec (λ c κs. search needs) returns returns-2)
+over-limit-spec = tie.close (tie.spec (λ c κs. search needs) (λ c. search needs) (λ c. search needs) returns returns-2)

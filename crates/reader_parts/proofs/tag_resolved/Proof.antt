@@ -5,8 +5,7 @@ use native.Mathlib.Omega.{arith}
 use denote.Ref.{now}
 use lib.ListN.{replicate, length-replicate}
 use lib.Seq.{length-take-le}
-use Rattle.reader_texts.proofs.Resolved.{extent-shorter, extent-whole}
-use Rattle.reader_parts.proofs.Adds.{as-used}
+use Rattle.reader_texts.proofs.Resolved.{extent-held}
 use borrow.Author.Needs.{needs}
 use Rattle.reader_parts.proofs.tag_resolved.Statement.{statement}
 use Rattle.reader_parts.proofs.tag_resolved.Tie as tie
@@ -26,10 +25,8 @@ returns c =
     λ g lies there.
     let line = now (s .args .line) in
     let value = s .args .tag .value in
-    let held = t .text-into .ensures there in
-    let whole = extent-whole line value there (replicate 16384 0) _ _ (omega (arith, g .short, length-replicate {A = ℕ} 16384 0)) held in
-    let n = as-used _ 16384 (end .lesser .ensures) (omega (arith, g .short, held .1, extent-shorter line value there)) in
-    rw (n, whole) at (w .tag-with .ensures g lies)
+    let held = extent-held line value there (replicate 16384 0) _ _ _ (length-replicate {A = ℕ} 16384 0) (g .short) (t .text-into .ensures there) (end .lesser .ensures) in
+    rw held at (w .tag-with .ensures g lies)
 
 pub tag-resolved-spec : {M : Type 1} → statement M
 tag-resolved-spec =

@@ -48,7 +48,7 @@ returns-3 c =
     let i : tie.Else1 = search in
     let k : tie.After-tag-fits = search in
     let s : tie.Start = search in
-    λ g lies. over-left (child s) (sym (k .tag-fits .ensures) ∙ i .if1 .left) (c .over-limit .ensures lies (g .short))
+    λ g lies. over-left (child s) (sym (k .tag-fits .ensures) ∙ i .if1 .left) (c .over-limit .ensures lies (g .short) (g .indexed))
 
 pub tag-with-spec : {M : Type 1} → statement M
 tag-with-spec =

@@ -1,67 +1,63 @@
--- `table::put_row` meets its contract: the row is stored by what the search found.
+-- `table::put_row` meets its contract: the row is stored by what the search found, which lies among the rows that are held.
 use mathlib.Core.Path.{_≡_, sym, _∙_}
 use denote.Ref.{now}
 use native.Mathlib.Omega.{arith}
-use Rattle.table.specs.declared.Row.{Row}
-use Rattle.table.specs.declared.Found.the-variants.{At, Place}
-use Rattle.table.specs.Words.{lookup}
+use Rattle.base.proofs.Split.{no}
 use Rattle.table.proofs.Halves.{lookup-at, lookup-place}
 use Rattle.table.proofs.Tables.{held-fits, held-counted, stored-known, stored-new, stored-full}
 use borrow.Author.Needs.{needs}
 use Rattle.table.proofs.put_row.Statement.{statement}
 use Rattle.table.proofs.put_row.Tie as tie
 
--- the search found the row at `i`, or the place `p`
-found-i : (c : tie.After-i) → let a = c .before .before .before .before .before .args in lookup (now (a .table)) (a .count) (a .rank) ≡ At (c .i .given .0 .0)
-found-i c = sym (c .before .before .find-row .ensures) ∙ c .i .given .1
-
-found-p : (c : tie.After-p) → let a = c .before .before .before .before .before .args in lookup (now (a .table)) (a .count) (a .rank) ≡ Place (c .p .given .0 .0)
-found-p c = sym (c .before .before .find-row .ensures) ∙ c .p .given .1
-
-store-row-requires : tie.Need-store-row-requires
-store-row-requires c κs =
-    let a = c .before .before .before .before .before .before .before .args in
-    omega (arith, lookup-at (now (a .table)) (a .rank) (a .count) (c .before .before .i .given .0 .0) (found-i (c .before .before)), held-fits (now (a .table)) (a .count))
-
-insert-row-requires : tie.Need-insert-row-requires
-insert-row-requires c κs =
-    let a = c .before .before .before .before .before .before .before .before .args in
-    let p = c .before .before .before .p .given .0 .0 in
-    (omega (arith, lookup-place (now (a .table)) (a .rank) (a .count) p (found-p (c .before .before .before)), held-counted (now (a .table)) (a .count)), omega arith)
-
 returns : tie.Need-returns
 returns c =
-    let a = c .before .before .before .before .before .before .before .before .before .before .args in
-    let row : Row = record { rank = a .rank; place = a .place; floor = a .floor } in
-    let i = c .before .before .before .before .before .i .given .0 .0 in
-    rw (c .before .before .store-row .ensures) (sym (stored-known (now (a .table)) (a .count) row i (found-i (c .before .before .before .before .before))))
+    let s : tie.Start = search in
+    let a = s .args in
+    let f : tie.After-found = search in
+    let w : tie.After-store-row = search in
+    (λ e. rw (w .store-row .ensures) (sym (stored-known (now (a .table)) (a .count) (a .row) _ (sym e ∙ f .found .given .1))), λ q. no (cc))
 
 returns-2 : tie.Need-returns-2
 returns-2 c =
-    let a = c .before .before .before .before .before .before .before .before .before .before .before .args in
-    let row : Row = record { rank = a .rank; place = a .place; floor = a .floor } in
-    let p = c .before .before .before .before .before .before .p .given .0 .0 in
-    rw (c .before .before .insert-row .ensures)
-    (sym (stored-new (now (a .table)) (a .count) row p (found-p (c .before .before .before .before .before .before)) (omega arith)))
+    let s : tie.Start = search in
+    let a = s .args in
+    let f : tie.After-found2 = search in
+    let w : tie.After-insert-row = search in
+    (λ e. rw (w .insert-row .ensures) (sym (stored-new (now (a .table)) (a .count) (a .row) _ (sym e ∙ f .found2 .given .1) (omega arith))), λ q. omega arith)
 
 returns-3 : tie.Need-returns-3
 returns-3 c =
-    let a = c .before .before .before .before .before .before .before .args in
-    let row : Row = record { rank = a .rank; place = a .place; floor = a .floor } in
-    sym (stored-full (now (a .table)) (a .count) row (c .before .before .p .given .0 .0) (found-p (c .before .before)) (omega arith))
+    let s : tie.Start = search in
+    let a = s .args in
+    let f : tie.After-found = search in
+    (λ e. absurd (omega (arith, lookup-at (now (a .table)) (a .row .rank) (a .count) _ (sym e ∙ f .found .given .1), held-fits (now (a .table)) (a .count))), λ q. no (cc))
+
+returns-4 : tie.Need-returns-4
+returns-4 c =
+    let s : tie.Start = search in
+    let a = s .args in
+    let f : tie.After-found2 = search in
+    (λ e. absurd (omega (arith, lookup-place (now (a .table)) (a .row .rank) (a .count) _ (sym e ∙ f .found2 .given .1), held-counted (now (a .table)) (a .count))), λ q. no (cc))
+
+returns-5 : tie.Need-returns-5
+returns-5 c =
+    let s : tie.Start = search in
+    let a = s .args in
+    let f : tie.After-found2 = search in
+    (λ e. sym (stored-full (now (a .table)) (a .count) (a .row) _ (sym e ∙ f .found2 .given .1) (omega arith)), λ q. no (cc))
 
 pub put-row-spec : {M : Type 1} → statement M
 put-row-spec =
     tie.close
     (tie.spec
+    (λ c. search needs)
     (λ c κs. search needs)
-    (λ c. search needs)
-    store-row-requires
-    (λ c. search needs)
-    insert-row-requires
     (λ c. search needs)
     returns
     (λ c. search needs)
-    returns-2
+    (λ c κs. search needs)
     (λ c. search needs)
-    returns-3)
+    returns-2
+    returns-3
+    returns-4
+    returns-5)
