@@ -6,9 +6,9 @@ ghost use Rattle.kind_store.specs.KindStore.{knownVersion};
 ghost use Rattle.overlay.specs.Overlay.{kindStoreOf};
 ghost use Rattle.overlay.specs.Lent.{lent};
 ghost use Rattle.act_answer.specs.Answer.{claimAnswer};
-use blocks::COUNTERS;
-use blocks::SETTING;
 use kind::Kind;
+use overlay_blocks::COUNTERS;
+use overlay_blocks::SETTING;
 use version_floor::Admit;
 use version_floor::Version;
 use version_floor::VersionFloor;
@@ -17,7 +17,7 @@ use version_floor::VersionFloor;
 fn known_in(words: &[u64], bytes: &[u8], counters: &[u64; COUNTERS], kind: Kind, id: u64) -> Version
     ensures { λ r. ⌜ r ≡ knownVersion kind (kindStoreOf kind (lent words bytes counters)) (toZ w64 id) ⌝ }
 {
-    let p = blocks::part_in(kind, counters, words.len(), bytes.len());
+    let p = overlay_blocks::part_in(kind, counters, words.len(), bytes.len());
     let from = p.from;
     let to = p.to;
     let first = p.first;

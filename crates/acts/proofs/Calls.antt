@@ -14,7 +14,7 @@ use Rattle.distinct.specs.Distinct.{distinct}
 use Rattle.interner.specs.Sound.{firstEmpty}
 use Rattle.interner.proofs.Held.{take-held, take-new, grown-all, text-stays-all, distinct-new, first-empty-more, empty-handle, handle-new, raised}
 use Rattle.model.specs.Act.{Act}
-use Rattle.field.specs.Field.{Field, got, bad}
+use Rattle.event_fields.specs.Field.{Field, got, bad}
 use Rattle.acts.specs.Turn.{Reader, fresh, Turn, turn}
 use Rattle.acts.specs.Call.{Call, interns, pushes, deletes, reads, ends, allows, Answered, World, begin, turned, outcome, actsBefore, worldAfter, actsFrom, actsOf, lineRead, linesRead}
 use Rattle.acts.proofs.Turns.{actIn, KindAgrees, fresh-agrees, turn-agrees}

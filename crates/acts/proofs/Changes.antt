@@ -22,11 +22,11 @@ use lib.IntN.{ℤ}
 use Rattle.model.specs.Record.{Meta, Body, kindOf}
 use Rattle.model.specs.Act.{Act, push, delete}
 use Rattle.event.specs.Event.{Attr, Reading, eventOf}
-use Rattle.field.specs.Field.{Field, got, bad}
-use Rattle.decision.specs.Decision.{Decision, begins, decide}
-use Rattle.decision.proofs.Lawful.{body-first}
-use Rattle.decision.proofs.Decided.{Starts, Decides, decided}
-use Rattle.decision.proofs.Decided as D
+use Rattle.event_fields.specs.Field.{Field, got, bad}
+use Rattle.event_decision.specs.Decision.{Decision, begins, decide}
+use Rattle.event_decision.proofs.Lawful.{body-first}
+use Rattle.event_decision.proofs.Decided.{Starts, Decides, decided}
+use Rattle.event_decision.proofs.Decided as D
 use Rattle.acts.specs.Turn.{Reader, fresh, Turn, turnOf, turn}
 use Rattle.acts.specs.Call.{actsBefore}
 use Rattle.acts.specs.Lines.{markOf, marksIn, lineMarks}

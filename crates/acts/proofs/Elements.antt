@@ -19,12 +19,12 @@ use Rattle.nesting.specs.declared.Opened.{Opened}
 use Rattle.model.specs.Record.{Meta, Member, Tag, Body, place, refs, members, kindOf}
 use Rattle.model.specs.Act.{push}
 use Rattle.event.specs.Event.{Attr, starts, closes, others, Reading, reads, refused, eventOf}
-use Rattle.field.specs.Field.{Field, got, bad, tagOf, refOf, memberOf}
-use Rattle.decision.specs.Decision.{Decision, begins, refers, joins, decide}
-use Rattle.decision.proofs.Lawful.{Lawful, decide-lawful}
-use Rattle.decision.proofs.Places.{childNamed, isInside, Leads, leads}
-use Rattle.decision.proofs.Decided.{Pushing, Starts, Decides, decided, decides-so, decide-exactly}
-use Rattle.decision.proofs.Decided as D
+use Rattle.event_fields.specs.Field.{Field, got, bad, tagOf, refOf, memberOf}
+use Rattle.event_decision.specs.Decision.{Decision, begins, refers, joins, decide}
+use Rattle.event_decision.proofs.Lawful.{Lawful, decide-lawful}
+use Rattle.event_decision.proofs.Places.{childNamed, isInside, Leads, leads}
+use Rattle.event_decision.proofs.Decided.{Pushing, Starts, Decides, decided, decides-so, decide-exactly}
+use Rattle.event_decision.proofs.Decided as D
 use Rattle.acts.specs.Turn.{Staged, Reader, Turn, first, userText, bodyWithRef, bodyWithMember, turnOf, turn}
 use Rattle.acts.proofs.Turns.{OfTurn, of-turn, actIn, KindAgrees}
 

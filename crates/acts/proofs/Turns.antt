@@ -22,15 +22,15 @@ use Rattle.nesting.specs.declared.Opened.the-variants as O
 use Rattle.model.specs.Record.{Meta, Member, Body, place, refs, members, flagged, claimOf, kindOf}
 use Rattle.model.specs.Act.{Act, push, delete}
 use Rattle.event.specs.Event.{Attr, starts, closes, others, Reading, reads, refused, eventOf, valueOf, orEmpty}
-use Rattle.field.specs.Field.{Field, got, bad, idField, metadataOf, bodyFor}
-use Rattle.field.proofs.Fields.{value-all, tag-got, member-got}
-use Rattle.field.proofs.Metadata.{meta-user}
-use Rattle.decision.specs.Decision.{Decision, refuses, moves, begins, deletes, tags, refers, joins, ends, decideReading, decide}
-use Rattle.decision.specs.Table.{refusalIn, decideTable}
-use Rattle.decision.proofs.Table.{refusalOf, decide-first}
-use Rattle.decision.proofs.Lawful.{Lawful, decide-lawful}
-use Rattle.decision.proofs.Decided.{Pushing, Starts, Decides, decided, decides-so}
-use Rattle.decision.proofs.Decided as D
+use Rattle.event_fields.specs.Field.{Field, got, bad, idField, metadataOf, bodyFor}
+use Rattle.event_fields.proofs.Fields.{value-all, tag-got, member-got}
+use Rattle.event_fields.proofs.Metadata.{meta-user}
+use Rattle.event_decision.specs.Decision.{Decision, refuses, moves, begins, deletes, tags, refers, joins, ends, decideReading, decide}
+use Rattle.event_decision.specs.Table.{refusalIn, decideTable}
+use Rattle.event_decision.proofs.Table.{refusalOf, decide-first}
+use Rattle.event_decision.proofs.Lawful.{Lawful, decide-lawful}
+use Rattle.event_decision.proofs.Decided.{Pushing, Starts, Decides, decided, decides-so}
+use Rattle.event_decision.proofs.Decided as D
 use Rattle.acts.specs.Turn.{Reader, fresh, Turn, first, userText, noBody, bodyWithRef, bodyWithMember, turnOf, turn}
 
 -- what is true of a turn, where there is one

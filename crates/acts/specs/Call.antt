@@ -11,7 +11,7 @@ use Rattle.kind.specs.declared.Kind.{Kind}
 use Rattle.model.specs.Record.{Meta, Record, claimOf}
 use Rattle.model.specs.Act.{Act, push, delete}
 use Rattle.model.specs.Swap.{swapRecord}
-use Rattle.field.specs.Field.{Field, got, bad}
+use Rattle.event_fields.specs.Field.{Field, got, bad}
 use Rattle.acts.specs.Turn.{Reader, fresh, Turn, turn}
 
 -- a call; a reader goes by its name, a number; a direct call gives handles, and parts that are cut short make no record

@@ -10,8 +10,8 @@ use Rattle.nesting.specs.Nesting.{start}
 use Rattle.nesting.specs.declared.Place.{Place}
 use Rattle.model.specs.Record.{Meta, Member, Tag, Body, place, refs, members, Record, flagged, claimOf}
 use Rattle.model.specs.Act.{Act, push, delete}
-use Rattle.field.specs.Field.{Field, got, bad, noMeta}
-use Rattle.decision.specs.Decision.{Decision, refuses, moves, begins, deletes, tags, refers, joins, ends, decide}
+use Rattle.event_fields.specs.Field.{Field, got, bad, noMeta}
+use Rattle.event_decision.specs.Decision.{Decision, refuses, moves, begins, deletes, tags, refers, joins, ends, decide}
 
 -- the element that a reader is putting together: its id and its record so far
 pub record Staged : Type 0 where

@@ -23,20 +23,20 @@ use Rattle.compact.specs.Layout.{joinedBytes}
 use Rattle.compact.specs.Cut.{KeptRecord}
 use Rattle.compact.specs.Fits.{fitsKept}
 use Rattle.compact.specs.Legal.{legal}
-use Rattle.append.proofs.Writes.{fits-is}
-use Rattle.append.proofs.Joins.{appended}
-use Rattle.legal.specs.Whole.{keptBytes, recordAt}
-use Rattle.legal.proofs.Wholes.{append-whole, append-kept}
-use Rattle.legal.proofs.Starts.{record-stays, record-last}
-use Rattle.table.specs.declared.Row.{Row}
-use Rattle.table.specs.Rows.{find}
-use Rattle.table.proofs.Maps.{find-put-same, find-put-other}
+use Rattle.compact_append.proofs.Writes.{fits-is}
+use Rattle.compact_append.proofs.Joins.{appended}
+use Rattle.compact_legal.specs.Whole.{keptBytes, recordAt}
+use Rattle.compact_legal.proofs.Wholes.{append-whole, append-kept}
+use Rattle.compact_legal.proofs.Starts.{record-stays, record-last}
+use Rattle.kind_table.specs.declared.Row.{Row}
+use Rattle.kind_table.specs.Rows.{find}
+use Rattle.kind_table.proofs.Maps.{find-put-same, find-put-other}
 use Rattle.kind_store.specs.KindStore as KindStore
 use Rattle.kind_store.specs.KindStore.{KindStore, isLive, knownVersion, floorOf, floorAfter, pushed, deleted}
 use Rattle.kind_store.specs.WellFormed.{rowsIn, WellFormed}
 use Rattle.kind_store.specs.declared.Kept.the-variants.{Taken}
 use Rattle.kind_store.proofs.KindStores.{Laid, push-laid, push-fits, push-used, push-arena, delete-laid, delete-arena, delete-used}
-use Rattle.sound.specs.Sound.{SoundKindStore}
+use Rattle.kind_sound.specs.Sound.{SoundKindStore}
 use Rattle.listing.specs.Known.{recordIn, liveRecord, lastIn}
 use Rattle.calls.proofs.Rows.{whole-read, live-starts, record-read, record-legal}
 use Rattle.reader.proofs.Texts.{legal-agree}

@@ -31,7 +31,7 @@ use Rattle.interner.specs.Sound.{textsOf}
 use Rattle.interner.specs.declared.Interned.{Interned}
 use Rattle.interner.specs.declared.Interned.the-variants as I
 use Rattle.kind_store.proofs.Claims.{given-claim}
-use Rattle.field.specs.Field.{Field, got}
+use Rattle.event_fields.specs.Field.{Field, got}
 use Rattle.acts.specs.Turn.{Turn, turn}
 use Rattle.acts.specs.Call.{Call, Answered, World, Outcome, quiet, outcome, turned, actsBefore, worldAfter, actsFrom, linesRead}
 use Rattle.acts.specs.Call as Call
@@ -39,16 +39,16 @@ use Rattle.acts.proofs.Calls.{refusedCall, takenCall, world-append, acts-append
 use Rattle.overlay.specs.Overlay.{Overlay}
 use Rattle.overlay.specs.Given.{headFits, metaFits}
 use Rattle.overlay.specs.Calls.{allowOn}
-use Rattle.direct.specs.Calls.{pushOn, deleteOn, internOn}
-use Rattle.store.specs.Calls.{handleIn}
-use Rattle.store.specs.declared.Handle.the-variants as H
+use Rattle.overlay_direct.specs.Calls.{pushOn, deleteOn, internOn}
+use Rattle.overlay_store.specs.Calls.{handleIn}
+use Rattle.overlay_store.specs.declared.Handle.the-variants as H
 use Rattle.overlay.proofs.Answers.{byKept}
-use Rattle.store.proofs.Answers.{byHandle}
-use Rattle.direct.proofs.Answers.{push-refused, delete-refused, intern-refused, intern-taken}
+use Rattle.overlay_store.proofs.Answers.{byHandle}
+use Rattle.overlay_direct.proofs.Answers.{push-refused, delete-refused, intern-refused, intern-taken}
 use Rattle.overlay.proofs.Bounds.{meta-given}
 use Rattle.overlay.proofs.Decides.{decides}
-use Rattle.store.proofs.Keeps.{keptAs}
-use Rattle.direct.proofs.Keeps.{push-kept, delete-kept}
+use Rattle.overlay_store.proofs.Keeps.{keptAs}
+use Rattle.overlay_direct.proofs.Keeps.{push-kept, delete-kept}
 use Rattle.reader.specs.declared.EventAnswer.the-variants as E
 use Rattle.reader.specs.State.{State}
 use Rattle.reader.specs.Event.{eventOn, endOn}

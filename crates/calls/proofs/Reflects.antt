@@ -33,28 +33,28 @@ use Rattle.model.proofs.Keys.{other-key}
 use Rattle.compact.specs.Cut.{KeptRecord}
 use Rattle.compact.specs.Fits.{fitsSigned, fitsKept}
 use Rattle.compact.specs.Legal.{legal}
-use Rattle.legal.specs.Whole.{keptBytes}
-use Rattle.page.specs.Summary as Summary
+use Rattle.compact_legal.specs.Whole.{keptBytes}
+use Rattle.listing_page.specs.Summary as Summary
 use Rattle.kind_store.specs.KindStore.{KindStore, knownVersion, checked, pushed, deleted, takenIn}
 use Rattle.kind_store.specs.WellFormed.{rowsIn, WellFormed}
 use Rattle.kind_store.specs.declared.Kept.the-variants.{Taken, Refused}
 use Rattle.kind_store.proofs.Answers.{push-regression, delete-regression}
 use Rattle.kind_store.proofs.Claims.{Narrow}
 use Rattle.kind_store.proofs.KindStores.{push-laid, push-arena, delete-laid, delete-arena}
-use Rattle.sound.specs.Sound.{SoundKindStore}
-use Rattle.sound.proofs.Keeps as Sounds
-use Rattle.blocks.specs.Sizes.{largest}
+use Rattle.kind_sound.specs.Sound.{SoundKindStore}
+use Rattle.kind_sound.proofs.Keeps as Sounds
+use Rattle.overlay_blocks.specs.Sizes.{largest}
 use Rattle.overlay.specs.Overlay.{Overlay, kindStoreOf, withKindStore, withTexts, sizesFit, empty}
 use Rattle.overlay.specs.Given.{InBytes}
 use Rattle.overlay.specs.Sound.{Sound}
 use Rattle.overlay.specs.Calls.{OverlayAfter, setUp, allowOn}
-use Rattle.store.specs.Calls.{Interning}
-use Rattle.direct.specs.Calls.{internOn}
+use Rattle.overlay_store.specs.Calls.{Interning}
+use Rattle.overlay_direct.specs.Calls.{internOn}
 use Rattle.overlay.proofs.Decides.{decides}
 use Rattle.overlay.proofs.Answers.{bySetUp, byAllow}
-use Rattle.direct.proofs.Answers.{intern-store}
+use Rattle.overlay_direct.proofs.Answers.{intern-store}
 use Rattle.overlay.proofs.Keeps.{setup-sound, setup-bytes, allow-sound, allow-bytes}
-use Rattle.direct.proofs.Keeps.{intern-sound, intern-bytes}
+use Rattle.overlay_direct.proofs.Keeps.{intern-sound, intern-bytes}
 use Rattle.overlay.proofs.Bounds.{over-small}
 use Rattle.overlay.proofs.KindStores.{kind-store-same, kind-store-other, kind-store-texts, kind-store-setting, each-kind-store, texts-kind-store, setting-kind-store}
 use Rattle.overlay.proofs.Tiles.{sized-arena, span-lent, put-sized}

@@ -20,14 +20,14 @@ use Rattle.compact.specs.Fits.{fitsKept}
 use Rattle.compact.specs.Legal.{legal}
 use Rattle.compact.proofs.Cuts.{record-format}
 use Rattle.compact.proofs.Lengths.{length-record}
-use Rattle.legal.specs.Whole.{keptBytes, Whole, recordAt, startsAt}
-use Rattle.legal.proofs.Starts.{record-passes, record-there, start-is}
-use Rattle.table.specs.declared.Row.{Row}
-use Rattle.table.specs.Rows.{find}
-use Rattle.table.proofs.Maps.{find-passes}
+use Rattle.compact_legal.specs.Whole.{keptBytes, Whole, recordAt, startsAt}
+use Rattle.compact_legal.proofs.Starts.{record-passes, record-there, start-is}
+use Rattle.kind_table.specs.declared.Row.{Row}
+use Rattle.kind_table.specs.Rows.{find}
+use Rattle.kind_table.proofs.Maps.{find-passes}
 use Rattle.kind_store.specs.KindStore.{KindStore, isLive}
 use Rattle.kind_store.specs.WellFormed.{rowsIn, WellFormed}
-use Rattle.sound.specs.Sound.{SoundKindStore, soundRow}
+use Rattle.kind_sound.specs.Sound.{SoundKindStore, soundRow}
 use Rattle.listing.specs.Known.{heldIn, recordIn}
 
 -- what is read at a start of whole records is its record

@@ -29,18 +29,18 @@ use Rattle.compact.specs.Layout.{Head, headBytes, metaBytes, headOf, partsBytes
 use Rattle.compact.specs.Cut.{KeptRecord}
 use Rattle.compact.specs.Fits.{fitsSigned, fitsMeta, fitsHead, fitting, fitsKept}
 use Rattle.compact.specs.Legal.{legal}
-use Rattle.legal.specs.Whole.{keptBytes}
-use Rattle.table.specs.Rows.{find}
-use Rattle.table.specs.Words.{rowsFrom, rowsOf}
-use Rattle.table.proofs.Tables.{sound-empty}
-use Rattle.page.specs.Summary as Summary
-use Rattle.page.proofs.Tables.{known-more}
+use Rattle.compact_legal.specs.Whole.{keptBytes}
+use Rattle.kind_table.specs.Rows.{find}
+use Rattle.kind_table.specs.Words.{rowsFrom, rowsOf}
+use Rattle.kind_table.proofs.Tables.{sound-empty}
+use Rattle.listing_page.specs.Summary as Summary
+use Rattle.listing_page.proofs.Tables.{known-more}
 use Rattle.kind_store.specs.KindStore.{KindStore, kindStoreWith, knownVersion, pushed, deleted}
 use Rattle.kind_store.specs.WellFormed.{WellFormed}
 use Rattle.kind_store.specs.declared.Kept.the-variants.{Taken}
 use Rattle.kind_store.proofs.Claims.{Narrow}
 use Rattle.kind_store.proofs.KindStores.{known-none, push-used, push-raises, push-other, delete-used, delete-raises, delete-other}
-use Rattle.sound.specs.Sound.{SoundKindStore}
+use Rattle.kind_sound.specs.Sound.{SoundKindStore}
 use Rattle.calls.specs.Known.{recordLength, pushedBy, pushedBytes}
 use Rattle.calls.proofs.Rows.{kept-kind}
 use Rattle.calls.proofs.Lengths.{record-length, pushed-more}

@@ -25,28 +25,28 @@ use Rattle.compact.specs.Held.{metaOf, headIn}
 use Rattle.compact.specs.Legal.{legalMeta}
 use Rattle.compact.specs.declared.ArenaMeta.{ArenaMeta}
 use Rattle.compact.specs.declared.PushHead.{PushHead}
-use Rattle.legal.specs.Judge.{faultFor}
-use Rattle.legal.specs.declared.Fault.the-variants as F
+use Rattle.compact_legal.specs.Judge.{faultFor}
+use Rattle.compact_legal.specs.declared.Fault.the-variants as F
 use Rattle.interner.specs.Texts.{handleOf, takeIn}
 use Rattle.interner.specs.Sound.{textsOf}
-use Rattle.page.specs.Summary as Summary
+use Rattle.listing_page.specs.Summary as Summary
 use Rattle.kind_store.specs.KindStore as KindStore
 use Rattle.kind_store.specs.declared.Kept.the-variants.{Taken, Refused}
-use Rattle.field.specs.Field.{got}
+use Rattle.event_fields.specs.Field.{got}
 use Rattle.acts.specs.Turn.{Turn, turn}
 use Rattle.acts.specs.Call.{begin, worldAfter, actsOf, linesRead}
-use Rattle.blocks.specs.Sizes.{largest}
+use Rattle.overlay_blocks.specs.Sizes.{largest}
 use Rattle.overlay.specs.Overlay.{Overlay, kindStoreOf, withSetting, sizesFit, empty}
 use Rattle.overlay.specs.Given.{InBytes, headFits}
 use Rattle.overlay.specs.Sound.{isSound}
 use Rattle.overlay.specs.Calls.{OverlayAfter, setUp}
-use Rattle.direct.specs.Calls.{pushOn, deleteOn, internOn}
-use Rattle.store.specs.declared.Handle.the-variants as H
-use Rattle.direct.proofs.Answers.{push-store, delete-store}
+use Rattle.overlay_direct.specs.Calls.{pushOn, deleteOn, internOn}
+use Rattle.overlay_store.specs.declared.Handle.the-variants as H
+use Rattle.overlay_direct.proofs.Answers.{push-store, delete-store}
 use Rattle.overlay.proofs.Answers.{bySetUp, byAllow}
 use Rattle.overlay.proofs.Bounds.{id-given}
 use Rattle.overlay.proofs.Decides.{decides}
-use Rattle.direct.proofs.Keeps.{intern-kept}
+use Rattle.overlay_direct.proofs.Keeps.{intern-kept}
 use Rattle.reader.specs.declared.EventAnswer.the-variants as E
 use Rattle.reader.specs.State.{isStopped}
 use Rattle.reader.specs.Given.{StateGiven}

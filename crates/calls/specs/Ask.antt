@@ -19,9 +19,9 @@ use Rattle.kind_store.specs.KindStore.{takenIn}
 use Rattle.overlay.specs.Overlay.{Overlay, empty}
 use Rattle.overlay.specs.Given.{headFits, metaFits}
 use Rattle.overlay.specs.Calls.{allowOn}
-use Rattle.direct.specs.Calls.{pushOn, deleteOn, internOn}
-use Rattle.store.specs.declared.Handle.{Handle}
-use Rattle.store.specs.declared.Handle.the-variants as H
+use Rattle.overlay_direct.specs.Calls.{pushOn, deleteOn, internOn}
+use Rattle.overlay_store.specs.declared.Handle.{Handle}
+use Rattle.overlay_store.specs.declared.Handle.the-variants as H
 use Rattle.reader.specs.declared.EventReader.{EventReader}
 use Rattle.reader.specs.declared.EventAnswer.{EventAnswer}
 use Rattle.reader.specs.declared.EventAnswer.the-variants as E

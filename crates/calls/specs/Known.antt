@@ -20,13 +20,13 @@ use Rattle.model.specs.Act.{Act, Key, Left, push, delete, gone, live}
 use Rattle.model.specs.Swap.{swapRecord}
 use Rattle.compact.specs.Cut.{Cut, KeptRecord, cutRecord}
 use Rattle.compact.specs.Layout.{headLen}
-use Rattle.table.specs.Rows.{find}
-use Rattle.table.specs.declared.Row.{Row}
+use Rattle.kind_table.specs.Rows.{find}
+use Rattle.kind_table.specs.declared.Row.{Row}
 use Rattle.kind_store.specs.KindStore.{KindStore, isLive, knownVersion}
 use Rattle.kind_store.specs.WellFormed.{rowsIn}
 use Rattle.overlay.specs.Overlay.{Overlay, kindStoreOf}
-use Rattle.page.specs.Summary.{Known}
-use Rattle.page.specs.Summary as Summary
+use Rattle.listing_page.specs.Summary.{Known}
+use Rattle.listing_page.specs.Summary as Summary
 
 -- "its version is below the highest that accepted acts claimed for its kind and id": a claim, and the highest
 pub record Regresses (acts : List (Act Bytes)) (key : Key) (claim : Version) (highest : ℤ) : Type 0 where

@@ -9,17 +9,17 @@ use Rattle.base.specs.Bytes.{Bytes, all}
 use Rattle.kind.specs.declared.Kind.the-variants.{Node, Way, Relation}
 use Rattle.interner.proofs.Interns as Interns
 use Rattle.kind_store.specs.KindStore.{takenIn}
-use Rattle.blocks.specs.declared.Sizes.{Sizes}
+use Rattle.overlay_blocks.specs.declared.Sizes.{Sizes}
 use Rattle.overlay.specs.Overlay.{Overlay, withSizes}
 use Rattle.overlay.specs.Given.{InBytes}
 use Rattle.overlay.specs.Calls.{setUp}
 use Rattle.overlay.proofs.Answers.{setup-taken}
-use Rattle.page.proofs.Theorem.{same-page}
+use Rattle.listing_page.proofs.Theorem.{same-page}
 use Rattle.listing.specs.declared.Listed.the-variants.{Length}
 use Rattle.listing.specs.Call.{Output}
 use Rattle.listing.proofs.First.{list-acts}
-use Rattle.page.specs.Summary.{summary}
-use Rattle.page.specs.Listing.{listing}
+use Rattle.listing_page.specs.Summary.{summary}
+use Rattle.listing_page.specs.Listing.{listing}
 use Rattle.calls.specs.Ask.{Ask, PartsGiven, started, askFits, refusing}
 use Rattle.calls.proofs.Reflects.{ids-reflect}
 use Rattle.calls.proofs.Theorems.{reflects-after, texts-held, page-known, regression-push, regression-delete, regression-event}

@@ -5,10 +5,10 @@ use lib.ListN.{replicate}
 use Rattle.base.specs.Bytes.{Bytes, both, all}
 use Rattle.kind.specs.declared.Kind.the-variants.{Node, Way, Relation}
 use Rattle.little.specs.Little.{isByte}
-use Rattle.blocks.specs.declared.KindSize.{KindSize}
-use Rattle.blocks.specs.declared.Sizes.{Sizes}
-use Rattle.blocks.specs.Blocks.{endsOf}
-use Rattle.blocks.specs.Sizes.{kindFits, stringsFit, sizesInRange}
+use Rattle.overlay_blocks.specs.declared.KindSize.{KindSize}
+use Rattle.overlay_blocks.specs.declared.Sizes.{Sizes}
+use Rattle.overlay_blocks.specs.Blocks.{endsOf}
+use Rattle.overlay_blocks.specs.Sizes.{kindFits, stringsFit, sizesInRange}
 use Rattle.overlay.specs.Overlay.{Overlay, withSizes, kindTiled, textsTiled, tiled, sizesFit}
 use Rattle.overlay.specs.Lent.{overlayFor}
 use Rattle.condition.specs.Condition3.{Start}

@@ -36,9 +36,9 @@ use Rattle.compact.specs.Cut.{pushedRecord}
 use Rattle.compact.specs.Held.{metaOf, headIn}
 use Rattle.event.specs.Event as Event
 use Rattle.event.specs.Event.{Attr, Reading, reads, refused, eventOf}
-use Rattle.field.specs.Field.{got, bad}
-use Rattle.decision.specs.Decision.{Decision, refuses, moves, begins, deletes, tags, refers, joins, ends, decide}
-use Rattle.decision.proofs.Refusals.{Opens, misplaced-exactly, outside-exactly}
+use Rattle.event_fields.specs.Field.{got, bad}
+use Rattle.event_decision.specs.Decision.{Decision, refuses, moves, begins, deletes, tags, refers, joins, ends, decide}
+use Rattle.event_decision.proofs.Refusals.{Opens, misplaced-exactly, outside-exactly}
 use Rattle.acts.specs.Turn.{Reader, turn, turnOf}
 use Rattle.acts.specs.Lines.{markOf, marksIn, lineMarks}
 use Rattle.acts.specs.Call as Call

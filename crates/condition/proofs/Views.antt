@@ -23,24 +23,24 @@ use Rattle.compact.specs.Fits.{fitsKept}
 use Rattle.compact.specs.Legal.{legal}
 use Rattle.compact.specs.View.{readRecord}
 use Rattle.compact.proofs.Back.{read-record}
-use Rattle.legal.specs.Whole.{keptBytes, recordAt}
-use Rattle.legal.proofs.Starts.{record-passes}
-use Rattle.table.specs.Rows.{find}
-use Rattle.table.specs.declared.Row.{Row}
-use Rattle.table.proofs.Maps.{find-rank, find-passes}
+use Rattle.compact_legal.specs.Whole.{keptBytes, recordAt}
+use Rattle.compact_legal.proofs.Starts.{record-passes}
+use Rattle.kind_table.specs.Rows.{find}
+use Rattle.kind_table.specs.declared.Row.{Row}
+use Rattle.kind_table.proofs.Maps.{find-rank, find-passes}
 use Rattle.kind_store.specs.KindStore.{isLive}
 use Rattle.kind_store.specs.WellFormed.{rowsIn}
-use Rattle.sound.specs.Sound.{soundRow}
-use Rattle.listed.specs.declared.Side.the-variants.{Live}
-use Rattle.listed.proofs.Views.{view-is, view-bytes}
+use Rattle.kind_sound.specs.Sound.{soundRow}
+use Rattle.kind_reading.specs.declared.Side.the-variants.{Live}
+use Rattle.kind_reading.proofs.Views.{view-is, view-bytes}
 use Rattle.overlay.specs.Overlay.{Overlay, kindStoreOf}
 use Rattle.overlay.proofs.Decides.{decides}
-use Rattle.reading.specs.Reading.{viewIn, knownOn}
-use Rattle.reading.proofs.Records.{live-view, live-reads, deleted-reads, unknown-reads}
-use Rattle.reading.proofs.Numbers.{id-signed, record-get}
-use Rattle.reading.proofs.Texts.{text-is, text-bytes}
+use Rattle.overlay_reading.specs.Reading.{viewIn, knownOn}
+use Rattle.overlay_reading.proofs.Records.{live-view, live-reads, deleted-reads, unknown-reads}
+use Rattle.overlay_reading.proofs.Numbers.{id-signed, record-get}
+use Rattle.overlay_reading.proofs.Texts.{text-is, text-bytes}
 use Rattle.reader.proofs.Texts.{legal-agree}
-use Rattle.page.specs.Summary as Summary
+use Rattle.listing_page.specs.Summary as Summary
 use Rattle.listing.specs.Known.{lastIn}
 use Rattle.listing.specs.Table.{isRank}
 use Rattle.listing.proofs.Rows.{row-starts, record-read, record-kind}

@@ -20,18 +20,18 @@ use Rattle.compact.specs.Held.{metaOf, headIn}
 use Rattle.compact.specs.Legal.{legalMeta}
 use Rattle.compact.specs.declared.ArenaMeta.{ArenaMeta}
 use Rattle.compact.specs.declared.PushHead.{PushHead}
-use Rattle.legal.specs.Judge.{faultFor}
-use Rattle.legal.specs.declared.Fault.the-variants as F
+use Rattle.compact_legal.specs.Judge.{faultFor}
+use Rattle.compact_legal.specs.declared.Fault.the-variants as F
 use Rattle.kind_store.specs.declared.Kept.the-variants.{Refused}
-use Rattle.blocks.specs.Sizes.{largest}
+use Rattle.overlay_blocks.specs.Sizes.{largest}
 use Rattle.overlay.specs.Overlay.{Overlay, sizesFit}
 use Rattle.overlay.specs.Given.{InBytes, headFits}
-use Rattle.direct.specs.Calls.{pushOn, deleteOn}
-use Rattle.page.specs.Summary.{known, summary}
-use Rattle.page.specs.Listing.{listing}
+use Rattle.overlay_direct.specs.Calls.{pushOn, deleteOn}
+use Rattle.listing_page.specs.Summary.{known, summary}
+use Rattle.listing_page.specs.Listing.{listing}
 use Rattle.listing.specs.declared.Listed.the-variants.{Length}
 use Rattle.listing.specs.Call.{Output, listingOn}
-use Rattle.field.specs.Field.{got}
+use Rattle.event_fields.specs.Field.{got}
 use Rattle.acts.specs.Turn.{Turn, turn}
 use Rattle.acts.specs.Call.{World, begin, worldAfter, actsOf, linesRead}
 use Rattle.reader.specs.declared.EventAnswer.the-variants as E

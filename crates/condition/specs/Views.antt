@@ -17,13 +17,13 @@ use Rattle.model.specs.Act.{Act, Left, gone, live}
 use Rattle.model.specs.Swap.{swapRecord}
 use Rattle.compact.specs.Cut.{KeptRecord}
 use Rattle.compact.specs.View.{readRecord}
-use Rattle.listed.specs.declared.Side.the-variants.{Live}
-use Rattle.listed.specs.declared.View.{View}
-use Rattle.listed.specs.declared.View.the-variants.{Part, Nothing, Refused}
+use Rattle.kind_reading.specs.declared.Side.the-variants.{Live}
+use Rattle.kind_reading.specs.declared.View.{View}
+use Rattle.kind_reading.specs.declared.View.the-variants.{Part, Nothing, Refused}
 use Rattle.overlay.specs.Overlay.{Overlay, kindStoreOf}
-use Rattle.reading.specs.declared.Read.the-variants.{Is}
-use Rattle.reading.specs.Reading.{yes, idOn, recordOn, getOn, hasOn, isDeletedOn, knownOn, textOn}
-use Rattle.page.specs.Summary.{known}
+use Rattle.overlay_reading.specs.declared.Read.the-variants.{Is}
+use Rattle.overlay_reading.specs.Reading.{yes, idOn, recordOn, getOn, hasOn, isDeletedOn, knownOn, textOn}
+use Rattle.listing_page.specs.Summary.{known}
 
 -- what a user sees: no record; a record under its id, texts as texts; or a refusal, of the call or of a reader
 pub data Seen : Type 0 where

@@ -19,13 +19,13 @@ use Rattle.version_floor.specs.declared.Admit.{Admit}
 use Rattle.version_floor.specs.declared.Admit.the-variants.{Admitted}
 use Rattle.refusal.specs.declared.Refusal.the-variants.{IdsFull, ArenaFull}
 use Rattle.compact.specs.Layout.{headLen}
-use Rattle.append.proofs.Joins as joins
-use Rattle.append.specs.Append.{append}
-use Rattle.append.specs.declared.Appended.the-variants.{End, Full}
-use Rattle.table.specs.Words.{lookup, stored, countAfter}
-use Rattle.table.specs.declared.Row.{Row}
-use Rattle.table.specs.declared.Found.{Found}
-use Rattle.table.specs.declared.Put.{Put}
+use Rattle.compact_append.proofs.Joins as joins
+use Rattle.compact_append.specs.Append.{append}
+use Rattle.compact_append.specs.declared.Appended.the-variants.{End, Full}
+use Rattle.kind_table.specs.Words.{lookup, stored, countAfter}
+use Rattle.kind_table.specs.declared.Row.{Row}
+use Rattle.kind_table.specs.declared.Found.{Found}
+use Rattle.kind_table.specs.declared.Put.{Put}
 use Rattle.kind_store.specs.declared.Kept.the-variants.{Taken, Refused}
 use Rattle.kind_store.specs.KindStore.{KindStore, KindStoreAfter, kindStoreWith, knownVersion, knownAt, floorOf, floorAt, floorAfter, checked, idRoom, roomAt, kindStoreRefused, gone, rowed, recordJoined, pushedAs, pushed, deletedAs, deleted}
 

@@ -16,7 +16,7 @@ use Rattle.version_floor.specs.declared.Admit.{Admit}
 use Rattle.version_floor.specs.declared.Admit.the-variants.{Admitted, Below}
 use Rattle.refusal.specs.declared.Refusal.{Refusal}
 use Rattle.refusal.specs.declared.Refusal.the-variants.{Regression, IdsFull, ArenaFull}
-use Rattle.append.proofs.Writes.{fits-is, full-is}
+use Rattle.compact_append.proofs.Writes.{fits-is, full-is}
 use Rattle.kind_store.specs.declared.Kept.{Kept}
 use Rattle.kind_store.specs.declared.Kept.the-variants.{Taken, Refused}
 use Rattle.kind_store.specs.KindStore.{KindStore, KindStoreAfter, kindStoreWith, gone, knownVersion, floorOf, floorAfter, checked, idRoom, kindStoreRefused, rowed, recordJoined, pushed, deleted}

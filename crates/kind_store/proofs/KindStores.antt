@@ -25,14 +25,14 @@ use Rattle.version_floor.proofs.Versions.{higher-left, higher-right, commutativ
 use Rattle.model.specs.Record.{Meta, claimOf}
 use Rattle.compact.specs.Layout.{Head, headLen, headBytes, metaBytes}
 use Rattle.compact.specs.Fits.{fitsMeta}
-use Rattle.table.specs.declared.Put.the-variants as answers
-use Rattle.table.specs.declared.Row.{Row}
-use Rattle.table.specs.declared.Found.{Found}
-use Rattle.table.specs.declared.Found.the-variants.{At, Place}
-use Rattle.table.specs.Rows.{rising, find, put}
-use Rattle.table.specs.Words.{rowAt, rowsFrom, rowsOf, lookup, stored, soundTable}
-use Rattle.table.proofs.Maps.{find-put-same, find-put-other}
-use Rattle.table.proofs.Tables.{sound-of, stored-known, stored-new, found-row, found-none, rows-stored, sound-stored, length-stored}
+use Rattle.kind_table.specs.declared.Put.the-variants as answers
+use Rattle.kind_table.specs.declared.Row.{Row}
+use Rattle.kind_table.specs.declared.Found.{Found}
+use Rattle.kind_table.specs.declared.Found.the-variants.{At, Place}
+use Rattle.kind_table.specs.Rows.{rising, find, put}
+use Rattle.kind_table.specs.Words.{rowAt, rowsFrom, rowsOf, lookup, stored, soundTable}
+use Rattle.kind_table.proofs.Maps.{find-put-same, find-put-other}
+use Rattle.kind_table.proofs.Tables.{sound-of, stored-known, stored-new, found-row, found-none, rows-stored, sound-stored, length-stored}
 use Rattle.kind_store.specs.declared.Kept.the-variants.{Taken}
 use Rattle.kind_store.specs.KindStore.{KindStore, KindStoreAfter, kindStoreWith, isLive, gone, versionAt, liveVersion, knownOf, knownVersion, floorOf, floorAfter, checked, idRoom, kindStoreRefused, rowed, pushed, deleted}
 use Rattle.kind_store.specs.WellFormed.{rowsIn, WellFormed}

@@ -19,13 +19,13 @@ use Rattle.model.specs.Record.{claimOf}
 use Rattle.compact.specs.Layout.{headLen}
 use Rattle.compact.specs.Held.{metaOf}
 use Rattle.compact.specs.View.{metaAt}
-use Rattle.append.specs.Append.{append}
-use Rattle.append.specs.declared.Appended.{Appended}
-use Rattle.append.specs.declared.Appended.the-variants.{End, Full}
-use Rattle.table.specs.Words.{rowAt, lookup, Stored, stored, countAfter}
-use Rattle.table.specs.declared.Row.{Row}
-use Rattle.table.specs.declared.Found.{Found}
-use Rattle.table.specs.declared.Found.the-variants.{At, Place}
+use Rattle.compact_append.specs.Append.{append}
+use Rattle.compact_append.specs.declared.Appended.{Appended}
+use Rattle.compact_append.specs.declared.Appended.the-variants.{End, Full}
+use Rattle.kind_table.specs.Words.{rowAt, lookup, Stored, stored, countAfter}
+use Rattle.kind_table.specs.declared.Row.{Row}
+use Rattle.kind_table.specs.declared.Found.{Found}
+use Rattle.kind_table.specs.declared.Found.the-variants.{At, Place}
 use Rattle.kind_store.specs.declared.Kept.{Kept}
 use Rattle.kind_store.specs.declared.Kept.the-variants.{Taken, Refused}
 

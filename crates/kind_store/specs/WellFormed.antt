@@ -9,9 +9,9 @@ use Rattle.base.specs.Bytes.{all}
 use Rattle.little.specs.Little.{isByte}
 use Rattle.kind.specs.declared.Kind.{Kind}
 use Rattle.compact.specs.Layout.{headLen}
-use Rattle.table.specs.declared.Row.{Row}
-use Rattle.table.specs.Rows.{find}
-use Rattle.table.specs.Words.{rowsOf, soundTable}
+use Rattle.kind_table.specs.declared.Row.{Row}
+use Rattle.kind_table.specs.Rows.{find}
+use Rattle.kind_table.specs.Words.{rowsOf, soundTable}
 use Rattle.kind_store.specs.KindStore.{KindStore, isLive}
 
 abbrev pub rowsIn : KindStore → List Row

@@ -9,22 +9,23 @@ ghost use Rattle.osm_id.specs.Order.{rank};
 ghost use Rattle.model.specs.Record.{claimOf};
 ghost use Rattle.compact.specs.Layout.{headLen, headBytes, metaBytes};
 ghost use Rattle.compact.specs.Held.{metaOf, headIn};
-ghost use Rattle.append.specs.Append.{append};
+ghost use Rattle.compact_append.specs.Append.{append};
 ghost use Rattle.version_floor.specs.declared.Admit.the-variants.{Admitted};
 ghost use Rattle.refusal.specs.declared.Refusal.the-variants.{IdsFull};
-ghost use Rattle.table.specs.Words.{lookup, stored, countAfter};
+ghost use Rattle.kind_table.specs.Words.{lookup, stored, countAfter};
 ghost use Rattle.kind_store.specs.KindStore.{kindStoreWith, liveVersion, knownOf, knownAt, knownVersion, floorAt, checked, roomAt, floorAfter, kindStoreRefused, recordJoined, pushed, deletedAs, deleted};
-use append::Appended;
 use compact::ArenaMeta;
 use compact::CompactNode;
 use compact::CompactRelation;
 use compact::CompactWay;
 use compact::PushHead;
+use compact_append::Appended;
 use kind::Kind;
+use kind_table::DELETED;
+use kind_table::Found;
+use kind_table::Put;
+use kind_table::Row;
 use refusal::Refusal;
-use table::Found;
-use table::Put;
-use table::Row;
 use version_floor::Admit;
 use version_floor::Version;
 use version_floor::VersionFloor;
@@ -59,7 +60,7 @@ fn live_version(kind: Kind, arena: &[u8], row: Row) -> Version
     ensures { λ r. ⌜ r ≡ liveVersion kind (now (arena .entry)) row ⌝ }
 {
     let place = row.place;
-    if place < 0x8000_0000_0000_0000 {
+    if place < DELETED {
         let at = place as usize + meta_off(kind);
         return compact::claim(compact::read_meta(arena, at));
     }
@@ -79,7 +80,7 @@ fn version_found(kind: Kind, table: &[u64], arena: &[u8], found: Found) -> Versi
     ensures { λ r. ⌜ r ≡ knownAt kind (now (table .entry)) (now (arena .entry)) found ⌝ }
 {
     match found {
-        Found::At(i) => row_version(kind, arena, table::row_at(table, i)),
+        Found::At(i) => row_version(kind, arena, kind_table::row_at(table, i)),
         Found::Place(_) => Version::Absent,
     }
 }
@@ -87,7 +88,7 @@ fn version_found(kind: Kind, table: &[u64], arena: &[u8], found: Found) -> Versi
 pub fn known_version(kind: Kind, table: &[u64], ids: u64, arena: &[u8], id: u64) -> Version
     ensures { λ r. ⌜ ((used : ℕ) → r ≡ knownVersion kind (kindStoreWith (now (table .entry)) ids (now (arena .entry)) used) (toZ w64 id)) ⌝ }
 {
-    let found = table::find_row(table, ids, osm_id::rank_of_bits(id));
+    let found = kind_table::find_row(table, ids, osm_id::rank_of_bits(id));
     version_found(kind, table, arena, found)
 }
 
@@ -120,7 +121,7 @@ fn set_row(table: &mut [u64], ids: u64, found: Found, row: Row) -> u64
     ensures { λ r. ⌜ (found ≡ lookup (now (table .entry)) ids (row .rank)
         → (now (table .exit) ≡ stored (now (table .entry)) ids row .words) × (r ≡ countAfter (stored (now (table .entry)) ids row .answer) ids)) ⌝ }
 {
-    match table::put_row(table, ids, found, row) {
+    match kind_table::put_row(table, ids, found, row) {
         Put::Replaced => ids,
         Put::Inserted => ids + 1,
         Put::Full => ids,
@@ -133,7 +134,7 @@ fn floor_found(table: &[u64], found: Found) -> u64
     ensures { λ r. ⌜ r ≡ floorAt (now (table .entry)) found ⌝ }
 {
     match found {
-        Found::At(i) => table::row_at(table, i).floor,
+        Found::At(i) => kind_table::row_at(table, i).floor,
         Found::Place(_) => 0x1_0000_0000,
     }
 }
@@ -171,7 +172,7 @@ fn append_record(
                 lon: head.lon,
                 tag_count: head.tags,
             };
-            append::append_node(arena, used, node, meta, parts)
+            compact_append::append_node(arena, used, node, meta, parts)
         }
         Kind::Way => {
             let way = CompactWay {
@@ -179,7 +180,7 @@ fn append_record(
                 ref_count: head.count,
                 tag_count: head.tags,
             };
-            append::append_way(arena, used, way, meta, parts)
+            compact_append::append_way(arena, used, way, meta, parts)
         }
         Kind::Relation => {
             let relation = CompactRelation {
@@ -187,7 +188,7 @@ fn append_record(
                 member_count: head.count,
                 tag_count: head.tags,
             };
-            append::append_relation(arena, used, relation, meta, parts)
+            compact_append::append_relation(arena, used, relation, meta, parts)
         }
     }
 }
@@ -280,7 +281,7 @@ pub fn push(
 ) -> Outcome
     ensures { λ r. ⌜ record { kindStore = kindStoreWith (now (table .exit)) (r .ids) (now (arena .exit)) (r .used); answer = r .answer } ≡ pushed kind setting (kindStoreWith (now (table .entry)) ids (now (arena .entry)) used) (toZ w64 (head .id)) (claimOf (metaOf meta)) (headBytes kind (headIn kind head) ++ metaBytes (metaOf meta) ++ now (parts .entry)) ⌝ }
 {
-    let found = table::find_row(table, ids, osm_id::rank_of_bits(head.id));
+    let found = kind_table::find_row(table, ids, osm_id::rank_of_bits(head.id));
     let version = version_found(kind, table, arena, found);
     let claim = compact::claim(meta);
     let Admit::Below(held) = check(setting, version, claim) else {
@@ -326,7 +327,7 @@ fn delete_admitted(
         let floor = version_floor::version_word(version_floor::higher_of(version, claim));
         let row = Row {
             rank: osm_id::rank_of_bits(id),
-            place: 0x8000_0000_0000_0000,
+            place: DELETED,
             floor,
         };
         return Outcome {
@@ -354,7 +355,7 @@ pub fn delete(
 ) -> Outcome
     ensures { λ r. ⌜ record { kindStore = kindStoreWith (now (table .exit)) (r .ids) (now (arena .entry)) (r .used); answer = r .answer } ≡ deleted kind setting (kindStoreWith (now (table .entry)) ids (now (arena .entry)) used) (toZ w64 id) claim ⌝ }
 {
-    let found = table::find_row(table, ids, osm_id::rank_of_bits(id));
+    let found = kind_table::find_row(table, ids, osm_id::rank_of_bits(id));
     let version = version_found(kind, table, arena, found);
     let Admit::Below(held) = check(setting, version, claim) else {
         return delete_admitted(kind, table, ids, arena, used, id, claim, found, version);

@@ -19,14 +19,14 @@ use Rattle.print.specs.Print.{Printed, print, joinedPieces}
 use Rattle.print.specs.Piece.{behind}
 use Rattle.print.proofs.Prints as Prints
 use Rattle.print.proofs.Prints.{print-append, behind-fits, behind-past, room-print, length-print}
-use Rattle.fields.specs.Fields.{heldText}
-use Rattle.table.specs.Words.{rowsOf, held}
-use Rattle.rows.specs.Lines.{rowPieces, kindPieces}
+use Rattle.listing_fields.specs.Fields.{heldText}
+use Rattle.kind_table.specs.Words.{rowsOf, held}
+use Rattle.listing_rows.specs.Lines.{rowPieces, kindPieces}
 use Rattle.kind_store.specs.KindStore.{KindStore}
-use Rattle.blocks.specs.declared.KindPart.{KindPart}
-use Rattle.blocks.specs.declared.TextPart.{TextPart}
-use Rattle.blocks.specs.Blocks.{cut, sizesIn, partIn, textPartIn}
-use Rattle.blocks.proofs.Cuts.{cut-all}
+use Rattle.overlay_blocks.specs.declared.KindPart.{KindPart}
+use Rattle.overlay_blocks.specs.declared.TextPart.{TextPart}
+use Rattle.overlay_blocks.specs.Blocks.{cut, sizesIn, partIn, textPartIn}
+use Rattle.overlay_blocks.proofs.Cuts.{cut-all}
 use Rattle.overlay.specs.Overlay.{Overlay, kindStoreOf}
 use Rattle.overlay.specs.Lent.{kindStoreIn, overlayIn}
 use Rattle.overlay.proofs.Puts.{kind-store-in}

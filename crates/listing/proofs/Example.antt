@@ -23,18 +23,18 @@ use Rattle.compact.specs.Cut.{thenCut, cutBytes, cutNumber, cutI32, cutI64, tim
 use Rattle.compact.specs.Held.{metaOf}
 use Rattle.compact.specs.View.{metaAt}
 use Rattle.compact.specs.Legal.{legal, legalHandles, legalMeta, bodyHandles, legalTexts, inRange, withinLimits, valueBytes}
-use Rattle.legal.specs.Judge.{recordEnd, endOf}
-use Rattle.legal.specs.Whole.{wholeRecords, wholeBy, afterLegal}
-use Rattle.table.specs.Rows.{rising, risingFrom}
-use Rattle.table.specs.Words.{soundTable, rowsFrom, rowsOf, held, halve, answerAt, lookup}
+use Rattle.compact_legal.specs.Judge.{recordEnd, endOf}
+use Rattle.compact_legal.specs.Whole.{wholeRecords, wholeBy, afterLegal}
+use Rattle.kind_table.specs.Rows.{rising, risingFrom}
+use Rattle.kind_table.specs.Words.{soundTable, rowsFrom, rowsOf, held, halve, answerAt, lookup}
 use Rattle.kind_store.specs.KindStore.{isLive, versionAt, liveVersion, knownOf, knownVersion}
-use Rattle.sound.specs.Check.{soundKindStore, soundUsed, rowPasses, recordThere, idThere, comesTo}
-use Rattle.blocks.specs.Blocks.{endsOf}
-use Rattle.blocks.specs.Sizes as Sizes
+use Rattle.kind_sound.specs.Check.{soundKindStore, soundUsed, rowPasses, recordThere, idThere, comesTo}
+use Rattle.overlay_blocks.specs.Blocks.{endsOf}
+use Rattle.overlay_blocks.specs.Sizes as Sizes
 use Rattle.overlay.specs.Overlay.{Overlay, kindTiled, textsTiled, tiled, sizesFit}
 use Rattle.overlay.specs.Lent.{overlayIn}
 use Rattle.overlay.specs.Sound.{isSound, kindStoresSound}
-use Rattle.page.specs.Listing.{kindField, versionField, each, counted, bodyFields, recordFields, rowFields, listing}
+use Rattle.listing_page.specs.Listing.{kindField, versionField, each, counted, bodyFields, recordFields, rowFields, listing}
 use Rattle.listing.specs.Known.{recordIn}
 use Rattle.listing.specs.Table.{leftAt, kindTable, tableOf}
 use Rattle.listing.specs.declared.Listed.the-variants.{Length}

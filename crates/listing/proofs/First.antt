@@ -16,15 +16,15 @@ use Rattle.refusal.specs.declared.Refusal.{Refusal}
 use Rattle.refusal.specs.declared.Refusal.the-variants as R
 use Rattle.model.specs.Act.{Act, Key}
 use Rattle.compact.specs.Fits.{fitsSigned}
-use Rattle.table.specs.Words.{rowsOf, rowsFrom}
+use Rattle.kind_table.specs.Words.{rowsOf, rowsFrom}
 use Rattle.overlay.specs.Overlay.{Overlay, empty}
 use Rattle.overlay.specs.Given.{InBytes}
 use Rattle.overlay.specs.Sound.{Sound, isSound}
 use Rattle.overlay.proofs.Decides.{decides}
 use Rattle.refusal.specs.First.{firstOf}
-use Rattle.page.specs.Summary as Summary
-use Rattle.page.specs.Summary.{summary}
-use Rattle.page.specs.Listing.{listing}
+use Rattle.listing_page.specs.Summary as Summary
+use Rattle.listing_page.specs.Summary.{summary}
+use Rattle.listing_page.specs.Listing.{listing}
 use Rattle.listing.specs.declared.Listed.the-variants.{Length, Refused}
 use Rattle.listing.specs.Known.{knownIn}
 use Rattle.listing.specs.Table.{kindTable, tableOf, Ranked}

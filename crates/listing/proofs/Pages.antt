@@ -14,25 +14,25 @@ use Rattle.line.specs.Line.{line}
 use Rattle.interner.specs.Texts.{textOf}
 use Rattle.interner.specs.Sound.{textsOf}
 use Rattle.interner.proofs.Interns as Interns
-use Rattle.table.specs.Words.{rowAt}
-use Rattle.table.specs.Rows.{find}
-use Rattle.table.specs.declared.Row as table
-use Rattle.table.proofs.Maps.{find-passes, find-row}
-use Rattle.table.proofs.Tables.{sound-fits, sound-rises, held-all}
+use Rattle.kind_table.specs.Words.{rowAt}
+use Rattle.kind_table.specs.Rows.{find}
+use Rattle.kind_table.specs.declared.Row as table
+use Rattle.kind_table.proofs.Maps.{find-passes, find-row}
+use Rattle.kind_table.proofs.Tables.{sound-fits, sound-rises, held-all}
 use Rattle.kind_store.specs.KindStore.{KindStore, isLive}
 use Rattle.kind_store.specs.WellFormed.{rowsIn}
-use Rattle.sound.specs.Sound.{SoundKindStore, soundRow}
-use Rattle.page.specs.Summary.{PageRow, Table}
-use Rattle.page.specs.Listing.{kindField, rowFields, listing}
+use Rattle.kind_sound.specs.Sound.{SoundKindStore, soundRow}
+use Rattle.listing_page.specs.Summary.{PageRow, Table}
+use Rattle.listing_page.specs.Listing.{kindField, rowFields, listing}
 use Rattle.print.specs.Print.{joinedPieces, linePieces}
 use Rattle.print.proofs.Prints.{joined-append, line-pieces}
-use Rattle.fields.proofs.Records.{held-text, fields-are}
+use Rattle.listing_fields.proofs.Records.{held-text, fields-are}
 use Rattle.overlay.specs.Overlay.{Overlay}
 use Rattle.overlay.specs.Given.{InBytes}
 use Rattle.overlay.specs.Sound.{Sound, isSound}
 use Rattle.overlay.proofs.Decides.{decides}
 use Rattle.listing.specs.Table.{leftAt, rowOf, kindTable, tableOf}
-use Rattle.rows.specs.Lines.{rowFieldsAt, rowPieces, kindPieces}
+use Rattle.listing_rows.specs.Lines.{rowFieldsAt, rowPieces, kindPieces}
 use Rattle.listing.specs.Pieces.{textHeld, piecesOf}
 use Rattle.listing.specs.Call.{pageOf}
 use Rattle.listing.proofs.Rows.{row-starts, record-read, record-found, record-kind, row-version}

@@ -19,15 +19,15 @@ use Rattle.compact.specs.Cut.{KeptRecord, cutRecord}
 use Rattle.compact.specs.Fits.{fitsKept}
 use Rattle.compact.specs.Legal.{legal}
 use Rattle.compact.proofs.Back.{Found, read-record}
-use Rattle.legal.specs.Whole.{keptBytes, Whole, recordAt, startsAt}
-use Rattle.legal.proofs.Fronts.{record-short}
-use Rattle.legal.proofs.Starts.{record-passes, record-there, bytes-there, start-is}
-use Rattle.table.specs.declared.Row.{Row}
-use Rattle.table.specs.Rows.{find}
+use Rattle.compact_legal.specs.Whole.{keptBytes, Whole, recordAt, startsAt}
+use Rattle.compact_legal.proofs.Fronts.{record-short}
+use Rattle.compact_legal.proofs.Starts.{record-passes, record-there, bytes-there, start-is}
+use Rattle.kind_table.specs.declared.Row.{Row}
+use Rattle.kind_table.specs.Rows.{find}
 use Rattle.kind_store.specs.KindStore.{KindStore, isLive, knownOf, knownVersion}
 use Rattle.kind_store.specs.WellFormed.{rowsIn}
 use Rattle.kind_store.proofs.KindStores.{known-row, known-kept}
-use Rattle.sound.specs.Sound.{SoundKindStore, soundRow}
+use Rattle.kind_sound.specs.Sound.{SoundKindStore, soundRow}
 use Rattle.listing.specs.Known.{heldIn, recordIn}
 
 pub kept-kind : (k : Kind) (x : KeptRecord) → fitsKept k x ≡ true → kindOf (x .held .body) ≡ k

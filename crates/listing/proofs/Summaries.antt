@@ -26,21 +26,21 @@ use Rattle.interner.specs.Sound.{textsOf}
 use Rattle.model.specs.Act.{Act, Key, gone, sameKey, keyBefore}
 use Rattle.model.proofs.Keys.{ids-order, kinds-order}
 use Rattle.compact.specs.Fits.{fitsSigned}
-use Rattle.table.specs.declared.Row as table
-use Rattle.table.specs.Rows.{risingFrom, rising}
-use Rattle.table.specs.Rows as Rows
-use Rattle.table.specs.Words.{rowAt, rowsFrom, rowsOf}
-use Rattle.table.proofs.Maps as Maps
-use Rattle.table.proofs.Tables.{sound-rises}
+use Rattle.kind_table.specs.declared.Row as table
+use Rattle.kind_table.specs.Rows.{risingFrom, rising}
+use Rattle.kind_table.specs.Rows as Rows
+use Rattle.kind_table.specs.Words.{rowAt, rowsFrom, rowsOf}
+use Rattle.kind_table.proofs.Maps as Maps
+use Rattle.kind_table.proofs.Tables.{sound-rises}
 use Rattle.kind_store.specs.KindStore.{KindStore, isLive, knownVersion}
 use Rattle.kind_store.specs.WellFormed.{rowsIn}
-use Rattle.sound.specs.Sound.{soundRow}
+use Rattle.kind_sound.specs.Sound.{soundRow}
 use Rattle.overlay.specs.Overlay.{Overlay, kindStoreOf, withKindStore, withTexts, empty}
 use Rattle.overlay.specs.Sound.{Sound}
 use Rattle.overlay.proofs.KindStores.{each-kind-store, texts-kind-store}
-use Rattle.page.specs.Summary as Summary
-use Rattle.page.specs.Summary.{PageRow, Table, findKey, summary}
-use Rattle.page.proofs.Tables.{Every, Above, Sorted, find-nil, find-here, find-later, same-table, summary-sorted, rowIn, find-summary}
+use Rattle.listing_page.specs.Summary as Summary
+use Rattle.listing_page.specs.Summary.{PageRow, Table, findKey, summary}
+use Rattle.listing_page.proofs.Tables.{Every, Above, Sorted, find-nil, find-here, find-later, same-table, summary-sorted, rowIn, find-summary}
 use Rattle.listing.specs.Known.{lastIn, knownIn}
 use Rattle.listing.specs.Table.{leftAt, rowOf, kindTable, tableOf, isRank, Ranked}
 use Rattle.listing.proofs.Rows.{row-starts, record-read}

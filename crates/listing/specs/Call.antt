@@ -7,7 +7,7 @@ use lib.ListN.{length, drop}
 use Rattle.base.specs.Bytes.{Bytes}
 use Rattle.refusal.specs.declared.Refusal.{Refusal}
 use Rattle.refusal.specs.declared.Refusal.the-variants as R
-use Rattle.page.specs.Listing.{listing}
+use Rattle.listing_page.specs.Listing.{listing}
 use Rattle.overlay.specs.Overlay.{Overlay}
 use Rattle.overlay.specs.Sound.{isSound}
 use Rattle.listing.specs.Table.{tableOf}

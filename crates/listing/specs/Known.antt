@@ -12,12 +12,12 @@ use Rattle.model.specs.Record.{Record}
 use Rattle.model.specs.Act.{Key, Left, gone, live}
 use Rattle.model.specs.Swap.{swapRecord}
 use Rattle.compact.specs.Cut.{Cut, KeptRecord, cutRecord}
-use Rattle.table.specs.Rows.{find}
-use Rattle.table.specs.declared.Row.{Row}
+use Rattle.kind_table.specs.Rows.{find}
+use Rattle.kind_table.specs.declared.Row.{Row}
 use Rattle.kind_store.specs.KindStore.{KindStore, isLive, knownVersion}
 use Rattle.kind_store.specs.WellFormed.{rowsIn}
 use Rattle.overlay.specs.Overlay.{Overlay, kindStoreOf}
-use Rattle.page.specs.Summary.{Known}
+use Rattle.listing_page.specs.Summary.{Known}
 
 -- the record that stands at a place of a kind store's used bytes
 abbrev pub heldIn : Option (Cut KeptRecord) → Option (Record ℕ)

@@ -5,9 +5,9 @@ use Rattle.base.specs.Bytes.{Bytes}
 use Rattle.kind.specs.declared.Kind.{Kind}
 use Rattle.kind.specs.declared.Kind.the-variants.{Node, Way, Relation}
 use Rattle.interner.specs.Strings.{Store, usedOf}
-use Rattle.fields.specs.Fields.{heldText}
+use Rattle.listing_fields.specs.Fields.{heldText}
 use Rattle.overlay.specs.Overlay.{Overlay, kindStoreOf}
-use Rattle.rows.specs.Lines.{kindPieces}
+use Rattle.listing_rows.specs.Lines.{kindPieces}
 
 -- the text of a handle
 abbrev pub textHeld : Store → ℕ → Bytes

@@ -14,11 +14,11 @@ use Rattle.interner.specs.Sound.{textsOf}
 use Rattle.model.specs.Record.{Record}
 use Rattle.model.specs.Act.{Left, gone, live}
 use Rattle.model.specs.Swap.{swapRecord}
-use Rattle.table.specs.declared.Row as table
+use Rattle.kind_table.specs.declared.Row as table
 use Rattle.kind_store.specs.KindStore.{KindStore, isLive, knownVersion}
 use Rattle.kind_store.specs.WellFormed.{rowsIn}
 use Rattle.overlay.specs.Overlay.{Overlay, kindStoreOf}
-use Rattle.page.specs.Summary.{PageRow, Table}
+use Rattle.listing_page.specs.Summary.{PageRow, Table}
 use Rattle.listing.specs.Known.{recordIn}
 
 -- live with a record, its texts as texts; a place at which no record starts is unsound

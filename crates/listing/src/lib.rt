@@ -2,17 +2,17 @@
 ghost use mathlib.Core.Path.{_≡_};
 ghost use Rattle.print.specs.Print.{print, joinedPieces};
 ghost use Rattle.print.specs.declared.Room.the-variants.{Left};
-ghost use Rattle.fields.specs.Fields.{heldText};
-ghost use Rattle.rows.specs.Lines.{kindPieces};
+ghost use Rattle.listing_fields.specs.Fields.{heldText};
+ghost use Rattle.listing_rows.specs.Lines.{kindPieces};
 ghost use Rattle.overlay.specs.Overlay.{kindStoreOf};
 ghost use Rattle.overlay.specs.Lent.{lent};
 ghost use Rattle.listing.specs.Pieces.{kindLines, piecesOf};
 ghost use Rattle.listing.specs.Call.{pageOver, listingOn};
-use blocks::ARENA;
-use blocks::COUNTERS;
-use blocks::STRING_BYTES;
-use blocks::STRINGS;
 use kind::Kind;
+use overlay_blocks::ARENA;
+use overlay_blocks::COUNTERS;
+use overlay_blocks::STRING_BYTES;
+use overlay_blocks::STRINGS;
 use print::Room;
 use refusal::Refusal;
 
@@ -38,13 +38,13 @@ fn put_rows(
         ≡ print cap (kindPieces (heldText (now (spans .entry)) (now (texts .entry)) (lent words bytes counters .texts .strings)) kind (kindStoreOf kind (lent words bytes counters)))
         (record { out = now (out .entry); room = room }) ⌝ }
 {
-    let p = blocks::part_in(kind, counters, words.len(), bytes.len());
+    let p = overlay_blocks::part_in(kind, counters, words.len(), bytes.len());
     let at = p.at;
     let from = p.from;
     let to = p.to;
     let first = p.first;
     let n = little::lesser(counters[at + ARENA] as usize, p.end - first);
-    rows::put_lines(
+    listing_rows::put_lines(
         out,
         cap,
         room,
@@ -71,7 +71,7 @@ fn put_kind(
     ensures { λ r. ⌜ record { out = now (out .exit); room = r }
         ≡ print cap (kindLines kind (lent words bytes counters)) (record { out = now (out .entry); room = room }) ⌝ }
 {
-    let t = blocks::texts_in(counters, words.len(), bytes.len());
+    let t = overlay_blocks::texts_in(counters, words.len(), bytes.len());
     let c = t.spans;
     let f = t.bytes;
     let n = little::lesser(counters[STRING_BYTES] as usize, bytes.len() - f);

@@ -15,10 +15,10 @@ use Rattle.interner.proofs.Interns as Interns
 use Rattle.kind_store.specs.KindStore.{takenIn}
 use Rattle.kind_store.specs.declared.Kept.{Kept}
 use Rattle.kind_store.specs.declared.Kept.the-variants.{Taken, Refused}
-use Rattle.blocks.specs.Sizes.{largest}
+use Rattle.overlay_blocks.specs.Sizes.{largest}
 use Rattle.overlay.specs.Overlay.{Overlay, countersOf, kindStoreOf, withKindStore, withSetting, withSizes, sizesFit, empty}
 use Rattle.overlay.specs.Lent.{overlayIn}
-use Rattle.blocks.specs.declared.Sizes.{Sizes}
+use Rattle.overlay_blocks.specs.declared.Sizes.{Sizes}
 use Rattle.overlay.specs.Sound.{isSound}
 use Rattle.overlay.specs.Calls.{OverlayAfter, overlayRefused, setUp, allowOn}
 

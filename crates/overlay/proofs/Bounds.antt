@@ -22,8 +22,8 @@ use Rattle.compact.specs.Fits.{fitsHead, fitsMeta}
 use Rattle.compact.specs.declared.ArenaMeta.{ArenaMeta}
 use Rattle.compact.specs.declared.PushHead.{PushHead}
 use Rattle.compact.proofs.Holds.{MetaHeld, meta-fits, node-fits, counts-fits, relation-fits}
-use Rattle.blocks.specs.declared.KindPart.{KindPart}
-use Rattle.blocks.specs.Blocks.{sizesIn, partIn, textPartIn}
+use Rattle.overlay_blocks.specs.declared.KindPart.{KindPart}
+use Rattle.overlay_blocks.specs.Blocks.{sizesIn, partIn, textPartIn}
 use Rattle.overlay.specs.Overlay.{kindStoreOf}
 use Rattle.overlay.specs.Lent.{overlayIn}
 use Rattle.overlay.proofs.Puts.{kind-store-for}

@@ -5,7 +5,7 @@ use mathlib.Core.Bool.{true}
 use Rattle.base.proofs.Split.{both-left, both-right, both-of}
 use Rattle.kind.specs.declared.Kind.{Kind}
 use Rattle.kind.specs.declared.Kind.the-variants.{Node, Way, Relation}
-use Rattle.sound.proofs.Decides as KindStore
+use Rattle.kind_sound.proofs.Decides as KindStore
 use Rattle.overlay.specs.Overlay.{Overlay, kindStoreOf}
 use Rattle.overlay.specs.Given.{InBytes}
 use Rattle.overlay.specs.Sound.{Sound, soundOf, kindStoresSound, isSound}

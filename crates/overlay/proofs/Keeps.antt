@@ -8,16 +8,16 @@ use Rattle.little.specs.Little.{isByte}
 use Rattle.little.proofs.Overs.{length-over}
 use Rattle.kind.specs.declared.Kind.{Kind}
 use Rattle.kind.specs.declared.Kind.the-variants.{Node, Way, Relation}
-use Rattle.legal.proofs.Laws.{whole-more}
-use Rattle.legal.proofs.Wholes.{kept-unique}
+use Rattle.compact_legal.proofs.Laws.{whole-more}
+use Rattle.compact_legal.proofs.Wholes.{kept-unique}
 use Rattle.interner.specs.Sound.{freshStore}
 use Rattle.interner.proofs.Interns as Interns
 use Rattle.kind_store.specs.KindStore.{KindStore, takenIn}
-use Rattle.sound.specs.Sound.{SoundKindStore}
-use Rattle.sound.proofs.Keeps as Sounds
-use Rattle.blocks.specs.Sizes.{largest}
+use Rattle.kind_sound.specs.Sound.{SoundKindStore}
+use Rattle.kind_sound.proofs.Keeps as Sounds
+use Rattle.overlay_blocks.specs.Sizes.{largest}
 use Rattle.overlay.specs.Overlay.{Overlay, kindStoreOf, kindSizeOf, withKindStore, withSizes, tiled, sizesFit, emptied, empty}
-use Rattle.blocks.specs.declared.Sizes.{Sizes}
+use Rattle.overlay_blocks.specs.declared.Sizes.{Sizes}
 use Rattle.overlay.specs.Given.{InBytes}
 use Rattle.overlay.specs.Sound.{Sound}
 use Rattle.overlay.specs.Calls.{setUp, allowOn}

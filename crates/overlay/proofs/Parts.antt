@@ -11,18 +11,18 @@ use borrow.Author.Tests.{eqb-false}
 use Rattle.base.specs.Bytes.{Bytes}
 use Rattle.refusal.specs.declared.Refusal.the-variants as R
 use Rattle.kind_store.specs.declared.Kept.the-variants.{Taken as Done}
-use Rattle.blocks.specs.declared.Sizes.{Sizes}
+use Rattle.overlay_blocks.specs.declared.Sizes.{Sizes}
 use Rattle.kind.specs.declared.Kind.{Kind}
 use Rattle.kind.specs.declared.Kind.the-variants.{Node, Way, Relation}
-use Rattle.sound.specs.Check.{soundKindStore}
+use Rattle.kind_sound.specs.Check.{soundKindStore}
 use Rattle.interner.specs.Sound.{freshSpans}
 use Rattle.little.proofs.Overs.{length-over}
-use Rattle.blocks.specs.declared.KindPart.{KindPart}
-use Rattle.blocks.specs.declared.TextPart.{TextPart}
-use Rattle.blocks.specs.Blocks.{cut, sizesIn, partIn, textPartIn}
-use Rattle.blocks.proofs.Cuts.{cut-all}
+use Rattle.overlay_blocks.specs.declared.KindPart.{KindPart}
+use Rattle.overlay_blocks.specs.declared.TextPart.{TextPart}
+use Rattle.overlay_blocks.specs.Blocks.{cut, sizesIn, partIn, textPartIn}
+use Rattle.overlay_blocks.proofs.Cuts.{cut-all}
 use borrow.Rule.Slice.PartMut.{putMid, mid-len}
-use Rattle.blocks.specs.Sizes.{largest, fitted}
+use Rattle.overlay_blocks.specs.Sizes.{largest, fitted}
 use Rattle.overlay.specs.Overlay.{Overlay, sizesFit, freshCounters}
 use Rattle.overlay.specs.Lent.{kindStoreIn, overlayFor, overlayIn}
 use Rattle.overlay.specs.Sound.{isSound, soundOf}

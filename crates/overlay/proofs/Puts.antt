@@ -10,12 +10,12 @@ use Rattle.kind.specs.declared.Kind.{Kind}
 use Rattle.kind.specs.declared.Kind.the-variants.{Node, Way, Relation}
 use Rattle.interner.specs.Strings.{Store, storeWith}
 use Rattle.kind_store.specs.KindStore.{KindStore, kindStoreWith}
-use Rattle.blocks.specs.declared.Sizes.{Sizes}
-use Rattle.blocks.specs.declared.KindPart.{KindPart}
-use Rattle.blocks.specs.declared.TextPart.{TextPart}
-use Rattle.blocks.specs.Blocks.{cut, sizesIn, InOrder, wordEnds, byteEnds, partIn, Within, textPartIn}
-use Rattle.blocks.proofs.Cuts.{cut-same, cut-before, cut-after, drop-after, drop-same, cut-all}
-use Rattle.blocks.proofs.Orders.{words-in-order, bytes-in-order, part-within, Before, byOrder, before-texts}
+use Rattle.overlay_blocks.specs.declared.Sizes.{Sizes}
+use Rattle.overlay_blocks.specs.declared.KindPart.{KindPart}
+use Rattle.overlay_blocks.specs.declared.TextPart.{TextPart}
+use Rattle.overlay_blocks.specs.Blocks.{cut, sizesIn, InOrder, wordEnds, byteEnds, partIn, Within, textPartIn}
+use Rattle.overlay_blocks.proofs.Cuts.{cut-same, cut-before, cut-after, drop-after, drop-same, cut-all}
+use Rattle.overlay_blocks.proofs.Orders.{words-in-order, bytes-in-order, part-within, Before, byOrder, before-texts}
 use Rattle.overlay.specs.Overlay.{Overlay, kindStoreOf, withKindStore, withTexts}
 use Rattle.overlay.specs.Lent.{kindStoreIn, textsIn, overlayFor, overlayIn}
 use Rattle.overlay.proofs.KindStores.{each-other-kind-store, same-overlay, kind-store-texts, kind-store-setting, kind-store-all-sizes, texts-kind-store}

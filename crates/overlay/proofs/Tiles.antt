@@ -12,12 +12,12 @@ use Rattle.kind.specs.declared.Kind.{Kind}
 use Rattle.kind.specs.declared.Kind.the-variants.{Node, Way, Relation}
 use Rattle.interner.specs.Strings.{Store}
 use Rattle.kind_store.specs.KindStore.{KindStore}
-use Rattle.blocks.specs.declared.KindSize.{KindSize}
-use Rattle.blocks.specs.declared.Sizes.{Sizes}
-use Rattle.blocks.specs.Blocks.{wordEnds, byteEnds}
-use Rattle.blocks.specs.Sizes.{Limits, largest, sizesInRange, filled, fitted, SmallKind, Small}
-use Rattle.blocks.proofs.Tiling.{Whole, whole, of-whole}
-use Rattle.blocks.proofs.Ranges.{small, one-string}
+use Rattle.overlay_blocks.specs.declared.KindSize.{KindSize}
+use Rattle.overlay_blocks.specs.declared.Sizes.{Sizes}
+use Rattle.overlay_blocks.specs.Blocks.{wordEnds, byteEnds}
+use Rattle.overlay_blocks.specs.Sizes.{Limits, largest, sizesInRange, filled, fitted, SmallKind, Small}
+use Rattle.overlay_blocks.proofs.Tiling.{Whole, whole, of-whole}
+use Rattle.overlay_blocks.proofs.Ranges.{small, one-string}
 use Rattle.overlay.specs.Overlay.{Overlay, kindStoreOf, kindSizeOf, withKindStore, withTexts, withSizes, kindTiled, textsTiled, tiled, sizesFit}
 use Rattle.overlay.specs.Lent.{overlayFor}
 use Rattle.overlay.proofs.KindStores.{kind-store-texts, kind-store-sizes, each-other-kind-store, each-kind-store, texts-kind-store}

@@ -15,9 +15,9 @@ use Rattle.refusal.specs.declared.Refusal.{Refusal}
 use Rattle.refusal.specs.declared.Refusal.the-variants as R
 use Rattle.kind_store.specs.declared.Kept.{Kept}
 use Rattle.kind_store.specs.declared.Kept.the-variants.{Taken, Refused}
-use Rattle.blocks.specs.Sizes.{largest}
+use Rattle.overlay_blocks.specs.Sizes.{largest}
 use Rattle.overlay.specs.Overlay.{Overlay, withSizes, sizesFit}
-use Rattle.blocks.specs.declared.Sizes.{Sizes}
+use Rattle.overlay_blocks.specs.declared.Sizes.{Sizes}
 use Rattle.overlay.specs.Sound.{isSound}
 
 -- an answer by its refusal, if there is one

@@ -9,10 +9,10 @@ use Rattle.kind.specs.declared.Kind.{Kind}
 use Rattle.kind.specs.declared.Kind.the-variants.{Node, Way, Relation}
 use Rattle.interner.specs.Strings.{Store, storeWith}
 use Rattle.kind_store.specs.KindStore.{KindStore, kindStoreWith}
-use Rattle.blocks.specs.declared.Sizes.{Sizes}
-use Rattle.blocks.specs.declared.KindPart.{KindPart}
-use Rattle.blocks.specs.declared.TextPart.{TextPart}
-use Rattle.blocks.specs.Blocks.{cut, sizesIn, partIn, textPartIn}
+use Rattle.overlay_blocks.specs.declared.Sizes.{Sizes}
+use Rattle.overlay_blocks.specs.declared.KindPart.{KindPart}
+use Rattle.overlay_blocks.specs.declared.TextPart.{TextPart}
+use Rattle.overlay_blocks.specs.Blocks.{cut, sizesIn, partIn, textPartIn}
 use Rattle.overlay.specs.Overlay.{Overlay}
 
 -- ---- in words, bytes and counters

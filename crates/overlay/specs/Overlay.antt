@@ -12,9 +12,9 @@ use Rattle.interner.specs.Strings as Strings
 use Rattle.interner.specs.Sound.{freshSpans}
 use Rattle.kind_store.specs.KindStore.{KindStore}
 use Rattle.kind_store.specs.KindStore as KindStore
-use Rattle.blocks.specs.declared.KindSize.{KindSize}
-use Rattle.blocks.specs.declared.Sizes.{Sizes}
-use Rattle.blocks.specs.Sizes.{Limits, sizesInRange}
+use Rattle.overlay_blocks.specs.declared.KindSize.{KindSize}
+use Rattle.overlay_blocks.specs.declared.Sizes.{Sizes}
+use Rattle.overlay_blocks.specs.Sizes.{Limits, sizesInRange}
 
 pub record Overlay : Type 0 where
   pub nodes : KindStore

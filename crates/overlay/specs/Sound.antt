@@ -7,9 +7,9 @@ use Rattle.base.specs.Bytes.{both}
 use Rattle.kind.specs.declared.Kind.{Kind}
 use Rattle.kind.specs.declared.Kind.the-variants.{Node, Way, Relation}
 use Rattle.interner.specs.Sound.{soundStrings}
-use Rattle.sound.specs.Sound.{SoundKindStore}
-use Rattle.sound.specs.Check.{soundKindStore}
-use Rattle.blocks.specs.Sizes.{largest}
+use Rattle.kind_sound.specs.Sound.{SoundKindStore}
+use Rattle.kind_sound.specs.Check.{soundKindStore}
+use Rattle.overlay_blocks.specs.Sizes.{largest}
 use Rattle.overlay.specs.Overlay.{Overlay, kindStoreOf, sizesFit}
 
 pub record Sound (o : Overlay) : Type 0 where

@@ -7,14 +7,14 @@ ghost use Rattle.overlay.specs.Overlay.{freshCounters};
 ghost use Rattle.overlay.specs.Lent.{lent, left, lentFor, leftFor};
 ghost use Rattle.overlay.specs.Sound.{isSound, soundOf, kindStoresSound};
 ghost use Rattle.overlay.specs.Calls.{setUp, allowOn};
-use blocks::ARENA;
-use blocks::COUNTERS;
-use blocks::SETTING;
-use blocks::STRING_BYTES;
-use blocks::STRINGS;
-use blocks::Sizes;
 use kind::Kind;
 use kind_store::Kept;
+use overlay_blocks::ARENA;
+use overlay_blocks::COUNTERS;
+use overlay_blocks::SETTING;
+use overlay_blocks::STRING_BYTES;
+use overlay_blocks::STRINGS;
+use overlay_blocks::Sizes;
 use refusal::Refusal;
 
 // ---- set-up
@@ -53,9 +53,9 @@ pub fn set_up(
 ) -> Kept
     ensures { λ r. ⌜ record { overlay = leftFor z words bytes counters; answer = r } ≡ setUp z setting (lentFor z words bytes counters) ⌝ }
 {
-    if blocks::sizes_fit(z, words.len(), bytes.len()) {
+    if overlay_blocks::sizes_fit(z, words.len(), bytes.len()) {
         reset(counters, z, setting);
-        let t = blocks::texts_in(counters, words.len(), bytes.len());
+        let t = overlay_blocks::texts_in(counters, words.len(), bytes.len());
         let c = t.spans;
         interner::empty_strings(&mut words[c..]);
         return Kept::Taken;
@@ -68,13 +68,13 @@ pub fn set_up(
 fn kind_sound(words: &[u64], bytes: &[u8], counters: &[u64; COUNTERS], kind: Kind) -> bool
     ensures { λ r. ⌜ r ≡ soundOf kind (lent words bytes counters) ⌝ }
 {
-    let p = blocks::part_in(kind, counters, words.len(), bytes.len());
+    let p = overlay_blocks::part_in(kind, counters, words.len(), bytes.len());
     let at = p.at;
     let from = p.from;
     let to = p.to;
     let first = p.first;
     let end = p.end;
-    sound::sound_kind_store(
+    kind_sound::sound_kind_store(
         kind,
         &words[from..to],
         counters[at],
@@ -99,7 +99,7 @@ fn kind_stores_sound(words: &[u64], bytes: &[u8], counters: &[u64; COUNTERS]) ->
 fn strings_sound(words: &[u64], bytes: &[u8], counters: &[u64; COUNTERS]) -> bool
     ensures { λ r. ⌜ r ≡ soundStrings (lent words bytes counters .texts) ⌝ }
 {
-    let t = blocks::texts_in(counters, words.len(), bytes.len());
+    let t = overlay_blocks::texts_in(counters, words.len(), bytes.len());
     let c = t.spans;
     let f = t.bytes;
     interner::sound_strings(
@@ -114,7 +114,7 @@ fn strings_sound(words: &[u64], bytes: &[u8], counters: &[u64; COUNTERS]) -> boo
 pub fn is_sound(words: &[u64], bytes: &[u8], counters: &[u64; COUNTERS]) -> bool
     ensures { λ r. ⌜ r ≡ isSound (lent words bytes counters) ⌝ }
 {
-    if blocks::sizes_fit(blocks::sizes_in(counters), words.len(), bytes.len()) {
+    if overlay_blocks::sizes_fit(overlay_blocks::sizes_in(counters), words.len(), bytes.len()) {
         if strings_sound(words, bytes, counters) {
             return kind_stores_sound(words, bytes, counters);
         }

@@ -27,16 +27,16 @@ use Rattle.interner.specs.Sound.{textsOf}
 use Rattle.interner.proofs.Interns.{length-texts}
 use Rattle.interner.proofs.Held.{grown-all, text-stays-all}
 use Rattle.kind_store.specs.KindStore.{takenIn}
-use Rattle.blocks.specs.Sizes.{largest}
+use Rattle.overlay_blocks.specs.Sizes.{largest}
 use Rattle.overlay.specs.Overlay.{Overlay}
 use Rattle.overlay.specs.Sound.{Sound, isSound}
 use Rattle.overlay.specs.Given.{headFits, metaFits, InBytes}
-use Rattle.direct.specs.Calls.{pushOn, deleteOn, internOn}
-use Rattle.store.specs.declared.Handle.the-variants as H
+use Rattle.overlay_direct.specs.Calls.{pushOn, deleteOn, internOn}
+use Rattle.overlay_store.specs.declared.Handle.the-variants as H
 use Rattle.overlay.proofs.Answers.{strings-sound}
 use Rattle.overlay.proofs.Decides.{decides}
 use Rattle.overlay.proofs.Tiles.{sized-spans}
-use Rattle.direct.proofs.Keeps.{intern-kept, push-sound, push-bytes, push-texts, delete-sound, delete-bytes, delete-texts, intern-sound, intern-bytes}
+use Rattle.overlay_direct.proofs.Keeps.{intern-kept, push-sound, push-bytes, push-texts, delete-sound, delete-bytes, delete-texts, intern-sound, intern-bytes}
 use Rattle.acts.specs.Turn.{Turn}
 use Rattle.reader.proofs.Small.{text-small}
 

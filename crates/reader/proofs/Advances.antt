@@ -27,10 +27,10 @@ use Rattle.compact.specs.Fits.{fitsNumber}
 use Rattle.compact.specs.Held.{metaOf}
 use Rattle.compact.specs.Legal.{limits, legalMeta, withinLimits, legal}
 use Rattle.compact.specs.declared.PushHead.{PushHead}
-use Rattle.stage.specs.Stage.{staged, refPart, memberPart, tagPart}
-use Rattle.stage.proofs.Parts.{withRef, withMember, withTag, length-staged}
-use Rattle.legal.specs.Judge.{faultFor}
-use Rattle.legal.proofs.Laws.{legal-more}
+use Rattle.reader_stage.specs.Stage.{staged, refPart, memberPart, tagPart}
+use Rattle.reader_stage.proofs.Parts.{withRef, withMember, withTag, length-staged}
+use Rattle.compact_legal.specs.Judge.{faultFor}
+use Rattle.compact_legal.proofs.Laws.{legal-more}
 use Rattle.interner.specs.Texts.{textOf}
 use Rattle.interner.specs.Sound.{textsOf}
 use Rattle.version_floor.specs.declared.Admit.{Admit}
@@ -40,13 +40,13 @@ use Rattle.overlay.specs.Overlay.{Overlay, kindStoreOf}
 use Rattle.overlay.specs.Sound.{isSound}
 use Rattle.overlay.specs.Given.{headFits, metaFits}
 use Rattle.overlay.specs.Calls.{OverlayAfter}
-use Rattle.store.specs.Calls.{storePush, storeDelete}
-use Rattle.direct.specs.Calls.{deleteOn}
-use Rattle.direct.proofs.Answers.{push-store, delete-store}
-use Rattle.field.specs.Field.{got}
-use Rattle.decision.specs.Decision.{Decision, refuses, moves, begins, deletes, tags, refers, joins, ends}
-use Rattle.decision.proofs.Lawful.{Lawful}
-use Rattle.decision.proofs.Lawful as Decided
+use Rattle.overlay_store.specs.Calls.{storePush, storeDelete}
+use Rattle.overlay_direct.specs.Calls.{deleteOn}
+use Rattle.overlay_direct.proofs.Answers.{push-store, delete-store}
+use Rattle.event_fields.specs.Field.{got}
+use Rattle.event_decision.specs.Decision.{Decision, refuses, moves, begins, deletes, tags, refers, joins, ends}
+use Rattle.event_decision.proofs.Lawful.{Lawful}
+use Rattle.event_decision.proofs.Lawful as Decided
 use Rattle.acts.specs.Turn.{Staged, Turn, userText, first, clears, grows, turnOf}
 use Rattle.acts.specs.Turn as Turn
 use Rattle.reader.specs.declared.Pending.{Pending}

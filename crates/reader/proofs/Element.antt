@@ -29,8 +29,8 @@ use Rattle.compact.specs.declared.PushHead.{PushHead}
 use Rattle.compact.proofs.Format.{first, begin, of-cut, i64-format, counted-is, list}
 use Rattle.compact.proofs.Cuts.{member-format, tag-format, pushed, pushed-back, head-tags as head-of-tags}
 use Rattle.compact.proofs.Lengths.{length-i64, length-member, length-tag, length-joined}
-use Rattle.stage.specs.Stage.{staged, refPart, memberPart, tagPart}
-use Rattle.stage.proofs.Parts.{inBits, member-part, tag-part, withRef, withMember, withTag, length-parts, staged-ref, ref-fits, staged-member, member-fits, staged-tag, tag-fits}
+use Rattle.reader_stage.specs.Stage.{staged, refPart, memberPart, tagPart}
+use Rattle.reader_stage.proofs.Parts.{inBits, member-part, tag-part, withRef, withMember, withTag, length-parts, staged-ref, ref-fits, staged-member, member-fits, staged-tag, tag-fits}
 use Rattle.reader.specs.State.{middle, valuesIn, moreTags, moreParts}
 
 -- ---- the head

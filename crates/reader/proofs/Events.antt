@@ -18,13 +18,13 @@ use Rattle.refusal.specs.declared.Refusal.the-variants as R
 use Rattle.interner.specs.Texts.{takeAll}
 use Rattle.interner.specs.Sound.{textsOf}
 use Rattle.overlay.specs.Sound.{isSound}
-use Rattle.field.specs.Field.{got, bad}
-use Rattle.decision.specs.Decision.{Decision, refuses, moves, begins, deletes, tags, refers, joins, ends, decide}
-use Rattle.decision.specs.Table.{refusalIn}
-use Rattle.decision.proofs.Lawful.{decide-lawful}
-use Rattle.decision.proofs.Table.{refusalOf, decide-first}
+use Rattle.event_fields.specs.Field.{got, bad}
+use Rattle.event_decision.specs.Decision.{Decision, refuses, moves, begins, deletes, tags, refers, joins, ends, decide}
+use Rattle.event_decision.specs.Table.{refusalIn}
+use Rattle.event_decision.proofs.Lawful.{decide-lawful}
+use Rattle.event_decision.proofs.Table.{refusalOf, decide-first}
 use Rattle.acts.proofs.Turns.{turn-first}
-use Rattle.decision.proofs.Refusals.{decide-within}
+use Rattle.event_decision.proofs.Refusals.{decide-within}
 use Rattle.acts.specs.Turn.{Turn, turnOf, turn}
 use Rattle.reader.specs.declared.Stop.{Stop}
 use Rattle.reader.specs.declared.Stop.the-variants.{At}

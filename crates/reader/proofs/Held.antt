@@ -24,10 +24,10 @@ use Rattle.compact.specs.Fits.{fitsBody, fitsTag}
 use Rattle.compact.specs.Legal.{limits, handle, valueBytes, legalMeta, bodyHandles, legalHandles, legalTexts, inRange, bodyWithin, withinLimits, legal}
 use Rattle.compact.specs.declared.ArenaMeta.{ArenaMeta}
 use Rattle.compact.specs.declared.PushHead.{PushHead}
-use Rattle.legal.specs.Judge.{faultAnswer, faultFor}
-use Rattle.legal.specs.declared.Fault.{Fault}
-use Rattle.legal.specs.declared.Fault.the-variants as F
-use Rattle.legal.proofs.Laws.{legal-is, legal-more, push-legal}
+use Rattle.compact_legal.specs.Judge.{faultAnswer, faultFor}
+use Rattle.compact_legal.specs.declared.Fault.{Fault}
+use Rattle.compact_legal.specs.declared.Fault.the-variants as F
+use Rattle.compact_legal.proofs.Laws.{legal-is, legal-more, push-legal}
 use Rattle.interner.specs.Texts.{textOf}
 use Rattle.overlay.specs.Given.{headFits, metaFits}
 use Rattle.acts.specs.Turn.{Staged}

@@ -28,13 +28,13 @@ use Rattle.compact.specs.Fits.{fitsBody, fitsSigned, fitsMember}
 use Rattle.compact.specs.Legal.{limits, handle, legalMeta, bodyHandles, legalHandles, legalTexts, inRange, withinLimits, legal}
 use Rattle.compact.specs.declared.CompactMember.{CompactMember}
 use Rattle.compact.specs.declared.PushHead.{PushHead}
-use Rattle.stage.specs.Stage.{insertedAt, staged, refPart, memberPart, tagPart}
-use Rattle.stage.proofs.Parts.{withRef, withMember, withTag}
+use Rattle.reader_stage.specs.Stage.{insertedAt, staged, refPart, memberPart, tagPart}
+use Rattle.reader_stage.proofs.Parts.{withRef, withMember, withTag}
 use Rattle.overlay.specs.Given.{headFits, metaFits}
 use Rattle.overlay.proofs.Bounds.{over-small}
-use Rattle.field.specs.Field.{noMeta}
-use Rattle.field.proofs.Metadata.{Legal, no-legal}
-use Rattle.decision.proofs.Lawful.{First}
+use Rattle.event_fields.specs.Field.{noMeta}
+use Rattle.event_fields.proofs.Metadata.{Legal, no-legal}
+use Rattle.event_decision.proofs.Lawful.{First}
 use Rattle.interner.specs.Texts.{textOf}
 use Rattle.acts.specs.Turn.{noBody, noElement, first}
 use Rattle.reader.specs.declared.Pending.{Pending}

@@ -24,12 +24,12 @@ use Rattle.interner.specs.Texts.{textOf}
 use Rattle.interner.specs.Sound.{textsOf}
 use Rattle.kind_store.specs.KindStore.{knownVersion, checked}
 use Rattle.overlay.specs.Overlay.{Overlay, kindStoreOf}
-use Rattle.store.specs.First.{isBelow, heldBy}
+use Rattle.overlay_store.specs.First.{isBelow, heldBy}
 use Rattle.overlay.proofs.Bounds.{id-given}
-use Rattle.field.specs.Field.{Field, got}
-use Rattle.decision.specs.Decision.{Decision, refuses, moves, begins, deletes, tags, refers, joins, ends, decide}
-use Rattle.decision.specs.Table.{refusalIn}
-use Rattle.decision.proofs.Lawful.{Lawful, decide-lawful}
+use Rattle.event_fields.specs.Field.{Field, got}
+use Rattle.event_decision.specs.Decision.{Decision, refuses, moves, begins, deletes, tags, refers, joins, ends, decide}
+use Rattle.event_decision.specs.Table.{refusalIn}
+use Rattle.event_decision.proofs.Lawful.{Lawful, decide-lawful}
 use Rattle.acts.specs.Turn.{Staged, Turn, first, turnOf, turn}
 use Rattle.reader.specs.declared.EventAnswer.the-variants as E
 use Rattle.reader.specs.State.{State, nextLine, isStopped, stateSound}

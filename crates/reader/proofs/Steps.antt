@@ -24,13 +24,13 @@ use Rattle.kind_store.specs.declared.Kept.the-variants as K
 use Rattle.overlay.specs.Overlay.{Overlay, withTexts}
 use Rattle.overlay.specs.Sound.{isSound}
 use Rattle.overlay.specs.Calls.{OverlayAfter}
-use Rattle.store.specs.Calls.{Interning, handleIn}
-use Rattle.direct.specs.Calls.{internOn}
-use Rattle.store.specs.declared.Handle.the-variants as H
+use Rattle.overlay_store.specs.Calls.{Interning, handleIn}
+use Rattle.overlay_direct.specs.Calls.{internOn}
+use Rattle.overlay_store.specs.declared.Handle.the-variants as H
 use Rattle.overlay.proofs.Answers.{strings-sound}
-use Rattle.direct.proofs.Answers.{intern-store}
-use Rattle.direct.proofs.Keeps.{intern-kept}
-use Rattle.field.proofs.Metadata.{Legal}
+use Rattle.overlay_direct.proofs.Answers.{intern-store}
+use Rattle.overlay_direct.proofs.Keeps.{intern-kept}
+use Rattle.event_fields.proofs.Metadata.{Legal}
 use Rattle.acts.specs.Turn.{userText}
 use Rattle.reader.specs.Step.{Advanced, Step, goes, stops, unlessBelow, onHandle, withText, bitsWithUser, takingUser, onKept, onAfter}
 use Rattle.reader.proofs.Acts.{TakesIn, no-text, a-text}

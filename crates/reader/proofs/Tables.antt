@@ -37,17 +37,17 @@ use Rattle.kind_store.specs.KindStore.{knownVersion, checked, idRoom}
 use Rattle.kind_store.proofs.Answers as KindStores
 use Rattle.overlay.specs.Overlay.{Overlay, kindStoreOf, withTexts}
 use Rattle.overlay.specs.Sound.{isSound}
-use Rattle.store.specs.First.{notHeld, isBelow, heldBy}
-use Rattle.store.specs.Calls.{bytesOf, storePush, storeDelete}
+use Rattle.overlay_store.specs.First.{notHeld, isBelow, heldBy}
+use Rattle.overlay_store.specs.Calls.{bytesOf, storePush, storeDelete}
 use Rattle.overlay.proofs.Answers.{strings-sound}
 use Rattle.overlay.proofs.KindStores.{texts-kind-store}
-use Rattle.decision.specs.Decision.{Decision, refuses, moves, begins, deletes, tags, refers, joins, ends, decide}
-use Rattle.decision.proofs.Lawful.{Lawful, decide-lawful}
-use Rattle.decision.specs.Table.{refusalIn, decideTable}
-use Rattle.decision.proofs.Table.{decide-first}
+use Rattle.event_decision.specs.Decision.{Decision, refuses, moves, begins, deletes, tags, refers, joins, ends, decide}
+use Rattle.event_decision.proofs.Lawful.{Lawful, decide-lawful}
+use Rattle.event_decision.specs.Table.{refusalIn, decideTable}
+use Rattle.event_decision.proofs.Table.{decide-first}
 use Rattle.reader.specs.declared.Stop.{Stop}
 use Rattle.reader.specs.declared.Stop.the-variants.{Going, At}
-use Rattle.stage.specs.Stage.{refPart, memberPart, tagPart}
+use Rattle.reader_stage.specs.Stage.{refPart, memberPart, tagPart}
 use Rattle.reader.specs.State.{State, nextLine, stopsBy, isStopped, pendingSound, readerSound, stateSound, moreTags, moreParts}
 use Rattle.reader.specs.Step.{Advanced, Step, goes, stops, unlessBelow, onHandle, withText, bitsWithUser, takingUser, onAfter, clearsTo, stages, headFor, memberBits, tagWithin, partWithin, partPlace, stepOf}
 use Rattle.reader.specs.Event.{EventResult, stepped, eventOn, endAt, endOn}

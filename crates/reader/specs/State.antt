@@ -14,9 +14,9 @@ use Rattle.model.specs.Record.{Record}
 use Rattle.compact.specs.Cut.{pushedRecord}
 use Rattle.compact.specs.Held.{metaOf, headIn}
 use Rattle.compact.specs.declared.PushHead.{PushHead}
-use Rattle.legal.specs.Judge.{faultFor}
-use Rattle.legal.specs.declared.Fault.{Fault}
-use Rattle.legal.specs.declared.Fault.the-variants as F
+use Rattle.compact_legal.specs.Judge.{faultFor}
+use Rattle.compact_legal.specs.declared.Fault.{Fault}
+use Rattle.compact_legal.specs.declared.Fault.the-variants as F
 use Rattle.overlay.specs.Overlay.{Overlay}
 use Rattle.overlay.specs.Sound.{isSound}
 use Rattle.reader.specs.declared.Pending.{Pending}

@@ -21,7 +21,7 @@ use Rattle.compact.specs.Legal.{limits}
 use Rattle.compact.specs.declared.ArenaMeta.{ArenaMeta}
 use Rattle.compact.specs.declared.PushHead.{PushHead}
 use Rattle.compact.specs.declared.CompactMember.{CompactMember}
-use Rattle.stage.specs.Stage.{staged, refPart, memberPart, tagPart}
+use Rattle.reader_stage.specs.Stage.{staged, refPart, memberPart, tagPart}
 use Rattle.interner.specs.Strings as Strings
 use Rattle.interner.specs.declared.Interned.{Interned}
 use Rattle.interner.specs.declared.Interned.the-variants as I
@@ -30,8 +30,8 @@ use Rattle.kind_store.specs.declared.Kept.{Kept}
 use Rattle.kind_store.specs.declared.Kept.the-variants as K
 use Rattle.overlay.specs.Overlay.{Overlay, kindStoreOf, withTexts}
 use Rattle.overlay.specs.Calls.{OverlayAfter}
-use Rattle.store.specs.Calls.{storePush, storeDelete}
-use Rattle.decision.specs.Decision.{Decision, refuses, moves, begins, deletes, tags, refers, joins, ends}
+use Rattle.overlay_store.specs.Calls.{storePush, storeDelete}
+use Rattle.event_decision.specs.Decision.{Decision, refuses, moves, begins, deletes, tags, refers, joins, ends}
 use Rattle.reader.specs.declared.Pending.{Pending}
 use Rattle.reader.specs.State.{State, noPending, middle, valuesIn, moreTags, moreParts}
 

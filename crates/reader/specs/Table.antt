@@ -23,9 +23,9 @@ use Rattle.compact.specs.Layout.{headLen}
 use Rattle.compact.specs.Legal.{limits}
 use Rattle.kind_store.specs.KindStore.{knownVersion, checked, idRoom}
 use Rattle.overlay.specs.Overlay.{Overlay, kindStoreOf}
-use Rattle.store.specs.First.{isBelow, heldBy, fullFor}
-use Rattle.decision.specs.Decision.{Decision, refuses, moves, begins, deletes, tags, refers, joins, ends, decide}
-use Rattle.decision.specs.Table.{decideTable}
+use Rattle.overlay_store.specs.First.{isBelow, heldBy, fullFor}
+use Rattle.event_decision.specs.Decision.{Decision, refuses, moves, begins, deletes, tags, refers, joins, ends, decide}
+use Rattle.event_decision.specs.Table.{decideTable}
 use Rattle.reader.specs.declared.Stop.{Stop}
 use Rattle.reader.specs.declared.Stop.the-variants.{Going, At}
 use Rattle.reader.specs.declared.EventAnswer.{EventAnswer}

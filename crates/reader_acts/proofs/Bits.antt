@@ -9,7 +9,7 @@ use Rattle.kind.specs.declared.Kind.{Kind}
 use Rattle.kind.specs.declared.Kind.the-variants.{Node, Way, Relation}
 use Rattle.model.specs.Record.{Meta, kindOf, claimOf}
 use Rattle.compact.specs.Held.{metaOf}
-use Rattle.values.specs.Value.{bodyIn}
+use Rattle.event_values.specs.Value.{bodyIn}
 use Rattle.reader.specs.Step.{bitsWithUser}
 
 pub claim-bits : (m : Meta Bytes) (user : ℕ) → SFits w32 (m .version) → claimOf (metaOf (bitsWithUser m user)) ≡ claimOf m

@@ -18,9 +18,9 @@ use Rattle.text_index.specs.Index.{IndexGiven}
 use Rattle.refusal.specs.declared.Refusal.the-variants.{StringsFull}
 use Rattle.model.specs.Record.{Meta, flagged}
 use Rattle.overlay.specs.Overlay.{Overlay}
-use Rattle.store.specs.Calls.{Interning, storeText}
-use Rattle.store.specs.declared.Handle.{Handle}
-use Rattle.store.specs.declared.Handle.the-variants as H
+use Rattle.overlay_store.specs.Calls.{Interning, storeText}
+use Rattle.overlay_store.specs.declared.Handle.{Handle}
+use Rattle.overlay_store.specs.declared.Handle.the-variants as H
 use Rattle.reader_acts.specs.Acts.{withUser, HandleFits, UserIs}
 
 found-below : (spans : List ℕ) (bytes t : Bytes) (n h j : ℕ) → findFrom spans bytes t n h ≡ F.At j → j < h + n

@@ -21,10 +21,10 @@ use Rattle.kind_store.specs.declared.Kept.{Kept}
 use Rattle.kind_store.specs.declared.Kept.the-variants as K
 use Rattle.overlay.specs.Overlay.{Overlay, kindStoreOf}
 use Rattle.overlay.specs.Calls.{OverlayAfter, overlayRefused}
-use Rattle.store.specs.Calls.{Interning, handleIn, storeText}
-use Rattle.store.specs.declared.Handle.{Handle}
-use Rattle.store.proofs.Answers.{store-push-refused}
-use Rattle.decision.specs.Decision.{begins, deletes, ends}
+use Rattle.overlay_store.specs.Calls.{Interning, handleIn, storeText}
+use Rattle.overlay_store.specs.declared.Handle.{Handle}
+use Rattle.overlay_store.proofs.Answers.{store-push-refused}
+use Rattle.event_decision.specs.Decision.{begins, deletes, ends}
 use Rattle.reader.specs.declared.Pending.{Pending}
 use Rattle.reader.specs.State.{State}
 use Rattle.reader.specs.Step.{Step, goes, stops, onHandle, takingUser, bitsWithUser, headFor, unlessBelow, onKept, onAfter, unlessRegression, clearsTo, stepOf}

@@ -19,11 +19,11 @@ use Rattle.kind_store.specs.declared.Kept.{Kept}
 use Rattle.kind_store.specs.declared.Kept.the-variants as K
 use Rattle.overlay.specs.Overlay.{Overlay, kindStoreOf}
 use Rattle.overlay.specs.Calls.{OverlayAfter, overlayRefused}
-use Rattle.store.specs.Calls.{storeText, storePush, storeDelete}
-use Rattle.store.specs.declared.Handle.{Handle}
-use Rattle.store.specs.declared.Handle.the-variants as H
-use Rattle.metadata.specs.Metadata.{MetadataInBounds}
-use Rattle.metadata.specs.declared.Metadata.{Metadata}
+use Rattle.overlay_store.specs.Calls.{storeText, storePush, storeDelete}
+use Rattle.overlay_store.specs.declared.Handle.{Handle}
+use Rattle.overlay_store.specs.declared.Handle.the-variants as H
+use Rattle.event_metadata.specs.Metadata.{MetadataInBounds}
+use Rattle.event_metadata.specs.declared.Metadata.{Metadata}
 use Rattle.reader.specs.declared.Pending.{Pending}
 use Rattle.reader.specs.Step.{bitsWithUser, headFor}
 use Rattle.reader_acts.specs.declared.Begun.{Begun}

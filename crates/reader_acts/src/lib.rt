@@ -9,22 +9,23 @@ ghost use Rattle.base.specs.Bytes.{Bytes};
 ghost use Rattle.model.specs.Record.{claimOf};
 ghost use Rattle.overlay.specs.Lent.{lent, left};
 ghost use Rattle.overlay.specs.Calls.{overlayRefused};
-ghost use Rattle.store.specs.Calls.{storePush};
+ghost use Rattle.overlay_store.specs.Calls.{storePush};
 ghost use Rattle.act_answer.specs.Answer.{claimAnswer};
-ghost use Rattle.values.specs.Value.{bodyIn};
-ghost use Rattle.metadata.specs.Metadata.{metaWritten};
+ghost use Rattle.event_values.specs.Value.{bodyIn};
+ghost use Rattle.event_metadata.specs.Metadata.{metaWritten};
 ghost use Rattle.reader.specs.Step.{bitsWithUser, headFor};
 ghost use Rattle.reader_acts.specs.Acts.{begunBy, beginOn, admitted, handleFor, thenUser, thenUserOn, withUser, pushEmptyOn, deleteElementOn, pushStagedOn, ActGiven, HandleFits, UserIs};
-use blocks::COUNTERS;
-use blocks::STRINGS;
 use compact::ArenaMeta;
 use compact::PushHead;
+use event_metadata::Metadata;
 use kind::Kind;
 use kind_store::Kept;
-use metadata::Metadata;
+use overlay_blocks::COUNTERS;
+use overlay_blocks::STRINGS;
+use overlay_store::Handle;
 use reader::Pending;
+use reader_stage::STAGED;
 use refusal::Refusal;
-use store::Handle;
 use version_floor::Admit;
 use version_floor::Version;
 
@@ -134,7 +135,7 @@ fn push_first(
         ≡ storePush kind head meta (take n (now (parts .entry))) (lent words bytes counters) ⌝ }
 {
     let end = little::lesser(n, parts.len());
-    store::store_push(words, bytes, counters, kind, head, meta, &parts[..end])
+    overlay_store::store_push(words, bytes, counters, kind, head, meta, &parts[..end])
 }
 
 // Pushes the element whose parts are staged: 12, 14, 15, or taken.
@@ -142,7 +143,7 @@ pub fn push_staged(
     words: &mut [u64],
     bytes: &mut [u8],
     counters: &mut [u64; COUNTERS],
-    parts: &[u8; 44432],
+    parts: &[u8; STAGED],
     kind: Kind,
     pending: Pending,
 ) -> Kept
@@ -317,7 +318,7 @@ pub fn delete_element(
 {
     match user_handle(words, bytes, counters, ix, meta, line) {
         Handle::Is(user) => {
-            let kept = store::store_delete(words, bytes, counters, kind, id, claimed(meta));
+            let kept = overlay_store::store_delete(words, bytes, counters, kind, id, claimed(meta));
             then_user(words, bytes, counters, ix, meta, line, user, kept)
         }
         Handle::Refused(r) => user_refused(words, bytes, counters, kind, id, meta, r),

@@ -9,9 +9,9 @@ use Rattle.base.proofs.Split.{both-left}
 use Rattle.refusal.specs.declared.Refusal.{Refusal}
 use Rattle.refusal.specs.declared.Refusal.the-variants as R
 use Rattle.event.specs.Event.{body}
-use Rattle.decision.specs.Decision.{decide}
-use Rattle.decide.specs.Decided.{meansDecided, DecidedInBounds}
-use Rattle.decide.specs.declared.Decided.{Decided}
+use Rattle.event_decision.specs.Decision.{decide}
+use Rattle.event_decide.specs.Decided.{meansDecided, DecidedInBounds}
+use Rattle.event_decide.specs.declared.Decided.{Decided}
 use Rattle.interner.specs.Sound.{textsOf, soundStrings}
 use Rattle.interner.proofs.Interns.{sound-of}
 use Rattle.text_index.specs.Index.{IndexGiven}

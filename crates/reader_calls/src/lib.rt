@@ -2,7 +2,7 @@
 ghost use mathlib.Core.Path.{_≡_};
 ghost use mathlib.Core.Bool.{true};
 ghost use Prim.Native.Nat.{_+_, _<_};
-ghost use Rattle.decision.specs.Decision.{decide};
+ghost use Rattle.event_decision.specs.Decision.{decide};
 ghost use Rattle.text_index.specs.Index.{IndexGiven};
 ghost use Rattle.overlay.specs.Lent.{lent};
 ghost use Rattle.reader.specs.Lent.{stateLent, stateLeft};
@@ -11,12 +11,13 @@ ghost use Rattle.reader.specs.Step.{stepOf};
 ghost use Rattle.reader.specs.Event.{stepped, eventOn, endOn};
 ghost use Rattle.reader.specs.Table.{isDone};
 ghost use Rattle.reader_calls.specs.Done.{eventDone};
-use blocks::COUNTERS;
 use nesting::Level;
+use overlay_blocks::COUNTERS;
 use reader::EventAnswer;
 use reader::EventReader;
 use reader::Stop;
 use reader_elements::Stepped;
+use reader_stage::STAGED;
 use refusal::Refusal;
 
 // ---- an event
@@ -75,7 +76,7 @@ pub fn event_going(
     bytes: &mut [u8],
     counters: &mut [u64; COUNTERS],
     ix: &[u16],
-    parts: &mut [u8; 44432],
+    parts: &mut [u8; STAGED],
     reader: EventReader,
     line: &[u8],
 ) -> EventDone
@@ -87,8 +88,8 @@ pub fn event_going(
         (stateLent words bytes counters parts reader))) ⌝ }
 {
     let place = reader.place;
-    let d = decide::decide(line, place);
-    let n = scan::body_length(line);
+    let d = event_decide::decide(line, place);
+    let n = event_scan::body_length(line);
     let t = &line[..n];
     let step = reader_step::step(words, bytes, counters, ix, parts, reader, t, d);
     event_done(reader, step)
@@ -99,7 +100,7 @@ pub fn event(
     words: &mut [u64],
     bytes: &mut [u8],
     counters: &mut [u64; COUNTERS],
-    parts: &mut [u8; 44432],
+    parts: &mut [u8; STAGED],
     reader: EventReader,
     line: &[u8],
 ) -> EventDone
@@ -139,7 +140,7 @@ pub fn end(
     words: &[u64],
     bytes: &[u8],
     counters: &[u64; COUNTERS],
-    parts: &[u8; 44432],
+    parts: &[u8; STAGED],
     reader: EventReader,
 ) -> EventAnswer
     ensures { λ r. ⌜ record { state = stateLeft words bytes counters parts reader; answer = r }

@@ -17,15 +17,15 @@ use Rattle.kind_store.specs.declared.Kept.{Kept}
 use Rattle.kind_store.specs.declared.Kept.the-variants as K
 use Rattle.overlay.specs.Overlay.{Overlay}
 use Rattle.overlay.specs.Calls.{OverlayAfter}
-use Rattle.values.specs.Value.{bodyIn}
-use Rattle.metadata.specs.Metadata.{metaWritten, MetadataInBounds}
-use Rattle.metadata.specs.declared.Metadata.{Metadata}
-use Rattle.decision.specs.Decision.{Decision, refuses, begins}
-use Rattle.decide.specs.Decided.{meansDecided}
-use Rattle.decide.specs.declared.Decided.{Decided}
-use Rattle.decide.specs.declared.Decided.the-variants as D
-use Rattle.decide.specs.declared.Beginning.{Beginning}
-use Rattle.decide.specs.declared.Deletion.{Deletion}
+use Rattle.event_values.specs.Value.{bodyIn}
+use Rattle.event_metadata.specs.Metadata.{metaWritten, MetadataInBounds}
+use Rattle.event_metadata.specs.declared.Metadata.{Metadata}
+use Rattle.event_decision.specs.Decision.{Decision, refuses, begins}
+use Rattle.event_decide.specs.Decided.{meansDecided}
+use Rattle.event_decide.specs.declared.Decided.{Decided}
+use Rattle.event_decide.specs.declared.Decided.the-variants as D
+use Rattle.event_decide.specs.declared.Beginning.{Beginning}
+use Rattle.event_decide.specs.declared.Deletion.{Deletion}
 use Rattle.reader.specs.State.{State}
 use Rattle.reader.specs.Step.{goes, stops, headFor, onAfter, clearsTo, stepOf}
 use Rattle.reader_acts.specs.Acts.{AfterBegun, beginOn, byBegun, pushEmptyOn, deleteElementOn, pushStagedOn, ActGiven}

@@ -5,9 +5,9 @@ use mathlib.Core.List.{List}
 use lib.ListN.{length}
 use Rattle.base.specs.Bytes.{Bytes}
 use Rattle.refusal.specs.declared.Refusal.the-variants.{LongLine}
-use Rattle.decision.specs.Decision.{refuses}
-use Rattle.decide.specs.Decided.{meansDecided, DecidedInBounds}
-use Rattle.decide.specs.declared.Decided.{Decided}
+use Rattle.event_decision.specs.Decision.{refuses}
+use Rattle.event_decide.specs.Decided.{meansDecided, DecidedInBounds}
+use Rattle.event_decide.specs.declared.Decided.{Decided}
 use Rattle.text_index.specs.Index.{IndexGiven}
 use Rattle.overlay.specs.Overlay.{Overlay}
 use Rattle.compact.specs.declared.PushHead.{PushHead}

@@ -3,10 +3,10 @@ ghost use mathlib.Core.Path.{_≡_};
 ghost use mir.Syntax.{w64};
 ghost use mir.Val.{toZ};
 ghost use Rattle.base.specs.Bytes.{Bytes};
-ghost use Rattle.values.specs.Value.{bodyIn};
-ghost use Rattle.metadata.specs.Metadata.{metaWritten};
-ghost use Rattle.decide.specs.Decided.{meansDecided};
-ghost use Rattle.decide.specs.declared.Decided.the-variants as D;
+ghost use Rattle.event_values.specs.Value.{bodyIn};
+ghost use Rattle.event_metadata.specs.Metadata.{metaWritten};
+ghost use Rattle.event_decide.specs.Decided.{meansDecided};
+ghost use Rattle.event_decide.specs.declared.Decided.the-variants as D;
 ghost use Rattle.overlay.specs.Lent.{lent, left};
 ghost use Rattle.reader.specs.Lent.{stateLent};
 ghost use Rattle.reader.specs.declared.EventReader.{EventReader};
@@ -14,16 +14,17 @@ ghost use Rattle.reader.specs.State.{noPending};
 ghost use Rattle.reader.specs.Step.{stepOf};
 ghost use Rattle.reader_acts.specs.Acts.{ActGiven, pushEmptyOn};
 ghost use Rattle.reader_elements.specs.Done.{StepGiven, doneBy, actStepped, beginStepped};
-use blocks::COUNTERS;
 use compact::ArenaMeta;
 use compact::PushHead;
-use decide::Beginning;
-use decide::Deletion;
+use event_decide::Beginning;
+use event_decide::Deletion;
 use kind_store::Kept;
 use nesting::Place;
+use overlay_blocks::COUNTERS;
 use reader::EventReader;
 use reader::Pending;
 use reader_acts::Begun;
+use reader_stage::STAGED;
 use refusal::Refusal;
 
 // Where the reader stands after an event and the element that it is putting together, or the event's refusal.
@@ -168,7 +169,7 @@ pub fn end(
     words: &mut [u64],
     bytes: &mut [u8],
     counters: &mut [u64; COUNTERS],
-    parts: &[u8; 44432],
+    parts: &[u8; STAGED],
     reader: EventReader,
     place: Place,
 ) -> Stepped

@@ -7,8 +7,8 @@ use lib.Seq.{drop-append-seam}
 use Rattle.base.specs.Bytes.{Bytes}
 use Rattle.base.proofs.Split.{no}
 use Rattle.refusal.specs.declared.Refusal.{Refusal}
-use Rattle.lines.specs.Lines.{linesOf, restOf}
-use Rattle.lines.proofs.Lines.{lines-joined}
+use Rattle.input_lines.specs.Lines.{linesOf, restOf}
+use Rattle.input_lines.proofs.Lines.{lines-joined}
 use Rattle.reader.specs.State.{State}
 use Rattle.reader.specs.declared.EventAnswer.the-variants as E
 use Rattle.reader.specs.Event.{EventResult, eventOn}

@@ -13,12 +13,12 @@ use lib.Seq.{slice}
 use Rattle.base.specs.Bytes.{Bytes, both}
 use Rattle.base.proofs.Split.{both-of, both-left, both-right, both-no-right, byLe}
 use Rattle.refusal.specs.declared.Refusal.the-variants as R
-use Rattle.scan.proofs.Places.{lent-is}
-use Rattle.lines.specs.Lines.{linesOf}
-use Rattle.lines.specs.Place.{lineEnd}
-use Rattle.lines.specs.declared.LineEnd.{LineEnd}
-use Rattle.lines.specs.declared.LineEnd.the-variants.{At, None}
-use Rattle.lines.proofs.Places.{NextLine, next-line, no-line, length-part}
+use Rattle.event_scan.proofs.Places.{lent-is}
+use Rattle.input_lines.specs.Lines.{linesOf}
+use Rattle.input_lines.specs.Place.{lineEnd}
+use Rattle.input_lines.specs.declared.LineEnd.{LineEnd}
+use Rattle.input_lines.specs.declared.LineEnd.the-variants.{At, None}
+use Rattle.input_lines.proofs.Places.{NextLine, next-line, no-line, length-part}
 use Rattle.compact.specs.declared.ArenaMeta.{ArenaMeta}
 use Rattle.compact.specs.declared.PushHead.{PushHead}
 use Rattle.overlay.specs.Given.{headFits, metaFits}

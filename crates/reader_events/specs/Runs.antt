@@ -4,9 +4,9 @@ use mathlib.Core.Path.{_≡_}
 use mathlib.Core.Bool.{true}
 use lib.Seq.{slice}
 use Rattle.base.specs.Bytes.{Bytes}
-use Rattle.lines.specs.Place.{lineEnd}
-use Rattle.lines.specs.declared.LineEnd.{LineEnd}
-use Rattle.lines.specs.declared.LineEnd.the-variants.{At, None}
+use Rattle.input_lines.specs.Place.{lineEnd}
+use Rattle.input_lines.specs.declared.LineEnd.{LineEnd}
+use Rattle.input_lines.specs.declared.LineEnd.the-variants.{At, None}
 use Rattle.overlay.specs.Sound.{isSound}
 use Rattle.reader.specs.State.{State, pendingSound}
 use Rattle.reader.specs.Given.{StateGiven}

@@ -7,20 +7,21 @@ ghost use Rattle.base.specs.Bytes.{all};
 ghost use Rattle.little.specs.Little.{isByte};
 ghost use Rattle.text_index.specs.Index.{IndexGiven};
 ghost use Rattle.overlay.specs.Lent.{lent};
-ghost use Rattle.lines.specs.Lines.{linesOf};
+ghost use Rattle.input_lines.specs.Lines.{linesOf};
 ghost use Rattle.reader.specs.Lent.{stateLent, stateLeft};
 ghost use Rattle.reader.specs.State.{stateSound};
 ghost use Rattle.reader.specs.Given.{StateGiven};
 ghost use Rattle.reader.specs.Event.{eventOn};
 ghost use Rattle.reader_events.specs.Events.{eventsOn, takenBytes};
 ghost use Rattle.reader_events.specs.Runs.{RunGiven, behindLine, pointOn};
-use blocks::COUNTERS;
-use lines::LineEnd;
+use input_lines::LineEnd;
+use overlay_blocks::COUNTERS;
 use reader::EventAnswer;
 use reader::EventReader;
 use reader::Stop;
 use reader_calls::EventDone;
 use reader_calls::event_going;
+use reader_stage::STAGED;
 use refusal::Refusal;
 
 // The reader after a run, what its last event answered, and how many bytes of the run were taken.
@@ -38,7 +39,7 @@ fn line_event(
     bytes: &mut [u8],
     counters: &mut [u64; COUNTERS],
     ix: &[u16],
-    ps: &mut [u8; 44432],
+    ps: &mut [u8; STAGED],
     reader: EventReader,
     line: &[u8],
 ) -> EventDone
@@ -75,7 +76,7 @@ fn next_event(
     bytes: &mut [u8],
     counters: &mut [u64; COUNTERS],
     ix: &[u16],
-    ps: &mut [u8; 44432],
+    ps: &mut [u8; STAGED],
     reader: EventReader,
     run: &[u8],
     at: usize,
@@ -87,7 +88,7 @@ fn next_event(
         ≡ pointOn (now (run .entry)) at (stateLent words bytes counters ps reader)) ⌝ }
     ensures { λ r. ⌜ r .taken ≤ length (now (run .entry)) ⌝ }
 {
-    let LineEnd::At(to) = lines::line_end(run, at) else {
+    let LineEnd::At(to) = input_lines::line_end(run, at) else {
         return EventsDone {
             reader,
             answer: EventAnswer::Accepted,
@@ -113,7 +114,7 @@ fn events_by(
     bytes: &mut [u8],
     counters: &mut [u64; COUNTERS],
     ix: &mut [u16; 8193],
-    ps: &mut [u8; 44432],
+    ps: &mut [u8; STAGED],
     reader: EventReader,
     run: &[u8],
 ) -> EventsDone
@@ -135,7 +136,7 @@ fn events_by(
     while more {
         let reader = done.reader;
         let at = done.taken;
-        store::index_texts(ix, words, bytes, counters);
+        overlay_store::index_texts(ix, words, bytes, counters);
         done = next_event(words, bytes, counters, ix, ps, reader, run, at);
         more = at < done.taken;
     }
@@ -147,7 +148,7 @@ pub fn events_untested(
     words: &mut [u64],
     bytes: &mut [u8],
     counters: &mut [u64; COUNTERS],
-    ps: &mut [u8; 44432],
+    ps: &mut [u8; STAGED],
     reader: EventReader,
     run: &[u8],
 ) -> EventsDone
@@ -168,7 +169,7 @@ pub fn events_untested(
 fn known_bytes(bytes: &[u8]) -> usize
     ensures { λ r. ⌜ all isByte (now (bytes .entry)) ≡ true ⌝ }
 {
-    little::lesser(bytes.len(), 44432)
+    little::lesser(bytes.len(), STAGED)
 }
 
 // Whether overlay and reader are sound; and what they are because they are lent.
@@ -176,7 +177,7 @@ fn state_tested(
     words: &[u64],
     bytes: &[u8],
     counters: &[u64; COUNTERS],
-    ps: &[u8; 44432],
+    ps: &[u8; STAGED],
     reader: EventReader,
 ) -> bool
     ensures { λ r. ⌜ r ≡ stateSound (stateLent words bytes counters ps reader) ⌝ }
@@ -194,7 +195,7 @@ pub fn events(
     words: &mut [u64],
     bytes: &mut [u8],
     counters: &mut [u64; COUNTERS],
-    ps: &mut [u8; 44432],
+    ps: &mut [u8; STAGED],
     reader: EventReader,
     run: &[u8],
 ) -> EventsDone
@@ -202,7 +203,7 @@ pub fn events(
         ≡ eventsOn (linesOf (now (run .entry))) (stateLent words bytes counters ps reader) ⌝ }
     ensures { λ r. ⌜ r .taken ≡ takenBytes (linesOf (now (run .entry))) (stateLent words bytes counters ps reader) ⌝ }
 {
-    let LineEnd::At(_) = lines::line_end(run, 0) else {
+    let LineEnd::At(_) = input_lines::line_end(run, 0) else {
         return EventsDone {
             reader,
             answer: EventAnswer::Accepted,

@@ -16,7 +16,7 @@ use Rattle.kind.specs.declared.Kind.the-variants as K
 use Rattle.model.specs.Record.{Member, Tag}
 use Rattle.compact.specs.Legal.{limits}
 use Rattle.compact.specs.declared.PushHead.{PushHead}
-use Rattle.stage.specs.Stage.{staged, memberPart, tagPart}
+use Rattle.reader_stage.specs.Stage.{staged, memberPart, tagPart}
 use Rattle.interner.specs.declared.Found.{Found}
 use Rattle.interner.specs.declared.Found.the-variants as F
 use Rattle.interner.specs.declared.Interned.the-variants as I
@@ -24,10 +24,10 @@ use Rattle.interner.specs.Strings.{Store, usedOf, isAt, findFrom, findIn, textR
 use Rattle.interner.proofs.Finds.{find-none, find-here, find-on}
 use Rattle.interner.proofs.Takes.{held, new, full}
 use Rattle.overlay.specs.Overlay.{Overlay}
-use Rattle.store.specs.Calls.{Interning, storeText}
-use Rattle.store.specs.declared.Handle.{Handle}
-use Rattle.store.specs.declared.Handle.the-variants as H
-use Rattle.store.proofs.Answers.{byHandle}
+use Rattle.overlay_store.specs.Calls.{Interning, storeText}
+use Rattle.overlay_store.specs.declared.Handle.{Handle}
+use Rattle.overlay_store.specs.declared.Handle.the-variants as H
+use Rattle.overlay_store.proofs.Answers.{byHandle}
 use Rattle.reader.specs.declared.Pending.{Pending}
 use Rattle.reader.specs.State.{middle, valuesIn, moreTags, moreParts}
 use Rattle.reader.specs.Step.{memberBits}

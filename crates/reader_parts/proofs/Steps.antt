@@ -11,13 +11,13 @@ use Rattle.nesting.specs.declared.Place.{Place}
 use Rattle.model.specs.Record.{Member, Tag}
 use Rattle.compact.specs.Legal.{limits}
 use Rattle.compact.specs.declared.PushHead.{PushHead}
-use Rattle.stage.specs.Stage.{refPart}
+use Rattle.reader_stage.specs.Stage.{refPart}
 use Rattle.interner.specs.declared.Interned.{Interned}
 use Rattle.interner.specs.declared.Interned.the-variants as I
 use Rattle.interner.specs.Strings.{intern}
 use Rattle.overlay.specs.Overlay.{Overlay}
-use Rattle.store.specs.Calls.{handleIn, storeText}
-use Rattle.decision.specs.Decision.{Decision, tags, refers, joins}
+use Rattle.overlay_store.specs.Calls.{handleIn, storeText}
+use Rattle.event_decision.specs.Decision.{Decision, tags, refers, joins}
 use Rattle.reader.specs.State.{State, moreParts}
 use Rattle.reader.specs.Step.{onHandle, withText, stages, partWithin, partPlace, stepOf}
 use Rattle.reader_parts.specs.Parts.{Adding, addPart, onText, addWith, addTag, addRef, addMember, childStep}

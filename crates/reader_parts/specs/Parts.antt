@@ -16,12 +16,12 @@ use Rattle.nesting.specs.declared.Place.{Place}
 use Rattle.model.specs.Record.{Member, Tag}
 use Rattle.compact.specs.Legal.{limits}
 use Rattle.compact.specs.declared.PushHead.{PushHead}
-use Rattle.stage.specs.Stage.{staged, refPart, memberPart, tagPart}
+use Rattle.reader_stage.specs.Stage.{staged, refPart, memberPart, tagPart}
 use Rattle.overlay.specs.Overlay.{Overlay}
 use Rattle.text_index.specs.Index.{IndexGiven}
-use Rattle.store.specs.Calls.{storeText}
-use Rattle.store.specs.declared.Handle.{Handle}
-use Rattle.store.specs.declared.Handle.the-variants as H
+use Rattle.overlay_store.specs.Calls.{storeText}
+use Rattle.overlay_store.specs.declared.Handle.{Handle}
+use Rattle.overlay_store.specs.declared.Handle.the-variants as H
 use Rattle.reader.specs.declared.Pending.{Pending}
 use Rattle.reader.specs.State.{middle, valuesIn, moreTags, moreParts}
 use Rattle.reader.specs.Step.{Step, goes, stops, memberBits}

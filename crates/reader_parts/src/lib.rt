@@ -4,25 +4,27 @@ ghost use Prim.Native.Nat.{_+_, _≤_, _<_};
 ghost use lib.ListN.{length};
 ghost use mir.Syntax.{w64};
 ghost use mir.Val.{toZ};
-ghost use Rattle.stage.specs.Stage.{staged, refPart, memberPart, tagPart};
-ghost use Rattle.values.specs.Value.{textAt, ExtentInBounds};
+ghost use Rattle.reader_stage.specs.Stage.{staged, refPart, memberPart, tagPart};
+ghost use Rattle.event_values.specs.Value.{textAt, ExtentInBounds};
 ghost use Rattle.text_index.specs.Index.{IndexGiven};
 ghost use Rattle.overlay.specs.Overlay.{Overlay};
 ghost use Rattle.overlay.specs.Lent.{lent, left};
-ghost use Rattle.store.specs.Calls.{storeText};
+ghost use Rattle.overlay_store.specs.Calls.{storeText};
 ghost use Rattle.reader.specs.State.{middle, valuesIn, moreTags, moreParts};
 ghost use Rattle.reader_parts.specs.Parts.{ChildGiven, tagFits, partFits, refusalOver, pendingWith, addTag, addRef, addMember};
 ghost use Rattle.reader_parts.specs.declared.Added.the-variants as added;
-use blocks::COUNTERS;
 use compact::CompactMember;
 use compact::PushHead;
-use decide::NewMember;
-use decide::NewTag;
+use event_decide::NewMember;
+use event_decide::NewTag;
+use event_scan::MAX_LINE;
+use event_values::Extent;
 use kind::Kind;
+use overlay_blocks::COUNTERS;
+use overlay_store::Handle;
 use reader::Pending;
+use reader_stage::STAGED;
 use refusal::Refusal;
-use store::Handle;
-use values::Extent;
 
 // What a child is answered: the element with it, or a refusal.
 pub enum Added {
@@ -102,7 +104,7 @@ fn with_tag(parts: &mut [u8], pending: Pending, key: u64, value: &[u8]) -> Pendi
         × (r ≡ pendingWith (moreTags (pending .head)) (tagPart key (now (value .entry))) pending)) ⌝ }
 {
     let used = little::lesser(pending.used, parts.len());
-    stage::stage_tag(parts, used, little::narrow(key), value);
+    reader_stage::stage_tag(parts, used, little::narrow(key), value);
     let mut head = pending.head;
     head.tags += 1;
     let meta = pending.meta;
@@ -132,7 +134,7 @@ fn with_ref(parts: &mut [u8], kind: Kind, pending: Pending, reference: u64) -> P
 {
     let used = little::lesser(pending.used, parts.len());
     let head = pending.head;
-    stage::stage_ref(parts, used, middle_size(kind, head.count), reference);
+    reader_stage::stage_ref(parts, used, middle_size(kind, head.count), reference);
     with_part(pending, used + 8)
 }
 
@@ -144,7 +146,7 @@ fn with_member(parts: &mut [u8], kind: Kind, pending: Pending, member: CompactMe
 {
     let used = little::lesser(pending.used, parts.len());
     let head = pending.head;
-    stage::stage_member(parts, used, middle_size(kind, head.count), member);
+    reader_stage::stage_member(parts, used, middle_size(kind, head.count), member);
     with_part(pending, used + 13)
 }
 
@@ -192,9 +194,9 @@ fn tag_resolved(
         → record { overlay = left words bytes counters; parts = now (parts .exit); answer = r }
         ≡ addTag kind pending (record { key = textAt (now (line .entry)) (tag .key); value = textAt (now (line .entry)) (tag .value) }) (now (parts .entry)) (lent words bytes counters)) ⌝ }
 {
-    let mut room = [0u8; 16384];
+    let mut room = [0u8; MAX_LINE];
     let n = reader_texts::text_into(&mut room, line, tag.value);
-    let end = little::lesser(n, 16384);
+    let end = little::lesser(n, MAX_LINE);
     tag_with(
         words,
         bytes,
@@ -215,7 +217,7 @@ pub fn add_tag(
     bytes: &mut [u8],
     counters: &mut [u64; COUNTERS],
     ix: &[u16],
-    parts: &mut [u8; 44432],
+    parts: &mut [u8; STAGED],
     kind: Kind,
     pending: Pending,
     line: &[u8],
@@ -229,7 +231,7 @@ pub fn add_tag(
     let to = little::lesser(value.to, line.len());
     let from = little::lesser(value.from, to);
     let text = &line[from..to];
-    if scan::lacks(text, b'\\') {
+    if event_scan::lacks(text, b'\\') {
         return tag_with(
             words,
             bytes,
@@ -249,7 +251,7 @@ pub fn add_tag(
 // ---- a ref and a member
 
 // A ref more: 16, or the ref staged. It leaves an overlay as it is.
-pub fn add_ref(parts: &mut [u8; 44432], kind: Kind, pending: Pending, reference: u64) -> Added
+pub fn add_ref(parts: &mut [u8; STAGED], kind: Kind, pending: Pending, reference: u64) -> Added
     ensures { λ r. ⌜ ((o : Overlay) → pending .used ≤ length (now (parts .entry))
         → record { overlay = o; parts = now (parts .exit); answer = r } ≡ addRef kind pending (toZ w64 reference) (now (parts .entry)) o) ⌝ }
 {
@@ -265,7 +267,7 @@ pub fn add_member(
     bytes: &mut [u8],
     counters: &mut [u64; COUNTERS],
     ix: &[u16],
-    parts: &mut [u8; 44432],
+    parts: &mut [u8; STAGED],
     kind: Kind,
     pending: Pending,
     line: &[u8],

@@ -9,7 +9,7 @@ use Rattle.refusal.specs.declared.Refusal.the-variants as R
 use Rattle.nesting.specs.declared.Place.{Place}
 use Rattle.event.specs.Event.{body}
 use Rattle.event.proofs.Events.{judged-long}
-use Rattle.decision.specs.Decision.{Decision, refuses, decideReading, decide}
+use Rattle.event_decision.specs.Decision.{Decision, refuses, decideReading, decide}
 
 pub short-line : (line : Bytes) (p : Place) → (decide line p ≡ refuses R.LongLine → ⊥) → length (body line) ≤ 16384
 unfolding decide

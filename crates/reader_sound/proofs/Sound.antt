@@ -10,8 +10,8 @@ use Rattle.base.proofs.Split.{both-left, both-right}
 use Rattle.kind.specs.declared.Kind.{Kind}
 use Rattle.compact.specs.Cut.{pushedRecord}
 use Rattle.compact.specs.Held.{metaOf, headIn}
-use Rattle.legal.specs.Judge.{faultFor}
-use Rattle.legal.specs.declared.Fault.{Fault}
+use Rattle.compact_legal.specs.Judge.{faultFor}
+use Rattle.compact_legal.specs.declared.Fault.{Fault}
 use Rattle.overlay.specs.Sound.{isSound}
 use Rattle.reader.proofs.Acts.{strings-few}
 use Rattle.reader.specs.declared.Pending.{Pending}

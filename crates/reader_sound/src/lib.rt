@@ -3,15 +3,16 @@ ghost use mathlib.Core.Path.{_≡_};
 ghost use Rattle.reader.specs.Lent.{stateLent};
 ghost use Rattle.reader.specs.State.{stopsBy, pendingSound, stateSound};
 ghost use Rattle.reader_sound.specs.Mark.{stopMark};
-use blocks::COUNTERS;
-use blocks::STRINGS;
 use compact::ArenaMeta;
 use compact::PushHead;
+use compact_legal::Fault;
 use kind::Kind;
-use legal::Fault;
+use overlay_blocks::COUNTERS;
+use overlay_blocks::STRINGS;
 use reader::EventReader;
 use reader::Pending;
 use reader::Stop;
+use reader_stage::STAGED;
 use refusal::Refusal;
 
 // Whether the staged parts lie within the lent bytes, and the push that they will make passes 17, 3, 10 and 16.
@@ -22,7 +23,7 @@ fn pending_sound(strings: u64, kind: Kind, parts: &[u8], pending: Pending) -> bo
     if used <= parts.len() {
         let head = pending.head;
         let meta = pending.meta;
-        return match legal::push_fault(kind, head, meta, &parts[..used], strings) {
+        return match compact_legal::push_fault(kind, head, meta, &parts[..used], strings) {
             Fault::Legal => true,
             Fault::Refused(_) => false,
         };
@@ -35,7 +36,7 @@ pub fn state_sound(
     words: &[u64],
     bytes: &[u8],
     counters: &[u64; COUNTERS],
-    parts: &[u8; 44432],
+    parts: &[u8; STAGED],
     reader: EventReader,
 ) -> bool
     ensures { λ r. ⌜ r ≡ stateSound (stateLent words bytes counters parts reader) ⌝ }

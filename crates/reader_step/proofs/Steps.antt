@@ -11,14 +11,14 @@ use Rattle.refusal.specs.declared.Refusal.{Refusal}
 use Rattle.refusal.specs.declared.Refusal.the-variants.{LongLine}
 use Rattle.nesting.specs.declared.Place.{Place}
 use Rattle.overlay.specs.Overlay.{Overlay}
-use Rattle.values.specs.Value.{textAt, ExtentInBounds}
-use Rattle.decision.specs.Decision.{Decision, refuses}
-use Rattle.decide.specs.Decided.{meansDecided}
-use Rattle.decide.specs.declared.Decided.{Decided}
-use Rattle.decide.specs.declared.Decided.the-variants as D
-use Rattle.decide.specs.declared.NewTag.{NewTag}
-use Rattle.decide.specs.declared.NewRef.{NewRef}
-use Rattle.decide.specs.declared.NewMember.{NewMember}
+use Rattle.event_values.specs.Value.{textAt, ExtentInBounds}
+use Rattle.event_decision.specs.Decision.{Decision, refuses}
+use Rattle.event_decide.specs.Decided.{meansDecided}
+use Rattle.event_decide.specs.declared.Decided.{Decided}
+use Rattle.event_decide.specs.declared.Decided.the-variants as D
+use Rattle.event_decide.specs.declared.NewTag.{NewTag}
+use Rattle.event_decide.specs.declared.NewRef.{NewRef}
+use Rattle.event_decide.specs.declared.NewMember.{NewMember}
 use Rattle.reader.specs.State.{State}
 use Rattle.reader.specs.Step.{stepOf}
 use Rattle.reader_parts.specs.Parts.{ChildGiven, Adding, addTag, addRef, addMember, stepAs}

@@ -3,26 +3,27 @@ ghost use mathlib.Core.Path.{_≡_};
 ghost use mathlib.Core.List.{List};
 ghost use Prim.Native.Nat.{ℕ};
 ghost use Rattle.base.specs.Bytes.{Bytes};
-ghost use Rattle.decide.specs.Decided.{meansDecided};
-ghost use Rattle.decide.specs.declared.Decided.the-variants as D;
+ghost use Rattle.event_decide.specs.Decided.{meansDecided};
+ghost use Rattle.event_decide.specs.declared.Decided.the-variants as D;
 ghost use Rattle.overlay.specs.Overlay.{Overlay};
 ghost use Rattle.overlay.specs.Lent.{left};
 ghost use Rattle.reader.specs.Lent.{stateLent};
 ghost use Rattle.reader.specs.Step.{stepOf};
 ghost use Rattle.reader_elements.specs.Done.{StepGiven, doneBy};
 ghost use Rattle.reader_step.specs.Child.{childStepped};
-use blocks::COUNTERS;
-use decide::Decided;
-use decide::NewMember;
-use decide::NewRef;
-use decide::NewTag;
+use event_decide::Decided;
+use event_decide::NewMember;
+use event_decide::NewRef;
+use event_decide::NewTag;
 use nesting::Place;
+use overlay_blocks::COUNTERS;
 use reader::EventReader;
 use reader_elements::Stepped;
 use reader_elements::begin;
 use reader_elements::delete;
 use reader_elements::end;
 use reader_parts::Added;
+use reader_stage::STAGED;
 
 // ---- children
 
@@ -40,7 +41,7 @@ fn tag(
     bytes: &mut [u8],
     counters: &mut [u64; COUNTERS],
     ix: &[u16],
-    parts: &mut [u8; 44432],
+    parts: &mut [u8; STAGED],
     reader: EventReader,
     line: &[u8],
     t: NewTag,
@@ -56,7 +57,7 @@ fn tag(
     added(place, answer)
 }
 
-fn refer(parts: &mut [u8; 44432], reader: EventReader, to: NewRef) -> Stepped
+fn refer(parts: &mut [u8; STAGED], reader: EventReader, to: NewRef) -> Stepped
     ensures { λ r. ⌜ ((ix : List ℕ) (line : Bytes) (o : Overlay) → StepGiven ix line (D.Refers to) (record { overlay = o; reader = reader; parts = now (parts .entry) })
         → record { overlay = o; parts = now (parts .exit); answer = r }
         ≡ doneBy (record { overlay = o; reader = reader; parts = now (parts .entry) })
@@ -75,7 +76,7 @@ fn join(
     bytes: &mut [u8],
     counters: &mut [u64; COUNTERS],
     ix: &[u16],
-    parts: &mut [u8; 44432],
+    parts: &mut [u8; STAGED],
     reader: EventReader,
     line: &[u8],
     m: NewMember,
@@ -109,7 +110,7 @@ pub fn step(
     bytes: &mut [u8],
     counters: &mut [u64; COUNTERS],
     ix: &[u16],
-    parts: &mut [u8; 44432],
+    parts: &mut [u8; STAGED],
     reader: EventReader,
     line: &[u8],
     decided: Decided,

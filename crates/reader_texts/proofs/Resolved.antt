@@ -15,11 +15,11 @@ use Rattle.little.specs.Little.{over}
 use Rattle.little.proofs.Overs.{read-back}
 use Rattle.text.specs.Escape.{byteBefore, meaning, unescapeFrom}
 use Rattle.event.specs.Event.{orEmpty}
-use Rattle.scan.specs.Piece.{valueText}
-use Rattle.scan.proofs.Places.{lent-is}
-use Rattle.scan.proofs.Pieces.{text-bare}
-use Rattle.values.specs.Value.{textAt, ExtentInBounds}
-use Rattle.values.specs.declared.Extent.{Extent}
+use Rattle.event_scan.specs.Piece.{valueText}
+use Rattle.event_scan.proofs.Places.{lent-is}
+use Rattle.event_scan.proofs.Pieces.{text-bare}
+use Rattle.event_values.specs.Value.{textAt, ExtentInBounds}
+use Rattle.event_values.specs.declared.Extent.{Extent}
 
 -- ---- a text is no longer than the value that writes it
 

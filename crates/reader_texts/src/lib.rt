@@ -4,13 +4,14 @@ ghost use mathlib.Core.Path.{_≡_};
 ghost use Prim.Native.Nat.{_≤_};
 ghost use lib.ListN.{length};
 ghost use Rattle.little.specs.Little.{over};
-ghost use Rattle.values.specs.Value.{textAt, ExtentInBounds};
+ghost use Rattle.event_values.specs.Value.{textAt, ExtentInBounds};
 ghost use Rattle.text_index.specs.Index.{IndexGiven};
 ghost use Rattle.overlay.specs.Lent.{lent, left};
-ghost use Rattle.store.specs.Calls.{storeText};
-use blocks::COUNTERS;
-use store::Handle;
-use values::Extent;
+ghost use Rattle.overlay_store.specs.Calls.{storeText};
+use event_scan::MAX_LINE;
+use event_values::Extent;
+use overlay_blocks::COUNTERS;
+use overlay_store::Handle;
 
 // The text of an extent at the start of what is lent, as far as there is room; its whole length is answered.
 pub fn text_into(out: &mut [u8], line: &[u8], at: Extent) -> usize
@@ -19,7 +20,7 @@ pub fn text_into(out: &mut [u8], line: &[u8], at: Extent) -> usize
 {
     let to = little::lesser(at.to, line.len());
     let from = little::lesser(at.from, to);
-    scan::unescape_into(out, &line[from..to])
+    event_scan::unescape_into(out, &line[from..to])
 }
 
 // ---- a text taken in
@@ -37,10 +38,10 @@ fn take_resolved(
         → IndexGiven (now (ix .entry)) (lent words bytes counters .texts)
         → record { overlay = left words bytes counters; answer = r } ≡ storeText (textAt (now (line .entry)) at) (lent words bytes counters)) ⌝ }
 {
-    let mut room = [0u8; 16384];
+    let mut room = [0u8; MAX_LINE];
     let n = text_into(&mut room, line, at);
-    let end = little::lesser(n, 16384);
-    store::store_text_by(words, bytes, counters, ix, &room[..end])
+    let end = little::lesser(n, MAX_LINE);
+    overlay_store::store_text_by(words, bytes, counters, ix, &room[..end])
 }
 
 // Takes the text of an extent in: 13, or its handle.
@@ -59,8 +60,8 @@ pub fn take_text(
     let to = little::lesser(at.to, line.len());
     let from = little::lesser(at.from, to);
     let text = &line[from..to];
-    if scan::lacks(text, b'\\') {
-        return store::store_text_by(words, bytes, counters, ix, text);
+    if event_scan::lacks(text, b'\\') {
+        return overlay_store::store_text_by(words, bytes, counters, ix, text);
     }
     take_resolved(words, bytes, counters, ix, line, at)
 }
@@ -80,10 +81,10 @@ fn handle_resolved(
         → IndexGiven (now (ix .entry)) (lent words bytes counters .texts)
         → r ≡ storeText (textAt (now (line .entry)) at) (lent words bytes counters) .answer) ⌝ }
 {
-    let mut room = [0u8; 16384];
+    let mut room = [0u8; MAX_LINE];
     let n = text_into(&mut room, line, at);
-    let end = little::lesser(n, 16384);
-    store::handle_by(words, bytes, counters, ix, &room[..end])
+    let end = little::lesser(n, MAX_LINE);
+    overlay_store::handle_by(words, bytes, counters, ix, &room[..end])
 }
 
 // What the text of an extent would be answered, with nothing taken in: 13, or the handle that it has or would get.
@@ -102,8 +103,8 @@ pub fn text_handle(
     let to = little::lesser(at.to, line.len());
     let from = little::lesser(at.from, to);
     let text = &line[from..to];
-    if scan::lacks(text, b'\\') {
-        return store::handle_by(words, bytes, counters, ix, text);
+    if event_scan::lacks(text, b'\\') {
+        return overlay_store::handle_by(words, bytes, counters, ix, text);
     }
     handle_resolved(words, bytes, counters, ix, line, at)
 }

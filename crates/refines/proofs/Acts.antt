@@ -28,10 +28,10 @@ use Rattle.model.specs.Record.{flagged, claimOf}
 use Rattle.compact.specs.Layout.{headLen}
 use Rattle.compact.specs.Held.{metaOf}
 use Rattle.compact.specs.View.{metaAt}
-use Rattle.append.proofs.Joins as Joins
-use Rattle.append.proofs.Writes.{fits-is}
-use Rattle.table.specs.declared.Row.{Row}
-use Rattle.table.proofs.Maps.{find-put-same, find-put-other}
+use Rattle.compact_append.proofs.Joins as Joins
+use Rattle.compact_append.proofs.Writes.{fits-is}
+use Rattle.kind_table.specs.declared.Row.{Row}
+use Rattle.kind_table.proofs.Maps.{find-put-same, find-put-other}
 use Rattle.kind_store.specs.KindStore.{KindStore, isLive, gone, versionAt, liveVersion, knownOf, knownVersion, floorOf, floorAfter, checked, pushed, deleted}
 use Rattle.kind_store.specs.WellFormed.{rowsIn, WellFormed}
 use Rattle.kind_store.specs.declared.Kept.the-variants.{Taken}

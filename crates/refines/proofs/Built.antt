@@ -18,15 +18,15 @@ use Rattle.base.proofs.Lists.{all-cons, all-head, all-tail}
 use Rattle.osm_id.specs.Order.{before, rank, idOf}
 use Rattle.osm_id.proofs.Orders.{id-rank, rank-before, rank-injective, rank-fits, rank-id, id-fits}
 use Rattle.compact.specs.Fits.{fitsSigned}
-use Rattle.table.specs.declared.Row.{Row}
-use Rattle.table.specs.Rows.{risingFrom, rising, find, put}
-use Rattle.table.proofs.Maps.{find-same, find-other, find-rank, find-passes, put-nil, put-before, put-behind, find-put, rising-put, rising-same}
+use Rattle.kind_table.specs.declared.Row.{Row}
+use Rattle.kind_table.specs.Rows.{risingFrom, rising, find, put}
+use Rattle.kind_table.proofs.Maps.{find-same, find-other, find-rank, find-passes, put-nil, put-before, put-behind, find-put, rising-put, rising-same}
 use Rattle.kind_store.specs.KindStore.{KindStore, isLive}
 use Rattle.kind_store.specs.WellFormed.{rowsIn}
-use Rattle.listed.specs.declared.Side.{Side}
-use Rattle.listed.specs.declared.Side.the-variants.{Live, Deleted}
-use Rattle.listed.specs.Listed.{rowsOn}
-use Rattle.listed.proofs.Lists.{on-rising, ifOn, find-on}
+use Rattle.kind_reading.specs.declared.Side.{Side}
+use Rattle.kind_reading.specs.declared.Side.the-variants.{Live, Deleted}
+use Rattle.kind_reading.specs.Listed.{rowsOn}
+use Rattle.kind_reading.proofs.Lists.{on-rising, ifOn, find-on}
 use Rattle.listing.specs.Table.{isRank}
 use Rattle.published.specs.Std.{is-lt, Entry, HashMap, get, HashSet, contains}
 use Rattle.published.specs.OsmId.{osm-id-cmp}

@@ -21,26 +21,26 @@ use Rattle.model.proofs.Swaps.{body-kind}
 use Rattle.compact.specs.Cut.{KeptRecord}
 use Rattle.compact.specs.Fits.{fitsKept}
 use Rattle.compact.specs.Legal.{legal}
-use Rattle.legal.specs.Whole.{recordAt}
-use Rattle.legal.proofs.Starts.{record-passes}
-use Rattle.table.specs.declared.Row.{Row}
-use Rattle.table.specs.Rows.{find}
-use Rattle.table.proofs.Maps.{find-passes}
+use Rattle.compact_legal.specs.Whole.{recordAt}
+use Rattle.compact_legal.proofs.Starts.{record-passes}
+use Rattle.kind_table.specs.declared.Row.{Row}
+use Rattle.kind_table.specs.Rows.{find}
+use Rattle.kind_table.proofs.Maps.{find-passes}
 use Rattle.kind_store.specs.KindStore.{isLive}
 use Rattle.kind_store.specs.WellFormed.{rowsIn}
-use Rattle.sound.specs.Sound.{soundRow}
-use Rattle.listed.specs.declared.Side.the-variants.{Live}
-use Rattle.listed.proofs.Views.{view-is, view-bytes}
+use Rattle.kind_sound.specs.Sound.{soundRow}
+use Rattle.kind_reading.specs.declared.Side.the-variants.{Live}
+use Rattle.kind_reading.proofs.Views.{view-is, view-bytes}
 use Rattle.listing.specs.Table.{isRank}
 use Rattle.listing.proofs.Rows.{row-starts, record-kind}
 use Rattle.overlay.specs.Overlay.{Overlay, kindStoreOf}
 use Rattle.overlay.specs.Given.{InBytes}
 use Rattle.overlay.specs.Sound.{Sound}
 use Rattle.overlay.proofs.Decides.{decides}
-use Rattle.reading.specs.Reading.{knownOn, textOn, getOn, viewIn}
-use Rattle.reading.proofs.Records.{live-view, deleted-reads, unknown-reads}
-use Rattle.reading.proofs.Numbers.{record-get, id-signed}
-use Rattle.reading.proofs.Texts.{text-is, text-bytes, text-missing}
+use Rattle.overlay_reading.specs.Reading.{knownOn, textOn, getOn, viewIn}
+use Rattle.overlay_reading.proofs.Records.{live-view, deleted-reads, unknown-reads}
+use Rattle.overlay_reading.proofs.Numbers.{record-get, id-signed}
+use Rattle.overlay_reading.proofs.Texts.{text-is, text-bytes, text-missing}
 use Rattle.reader.proofs.Steps.{empty-text}
 use Rattle.calls.specs.Ask.{Ask, Storage, started, storageAfter, askFits}
 use Rattle.calls.proofs.Reflects.{Reflects}

@@ -22,7 +22,7 @@ use Rattle.compact.specs.Held.{metaOf, headIn, nodeHead}
 use Rattle.compact.specs.declared.ArenaMeta.{ArenaMeta}
 use Rattle.compact.specs.declared.PushHead.{PushHead}
 use Rattle.compact.proofs.Cuts.{pushed}
-use Rattle.legal.proofs.Laws.{push-legal}
+use Rattle.compact_legal.proofs.Laws.{push-legal}
 use Rattle.interner.specs.Texts.{handleOf, takeIn}
 use Rattle.interner.specs.Sound.{textsOf}
 use Rattle.kind_store.specs.KindStore.{takenIn}
@@ -39,11 +39,11 @@ use Rattle.overlay.proofs.Bounds.{id-given, meta-given}
 use Rattle.overlay.proofs.Keeps.{allow-sound, allow-bytes}
 use Rattle.overlay.proofs.KindStores.{setting-kind-store}
 use Rattle.overlay.proofs.Tiles.{sized-arena}
-use Rattle.store.specs.Calls.{bytesOf, storePush, storeDelete}
-use Rattle.store.specs.declared.Handle.the-variants as H
-use Rattle.direct.specs.Calls.{pushOn, deleteOn, internOn}
-use Rattle.direct.proofs.Answers.{byFault, push-store, push-taken, push-refusal, delete-store, delete-taken, delete-refusal}
-use Rattle.direct.proofs.Keeps.{push-kept, push-sound, push-bytes, delete-sound, delete-bytes, intern-kept, intern-sound, intern-bytes, intern-kind-store, intern-setting}
+use Rattle.overlay_store.specs.Calls.{bytesOf, storePush, storeDelete}
+use Rattle.overlay_store.specs.declared.Handle.the-variants as H
+use Rattle.overlay_direct.specs.Calls.{pushOn, deleteOn, internOn}
+use Rattle.overlay_direct.proofs.Answers.{byFault, push-store, push-taken, push-refusal, delete-store, delete-taken, delete-refusal}
+use Rattle.overlay_direct.proofs.Keeps.{push-kept, push-sound, push-bytes, delete-sound, delete-bytes, intern-kept, intern-sound, intern-bytes, intern-kind-store, intern-setting}
 use Rattle.calls.proofs.Rows.{well-formed-sound}
 use Rattle.published.specs.Std.{Result, Ok, Err}
 use Rattle.published.specs.Compact.{refs-appended, members-appended, append-tags}

@@ -14,12 +14,12 @@ use Rattle.compact.specs.Held.{metaOf}
 use Rattle.kind_store.specs.declared.Kept.{Kept}
 use Rattle.overlay.specs.First.{keptBy, allowTable}
 use Rattle.overlay.proofs.First.{allow-first}
-use Rattle.store.specs.First.{handleRefusal}
-use Rattle.store.specs.declared.Handle.{Handle}
-use Rattle.store.specs.declared.Handle.the-variants as H
-use Rattle.direct.specs.First.{pushTable, deleteTable}
-use Rattle.direct.specs.Calls.{internOn}
-use Rattle.direct.proofs.First.{intern-first, push-first, delete-first}
+use Rattle.overlay_store.specs.First.{handleRefusal}
+use Rattle.overlay_store.specs.declared.Handle.{Handle}
+use Rattle.overlay_store.specs.declared.Handle.the-variants as H
+use Rattle.overlay_direct.specs.First.{pushTable, deleteTable}
+use Rattle.overlay_direct.specs.Calls.{internOn}
+use Rattle.overlay_direct.proofs.First.{intern-first, push-first, delete-first}
 use Rattle.reader.specs.declared.EventAnswer.{EventAnswer}
 use Rattle.reader.specs.Table.{RefusalAt, answerBy, eventTable, endTable}
 use Rattle.reader.proofs.Tables.{event-first, end-first}

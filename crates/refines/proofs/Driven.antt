@@ -23,9 +23,9 @@ use Rattle.nesting.specs.declared.Level.the-variants as L
 use Rattle.nesting.specs.declared.Place.{Place}
 use Rattle.model.specs.Record.{Member, Tag, Body, place, refs, members, kindOf}
 use Rattle.event.specs.Event.{Attr, Event, starts, closes, others, valueOf, orEmpty}
-use Rattle.field.specs.Field.{got, andThen, idField, metadataOf, bodyFor, memberOf, latitude, longitude, integerField}
-use Rattle.field.specs.Field as F
-use Rattle.decision.specs.Decision.{begins, deletes, tags, refers, joins, onField, pushBegins, deleteBegins, elementBegins, unlessDelete, decideOpened, decideClosed, decideEvent}
+use Rattle.event_fields.specs.Field.{got, andThen, idField, metadataOf, bodyFor, memberOf, latitude, longitude, integerField}
+use Rattle.event_fields.specs.Field as F
+use Rattle.event_decision.specs.Decision.{begins, deletes, tags, refers, joins, onField, pushBegins, deleteBegins, elementBegins, unlessDelete, decideOpened, decideClosed, decideEvent}
 use Rattle.published.specs.Std.{Result, Ok, Err, ElementKind, from-name}
 use Rattle.published.specs.Std as O
 use Rattle.published.specs.Compact as C

@@ -11,14 +11,14 @@ use Rattle.base.specs.Bytes.{both}
 use Rattle.base.proofs.Split.{byBool}
 use Rattle.kind.specs.declared.Kind.{Kind}
 use Rattle.kind.specs.declared.Kind.the-variants as K
-use Rattle.listed.specs.declared.Side.the-variants.{Live, Deleted}
+use Rattle.kind_reading.specs.declared.Side.the-variants.{Live, Deleted}
 use Rattle.listing.specs.Table.{Ranked}
 use Rattle.overlay.specs.Overlay.{Overlay, kindStoreOf}
 use Rattle.overlay.specs.Given.{InBytes}
 use Rattle.overlay.specs.Sound.{Sound}
 use Rattle.overlay.proofs.Decides.{decides}
-use Rattle.reading.specs.Reading.{yes, noIds, isEmptyOn}
-use Rattle.reading.proofs.Numbers.{counts-all}
+use Rattle.overlay_reading.specs.Reading.{yes, noIds, isEmptyOn}
+use Rattle.overlay_reading.proofs.Numbers.{counts-all}
 use Rattle.published.specs.Std.{is-lt, Entry}
 use Rattle.published.specs.OsmId.{osm-id-cmp}
 use Rattle.published.specs.Parse.{KindFields, CompactDiffOverlay, no-entries, no-ids, is-empty}

@@ -24,16 +24,16 @@ use Rattle.nesting.specs.declared.Level.the-variants as L
 use Rattle.nesting.specs.declared.Place.{Place}
 use Rattle.event.specs.Event.{Reading, eventOf}
 use Rattle.event.specs.Event as Line
-use Rattle.decision.specs.Decision.{decide, decideReading}
-use Rattle.decision.proofs.Lawful.{decide-lawful}
+use Rattle.event_decision.specs.Decision.{decide, decideReading}
+use Rattle.event_decision.proofs.Lawful.{decide-lawful}
 use Rattle.model.specs.Record.{Meta, claimOf}
 use Rattle.compact.specs.Cut.{pushedRecord}
 use Rattle.compact.specs.Held.{metaOf, headIn}
 use Rattle.compact.specs.declared.ArenaMeta.{ArenaMeta}
 use Rattle.compact.specs.declared.PushHead.{PushHead}
 use Rattle.interner.proofs.Interns.{sound-parts}
-use Rattle.table.specs.Rows.{find}
-use Rattle.table.specs.Words.{rowsFrom, rowsOf}
+use Rattle.kind_table.specs.Rows.{find}
+use Rattle.kind_table.specs.Words.{rowsFrom, rowsOf}
 use Rattle.kind_store.specs.KindStore.{KindStore}
 use Rattle.kind_store.specs.declared.Kept.{Kept}
 use Rattle.kind_store.specs.declared.Kept.the-variants as Kept
@@ -43,14 +43,14 @@ use Rattle.overlay.specs.Given.{InBytes}
 use Rattle.overlay.specs.Calls.{allowOn}
 use Rattle.overlay.proofs.Answers.{byKept, is-taken, allow-refused, allow-22-only, allow-taken}
 use Rattle.overlay.proofs.Decides.{decides}
-use Rattle.store.specs.declared.Handle.{Handle}
-use Rattle.store.specs.declared.Handle.the-variants as H
-use Rattle.store.specs.Calls.{bytesOf}
-use Rattle.store.proofs.Answers.{byHandle, byPushed, byDeleted}
-use Rattle.store.proofs.Keeps.{grown}
-use Rattle.direct.specs.Calls.{internOn, pushOn, deleteOn}
-use Rattle.direct.proofs.Answers.{byFault, push-refused, push-refusal, delete-refused, delete-refusal, intern-refused, intern-refusal}
-use Rattle.direct.proofs.Keeps.{intern-kept, push-texts, delete-texts}
+use Rattle.overlay_store.specs.declared.Handle.{Handle}
+use Rattle.overlay_store.specs.declared.Handle.the-variants as H
+use Rattle.overlay_store.specs.Calls.{bytesOf}
+use Rattle.overlay_store.proofs.Answers.{byHandle, byPushed, byDeleted}
+use Rattle.overlay_store.proofs.Keeps.{grown}
+use Rattle.overlay_direct.specs.Calls.{internOn, pushOn, deleteOn}
+use Rattle.overlay_direct.proofs.Answers.{byFault, push-refused, push-refusal, delete-refused, delete-refusal, intern-refused, intern-refusal}
+use Rattle.overlay_direct.proofs.Keeps.{intern-kept, push-texts, delete-texts}
 use Rattle.reader.specs.State.{readerSound, stopsBy, State, stateSound, isStopped}
 use Rattle.reader.specs.Given.{StateGiven}
 use Rattle.reader.specs.Step.{Step}

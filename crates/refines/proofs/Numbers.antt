@@ -17,33 +17,33 @@ use Rattle.kind.specs.declared.Kind.{Kind}
 use Rattle.kind.specs.declared.Kind.the-variants as K
 use Rattle.osm_id.specs.Order.{rank, idOf}
 use Rattle.refusal.specs.declared.Refusal.the-variants as R
-use Rattle.legal.specs.Judge.{recordEnd}
-use Rattle.legal.specs.Whole.{keptBytes}
-use Rattle.legal.specs.declared.End.{End}
-use Rattle.legal.specs.declared.End.the-variants as E
-use Rattle.table.specs.declared.Row.{Row}
-use Rattle.table.specs.Rows.{rising, find}
-use Rattle.table.proofs.Maps.{find-row}
-use Rattle.table.proofs.Tables.{sound-rises}
+use Rattle.compact_legal.specs.Judge.{recordEnd}
+use Rattle.compact_legal.specs.Whole.{keptBytes}
+use Rattle.compact_legal.specs.declared.End.{End}
+use Rattle.compact_legal.specs.declared.End.the-variants as E
+use Rattle.kind_table.specs.declared.Row.{Row}
+use Rattle.kind_table.specs.Rows.{rising, find}
+use Rattle.kind_table.proofs.Maps.{find-row}
+use Rattle.kind_table.proofs.Tables.{sound-rises}
 use Rattle.kind_store.specs.KindStore.{KindStore, isLive}
 use Rattle.kind_store.specs.WellFormed.{rowsIn}
-use Rattle.sound.specs.Sound.{SoundKindStore}
-use Rattle.listed.specs.declared.Side.{Side}
-use Rattle.listed.specs.declared.Side.the-variants.{Live, Deleted}
-use Rattle.listed.specs.declared.View.{View}
-use Rattle.listed.specs.declared.View.the-variants as view
-use Rattle.listed.specs.Listed.{rowsRead, rowsOn, nth, viewTo, viewAt}
-use Rattle.listed.proofs.Lists.{rows-all, on-rising, on-found, nth-at, missing-is}
-use Rattle.listed.proofs.Views.{part-used, view-within}
+use Rattle.kind_sound.specs.Sound.{SoundKindStore}
+use Rattle.kind_reading.specs.declared.Side.{Side}
+use Rattle.kind_reading.specs.declared.Side.the-variants.{Live, Deleted}
+use Rattle.kind_reading.specs.declared.View.{View}
+use Rattle.kind_reading.specs.declared.View.the-variants as view
+use Rattle.kind_reading.specs.Listed.{rowsRead, rowsOn, nth, viewTo, viewAt}
+use Rattle.kind_reading.proofs.Lists.{rows-all, on-rising, on-found, nth-at, missing-is}
+use Rattle.kind_reading.proofs.Views.{part-used, view-within}
 use Rattle.listing.specs.Table.{Ranked}
 use Rattle.overlay.specs.Overlay.{Overlay, kindStoreOf}
 use Rattle.overlay.specs.Given.{InBytes}
 use Rattle.overlay.specs.Sound.{Sound, isSound}
 use Rattle.overlay.proofs.Decides.{decides}
-use Rattle.reading.specs.declared.Read.the-variants.{Is}
-use Rattle.reading.specs.Reading.{yes, idRead, countOn, idOn, recordOn, getOn, hasOn, isDeletedOn, viewIn}
-use Rattle.reading.proofs.Records.{row-shows, live-view, live-reads, deleted-reads, unknown-reads, get-given}
-use Rattle.reading.proofs.Numbers.{count-is, record-row, record-missing}
+use Rattle.overlay_reading.specs.declared.Read.the-variants.{Is}
+use Rattle.overlay_reading.specs.Reading.{yes, idRead, countOn, idOn, recordOn, getOn, hasOn, isDeletedOn, viewIn}
+use Rattle.overlay_reading.proofs.Records.{row-shows, live-view, live-reads, deleted-reads, unknown-reads, get-given}
+use Rattle.overlay_reading.proofs.Numbers.{count-is, record-row, record-missing}
 use Rattle.published.specs.Std.{slice-from}
 use Rattle.published.specs.Parse.{CompactDiffOverlay, get-data, has, is-deleted}
 use Rattle.published.specs.Sorted.{into-sorted, kind-sorted, table-record}

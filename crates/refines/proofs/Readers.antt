@@ -17,13 +17,13 @@ use Rattle.interner.proofs.Held.{same-swap}
 use Rattle.model.specs.Record.{flagged}
 use Rattle.stamp.specs.Stamp.{stamp}
 use Rattle.event.specs.Event.{Attr, valueOf}
-use Rattle.field.specs.Field.{Field, got, andThen, textField, integerField, mark, metaWith, metaFrom, metadataOf}
+use Rattle.event_fields.specs.Field.{Field, got, andThen, textField, integerField, mark, metaWith, metaFrom, metadataOf}
 use Rattle.published.specs.Std.{Result, Ok, Err, parse-int}
 use Rattle.published.specs.Std as Rust
 use Rattle.published.specs.XmlParse.{Error, find-attr, parse-i64-attr, parse-str-attr, MetaSoFar, scan-one, scan-meta-attrs, bit, given}
 use Rattle.published.specs.Compact as C
 use Rattle.published.specs.XmlParse as X
-use Rattle.field.specs.Field as F
+use Rattle.event_fields.specs.Field as F
 use Rattle.refines.specs.Driving as Driving
 use Rattle.refines.specs.Driving.{attribute, bytesStart, byDocuments, coordinate7}
 use Rattle.refines.proofs.Sinks.{fieldOf, metaSoFar, userOf}

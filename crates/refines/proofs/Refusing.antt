@@ -32,10 +32,10 @@ use Rattle.kind_store.proofs.Answers.{push-12, delete-12}
 use Rattle.overlay.specs.Overlay.{Overlay, kindStoreOf, withTexts}
 use Rattle.overlay.proofs.KindStores.{texts-kind-store}
 use Rattle.overlay.proofs.Bounds.{id-given}
-use Rattle.store.specs.Calls.{storePush, storeDelete, bytesOf}
-use Rattle.store.proofs.Answers.{byPushed, byDeleted}
-use Rattle.decision.specs.Decision.{Decision, refuses, moves, begins, deletes, tags, refers, joins, ends}
-use Rattle.decision.proofs.Lawful.{Lawful}
+use Rattle.overlay_store.specs.Calls.{storePush, storeDelete, bytesOf}
+use Rattle.overlay_store.proofs.Answers.{byPushed, byDeleted}
+use Rattle.event_decision.specs.Decision.{Decision, refuses, moves, begins, deletes, tags, refers, joins, ends}
+use Rattle.event_decision.proofs.Lawful.{Lawful}
 use Rattle.reader.specs.State.{State, stateSound}
 use Rattle.reader.specs.Given.{StateGiven}
 use Rattle.reader.specs.Step.{Step, stops, onHandle, takingUser, bitsWithUser, headFor, clearsTo, stepOf, tagWithin, partWithin}

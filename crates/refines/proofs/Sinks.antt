@@ -10,8 +10,8 @@ use Rattle.refusal.specs.declared.Refusal.{Refusal}
 use Rattle.refusal.specs.declared.Refusal.the-variants as R
 use Rattle.nesting.specs.declared.Place.{Place}
 use Rattle.model.specs.Record.{Meta, Body, refs, members, kindOf, flagged}
-use Rattle.field.specs.Field.{Field, got, bad}
-use Rattle.decision.specs.Decision.{Decision, refuses, moves, begins, deletes, tags, refers, joins, ends}
+use Rattle.event_fields.specs.Field.{Field, got, bad}
+use Rattle.event_decision.specs.Decision.{Decision, refuses, moves, begins, deletes, tags, refers, joins, ends}
 use Rattle.published.specs.Std.{Result, Ok, Err}
 use Rattle.published.specs.Compact.{ArenaMeta}
 use Rattle.published.specs.Parse.{CompactDiffOverlay, intern-in, handle-in, delete-kind}

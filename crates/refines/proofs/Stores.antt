@@ -28,7 +28,7 @@ use Rattle.kind_store.proofs.Claims.{Narrow}
 use Rattle.kind_store.proofs.KindStores.{push-admitted}
 use Rattle.overlay.specs.Overlay.{Overlay, kindStoreOf, withKindStore}
 use Rattle.overlay.proofs.KindStores.{kind-store-same, kind-store-other, kind-store-texts, kind-store-setting}
-use Rattle.store.specs.Calls.{bytesOf, storePush, storeDelete}
+use Rattle.overlay_store.specs.Calls.{bytesOf, storePush, storeDelete}
 use Rattle.published.specs.Std.{Ok, Err, map-ok}
 use Rattle.published.specs.Compact as C
 use Rattle.published.specs.Parse as P

@@ -37,8 +37,8 @@ use Rattle.refusal.specs.declared.Refusal.the-variants as R
 use Rattle.compact.specs.Fits.{fitsNumber}
 use Rattle.compact.specs.declared.ArenaMeta.{ArenaMeta}
 use Rattle.compact.specs.declared.PushHead.{PushHead}
-use Rattle.stage.specs.Stage.{staged, refPart, memberPart, tagPart}
-use Rattle.stage.proofs.Parts.{withTag, withRef, withMember}
+use Rattle.reader_stage.specs.Stage.{staged, refPart, memberPart, tagPart}
+use Rattle.reader_stage.proofs.Parts.{withTag, withRef, withMember}
 use Rattle.interner.specs.Strings as Strings
 use Rattle.interner.specs.Texts.{handleOf, takeIn}
 use Rattle.interner.specs.Sound.{textsOf}
@@ -47,21 +47,21 @@ use Rattle.interner.specs.declared.Interned.the-variants as I
 use Rattle.interner.proofs.Interns.{length-texts}
 use Rattle.interner.proofs.Held.{holds}
 use Rattle.event.specs.Event.{Attr, Event, starts, closes, others}
-use Rattle.field.specs.Field.{Field, got, bad, idField, metadataOf, bodyFor, tagOf, refOf, memberOf}
-use Rattle.decision.specs.Decision.{Decision, refuses, moves, begins, deletes, tags, refers, joins, ends, onField, decideOpened, decideClosed, decideEvent, elementBegins}
+use Rattle.event_fields.specs.Field.{Field, got, bad, idField, metadataOf, bodyFor, tagOf, refOf, memberOf}
+use Rattle.event_decision.specs.Decision.{Decision, refuses, moves, begins, deletes, tags, refers, joins, ends, onField, decideOpened, decideClosed, decideEvent, elementBegins}
 use Rattle.kind_store.specs.WellFormed.{WellFormed}
 use Rattle.kind_store.specs.KindStore.{knownVersion, checked}
 use Rattle.kind_store.proofs.Claims.{Narrow, given-claim}
 use Rattle.overlay.specs.Overlay.{Overlay, kindStoreOf, withTexts}
 use Rattle.overlay.proofs.KindStores.{texts-kind-store}
 use Rattle.overlay.proofs.Bounds.{meta-given, id-given}
-use Rattle.store.specs.Calls.{storePush, storeDelete, handleIn}
-use Rattle.store.specs.declared.Handle.the-variants as H
-use Rattle.store.proofs.Keeps.{record-given}
-use Rattle.direct.specs.Calls.{internOn}
-use Rattle.direct.proofs.Answers.{intern-store}
-use Rattle.direct.proofs.Keeps.{intern-kept}
-use Rattle.decision.proofs.Lawful.{Lawful, First}
+use Rattle.overlay_store.specs.Calls.{storePush, storeDelete, handleIn}
+use Rattle.overlay_store.specs.declared.Handle.the-variants as H
+use Rattle.overlay_store.proofs.Keeps.{record-given}
+use Rattle.overlay_direct.specs.Calls.{internOn}
+use Rattle.overlay_direct.proofs.Answers.{intern-store}
+use Rattle.overlay_direct.proofs.Keeps.{intern-kept}
+use Rattle.event_decision.proofs.Lawful.{Lawful, First}
 use Rattle.reader.specs.declared.Pending.{Pending}
 use Rattle.reader.specs.State.{State, stateSound, pendingRecord, moreTags, moreParts}
 use Rattle.reader.specs.Given.{StateGiven}
@@ -71,7 +71,7 @@ use Rattle.reader.proofs.Acts.{Fine, a-text, takes-fine, strings-few}
 use Rattle.reader.proofs.Advances.{state-fine, state-held, limit-tag, limit-ref, limit-member}
 use Rattle.reader.proofs.Element.{PartStaged, stages-back, tag-grows, ref-grows, member-grows, way-body, relation-body}
 use Rattle.reader.proofs.Held.{Held, held-few}
-use Rattle.field.proofs.Metadata.{Legal}
+use Rattle.event_fields.proofs.Metadata.{Legal}
 use Rattle.reader.proofs.Legals.{claim-same, meta-fits, head-fits, bits-id, bodyIn}
 use Rattle.reader.proofs.Steps.{EachStep, stopped, leaves, each-admit, each-after, each-within}
 use Rattle.published.specs.Std.{Ok}

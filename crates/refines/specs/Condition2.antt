@@ -17,12 +17,12 @@ use Rattle.interner.specs.Texts.{handleOf}
 use Rattle.interner.specs.Sound.{textsOf}
 use Rattle.version_floor.specs.Version.{wordOf}
 use Rattle.overlay.specs.Overlay.{Overlay, kindStoreOf}
-use Rattle.listed.specs.declared.Side.{Side}
-use Rattle.listed.specs.declared.Side.the-variants.{Live}
-use Rattle.listed.specs.declared.View.{View}
-use Rattle.listed.specs.declared.View.the-variants as view
-use Rattle.reading.specs.declared.Read.the-variants.{Is}
-use Rattle.reading.specs.Reading.{yes, countOn, idOn, recordOn, getOn, hasOn, isDeletedOn, knownOn, isEmptyOn, textOn}
+use Rattle.kind_reading.specs.declared.Side.{Side}
+use Rattle.kind_reading.specs.declared.Side.the-variants.{Live}
+use Rattle.kind_reading.specs.declared.View.{View}
+use Rattle.kind_reading.specs.declared.View.the-variants as view
+use Rattle.overlay_reading.specs.declared.Read.the-variants.{Is}
+use Rattle.overlay_reading.specs.Reading.{yes, countOn, idOn, recordOn, getOn, hasOn, isDeletedOn, knownOn, isEmptyOn, textOn}
 use Rattle.calls.specs.Ask.{Ask, Storage, stateOf, started, storageAfter}
 use Rattle.condition.specs.Views.{Seen, absent, seen, unread, seenIn}
 use Rattle.published.specs.Std.{get}

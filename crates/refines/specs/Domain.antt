@@ -13,7 +13,7 @@ use Rattle.refusal.specs.Refusal.{numberOf}
 use Rattle.refusal.specs.declared.Refusal.{Refusal}
 use Rattle.compact.specs.Held.{metaOf}
 use Rattle.overlay.specs.First.{allowTable}
-use Rattle.direct.specs.First.{internTable, pushTable, deleteTable}
+use Rattle.overlay_direct.specs.First.{internTable, pushTable, deleteTable}
 use Rattle.reader.specs.Table.{RefusalAt, eventTable, endTable}
 use Rattle.calls.specs.Ask.{Ask, interns, pushes, deletes, reads, ends, allows, Storage, stateOf, putAt}
 use Rattle.refines.specs.Told.{Told, handle, done, refused}

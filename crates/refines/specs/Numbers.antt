@@ -10,12 +10,12 @@ use Rattle.base.specs.Bytes.{Bytes}
 use Rattle.kind.specs.declared.Kind.{Kind}
 use Rattle.refusal.specs.declared.Refusal.the-variants as R
 use Rattle.kind_store.specs.KindStore.{KindStore}
-use Rattle.listed.specs.declared.Side.{Side}
-use Rattle.listed.specs.declared.Side.the-variants.{Live, Deleted}
-use Rattle.listed.specs.declared.View.{View}
-use Rattle.listed.specs.declared.View.the-variants as view
-use Rattle.reading.specs.declared.Read.{Read}
-use Rattle.reading.specs.declared.Read.the-variants.{Is, Refused}
+use Rattle.kind_reading.specs.declared.Side.{Side}
+use Rattle.kind_reading.specs.declared.Side.the-variants.{Live, Deleted}
+use Rattle.kind_reading.specs.declared.View.{View}
+use Rattle.kind_reading.specs.declared.View.the-variants as view
+use Rattle.overlay_reading.specs.declared.Read.{Read}
+use Rattle.overlay_reading.specs.declared.Read.the-variants.{Is, Refused}
 use Rattle.published.specs.Parse.{CompactDiffOverlay}
 use Rattle.published.specs.Sorted.{KindTable, into-sorted, kind-table}
 use Rattle.refines.specs.Overlays.{elementKind}

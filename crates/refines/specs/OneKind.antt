@@ -15,8 +15,8 @@ use Rattle.version_floor.specs.Version.{ofWord}
 use Rattle.version_floor.specs.declared.Version.{Version}
 use Rattle.version_floor.specs.declared.Version.the-variants.{Absent}
 use Rattle.compact.specs.Fits.{fitsSigned}
-use Rattle.table.specs.declared.Row.{Row}
-use Rattle.table.specs.Rows.{find}
+use Rattle.kind_table.specs.declared.Row.{Row}
+use Rattle.kind_table.specs.Rows.{find}
 use Rattle.kind_store.specs.KindStore.{KindStore, isLive}
 use Rattle.kind_store.specs.WellFormed.{rowsIn}
 use Rattle.published.specs.Std.{HashMap, get, HashSet, contains}

@@ -9,9 +9,9 @@ use Rattle.compact.specs.Held.{metaOf}
 use Rattle.kind_store.specs.declared.Kept.{Kept}
 use Rattle.kind_store.specs.declared.Kept.the-variants as Kept
 use Rattle.overlay.specs.Calls.{allowOn}
-use Rattle.store.specs.declared.Handle.{Handle}
-use Rattle.store.specs.declared.Handle.the-variants as H
-use Rattle.direct.specs.Calls.{pushOn, deleteOn, internOn}
+use Rattle.overlay_store.specs.declared.Handle.{Handle}
+use Rattle.overlay_store.specs.declared.Handle.the-variants as H
+use Rattle.overlay_direct.specs.Calls.{pushOn, deleteOn, internOn}
 use Rattle.reader.specs.declared.EventAnswer.{EventAnswer}
 use Rattle.reader.specs.declared.EventAnswer.the-variants as E
 use Rattle.reader.specs.Event.{eventOn, endOn}

@@ -22,8 +22,8 @@ use Rattle.line.proofs.Lines.{line-code}
 use Rattle.line.proofs.Decimals.{number-plain, number-injective, integer-plain, integer-injective, never-alone}
 use Rattle.kind.specs.declared.Kind.{Kind}
 use Rattle.kind.specs.declared.Kind.the-variants.{Node, Way, Relation}
-use Rattle.page.specs.Summary.{PageRow, Table}
-use Rattle.page.specs.Listing.{kindField, rowFields, listing}
+use Rattle.listing_page.specs.Summary.{PageRow, Table}
+use Rattle.listing_page.specs.Listing.{kindField, rowFields, listing}
 use Rattle.report.specs.Report.{heldField, refusedFields, refusedLine}
 
 -- ---- numbers

@@ -1,11 +1,12 @@
 // The program: event lines from standard input, the listing or the `refused` line to standard output. What it takes in and prints is proved in `intake` and `roadlist_page`; here is what
 // it lends, and what it reads and writes.
-use blocks::COUNTERS;
-use intake::Fed;
+use input_pieces::Fed;
 use libc::STDERR_FILENO;
 use libc::STDIN_FILENO;
 use libc::STDOUT_FILENO;
+use overlay_blocks::COUNTERS;
 use reader::EventAnswer;
+use reader_stage::STAGED;
 
 // Where the reading stands between two pieces.
 enum Reading {
@@ -41,7 +42,7 @@ fn read_piece(
     words: &mut [u64; 5632],
     bytes: &mut [u8; 32768],
     counters: &mut [u64; COUNTERS],
-    ps: &mut [u8; 44432],
+    ps: &mut [u8; STAGED],
     buf: &mut [u8; 81920],
     piece: &mut [u8; 65536],
     fed: Fed,
@@ -57,7 +58,7 @@ fn read_piece(
         return Run { fed, reading };
     }
     let n = io::count(got, piece);
-    let fed = intake::feed(words, bytes, counters, ps, fed, buf, piece, n);
+    let fed = input_pieces::feed(words, bytes, counters, ps, fed, buf, piece, n);
     let answer = fed.answer;
     let reading = after(answer);
     Run { fed, reading }
@@ -68,7 +69,7 @@ fn read_all(
     words: &mut [u64; 5632],
     bytes: &mut [u8; 32768],
     counters: &mut [u64; COUNTERS],
-    ps: &mut [u8; 44432],
+    ps: &mut [u8; STAGED],
     buf: &mut [u8; 81920],
     piece: &mut [u8; 65536],
     fed: Fed,
@@ -107,7 +108,7 @@ fn read_and_print(
     words: &mut [u64; 5632],
     bytes: &mut [u8; 32768],
     counters: &mut [u64; COUNTERS],
-    ps: &mut [u8; 44432],
+    ps: &mut [u8; STAGED],
     buf: &mut [u8; 81920],
     piece: &mut [u8; 65536],
     out: &mut [u8; 65536],
@@ -132,7 +133,7 @@ fn main() {
     let mut words = [0u64; 5632];
     let mut bytes = [0u8; 32768];
     let mut counters = [0u64; 17];
-    let mut parts = [0u8; 44432];
+    let mut parts = [0u8; STAGED];
     let mut buffer = [0u8; 81920];
     let mut piece = [0u8; 65536];
     let mut out = [0u8; 65536];

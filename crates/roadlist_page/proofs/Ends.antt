@@ -17,16 +17,16 @@ use Rattle.refusal.specs.declared.Refusal.{Refusal}
 use Rattle.refusal.specs.declared.Refusal.the-variants as R
 use Rattle.little.proofs.Overs.{over-start}
 use Rattle.kind_store.specs.declared.Kept.{Kept}
-use Rattle.blocks.specs.declared.Sizes.{Sizes}
-use Rattle.blocks.specs.Blocks.{sizesIn}
-use Rattle.blocks.specs.Sizes.{largest, kindFits, stringsFit, sizesInRange, filled, fitted}
+use Rattle.overlay_blocks.specs.declared.Sizes.{Sizes}
+use Rattle.overlay_blocks.specs.Blocks.{sizesIn}
+use Rattle.overlay_blocks.specs.Sizes.{largest, kindFits, stringsFit, sizesInRange, filled, fitted}
 use Rattle.overlay.specs.Overlay.{Overlay, withSizes, sizesFit, empty}
 use Rattle.overlay.specs.Lent.{overlayFor, overlayIn}
 use Rattle.overlay.specs.Sound.{isSound}
 use Rattle.overlay.specs.Calls.{OverlayAfter, setUp}
 use Rattle.overlay.proofs.Tiles.{fits-in}
 use Rattle.overlay.proofs.Answers.{bySetUp}
-use Rattle.lines.specs.Lines.{lastLine}
+use Rattle.input_lines.specs.Lines.{lastLine}
 use Rattle.listing.specs.Call.{Output, pageOf, pageOver, listingOn, notListed}
 use Rattle.listing.specs.declared.Listed.{Listed}
 use Rattle.listing.specs.declared.Listed.the-variants as L
@@ -39,7 +39,7 @@ use Rattle.reader.specs.declared.EventAnswer.the-variants as E
 use Rattle.reader.specs.Event.{EventResult, eventOn, endOn}
 use Rattle.reader.proofs.Answers.{byEnd, end-22, answer-is}
 use Rattle.roadlist_page.specs.Roadlist.{programSizes, startOn, refusedEnding, pageEnding, endingAt}
-use Rattle.intake.specs.Feed.{Intake, keptLine, stateAtEnd}
+use Rattle.input_pieces.specs.Feed.{Intake, keptLine, stateAtEnd}
 use Rattle.roadlist_page.specs.Finish.{EndOutput, endOutput, Finished, finishOn}
 
 -- ---- the start

@@ -6,12 +6,12 @@ use lib.ListN.{length, take, drop}
 use lib.Seq.{take-append-seam}
 use Rattle.base.specs.Bytes.{Bytes}
 use Rattle.line.proofs.Lines.{lacks-nil}
-use Rattle.lines.specs.Stream.{afterInput}
-use Rattle.lines.proofs.Streams.{pieces-whole}
+use Rattle.input_lines.specs.Stream.{afterInput}
+use Rattle.input_lines.proofs.Streams.{pieces-whole}
 use Rattle.reader.specs.State.{State}
-use Rattle.intake.specs.Feed.{afterEvent, Intake, readOn, stateAtEnd}
+use Rattle.input_pieces.specs.Feed.{afterEvent, Intake, readOn, stateAtEnd}
 use Rattle.reader_events.specs.Runs.{RunGiven}
-use Rattle.intake.proofs.Pieces.{Holds, reads-stream, reads-given}
+use Rattle.input_pieces.proofs.Pieces.{Holds, reads-stream, reads-given}
 use Rattle.roadlist_page.specs.Roadlist.{programStart, endingAt, roadlistOf}
 use Rattle.roadlist_page.specs.Finish.{finishOn}
 use Rattle.roadlist_page.proofs.Starts.{start-given}
@@ -24,7 +24,7 @@ module _ (buffer : Bytes) (room : length buffer ≡ 81920) (pieces : List Bytes)
   at-start : Holds (intakeStart buffer)
   at-start = record { room = room; short = omega arith; unbroken = lacks-nil 10 }
 
-  -- before each piece the state is sound but for its count of lines, which is what `intake::feed` needs: it tests nothing
+  -- before each piece the state is sound but for its count of lines, which is what `input_pieces::feed` needs: it tests nothing
   pub pieces-given : RunGiven (readOn pieces (intakeStart buffer) .state)
   pieces-given = reads-given pieces (intakeStart buffer) start-given
 

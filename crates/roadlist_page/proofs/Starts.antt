@@ -13,9 +13,9 @@ use Rattle.kind.specs.declared.Kind.{Kind}
 use Rattle.little.specs.Little.{isByte}
 use Rattle.little.proofs.Littles.{bytes-take, bytes-drop}
 use Rattle.kind_store.specs.KindStore.{takenIn}
-use Rattle.blocks.specs.declared.KindPart.{KindPart}
-use Rattle.blocks.specs.Blocks.{partIn, textPartIn}
-use Rattle.blocks.specs.Sizes.{largest}
+use Rattle.overlay_blocks.specs.declared.KindPart.{KindPart}
+use Rattle.overlay_blocks.specs.Blocks.{partIn, textPartIn}
+use Rattle.overlay_blocks.specs.Sizes.{largest}
 use Rattle.overlay.specs.Overlay.{kindStoreOf, withSizes, sizesFit}
 use Rattle.overlay.specs.Calls.{OverlayAfter, setUp}
 use Rattle.overlay.specs.Given.{InBytes}
@@ -23,8 +23,8 @@ use Rattle.overlay.proofs.Decides.{decides}
 use Rattle.overlay.proofs.Answers.{bySetUp}
 use Rattle.overlay.proofs.Puts.{kind-store-for}
 use Rattle.overlay.proofs.Keeps.{setup-sound, setup-bytes}
-use Rattle.lines.specs.Lines.{inputLines}
-use Rattle.lines.specs.Stream.{afterInput}
+use Rattle.input_lines.specs.Lines.{inputLines}
+use Rattle.input_lines.specs.Stream.{afterInput}
 use Rattle.reader.specs.State.{State, stateSound}
 use Rattle.reader.specs.declared.EventAnswer.{EventAnswer}
 use Rattle.reader.specs.declared.EventAnswer.the-variants as E
@@ -36,7 +36,7 @@ use Rattle.reader.proofs.Keeps.{ReadyIn, event-fine, event-ready, ready-sound, 
 use Rattle.reader.specs.State.{stopsBy}
 use Rattle.reader_events.specs.Runs.{RunGiven}
 use Rattle.reader_events.proofs.Runs.{given-of}
-use Rattle.intake.specs.Feed.{afterEvent}
+use Rattle.input_pieces.specs.Feed.{afterEvent}
 use Rattle.roadlist_page.specs.Roadlist.{programSizes, programLends, startOn, programStart}
 use Rattle.roadlist_page.proofs.Ends.{program-fits}
 
@@ -86,7 +86,7 @@ pub start-ready : ReadyIn programStart
 unfolding programStart startOn
 start-ready = fresh-ready (setUp programSizes 0 programLends .overlay) (start-fine .sound) (replicate 44432 0) (zeros-bytes 44432) (length-replicate {A = ℕ} 44432 0)
 
--- so the first piece finds what `intake::feed` needs, and it tests nothing
+-- so the first piece finds what `input_pieces::feed` needs, and it tests nothing
 pub start-given : RunGiven programStart
 start-given = given-of programStart start-fine start-ready
 

@@ -4,7 +4,7 @@ use mathlib.Core.List.{_++_}
 use lib.ListN.{length, drop}
 use Rattle.base.specs.Bytes.{Bytes}
 use Rattle.overlay.specs.Overlay.{Overlay}
-use Rattle.intake.specs.Feed.{Intake, stateAtEnd}
+use Rattle.input_pieces.specs.Feed.{Intake, stateAtEnd}
 use Rattle.roadlist_page.specs.Roadlist.{Ending, endingAt}
 
 -- the output with what is printed at its start, how many bytes that is, and the number

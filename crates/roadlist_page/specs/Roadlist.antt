@@ -10,17 +10,17 @@ use Rattle.refusal.specs.declared.Refusal.{Refusal}
 use Rattle.refusal.specs.declared.Refusal.the-variants as R
 use Rattle.overlay.specs.Overlay.{Overlay}
 use Rattle.overlay.specs.Lent.{overlayFor}
-use Rattle.blocks.specs.declared.KindSize.{KindSize}
-use Rattle.blocks.specs.declared.Sizes.{Sizes}
+use Rattle.overlay_blocks.specs.declared.KindSize.{KindSize}
+use Rattle.overlay_blocks.specs.declared.Sizes.{Sizes}
 use Rattle.overlay.specs.Calls.{setUp}
-use Rattle.lines.specs.Stream.{afterInput}
+use Rattle.input_lines.specs.Stream.{afterInput}
 use Rattle.listing.specs.Call.{pageOf}
 use Rattle.report.specs.Report.{refusedLine}
 use Rattle.reader.specs.State.{State, freshReader}
 use Rattle.reader.specs.declared.EventAnswer.{EventAnswer}
 use Rattle.reader.specs.declared.EventAnswer.the-variants as E
 use Rattle.reader.specs.Event.{endOn}
-use Rattle.intake.specs.Feed.{afterEvent}
+use Rattle.input_pieces.specs.Feed.{afterEvent}
 
 abbrev pub programSizes : Sizes
 programSizes =

@@ -7,24 +7,26 @@ ghost use Rattle.overlay.specs.Lent.{overlayIn, lent, left, lentFor};
 ghost use Rattle.overlay.specs.Sound.{isSound};
 ghost use Rattle.reader.specs.Lent.{stateLent, stateLeft};
 ghost use Rattle.reader.specs.State.{freshReader};
-ghost use Rattle.intake.specs.Feed.{stateAtEnd};
+ghost use Rattle.input_pieces.specs.Feed.{stateAtEnd};
 ghost use Rattle.roadlist_page.specs.Roadlist.{programSizes, startOn, refusedEnding, pageEnding, endingAt};
 ghost use Rattle.roadlist_page.specs.Finish.{endOutput, finishOn};
-use blocks::COUNTERS;
-use blocks::KindSize;
-use blocks::Sizes;
 use compact::ArenaMeta;
 use compact::PushHead;
-use intake::Fed;
+use event_scan::MAX_LINE;
+use input_pieces::Fed;
 use kind::Kind;
 use listing::Listed;
 use nesting::Action;
 use nesting::Level;
 use nesting::Place;
+use overlay_blocks::COUNTERS;
+use overlay_blocks::KindSize;
+use overlay_blocks::Sizes;
 use reader::EventAnswer;
 use reader::EventReader;
 use reader::Pending;
 use reader::Stop;
+use reader_stage::STAGED;
 use refusal::Refusal;
 
 // A fresh reader: before the document, with nothing pending.
@@ -82,7 +84,7 @@ pub fn start(
     words: &mut [u64; 5632],
     bytes: &[u8; 32768],
     counters: &mut [u64; COUNTERS],
-    ps: &[u8; 44432],
+    ps: &[u8; STAGED],
 ) -> EventReader
     ensures { λ r. ⌜ stateLeft words bytes counters ps r
         ≡ startOn (lentFor programSizes words bytes counters) (now (ps .entry)) ⌝ }
@@ -96,7 +98,7 @@ fn take_last(
     words: &mut [u64],
     bytes: &mut [u8],
     counters: &mut [u64; COUNTERS],
-    ps: &mut [u8; 44432],
+    ps: &mut [u8; STAGED],
     reader: EventReader,
     buffer: &[u8],
     n: usize,
@@ -159,7 +161,7 @@ fn put_end(
     words: &[u64],
     bytes: &[u8],
     counters: &[u64; COUNTERS],
-    ps: &[u8; 44432],
+    ps: &[u8; STAGED],
     reader: EventReader,
     out: &mut [u8],
 ) -> Ended
@@ -178,7 +180,7 @@ pub fn finish(
     words: &mut [u64],
     bytes: &mut [u8],
     counters: &mut [u64; COUNTERS],
-    ps: &mut [u8; 44432],
+    ps: &mut [u8; STAGED],
     fed: Fed,
     buffer: &[u8; 81920],
     out: &mut [u8; 65536],
@@ -190,7 +192,7 @@ pub fn finish(
     }
         ≡ finishOn (now (out .entry)) (record { state = stateLent words bytes counters ps (fed .reader); buffer = now (buffer .entry); held = min (fed .held) 16384 }) ⌝ }
 {
-    let held = little::lesser(fed.held, 16384);
+    let held = little::lesser(fed.held, MAX_LINE);
     let reader = fed.reader;
     let reader = take_last(words, bytes, counters, ps, reader, buffer, held);
     put_end(words, bytes, counters, ps, reader, out)

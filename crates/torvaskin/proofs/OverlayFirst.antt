@@ -16,18 +16,18 @@ use Rattle.refusal.specs.declared.Refusal.the-variants as R
 use Rattle.model.specs.Record.{Meta}
 use Rattle.compact.specs.declared.ArenaMeta.{ArenaMeta}
 use Rattle.compact.specs.declared.PushHead.{PushHead}
-use Rattle.blocks.specs.declared.Sizes.{Sizes}
+use Rattle.overlay_blocks.specs.declared.Sizes.{Sizes}
 use Rattle.overlay.specs.Overlay.{Overlay}
 use Rattle.overlay.specs.Sound.{isSound}
 use Rattle.overlay.specs.First.{keptBy, setUpTable, allowTable, unsoundRow, kindRows, kindCallTable, numberBy, replyBy}
 use Rattle.overlay.proofs.First.{setup-first, allow-first}
-use Rattle.store.specs.First.{handleRefusal}
-use Rattle.store.specs.declared.Handle.{Handle}
-use Rattle.store.specs.declared.Handle.the-variants as H
-use Rattle.direct.specs.Calls.{internOn}
-use Rattle.direct.specs.First.{internTable, restOfPush, restOfDelete, pushTable, deleteTable}
-use Rattle.direct.proofs.First.{push-first, delete-first, intern-first}
-use Rattle.replies.specs.Overlays.{keptReply, handleText}
+use Rattle.overlay_store.specs.First.{handleRefusal}
+use Rattle.overlay_store.specs.declared.Handle.{Handle}
+use Rattle.overlay_store.specs.declared.Handle.the-variants as H
+use Rattle.overlay_direct.specs.Calls.{internOn}
+use Rattle.overlay_direct.specs.First.{internTable, restOfPush, restOfDelete, pushTable, deleteTable}
+use Rattle.overlay_direct.proofs.First.{push-first, delete-first, intern-first}
+use Rattle.c_replies.specs.Overlays.{keptReply, handleText}
 use Rattle.torvaskin.specs.Overlays.{unknown, setUpReply, allowReply, internReply, pushNamed, pushReply, deleteNamed, deleteReply}
 
 kept-reply : (x : Option Refusal) → keptReply (keptBy x) ≡ replyBy x

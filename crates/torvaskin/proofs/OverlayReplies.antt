@@ -8,10 +8,10 @@ use Rattle.kind_store.specs.declared.Kept.{Kept}
 use Rattle.overlay.specs.Overlay.{Overlay}
 use Rattle.overlay.specs.Sound.{isSound}
 use Rattle.overlay.specs.Calls.{OverlayAfter, overlayRefused}
-use Rattle.store.specs.Calls.{Interning}
-use Rattle.store.specs.declared.Handle.{Handle}
-use Rattle.replies.specs.Overlays.{keptReply, unknownReply, handleText}
-use Rattle.replies.specs.declared.Text.{Text}
+use Rattle.overlay_store.specs.Calls.{Interning}
+use Rattle.overlay_store.specs.declared.Handle.{Handle}
+use Rattle.c_replies.specs.Overlays.{keptReply, unknownReply, handleText}
+use Rattle.c_replies.specs.declared.Text.{Text}
 use Rattle.torvaskin.specs.Overlays.{replied, unknown, interned}
 
 pub replied-is : {x : Overlay} {a : Kept} {r : Reply} {y : OverlayAfter} → r ≡ keptReply a → record { overlay = x; answer = a } ≡ y → record { overlay = x; reply = r } ≡ replied y

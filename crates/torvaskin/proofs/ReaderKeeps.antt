@@ -14,8 +14,8 @@ use Rattle.reader.specs.State.{State, stopsBy, stateSound}
 use Rattle.reader.specs.Step.{stops}
 use Rattle.reader.specs.Event.{EventResult, refusedAt, stepped, eventOn}
 use Rattle.reader.proofs.Answers.{event-22, event-stopped, byEvent}
-use Rattle.reader_words.specs.Words.{wordsOfReader, readerIn, isReader, readerOfWords}
-use Rattle.reader_words.proofs.Words.{stopped-words, words-back}
+use Rattle.c_reader.specs.Words.{wordsOfReader, readerIn, isReader, readerOfWords}
+use Rattle.c_reader.proofs.Words.{stopped-words, words-back}
 use Rattle.torvaskin.specs.Readers.{EventReplied, repliedEvent, eventReply}
 
 -- what a refused event leaves: everything but the words of the stop mark

@@ -7,14 +7,14 @@ use Rattle.base.specs.Bytes.{Bytes}
 use Rattle.overlay.specs.Overlay.{Overlay}
 use Rattle.reader.specs.State.{State}
 use Rattle.reader.specs.Event.{eventOn, endOn}
-use Rattle.lines.specs.Lines.{linesOf}
+use Rattle.input_lines.specs.Lines.{linesOf}
 use Rattle.reader_events.specs.Events.{eventsOn, takenBytes}
 use Rattle.reader.specs.declared.EventAnswer.{EventAnswer}
 use Rattle.reader.specs.declared.EventReader.{EventReader}
-use Rattle.reader_words.specs.Words.{wordsOfReader, readerIn, isReader, readerOfWords}
-use Rattle.replies.specs.Readers.{answerReply, noReader, takenReply}
-use Rattle.replies.specs.declared.EventReply.{EventReply}
-use Rattle.replies.specs.declared.EventsReply.{EventsReply}
+use Rattle.c_reader.specs.Words.{wordsOfReader, readerIn, isReader, readerOfWords}
+use Rattle.c_replies.specs.Readers.{answerReply, noReader, takenReply}
+use Rattle.c_replies.specs.declared.EventReply.{EventReply}
+use Rattle.c_replies.specs.declared.EventsReply.{EventsReply}
 use Rattle.torvaskin.specs.Readers.{eventReply, eventsReply, endReply}
 
 module _ (o : Overlay) (w : List ℕ) (parts : Bytes) where

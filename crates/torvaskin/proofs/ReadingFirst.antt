@@ -16,23 +16,23 @@ use Rattle.kind.specs.declared.Named.the-variants as K
 use Rattle.refusal.specs.First.{ConditionRow, row, firstOf}
 use Rattle.refusal.specs.declared.Refusal.{Refusal}
 use Rattle.refusal.specs.declared.Refusal.the-variants as R
-use Rattle.listed.specs.declared.Side.{Side}
-use Rattle.listed.specs.declared.Side.the-variants.{Live}
-use Rattle.listed.specs.declared.View.{View}
-use Rattle.listed.specs.declared.View.the-variants as view
+use Rattle.kind_reading.specs.declared.Side.{Side}
+use Rattle.kind_reading.specs.declared.Side.the-variants.{Live}
+use Rattle.kind_reading.specs.declared.View.{View}
+use Rattle.kind_reading.specs.declared.View.the-variants as view
 use Rattle.overlay.specs.Overlay.{Overlay, kindStoreOf}
 use Rattle.overlay.specs.Given.{InBytes}
 use Rattle.overlay.specs.Sound.{isSound}
 use Rattle.overlay.specs.First.{unsoundRow, kindRows, kindCallTable, numberBy}
-use Rattle.reading.specs.declared.Read.{Read}
-use Rattle.reading.specs.declared.Read.the-variants.{Is, Refused}
-use Rattle.reading.specs.Reading.{countIn, countOn, isEmptyOn, idOn, recordOn, getOn, hasOn, isDeletedOn, knownOn, textOn}
-use Rattle.reading.specs.First.{readRefusal, viewRefusal, numberRows, readTable, numberTable}
-use Rattle.reading.proofs.First.{count-first, empty-first, has-first, is-deleted-first, known-first, get-first, id-first, text-first, record-first}
-use Rattle.replies.specs.Readings.{readNumber, viewPart, unknownKind}
-use Rattle.bulk.specs.Bulk.{allIdsOn}
-use Rattle.bulk.specs.First.{shortRows}
-use Rattle.bulk.proofs.First.{all-ids-first}
+use Rattle.overlay_reading.specs.declared.Read.{Read}
+use Rattle.overlay_reading.specs.declared.Read.the-variants.{Is, Refused}
+use Rattle.overlay_reading.specs.Reading.{countIn, countOn, isEmptyOn, idOn, recordOn, getOn, hasOn, isDeletedOn, knownOn, textOn}
+use Rattle.overlay_reading.specs.First.{readRefusal, viewRefusal, numberRows, readTable, numberTable}
+use Rattle.overlay_reading.proofs.First.{count-first, empty-first, has-first, is-deleted-first, known-first, get-first, id-first, text-first, record-first}
+use Rattle.c_replies.specs.Readings.{readNumber, viewPart, unknownKind}
+use Rattle.overlay_ids.specs.Bulk.{allIdsOn}
+use Rattle.overlay_ids.specs.First.{shortRows}
+use Rattle.overlay_ids.proofs.First.{all-ids-first}
 use Rattle.torvaskin.specs.Readings.{idsFor, idsReply, numberFor, partFor, countNumber, idNumber, recordPart, getPart, hasNumber, isDeletedNumber, knownNumber}
 
 read-number : (x : Read) → readNumber x .number ≡ numberBy (readRefusal x)

@@ -2,8 +2,8 @@
 use Rattle.base.specs.Bytes.{Bytes}
 use Rattle.overlay.specs.Overlay.{Overlay}
 use Rattle.listing.specs.Call.{Output, listingOn}
-use Rattle.replies.specs.Listings.{listedReply}
-use Rattle.replies.specs.declared.ListingReply.{ListingReply}
+use Rattle.c_replies.specs.Listings.{listedReply}
+use Rattle.c_replies.specs.declared.ListingReply.{ListingReply}
 
 -- the output and the reply
 pub record ListingReplied : Type 0 where

@@ -10,13 +10,13 @@ use Rattle.refusal.specs.declared.Refusal.the-variants as R
 use Rattle.model.specs.Record.{Meta}
 use Rattle.compact.specs.declared.ArenaMeta.{ArenaMeta}
 use Rattle.compact.specs.declared.PushHead.{PushHead}
-use Rattle.blocks.specs.declared.Sizes.{Sizes}
+use Rattle.overlay_blocks.specs.declared.Sizes.{Sizes}
 use Rattle.overlay.specs.Overlay.{Overlay}
 use Rattle.overlay.specs.Calls.{OverlayAfter, ifSound, overlayRefused, setUp, allowOn}
-use Rattle.direct.specs.Calls.{pushOn, deleteOn, internOn}
-use Rattle.store.specs.Calls.{Interning}
-use Rattle.replies.specs.Overlays.{keptReply, handleText}
-use Rattle.replies.specs.declared.Text.{Text}
+use Rattle.overlay_direct.specs.Calls.{pushOn, deleteOn, internOn}
+use Rattle.overlay_store.specs.Calls.{Interning}
+use Rattle.c_replies.specs.Overlays.{keptReply, handleText}
+use Rattle.c_replies.specs.declared.Text.{Text}
 
 -- an overlay and the reply that a call gives
 pub record Replied : Type 0 where

@@ -7,12 +7,12 @@ use Rattle.overlay.specs.Overlay.{Overlay}
 use Rattle.reader.specs.State.{State}
 use Rattle.reader.specs.Event.{EventResult, eventOn, endOn}
 use Rattle.reader.specs.declared.EventReader.{EventReader}
-use Rattle.reader_words.specs.Words.{wordsOfReader, readerOfWords}
-use Rattle.lines.specs.Lines.{linesOf}
+use Rattle.c_reader.specs.Words.{wordsOfReader, readerOfWords}
+use Rattle.input_lines.specs.Lines.{linesOf}
 use Rattle.reader_events.specs.Events.{eventsOn, takenBytes}
-use Rattle.replies.specs.Readers.{answerReply, noReader, takenReply}
-use Rattle.replies.specs.declared.EventReply.{EventReply}
-use Rattle.replies.specs.declared.EventsReply.{EventsReply}
+use Rattle.c_replies.specs.Readers.{answerReply, noReader, takenReply}
+use Rattle.c_replies.specs.declared.EventReply.{EventReply}
+use Rattle.c_replies.specs.declared.EventsReply.{EventsReply}
 
 -- overlay, a reader's words and its parts, and the reply that a call gives
 pub record EventReplied : Type 0 where

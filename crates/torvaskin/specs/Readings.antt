@@ -8,16 +8,16 @@ use Rattle.kind.specs.declared.Named.{Named}
 use Rattle.kind.specs.declared.Named.the-variants as K
 use Rattle.overlay.specs.Overlay.{Overlay}
 use Rattle.overlay.specs.Sound.{isSound}
-use Rattle.listed.specs.declared.Side.{Side}
-use Rattle.listed.specs.declared.View.{View}
-use Rattle.listed.specs.declared.View.the-variants as view
-use Rattle.reading.specs.Reading.{countOn, idOn, recordOn, getOn, hasOn, isDeletedOn, knownOn}
-use Rattle.reading.specs.declared.Read.{Read}
-use Rattle.reading.specs.declared.Read.the-variants.{Refused}
-use Rattle.bulk.specs.Bulk.{AllIds, allIdsOn}
-use Rattle.replies.specs.Readings.{readNumber, viewPart, unknownKind}
-use Rattle.replies.specs.declared.Number.{Number}
-use Rattle.replies.specs.declared.Part.{Part}
+use Rattle.kind_reading.specs.declared.Side.{Side}
+use Rattle.kind_reading.specs.declared.View.{View}
+use Rattle.kind_reading.specs.declared.View.the-variants as view
+use Rattle.overlay_reading.specs.Reading.{countOn, idOn, recordOn, getOn, hasOn, isDeletedOn, knownOn}
+use Rattle.overlay_reading.specs.declared.Read.{Read}
+use Rattle.overlay_reading.specs.declared.Read.the-variants.{Refused}
+use Rattle.overlay_ids.specs.Bulk.{AllIds, allIdsOn}
+use Rattle.c_replies.specs.Readings.{readNumber, viewPart, unknownKind}
+use Rattle.c_replies.specs.declared.Number.{Number}
+use Rattle.c_replies.specs.declared.Part.{Part}
 
 abbrev pub numberFor : Named → (Kind → Read) → Overlay → Number
 numberFor (K.Is k) f o = readNumber (f k)

@@ -2,8 +2,8 @@
 ghost use mathlib.Core.Path.{_≡_};
 ghost use Rattle.overlay.specs.Lent.{lent};
 ghost use Rattle.torvaskin.specs.Listings.{listingReply};
-use blocks::COUNTERS;
-use replies::ListingReply;
+use c_replies::ListingReply;
+use overlay_blocks::COUNTERS;
 
 // The listing at the start of the output: 22, 19, or its length.
 #[no_mangle]
@@ -16,5 +16,5 @@ pub extern "C" fn tvk_listing(
     ensures { λ r. ⌜ record { out = now (out .exit); reply = r }
         ≡ listingReply (now (out .entry)) (lent words bytes counters) ⌝ }
 {
-    replies::listed_reply(listing::list(words, bytes, counters, out))
+    c_replies::listed_reply(listing::list(words, bytes, counters, out))
 }

@@ -7,10 +7,10 @@ ghost use Rattle.version_floor.specs.Version.{admitOf, higher, wordOf, ofWord};
 ghost use Rattle.integer.specs.Integer.{readOf};
 ghost use Rattle.stamp.specs.Stamp.{stampOf};
 ghost use Rattle.text.specs.Check.{isText};
-ghost use Rattle.replies.specs.Numbers.{orderNumber, truth, admitReply, integerNumber, stampNumber};
+ghost use Rattle.c_replies.specs.Numbers.{orderNumber, truth, admitReply, integerNumber, stampNumber};
+use c_replies::Number;
 use osm_id::OsmIdKey;
 use refusal::Reply;
-use replies::Number;
 use version_floor::VersionFloor;
 
 #[no_mangle]
@@ -25,7 +25,7 @@ pub extern "C" fn tvk_osm_id_key(id: i64) -> OsmIdKey
 pub extern "C" fn tvk_osm_id_cmp(a: i64, b: i64) -> u8
     ensures { λ r. ⌜ r ≡ orderNumber (cmpOf a b) ⌝ }
 {
-    replies::order_number(osm_id::osm_id_cmp(a, b))
+    c_replies::order_number(osm_id::osm_id_cmp(a, b))
 }
 
 #[no_mangle]
@@ -55,7 +55,7 @@ pub extern "C" fn tvk_version_admit(floor: u64, claim: u64) -> Reply
     ensures { λ r. ⌜ r ≡ admitReply (admitOf (ofWord floor) (ofWord claim)) ⌝ }
 {
     let highest = version_floor::version_of_word(floor);
-    replies::admit_reply(VersionFloor::new(highest).admit(version_floor::version_of_word(claim)))
+    c_replies::admit_reply(VersionFloor::new(highest).admit(version_floor::version_of_word(claim)))
 }
 
 #[no_mangle]
@@ -71,21 +71,21 @@ pub extern "C" fn tvk_version_raise(floor: u64, claim: u64) -> u64
 pub extern "C" fn tvk_read_i64(s: &[u8]) -> Number
     ensures { λ r. ⌜ r ≡ integerNumber (readOf w64 (now (s .entry))) ⌝ }
 {
-    replies::integer_number(integer::read_i64(s))
+    c_replies::integer_number(integer::read_i64(s))
 }
 
 #[no_mangle]
 pub extern "C" fn tvk_read_i32(s: &[u8]) -> Number
     ensures { λ r. ⌜ r ≡ integerNumber (readOf w32 (now (s .entry))) ⌝ }
 {
-    replies::integer_number(integer::read_i32(s))
+    c_replies::integer_number(integer::read_i32(s))
 }
 
 #[no_mangle]
 pub extern "C" fn tvk_parse_rfc3339_utc(s: &[u8]) -> Number
     ensures { λ r. ⌜ r ≡ stampNumber (stampOf (now (s .entry))) ⌝ }
 {
-    replies::stamp_number(stamp::parse_rfc3339_utc(s))
+    c_replies::stamp_number(stamp::parse_rfc3339_utc(s))
 }
 
 // 1 for text, 0 for anything else.
@@ -93,5 +93,5 @@ pub extern "C" fn tvk_parse_rfc3339_utc(s: &[u8]) -> Number
 pub extern "C" fn tvk_is_text(s: &[u8]) -> u8
     ensures { λ r. ⌜ r ≡ truth (isText (now (s .entry))) ⌝ }
 {
-    replies::truth(text::is_text(s))
+    c_replies::truth(text::is_text(s))
 }

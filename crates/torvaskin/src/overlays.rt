@@ -4,15 +4,15 @@ ghost use mathlib.Core.Path.{_≡_};
 ghost use Rattle.compact.specs.Held.{metaOf};
 ghost use Rattle.overlay.specs.Lent.{lent, left, lentFor, leftFor};
 ghost use Rattle.overlay.specs.Sound.{isSound};
-ghost use Rattle.replies.specs.Overlays.{soundReply, unknownReply};
+ghost use Rattle.c_replies.specs.Overlays.{soundReply, unknownReply};
 ghost use Rattle.torvaskin.specs.Overlays.{setUpReply, allowReply, internReply, pushReply, deleteReply};
-use blocks::COUNTERS;
-use blocks::Sizes;
+use c_replies::Text;
 use compact::ArenaMeta;
 use compact::PushHead;
 use kind::Named;
+use overlay_blocks::COUNTERS;
+use overlay_blocks::Sizes;
 use refusal::Reply;
-use replies::Text;
 
 // 1 for a size outside, or sizes that are not those of the blocks, else an empty overlay. Setting 0 refuses regression, any other allows it.
 #[no_mangle]
@@ -26,7 +26,7 @@ pub extern "C" fn tvk_set_up(
     ensures { λ r. ⌜ record { overlay = leftFor sizes words bytes counters; reply = r }
         ≡ setUpReply sizes setting (lentFor sizes words bytes counters) ⌝ }
 {
-    replies::kept_reply(overlay::set_up(words, bytes, counters, sizes, setting))
+    c_replies::kept_reply(overlay::set_up(words, bytes, counters, sizes, setting))
 }
 
 // 22 for an unsound overlay, else 0.
@@ -34,14 +34,14 @@ pub extern "C" fn tvk_set_up(
 pub extern "C" fn tvk_is_sound(words: &[u64], bytes: &[u8], counters: &[u64; COUNTERS]) -> Reply
     ensures { λ r. ⌜ r ≡ soundReply (isSound (lent words bytes counters)) ⌝ }
 {
-    replies::sound_reply(overlay::is_sound(words, bytes, counters))
+    c_replies::sound_reply(overlay::is_sound(words, bytes, counters))
 }
 
 // The reply where a kind's number means no kind: 22, else 17.
 fn unknown(words: &[u64], bytes: &[u8], counters: &[u64; COUNTERS]) -> Reply
     ensures { λ r. ⌜ r ≡ unknownReply (isSound (lent words bytes counters)) ⌝ }
 {
-    replies::unknown_reply(overlay::is_sound(words, bytes, counters))
+    c_replies::unknown_reply(overlay::is_sound(words, bytes, counters))
 }
 
 // Sets the regression setting: 0 refuses regression, any other number allows it.
@@ -55,7 +55,7 @@ pub extern "C" fn tvk_allow_version_regression(
     ensures { λ r. ⌜ record { overlay = left words bytes counters; reply = r }
         ≡ allowReply setting (lent words bytes counters) ⌝ }
 {
-    replies::kept_reply(overlay::allow_version_regression(words, bytes, counters, setting))
+    c_replies::kept_reply(overlay::allow_version_regression(words, bytes, counters, setting))
 }
 
 // Takes a text in: 22, 3, 13, or its handle.
@@ -69,7 +69,7 @@ pub extern "C" fn tvk_intern(
     ensures { λ r. ⌜ record { overlay = left words bytes counters; reply = r }
         ≡ internReply (now (text .entry)) (lent words bytes counters) ⌝ }
 {
-    replies::handle_text(direct::intern(words, bytes, counters, text))
+    c_replies::handle_text(overlay_direct::intern(words, bytes, counters, text))
 }
 
 // A direct push of a node (kind 0), way (1) or relation (2).
@@ -87,7 +87,7 @@ pub extern "C" fn tvk_push(
         ≡ pushReply kind head meta (now (parts .entry)) (lent words bytes counters) ⌝ }
 {
     match kind::kind_of_number(kind) {
-        Named::Is(k) => replies::kept_reply(direct::push(
+        Named::Is(k) => c_replies::kept_reply(overlay_direct::push(
             words,
             bytes,
             counters,
@@ -114,7 +114,7 @@ pub extern "C" fn tvk_delete(
         ≡ deleteReply kind id (metaOf meta) (lent words bytes counters) ⌝ }
 {
     match kind::kind_of_number(kind) {
-        Named::Is(k) => replies::kept_reply(direct::delete(
+        Named::Is(k) => c_replies::kept_reply(overlay_direct::delete(
             words,
             bytes,
             counters,

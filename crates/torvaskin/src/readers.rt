@@ -2,11 +2,12 @@
 ghost use mathlib.Core.Path.{_≡_};
 ghost use Rattle.overlay.specs.Lent.{lent, left};
 ghost use Rattle.torvaskin.specs.Readers.{eventReply, eventsReply, endReply};
-use blocks::COUNTERS;
+use c_replies::EventReply;
+use c_replies::EventsReply;
+use overlay_blocks::COUNTERS;
 use reader::EventAnswer;
+use reader_stage::STAGED;
 use refusal::Refusal;
-use replies::EventReply;
-use replies::EventsReply;
 
 // An event by its line. Words that are no reader's are 22, and nothing changes.
 #[no_mangle]
@@ -15,21 +16,21 @@ pub extern "C" fn tvk_event(
     bytes: &mut [u8],
     counters: &mut [u64; COUNTERS],
     reader: &mut [u64; 19],
-    parts: &mut [u8; 44432],
+    parts: &mut [u8; STAGED],
     line: &[u8],
 ) -> EventReply
     ensures { λ r. ⌜ record { overlay = left words bytes counters; words = now (reader .exit); parts = now (parts .exit); reply = r }
         ≡ eventReply (now (line .entry)) (lent words bytes counters) (now (reader .entry)) (now (parts .entry)) ⌝ }
 {
-    if reader_words::is_reader(reader) {
-        let read = reader_words::reader_in(reader);
+    if c_reader::is_reader(reader) {
+        let read = c_reader::reader_in(reader);
         let done = reader_calls::event(words, bytes, counters, parts, read, line);
         let after = done.reader;
-        reader_words::put_reader(reader, after);
+        c_reader::put_reader(reader, after);
         let answer = done.answer;
-        return replies::event_reply(answer);
+        return c_replies::event_reply(answer);
     }
-    replies::event_reply(EventAnswer::Refused(Refusal::Unsound, 0))
+    c_replies::event_reply(EventAnswer::Refused(Refusal::Unsound, 0))
 }
 
 // The whole lines of a run as events, up to the first that is refused. What follows the bytes that were taken is the refused line, or the unfinished one, which a caller
@@ -40,21 +41,21 @@ pub extern "C" fn tvk_events(
     bytes: &mut [u8],
     counters: &mut [u64; COUNTERS],
     reader: &mut [u64; 19],
-    parts: &mut [u8; 44432],
+    parts: &mut [u8; STAGED],
     run: &[u8],
 ) -> EventsReply
     ensures { λ r. ⌜ record { overlay = left words bytes counters; words = now (reader .exit); parts = now (parts .exit); reply = r }
         ≡ eventsReply (now (run .entry)) (lent words bytes counters) (now (reader .entry)) (now (parts .entry)) ⌝ }
 {
-    if reader_words::is_reader(reader) {
-        let read = reader_words::reader_in(reader);
+    if c_reader::is_reader(reader) {
+        let read = c_reader::reader_in(reader);
         let done = reader_events::events(words, bytes, counters, parts, read, run);
         let after = done.reader;
-        reader_words::put_reader(reader, after);
+        c_reader::put_reader(reader, after);
         let answer = done.answer;
-        return replies::events_reply(answer, done.taken);
+        return c_replies::events_reply(answer, done.taken);
     }
-    replies::events_reply(EventAnswer::Refused(Refusal::Unsound, 0), 0)
+    c_replies::events_reply(EventAnswer::Refused(Refusal::Unsound, 0), 0)
 }
 
 // The end of a document. It changes nothing.
@@ -64,13 +65,13 @@ pub extern "C" fn tvk_end(
     bytes: &[u8],
     counters: &[u64; COUNTERS],
     reader: &[u64; 19],
-    parts: &[u8; 44432],
+    parts: &[u8; STAGED],
 ) -> EventReply
     ensures { λ r. ⌜ r ≡ endReply (lent words bytes counters) (now (reader .entry)) (now (parts .entry)) ⌝ }
 {
-    if reader_words::is_reader(reader) {
-        let read = reader_words::reader_in(reader);
-        return replies::event_reply(reader_calls::end(words, bytes, counters, parts, read));
+    if c_reader::is_reader(reader) {
+        let read = c_reader::reader_in(reader);
+        return c_replies::event_reply(reader_calls::end(words, bytes, counters, parts, read));
     }
-    replies::event_reply(EventAnswer::Refused(Refusal::Unsound, 0))
+    c_replies::event_reply(EventAnswer::Refused(Refusal::Unsound, 0))
 }

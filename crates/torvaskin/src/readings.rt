@@ -1,30 +1,30 @@
 // The readings of an overlay.
 ghost use mathlib.Core.Path.{_≡_};
-ghost use Rattle.listed.specs.declared.Side.the-variants.{Live, Deleted};
-ghost use Rattle.listed.specs.declared.View.the-variants as view;
+ghost use Rattle.kind_reading.specs.declared.Side.the-variants.{Live, Deleted};
+ghost use Rattle.kind_reading.specs.declared.View.the-variants as view;
 ghost use Rattle.overlay.specs.Lent.{lent};
 ghost use Rattle.overlay.specs.Sound.{isSound};
-ghost use Rattle.reading.specs.declared.Read.the-variants.{Refused};
-ghost use Rattle.reading.specs.Reading.{isEmptyOn, textOn};
-ghost use Rattle.replies.specs.Readings.{readNumber, viewPart, unknownKind};
+ghost use Rattle.overlay_reading.specs.declared.Read.the-variants.{Refused};
+ghost use Rattle.overlay_reading.specs.Reading.{isEmptyOn, textOn};
+ghost use Rattle.c_replies.specs.Readings.{readNumber, viewPart, unknownKind};
 ghost use Rattle.torvaskin.specs.Readings.{countNumber, idNumber, recordPart, getPart, hasNumber, isDeletedNumber, knownNumber, idsReply};
-use blocks::COUNTERS;
+use c_replies::Number;
+use c_replies::Part;
 use kind::Named;
-use listed::Side;
-use replies::Number;
-use replies::Part;
+use kind_reading::Side;
+use overlay_blocks::COUNTERS;
 
 // The replies where a kind's number means no kind.
 fn no_read(words: &[u64], bytes: &[u8], counters: &[u64; COUNTERS]) -> Number
     ensures { λ r. ⌜ r ≡ readNumber (Refused (unknownKind (isSound (lent words bytes counters)))) ⌝ }
 {
-    replies::unknown_number(overlay::is_sound(words, bytes, counters))
+    c_replies::unknown_number(overlay::is_sound(words, bytes, counters))
 }
 
 fn no_view(words: &[u64], bytes: &[u8], counters: &[u64; COUNTERS]) -> Part
     ensures { λ r. ⌜ r ≡ viewPart (view.Refused (unknownKind (isSound (lent words bytes counters)))) ⌝ }
 {
-    replies::unknown_part(overlay::is_sound(words, bytes, counters))
+    c_replies::unknown_part(overlay::is_sound(words, bytes, counters))
 }
 
 // How many ids of a kind are live.
@@ -38,7 +38,13 @@ pub extern "C" fn tvk_live_count(
     ensures { λ r. ⌜ r ≡ countNumber kind Live (lent words bytes counters) ⌝ }
 {
     match kind::kind_of_number(kind) {
-        Named::Is(k) => replies::read_number(reading::count(words, bytes, counters, k, Side::Live)),
+        Named::Is(k) => c_replies::read_number(overlay_reading::count(
+            words,
+            bytes,
+            counters,
+            k,
+            Side::Live,
+        )),
         Named::Unknown => no_read(words, bytes, counters),
     }
 }
@@ -54,7 +60,7 @@ pub extern "C" fn tvk_deleted_count(
     ensures { λ r. ⌜ r ≡ countNumber kind Deleted (lent words bytes counters) ⌝ }
 {
     match kind::kind_of_number(kind) {
-        Named::Is(k) => replies::read_number(reading::count(
+        Named::Is(k) => c_replies::read_number(overlay_reading::count(
             words,
             bytes,
             counters,
@@ -70,7 +76,7 @@ pub extern "C" fn tvk_deleted_count(
 pub extern "C" fn tvk_is_empty(words: &[u64], bytes: &[u8], counters: &[u64; COUNTERS]) -> Number
     ensures { λ r. ⌜ r ≡ readNumber (isEmptyOn (lent words bytes counters)) ⌝ }
 {
-    replies::read_number(reading::is_empty(words, bytes, counters))
+    c_replies::read_number(overlay_reading::is_empty(words, bytes, counters))
 }
 
 // The bits of the n-th live id in OSM order, or 21.
@@ -85,7 +91,7 @@ pub extern "C" fn tvk_live_id(
     ensures { λ r. ⌜ r ≡ idNumber kind Live n (lent words bytes counters) ⌝ }
 {
     match kind::kind_of_number(kind) {
-        Named::Is(k) => replies::read_number(reading::id_at(
+        Named::Is(k) => c_replies::read_number(overlay_reading::id_at(
             words,
             bytes,
             counters,
@@ -109,7 +115,7 @@ pub extern "C" fn tvk_deleted_id(
     ensures { λ r. ⌜ r ≡ idNumber kind Deleted n (lent words bytes counters) ⌝ }
 {
     match kind::kind_of_number(kind) {
-        Named::Is(k) => replies::read_number(reading::id_at(
+        Named::Is(k) => c_replies::read_number(overlay_reading::id_at(
             words,
             bytes,
             counters,
@@ -133,7 +139,13 @@ pub extern "C" fn tvk_record(
     ensures { λ r. ⌜ r ≡ recordPart kind n (lent words bytes counters) ⌝ }
 {
     match kind::kind_of_number(kind) {
-        Named::Is(k) => replies::view_part(reading::record_at(words, bytes, counters, k, n)),
+        Named::Is(k) => c_replies::view_part(overlay_reading::record_at(
+            words,
+            bytes,
+            counters,
+            k,
+            n,
+        )),
         Named::Unknown => no_view(words, bytes, counters),
     }
 }
@@ -150,7 +162,7 @@ pub extern "C" fn tvk_get(
     ensures { λ r. ⌜ r ≡ getPart kind id (lent words bytes counters) ⌝ }
 {
     match kind::kind_of_number(kind) {
-        Named::Is(k) => replies::view_part(reading::get(
+        Named::Is(k) => c_replies::view_part(overlay_reading::get(
             words,
             bytes,
             counters,
@@ -173,7 +185,7 @@ pub extern "C" fn tvk_has(
     ensures { λ r. ⌜ r ≡ hasNumber kind id (lent words bytes counters) ⌝ }
 {
     match kind::kind_of_number(kind) {
-        Named::Is(k) => replies::read_number(reading::has(
+        Named::Is(k) => c_replies::read_number(overlay_reading::has(
             words,
             bytes,
             counters,
@@ -196,7 +208,7 @@ pub extern "C" fn tvk_is_deleted(
     ensures { λ r. ⌜ r ≡ isDeletedNumber kind id (lent words bytes counters) ⌝ }
 {
     match kind::kind_of_number(kind) {
-        Named::Is(k) => replies::read_number(reading::is_deleted(
+        Named::Is(k) => c_replies::read_number(overlay_reading::is_deleted(
             words,
             bytes,
             counters,
@@ -219,7 +231,7 @@ pub extern "C" fn tvk_known_version(
     ensures { λ r. ⌜ r ≡ knownNumber kind id (lent words bytes counters) ⌝ }
 {
     match kind::kind_of_number(kind) {
-        Named::Is(k) => replies::read_number(reading::known_version(
+        Named::Is(k) => c_replies::read_number(overlay_reading::known_version(
             words,
             bytes,
             counters,
@@ -240,7 +252,7 @@ pub extern "C" fn tvk_text(
 ) -> Part
     ensures { λ r. ⌜ r ≡ viewPart (textOn handle (lent words bytes counters)) ⌝ }
 {
-    replies::view_part(reading::text(words, bytes, counters, handle))
+    c_replies::view_part(overlay_reading::text(words, bytes, counters, handle))
 }
 
 // All live or all deleted ids of a kind in OSM order and the known version of each: 22, 17, 19, or how many they are.
@@ -258,8 +270,8 @@ fn ids_number(
 {
     match kind::kind_of_number(kind) {
         Named::Is(k) => {
-            let read = bulk::all_ids(words, bytes, counters, k, side, ids, versions);
-            replies::read_number(read)
+            let read = overlay_ids::all_ids(words, bytes, counters, k, side, ids, versions);
+            c_replies::read_number(read)
         }
         Named::Unknown => no_read(words, bytes, counters),
     }

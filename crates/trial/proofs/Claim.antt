@@ -32,22 +32,22 @@ unfolding mathlib.Core.Option.bind
     Rattle.compact.specs.Legal.legalMeta Rattle.compact.specs.Legal.bodyHandles Rattle.compact.specs.Legal.legalHandles Rattle.compact.specs.Legal.legalTexts Rattle.compact.specs.Legal.inRange Rattle.compact.specs.Legal.valueBytes Rattle.compact.specs.Legal.withinLimits Rattle.compact.specs.Legal.faultOf Rattle.compact.specs.Legal.legal
     Rattle.compact.specs.Held.metaOf Rattle.compact.specs.Held.nodeHead Rattle.compact.specs.Held.countsHead Rattle.compact.specs.Held.headIn
     Rattle.compact.specs.View.metaAt
-    Rattle.append.specs.Append.append
-    Rattle.legal.specs.Judge.faultFor Rattle.legal.specs.Judge.endOf Rattle.legal.specs.Judge.recordEnd
-    Rattle.legal.specs.Whole.afterLegal Rattle.legal.specs.Whole.wholeBy Rattle.legal.specs.Whole.wholeRecords
-    Rattle.table.specs.Rows.risingFrom Rattle.table.specs.Rows.rising
-    Rattle.table.specs.Words.rowsFrom Rattle.table.specs.Words.rowsOf Rattle.table.specs.Words.wordsOf Rattle.table.specs.Words.soundTable Rattle.table.specs.Words.held Rattle.table.specs.Words.halve Rattle.table.specs.Words.answerAt Rattle.table.specs.Words.lookup Rattle.table.specs.Words.rowOver Rattle.table.specs.Words.inserted Rattle.table.specs.Words.storedAt Rattle.table.specs.Words.stored Rattle.table.specs.Words.countAfter
+    Rattle.compact_append.specs.Append.append
+    Rattle.compact_legal.specs.Judge.faultFor Rattle.compact_legal.specs.Judge.endOf Rattle.compact_legal.specs.Judge.recordEnd
+    Rattle.compact_legal.specs.Whole.afterLegal Rattle.compact_legal.specs.Whole.wholeBy Rattle.compact_legal.specs.Whole.wholeRecords
+    Rattle.kind_table.specs.Rows.risingFrom Rattle.kind_table.specs.Rows.rising
+    Rattle.kind_table.specs.Words.rowsFrom Rattle.kind_table.specs.Words.rowsOf Rattle.kind_table.specs.Words.wordsOf Rattle.kind_table.specs.Words.soundTable Rattle.kind_table.specs.Words.held Rattle.kind_table.specs.Words.halve Rattle.kind_table.specs.Words.answerAt Rattle.kind_table.specs.Words.lookup Rattle.kind_table.specs.Words.rowOver Rattle.kind_table.specs.Words.inserted Rattle.kind_table.specs.Words.storedAt Rattle.kind_table.specs.Words.stored Rattle.kind_table.specs.Words.countAfter
     Rattle.kind_store.specs.KindStore.isLive Rattle.kind_store.specs.KindStore.versionAt Rattle.kind_store.specs.KindStore.liveVersion Rattle.kind_store.specs.KindStore.knownOf Rattle.kind_store.specs.KindStore.knownVersion Rattle.kind_store.specs.KindStore.floorOf Rattle.kind_store.specs.KindStore.checked Rattle.kind_store.specs.KindStore.idRoom Rattle.kind_store.specs.KindStore.rowed Rattle.kind_store.specs.KindStore.recordJoined Rattle.kind_store.specs.KindStore.pushed Rattle.kind_store.specs.KindStore.deleted
-    Rattle.sound.specs.Check.comesTo Rattle.sound.specs.Check.idThere Rattle.sound.specs.Check.recordThere Rattle.sound.specs.Check.rowPasses Rattle.sound.specs.Check.soundUsed Rattle.sound.specs.Check.soundKindStore
-    Rattle.blocks.specs.Blocks.endsOf
-    Rattle.blocks.specs.Sizes.kindFits Rattle.blocks.specs.Sizes.stringsFit Rattle.blocks.specs.Sizes.sizesInRange
+    Rattle.kind_sound.specs.Check.comesTo Rattle.kind_sound.specs.Check.idThere Rattle.kind_sound.specs.Check.recordThere Rattle.kind_sound.specs.Check.rowPasses Rattle.kind_sound.specs.Check.soundUsed Rattle.kind_sound.specs.Check.soundKindStore
+    Rattle.overlay_blocks.specs.Blocks.endsOf
+    Rattle.overlay_blocks.specs.Sizes.kindFits Rattle.overlay_blocks.specs.Sizes.stringsFit Rattle.overlay_blocks.specs.Sizes.sizesInRange
     Rattle.overlay.specs.Overlay.kindTiled Rattle.overlay.specs.Overlay.textsTiled Rattle.overlay.specs.Overlay.tiled Rattle.overlay.specs.Overlay.sizesFit
     Rattle.overlay.specs.Sound.kindStoresSound Rattle.overlay.specs.Sound.isSound
-    Rattle.direct.specs.Calls.pushOn Rattle.direct.specs.Calls.deleteOn Rattle.direct.specs.Calls.internOn
-    Rattle.page.specs.Listing.kindField Rattle.page.specs.Listing.versionField Rattle.page.specs.Listing.each Rattle.page.specs.Listing.counted Rattle.page.specs.Listing.bodyFields Rattle.page.specs.Listing.recordFields Rattle.page.specs.Listing.rowFields Rattle.page.specs.Listing.listing
-    Rattle.field.specs.Field.idField Rattle.field.specs.Field.textField Rattle.field.specs.Field.integerField Rattle.field.specs.Field.latitude Rattle.field.specs.Field.longitude Rattle.field.specs.Field.mark Rattle.field.specs.Field.metaWith Rattle.field.specs.Field.metaFrom Rattle.field.specs.Field.metadataOf Rattle.field.specs.Field.tagOf Rattle.field.specs.Field.refOf Rattle.field.specs.Field.memberOf
-    Rattle.decision.specs.Decision.decideEvent Rattle.decision.specs.Decision.decide
-    Rattle.stage.specs.Stage.staged
+    Rattle.overlay_direct.specs.Calls.pushOn Rattle.overlay_direct.specs.Calls.deleteOn Rattle.overlay_direct.specs.Calls.internOn
+    Rattle.listing_page.specs.Listing.kindField Rattle.listing_page.specs.Listing.versionField Rattle.listing_page.specs.Listing.each Rattle.listing_page.specs.Listing.counted Rattle.listing_page.specs.Listing.bodyFields Rattle.listing_page.specs.Listing.recordFields Rattle.listing_page.specs.Listing.rowFields Rattle.listing_page.specs.Listing.listing
+    Rattle.event_fields.specs.Field.idField Rattle.event_fields.specs.Field.textField Rattle.event_fields.specs.Field.integerField Rattle.event_fields.specs.Field.latitude Rattle.event_fields.specs.Field.longitude Rattle.event_fields.specs.Field.mark Rattle.event_fields.specs.Field.metaWith Rattle.event_fields.specs.Field.metaFrom Rattle.event_fields.specs.Field.metadataOf Rattle.event_fields.specs.Field.tagOf Rattle.event_fields.specs.Field.refOf Rattle.event_fields.specs.Field.memberOf
+    Rattle.event_decision.specs.Decision.decideEvent Rattle.event_decision.specs.Decision.decide
+    Rattle.reader_stage.specs.Stage.staged
     Rattle.reader.specs.State.stopsBy Rattle.reader.specs.State.pendingRecord Rattle.reader.specs.State.pendingSound Rattle.reader.specs.State.readerSound Rattle.reader.specs.State.stateSound
     Rattle.reader.specs.Step.takingUser Rattle.reader.specs.Step.stepOf
     Rattle.reader.specs.Event.eventOn Rattle.reader.specs.Event.endOn

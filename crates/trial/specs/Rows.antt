@@ -18,20 +18,20 @@ use Rattle.compact.specs.Held.{metaOf}
 use Rattle.compact.specs.declared.ArenaMeta.{ArenaMeta}
 use Rattle.kind_store.specs.declared.Kept.{Kept}
 use Rattle.kind_store.specs.declared.Kept.the-variants.{Taken, Refused}
-use Rattle.blocks.specs.declared.KindSize.{KindSize}
-use Rattle.blocks.specs.declared.Sizes.{Sizes}
+use Rattle.overlay_blocks.specs.declared.KindSize.{KindSize}
+use Rattle.overlay_blocks.specs.declared.Sizes.{Sizes}
 use Rattle.overlay.specs.Overlay.{withSizes}
 use Rattle.overlay.specs.Lent.{overlayFor}
 use Rattle.overlay.specs.Calls.{allowOn}
-use Rattle.direct.specs.Calls.{pushOn, deleteOn, internOn}
-use Rattle.store.specs.declared.Handle.{Handle}
-use Rattle.store.specs.declared.Handle.the-variants as H
+use Rattle.overlay_direct.specs.Calls.{pushOn, deleteOn, internOn}
+use Rattle.overlay_store.specs.declared.Handle.{Handle}
+use Rattle.overlay_store.specs.declared.Handle.the-variants as H
 use Rattle.reader.specs.declared.EventAnswer.{EventAnswer}
 use Rattle.reader.specs.declared.EventAnswer.the-variants as E
 use Rattle.reader.specs.Event.{eventOn, endOn}
 use Rattle.event.specs.Event.{Attr}
-use Rattle.field.specs.Field as Field
-use Rattle.field.specs.Field.{Field, got, bad, andThen, integerField}
+use Rattle.event_fields.specs.Field as Field
+use Rattle.event_fields.specs.Field.{Field, got, bad, andThen, integerField}
 use Rattle.listing.specs.declared.Listed.{Listed}
 use Rattle.listing.specs.declared.Listed.the-variants as L
 use Rattle.listing.specs.Call.{Output, listingOn}

@@ -8,7 +8,7 @@ use Rattle.signed.proofs.Bits.{held}
 use Rattle.osm_id.specs.Order.{rank}
 use Rattle.version_floor.specs.declared.Admit.the-variants.{Admitted, Below}
 use Rattle.version_floor.specs.declared.Admit.{Admit}
-use Rattle.table.specs.Words.{lookup}
+use Rattle.kind_table.specs.Words.{lookup}
 use Rattle.kind_store.specs.KindStore.{kindStoreWith, KindStore, knownVersion, deletedAs, deleted}
 use Rattle.kind_store.proofs.Acts.{found-as, known-as, checked-as, deleted-as}
 use borrow.Author.Needs.{needs}

@@ -1,6 +1,6 @@
 -- By what the search found.
 use mathlib.Core.Path.{ap}
-use Rattle.table.specs.declared.Row.{Row}
+use Rattle.kind_table.specs.declared.Row.{Row}
 use borrow.Author.Needs.{needs}
 use Rattle.kind_store.proofs.floor_found.Statement.{statement}
 use Rattle.kind_store.proofs.floor_found.Tie as tie

@@ -1,7 +1,7 @@
 -- The version of what the search finds; the used count is not read.
 use mathlib.Core.Path.{_∙_, ap}
 use denote.Ref.{now}
-use Rattle.table.specs.Words.{lookup}
+use Rattle.kind_table.specs.Words.{lookup}
 use Rattle.kind_store.specs.KindStore.{knownVersion, knownAt}
 use borrow.Author.Needs.{needs}
 use Rattle.kind_store.proofs.known_version.Statement.{statement}

@@ -2,7 +2,7 @@
 use native.Mathlib.Numerals.{add-one}
 use native.Mathlib.Omega.{arith}
 use denote.Ref.{now}
-use Rattle.table.specs.Words.{countAfter}
+use Rattle.kind_table.specs.Words.{countAfter}
 use Rattle.kind_store.proofs.Acts.{set-as}
 use borrow.Author.Needs.{needs}
 use Rattle.kind_store.proofs.set_row.Statement.{statement}

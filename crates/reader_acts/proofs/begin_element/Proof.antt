@@ -5,7 +5,7 @@ use Rattle.model.specs.Record.{Meta, flagged}
 use Rattle.base.specs.Bytes.{Bytes}
 use Rattle.overlay.specs.Overlay.{Overlay}
 use Rattle.overlay.specs.Lent.{overlayIn}
-use Rattle.metadata.specs.Metadata.{metaWritten}
+use Rattle.event_metadata.specs.Metadata.{metaWritten}
 use Rattle.reader_acts.proofs.Laws.{begin-named, begin-unnamed}
 use borrow.Author.Needs.{needs}
 use Rattle.reader_acts.proofs.begin_element.Statement.{statement}

@@ -1,6 +1,6 @@
 -- A handle that fits is kept.
 use mathlib.Core.Path.{refl, _∙_, ap}
-use Rattle.metadata.specs.Metadata.{metaWritten}
+use Rattle.event_metadata.specs.Metadata.{metaWritten}
 use Rattle.reader.specs.Step.{bitsWithUser}
 use Rattle.reader_acts.specs.declared.Begun.the-variants as B
 use borrow.Author.Needs.{needs}

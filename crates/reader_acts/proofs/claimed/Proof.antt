@@ -6,7 +6,7 @@ use mir.Facts.{sfits-toZ, fits-of-lt}
 use Rattle.model.specs.Record.{claimOf}
 use Rattle.compact.specs.Held.{metaOf}
 use Rattle.compact.specs.declared.ArenaMeta.{ArenaMeta}
-use Rattle.metadata.specs.Metadata.{metaWritten}
+use Rattle.event_metadata.specs.Metadata.{metaWritten}
 use Rattle.reader_acts.proofs.Bits.{claim-bits}
 use borrow.Author.Needs.{needs}
 use Rattle.reader_acts.proofs.claimed.Statement.{statement}

@@ -7,7 +7,7 @@ use Rattle.base.specs.Bytes.{Bytes}
 use Rattle.model.specs.Record.{Meta}
 use Rattle.overlay.specs.Overlay.{Overlay}
 use Rattle.overlay.specs.Lent.{overlayIn}
-use Rattle.metadata.specs.Metadata.{metaWritten}
+use Rattle.event_metadata.specs.Metadata.{metaWritten}
 use Rattle.reader_acts.proofs.Once.{behind, delete-done, delete-not}
 use borrow.Author.Needs.{needs}
 use Rattle.reader_acts.proofs.delete_element.Statement.{statement}

@@ -9,8 +9,8 @@ use Rattle.base.specs.Bytes.{Bytes}
 use Rattle.model.specs.Record.{Meta}
 use Rattle.overlay.specs.Overlay.{Overlay}
 use Rattle.overlay.specs.Lent.{overlayIn}
-use Rattle.metadata.specs.Metadata.{metaWritten}
-use Rattle.values.specs.Value.{bodyIn}
+use Rattle.event_metadata.specs.Metadata.{metaWritten}
+use Rattle.event_values.specs.Value.{bodyIn}
 use Rattle.reader_acts.proofs.Bits.{kind-read}
 use Rattle.reader_acts.proofs.Once.{empty-done, empty-not}
 use borrow.Author.Needs.{needs}

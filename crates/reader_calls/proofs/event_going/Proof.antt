@@ -5,7 +5,7 @@ use lib.Seq.{length-take-le}
 use denote.Ref.{now}
 use Rattle.overlay.specs.Lent.{overlayIn}
 use Rattle.reader.specs.State.{State}
-use Rattle.scan.proofs.Lines.{judged, judged-part}
+use Rattle.event_scan.proofs.Lines.{judged, judged-part}
 use Rattle.reader_sound.proofs.Sound.{sound-lines}
 use Rattle.reader_calls.proofs.Events.{event-steps}
 use borrow.Author.Needs.{needs}

@@ -4,7 +4,7 @@ use mathlib.Core.Path.{sym, _∙_}
 use native.Mathlib.Omega.{arith}
 use Rattle.overlay.specs.Lent.{overlayIn}
 use Rattle.reader.specs.State.{State}
-use Rattle.lines.proofs.Places.{next-line}
+use Rattle.input_lines.proofs.Places.{next-line}
 use Rattle.reader_events.proofs.Runs.{event-part, point-line, point-none, behind-within}
 use borrow.Author.Needs.{needs}
 use Rattle.reader_events.proofs.next_event.Statement.{statement}

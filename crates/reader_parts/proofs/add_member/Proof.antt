@@ -5,7 +5,7 @@ use denote.Ref.{now}
 use mir.Syntax.{w64}
 use mir.Val.{Fits, toZ}
 use mir.Facts.{ofZ-toZ, fits-of-lt}
-use Rattle.values.specs.Value.{textAt}
+use Rattle.event_values.specs.Value.{textAt}
 use Rattle.overlay.specs.Lent.{overlayIn}
 use Rattle.reader_parts.proofs.Adds.{TextChild, memberChild, part-yes, handle-fits, staged-left, refused-left, over-left}
 use borrow.Author.Needs.{needs}

@@ -2,7 +2,7 @@
 use mathlib.Core.Path.{sym, _∙_}
 use denote.Ref.{now}
 use lib.ListN.{length}
-use Rattle.values.specs.Value.{textAt}
+use Rattle.event_values.specs.Value.{textAt}
 use Rattle.overlay.specs.Lent.{overlayIn}
 use Rattle.reader_parts.proofs.Adds.{TextChild, tagChild, fits-yes, handle-fits, staged-left, refused-left, over-left}
 use borrow.Author.Needs.{needs}

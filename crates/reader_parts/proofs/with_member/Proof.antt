@@ -1,8 +1,8 @@
 -- The used bytes are within bounds, so they are as given.
 use denote.Ref.{now}
 use lib.ListN.{length}
-use Rattle.stage.specs.Stage.{memberPart}
-use Rattle.stage.proofs.Gaps.{length-member-part}
+use Rattle.reader_stage.specs.Stage.{memberPart}
+use Rattle.reader_stage.proofs.Gaps.{length-member-part}
 use Rattle.reader_parts.proofs.Adds.{part-grown, as-used}
 use borrow.Author.Needs.{needs}
 use Rattle.reader_parts.proofs.with_member.Statement.{statement}

@@ -1,7 +1,7 @@
 -- The used bytes are within bounds, so they are as given.
 use denote.Ref.{now}
 use lib.ListN.{length}
-use Rattle.stage.specs.Stage.{refPart}
+use Rattle.reader_stage.specs.Stage.{refPart}
 use Rattle.little.proofs.Littles.{length-le}
 use Rattle.reader_parts.proofs.Adds.{part-grown, as-used}
 use borrow.Author.Needs.{needs}

@@ -2,8 +2,8 @@
 use mathlib.Core.Path.{refl}
 use denote.Ref.{now}
 use lib.ListN.{length}
-use Rattle.stage.specs.Stage.{tagPart}
-use Rattle.stage.proofs.Gaps.{length-tag-part}
+use Rattle.reader_stage.specs.Stage.{tagPart}
+use Rattle.reader_stage.proofs.Gaps.{length-tag-part}
 use Rattle.reader_parts.proofs.Adds.{part-grown, as-used}
 use borrow.Author.Needs.{needs}
 use Rattle.reader_parts.proofs.with_tag.Statement.{statement}

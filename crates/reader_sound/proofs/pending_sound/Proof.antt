@@ -6,7 +6,7 @@ use lib.ListN.{length}
 use lib.Seq.{length-take-le}
 use borrow.Author.Tests.{le-leb, lt-leb}
 use Rattle.reader_sound.proofs.Sound.{pending-faulted, pending-beyond}
-use Rattle.legal.specs.declared.Fault.the-variants as F
+use Rattle.compact_legal.specs.declared.Fault.the-variants as F
 use borrow.Author.Needs.{needs}
 use Rattle.reader_sound.proofs.pending_sound.Statement.{statement}
 use Rattle.reader_sound.proofs.pending_sound.Tie as tie

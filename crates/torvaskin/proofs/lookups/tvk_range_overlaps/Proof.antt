@@ -1,7 +1,7 @@
 -- The reply is that of `sorted::range_overlaps`.
 use mathlib.Core.Path.{_∙_, ap}
 use mir.Facts.{toZ-ofZ}
-use Rattle.replies.specs.Lookups.{overlapNumber}
+use Rattle.c_replies.specs.Lookups.{overlapNumber}
 use Rattle.torvaskin.proofs.lookups.tvk_range_overlaps.Statement.{statement}
 use Rattle.torvaskin.proofs.lookups.tvk_range_overlaps.Tie as tie
 

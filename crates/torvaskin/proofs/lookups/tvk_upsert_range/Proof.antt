@@ -1,7 +1,7 @@
 -- The reply is that of `sorted::upsert_range`.
 use mathlib.Core.Path.{_∙_, ap}
 use mir.Facts.{toZ-ofZ}
-use Rattle.replies.specs.Lookups.{spanPlaces}
+use Rattle.c_replies.specs.Lookups.{spanPlaces}
 use Rattle.torvaskin.proofs.lookups.tvk_upsert_range.Statement.{statement}
 use Rattle.torvaskin.proofs.lookups.tvk_upsert_range.Tie as tie
 

@@ -1,5 +1,5 @@
 use mathlib.Core.Path.{_∙_, ap}
-use Rattle.replies.specs.Numbers.{integerNumber}
+use Rattle.c_replies.specs.Numbers.{integerNumber}
 use Rattle.torvaskin.proofs.numbers.tvk_read_i32.Statement.{statement}
 use Rattle.torvaskin.proofs.numbers.tvk_read_i32.Tie as tie
 

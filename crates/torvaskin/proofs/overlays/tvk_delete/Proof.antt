@@ -1,4 +1,4 @@
--- What `direct::delete` leaves and answers; or nothing changes, and 22 or 17 is replied.
+-- What `overlay_direct::delete` leaves and answers; or nothing changes, and 22 or 17 is replied.
 use Rattle.signed.proofs.Bits.{bits-back}
 use Rattle.torvaskin.specs.Overlays.{deleteReply}
 use Rattle.torvaskin.proofs.OverlayReplies.{replied-is, unknown-is}

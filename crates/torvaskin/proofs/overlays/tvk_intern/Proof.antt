@@ -1,4 +1,4 @@
--- The lent storage and the reply are those of `direct::intern`.
+-- The lent storage and the reply are those of `overlay_direct::intern`.
 use Rattle.torvaskin.specs.Overlays.{internReply}
 use Rattle.torvaskin.proofs.OverlayReplies.{interned-is}
 use borrow.Author.Needs.{needs}

@@ -1,4 +1,4 @@
--- What `direct::push` leaves and answers; or nothing changes, and 22 or 17 is replied.
+-- What `overlay_direct::push` leaves and answers; or nothing changes, and 22 or 17 is replied.
 use Rattle.torvaskin.specs.Overlays.{pushReply}
 use Rattle.torvaskin.proofs.OverlayReplies.{replied-is, unknown-is}
 use borrow.Author.Needs.{needs}

@@ -1,4 +1,4 @@
--- The number of `reading::is_empty`.
+-- The number of `overlay_reading::is_empty`.
 use borrow.Author.Needs.{needs}
 use Rattle.torvaskin.proofs.readings.tvk_is_empty.Statement.{statement}
 use Rattle.torvaskin.proofs.readings.tvk_is_empty.Tie as tie

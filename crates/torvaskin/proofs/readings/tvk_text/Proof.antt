@@ -1,4 +1,4 @@
--- The part of `reading::text`.
+-- The part of `overlay_reading::text`.
 use borrow.Author.Needs.{needs}
 use Rattle.torvaskin.proofs.readings.tvk_text.Statement.{statement}
 use Rattle.torvaskin.proofs.readings.tvk_text.Tie as tie
