@@ -1,4 +1,4 @@
-// Records (compact.rs): how nodes, ways and relations lie in an arena, and how they are read. Crate `append` writes them.
+// Records (compact.rs): how nodes, ways and relations lie in an arena, and how they are read. Crate `compact_append` writes them.
 // Signed numbers are held as their bits.
 ghost use mathlib.Core.Path.{_≡_};
 ghost use Prim.Native.Nat.{_+_};

@@ -1,4 +1,4 @@
-// The overlay (parse.rs) over lent storage: set-up, soundness, and the regression setting. It is lent as two blocks and its counters (crate `blocks`).
+// The overlay (parse.rs) over lent storage: set-up, soundness, and the regression setting. It is lent as two blocks and its counters (crate `overlay_blocks`).
 ghost use mathlib.Core.Path.{_≡_};
 ghost use Prim.Native.Nat.{_<_};
 ghost use lib.ListN.{length, set};

@@ -1,4 +1,4 @@
-// The program: event lines from standard input, the listing or the `refused` line to standard output. What it takes in and prints is proved in `intake` and `roadlist_page`; here is what
+// The program: event lines from standard input, the listing or the `refused` line to standard output. What it takes in and prints is proved in `input_pieces` and `roadlist_page`; here is what
 // it lends, and what it reads and writes.
 use input_pieces::Fed;
 use libc::STDERR_FILENO;

@@ -1,4 +1,4 @@
-// What the program `roadlist` prints: the listing or the `refused` line, at the end of its input. Before that pieces are taken in (crate `intake`).
+// What the program `roadlist` prints: the listing or the `refused` line, at the end of its input. Before that pieces are taken in (crate `input_pieces`).
 ghost use mathlib.Core.Path.{_≡_};
 ghost use mathlib.Core.Bool.{true};
 ghost use Prim.Native.Nat.{_≤_, _<_, min};
