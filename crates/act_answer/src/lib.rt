@@ -1,4 +1,5 @@
 // Whether an act's claim is below the known version of its id (12), with nothing changed: of an act that is refused before the store decides it.
+#![tactic(auto)]
 ghost use Rattle.std.specs.Prelude.{◌≡◌};
 ghost use Rattle.std.specs.Int.{w64};
 ghost use Rattle.std.proofs.Common.{to_z};
@@ -13,7 +14,7 @@ use version_floor::{Admit, Version, VersionFloor};
 
 // The known version of an id.
 fn known_in(words: &[u64], bytes: &[u8], counters: &[u64; COUNTERS], kind: Kind, id: u64) -> Version
-    ensures { result ≡ known_version kind (kind_store_of kind (lent words bytes counters)) (to_z w64 id) }
+    ensures { result ≡ known_version kind (kind_store_of kind (lent words.now bytes.now counters.now)) (to_z w64 id) }
 {
     let p = overlay_blocks::part_in(kind, counters, words.len(), bytes.len());
     let from = p.from;
@@ -34,7 +35,7 @@ pub fn claim_below(
     id: u64,
     claim: Version,
 ) -> Admit
-    ensures { result ≡ claim_answer kind (to_z w64 id) claim (lent words bytes counters) }
+    ensures { result ≡ claim_answer kind (to_z w64 id) claim (lent words.now bytes.now counters.now) }
 {
     if counters[SETTING] == 0 {
         let known = known_in(words, bytes, counters, kind, id);

@@ -1,4 +1,5 @@
 // What the C entries reply: a struct of numbers for each kind of answer, and each answer as its struct.
+#![tactic(auto)]
 ghost use Rattle.std.specs.Prelude.{◌≡◌};
 ghost use Rattle.kind_reading.specs.declared.View.TheVariants as view;
 ghost use Rattle.overlay_reading.specs.declared.Read.TheVariants.{Refused};
@@ -26,7 +27,7 @@ use version_floor::Admit;
 
 // A number that was read: 0 with it, or the refusal with 0.
 #[repr(C)]
-#[derive(Drop)]
+#[derive(Clone, Copy)]
 pub struct Number {
     pub number: u32,
     pub value: u64,
@@ -87,7 +88,7 @@ pub fn stamp_number(at: Stamp) -> Number
 
 // What `intern` replies: 0 with the text's handle, or the refusal with 0.
 #[repr(C)]
-#[derive(Drop)]
+#[derive(Clone, Copy)]
 pub struct Text {
     pub number: u32,
     pub handle: u64,
@@ -136,7 +137,7 @@ pub fn unknown_reply(sound: bool) -> Reply
 
 // 0 for what is accepted, with zeros; else the refusal's number, with the known version for 12 and the event's line.
 #[repr(C)]
-#[derive(Drop)]
+#[derive(Clone, Copy)]
 pub struct EventReply {
     pub number: u32,
     pub held: i32,
@@ -165,7 +166,7 @@ pub fn event_reply(answer: EventAnswer) -> EventReply
 
 // The same for a run, with how many of its bytes were taken.
 #[repr(C)]
-#[derive(Drop)]
+#[derive(Clone, Copy)]
 pub struct EventsReply {
     pub number: u32,
     pub held: i32,
@@ -199,7 +200,7 @@ pub fn events_reply(answer: EventAnswer, taken: usize) -> EventsReply
 
 // Where something lies: 0 and found 1 with its start and length; 0 and found 0 where there is nothing; or the refusal.
 #[repr(C)]
-#[derive(Drop)]
+#[derive(Clone, Copy)]
 pub struct Part {
     pub number: u32,
     pub found: u32,
@@ -274,7 +275,7 @@ pub fn unknown_part(sound: bool) -> Part
 
 // 0 with the first place and one past the last, or 20 with 0 and 0.
 #[repr(C)]
-#[derive(Drop)]
+#[derive(Clone, Copy)]
 pub struct Places {
     pub number: u32,
     pub from: usize,
@@ -283,7 +284,7 @@ pub struct Places {
 
 // 0 or 20; where an id was found; where the cursor stands.
 #[repr(C)]
-#[derive(Drop)]
+#[derive(Clone, Copy)]
 pub struct Cursor {
     pub number: u32,
     pub found: usize,
@@ -373,7 +374,7 @@ pub fn sought_cursor(answer: Sought, place: usize) -> Cursor
 
 // 0 with the listing's length, or the refusal with 0.
 #[repr(C)]
-#[derive(Drop)]
+#[derive(Clone, Copy)]
 pub struct ListingReply {
     pub number: u32,
     pub length: usize,

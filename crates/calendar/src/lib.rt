@@ -1,4 +1,6 @@
 // The Gregorian calendar: leap years, month lengths, and the days before a month and before a year.
+#![tactic(auto)]
+
 ghost use Rattle.std.specs.Prelude.{◌≡◌, ◌-◌};
 ghost use Rattle.calendar.specs.Calendar.{leap, month_days, months_days, years_days};
 

@@ -1,1 +1,2 @@
 // Lists of calls on an overlay: laws alone, no code.
+#![tactic(auto)]

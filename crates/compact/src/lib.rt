@@ -1,5 +1,7 @@
 // Records (compact.rs): how nodes, ways and relations lie in an arena, and how they are read. Crate `compact_append` writes them.
 // Signed numbers are held as their bits.
+#![tactic(auto)]
+
 ghost use Rattle.std.specs.Prelude.{◌≡◌, ◌+◌, ltb};
 ghost use Rattle.kind.specs.declared.Kind.TheVariants.{Node, Way, Relation};
 ghost use Rattle.model.specs.Record.{claim_of};
@@ -16,7 +18,7 @@ use version_floor::Version;
 pub const META_LEN: usize = 29;
 
 #[repr(C)]
-#[derive(Drop)]
+#[derive(Clone, Copy)]
 pub struct ArenaMeta {
     pub flags: u8,
     pub version: u32,
@@ -26,7 +28,7 @@ pub struct ArenaMeta {
     pub user: u32,
 }
 
-#[derive(Drop)]
+#[derive(Clone, Copy)]
 pub struct CompactNode {
     pub id: u64,
     pub lat: u32,
@@ -34,14 +36,14 @@ pub struct CompactNode {
     pub tag_count: u32,
 }
 
-#[derive(Drop)]
+#[derive(Clone, Copy)]
 pub struct CompactWay {
     pub id: u64,
     pub ref_count: u32,
     pub tag_count: u32,
 }
 
-#[derive(Drop)]
+#[derive(Clone, Copy)]
 pub struct CompactRelation {
     pub id: u64,
     pub member_count: u32,
@@ -50,7 +52,7 @@ pub struct CompactRelation {
 
 // A record's head as a direct push gives it, in bits. A node's count is not looked at, nor a way's or a relation's place.
 #[repr(C)]
-#[derive(Drop)]
+#[derive(Clone, Copy)]
 pub struct PushHead {
     pub id: u64,
     pub lat: u32,
@@ -59,7 +61,7 @@ pub struct PushHead {
     pub tags: u32,
 }
 
-#[derive(Drop)]
+#[derive(Clone, Copy)]
 pub struct CompactMember {
     pub reference: u64,
     pub kind: u8,
@@ -67,32 +69,32 @@ pub struct CompactMember {
 }
 
 // What a user's reader of a head or of metadata answers: the value, or 22 where the bytes are cut short.
-#[derive(Drop)]
+#[derive(Clone, Copy)]
 pub enum NodeRead {
     Is(CompactNode),
     Unsound,
 }
 
-#[derive(Drop)]
+#[derive(Clone, Copy)]
 pub enum WayRead {
     Is(CompactWay),
     Unsound,
 }
 
-#[derive(Drop)]
+#[derive(Clone, Copy)]
 pub enum RelationRead {
     Is(CompactRelation),
     Unsound,
 }
 
-#[derive(Drop)]
+#[derive(Clone, Copy)]
 pub enum MetaRead {
     Is(ArenaMeta),
     Unsound,
 }
 
 // What a ref step answers: no refs are left; no ref stands here (22); or a ref, in bits, and the offset of the next.
-#[derive(Drop)]
+#[derive(Clone, Copy)]
 pub enum RefStep {
     Done,
     Unsound,
@@ -100,7 +102,7 @@ pub enum RefStep {
 }
 
 // The same for a member: 22 also where its type byte is none of 0, 1 and 2.
-#[derive(Drop)]
+#[derive(Clone, Copy)]
 pub enum MemberStep {
     Done,
     Unsound,
@@ -114,7 +116,7 @@ pub enum MemberStep {
 
 // What a tag step answers: no tags are left; no tag stands here (22); or a tag, its key's handle and where its value lies.
 // The next tag stands at the value's end.
-#[derive(Drop)]
+#[derive(Clone, Copy)]
 pub enum TagStep {
     Done,
     Unsound,
@@ -122,14 +124,14 @@ pub enum TagStep {
 }
 
 // Where a record's tags begin, and how many remain there.
-#[derive(Drop)]
+#[derive(Clone, Copy)]
 pub struct TagPlace {
     pub offset: usize,
     pub remaining: u32,
 }
 
 // A tag step and the place that it leaves: past the tag that it yields, else where it was.
-#[derive(Drop)]
+#[derive(Clone, Copy)]
 pub struct TagTurn {
     pub step: TagStep,
     pub offset: usize,
@@ -137,7 +139,7 @@ pub struct TagTurn {
 }
 
 // "`CompactTagIter` carries the record's bytes with the offset and the tags remaining".
-#[derive(Drop)]
+#[derive(Clone, Copy)]
 pub struct CompactTagIter<'a> {
     pub bytes: &'a [u8],
     pub offset: usize,

@@ -1,4 +1,6 @@
 // Appends to an arena (compact.rs): a record's head, its metadata and its parts, written into the unused bytes.
+#![tactic(auto)]
+
 ghost use Rattle.std.specs.Prelude.{◌≡◌, ◌+◌, ltb};
 ghost use Rattle.kind.specs.declared.Kind.TheVariants.{Node, Way, Relation};
 ghost use Rattle.little.specs.Little.{over};
@@ -9,7 +11,7 @@ ghost use Rattle.compact_append.specs.Append.{record_written, append};
 use compact::{ArenaMeta, CompactNode, CompactRelation, CompactWay};
 
 // What an append answers: where the used bytes end now, or that the record is longer than the unused bytes (15).
-#[derive(Drop)]
+#[derive(Clone, Copy)]
 pub enum Appended {
     End(usize),
     Full,
@@ -92,7 +94,7 @@ pub fn append_node(
     meta: ArenaMeta,
     parts: &[u8],
 ) -> Appended
-    ensures { record { arena = arena.exit.now; answer = result } ≡ append arena.entry.now used (record_written Node (node_head head) (meta_of meta) parts.now) }
+    ensures { record { arena = arena.new; answer = result } ≡ append arena.old used (record_written Node (node_head head) (meta_of meta) parts.now) }
 {
     if lacks(arena.len(), used, CompactNode::HEADER_LEN, parts.len()) {
         return Appended::Full;
@@ -111,7 +113,7 @@ fn append_counted(
     meta: ArenaMeta,
     parts: &[u8],
 ) -> Appended
-    ensures { record { arena = arena.exit.now; answer = result } ≡ append arena.entry.now used (record_written Way (counts_head id count tags) (meta_of meta) parts.now) }
+    ensures { record { arena = arena.new; answer = result } ≡ append arena.old used (record_written Way (counts_head id count tags) (meta_of meta) parts.now) }
 {
     if lacks(arena.len(), used, CompactWay::HEADER_LEN, parts.len()) {
         return Appended::Full;
@@ -127,7 +129,7 @@ pub fn append_way(
     meta: ArenaMeta,
     parts: &[u8],
 ) -> Appended
-    ensures { record { arena = arena.exit.now; answer = result } ≡ append arena.entry.now used (record_written Way (way_head head) (meta_of meta) parts.now) }
+    ensures { record { arena = arena.new; answer = result } ≡ append arena.old used (record_written Way (way_head head) (meta_of meta) parts.now) }
 {
     append_counted(
         arena,
@@ -147,7 +149,7 @@ pub fn append_relation(
     meta: ArenaMeta,
     parts: &[u8],
 ) -> Appended
-    ensures { record { arena = arena.exit.now; answer = result } ≡ append arena.entry.now used (record_written Relation (relation_head head) (meta_of meta) parts.now) }
+    ensures { record { arena = arena.new; answer = result } ≡ append arena.old used (record_written Relation (relation_head head) (meta_of meta) parts.now) }
 {
     append_counted(
         arena,

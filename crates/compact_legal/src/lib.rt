@@ -1,4 +1,6 @@
 // Which records are legal, and the one check that decides it: for a direct push, and for the records of an arena.
+#![tactic(auto)]
+
 ghost use Rattle.std.specs.Prelude.{◌≡◌, ◌+◌, ◌<◌, ◌≤◌, leb, nat_abs, length, drop};
 ghost use Rattle.std.specs.Int.{w32};
 ghost use Rattle.std.proofs.Common.{to_z};
@@ -16,28 +18,28 @@ use kind::Kind;
 use refusal::Refusal;
 
 // The check's answer to a direct push.
-#[derive(Drop)]
+#[derive(Clone, Copy)]
 pub enum Fault {
     Legal,
     Refused(Refusal),
 }
 
 // Where something ends that is as it should be.
-#[derive(Drop)]
+#[derive(Clone, Copy)]
 pub enum End {
     At(usize),
     Bad,
 }
 
 // The check's answer to a record's parts: where they end, or why they are refused.
-#[derive(Drop)]
+#[derive(Clone, Copy)]
 enum Verdict {
     Legal(usize),
     Refused(Refusal),
 }
 
 // Where tags end, each whole and of a key that is held; and whether each value is text.
-#[derive(Drop)]
+#[derive(Clone, Copy)]
 struct TagRun {
     end: End,
     text: bool,

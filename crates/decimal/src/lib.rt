@@ -1,4 +1,6 @@
 // Decimal numbers into lent bytes ("Numbers are decimal"): the digits of a number, and an integer with its minus sign.
+#![tactic(auto)]
+
 ghost use Rattle.std.specs.Prelude.{◌≡◌, ◌∷◌, ◌+◌, ◌<◌, ◌≤◌, length};
 ghost use Rattle.std.specs.Int.{w32, w64};
 ghost use Rattle.std.proofs.Common.{to_z};
@@ -7,7 +9,7 @@ ghost use Rattle.little.specs.Little.{over};
 ghost use Rattle.decimal.specs.Put.{put_text};
 
 // Where what was written ends, or that there was no room for it.
-#[derive(Drop)]
+#[derive(Clone, Copy)]
 pub enum Written {
     End(usize),
     Full,

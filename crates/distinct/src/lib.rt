@@ -1,12 +1,14 @@
 // Runs of bytes compared: whether two are the same, and whether no two of many are. For many their indexes are sorted, and the order is checked. Nothing is proved of the
 // sort; where the check does not hold, nothing is told.
+#![tactic(auto)]
+
 ghost use Rattle.std.specs.Prelude.{◌≡◌, true, ◌+◌, ◌*◌, ◌<◌, ◌≤◌, length, get_or, take, drop, set};
 ghost use Rattle.base.specs.Bytes.{same};
 ghost use Rattle.distinct.specs.Distinct.{distinct, run_start, run_length, run_in, runs_in, RightOf};
 ghost use Rattle.distinct.specs.Check.{ComparedAs, Placed, IndexesAs, RisesAs};
 
 // Whether no two of some runs are equal, two are, or neither is known.
-#[derive(Drop)]
+#[derive(Clone, Copy)]
 pub enum Distinctness {
     Distinct,
     Twice,
@@ -14,7 +16,7 @@ pub enum Distinctness {
 }
 
 // A run compared with another, shorter runs being less.
-#[derive(Drop)]
+#[derive(Clone, Copy)]
 enum Compared {
     Less,
     Same,

@@ -1,5 +1,7 @@
 // What an event is to do, decided from its line and the place of its reader alone: line, nesting, fields.
 // Numbers are held as their bits; a text is where it is written in the line, with its escapes.
+#![tactic(auto)]
+
 ghost use Rattle.std.specs.Prelude.{◌≡◌, ◌+◌};
 ghost use Rattle.std.proofs.Math.Seq.{slice};
 ghost use Rattle.base.specs.Bytes.{Bytes};
@@ -20,7 +22,7 @@ use nesting::{Action, Child, Level, Opened, Place};
 use refusal::Refusal;
 
 // An element that is to be pushed, and ends too where it is empty; a node's place in bits, 0 for another kind.
-#[derive(Drop)]
+#[derive(Clone, Copy)]
 pub struct Beginning {
     pub empty: bool,
     pub kind: Kind,
@@ -32,7 +34,7 @@ pub struct Beginning {
 }
 
 // An id of a kind that is to be deleted.
-#[derive(Drop)]
+#[derive(Clone, Copy)]
 pub struct Deletion {
     pub kind: Kind,
     pub place: Place,
@@ -41,20 +43,20 @@ pub struct Deletion {
 }
 
 // A tag, a ref, a member of the element that stands open.
-#[derive(Drop)]
+#[derive(Clone, Copy)]
 pub struct NewTag {
     pub place: Place,
     pub key: Extent,
     pub value: Extent,
 }
 
-#[derive(Drop)]
+#[derive(Clone, Copy)]
 pub struct NewRef {
     pub place: Place,
     pub reference: u64,
 }
 
-#[derive(Drop)]
+#[derive(Clone, Copy)]
 pub struct NewMember {
     pub place: Place,
     pub reference: u64,
@@ -63,7 +65,7 @@ pub struct NewMember {
 }
 
 // What an event is to do; each but a refusal says where its reader stands after it.
-#[derive(Drop)]
+#[derive(Clone, Copy)]
 pub enum Decided {
     // 2 to 11
     Refuses(Refusal),
@@ -81,7 +83,7 @@ pub enum Decided {
 // ---- an element begins
 
 // An element's id and metadata, or the refusal of one of them.
-#[derive(Drop)]
+#[derive(Clone, Copy)]
 enum HeadField {
     Is { id: u64, meta: Metadata },
     Bad(Refusal),

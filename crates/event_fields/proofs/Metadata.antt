@@ -67,6 +67,7 @@ among_flags has_user = Memᴰ.tail (Memᴰ.tail (Memᴰ.head refl))
 among_flags has_version = Memᴰ.tail (Memᴰ.tail (Memᴰ.tail (Memᴰ.head refl)))
 
 pub all_at : {A : Type 0} (p : A → Bool) (xs : List A) {x : A} → all p xs ≡ true → Memᴰ x xs → p x ≡ true
+all_at {A = A} p [] h x4 = elim x4 [ ]
 all_at p (y ∷ xs) h (Memᴰ.head e) = rw e (all_head p y xs h)
 all_at p (y ∷ xs) h (Memᴰ.tail m) = all_at p xs (all_tail p y xs h) m
 

@@ -1,4 +1,6 @@
 // The metadata of an element, read from the attributes of its line in their order. Numbers are held as their bits; the user is where it is written in the line.
+#![tactic(auto)]
+
 ghost use Rattle.std.specs.Prelude.{◌≡◌, cond, ◌+◌, ◌≤◌, ltb};
 ghost use Rattle.std.proofs.Math.Seq.{slice};
 ghost use Rattle.event_scan.specs.Piece.{value_text};
@@ -16,7 +18,7 @@ use refusal::Refusal;
 use stamp::Stamp;
 
 // What is not given is 0, and the user the empty extent.
-#[derive(Drop)]
+#[derive(Clone, Copy)]
 pub struct Metadata {
     pub flags: u8,
     pub version: u32,
@@ -27,7 +29,7 @@ pub struct Metadata {
 }
 
 // Metadata, or the refusal of one of its attributes.
-#[derive(Drop)]
+#[derive(Clone, Copy)]
 pub enum MetaField {
     Is(Metadata),
     Bad(Refusal),
@@ -35,7 +37,7 @@ pub enum MetaField {
 
 // ---- one attribute
 
-#[derive(Drop)]
+#[derive(Clone, Copy)]
 enum MetaName {
     Version,
     Timestamp,

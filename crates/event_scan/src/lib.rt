@@ -1,4 +1,6 @@
 // Event lines: what a line is, and where its name and attributes stand.
+#![tactic(auto)]
+
 ghost use Rattle.std.specs.Prelude.{◌≡◌, not, true, ◌+◌, ◌≤◌, ◌<◌, min, eqb, length, take, drop, set};
 ghost use Rattle.std.proofs.Math.Seq.{slice};
 ghost use Rattle.base.specs.Bytes.{all, both};
@@ -22,7 +24,7 @@ pub const MAX_LINE: usize = 16384;
 
 // A line: refused; an open or, where the test is true, an empty element, whose name lies from one place to another and whose attributes follow;
 // a close; anything else.
-#[derive(Drop)]
+#[derive(Clone, Copy)]
 pub enum Scanned {
     Refused(Refusal),
     Starts { empty: bool, from: usize, to: usize },
@@ -31,14 +33,14 @@ pub enum Scanned {
 }
 
 // An attribute: where its name ends and where its value ends; or that the line has ended.
-#[derive(Drop)]
+#[derive(Clone, Copy)]
 pub enum Attribute {
     At { eq: usize, to: usize },
     End,
 }
 
 // Where a value lies, or that no attribute has the name.
-#[derive(Drop)]
+#[derive(Clone, Copy)]
 pub enum Value {
     At { from: usize, to: usize },
     Missing,
@@ -120,7 +122,7 @@ pub fn value_at(t: &[u8], name: &[u8], at: usize) -> Value
 // ---- escapes
 
 // A byte of a value's text, and how many bytes write it; or that none is written.
-#[derive(Drop)]
+#[derive(Clone, Copy)]
 enum Piece {
     Is { byte: u8, size: usize },
     Not,
@@ -372,7 +374,7 @@ fn many_stand(t: &[u8], at: usize) -> bool
 // ---- few attributes: one walk, which keeps where their names stand
 
 // Whether attributes stand and no name is there twice: yes, no, or too many to tell.
-#[derive(Drop)]
+#[derive(Clone, Copy)]
 enum Few {
     Stand,
     Not,

@@ -1,5 +1,7 @@
 // The fields of an event, read where they lie in its line: an integer, a coordinate, a tag, a member. Numbers are held as their bits; a text is where it is written,
 // with its escapes. No escape stands for a digit, a sign or a letter, so a number or a word is read as it is written.
+#![tactic(auto)]
+
 ghost use Rattle.std.specs.Prelude.{◌≡◌, ◌≤◌};
 ghost use Rattle.std.specs.Int.{w32, w64};
 ghost use Rattle.base.specs.Ascii.{ascii};
@@ -19,7 +21,7 @@ use nesting::Name;
 use refusal::Refusal;
 
 // Where a text is written in a line.
-#[derive(Drop)]
+#[derive(Clone, Copy)]
 pub struct Extent {
     pub from: usize,
     pub to: usize,
@@ -28,7 +30,7 @@ pub struct Extent {
 // ---- one value
 
 // The 32-bit integer of a value, in bits.
-#[derive(Drop)]
+#[derive(Clone, Copy)]
 pub enum Narrow {
     Is(u32),
     Not,
@@ -59,7 +61,7 @@ fn value(t: &[u8], name: &[u8], at: usize) -> Value
 // ---- fields by their names
 
 // A 64-bit integer, or its refusal.
-#[derive(Drop)]
+#[derive(Clone, Copy)]
 pub enum WideField {
     Is(u64),
     Bad(Refusal),
@@ -78,7 +80,7 @@ pub fn wide_field(t: &[u8], name: &[u8], at: usize) -> WideField
 }
 
 // A 32-bit integer, or its refusal.
-#[derive(Drop)]
+#[derive(Clone, Copy)]
 enum NarrowField {
     Is(u32),
     Bad(Refusal),
@@ -105,7 +107,7 @@ fn coordinate(t: &[u8], name: &[u8], at: usize, limit: u32) -> NarrowField
 }
 
 // What an element holds at first: the coordinates of a node, 0 for another kind.
-#[derive(Drop)]
+#[derive(Clone, Copy)]
 pub enum BodyField {
     At { lat: u32, lon: u32 },
     Bad(Refusal),
@@ -136,7 +138,7 @@ pub fn body_field(t: &[u8], at: usize, k: Kind) -> BodyField
 // ---- children
 
 // A text, or its refusal.
-#[derive(Drop)]
+#[derive(Clone, Copy)]
 enum TextField {
     At(Extent),
     Bad(Refusal),
@@ -153,7 +155,7 @@ fn text_field(t: &[u8], name: &[u8], at: usize) -> TextField
 }
 
 // A tag, or the refusal of its key or its value.
-#[derive(Drop)]
+#[derive(Clone, Copy)]
 pub enum TagField {
     Is { key: Extent, value: Extent },
     Bad(Refusal),
@@ -173,7 +175,7 @@ pub fn tag_field(t: &[u8], at: usize) -> TagField
 }
 
 // The kind that a member's type names, or that it names none.
-#[derive(Drop)]
+#[derive(Clone, Copy)]
 enum TypeField {
     Is(Kind),
     Not,
@@ -202,7 +204,7 @@ fn role(t: &[u8], at: usize) -> Extent
 }
 
 // A member, or the refusal of its type or its ref.
-#[derive(Drop)]
+#[derive(Clone, Copy)]
 pub enum MemberField {
     Is {
         reference: u64,

@@ -1,4 +1,5 @@
 // The buffer of an input in pieces: a piece behind the bytes that are held, whether what is left of its lines is too long, and the unfinished line moved to the front.
+#![tactic(auto)]
 ghost use Rattle.std.specs.Prelude.{◌≡◌, ◌+◌, min, length, take};
 ghost use Rattle.little.specs.Little.{over};
 ghost use Rattle.input_buffer.specs.Fronts.{is_over, kept_front};
@@ -30,7 +31,7 @@ pub fn join_piece(buffer: &mut [u8], held: usize, piece: &[u8], got: usize) -> u
 
 // What is held after lines that lay in a buffer: the bytes from one place up to another, moved to its front; after a refusal none.
 pub fn keep_front(buffer: &mut [u8], answer: EventAnswer, from: usize, to: usize) -> usize
-    ensures { record { buffer = buffer.exit.now; kept = result } ≡ kept_front answer buffer.entry.now from to }
+    ensures { record { buffer = buffer.new; kept = result } ≡ kept_front answer buffer.old from to }
 {
     match answer {
         EventAnswer::Accepted => input_lines::keep_rest(buffer, from, to),

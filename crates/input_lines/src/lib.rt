@@ -1,9 +1,11 @@
 // The lines of lent bytes, where they lie, and the unfinished line kept for the next piece of an input.
+#![tactic(auto)]
+
 ghost use Rattle.std.specs.Prelude.{◌≡◌};
 ghost use Rattle.input_lines.specs.Place.{line_end, keep_rest};
 
 // The place behind a line feed, or that there is none.
-#[derive(Drop)]
+#[derive(Clone, Copy)]
 pub enum LineEnd {
     At(usize),
     None,
@@ -25,7 +27,7 @@ pub fn line_end(bytes: &[u8], at: usize) -> LineEnd
 
 // The bytes from one place up to another moved to the front of their buffer. The answer is how many they are.
 pub fn keep_rest(buffer: &mut [u8], from: usize, to: usize) -> usize
-    ensures { record { buffer = buffer.exit.now; kept = result } ≡ keep_rest buffer.entry.now from to }
+    ensures { record { buffer = buffer.new; kept = result } ≡ keep_rest buffer.old from to }
 {
     let end = little::lesser(to, buffer.len());
     let mut i = from;

@@ -1,4 +1,5 @@
 // An input in pieces: the whole lines of a piece are events, up to the first that is refused, and the unfinished line is held for the next piece.
+#![tactic(auto)]
 ghost use Rattle.std.specs.Prelude.{◌≡◌, ◌≤◌, min, length, take, drop};
 ghost use Rattle.input_lines.specs.Lines.{rest_of};
 ghost use Rattle.reader.specs.Lent.{state_lent, state_left};
@@ -27,8 +28,8 @@ fn rest_event(
     at: usize,
 ) -> EventsDone
     requires { at ≤ length run.now }
-    ensures { record { state = state_left words bytes counters ps result.reader; answer = result.answer }
-        ≡ event_on (drop at run.now) (state_lent words bytes counters ps reader) }
+    ensures { record { state = state_left words.new bytes.new counters.new ps.new result.reader; answer = result.answer }
+        ≡ event_on (drop at run.now) (state_lent words.old bytes.old counters.old ps.old reader) }
 {
     let done = reader_calls::event(words, bytes, counters, ps, reader, &run[at..]);
     let reader = done.reader;
@@ -49,10 +50,10 @@ fn take_lines(
     reader: EventReader,
     run: &[u8],
 ) -> EventsDone
-    ensures answer_value { RunGiven (state_lent words bytes counters ps reader)
-        → record { state = state_left words bytes counters ps result.reader; answer = result.answer }
-        ≡ events_on (piece_lines run.now) (state_lent words bytes counters ps reader) }
-    ensures run_value { RunGiven (state_lent words bytes counters ps reader)
+    ensures answer_value { RunGiven (state_lent words.old bytes.old counters.old ps.old reader)
+        → record { state = state_left words.new bytes.new counters.new ps.new result.reader; answer = result.answer }
+        ≡ events_on (piece_lines run.now) (state_lent words.old bytes.old counters.old ps.old reader) }
+    ensures run_value { RunGiven (state_lent words.old bytes.old counters.old ps.old reader)
         → result.answer ≡ Accepted → drop result.taken run.now ≡ rest_of run.now }
 {
     let done = reader_events::events_untested(words, bytes, counters, ps, reader, run);
@@ -76,10 +77,10 @@ fn take_front(
     n: usize,
 ) -> EventsDone
     requires { n ≤ length buffer.now }
-    ensures answer_value { RunGiven (state_lent words bytes counters ps reader)
-        → record { state = state_left words bytes counters ps result.reader; answer = result.answer }
-        ≡ events_on (piece_lines (take n buffer.now)) (state_lent words bytes counters ps reader) }
-    ensures buffer_value { RunGiven (state_lent words bytes counters ps reader)
+    ensures answer_value { RunGiven (state_lent words.old bytes.old counters.old ps.old reader)
+        → record { state = state_left words.new bytes.new counters.new ps.new result.reader; answer = result.answer }
+        ≡ events_on (piece_lines (take n buffer.now)) (state_lent words.old bytes.old counters.old ps.old reader) }
+    ensures buffer_value { RunGiven (state_lent words.old bytes.old counters.old ps.old reader)
         → result.answer ≡ Accepted → drop result.taken (take n buffer.now) ≡ rest_of (take n buffer.now) }
 {
     take_lines(words, bytes, counters, ps, reader, &buffer[..n])
@@ -88,7 +89,7 @@ fn take_front(
 // ---- a piece of the input
 
 // What is left of an input between pieces: the reader, how many bytes of an unfinished line are held, and what the last event answered.
-#[derive(Drop)]
+#[derive(Clone, Copy)]
 pub struct Fed {
     pub reader: EventReader,
     pub held: usize,
@@ -107,9 +108,9 @@ pub fn feed(
     piece: &[u8; 65536],
     got: usize,
 ) -> Fed
-    ensures { RunGiven (state_lent words bytes counters ps fed.reader)
-        → record { intake = record { state = state_left words bytes counters ps result.reader; buffer = buffer.new; held = result.held }; answer = result.answer }
-        ≡ feed_on (take got piece.now) (record { state = state_lent words bytes counters ps fed.reader; buffer = buffer.old; held = min fed.held 16384 }) }
+    ensures { RunGiven (state_lent words.old bytes.old counters.old ps.old fed.reader)
+        → record { intake = record { state = state_left words.new bytes.new counters.new ps.new result.reader; buffer = buffer.new; held = result.held }; answer = result.answer }
+        ≡ feed_on (take got piece.now) (record { state = state_lent words.old bytes.old counters.old ps.old fed.reader; buffer = buffer.old; held = min fed.held 16384 }) }
 {
     let held = little::lesser(fed.held, MAX_LINE);
     let n = input_buffer::join_piece(buffer, held, piece, got);

@@ -1,11 +1,13 @@
 // Integer fields, as Rust's `parse` reads an i64 or an i32: at most one sign, then one or more digits, any number of them.
+#![tactic(auto)]
+
 ghost use Rattle.std.specs.Prelude.{◌≡◌, ◌<◌, drop};
 ghost use Rattle.std.specs.Int.{w32, w64};
 ghost use Rattle.integer.specs.Integer.{read_of, digits};
 ghost use Rattle.integer.specs.Bounded.{at_most, read_bits};
 
 // An integer field's answer: the bits of the number in two's complement at its width, or that the text is no such integer.
-#[derive(Drop)]
+#[derive(Clone, Copy)]
 pub enum Integer {
     Is(u64),
     Not,

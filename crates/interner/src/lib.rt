@@ -1,4 +1,6 @@
 // Strings over lent storage (interner.rs): two words a string among the spans, and the bytes of the texts.
+#![tactic(auto)]
+
 ghost use Rattle.std.specs.Prelude.{◌≡◌, true, false, [], ◌∷◌, ◌+◌, ◌-◌, ◌*◌, ◌≤◌, ◌<◌, length, take, leb};
 ghost use Rattle.base.specs.Bytes.{both};
 ghost use Rattle.little.specs.Little.{over};
@@ -10,21 +12,21 @@ ghost use Rattle.interner.specs.Check.{new_at, legal_at, WordsNoted};
 use distinct::Distinctness;
 
 // The handle of an equal text, or that none is held.
-#[derive(Drop)]
+#[derive(Clone, Copy)]
 pub enum Found {
     At(u64),
     Not,
 }
 
 // Where a string lies among the bytes, or that it does not.
-#[derive(Drop)]
+#[derive(Clone, Copy)]
 pub enum Span {
     Part { start: usize, len: usize },
     Missing,
 }
 
 // What `intern` answers: the handle of a text that was held, of a new one, or that there is no room (13).
-#[derive(Drop)]
+#[derive(Clone, Copy)]
 pub enum Interned {
     Held(u64),
     New(u64),
@@ -32,7 +34,7 @@ pub enum Interned {
 }
 
 // The answer of `intern`, with the counts of strings and of used bytes after it.
-#[derive(Drop)]
+#[derive(Clone, Copy)]
 pub struct Taken {
     pub answer: Interned,
     pub strings: u64,

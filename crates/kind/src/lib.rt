@@ -1,8 +1,10 @@
 // The three kinds of element, and their numbers: 0 node, 1 way, 2 relation.
+#![tactic(auto)]
+
 ghost use Rattle.std.specs.Prelude.{◌≡◌};
 ghost use Rattle.kind.specs.Kind.{kind_number, of_number};
 
-#[derive(Drop)]
+#[derive(Clone, Copy)]
 pub enum Kind {
     Node,
     Way,
@@ -10,7 +12,7 @@ pub enum Kind {
 }
 
 // A kind's number read back: a number above 2 is no kind.
-#[derive(Drop)]
+#[derive(Clone, Copy)]
 pub enum Named {
     Is(Kind),
     Unknown,

@@ -1,6 +1,6 @@
 -- The two lists of a kind: both in OSM order, no id on both, each known id on one; and a row's number on one.
 use Prim.Native.Nat.{ℕ, zero, suc, ◌+◌, ◌<◌, ◌≤◌}
-use mathlib.Core.Path.{◌≡◌, refl, sym, ◌∙◌, ap}
+use mathlib.Core.Path.{subst, ◌≡◌, refl, sym, ◌∙◌, ap}
 use mathlib.Core.Bool.{true, false, not, cond}
 use mathlib.Core.Logic.{◌↔◌}
 use mathlib.Core.Option.{Option, none, some}
@@ -74,8 +74,8 @@ find_on side k (r ∷ rs) h =
     let g = find_on side k rs (from_rising r.rank rs h) in
     by_eq k r.rank
     (λ e. by_bool (is_on side r)
-    (λ t. rw (on_more side r rs t, e, find_same r (rows_on side rs), find_same r rs, t))
-    (λ t. rw (on_other side r rs t, e, find_same r rs, t) (find_low r.rank r.rank (rows_on side rs) (omega arith) (from_on side r.rank rs h))))
+    (λ t. rw (on_more side r rs t) (subst (λ j. find j (r ∷ rows_on side rs) ≡ if_on side (find j (r ∷ rs))) (sym e) (rw (find_same r (rows_on side rs), find_same r rs, t))))
+    (λ t. rw (on_other side r rs t) (subst (λ j. find j (rows_on side rs) ≡ if_on side (find j (r ∷ rs))) (sym e) (rw (find_same r rs, t) (find_low r.rank r.rank (rows_on side rs) (omega arith) (from_on side r.rank rs h))))))
     (λ d. by_bool (is_on side r)
     (λ t. rw (on_more side r rs t, find_other k r (rows_on side rs) d, find_other k r rs d) g)
     (λ t. rw (on_other side r rs t, find_other k r rs d) g))

@@ -1,4 +1,6 @@
 // What one kind holds, read: live and deleted rows by number, what is known of an id, and a record's view.
+#![tactic(auto)]
+
 ghost use Rattle.std.specs.Prelude.{◌≡◌, length};
 ghost use Rattle.std.specs.Int.{w64};
 ghost use Rattle.std.proofs.Common.{to_z};
@@ -10,21 +12,21 @@ use kind_table::{DELETED, Found, Row};
 use refusal::Refusal;
 
 // One of a kind's two lists.
-#[derive(Drop)]
+#[derive(Clone, Copy)]
 pub enum Side {
     Live,
     Deleted,
 }
 
 // The row of a number, or that the list is shorter (21).
-#[derive(Drop)]
+#[derive(Clone, Copy)]
 pub enum Nth {
     At(Row),
     Missing,
 }
 
 // What is known of an id: live with the place of its record, deleted, or nothing.
-#[derive(Drop)]
+#[derive(Clone, Copy)]
 pub enum Standing {
     Live(u64),
     Deleted,
@@ -32,7 +34,7 @@ pub enum Standing {
 }
 
 // Where a record or a text lies, that there is none, or a refusal.
-#[derive(Drop)]
+#[derive(Clone, Copy)]
 pub enum View {
     Part { start: usize, len: usize },
     Nothing,

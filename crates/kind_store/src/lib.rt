@@ -1,4 +1,6 @@
 // One kind's id table and arena (parse.rs): the known version of an id, a push and a delete.
+#![tactic(auto)]
+
 ghost use Rattle.std.specs.Prelude.{◌≡◌, cond, ◌++◌, ℕ};
 ghost use Rattle.std.specs.Int.{w64};
 ghost use Rattle.std.proofs.Common.{to_z};
@@ -20,14 +22,14 @@ use refusal::Refusal;
 use version_floor::{Admit, Version, VersionFloor};
 
 // What an act comes to on a kind store.
-#[derive(Drop)]
+#[derive(Clone, Copy)]
 pub enum Kept {
     Taken,
     Refused(Refusal),
 }
 
 // An act's answer, and the used counts of ids and of arena bytes after it.
-#[derive(Drop)]
+#[derive(Clone, Copy)]
 pub struct Outcome {
     pub answer: Kept,
     pub ids: u64,
@@ -153,7 +155,7 @@ fn append_record(
     meta: ArenaMeta,
     parts: &[u8],
 ) -> Appended
-    ensures { record { arena = arena.exit.now; answer = result } ≡ append arena.entry.now used (head_bytes kind (head_in kind head) ++ meta_bytes (meta_of meta) ++ parts.now) }
+    ensures { record { arena = arena.new; answer = result } ≡ append arena.old used (head_bytes kind (head_in kind head) ++ meta_bytes (meta_of meta) ++ parts.now) }
 {
     match kind {
         Kind::Node => {

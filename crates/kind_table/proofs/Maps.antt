@@ -1,6 +1,6 @@
 -- Rows as a map from ranks: what is found after a row was put, that ranks go on rising, and that rising rows are what their ranks find.
 use Prim.Native.Nat.{ℕ, zero, suc, ◌+◌, ◌<◌, ◌≤◌}
-use mathlib.Core.Path.{◌≡◌, refl, sym, ◌∙◌, ap}
+use mathlib.Core.Path.{subst, ◌≡◌, refl, sym, ◌∙◌, ap}
 use mathlib.Core.Bool.{Bool, true, cond}
 use mathlib.Core.Option.{Option, none, some, none-ne-some, some-injective}
 use mathlib.Core.List.{List, [], ◌∷◌, ◌++◌}
@@ -65,7 +65,7 @@ unfolding find
 find_rank k [] r e = absurd (none-ne-some r e)
 find_rank k (q ∷ rs) r e =
     by_eq k q.rank
-    (λ i. let x : some q ≡ some r = sym (find_same q rs) ∙ rw i at e in cc (some-injective q r x))
+    (λ i. let x : some q ≡ some r = sym (find_same q rs) ∙ subst (λ j. find j (q ∷ rs) ≡ some r) i e in cc (some-injective q r x))
     (λ d. find_rank k rs r (sym (find_other k q rs d) ∙ e))
 
 -- what is found passes what every row passes
@@ -155,7 +155,7 @@ rising_same (r ∷ rs) (s ∷ ss) h g e =
     by_rank r s
     (λ l. absurd (out r s rs ss l g (e r.rank)))
     (λ i.
-    let x : r ≡ s = some-injective r s (sym (find_same r rs) ∙ e r.rank ∙ rw i (find_same s ss)) in
+    let x : r ≡ s = some-injective r s (sym (find_same r rs) ∙ e r.rank ∙ subst (λ j. find j (s ∷ ss) ≡ some s) (sym i) (find_same s ss)) in
     let y : rs ≡ ss = rising_same rs ss (from_rising r.rank rs h) (from_rising s.rank ss g) (λ k. rest k i) in
     cc)
     (λ l. absurd (out s r ss rs l h (sym (e s.rank))))
@@ -260,7 +260,7 @@ find_place k (q ∷ rs) r d h e =
     (λ l. rw (smaller_first k q rs l h) (
       omega arith,
       by_eq k q.rank
-          (λ i. some-injective q r (sym (find_same q rs) ∙ rw i at e))
+          (λ i. some-injective q r (sym (find_same q rs) ∙ subst (λ j. find j (q ∷ rs) ≡ some r) i e))
           (λ f. absurd (none-ne-some r (sym (find_below k q rs (omega arith) h) ∙ e))),
     ))
 

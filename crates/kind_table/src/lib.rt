@@ -1,4 +1,6 @@
 // Id tables over lent words: three words a row, in OSM order of the ids.
+#![tactic(auto)]
+
 ghost use Rattle.std.specs.Prelude.{◌≡◌, ℕ, ◌+◌, ◌*◌, ◌≤◌, ◌<◌, length, get_or};
 ghost use Rattle.kind_table.specs.declared.Put.TheVariants as P;
 ghost use Rattle.kind_table.specs.Words.{row_at, sound_table, held, halve, lookup, row_over, gap, inserted, stored};
@@ -7,7 +9,7 @@ ghost use Rattle.kind_table.specs.Words.{row_at, sound_table, held, halve, looku
 pub const DELETED: u64 = 0x8000_0000_0000_0000;
 
 // A row: the id's rank in OSM order; where its record starts, or that it is deleted; its floor. Every word means something.
-#[derive(Drop)]
+#[derive(Clone, Copy)]
 pub struct Row {
     pub rank: u64,
     pub place: u64,
@@ -15,14 +17,14 @@ pub struct Row {
 }
 
 // Where the row of a rank stands, or where it belongs.
-#[derive(Drop)]
+#[derive(Clone, Copy)]
 pub enum Found {
     At(usize),
     Place(usize),
 }
 
 // Full: the rank is new and there is no room for one more row.
-#[derive(Drop)]
+#[derive(Clone, Copy)]
 pub enum Put {
     Replaced,
     Inserted,

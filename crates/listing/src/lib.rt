@@ -1,4 +1,6 @@
 // The listing of an overlay into lent bytes: one walk that measures, and the same walk that writes.
+#![tactic(auto)]
+
 ghost use Rattle.std.specs.Prelude.{◌≡◌};
 ghost use Rattle.print.specs.Print.{print, joined_pieces};
 ghost use Rattle.print.specs.declared.Room.TheVariants.{Left};
@@ -15,7 +17,7 @@ use print::Room;
 use refusal::Refusal;
 
 // What the listing answers: its length, or a refusal.
-#[derive(Drop)]
+#[derive(Clone, Copy)]
 pub enum Listed {
     Length(usize),
     Refused(Refusal),
@@ -33,9 +35,9 @@ fn put_rows(
     cap: usize,
     room: Room,
 ) -> Room
-    ensures { record { out = out.exit.now; room = result }
-        ≡ print cap (kind_pieces (held_text spans.now texts.now (lent words bytes counters).texts.strings) kind (kind_store_of kind (lent words bytes counters)))
-        (record { out = out.entry.now; room = room }) }
+    ensures { record { out = out.new; room = result }
+        ≡ print cap (kind_pieces (held_text spans.now texts.now (lent words.now bytes.now counters.now).texts.strings) kind (kind_store_of kind (lent words.now bytes.now counters.now)))
+        (record { out = out.old; room = room }) }
 {
     let p = overlay_blocks::part_in(kind, counters, words.len(), bytes.len());
     let at = p.at;
@@ -67,8 +69,8 @@ fn put_kind(
     cap: usize,
     room: Room,
 ) -> Room
-    ensures { record { out = out.exit.now; room = result }
-        ≡ print cap (kind_lines kind (lent words bytes counters)) (record { out = out.entry.now; room = room }) }
+    ensures { record { out = out.new; room = result }
+        ≡ print cap (kind_lines kind (lent words.now bytes.now counters.now)) (record { out = out.old; room = room }) }
 {
     let t = overlay_blocks::texts_in(counters, words.len(), bytes.len());
     let c = t.spans;
@@ -95,8 +97,8 @@ fn put_page(
     out: &mut [u8],
     cap: usize,
 ) -> Room
-    ensures { record { out = out.exit.now; room = result }
-        ≡ print cap (pieces_of (lent words bytes counters)) (record { out = out.entry.now; room = Left cap }) }
+    ensures { record { out = out.new; room = result }
+        ≡ print cap (pieces_of (lent words.now bytes.now counters.now)) (record { out = out.old; room = Left cap }) }
 {
     let room = put_kind(
         words,
@@ -113,8 +115,8 @@ fn put_page(
 
 // The page over the first bytes of the output, or 19: first measured, lent the output's end, then written.
 fn put_listing(words: &[u64], bytes: &[u8], counters: &[u64; COUNTERS], out: &mut [u8]) -> Listed
-    ensures { record { out = out.exit.now; answer = result }
-        ≡ page_over out.entry.now (joined_pieces (pieces_of (lent words bytes counters))) }
+    ensures { record { out = out.new; answer = result }
+        ≡ page_over out.old (joined_pieces (pieces_of (lent words.now bytes.now counters.now))) }
 {
     let end = out.len();
     let Room::Left(left) = put_page(words, bytes, counters, &mut out[end..], end) else {
@@ -126,8 +128,8 @@ fn put_listing(words: &[u64], bytes: &[u8], counters: &[u64; COUNTERS], out: &mu
 
 // The listing of an overlay at the start of the output: 22, 19, or its length.
 pub fn list(words: &[u64], bytes: &[u8], counters: &[u64; COUNTERS], out: &mut [u8]) -> Listed
-    ensures { record { out = out.exit.now; answer = result }
-        ≡ listing_on out.entry.now (lent words bytes counters) }
+    ensures { record { out = out.new; answer = result }
+        ≡ listing_on out.old (lent words.now bytes.now counters.now) }
 {
     if overlay::is_sound(words, bytes, counters) {
         return put_listing(words, bytes, counters, out);

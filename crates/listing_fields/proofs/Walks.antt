@@ -19,14 +19,14 @@ use Rattle.interner.proofs.Finds.{lies, within_bytes}
 use Rattle.model.specs.Swap.{swap_meta}
 use Rattle.compact.specs.Layout.{head_len}
 use Rattle.compact.specs.Held.{meta_of}
-use Rattle.compact.specs.View.{meta_at, head_at, tag_step}
+use Rattle.compact.specs.View.{meta_at, head_at, member_at, tag_step}
 use Rattle.compact.specs.declared.ArenaMeta.{ArenaMeta}
 use Rattle.compact.specs.declared.TagStep.TheVariants as step
 use Rattle.compact.proofs.Steps.{tag_past, tag_over, tag_judged}
 use Rattle.listing_page.specs.Listing.{meta_fields}
 use Rattle.print.specs.Print.{Printed, print, tab, tabs}
 use Rattle.print.proofs.Prints.{print_append, tabs_append}
-use Rattle.listing_fields.specs.Fields.{held_text, each_from, tag_fields_from, body_fields_at, tag_fields_at, record_fields_at}
+use Rattle.listing_fields.specs.Fields.{held_text, each_from, held_member, tag_fields_from, body_fields_at, tag_fields_at, record_fields_at}
 
 -- ---- a text
 
@@ -77,6 +77,10 @@ module _ (cap : ℕ) where
     pub each_ends : (i : ℕ) (p : Printed) → n ≤ i → print cap (tabs (each_from g i (n - i))) p ≡ p
     unfolding each_from tabs print
     each_ends i p h = let d : n - i ≡ 0 = omega arith in rw d
+
+-- the fields of the i-th member
+abbrev pub fields_of : List ℕ → Bytes → ℕ → Bytes → ℕ → List Bytes
+fields_of spans bytes strings view i = held_member (held_text spans bytes strings) (member_at view i)
 
 -- ---- tag by tag
 

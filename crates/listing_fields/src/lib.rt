@@ -1,4 +1,6 @@
 // The fields of a live line, printed from a record's bytes: metadata, place or refs or members, tags.
+#![tactic(auto)]
+
 ghost use Rattle.std.specs.Prelude.{◌≡◌, [], ◌∷◌, ◌+◌};
 ghost use Rattle.text.specs.Escape.{escape};
 ghost use Rattle.line.specs.Decimal.{number_text};
@@ -25,8 +27,8 @@ fn put_held(
     strings: u64,
     handle: u32,
 ) -> Room
-    ensures { record { out = out.exit.now; room = result }
-        ≡ print cap (tabs (escape (held_text spans.now bytes.now strings handle) ∷ [])) (record { out = out.entry.now; room = room }) }
+    ensures { record { out = out.new; room = result }
+        ≡ print cap (tabs (escape (held_text spans.now bytes.now strings handle) ∷ [])) (record { out = out.old; room = room }) }
 {
     match interner::resolve(spans, bytes, strings, handle as u64) {
         Span::Part { start, len } => {
@@ -47,8 +49,8 @@ fn put_meta(
     bytes: &[u8],
     strings: u64,
 ) -> Room
-    ensures { record { out = out.exit.now; room = result }
-        ≡ print cap (tabs (meta_fields (swap_meta (held_text spans.now bytes.now strings) (meta_of meta)))) (record { out = out.entry.now; room = room }) }
+    ensures { record { out = out.new; room = result }
+        ≡ print cap (tabs (meta_fields (swap_meta (held_text spans.now bytes.now strings) (meta_of meta)))) (record { out = out.old; room = room }) }
 {
     let room = print::put_number(out, cap, room, meta.flags as u64);
     let room = print::put_integer32(out, cap, room, meta.version);
@@ -60,8 +62,8 @@ fn put_meta(
 
 // "ref count, refs"
 fn put_refs(out: &mut [u8], cap: usize, room: Room, view: &[u8], n: u32) -> Room
-    ensures { record { out = out.exit.now; room = result }
-        ≡ print cap (tabs (number_text n ∷ each_from (ref_fields_at view.now) 0 n)) (record { out = out.entry.now; room = room }) }
+    ensures { record { out = out.new; room = result }
+        ≡ print cap (tabs (number_text n ∷ each_from (ref_fields_at view.now) 0 n)) (record { out = out.old; room = room }) }
 {
     let mut left = print::put_number(out, cap, room, n as u64);
     let mut i: u32 = 0;
@@ -82,8 +84,8 @@ fn put_member(
     bytes: &[u8],
     strings: u64,
 ) -> Room
-    ensures { record { out = out.exit.now; room = result }
-        ≡ print cap (tabs (held_member (held_text spans.now bytes.now strings) member)) (record { out = out.entry.now; room = room }) }
+    ensures { record { out = out.new; room = result }
+        ≡ print cap (tabs (held_member (held_text spans.now bytes.now strings) member)) (record { out = out.old; room = room }) }
 {
     let room = print::put_number(out, cap, room, member.kind as u64);
     let room = print::put_integer(out, cap, room, member.reference);
@@ -101,8 +103,8 @@ fn put_members(
     bytes: &[u8],
     strings: u64,
 ) -> Room
-    ensures { record { out = out.exit.now; room = result }
-        ≡ print cap (tabs (number_text n ∷ each_from (λ i. held_member (held_text spans.now bytes.now strings) (member_at view.now i)) 0 n)) (record { out = out.entry.now; room = room }) }
+    ensures { record { out = out.new; room = result }
+        ≡ print cap (tabs (number_text n ∷ each_from (λ i. held_member (held_text spans.now bytes.now strings) (member_at view.now i)) 0 n)) (record { out = out.old; room = room }) }
 {
     let mut left = print::put_number(out, cap, room, n as u64);
     let mut i: u32 = 0;
@@ -132,8 +134,8 @@ fn put_tag(
     bytes: &[u8],
     strings: u64,
 ) -> Room
-    ensures { record { out = out.exit.now; room = result }
-        ≡ print cap (tabs (escape (held_text spans.now bytes.now strings key) ∷ escape value.now ∷ [])) (record { out = out.entry.now; room = room }) }
+    ensures { record { out = out.new; room = result }
+        ≡ print cap (tabs (escape (held_text spans.now bytes.now strings key) ∷ escape value.now ∷ [])) (record { out = out.old; room = room }) }
 {
     let room = put_held(out, cap, room, spans, bytes, strings, key);
     print::put_text(out, cap, room, value)
@@ -151,8 +153,8 @@ fn put_tags(
     bytes: &[u8],
     strings: u64,
 ) -> Room
-    ensures { record { out = out.exit.now; room = result }
-        ≡ print cap (tabs (number_text n ∷ tag_fields_from (held_text spans.now bytes.now strings) view.now offset n)) (record { out = out.entry.now; room = room }) }
+    ensures { record { out = out.new; room = result }
+        ≡ print cap (tabs (number_text n ∷ tag_fields_from (held_text spans.now bytes.now strings) view.now offset n)) (record { out = out.old; room = room }) }
 {
     let mut left = print::put_number(out, cap, room, n as u64);
     let mut at = offset;
@@ -187,8 +189,8 @@ fn put_node(
     bytes: &[u8],
     strings: u64,
 ) -> Room
-    ensures { record { out = out.exit.now; room = result }
-        ≡ print cap (tabs (record_fields_at (held_text spans.now bytes.now strings) Node view.now)) (record { out = out.entry.now; room = room }) }
+    ensures { record { out = out.new; room = result }
+        ≡ print cap (tabs (record_fields_at (held_text spans.now bytes.now strings) Node view.now)) (record { out = out.old; room = room }) }
 {
     let node = CompactNode::read(view);
     let meta = compact::read_meta(view, CompactNode::META_OFF);
@@ -218,8 +220,8 @@ fn put_way(
     bytes: &[u8],
     strings: u64,
 ) -> Room
-    ensures { record { out = out.exit.now; room = result }
-        ≡ print cap (tabs (record_fields_at (held_text spans.now bytes.now strings) Way view.now)) (record { out = out.entry.now; room = room }) }
+    ensures { record { out = out.new; room = result }
+        ≡ print cap (tabs (record_fields_at (held_text spans.now bytes.now strings) Way view.now)) (record { out = out.old; room = room }) }
 {
     let way = CompactWay::read(view);
     let meta = compact::read_meta(view, CompactWay::META_OFF);
@@ -248,8 +250,8 @@ fn put_relation(
     bytes: &[u8],
     strings: u64,
 ) -> Room
-    ensures { record { out = out.exit.now; room = result }
-        ≡ print cap (tabs (record_fields_at (held_text spans.now bytes.now strings) Relation view.now)) (record { out = out.entry.now; room = room }) }
+    ensures { record { out = out.new; room = result }
+        ≡ print cap (tabs (record_fields_at (held_text spans.now bytes.now strings) Relation view.now)) (record { out = out.old; room = room }) }
 {
     let relation = CompactRelation::read(view);
     let meta = compact::read_meta(view, CompactRelation::META_OFF);
@@ -289,8 +291,8 @@ pub fn put_record(
     bytes: &[u8],
     strings: u64,
 ) -> Room
-    ensures { record { out = out.exit.now; room = result }
-        ≡ print cap (tabs (record_fields_at (held_text spans.now bytes.now strings) kind view.now)) (record { out = out.entry.now; room = room }) }
+    ensures { record { out = out.new; room = result }
+        ≡ print cap (tabs (record_fields_at (held_text spans.now bytes.now strings) kind view.now)) (record { out = out.old; room = room }) }
 {
     match kind {
         Kind::Node => put_node(out, cap, room, view, spans, bytes, strings),

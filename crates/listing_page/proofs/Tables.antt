@@ -156,7 +156,7 @@ same_table (r ∷ rs) (s ∷ ss) h g e =
 every_from : (P : PageRow → Type 0) → ((a : Act Bytes) (r : Option PageRow) → P (row_after a r)) → (t : Table) (acts : List (Act Bytes)) → Every P t → Every P (summary_from t acts)
 unfolding summary_from
 every_from P f t [] h = h
-every_from P f t (a ∷ acts) h = every_from P f _ acts (every_put P (row_after a (find_key (key_of a) t)) t (f a (find_key (key_of a) t)) h)
+every_from P f t (a ∷ acts) h = every_from P f (put_row (row_after a (find_key (key_of a) t)) t) acts (every_put P (row_after a (find_key (key_of a) t)) t (f a (find_key (key_of a) t)) h)
 
 pub every_summary : (P : PageRow → Type 0) → ((a : Act Bytes) (r : Option PageRow) → P (row_after a r)) → (acts : List (Act Bytes)) → Every P (summary acts)
 unfolding summary Every

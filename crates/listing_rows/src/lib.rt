@@ -1,4 +1,6 @@
 // The lines of one kind's rows, printed: "kind; id; `+` live or `-` deleted; known version or `?`", and of a live one its record's fields.
+#![tactic(auto)]
+
 ghost use Rattle.std.specs.Prelude.{◌≡◌, [], ◌∷◌};
 ghost use Rattle.std.specs.Int.{w64};
 ghost use Rattle.std.proofs.Common.{to_z};
@@ -16,7 +18,7 @@ use version_floor::Version;
 
 // "Kinds n, w, r"
 fn put_kind(out: &mut [u8], cap: usize, room: Room, kind: Kind) -> Room
-    ensures { record { out = out.exit.now; room = result } ≡ print_step cap (kind_field kind) (record { out = out.entry.now; room = room }) }
+    ensures { record { out = out.new; room = result } ≡ print_step cap (kind_field kind) (record { out = out.old; room = room }) }
 {
     match kind {
         Kind::Node => print::put_bytes(out, cap, room, b"n"),
@@ -27,7 +29,7 @@ fn put_kind(out: &mut [u8], cap: usize, room: Room, kind: Kind) -> Room
 
 // "`+` live or `-` deleted"
 fn put_sign(out: &mut [u8], cap: usize, room: Room, live: bool) -> Room
-    ensures { record { out = out.exit.now; room = result } ≡ print cap (tabs (sign_of live ∷ [])) (record { out = out.entry.now; room = room }) }
+    ensures { record { out = out.new; room = result } ≡ print cap (tabs (sign_of live ∷ [])) (record { out = out.old; room = room }) }
 {
     if live {
         return print::put_text(out, cap, room, b"+");
@@ -37,7 +39,7 @@ fn put_sign(out: &mut [u8], cap: usize, room: Room, live: bool) -> Room
 
 // "known version or `?`"
 fn put_version(out: &mut [u8], cap: usize, room: Room, version: Version) -> Room
-    ensures { record { out = out.exit.now; room = result } ≡ print cap (tabs (version_field version ∷ [])) (record { out = out.entry.now; room = room }) }
+    ensures { record { out = out.new; room = result } ≡ print cap (tabs (version_field version ∷ [])) (record { out = out.old; room = room }) }
 {
     let Version::Is(v) = version else {
         return print::put_text(out, cap, room, b"?");
@@ -55,8 +57,8 @@ fn put_key(
     live: bool,
     version: Version,
 ) -> Room
-    ensures { record { out = out.exit.now; room = result }
-        ≡ print cap (kind_field kind ∷ tabs (integer_text (to_z w64 id) ∷ sign_of live ∷ version_field version ∷ [])) (record { out = out.entry.now; room = room }) }
+    ensures { record { out = out.new; room = result }
+        ≡ print cap (kind_field kind ∷ tabs (integer_text (to_z w64 id) ∷ sign_of live ∷ version_field version ∷ [])) (record { out = out.old; room = room }) }
 {
     let room = put_kind(out, cap, room, kind);
     let room = print::put_integer(out, cap, room, id);
@@ -76,8 +78,8 @@ fn put_last(
     bytes: &[u8],
     strings: u64,
 ) -> Room
-    ensures { record { out = out.exit.now; room = result }
-        ≡ print cap (tabs (last_at (held_text spans.now bytes.now strings) kind arena.now place)) (record { out = out.entry.now; room = room }) }
+    ensures { record { out = out.new; room = result }
+        ≡ print cap (tabs (last_at (held_text spans.now bytes.now strings) kind arena.now place)) (record { out = out.old; room = room }) }
 {
     if place < DELETED {
         let at = little::lesser(place as usize, arena.len());
@@ -107,8 +109,8 @@ fn put_line(
     strings: u64,
     row: Row,
 ) -> Room
-    ensures { record { out = out.exit.now; room = result }
-        ≡ print cap (line_pieces (row_fields_at (held_text spans.now bytes.now strings) kind arena.now row)) (record { out = out.entry.now; room = room }) }
+    ensures { record { out = out.new; room = result }
+        ≡ print cap (line_pieces (row_fields_at (held_text spans.now bytes.now strings) kind arena.now row)) (record { out = out.old; room = room }) }
 {
     let id = signed::bits_of_i64(osm_id::osm_id_of_rank(row.rank));
     let version = kind_store::row_version(kind, arena, row);
@@ -132,8 +134,8 @@ pub fn put_lines(
     bytes: &[u8],
     strings: u64,
 ) -> Room
-    ensures { record { out = out.exit.now; room = result }
-        ≡ print cap (row_pieces (held_text spans.now bytes.now strings) kind arena.now (rows_of table.now (held table.now ids))) (record { out = out.entry.now; room = room }) }
+    ensures { record { out = out.new; room = result }
+        ≡ print cap (row_pieces (held_text spans.now bytes.now strings) kind arena.now (rows_of table.now (held table.now ids))) (record { out = out.old; room = room }) }
 {
     let n = little::lesser(ids as usize, table.len() / 3);
     let mut left = room;

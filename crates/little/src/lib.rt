@@ -1,4 +1,6 @@
 // Little-endian numbers in lent bytes, by one writer and one reader for every width.
+#![tactic(auto)]
+
 ghost use Rattle.std.specs.Prelude.{◌≡◌, ◌-◌, ◌≤◌, ◌<◌, min};
 ghost use Rattle.little.specs.Little.{le, value_at, over};
 

@@ -98,7 +98,7 @@ module _ {S U : Type 0} (f : S → U) where
   body_swap (members ms) = roles_swap ms
 
   pub record_texts_lem : (r : Record S) → record_texts (swap_record f r) ≡ map f (record_texts r)
-  record_texts_lem r = rw (body_swap r.body, keys_swap r.tags, map-append)
+  record_texts_lem r = rw (body_swap r.body, keys_swap r.tags, map-append f (body_texts r.body) (keys_of r.tags))
 
   pub act_texts : (a : Act S) → texts_in (swap_act f a) ≡ map f (texts_in a)
   act_texts (push id r) = record_texts_lem r

@@ -1,6 +1,6 @@
 -- A document as the levels see it: opens, empties and closes in order, read by `opened` and `closed` (Nesting). An `other` event does nothing, and is no mark.
 use Rattle.std.specs.Prelude.{Bool, true, false, cond, List, [], ◌∷◌, ◌++◌, ◌≡◌}
-use Rattle.std.proofs.Math.Option.{Option, none, some, bind, Option·elim}
+use Rattle.std.proofs.Math.Option.{Option, none, some, bind, Option-elim}
 use Rattle.kind.specs.declared.Kind.{Kind}
 use Rattle.nesting.specs.declared.Name.{Name}
 use Rattle.nesting.specs.declared.Action.{Action}
@@ -79,4 +79,4 @@ makes p closes = closed_makes p.level p.section p.kind
 -- the changes of a list of marks, in order
 unfoldable pub changes_from : Place → List Mark → List Change
 changes_from p [] = []
-changes_from p (m ∷ ms) = makes p m ++ Option·elim (mark_step p m) [] (λ q. changes_from q ms)
+changes_from p (m ∷ ms) = makes p m ++ Option-elim (mark_step p m) [] (λ q. changes_from q ms)

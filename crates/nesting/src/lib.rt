@@ -1,4 +1,6 @@
 // The nesting machine of an OsmChange document (xml_parse.rs: `handle_open` and `handle_close`, without their sink).
+#![tactic(auto)]
+
 ghost use Rattle.std.specs.Prelude.{◌≡◌, cond, drop};
 ghost use Rattle.base.specs.Bytes.{same};
 ghost use Rattle.nesting.specs.Name.{spellings, name_in, name_of};
@@ -7,7 +9,7 @@ ghost use Rattle.nesting.specs.Nesting.{at, unless, section_of, begins_as, in_do
 use kind::Kind;
 
 // An element's name; `bbox` and `bounds` are one, every name that the document does not give is Unknown.
-#[derive(Drop)]
+#[derive(Clone, Copy)]
 pub enum Name {
     OsmChange,
     Create,
@@ -24,7 +26,7 @@ pub enum Name {
 }
 
 // A section's action.
-#[derive(Drop)]
+#[derive(Clone, Copy)]
 pub enum Action {
     Create,
     Modify,
@@ -32,7 +34,7 @@ pub enum Action {
 }
 
 // Where in the document the reader stands.
-#[derive(Drop)]
+#[derive(Clone, Copy)]
 pub enum Level {
     Doc,
     Root,
@@ -44,7 +46,7 @@ pub enum Level {
 }
 
 // The level, with the section and the element that are open or were open last.
-#[derive(Drop)]
+#[derive(Clone, Copy)]
 pub struct Place {
     pub level: Level,
     pub section: Action,
@@ -52,7 +54,7 @@ pub struct Place {
 }
 
 // A child that an element keeps.
-#[derive(Drop)]
+#[derive(Clone, Copy)]
 pub enum Child {
     Tag,
     Nd,
@@ -60,7 +62,7 @@ pub enum Child {
 }
 
 // What an open or an empty element does at a place.
-#[derive(Drop)]
+#[derive(Clone, Copy)]
 pub enum Opened {
     // refused 5
     Misplaced,

@@ -1,4 +1,6 @@
 // OSM element ids: their canonical order, their keys, and their rank in that order (osm_id.rs).
+#![tactic(auto)]
+
 ghost use Rattle.std.specs.Prelude.{◌≡◌};
 ghost use Rattle.std.specs.Int.{w64};
 ghost use Rattle.std.proofs.Common.{to_z};
@@ -6,13 +8,13 @@ ghost use Rattle.osm_id.specs.Order.{osm_key_of, cmp_of, first_key, last_key, ra
 
 // The canonical-order key: class 0 for zero, 1 for a negative id, 2 for a positive one; and the magnitude.
 #[repr(C)]
-#[derive(Drop)]
+#[derive(Clone, Copy)]
 pub struct OsmIdKey {
     pub class: u8,
     pub magnitude: u64,
 }
 
-#[derive(Drop)]
+#[derive(Clone, Copy)]
 pub enum Ordering {
     Less,
     Equal,

@@ -1,7 +1,5 @@
 -- The overlay in what is lent: two blocks and the counters.
 use Rattle.std.specs.Prelude.{ℕ, ◌+◌, List, length, drop, get_or}
-use Rattle.std.specs.Borrow.{Bor}
-use denote.Triple.Both.{Both}
 use Rattle.base.specs.Bytes.{Bytes}
 use Rattle.kind.specs.declared.Kind.{Kind}
 use Rattle.kind.specs.declared.Kind.TheVariants.{Node, Way, Relation}
@@ -43,20 +41,16 @@ overlay_in words bytes counters = overlay_for (sizes_in counters) words bytes co
 
 -- ---- lent
 
--- what is lent, at a call's entry and at its exit
-abbrev pub Lent : Type 0
-Lent = Both (Bor (List ℕ)) (Bor (List ℕ))
+-- the overlay as a call is lent it, and as it leaves it: what its words, bytes and counters hold at its entry, and at its exit
+abbrev pub lent : List ℕ → Bytes → List ℕ → Overlay
+lent words bytes counters = overlay_in words bytes counters
 
--- the overlay as a call is lent it, and as it leaves it
-abbrev pub lent : Lent → Lent → Lent → Overlay
-lent words bytes counters = overlay_in words.entry.now bytes.entry.now counters.entry.now
-
-abbrev pub left : Lent → Lent → Lent → Overlay
-left words bytes counters = overlay_in words.exit.now bytes.exit.now counters.exit.now
+abbrev pub left : List ℕ → Bytes → List ℕ → Overlay
+left words bytes counters = overlay_in words bytes counters
 
 -- for set-up, by the sizes that it is given
-abbrev pub lent_for : Sizes → Lent → Lent → Lent → Overlay
-lent_for z words bytes counters = overlay_for z words.entry.now bytes.entry.now counters.entry.now
+abbrev pub lent_for : Sizes → List ℕ → Bytes → List ℕ → Overlay
+lent_for z words bytes counters = overlay_for z words bytes counters
 
-abbrev pub left_for : Sizes → Lent → Lent → Lent → Overlay
-left_for z words bytes counters = overlay_for z words.exit.now bytes.exit.now counters.exit.now
+abbrev pub left_for : Sizes → List ℕ → Bytes → List ℕ → Overlay
+left_for z words bytes counters = overlay_for z words bytes counters

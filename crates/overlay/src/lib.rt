@@ -1,4 +1,6 @@
 // The overlay (parse.rs) over lent storage: set-up, soundness, and the regression setting. It is lent as two blocks and its counters (crate `overlay_blocks`).
+#![tactic(auto)]
+
 ghost use Rattle.std.specs.Prelude.{◌≡◌, ◌<◌, length, set};
 ghost use Rattle.interner.specs.Sound.{sound_strings};
 ghost use Rattle.overlay.specs.Overlay.{fresh_counters};
@@ -45,7 +47,7 @@ pub fn set_up(
     z: Sizes,
     setting: u64,
 ) -> Kept
-    ensures { record { overlay = left_for z words bytes counters; answer = result } ≡ set_up z setting (lent_for z words bytes counters) }
+    ensures { record { overlay = left_for z words.new bytes.now counters.new; answer = result } ≡ set_up z setting (lent_for z words.old bytes.now counters.old) }
 {
     if overlay_blocks::sizes_fit(z, words.len(), bytes.len()) {
         reset(counters, z, setting);
@@ -60,7 +62,7 @@ pub fn set_up(
 // ---- soundness
 
 fn kind_sound(words: &[u64], bytes: &[u8], counters: &[u64; COUNTERS], kind: Kind) -> bool
-    ensures { result ≡ sound_of kind (lent words bytes counters) }
+    ensures { result ≡ sound_of kind (lent words.now bytes.now counters.now) }
 {
     let p = overlay_blocks::part_in(kind, counters, words.len(), bytes.len());
     let at = p.at;
@@ -79,7 +81,7 @@ fn kind_sound(words: &[u64], bytes: &[u8], counters: &[u64; COUNTERS], kind: Kin
 }
 
 fn kind_stores_sound(words: &[u64], bytes: &[u8], counters: &[u64; COUNTERS]) -> bool
-    ensures { result ≡ kind_stores_sound (lent words bytes counters) }
+    ensures { result ≡ kind_stores_sound (lent words.now bytes.now counters.now) }
 {
     if kind_sound(words, bytes, counters, Kind::Node) {
         if kind_sound(words, bytes, counters, Kind::Way) {
@@ -91,7 +93,7 @@ fn kind_stores_sound(words: &[u64], bytes: &[u8], counters: &[u64; COUNTERS]) ->
 }
 
 fn strings_sound(words: &[u64], bytes: &[u8], counters: &[u64; COUNTERS]) -> bool
-    ensures { result ≡ sound_strings (lent words bytes counters).texts }
+    ensures { result ≡ sound_strings (lent words.now bytes.now counters.now).texts }
 {
     let t = overlay_blocks::texts_in(counters, words.len(), bytes.len());
     let c = t.spans;
@@ -106,7 +108,7 @@ fn strings_sound(words: &[u64], bytes: &[u8], counters: &[u64; COUNTERS]) -> boo
 
 // Whether an overlay is sound: the sizes, the strings, then each kind.
 pub fn is_sound(words: &[u64], bytes: &[u8], counters: &[u64; COUNTERS]) -> bool
-    ensures { result ≡ is_sound (lent words bytes counters) }
+    ensures { result ≡ is_sound (lent words.now bytes.now counters.now) }
 {
     if overlay_blocks::sizes_fit(overlay_blocks::sizes_in(counters), words.len(), bytes.len()) {
         if strings_sound(words, bytes, counters) {
@@ -133,7 +135,7 @@ pub fn allow_version_regression(
     counters: &mut [u64; COUNTERS],
     setting: u64,
 ) -> Kept
-    ensures { record { overlay = left words bytes counters; answer = result } ≡ allow_on setting (lent words bytes counters) }
+    ensures { record { overlay = left words.now bytes.now counters.new; answer = result } ≡ allow_on setting (lent words.now bytes.now counters.old) }
 {
     if is_sound(words, bytes, counters) {
         put_setting(counters, setting);

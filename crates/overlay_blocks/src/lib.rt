@@ -3,6 +3,8 @@
 // The bytes: the arenas of nodes, ways, relations; behind them the string bytes.
 // The counters: used ids of nodes, ways, relations; used arena bytes of the same; held strings; used string bytes; the regression setting, 0 while regression is
 // refused; and behind them, in the same order, the sizes that set-up was given: ids of nodes, ways, relations; arena bytes of the same; strings; string bytes.
+#![tactic(auto)]
+
 ghost use Rattle.std.specs.Prelude.{◌≡◌, ◌*◌, ◌≤◌, min};
 ghost use Rattle.overlay_blocks.specs.Blocks.{sizes_in, ends_of, InOrder, word_ends, byte_ends, part_of, Within, part_in, text_part_of, text_part_in};
 ghost use Rattle.overlay_blocks.specs.Sizes.{largest, kind_fits, strings_fit, sizes_in_range, Small, filled, fitted};
@@ -38,7 +40,7 @@ const SIZES_STRING_BYTES: usize = 16;
 
 // The lent sizes of a kind: rows of its id table, bytes of its arena.
 #[repr(C)]
-#[derive(Drop)]
+#[derive(Clone, Copy)]
 pub struct KindSize {
     pub ids: u64,
     pub bytes: u64,
@@ -46,7 +48,7 @@ pub struct KindSize {
 
 // The lent sizes, as set-up is given them and the counters hold them.
 #[repr(C)]
-#[derive(Drop)]
+#[derive(Clone, Copy)]
 pub struct Sizes {
     pub nodes: KindSize,
     pub ways: KindSize,
@@ -56,7 +58,7 @@ pub struct Sizes {
 }
 
 // Where the parts of the three kinds end in a block. What lies behind them is the strings'.
-#[derive(Drop)]
+#[derive(Clone, Copy)]
 pub struct Ends {
     pub nodes: usize,
     pub ways: usize,
@@ -64,7 +66,7 @@ pub struct Ends {
 }
 
 // What the blocks have of one kind: words `from` to `to`, bytes `first` to `end`; and the place of its used ids among the counters, its used bytes three behind.
-#[derive(Drop)]
+#[derive(Clone, Copy)]
 pub struct KindPart {
     pub at: usize,
     pub from: usize,
@@ -74,7 +76,7 @@ pub struct KindPart {
 }
 
 // Where the blocks have the strings: their spans and their bytes from there on.
-#[derive(Drop)]
+#[derive(Clone, Copy)]
 pub struct TextPart {
     pub spans: usize,
     pub bytes: usize,

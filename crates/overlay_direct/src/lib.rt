@@ -1,5 +1,6 @@
 // The direct calls: `intern`, direct push and direct delete. Each tests first that the overlay is sound (22), then what it is given (17, 3, 10, 16), and leaves
 // the rest to the store.
+#![tactic(auto)]
 ghost use Rattle.std.specs.Prelude.{◌≡◌};
 ghost use Rattle.std.specs.Int.{w64};
 ghost use Rattle.std.proofs.Common.{to_z};
@@ -22,7 +23,7 @@ pub fn intern(
     counters: &mut [u64; COUNTERS],
     text: &[u8],
 ) -> Handle
-    ensures { record { overlay = left words bytes counters; answer = result } ≡ intern_on text.now (lent words bytes counters) }
+    ensures { record { overlay = left words.new bytes.new counters.new; answer = result } ≡ intern_on text.now (lent words.old bytes.old counters.old) }
 {
     if overlay::is_sound(words, bytes, counters) {
         if text::is_text(text) {
@@ -43,7 +44,7 @@ pub fn push(
     meta: ArenaMeta,
     parts: &[u8],
 ) -> Kept
-    ensures { record { overlay = left words bytes counters; answer = result } ≡ push_on kind head meta parts.now (lent words bytes counters) }
+    ensures { record { overlay = left words.new bytes.new counters.new; answer = result } ≡ push_on kind head meta parts.now (lent words.old bytes.old counters.old) }
 {
     if overlay::is_sound(words, bytes, counters) {
         let Fault::Refused(refusal) = compact_legal::push_fault(
@@ -69,7 +70,7 @@ pub fn delete(
     id: u64,
     meta: ArenaMeta,
 ) -> Kept
-    ensures { record { overlay = left words bytes counters; answer = result } ≡ delete_on kind (to_z w64 id) (meta_of meta) (lent words bytes counters) }
+    ensures { record { overlay = left words.new bytes.now counters.new; answer = result } ≡ delete_on kind (to_z w64 id) (meta_of meta) (lent words.old bytes.now counters.old) }
 {
     if overlay::is_sound(words, bytes, counters) {
         if compact_legal::legal_meta(meta, counters[STRINGS]) {

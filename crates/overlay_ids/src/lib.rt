@@ -1,5 +1,6 @@
 // All ids of a kind that are live, or all that are deleted, each with its known version, into two lent lists in one call. It first tests that the
 // overlay is sound (22).
+#![tactic(auto)]
 ghost use Rattle.std.specs.Prelude.{◌≡◌, map, ℕ, ◌≤◌, length};
 ghost use Rattle.std.specs.Int.{w64};
 ghost use Rattle.std.proofs.Common.{to_z};
@@ -75,8 +76,8 @@ fn put_kind(
     ids: &mut [u64],
     versions: &mut [u64],
 ) -> Read
-    ensures { (used : ℕ) → record { ids = ids.exit.now; versions = versions.new; answer = result }
-        ≡ kind_ids kind side (kind_store_with table.now count arena.now used) ids.entry.now versions.old }
+    ensures { (used : ℕ) → record { ids = ids.new; versions = versions.new; answer = result }
+        ≡ kind_ids kind side (kind_store_with table.now count arena.now used) ids.old versions.old }
 {
     let n = kind_reading::count_on(side, table, count);
     if n <= little::lesser(ids.len(), versions.len()) as u64 {
@@ -96,8 +97,8 @@ fn put_one(
     ids: &mut [u64],
     versions: &mut [u64],
 ) -> Read
-    ensures { record { ids = ids.exit.now; versions = versions.new; answer = result }
-        ≡ kind_ids kind side (kind_store_of kind (lent words bytes counters)) ids.entry.now versions.old }
+    ensures { record { ids = ids.new; versions = versions.new; answer = result }
+        ≡ kind_ids kind side (kind_store_of kind (lent words.now bytes.now counters.now)) ids.old versions.old }
 {
     let p = overlay_blocks::part_in(kind, counters, words.len(), bytes.len());
     let at = p.at;
@@ -126,8 +127,8 @@ pub fn all_ids(
     ids: &mut [u64],
     versions: &mut [u64],
 ) -> Read
-    ensures { record { ids = ids.exit.now; versions = versions.new; answer = result }
-        ≡ all_ids_on kind side ids.entry.now versions.old (lent words bytes counters) }
+    ensures { record { ids = ids.new; versions = versions.new; answer = result }
+        ≡ all_ids_on kind side ids.old versions.old (lent words.now bytes.now counters.now) }
 {
     if overlay::is_sound(words, bytes, counters) {
         return put_one(words, bytes, counters, kind, side, ids, versions);

@@ -1,5 +1,6 @@
 // What is read of an overlay: counts, ids and records by number, what is known of an id, and texts by handle. Each reading first tests that
 // the overlay is sound (22).
+#![tactic(auto)]
 ghost use Rattle.std.specs.Prelude.{◌≡◌, take, get_or};
 ghost use Rattle.std.specs.Int.{w64};
 ghost use Rattle.std.proofs.Common.{to_z};
@@ -17,7 +18,7 @@ use refusal::Refusal;
 use version_floor::Version;
 
 // A number that was read, or a refusal.
-#[derive(Drop)]
+#[derive(Clone, Copy)]
 pub enum Read {
     Is(u64),
     Refused(Refusal),
@@ -27,7 +28,7 @@ pub enum Read {
 
 // How many ids are on a list of a kind.
 fn count_in(words: &[u64], bytes: &[u8], counters: &[u64; COUNTERS], kind: Kind, side: Side) -> u64
-    ensures { result ≡ count_in side (kind_store_of kind (lent words bytes counters)) }
+    ensures { result ≡ count_in side (kind_store_of kind (lent words.now bytes.now counters.now)) }
 {
     let p = overlay_blocks::part_in(kind, counters, words.len(), bytes.len());
     let at = p.at;
@@ -45,7 +46,7 @@ fn row_in(
     side: Side,
     n: u64,
 ) -> Nth
-    ensures { result ≡ row_in side n (kind_store_of kind (lent words bytes counters)) }
+    ensures { result ≡ row_in side n (kind_store_of kind (lent words.now bytes.now counters.now)) }
 {
     let p = overlay_blocks::part_in(kind, counters, words.len(), bytes.len());
     let at = p.at;
@@ -62,7 +63,7 @@ fn standing_in(
     kind: Kind,
     id: u64,
 ) -> Standing
-    ensures { result ≡ standing_in (kind_store_of kind (lent words bytes counters)) (to_z w64 id) }
+    ensures { result ≡ standing_in (kind_store_of kind (lent words.now bytes.now counters.now)) (to_z w64 id) }
 {
     let p = overlay_blocks::part_in(kind, counters, words.len(), bytes.len());
     let at = p.at;
@@ -73,7 +74,7 @@ fn standing_in(
 
 // The view of a kind's record.
 fn view_in(words: &[u64], bytes: &[u8], counters: &[u64; COUNTERS], kind: Kind, offset: u64) -> View
-    ensures { result ≡ view_in (get_or counters.now 6 0) kind (kind_store_of kind (lent words bytes counters)) offset }
+    ensures { result ≡ view_in (get_or counters.now 6 0) kind (kind_store_of kind (lent words.now bytes.now counters.now)) offset }
 {
     let p = overlay_blocks::part_in(kind, counters, words.len(), bytes.len());
     let at = p.at;
@@ -96,7 +97,7 @@ fn version_in(
     kind: Kind,
     id: u64,
 ) -> Version
-    ensures { result ≡ known_version kind (kind_store_of kind (lent words bytes counters)) (to_z w64 id) }
+    ensures { result ≡ known_version kind (kind_store_of kind (lent words.now bytes.now counters.now)) (to_z w64 id) }
 {
     let p = overlay_blocks::part_in(kind, counters, words.len(), bytes.len());
     let at = p.at;
@@ -117,7 +118,7 @@ pub fn count(
     kind: Kind,
     side: Side,
 ) -> Read
-    ensures { result ≡ count_on kind side (lent words bytes counters) }
+    ensures { result ≡ count_on kind side (lent words.now bytes.now counters.now) }
 {
     if overlay::is_sound(words, bytes, counters) {
         return Read::Is(count_in(words, bytes, counters, kind, side));
@@ -133,7 +134,7 @@ fn yes(b: bool) -> Read
 
 // Whether no id of any kind is known.
 pub fn is_empty(words: &[u64], bytes: &[u8], counters: &[u64; COUNTERS]) -> Read
-    ensures { result ≡ is_empty_on (lent words bytes counters) }
+    ensures { result ≡ is_empty_on (lent words.now bytes.now counters.now) }
 {
     if overlay::is_sound(words, bytes, counters) {
         return yes((counters[0] == 0) & ((counters[1] == 0) & (counters[2] == 0)));
@@ -161,7 +162,7 @@ pub fn id_at(
     side: Side,
     n: u64,
 ) -> Read
-    ensures { result ≡ id_on kind side n (lent words bytes counters) }
+    ensures { result ≡ id_on kind side n (lent words.now bytes.now counters.now) }
 {
     if overlay::is_sound(words, bytes, counters) {
         return id_read(row_in(words, bytes, counters, kind, side, n));
@@ -177,7 +178,7 @@ pub fn record_at(
     kind: Kind,
     n: u64,
 ) -> View
-    ensures { result ≡ record_on kind n (lent words bytes counters) }
+    ensures { result ≡ record_on kind n (lent words.now bytes.now counters.now) }
 {
     if overlay::is_sound(words, bytes, counters) {
         let Nth::At(row) = row_in(words, bytes, counters, kind, Side::Live, n) else {
@@ -192,7 +193,7 @@ pub fn record_at(
 
 // The view of an id's record, if the id is live.
 pub fn get(words: &[u64], bytes: &[u8], counters: &[u64; COUNTERS], kind: Kind, id: u64) -> View
-    ensures { result ≡ get_on kind (to_z w64 id) (lent words bytes counters) }
+    ensures { result ≡ get_on kind (to_z w64 id) (lent words.now bytes.now counters.now) }
 {
     if overlay::is_sound(words, bytes, counters) {
         let Standing::Live(at) = standing_in(words, bytes, counters, kind, id) else {
@@ -223,7 +224,7 @@ fn is_deleted_now(standing: Standing) -> bool
 
 // Whether an id is live.
 pub fn has(words: &[u64], bytes: &[u8], counters: &[u64; COUNTERS], kind: Kind, id: u64) -> Read
-    ensures { result ≡ has_on kind (to_z w64 id) (lent words bytes counters) }
+    ensures { result ≡ has_on kind (to_z w64 id) (lent words.now bytes.now counters.now) }
 {
     if overlay::is_sound(words, bytes, counters) {
         return yes(is_live_now(standing_in(words, bytes, counters, kind, id)));
@@ -239,7 +240,7 @@ pub fn is_deleted(
     kind: Kind,
     id: u64,
 ) -> Read
-    ensures { result ≡ is_deleted_on kind (to_z w64 id) (lent words bytes counters) }
+    ensures { result ≡ is_deleted_on kind (to_z w64 id) (lent words.now bytes.now counters.now) }
 {
     if overlay::is_sound(words, bytes, counters) {
         return yes(is_deleted_now(standing_in(words, bytes, counters, kind, id)));
@@ -255,7 +256,7 @@ pub fn known_version(
     kind: Kind,
     id: u64,
 ) -> Read
-    ensures { result ≡ known_on kind (to_z w64 id) (lent words bytes counters) }
+    ensures { result ≡ known_on kind (to_z w64 id) (lent words.now bytes.now counters.now) }
 {
     if overlay::is_sound(words, bytes, counters) {
         let version = version_in(words, bytes, counters, kind, id);
@@ -285,7 +286,7 @@ fn text_at(spans: &[u64], strings: &[u8], count: u64, used: u64, handle: u64) ->
 
 // The same over what the blocks have of the strings.
 fn text_in(words: &[u64], bytes: &[u8], counters: &[u64; COUNTERS], handle: u64) -> View
-    ensures { result ≡ text_view (span_of (lent words bytes counters).texts.spans (used_of (lent words bytes counters).texts) (lent words bytes counters).texts.strings handle) }
+    ensures { result ≡ text_view (span_of (lent words.now bytes.now counters.now).texts.spans (used_of (lent words.now bytes.now counters.now).texts) (lent words.now bytes.now counters.now).texts.strings handle) }
 {
     let t = overlay_blocks::texts_in(counters, words.len(), bytes.len());
     let c = t.spans;
@@ -301,7 +302,7 @@ fn text_in(words: &[u64], bytes: &[u8], counters: &[u64; COUNTERS], handle: u64)
 
 // Where the text of a handle lies among the string bytes, or 21.
 pub fn text(words: &[u64], bytes: &[u8], counters: &[u64; COUNTERS], handle: u64) -> View
-    ensures { result ≡ text_on handle (lent words bytes counters) }
+    ensures { result ≡ text_on handle (lent words.now bytes.now counters.now) }
 {
     if overlay::is_sound(words, bytes, counters) {
         return text_in(words, bytes, counters, handle);

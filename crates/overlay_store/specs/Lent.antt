@@ -1,24 +1,22 @@
 -- One kind's table, arena and counters, as a function is lent them and as it leaves them. The kind's counters stand at a place and three behind it.
 use Rattle.std.specs.Prelude.{ℕ, ◌+◌, ◌≡◌, List, get_or}
-use Rattle.std.specs.Borrow.{Bor}
 use Rattle.kind_store.specs.KindStore.{KindStore, kind_store_with}
-use Rattle.overlay.specs.Lent.{Lent}
+use Rattle.base.specs.Bytes.{Bytes}
 
--- the kind store at one of the two moments
-abbrev pub kind_store_at : (Lent → Bor (List ℕ)) → ℕ → Lent → Lent → Lent → KindStore
-kind_store_at when at table arena used =
-    kind_store_with (when table).now (get_or (when used).now at 0) (when arena).now (get_or (when used).now (at + 3) 0)
+-- the kind store in a table, an arena and the counters
+abbrev pub kind_store_at : ℕ → List ℕ → Bytes → List ℕ → KindStore
+kind_store_at at table arena used = kind_store_with table (get_or used at 0) arena (get_or used (at + 3) 0)
 
-abbrev pub kind_store_lent : ℕ → Lent → Lent → Lent → KindStore
-kind_store_lent = kind_store_at (λ r. r.entry)
+abbrev pub kind_store_lent : ℕ → List ℕ → Bytes → List ℕ → KindStore
+kind_store_lent = kind_store_at
 
-abbrev pub kind_store_left : ℕ → Lent → Lent → Lent → KindStore
-kind_store_left = kind_store_at (λ r. r.exit)
+abbrev pub kind_store_left : ℕ → List ℕ → Bytes → List ℕ → KindStore
+kind_store_left = kind_store_at
 
 -- the regression setting
-abbrev pub setting_in : Lent → ℕ
-setting_in used = get_or used.entry.now 8 0
+abbrev pub setting_in : List ℕ → ℕ
+setting_in used = get_or used 8 0
 
--- every other counter is as it was
-abbrev pub OthersKept : ℕ → Lent → Type 0
-OthersKept at used = (i : ℕ) → (i ≡ at → ⊥) → (i ≡ at + 3 → ⊥) → get_or used.exit.now i 0 ≡ get_or used.entry.now i 0
+-- every other counter is as it was, at the exit as at the entry
+abbrev pub OthersKept : ℕ → List ℕ → List ℕ → Type 0
+OthersKept at before after = (i : ℕ) → (i ≡ at → ⊥) → (i ≡ at + 3 → ⊥) → get_or after i 0 ≡ get_or before i 0

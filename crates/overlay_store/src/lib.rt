@@ -1,5 +1,6 @@
 // The store's row of the table, over what is lent and with no test of soundness: 13 for a text, 12, 14, 15 for a push, 12, 14 for a delete.
 // A caller makes the tests of the rows before it first.
+#![tactic(auto)]
 ghost use Rattle.std.specs.Prelude.{◌≡◌, ◌+◌, ◌<◌, length, set};
 ghost use Rattle.std.specs.Int.{w64};
 ghost use Rattle.std.proofs.Common.{to_z};
@@ -20,7 +21,7 @@ use refusal::Refusal;
 use version_floor::Version;
 
 // What `intern` answers: the text's handle, or a refusal.
-#[derive(Drop)]
+#[derive(Clone, Copy)]
 pub enum Handle {
     Is(u64),
     Refused(Refusal),
@@ -64,7 +65,7 @@ pub fn store_text(
     counters: &mut [u64; COUNTERS],
     text: &[u8],
 ) -> Handle
-    ensures { record { overlay = left words bytes counters; answer = result } ≡ store_text text.now (lent words bytes counters) }
+    ensures { record { overlay = left words.new bytes.new counters.new; answer = result } ≡ store_text text.now (lent words.old bytes.old counters.old) }
 {
     let t = overlay_blocks::texts_in(counters, words.len(), bytes.len());
     let c = t.spans;
@@ -87,8 +88,8 @@ pub fn store_text_by(
     ix: &[u16],
     text: &[u8],
 ) -> Handle
-    ensures { IndexGiven ix.now (lent words bytes counters).texts
-        → record { overlay = left words bytes counters; answer = result } ≡ store_text text.now (lent words bytes counters) }
+    ensures { IndexGiven ix.now (lent words.old bytes.old counters.old).texts
+        → record { overlay = left words.new bytes.new counters.new; answer = result } ≡ store_text text.now (lent words.old bytes.old counters.old) }
 {
     let t = overlay_blocks::texts_in(counters, words.len(), bytes.len());
     let c = t.spans;
@@ -112,7 +113,7 @@ pub fn handle_by(
     ix: &[u16],
     text: &[u8],
 ) -> Handle
-    ensures { IndexGiven ix.now (lent words bytes counters).texts → result ≡ (store_text text.now (lent words bytes counters)).answer }
+    ensures { IndexGiven ix.now (lent words.now bytes.now counters.now).texts → result ≡ (store_text text.now (lent words.now bytes.now counters.now)).answer }
 {
     let t = overlay_blocks::texts_in(counters, words.len(), bytes.len());
     let c = t.spans;
@@ -130,7 +131,7 @@ pub fn handle_by(
 
 // Brings an array of chains up to date with the held texts.
 pub fn index_texts(ix: &mut [u16], words: &[u64], bytes: &[u8], counters: &[u64; COUNTERS])
-    ensures { IndexGiven ix.old (lent words bytes counters).texts → IndexGiven ix.new (lent words bytes counters).texts }
+    ensures { IndexGiven ix.old (lent words.now bytes.now counters.now).texts → IndexGiven ix.new (lent words.now bytes.now counters.now).texts }
 {
     let t = overlay_blocks::texts_in(counters, words.len(), bytes.len());
     let c = t.spans;
@@ -158,9 +159,9 @@ fn push_at(
     parts: &[u8],
 ) -> Kept
     requires { at < 3 }
-    ensures { (record { kind_store = kind_store_left at table arena used; answer = result }
-        ≡ pushed kind (setting_in used) (kind_store_lent at table arena used) (to_z w64 head.id) (claim_of (meta_of meta)) (bytes_of kind head meta parts.now))
-        × OthersKept at used }
+    ensures { (record { kind_store = kind_store_left at table.new arena.new used.new; answer = result }
+        ≡ pushed kind (setting_in used.old) (kind_store_lent at table.old arena.old used.old) (to_z w64 head.id) (claim_of (meta_of meta)) (bytes_of kind head meta parts.now))
+        × OthersKept at used.old used.new }
 {
     let ids = used[at];
     let end = used[at + ARENA];
@@ -189,7 +190,7 @@ pub fn store_push(
     meta: ArenaMeta,
     parts: &[u8],
 ) -> Kept
-    ensures { record { overlay = left words bytes counters; answer = result } ≡ store_push kind head meta parts.now (lent words bytes counters) }
+    ensures { record { overlay = left words.new bytes.new counters.new; answer = result } ≡ store_push kind head meta parts.now (lent words.old bytes.old counters.old) }
 {
     let p = overlay_blocks::part_in(kind, counters, words.len(), bytes.len());
     let from = p.from;
@@ -221,8 +222,8 @@ fn delete_at(
     claim: Version,
 ) -> Kept
     requires { at < 3 }
-    ensures { (record { kind_store = kind_store_left at table arena used; answer = result } ≡ deleted kind (setting_in used) (kind_store_lent at table arena used) (to_z w64 id) claim)
-        × OthersKept at used }
+    ensures { (record { kind_store = kind_store_left at table.new arena.now used.new; answer = result } ≡ deleted kind (setting_in used.old) (kind_store_lent at table.old arena.now used.old) (to_z w64 id) claim)
+        × OthersKept at used.old used.new }
 {
     let ids = used[at];
     let end = used[at + ARENA];
@@ -240,7 +241,7 @@ pub fn store_delete(
     id: u64,
     claim: Version,
 ) -> Kept
-    ensures { record { overlay = left words bytes counters; answer = result } ≡ store_delete kind (to_z w64 id) claim (lent words bytes counters) }
+    ensures { record { overlay = left words.new bytes.now counters.new; answer = result } ≡ store_delete kind (to_z w64 id) claim (lent words.old bytes.now counters.old) }
 {
     let p = overlay_blocks::part_in(kind, counters, words.len(), bytes.len());
     let from = p.from;

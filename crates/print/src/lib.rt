@@ -1,4 +1,6 @@
 // Printing into lent bytes, piece by piece: numbers, integers and escaped texts, each after a tab.
+#![tactic(auto)]
+
 ghost use Rattle.std.specs.Prelude.{◌≡◌, true, [], ◌∷◌, ◌+◌, ◌-◌, ◌≤◌, length, leb};
 ghost use Rattle.std.specs.Int.{w32, w64};
 ghost use Rattle.std.proofs.Common.{to_z};
@@ -9,7 +11,7 @@ ghost use Rattle.print.specs.Print.{print_step, print, tab};
 ghost use Rattle.print.specs.Piece.{behind, output_place, escaped_by, Advance};
 
 // How much room is left, or that a piece did not fit.
-#[derive(Drop)]
+#[derive(Clone, Copy)]
 pub enum Room {
     Left(usize),
     Full,
@@ -64,7 +66,7 @@ fn place(cap: usize, room: Room, left: Room, len: usize) -> usize
 
 // A piece of bytes.
 pub fn put_bytes(out: &mut [u8], cap: usize, room: Room, piece: &[u8]) -> Room
-    ensures { record { out = out.exit.now; room = result } ≡ print_step cap piece.now (record { out = out.entry.now; room = room }) }
+    ensures { record { out = out.new; room = result } ≡ print_step cap piece.now (record { out = out.old; room = room }) }
 {
     let left = behind_bytes(room, piece.len());
     let at = place(cap, room, left, out.len());
@@ -74,7 +76,7 @@ pub fn put_bytes(out: &mut [u8], cap: usize, room: Room, piece: &[u8]) -> Room
 
 // A tab.
 fn put_tab(out: &mut [u8], cap: usize, room: Room) -> Room
-    ensures { record { out = out.exit.now; room = result } ≡ print_step cap tab (record { out = out.entry.now; room = room }) }
+    ensures { record { out = out.new; room = result } ≡ print_step cap tab (record { out = out.old; room = room }) }
 {
     put_bytes(out, cap, room, b"\t")
 }
@@ -83,7 +85,7 @@ fn put_tab(out: &mut [u8], cap: usize, room: Room) -> Room
 
 // The digits of a number.
 fn number_piece(out: &mut [u8], cap: usize, room: Room, v: u64) -> Room
-    ensures { record { out = out.exit.now; room = result } ≡ print_step cap (number_text v) (record { out = out.entry.now; room = room }) }
+    ensures { record { out = out.new; room = result } ≡ print_step cap (number_text v) (record { out = out.old; room = room }) }
 {
     let n = decimal::number_length(v);
     let left = behind_bytes(room, n);
@@ -94,7 +96,7 @@ fn number_piece(out: &mut [u8], cap: usize, room: Room, v: u64) -> Room
 
 // A tab and a number.
 pub fn put_number(out: &mut [u8], cap: usize, room: Room, v: u64) -> Room
-    ensures { record { out = out.exit.now; room = result } ≡ print cap (tab ∷ number_text v ∷ []) (record { out = out.entry.now; room = room }) }
+    ensures { record { out = out.new; room = result } ≡ print cap (tab ∷ number_text v ∷ []) (record { out = out.old; room = room }) }
 {
     let room = put_tab(out, cap, room);
     number_piece(out, cap, room, v)
@@ -115,7 +117,7 @@ fn behind_integer(room: Room, bits: u64) -> Room
 
 // An integer with its minus sign.
 fn integer_piece(out: &mut [u8], cap: usize, room: Room, bits: u64) -> Room
-    ensures { record { out = out.exit.now; room = result } ≡ print_step cap (integer_text (to_z w64 bits)) (record { out = out.entry.now; room = room }) }
+    ensures { record { out = out.new; room = result } ≡ print_step cap (integer_text (to_z w64 bits)) (record { out = out.old; room = room }) }
 {
     if bits < 0x8000_0000_0000_0000 {
         return number_piece(out, cap, room, bits);
@@ -128,7 +130,7 @@ fn integer_piece(out: &mut [u8], cap: usize, room: Room, bits: u64) -> Room
 
 // A tab and an integer of 64 bits, given by its bits.
 pub fn put_integer(out: &mut [u8], cap: usize, room: Room, bits: u64) -> Room
-    ensures { record { out = out.exit.now; room = result } ≡ print cap (tab ∷ integer_text (to_z w64 bits) ∷ []) (record { out = out.entry.now; room = room }) }
+    ensures { record { out = out.new; room = result } ≡ print cap (tab ∷ integer_text (to_z w64 bits) ∷ []) (record { out = out.old; room = room }) }
 {
     let room = put_tab(out, cap, room);
     integer_piece(out, cap, room, bits)
@@ -146,7 +148,7 @@ fn widened(bits: u32) -> u64
 
 // A tab and an integer of 32 bits.
 pub fn put_integer32(out: &mut [u8], cap: usize, room: Room, bits: u32) -> Room
-    ensures { record { out = out.exit.now; room = result } ≡ print cap (tab ∷ integer_text (to_z w32 bits) ∷ []) (record { out = out.entry.now; room = room }) }
+    ensures { record { out = out.new; room = result } ≡ print cap (tab ∷ integer_text (to_z w32 bits) ∷ []) (record { out = out.old; room = room }) }
 {
     put_integer(out, cap, room, widened(bits))
 }
@@ -249,7 +251,7 @@ fn put_escape(out: &mut [u8], text: &[u8])
 
 // The escape of a text: a copy of it where each byte stands for itself.
 fn text_piece(out: &mut [u8], cap: usize, room: Room, text: &[u8]) -> Room
-    ensures { record { out = out.exit.now; room = result } ≡ print_step cap (escape text.now) (record { out = out.entry.now; room = room }) }
+    ensures { record { out = out.new; room = result } ≡ print_step cap (escape text.now) (record { out = out.old; room = room }) }
 {
     if all_plain(text) {
         return put_bytes(out, cap, room, text);
@@ -262,7 +264,7 @@ fn text_piece(out: &mut [u8], cap: usize, room: Room, text: &[u8]) -> Room
 
 // A tab and a text with its escapes.
 pub fn put_text(out: &mut [u8], cap: usize, room: Room, text: &[u8]) -> Room
-    ensures { record { out = out.exit.now; room = result } ≡ print cap (tab ∷ escape text.now ∷ []) (record { out = out.entry.now; room = room }) }
+    ensures { record { out = out.new; room = result } ≡ print cap (tab ∷ escape text.now ∷ []) (record { out = out.old; room = room }) }
 {
     let room = put_tab(out, cap, room);
     text_piece(out, cap, room, text)

@@ -1,5 +1,6 @@
 // The acts of an event, over what is lent: an element that begins, the push of an empty element or of one whose parts are staged, a delete.
 // What is refused changes nothing lent: the handle that the user's text has or will get is found first, the act is done with it, and the text is taken in behind an act that was taken.
+#![tactic(auto)]
 ghost use Rattle.std.specs.Prelude.{◌≡◌, [], take};
 ghost use Rattle.std.specs.Int.{w64};
 ghost use Rattle.std.proofs.Common.{to_z};
@@ -26,7 +27,7 @@ use refusal::Refusal;
 use version_floor::{Admit, Version};
 
 // What an element begins with: its metadata with its user's handle, or 13.
-#[derive(Drop)]
+#[derive(Clone, Copy)]
 pub enum Begun {
     With(ArenaMeta),
     Refused(Refusal),
@@ -104,9 +105,9 @@ pub fn begin_element(
     meta: Metadata,
     line: &[u8],
 ) -> Begun
-    ensures { ActGiven ix.now line.now meta (lent words bytes counters)
-        → record { overlay = left words bytes counters; answer = result }
-        ≡ begin_on (meta_written line.now meta) (lent words bytes counters) }
+    ensures { ActGiven ix.now line.now meta (lent words.old bytes.old counters.old)
+        → record { overlay = left words.new bytes.new counters.new; answer = result }
+        ≡ begin_on (meta_written line.now meta) (lent words.old bytes.old counters.old) }
 {
     if meta.flags / 4 % 2 == 1 {
         let user = meta.user;
@@ -128,8 +129,8 @@ fn push_first(
     head: PushHead,
     meta: ArenaMeta,
 ) -> Kept
-    ensures { record { overlay = left words bytes counters; answer = result }
-        ≡ store_push kind head meta (take n parts.now) (lent words bytes counters) }
+    ensures { record { overlay = left words.new bytes.new counters.new; answer = result }
+        ≡ store_push kind head meta (take n parts.now) (lent words.old bytes.old counters.old) }
 {
     let end = little::lesser(n, parts.len());
     overlay_store::store_push(words, bytes, counters, kind, head, meta, &parts[..end])
@@ -144,8 +145,8 @@ pub fn push_staged(
     kind: Kind,
     pending: Pending,
 ) -> Kept
-    ensures { record { overlay = left words bytes counters; answer = result }
-        ≡ push_staged_on kind pending parts.now (lent words bytes counters) }
+    ensures { record { overlay = left words.new bytes.new counters.new; answer = result }
+        ≡ push_staged_on kind pending parts.now (lent words.old bytes.old counters.old) }
 {
     let head = pending.head;
     let meta = pending.meta;
@@ -172,8 +173,8 @@ fn user_handle(
     meta: Metadata,
     line: &[u8],
 ) -> Handle
-    ensures { ActGiven ix.now line.now meta (lent words bytes counters)
-        → result ≡ handle_for (meta_written line.now meta) (lent words bytes counters) }
+    ensures { ActGiven ix.now line.now meta (lent words.now bytes.now counters.now)
+        → result ≡ handle_for (meta_written line.now meta) (lent words.now bytes.now counters.now) }
 {
     if meta.flags / 4 % 2 == 1 {
         let user = meta.user;
@@ -192,8 +193,8 @@ fn user_refused(
     meta: Metadata,
     refusal: Refusal,
 ) -> Kept
-    ensures { (line : Bytes) → record { overlay = lent words bytes counters; answer = result }
-        ≡ admitted (lent words bytes counters) (claim_answer kind (to_z w64 id) (claim_of (meta_written line meta)) (lent words bytes counters)) (overlay_refused (lent words bytes counters) refusal) }
+    ensures { (line : Bytes) → record { overlay = lent words.now bytes.now counters.now; answer = result }
+        ≡ admitted (lent words.now bytes.now counters.now) (claim_answer kind (to_z w64 id) (claim_of (meta_written line meta)) (lent words.now bytes.now counters.now)) (overlay_refused (lent words.now bytes.now counters.now) refusal) }
 {
     let claim = claimed(meta);
     let Admit::Below(held) = act_answer::claim_below(words, bytes, counters, kind, id, claim) else {
@@ -212,9 +213,9 @@ fn take_user(
     line: &[u8],
     user: u64,
 )
-    ensures { ActGiven ix.now line.now meta (lent words bytes counters)
-        → UserIs (meta_written line.now meta) (lent words bytes counters) user
-        → left words bytes counters ≡ with_user (meta_written line.now meta) (lent words bytes counters) }
+    ensures { ActGiven ix.now line.now meta (lent words.old bytes.old counters.old)
+        → UserIs (meta_written line.now meta) (lent words.old bytes.old counters.old) user
+        → left words.new bytes.new counters.new ≡ with_user (meta_written line.now meta) (lent words.old bytes.old counters.old) }
 {
     if counters[STRINGS] <= user {
         let at = meta.user;
@@ -233,9 +234,9 @@ fn then_user(
     user: u64,
     kept: Kept,
 ) -> Kept
-    ensures { ActGiven ix.now line.now meta (lent words bytes counters)
-        → UserIs (meta_written line.now meta) (lent words bytes counters) user
-        → record { overlay = left words bytes counters; answer = result } ≡ then_user (meta_written line.now meta) (lent words bytes counters) kept }
+    ensures { ActGiven ix.now line.now meta (lent words.old bytes.old counters.old)
+        → UserIs (meta_written line.now meta) (lent words.old bytes.old counters.old) user
+        → record { overlay = left words.new bytes.new counters.new; answer = result } ≡ then_user (meta_written line.now meta) (lent words.old bytes.old counters.old) kept }
 {
     match kept {
         Kept::Taken => {
@@ -260,10 +261,10 @@ fn push_with_user(
     line: &[u8],
     user: u64,
 ) -> Kept
-    ensures { ActGiven ix.now line.now meta (lent words bytes counters)
-        → UserIs (meta_written line.now meta) (lent words bytes counters) user
-        → record { overlay = left words bytes counters; answer = result }
-        ≡ then_user_on (meta_written line.now meta) (store_push kind head (bits_with_user (meta_written line.now meta) user) [] (lent words bytes counters)) }
+    ensures { ActGiven ix.now line.now meta (lent words.old bytes.old counters.old)
+        → UserIs (meta_written line.now meta) (lent words.old bytes.old counters.old) user
+        → record { overlay = left words.new bytes.new counters.new; answer = result }
+        ≡ then_user_on (meta_written line.now meta) (store_push kind head (bits_with_user (meta_written line.now meta) user) [] (lent words.old bytes.old counters.old)) }
 {
     let a = arena_meta(meta, little::narrow(user));
     let kept = push_first(words, bytes, counters, line, 0, kind, head, a);
@@ -283,9 +284,9 @@ pub fn push_empty(
     meta: Metadata,
     line: &[u8],
 ) -> Kept
-    ensures { ActGiven ix.now line.now meta (lent words bytes counters)
-        → record { overlay = left words bytes counters; answer = result }
-        ≡ push_empty_on (to_z w64 id) (meta_written line.now meta) (body_in kind lat lon) (lent words bytes counters) }
+    ensures { ActGiven ix.now line.now meta (lent words.old bytes.old counters.old)
+        → record { overlay = left words.new bytes.new counters.new; answer = result }
+        ≡ push_empty_on (to_z w64 id) (meta_written line.now meta) (body_in kind lat lon) (lent words.old bytes.old counters.old) }
 {
     match user_handle(words, bytes, counters, ix, meta, line) {
         Handle::Is(user) => {
@@ -309,9 +310,9 @@ pub fn delete_element(
     meta: Metadata,
     line: &[u8],
 ) -> Kept
-    ensures { ActGiven ix.now line.now meta (lent words bytes counters)
-        → record { overlay = left words bytes counters; answer = result }
-        ≡ delete_element_on kind (to_z w64 id) (meta_written line.now meta) (lent words bytes counters) }
+    ensures { ActGiven ix.now line.now meta (lent words.old bytes.old counters.old)
+        → record { overlay = left words.new bytes.new counters.new; answer = result }
+        ≡ delete_element_on kind (to_z w64 id) (meta_written line.now meta) (lent words.old bytes.old counters.old) }
 {
     match user_handle(words, bytes, counters, ix, meta, line) {
         Handle::Is(user) => {

@@ -1,4 +1,5 @@
 // The calls of a reader: an event, and the end of its document.
+#![tactic(auto)]
 ghost use Rattle.std.specs.Prelude.{◌≡◌, true, ◌+◌, ◌<◌};
 ghost use Rattle.event_decision.specs.Decision.{decide};
 ghost use Rattle.text_index.specs.Index.{IndexGiven};
@@ -20,7 +21,7 @@ use refusal::Refusal;
 // ---- an event
 
 // A reader after an event, and what the event answers.
-#[derive(Drop)]
+#[derive(Clone, Copy)]
 pub struct EventDone {
     pub reader: EventReader,
     pub answer: EventAnswer,
@@ -78,12 +79,12 @@ pub fn event_going(
     reader: EventReader,
     line: &[u8],
 ) -> EventDone
-    ensures { state_sound (state_lent words bytes counters parts reader) ≡ true
-        → IndexGiven ix.now (lent words bytes counters).texts
-        → record { state = state_left words bytes counters parts result.reader; answer = result.answer }
-        ≡ stepped (state_lent words bytes counters parts reader)
+    ensures { state_sound (state_lent words.old bytes.old counters.old parts.old reader) ≡ true
+        → IndexGiven ix.now (lent words.old bytes.old counters.old).texts
+        → record { state = state_left words.new bytes.new counters.new parts.new result.reader; answer = result.answer }
+        ≡ stepped (state_lent words.old bytes.old counters.old parts.old reader)
         (step_of (decide line.now reader.place)
-        (state_lent words bytes counters parts reader)) }
+        (state_lent words.old bytes.old counters.old parts.old reader)) }
 {
     let place = reader.place;
     let d = event_decide::decide(line, place);
@@ -102,8 +103,8 @@ pub fn event(
     reader: EventReader,
     line: &[u8],
 ) -> EventDone
-    ensures { record { state = state_left words bytes counters parts result.reader; answer = result.answer }
-        ≡ event_on line.now (state_lent words bytes counters parts reader) }
+    ensures { record { state = state_left words.new bytes.new counters.new parts.new result.reader; answer = result.answer }
+        ≡ event_on line.now (state_lent words.old bytes.old counters.old parts.old reader) }
 {
     if reader_sound::state_sound(words, bytes, counters, parts, reader) {
         let stop = reader.stop;
@@ -141,8 +142,8 @@ pub fn end(
     parts: &[u8; STAGED],
     reader: EventReader,
 ) -> EventAnswer
-    ensures { record { state = state_left words bytes counters parts reader; answer = result }
-        ≡ end_on (state_lent words bytes counters parts reader) }
+    ensures { record { state = state_left words.now bytes.now counters.now parts.now reader; answer = result }
+        ≡ end_on (state_lent words.now bytes.now counters.now parts.now reader) }
 {
     if reader_sound::state_sound(words, bytes, counters, parts, reader) {
         let stop = reader.stop;

@@ -1,4 +1,5 @@
 // What is decided of an element, done in storage: it begins, is deleted, or ends and is pushed.
+#![tactic(auto)]
 ghost use Rattle.std.specs.Prelude.{◌≡◌};
 ghost use Rattle.std.specs.Int.{w64};
 ghost use Rattle.std.proofs.Common.{to_z};
@@ -26,7 +27,7 @@ use reader_stage::STAGED;
 use refusal::Refusal;
 
 // Where the reader stands after an event and the element that it is putting together, or the event's refusal.
-#[derive(Drop)]
+#[derive(Clone, Copy)]
 pub enum Stepped {
     Goes { place: Place, pending: Pending },
     Stops(Refusal),
@@ -99,9 +100,9 @@ fn push_empty(
     line: &[u8],
     b: Beginning,
 ) -> Kept
-    ensures { ActGiven ix.now line.now b.meta (lent words bytes counters)
-        → record { overlay = left words bytes counters; answer = result }
-        ≡ push_empty_on (to_z w64 b.id) (meta_written line.now b.meta) (body_in b.kind b.lat b.lon) (lent words bytes counters) }
+    ensures { ActGiven ix.now line.now b.meta (lent words.old bytes.old counters.old)
+        → record { overlay = left words.new bytes.new counters.new; answer = result }
+        ≡ push_empty_on (to_z w64 b.id) (meta_written line.now b.meta) (body_in b.kind b.lat b.lon) (lent words.old bytes.old counters.old) }
 {
     let kind = b.kind;
     let meta = b.meta;
@@ -119,8 +120,8 @@ pub fn begin(
     line: &[u8],
     b: Beginning,
 ) -> Stepped
-    ensures { (reader : EventReader) (parts : Bytes) → StepGiven ix.now line.now (D.Begins b) (record { overlay = lent words bytes counters; reader = reader; parts = parts })
-        → record { overlay = left words bytes counters; parts = parts; answer = result } ≡ done_by (record { overlay = lent words bytes counters; reader = reader; parts = parts }) (step_of (means_decided line.now (D.Begins b)) (record { overlay = lent words bytes counters; reader = reader; parts = parts })) }
+    ensures { (reader : EventReader) (parts : Bytes) → StepGiven ix.now line.now (D.Begins b) (record { overlay = lent words.old bytes.old counters.old; reader = reader; parts = parts })
+        → record { overlay = left words.new bytes.new counters.new; parts = parts; answer = result } ≡ done_by (record { overlay = lent words.old bytes.old counters.old; reader = reader; parts = parts }) (step_of (means_decided line.now (D.Begins b)) (record { overlay = lent words.old bytes.old counters.old; reader = reader; parts = parts })) }
 {
     let place = b.place;
     if b.empty {
@@ -143,8 +144,8 @@ pub fn delete(
     line: &[u8],
     d: Deletion,
 ) -> Stepped
-    ensures { (reader : EventReader) (parts : Bytes) → StepGiven ix.now line.now (D.Deletes d) (record { overlay = lent words bytes counters; reader = reader; parts = parts })
-        → record { overlay = left words bytes counters; parts = parts; answer = result } ≡ done_by (record { overlay = lent words bytes counters; reader = reader; parts = parts }) (step_of (means_decided line.now (D.Deletes d)) (record { overlay = lent words bytes counters; reader = reader; parts = parts })) }
+    ensures { (reader : EventReader) (parts : Bytes) → StepGiven ix.now line.now (D.Deletes d) (record { overlay = lent words.old bytes.old counters.old; reader = reader; parts = parts })
+        → record { overlay = left words.new bytes.new counters.new; parts = parts; answer = result } ≡ done_by (record { overlay = lent words.old bytes.old counters.old; reader = reader; parts = parts }) (step_of (means_decided line.now (D.Deletes d)) (record { overlay = lent words.old bytes.old counters.old; reader = reader; parts = parts })) }
 {
     let place = d.place;
     let kind = d.kind;
@@ -164,7 +165,7 @@ pub fn end(
     place: Place,
 ) -> Stepped
     ensures { (line : Bytes)
-        → record { overlay = left words bytes counters; parts = parts.now; answer = result } ≡ done_by (state_lent words bytes counters parts reader) (step_of (means_decided line (D.Ends place)) (state_lent words bytes counters parts reader)) }
+        → record { overlay = left words.new bytes.new counters.new; parts = parts.now; answer = result } ≡ done_by (state_lent words.old bytes.old counters.old parts.now reader) (step_of (means_decided line (D.Ends place)) (state_lent words.old bytes.old counters.old parts.now reader)) }
 {
     let pending = reader.pending;
     let at = reader.place;

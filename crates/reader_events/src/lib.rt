@@ -1,4 +1,5 @@
 // A run of event lines fed to a reader in one call: soundness is tested once, then a step a line.
+#![tactic(auto)]
 ghost use Rattle.std.specs.Prelude.{◌≡◌, true, ◌≤◌, length};
 ghost use Rattle.base.specs.Bytes.{all};
 ghost use Rattle.little.specs.Little.{is_byte};
@@ -20,7 +21,7 @@ use reader_stage::STAGED;
 use refusal::Refusal;
 
 // The reader after a run, what its last event answered, and how many bytes of the run were taken.
-#[derive(Drop)]
+#[derive(Clone, Copy)]
 pub struct EventsDone {
     pub reader: EventReader,
     pub answer: EventAnswer,
@@ -39,10 +40,10 @@ fn line_event(
     reader: EventReader,
     line: &[u8],
 ) -> EventDone
-    ensures { RunGiven (state_lent words bytes counters ps reader)
-        → IndexGiven ix.now (lent words bytes counters).texts
-        → record { state = state_left words bytes counters ps result.reader; answer = result.answer }
-        ≡ event_on line.now (state_lent words bytes counters ps reader) }
+    ensures { RunGiven (state_lent words.old bytes.old counters.old ps.old reader)
+        → IndexGiven ix.now (lent words.old bytes.old counters.old).texts
+        → record { state = state_left words.new bytes.new counters.new ps.new result.reader; answer = result.answer }
+        ≡ event_on line.now (state_lent words.old bytes.old counters.old ps.old reader) }
 {
     if reader.lines < 18446744073709551615 {
         let stop = reader.stop;
@@ -78,10 +79,10 @@ fn next_event(
     at: usize,
 ) -> EventsDone
     requires { at ≤ length run.now }
-    ensures* fact { λ r. ⌜ (RunGiven (stateLent words bytes counters ps reader)
-        → IndexGiven ix.now (lent words bytes counters).texts
-        → record { result = record { state = stateLeft words bytes counters ps r.reader; answer = r.answer }; taken = r.taken }
-        ≡ pointOn run.now at (stateLent words bytes counters ps reader)) ⌝ }
+    ensures fact { RunGiven (state_lent words.old bytes.old counters.old ps.old reader)
+        → IndexGiven ix.now (lent words.old bytes.old counters.old).texts
+        → record { result = record { state = state_left words.new bytes.new counters.new ps.new result.reader; answer = result.answer }; taken = result.taken }
+        ≡ point_on run.now at (state_lent words.old bytes.old counters.old ps.old reader) }
     ensures taken_in_bounds { result.taken ≤ length run.now }
 {
     let LineEnd::At(to) = input_lines::line_end(run, at) else {
@@ -114,13 +115,13 @@ fn events_by(
     reader: EventReader,
     run: &[u8],
 ) -> EventsDone
-    ensures answer_value { RunGiven (state_lent words bytes counters ps reader)
-        → IndexGiven ix.old (lent words bytes counters).texts
-        → record { state = state_left words bytes counters ps result.reader; answer = result.answer }
-        ≡ events_on (lines_of run.now) (state_lent words bytes counters ps reader) }
-    ensures taken_value { RunGiven (state_lent words bytes counters ps reader)
-        → IndexGiven ix.old (lent words bytes counters).texts
-        → result.taken ≡ taken_bytes (lines_of run.now) (state_lent words bytes counters ps reader) }
+    ensures answer_value { RunGiven (state_lent words.old bytes.old counters.old ps.old reader)
+        → IndexGiven ix.old (lent words.old bytes.old counters.old).texts
+        → record { state = state_left words.new bytes.new counters.new ps.new result.reader; answer = result.answer }
+        ≡ events_on (lines_of run.now) (state_lent words.old bytes.old counters.old ps.old reader) }
+    ensures taken_value { RunGiven (state_lent words.old bytes.old counters.old ps.old reader)
+        → IndexGiven ix.old (lent words.old bytes.old counters.old).texts
+        → result.taken ≡ taken_bytes (lines_of run.now) (state_lent words.old bytes.old counters.old ps.old reader) }
     ensures taken_in_bounds { result.taken ≤ length run.now }
 {
     let mut done = EventsDone {
@@ -148,11 +149,11 @@ pub fn events_untested(
     reader: EventReader,
     run: &[u8],
 ) -> EventsDone
-    ensures answer_value { RunGiven (state_lent words bytes counters ps reader)
-        → record { state = state_left words bytes counters ps result.reader; answer = result.answer }
-        ≡ events_on (lines_of run.now) (state_lent words bytes counters ps reader) }
-    ensures taken_value { RunGiven (state_lent words bytes counters ps reader)
-        → result.taken ≡ taken_bytes (lines_of run.now) (state_lent words bytes counters ps reader) }
+    ensures answer_value { RunGiven (state_lent words.old bytes.old counters.old ps.old reader)
+        → record { state = state_left words.new bytes.new counters.new ps.new result.reader; answer = result.answer }
+        ≡ events_on (lines_of run.now) (state_lent words.old bytes.old counters.old ps.old reader) }
+    ensures taken_value { RunGiven (state_lent words.old bytes.old counters.old ps.old reader)
+        → result.taken ≡ taken_bytes (lines_of run.now) (state_lent words.old bytes.old counters.old ps.old reader) }
     ensures taken_in_bounds { result.taken ≤ length run.now }
 {
     let mut ix = [0u16; 8193];
@@ -176,8 +177,8 @@ fn state_tested(
     ps: &[u8; STAGED],
     reader: EventReader,
 ) -> bool
-    ensures value { result ≡ state_sound (state_lent words bytes counters ps reader) }
-    ensures state_given { StateGiven (state_lent words bytes counters ps reader) }
+    ensures value { result ≡ state_sound (state_lent words.now bytes.now counters.now ps.now reader) }
+    ensures state_given { StateGiven (state_lent words.now bytes.now counters.now ps.now reader) }
 {
     known_bytes(ps);
     reader_sound::state_sound(words, bytes, counters, ps, reader)
@@ -195,9 +196,9 @@ pub fn events(
     reader: EventReader,
     run: &[u8],
 ) -> EventsDone
-    ensures answer_value { record { state = state_left words bytes counters ps result.reader; answer = result.answer }
-        ≡ events_on (lines_of run.now) (state_lent words bytes counters ps reader) }
-    ensures taken_value { result.taken ≡ taken_bytes (lines_of run.now) (state_lent words bytes counters ps reader) }
+    ensures answer_value { record { state = state_left words.new bytes.new counters.new ps.new result.reader; answer = result.answer }
+        ≡ events_on (lines_of run.now) (state_lent words.old bytes.old counters.old ps.old reader) }
+    ensures taken_value { result.taken ≡ taken_bytes (lines_of run.now) (state_lent words.old bytes.old counters.old ps.old reader) }
 {
     let LineEnd::At(_) = input_lines::line_end(run, 0) else {
         return EventsDone {

@@ -1,4 +1,5 @@
 // Children of the element that a reader is putting together: one tag, ref or member more. A refused child changes nothing, so the limits are asked before a text is taken in.
+#![tactic(auto)]
 ghost use Rattle.std.specs.Prelude.{◌≡◌, ◌+◌, ◌≤◌, ◌<◌, length};
 ghost use Rattle.std.specs.Int.{w64};
 ghost use Rattle.std.proofs.Common.{to_z};
@@ -24,7 +25,7 @@ use reader_stage::STAGED;
 use refusal::Refusal;
 
 // What a child is answered: the element with it, or a refusal.
-#[derive(Drop)]
+#[derive(Clone, Copy)]
 pub enum Added {
     Is(Pending),
     Refused(Refusal),
@@ -84,8 +85,8 @@ fn over_limit(
     text: Extent,
 ) -> Added
     ensures { ExtentInBounds line.now text → length line.now ≤ 16384
-        → IndexGiven ix.now (lent words bytes counters).texts
-        → result ≡ added.Refused (refusal_over (store_text (text_at line.now text) (lent words bytes counters)).answer) }
+        → IndexGiven ix.now (lent words.now bytes.now counters.now).texts
+        → result ≡ added.Refused (refusal_over (store_text (text_at line.now text) (lent words.now bytes.now counters.now)).answer) }
 {
     match reader_texts::text_handle(words, bytes, counters, ix, line, text) {
         Handle::Is(_) => Added::Refused(Refusal::TooManyParts),
@@ -163,9 +164,9 @@ fn tag_with(
     key: Extent,
     value: &[u8],
 ) -> Added
-    ensures { ChildGiven ix.now (lent words bytes counters) pending parts.old line.now → ExtentInBounds line.now key
-        → record { overlay = left words bytes counters; parts = parts.new; answer = result }
-        ≡ add_tag kind pending (record { key = text_at line.now key; value = value.now }) parts.old (lent words bytes counters) }
+    ensures { ChildGiven ix.now (lent words.old bytes.old counters.old) pending parts.old line.now → ExtentInBounds line.now key
+        → record { overlay = left words.new bytes.new counters.new; parts = parts.new; answer = result }
+        ≡ add_tag kind pending (record { key = text_at line.now key; value = value.now }) parts.old (lent words.old bytes.old counters.old) }
 {
     if tag_fits(kind, pending, value.len()) {
         return match reader_texts::take_text(words, bytes, counters, ix, line, key) {
@@ -188,9 +189,9 @@ fn tag_resolved(
     line: &[u8],
     tag: NewTag,
 ) -> Added
-    ensures { ChildGiven ix.now (lent words bytes counters) pending parts.old line.now → ExtentInBounds line.now tag.key → ExtentInBounds line.now tag.value
-        → record { overlay = left words bytes counters; parts = parts.new; answer = result }
-        ≡ add_tag kind pending (record { key = text_at line.now tag.key; value = text_at line.now tag.value }) parts.old (lent words bytes counters) }
+    ensures { ChildGiven ix.now (lent words.old bytes.old counters.old) pending parts.old line.now → ExtentInBounds line.now tag.key → ExtentInBounds line.now tag.value
+        → record { overlay = left words.new bytes.new counters.new; parts = parts.new; answer = result }
+        ≡ add_tag kind pending (record { key = text_at line.now tag.key; value = text_at line.now tag.value }) parts.old (lent words.old bytes.old counters.old) }
 {
     let mut room = [0u8; MAX_LINE];
     let n = reader_texts::text_into(&mut room, line, tag.value);
@@ -221,9 +222,9 @@ pub fn add_tag(
     line: &[u8],
     tag: NewTag,
 ) -> Added
-    ensures { ChildGiven ix.now (lent words bytes counters) pending parts.old line.now → ExtentInBounds line.now tag.key → ExtentInBounds line.now tag.value
-        → record { overlay = left words bytes counters; parts = parts.new; answer = result }
-        ≡ add_tag kind pending (record { key = text_at line.now tag.key; value = text_at line.now tag.value }) parts.old (lent words bytes counters) }
+    ensures { ChildGiven ix.now (lent words.old bytes.old counters.old) pending parts.old line.now → ExtentInBounds line.now tag.key → ExtentInBounds line.now tag.value
+        → record { overlay = left words.new bytes.new counters.new; parts = parts.new; answer = result }
+        ≡ add_tag kind pending (record { key = text_at line.now tag.key; value = text_at line.now tag.value }) parts.old (lent words.old bytes.old counters.old) }
 {
     let value = tag.value;
     let to = little::lesser(value.to, line.len());
@@ -262,9 +263,9 @@ pub fn add_member(
     line: &[u8],
     member: NewMember,
 ) -> Added
-    ensures { ChildGiven ix.now (lent words bytes counters) pending parts.old line.now → ExtentInBounds line.now member.role
-        → record { overlay = left words bytes counters; parts = parts.new; answer = result }
-        ≡ add_member kind pending (record { ref = to_z w64 member.reference; type = member.kind; role = text_at line.now member.role }) parts.old (lent words bytes counters) }
+    ensures { ChildGiven ix.now (lent words.old bytes.old counters.old) pending parts.old line.now → ExtentInBounds line.now member.role
+        → record { overlay = left words.new bytes.new counters.new; parts = parts.new; answer = result }
+        ≡ add_member kind pending (record { ref = to_z w64 member.reference; type = member.kind; role = text_at line.now member.role }) parts.old (lent words.old bytes.old counters.old) }
 {
     if part_fits(pending, 2000) {
         return match reader_texts::take_text(words, bytes, counters, ix, line, member.role) {

@@ -1,4 +1,5 @@
 // What an event and an end test first: whether overlay and reader are sound (22), and whether the reader's stop mark stops it.
+#![tactic(auto)]
 ghost use Rattle.std.specs.Prelude.{◌≡◌};
 ghost use Rattle.reader.specs.Lent.{state_lent};
 ghost use Rattle.reader.specs.State.{stops_by, pending_sound, state_sound};
@@ -36,7 +37,7 @@ pub fn state_sound(
     parts: &[u8; STAGED],
     reader: EventReader,
 ) -> bool
-    ensures { result ≡ state_sound (state_lent words bytes counters parts reader) }
+    ensures { result ≡ state_sound (state_lent words.now bytes.now counters.now parts.now reader) }
 {
     if overlay::is_sound(words, bytes, counters) {
         let place = reader.place;

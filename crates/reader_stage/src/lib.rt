@@ -1,4 +1,6 @@
 // The parts of an element that a reader is putting together, in lent bytes: refs or members first, then tags.
+#![tactic(auto)]
+
 ghost use Rattle.std.specs.Prelude.{◌≡◌, ◌+◌, ◌≤◌, leb, length};
 ghost use Rattle.std.proofs.Math.Seq.{slice};
 ghost use Rattle.base.specs.Bytes.{both};

@@ -1,4 +1,5 @@
 // What is decided of an event, done in storage: one call a decision.
+#![tactic(auto)]
 ghost use Rattle.std.specs.Prelude.{◌≡◌, List, ℕ};
 ghost use Rattle.base.specs.Bytes.{Bytes};
 ghost use Rattle.event_decide.specs.Decided.{means_decided};
@@ -39,8 +40,8 @@ fn tag(
     line: &[u8],
     t: NewTag,
 ) -> Stepped
-    ensures { StepGiven ix.now line.now (D.Tags t) (state_lent words bytes counters parts reader)
-        → record { overlay = left words bytes counters; parts = parts.new; answer = result } ≡ done_by (state_lent words bytes counters parts reader) (step_of (means_decided line.now (D.Tags t)) (state_lent words bytes counters parts reader)) }
+    ensures { StepGiven ix.now line.now (D.Tags t) (state_lent words.old bytes.old counters.old parts.old reader)
+        → record { overlay = left words.new bytes.new counters.new; parts = parts.new; answer = result } ≡ done_by (state_lent words.old bytes.old counters.old parts.old reader) (step_of (means_decided line.now (D.Tags t)) (state_lent words.old bytes.old counters.old parts.old reader)) }
 {
     let pending = reader.pending;
     let at = reader.place;
@@ -74,8 +75,8 @@ fn join(
     line: &[u8],
     m: NewMember,
 ) -> Stepped
-    ensures { StepGiven ix.now line.now (D.Joins m) (state_lent words bytes counters parts reader)
-        → record { overlay = left words bytes counters; parts = parts.new; answer = result } ≡ done_by (state_lent words bytes counters parts reader) (step_of (means_decided line.now (D.Joins m)) (state_lent words bytes counters parts reader)) }
+    ensures { StepGiven ix.now line.now (D.Joins m) (state_lent words.old bytes.old counters.old parts.old reader)
+        → record { overlay = left words.new bytes.new counters.new; parts = parts.new; answer = result } ≡ done_by (state_lent words.old bytes.old counters.old parts.old reader) (step_of (means_decided line.now (D.Joins m)) (state_lent words.old bytes.old counters.old parts.old reader)) }
 {
     let pending = reader.pending;
     let at = reader.place;
@@ -100,11 +101,11 @@ pub fn step(
     line: &[u8],
     decided: Decided,
 ) -> Stepped
-    ensures { StepGiven ix.now line.now decided (state_lent words bytes counters parts reader)
-        → record { overlay = left words bytes counters; parts = parts.new; answer = result }
-        ≡ done_by (state_lent words bytes counters parts reader)
+    ensures { StepGiven ix.now line.now decided (state_lent words.old bytes.old counters.old parts.old reader)
+        → record { overlay = left words.new bytes.new counters.new; parts = parts.new; answer = result }
+        ≡ done_by (state_lent words.old bytes.old counters.old parts.old reader)
         (step_of (means_decided line.now decided)
-        (state_lent words bytes counters parts reader)) }
+        (state_lent words.old bytes.old counters.old parts.old reader)) }
 {
     let pending = reader.pending;
     match decided {

@@ -1,5 +1,6 @@
 // A text that stands in an event's line, its escapes resolved: taken in, or only asked for. A text without an escape is read where it is written. Of another an array
 // holds the text: a line has at most 16,384 bytes.
+#![tactic(auto)]
 ghost use Rattle.std.specs.Prelude.{◌≡◌, ◌≤◌, length};
 ghost use Rattle.little.specs.Little.{over};
 ghost use Rattle.event_values.specs.Value.{text_at, ExtentInBounds};
@@ -34,8 +35,8 @@ fn take_resolved(
     at: Extent,
 ) -> Handle
     ensures { ExtentInBounds line.now at → length line.now ≤ 16384
-        → IndexGiven ix.now (lent words bytes counters).texts
-        → record { overlay = left words bytes counters; answer = result } ≡ store_text (text_at line.now at) (lent words bytes counters) }
+        → IndexGiven ix.now (lent words.old bytes.old counters.old).texts
+        → record { overlay = left words.new bytes.new counters.new; answer = result } ≡ store_text (text_at line.now at) (lent words.old bytes.old counters.old) }
 {
     let mut room = [0u8; MAX_LINE];
     let n = text_into(&mut room, line, at);
@@ -53,8 +54,8 @@ pub fn take_text(
     at: Extent,
 ) -> Handle
     ensures { ExtentInBounds line.now at → length line.now ≤ 16384
-        → IndexGiven ix.now (lent words bytes counters).texts
-        → record { overlay = left words bytes counters; answer = result } ≡ store_text (text_at line.now at) (lent words bytes counters) }
+        → IndexGiven ix.now (lent words.old bytes.old counters.old).texts
+        → record { overlay = left words.new bytes.new counters.new; answer = result } ≡ store_text (text_at line.now at) (lent words.old bytes.old counters.old) }
 {
     let to = little::lesser(at.to, line.len());
     let from = little::lesser(at.from, to);
@@ -77,8 +78,8 @@ fn handle_resolved(
     at: Extent,
 ) -> Handle
     ensures { ExtentInBounds line.now at → length line.now ≤ 16384
-        → IndexGiven ix.now (lent words bytes counters).texts
-        → result ≡ (store_text (text_at line.now at) (lent words bytes counters)).answer }
+        → IndexGiven ix.now (lent words.now bytes.now counters.now).texts
+        → result ≡ (store_text (text_at line.now at) (lent words.now bytes.now counters.now)).answer }
 {
     let mut room = [0u8; MAX_LINE];
     let n = text_into(&mut room, line, at);
@@ -96,8 +97,8 @@ pub fn text_handle(
     at: Extent,
 ) -> Handle
     ensures { ExtentInBounds line.now at → length line.now ≤ 16384
-        → IndexGiven ix.now (lent words bytes counters).texts
-        → result ≡ (store_text (text_at line.now at) (lent words bytes counters)).answer }
+        → IndexGiven ix.now (lent words.now bytes.now counters.now).texts
+        → result ≡ (store_text (text_at line.now at) (lent words.now bytes.now counters.now)).answer }
 {
     let to = little::lesser(at.to, line.len());
     let from = little::lesser(at.from, to);

@@ -1,8 +1,10 @@
 // The refusals of document 01 ("What is returned, by place of the check"): one enum, and one definition of its numbers.
+#![tactic(auto)]
+
 ghost use Rattle.std.specs.Prelude.{◌≡◌};
 ghost use Rattle.refusal.specs.Refusal.{plain_reply, reply_of};
 
-#[derive(Drop)]
+#[derive(Clone, Copy)]
 pub enum Refusal {
     // set-up
     Size,
@@ -39,7 +41,7 @@ pub enum Refusal {
 
 // A reply at the C boundary: 0 for what is accepted, else the refusal's number, with the known version for 12.
 #[repr(C)]
-#[derive(Drop)]
+#[derive(Clone, Copy)]
 pub struct Reply {
     pub number: u32,
     pub held: i32,

@@ -4,65 +4,66 @@ use integer::Integer;
 use osm_id::{Ordering, OsmIdKey};
 use refusal::Refusal;
 use stamp::Stamp;
+use std::io;
 use version_floor::{Admit, Version, VersionFloor};
 
-fn write_key(k: OsmIdKey) -> bool {
-    write::number(k.class as u64);
-    write::number(k.magnitude);
-    true
+fn write_key(rt: &impl Print, k: OsmIdKey) -> io::Result<bool> {
+    write::number(rt, k.class as u64)?;
+    write::number(rt, k.magnitude)?;
+    Ok(true)
 }
 
 // 0 for less, 1 for equal, 2 for greater.
-fn write_ordering(o: Ordering) -> bool {
+fn write_ordering(rt: &impl Print, o: Ordering) -> io::Result<bool> {
     match o {
-        Ordering::Less => write::number(0),
-        Ordering::Equal => write::number(1),
-        Ordering::Greater => write::number(2),
+        Ordering::Less => write::number(rt, 0)?,
+        Ordering::Equal => write::number(rt, 1)?,
+        Ordering::Greater => write::number(rt, 2)?,
     }
-    true
+    Ok(true)
 }
 
-fn key(id: i64) -> bool {
-    write_key(osm_id::osm_id_key(id))
+fn key(rt: &impl Print, id: i64) -> io::Result<bool> {
+    write_key(rt, osm_id::osm_id_key(id))
 }
 
-fn cmp(a: i64, b: i64) -> bool {
-    write_ordering(osm_id::osm_id_cmp(a, b))
+fn cmp(rt: &impl Print, a: i64, b: i64) -> io::Result<bool> {
+    write_ordering(rt, osm_id::osm_id_cmp(a, b))
 }
 
-fn first(a: i64, b: i64) -> bool {
-    write_key(osm_id::blob_osm_first_key(a, b))
+fn first(rt: &impl Print, a: i64, b: i64) -> io::Result<bool> {
+    write_key(rt, osm_id::blob_osm_first_key(a, b))
 }
 
-fn last(a: i64, b: i64) -> bool {
-    write_key(osm_id::blob_osm_last_key(a, b))
+fn last(rt: &impl Print, a: i64, b: i64) -> io::Result<bool> {
+    write_key(rt, osm_id::blob_osm_last_key(a, b))
 }
 
-fn of_two_ids(word: &[u8], a: i64, b: i64) -> bool {
+fn of_two_ids(rt: &impl Print, word: &[u8], a: i64, b: i64) -> io::Result<bool> {
     if check::same(word, b"cmp") {
-        return cmp(a, b);
+        return cmp(rt, a, b);
     }
     if check::same(word, b"first") {
-        return first(a, b);
+        return first(rt, a, b);
     }
     if check::same(word, b"last") {
-        return last(a, b);
+        return last(rt, a, b);
     }
-    false
+    Ok(false)
 }
 
-pub fn of_ids(word: &[u8], a: &[u8], b: &[u8]) -> bool {
+pub fn of_ids(rt: &impl Print, word: &[u8], a: &[u8], b: &[u8]) -> io::Result<bool> {
     let Integer::Is(x) = integer::read_i64(a) else {
-        return false;
+        return Ok(false);
     };
     let id = signed::i64_of_bits(x);
     if check::same(word, b"key") {
-        return key(id);
+        return key(rt, id);
     }
     let Integer::Is(y) = integer::read_i64(b) else {
-        return false;
+        return Ok(false);
     };
-    of_two_ids(word, id, signed::i64_of_bits(y))
+    of_two_ids(rt, word, id, signed::i64_of_bits(y))
 }
 
 // A version, or none for a field that is no number.
@@ -74,99 +75,99 @@ fn version(s: &[u8]) -> Version {
 }
 
 // A refusal's number, and what stands beside it: the known version, or 0.
-fn refusal(r: Refusal) -> bool {
+fn refusal(rt: &impl Print, r: Refusal) -> io::Result<bool> {
     let a = refusal::reply_of(r);
-    write::number(a.number as u64);
-    write::integer32(signed::bits_of_i32(a.held));
-    true
+    write::number(rt, a.number as u64)?;
+    write::integer32(rt, signed::bits_of_i32(a.held))?;
+    Ok(true)
 }
 
-fn admit(floor: Version, claim: Version) -> bool {
+fn admit(rt: &impl Print, floor: Version, claim: Version) -> io::Result<bool> {
     match VersionFloor::new(floor).admit(claim) {
-        Admit::Admitted => accepted(0),
-        Admit::Below(known) => refusal(Refusal::Regression(known)),
+        Admit::Admitted => accepted(rt, 0),
+        Admit::Below(known) => refusal(rt, Refusal::Regression(known)),
     }
 }
 
-fn raise(floor: Version, claim: Version) -> bool {
+fn raise(rt: &impl Print, floor: Version, claim: Version) -> io::Result<bool> {
     let v = VersionFloor::new(floor).raised(claim).0;
     let Version::Is(n) = v else {
-        write::bytes(b"\t?");
-        return true;
+        write::bytes(rt, b"\t?")?;
+        return Ok(true);
     };
-    write::integer32(signed::bits_of_i32(n));
-    true
+    write::integer32(rt, signed::bits_of_i32(n))?;
+    Ok(true)
 }
 
 // No refusal, and a value by its bits.
-fn accepted(bits: u64) -> bool {
-    write::number(0);
-    write::integer(bits);
-    true
+fn accepted(rt: &impl Print, bits: u64) -> io::Result<bool> {
+    write::number(rt, 0)?;
+    write::integer(rt, bits)?;
+    Ok(true)
 }
 
-pub fn of_versions(word: &[u8], a: &[u8], b: &[u8]) -> bool {
+pub fn of_versions(rt: &impl Print, word: &[u8], a: &[u8], b: &[u8]) -> io::Result<bool> {
     if check::same(word, b"admit") {
-        return admit(version(a), version(b));
+        return admit(rt, version(a), version(b));
     }
     if check::same(word, b"raise") {
-        return raise(version(a), version(b));
+        return raise(rt, version(a), version(b));
     }
-    false
+    Ok(false)
 }
 
 // An integer of 64 bits.
-fn long(s: &[u8]) -> bool {
+fn long(rt: &impl Print, s: &[u8]) -> io::Result<bool> {
     let Integer::Is(bits) = integer::read_i64(s) else {
-        return refusal(Refusal::NotInteger);
+        return refusal(rt, Refusal::NotInteger);
     };
-    accepted(bits)
+    accepted(rt, bits)
 }
 
-fn stamp(s: &[u8]) -> bool {
+fn stamp(rt: &impl Print, s: &[u8]) -> io::Result<bool> {
     let Stamp::At(bits) = stamp::parse_rfc3339_utc(s) else {
-        return refusal(Refusal::NotTimestamp);
+        return refusal(rt, Refusal::NotTimestamp);
     };
-    accepted(bits)
+    accepted(rt, bits)
 }
 
 // An integer of 32 bits.
-fn short(s: &[u8]) -> bool {
+fn short(rt: &impl Print, s: &[u8]) -> io::Result<bool> {
     let Integer::Is(bits) = integer::read_i32(s) else {
-        return refusal(Refusal::NotInteger);
+        return refusal(rt, Refusal::NotInteger);
     };
-    write::number(0);
-    write::integer32(bits as u32);
-    true
+    write::number(rt, 0)?;
+    write::integer32(rt, bits as u32)?;
+    Ok(true)
 }
 
 fn is_text(bytes: &[u8; 64], n: usize) -> bool {
     text::is_text(fields::first(bytes, n))
 }
 
-fn text(s: &[u8]) -> bool {
+fn text(rt: &impl Print, s: &[u8]) -> io::Result<bool> {
     let mut bytes = [0u8; 64];
     let n = fields::bytes_of(s, &mut bytes);
     if is_text(&bytes, n) {
-        write::number(1);
+        write::number(rt, 1)?;
     } else {
-        write::number(0);
+        write::number(rt, 0)?;
     }
-    true
+    Ok(true)
 }
 
-pub fn of_texts(word: &[u8], a: &[u8]) -> bool {
+pub fn of_texts(rt: &impl Print, word: &[u8], a: &[u8]) -> io::Result<bool> {
     if check::same(word, b"i64") {
-        return long(a);
+        return long(rt, a);
     }
     if check::same(word, b"i32") {
-        return short(a);
+        return short(rt, a);
     }
     if check::same(word, b"stamp") {
-        return stamp(a);
+        return stamp(rt, a);
     }
     if check::same(word, b"text") {
-        return text(a);
+        return text(rt, a);
     }
-    false
+    Ok(false)
 }

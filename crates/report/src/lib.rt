@@ -1,4 +1,6 @@
 // The line that the program prints in place of the listing: `refused⇥NUMBER⇥LINE⇥HELD`.
+#![tactic(auto)]
+
 ghost use Rattle.std.specs.Prelude.{◌≡◌, [], ◌∷◌};
 ghost use Rattle.print.specs.Print.{print, tab, line_pieces};
 ghost use Rattle.report.specs.Report.{held_field, refused_fields, refused_line, report_of};
@@ -8,7 +10,7 @@ use refusal::Refusal;
 
 // A tab and HELD: the known version for 12, else `-`.
 fn put_held(out: &mut [u8], cap: usize, room: Room, refusal: Refusal) -> Room
-    ensures { record { out = out.exit.now; room = result } ≡ print cap (tab ∷ held_field refusal ∷ []) (record { out = out.entry.now; room = room }) }
+    ensures { record { out = out.new; room = result } ≡ print cap (tab ∷ held_field refusal ∷ []) (record { out = out.old; room = room }) }
 {
     let reply = refusal::reply_of(refusal);
     if reply.number == 12 {
@@ -20,7 +22,7 @@ fn put_held(out: &mut [u8], cap: usize, room: Room, refusal: Refusal) -> Room
 
 // The line, piece by piece.
 fn put_line(out: &mut [u8], cap: usize, room: Room, refusal: Refusal, line: u64) -> Room
-    ensures { record { out = out.exit.now; room = result } ≡ print cap (line_pieces (refused_fields refusal line)) (record { out = out.entry.now; room = room }) }
+    ensures { record { out = out.new; room = result } ≡ print cap (line_pieces (refused_fields refusal line)) (record { out = out.old; room = room }) }
 {
     let reply = refusal::reply_of(refusal);
     let room = print::put_bytes(out, cap, room, b"refused");
@@ -32,7 +34,7 @@ fn put_line(out: &mut [u8], cap: usize, room: Room, refusal: Refusal, line: u64)
 
 // The line at the start of what is lent, where it fits; else nothing is written. The answer is how many bytes are.
 pub fn put_refused(out: &mut [u8], refusal: Refusal, line: u64) -> usize
-    ensures { record { out = out.exit.now; written = result } ≡ report_of out.entry.now (refused_line refusal line) }
+    ensures { record { out = out.new; written = result } ≡ report_of out.old (refused_line refusal line) }
 {
     let cap = out.len();
     let Room::Left(left) = put_line(&mut out[cap..], cap, Room::Left(cap), refusal, line) else {

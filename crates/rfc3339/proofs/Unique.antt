@@ -74,7 +74,7 @@ one_reading t u r q e =
     let n : unmarked t ≡ unmarked u = sym (moment_back t) ∙ ap date_time_of m ∙ moment_back u in
     let c : t.separator ≡ u.separator = letter_alone "T" t.separator u.separator (sym (at10 t) ∙ ap (λ s. get_or s 10 0) e ∙ at10 u) in
     let z = after_alone t.secfrac u.secfrac t.offset u.offset r.secfrac q.secfrac (sym (after19 t) ∙ ap (drop 19) e ∙ after19 u) in
-    let d : marked (unmarked t) t.separator t.secfrac t.offset ≡ marked (unmarked u) u.separator u.secfrac u.offset = rw (n, c, z.0, z.1) in
+    let d : marked (unmarked t) t.separator t.secfrac t.offset ≡ marked (unmarked u) u.separator u.secfrac u.offset = cc (n, c, z.0, z.1) in
     d
 
 pub one_value : (s : Bytes) (v w : ℤ) → IsDateTime s v → IsDateTime s w → v ≡ w

@@ -1,13 +1,16 @@
 // The program: event lines from standard input, the listing or the `refused` line to standard output. What it takes in and prints is proved in `input_pieces` and `roadlist_page`; here is what
 // it lends, and what it reads and writes.
+#![tactic(auto)]
+
 use input_pieces::Fed;
-use libc::{STDERR_FILENO, STDIN_FILENO, STDOUT_FILENO};
 use overlay_blocks::COUNTERS;
 use reader::EventAnswer;
 use reader_stage::STAGED;
+use std::io;
+use std::io::Read;
 
 // Where the reading stands between two pieces.
-#[derive(Drop)]
+#[derive(Clone, Copy)]
 enum Reading {
     Going,
     Ended,
@@ -15,7 +18,7 @@ enum Reading {
 }
 
 // What is left of the input, and where its reading stands.
-#[derive(Drop)]
+#[derive(Clone, Copy)]
 struct Run {
     fed: Fed,
     reading: Reading,
@@ -37,8 +40,15 @@ fn is_going(reading: Reading) -> bool {
     }
 }
 
+// A line on standard error: what failed, and why, in the system's words. Where that cannot be written either, there is nobody to tell.
+fn fail(rt: &impl Eprint, what: &str, why: io::Error) {
+    let _ = eprintln!(rt; "roadlist: {what}: {why}");
+}
+
 // One read, and what it brought.
 fn read_piece(
+    rt: &impl Eprint,
+    input: &mut impl Read,
     words: &mut [u64; 5632],
     bytes: &mut [u8; 32768],
     counters: &mut [u64; COUNTERS],
@@ -47,25 +57,28 @@ fn read_piece(
     piece: &mut [u8; 65536],
     fed: Fed,
 ) -> Run {
-    let got = libc::read(STDIN_FILENO, piece);
-    if got < 0 {
-        os::fail(b"roadlist: standard input");
-        let reading = Reading::Failed;
-        return Run { fed, reading };
-    }
-    if got == 0 {
+    let n = match input.read(piece) {
+        Ok(n) => n,
+        Err(why) => {
+            fail(rt, "standard input", why);
+            let reading = Reading::Failed;
+            return Run { fed, reading };
+        }
+    };
+    if n == 0 {
         let reading = Reading::Ended;
         return Run { fed, reading };
     }
-    let n = io::count(got, piece);
     let fed = input_pieces::feed(words, bytes, counters, ps, fed, buf, piece, n);
     let answer = fed.answer;
     let reading = after(answer);
     Run { fed, reading }
 }
 
-// Pieces up to the end of the input, or to the first refusal. A proved loop has to end, and nothing says that an input does: so it counts down from a number that no run uses up (a read takes time).
+// Pieces up to the end of the input, or to the first refusal. A proved loop has to end, and nothing says that an input does: so it counts up to a number that no run reaches (a read takes time).
 fn read_all(
+    rt: &impl Eprint,
+    input: &mut impl Read,
     words: &mut [u64; 5632],
     bytes: &mut [u8; 32768],
     counters: &mut [u64; COUNTERS],
@@ -76,35 +89,33 @@ fn read_all(
 ) -> Run {
     let reading = Reading::Going;
     let mut run = Run { fed, reading };
-    let mut turns = u64::MAX;
-    let mut going = true;
-    while turns > 0 && going {
-        turns -= 1;
-        let fed = run.fed;
-        run = read_piece(words, bytes, counters, ps, buf, piece, fed);
-        let reading = run.reading;
-        going = is_going(reading);
+    for _ in 0..u64::MAX {
+        if !is_going(run.reading) {
+            break;
+        }
+        run = read_piece(rt, input, words, bytes, counters, ps, buf, piece, run.fed);
     }
     run
 }
 
 // What is to be printed, and a word on standard error where it is not the listing.
-fn write_out(out: &[u8], written: usize, number: u32) {
+fn write_out(rt: &(impl Print + Eprint), out: &[u8], written: usize, number: u32) {
     let n = little::lesser(written, out.len());
-    if !io::write_all(STDOUT_FILENO, &out[..n]) {
-        os::fail(b"roadlist: standard output");
+    if let Err(why) = rt.write_all(&out[..n]) {
+        fail(rt, "standard output", why);
         return;
     }
     if number != 0 {
-        io::write_all(
-            STDERR_FILENO,
-            b"roadlist: the input was refused; standard output has the number, the line and the version held.\n",
+        let _ = eprintln!(rt;
+            "roadlist: the input was refused; standard output has the number, the line and the version held."
         );
     }
 }
 
 // The overlay is set up empty and the reader is fresh, so what each piece needs holds from the start on (roadlist_page, proofs/Printed).
 fn read_and_print(
+    rt: &(impl Print + Eprint),
+    input: &mut impl Read,
     words: &mut [u64; 5632],
     bytes: &mut [u8; 32768],
     counters: &mut [u64; COUNTERS],
@@ -119,17 +130,17 @@ fn read_and_print(
         held: 0,
         answer: EventAnswer::Accepted,
     };
-    let run = read_all(words, bytes, counters, ps, buf, piece, fed);
+    let run = read_all(rt, input, words, bytes, counters, ps, buf, piece, fed);
     let fed = run.fed;
     let reading = run.reading;
     let Reading::Ended = reading else {
         return;
     };
     let ended = roadlist_page::finish(words, bytes, counters, ps, fed, buf, out);
-    write_out(out, ended.written, ended.number);
+    write_out(rt, out, ended.written, ended.number);
 }
 
-fn main() {
+fn main(rt: HostRuntime) {
     let mut words = [0u64; 5632];
     let mut bytes = [0u8; 32768];
     let mut counters = [0u64; 17];
@@ -138,6 +149,8 @@ fn main() {
     let mut piece = [0u8; 65536];
     let mut out = [0u8; 65536];
     read_and_print(
+        &rt,
+        &mut rt.stdin(),
         &mut words,
         &mut bytes,
         &mut counters,

@@ -1,4 +1,5 @@
 // What the program `roadlist` prints: the listing or the `refused` line, at the end of its input. Before that pieces are taken in (crate `input_pieces`).
+#![tactic(auto)]
 ghost use Rattle.std.specs.Prelude.{◌≡◌, true, ◌≤◌, ◌<◌, min, length};
 ghost use Rattle.overlay.specs.Lent.{overlay_in, lent, left, lent_for};
 ghost use Rattle.overlay.specs.Sound.{is_sound};
@@ -76,8 +77,8 @@ pub fn start(
     counters: &mut [u64; COUNTERS],
     ps: &[u8; STAGED],
 ) -> EventReader
-    ensures { state_left words bytes counters ps result
-        ≡ start_on (lent_for program_sizes words bytes counters) ps.now }
+    ensures { state_left words.new bytes.now counters.new ps.now result
+        ≡ start_on (lent_for program_sizes words.old bytes.now counters.old) ps.now }
 {
     overlay::set_up(words, bytes, counters, program_sizes(), 0);
     fresh_reader()
@@ -94,8 +95,8 @@ fn take_last(
     n: usize,
 ) -> EventReader
     requires { n ≤ length buffer.now }
-    ensures { state_left words bytes counters ps result
-        ≡ state_at_end (record { state = state_lent words bytes counters ps reader; buffer = buffer.now; held = n }) }
+    ensures { state_left words.new bytes.new counters.new ps.new result
+        ≡ state_at_end (record { state = state_lent words.old bytes.old counters.old ps.old reader; buffer = buffer.now; held = n }) }
 {
     if n == 0 {
         return reader;
@@ -105,7 +106,7 @@ fn take_last(
 }
 
 // What is printed at the end: how many bytes of the output, and the number of the refusal that they tell, 0 where they are the listing.
-#[derive(Drop)]
+#[derive(Clone, Copy)]
 pub struct Ended {
     pub written: usize,
     pub number: u32,
@@ -114,7 +115,7 @@ pub struct Ended {
 // The line of a refusal at the start of the output.
 fn put_refusal(out: &mut [u8], refusal: Refusal, line: u64) -> Ended
     requires { length out.old ≡ 65536 }
-    ensures { record { out = out.exit.now; written = result.written; number = result.number } ≡ end_output out.entry.now (refused_ending refusal line) }
+    ensures { record { out = out.new; written = result.written; number = result.number } ≡ end_output out.old (refused_ending refusal line) }
 {
     let reply = refusal::reply_of(refusal);
     let written = report::put_refused(out, refusal, line);
@@ -135,8 +136,8 @@ fn put_page(
     requires counters_value { is_sound (overlay_in words.now bytes.now counters.now) ≡ true }
     requires lines_bound { lines < 18446744073709551615 }
     requires out_len { length out.old ≡ 65536 }
-    ensures { record { out = out.exit.now; written = result.written; number = result.number }
-        ≡ end_output out.entry.now (page_ending (lent words bytes counters) lines) }
+    ensures { record { out = out.new; written = result.written; number = result.number }
+        ≡ end_output out.old (page_ending (lent words.now bytes.now counters.now) lines) }
 {
     match listing::list(words, bytes, counters, out) {
         Listed::Length(n) => Ended {
@@ -157,8 +158,8 @@ fn put_end(
     out: &mut [u8],
 ) -> Ended
     requires { length out.old ≡ 65536 }
-    ensures { record { out = out.exit.now; written = result.written; number = result.number }
-        ≡ end_output out.entry.now (ending_at (state_lent words bytes counters ps reader)) }
+    ensures { record { out = out.new; written = result.written; number = result.number }
+        ≡ end_output out.old (ending_at (state_lent words.now bytes.now counters.now ps.now reader)) }
 {
     match reader_calls::end(words, bytes, counters, ps, reader) {
         EventAnswer::Accepted => put_page(words, bytes, counters, out, reader.lines),
@@ -177,11 +178,11 @@ pub fn finish(
     out: &mut [u8; 65536],
 ) -> Ended
     ensures { record {
-      overlay = left words bytes counters;
+      overlay = left words.new bytes.new counters.new;
       parts = ps.new;
-      output = record { out = out.exit.now; written = result.written; number = result.number };
+      output = record { out = out.new; written = result.written; number = result.number };
     }
-        ≡ finish_on out.entry.now (record { state = state_lent words bytes counters ps fed.reader; buffer = buffer.now; held = min fed.held 16384 }) }
+        ≡ finish_on out.old (record { state = state_lent words.old bytes.old counters.old ps.old fed.reader; buffer = buffer.now; held = min fed.held 16384 }) }
 {
     let held = little::lesser(fed.held, MAX_LINE);
     let reader = fed.reader;

@@ -1,6 +1,8 @@
 // Signed numbers as their bits. Above this layer a signed number is held as the unsigned number of its bits in two's
 // complement: sums and orders of unsigned numbers are what the checker proves by itself. A cast keeps a number and not
 // its bits, so a negative number goes by its complement `!x`, which is not negative.
+#![tactic(auto)]
+
 ghost use Rattle.std.specs.Prelude.{◌≡◌};
 ghost use Rattle.std.specs.Int.{w32, w64};
 ghost use Rattle.std.proofs.Common.{of_z, to_z};

@@ -1,4 +1,6 @@
 // Lookups in lent lists of ids (sorted.rs): a list is the bits of its ids. Each answers 20 where a list is not strictly in OSM order.
+#![tactic(auto)]
+
 ghost use Rattle.std.specs.Prelude.{◌≡◌, true, ◌<◌, length};
 ghost use Rattle.osm_id.specs.Order.{osm_key_of, id_key_before};
 ghost use Rattle.sorted.specs.Lookup.{ids_of, id_at, count, in_order, any_within, overlaps, overlap_of, under, range_of, reached, found_of};
@@ -6,7 +8,7 @@ ghost use Rattle.sorted.specs.Lookup.{ids_of, id_at, count, in_order, any_within
 use osm_id::OsmIdKey;
 
 // Whether ids overlap a range. NotInOrder, here and below, is 20.
-#[derive(Drop)]
+#[derive(Clone, Copy)]
 pub enum Overlap {
     Yes,
     No,
@@ -14,21 +16,21 @@ pub enum Overlap {
 }
 
 // The places from a first to before a second.
-#[derive(Drop)]
+#[derive(Clone, Copy)]
 pub enum Span {
     From(usize, usize),
     NotInOrder,
 }
 
 // Where a forward cursor stands: nowhere yet, or at a place.
-#[derive(Drop)]
+#[derive(Clone, Copy)]
 pub enum Place {
     Fresh,
     At(usize),
 }
 
 // What a cursor found.
-#[derive(Drop)]
+#[derive(Clone, Copy)]
 pub enum Sought {
     At(usize),
     Nowhere,
@@ -36,7 +38,7 @@ pub enum Sought {
 }
 
 // Where a cursor stands after a search, and its answer.
-#[derive(Drop)]
+#[derive(Clone, Copy)]
 pub struct Found {
     pub place: Place,
     pub answer: Sought,
@@ -178,7 +180,7 @@ fn reach(place: Place, ids: &[u64], id: i64) -> usize
 }
 
 // A forward cursor, for ids that are asked for in OSM order.
-#[derive(Drop)]
+#[derive(Clone, Copy)]
 pub struct Seek {
     pub place: Place,
 }

@@ -1,4 +1,6 @@
 // Timestamps: the seconds from 1970-01-01T00:00:00Z of a date-time in UTC, as document 01 words `parse_rfc3339_utc`; each field is digits.
+#![tactic(auto)]
+
 ghost use Rattle.std.specs.Prelude.{◌≡◌, ◌+◌, ◌-◌, ◌≤◌, length, pos, ◌-ℤ◌, true};
 ghost use Rattle.std.specs.Int.{w64};
 ghost use Rattle.std.proofs.Common.{of_z};
@@ -7,21 +9,21 @@ ghost use Rattle.stamp.specs.Stamp.{stamp_field, separated, moment, taken_moment
 use integer::Integer;
 
 // A stamp's answer: the bits of the seconds in two's complement, or that the text is no such date-time.
-#[derive(Drop)]
+#[derive(Clone, Copy)]
 pub enum Stamp {
     At(u64),
     Not,
 }
 
 // A field's number, or that the text is not digits.
-#[derive(Drop)]
+#[derive(Clone, Copy)]
 enum Field {
     Is(u32),
     Not,
 }
 
 // The six numbers of a stamp.
-#[derive(Drop)]
+#[derive(Clone, Copy)]
 pub struct Moment {
     pub year: u32,
     pub month: u32,
@@ -31,7 +33,7 @@ pub struct Moment {
     pub second: u32,
 }
 
-#[derive(Drop)]
+#[derive(Clone, Copy)]
 enum Six {
     Are(Moment),
     Not,

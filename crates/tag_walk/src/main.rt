@@ -1,4 +1,6 @@
 // Walks records' tags with CompactTagIter and raises a VersionFloor, and prints what it finds.
+#![tactic(auto)]
+
 ghost use Rattle.std.specs.Prelude.{◌≡◌};
 ghost use Rattle.version_floor.specs.Version.{higher};
 ghost use Rattle.compact.specs.Tags.{tags_of};
@@ -6,7 +8,7 @@ ghost use Rattle.tag_walk.specs.Walk.{two_of};
 
 use compact::{CompactTagIter, TagStep};
 use kind::Kind;
-use libc::STDOUT_FILENO;
+use std::io;
 use version_floor::{Version, VersionFloor};
 
 // What a floor is once a claim has raised it.
@@ -19,7 +21,7 @@ fn raised_to(highest: Version, claim: Version) -> Version
 }
 
 // The first two steps over a record's tags.
-#[derive(Drop)]
+#[derive(Clone, Copy)]
 pub struct Two {
     pub first: TagStep,
     pub second: TagStep,
@@ -34,44 +36,31 @@ fn two_steps(kind: Kind, bytes: &[u8]) -> Two
     Two { first, second }
 }
 
-fn print_step(step: TagStep) {
+fn print_step(rt: &impl Print, step: TagStep) -> io::Result<()> {
     match step {
-        TagStep::Done => {
-            io::write_all(STDOUT_FILENO, b"none\n");
-        }
-        TagStep::Unsound => {
-            io::print_decimal(STDOUT_FILENO, compact::unsound_number() as u64);
-            io::write_all(STDOUT_FILENO, b"\n");
-        }
-        TagStep::Tag { key, start, len } => {
-            io::print_decimal(STDOUT_FILENO, key as u64);
-            io::write_all(STDOUT_FILENO, b" at ");
-            io::print_decimal(STDOUT_FILENO, start as u64);
-            io::write_all(STDOUT_FILENO, b" length ");
-            io::print_decimal(STDOUT_FILENO, len as u64);
-            io::write_all(STDOUT_FILENO, b"\n");
-        }
+        TagStep::Done => println!(rt; "none"),
+        TagStep::Unsound => println!(rt; "{}", compact::unsound_number()),
+        TagStep::Tag { key, start, len } => println!(rt; "{key} at {start} length {len}"),
     }
 }
 
-fn print_steps(name: &[u8], kind: Kind, bytes: &[u8]) {
-    io::write_all(STDOUT_FILENO, name);
-    io::write_all(STDOUT_FILENO, b"\n");
+fn print_steps(rt: &impl Print, name: &[u8], kind: Kind, bytes: &[u8]) -> io::Result<()> {
+    rt.write_all(name)?;
+    rt.write_all(b"\n")?;
     let two = two_steps(kind, bytes);
     let first = two.first;
-    print_step(first);
+    print_step(rt, first)?;
     let second = two.second;
-    print_step(second);
+    print_step(rt, second)
 }
 
-fn print_raised(highest: Version, claim: Version) {
+fn print_raised(rt: &impl Print, highest: Version, claim: Version) -> io::Result<()> {
     let word = version_floor::version_word(raised_to(highest, claim));
-    io::write_all(STDOUT_FILENO, b"floor ");
+    rt.write_all(b"floor ")?;
     if word < 0x1_0000_0000 {
-        io::print_decimal(STDOUT_FILENO, word);
-        io::write_all(STDOUT_FILENO, b"\n");
+        println!(rt; "{word}")
     } else {
-        io::write_all(STDOUT_FILENO, b"none\n");
+        println!(rt; "none")
     }
 }
 
@@ -110,21 +99,22 @@ fn relation() -> [u8; 67] {
     rec
 }
 
-fn main() {
+fn main(rt: HostRuntime) -> io::Result<()> {
     let node = node();
-    print_steps(b"a node with two tags", Kind::Node, &node);
+    print_steps(&rt, b"a node with two tags", Kind::Node, &node)?;
     let way = way();
-    print_steps(b"a way with one tag", Kind::Way, &way);
+    print_steps(&rt, b"a way with one tag", Kind::Way, &way)?;
     let relation = relation();
     print_steps(
+        &rt,
         b"a relation whose tag is not text",
         Kind::Relation,
         &relation,
-    );
-    print_steps(b"a head that is cut short", Kind::Node, b"0123456789");
-    print_raised(Version::Absent, Version::Absent);
-    print_raised(Version::Absent, Version::Is(3));
-    print_raised(Version::Is(5), Version::Is(3));
-    print_raised(Version::Is(5), Version::Is(8));
-    print_raised(Version::Is(5), Version::Absent);
+    )?;
+    print_steps(&rt, b"a head that is cut short", Kind::Node, b"0123456789")?;
+    print_raised(&rt, Version::Absent, Version::Absent)?;
+    print_raised(&rt, Version::Absent, Version::Is(3))?;
+    print_raised(&rt, Version::Is(5), Version::Is(3))?;
+    print_raised(&rt, Version::Is(5), Version::Is(8))?;
+    print_raised(&rt, Version::Is(5), Version::Absent)
 }

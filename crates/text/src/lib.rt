@@ -1,4 +1,6 @@
 // Legal text: well-formed UTF-8 of XML 1.0 characters.
+#![tactic(auto)]
+
 ghost use Rattle.std.specs.Prelude.{◌≡◌, ◌+◌, ◌*◌, ◌<◌, ◌≤◌, drop};
 ghost use Rattle.base.specs.Bytes.{all};
 ghost use Rattle.text.specs.Char.{xml_char};

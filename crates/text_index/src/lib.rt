@@ -1,5 +1,7 @@
 // Held texts found by chains of handles: an array says, for each bucket, the last handle whose text falls in it, and for each handle the one before it in its bucket.
 // It may hold fewer handles than the strings have; the others are searched one by one, so an empty slice serves where no array is kept.
+#![tactic(auto)]
+
 ghost use Rattle.std.specs.Prelude.{◌≡◌, true, ℕ, ◌≤◌, ◌<◌, length, get_or, take};
 ghost use Rattle.interner.specs.Strings.{spanned, bytes_at, find_in, store_with, store_after, intern};
 ghost use Rattle.interner.specs.Sound.{texts_in};

@@ -1,5 +1,7 @@
 // The C entries, a module for each group in the order in which data flows; `./library` writes them all to one archive, which include/torvaskin.h declares. A slice is a pointer
 // and its length; the 17 counters, a reader's 19 words and its staged bytes are one pointer each; a struct of numbers crosses by value.
+#![tactic(auto)]
+
 mod listings;
 mod lookups;
 mod numbers;

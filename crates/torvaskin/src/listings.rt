@@ -14,8 +14,8 @@ pub extern "C" fn tvk_listing(
     counters: &[u64; COUNTERS],
     out: &mut [u8],
 ) -> ListingReply
-    ensures { record { out = out.exit.now; reply = result }
-        ≡ listing_reply out.entry.now (lent words bytes counters) }
+    ensures { record { out = out.new; reply = result }
+        ≡ listing_reply out.old (lent words.now bytes.now counters.now) }
 {
     c_replies::listed_reply(listing::list(words, bytes, counters, out))
 }

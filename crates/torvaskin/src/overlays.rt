@@ -22,8 +22,8 @@ pub extern "C" fn tvk_set_up(
     sizes: Sizes,
     setting: u64,
 ) -> Reply
-    ensures { record { overlay = left_for sizes words bytes counters; reply = result }
-        ≡ set_up_reply sizes setting (lent_for sizes words bytes counters) }
+    ensures { record { overlay = left_for sizes words.new bytes.now counters.new; reply = result }
+        ≡ set_up_reply sizes setting (lent_for sizes words.old bytes.now counters.old) }
 {
     c_replies::kept_reply(overlay::set_up(words, bytes, counters, sizes, setting))
 }
@@ -31,14 +31,14 @@ pub extern "C" fn tvk_set_up(
 // 22 for an unsound overlay, else 0.
 #[unsafe(no_mangle)]
 pub extern "C" fn tvk_is_sound(words: &[u64], bytes: &[u8], counters: &[u64; COUNTERS]) -> Reply
-    ensures { result ≡ sound_reply (is_sound (lent words bytes counters)) }
+    ensures { result ≡ sound_reply (is_sound (lent words.now bytes.now counters.now)) }
 {
     c_replies::sound_reply(overlay::is_sound(words, bytes, counters))
 }
 
 // The reply where a kind's number means no kind: 22, else 17.
 fn unknown(words: &[u64], bytes: &[u8], counters: &[u64; COUNTERS]) -> Reply
-    ensures { result ≡ unknown_reply (is_sound (lent words bytes counters)) }
+    ensures { result ≡ unknown_reply (is_sound (lent words.now bytes.now counters.now)) }
 {
     c_replies::unknown_reply(overlay::is_sound(words, bytes, counters))
 }
@@ -51,8 +51,8 @@ pub extern "C" fn tvk_allow_version_regression(
     counters: &mut [u64; COUNTERS],
     setting: u64,
 ) -> Reply
-    ensures { record { overlay = left words bytes counters; reply = result }
-        ≡ allow_reply setting (lent words bytes counters) }
+    ensures { record { overlay = left words.now bytes.now counters.new; reply = result }
+        ≡ allow_reply setting (lent words.now bytes.now counters.old) }
 {
     c_replies::kept_reply(overlay::allow_version_regression(words, bytes, counters, setting))
 }
@@ -65,8 +65,8 @@ pub extern "C" fn tvk_intern(
     counters: &mut [u64; COUNTERS],
     text: &[u8],
 ) -> Text
-    ensures { record { overlay = left words bytes counters; reply = result }
-        ≡ intern_reply text.now (lent words bytes counters) }
+    ensures { record { overlay = left words.new bytes.new counters.new; reply = result }
+        ≡ intern_reply text.now (lent words.old bytes.old counters.old) }
 {
     c_replies::handle_text(overlay_direct::intern(words, bytes, counters, text))
 }
@@ -82,8 +82,8 @@ pub extern "C" fn tvk_push(
     meta: ArenaMeta,
     parts: &[u8],
 ) -> Reply
-    ensures { record { overlay = left words bytes counters; reply = result }
-        ≡ push_reply kind head meta parts.now (lent words bytes counters) }
+    ensures { record { overlay = left words.new bytes.new counters.new; reply = result }
+        ≡ push_reply kind head meta parts.now (lent words.old bytes.old counters.old) }
 {
     match kind::kind_of_number(kind) {
         Named::Is(k) => c_replies::kept_reply(overlay_direct::push(
@@ -103,8 +103,8 @@ pub extern "C" fn tvk_delete(
     id: i64,
     meta: ArenaMeta,
 ) -> Reply
-    ensures { record { overlay = left words bytes counters; reply = result }
-        ≡ delete_reply kind id (meta_of meta) (lent words bytes counters) }
+    ensures { record { overlay = left words.new bytes.now counters.new; reply = result }
+        ≡ delete_reply kind id (meta_of meta) (lent words.old bytes.now counters.old) }
 {
     match kind::kind_of_number(kind) {
         Named::Is(k) => c_replies::kept_reply(overlay_direct::delete(

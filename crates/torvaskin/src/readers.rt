@@ -19,8 +19,8 @@ pub extern "C" fn tvk_event(
     parts: &mut [u8; STAGED],
     line: &[u8],
 ) -> EventReply
-    ensures { record { overlay = left words bytes counters; words = reader.new; parts = parts.new; reply = result }
-        ≡ event_reply line.now (lent words bytes counters) reader.old parts.old }
+    ensures { record { overlay = left words.new bytes.new counters.new; words = reader.new; parts = parts.new; reply = result }
+        ≡ event_reply line.now (lent words.old bytes.old counters.old) reader.old parts.old }
 {
     if c_reader::is_reader(reader) {
         let read = c_reader::reader_in(reader);
@@ -44,8 +44,8 @@ pub extern "C" fn tvk_events(
     parts: &mut [u8; STAGED],
     run: &[u8],
 ) -> EventsReply
-    ensures { record { overlay = left words bytes counters; words = reader.new; parts = parts.new; reply = result }
-        ≡ events_reply run.now (lent words bytes counters) reader.old parts.old }
+    ensures { record { overlay = left words.new bytes.new counters.new; words = reader.new; parts = parts.new; reply = result }
+        ≡ events_reply run.now (lent words.old bytes.old counters.old) reader.old parts.old }
 {
     if c_reader::is_reader(reader) {
         let read = c_reader::reader_in(reader);
@@ -67,7 +67,7 @@ pub extern "C" fn tvk_end(
     reader: &[u64; 19],
     parts: &[u8; STAGED],
 ) -> EventReply
-    ensures { result ≡ end_reply (lent words bytes counters) reader.now parts.now }
+    ensures { result ≡ end_reply (lent words.now bytes.now counters.now) reader.now parts.now }
 {
     if c_reader::is_reader(reader) {
         let read = c_reader::reader_in(reader);

@@ -16,13 +16,13 @@ use overlay_blocks::COUNTERS;
 
 // The replies where a kind's number means no kind.
 fn no_read(words: &[u64], bytes: &[u8], counters: &[u64; COUNTERS]) -> Number
-    ensures { result ≡ read_number (Refused (unknown_kind (is_sound (lent words bytes counters)))) }
+    ensures { result ≡ read_number (Refused (unknown_kind (is_sound (lent words.now bytes.now counters.now)))) }
 {
     c_replies::unknown_number(overlay::is_sound(words, bytes, counters))
 }
 
 fn no_view(words: &[u64], bytes: &[u8], counters: &[u64; COUNTERS]) -> Part
-    ensures { result ≡ view_part (view.Refused (unknown_kind (is_sound (lent words bytes counters)))) }
+    ensures { result ≡ view_part (view.Refused (unknown_kind (is_sound (lent words.now bytes.now counters.now)))) }
 {
     c_replies::unknown_part(overlay::is_sound(words, bytes, counters))
 }
@@ -35,7 +35,7 @@ pub extern "C" fn tvk_live_count(
     counters: &[u64; COUNTERS],
     kind: u8,
 ) -> Number
-    ensures { result ≡ count_number kind Live (lent words bytes counters) }
+    ensures { result ≡ count_number kind Live (lent words.now bytes.now counters.now) }
 {
     match kind::kind_of_number(kind) {
         Named::Is(k) => c_replies::read_number(overlay_reading::count(
@@ -57,7 +57,7 @@ pub extern "C" fn tvk_deleted_count(
     counters: &[u64; COUNTERS],
     kind: u8,
 ) -> Number
-    ensures { result ≡ count_number kind Deleted (lent words bytes counters) }
+    ensures { result ≡ count_number kind Deleted (lent words.now bytes.now counters.now) }
 {
     match kind::kind_of_number(kind) {
         Named::Is(k) => c_replies::read_number(overlay_reading::count(
@@ -74,7 +74,7 @@ pub extern "C" fn tvk_deleted_count(
 // 1 where no id of any kind is known, else 0.
 #[unsafe(no_mangle)]
 pub extern "C" fn tvk_is_empty(words: &[u64], bytes: &[u8], counters: &[u64; COUNTERS]) -> Number
-    ensures { result ≡ read_number (is_empty_on (lent words bytes counters)) }
+    ensures { result ≡ read_number (is_empty_on (lent words.now bytes.now counters.now)) }
 {
     c_replies::read_number(overlay_reading::is_empty(words, bytes, counters))
 }
@@ -88,7 +88,7 @@ pub extern "C" fn tvk_live_id(
     kind: u8,
     n: u64,
 ) -> Number
-    ensures { result ≡ id_number kind Live n (lent words bytes counters) }
+    ensures { result ≡ id_number kind Live n (lent words.now bytes.now counters.now) }
 {
     match kind::kind_of_number(kind) {
         Named::Is(k) => c_replies::read_number(overlay_reading::id_at(
@@ -112,7 +112,7 @@ pub extern "C" fn tvk_deleted_id(
     kind: u8,
     n: u64,
 ) -> Number
-    ensures { result ≡ id_number kind Deleted n (lent words bytes counters) }
+    ensures { result ≡ id_number kind Deleted n (lent words.now bytes.now counters.now) }
 {
     match kind::kind_of_number(kind) {
         Named::Is(k) => c_replies::read_number(overlay_reading::id_at(
@@ -136,7 +136,7 @@ pub extern "C" fn tvk_record(
     kind: u8,
     n: u64,
 ) -> Part
-    ensures { result ≡ record_part kind n (lent words bytes counters) }
+    ensures { result ≡ record_part kind n (lent words.now bytes.now counters.now) }
 {
     match kind::kind_of_number(kind) {
         Named::Is(k) => c_replies::view_part(overlay_reading::record_at(
@@ -155,7 +155,7 @@ pub extern "C" fn tvk_get(
     kind: u8,
     id: i64,
 ) -> Part
-    ensures { result ≡ get_part kind id (lent words bytes counters) }
+    ensures { result ≡ get_part kind id (lent words.now bytes.now counters.now) }
 {
     match kind::kind_of_number(kind) {
         Named::Is(k) => c_replies::view_part(overlay_reading::get(
@@ -178,7 +178,7 @@ pub extern "C" fn tvk_has(
     kind: u8,
     id: i64,
 ) -> Number
-    ensures { result ≡ has_number kind id (lent words bytes counters) }
+    ensures { result ≡ has_number kind id (lent words.now bytes.now counters.now) }
 {
     match kind::kind_of_number(kind) {
         Named::Is(k) => c_replies::read_number(overlay_reading::has(
@@ -201,7 +201,7 @@ pub extern "C" fn tvk_is_deleted(
     kind: u8,
     id: i64,
 ) -> Number
-    ensures { result ≡ is_deleted_number kind id (lent words bytes counters) }
+    ensures { result ≡ is_deleted_number kind id (lent words.now bytes.now counters.now) }
 {
     match kind::kind_of_number(kind) {
         Named::Is(k) => c_replies::read_number(overlay_reading::is_deleted(
@@ -224,7 +224,7 @@ pub extern "C" fn tvk_known_version(
     kind: u8,
     id: i64,
 ) -> Number
-    ensures { result ≡ known_number kind id (lent words bytes counters) }
+    ensures { result ≡ known_number kind id (lent words.now bytes.now counters.now) }
 {
     match kind::kind_of_number(kind) {
         Named::Is(k) => c_replies::read_number(overlay_reading::known_version(
@@ -246,7 +246,7 @@ pub extern "C" fn tvk_text(
     counters: &[u64; COUNTERS],
     handle: u64,
 ) -> Part
-    ensures { result ≡ view_part (text_on handle (lent words bytes counters)) }
+    ensures { result ≡ view_part (text_on handle (lent words.now bytes.now counters.now)) }
 {
     c_replies::view_part(overlay_reading::text(words, bytes, counters, handle))
 }
@@ -261,8 +261,8 @@ fn ids_number(
     ids: &mut [u64],
     versions: &mut [u64],
 ) -> Number
-    ensures { record { ids = ids.exit.now; versions = versions.new; reply = result }
-        ≡ ids_reply kind side ids.entry.now versions.old (lent words bytes counters) }
+    ensures { record { ids = ids.new; versions = versions.new; reply = result }
+        ≡ ids_reply kind side ids.old versions.old (lent words.now bytes.now counters.now) }
 {
     match kind::kind_of_number(kind) {
         Named::Is(k) => {
@@ -283,8 +283,8 @@ pub extern "C" fn tvk_live_ids(
     ids: &mut [u64],
     versions: &mut [u64],
 ) -> Number
-    ensures { record { ids = ids.exit.now; versions = versions.new; reply = result }
-        ≡ ids_reply kind Live ids.entry.now versions.old (lent words bytes counters) }
+    ensures { record { ids = ids.new; versions = versions.new; reply = result }
+        ≡ ids_reply kind Live ids.old versions.old (lent words.now bytes.now counters.now) }
 {
     ids_number(words, bytes, counters, kind, Side::Live, ids, versions)
 }
@@ -299,8 +299,8 @@ pub extern "C" fn tvk_deleted_ids(
     ids: &mut [u64],
     versions: &mut [u64],
 ) -> Number
-    ensures { record { ids = ids.exit.now; versions = versions.new; reply = result }
-        ≡ ids_reply kind Deleted ids.entry.now versions.old (lent words bytes counters) }
+    ensures { record { ids = ids.new; versions = versions.new; reply = result }
+        ≡ ids_reply kind Deleted ids.old versions.old (lent words.now bytes.now counters.now) }
 {
     ids_number(words, bytes, counters, kind, Side::Deleted, ids, versions)
 }

@@ -1,11 +1,14 @@
 // Runs published UTF-8 vectors on text::is_text, and counts what it takes of all short sequences.
-ghost use Rattle.std.specs.Prelude.{◌+◌, ◌≤◌, ◌<◌, length};
+#![tactic(auto)]
 
-use libc::{STDIN_FILENO, STDOUT_FILENO};
+ghost use Rattle.std.specs.Prelude.{◌+◌, ◌≤◌, ◌<◌, length, IfOk};
+
+use std::io;
+use std::io::Read;
 
 // A line of the input: how many bytes its sequence has, whether that is text (1, 0, or 2 where the line is none), and where the
 // next line begins.
-#[derive(Drop)]
+#[derive(Clone, Copy)]
 pub struct Line {
     pub len: usize,
     pub want: u8,
@@ -13,7 +16,7 @@ pub struct Line {
 }
 
 // How many lines were tried, and how many of them the check judged otherwise.
-#[derive(Drop)]
+#[derive(Clone, Copy)]
 pub struct Tally {
     pub vectors: u64,
     pub mismatches: u64,
@@ -132,20 +135,20 @@ fn text_part(s: &[u8], from: usize, end: usize) -> u8
 }
 
 // Writes a line that was judged otherwise; 1 where it was, else 0.
-fn wrong(s: &[u8], from: usize, next: usize, want: u8, got: u8) -> u64
+fn wrong(rt: &impl Print, s: &[u8], from: usize, next: usize, want: u8, got: u8) -> io::Result<u64>
     requires { (from ≤ next) × (next ≤ length s.now) }
-    ensures { result ≤ 1 }
+    ensures { IfOk result (λ n. n ≤ 1) }
 {
     if want == got {
-        return 0;
+        return Ok(0);
     }
-    io::write_all(STDOUT_FILENO, b"mismatch\t");
-    io::write_all(STDOUT_FILENO, &s[from..next]);
-    1
+    rt.write_all(b"mismatch\t")?;
+    rt.write_all(&s[from..next])?;
+    Ok(1)
 }
 
 // Every line of the input.
-fn vectors(s: &[u8], seq: &mut [u8; 32]) -> Tally {
+fn vectors(rt: &impl Print, s: &[u8], seq: &mut [u8; 32]) -> io::Result<Tally> {
     let mut tried: u64 = 0;
     let mut mismatches: u64 = 0;
     let mut at: usize = 0;
@@ -153,14 +156,14 @@ fn vectors(s: &[u8], seq: &mut [u8; 32]) -> Tally {
         let l = read_line(s, at, seq);
         let next = l.next;
         let got = text_part(seq, 0, l.len);
-        mismatches += wrong(s, at, next, l.want, got);
+        mismatches += wrong(rt, s, at, next, l.want, got)?;
         tried += 1;
         at = next;
     }
-    Tally {
+    Ok(Tally {
         vectors: tried,
         mismatches,
-    }
+    })
 }
 
 // A byte of a number.
@@ -188,25 +191,33 @@ fn accepted(end: u32, from: usize) -> u64 {
 }
 
 // Writes how many of the sequences of some bytes are text.
-fn count(bytes: u64, end: u32, from: usize) {
-    io::write_all(STDOUT_FILENO, b"bytes\t");
-    io::print_decimal(STDOUT_FILENO, bytes);
-    io::write_all(STDOUT_FILENO, b"\taccepted\t");
-    io::print_decimal(STDOUT_FILENO, accepted(end, from));
-    io::write_all(STDOUT_FILENO, b"\n");
+fn count(rt: &impl Print, bytes: u64, end: u32, from: usize) -> io::Result<()> {
+    let accepted = accepted(end, from);
+    println!(rt; "bytes\t{bytes}\taccepted\t{accepted}")
 }
 
-fn main() {
-    let mut input = io::large_buffer();
-    let n = io::read_full(STDIN_FILENO, &mut input);
+// Reads until the buffer is full or the input ends, and answers how many bytes it put at the buffer's start.
+fn read_full(input: &mut impl Read, buf: &mut [u8]) -> io::Result<usize>
+    ensures { IfOk result (λ n. n ≤ length buf.new) }
+{
+    let mut done = 0;
+    while done < buf.len() {
+        let n = input.read(&mut buf[done..])?;
+        if n == 0 {
+            break;
+        }
+        done += n;
+    }
+    Ok(done)
+}
+
+fn main(rt: HostRuntime) -> io::Result<()> {
+    let mut input = [0u8; 65536];
+    let n = read_full(&mut rt.stdin(), &mut input)?;
     let mut seq = [0u8; 32];
-    let t = vectors(&input[..n], &mut seq);
-    io::write_all(STDOUT_FILENO, b"vectors\t");
-    io::print_decimal(STDOUT_FILENO, t.vectors);
-    io::write_all(STDOUT_FILENO, b"\tmismatches\t");
-    io::print_decimal(STDOUT_FILENO, t.mismatches);
-    io::write_all(STDOUT_FILENO, b"\n");
-    count(1, 256, 2);
-    count(2, 65536, 1);
-    count(3, 16777216, 0);
+    let t = vectors(&rt, &input[..n], &mut seq)?;
+    println!(rt; "vectors\t{}\tmismatches\t{}", t.vectors, t.mismatches)?;
+    count(&rt, 1, 256, 2)?;
+    count(&rt, 2, 65536, 1)?;
+    count(&rt, 3, 16777216, 0)
 }

@@ -1,24 +1,26 @@
 // The version-precedence rule (version_floor.rs): a claim is refused only when it is strictly below the highest version
 // claimed so far. A missing version is no version, and not version 0.
+#![tactic(auto)]
+
 ghost use Rattle.std.specs.Prelude.{◌≡◌};
 ghost use Rattle.version_floor.specs.Version.{higher, admit_of, word_of, of_word};
 
 // A version, or none.
-#[derive(Drop)]
+#[derive(Clone, Copy)]
 pub enum Version {
     Absent,
     Is(i32),
 }
 
 // What the rule says of a claim; a refusal carries the floor that the claim fell below.
-#[derive(Drop)]
+#[derive(Clone, Copy)]
 pub enum Admit {
     Admitted,
     Below(i32),
 }
 
 // The highest version claimed so far for one object, or none.
-#[derive(Drop)]
+#[derive(Clone, Copy)]
 pub struct VersionFloor(pub Version);
 
 // The larger of two versions, or the one that exists.

@@ -13,7 +13,7 @@ struct Roadlist(PathBuf);
 impl Roadlist {
     fn built() -> Self {
         Self(std::env::var_os("TORVASKIN_ROADLIST").map_or_else(
-            || PathBuf::from(concat!(env!("CARGO_MANIFEST_DIR"), "/../../target/bin/roadlist")),
+            || PathBuf::from(concat!(env!("CARGO_MANIFEST_DIR"), "/../../crates/roadlist/out/roadlist")),
             PathBuf::from,
         ))
     }

@@ -48,7 +48,7 @@ pub fn write(folder: &Path, spoiled: bool) -> io::Result<Asked> {
     for part in ["src", "specs", "proofs"] {
         fs::create_dir_all(folder.join(part))?;
     }
-    fs::write(folder.join("src/lib.rt"), "// It has no code.\n")?;
+    fs::write(folder.join("src/lib.rt"), "// It has no code.\n#![tactic(auto)]\n")?;
     fs::write(folder.join("specs/Lib.antt"), "pub mod Head\n")?;
     fs::write(folder.join("specs/Head.antt"), HEAD)?;
     let list: String = pages.iter().map(|page| format!("mod {}\n", page.name)).collect();

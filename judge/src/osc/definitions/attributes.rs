@@ -48,7 +48,7 @@ fn asked(
 ) -> Vec<Row> {
     let one = |attributes: &Vec<Pair>| {
         let answer = f(&start(name, attributes)).map_err(|e| error(&e));
-        row(function.replace('_', &atom(element(name, attributes))), result(answer))
+        row(function.replace('@', &atom(element(name, attributes))), result(answer))
     };
     lists.iter().map(one).collect()
 }
@@ -58,16 +58,16 @@ pub(super) fn page() -> Page {
     let ids =
         [("id", "1"), ("id", "x"), ("id", ""), ("id", "-9223372036854775808"), ("Id", "2"), ("ref", "3"), ("ref", "x")];
     let id =
-        asked("XmlParse.parse_i64_attr _ (ascii \"id\")", "node", &lists(&ids, 2), |e| parse_i64_attr(e, "id").map(z));
+        asked("XmlParse.parse_i64_attr @ (ascii \"id\")", "node", &lists(&ids, 2), |e| parse_i64_attr(e, "id").map(z));
     page.about("parse_i64_attr", id);
-    page.about("parse_nd", asked("XmlParse.parse_nd _", "nd", &lists(&ids, 2), |e| parse_nd(e).map(z)));
+    page.about("parse_nd", asked("XmlParse.parse_nd @", "nd", &lists(&ids, 2), |e| parse_nd(e).map(z)));
     let tags = [("k", "a"), ("k", ""), ("v", "b"), ("v", "two\twords"), ("kv", "z")];
-    let text = asked("XmlParse.parse_str_attr _ (ascii \"k\")", "tag", &lists(&tags, 2), |e| {
+    let text = asked("XmlParse.parse_str_attr @ (ascii \"k\")", "tag", &lists(&tags, 2), |e| {
         parse_str_attr(e, "k").map(bytes)
     });
     page.about("parse_str_attr", text);
     let tag = |(k, v): (String, String)| format!("record {{ k = {}; v = {} }}", bytes(k), bytes(v));
-    page.about("parse_tag", asked("XmlParse.parse_tag _", "tag", &lists(&tags, 3), |e| parse_tag(e).map(tag)));
+    page.about("parse_tag", asked("XmlParse.parse_tag @", "tag", &lists(&tags, 3), |e| parse_tag(e).map(tag)));
     let parts = [
         ("type", "node"),
         ("type", "way"),
@@ -78,9 +78,9 @@ pub(super) fn page() -> Page {
         ("role", "r"),
         ("role", ""),
     ];
-    let members = asked("XmlParse.parse_member _", "member", &lists(&parts, 3), |e| parse_member(e).map(member));
+    let members = asked("XmlParse.parse_member @", "member", &lists(&parts, 3), |e| parse_member(e).map(member));
     page.about("parse_member", members);
-    page.about("arena-meta", metas());
+    page.about("arena_meta", metas());
     page
 }
 
@@ -129,7 +129,7 @@ fn metas() -> Vec<Row> {
     all.extend(lists(&of, 3).into_iter().filter(|list| list.len() == 3).step_by(13));
     let overlay = "Parse.intern_in Parse.new (ascii \"u\")";
     let np = format!("not_published {}", atom(stamps(&[STAMP.to_owned()])));
-    let scan = format!("XmlParse.scan_meta_attrs ({np}) XmlParse.default (_ .attributes)");
+    let scan = format!("XmlParse.scan_meta_attrs ({np}) XmlParse.default @.attributes");
     let read = |e: &BytesStart<'_>| {
         let mut overlay = Overlay::new();
         overlay.intern("u");

@@ -50,13 +50,13 @@ pub(super) fn page() -> Page {
     page.define("held", "StringTable", &call("strings", &[bytes("abc"), spans(&SPANS)]));
     page.define("flags", "List ℕ", &list(0..256));
     page.about("constants", constants());
-    page.about("read-le", reads());
+    page.about("read_le", reads());
     page.about("member_type", member_types());
     page.about("clear", [1, 2, 4, 8].map(clear));
     page.about("version_claim", [0, 7, i32::MIN].map(claims));
     let two = Data::named(&mut page, "two", two_records());
     page.about("version_at", versions_at(&two));
-    page.about("append-meta", metas().iter().map(appended_meta));
+    page.about("append_meta", metas().iter().map(appended_meta));
     page.about("append_tags", tag_lists().iter().map(appended_tags));
     page.about(
         "append",
@@ -88,8 +88,8 @@ fn constants() -> Vec<Row> {
             &[version, timestamp, changeset, uid, user_id],
         ),
         numbers(
-            "Compact.META-FLAG-PRESENT ∷ Compact.META-FLAG-HIDDEN ∷ Compact.META-FLAG-HAS-USER ∷ \
-             Compact.META-FLAG-HAS-VERSION ∷ []",
+            "Compact.META_FLAG_PRESENT ∷ Compact.META_FLAG_HIDDEN ∷ Compact.META_FLAG_HAS_USER ∷ \
+             Compact.META_FLAG_HAS_VERSION ∷ []",
             &flags,
         ),
     ]
@@ -106,8 +106,8 @@ fn reads() -> Vec<Row> {
             let narrow = option(unless_panic(|| z(JUDGE_READ_I32(data, at))));
             let unsigned = option(unless_panic(|| z(JUDGE_READ_U32(data, at))));
             let s = atom(list(data));
-            let signed = format!("Compact.read-i64-le {s} {at} ∷ Compact.read-i32-le {s} {at}");
-            let question = format!("{signed} ∷ Option·map pos (Compact.read-u32-le {s} {at}) ∷ []");
+            let signed = format!("Compact.read_i64_le {s} {at} ∷ Compact.read_i32_le {s} {at}");
+            let question = format!("{signed} ∷ Option.map pos (Compact.read_u32_le {s} {at}) ∷ []");
             out.push(rows(question, &[wide, narrow, unsigned]));
         }
     }
@@ -126,10 +126,10 @@ fn member_name(kind: MemberType) -> &'static str {
 fn member_types() -> Vec<Row> {
     let byte = |kind| member_type_to_byte(kind).expect("a known type").to_string();
     let written = [MemberType::Node, MemberType::Way, MemberType::Relation].map(byte);
-    let to_byte = "map (λ k. some (Compact.member-type-to-byte k)) (Node ∷ Way ∷ Relation ∷ [])".to_owned();
+    let to_byte = "map (λ k. some (Compact.member_type_to_byte k)) (Node ∷ Way ∷ Relation ∷ [])".to_owned();
     let read = |b: u8| option(unless_panic(|| member_type_to_byte(JUDGE_MEMBER_TYPE(b)).expect("a known type")));
     let read: Vec<String> = (0..=255).map(read).collect();
-    let from_byte = "map (λ b. Option·map Compact.member-type-to-byte (Compact.byte-to-member-type b)) flags";
+    let from_byte = "map (λ b. Option.map Compact.member_type_to_byte (Compact.byte_to_member_type b)) flags";
     vec![rows(to_byte, &written.map(|b| option(Some(b)))), rows(from_byte.to_owned(), &read)]
 }
 
@@ -142,7 +142,7 @@ fn claims(version: i32) -> Row {
     let claim = |flags| option(ArenaMeta { flags, version, ..ArenaMeta::default() }.version_claim().map(z));
     let answers: Vec<String> = (0..=255).map(claim).collect();
     rows(
-        format!("map (λ f. Compact.version-claim (meta f ({}) (pos 0) (pos 0) (pos 0) 0)) flags", z(version)),
+        format!("map (λ f. Compact.version_claim (meta f ({}) (pos 0) (pos 0) (pos 0) 0)) flags", z(version)),
         &answers,
     )
 }
@@ -163,7 +163,7 @@ fn versions_at(two: &Data) -> Vec<Row> {
             for len in [0, 16, 17, 20, 21, 65, 66, 69, 70, 94] {
                 let data = two.cut(len).put(at + off, flags);
                 let answer = unless_panic(|| version_at(&data.bytes, at, off)).flatten();
-                let question = call("Compact.version-at", &[data.term, at.to_string(), off.to_string()]);
+                let question = call("Compact.version_at", &[data.term, at.to_string(), off.to_string()]);
                 out.push(row(question, option(answer.map(z))));
             }
         }
@@ -185,7 +185,7 @@ fn metas() -> [ArenaMeta; 5] {
 fn appended_meta(m: &ArenaMeta) -> Row {
     let mut data = vec![9];
     JUDGE_APPEND_META(&mut data, m);
-    row(call("Compact.arena-append-meta", &[meta(m)]), list(&data[1..]))
+    row(call("Compact.arena_append_meta", &[meta(m)]), list(&data[1..]))
 }
 
 fn tag_lists() -> [&'static [(u32, &'static str)]; 5] {
@@ -195,7 +195,7 @@ fn tag_lists() -> [&'static [(u32, &'static str)]; 5] {
 fn appended_tags(list_of: &&[(u32, &str)]) -> Row {
     let mut data = vec![9];
     judge_append_tags(&mut data, list_of).expect("few");
-    row(call("Compact.append-tags", &[tags(list_of)]), list(&data[1..]))
+    row(call("Compact.append_tags", &[tags(list_of)]), list(&data[1..]))
 }
 
 /// What each append is asked, and the bytes that it appends to an arena that holds some.
@@ -230,17 +230,17 @@ fn behind(append: impl FnOnce(&mut Vec<u8>) -> usize) -> Vec<u8> {
 
 fn node_appended(id: i64, (lat, lon): (i32, i32), list_of: &[(u32, &str)], m: &ArenaMeta) -> (String, Vec<u8>) {
     let data = behind(|arena| arena_append_node(arena, id, lat, lon, list_of, m).expect("few"));
-    (call("Compact.arena-append-node", &[z(id), z(lat), z(lon), tags(list_of), meta(m)]), data)
+    (call("Compact.arena_append_node", &[z(id), z(lat), z(lon), tags(list_of), meta(m)]), data)
 }
 
 fn way_appended(id: i64, refs: &[i64], list_of: &[(u32, &str)], m: &ArenaMeta) -> (String, Vec<u8>) {
     let data = behind(|arena| arena_append_way(arena, id, refs, list_of, m).expect("few"));
-    (call("Compact.arena-append-way", &[z(id), list(refs.iter().map(|&r| z(r))), tags(list_of), meta(m)]), data)
+    (call("Compact.arena_append_way", &[z(id), list(refs.iter().map(|&r| z(r))), tags(list_of), meta(m)]), data)
 }
 
 fn relation_appended(id: i64, list_of: &[(i64, u8, u32)], tagged: &[(u32, &str)], m: &ArenaMeta) -> (String, Vec<u8>) {
     let data = behind(|arena| arena_append_relation(arena, id, list_of, tagged, m).expect("few"));
-    (call("Compact.arena-append-relation", &[z(id), members(list_of), tags(tagged), meta(m)]), data)
+    (call("Compact.arena_append_relation", &[z(id), members(list_of), tags(tagged), meta(m)]), data)
 }
 
 /// What `read_meta` gives; the outer none is a panic.
@@ -262,7 +262,7 @@ fn read_metas() -> Vec<Row> {
             JUDGE_APPEND_META(&mut data, &ArenaMeta { flags, user_id, ..metas()[1] });
             data.truncate(len);
             let answer = metadata_term(unless_panic(|| judge_read_meta(&data, 3, &strings)));
-            out.push(row(call("Compact.read-meta held", &[list(&data), "3".to_owned()]), answer));
+            out.push(row(call("Compact.read_meta held", &[list(&data), "3".to_owned()]), answer));
         }
     }
     out
@@ -302,11 +302,11 @@ fn next_ref(data: &Data, offset: usize, remaining: usize) -> Row {
         let (item, offset, remaining) = judge_next_ref(&data.bytes, offset, remaining);
         (item.map(z), offset, remaining)
     });
-    row(asked("Compact.ref-next", data, offset, remaining), step(read))
+    row(asked("Compact.ref_next", data, offset, remaining), step(read))
 }
 
 fn member_item((kind, id, role): (MemberType, i64, &str)) -> String {
-    format!("record {{ member-type = {}; ref-id = {}; role = {} }}", member_name(kind), z(id), bytes(role))
+    format!("record {{ member_type = {}; ref_id = {}; role = {} }}", member_name(kind), z(id), bytes(role))
 }
 
 fn next_member(data: &Data, offset: usize, remaining: usize) -> Row {
@@ -315,7 +315,7 @@ fn next_member(data: &Data, offset: usize, remaining: usize) -> Row {
         let (item, offset, remaining) = judge_next_member(&data.bytes, &strings, offset, remaining);
         (item.map(member_item), offset, remaining)
     });
-    row(asked("Compact.member-next held", data, offset, remaining), step(read))
+    row(asked("Compact.member_next held", data, offset, remaining), step(read))
 }
 
 fn tag_item((key, value): (&str, &str)) -> String {
@@ -328,7 +328,7 @@ fn next_tag(data: &Data, offset: usize, remaining: usize) -> Row {
         let (item, offset, remaining) = judge_next_tag(&data.bytes, &strings, offset, remaining);
         (item.map(tag_item), offset, remaining)
     });
-    row(asked("Compact.tag-next is-ascii held", data, offset, remaining), step(read))
+    row(asked("Compact.tag_next is_ascii held", data, offset, remaining), step(read))
 }
 
 /// A record with another behind it, with texts that are held.
@@ -351,14 +351,14 @@ fn records(page: &mut Page, kind: ElementKind) {
     let mut all = vec![whole.clone()];
     all.extend((0..=len).map(|cut| whole.cut(cut)));
     all.extend((0..len).map(|at| whole.cut(len).put(at, if whole.bytes[at] == 3 { 255 } else { 3 })));
-    page.about(&format!("head-{kind}"), all.iter().map(|data| head(kind, data)));
-    page.about(&format!("metadata-{kind}"), all.iter().map(|data| metadata(kind, data)));
+    page.about(&format!("head_{kind}"), all.iter().map(|data| head(kind, data)));
+    page.about(&format!("metadata_{kind}"), all.iter().map(|data| metadata(kind, data)));
     match kind {
         ElementKind::Node => (),
         ElementKind::Way => page.about("refs", all.iter().map(refs)),
         ElementKind::Relation => page.about("members", all.iter().map(members_of)),
     }
-    page.about(&format!("tags-{kind}"), all.iter().map(|data| tags_of(kind, data)));
+    page.about(&format!("tags_{kind}"), all.iter().map(|data| tags_of(kind, data)));
 }
 
 /// An accessor at the data and the strings.
@@ -368,22 +368,22 @@ type Accessor = fn(&[u8], &StringTable) -> String;
 fn heads(kind: ElementKind) -> &'static [(&'static str, Accessor)] {
     match kind {
         ElementKind::Node => &[
-            ("Compact.record-id _", |data, strings| z(CompactNodeRef { data, strings }.id())),
-            ("Compact.decimicro-lat _", |data, strings| z(CompactNodeRef { data, strings }.decimicro_lat())),
-            ("Compact.decimicro-lon _", |data, strings| z(CompactNodeRef { data, strings }.decimicro_lon())),
-            ("number (Compact.tag-count Node _)", |data, strings| number(CompactNodeRef { data, strings }.tag_count())),
+            ("Compact.record_id @", |data, strings| z(CompactNodeRef { data, strings }.id())),
+            ("Compact.decimicro_lat @", |data, strings| z(CompactNodeRef { data, strings }.decimicro_lat())),
+            ("Compact.decimicro_lon @", |data, strings| z(CompactNodeRef { data, strings }.decimicro_lon())),
+            ("number (Compact.tag_count Node @)", |data, strings| number(CompactNodeRef { data, strings }.tag_count())),
         ],
         ElementKind::Way => &[
-            ("Compact.record-id _", |data, strings| z(CompactWayRef { data, strings }.id())),
-            ("number (Compact.ref-count _)", |data, strings| number(CompactWayRef { data, strings }.ref_count())),
-            ("number (Compact.tag-count Way _)", |data, strings| number(CompactWayRef { data, strings }.tag_count())),
+            ("Compact.record_id @", |data, strings| z(CompactWayRef { data, strings }.id())),
+            ("number (Compact.ref_count @)", |data, strings| number(CompactWayRef { data, strings }.ref_count())),
+            ("number (Compact.tag_count Way @)", |data, strings| number(CompactWayRef { data, strings }.tag_count())),
         ],
         ElementKind::Relation => &[
-            ("Compact.record-id _", |data, strings| z(CompactRelationRef { data, strings }.id())),
-            ("number (Compact.member-count _)", |data, strings| {
+            ("Compact.record_id @", |data, strings| z(CompactRelationRef { data, strings }.id())),
+            ("number (Compact.member_count @)", |data, strings| {
                 number(CompactRelationRef { data, strings }.member_count())
             }),
-            ("number (Compact.tag-count Relation _)", |data, strings| {
+            ("number (Compact.tag_count Relation @)", |data, strings| {
                 number(CompactRelationRef { data, strings }.tag_count())
             }),
         ],
@@ -396,7 +396,7 @@ fn number(n: usize) -> String {
 
 fn head(kind: ElementKind, data: &Data) -> Row {
     let (strings, term) = (held(), atom(&data.term));
-    let questions = list(heads(kind).iter().map(|(question, _)| question.replace('_', &term)));
+    let questions = list(heads(kind).iter().map(|(question, _)| question.replace('@', &term)));
     let answer = |(_, f): &(&str, Accessor)| option(unless_panic(|| f(&data.bytes, &strings)));
     rows(questions, &heads(kind).iter().map(answer).collect::<Vec<_>>())
 }
@@ -442,5 +442,5 @@ fn tags_of(kind: ElementKind, data: &Data) -> Row {
         ElementKind::Way => all(CompactWayRef { data: s, strings: t }.tags().map(tag_item)),
         ElementKind::Relation => all(CompactRelationRef { data: s, strings: t }.tags().map(tag_item)),
     });
-    row(call(&format!("Compact.tags is-ascii {} held", kind_name(kind)), &[data.term.clone()]), option(read))
+    row(call(&format!("Compact.tags is_ascii {} held", kind_name(kind)), &[data.term.clone()]), option(read))
 }

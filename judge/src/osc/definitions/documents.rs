@@ -35,13 +35,13 @@ pub(super) fn page() -> Page {
             let (number, answer) = after(document, &mut overlay);
             numbers.insert(number);
             driven.push(row(format!("of_driven ({question})"), answer));
-            term = format!("{} .sink .overlay", atom(question));
+            term = format!("{}.sink.overlay", atom(question));
         }
         sorted.push(in_order(&term, &overlay));
     }
     // A document, and each error that one can give.
     assert_eq!(numbers.into_iter().collect::<Vec<_>>(), [0, 5, 6, 7, 8, 9, 10, 11, 12, 18]);
-    page.about("drive-osc", driven);
+    page.about("drive_osc", driven);
     page.about("into_sorted", sorted);
     page
 }

@@ -58,13 +58,13 @@ struct Stand {
 
 impl Stand {
     fn bare(place: Place) -> Self {
-        Self { place, sink: "sink-none".to_owned(), staged: None }
+        Self { place, sink: "sink_none".to_owned(), staged: None }
     }
 
     /// With an element of the open kind staged.
     fn with_staged(place: Place, (name, version): (&str, i32)) -> Self {
         let kind = KINDS[usize::from(place.kind)];
-        Self { place, sink: format!("{name}-{kind}"), staged: Some(begun(kind, version)) }
+        Self { place, sink: format!("{name}_{kind}"), staged: Some(begun(kind, version)) }
     }
 
     fn state(&self) -> String {
@@ -123,11 +123,11 @@ fn defined(name: &'static str) -> Page {
     page.define("np", "NotPublished", &call("not_published", &[stamps(&[STAMP.to_owned()])]));
     page.define("before", "CompactDiffOverlay", &overlay(&before()));
     page.define("unchanged", "Told", "overlay before");
-    page.define("sink-none", "CompactSink", "XmlParse.sink_with before none");
+    page.define("sink_none", "CompactSink", "XmlParse.sink_with before none");
     for (name, version) in [GOING, STALE] {
         for kind in KINDS {
             let sink = format!("XmlParse.sink_with before {}", atom(staged(Some(&begun(kind, version)))));
-            page.define(&format!("{name}-{kind}"), "CompactSink", &sink);
+            page.define(&format!("{name}_{kind}"), "CompactSink", &sink);
         }
     }
     page
@@ -137,7 +137,7 @@ pub(super) fn page() -> Page {
     let mut page = defined("Driver");
     for (n, line) in GOOD.iter().chain(&BAD).enumerate() {
         let (name, attributes) = parted(line);
-        page.define(&format!("element-{n}"), "BytesStart", &element(name, &attributes));
+        page.define(&format!("element_{n}"), "BytesStart", &element(name, &attributes));
     }
     page.about("unchanged", [row("overlay before".to_owned(), told(&before()))]);
     let opened = |stands: Vec<Stand>, numbers: Range<usize>| -> Vec<Row> {
@@ -146,8 +146,8 @@ pub(super) fn page() -> Page {
     };
     let good = GOOD.len();
     page.about("handle_open", opened(stands(|_| true), 0..good));
-    page.about("handle-stale", opened(stands(|level| level == 2), good..good + 3));
-    page.about("handle-child", opened(stands(|level| level == 3), good + 3..good + BAD.len()));
+    page.about("handle_stale", opened(stands(|level| level == 2), good..good + 3));
+    page.about("handle_child", opened(stands(|level| level == 3), good + 3..good + BAD.len()));
     let stale = places().map(|place| Stand::with_staged(place, STALE));
     page.about("handle_close", stands(|_| true).into_iter().chain(stale).map(|stand| close(&stand)));
     page
@@ -161,7 +161,7 @@ fn open(stand: &Stand, number: usize) -> [Row; 2] {
         let e = start(name, &attributes);
         let event = if empty { Event::Empty(e) } else { Event::Start(e) };
         let answer = stand.after(|steps, overlay| steps.step(&mut overlay.inner, &event));
-        let arguments = [format!("element-{number}"), empty.to_string(), stand.state(), stand.sink.clone()];
+        let arguments = [format!("element_{number}"), empty.to_string(), stand.state(), stand.sink.clone()];
         row(format!("of_driven ({})", call("XmlParse.handle_open np", &arguments)), answer)
     })
 }
@@ -204,7 +204,7 @@ pub(super) fn begin_page() -> Page {
     for kind in KINDS {
         let choices: Vec<_> = choices().into_iter().step_by(if kind == ElementKind::Node { 1 } else { 6 }).collect();
         let each = (0..3).flat_map(|section| choices.iter().map(move |given| begin(kind, section, given)));
-        page.about(&format!("begin-{kind}"), each);
+        page.about(&format!("begin_{kind}"), each);
     }
     page
 }

@@ -23,7 +23,7 @@ pub(super) fn page() -> Page {
     page.about("handles", handles);
     page.about("intern", held);
     page.about("resolve", resolved);
-    page.about("resolve-span", any_spans());
+    page.about("resolve_span", any_spans());
     page
 }
 
@@ -43,7 +43,7 @@ fn lists(most: usize) -> Vec<Vec<&'static str>> {
 fn every_text(after: &str, interner: &StringInterner) -> Row {
     let strings = interner.strings();
     let answers: Vec<String> = (0..6).map(|id| option(unless_panic(|| bytes(strings.resolve(id))))).collect();
-    super::page::rows(format!("map (Interner.resolve ({after} .strings)) (0 ∷ 1 ∷ 2 ∷ 3 ∷ 4 ∷ 5 ∷ [])"), &answers)
+    super::page::rows(format!("map (Interner.resolve ({after}).strings) (0 ∷ 1 ∷ 2 ∷ 3 ∷ 4 ∷ 5 ∷ [])"), &answers)
 }
 
 fn any_spans() -> Vec<Row> {

@@ -47,7 +47,7 @@ impl Page {
             if rows.peek().is_none() {
                 break;
             }
-            self.equations.push((format!("{name}-{n}"), rows.by_ref().take(ROWS).collect()));
+            self.equations.push((format!("{name}_{n}"), rows.by_ref().take(ROWS).collect()));
         }
     }
 

@@ -73,7 +73,7 @@ fn states(kind: ElementKind) -> Vec<Overlay> {
 pub(super) fn page(kind: ElementKind) -> Page {
     let mut page = Page::new(["ParseNode", "ParseWay", "ParseRelation"][kind as usize]);
     let states = states(kind);
-    let name = |n: usize| format!("state-{n}");
+    let name = |n: usize| format!("state_{n}");
     for (n, state) in states.iter().enumerate() {
         page.define(&name(n), "CompactDiffOverlay", &overlay(state));
     }
@@ -113,7 +113,7 @@ fn record_of(kind: ElementKind, name: &str, state: &Overlay) -> Row {
     let fields = atom(fields_of(kind, name));
     let question = |id: i64| {
         let id = z(id);
-        let view = format!("Option·map packed (Parse.get_data {fields} ({id}))");
+        let view = format!("Option.map packed (Parse.get_data {fields} ({id}))");
         format!("reads ({view}) (Parse.has {fields} ({id})) (Parse.is_deleted {fields} ({id}))")
     };
     let answer = |id: i64| {
@@ -126,7 +126,7 @@ fn record_of(kind: ElementKind, name: &str, state: &Overlay) -> Row {
 fn checks(kind: ElementKind, name: &str, state: &Overlay) -> Vec<Row> {
     let one = |claim: i32| {
         let arguments =
-            [format!("{name} .allow_version_regression"), meta_off(kind), fields_of(kind, name), z(1), z(claim)];
+            [format!("{name}.allow_version_regression"), meta_off(kind), fields_of(kind, name), z(1), z(claim)];
         let reply = state.inner.judge_check(kind, 1, claim);
         row(call("Parse.check_version_advance", &arguments), regression(reply.map(|()| "tt".to_owned())))
     };

@@ -1,0 +1,14 @@
+-- `days_before_month`: the loop's sum is the days of the months passed.
+use Prim.Native.Nat.{◌-◌, ◌≤◌, max}
+use mathlib.Core.Path.{◌≡◌, sym, ◌∙◌, ap}
+use native.Mathlib.Omega.{arith}
+use borrow.Author.Rules.{rules}
+use Rattle.calendar.specs.Calendar.{months_days}
+use Rattle.calendar.proofs.Months.{months_none, months_step, months_high, month_bounds}
+use Rattle.calendar.proofs.days_before_month.Given as goal
+
+abbrev pub invariant-loop-m : goal.invariant-loop-m
+invariant-loop-m l = (1 ≤ l.m) × ((l.days ≡ months_days l.leap_year (l.m - 1)) × (l.m ≤ max l.month 1))
+
+abbrev pub decreases-loop-m : goal.decreases-loop-m
+decreases-loop-m l = l.month - l.m

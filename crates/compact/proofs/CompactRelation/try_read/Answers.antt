@@ -1,0 +1,12 @@
+-- A head is read where its bytes are there.
+use native.Mathlib.Omega.{arith}
+use Rattle.little.proofs.Littles.{bytes_of}
+use Rattle.compact.proofs.Steps.{relation_short, relation_whole}
+use borrow.Author.Rules.{rules}
+use Rattle.compact.proofs.CompactRelation.try_read.Goals as goal
+
+pub returns-then-bytes-lt-META_OFF : goal.returns-then-bytes-lt-META_OFF
+returns-then-bytes-lt-META_OFF c = let s = c.args.bytes.now in relation_short s (bytes_of s (λ i l. (c.type_inv.bytes i).fits)) (omega arith)
+
+pub returns : goal.returns
+returns c = let s = c.args.bytes.now in rw c.read.ensures (relation_whole s (bytes_of s (λ i l. (c.type_inv.bytes i).fits)) (omega arith))

@@ -1,0 +1,8 @@
+-- A ref is read at its place.
+use Rattle.compact.specs.View.{ref_at}
+use borrow.Author.Rules.{rules}
+use Rattle.compact.proofs.ref_at.Goals as goal
+
+pub returns : goal.returns
+unfolding ref_at
+returns c = c.get_u64.ensures

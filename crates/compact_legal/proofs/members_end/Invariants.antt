@@ -1,0 +1,15 @@
+-- So many members: the loop keeps that the members left from its place on end where all of them end.
+use Prim.Native.Nat.{◌≤◌}
+use mathlib.Core.Path.{◌≡◌, refl, sym, ◌∙◌, ap}
+use native.Mathlib.Omega.{arith}
+use lib.ListN.{length}
+use borrow.Author.Rules.{rules}
+use Rattle.compact_legal.specs.Judge.{members_end}
+use Rattle.compact_legal.proofs.Ends.{members_none, members_bad, members_at}
+use Rattle.compact_legal.proofs.members_end.Given as goal
+
+abbrev pub invariant-loop-left : goal.invariant-loop-left
+invariant-loop-left l = (l.place ≤ length l.bytes) × (members_end l.strings l.left l.bytes l.place ≡ members_end l.strings l.n l.bytes l.at)
+
+abbrev pub decreases-loop-left : goal.decreases-loop-left
+decreases-loop-left l = l.left

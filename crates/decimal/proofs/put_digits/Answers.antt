@@ -1,0 +1,91 @@
+use Prim.Native.Nat.{suc, ◌-◌, ◌≤◌}
+use mathlib.Core.Path.{◌≡◌, refl, sym, ◌∙◌, ap}
+use mathlib.Core.List.{[]}
+use native.Mathlib.Omega.{arith}
+use lib.ListN.{length, length-set}
+use Rattle.little.specs.Little.{over}
+use Rattle.little.proofs.Overs.{over_nothing}
+use Rattle.decimal.proofs.Numbers.{low_digits, low_all, low_none}
+use Rattle.decimal.proofs.Puts.{one_stored, two_stored}
+use Rattle.decimal.proofs.put_digits.Goals as goal
+
+pub loop-i-init : goal.loop-i-init
+loop-i-init c = (omega arith, (refl, refl))
+
+pub overflow_add-out : goal.overflow_add-out
+overflow_add-out c = omega arith
+
+pub overflow_cast-out : goal.overflow_cast-out
+overflow_cast-out c = omega arith
+
+pub overflow_sub-out : goal.overflow_sub-out
+overflow_sub-out c = omega arith
+
+pub overflow_add-out-in-loop-i : goal.overflow_add-out-in-loop-i
+overflow_add-out-in-loop-i c = omega arith
+
+pub bounds-out-at : goal.bounds-out-at
+bounds-out-at c = omega arith
+
+pub overflow_add-out-in-loop-i-2 : goal.overflow_add-out-in-loop-i-2
+overflow_add-out-in-loop-i-2 c = omega arith
+
+pub overflow_cast-out-in-loop-i : goal.overflow_cast-out-in-loop-i
+overflow_cast-out-in-loop-i c = omega arith
+
+pub overflow_sub-out-in-loop-i : goal.overflow_sub-out-in-loop-i
+overflow_sub-out-in-loop-i c = omega arith
+
+pub overflow_add-out-in-loop-i-3 : goal.overflow_add-out-in-loop-i-3
+overflow_add-out-in-loop-i-3 c = omega arith
+
+pub bounds-out-at-in-loop-i : goal.bounds-out-at-in-loop-i
+bounds-out-at-in-loop-i c = simp length-set (omega arith)
+
+pub overflow_sub-i : goal.overflow_sub-i
+overflow_sub-i c = omega arith
+
+pub loop-i-smaller : goal.loop-i-smaller
+loop-i-smaller c = omega arith
+
+pub loop-i-preserved : goal.loop-i-preserved
+loop-i-preserved c =
+    let a = c.args in
+    let l = c.loop-i in
+    let m : suc (suc (l.i - 2)) ≡ l.i = omega arith in (
+      omega arith,
+      (
+        simp length-set l.invariant.1.0,
+        two_stored l.out a.at (l.i - 2) l.x _ _ _ (omega arith) refl (omega arith) (omega arith) ∙ rw m l.invariant.1.1,
+      ),
+    )
+
+pub overflow_add-out-then-i-eq1 : goal.overflow_add-out-then-i-eq1
+overflow_add-out-then-i-eq1 c = omega arith
+
+pub overflow_cast-out-then-i-eq1 : goal.overflow_cast-out-then-i-eq1
+overflow_cast-out-then-i-eq1 c = omega arith
+
+pub bounds-out-at-then-i-eq1 : goal.bounds-out-at-then-i-eq1
+bounds-out-at-then-i-eq1 c = omega arith
+
+pub shape_of-out-then-i-eq1 : goal.shape_of-out-then-i-eq1
+shape_of-out-then-i-eq1 c = simp length-set c.loop-i.invariant.1.0
+
+pub returns-then-i-eq1 : goal.returns-then-i-eq1
+returns-then-i-eq1 c e =
+    let a = c.args in
+    let l = c.loop-i in
+    let z = c.if-i-eq1.true in
+    one_stored l.out a.at l.x (omega arith) ∙ (rw z at l.invariant.1.1 ∙ ap (over a.out.now a.at) (rw e (low_all a.v)))
+
+pub shape_of-out-else-i-eq1 : goal.shape_of-out-else-i-eq1
+shape_of-out-else-i-eq1 c = omega arith
+
+pub returns-else-i-eq1 : goal.returns-else-i-eq1
+returns-else-i-eq1 c e =
+    let a = c.args in
+    let l = c.loop-i in
+    let z : l.i ≡ 0 = omega arith in
+    let f : low_digits l.i l.x ≡ [] = rw z (low_none l.x) in
+    sym (over_nothing l.out a.at) ∙ (ap (over l.out a.at) (sym f) ∙ (l.invariant.1.1 ∙ ap (over a.out.now a.at) (rw e (low_all a.v))))

@@ -1,0 +1,18 @@
+-- `put_digits` writes the low digits of a number from the last to the first. The invariant: what is left to write are the low digits of what is left of the
+-- number.
+use Prim.Native.Nat.{suc, ◌-◌, ◌≤◌}
+use mathlib.Core.Path.{◌≡◌, refl, sym, ◌∙◌, ap}
+use mathlib.Core.List.{[]}
+use native.Mathlib.Omega.{arith}
+use lib.ListN.{length, length-set}
+use Rattle.little.specs.Little.{over}
+use Rattle.little.proofs.Overs.{over_nothing}
+use Rattle.decimal.proofs.Numbers.{low_digits, low_all, low_none}
+use Rattle.decimal.proofs.Puts.{one_stored, two_stored}
+use Rattle.decimal.proofs.put_digits.Given as goal
+
+abbrev pub invariant-loop-i : goal.invariant-loop-i
+invariant-loop-i l = (l.i ≤ l.n) × ((length l.out ≡ length l.initial.out) × (over l.out l.at (low_digits l.i l.x) ≡ over l.initial.out l.at (low_digits l.n l.v)))
+
+abbrev pub decreases-loop-i : goal.decreases-loop-i
+decreases-loop-i l = l.i

@@ -1,0 +1,6 @@
+-- `neighbours`: the indexes at two places that follow each other, compared.
+use borrow.Author.Rules.{rules}
+use Rattle.distinct.proofs.neighbours.Goals as goal
+
+pub returns : goal.returns
+returns c = rw (c.size-j.ensures, c.size-k.ensures) at c.compare_indexes.ensures

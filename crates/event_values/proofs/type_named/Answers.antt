@@ -1,0 +1,11 @@
+-- `type_named`: three names are types.
+use Rattle.event_values.proofs.type_named.Goals as goal
+
+pub returns-in-Node : goal.returns-in-Node
+returns-in-Node c = rw c.in-Node.is
+
+pub returns-in-Way : goal.returns-in-Way
+returns-in-Way c = rw c.in-Way.is
+
+pub returns-in-Relation : goal.returns-in-Relation
+returns-in-Relation c = rw c.in-Relation.is

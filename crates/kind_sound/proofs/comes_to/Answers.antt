@@ -1,0 +1,37 @@
+use Prim.Native.Nat.{◌-◌, ◌<◌}
+use mathlib.Core.Path.{sym, ◌∙◌}
+use native.Mathlib.Omega.{arith}
+use borrow.Author.Rules.{rules}
+use Rattle.kind_sound.proofs.Walks.{arrived, stops, Coming, coming_first, coming_next}
+use Rattle.kind_sound.proofs.comes_to.Goals as goal
+
+pub loop-at-init : goal.loop-at-init
+loop-at-init c = let a = c.args in coming_first a.strings a.kind a.bytes.now a.place
+
+pub returns-in_default : goal.returns-in_default
+returns-in_default c =
+    let a = c.args in
+    let l = c.loop-at in
+    sym (stops a.strings a.kind a.bytes.now a.place l.invariant.fuel l.at l.invariant.enough c.loop-at-test.true (sym c.in_default.is ∙ c.record_end.ensures))
+    ∙ l.invariant.same
+
+-- a record more
+turn : (c : goal.In-At) → let a = c.args in
+    (c.loop-at.at < c.in-At.e) × Coming a.strings a.kind a.bytes.now a.place c.in-At.e
+turn c =
+    let a = c.args in
+    let l = c.loop-at in
+    coming_next a.strings a.kind a.bytes.now a.place l.at c.in-At.e l.invariant c.loop-at-test.true
+    (sym c.in-At.is ∙ c.record_end.ensures)
+
+pub loop-at-smaller : goal.loop-at-smaller
+loop-at-smaller c = omega (arith, (turn c).0)
+
+pub loop-at-preserved : goal.loop-at-preserved
+loop-at-preserved c = (turn c).1
+
+pub returns : goal.returns
+returns c =
+    let a = c.args in
+    let l = c.loop-at in
+    sym (arrived a.strings a.kind a.bytes.now a.place l.invariant.fuel l.at c.loop-at-test.false) ∙ l.invariant.same

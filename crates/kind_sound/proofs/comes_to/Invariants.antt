@@ -1,0 +1,13 @@
+-- A walk to one place: what is left of it from record to record.
+use Prim.Native.Nat.{◌-◌, ◌<◌}
+use mathlib.Core.Path.{sym, ◌∙◌}
+use native.Mathlib.Omega.{arith}
+use borrow.Author.Rules.{rules}
+use Rattle.kind_sound.proofs.Walks.{arrived, stops, Coming, coming_first, coming_next}
+use Rattle.kind_sound.proofs.comes_to.Given as goal
+
+abbrev pub invariant-loop-at : goal.invariant-loop-at
+invariant-loop-at l = Coming l.strings l.kind l.bytes l.place l.at
+
+abbrev pub decreases-loop-at : goal.decreases-loop-at
+decreases-loop-at l = l.place - l.at

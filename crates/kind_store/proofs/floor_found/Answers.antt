@@ -1,0 +1,8 @@
+-- By what the search found.
+use mathlib.Core.Path.{ap}
+use Rattle.kind_table.specs.declared.Row.{Row}
+use borrow.Author.Rules.{rules}
+use Rattle.kind_store.proofs.floor_found.Goals as goal
+
+pub returns-in-At : goal.returns-in-At
+returns-in-At c = rw c.in-At.is (ap (λ (r : Row). r.floor) c.row_at.ensures)

@@ -1,0 +1,10 @@
+-- `kind_table::open_gap` lends the words from `at` on, and their gap is the table's.
+use native.Mathlib.Omega.{arith}
+use Rattle.kind_table.proofs.Gaps.{gap_lent}
+use borrow.Author.Rules.{rules}
+use Rattle.kind_table.proofs.open_gap.Goals as goal
+
+pub returns : goal.returns
+returns c =
+    let a = c.args in
+    gap_lent a.table.now a.used _ a.at (omega arith) (omega arith) c.move_up.ensures

@@ -1,0 +1,12 @@
+-- A text of one byte that stands for itself.
+use Rattle.text.specs.Escape.{escape, escaped}
+use Rattle.print.specs.Print.{tabs}
+use Rattle.listing_rows.proofs.put_sign.Goals as goal
+
+pub returns-then-live : goal.returns-then-live
+unfolding tabs escape escaped
+returns-then-live c = rw c.if-live.true c.put_text.ensures
+
+pub returns : goal.returns
+unfolding tabs escape escaped
+returns c = rw c.if-live.false c.put_text-2.ensures

@@ -1,0 +1,8 @@
+-- `nesting::object_name` asks for each spelling from the fifth on, the last first.
+use Rattle.nesting.specs.Name.{spellings, name_in}
+use borrow.Author.Rules.{rules}
+use Rattle.nesting.proofs.object_name.Goals as goal
+
+pub returns : goal.returns
+unfolding name_in spellings
+returns c = rw (c.named.ensures, c.named-n-2.ensures, c.named-n.ensures, c.child_name-n.ensures)

@@ -1,0 +1,15 @@
+-- Each kind its part.
+use borrow.Author.Rules.{rules}
+use Rattle.overlay_blocks.proofs.part_at.Goals as goal
+
+pub returns-in-Node : goal.returns-in-Node
+returns-in-Node c =
+    rw c.in-Node.is
+
+pub returns-in-Way : goal.returns-in-Way
+returns-in-Way c =
+    rw c.in-Way.is
+
+pub returns-in-Relation : goal.returns-in-Relation
+returns-in-Relation c =
+    rw c.in-Relation.is

@@ -1,0 +1,14 @@
+-- What lies behind the parts of the kinds.
+use Rattle.overlay_blocks.specs.Blocks.{sizes_in}
+use Rattle.overlay_blocks.proofs.Orders.{texts_known}
+use borrow.Author.Rules.{rules}
+use Rattle.overlay_blocks.proofs.texts_in.Reads as reads
+use Rattle.overlay_blocks.proofs.texts_in.Lts as lts
+use Rattle.overlay_blocks.proofs.texts_in.Tie as tie
+use Rattle.overlay_blocks.proofs.texts_in.Goals as goal
+
+pub returns : goal.returns
+returns c =
+    let s = c in
+    let w = c in
+    texts_known (sizes_in s.args.counters.now) s.args.words s.args.bytes _ _ w.word_ends-w.ensures c.byte_ends-b.ensures

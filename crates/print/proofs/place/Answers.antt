@@ -1,0 +1,24 @@
+-- `place` asks for the room before the piece and behind it, and whether the piece lies within the output.
+use mathlib.Core.Path.{sym, ◌∙◌}
+use native.Mathlib.Omega.{arith}
+use Rattle.print.proofs.Pieces.{place_full, place_none, place_taken, place_left}
+use borrow.Author.Rules.{rules}
+use Rattle.print.proofs.place.Goals as goal
+
+pub returns-in_default : goal.returns-in_default
+returns-in_default c = (rw c.in_default.is (sym (place_none _ _ _)), omega arith)
+
+pub returns-in_default-left : goal.returns-in_default-left
+returns-in_default-left c = (rw c.in_default-left.is (sym (place_full _ _ _)), omega arith)
+
+pub returns-then-within : goal.returns-then-within
+returns-then-within c =
+    let a = c.args in
+    rw (c.in-Left.is, c.in-Left-left.is)
+    (place_taken a.cap a.len _ _ _ _ c.less-at.ensures c.less.ensures (sym c.within.ensures ∙ c.if-within.true))
+
+pub returns : goal.returns
+returns c =
+    let a = c.args in
+    rw (c.in-Left.is, c.in-Left-left.is)
+    (place_left a.cap a.len _ _ _ _ c.less-at.ensures c.less.ensures (sym c.within.ensures ∙ c.if-within.false))

@@ -1,0 +1,6 @@
+-- `put_integer32` prints the same integer in 64 bits.
+use borrow.Author.Rules.{rules}
+use Rattle.print.proofs.put_integer32.Goals as goal
+
+pub returns : goal.returns
+returns c = rw (← c.widened.ensures) c.put_integer.ensures

@@ -1,0 +1,6 @@
+-- `put_tab` prints a tab.
+use borrow.Author.Rules.{rules}
+use Rattle.print.proofs.put_tab.Goals as goal
+
+pub returns : goal.returns
+returns c = c.put_bytes.ensures

@@ -1,0 +1,17 @@
+-- `signed::bits_of_i32` meets its contract.
+use mir.Syntax.{w32}
+use mir.Facts.{Fits-of_z}
+use Rattle.signed.proofs.Bits.{twice, cast_low, size_low, below_zero, not_below}
+use Rattle.signed.proofs.bits_of_i32.Goals as goal
+
+pub overflow_cast-result : goal.overflow_cast-result
+overflow_cast-result c = cast_low w32 (below_zero w32 c.ranges.x c.if-x-lt0.true)
+
+pub overflow_cast-result-else-x-lt0 : goal.overflow_cast-result-else-x-lt0
+overflow_cast-result-else-x-lt0 c = cast_low w32 (not_below w32 c.ranges.x c.if-x-lt0.false)
+
+pub returns-then-x-lt0 : goal.returns-then-x-lt0
+returns-then-x-lt0 c = rw (size_low w32 (below_zero w32 c.ranges.x c.if-x-lt0.true)) (twice w32 (Fits-of_z c.ranges.x))
+
+pub returns-else-x-lt0 : goal.returns-else-x-lt0
+returns-else-x-lt0 c = size_low w32 (not_below w32 c.ranges.x c.if-x-lt0.false)

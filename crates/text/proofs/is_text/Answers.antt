@@ -1,0 +1,8 @@
+-- `text::is_text` meets its contract: plain bytes are text, and of other bytes the walk tells.
+use mathlib.Core.Path.{sym, ◌∙◌}
+use borrow.Author.Rules.{rules}
+use Rattle.text.proofs.PlainBytes.{plain_text}
+use Rattle.text.proofs.is_text.Goals as goal
+
+pub returns-then-plain : goal.returns-then-plain
+returns-then-plain c = sym (plain_text _ (sym c.plain.ensures ∙ c.if-plain.true))

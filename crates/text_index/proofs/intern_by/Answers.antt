@@ -1,0 +1,10 @@
+-- `intern_by`: what the search by the chains found is taken in.
+use Rattle.interner.specs.Strings.{intern}
+use Rattle.text_index.proofs.intern_by.Goals as goal
+
+pub returns : goal.returns
+unfolding intern
+returns c =
+    let w = c in
+    let f = c in
+    λ g. rw (← f.find_held-found.ensures g) w.intern_found.ensures

@@ -1,0 +1,12 @@
+-- `search_down` tries the handles from the last on. The invariant: no handle that it has passed has the text.
+use Prim.Native.Nat.{ℕ, ◌≤◌, ◌<◌}
+use mathlib.Core.Path.{◌≡◌}
+use mathlib.Core.Bool.{false}
+use Rattle.interner.specs.Strings.{is_at}
+use Rattle.text_index.proofs.search_down.Given as goal
+
+abbrev pub invariant-loop-c : goal.invariant-loop-c
+invariant-loop-c l = (l.c ≤ l.n) × ((h : ℕ) → l.c ≤ h → h < l.n → is_at l.spans l.bytes l.text h ≡ false)
+
+abbrev pub decreases-loop-c : goal.decreases-loop-c
+decreases-loop-c l = l.c
