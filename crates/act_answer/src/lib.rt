@@ -1,5 +1,6 @@
 // Whether an act's claim is below the known version of its id (12), with nothing changed: of an act that is refused before the store decides it.
 #![tactic(auto)]
+
 ghost use Rattle.std.specs.Prelude.{◌≡◌};
 ghost use Rattle.std.specs.Int.{w64};
 ghost use Rattle.std.proofs.Common.{to_z};

@@ -1,5 +1,6 @@
 // A reader as C holds it: 19 words. Words that are no reader's are told apart first.
 #![tactic(auto)]
+
 ghost use Rattle.std.specs.Prelude.{◌≡◌, true, ◌<◌};
 ghost use Rattle.kind.specs.Kind.{kind_number as kind_word};
 ghost use Rattle.c_reader.specs.Words.{level_word, section_word, mark_number, mark_line, mark_held, words_of_reader, level_in, section_in, kind_in, head_words, meta_words, refusal_numbered, stop_in, reader_in, place_coded, head_coded, meta_coded, stop_coded, is_reader};

@@ -1,5 +1,5 @@
 -- The C boundary: each enum's number and values, by one definition each.
-use Rattle.std.specs.Prelude.{ℕ, Bool, true, false, ℤ, pos}
+use Rattle.std.specs.Prelude.{ℕ, Bool, true, false, pos}
 use Rattle.refusal.specs.Refusal.{number_of, reply_of}
 use Rattle.refusal.specs.declared.Reply.{Reply}
 use Rattle.refusal.specs.declared.Refusal.TheVariants.{NotInteger, NotTimestamp, Regression}

@@ -1,5 +1,6 @@
 // What the C entries reply: a struct of numbers for each kind of answer, and each answer as its struct.
 #![tactic(auto)]
+
 ghost use Rattle.std.specs.Prelude.{◌≡◌};
 ghost use Rattle.kind_reading.specs.declared.View.TheVariants as view;
 ghost use Rattle.overlay_reading.specs.declared.Read.TheVariants.{Refused};

@@ -34,7 +34,6 @@ use Rattle.kind_store.proofs.Claims.{given_claim}
 use Rattle.event_fields.specs.Field.{Field, got}
 use Rattle.acts.specs.Turn.{Turn, turn}
 use Rattle.acts.specs.Call.{Call, Answered, World, Outcome, quiet, outcome, turned, acts_before, world_after, acts_from, lines_read}
-use Rattle.acts.specs.Call as Call
 use Rattle.acts.proofs.Calls.{refused_call, taken_call, world_append, acts_append, own_reader, other_reader, texts_from, texts_after}
 use Rattle.overlay.specs.Overlay.{Overlay}
 use Rattle.overlay.specs.Given.{head_fits, meta_fits}
@@ -280,11 +279,11 @@ module _ (n : ℕ) where
   call_lines (deletes k id m) l ds = by_bool (accepts (deletes k id m) l) (λ e. rw e) (λ e. rw e)
   call_lines (reads m line) l ds =
       by_eq n m
-      (λ q. rw (eq-eqb n m q, q) (event_lines line (state_of m l) (lines_read m ds)))
+      (λ q. rw (eq-eqb n m q, ← q) (event_lines line (state_of n l) (lines_read n ds)))
       (λ q. rw (ne_eqb n m q) (by_bool (accepts (reads m line) l) (λ e. rw e) (λ e. rw e)))
   call_lines (ends m) l ds =
       by_eq n m
-      (λ q. rw (eq-eqb n m q, end_keeps (state_of m l), q) (by_bool (accepts (ends m) l) (λ e. rw e) (λ e. rw e)))
+      (λ q. rw (eq-eqb n m q, ← q, end_keeps (state_of n l)) (by_bool (accepts (ends n) l) (λ e. rw e) (λ e. rw e)))
       (λ q. rw (ne_eqb n m q) (by_bool (accepts (ends m) l) (λ e. rw e) (λ e. rw e)))
   call_lines (allows setting) l ds = by_bool (accepts (allows setting) l) (λ e. rw e) (λ e. rw e)
 

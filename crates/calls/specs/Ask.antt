@@ -22,7 +22,6 @@ use Rattle.reader.specs.declared.EventAnswer.{EventAnswer}
 use Rattle.reader.specs.declared.EventAnswer.TheVariants as E
 use Rattle.reader.specs.State.{State, fresh_reader}
 use Rattle.reader.specs.Event.{event_on, end_on}
-use Rattle.acts.specs.Call as Call
 use Rattle.acts.specs.Call.{Call, Answered}
 
 -- a call with what its caller gives; a reader goes by its name, a number

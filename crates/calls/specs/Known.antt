@@ -1,25 +1,14 @@
 -- Of the accepted acts: when a version is below the highest claimed, and the bytes that pushes took.
-use Rattle.std.specs.Prelude.{ℕ, ◌+◌, ◌*◌, ◌≡◌, true, cond, List, [], ◌∷◌, ℤ, length, drop, take}
-use Rattle.std.proofs.Math.Option.{Option, none, some}
+use Rattle.std.specs.Prelude.{ℕ, ◌+◌, ◌*◌, ◌≡◌, true, cond, List, [], ◌∷◌, ℤ, length}
 use Rattle.std.specs.Int.Signed.{lt_z}
 use Rattle.base.specs.Bytes.{Bytes}
 use Rattle.kind.specs.Kind.{same_kind}
 use Rattle.kind.specs.declared.Kind.{Kind}
-use Rattle.osm_id.specs.Order.{rank}
 use Rattle.version_floor.specs.declared.Version.{Version}
 use Rattle.version_floor.specs.declared.Version.TheVariants.{Is}
-use Rattle.interner.specs.Texts.{text_of}
-use Rattle.interner.specs.Sound.{texts_of}
 use Rattle.model.specs.Record.{Record, Body, place, refs, members, Tag, kind_of}
-use Rattle.model.specs.Act.{Act, Key, Left, push, delete, gone, live}
-use Rattle.model.specs.Swap.{swap_record}
-use Rattle.compact.specs.Cut.{Cut, KeptRecord, cut_record}
+use Rattle.model.specs.Act.{Act, Key, push, delete}
 use Rattle.compact.specs.Layout.{head_len}
-use Rattle.kind_table.specs.Rows.{find}
-use Rattle.kind_table.specs.declared.Row.{Row}
-use Rattle.kind_store.specs.KindStore.{KindStore, is_live, known_version}
-use Rattle.kind_store.specs.WellFormed.{rows_in}
-use Rattle.overlay.specs.Overlay.{Overlay, kind_store_of}
 use Rattle.listing_page.specs.Summary.{Known}
 use Rattle.listing_page.specs.Summary as Summary
 

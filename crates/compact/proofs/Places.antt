@@ -11,7 +11,7 @@ use mir.Syntax.{w32, w64}
 use mir.Val.{to_z}
 use Rattle.base.specs.Bytes.{Bytes}
 use Rattle.base.proofs.Split.{by_le, no}
-use Rattle.little.specs.Little.{value, value_at}
+use Rattle.little.specs.Little.{value_at}
 use Rattle.kind.specs.Kind.{of_number}
 use Rattle.kind.specs.declared.Kind.{Kind}
 use Rattle.kind.specs.declared.Kind.TheVariants.{Node, Way, Relation}

@@ -6,11 +6,12 @@ use mathlib.Core.List.{List, ◌++◌}
 use lib.ListN.{length, drop}
 use lib.Seq.{take-append_seam, drop-append_seam}
 use Rattle.base.specs.Bytes.{Bytes, all}
+use Rattle.little.specs.Little.{is_byte}
 use Rattle.kind.specs.declared.Kind.TheVariants.{Node, Way, Relation}
 use Rattle.interner.proofs.Interns as Interns
 use Rattle.kind_store.specs.KindStore.{taken_in}
 use Rattle.overlay_blocks.specs.declared.Sizes.{Sizes}
-use Rattle.overlay.specs.Overlay.{Overlay, with_sizes}
+use Rattle.overlay.specs.Overlay.{Overlay, kind_store_of, with_sizes}
 use Rattle.overlay.specs.Given.{InBytes}
 use Rattle.overlay.specs.Calls.{set_up}
 use Rattle.overlay.proofs.Answers.{setup_taken}
@@ -30,7 +31,7 @@ pub taken_start : (z : Sizes) (setting : ℕ) (o : Overlay) (ps : ℕ → Bytes)
     → Start (with_sizes z o) ps × ((set_up z setting o).overlay ≡ (started setting (with_sizes z o) ps).overlay)
 taken_start z setting o ps taken lent parts =
     let t = setup_taken z setting o taken in
-    let b : InBytes (with_sizes z o) = record { arenas = λ k. elim k [ Node ↦ lent.arenas Node | Way ↦ lent.arenas Way | Relation ↦ lent.arenas Relation ]; texts = lent.texts } in
+    let b : InBytes (with_sizes z o) = record { arenas = λ k. elim k as (λ k. all is_byte (kind_store_of k (with_sizes z o)).arena ≡ true) [ Node ↦ lent.arenas Node | Way ↦ lent.arenas Way | Relation ↦ lent.arenas Relation ]; texts = lent.texts } in
     (record { sizes = t.0; bytes = b; parts = parts }, t.1)
 
 module _ (o : Overlay) (ps : ℕ → Bytes) (cs : List Ask) (start : Start o ps) (given : all ask_fits cs ≡ true) (refuses : all refusing cs ≡ true) where

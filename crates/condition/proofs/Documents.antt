@@ -1,5 +1,5 @@
 -- T16, of a fresh reader that is heard alone: as far as nesting goes, its events and its end accept the documents of the grammar and nothing else.
-use Prim.Native.Nat.{ℕ, ◌+◌}
+use Prim.Native.Nat.{ℕ}
 use mathlib.Core.Path.{◌≡◌, refl, sym, ◌∙◌, ap}
 use mathlib.Core.Bool.{true, false}
 use mathlib.Core.Logic.{◌↔◌}

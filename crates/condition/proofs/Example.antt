@@ -1,6 +1,7 @@
 -- What condition 3 asks of its storage is met: an overlay of room for one id a kind, one record of 128 bytes a kind and one text, and any reader's bytes.
 use Prim.Native.Nat.{ℕ}
-use mathlib.Core.Path.{refl}
+use mathlib.Core.Path.{◌≡◌, refl}
+use mathlib.Core.Bool.{true}
 use lib.ListN.{replicate}
 use Rattle.base.specs.Bytes.{Bytes, both, all}
 use Rattle.kind.specs.declared.Kind.TheVariants.{Node, Way, Relation}
@@ -9,7 +10,7 @@ use Rattle.overlay_blocks.specs.declared.KindSize.{KindSize}
 use Rattle.overlay_blocks.specs.declared.Sizes.{Sizes}
 use Rattle.overlay_blocks.specs.Blocks.{ends_of}
 use Rattle.overlay_blocks.specs.Sizes.{kind_fits, strings_fit, sizes_in_range}
-use Rattle.overlay.specs.Overlay.{Overlay, with_sizes, kind_tiled, texts_tiled, tiled, sizes_fit}
+use Rattle.overlay.specs.Overlay.{Overlay, kind_store_of, with_sizes, kind_tiled, texts_tiled, tiled, sizes_fit}
 use Rattle.overlay.specs.Lent.{overlay_for}
 use Rattle.condition.specs.Condition3.{Start}
 
@@ -30,6 +31,6 @@ unfolding zeros one_record one_size one_of_each ends_of both all is_byte kind_fi
 start_met =
     record {
       sizes = refl;
-      bytes = record { arenas = λ k. elim k [ Node ↦ refl | Way ↦ refl | Relation ↦ refl ]; texts = refl };
+      bytes = record { arenas = λ k. elim k as (λ k. all is_byte (kind_store_of k one_of_each).arena ≡ true) [ Node ↦ refl | Way ↦ refl | Relation ↦ refl ]; texts = refl };
       parts = record { bytes = λ n. refl; room = λ n. refl };
     }

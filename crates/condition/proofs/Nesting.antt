@@ -1,5 +1,5 @@
 -- T16 over lists of calls: what a reader's events and its end answer, as far as nesting goes, by the documents of the grammar.
-use Prim.Native.Nat.{ℕ, ◌+◌, ◌<◌, ◌≤◌}
+use Prim.Native.Nat.{ℕ, ◌<◌, ◌≤◌}
 use mathlib.Core.Path.{◌≡◌, refl, sym, ◌∙◌, ap}
 use mathlib.Core.Bool.{Bool, true, false, cond}
 use mathlib.Core.Logic.{◌↔◌}
@@ -41,7 +41,6 @@ use Rattle.event_decision.specs.Decision.{Decision, refuses, moves, begins, dele
 use Rattle.event_decision.proofs.Refusals.{Opens, misplaced_exactly, outside_exactly}
 use Rattle.acts.specs.Turn.{Reader, turn, turn_of}
 use Rattle.acts.specs.Lines.{mark_of, marks_in, line_marks}
-use Rattle.acts.specs.Call as Call
 use Rattle.acts.specs.Call.{Call, World, begin, outcome, acts_before, world_after, acts_from, acts_of, line_read, lines_read}
 use Rattle.acts.proofs.Calls.{world_append, own_reader, other_reader}
 use Rattle.acts.proofs.Turns.{fresh_agrees}
@@ -54,7 +53,6 @@ use Rattle.reader.specs.Event.{event_on}
 use Rattle.reader.proofs.Answers.{by_answer, end_done, end_18}
 use Rattle.reader.proofs.Events.{event_accepted, event_11}
 use Rattle.reader.proofs.Keeps.{ready_sound}
-use Rattle.calls.specs.Ask as Ask
 use Rattle.calls.specs.Ask.{Ask, interns, pushes, reads, call_of, Storage, started, state_of, leaves, accepts, answered, ask_fits, refused_throughout, storage_after, replies, stopped_in}
 use Rattle.calls.proofs.Lists.{Agrees, agrees_fine, answer_of, agrees_call}
 use Rattle.calls.proofs.Theorems.{agrees_started, agrees_after, lines_after, stopped_after}

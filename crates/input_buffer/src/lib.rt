@@ -1,5 +1,6 @@
 // The buffer of an input in pieces: a piece behind the bytes that are held, whether what is left of its lines is too long, and the unfinished line moved to the front.
 #![tactic(auto)]
+
 ghost use Rattle.std.specs.Prelude.{◌≡◌, ◌+◌, min, length, take};
 ghost use Rattle.little.specs.Little.{over};
 ghost use Rattle.input_buffer.specs.Fronts.{is_over, kept_front};

@@ -1,5 +1,6 @@
 // An input in pieces: the whole lines of a piece are events, up to the first that is refused, and the unfinished line is held for the next piece.
 #![tactic(auto)]
+
 ghost use Rattle.std.specs.Prelude.{◌≡◌, ◌≤◌, min, length, take, drop};
 ghost use Rattle.input_lines.specs.Lines.{rest_of};
 ghost use Rattle.reader.specs.Lent.{state_lent, state_left};

@@ -28,7 +28,7 @@ use Rattle.overlay_blocks.specs.declared.TextPart.{TextPart}
 use Rattle.overlay_blocks.specs.Blocks.{cut, sizes_in, part_in, text_part_in}
 use Rattle.overlay_blocks.proofs.Cuts.{cut_all}
 use Rattle.overlay.specs.Overlay.{Overlay, kind_store_of}
-use Rattle.overlay.specs.Lent.{kind_store_in, overlay_in}
+use Rattle.overlay.specs.Lent.{overlay_in}
 use Rattle.overlay.proofs.Puts.{kind_store_in_lem}
 use Rattle.overlay.specs.Given.{InBytes}
 use Rattle.overlay.specs.Sound.{is_sound}

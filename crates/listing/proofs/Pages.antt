@@ -22,7 +22,7 @@ use Rattle.kind_table.proofs.Tables.{sound_fits, sound_rises, held_all}
 use Rattle.kind_store.specs.KindStore.{KindStore, is_live}
 use Rattle.kind_store.specs.WellFormed.{rows_in}
 use Rattle.kind_sound.specs.Sound.{SoundKindStore, sound_row}
-use Rattle.listing_page.specs.Summary.{PageRow, Table}
+use Rattle.listing_page.specs.Summary.{Table}
 use Rattle.listing_page.specs.Listing.{kind_field, row_fields, listing}
 use Rattle.print.specs.Print.{joined_pieces, line_pieces}
 use Rattle.print.proofs.Prints.{joined_append, line_pieces_lem}

@@ -24,7 +24,7 @@ use Rattle.osm_id.proofs.Orders.{id_rank, rank_before, rank_fits, rank_id, id_fi
 use Rattle.interner.specs.Texts.{text_of}
 use Rattle.interner.specs.Strings.{Store}
 use Rattle.interner.specs.Sound.{texts_of}
-use Rattle.model.specs.Act.{Act, Key, gone, same_key, key_before}
+use Rattle.model.specs.Act.{Act, Key, same_key, key_before}
 use Rattle.model.proofs.Keys.{ids_order, kinds_order}
 use Rattle.compact.specs.Fits.{fits_signed}
 use Rattle.kind_table.specs.declared.Row as table
@@ -104,7 +104,7 @@ module _ (k : Kind) (s : KindStore) (f : ℕ → Bytes) where
       let fr = Fits-of_lt (rank_below r (all_head is_rank r rs a)) in
       by_eq (rank id) r.rank
       (λ e. let i : id ≡ id_of r.rank = sym (id_rank g) ∙ ap id_of e in
-      let m : Rows.find (rank id) (r ∷ rs) ≡ some r = rw e (Maps.find_same r rs) in
+      let m : Rows.find (rank id) (r ∷ rs) ≡ some r = subst (λ (z : ℕ). Rows.find z (r ∷ rs) ≡ some r) (sym e) (Maps.find_same r rs) in
       find_here (record { kind = k; id = id }) (row_of k s f r) (rowed rs) (λ j. record { kind = k; id = i j }) ∙ sym (ap (Option.map (row_of k s f)) m))
       (λ d. find_later (record { kind = k; id = id }) (row_of k s f r) (rowed rs) (λ e. d (ap (λ (z : Key). rank z.id) e ∙ rank_id fr))
       ∙ (find_rows id g rs (all_tail is_rank r rs a) ∙ sym (ap (Option.map (row_of k s f)) (Maps.find_other (rank id) r rs d))))

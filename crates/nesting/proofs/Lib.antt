@@ -1,4 +1,3 @@
-pub mod Codes
 pub mod Same
 pub mod Reading
 pub mod Taken

@@ -1,6 +1,7 @@
 // The direct calls: `intern`, direct push and direct delete. Each tests first that the overlay is sound (22), then what it is given (17, 3, 10, 16), and leaves
 // the rest to the store.
 #![tactic(auto)]
+
 ghost use Rattle.std.specs.Prelude.{◌≡◌};
 ghost use Rattle.std.specs.Int.{w64};
 ghost use Rattle.std.proofs.Common.{to_z};

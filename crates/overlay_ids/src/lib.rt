@@ -1,6 +1,7 @@
 // All ids of a kind that are live, or all that are deleted, each with its known version, into two lent lists in one call. It first tests that the
 // overlay is sound (22).
 #![tactic(auto)]
+
 ghost use Rattle.std.specs.Prelude.{◌≡◌, map, ℕ, ◌≤◌, length};
 ghost use Rattle.std.specs.Int.{w64};
 ghost use Rattle.std.proofs.Common.{to_z};

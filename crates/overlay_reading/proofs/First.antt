@@ -25,7 +25,7 @@ use Rattle.overlay.specs.Sound.{is_sound}
 use Rattle.overlay.proofs.Answers.{strings_sound}
 use Rattle.overlay.proofs.Decides.{decides}
 use Rattle.overlay_reading.specs.declared.Read.{Read}
-use Rattle.overlay_reading.specs.declared.Read.TheVariants.{Is, Refused}
+use Rattle.overlay_reading.specs.declared.Read.TheVariants.{Is}
 use Rattle.overlay_reading.specs.Reading.{checked_read, no_ids, is_live_now, is_deleted_now, standing_in, yes, count_in, count_on, is_empty_on, id_on, record_on, get_on, has_on, is_deleted_on, known_on, text_on}
 use Rattle.overlay_reading.specs.First.{read_refusal, view_refusal, read_table, number_table}
 use Rattle.overlay_reading.proofs.Records.{get_given}

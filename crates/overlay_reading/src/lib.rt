@@ -1,6 +1,7 @@
 // What is read of an overlay: counts, ids and records by number, what is known of an id, and texts by handle. Each reading first tests that
 // the overlay is sound (22).
 #![tactic(auto)]
+
 ghost use Rattle.std.specs.Prelude.{◌≡◌, take, get_or};
 ghost use Rattle.std.specs.Int.{w64};
 ghost use Rattle.std.proofs.Common.{to_z};

@@ -1,6 +1,7 @@
 // The store's row of the table, over what is lent and with no test of soundness: 13 for a text, 12, 14, 15 for a push, 12, 14 for a delete.
 // A caller makes the tests of the rows before it first.
 #![tactic(auto)]
+
 ghost use Rattle.std.specs.Prelude.{◌≡◌, ◌+◌, ◌<◌, length, set};
 ghost use Rattle.std.specs.Int.{w64};
 ghost use Rattle.std.proofs.Common.{to_z};

@@ -1,6 +1,7 @@
 // A reader of event lines: where it stands in its document, the element that it is putting together, its count of lines and its stop mark.
 // Here are the definitions of what an event and an end do to it and to the overlay, with their laws. It has no code.
 #![tactic(auto)]
+
 use compact::{ArenaMeta, PushHead};
 use nesting::Place;
 use refusal::Refusal;

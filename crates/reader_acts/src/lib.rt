@@ -1,6 +1,7 @@
 // The acts of an event, over what is lent: an element that begins, the push of an empty element or of one whose parts are staged, a delete.
 // What is refused changes nothing lent: the handle that the user's text has or will get is found first, the act is done with it, and the text is taken in behind an act that was taken.
 #![tactic(auto)]
+
 ghost use Rattle.std.specs.Prelude.{◌≡◌, [], take};
 ghost use Rattle.std.specs.Int.{w64};
 ghost use Rattle.std.proofs.Common.{to_z};

@@ -1,5 +1,6 @@
 // The calls of a reader: an event, and the end of its document.
 #![tactic(auto)]
+
 ghost use Rattle.std.specs.Prelude.{◌≡◌, true, ◌+◌, ◌<◌};
 ghost use Rattle.event_decision.specs.Decision.{decide};
 ghost use Rattle.text_index.specs.Index.{IndexGiven};

@@ -1,5 +1,6 @@
 // What is decided of an element, done in storage: it begins, is deleted, or ends and is pushed.
 #![tactic(auto)]
+
 ghost use Rattle.std.specs.Prelude.{◌≡◌};
 ghost use Rattle.std.specs.Int.{w64};
 ghost use Rattle.std.proofs.Common.{to_z};

@@ -1,5 +1,6 @@
 // A run of event lines fed to a reader in one call: soundness is tested once, then a step a line.
 #![tactic(auto)]
+
 ghost use Rattle.std.specs.Prelude.{◌≡◌, true, ◌≤◌, length};
 ghost use Rattle.base.specs.Bytes.{all};
 ghost use Rattle.little.specs.Little.{is_byte};

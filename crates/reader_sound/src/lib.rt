@@ -1,5 +1,6 @@
 // What an event and an end test first: whether overlay and reader are sound (22), and whether the reader's stop mark stops it.
 #![tactic(auto)]
+
 ghost use Rattle.std.specs.Prelude.{◌≡◌};
 ghost use Rattle.reader.specs.Lent.{state_lent};
 ghost use Rattle.reader.specs.State.{stops_by, pending_sound, state_sound};

@@ -1,5 +1,6 @@
 // What is decided of an event, done in storage: one call a decision.
 #![tactic(auto)]
+
 ghost use Rattle.std.specs.Prelude.{◌≡◌, List, ℕ};
 ghost use Rattle.base.specs.Bytes.{Bytes};
 ghost use Rattle.event_decide.specs.Decided.{means_decided};

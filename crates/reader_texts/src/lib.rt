@@ -1,6 +1,7 @@
 // A text that stands in an event's line, its escapes resolved: taken in, or only asked for. A text without an escape is read where it is written. Of another an array
 // holds the text: a line has at most 16,384 bytes.
 #![tactic(auto)]
+
 ghost use Rattle.std.specs.Prelude.{◌≡◌, ◌≤◌, length};
 ghost use Rattle.little.specs.Little.{over};
 ghost use Rattle.event_values.specs.Value.{text_at, ExtentInBounds};

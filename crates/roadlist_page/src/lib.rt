@@ -1,5 +1,6 @@
 // What the program `roadlist` prints: the listing or the `refused` line, at the end of its input. Before that pieces are taken in (crate `input_pieces`).
 #![tactic(auto)]
+
 ghost use Rattle.std.specs.Prelude.{◌≡◌, true, ◌≤◌, ◌<◌, min, length};
 ghost use Rattle.overlay.specs.Lent.{overlay_in, lent, left, lent_for};
 ghost use Rattle.overlay.specs.Sound.{is_sound};

@@ -1,6 +1,6 @@
 -- Plain bytes: one pass over a run tells whether all its bytes pass a test, and a run of plain bytes is text.
-use Prim.Native.Nat.{ℕ, suc, ◌+◌, ◌<◌, ◌≤◌}
-use mathlib.Core.Path.{◌≡◌, refl, sym, ◌∙◌}
+use Prim.Native.Nat.{ℕ, ◌+◌, ◌<◌, ◌≤◌}
+use mathlib.Core.Path.{◌≡◌, refl}
 use mathlib.Core.Bool.{Bool, true, false, ◌&&◌, ◌||◌}
 use native.Mathlib.Numerals.{add-one}
 use native.Mathlib.Omega.{arith}
@@ -9,7 +9,7 @@ use lib.ListN.{length, get_or, drop, drop_of_length-le}
 use lib.Seq.{drop-cons}
 use borrow.Author.Tests.{lt-ltb, ltb-true, leb-true, le-leb, eqb-true}
 use Rattle.base.specs.Bytes.{Bytes, both, either, all}
-use Rattle.base.proofs.Split.{both_left, both_right, both_of, by_either, same_test}
+use Rattle.base.proofs.Split.{both_left, both_right, by_either, same_test}
 use Rattle.base.proofs.Lists.{all_nil}
 use Rattle.text.specs.Char.{from_to, xml_char}
 use Rattle.text.specs.Check.{is_text, is_plain, plain_ascii}

@@ -1,5 +1,5 @@
 -- Characters: XML 1.0's legal code points, and their encoding in UTF-8 by the Unicode standard.
-use Rattle.std.specs.Prelude.{ℕ, ◌+◌, ◌/◌, ◌%◌, Bool, true, false, cond, List, [], ◌∷◌, ltb, leb, eqb}
+use Rattle.std.specs.Prelude.{ℕ, ◌+◌, ◌/◌, ◌%◌, Bool, cond, [], ◌∷◌, ltb, leb, eqb}
 use Rattle.base.specs.Bytes.{Bytes, both, either}
 
 -- a number from lo to hi

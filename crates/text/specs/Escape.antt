@@ -1,5 +1,5 @@
 -- Document 01, event lines: "In values `\t`, `\n`, `\r`, `\\` stand for tab, line feed, carriage return, backslash".
-use Rattle.std.specs.Prelude.{ℕ, Bool, true, false, cond, List, [], ◌∷◌, ◌++◌, eqb}
+use Rattle.std.specs.Prelude.{ℕ, Bool, true, false, cond, [], ◌∷◌, ◌++◌, eqb}
 use Rattle.std.proofs.Math.Option.{Option, none, some, map}
 use Rattle.base.specs.Bytes.{Bytes, either}
 use Rattle.base.specs.Chars.{horizontal_tab, line_feed, carriage_return, backslash, letter_small_n, letter_small_r, letter_small_t}

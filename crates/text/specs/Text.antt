@@ -1,5 +1,5 @@
 -- Document 01: "Text is well-formed UTF-8 of XML 1.0 characters."
-use Rattle.std.specs.Prelude.{ℕ, ◌≡◌, Bool, true, List, [], ◌∷◌, ◌++◌}
+use Rattle.std.specs.Prelude.{ℕ, ◌≡◌, true, List, [], ◌∷◌, ◌++◌}
 use Rattle.base.specs.Bytes.{Bytes, all}
 use Rattle.text.specs.Char.{xml_char, utf8}
 

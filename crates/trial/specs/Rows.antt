@@ -30,7 +30,6 @@ use Rattle.event_fields.specs.Field.{Field, got, bad, and_then, integer_field}
 use Rattle.listing.specs.declared.Listed.{Listed}
 use Rattle.listing.specs.declared.Listed.TheVariants as L
 use Rattle.listing.specs.Call.{Output, listing_on}
-use Rattle.calls.specs.Ask as Ask
 use Rattle.calls.specs.Ask.{Ask, Storage, started, state_of, leaves, after}
 
 -- a call, and what document 01 says of it: taken, or refused with a number and the version that is held

@@ -1,7 +1,6 @@
-use Prim.Native.Nat.{◌-◌, ◌≤◌, max}
+use Prim.Native.Nat.{◌-◌}
 use mathlib.Core.Path.{◌≡◌, sym, ◌∙◌, ap}
 use native.Mathlib.Omega.{arith}
-use borrow.Author.Rules.{rules}
 use Rattle.calendar.specs.Calendar.{months_days}
 use Rattle.calendar.proofs.Months.{months_none, months_step, months_high, month_bounds}
 use Rattle.calendar.proofs.days_before_month.Goals as goal

@@ -1,10 +1,7 @@
 -- `days_before_month`: the loop's sum is the days of the months passed.
 use Prim.Native.Nat.{◌-◌, ◌≤◌, max}
-use mathlib.Core.Path.{◌≡◌, sym, ◌∙◌, ap}
-use native.Mathlib.Omega.{arith}
-use borrow.Author.Rules.{rules}
+use mathlib.Core.Path.{◌≡◌}
 use Rattle.calendar.specs.Calendar.{months_days}
-use Rattle.calendar.proofs.Months.{months_none, months_step, months_high, month_bounds}
 use Rattle.calendar.proofs.days_before_month.Given as goal
 
 abbrev pub invariant-loop-m : goal.invariant-loop-m

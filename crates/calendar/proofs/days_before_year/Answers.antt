@@ -1,6 +1,5 @@
 -- `days_before_year`: the formula is that of the counted days.
 use mathlib.Core.Path.{sym}
-use borrow.Author.Rules.{rules}
 use Rattle.calendar.proofs.Years.{years_formula}
 use Rattle.calendar.proofs.days_before_year.Goals as goal
 

@@ -1,7 +1,6 @@
 -- `month_length`: February by itself, else the formula.
 use mathlib.Core.Path.{sym}
 use native.Mathlib.Omega.{arith}
-use borrow.Author.Rules.{rules}
 use Rattle.calendar.proofs.Months.{february, month_formula, no_month, past_month}
 use Rattle.calendar.proofs.month_length.Goals as goal
 

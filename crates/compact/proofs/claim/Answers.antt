@@ -5,7 +5,6 @@ use mir.Facts.{to_z-of_z, sfits_to_z, Fits-of_lt}
 use borrow.Author.Tests.{eq-eqb, ne_eqb}
 use Rattle.model.specs.Record.{claim_of, flagged}
 use Rattle.compact.specs.Held.{meta_of}
-use borrow.Author.Rules.{rules}
 use Rattle.compact.proofs.claim.Goals as goal
 
 pub returns-then-meta-eq1 : goal.returns-then-meta-eq1

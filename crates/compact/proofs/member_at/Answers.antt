@@ -1,6 +1,5 @@
 -- A member is read field by field.
 use Rattle.compact.specs.View.{member_at}
-use borrow.Author.Rules.{rules}
 use Rattle.compact.proofs.member_at.Goals as goal
 
 pub returns : goal.returns

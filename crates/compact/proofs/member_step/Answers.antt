@@ -6,7 +6,6 @@ use borrow.Author.Tests.{ltb-true, ltb-false}
 use Rattle.little.proofs.Littles.{bytes_of}
 use Rattle.kind.specs.Kind.{of_number}
 use Rattle.compact.proofs.Steps.{member_done, member_past, member_bad, member_whole}
-use borrow.Author.Rules.{rules}
 use Rattle.compact.proofs.member_step.Goals as goal
 
 pub returns-then-remaining-eq0 : goal.returns-then-remaining-eq0

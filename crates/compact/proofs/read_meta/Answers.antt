@@ -1,7 +1,6 @@
 -- Metadata is read field by field; past the end each field is 0.
 use Rattle.compact.specs.View.{meta_at}
 use Rattle.compact.proofs.Missing.{meta_past}
-use borrow.Author.Rules.{rules}
 use Rattle.compact.proofs.read_meta.Goals as goal
 
 pub returns-then-at-bytes : goal.returns-then-at-bytes

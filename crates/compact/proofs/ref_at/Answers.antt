@@ -1,6 +1,5 @@
 -- A ref is read at its place.
 use Rattle.compact.specs.View.{ref_at}
-use borrow.Author.Rules.{rules}
 use Rattle.compact.proofs.ref_at.Goals as goal
 
 pub returns : goal.returns

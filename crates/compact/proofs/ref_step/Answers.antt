@@ -5,7 +5,6 @@ use lib.ListN.{length}
 use borrow.Author.Tests.{ltb-true, ltb-false}
 use Rattle.little.proofs.Littles.{bytes_of}
 use Rattle.compact.proofs.Steps.{ref_done, ref_past, ref_whole}
-use borrow.Author.Rules.{rules}
 use Rattle.compact.proofs.ref_step.Goals as goal
 
 pub returns-then-remaining-eq0 : goal.returns-then-remaining-eq0

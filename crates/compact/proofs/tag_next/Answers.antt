@@ -1,17 +1,9 @@
 -- A step is taken, and the walk goes on behind the tag that it yields.
-use Prim.Native.Nat.{ℕ}
-use mathlib.Core.Path.{◌≡◌, sym, subst, ◌∙◌}
-use mathlib.Core.Logic.{⊎_elim}
-use mathlib.Core.List.{[], ◌∷◌}
+use mathlib.Core.Path.{sym, ◌∙◌}
 use native.Mathlib.Omega.{arith}
-use types.Run.{OneOf}
-use denote.Enum.Declared.{tag_of}
-use Rattle.compact.specs.declared.TagStep.{TagStep}
 use Rattle.compact.specs.declared.TagStep.TheVariants.{Tag}
 use Rattle.compact.specs.Tags.{turn_by}
-use Rattle.compact.specs.contracts.TagStep as TagStep
 use Rattle.compact.proofs.Tags.{Left, tag_left, turn_by_lem, turn_stays}
-use borrow.Author.Rules.{rules}
 use Rattle.compact.proofs.tag_next.Goals as goal
 
 pub returns-in_default : goal.returns-in_default

@@ -1,5 +1,4 @@
 -- Each kind's tags begin where its own head says.
-use borrow.Author.Rules.{rules}
 use Rattle.compact.proofs.tag_place.Goals as goal
 
 pub returns-in-Node : goal.returns-in-Node

@@ -10,7 +10,6 @@ use Rattle.text.specs.Check.{is_text}
 use Rattle.compact.specs.declared.TagStep.TheVariants as tag
 use Rattle.compact.specs.View.{tag_step}
 use Rattle.compact.proofs.Steps.{tag_done, tag_past, tag_over, tag_judged}
-use borrow.Author.Rules.{rules}
 use Rattle.compact.proofs.tag_step.Goals as goal
 
 pub returns-then-remaining-eq0 : goal.returns-then-remaining-eq0

@@ -4,7 +4,6 @@ use lib.ListN.{length}
 use borrow.Author.Tests.{ltb-true, ltb-false}
 use Rattle.little.proofs.Littles.{bytes_of}
 use Rattle.compact.proofs.Steps.{meta_short, meta_whole}
-use borrow.Author.Rules.{rules}
 use Rattle.compact.proofs.try_read_meta.Goals as goal
 
 pub returns-then-past : goal.returns-then-past

@@ -2,7 +2,6 @@
 use Rattle.refusal.specs.Refusal.{reply_of}
 use Rattle.refusal.specs.declared.Reply.{Reply}
 use mathlib.Core.Path.{ap}
-use borrow.Author.Rules.{rules}
 use Rattle.compact.proofs.unsound_number.Goals as goal
 
 pub returns : goal.returns

@@ -9,7 +9,6 @@ use Rattle.compact.specs.Held.{meta_of, counts_head}
 use Rattle.compact.proofs.Lengths.{length_written}
 use Rattle.compact_append.specs.Append.{record_written}
 use Rattle.compact_append.proofs.Writes.{full_is, append_end}
-use borrow.Author.Rules.{rules}
 use Rattle.compact_append.proofs.append_counted.Goals as goal
 
 -- where the test has failed, the record has room

@@ -1,7 +1,6 @@
 -- The head is an id and two counts.
 use Rattle.compact.specs.Layout.{head_bytes}
 use Rattle.compact.specs.Held.{relation_head}
-use borrow.Author.Rules.{rules}
 use Rattle.compact_append.proofs.append_relation.Goals as goal
 
 pub returns : goal.returns

@@ -1,6 +1,5 @@
 -- The head is an id and two counts.
 use Rattle.compact.specs.Held.{way_head}
-use borrow.Author.Rules.{rules}
 use Rattle.compact_append.proofs.append_way.Goals as goal
 
 pub returns : goal.returns

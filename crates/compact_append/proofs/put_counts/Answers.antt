@@ -2,7 +2,6 @@
 use native.Mathlib.Omega.{arith}
 use Rattle.compact.proofs.Holds.{counts_bits}
 use Rattle.compact_append.proofs.Writes.{start, field}
-use borrow.Author.Rules.{rules}
 use Rattle.compact_append.proofs.put_counts.Goals as goal
 
 pub returns : goal.returns

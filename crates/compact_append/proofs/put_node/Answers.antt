@@ -6,7 +6,6 @@ use Rattle.compact.specs.Layout.{head_bytes, meta_bytes}
 use Rattle.compact.specs.Held.{meta_of, node_head}
 use Rattle.compact.proofs.Lengths.{length_head, length_meta}
 use Rattle.compact_append.proofs.Writes.{start, next}
-use borrow.Author.Rules.{rules}
 use Rattle.compact_append.proofs.put_node.Goals as goal
 
 pub returns : goal.returns

@@ -2,7 +2,6 @@
 use native.Mathlib.Omega.{arith}
 use Rattle.compact.proofs.Holds.{NodeHeld, node_bits_lem}
 use Rattle.compact_append.proofs.Writes.{start, field}
-use borrow.Author.Rules.{rules}
 use Rattle.compact_append.proofs.put_place.Goals as goal
 
 pub returns : goal.returns

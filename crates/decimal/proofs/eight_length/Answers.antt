@@ -2,7 +2,6 @@
 use Prim.Native.Nat.{◌/◌}
 use native.Mathlib.Omega.{arith}
 use Rattle.decimal.proofs.Numbers.{four_less, most_four}
-use borrow.Author.Rules.{rules}
 use Rattle.decimal.proofs.eight_length.Goals as goal
 
 pub overflow_add-result : goal.overflow_add-result

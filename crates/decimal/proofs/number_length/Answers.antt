@@ -3,7 +3,6 @@ use Prim.Native.Nat.{◌/◌}
 use mathlib.Core.Path.{◌≡◌}
 use native.Mathlib.Omega.{arith}
 use Rattle.decimal.proofs.Numbers.{eight_less, most_four, most_eight}
-use borrow.Author.Rules.{rules}
 use Rattle.decimal.proofs.number_length.Goals as goal
 
 pub overflow_add-result : goal.overflow_add-result

@@ -1,8 +1,8 @@
-use Prim.Native.Nat.{suc, ◌-◌, ◌≤◌}
+use Prim.Native.Nat.{suc, ◌-◌}
 use mathlib.Core.Path.{◌≡◌, refl, sym, ◌∙◌, ap}
 use mathlib.Core.List.{[]}
 use native.Mathlib.Omega.{arith}
-use lib.ListN.{length, length-set}
+use lib.ListN.{length-set}
 use Rattle.little.specs.Little.{over}
 use Rattle.little.proofs.Overs.{over_nothing}
 use Rattle.decimal.proofs.Numbers.{low_digits, low_all, low_none}

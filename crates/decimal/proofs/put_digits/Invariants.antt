@@ -1,14 +1,10 @@
 -- `put_digits` writes the low digits of a number from the last to the first. The invariant: what is left to write are the low digits of what is left of the
 -- number.
-use Prim.Native.Nat.{suc, ◌-◌, ◌≤◌}
-use mathlib.Core.Path.{◌≡◌, refl, sym, ◌∙◌, ap}
-use mathlib.Core.List.{[]}
-use native.Mathlib.Omega.{arith}
-use lib.ListN.{length, length-set}
+use Prim.Native.Nat.{◌≤◌}
+use mathlib.Core.Path.{◌≡◌}
+use lib.ListN.{length}
 use Rattle.little.specs.Little.{over}
-use Rattle.little.proofs.Overs.{over_nothing}
-use Rattle.decimal.proofs.Numbers.{low_digits, low_all, low_none}
-use Rattle.decimal.proofs.Puts.{one_stored, two_stored}
+use Rattle.decimal.proofs.Numbers.{low_digits}
 use Rattle.decimal.proofs.put_digits.Given as goal
 
 abbrev pub invariant-loop-i : goal.invariant-loop-i

@@ -4,7 +4,6 @@ use native.Mathlib.Omega.{arith}
 use Rattle.line.specs.Decimal.{number_text}
 use Rattle.decimal.specs.Put.{Wrote}
 use Rattle.decimal.proofs.Puts.{put_whole, put_nothing}
-use borrow.Author.Rules.{rules}
 use Rattle.decimal.proofs.put_measured.Goals as goal
 
 pub returns-then-n-out : goal.returns-then-n-out

@@ -7,7 +7,6 @@ use lib.ListN.{length-set}
 use Rattle.line.specs.Decimal.{number_text}
 use Rattle.little.proofs.Overs.{over_step}
 use Rattle.decimal.proofs.Puts.{whole, put_nothing}
-use borrow.Author.Rules.{rules}
 use Rattle.decimal.proofs.put_minus.Goals as goal
 
 pub put_digits-requires : goal.put_digits-requires

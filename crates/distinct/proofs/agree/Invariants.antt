@@ -1,9 +1,7 @@
 -- `agree` goes on by 64 bytes as long as these are the same. The invariant: both runs agree so far.
 use Prim.Native.Nat.{◌-◌, ◌≤◌}
-use mathlib.Core.Path.{◌≡◌, refl}
-use native.Mathlib.Omega.{arith}
-use lib.ListN.{length, take, length-take, length-drop}
-use Rattle.distinct.proofs.Orders.{take_on}
+use mathlib.Core.Path.{◌≡◌}
+use lib.ListN.{length, take}
 use Rattle.distinct.proofs.agree.Given as goal
 
 abbrev pub invariant-loop-i : goal.invariant-loop-i

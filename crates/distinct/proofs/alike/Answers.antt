@@ -1,9 +1,5 @@
-use Prim.Native.Nat.{◌-◌, ◌≤◌}
-use mathlib.Core.Path.{◌≡◌, refl, sym, ◌∙◌}
-use mathlib.Core.Bool.{true}
-use mathlib.Core.Logic.{⊎_elim}
+use mathlib.Core.Path.{refl, sym, ◌∙◌}
 use native.Mathlib.Omega.{arith}
-use lib.ListN.{length, take}
 use Rattle.base.proofs.Split.{clash}
 use Rattle.distinct.proofs.Orders.{take_more, take_whole}
 use Rattle.distinct.proofs.alike.Goals.{then-a-i, else-a-i}
@@ -31,8 +27,9 @@ loop-i-preserved c =
     let l = c.loop-i in (
       omega arith,
       elim c.if-a-i.branch [
-        then-a-i w ↦ λ q. clash q w.all-is
-        | else-a-i w ↦ λ q. take_more a.a.now a.b.now l.i s.requires (omega arith) (l.invariant.1 (sym w.all-is ∙ q)) w.if-a-i.false ],
+        | then-a-i w ↦ λ q. clash q w.all-is
+        | else-a-i w ↦ λ q. take_more a.a.now a.b.now l.i s.requires (omega arith) (l.invariant.1 (sym w.all-is ∙ q)) w.if-a-i.false
+      ],
     )
 
 pub returns : goal.returns

@@ -1,12 +1,8 @@
 -- `alike` goes along both runs to the end. The invariant: where nothing was found to differ, they agree so far.
 use Prim.Native.Nat.{◌-◌, ◌≤◌}
-use mathlib.Core.Path.{◌≡◌, refl, sym, ◌∙◌}
+use mathlib.Core.Path.{◌≡◌}
 use mathlib.Core.Bool.{true}
-use mathlib.Core.Logic.{⊎_elim}
-use native.Mathlib.Omega.{arith}
 use lib.ListN.{length, take}
-use Rattle.base.proofs.Split.{clash}
-use Rattle.distinct.proofs.Orders.{take_more, take_whole}
 use Rattle.distinct.proofs.alike.Given as goal
 
 abbrev pub invariant-loop-i : goal.invariant-loop-i

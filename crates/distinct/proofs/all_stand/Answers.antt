@@ -1,10 +1,6 @@
-use Prim.Native.Nat.{◌-◌, ◌≤◌, ◌+◌, ◌<◌, ℕ}
-use mathlib.Core.Path.{◌≡◌, refl}
+use mathlib.Core.Path.{refl}
 use native.Mathlib.Omega.{arith}
-use lib.ListN.{get_or}
-use borrow.Author.Rules.{rules}
 use Rattle.base.proofs.Split.{by_eq, clash}
-use Rattle.distinct.specs.Check.{Placed}
 use Rattle.distinct.proofs.all_stand.Goals as goal
 
 pub loop-h-init : goal.loop-h-init

@@ -1,11 +1,7 @@
 -- `all_stand` tries the indexes in order. The invariant: those passed stand.
-use Prim.Native.Nat.{◌-◌, ◌≤◌, ◌+◌, ◌<◌, ℕ}
-use mathlib.Core.Path.{◌≡◌, refl}
-use native.Mathlib.Omega.{arith}
+use Prim.Native.Nat.{◌-◌, ◌≤◌, ◌<◌, ℕ}
+use mathlib.Core.Path.{◌≡◌}
 use lib.ListN.{get_or}
-use borrow.Author.Rules.{rules}
-use Rattle.base.proofs.Split.{by_eq, clash}
-use Rattle.distinct.specs.Check.{Placed}
 use Rattle.distinct.proofs.all_stand.Given as goal
 
 abbrev pub invariant-loop-h : goal.invariant-loop-h

@@ -1,7 +1,4 @@
-use Prim.Native.Nat.{◌-◌, ◌≤◌}
-use mathlib.Core.Path.{◌≡◌}
 use native.Mathlib.Omega.{arith}
-use lib.ListN.{length, take}
 use Rattle.distinct.proofs.Orders.{less_short, less_at, take_more, take_whole}
 use Rattle.distinct.proofs.compare.Goals as goal
 

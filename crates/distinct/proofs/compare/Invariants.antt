@@ -1,9 +1,7 @@
 -- `compare` goes along both runs. The invariant: they have one length and agree so far.
 use Prim.Native.Nat.{◌-◌, ◌≤◌}
 use mathlib.Core.Path.{◌≡◌}
-use native.Mathlib.Omega.{arith}
 use lib.ListN.{length, take}
-use Rattle.distinct.proofs.Orders.{less_short, less_at, take_more, take_whole}
 use Rattle.distinct.proofs.compare.Given as goal
 
 abbrev pub invariant-loop-i : goal.invariant-loop-i

@@ -1,6 +1,5 @@
 -- `compare_indexes`: two indexes that are not one, and whose runs are the same, are two equal runs.
 use native.Mathlib.Omega.{arith}
-use borrow.Author.Rules.{rules}
 use Rattle.distinct.proofs.Orders.{indexes_as}
 use Rattle.distinct.proofs.compare_indexes.Goals as goal
 

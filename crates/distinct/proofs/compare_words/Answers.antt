@@ -1,5 +1,4 @@
 -- `compare_words`: the parts that are compared are the words' runs.
-use borrow.Author.Rules.{rules}
 use Rattle.distinct.proofs.Orders.{part_run}
 use Rattle.distinct.proofs.compare_words.Goals as goal
 

@@ -2,7 +2,6 @@
 use Rattle.base.specs.Bytes.{same}
 use Rattle.base.proofs.Split.{same_test}
 use Rattle.base.proofs.Lists.{same_yes, same_refl}
-use borrow.Author.Rules.{rules}
 use Rattle.distinct.proofs.equal.Goals as goal
 
 pub returns : goal.returns

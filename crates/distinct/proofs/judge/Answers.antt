@@ -1,5 +1,4 @@
 -- `judge`: the law of rising runs, where each index stands.
-use borrow.Author.Rules.{rules}
 use Rattle.distinct.proofs.Orders.{judged}
 use Rattle.distinct.proofs.judge.Goals as goal
 

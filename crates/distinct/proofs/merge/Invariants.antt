@@ -1,9 +1,7 @@
 -- `merge` stays within its slices and ends. The invariant: as many indexes were taken from the two parts as were put.
 use Prim.Native.Nat.{◌+◌, ◌-◌, ◌≤◌}
 use mathlib.Core.Path.{◌≡◌}
-use native.Mathlib.Omega.{arith}
 use lib.ListN.{length}
-use borrow.Author.Rules.{rules}
 use Rattle.distinct.proofs.merge.Given as goal
 
 abbrev pub invariant-loop-k : goal.invariant-loop-k

@@ -1,9 +1,7 @@
 -- `merge_all` stays within its slices and ends: each turn goes on by at least one index.
 use Prim.Native.Nat.{◌-◌, ◌≤◌}
 use mathlib.Core.Path.{◌≡◌}
-use native.Mathlib.Omega.{arith}
 use lib.ListN.{length}
-use borrow.Author.Rules.{rules}
 use Rattle.distinct.proofs.merge_all.Given as goal
 
 abbrev pub invariant-loop-lo : goal.invariant-loop-lo

@@ -1,7 +1,4 @@
-use Prim.Native.Nat.{◌-◌, ◌<◌}
-use mathlib.Core.Path.{◌≡◌}
 use native.Mathlib.Omega.{arith}
-use lib.ListN.{length}
 use Rattle.distinct.proofs.merge_sort.Goals as goal
 
 pub loop-width-init : goal.loop-width-init

@@ -1,7 +1,6 @@
 -- `merge_sort` stays within its slices and ends: the width grows.
 use Prim.Native.Nat.{◌-◌, ◌<◌}
 use mathlib.Core.Path.{◌≡◌}
-use native.Mathlib.Omega.{arith}
 use lib.ListN.{length}
 use Rattle.distinct.proofs.merge_sort.Given as goal
 

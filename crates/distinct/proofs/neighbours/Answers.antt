@@ -1,5 +1,4 @@
 -- `neighbours`: the indexes at two places that follow each other, compared.
-use borrow.Author.Rules.{rules}
 use Rattle.distinct.proofs.neighbours.Goals as goal
 
 pub returns : goal.returns

@@ -1,9 +1,7 @@
 -- `note_places` stays within its slices and ends.
 use Prim.Native.Nat.{◌-◌, ◌≤◌}
 use mathlib.Core.Path.{◌≡◌}
-use native.Mathlib.Omega.{arith}
 use lib.ListN.{length}
-use borrow.Author.Rules.{rules}
 use Rattle.distinct.proofs.note_places.Given as goal
 
 abbrev pub invariant-loop-i : goal.invariant-loop-i

@@ -1,6 +1,5 @@
 -- `pack`: a sum of three numbers, each below the next one's unit, gives them back.
 use native.Mathlib.Omega.{arith}
-use borrow.Author.Rules.{rules}
 use Rattle.distinct.specs.Distinct.{run_start, run_length}
 use Rattle.distinct.proofs.pack.Goals as goal
 

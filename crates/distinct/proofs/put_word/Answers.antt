@@ -1,7 +1,6 @@
 -- `put_word` stores a word, where there is a place for it.
 use mathlib.Core.Path.{sym}
 use lib.Seq.{set_out}
-use borrow.Author.Rules.{rules}
 use Rattle.distinct.proofs.put_word.Goals as goal
 
 pub returns-else-i-words : goal.returns-else-i-words

@@ -1,11 +1,7 @@
-use Prim.Native.Nat.{ℕ, ◌+◌, ◌-◌, ◌≤◌, ◌<◌}
+use Prim.Native.Nat.{◌+◌, ◌-◌}
 use mathlib.Core.Path.{◌≡◌}
-use mathlib.Core.Bool.{true}
 use native.Mathlib.Omega.{arith}
-use lib.ListN.{length, get_or}
-use borrow.Author.Rules.{rules}
 use Rattle.base.proofs.Split.{by_eq}
-use Rattle.distinct.specs.Check.{run_less, run_at}
 use Rattle.distinct.proofs.rises.Goals as goal
 
 pub loop-i-init : goal.loop-i-init

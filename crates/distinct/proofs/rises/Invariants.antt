@@ -2,10 +2,7 @@
 use Prim.Native.Nat.{ℕ, ◌+◌, ◌-◌, ◌≤◌, ◌<◌}
 use mathlib.Core.Path.{◌≡◌}
 use mathlib.Core.Bool.{true}
-use native.Mathlib.Omega.{arith}
 use lib.ListN.{length, get_or}
-use borrow.Author.Rules.{rules}
-use Rattle.base.proofs.Split.{by_eq}
 use Rattle.distinct.specs.Check.{run_less, run_at}
 use Rattle.distinct.proofs.rises.Given as goal
 

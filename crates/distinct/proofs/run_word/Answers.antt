@@ -1,6 +1,5 @@
 -- `run_word`: a run that lies among the bytes, packed.
 use native.Mathlib.Omega.{arith}
-use borrow.Author.Rules.{rules}
 use Rattle.distinct.proofs.run_word.Goals as goal
 
 pub returns-then-bytes-ge131072 : goal.returns-then-bytes-ge131072

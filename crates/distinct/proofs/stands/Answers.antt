@@ -1,7 +1,6 @@
 -- `stands`: the place of the index is read, and the index at that place.
 use mathlib.Core.Path.{refl, sym, ◌∙◌}
 use borrow.Author.Tests.{eqb-true}
-use borrow.Author.Rules.{rules}
 use Rattle.base.proofs.Split.{clash}
 use Rattle.distinct.proofs.stands.Goals as goal
 

@@ -1,5 +1,4 @@
 -- `child` goes by the child.
-use borrow.Author.Rules.{rules}
 use Rattle.event_decide.proofs.child.Goals as goal
 
 pub returns-in-Tag : goal.returns-in-Tag

@@ -7,7 +7,6 @@ use Rattle.nesting.specs.declared.Level.TheVariants as L
 use Rattle.nesting.specs.declared.Place.{Place}
 use Rattle.event_decision.specs.Decision.{moves, decide_closed}
 use Rattle.event_decide.proofs.Decisions.{closed_ends, moved}
-use borrow.Author.Rules.{rules}
 use Rattle.event_decide.proofs.closes.Goals as goal
 
 pub returns-in-Element : goal.returns-in-Element

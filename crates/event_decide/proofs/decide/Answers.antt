@@ -6,7 +6,6 @@ use Rattle.event.specs.Event.{body}
 use Rattle.event_scan.specs.Scan.{means, InBounds}
 use Rattle.event_scan.proofs.Lines.{judged, judged_part}
 use Rattle.event_decide.proofs.Decisions.{decided_refused, decided_other, decided_closed, decided_opened}
-use borrow.Author.Rules.{rules}
 use Rattle.event_decide.proofs.decide.Goals as goal
 
 pub slice_bounds-opens-end : goal.slice_bounds-opens-end

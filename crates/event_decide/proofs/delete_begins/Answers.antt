@@ -3,7 +3,6 @@ use mathlib.Core.Path.{subst}
 use Rattle.event_scan.specs.Scan.{attributes_at}
 use Rattle.event_decide.specs.Decided.{HeadInBounds}
 use Rattle.event_decide.proofs.Decisions.{delete_bad, delete_got}
-use borrow.Author.Rules.{rules}
 use Rattle.event_decide.proofs.delete_begins.Goals as goal
 
 pub returns-in-Bad : goal.returns-in-Bad

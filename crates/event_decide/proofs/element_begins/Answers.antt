@@ -1,5 +1,4 @@
 -- `element_begins` goes by the section.
-use borrow.Author.Rules.{rules}
 use Rattle.event_decide.proofs.element_begins.Goals as goal
 
 pub returns-in-Create : goal.returns-in-Create

@@ -3,7 +3,6 @@ use mathlib.Core.Path.{sym, ◌∙◌, ap, subst}
 use Rattle.event_fields.specs.Field.{id_field}
 use Rattle.event_values.specs.Value.{wide_field}
 use Rattle.event_metadata.specs.Metadata.{meta_field, MetaFieldInBounds}
-use borrow.Author.Rules.{rules}
 use Rattle.event_decide.proofs.head_field.Goals as goal
 
 pub returns-in-Bad : goal.returns-in-Bad

@@ -3,7 +3,6 @@ use mathlib.Core.Path.{refl, sym, ◌∙◌, ap, subst}
 use Rattle.event_values.specs.Value.{member_field, MemberInBounds}
 use Rattle.event_decide.specs.declared.Decided.TheVariants as D
 use Rattle.event_decide.proofs.Decisions.{dropped}
-use borrow.Author.Rules.{rules}
 use Rattle.event_decide.proofs.member_child.Goals as goal
 
 pub returns-in-Bad : goal.returns-in-Bad

@@ -4,7 +4,6 @@ use Rattle.event_fields.specs.Field.{ref_of}
 use Rattle.event_values.specs.Value.{wide_field}
 use Rattle.event_decide.specs.declared.Decided.TheVariants as D
 use Rattle.event_decide.proofs.Decisions.{dropped}
-use borrow.Author.Rules.{rules}
 use Rattle.event_decide.proofs.nd_child.Goals as goal
 
 pub returns-in-Bad : goal.returns-in-Bad

@@ -4,7 +4,6 @@ use Rattle.nesting.specs.Name.{name_of}
 use Rattle.nesting.specs.Nesting.{opened}
 use Rattle.nesting.specs.declared.Name.{Name}
 use Rattle.event_values.proofs.Values.{part}
-use borrow.Author.Rules.{rules}
 use Rattle.event_decide.proofs.opens.Goals as goal
 
 pub returns-in-Misplaced : goal.returns-in-Misplaced

@@ -4,7 +4,6 @@ use Rattle.event_scan.specs.Scan.{attributes_at}
 use Rattle.event_values.specs.Value.{body_field}
 use Rattle.event_decide.specs.Decided.{HeadInBounds}
 use Rattle.event_decide.proofs.Decisions.{push_bad, push_bodiless, push_got}
-use borrow.Author.Rules.{rules}
 use Rattle.event_decide.proofs.push_begins.Goals as goal
 
 pub returns-in-Bad : goal.returns-in-Bad

@@ -24,8 +24,7 @@ unfolding taken_as text_room
 returns-then-fits c =
     let roomy : (let a = c.args in
     text_room (store_with a.spans.now a.bytes.now a.strings a.used) a.text.now ≡ true) = sym c.fits.ensures ∙ c.if-fits.true in
-    let t = c in
-    rw (t.in_default.is, roomy) c.add.ensures
+    rw (c.in_default.is, roomy) c.add.ensures
 
 pub returns-else-fits : goal.returns-else-fits
 unfolding taken_as text_room

@@ -29,13 +29,12 @@ slice_bounds-is_text-end c = omega (arith, within_bytes _ _ _ _ _ (lain (record 
 
 pub returns-then-is_text : goal.returns-then-is_text
 returns-then-is_text c =
-    let s = c in
-    let a = s.args in
+    let a = c.args in
     let b : goal.In-Part = record { before = search; type_inv = search } in
     let l = lain b in
     let w = c.run_word in
     let k : run_in a.bytes.now w.result ≡ bytes_at a.spans.now a.bytes.now a.h =
-    w.ensures (within_bytes _ _ _ _ _ l) s.requires.0 ∙ rw (l.starts, l.long) in record { value = sym (legal_lies a.spans.now a.bytes.now a.h b.in-Part.start b.in-Part.len _ l refl ∙ (sym c.is_text.ensures ∙ c.if-is_text.true)); words_noted = λ q. rw c.put_word.ensures (noted_more a.spans.now a.bytes.now a.words.now a.h w.result s.requires.1.0 s.requires.1.1 k) }
+    w.ensures (within_bytes _ _ _ _ _ l) c.requires.0 ∙ rw (l.starts, l.long) in record { value = sym (legal_lies a.spans.now a.bytes.now a.h b.in-Part.start b.in-Part.len _ l refl ∙ (sym c.is_text.ensures ∙ c.if-is_text.true)); words_noted = λ q. rw c.put_word.ensures (noted_more a.spans.now a.bytes.now a.words.now a.h w.result c.requires.1.0 c.requires.1.1 k) }
 
 pub returns-else-is_text : goal.returns-else-is_text
 returns-else-is_text c =

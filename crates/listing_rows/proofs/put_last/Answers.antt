@@ -8,12 +8,8 @@ use Rattle.listing_rows.proofs.put_last.Goals as goal
 pub returns-then-place-lt-DELETED : goal.returns-then-place-lt-DELETED
 unfolding is_live
 returns-then-place-lt-DELETED c =
-    let live = c in
-    let found = c in
-    let put = c in
-    let start = c in
-    rw (lt-ltb _ _ live.if-place-lt-DELETED.true, ← view_from start.args.arena.now start.args.place found.lesser-at.result found.lesser-at.ensures)
-    put.put_record.ensures
+    rw (lt-ltb _ _ c.if-place-lt-DELETED.true, ← view_from c.args.arena.now c.args.place c.lesser-at.result c.lesser-at.ensures)
+    c.put_record.ensures
 
 pub returns : goal.returns
 unfolding is_live tabs print

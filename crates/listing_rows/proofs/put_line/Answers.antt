@@ -18,17 +18,10 @@ use Rattle.listing_rows.proofs.put_line.Goals as goal
 pub returns : goal.returns
 unfolding row_fields_at is_live
 returns c =
-    let line = c in
-    let last = c in
-    let key = c in
-    let known = c in
-    let bits = c in
-    let ranked = c in
-    let start = c in
-    let a = start.args in
-    let r = ranked.osm_id_of_rank in
+    let a = c.args in
+    let r = c.osm_id_of_rank in
     let f : SFits w64 r.result = search rules in
-    let e : to_z w64 bits.bits_of_i64-id.result ≡ id_of a.row.rank = ap (to_z w64) (bits.bits_of_i64-id.ensures ∙ ap (of_z w64) (to_z-of_z f)) ∙ (to_z-of_z f ∙ r.ensures) in
-    rw (← e, ← known.row_version-version.ensures)
-    (line_printed a.cap (kind_field a.kind) (integer_text (to_z w64 bits.bits_of_i64-id.result)) (sign_of (ltb a.row.place (2 ^ 63))) (version_field known.row_version-version.result)
-    (last_at (held_text a.spans.now a.bytes.now a.strings) a.kind a.arena.now a.row.place) _ _ _ _ key.put_key-room.ensures last.put_last-room.ensures line.put_bytes.ensures)
+    let e : to_z w64 c.bits_of_i64-id.result ≡ id_of a.row.rank = ap (to_z w64) (c.bits_of_i64-id.ensures ∙ ap (of_z w64) (to_z-of_z f)) ∙ (to_z-of_z f ∙ r.ensures) in
+    rw (← e, ← c.row_version-version.ensures)
+    (line_printed a.cap (kind_field a.kind) (integer_text (to_z w64 c.bits_of_i64-id.result)) (sign_of (ltb a.row.place (2 ^ 63))) (version_field c.row_version-version.result)
+    (last_at (held_text a.spans.now a.bytes.now a.strings) a.kind a.arena.now a.row.place) _ _ _ _ c.put_key-room.ensures c.put_last-room.ensures c.put_bytes.ensures)

@@ -7,34 +7,25 @@ use Rattle.listing_rows.proofs.put_lines.Goals as goal
 
 pub loop-i-init : goal.loop-i-init
 loop-i-init c =
-    let start = c in
-    let a = start.args in
+    let a = c.args in
     (omega arith, (refl, rows_start a.cap (held_text a.spans.now a.bytes.now a.strings) a.kind a.arena.now a.table.now c.lesser-n.result _))
 
 pub loop-i-preserved : goal.loop-i-preserved
 loop-i-preserved c =
-    let put = c in
-    let row = c in
-    let turn = c in
-    let count = c in
-    let start = c in
-    let a = start.args in
-    let e = rw row.row_at-row.ensures at put.put_line-left.ensures in (
+    let a = c.args in
+    let e = rw c.row_at-row.ensures at c.put_line-left.ensures in (
       omega arith,
       (
         omega arith,
-        rows_next a.cap (held_text a.spans.now a.bytes.now a.strings) a.kind a.arena.now a.table.now count.lesser-n.result turn.loop-i.i _ _ (omega arith) e
-            ∙ turn.loop-i.invariant.1.1,
+        rows_next a.cap (held_text a.spans.now a.bytes.now a.strings) a.kind a.arena.now a.table.now c.lesser-n.result c.loop-i.i _ _ (omega arith) e
+            ∙ c.loop-i.invariant.1.1,
       ),
     )
 
 pub returns : goal.returns
 unfolding held
 returns c =
-    let turn = c in
-    let count = c in
-    let start = c in
-    let a = start.args in
-    rw (← count.lesser-n.ensures)
-    (sym (rows_end a.cap (held_text a.spans.now a.bytes.now a.strings) a.kind a.arena.now a.table.now count.lesser-n.result turn.loop-i.i _ (omega arith))
-    ∙ turn.loop-i.invariant.1.1)
+    let a = c.args in
+    rw (← c.lesser-n.ensures)
+    (sym (rows_end a.cap (held_text a.spans.now a.bytes.now a.strings) a.kind a.arena.now a.table.now c.lesser-n.result c.loop-i.i _ (omega arith))
+    ∙ c.loop-i.invariant.1.1)

@@ -1,6 +1,5 @@
 -- `nesting::child_name` asks for each spelling from the eighth on, the last first.
 use Rattle.nesting.specs.Name.{spellings, name_in}
-use borrow.Author.Rules.{rules}
 use Rattle.nesting.proofs.child_name.Goals as goal
 
 pub returns : goal.returns

@@ -1,11 +1,5 @@
-
 -- `nesting::in_doc` takes `osmChange` alone.
-use mathlib.Core.Path.{◌≡◌}
-use mathlib.Core.List.{[], ◌∷◌}
 use Rattle.nesting.specs.Nesting.{in_doc}
-use Rattle.nesting.specs.declared.Name.TheVariants.{Create, Modify, Delete, Node, Way, Relation, Tag, Nd, Member, Bounds, Unknown}
-use Rattle.nesting.specs.declared.Opened.TheVariants.{Misplaced}
-use Rattle.nesting.proofs.Codes.{name_arm}
 use borrow.Author.Rules.{rules}
 use Rattle.nesting.proofs.in_doc.Goals as goal
 

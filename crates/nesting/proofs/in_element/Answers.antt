@@ -1,11 +1,6 @@
-
 -- `nesting::in_element` takes the children of the element's kind.
-use mathlib.Core.Path.{◌≡◌, ◌∙◌}
-use mathlib.Core.List.{[], ◌∷◌}
+use mathlib.Core.Path.{◌∙◌}
 use Rattle.nesting.specs.Nesting.{in_element}
-use Rattle.nesting.specs.declared.Name.TheVariants.{OsmChange, Create, Modify, Delete, Node, Way, Relation, Unknown}
-use Rattle.nesting.specs.declared.Opened.TheVariants.{Misplaced}
-use Rattle.nesting.proofs.Codes.{name_arm}
 use borrow.Author.Rules.{rules}
 use Rattle.nesting.proofs.in_element.Goals as goal
 

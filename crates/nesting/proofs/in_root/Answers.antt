@@ -1,11 +1,6 @@
 -- `nesting::in_root` opens a section, refuses an object and the root, and lets every other name pass.
-use mathlib.Core.Path.{◌≡◌, ◌∙◌}
-use mathlib.Core.List.{[], ◌∷◌}
-use Rattle.nesting.specs.Nesting.{unless, in_root}
-use Rattle.nesting.specs.declared.Level.TheVariants.{Other}
-use Rattle.nesting.specs.declared.Name.TheVariants.{Node, Way, Relation, Tag, Nd, Member, Bounds, Unknown}
-use Rattle.nesting.specs.declared.Opened.TheVariants.{OutsideSection, Goes}
-use Rattle.nesting.proofs.Codes.{name_arm}
+use mathlib.Core.Path.{◌∙◌}
+use Rattle.nesting.specs.Nesting.{in_root}
 use borrow.Author.Rules.{rules}
 use Rattle.nesting.proofs.in_root.Goals as goal
 
@@ -21,14 +16,14 @@ pub returns-in-Delete : goal.returns-in-Delete
 unfolding in_root
 returns-in-Delete c = c.section_of-in-Delete.ensures ∙ rw c.in-Delete.is
 
-pub returns-in-Node : goal.returns-in-Node
-unfolding in_root
-returns-in-Node c = name_arm (λ n. OutsideSection ≡ in_root c.args.empty n c.args.p) (Node ∷ Way ∷ Relation ∷ []) (search) c.args.n c.in-Node.in-Node-own.keys4
-
 pub returns-in-OsmChange : goal.returns-in-OsmChange
 unfolding in_root
 returns-in-OsmChange c = rw c.in-OsmChange.is
 
+pub returns-in-Node : goal.returns-in-Node
+unfolding in_root
+returns-in-Node c = search rules
+
 pub returns-in_default : goal.returns-in_default
 unfolding in_root
-returns-in_default c = rw c.unless.ensures (name_arm (λ n. Goes (unless c.args.empty Other c.args.p) ≡ in_root c.args.empty n c.args.p) (Tag ∷ Nd ∷ Member ∷ Bounds ∷ Unknown ∷ []) (search) c.args.n c.in_default.in_default-own.keys6)
+returns-in_default c = rw c.unless.ensures (search rules)

@@ -1,11 +1,6 @@
-
 -- `nesting::in_section` begins an object, and refuses every other name.
-use mathlib.Core.Path.{◌≡◌, ◌∙◌}
-use mathlib.Core.List.{[], ◌∷◌}
+use mathlib.Core.Path.{◌∙◌}
 use Rattle.nesting.specs.Nesting.{in_section}
-use Rattle.nesting.specs.declared.Name.TheVariants.{OsmChange, Create, Modify, Delete, Tag, Nd, Member, Bounds, Unknown}
-use Rattle.nesting.specs.declared.Opened.TheVariants.{Misplaced}
-use Rattle.nesting.proofs.Codes.{name_arm}
 use borrow.Author.Rules.{rules}
 use Rattle.nesting.proofs.in_section.Goals as goal
 

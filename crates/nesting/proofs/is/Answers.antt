@@ -1,9 +1,6 @@
 use Rattle.nesting.proofs.Same.{same_length, same_next, same_stop, same_end}
-use Rattle.base.specs.Bytes.{same}
-use lib.ListN.{length, drop}
 use native.Mathlib.Omega.{arith}
-use mathlib.Core.Path.{◌≡◌, refl, sym, ◌∙◌}
-use Prim.Native.Nat.{◌≤◌, ◌-◌}
+use mathlib.Core.Path.{refl, sym, ◌∙◌}
 use Rattle.nesting.proofs.is.Goals as goal
 
 pub returns-then-s-name : goal.returns-then-s-name

@@ -1,9 +1,7 @@
 -- `nesting::is` tells whether two runs of bytes are the same. The loop's invariant: the tests that are left decide.
-use Rattle.nesting.proofs.Same.{same_length, same_next, same_stop, same_end}
 use Rattle.base.specs.Bytes.{same}
 use lib.ListN.{length, drop}
-use native.Mathlib.Omega.{arith}
-use mathlib.Core.Path.{◌≡◌, refl, sym, ◌∙◌}
+use mathlib.Core.Path.{◌≡◌}
 use Prim.Native.Nat.{◌≤◌, ◌-◌}
 use Rattle.nesting.proofs.is.Given as goal
 

@@ -1,6 +1,5 @@
 -- `nesting::name_of` asks for each spelling, the last first.
 use Rattle.nesting.specs.Name.{spellings, name_in, name_of}
-use borrow.Author.Rules.{rules}
 use Rattle.nesting.proofs.name_of.Goals as goal
 
 pub returns : goal.returns

@@ -1,5 +1,4 @@
 -- `nesting::named` gives the name of its spelling, or the other.
-use borrow.Author.Rules.{rules}
 use Rattle.nesting.proofs.named.Goals as goal
 
 pub returns-then-is : goal.returns-then-is

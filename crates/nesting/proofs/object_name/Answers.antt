@@ -1,6 +1,5 @@
 -- `nesting::object_name` asks for each spelling from the fifth on, the last first.
 use Rattle.nesting.specs.Name.{spellings, name_in}
-use borrow.Author.Rules.{rules}
 use Rattle.nesting.proofs.object_name.Goals as goal
 
 pub returns : goal.returns

@@ -1,10 +1,6 @@
 -- `nesting::open_at` goes by the level.
-use mathlib.Core.Path.{◌≡◌, ◌∙◌}
-use mathlib.Core.List.{[], ◌∷◌}
+use mathlib.Core.Path.{◌∙◌}
 use Rattle.nesting.specs.Nesting.{opened_at, opened}
-use Rattle.nesting.specs.declared.Level.TheVariants.{Leaf, Other, Done}
-use Rattle.nesting.specs.declared.Opened.TheVariants.{Misplaced}
-use Rattle.nesting.proofs.Codes.{level_arm}
 use borrow.Author.Rules.{rules}
 use Rattle.nesting.proofs.open_at.Goals as goal
 
@@ -26,4 +22,4 @@ returns-in-Element c = c.in_element.ensures ∙ rw c.in-Element.is
 
 pub returns-in_default : goal.returns-in_default
 unfolding opened opened_at
-returns-in_default c = level_arm (λ l. Misplaced ≡ opened_at l c.args.empty c.args.n c.args.p) (Leaf ∷ Other ∷ Done ∷ []) (search) c.args.p.level c.in_default.in_default-own.keys5
+returns-in_default c = search rules

@@ -1,6 +1,5 @@
 -- `nesting::unless` leaves the place of an empty element, and goes to the level of one that is not.
 use mathlib.Core.Path.{◌∙◌}
-use borrow.Author.Rules.{rules}
 use Rattle.nesting.proofs.unless.Goals as goal
 
 pub returns-else-empty : goal.returns-else-empty

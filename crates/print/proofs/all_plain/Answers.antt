@@ -1,11 +1,5 @@
-use Prim.Native.Nat.{◌-◌, ◌≤◌}
-use mathlib.Core.Path.{◌≡◌}
-use mathlib.Core.Bool.{true}
 use native.Mathlib.Omega.{arith}
-use lib.ListN.{length, drop}
-use Rattle.text.specs.Escape.{escape}
 use Rattle.print.proofs.Pieces.{and_left, and_right, plain_at, plain_end}
-use borrow.Author.Rules.{rules}
 use Rattle.print.proofs.all_plain.Goals as goal
 
 pub loop-i-init : goal.loop-i-init

@@ -1,7 +1,6 @@
 -- `behind_bytes` takes the piece from the room where it fits.
 use mathlib.Core.Path.{sym}
 use Rattle.print.proofs.Prints.{behind_full, behind_fits, behind_past}
-use borrow.Author.Rules.{rules}
 use Rattle.print.proofs.behind_bytes.Goals as goal
 
 pub returns-in_default : goal.returns-in_default

@@ -3,7 +3,6 @@ use mathlib.Core.Path.{◌∙◌, ap}
 use native.Mathlib.Omega.{arith}
 use lib.ListN.{length}
 use Rattle.print.proofs.Pieces.{letter_some}
-use borrow.Author.Rules.{rules}
 use Rattle.print.proofs.longer.Goals as goal
 
 pub returns-then-letter-eq0 : goal.returns-then-letter-eq0

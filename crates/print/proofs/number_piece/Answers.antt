@@ -3,7 +3,6 @@ use mathlib.Core.Path.{◌∙◌, ap}
 use Rattle.line.specs.Decimal.{number_text}
 use Rattle.print.specs.Piece.{behind}
 use Rattle.print.proofs.Pieces.{number_written}
-use borrow.Author.Rules.{rules}
 use Rattle.print.proofs.number_piece.Goals as goal
 
 pub returns : goal.returns

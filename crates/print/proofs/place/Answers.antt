@@ -2,7 +2,6 @@
 use mathlib.Core.Path.{sym, ◌∙◌}
 use native.Mathlib.Omega.{arith}
 use Rattle.print.proofs.Pieces.{place_full, place_none, place_taken, place_left}
-use borrow.Author.Rules.{rules}
 use Rattle.print.proofs.place.Goals as goal
 
 pub returns-in_default : goal.returns-in_default

@@ -1,6 +1,5 @@
 -- `put_byte` stores a byte within what is lent.
 use Rattle.print.proofs.Pieces.{wrote_byte, wrote_past}
-use borrow.Author.Rules.{rules}
 use Rattle.print.proofs.put_byte.Goals as goal
 
 pub returns-then-at-out : goal.returns-then-at-out

@@ -1,6 +1,5 @@
 -- `put_bytes` lends the rest from the place of the piece on.
 use Rattle.print.proofs.Pieces.{piece_written}
-use borrow.Author.Rules.{rules}
 use Rattle.print.proofs.put_bytes.Goals as goal
 
 pub returns : goal.returns

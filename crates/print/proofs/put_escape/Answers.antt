@@ -1,12 +1,11 @@
-use Prim.Native.Nat.{◌+◌, ◌-◌, ◌≤◌}
-use mathlib.Core.Path.{◌≡◌, refl, sym, ◌∙◌, ap}
+use Prim.Native.Nat.{◌+◌}
+use mathlib.Core.Path.{refl, sym, ◌∙◌, ap}
 use native.Mathlib.Omega.{arith}
-use lib.ListN.{length, drop}
+use lib.ListN.{drop}
 use Rattle.text.specs.Escape.{escape}
 use Rattle.little.specs.Little.{over}
 use Rattle.little.proofs.Overs.{over_nothing}
 use Rattle.print.proofs.Pieces.{escape_at, escape_end}
-use borrow.Author.Rules.{rules}
 use Rattle.print.proofs.put_escape.Goals as goal
 
 pub loop-i-init : goal.loop-i-init

@@ -1,13 +1,9 @@
 -- `put_escape` writes the escape of each byte behind the last. The invariant: the escape of the rest, written from there on, makes the whole.
-use Prim.Native.Nat.{◌+◌, ◌-◌, ◌≤◌}
-use mathlib.Core.Path.{◌≡◌, refl, sym, ◌∙◌, ap}
-use native.Mathlib.Omega.{arith}
+use Prim.Native.Nat.{◌-◌, ◌≤◌}
+use mathlib.Core.Path.{◌≡◌}
 use lib.ListN.{length, drop}
 use Rattle.text.specs.Escape.{escape}
 use Rattle.little.specs.Little.{over}
-use Rattle.little.proofs.Overs.{over_nothing}
-use Rattle.print.proofs.Pieces.{escape_at, escape_end}
-use borrow.Author.Rules.{rules}
 use Rattle.print.proofs.put_escape.Given as goal
 
 abbrev pub invariant-loop-i : goal.invariant-loop-i

@@ -1,7 +1,6 @@
 -- `put_escaped` stores the byte, or a backslash and its letter.
 use mathlib.Core.Path.{◌∙◌}
 use Rattle.print.proofs.Pieces.{letter_some, wrote_both}
-use borrow.Author.Rules.{rules}
 use Rattle.print.proofs.put_escaped.Goals as goal
 
 pub returns-then-m-eq0 : goal.returns-then-m-eq0

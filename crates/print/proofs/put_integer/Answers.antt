@@ -4,7 +4,6 @@ use mir.Val.{to_z}
 use Rattle.line.specs.Decimal.{integer_text}
 use Rattle.print.specs.Print.{tab}
 use Rattle.print.proofs.Pieces.{two_printed}
-use borrow.Author.Rules.{rules}
 use Rattle.print.proofs.put_integer.Goals as goal
 
 pub returns : goal.returns

@@ -1,5 +1,4 @@
 -- `put_integer32` prints the same integer in 64 bits.
-use borrow.Author.Rules.{rules}
 use Rattle.print.proofs.put_integer32.Goals as goal
 
 pub returns : goal.returns

@@ -1,5 +1,4 @@
 -- `put_tab` prints a tab.
-use borrow.Author.Rules.{rules}
 use Rattle.print.proofs.put_tab.Goals as goal
 
 pub returns : goal.returns

@@ -2,7 +2,6 @@
 use Rattle.text.specs.Escape.{escape}
 use Rattle.print.specs.Print.{tab}
 use Rattle.print.proofs.Pieces.{two_printed}
-use borrow.Author.Rules.{rules}
 use Rattle.print.proofs.put_text.Goals as goal
 
 pub returns : goal.returns

@@ -1,10 +1,9 @@
-use Prim.Native.Nat.{◌+◌, ◌-◌, ◌≤◌}
-use mathlib.Core.Path.{◌≡◌, ◌∙◌, ap}
+use Prim.Native.Nat.{◌+◌}
+use mathlib.Core.Path.{◌∙◌, ap}
 use native.Mathlib.Omega.{arith}
 use lib.ListN.{length, get_or, drop, length-append}
 use Rattle.text.specs.Escape.{escaped, escape}
 use Rattle.print.proofs.Pieces.{escape_at, escape_end}
-use borrow.Author.Rules.{rules}
 use Rattle.print.proofs.text_longer.Goals as goal
 
 pub loop-i-init : goal.loop-i-init

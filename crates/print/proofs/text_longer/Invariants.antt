@@ -1,11 +1,8 @@
 -- `text_longer` counts the escaped bytes. The invariant: the bytes passed, those counted and the escape of the rest are as many as the whole escape.
 use Prim.Native.Nat.{◌+◌, ◌-◌, ◌≤◌}
-use mathlib.Core.Path.{◌≡◌, ◌∙◌, ap}
-use native.Mathlib.Omega.{arith}
-use lib.ListN.{length, get_or, drop, length-append}
-use Rattle.text.specs.Escape.{escaped, escape}
-use Rattle.print.proofs.Pieces.{escape_at, escape_end}
-use borrow.Author.Rules.{rules}
+use mathlib.Core.Path.{◌≡◌}
+use lib.ListN.{length, drop}
+use Rattle.text.specs.Escape.{escape}
 use Rattle.print.proofs.text_longer.Given as goal
 
 abbrev pub invariant-loop-i : goal.invariant-loop-i

@@ -2,7 +2,6 @@
 use Rattle.text.specs.Escape.{escape}
 use Rattle.print.proofs.Prints.{behind_both}
 use Rattle.print.proofs.Pieces.{piece_written}
-use borrow.Author.Rules.{rules}
 use Rattle.print.proofs.text_piece.Goals as goal
 
 pub returns-then-all_plain : goal.returns-then-all_plain

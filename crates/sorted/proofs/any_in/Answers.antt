@@ -1,5 +1,4 @@
 -- `sorted::any_in` meets its contract.
-use borrow.Author.Rules.{rules}
 use Rattle.sorted.specs.Lookup.{ids_of}
 use Rattle.sorted.proofs.Lookups.{any_is}
 use Rattle.sorted.proofs.any_in.Goals as goal

@@ -1,7 +1,5 @@
-use Prim.Native.Nat.{◌≤◌, ◌-◌}
 use native.Mathlib.Omega.{arith}
-use lib.ListN.{length}
-use Rattle.sorted.specs.Lookup.{ids_of, count, under}
+use Rattle.sorted.specs.Lookup.{ids_of, under}
 use Rattle.sorted.proofs.Counts.{count_le}
 use Rattle.sorted.proofs.Steps.{lengths, above, below}
 use Rattle.sorted.proofs.count_under.Goals as goal

@@ -1,10 +1,7 @@
 -- `sorted::count_under` meets its contract. The loop's invariant: the number lies from lo to hi.
 use Prim.Native.Nat.{◌≤◌, ◌-◌}
-use native.Mathlib.Omega.{arith}
 use lib.ListN.{length}
 use Rattle.sorted.specs.Lookup.{ids_of, count, under}
-use Rattle.sorted.proofs.Counts.{count_le}
-use Rattle.sorted.proofs.Steps.{lengths, above, below}
 use Rattle.sorted.proofs.count_under.Given as goal
 
 abbrev pub invariant-loop-lo : goal.invariant-loop-lo

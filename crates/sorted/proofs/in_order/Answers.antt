@@ -1,10 +1,7 @@
-use Prim.Native.Nat.{◌≤◌, ◌-◌}
-use mathlib.Core.Path.{◌≡◌, sym, ◌∙◌}
-use borrow.Author.Rules.{rules}
+use mathlib.Core.Path.{sym, ◌∙◌}
 use native.Mathlib.Omega.{arith}
-use lib.ListN.{length}
-use Rattle.sorted.specs.Lookup.{ids_of, in_order}
-use Rattle.sorted.proofs.Steps.{lengths, rest_rises, rises_start, rises_end, rises_more, rises_no}
+use Rattle.sorted.specs.Lookup.{ids_of}
+use Rattle.sorted.proofs.Steps.{lengths, rises_start, rises_end, rises_more, rises_no}
 use Rattle.sorted.proofs.in_order.Goals as goal
 
 pub loop-i-init : goal.loop-i-init

@@ -1,11 +1,9 @@
 -- `sorted::in_order` meets its contract. The loop's invariant: whether the list is in order is whether the rest of it rises.
 use Prim.Native.Nat.{◌≤◌, ◌-◌}
-use mathlib.Core.Path.{◌≡◌, sym, ◌∙◌}
-use borrow.Author.Rules.{rules}
-use native.Mathlib.Omega.{arith}
+use mathlib.Core.Path.{◌≡◌}
 use lib.ListN.{length}
 use Rattle.sorted.specs.Lookup.{ids_of, in_order}
-use Rattle.sorted.proofs.Steps.{lengths, rest_rises, rises_start, rises_end, rises_more, rises_no}
+use Rattle.sorted.proofs.Steps.{rest_rises}
 use Rattle.sorted.proofs.in_order.Given as goal
 
 abbrev pub invariant-loop-i : goal.invariant-loop-i

@@ -1,5 +1,4 @@
 -- `sorted::is_under` meets its contract.
-use borrow.Author.Rules.{rules}
 use Rattle.sorted.specs.Lookup.{under}
 use Rattle.sorted.proofs.is_under.Goals as goal
 

@@ -1,6 +1,5 @@
 -- `sorted::key_at` meets its contract.
 use mir.Facts.{sfits_to_z, to_z-of_z}
-use borrow.Author.Rules.{rules}
 use Rattle.sorted.proofs.Steps.{word_id}
 use Rattle.sorted.proofs.key_at.Goals as goal
 

@@ -1,5 +1,4 @@
 -- `sorted::overlap_in` meets its contract.
-use borrow.Author.Rules.{rules}
 use mir.Facts.{to_z-of_z}
 use Rattle.base.specs.Bytes.{either}
 use Rattle.sorted.specs.Lookup.{overlaps}

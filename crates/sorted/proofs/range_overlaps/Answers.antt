@@ -1,5 +1,4 @@
 -- `sorted::range_overlaps` meets its contract.
-use borrow.Author.Rules.{rules}
 use mathlib.Core.Path.{sym, ◌∙◌}
 use mir.Facts.{to_z-of_z}
 use Rattle.base.specs.Bytes.{both}

@@ -1,5 +1,4 @@
 -- `sorted::reach` meets its contract.
-use borrow.Author.Rules.{rules}
 use mathlib.Core.Path.{sym, ◌∙◌}
 use native.Mathlib.Omega.{arith}
 use Rattle.sorted.specs.Lookup.{ids_of}

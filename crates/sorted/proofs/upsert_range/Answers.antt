@@ -1,5 +1,4 @@
 -- `sorted::upsert_range` meets its contract.
-use borrow.Author.Rules.{rules}
 use mathlib.Core.Path.{sym, ◌∙◌}
 use borrow.Author.Tests.{lt-ltb, le-ltb}
 use Rattle.sorted.specs.Lookup.{ids_of, range_of}

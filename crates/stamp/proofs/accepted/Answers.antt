@@ -3,7 +3,6 @@ use mathlib.Core.Path.{sym, ◌∙◌, ap}
 use Rattle.stamp.specs.declared.Stamp.TheVariants.{At}
 use Rattle.stamp.proofs.Reading.{six_none, six_some}
 use Rattle.stamp.proofs.Answering.{no_moment, not_taken, taken_at}
-use borrow.Author.Rules.{rules}
 use Rattle.stamp.proofs.accepted.Goals as goal
 
 pub returns-in_default : goal.returns-in_default

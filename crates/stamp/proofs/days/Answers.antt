@@ -2,7 +2,6 @@
 use native.Mathlib.Omega.{arith}
 use Rattle.stamp.proofs.Judging.{moment_ranges}
 use Rattle.stamp.proofs.Counting.{days_are, days_high}
-use borrow.Author.Rules.{rules}
 use Rattle.stamp.proofs.days.Goals as goal
 
 pub overflow_cast-m : goal.overflow_cast-m

@@ -1,7 +1,6 @@
 -- `parse_rfc3339_utc`: 20 bytes with the separators go on to their fields; any other text is refused.
 use mathlib.Core.Path.{sym, ◌∙◌}
 use Rattle.stamp.proofs.Answering.{of_shape, not_separated, not_twenty}
-use borrow.Author.Rules.{rules}
 use Rattle.stamp.proofs.parse_rfc3339_utc.Goals as goal
 
 pub returns-then-separated : goal.returns-then-separated

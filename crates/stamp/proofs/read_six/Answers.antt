@@ -1,6 +1,5 @@
 -- `read_six`: one law for the first field that is not digits, and one for all six.
 use Rattle.stamp.proofs.Reading.{field_none, field_some, no_year, no_month, no_day, no_hour, no_minute, no_second, moment_of_lem, six_not, six_are}
-use borrow.Author.Rules.{rules}
 use Rattle.stamp.proofs.read_six.Goals as goal
 
 pub returns-in_default : goal.returns-in_default

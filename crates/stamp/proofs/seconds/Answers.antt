@@ -4,7 +4,6 @@ use native.Mathlib.Omega.{arith}
 use Rattle.stamp.specs.Stamp.{seconds_of}
 use Rattle.stamp.proofs.Judging.{moment_ranges}
 use Rattle.stamp.proofs.Counting.{days_high}
-use borrow.Author.Rules.{rules}
 use Rattle.stamp.proofs.seconds.Goals as goal
 
 pub overflow_mul-days : goal.overflow_mul-days

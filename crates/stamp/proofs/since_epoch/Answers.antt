@@ -2,7 +2,6 @@
 use native.Mathlib.Omega.{arith}
 use borrow.Author.Tests.{lt-ltb, le-ltb}
 use Rattle.stamp.proofs.Counting.{epoch_is}
-use borrow.Author.Rules.{rules}
 use Rattle.stamp.proofs.since_epoch.Goals as goal
 
 pub returns-then-total-ge-EPOCH : goal.returns-then-total-ge-EPOCH

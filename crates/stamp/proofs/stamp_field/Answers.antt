@@ -3,7 +3,6 @@ use mathlib.Core.Path.{sym, ◌∙◌, ap}
 use native.Mathlib.Omega.{arith}
 use Rattle.integer.proofs.Integers.{at_most_lem}
 use Rattle.stamp.proofs.Reading.{field_in, field_read}
-use borrow.Author.Rules.{rules}
 use Rattle.stamp.proofs.stamp_field.Goals as goal
 
 pub returns-in_default : goal.returns-in_default

@@ -3,7 +3,6 @@ use mathlib.Core.Path.{sym, ◌∙◌, ap}
 use native.Mathlib.Omega.{arith}
 use Rattle.calendar.specs.Calendar.{month_days}
 use Rattle.stamp.proofs.Judging.{and_both, before_month, after_month, of_month}
-use borrow.Author.Rules.{rules}
 use Rattle.stamp.proofs.taken.Goals as goal
 
 pub returns-then-m-lt1 : goal.returns-then-m-lt1

@@ -1,7 +1,6 @@
 -- `text::byte` meets its contract.
 use lib.ListN.{get_or-eq_default}
 use mathlib.Core.Path.{sym}
-use borrow.Author.Rules.{rules}
 use Rattle.text.proofs.byte.Goals as goal
 
 pub returns-else-at-s : goal.returns-else-at-s

@@ -1,6 +1,5 @@
 -- `text::four` meets its contract: what it reads is what the length of the character goes by.
 use mathlib.Core.Path.{sym, ◌∙◌}
-use borrow.Author.Rules.{rules}
 use Rattle.text.proofs.Classes.{at_4}
 use Rattle.text.proofs.four.Goals as goal
 

@@ -1,6 +1,5 @@
 -- `text::is_text` meets its contract: plain bytes are text, and of other bytes the walk tells.
 use mathlib.Core.Path.{sym, ◌∙◌}
-use borrow.Author.Rules.{rules}
 use Rattle.text.proofs.PlainBytes.{plain_text}
 use Rattle.text.proofs.is_text.Goals as goal
 

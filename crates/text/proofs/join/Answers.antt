@@ -1,7 +1,6 @@
 -- `text::join` meets its contract, by the laws of a joined byte.
 use mathlib.Core.Path.{sym}
 use native.Mathlib.Omega.{arith}
-use borrow.Author.Rules.{rules}
 use Rattle.text.proofs.Chars.{join_yes, join_below, join_above}
 use Rattle.text.proofs.join.Goals as goal
 

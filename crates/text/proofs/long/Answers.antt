@@ -1,7 +1,6 @@
 -- `text::long` meets its contract, by that of its class, or by there being no character of class 0.
 use mathlib.Core.Path.{sym}
 use native.Mathlib.Omega.{arith}
-use borrow.Author.Rules.{rules}
 use Rattle.text.proofs.Classes.{class_most, at_none}
 use Rattle.text.proofs.long.Goals as goal
 

@@ -1,9 +1,6 @@
-use Prim.Native.Nat.{◌≤◌, ◌-◌}
-use mathlib.Core.Path.{◌≡◌, refl, sym, ◌∙◌}
+use mathlib.Core.Path.{refl, sym, ◌∙◌}
 use native.Mathlib.Omega.{arith}
-use lib.ListN.{length, drop}
-use borrow.Author.Rules.{rules}
-use Rattle.base.specs.Bytes.{both, all}
+use Rattle.base.specs.Bytes.{both}
 use Rattle.text.specs.Check.{is_plain}
 use Rattle.text.proofs.PlainBytes.{pass_on, pass_ends, plain_test}
 use Rattle.text.proofs.plain.Goals as goal

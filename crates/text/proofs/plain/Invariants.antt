@@ -1,12 +1,9 @@
 -- `text::plain` meets its contract. The loop's invariant: the bytes so far and those left decide.
 use Prim.Native.Nat.{◌≤◌, ◌-◌}
-use mathlib.Core.Path.{◌≡◌, refl, sym, ◌∙◌}
-use native.Mathlib.Omega.{arith}
+use mathlib.Core.Path.{◌≡◌}
 use lib.ListN.{length, drop}
-use borrow.Author.Rules.{rules}
 use Rattle.base.specs.Bytes.{both, all}
 use Rattle.text.specs.Check.{is_plain}
-use Rattle.text.proofs.PlainBytes.{pass_on, pass_ends, plain_test}
 use Rattle.text.proofs.plain.Given as goal
 
 abbrev pub invariant-loop-i : goal.invariant-loop-i

@@ -1,6 +1,5 @@
 -- `text::size` meets its contract.
 use mathlib.Core.Path.{sym, ◌∙◌}
-use borrow.Author.Rules.{rules}
 use Rattle.text.proofs.Lengths.{sized_low, sized_is}
 use Rattle.text.proofs.size.Goals as goal
 

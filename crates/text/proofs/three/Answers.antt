@@ -1,6 +1,5 @@
 -- `text::three` meets its contract: what it reads is what the length of the character goes by.
 use mathlib.Core.Path.{sym, ◌∙◌}
-use borrow.Author.Rules.{rules}
 use Rattle.text.proofs.Classes.{at_3}
 use Rattle.text.proofs.three.Goals as goal
 

@@ -9,13 +9,9 @@ use Rattle.text_index.proofs.find_held.Goals as goal
 
 pub slice_bounds-find_by-end : goal.slice_bounds-find_by-end
 slice_bounds-find_by-end c =
-    let n = c in
-    let s = c in
-    sym (length-take-le n.lesser-seen.result s.args.bytes.now (omega (arith, n.lesser-seen.ensures)))
+    sym (length-take-le c.lesser-seen.result c.args.bytes.now (omega (arith, c.lesser-seen.ensures)))
 
 pub returns : goal.returns
 returns c =
-    let n = c in
-    let s = c in
-    let a = s.args in
-    λ g. (rw (n.lesser-seen.ensures, take_min) at c.find_by.ensures) (given_chains a.ix.now (store_with a.spans.now a.bytes.now a.strings a.used) g)
+    let a = c.args in
+    λ g. (rw (c.lesser-seen.ensures, take_min) at c.find_by.ensures) (given_chains a.ix.now (store_with a.spans.now a.bytes.now a.strings a.used) g)

@@ -5,6 +5,4 @@ use Rattle.text_index.proofs.intern_by.Goals as goal
 pub returns : goal.returns
 unfolding intern
 returns c =
-    let w = c in
-    let f = c in
-    λ g. rw (← f.find_held-found.ensures g) w.intern_found.ensures
+    λ g. rw (← c.find_held-found.ensures g) c.intern_found.ensures

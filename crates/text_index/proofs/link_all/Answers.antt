@@ -22,14 +22,13 @@ loop-h-smaller c = omega arith
 
 pub loop-h-preserved : goal.loop-h-preserved
 loop-h-preserved c =
-    let s = c in
-    let a = s.args in
+    let a = c.args in
     let l = c.loop-h in
     let b = c.bucket_at-b in
     let t = c.loop-h-test.true in
     let e = c.link.ensures in
-    let long : 8192 < length l.ix = omega (arith, s.requires.0, l.invariant.1.0) in
-    let hh : l.h < 4096 = omega (arith, s.requires.1.1, t) in (
+    let long : 8192 < length l.ix = omega (arith, c.requires.0, l.invariant.1.0) in
+    let hh : l.h < 4096 = omega (arith, c.requires.1.1, t) in (
       omega (arith, t),
       (
         rw e (length_linked l.ix b.result l.h long b.ensures.upper_bound hh ∙ l.invariant.1.0),

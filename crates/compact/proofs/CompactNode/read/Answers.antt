@@ -1,6 +1,5 @@
 -- A node's head is read field by field.
 use Rattle.compact.specs.View.{node_at}
-use borrow.Author.Rules.{rules}
 use Rattle.compact.proofs.CompactNode.read.Goals as goal
 
 pub returns : goal.returns

@@ -2,9 +2,8 @@
 use native.Mathlib.Omega.{arith}
 use Rattle.kind.specs.declared.Kind.TheVariants.{Node}
 use Rattle.compact.specs.Held.{node_head}
-use Rattle.compact.specs.View.{node_at, head_at, tags_at}
+use Rattle.compact.specs.View.{head_at, tags_at}
 use Rattle.compact.proofs.Tags.{place_short, place_whole}
-use borrow.Author.Rules.{rules}
 use Rattle.compact.proofs.CompactNode.tag_place.Goals as goal
 
 pub returns-then-bytes-lt-META_OFF : goal.returns-then-bytes-lt-META_OFF

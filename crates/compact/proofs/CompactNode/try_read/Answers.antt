@@ -2,7 +2,6 @@
 use native.Mathlib.Omega.{arith}
 use Rattle.little.proofs.Littles.{bytes_of}
 use Rattle.compact.proofs.Steps.{node_short, node_whole}
-use borrow.Author.Rules.{rules}
 use Rattle.compact.proofs.CompactNode.try_read.Goals as goal
 
 pub returns-then-bytes-lt-META_OFF : goal.returns-then-bytes-lt-META_OFF

@@ -1,6 +1,5 @@
 -- A head is read field by field.
 use Rattle.compact.specs.View.{relation_at}
-use borrow.Author.Rules.{rules}
 use Rattle.compact.proofs.CompactRelation.read.Goals as goal
 
 pub returns : goal.returns

@@ -1,7 +1,6 @@
 -- The first tag stands behind the head and the refs or members.
 use mathlib.Core.Path.{refl}
 use Rattle.compact.specs.View.{tags_at}
-use borrow.Author.Rules.{rules}
 use Rattle.compact.proofs.CompactRelation.tags_at.Goals as goal
 
 pub returns : goal.returns

@@ -2,7 +2,6 @@
 use native.Mathlib.Omega.{arith}
 use Rattle.little.proofs.Littles.{bytes_of}
 use Rattle.compact.proofs.Steps.{relation_short, relation_whole}
-use borrow.Author.Rules.{rules}
 use Rattle.compact.proofs.CompactRelation.try_read.Goals as goal
 
 pub returns-then-bytes-lt-META_OFF : goal.returns-then-bytes-lt-META_OFF

@@ -1,6 +1,5 @@
 -- A head is read field by field.
 use Rattle.compact.specs.View.{way_at}
-use borrow.Author.Rules.{rules}
 use Rattle.compact.proofs.CompactWay.read.Goals as goal
 
 pub returns : goal.returns

@@ -1,0 +1,8 @@
+-- Each word in its place.
+use Rattle.c_reader.specs.Words.{words_of_reader}
+use borrow.Author.Rules.{rules}
+use Rattle.c_reader.proofs.put_reader.Goals as goal
+
+pub returns : goal.returns
+unfolding words_of_reader
+returns c = rw (c.level_word.ensures, c.section_word.ensures, c.kind_word.ensures, c.mark_words-mark.ensures)

@@ -1,0 +1,12 @@
+-- The kind chooses its part of the blocks and its counters.
+use Rattle.overlay_store.proofs.Parts.{push_after}
+use borrow.Author.Rules.{rules}
+use Rattle.overlay_store.proofs.store_push.Reads as reads
+use Rattle.overlay_store.proofs.store_push.Lts as lts
+use Rattle.overlay_store.proofs.store_push.Tie as tie
+use Rattle.overlay_store.proofs.store_push.Goals as goal
+
+pub returns : goal.returns
+returns c =
+    let k = c.args in
+    push_after k.kind k.words.now k.bytes.now k.counters.now c.push_at.new.used _ c.part_in-p.ensures.0 _ _ _ c.push_at.auto.table c.push_at.auto.arena k.head k.meta k.parts.now c.push_at.ensures

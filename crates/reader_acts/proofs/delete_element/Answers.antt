@@ -1,0 +1,29 @@
+-- The handle of the user's text is found first: with one the id is deleted and the text follows, without one it is refused.
+use mathlib.Core.Path.{sym, ◌∙◌}
+use mir.Syntax.{w64}
+use mir.Val.{to_z}
+use Rattle.base.specs.Bytes.{Bytes}
+use Rattle.model.specs.Record.{Meta}
+use Rattle.overlay.specs.Overlay.{Overlay}
+use Rattle.overlay.specs.Lent.{overlay_in}
+use Rattle.event_metadata.specs.Metadata.{meta_written}
+use Rattle.reader_acts.proofs.Once.{behind, delete_done, delete_not}
+use borrow.Author.Rules.{rules}
+use Rattle.reader_acts.proofs.delete_element.Reads as reads
+use Rattle.reader_acts.proofs.delete_element.Lts as lts
+use Rattle.reader_acts.proofs.delete_element.Tie as tie
+use Rattle.reader_acts.proofs.delete_element.Goals as goal
+
+pub returns-in-Is : goal.returns-in-Is
+returns-in-Is c =
+    let k = c.args in
+    λ g.
+    let is = c.user_handle.ensures g in
+    let w = rw (c.claimed.ensures k.line.now) at c.store_delete-kept.ensures in
+    delete_done k.kind (to_z w64 k.id) (meta_written c.args.line.now c.args.meta) (overlay_in c.args.words.now c.args.bytes.now c.args.counters.now) is c.in-Is.is
+    (behind k.ix.now k.line.now k.meta (meta_written c.args.line.now c.args.meta) (overlay_in c.args.words.now c.args.bytes.now c.args.counters.now) g _ (sym is ∙ c.in-Is.is) k.kind _ w c.then_user.ensures)
+
+pub returns-in-Refused : goal.returns-in-Refused
+returns-in-Refused c =
+    let k = c.args in
+    λ g. delete_not k.kind (to_z w64 k.id) (meta_written c.args.line.now c.args.meta) (overlay_in c.args.words.now c.args.bytes.now c.args.counters.now) (c.user_handle.ensures g) c.in-Refused.is (c.user_refused.ensures k.line.now)

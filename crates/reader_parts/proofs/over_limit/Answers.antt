@@ -1,0 +1,14 @@
+-- By what the text would be answered.
+use borrow.Author.Rules.{rules}
+use Rattle.reader_parts.proofs.over_limit.Reads as reads
+use Rattle.reader_parts.proofs.over_limit.Lts as lts
+use Rattle.reader_parts.proofs.over_limit.Tie as tie
+use Rattle.reader_parts.proofs.over_limit.Goals as goal
+
+pub returns-in-Is : goal.returns-in-Is
+returns-in-Is c =
+    λ lies short given. rw (← c.text_handle.ensures lies short given, c.in-Is.is)
+
+pub returns-in-Refused : goal.returns-in-Refused
+returns-in-Refused c =
+    λ lies short given. rw (← c.text_handle.ensures lies short given, c.in-Refused.is)

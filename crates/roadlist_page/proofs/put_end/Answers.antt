@@ -1,0 +1,34 @@
+-- The end is accepted, and the page is printed; or the line of its refusal.
+use mathlib.Core.Path.{◌∙◌, ap}
+use Rattle.overlay.specs.Lent.{overlay_in}
+use Rattle.reader.specs.State.{State}
+use Rattle.roadlist_page.specs.Finish.{end_output}
+use Rattle.roadlist_page.proofs.Ends.{end_overlay, end_lines, ends_page, ends_refused}
+use borrow.Author.Rules.{rules}
+use Rattle.roadlist_page.proofs.put_end.Reads as reads
+use Rattle.roadlist_page.proofs.put_end.Lts as lts
+use Rattle.roadlist_page.proofs.put_end.Tie as tie
+use Rattle.roadlist_page.proofs.put_end.Goals as goal
+
+pub put_page-requires : goal.put_page-requires
+put_page-requires c =
+    let e = c.end in
+    record {
+      counters_value = end_overlay (let k = c.args in
+          record { overlay = overlay_in k.words.now k.bytes.now k.counters.now; reader = k.reader; parts = k.ps.now }) e.result e.ensures c.in-Accepted.is;
+      lines_bound = end_lines (let k = c.args in
+          record { overlay = overlay_in k.words.now k.bytes.now k.counters.now; reader = k.reader; parts = k.ps.now }) e.result e.ensures c.in-Accepted.is;
+      out_len = c.requires;
+    }
+
+pub returns-in-Accepted : goal.returns-in-Accepted
+returns-in-Accepted c =
+    let e = c.end in
+    c.put_page.ensures ∙ ap (end_output c.args.out.now) (ends_page (let k = c.args in
+    record { overlay = overlay_in k.words.now k.bytes.now k.counters.now; reader = k.reader; parts = k.ps.now }) e.result e.ensures c.in-Accepted.is)
+
+pub returns-in-Refused : goal.returns-in-Refused
+returns-in-Refused c =
+    let e = c.end in
+    c.put_refusal.ensures ∙ ap (end_output c.args.out.now) (ends_refused (let k = c.args in
+    record { overlay = overlay_in k.words.now k.bytes.now k.counters.now; reader = k.reader; parts = k.ps.now }) e.result e.ensures _ _ c.in-Refused.is)

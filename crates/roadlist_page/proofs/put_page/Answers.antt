@@ -1,0 +1,19 @@
+-- The listing, or the line of its refusal.
+use Rattle.overlay.specs.Overlay.{Overlay}
+use Rattle.overlay.specs.Lent.{overlay_in}
+use Rattle.roadlist_page.proofs.Ends.{page_listed, page_refused}
+use borrow.Author.Rules.{rules}
+use Rattle.roadlist_page.proofs.put_page.Reads as reads
+use Rattle.roadlist_page.proofs.put_page.Lts as lts
+use Rattle.roadlist_page.proofs.put_page.Tie as tie
+use Rattle.roadlist_page.proofs.put_page.Goals as goal
+
+pub returns-in-Length : goal.returns-in-Length
+returns-in-Length c =
+    page_listed c.args.out.now c.requires.out_len (let k = c.args in
+    overlay_in k.words.now k.bytes.now k.counters.now) c.requires.counters_value c.args.lines _ _ _ c.in-Length.is c.list.ensures
+
+pub returns-in-Refused : goal.returns-in-Refused
+returns-in-Refused c =
+    page_refused c.args.out.now c.requires.out_len (let k = c.args in
+    overlay_in k.words.now k.bytes.now k.counters.now) c.requires.counters_value c.args.lines _ _ _ c.in-Refused.is c.list.ensures _ c.put_refusal.ensures

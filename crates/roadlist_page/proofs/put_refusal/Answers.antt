@@ -1,0 +1,14 @@
+-- The line of a refusal is short, so the output has room for it.
+use native.Mathlib.Omega.{arith}
+use mir.Syntax.{w32}
+use mir.Val.{SFits}
+use Rattle.roadlist_page.proofs.Ends.{refused_put}
+use borrow.Author.Rules.{rules}
+use Rattle.roadlist_page.proofs.put_refusal.Goals as goal
+
+pub returns : goal.returns
+returns c =
+    let a = c.args in
+    let y = c.reply_of-reply in
+    let f : SFits w32 y.result.held = search rules in
+    refused_put a.out.now c.requires a.refusal a.line (omega arith) y.result f y.ensures _ _ c.put_refused-written.ensures

@@ -1,0 +1,18 @@
+-- What `overlay_direct::push` leaves and answers; or nothing changes, and 22 or 17 is replied.
+use Rattle.torvaskin.specs.Overlays.{push_reply}
+use Rattle.torvaskin.proofs.OverlayReplies.{replied_is, unknown_is}
+use borrow.Author.Rules.{rules}
+use Rattle.torvaskin.proofs.overlays.tvk_push.Reads as reads
+use Rattle.torvaskin.proofs.overlays.tvk_push.Lts as lts
+use Rattle.torvaskin.proofs.overlays.tvk_push.Tie as tie
+use Rattle.torvaskin.proofs.overlays.tvk_push.Goals as goal
+
+pub returns-in-Is : goal.returns-in-Is
+unfolding push_reply
+returns-in-Is c =
+    rw (← c.kind_of_number.ensures, c.in-Is.is) (replied_is c.kept_reply.ensures c.push.ensures)
+
+pub returns-in-Unknown : goal.returns-in-Unknown
+unfolding push_reply
+returns-in-Unknown c =
+    rw (← c.kind_of_number.ensures, c.in-Unknown.is) (unknown_is c.unknown.ensures)

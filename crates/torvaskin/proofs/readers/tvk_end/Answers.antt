@@ -1,0 +1,21 @@
+-- The reply is that of `reader_calls::end`, or 22.
+use mathlib.Core.Path.{sym, ◌∙◌}
+use Rattle.overlay.specs.Overlay.{Overlay}
+use Rattle.overlay.specs.Lent.{overlay_in}
+use Rattle.torvaskin.proofs.ReaderReplies.{end_is, end_none}
+use borrow.Author.Rules.{rules}
+use Rattle.torvaskin.proofs.readers.tvk_end.Reads as reads
+use Rattle.torvaskin.proofs.readers.tvk_end.Lts as lts
+use Rattle.torvaskin.proofs.readers.tvk_end.Tie as tie
+use Rattle.torvaskin.proofs.readers.tvk_end.Goals as goal
+
+pub returns-then-is_reader : goal.returns-then-is_reader
+returns-then-is_reader c =
+    let i = sym c.is_reader.ensures ∙ c.if-is_reader.true in
+    end_is (let k = c.args in
+    overlay_in k.words.now k.bytes.now k.counters.now) c.args.reader.now c.args.parts.now i (c.reader_in-read.ensures i) c.end.ensures c.event_reply.ensures
+
+pub returns : goal.returns
+returns c =
+    end_none (let k = c.args in
+    overlay_in k.words.now k.bytes.now k.counters.now) c.args.reader.now c.args.parts.now (sym c.is_reader.ensures ∙ c.if-is_reader.false) c.event_reply-2.ensures

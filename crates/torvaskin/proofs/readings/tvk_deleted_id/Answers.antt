@@ -1,0 +1,17 @@
+-- The n-th deleted id of the kind; or 22, else 17.
+use Rattle.torvaskin.specs.Readings.{id_number}
+use borrow.Author.Rules.{rules}
+use Rattle.torvaskin.proofs.readings.tvk_deleted_id.Reads as reads
+use Rattle.torvaskin.proofs.readings.tvk_deleted_id.Lts as lts
+use Rattle.torvaskin.proofs.readings.tvk_deleted_id.Tie as tie
+use Rattle.torvaskin.proofs.readings.tvk_deleted_id.Goals as goal
+
+pub returns-in-Is : goal.returns-in-Is
+unfolding id_number
+returns-in-Is c =
+    rw (← c.kind_of_number.ensures, c.in-Is.is, c.read_number.ensures, c.id_at.ensures)
+
+pub returns-in-Unknown : goal.returns-in-Unknown
+unfolding id_number
+returns-in-Unknown c =
+    rw (← c.kind_of_number.ensures, c.in-Unknown.is, c.no_read.ensures)

@@ -1,0 +1,19 @@
+-- Whether the id is deleted; or 22, else 17.
+use Rattle.torvaskin.specs.Readings.{is_deleted_number}
+use Rattle.signed.proofs.Bits.{bits_back}
+use borrow.Author.Rules.{rules}
+use Rattle.torvaskin.proofs.readings.tvk_is_deleted.Reads as reads
+use Rattle.torvaskin.proofs.readings.tvk_is_deleted.Lts as lts
+use Rattle.torvaskin.proofs.readings.tvk_is_deleted.Tie as tie
+use Rattle.torvaskin.proofs.readings.tvk_is_deleted.Goals as goal
+
+pub returns-in-Is : goal.returns-in-Is
+unfolding is_deleted_number
+returns-in-Is c =
+    let d = bits_back c.ranges.id c.bits_of_i64.ensures in
+    rw (← c.kind_of_number.ensures, c.in-Is.is, c.read_number.ensures, c.is_deleted.ensures, d)
+
+pub returns-in-Unknown : goal.returns-in-Unknown
+unfolding is_deleted_number
+returns-in-Unknown c =
+    rw (← c.kind_of_number.ensures, c.in-Unknown.is, c.no_read.ensures)
