@@ -1,13 +1,13 @@
 -- A table's rule, shown for the whole by one test that antt computes.
 use Prim.Native.Nat.{ℕ, zero, suc, ◌+◌, ◌<◌}
-use mathlib.Core.Path.{◌≡◌, refl}
-use mathlib.Core.Bool.{Bool, true, false}
+use mathlib.Core.Path.{◌≡◌}
+use mathlib.Core.Bool.{Bool, true}
 use mathlib.Core.List.{List, [], ◌∷◌}
 use native.Mathlib.Omega.{arith}
 use native.Mathlib.Nat.{add-zero, add-suc, suc-add, zero-add}
 use lib.ListN.{length, get_or}
 use Rattle.base.specs.Bytes.{both}
-use Rattle.base.proofs.Split.{both_left, both_right, no}
+use Rattle.base.proofs.Split.{both_left, both_right}
 
 -- each entry passes the test at its place, the first place being i
 abbrev pub passes : (ℕ → ℕ → Bool) → ℕ → List ℕ → Bool

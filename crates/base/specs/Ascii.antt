@@ -1,8 +1,7 @@
 -- Words of ASCII as bytes, so that a definition can spell them.
-use Rattle.std.specs.Prelude.{ℕ, List, [], ◌∷◌}
-use Prim.Native.Char.{Char, code}
+use Rattle.std.specs.Prelude.{[], ◌∷◌}
+use Prim.Native.Char.{code}
 use Prim.Native.String.{String}
-use Prim.Native.String as String
 use Rattle.base.specs.Bytes.{Bytes}
 
 abbrev pub ascii : String → Bytes

@@ -1,20 +1,20 @@
 -- A reader is what its words stand for, and words that are a reader's are its words: each code names one, and each is named by one.
-use Prim.Native.Nat.{ℕ, zero, suc, ◌+◌, ◌<◌, ◌≤◌}
+use Prim.Native.Nat.{ℕ, zero, suc, ◌<◌, ◌≤◌}
 use mathlib.Core.Path.{◌≡◌, refl, sym, ◌∙◌, ap}
-use mathlib.Core.Bool.{Bool, true, false}
-use mathlib.Core.Option.{Option, some}
+use mathlib.Core.Bool.{true}
+use mathlib.Core.Option.{some}
 use mathlib.Core.List.{List, [], ◌∷◌}
 use native.Mathlib.Omega.{arith}
-use lib.Dec.{leb, ltb, eqb}
+use lib.Dec.{leb}
 use lib.IntN.{ℤ, pos}
-use lib.ListN.{length, take, drop, get_or}
+use lib.ListN.{length, take, drop}
 use lib.Seq.{drop-cons, drop-length}
 use mir.Syntax.{w32}
-use mir.Val.{to_z, of_z, Fits, SFits}
+use mir.Val.{of_z, SFits}
 use mir.Facts.{to_z-of_z, of_z-to_z, Fits-of_z}
-use borrow.Author.Tests.{leb-true, ltb-true, eqb-true, lt-ltb, ne_eqb, eq-eqb}
+use borrow.Author.Tests.{leb-true, eqb-true, lt-ltb, ne_eqb}
 use Rattle.base.specs.Bytes.{both, either}
-use Rattle.base.proofs.Split.{both_left, both_right, both_of, by_eq, by_bool, no}
+use Rattle.base.proofs.Split.{both_left, both_right, both_of, by_eq}
 use Rattle.refusal.specs.Refusal.{number_of, held_of}
 use Rattle.refusal.specs.declared.Refusal.{Refusal}
 use Rattle.refusal.specs.declared.Refusal.TheVariants as R

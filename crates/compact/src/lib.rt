@@ -475,8 +475,7 @@ pub fn tag_place(kind: Kind, bytes: &[u8]) -> TagPlace
 }
 
 // ---- the same as an iterator that holds the record's bytes
-// The borrow checker does not cover a function over a struct that holds a reference, so each of the two is thin over a covered one, and is
-// proved by a walk of its own. A caller that wants no walk has `tag_place`, `tag_next` and `tag_step`, with plain parameters.
+// Each of the two is thin over a function with plain parameters, `tag_place` and `tag_next`, for callers that hold the place themselves.
 
 impl<'a> CompactTagIter<'a> {
     // Over the tags of a record of a kind.

@@ -18,7 +18,7 @@ use Rattle.model.specs.Record.{Meta, Member, Tag, Body, place, refs, members, Re
 use Rattle.compact.specs.Layout.{Head, head_bytes, meta_bytes}
 use Rattle.compact.specs.Cut.{KeptRecord, pushed_record}
 use Rattle.compact.specs.Fits.{fits_head, fits_meta, fits_kept}
-use Rattle.compact.proofs.Cuts.{Parts, pushed, pushed_bytes}
+use Rattle.compact.proofs.Cuts.{pushed, pushed_bytes}
 use Rattle.compact.specs.Legal.{handle, legal_meta, body_handles, legal_handles, legal_texts, in_range, within_limits, limits, fault_of, legal}
 use Rattle.compact_legal.specs.Judge.{fault_answer, fault_for}
 use Rattle.compact_legal.specs.Whole.{Whole}

@@ -8,12 +8,10 @@ use Rattle.kind.specs.declared.Kind.{Kind}
 use Rattle.kind.specs.declared.Kind.TheVariants.{Node, Way, Relation}
 use Rattle.refusal.specs.declared.Refusal.{Refusal}
 use Rattle.refusal.specs.declared.Refusal.TheVariants.{NotText, CoordinateRange, TooManyParts, BadRecord}
-use Rattle.model.specs.Record.{Meta, Member, Tag, place, Record}
+use Rattle.model.specs.Record.{Tag, place, Record}
 use Rattle.compact.specs.Layout.{Head}
-use Rattle.compact.specs.Cut.{Cut, times, cut_member, cut_tag, cut_body, cut_record, KeptRecord}
-use Rattle.compact.specs.Held.{node_head, counts_head}
+use Rattle.compact.specs.Cut.{Cut, times, cut_member, cut_tag, cut_body, cut_record}
 use Rattle.compact.specs.Legal.{Limits, limits, handle, body_handles, in_range, fault_of, legal}
-use Rattle.compact.specs.declared.PushHead.{PushHead}
 use Rattle.compact_legal.specs.declared.Fault.{Fault}
 use Rattle.compact_legal.specs.declared.Fault.TheVariants as fault
 use Rattle.compact_legal.specs.declared.End.{End}

@@ -1,7 +1,7 @@
 -- Pieces of any size, read up to the first refusal, are taken in as the whole input is.
 use Prim.Native.Nat.{ℕ, ◌<◌, ◌≤◌, min}
 use mathlib.Core.Path.{◌≡◌, refl, sym, ◌∙◌, ap}
-use mathlib.Core.Bool.{true, false}
+use mathlib.Core.Bool.{true}
 use mathlib.Core.List.{List, [], ◌∷◌, ◌++◌, append-nil, foldl}
 use native.Mathlib.Omega.{arith}
 use borrow.Author.Tests.{le-leb, lt-leb}
@@ -26,7 +26,7 @@ use Rattle.reader_events.specs.Events.{events_on}
 use Rattle.reader_events.specs.Runs.{RunGiven}
 use Rattle.input_pieces.specs.Feed.{after_event, long_line, piece_lines, Intake, IntakeResult, kept_line, kept_after, feed_on, read_on, state_at_end}
 use Rattle.reader_events.proofs.Runs.{given_after}
-use Rattle.reader_events.proofs.Onward.{events_none, events_off, events_more, events_enough}
+use Rattle.reader_events.proofs.Onward.{events_off, events_more, events_enough}
 use Rattle.input_pieces.proofs.Stops.{events_fold, events_still, long_same, long_refused, long_still}
 
 -- ---- the lines of some bytes

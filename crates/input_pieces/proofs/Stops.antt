@@ -1,8 +1,8 @@
 -- A refused event leaves a state that no further event changes, so events up to the first that is refused are the events of all lines; and a line that is too long is refused
 -- whatever it goes on with.
 use Prim.Native.Nat.{ℕ, ◌<◌}
-use mathlib.Core.Path.{◌≡◌, refl, sym, ◌∙◌, ap}
-use mathlib.Core.Bool.{true, false}
+use mathlib.Core.Path.{◌≡◌, sym, ◌∙◌, ap}
+use mathlib.Core.Bool.{true}
 use mathlib.Core.List.{List, [], ◌∷◌, ◌++◌, foldl}
 use lib.ListN.{length}
 use Rattle.base.specs.Bytes.{Bytes}
@@ -12,11 +12,10 @@ use Rattle.refusal.specs.declared.Refusal.TheVariants as R
 use Rattle.line.proofs.Lines.{lacks}
 use Rattle.input_lines.proofs.Streams.{Still, still_taken}
 use Rattle.input_lines.proofs.Long.{long_stands, long_alone}
-use Rattle.event_decision.specs.Decision.{Decision, decide}
+use Rattle.event_decision.specs.Decision.{Decision}
 use Rattle.reader.specs.State.{State, stops_by}
-use Rattle.reader.specs.declared.EventAnswer.{EventAnswer}
 use Rattle.reader.specs.declared.EventAnswer.TheVariants as E
-use Rattle.reader.specs.Step.{Step, stops, goes, step_of}
+use Rattle.reader.specs.Step.{stops, step_of}
 use Rattle.reader.specs.Event.{EventResult, event_on, unless_unsound, unless_stopped, stepped}
 use Rattle.reader.proofs.Answers.{by_answer, by_event, event_22, step_at}
 use Rattle.reader.proofs.Events.{by_refused, event_repeats, unsound_stops_not}

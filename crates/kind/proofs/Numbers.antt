@@ -1,10 +1,7 @@
 -- A kind's number tells the kind.
 use Prim.Native.Nat.{ℕ, zero, suc}
 use mathlib.Core.Path.{◌≡◌, refl}
-use mathlib.Core.Bool.{Bool, true, false}
-use native.Mathlib.Omega.{arith}
-use lib.Dec.{eqb}
-use borrow.Author.Tests.{eqb-true}
+use mathlib.Core.Bool.{true}
 use Rattle.base.proofs.Split.{by_bool, clash}
 use Rattle.kind.specs.Kind.{kind_number, of_number, same_kind}
 use Rattle.kind.specs.declared.Kind.{Kind}

@@ -1,5 +1,5 @@
 -- Document 01, compact.rs: "type u8 with 0 node, 1 way, 2 relation".
-use Rattle.std.specs.Prelude.{ℕ, zero, suc, Bool, true, false, eqb}
+use Rattle.std.specs.Prelude.{ℕ, zero, suc, Bool, eqb}
 use Rattle.kind.specs.declared.Kind.{Kind}
 use Rattle.kind.specs.declared.Kind.TheVariants.{Node, Way, Relation}
 use Rattle.kind.specs.declared.Named.{Named}

@@ -12,7 +12,7 @@ use Rattle.kind_table.specs.Words.{row_at, rows_of, held, lookup}
 use Rattle.kind_table.specs.declared.Row.{Row}
 use Rattle.kind_table.specs.declared.Found as table
 use Rattle.kind_table.specs.declared.Found.TheVariants as F
-use Rattle.kind_store.specs.KindStore.{KindStore, is_live}
+use Rattle.kind_store.specs.KindStore.{is_live}
 use Rattle.kind_reading.specs.declared.Side.{Side}
 use Rattle.kind_reading.specs.declared.Side.TheVariants.{Live, Deleted}
 use Rattle.kind_reading.specs.declared.Nth.{Nth}

@@ -34,7 +34,7 @@ use Rattle.kind_table.specs.Words.{row_at, rows_from, rows_of, lookup, stored, s
 use Rattle.kind_table.proofs.Maps.{find_put_same, find_put_other}
 use Rattle.kind_table.proofs.Tables.{sound_of, stored_known, stored_new, found_row, found_none, rows_stored, sound_stored, length_stored}
 use Rattle.kind_store.specs.declared.Kept.TheVariants.{Taken}
-use Rattle.kind_store.specs.KindStore.{KindStore, KindStoreAfter, kind_store_with, is_live, gone, version_at, live_version, known_of, known_version, floor_of, floor_after, checked, id_room, kind_store_refused, rowed, pushed, deleted}
+use Rattle.kind_store.specs.KindStore.{KindStore, KindStoreAfter, kind_store_with, is_live, gone, version_at, live_version, known_of, known_version, floor_of, floor_after, checked, id_room, rowed, pushed, deleted}
 use Rattle.kind_store.specs.WellFormed.{rows_in, WellFormed}
 use Rattle.kind_store.proofs.Answers.{dropped, laid, by_delete, by_push, answered, check_refused}
 use Rattle.kind_store.proofs.Claims.{version_same, version_joined, Narrow, narrow_none, narrow_higher, narrow_at}

@@ -1,5 +1,5 @@
 -- Document 01, parse.rs: what is lent for one kind, its id table and its arena, and what a push and a delete do there.
-use Rattle.std.specs.Prelude.{ℕ, zero, suc, ◌+◌, ◌*◌, ◌^◌, Bool, true, false, cond, List, ltb, leb, eqb, ℤ, length}
+use Rattle.std.specs.Prelude.{ℕ, suc, ◌+◌, ◌*◌, ◌^◌, Bool, true, false, cond, List, ltb, leb, eqb, ℤ, length}
 use Rattle.base.specs.Bytes.{Bytes}
 use Rattle.kind.specs.declared.Kind.{Kind}
 use Rattle.osm_id.specs.Order.{rank}

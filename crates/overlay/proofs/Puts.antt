@@ -5,18 +5,17 @@ use mathlib.Core.List.{List}
 use native.Mathlib.Omega.{arith}
 use lib.ListN.{length, get_or, drop}
 use borrow.Rule.Slice.PartMut.{put_mid, mid_len, same_len_mid}
-use Rattle.base.specs.Bytes.{Bytes}
 use Rattle.kind.specs.declared.Kind.{Kind}
 use Rattle.kind.specs.declared.Kind.TheVariants.{Node, Way, Relation}
 use Rattle.interner.specs.Strings.{Store, store_with}
-use Rattle.kind_store.specs.KindStore.{KindStore, kind_store_with}
+use Rattle.kind_store.specs.KindStore.{kind_store_with}
 use Rattle.overlay_blocks.specs.declared.Sizes.{Sizes}
 use Rattle.overlay_blocks.specs.declared.KindPart.{KindPart}
 use Rattle.overlay_blocks.specs.declared.TextPart.{TextPart}
 use Rattle.overlay_blocks.specs.Blocks.{cut, sizes_in, InOrder, word_ends, byte_ends, part_in, Within, text_part_in}
 use Rattle.overlay_blocks.proofs.Cuts.{cut_same, cut_before, cut_after, drop_after, drop_same, cut_all}
 use Rattle.overlay_blocks.proofs.Orders.{words_in_order, bytes_in_order, part_within, Before, by_order, before_texts}
-use Rattle.overlay.specs.Overlay.{Overlay, kind_store_of, with_kind_store, with_texts}
+use Rattle.overlay.specs.Overlay.{kind_store_of, with_kind_store, with_texts}
 use Rattle.overlay.specs.Lent.{kind_store_in, texts_in, overlay_for, overlay_in}
 use Rattle.overlay.proofs.KindStores.{each_other_kind_store, same_overlay, kind_store_texts, kind_store_setting, kind_store_all_sizes, texts_kind_store}
 

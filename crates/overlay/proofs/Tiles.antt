@@ -20,7 +20,7 @@ use Rattle.overlay_blocks.proofs.Tiling.{Whole, whole, of_whole}
 use Rattle.overlay_blocks.proofs.Ranges.{small, one_string}
 use Rattle.overlay.specs.Overlay.{Overlay, kind_store_of, kind_size_of, with_kind_store, with_texts, with_sizes, kind_tiled, texts_tiled, tiled, sizes_fit}
 use Rattle.overlay.specs.Lent.{overlay_for}
-use Rattle.overlay.proofs.KindStores.{kind_store_texts, kind_store_sizes, each_other_kind_store, each_kind_store, texts_kind_store}
+use Rattle.overlay.proofs.KindStores.{kind_store_sizes, each_kind_store, texts_kind_store}
 
 -- ---- each part is as long as the sizes say
 

@@ -1,10 +1,10 @@
 -- A part of a block that is lent and comes back: the part is what came back, and every other part is as it was.
 use Prim.Native.Nat.{ℕ, ◌+◌, ◌-◌, ◌≤◌}
-use mathlib.Core.Path.{◌≡◌, refl, sym, ◌∙◌, ap}
+use mathlib.Core.Path.{◌≡◌, sym, ◌∙◌, ap}
 use mathlib.Core.List.{List, ◌++◌}
 use native.Mathlib.Omega.{arith}
 use lib.ListN.{length, take, drop, take-append-drop, length-drop}
-use lib.Seq.{take-append-le, drop-append-le, drop-drop, take_at, drop_at, take_all, drop-length, length-take-le}
+use lib.Seq.{take-append-le, drop-append-le, drop-drop, take_at, drop_at, take_all, length-take-le}
 use borrow.Rule.Slice.PartMut.{put_mid, drop_put, mid_len, same_len_mid}
 use Rattle.overlay_blocks.specs.Blocks.{cut}
 

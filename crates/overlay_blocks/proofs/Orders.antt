@@ -1,13 +1,12 @@
 -- The ends of the parts are in order, for any sizes; a part of a kind lies within the blocks; and where a block has all of the parts, the ends are the sums of the sizes.
-use Prim.Native.Nat.{ℕ, ◌+◌, ◌-◌, ◌*◌, ◌≤◌, ◌<◌, min}
-use mathlib.Core.Path.{◌≡◌, refl, sym, ◌∙◌}
+use Prim.Native.Nat.{ℕ, ◌+◌, ◌*◌, ◌≤◌, ◌<◌, min}
+use mathlib.Core.Path.{◌≡◌, refl, ◌∙◌}
 use native.Mathlib.Omega.{arith}
 use Rattle.kind.specs.declared.Kind.{Kind}
 use Rattle.kind.specs.declared.Kind.TheVariants.{Node, Way, Relation}
 use Rattle.overlay_blocks.specs.declared.Ends.{Ends}
 use Rattle.overlay_blocks.specs.declared.Sizes.{Sizes}
 use Rattle.overlay_blocks.specs.declared.KindPart.{KindPart}
-use Rattle.overlay_blocks.specs.declared.TextPart.{TextPart}
 use Rattle.overlay_blocks.specs.Blocks.{end_of, ends_of, InOrder, word_ends, byte_ends, part_of, part_in, Within, text_part_of, text_part_in}
 
 -- ---- in order

@@ -1,5 +1,5 @@
 -- The parts of a block tile it: each is as long as its size, exactly where the sizes sum up to the block.
-use Prim.Native.Nat.{ℕ, ◌+◌, ◌-◌, ◌*◌, ◌≤◌}
+use Prim.Native.Nat.{ℕ, ◌+◌, ◌-◌}
 use mathlib.Core.Path.{◌≡◌}
 use mathlib.Core.List.{List}
 use native.Mathlib.Omega.{arith}
@@ -7,7 +7,7 @@ use lib.ListN.{length, drop, length-drop}
 use borrow.Rule.Slice.PartMut.{mid_len}
 use Rattle.overlay_blocks.specs.declared.Ends.{Ends}
 use Rattle.overlay_blocks.specs.Blocks.{cut, ends_of, InOrder}
-use Rattle.overlay_blocks.proofs.Orders.{in_order, Exact, exact}
+use Rattle.overlay_blocks.proofs.Orders.{in_order, exact}
 
 -- the lengths of a block's parts
 record Long (e : Ends) (block : List ℕ) : Type 0 where

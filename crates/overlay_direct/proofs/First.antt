@@ -1,5 +1,5 @@
 -- T4: each direct call is refused by the first condition of its table that holds, and accepted where none holds.
-use Prim.Native.Nat.{ℕ, ◌+◌}
+use Prim.Native.Nat.{ℕ}
 use mathlib.Core.Path.{◌≡◌, refl, sym, ◌∙◌, ap}
 use mathlib.Core.Bool.{true}
 use mathlib.Core.Option.{Option, none, some}
@@ -19,7 +19,6 @@ use Rattle.compact.specs.declared.ArenaMeta.{ArenaMeta}
 use Rattle.compact.specs.declared.PushHead.{PushHead}
 use Rattle.compact_legal.specs.Judge.{fault_answer, fault_for}
 use Rattle.compact_legal.specs.declared.Fault.TheVariants as F
-use Rattle.kind_store.specs.declared.Kept.TheVariants.{Refused}
 use Rattle.overlay.specs.Overlay.{Overlay, kind_store_of}
 use Rattle.overlay.specs.Sound.{is_sound}
 use Rattle.overlay_store.specs.Calls.{bytes_of}

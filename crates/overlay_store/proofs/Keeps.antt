@@ -34,7 +34,6 @@ use Rattle.kind_store.specs.KindStore as KindStore
 use Rattle.kind_store.proofs.Answers as Acts
 use Rattle.overlay.specs.Overlay.{Overlay, kind_store_of}
 use Rattle.overlay.specs.Given.{head_fits, meta_fits}
-use Rattle.overlay.specs.Sound.{Sound}
 use Rattle.overlay_store.specs.Calls.{bytes_of}
 use Rattle.overlay.proofs.Bounds.{meta_given, head_given, head_id}
 

@@ -1,5 +1,5 @@
 -- What a turn asks of the overlay, as direct calls: its text is taken in by `intern`, its act is a push or a delete. Such calls keep the overlay sound, whoever makes them.
-use Prim.Native.Nat.{ℕ, ◌+◌, ◌/◌, ◌<◌, ◌≤◌}
+use Prim.Native.Nat.{ℕ, ◌+◌, ◌<◌, ◌≤◌}
 use mathlib.Core.Path.{◌≡◌, refl, ◌∙◌, ap}
 use mathlib.Core.Bool.{true}
 use mathlib.Core.Option.{Option, none, some}
@@ -8,9 +8,8 @@ use native.Mathlib.Omega.{arith}
 use lib.ListN.{length, length-append}
 use mir.Syntax.{w64}
 use mir.Val.{to_z}
-use borrow.Author.Tests.{leb-true}
 use Rattle.base.specs.Bytes.{Bytes, all}
-use Rattle.base.proofs.Split.{both_left, both_right}
+use Rattle.base.proofs.Split.{both_left}
 use Rattle.little.specs.Little.{is_byte}
 use Rattle.text.specs.Check.{is_text}
 use Rattle.kind.specs.declared.Kind.{Kind}
@@ -27,7 +26,6 @@ use Rattle.interner.specs.Sound.{texts_of}
 use Rattle.interner.proofs.Interns.{length_texts}
 use Rattle.interner.proofs.Held.{grown_all, text_stays_all}
 use Rattle.kind_store.specs.KindStore.{taken_in}
-use Rattle.overlay_blocks.specs.Sizes.{largest}
 use Rattle.overlay.specs.Overlay.{Overlay}
 use Rattle.overlay.specs.Sound.{Sound, is_sound}
 use Rattle.overlay.specs.Given.{head_fits, meta_fits, InBytes}

@@ -52,7 +52,7 @@ use Rattle.acts.specs.Turn as Turn
 use Rattle.reader.specs.declared.Pending.{Pending}
 use Rattle.reader.specs.State.{State, pending_record, reader_sound, state_sound, more_tags, more_parts}
 use Rattle.reader.specs.Given.{StateGiven}
-use Rattle.reader.specs.Step.{Advanced, goes, clears_to, bits_with_user, head_for, member_bits, tag_within, part_within, part_place, step_of}
+use Rattle.reader.specs.Step.{Advanced, clears_to, bits_with_user, head_for, member_bits, tag_within, part_within, part_place, step_of}
 use Rattle.reader.specs.Means.{staged_of, reader_of}
 use Rattle.reader.proofs.Texts.{legal_agree}
 use Rattle.reader.proofs.Element.{stages_back, way_body, relation_body, PartStaged, tag_limit, ref_limit, member_limit, tag_grows, ref_grows, member_grows}

@@ -16,7 +16,7 @@ use Rattle.little.specs.Little.{is_byte}
 use Rattle.little.proofs.Littles.{bytes_take}
 use Rattle.text.specs.Check.{is_text}
 use Rattle.kind.specs.declared.Kind.{Kind}
-use Rattle.model.specs.Record.{Tag, Body, refs, members, Record, kind_of}
+use Rattle.model.specs.Record.{Tag, Body, Record, kind_of}
 use Rattle.model.specs.Swap.{swap_record}
 use Rattle.compact.specs.Held.{meta_of, head_in}
 use Rattle.compact.specs.Layout.{head_of, body_bytes, parts_bytes, joined_bytes}

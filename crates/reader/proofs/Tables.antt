@@ -1,5 +1,5 @@
 -- T4: an event and an end are refused by the first condition of their table that holds, with its line and its HELD, and accepted where none holds.
-use Prim.Native.Nat.{ℕ, ◌+◌}
+use Prim.Native.Nat.{ℕ}
 use mathlib.Core.Path.{◌≡◌, refl, sym, ◌∙◌, ap}
 use mathlib.Core.Bool.{Bool, true, false, not}
 use mathlib.Core.Option.{Option, none, some}
@@ -33,7 +33,7 @@ use Rattle.interner.specs.Strings as Strings
 use Rattle.interner.specs.Texts.{handle_of, answer_as}
 use Rattle.interner.specs.Sound.{texts_of}
 use Rattle.interner.proofs.Interns as Interns
-use Rattle.kind_store.specs.KindStore.{known_version, checked, id_room}
+use Rattle.kind_store.specs.KindStore.{known_version, checked}
 use Rattle.kind_store.proofs.Answers as KindStores
 use Rattle.overlay.specs.Overlay.{Overlay, kind_store_of, with_texts}
 use Rattle.overlay.specs.Sound.{is_sound}

@@ -10,7 +10,7 @@ use borrow.Rule.Slice.PartMut.{mid_of}
 use lib.Dec.{ltb}
 use lib.ListN.{length, drop}
 use lib.Seq.{slice}
-use Rattle.base.specs.Bytes.{Bytes, both}
+use Rattle.base.specs.Bytes.{Bytes}
 use Rattle.base.proofs.Split.{both_of, both_left, both_right, both_no_right, by_le}
 use Rattle.refusal.specs.declared.Refusal.TheVariants as R
 use Rattle.event_scan.proofs.Places.{lent_is}

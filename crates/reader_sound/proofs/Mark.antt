@@ -1,6 +1,6 @@
 -- A reader goes by its mark as by its stop.
 use Prim.Native.Nat.{ℕ}
-use mathlib.Core.Path.{◌≡◌, refl, sym, ◌∙◌}
+use mathlib.Core.Path.{◌≡◌, refl}
 use mathlib.Core.Bool.{true, false}
 use Rattle.base.proofs.Split.{by_bool, no}
 use Rattle.refusal.specs.declared.Refusal.{Refusal}

@@ -1,5 +1,5 @@
 -- An element that a reader is putting together ("A push happens when its element ends"): its refs or members and its tags in lent bytes, as they will lie in its record.
-use Rattle.std.specs.Prelude.{ℕ, ◌+◌, Bool, cond, List, [], ◌∷◌, ◌++◌, leb, length, take, drop}
+use Rattle.std.specs.Prelude.{ℕ, ◌+◌, cond, ◌++◌, leb, length, take, drop}
 use Rattle.base.specs.Bytes.{Bytes, both}
 use Rattle.little.specs.Little.{le, over}
 use Rattle.compact.specs.declared.CompactMember.{CompactMember}

@@ -5,7 +5,6 @@ use Rattle.base.proofs.Split.{by_bool, clash}
 use Rattle.base.proofs.Strict.{by_order}
 use Rattle.osm_id.specs.Order.{before, osm_key_of, cmp_of, id_key_before, first_key, last_key}
 use Rattle.osm_id.proofs.Orders.{order, key_before, less_is, equal_is, greater_is}
-use Rattle.osm_id.specs.declared.OsmIdKey.{OsmIdKey}
 use Rattle.published.specs.Std.{eq_z}
 use Rattle.published.specs.OsmId as Rust
 use Rattle.published.specs.Std.{Less, Equal, Greater}

@@ -27,7 +27,6 @@ use Rattle.kind_table.specs.Rows.{find}
 use Rattle.kind_table.specs.Words.{rows_from, rows_of}
 use Rattle.kind_store.specs.KindStore.{KindStore}
 use Rattle.kind_store.specs.declared.Kept.{Kept}
-use Rattle.kind_store.specs.declared.Kept.TheVariants as Kept
 use Rattle.overlay.specs.Overlay.{Overlay, kind_store_of, emptied, empty}
 use Rattle.overlay.specs.Sound.{Sound, is_sound}
 use Rattle.overlay.specs.Given.{InBytes}

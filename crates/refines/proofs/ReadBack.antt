@@ -6,7 +6,7 @@ use lib.Dec.{eqb-suc-zero}
 use Rattle.base.specs.Bytes.{Bytes, both, either, all}
 use Rattle.base.proofs.Split.{by_bool, both_left, both_right, both_of, by_either, clash}
 use Rattle.base.proofs.Lists.{all_nil, all_cons, all_head, all_tail}
-use Rattle.little.specs.Little.{le, value}
+use Rattle.little.specs.Little.{le}
 use Rattle.little.proofs.Littles.{length_le, value_back}
 use Rattle.text.specs.Check.{is_text}
 use Rattle.kind.specs.Kind.{kind_number}

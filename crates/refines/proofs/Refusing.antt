@@ -20,7 +20,6 @@ use Rattle.interner.specs.declared.Interned.TheVariants as I
 use Rattle.kind_store.specs.KindStore.{known_version, checked}
 use Rattle.kind_store.specs.WellFormed.{WellFormed}
 use Rattle.kind_store.specs.declared.Kept.{Kept}
-use Rattle.kind_store.specs.declared.Kept.TheVariants as Kept
 use Rattle.kind_store.proofs.Answers.{push_12, delete_12}
 use Rattle.overlay.specs.Overlay.{Overlay, kind_store_of, with_texts}
 use Rattle.overlay.proofs.KindStores.{texts_kind_store}

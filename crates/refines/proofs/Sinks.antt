@@ -6,7 +6,7 @@ use Rattle.kind.specs.Kind.{kind_number}
 use Rattle.refusal.specs.declared.Refusal.{Refusal}
 use Rattle.refusal.specs.declared.Refusal.TheVariants as R
 use Rattle.nesting.specs.declared.Place.{Place}
-use Rattle.model.specs.Record.{Meta, Body, refs, members, kind_of, flagged}
+use Rattle.model.specs.Record.{Meta, Body, kind_of, flagged}
 use Rattle.event_fields.specs.Field.{Field, got, bad}
 use Rattle.event_decision.specs.Decision.{Decision, refuses, moves, begins, deletes, tags, refers, joins, ends}
 use Rattle.published.specs.Std.{Result, Ok, Err}

@@ -6,7 +6,6 @@ use Rattle.refusal.specs.Refusal.{number_of, held_of}
 use Rattle.refusal.specs.declared.Refusal.{Refusal}
 use Rattle.compact.specs.Held.{meta_of}
 use Rattle.kind_store.specs.declared.Kept.{Kept}
-use Rattle.kind_store.specs.declared.Kept.TheVariants as Kept
 use Rattle.overlay.specs.Calls.{allow_on}
 use Rattle.overlay_store.specs.declared.Handle.{Handle}
 use Rattle.overlay_store.specs.declared.Handle.TheVariants as H

@@ -1,13 +1,12 @@
 -- What the program lends is set up and sound, and stays so while events come: 22 cannot occur below 2^64 - 1 lines.
 use Prim.Native.Nat.{ℕ, zero, suc, ◌+◌, ◌-◌, ◌<◌, ◌≤◌}
-use mathlib.Core.Path.{◌≡◌, refl, sym, ◌∙◌, ap}
-use mathlib.Core.Bool.{true, false}
+use mathlib.Core.Path.{◌≡◌, refl, ◌∙◌, ap}
+use mathlib.Core.Bool.{true}
 use mathlib.Core.List.{List, [], ◌∷◌, foldl}
 use native.Mathlib.Omega.{arith}
 use lib.ListN.{length, drop, replicate, length-replicate}
 use Rattle.base.specs.Bytes.{Bytes, both, all}
-use Rattle.base.proofs.Split.{clash, no, both_of}
-use Rattle.refusal.specs.declared.Refusal.{Refusal}
+use Rattle.base.proofs.Split.{clash, no}
 use Rattle.refusal.specs.declared.Refusal.TheVariants as R
 use Rattle.kind.specs.declared.Kind.{Kind}
 use Rattle.little.specs.Little.{is_byte}
@@ -26,9 +25,8 @@ use Rattle.overlay.proofs.Keeps.{setup_sound, setup_bytes}
 use Rattle.input_lines.specs.Lines.{input_lines}
 use Rattle.input_lines.specs.Stream.{after_input}
 use Rattle.reader.specs.State.{State, state_sound}
-use Rattle.reader.specs.declared.EventAnswer.{EventAnswer}
 use Rattle.reader.specs.declared.EventAnswer.TheVariants as E
-use Rattle.reader.specs.Event.{EventResult, event_on, end_on}
+use Rattle.reader.specs.Event.{event_on, end_on}
 use Rattle.reader.proofs.Acts.{Fine}
 use Rattle.reader.proofs.Answers.{by_answer, by_end, by_level, answer_is, event_counts}
 use Rattle.reader.proofs.Events.{by_refused, unsound_stops_not}

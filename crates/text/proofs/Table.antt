@@ -1,4 +1,4 @@
--- The rule of the table of classes. One test, which antt computes over the code's own table (walk, `loop-holds`), shows it for
+-- The rule of the table of classes. One test, which antt computes over the code's own table (walk, `loop-at-init`), shows it for
 -- the whole.
 use Prim.Native.Nat.{ℕ, ◌<◌}
 use mathlib.Core.Path.{◌≡◌}

@@ -1,5 +1,4 @@
 -- What an entry leaves and replies, from what a call of the overlay leaves and answers; and where a number means no kind.
-use Prim.Native.Nat.{ℕ}
 use mathlib.Core.Path.{◌≡◌, refl}
 use mathlib.Core.Bool.{Bool, true, false, cond}
 use Rattle.refusal.specs.declared.Reply.{Reply}

@@ -1,6 +1,6 @@
 -- "Nothing lent changes but the reader's own stop mark": a refused event leaves every word but the three of the stop mark as it was, and 22 and a repeated refusal every word.
 use Prim.Native.Nat.{ℕ}
-use mathlib.Core.Path.{◌≡◌, refl, sym, ◌∙◌, ap}
+use mathlib.Core.Path.{◌≡◌, ◌∙◌, ap}
 use mathlib.Core.Bool.{true, false}
 use mathlib.Core.List.{List}
 use lib.ListN.{length, take}
@@ -12,9 +12,9 @@ use Rattle.overlay.specs.Overlay.{Overlay}
 use Rattle.reader.specs.declared.Stop.TheVariants.{At}
 use Rattle.reader.specs.State.{State, stops_by, state_sound}
 use Rattle.reader.specs.Step.{stops}
-use Rattle.reader.specs.Event.{EventResult, refused_at, stepped, event_on}
+use Rattle.reader.specs.Event.{refused_at, stepped, event_on}
 use Rattle.reader.proofs.Answers.{event_22, event_stopped, by_event}
-use Rattle.c_reader.specs.Words.{words_of_reader, reader_in, is_reader, reader_of_words}
+use Rattle.c_reader.specs.Words.{reader_in, is_reader, reader_of_words}
 use Rattle.c_reader.proofs.Words.{stopped_words, words_back}
 use Rattle.torvaskin.specs.Readers.{EventReplied, replied_event, event_reply}
 

@@ -1,10 +1,6 @@
 -- With setting 0 the answer is that of `admit` for the known version, else the claim is admitted.
 use borrow.Author.Tests.{eq-eqb, ne_eqb}
 use Rattle.kind_store.specs.KindStore.{checked}
-use borrow.Author.Rules.{rules}
-use Rattle.act_answer.proofs.claim_below.Reads as reads
-use Rattle.act_answer.proofs.claim_below.Lts as lts
-use Rattle.act_answer.proofs.claim_below.Tie as tie
 use Rattle.act_answer.proofs.claim_below.Goals as goal
 
 pub returns-then-counters-eq0 : goal.returns-then-counters-eq0

@@ -2,10 +2,6 @@
 use Prim.Native.Nat.{◌+◌}
 use lib.ListN.{get_or}
 use Rattle.overlay.proofs.Puts.{kind_store_in_lem}
-use borrow.Author.Rules.{rules}
-use Rattle.act_answer.proofs.known_in.Reads as reads
-use Rattle.act_answer.proofs.known_in.Lts as lts
-use Rattle.act_answer.proofs.known_in.Tie as tie
 use Rattle.act_answer.proofs.known_in.Goals as goal
 
 pub returns : goal.returns

@@ -1,6 +1,5 @@
 -- Each word that fits its field is the number that it holds.
 use Rattle.c_reader.proofs.Fits.{head_within}
-use borrow.Author.Rules.{rules}
 use Rattle.c_reader.proofs.head_in.Goals as goal
 
 pub returns : goal.returns

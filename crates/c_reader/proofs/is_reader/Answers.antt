@@ -1,7 +1,6 @@
 -- Place, head, metadata and mark.
 use Rattle.base.specs.Bytes.{both}
 use Rattle.c_reader.specs.Words.{is_reader}
-use borrow.Author.Rules.{rules}
 use Rattle.c_reader.proofs.is_reader.Goals as goal
 
 pub returns : goal.returns

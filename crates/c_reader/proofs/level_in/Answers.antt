@@ -1,7 +1,6 @@
 -- A level by its code.
 use native.Mathlib.Omega.{arith}
 use Rattle.c_reader.proofs.Codes.{level_past}
-use borrow.Author.Rules.{rules}
 use Rattle.c_reader.proofs.level_in.Goals as goal
 
 pub returns-in_default : goal.returns-in_default

@@ -1,6 +1,5 @@
 -- Zeros, or the number, the line and the bits of HELD.
 use Rattle.c_reader.proofs.Codes.{mark_is}
-use Rattle.refusal.specs.Refusal.{reply_of}
 use borrow.Author.Rules.{rules}
 use Rattle.c_reader.proofs.mark_words.Goals as goal
 

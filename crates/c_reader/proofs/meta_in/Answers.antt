@@ -1,6 +1,5 @@
 -- Each word that fits its field is the number that it holds.
 use Rattle.c_reader.proofs.Fits.{meta_within}
-use borrow.Author.Rules.{rules}
 use Rattle.c_reader.proofs.meta_in.Goals as goal
 
 pub returns : goal.returns

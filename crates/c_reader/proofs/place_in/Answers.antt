@@ -1,5 +1,4 @@
 -- Its three codes.
-use borrow.Author.Rules.{rules}
 use Rattle.c_reader.proofs.place_in.Goals as goal
 
 pub returns : goal.returns

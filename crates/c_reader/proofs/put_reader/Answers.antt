@@ -1,6 +1,5 @@
 -- Each word in its place.
 use Rattle.c_reader.specs.Words.{words_of_reader}
-use borrow.Author.Rules.{rules}
 use Rattle.c_reader.proofs.put_reader.Goals as goal
 
 pub returns : goal.returns

@@ -1,6 +1,5 @@
 -- Place, element, lines and mark, each read back.
 use Rattle.c_reader.proofs.Fits.{head_of, meta_of, stop_of, held_within}
-use borrow.Author.Rules.{rules}
 use Rattle.c_reader.proofs.reader_in.Goals as goal
 
 pub returns : goal.returns

@@ -2,8 +2,7 @@
 use native.Mathlib.Omega.{arith}
 use Rattle.base.proofs.Split.{by_eq}
 use Rattle.c_reader.specs.Words.{refusal_numbered}
-use Rattle.c_reader.proofs.Codes.{next, refusal_past, held_back}
-use borrow.Author.Rules.{rules}
+use Rattle.c_reader.proofs.Codes.{refusal_past, held_back}
 use Rattle.c_reader.proofs.refusal_in.Goals as goal
 
 pub returns-in-1 : goal.returns-in-1

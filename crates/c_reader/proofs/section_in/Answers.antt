@@ -1,7 +1,6 @@
 -- A section by its code.
 use native.Mathlib.Omega.{arith}
 use Rattle.c_reader.proofs.Codes.{section_past}
-use borrow.Author.Rules.{rules}
 use Rattle.c_reader.proofs.section_in.Goals as goal
 
 pub returns-in_default : goal.returns-in_default

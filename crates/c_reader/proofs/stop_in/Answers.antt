@@ -1,7 +1,6 @@
 -- No mark for 0, else the refusal of the number.
 use borrow.Author.Tests.{ne_eqb}
 use Rattle.c_reader.specs.Words.{stop_in}
-use borrow.Author.Rules.{rules}
 use Rattle.c_reader.proofs.stop_in.Goals as goal
 
 pub returns-then-number-eq0 : goal.returns-then-number-eq0

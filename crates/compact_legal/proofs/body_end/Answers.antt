@@ -5,7 +5,6 @@ use Rattle.kind.specs.declared.Kind.TheVariants.{Node, Way, Relation}
 use Rattle.compact.specs.Held.{counts_head}
 use Rattle.compact.specs.Held.{head_in}
 use Rattle.compact_legal.proofs.Bodies.{body_node, body_short, body_refs, body_members}
-use borrow.Author.Rules.{rules}
 use Rattle.compact_legal.proofs.body_end.Goals as goal
 
 pub returns-then-bytes-at : goal.returns-then-bytes-at

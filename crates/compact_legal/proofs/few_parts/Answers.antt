@@ -2,7 +2,6 @@
 use Rattle.base.specs.Bytes.{both}
 use Rattle.compact_legal.specs.Judge.{few}
 use Rattle.compact_legal.proofs.Bits.{and_both}
-use borrow.Author.Rules.{rules}
 use Rattle.compact_legal.proofs.few_parts.Goals as goal
 
 pub returns-in-Node : goal.returns-in-Node

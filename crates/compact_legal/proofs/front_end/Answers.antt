@@ -6,7 +6,6 @@ use Rattle.compact.specs.Layout.{head_len}
 use Rattle.compact.specs.View.{meta_at}
 use Rattle.compact_legal.specs.Judge.{record_end}
 use Rattle.compact_legal.proofs.Fronts.{to_end, front_short, front_is}
-use borrow.Author.Rules.{rules}
 use Rattle.compact_legal.proofs.front_end.Goals as goal
 
 pub returns-then-bytes-at : goal.returns-then-bytes-at

@@ -7,7 +7,6 @@ use Rattle.compact.specs.Held.{meta_of}
 use Rattle.compact_legal.specs.declared.TagRun.{TagRun}
 use Rattle.compact_legal.proofs.Bits.{and_both, or_either}
 use Rattle.compact_legal.proofs.Judging.{body_refused, body_within, tags_refused, tags_room, judged_is}
-use borrow.Author.Rules.{rules}
 use Rattle.compact_legal.proofs.judge.Goals as goal
 
 pub returns-in_default : goal.returns-in_default

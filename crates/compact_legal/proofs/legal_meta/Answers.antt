@@ -2,7 +2,6 @@
 use Rattle.compact.specs.Held.{meta_of}
 use Rattle.compact.specs.Legal.{legal_meta}
 use Rattle.compact_legal.proofs.Bits.{meta_tests, zero_bits}
-use borrow.Author.Rules.{rules}
 use Rattle.compact_legal.proofs.legal_meta.Goals as goal
 
 pub returns : goal.returns

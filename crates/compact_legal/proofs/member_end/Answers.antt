@@ -2,7 +2,6 @@
 use native.Mathlib.Omega.{arith}
 use Rattle.compact_legal.proofs.Bits.{and_both}
 use Rattle.compact_legal.proofs.Parts.{member_bad, member_is}
-use borrow.Author.Rules.{rules}
 use Rattle.compact_legal.proofs.member_end.Goals as goal
 
 pub returns-then-bytes-at-lt13 : goal.returns-then-bytes-at-lt13

@@ -1,8 +1,5 @@
-use Prim.Native.Nat.{◌≤◌}
 use mathlib.Core.Path.{◌≡◌, refl, sym, ◌∙◌, ap}
 use native.Mathlib.Omega.{arith}
-use lib.ListN.{length}
-use borrow.Author.Rules.{rules}
 use Rattle.compact_legal.specs.Judge.{members_end}
 use Rattle.compact_legal.proofs.Ends.{members_none, members_bad, members_at}
 use Rattle.compact_legal.proofs.members_end.Goals as goal

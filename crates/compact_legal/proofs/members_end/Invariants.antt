@@ -1,11 +1,8 @@
 -- So many members: the loop keeps that the members left from its place on end where all of them end.
 use Prim.Native.Nat.{◌≤◌}
-use mathlib.Core.Path.{◌≡◌, refl, sym, ◌∙◌, ap}
-use native.Mathlib.Omega.{arith}
+use mathlib.Core.Path.{◌≡◌}
 use lib.ListN.{length}
-use borrow.Author.Rules.{rules}
 use Rattle.compact_legal.specs.Judge.{members_end}
-use Rattle.compact_legal.proofs.Ends.{members_none, members_bad, members_at}
 use Rattle.compact_legal.proofs.members_end.Given as goal
 
 abbrev pub invariant-loop-left : goal.invariant-loop-left

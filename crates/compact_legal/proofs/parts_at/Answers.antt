@@ -1,5 +1,4 @@
 -- A head's length and the metadata's.
-use borrow.Author.Rules.{rules}
 use Rattle.compact_legal.proofs.parts_at.Goals as goal
 
 pub returns-in-Node : goal.returns-in-Node

@@ -3,7 +3,6 @@ use mathlib.Core.Path.{sym, ◌∙◌, ap}
 use Rattle.compact.specs.Held.{meta_of}
 use Rattle.compact.specs.Held.{head_in}
 use Rattle.compact_legal.proofs.Pushes.{to_fault, push_is}
-use borrow.Author.Rules.{rules}
 use Rattle.compact_legal.proofs.push_fault.Goals as goal
 
 pub returns-in-Legal : goal.returns-in-Legal

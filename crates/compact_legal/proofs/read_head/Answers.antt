@@ -3,7 +3,6 @@ use mathlib.Core.Path.{ap}
 use Rattle.compact.specs.Held.{node_head, way_head, relation_head}
 use Rattle.compact.specs.View.{head_at}
 use Rattle.compact.specs.Held.{head_in}
-use borrow.Author.Rules.{rules}
 use Rattle.compact_legal.proofs.read_head.Goals as goal
 
 pub returns-in-Node : goal.returns-in-Node

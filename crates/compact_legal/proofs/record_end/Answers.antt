@@ -2,7 +2,6 @@
 use mathlib.Core.Path.{sym, ◌∙◌}
 use native.Mathlib.Omega.{arith}
 use Rattle.compact_legal.proofs.Fronts.{rest_of, end_at, end_bad, end_past}
-use borrow.Author.Rules.{rules}
 use Rattle.compact_legal.proofs.record_end.Goals as goal
 
 pub returns-in_default : goal.returns-in_default

@@ -1,7 +1,6 @@
 -- A tag at a place: its key, its length, and as many bytes.
 use native.Mathlib.Omega.{arith}
 use Rattle.compact_legal.proofs.Parts.{tag_bad_short, tag_bad_long, tag_good}
-use borrow.Author.Rules.{rules}
 use Rattle.compact_legal.proofs.tag_end.Goals as goal
 
 pub returns-then-bytes-at-lt8 : goal.returns-then-bytes-at-lt8

@@ -16,20 +16,8 @@ overflow_add-end c = omega arith
 pub slice_bounds-alike-count : goal.slice_bounds-alike-count
 slice_bounds-alike-count c = omega arith
 
--- LEFT part-alike-start : tie.Need-slice-bounds-alike-start invariant-loop decreases-loop
--- LEFT part-alike-start c = omega arith
-
--- LEFT part-alike-end : tie.Need-slice-bounds-alike-end invariant-loop decreases-loop
--- LEFT part-alike-end c = omega arith
-
 pub slice_bounds-alike-count-in-loop-i : goal.slice_bounds-alike-count-in-loop-i
 slice_bounds-alike-count-in-loop-i c = omega arith
-
--- LEFT part-alike-start-2 : tie.Need-slice-bounds-alike-start-2 invariant-loop decreases-loop
--- LEFT part-alike-start-2 c = omega arith
-
--- LEFT part-alike-end-2 : tie.Need-slice-bounds-alike-end-2 invariant-loop decreases-loop
--- LEFT part-alike-end-2 c = omega arith
 
 pub alike-requires : goal.alike-requires
 alike-requires c = simp (length-take, length-drop) (omega arith)

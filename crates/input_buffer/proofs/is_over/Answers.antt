@@ -1,5 +1,4 @@
 -- Accepted or refused.
-use borrow.Author.Rules.{rules}
 use Rattle.input_buffer.proofs.is_over.Goals as goal
 
 pub returns-in-Accepted : goal.returns-in-Accepted

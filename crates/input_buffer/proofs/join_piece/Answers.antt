@@ -5,7 +5,6 @@ use lib.ListN.{take, length-take}
 use lib.Seq.{length-take-le}
 use Rattle.little.specs.Little.{over}
 use Rattle.interner.proofs.Takes.{take_min}
-use borrow.Author.Rules.{rules}
 use Rattle.input_buffer.proofs.join_piece.Goals as goal
 
 pub slice_bounds-copy_at-end : goal.slice_bounds-copy_at-end

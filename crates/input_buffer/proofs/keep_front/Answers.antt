@@ -1,5 +1,4 @@
 -- What follows the lines, or nothing.
-use borrow.Author.Rules.{rules}
 use Rattle.input_buffer.proofs.keep_front.Goals as goal
 
 pub keep_rest-requires : goal.keep_rest-requires

@@ -3,14 +3,9 @@ use mathlib.Core.Path.{◌≡◌, ◌∙◌, ap}
 use native.Mathlib.Omega.{arith}
 use lib.ListN.{length, take, length-take}
 use Rattle.overlay.specs.Lent.{overlay_in}
-use Rattle.reader.specs.State.{State}
 use Prim.Native.Nat.{ℕ, ◌+◌, ◌≤◌}
 use Rattle.input_pieces.specs.Feed.{feed_on}
 use Rattle.input_pieces.proofs.Fronts.{fed_by}
-use borrow.Author.Rules.{rules}
-use Rattle.input_pieces.proofs.feed.Reads as reads
-use Rattle.input_pieces.proofs.feed.Lts as lts
-use Rattle.input_pieces.proofs.feed.Tie as tie
 use Rattle.input_pieces.proofs.feed.Goals as goal
 
 pub returns : goal.returns

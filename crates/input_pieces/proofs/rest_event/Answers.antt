@@ -3,12 +3,7 @@ use mathlib.Core.Path.{◌∙◌, ap}
 use Rattle.base.specs.Bytes.{Bytes}
 use Rattle.compact_legal.proofs.Fronts.{rest_of}
 use Rattle.overlay.specs.Lent.{overlay_in}
-use Rattle.reader.specs.State.{State}
 use Rattle.reader.specs.Event.{event_on}
-use borrow.Author.Rules.{rules}
-use Rattle.input_pieces.proofs.rest_event.Reads as reads
-use Rattle.input_pieces.proofs.rest_event.Lts as lts
-use Rattle.input_pieces.proofs.rest_event.Tie as tie
 use Rattle.input_pieces.proofs.rest_event.Goals as goal
 
 pub returns : goal.returns

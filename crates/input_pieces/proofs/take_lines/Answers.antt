@@ -1,12 +1,7 @@
 -- The whole lines, and what is left where it is too long.
 use mathlib.Core.Path.{sym, ◌∙◌}
 use Rattle.overlay.specs.Lent.{overlay_in}
-use Rattle.reader.specs.State.{State}
 use Rattle.input_pieces.proofs.Fronts.{took_lines, took_rest}
-use borrow.Author.Rules.{rules}
-use Rattle.input_pieces.proofs.take_lines.Reads as reads
-use Rattle.input_pieces.proofs.take_lines.Lts as lts
-use Rattle.input_pieces.proofs.take_lines.Tie as tie
 use Rattle.input_pieces.proofs.take_lines.Goals as goal
 
 pub returns-then-is_over : goal.returns-then-is_over

@@ -1,10 +1,7 @@
-use Prim.Native.Nat.{◌≤◌, ◌-◌}
-use mathlib.Core.Path.{◌≡◌, sym, ◌∙◌, ap}
+use mathlib.Core.Path.{sym, ◌∙◌, ap}
 use native.Mathlib.Omega.{arith}
-use lib.ListN.{length, drop}
-use Rattle.integer.specs.Integer.{digits}
 use Rattle.integer.specs.Bounded.{at_most}
-use Rattle.integer.proofs.Digits.{after, none_left, begins, ends, stops, goes_on, too_large, digit_low, digit_high, digit_of}
+use Rattle.integer.proofs.Digits.{none_left, begins, ends, stops, goes_on, too_large, digit_low, digit_high, digit_of}
 use Rattle.integer.proofs.magnitude.Goals as goal
 
 pub returns-then-s-from : goal.returns-then-s-from

@@ -1,11 +1,10 @@
 -- `magnitude` reads digits up to a bound: the loop keeps that the digits read and the rest of the text give what the whole gives.
 use Prim.Native.Nat.{◌≤◌, ◌-◌}
-use mathlib.Core.Path.{◌≡◌, sym, ◌∙◌, ap}
-use native.Mathlib.Omega.{arith}
+use mathlib.Core.Path.{◌≡◌}
 use lib.ListN.{length, drop}
 use Rattle.integer.specs.Integer.{digits}
 use Rattle.integer.specs.Bounded.{at_most}
-use Rattle.integer.proofs.Digits.{after, none_left, begins, ends, stops, goes_on, too_large, digit_low, digit_high, digit_of}
+use Rattle.integer.proofs.Digits.{after}
 use Rattle.integer.proofs.magnitude.Given as goal
 
 abbrev pub invariant-loop-at : goal.invariant-loop-at

@@ -2,7 +2,6 @@
 use mathlib.Core.Path.{◌∙◌}
 use mir.Syntax.{w32}
 use Rattle.integer.proofs.Integers.{reads_width}
-use borrow.Author.Rules.{rules}
 use Rattle.integer.proofs.read_i32.Goals as goal
 
 pub returns : goal.returns

@@ -2,7 +2,6 @@
 use mathlib.Core.Path.{◌∙◌}
 use mir.Syntax.{w64}
 use Rattle.integer.proofs.Integers.{reads_width}
-use borrow.Author.Rules.{rules}
 use Rattle.integer.proofs.read_i64.Goals as goal
 
 pub returns : goal.returns

@@ -2,7 +2,6 @@
 use mathlib.Core.Path.{sym, ◌∙◌}
 use native.Mathlib.Omega.{arith}
 use Rattle.integer.proofs.Integers.{read_empty, read_plus, read_plain, minus_not, minus_zero, minus_more, at_most_lem}
-use borrow.Author.Rules.{rules}
 use Rattle.integer.proofs.read_signed.Goals as goal
 
 pub returns-then-s-eq0 : goal.returns-then-s-eq0

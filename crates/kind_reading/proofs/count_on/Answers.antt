@@ -1,9 +1,6 @@
-use Prim.Native.Nat.{◌+◌, ◌-◌, ◌≤◌}
 use mathlib.Core.Path.{◌≡◌, sym, ◌∙◌, ap}
-use mathlib.Core.Logic.{⊎_elim}
 use native.Mathlib.Omega.{arith}
 use lib.ListN.{length}
-use borrow.Author.Rules.{rules}
 use Rattle.kind_table.specs.Words.{held}
 use Rattle.kind_reading.specs.Listed.{is_on}
 use Rattle.kind_reading.proofs.Walks.{onward, onward_starts, onward_more, onward_other, onward_ends}

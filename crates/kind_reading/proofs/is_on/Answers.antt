@@ -1,5 +1,4 @@
 -- A place below 2^63 is that of a live row.
-use borrow.Author.Rules.{rules}
 use Rattle.kind_store.specs.KindStore.{is_live}
 use Rattle.kind_reading.proofs.is_on.Goals as goal
 

@@ -1,8 +1,5 @@
-use Prim.Native.Nat.{◌-◌, ◌≤◌}
 use mathlib.Core.Path.{◌≡◌, refl, sym, ◌∙◌, ap}
-use mathlib.Core.Logic.{⊎_elim}
 use native.Mathlib.Omega.{arith}
-use borrow.Author.Rules.{rules}
 use Rattle.kind_table.specs.Words.{row_at, held}
 use Rattle.kind_reading.specs.declared.Nth.TheVariants.{At}
 use Rattle.kind_reading.specs.Listed.{is_on, nth}

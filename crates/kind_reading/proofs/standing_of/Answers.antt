@@ -6,7 +6,6 @@ use Rattle.kind_table.specs.Words.{lookup}
 use Rattle.kind_table.specs.declared.Found.TheVariants.{At, Place}
 use Rattle.kind_reading.specs.Listed.{row_standing}
 use Rattle.kind_reading.proofs.Standings.{standing_at_lem}
-use borrow.Author.Rules.{rules}
 use Rattle.kind_reading.proofs.standing_of.Goals as goal
 
 pub returns-in-At : goal.returns-in-At

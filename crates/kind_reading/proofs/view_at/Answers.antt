@@ -5,7 +5,6 @@ use lib.ListN.{take}
 use lib.Seq.{length-take-le}
 use Rattle.compact_legal.specs.declared.End.TheVariants.{At, Bad}
 use Rattle.kind_reading.proofs.Views.{end_later, view_to_lem}
-use borrow.Author.Rules.{rules}
 use Rattle.kind_reading.proofs.view_at.Goals as goal
 
 pub slice_bounds-record_end-end : goal.slice_bounds-record_end-end

@@ -1,5 +1,5 @@
 -- The walk, then the rows.
-use mathlib.Core.Path.{◌≡◌, sym, ◌∙◌}
+use mathlib.Core.Path.{sym, ◌∙◌}
 use Rattle.base.specs.Bytes.{both}
 use Rattle.base.proofs.Split.{both_no_left}
 use Rattle.kind_sound.proofs.cells_pass.Goals as goal

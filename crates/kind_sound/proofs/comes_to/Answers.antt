@@ -1,7 +1,6 @@
-use Prim.Native.Nat.{◌-◌, ◌<◌}
+use Prim.Native.Nat.{◌<◌}
 use mathlib.Core.Path.{sym, ◌∙◌}
 use native.Mathlib.Omega.{arith}
-use borrow.Author.Rules.{rules}
 use Rattle.kind_sound.proofs.Walks.{arrived, stops, Coming, coming_first, coming_next}
 use Rattle.kind_sound.proofs.comes_to.Goals as goal
 

@@ -1,9 +1,6 @@
 -- A walk to one place: what is left of it from record to record.
-use Prim.Native.Nat.{◌-◌, ◌<◌}
-use mathlib.Core.Path.{sym, ◌∙◌}
-use native.Mathlib.Omega.{arith}
-use borrow.Author.Rules.{rules}
-use Rattle.kind_sound.proofs.Walks.{arrived, stops, Coming, coming_first, coming_next}
+use Prim.Native.Nat.{◌-◌}
+use Rattle.kind_sound.proofs.Walks.{Coming}
 use Rattle.kind_sound.proofs.comes_to.Given as goal
 
 abbrev pub invariant-loop-at : goal.invariant-loop-at

@@ -1,8 +1,7 @@
-use Prim.Native.Nat.{◌/◌, ◌-◌, ◌<◌}
+use Prim.Native.Nat.{◌/◌, ◌<◌}
 use mathlib.Core.Path.{refl, sym, ◌∙◌}
 use native.Mathlib.Omega.{arith}
-use lib.ListN.{length, set}
-use borrow.Author.Rules.{rules}
+use lib.ListN.{set}
 use Rattle.base.proofs.Split.{clash}
 use Rattle.kind_sound.specs.Cells.{cell_of}
 use Rattle.kind_sound.proofs.Walks.{Noting, noting_first, noting_next, noting_bad, noting_last}

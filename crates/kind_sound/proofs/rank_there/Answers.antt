@@ -5,7 +5,6 @@ use mir.Val.{to_z}
 use mir.Syntax.{w64}
 use Rattle.osm_id.specs.Order.{rank, id_of}
 use Rattle.osm_id.proofs.Orders.{id_rank}
-use borrow.Author.Rules.{rules}
 use Rattle.kind_sound.proofs.rank_there.Goals as goal
 
 pub returns : goal.returns

@@ -1,8 +1,6 @@
 -- A row, test by test.
-use mathlib.Core.Path.{◌∙◌}
 use mir.Syntax.{w64}
 use mir.Val.{to_z}
-use borrow.Author.Rules.{rules}
 use Rattle.little.specs.Little.{value_at}
 use Rattle.kind_sound.proofs.Ids.{same_rank}
 use Rattle.kind_sound.proofs.Passing.{passes_there, passes_past, passes_deleted}

@@ -1,12 +1,10 @@
-use Prim.Native.Nat.{◌+◌, ◌-◌}
 use mathlib.Core.Path.{◌≡◌, sym, ◌∙◌, ap}
 use native.Mathlib.Omega.{arith}
-use borrow.Author.Rules.{rules}
-use Rattle.base.specs.Bytes.{both, all}
+use Rattle.base.specs.Bytes.{both}
 use Rattle.base.proofs.Split.{both_no_left}
-use Rattle.kind_table.specs.Words.{row_at, rows_of}
+use Rattle.kind_table.specs.Words.{row_at}
 use Rattle.kind_sound.specs.Check.{row_passes}
-use Rattle.kind_sound.proofs.Passing.{rest, rest_starts, rest_next, rest_ends}
+use Rattle.kind_sound.proofs.Passing.{rest_starts, rest_next, rest_ends}
 use Rattle.kind_sound.proofs.rows_pass.Goals as goal
 
 pub loop-i-init : goal.loop-i-init

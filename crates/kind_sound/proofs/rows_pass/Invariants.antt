@@ -1,13 +1,10 @@
 -- Row after row: all pass exactly when those from the i-th on do.
-use Prim.Native.Nat.{◌+◌, ◌-◌}
-use mathlib.Core.Path.{◌≡◌, sym, ◌∙◌, ap}
-use native.Mathlib.Omega.{arith}
-use borrow.Author.Rules.{rules}
-use Rattle.base.specs.Bytes.{both, all}
-use Rattle.base.proofs.Split.{both_no_left}
-use Rattle.kind_table.specs.Words.{row_at, rows_of}
+use Prim.Native.Nat.{◌-◌}
+use mathlib.Core.Path.{◌≡◌}
+use Rattle.base.specs.Bytes.{all}
+use Rattle.kind_table.specs.Words.{rows_of}
 use Rattle.kind_sound.specs.Check.{row_passes}
-use Rattle.kind_sound.proofs.Passing.{rest, rest_starts, rest_next, rest_ends}
+use Rattle.kind_sound.proofs.Passing.{rest}
 use Rattle.kind_sound.proofs.rows_pass.Given as goal
 
 abbrev pub invariant-loop-i : goal.invariant-loop-i

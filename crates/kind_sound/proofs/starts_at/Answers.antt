@@ -1,5 +1,4 @@
 -- A place that has a cell, and one past the cells.
-use borrow.Author.Rules.{rules}
 use Rattle.kind_sound.specs.Cells.{Noted}
 use Rattle.kind_sound.proofs.starts_at.Goals as goal
 

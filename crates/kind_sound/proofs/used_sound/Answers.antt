@@ -1,6 +1,5 @@
 -- The table, then the used bytes and the rows, with cells of their own.
 use mathlib.Core.Path.{refl, sym, ◌∙◌}
-use borrow.Author.Rules.{rules}
 use Rattle.base.specs.Bytes.{both}
 use Rattle.base.proofs.Split.{both_no_left, both_no_right}
 use Rattle.kind_sound.specs.Check.{sound_used}

@@ -1,7 +1,6 @@
 -- The head is taken apart by kind, and one of the three appends writes the record.
 use Rattle.compact.specs.Held.{way_head, relation_head}
 use Rattle.compact.specs.Held.{head_in}
-use borrow.Author.Rules.{rules}
 use Rattle.kind_store.proofs.append_record.Goals as goal
 
 pub returns-in-Node : goal.returns-in-Node

@@ -1,7 +1,6 @@
 -- With setting 0 the answer is that of `admit`, else the claim is admitted.
 use borrow.Author.Tests.{eq-eqb, ne_eqb}
 use Rattle.kind_store.specs.KindStore.{checked}
-use borrow.Author.Rules.{rules}
 use Rattle.kind_store.proofs.check.Goals as goal
 
 pub returns-then-setting-eq0 : goal.returns-then-setting-eq0

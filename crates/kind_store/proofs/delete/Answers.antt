@@ -1,6 +1,5 @@
 -- The row is searched once; 12 is answered with the known version, and every other case goes on.
 use mathlib.Core.Path.{refl, sym, ◌∙◌, ◌≡◌}
-use lib.IntN.{ℤ}
 use mir.Val.{to_z}
 use mir.Syntax.{w32, w64}
 use Rattle.signed.proofs.Bits.{held}

@@ -2,12 +2,8 @@
 use mathlib.Core.Path.{sym}
 use mir.Val.{to_z}
 use mir.Syntax.{w64}
-use Rattle.kind_store.specs.KindStore.{KindStore, kind_store_with}
+use Rattle.kind_store.specs.KindStore.{kind_store_with}
 use Rattle.kind_store.proofs.Acts.{room_as, delete_room, delete_full}
-use borrow.Author.Rules.{rules}
-use Rattle.kind_store.proofs.delete_admitted.Reads as reads
-use Rattle.kind_store.proofs.delete_admitted.Lts as lts
-use Rattle.kind_store.proofs.delete_admitted.Tie as tie
 use Rattle.kind_store.proofs.delete_admitted.Goals as goal
 
 pub returns-then-has_room : goal.returns-then-has_room

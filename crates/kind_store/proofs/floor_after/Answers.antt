@@ -1,6 +1,5 @@
 -- By the claim and the setting.
 use borrow.Author.Tests.{eq-eqb, ne_eqb}
-use borrow.Author.Rules.{rules}
 use Rattle.kind_store.proofs.floor_after.Goals as goal
 
 pub returns-then-setting-eq0 : goal.returns-then-setting-eq0

@@ -1,7 +1,6 @@
 -- By what the search found.
 use mathlib.Core.Path.{ap}
 use Rattle.kind_table.specs.declared.Row.{Row}
-use borrow.Author.Rules.{rules}
 use Rattle.kind_store.proofs.floor_found.Goals as goal
 
 pub returns-in-At : goal.returns-in-At

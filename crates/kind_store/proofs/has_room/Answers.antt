@@ -1,7 +1,6 @@
 -- A row that was found, or a third of the words that is not used up.
 use lib.ListN.{length}
 use Rattle.kind_store.proofs.Acts.{rows_held}
-use borrow.Author.Rules.{rules}
 use Rattle.kind_store.proofs.has_room.Goals as goal
 
 pub returns-in-Place : goal.returns-in-Place

@@ -2,15 +2,10 @@
 use mathlib.Core.List.{◌++◌}
 use mir.Val.{to_z}
 use mir.Syntax.{w64}
-use Rattle.base.specs.Bytes.{Bytes}
 use Rattle.compact.specs.Held.{meta_of, head_in}
 use Rattle.compact.specs.Layout.{head_bytes, meta_bytes}
-use Rattle.kind_store.specs.KindStore.{KindStore, kind_store_with}
+use Rattle.kind_store.specs.KindStore.{kind_store_with}
 use Rattle.kind_store.proofs.Acts.{join_full, join_end}
-use borrow.Author.Rules.{rules}
-use Rattle.kind_store.proofs.join.Reads as reads
-use Rattle.kind_store.proofs.join.Lts as lts
-use Rattle.kind_store.proofs.join.Tie as tie
 use Rattle.kind_store.proofs.join.Goals as goal
 
 pub returns-in_default : goal.returns-in_default

@@ -2,7 +2,6 @@
 use mathlib.Core.Path.{◌∙◌, ap}
 use Rattle.kind_table.specs.Words.{lookup}
 use Rattle.kind_store.specs.KindStore.{known_version, known_at}
-use borrow.Author.Rules.{rules}
 use Rattle.kind_store.proofs.known_version.Goals as goal
 
 pub returns : goal.returns

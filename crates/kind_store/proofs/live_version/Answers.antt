@@ -9,7 +9,6 @@ use Rattle.compact.specs.Held.{meta_of}
 use Rattle.compact.specs.declared.ArenaMeta.{ArenaMeta}
 use Rattle.kind_store.specs.KindStore.{is_live, version_at, live_version}
 use Rattle.kind_store.proofs.Acts.{head_most}
-use borrow.Author.Rules.{rules}
 use Rattle.kind_store.proofs.live_version.Goals as goal
 
 pub overflow_add-at : goal.overflow_add-at

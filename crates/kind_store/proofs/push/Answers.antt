@@ -3,16 +3,11 @@ use mathlib.Core.List.{◌++◌}
 use mir.Val.{to_z}
 use mir.Syntax.{w32, w64}
 use Rattle.signed.proofs.Bits.{held}
-use Rattle.version_floor.specs.declared.Admit.TheVariants.{Below}
 use Rattle.model.specs.Record.{claim_of}
 use Rattle.compact.specs.Held.{meta_of, head_in}
 use Rattle.compact.specs.Layout.{head_bytes, meta_bytes}
 use Rattle.kind_store.specs.KindStore.{kind_store_with}
 use Rattle.kind_store.proofs.Acts.{push_checked, push_goes}
-use borrow.Author.Rules.{rules}
-use Rattle.kind_store.proofs.push.Reads as reads
-use Rattle.kind_store.proofs.push.Lts as lts
-use Rattle.kind_store.proofs.push.Tie as tie
 use Rattle.kind_store.proofs.push.Goals as goal
 
 -- the first two places are looked for first: a search does not reach them once the others are there

@@ -1,8 +1,4 @@
 -- 14, or the record joined.
-use borrow.Author.Rules.{rules}
-use Rattle.kind_store.proofs.push_admitted.Reads as reads
-use Rattle.kind_store.proofs.push_admitted.Lts as lts
-use Rattle.kind_store.proofs.push_admitted.Tie as tie
 use Rattle.kind_store.proofs.push_admitted.Goals as goal
 
 pub returns-then-has_room : goal.returns-then-has_room

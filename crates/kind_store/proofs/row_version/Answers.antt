@@ -1,6 +1,5 @@
 -- The larger of the live version and the floor.
 use Rattle.kind_store.specs.KindStore.{known_of}
-use borrow.Author.Rules.{rules}
 use Rattle.kind_store.proofs.row_version.Goals as goal
 
 pub returns : goal.returns

@@ -3,10 +3,6 @@ use native.Mathlib.Numerals.{add-one}
 use native.Mathlib.Omega.{arith}
 use Rattle.kind_table.specs.Words.{count_after}
 use Rattle.kind_store.proofs.Acts.{set_as}
-use borrow.Author.Rules.{rules}
-use Rattle.kind_store.proofs.set_row.Reads as reads
-use Rattle.kind_store.proofs.set_row.Lts as lts
-use Rattle.kind_store.proofs.set_row.Tie as tie
 use Rattle.kind_store.proofs.set_row.Goals as goal
 
 pub overflow_add-result : goal.overflow_add-result

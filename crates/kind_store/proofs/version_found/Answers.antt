@@ -1,7 +1,6 @@
 -- By what the search found.
 use mathlib.Core.Path.{◌∙◌, ap}
 use Rattle.kind_store.specs.KindStore.{known_of}
-use borrow.Author.Rules.{rules}
 use Rattle.kind_store.proofs.version_found.Goals as goal
 
 pub returns-in-At : goal.returns-in-At

@@ -6,7 +6,6 @@ use lib.ListN.{length}
 use Rattle.kind_table.specs.Words.{answer_at, lookup}
 use Rattle.kind_table.proofs.Halves.{answer_at_lem, answer_place}
 use Rattle.kind_table.proofs.Tables.{held_fits}
-use borrow.Author.Rules.{rules}
 use Rattle.kind_table.proofs.find_row.Goals as goal
 
 -- the rows that are searched fit the words

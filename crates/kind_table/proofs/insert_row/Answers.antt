@@ -1,7 +1,6 @@
 -- `kind_table::insert_row` meets its contract.
 use native.Mathlib.Omega.{arith}
 use Rattle.kind_table.proofs.Gaps.{gap_filled}
-use borrow.Author.Rules.{rules}
 use Rattle.kind_table.proofs.insert_row.Goals as goal
 
 pub returns : goal.returns

@@ -1,8 +1,6 @@
-use Prim.Native.Nat.{◌≤◌, ◌-◌}
-use mathlib.Core.Path.{◌≡◌, sym, ◌∙◌}
+use mathlib.Core.Path.{sym, ◌∙◌}
 use native.Mathlib.Omega.{arith}
-use Rattle.kind_table.specs.Words.{sound_table}
-use Rattle.kind_table.proofs.Rises.{too_many, onward, onward_starts, onward_next, onward_not, onward_ends}
+use Rattle.kind_table.proofs.Rises.{too_many, onward_starts, onward_next, onward_not, onward_ends}
 use Rattle.kind_table.proofs.is_rising.Goals as goal
 
 pub returns-then-table-n : goal.returns-then-table-n

@@ -1,9 +1,8 @@
 -- `kind_table::is_rising` meets its contract: the table is sound if the ranks go on rising from the row before `i` on.
 use Prim.Native.Nat.{◌≤◌, ◌-◌}
-use mathlib.Core.Path.{◌≡◌, sym, ◌∙◌}
-use native.Mathlib.Omega.{arith}
+use mathlib.Core.Path.{◌≡◌}
 use Rattle.kind_table.specs.Words.{sound_table}
-use Rattle.kind_table.proofs.Rises.{too_many, onward, onward_starts, onward_next, onward_not, onward_ends}
+use Rattle.kind_table.proofs.Rises.{onward}
 use Rattle.kind_table.proofs.is_rising.Given as goal
 
 abbrev pub invariant-loop-i : goal.invariant-loop-i

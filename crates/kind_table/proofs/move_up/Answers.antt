@@ -1,7 +1,6 @@
-use Prim.Native.Nat.{◌≤◌, ◌-◌}
 use mathlib.Core.Path.{◌≡◌, refl, sym}
 use native.Mathlib.Omega.{arith}
-use lib.ListN.{length, length-set}
+use lib.ListN.{length-set}
 use Rattle.kind_table.specs.Words.{gap}
 use Rattle.kind_table.proofs.Gaps.{gap_closed, gap_step}
 use Rattle.kind_table.proofs.move_up.Goals as goal

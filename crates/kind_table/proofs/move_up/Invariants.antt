@@ -1,10 +1,8 @@
 -- `kind_table::move_up` meets its contract: the words from `i` on have moved, so the gap of the words as they came lies at `i`.
-use Prim.Native.Nat.{◌≤◌, ◌-◌}
-use mathlib.Core.Path.{◌≡◌, refl, sym}
-use native.Mathlib.Omega.{arith}
-use lib.ListN.{length, length-set}
+use Prim.Native.Nat.{◌≤◌}
+use mathlib.Core.Path.{◌≡◌}
+use lib.ListN.{length}
 use Rattle.kind_table.specs.Words.{gap}
-use Rattle.kind_table.proofs.Gaps.{gap_closed, gap_step}
 use Rattle.kind_table.proofs.move_up.Given as goal
 
 abbrev pub invariant-loop-i : goal.invariant-loop-i

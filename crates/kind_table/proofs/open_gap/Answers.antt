@@ -1,7 +1,6 @@
 -- `kind_table::open_gap` lends the words from `at` on, and their gap is the table's.
 use native.Mathlib.Omega.{arith}
 use Rattle.kind_table.proofs.Gaps.{gap_lent}
-use borrow.Author.Rules.{rules}
 use Rattle.kind_table.proofs.open_gap.Goals as goal
 
 pub returns : goal.returns

@@ -1,6 +1,5 @@
-use Prim.Native.Nat.{◌≤◌, ◌-◌}
 use native.Mathlib.Omega.{arith}
-use Rattle.kind_table.proofs.Halves.{Halving, halving_starts, halving_up, halving_down, halving_ends}
+use Rattle.kind_table.proofs.Halves.{halving_starts, halving_up, halving_down, halving_ends}
 use Rattle.kind_table.proofs.place_of.Goals as goal
 
 pub loop-lo-init : goal.loop-lo-init

@@ -1,7 +1,6 @@
 -- `kind_table::place_of` meets its contract: the search of all rows has come to those from `lo` to `hi`.
 use Prim.Native.Nat.{◌≤◌, ◌-◌}
-use native.Mathlib.Omega.{arith}
-use Rattle.kind_table.proofs.Halves.{Halving, halving_starts, halving_up, halving_down, halving_ends}
+use Rattle.kind_table.proofs.Halves.{Halving}
 use Rattle.kind_table.proofs.place_of.Given as goal
 
 abbrev pub invariant-loop-lo : goal.invariant-loop-lo

@@ -1,10 +1,9 @@
 -- `kind_table::put_row` meets its contract: the row is stored by what the search found, which lies among the rows that are held.
-use mathlib.Core.Path.{◌≡◌, sym, ◌∙◌}
+use mathlib.Core.Path.{sym, ◌∙◌}
 use native.Mathlib.Omega.{arith}
 use Rattle.base.proofs.Split.{no}
 use Rattle.kind_table.proofs.Halves.{lookup_at, lookup_place}
 use Rattle.kind_table.proofs.Tables.{held_fits, held_counted, stored_known, stored_new, stored_full}
-use borrow.Author.Rules.{rules}
 use Rattle.kind_table.proofs.put_row.Goals as goal
 
 pub returns-then-i-most : goal.returns-then-i-most

@@ -2,7 +2,6 @@
 use native.Mathlib.Omega.{arith}
 use lib.ListN.{length-set}
 use Rattle.kind_table.proofs.Gaps.{row_stored}
-use borrow.Author.Rules.{rules}
 use Rattle.kind_table.proofs.store_row.Goals as goal
 
 pub bounds-table-at-2 : goal.bounds-table-at-2

@@ -1,6 +1,5 @@
 -- `kind_table::word_at` meets its contract.
 use mathlib.Core.Path.{sym}
-use borrow.Author.Rules.{rules}
 use lib.ListN.{get_or-eq_default}
 use Rattle.kind_table.proofs.word_at.Goals as goal
 

@@ -1,4 +1,4 @@
-use Prim.Native.Nat.{◌+◌, ◌-◌, ◌≤◌}
+use Prim.Native.Nat.{◌+◌, ◌≤◌}
 use mathlib.Core.Path.{◌≡◌}
 use mathlib.Core.List.{◌∷◌}
 use mathlib.Core.Logic.{inl, inr}
@@ -7,8 +7,7 @@ use native.Mathlib.Omega.{arith}
 use lib.ListN.{length, get_or, drop, drop_of_length-le}
 use lib.Seq.{drop-cons}
 use Rattle.base.proofs.Split.{by_le}
-use Rattle.little.proofs.Overs.{Writing, begun, stored, written}
-use borrow.Author.Rules.{rules}
+use Rattle.little.proofs.Overs.{begun, stored, written}
 use Rattle.little.proofs.copy_in.Goals as goal
 
 pub loop-i-init : goal.loop-i-init

@@ -4,7 +4,6 @@ use native.Mathlib.Omega.{arith}
 use lib.ListN.{length, get_or, take, drop, drop_of_length-le}
 use Rattle.little.specs.Little.{value, value_at}
 use Rattle.little.proofs.Littles.{bytes_of, value_nil, there, next, next_within}
-use borrow.Author.Rules.{rules}
 use Rattle.little.proofs.get_le.Goals as goal
 
 pub loop-i-init : goal.loop-i-init

@@ -1,11 +1,8 @@
 -- `get_le` reads a number from its highest byte down. The invariant: what it holds is the number of the bytes from `i` on.
-use Prim.Native.Nat.{◌+◌, ◌-◌, ◌*◌, ◌^◌, ◌≤◌, ◌<◌}
-use mathlib.Core.Path.{◌≡◌, sym, ◌∙◌, ap}
-use native.Mathlib.Omega.{arith}
-use lib.ListN.{length, get_or, take, drop, drop_of_length-le}
-use Rattle.little.specs.Little.{value, value_at}
-use Rattle.little.proofs.Littles.{bytes_of, value_nil, there, next, next_within}
-use borrow.Author.Rules.{rules}
+use Prim.Native.Nat.{◌≤◌}
+use mathlib.Core.Path.{◌≡◌}
+use lib.ListN.{length, take, drop}
+use Rattle.little.specs.Little.{value}
 use Rattle.little.proofs.get_le.Given as goal
 
 abbrev pub invariant-loop-i : goal.invariant-loop-i

@@ -1,7 +1,6 @@
 -- `get_u8`: the number of a byte fits.
 use native.Mathlib.Omega.{arith}
 use Rattle.little.proofs.Littles.{bytes_of, value_at_within}
-use borrow.Author.Rules.{rules}
 use Rattle.little.proofs.get_u8.Goals as goal
 
 pub overflow_cast-result : goal.overflow_cast-result

@@ -1,4 +1,4 @@
-use Prim.Native.Nat.{◌+◌, ◌-◌, ◌/◌, ◌%◌, ◌≤◌, suc}
+use Prim.Native.Nat.{◌+◌, ◌-◌, ◌/◌, ◌%◌, suc}
 use mathlib.Core.Path.{◌≡◌}
 use mathlib.Core.List.{◌∷◌}
 use mathlib.Core.Logic.{inl, inr}
@@ -8,8 +8,7 @@ use lib.ListN.{length}
 use Rattle.base.proofs.Split.{by_le}
 use Rattle.little.specs.Little.{le}
 use Rattle.little.proofs.Littles.{le_suc, le_zero}
-use Rattle.little.proofs.Overs.{Writing, begun, stored, written}
-use borrow.Author.Rules.{rules}
+use Rattle.little.proofs.Overs.{begun, stored, written}
 use Rattle.little.proofs.put_le.Goals as goal
 
 pub loop-i-init : goal.loop-i-init

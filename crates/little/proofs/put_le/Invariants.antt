@@ -1,16 +1,7 @@
 -- `put_le` writes the low bytes of a number, the lowest first. The invariant: the bytes still to come are those of what is left of the number.
-use Prim.Native.Nat.{◌+◌, ◌-◌, ◌/◌, ◌%◌, ◌≤◌, suc}
-use mathlib.Core.Path.{◌≡◌}
-use mathlib.Core.List.{◌∷◌}
-use mathlib.Core.Logic.{inl, inr}
-use native.Mathlib.Nat.{sub-zero}
-use native.Mathlib.Omega.{arith}
-use lib.ListN.{length}
-use Rattle.base.proofs.Split.{by_le}
+use Prim.Native.Nat.{◌-◌, ◌≤◌}
 use Rattle.little.specs.Little.{le}
-use Rattle.little.proofs.Littles.{le_suc, le_zero}
-use Rattle.little.proofs.Overs.{Writing, begun, stored, written}
-use borrow.Author.Rules.{rules}
+use Rattle.little.proofs.Overs.{Writing}
 use Rattle.little.proofs.put_le.Given as goal
 
 abbrev pub invariant-loop-i : goal.invariant-loop-i

@@ -2,10 +2,6 @@
 use mathlib.Core.Path.{sym, ◌∙◌}
 use Rattle.overlay.specs.Lent.{overlay_in}
 use Rattle.overlay.proofs.Parts.{allow_stored, allow_unsound}
-use borrow.Author.Rules.{rules}
-use Rattle.overlay.proofs.allow_version_regression.Reads as reads
-use Rattle.overlay.proofs.allow_version_regression.Lts as lts
-use Rattle.overlay.proofs.allow_version_regression.Tie as tie
 use Rattle.overlay.proofs.allow_version_regression.Goals as goal
 
 pub returns-then-is_sound : goal.returns-then-is_sound

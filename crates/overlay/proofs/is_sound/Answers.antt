@@ -2,10 +2,6 @@
 use Rattle.base.specs.Bytes.{both}
 use Rattle.overlay.specs.Sound.{is_sound}
 use Rattle.overlay.proofs.Parts.{sizes_in_lem}
-use borrow.Author.Rules.{rules}
-use Rattle.overlay.proofs.is_sound.Reads as reads
-use Rattle.overlay.proofs.is_sound.Lts as lts
-use Rattle.overlay.proofs.is_sound.Tie as tie
 use Rattle.overlay.proofs.is_sound.Goals as goal
 
 pub returns-then-strings_sound : goal.returns-then-strings_sound

@@ -1,9 +1,5 @@
 -- What is lent of a kind is its kind store.
 use Rattle.overlay.proofs.Parts.{kind_lent}
-use borrow.Author.Rules.{rules}
-use Rattle.overlay.proofs.kind_sound.Reads as reads
-use Rattle.overlay.proofs.kind_sound.Lts as lts
-use Rattle.overlay.proofs.kind_sound.Tie as tie
 use Rattle.overlay.proofs.kind_sound.Goals as goal
 
 pub returns : goal.returns

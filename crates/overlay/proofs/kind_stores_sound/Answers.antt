@@ -1,10 +1,6 @@
 -- Each kind's kind store in turn; the first that is unsound decides.
 use Rattle.base.specs.Bytes.{both}
 use Rattle.overlay.specs.Sound.{kind_stores_sound}
-use borrow.Author.Rules.{rules}
-use Rattle.overlay.proofs.kind_stores_sound.Reads as reads
-use Rattle.overlay.proofs.kind_stores_sound.Lts as lts
-use Rattle.overlay.proofs.kind_stores_sound.Tie as tie
 use Rattle.overlay.proofs.kind_stores_sound.Goals as goal
 
 pub returns-then-kind_sound-2 : goal.returns-then-kind_sound-2

@@ -1,10 +1,6 @@
 -- 1, or the counters of an empty overlay and the span of handle 0.
 use mathlib.Core.Path.{sym, ◌∙◌}
 use Rattle.overlay.proofs.Parts.{setup_makes, setup_refuses}
-use borrow.Author.Rules.{rules}
-use Rattle.overlay.proofs.set_up.Reads as reads
-use Rattle.overlay.proofs.set_up.Lts as lts
-use Rattle.overlay.proofs.set_up.Tie as tie
 use Rattle.overlay.proofs.set_up.Goals as goal
 
 pub returns-then-sizes_fit : goal.returns-then-sizes_fit

@@ -1,9 +1,5 @@
 -- What is lent of the strings.
 use Rattle.overlay.proofs.Puts.{texts_lent}
-use borrow.Author.Rules.{rules}
-use Rattle.overlay.proofs.strings_sound.Reads as reads
-use Rattle.overlay.proofs.strings_sound.Lts as lts
-use Rattle.overlay.proofs.strings_sound.Tie as tie
 use Rattle.overlay.proofs.strings_sound.Goals as goal
 
 pub returns : goal.returns

@@ -1,10 +1,6 @@
 -- Each end is the one before it and what the block has of the part.
 use Rattle.overlay_blocks.specs.Blocks.{ends_of}
 use Rattle.overlay_blocks.proofs.Orders.{ends_known}
-use borrow.Author.Rules.{rules}
-use Rattle.overlay_blocks.proofs.ends_of.Reads as reads
-use Rattle.overlay_blocks.proofs.ends_of.Lts as lts
-use Rattle.overlay_blocks.proofs.ends_of.Tie as tie
 use Rattle.overlay_blocks.proofs.ends_of.Goals as goal
 
 pub returns : goal.returns

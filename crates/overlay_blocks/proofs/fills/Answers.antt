@@ -1,7 +1,6 @@
 -- Both sums.
 use Rattle.overlay_blocks.specs.Sizes.{filled}
 use Rattle.compact_legal.proofs.Bits.{and_both}
-use borrow.Author.Rules.{rules}
 use Rattle.overlay_blocks.proofs.fills.Goals as goal
 
 pub returns : goal.returns

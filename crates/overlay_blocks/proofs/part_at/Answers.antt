@@ -1,5 +1,4 @@
 -- Each kind its part.
-use borrow.Author.Rules.{rules}
 use Rattle.overlay_blocks.proofs.part_at.Goals as goal
 
 pub returns-in-Node : goal.returns-in-Node

@@ -1,10 +1,6 @@
 -- The part of the kind between the ends.
 use Rattle.overlay_blocks.specs.Blocks.{sizes_in}
 use Rattle.overlay_blocks.proofs.Orders.{part_known}
-use borrow.Author.Rules.{rules}
-use Rattle.overlay_blocks.proofs.part_in.Reads as reads
-use Rattle.overlay_blocks.proofs.part_in.Lts as lts
-use Rattle.overlay_blocks.proofs.part_in.Tie as tie
 use Rattle.overlay_blocks.proofs.part_in.Goals as goal
 
 pub returns : goal.returns

@@ -3,10 +3,6 @@ use mathlib.Core.Path.{sym, ◌∙◌}
 use Rattle.base.specs.Bytes.{both}
 use Rattle.overlay_blocks.specs.Sizes.{fitted}
 use Rattle.overlay_blocks.proofs.Ranges.{small}
-use borrow.Author.Rules.{rules}
-use Rattle.overlay_blocks.proofs.sizes_fit.Reads as reads
-use Rattle.overlay_blocks.proofs.sizes_fit.Lts as lts
-use Rattle.overlay_blocks.proofs.sizes_fit.Tie as tie
 use Rattle.overlay_blocks.proofs.sizes_fit.Goals as goal
 
 pub fills-requires : goal.fills-requires

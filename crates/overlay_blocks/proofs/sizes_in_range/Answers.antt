@@ -1,10 +1,6 @@
 -- The sizes of each kind and of the strings.
 use Rattle.overlay_blocks.specs.Sizes.{sizes_in_range}
 use Rattle.overlay_blocks.proofs.Ranges.{all_four}
-use borrow.Author.Rules.{rules}
-use Rattle.overlay_blocks.proofs.sizes_in_range.Reads as reads
-use Rattle.overlay_blocks.proofs.sizes_in_range.Lts as lts
-use Rattle.overlay_blocks.proofs.sizes_in_range.Tie as tie
 use Rattle.overlay_blocks.proofs.sizes_in_range.Goals as goal
 
 pub returns : goal.returns

@@ -1,10 +1,6 @@
 -- What lies behind the parts of the kinds.
 use Rattle.overlay_blocks.specs.Blocks.{sizes_in}
 use Rattle.overlay_blocks.proofs.Orders.{texts_known}
-use borrow.Author.Rules.{rules}
-use Rattle.overlay_blocks.proofs.texts_in.Reads as reads
-use Rattle.overlay_blocks.proofs.texts_in.Lts as lts
-use Rattle.overlay_blocks.proofs.texts_in.Tie as tie
 use Rattle.overlay_blocks.proofs.texts_in.Goals as goal
 
 pub returns : goal.returns

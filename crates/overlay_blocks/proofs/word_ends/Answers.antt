@@ -1,9 +1,5 @@
 -- Three words a row, as far as there are words.
 use Rattle.overlay_blocks.proofs.Orders.{ends_rows}
-use borrow.Author.Rules.{rules}
-use Rattle.overlay_blocks.proofs.word_ends.Reads as reads
-use Rattle.overlay_blocks.proofs.word_ends.Lts as lts
-use Rattle.overlay_blocks.proofs.word_ends.Tie as tie
 use Rattle.overlay_blocks.proofs.word_ends.Goals as goal
 
 pub returns : goal.returns

@@ -1,15 +1,10 @@
 -- 22, 17, or what the store answers.
 use mathlib.Core.Path.{sym, ◌∙◌}
-use Rattle.overlay.specs.Overlay.{Overlay}
 use Rattle.overlay.specs.Lent.{overlay_in}
 use mir.Syntax.{w64}
 use mir.Val.{to_z}
 use Rattle.compact.specs.Held.{meta_of}
 use Rattle.overlay_direct.proofs.Parts.{delete_unsound, delete_illegal, delete_legal}
-use borrow.Author.Rules.{rules}
-use Rattle.overlay_direct.proofs.delete.Reads as reads
-use Rattle.overlay_direct.proofs.delete.Lts as lts
-use Rattle.overlay_direct.proofs.delete.Tie as tie
 use Rattle.overlay_direct.proofs.delete.Goals as goal
 
 pub returns-then-legal_meta : goal.returns-then-legal_meta

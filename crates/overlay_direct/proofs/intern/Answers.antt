@@ -1,12 +1,7 @@
 -- 22, 3, or what the store answers.
 use mathlib.Core.Path.{sym, ◌∙◌}
-use Rattle.overlay.specs.Overlay.{Overlay}
 use Rattle.overlay.specs.Lent.{overlay_in}
 use Rattle.overlay_direct.proofs.Parts.{intern_unsound, intern_not_text, intern_text}
-use borrow.Author.Rules.{rules}
-use Rattle.overlay_direct.proofs.intern.Reads as reads
-use Rattle.overlay_direct.proofs.intern.Lts as lts
-use Rattle.overlay_direct.proofs.intern.Tie as tie
 use Rattle.overlay_direct.proofs.intern.Goals as goal
 
 pub returns-then-is_text : goal.returns-then-is_text

@@ -1,13 +1,8 @@
 -- 22, the record's own fault, or what the store answers.
 use mathlib.Core.Path.{refl, sym, ◌∙◌}
-use Rattle.overlay.specs.Overlay.{Overlay}
 use Rattle.overlay.specs.Lent.{overlay_in}
 use Rattle.compact_legal.specs.declared.Fault.TheVariants.{Legal, Refused}
 use Rattle.overlay_direct.proofs.Parts.{push_unsound, push_judged}
-use borrow.Author.Rules.{rules}
-use Rattle.overlay_direct.proofs.push.Reads as reads
-use Rattle.overlay_direct.proofs.push.Lts as lts
-use Rattle.overlay_direct.proofs.push.Tie as tie
 use Rattle.overlay_direct.proofs.push.Goals as goal
 
 pub returns-in_default : goal.returns-in_default

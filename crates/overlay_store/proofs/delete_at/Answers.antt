@@ -1,6 +1,5 @@
 -- The counters of the kind hold what its kind store counts after the delete, and every other counter is as it was.
 use Rattle.overlay_store.proofs.Parts.{counted_at}
-use borrow.Author.Rules.{rules}
 use Rattle.overlay_store.proofs.delete_at.Goals as goal
 
 pub returns : goal.returns

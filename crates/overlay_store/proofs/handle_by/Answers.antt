@@ -2,10 +2,6 @@
 use mathlib.Core.Path.{◌∙◌, ap}
 use Rattle.overlay.proofs.Puts.{texts_lent}
 use Rattle.overlay_store.specs.Calls.{handle_in}
-use borrow.Author.Rules.{rules}
-use Rattle.overlay_store.proofs.handle_by.Reads as reads
-use Rattle.overlay_store.proofs.handle_by.Lts as lts
-use Rattle.overlay_store.proofs.handle_by.Tie as tie
 use Rattle.overlay_store.proofs.handle_by.Goals as goal
 
 pub returns : goal.returns

@@ -1,5 +1,4 @@
 -- Each answer of the strings as an answer of the overlay.
-use borrow.Author.Rules.{rules}
 use Rattle.overlay_store.proofs.handle_in.Goals as goal
 
 pub returns-in-Held : goal.returns-in-Held

@@ -1,9 +1,5 @@
 -- What is lent of the strings.
 use Rattle.overlay.proofs.Puts.{texts_lent}
-use borrow.Author.Rules.{rules}
-use Rattle.overlay_store.proofs.index_texts.Reads as reads
-use Rattle.overlay_store.proofs.index_texts.Lts as lts
-use Rattle.overlay_store.proofs.index_texts.Tie as tie
 use Rattle.overlay_store.proofs.index_texts.Goals as goal
 
 pub returns : goal.returns

@@ -2,10 +2,6 @@
 use mir.Syntax.{w64}
 use mir.Val.{to_z}
 use Rattle.overlay_store.proofs.Parts.{delete_after}
-use borrow.Author.Rules.{rules}
-use Rattle.overlay_store.proofs.store_delete.Reads as reads
-use Rattle.overlay_store.proofs.store_delete.Lts as lts
-use Rattle.overlay_store.proofs.store_delete.Tie as tie
 use Rattle.overlay_store.proofs.store_delete.Goals as goal
 
 pub returns : goal.returns

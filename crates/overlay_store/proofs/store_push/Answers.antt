@@ -1,9 +1,5 @@
 -- The kind chooses its part of the blocks and its counters.
 use Rattle.overlay_store.proofs.Parts.{push_after}
-use borrow.Author.Rules.{rules}
-use Rattle.overlay_store.proofs.store_push.Reads as reads
-use Rattle.overlay_store.proofs.store_push.Lts as lts
-use Rattle.overlay_store.proofs.store_push.Tie as tie
 use Rattle.overlay_store.proofs.store_push.Goals as goal
 
 pub returns : goal.returns

@@ -1,9 +1,5 @@
 -- What the strings answer; the counters of the strings hold what they count after.
 use Rattle.overlay_store.proofs.Parts.{texts_after}
-use borrow.Author.Rules.{rules}
-use Rattle.overlay_store.proofs.store_text.Reads as reads
-use Rattle.overlay_store.proofs.store_text.Lts as lts
-use Rattle.overlay_store.proofs.store_text.Tie as tie
 use Rattle.overlay_store.proofs.store_text.Goals as goal
 
 pub returns : goal.returns

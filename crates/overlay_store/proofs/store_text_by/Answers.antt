@@ -1,10 +1,6 @@
 -- What the strings answer; the counters of the strings hold what they count after.
 use Rattle.overlay.proofs.Puts.{texts_lent}
 use Rattle.overlay_store.proofs.Parts.{texts_after}
-use borrow.Author.Rules.{rules}
-use Rattle.overlay_store.proofs.store_text_by.Reads as reads
-use Rattle.overlay_store.proofs.store_text_by.Lts as lts
-use Rattle.overlay_store.proofs.store_text_by.Tie as tie
 use Rattle.overlay_store.proofs.store_text_by.Goals as goal
 
 pub returns : goal.returns

@@ -1,12 +1,9 @@
 -- The user that metadata names is taken in; without one the handle is 0.
 use borrow.Author.Tests.{eq-eqb, ne_eqb}
-use Rattle.model.specs.Record.{Meta, flagged}
-use Rattle.base.specs.Bytes.{Bytes}
-use Rattle.overlay.specs.Overlay.{Overlay}
+use Rattle.model.specs.Record.{flagged}
 use Rattle.overlay.specs.Lent.{overlay_in}
 use Rattle.event_metadata.specs.Metadata.{meta_written}
 use Rattle.reader_acts.proofs.Laws.{begin_named, begin_unnamed}
-use borrow.Author.Rules.{rules}
 use Rattle.reader_acts.proofs.begin_element.Goals as goal
 
 pub returns-then-meta-eq1 : goal.returns-then-meta-eq1

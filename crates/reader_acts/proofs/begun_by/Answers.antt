@@ -3,7 +3,6 @@ use mathlib.Core.Path.{refl, ◌∙◌, ap}
 use Rattle.event_metadata.specs.Metadata.{meta_written}
 use Rattle.reader.specs.Step.{bits_with_user}
 use Rattle.reader_acts.specs.declared.Begun.TheVariants as B
-use borrow.Author.Rules.{rules}
 use Rattle.reader_acts.proofs.begun_by.Goals as goal
 
 pub returns-in-Is : goal.returns-in-Is

@@ -8,7 +8,6 @@ use Rattle.compact.specs.Held.{meta_of}
 use Rattle.compact.specs.declared.ArenaMeta.{ArenaMeta}
 use Rattle.event_metadata.specs.Metadata.{meta_written}
 use Rattle.reader_acts.proofs.Bits.{claim_bits}
-use borrow.Author.Rules.{rules}
 use Rattle.reader_acts.proofs.claimed.Goals as goal
 
 pub returns : goal.returns

@@ -2,16 +2,9 @@
 use mathlib.Core.Path.{sym, ◌∙◌}
 use mir.Syntax.{w64}
 use mir.Val.{to_z}
-use Rattle.base.specs.Bytes.{Bytes}
-use Rattle.model.specs.Record.{Meta}
-use Rattle.overlay.specs.Overlay.{Overlay}
 use Rattle.overlay.specs.Lent.{overlay_in}
 use Rattle.event_metadata.specs.Metadata.{meta_written}
 use Rattle.reader_acts.proofs.Once.{behind, delete_done, delete_not}
-use borrow.Author.Rules.{rules}
-use Rattle.reader_acts.proofs.delete_element.Reads as reads
-use Rattle.reader_acts.proofs.delete_element.Lts as lts
-use Rattle.reader_acts.proofs.delete_element.Tie as tie
 use Rattle.reader_acts.proofs.delete_element.Goals as goal
 
 pub returns-in-Is : goal.returns-in-Is

@@ -1,7 +1,6 @@
 -- Each number is the bits of the number that it stands for.
 use mir.Syntax.{w32, w64}
 use mir.Facts.{of_z-to_z}
-use borrow.Author.Rules.{rules}
 use Rattle.reader_acts.proofs.head_for.Goals as goal
 
 pub returns-in-Node : goal.returns-in-Node

@@ -4,18 +4,11 @@ use mathlib.Core.Path.{sym, ◌∙◌}
 use mir.Syntax.{w32, w64}
 use mir.Val.{SFits, to_z}
 use mir.Facts.{sfits_to_z, Fits-of_lt}
-use Rattle.base.specs.Bytes.{Bytes}
-use Rattle.model.specs.Record.{Meta}
-use Rattle.overlay.specs.Overlay.{Overlay}
 use Rattle.overlay.specs.Lent.{overlay_in}
 use Rattle.event_metadata.specs.Metadata.{meta_written}
 use Rattle.event_values.specs.Value.{body_in}
 use Rattle.reader_acts.proofs.Bits.{kind_read}
 use Rattle.reader_acts.proofs.Once.{empty_done, empty_not}
-use borrow.Author.Rules.{rules}
-use Rattle.reader_acts.proofs.push_empty.Reads as reads
-use Rattle.reader_acts.proofs.push_empty.Lts as lts
-use Rattle.reader_acts.proofs.push_empty.Tie as tie
 use Rattle.reader_acts.proofs.push_empty.Goals as goal
 
 pub returns-in-Is : goal.returns-in-Is

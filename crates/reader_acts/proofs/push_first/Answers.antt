@@ -3,10 +3,6 @@ use mathlib.Core.Path.{sym}
 use lib.Seq.{length-take-le}
 use native.Mathlib.Omega.{arith}
 use Rattle.interner.proofs.Takes.{take_min}
-use borrow.Author.Rules.{rules}
-use Rattle.reader_acts.proofs.push_first.Reads as reads
-use Rattle.reader_acts.proofs.push_first.Lts as lts
-use Rattle.reader_acts.proofs.push_first.Tie as tie
 use Rattle.reader_acts.proofs.push_first.Goals as goal
 
 pub slice_bounds-store_push-end : goal.slice_bounds-store_push-end

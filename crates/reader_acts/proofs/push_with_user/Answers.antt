@@ -1,17 +1,10 @@
 -- The push is the store's with no parts, and the text follows it.
 use mathlib.Core.Path.{◌∙◌, ap}
-use Rattle.base.specs.Bytes.{Bytes}
-use Rattle.model.specs.Record.{Meta}
-use Rattle.overlay.specs.Overlay.{Overlay}
 use Rattle.overlay.specs.Lent.{overlay_in}
 use Rattle.event_metadata.specs.Metadata.{meta_written}
 use Rattle.reader.specs.Step.{bits_with_user}
 use Rattle.reader_acts.proofs.Handles.{user_fits}
 use Rattle.reader_acts.proofs.Once.{behind}
-use borrow.Author.Rules.{rules}
-use Rattle.reader_acts.proofs.push_with_user.Reads as reads
-use Rattle.reader_acts.proofs.push_with_user.Lts as lts
-use Rattle.reader_acts.proofs.push_with_user.Tie as tie
 use Rattle.reader_acts.proofs.push_with_user.Goals as goal
 
 pub returns : goal.returns

@@ -1,15 +1,8 @@
 -- A handle below the count is held; another one's text is taken in.
 use mathlib.Core.Path.{sym}
-use Rattle.base.specs.Bytes.{Bytes}
-use Rattle.model.specs.Record.{Meta}
-use Rattle.overlay.specs.Overlay.{Overlay}
 use Rattle.overlay.specs.Lent.{overlay_in}
 use Rattle.event_metadata.specs.Metadata.{meta_written}
 use Rattle.reader_acts.proofs.Handles.{user_held, user_taken}
-use borrow.Author.Rules.{rules}
-use Rattle.reader_acts.proofs.take_user.Reads as reads
-use Rattle.reader_acts.proofs.take_user.Lts as lts
-use Rattle.reader_acts.proofs.take_user.Tie as tie
 use Rattle.reader_acts.proofs.take_user.Goals as goal
 
 pub returns-then-counters-user : goal.returns-then-counters-user

@@ -1,8 +1,4 @@
 -- The text follows an act that was taken.
-use borrow.Author.Rules.{rules}
-use Rattle.reader_acts.proofs.then_user.Reads as reads
-use Rattle.reader_acts.proofs.then_user.Lts as lts
-use Rattle.reader_acts.proofs.then_user.Tie as tie
 use Rattle.reader_acts.proofs.then_user.Goals as goal
 
 pub returns-in-Taken : goal.returns-in-Taken

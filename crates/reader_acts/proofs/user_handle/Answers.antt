@@ -1,10 +1,6 @@
 -- Only a user that is named is asked for.
 use borrow.Author.Tests.{eq-eqb, ne_eqb}
 use Rattle.model.specs.Record.{flagged}
-use borrow.Author.Rules.{rules}
-use Rattle.reader_acts.proofs.user_handle.Reads as reads
-use Rattle.reader_acts.proofs.user_handle.Lts as lts
-use Rattle.reader_acts.proofs.user_handle.Tie as tie
 use Rattle.reader_acts.proofs.user_handle.Goals as goal
 
 pub returns-then-meta-eq1 : goal.returns-then-meta-eq1

@@ -1,10 +1,6 @@
 -- 12 is answered with the known version, and every other claim with what was refused.
 use mir.Syntax.{w32}
 use Rattle.signed.proofs.Bits.{held}
-use borrow.Author.Rules.{rules}
-use Rattle.reader_acts.proofs.user_refused.Reads as reads
-use Rattle.reader_acts.proofs.user_refused.Lts as lts
-use Rattle.reader_acts.proofs.user_refused.Tie as tie
 use Rattle.reader_acts.proofs.user_refused.Goals as goal
 
 pub returns-in_default : goal.returns-in_default

@@ -2,10 +2,8 @@
 use mathlib.Core.Path.{sym, ◌∙◌}
 use native.Mathlib.Omega.{arith}
 use Rattle.overlay.specs.Lent.{overlay_in}
-use Rattle.reader.specs.State.{State}
 use Rattle.reader_sound.proofs.Sound.{sound_lines}
 use Rattle.reader_calls.proofs.Ends.{end_unsound, end_marked, end_is_done, end_unfinished}
-use borrow.Author.Rules.{rules}
 use Rattle.reader_calls.proofs.end.Reads as reads
 use Rattle.reader_calls.proofs.end.Lts as lts
 use Rattle.reader_calls.proofs.end.Tie as tie

@@ -1,12 +1,7 @@
 -- 22, the stop mark, then what is decided of the line.
 use mathlib.Core.Path.{sym, ◌∙◌}
 use Rattle.overlay.specs.Lent.{overlay_in}
-use Rattle.reader.specs.State.{State}
 use Rattle.reader_calls.proofs.Events.{event_unsound, event_marked, event_goes_on, no_chains}
-use borrow.Author.Rules.{rules}
-use Rattle.reader_calls.proofs.event.Reads as reads
-use Rattle.reader_calls.proofs.event.Lts as lts
-use Rattle.reader_calls.proofs.event.Tie as tie
 use Rattle.reader_calls.proofs.event.Goals as goal
 
 pub returns-in_default : goal.returns-in_default

@@ -1,5 +1,4 @@
 -- The lines count on, or the reader stops.
-use borrow.Author.Rules.{rules}
 use Rattle.reader_calls.proofs.event_done.Goals as goal
 
 pub returns-in-Goes : goal.returns-in-Goes

@@ -1,16 +1,11 @@
 -- What is decided of the line, done.
-use mathlib.Core.Path.{sym, ◌∙◌}
+use mathlib.Core.Path.{sym}
 use native.Mathlib.Omega.{arith}
 use lib.Seq.{length-take-le}
 use Rattle.overlay.specs.Lent.{overlay_in}
-use Rattle.reader.specs.State.{State}
 use Rattle.event_scan.proofs.Lines.{judged, judged_part}
 use Rattle.reader_sound.proofs.Sound.{sound_lines}
 use Rattle.reader_calls.proofs.Events.{event_steps}
-use borrow.Author.Rules.{rules}
-use Rattle.reader_calls.proofs.event_going.Reads as reads
-use Rattle.reader_calls.proofs.event_going.Lts as lts
-use Rattle.reader_calls.proofs.event_going.Tie as tie
 use Rattle.reader_calls.proofs.event_going.Goals as goal
 
 pub slice_bounds-t-end : goal.slice_bounds-t-end

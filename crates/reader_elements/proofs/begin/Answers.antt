@@ -1,13 +1,6 @@
 -- An empty element is pushed; another begins.
-use Rattle.base.specs.Bytes.{Bytes}
 use Rattle.overlay.specs.Lent.{overlay_in}
-use Rattle.reader.specs.State.{State}
-use Rattle.reader.specs.declared.EventReader.{EventReader}
 use Rattle.reader_elements.proofs.Elements.{empty_begins, open_begins}
-use borrow.Author.Rules.{rules}
-use Rattle.reader_elements.proofs.begin.Reads as reads
-use Rattle.reader_elements.proofs.begin.Lts as lts
-use Rattle.reader_elements.proofs.begin.Tie as tie
 use Rattle.reader_elements.proofs.begin.Goals as goal
 
 pub returns-then-b : goal.returns-then-b

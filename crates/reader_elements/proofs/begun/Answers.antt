@@ -1,5 +1,4 @@
 -- The head and the metadata, or the refusal.
-use borrow.Author.Rules.{rules}
 use Rattle.reader_elements.proofs.begun.Goals as goal
 
 pub returns-in-With : goal.returns-in-With

@@ -1,5 +1,4 @@
 -- Nothing is staged any more, or the refusal.
-use borrow.Author.Rules.{rules}
 use Rattle.reader_elements.proofs.cleared.Goals as goal
 
 pub returns-in-Taken : goal.returns-in-Taken

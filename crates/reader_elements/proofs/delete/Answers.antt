@@ -1,13 +1,6 @@
 -- The answer of the delete.
-use Rattle.base.specs.Bytes.{Bytes}
 use Rattle.overlay.specs.Lent.{overlay_in}
-use Rattle.reader.specs.State.{State}
-use Rattle.reader.specs.declared.EventReader.{EventReader}
 use Rattle.reader_elements.proofs.Elements.{deletes_done}
-use borrow.Author.Rules.{rules}
-use Rattle.reader_elements.proofs.delete.Reads as reads
-use Rattle.reader_elements.proofs.delete.Lts as lts
-use Rattle.reader_elements.proofs.delete.Tie as tie
 use Rattle.reader_elements.proofs.delete.Goals as goal
 
 pub returns : goal.returns

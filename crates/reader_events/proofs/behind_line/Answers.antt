@@ -1,5 +1,4 @@
 -- Behind the line, or before it.
-use borrow.Author.Rules.{rules}
 use Rattle.reader_events.proofs.behind_line.Goals as goal
 
 pub returns-in-Refused : goal.returns-in-Refused

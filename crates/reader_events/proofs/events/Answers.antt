@@ -1,12 +1,7 @@
 -- Nothing where there is no line; 22, or all lines.
 use mathlib.Core.Path.{sym, ◌∙◌}
 use Rattle.overlay.specs.Lent.{overlay_in}
-use Rattle.reader.specs.State.{State}
 use Rattle.reader_events.proofs.Runs.{sound_given, came_none, came_22}
-use borrow.Author.Rules.{rules}
-use Rattle.reader_events.proofs.events.Reads as reads
-use Rattle.reader_events.proofs.events.Lts as lts
-use Rattle.reader_events.proofs.events.Tie as tie
 use Rattle.reader_events.proofs.events.Goals as goal
 
 pub returns-in_default : goal.returns-in_default

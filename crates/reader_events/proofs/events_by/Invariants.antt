@@ -1,19 +1,12 @@
 -- Line by line. The invariant: what is to come from the present place on, after the present state, is what all lines come to; and the array is one for the present texts.
-use mathlib.Core.Path.{refl, ◌∙◌}
-use mathlib.Core.Bool.{true, false}
 use Prim.Native.Nat.{◌≤◌}
-use native.Mathlib.Omega.{arith}
 use lib.ListN.{length}
 use Rattle.text_index.specs.Index.{IndexGiven}
 use Rattle.overlay.specs.Lent.{overlay_in}
 use Rattle.reader.specs.State.{State}
 use Rattle.reader_events.specs.Runs.{RunGiven}
-use Rattle.reader_events.proofs.Runs.{SameSizes, to_come, run_start, run_less, run_all, run_by}
-use Rattle.reader_events.proofs.Chains.{RunningBy, by_line_lem}
-use borrow.Author.Rules.{rules}
-use Rattle.reader_events.proofs.events_by.Reads as reads
-use Rattle.reader_events.proofs.events_by.Lts as lts
-use Rattle.reader_events.proofs.events_by.Tie as tie
+use Rattle.reader_events.proofs.Runs.{SameSizes, to_come}
+use Rattle.reader_events.proofs.Chains.{RunningBy}
 use Rattle.reader_events.proofs.events_by.Given as goal
 
 abbrev pub invariant-loop-more : goal.invariant-loop-more

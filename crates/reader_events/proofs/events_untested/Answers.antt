@@ -1,12 +1,7 @@
 -- All lines, by an array of zeros.
 use mathlib.Core.Path.{refl}
 use Rattle.overlay.specs.Lent.{overlay_in}
-use Rattle.reader.specs.State.{State}
 use Rattle.reader_events.proofs.Chains.{zeros_given}
-use borrow.Author.Rules.{rules}
-use Rattle.reader_events.proofs.events_untested.Reads as reads
-use Rattle.reader_events.proofs.events_untested.Lts as lts
-use Rattle.reader_events.proofs.events_untested.Tie as tie
 use Rattle.reader_events.proofs.events_untested.Goals as goal
 
 pub returns : goal.returns

@@ -1,13 +1,8 @@
 -- 22 where the count of lines is at its largest, the stop mark, then the step.
 use mathlib.Core.Path.{sym, ◌∙◌}
 use Rattle.overlay.specs.Lent.{overlay_in}
-use Rattle.reader.specs.State.{State}
 use Rattle.reader_calls.proofs.Events.{event_unsound, event_marked, event_goes_on}
 use Rattle.reader_events.proofs.Runs.{given_sound, counted_out}
-use borrow.Author.Rules.{rules}
-use Rattle.reader_events.proofs.line_event.Reads as reads
-use Rattle.reader_events.proofs.line_event.Lts as lts
-use Rattle.reader_events.proofs.line_event.Tie as tie
 use Rattle.reader_events.proofs.line_event.Goals as goal
 
 pub returns-in_default : goal.returns-in_default

@@ -2,13 +2,8 @@
 use mathlib.Core.Path.{sym, ◌∙◌}
 use native.Mathlib.Omega.{arith}
 use Rattle.overlay.specs.Lent.{overlay_in}
-use Rattle.reader.specs.State.{State}
 use Rattle.input_lines.proofs.Places.{next_line}
 use Rattle.reader_events.proofs.Runs.{event_part, point_line, point_none, behind_within}
-use borrow.Author.Rules.{rules}
-use Rattle.reader_events.proofs.next_event.Reads as reads
-use Rattle.reader_events.proofs.next_event.Lts as lts
-use Rattle.reader_events.proofs.next_event.Tie as tie
 use Rattle.reader_events.proofs.next_event.Goals as goal
 
 pub returns-in_default : goal.returns-in_default

@@ -6,10 +6,6 @@ use mathlib.Core.Path.{◌≡◌}
 use mathlib.Core.Bool.{true}
 use Rattle.overlay.proofs.Bounds.{lent_in_bytes}
 use Rattle.reader_events.proofs.Runs.{head_fits_lem, meta_fits_lem}
-use borrow.Author.Rules.{rules}
-use Rattle.reader_events.proofs.state_tested.Reads as reads
-use Rattle.reader_events.proofs.state_tested.Lts as lts
-use Rattle.reader_events.proofs.state_tested.Tie as tie
 use Rattle.reader_events.proofs.state_tested.Goals as goal
 
 pub returns : goal.returns

@@ -6,8 +6,7 @@ use mir.Val.{Fits, to_z}
 use mir.Facts.{of_z-to_z, Fits-of_lt}
 use Rattle.event_values.specs.Value.{text_at}
 use Rattle.overlay.specs.Lent.{overlay_in}
-use Rattle.reader_parts.proofs.Adds.{TextChild, member_child, part_yes, handle_fits, staged_left, refused_left, over_left}
-use borrow.Author.Rules.{rules}
+use Rattle.reader_parts.proofs.Adds.{member_child, part_yes, handle_fits, staged_left, refused_left, over_left}
 use Rattle.reader_parts.proofs.add_member.Reads as reads
 use Rattle.reader_parts.proofs.add_member.Lts as lts
 use Rattle.reader_parts.proofs.add_member.Tie as tie

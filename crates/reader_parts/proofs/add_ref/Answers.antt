@@ -2,10 +2,6 @@
 use mathlib.Core.Path.{sym, ◌∙◌}
 use Rattle.reader_parts.proofs.Adds.{part_yes}
 use mir.Facts.{of_z-to_z}
-use borrow.Author.Rules.{rules}
-use Rattle.reader_parts.proofs.add_ref.Reads as reads
-use Rattle.reader_parts.proofs.add_ref.Lts as lts
-use Rattle.reader_parts.proofs.add_ref.Tie as tie
 use Rattle.reader_parts.proofs.add_ref.Goals as goal
 
 pub with_ref-requires : goal.with_ref-requires

@@ -1,10 +1,6 @@
 -- A value without a backslash is what is lent of the line; another is resolved.
 use mathlib.Core.Path.{sym, ◌∙◌}
 use Rattle.reader_texts.proofs.Resolved.{extent_bare}
-use borrow.Author.Rules.{rules}
-use Rattle.reader_parts.proofs.add_tag.Reads as reads
-use Rattle.reader_parts.proofs.add_tag.Lts as lts
-use Rattle.reader_parts.proofs.add_tag.Tie as tie
 use Rattle.reader_parts.proofs.add_tag.Goals as goal
 
 pub returns-then-lacks : goal.returns-then-lacks

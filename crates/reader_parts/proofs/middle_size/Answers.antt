@@ -1,5 +1,4 @@
 -- By the kind.
-use borrow.Author.Rules.{rules}
 use Rattle.reader_parts.proofs.middle_size.Goals as goal
 
 pub returns-in-Way : goal.returns-in-Way

@@ -1,8 +1,4 @@
 -- By what the text would be answered.
-use borrow.Author.Rules.{rules}
-use Rattle.reader_parts.proofs.over_limit.Reads as reads
-use Rattle.reader_parts.proofs.over_limit.Lts as lts
-use Rattle.reader_parts.proofs.over_limit.Tie as tie
 use Rattle.reader_parts.proofs.over_limit.Goals as goal
 
 pub returns-in-Is : goal.returns-in-Is

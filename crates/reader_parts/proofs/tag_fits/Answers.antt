@@ -2,10 +2,6 @@
 use mathlib.Core.Path.{sym}
 use native.Mathlib.Omega.{arith}
 use Rattle.reader_parts.proofs.Adds.{fits_rest, fits_no_values, fits_no_tags}
-use borrow.Author.Rules.{rules}
-use Rattle.reader_parts.proofs.tag_fits.Reads as reads
-use Rattle.reader_parts.proofs.tag_fits.Lts as lts
-use Rattle.reader_parts.proofs.tag_fits.Tie as tie
 use Rattle.reader_parts.proofs.tag_fits.Goals as goal
 
 pub returns-then-held-le16384 : goal.returns-then-held-le16384

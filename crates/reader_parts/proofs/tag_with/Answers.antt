@@ -3,8 +3,7 @@ use mathlib.Core.Path.{sym, ◌∙◌}
 use lib.ListN.{length}
 use Rattle.event_values.specs.Value.{text_at}
 use Rattle.overlay.specs.Lent.{overlay_in}
-use Rattle.reader_parts.proofs.Adds.{TextChild, tag_child, fits_yes, handle_fits, staged_left, refused_left, over_left}
-use borrow.Author.Rules.{rules}
+use Rattle.reader_parts.proofs.Adds.{tag_child, fits_yes, handle_fits, staged_left, refused_left, over_left}
 use Rattle.reader_parts.proofs.tag_with.Reads as reads
 use Rattle.reader_parts.proofs.tag_with.Lts as lts
 use Rattle.reader_parts.proofs.tag_with.Tie as tie

@@ -3,10 +3,6 @@ use lib.ListN.{length}
 use Rattle.reader_stage.specs.Stage.{member_part}
 use Rattle.reader_stage.proofs.Gaps.{length_member_part}
 use Rattle.reader_parts.proofs.Adds.{part_grown, as_used}
-use borrow.Author.Rules.{rules}
-use Rattle.reader_parts.proofs.with_member.Reads as reads
-use Rattle.reader_parts.proofs.with_member.Lts as lts
-use Rattle.reader_parts.proofs.with_member.Tie as tie
 use Rattle.reader_parts.proofs.with_member.Goals as goal
 
 pub returns : goal.returns

@@ -3,10 +3,6 @@ use lib.ListN.{length}
 use Rattle.reader_stage.specs.Stage.{ref_part}
 use Rattle.little.proofs.Littles.{length_le}
 use Rattle.reader_parts.proofs.Adds.{part_grown, as_used}
-use borrow.Author.Rules.{rules}
-use Rattle.reader_parts.proofs.with_ref.Reads as reads
-use Rattle.reader_parts.proofs.with_ref.Lts as lts
-use Rattle.reader_parts.proofs.with_ref.Tie as tie
 use Rattle.reader_parts.proofs.with_ref.Goals as goal
 
 pub returns : goal.returns

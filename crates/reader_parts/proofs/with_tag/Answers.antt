@@ -4,10 +4,6 @@ use lib.ListN.{length}
 use Rattle.reader_stage.specs.Stage.{tag_part}
 use Rattle.reader_stage.proofs.Gaps.{length_tag_part}
 use Rattle.reader_parts.proofs.Adds.{part_grown, as_used}
-use borrow.Author.Rules.{rules}
-use Rattle.reader_parts.proofs.with_tag.Reads as reads
-use Rattle.reader_parts.proofs.with_tag.Lts as lts
-use Rattle.reader_parts.proofs.with_tag.Tie as tie
 use Rattle.reader_parts.proofs.with_tag.Goals as goal
 
 pub returns : goal.returns

@@ -1,7 +1,6 @@
 -- The mark, where its refusal stops.
 use mathlib.Core.Path.{sym, ◌∙◌}
 use Rattle.reader_sound.specs.Mark.{stop_mark}
-use borrow.Author.Rules.{rules}
 use Rattle.reader_sound.proofs.mark_of.Goals as goal
 
 pub returns-then-stops_by : goal.returns-then-stops_by

@@ -1,12 +1,9 @@
 -- The parts within the lent bytes, then the push that they will make.
 use mathlib.Core.Path.{sym, ◌∙◌}
 use native.Mathlib.Omega.{arith}
-use lib.ListN.{length}
 use lib.Seq.{length-take-le}
-use borrow.Author.Tests.{le-leb, lt-leb}
 use Rattle.reader_sound.proofs.Sound.{pending_faulted, pending_beyond}
 use Rattle.compact_legal.specs.declared.Fault.TheVariants as F
-use borrow.Author.Rules.{rules}
 use Rattle.reader_sound.proofs.pending_sound.Goals as goal
 
 pub slice_bounds-push_fault-end : goal.slice_bounds-push_fault-end

@@ -2,7 +2,6 @@
 use mathlib.Core.Path.{sym, ◌∙◌}
 use Rattle.base.specs.Bytes.{both}
 use Rattle.reader.specs.State.{reader_sound, state_sound}
-use borrow.Author.Rules.{rules}
 use Rattle.reader_sound.proofs.state_sound.Goals as goal
 
 pub returns-then-is_sound : goal.returns-then-is_sound

@@ -2,7 +2,6 @@
 use Rattle.base.specs.Bytes.{both}
 use Rattle.refusal.specs.Refusal.{reply_of}
 use Rattle.reader.specs.State.{stops_by}
-use borrow.Author.Rules.{rules}
 use Rattle.reader_sound.proofs.stops_by.Goals as goal
 
 pub returns : goal.returns

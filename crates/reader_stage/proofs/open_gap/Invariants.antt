@@ -1,11 +1,9 @@
 -- `reader_stage::open_gap` meets its contract: the bytes from `i` on have moved.
-use Prim.Native.Nat.{◌+◌, ◌≤◌, ◌-◌}
-use mathlib.Core.Path.{◌≡◌, refl, sym}
-use native.Mathlib.Omega.{arith}
-use lib.ListN.{length, length-set}
+use Prim.Native.Nat.{◌+◌, ◌≤◌}
+use mathlib.Core.Path.{◌≡◌}
+use lib.ListN.{length}
 use lib.Seq.{slice}
 use Rattle.little.specs.Little.{over}
-use Rattle.reader_stage.proofs.Gaps.{gap_closed, gap_step}
 use Rattle.reader_stage.proofs.open_gap.Given as goal
 
 abbrev pub invariant-loop-i : goal.invariant-loop-i

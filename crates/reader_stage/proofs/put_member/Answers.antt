@@ -2,7 +2,6 @@
 use Rattle.little.specs.Little.{le}
 use Rattle.little.proofs.Littles.{length_le}
 use Rattle.reader_stage.proofs.Gaps.{three}
-use borrow.Author.Rules.{rules}
 use Rattle.reader_stage.proofs.put_member.Goals as goal
 
 pub returns : goal.returns

@@ -6,7 +6,6 @@ use lib.ListN.{length}
 use Rattle.little.proofs.Overs.{over_lent_start}
 use Rattle.reader_stage.specs.Stage.{member_part}
 use Rattle.reader_stage.proofs.Gaps.{room, unchanged, filled, length_member_part}
-use borrow.Author.Rules.{rules}
 use Rattle.reader_stage.proofs.stage_member.Goals as goal
 
 pub open_gap-requires : goal.open_gap-requires

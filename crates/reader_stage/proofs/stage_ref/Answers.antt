@@ -5,7 +5,6 @@ use lib.ListN.{length}
 use Rattle.reader_stage.specs.Stage.{ref_part}
 use Rattle.little.proofs.Littles.{length_le}
 use Rattle.reader_stage.proofs.Gaps.{room, unchanged, filled}
-use borrow.Author.Rules.{rules}
 use Rattle.reader_stage.proofs.stage_ref.Goals as goal
 
 pub open_gap-requires : goal.open_gap-requires

@@ -6,7 +6,6 @@ use lib.ListN.{length}
 use Rattle.little.proofs.Overs.{over_lent_start}
 use Rattle.reader_stage.specs.Stage.{tag_part}
 use Rattle.reader_stage.proofs.Gaps.{room, unchanged, filled, gap_closed, length_tag_part}
-use borrow.Author.Rules.{rules}
 use Rattle.reader_stage.proofs.stage_tag.Goals as goal
 
 -- where the test has held, the tag has room

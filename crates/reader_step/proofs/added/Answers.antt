@@ -1,5 +1,4 @@
 -- The element with the child, or the refusal.
-use borrow.Author.Rules.{rules}
 use Rattle.reader_step.proofs.added.Goals as goal
 
 pub returns-in-Is : goal.returns-in-Is

@@ -1,11 +1,6 @@
 -- The answer of the member.
 use Rattle.overlay.specs.Lent.{overlay_in}
-use Rattle.reader.specs.State.{State}
 use Rattle.reader_step.proofs.Steps.{joins_done}
-use borrow.Author.Rules.{rules}
-use Rattle.reader_step.proofs.join.Reads as reads
-use Rattle.reader_step.proofs.join.Lts as lts
-use Rattle.reader_step.proofs.join.Tie as tie
 use Rattle.reader_step.proofs.join.Goals as goal
 
 pub returns : goal.returns

@@ -1,9 +1,5 @@
 -- The answer of the ref.
 use Rattle.reader_step.proofs.Steps.{refers_done}
-use borrow.Author.Rules.{rules}
-use Rattle.reader_step.proofs.refer.Reads as reads
-use Rattle.reader_step.proofs.refer.Lts as lts
-use Rattle.reader_step.proofs.refer.Tie as tie
 use Rattle.reader_step.proofs.refer.Goals as goal
 
 pub returns : goal.returns

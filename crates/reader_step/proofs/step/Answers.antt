@@ -1,11 +1,6 @@
 -- One call a decision.
 use Rattle.overlay.specs.Lent.{overlay_in}
-use Rattle.reader.specs.State.{State}
 use Rattle.reader_step.proofs.Steps.{refuses_done, moves_done}
-use borrow.Author.Rules.{rules}
-use Rattle.reader_step.proofs.step.Reads as reads
-use Rattle.reader_step.proofs.step.Lts as lts
-use Rattle.reader_step.proofs.step.Tie as tie
 use Rattle.reader_step.proofs.step.Goals as goal
 
 pub returns-in-Refuses : goal.returns-in-Refuses

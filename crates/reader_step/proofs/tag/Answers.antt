@@ -1,11 +1,6 @@
 -- The answer of the tag.
 use Rattle.overlay.specs.Lent.{overlay_in}
-use Rattle.reader.specs.State.{State}
 use Rattle.reader_step.proofs.Steps.{tags_done}
-use borrow.Author.Rules.{rules}
-use Rattle.reader_step.proofs.tag.Reads as reads
-use Rattle.reader_step.proofs.tag.Lts as lts
-use Rattle.reader_step.proofs.tag.Tie as tie
 use Rattle.reader_step.proofs.tag.Goals as goal
 
 pub returns : goal.returns

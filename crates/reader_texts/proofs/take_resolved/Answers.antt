@@ -5,10 +5,6 @@ use native.Mathlib.Omega.{arith}
 use lib.ListN.{replicate, length-replicate}
 use lib.Seq.{length-take-le}
 use Rattle.reader_texts.proofs.Resolved.{extent_held}
-use borrow.Author.Rules.{rules}
-use Rattle.reader_texts.proofs.take_resolved.Reads as reads
-use Rattle.reader_texts.proofs.take_resolved.Lts as lts
-use Rattle.reader_texts.proofs.take_resolved.Tie as tie
 use Rattle.reader_texts.proofs.take_resolved.Goals as goal
 
 pub slice_bounds-store_text_by-end : goal.slice_bounds-store_text_by-end

@@ -1,10 +1,6 @@
 -- A text without a backslash is what is lent of the line; another is resolved.
 use mathlib.Core.Path.{sym, ◌∙◌}
 use Rattle.reader_texts.proofs.Resolved.{extent_bare}
-use borrow.Author.Rules.{rules}
-use Rattle.reader_texts.proofs.take_text.Reads as reads
-use Rattle.reader_texts.proofs.take_text.Lts as lts
-use Rattle.reader_texts.proofs.take_text.Tie as tie
 use Rattle.reader_texts.proofs.take_text.Goals as goal
 
 pub returns-then-lacks : goal.returns-then-lacks

@@ -1,6 +1,5 @@
 -- The part of the line that is lent is the extent's.
 use Rattle.reader_texts.proofs.Resolved.{extent_lent}
-use borrow.Author.Rules.{rules}
 use Rattle.reader_texts.proofs.text_into.Goals as goal
 
 pub returns : goal.returns

@@ -5,7 +5,6 @@ use mir.Val.{SFits}
 use mir.Facts.{to_z-of_z}
 use mathlib.Core.Path.{◌∙◌}
 use Rattle.refusal.specs.Refusal.{reply_of}
-use borrow.Author.Rules.{rules}
 use Rattle.refusal.proofs.reply_of.Goals as goal
 
 pub returns-in-Size : goal.returns-in-Size

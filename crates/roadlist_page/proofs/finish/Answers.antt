@@ -2,13 +2,8 @@
 use Prim.Native.Nat.{ℕ}
 use mathlib.Core.Path.{◌∙◌, ap}
 use Rattle.overlay.specs.Lent.{overlay_in}
-use Rattle.reader.specs.State.{State}
 use Rattle.roadlist_page.specs.Finish.{finish_on}
 use Rattle.roadlist_page.proofs.Ends.{finished_by}
-use borrow.Author.Rules.{rules}
-use Rattle.roadlist_page.proofs.finish.Reads as reads
-use Rattle.roadlist_page.proofs.finish.Lts as lts
-use Rattle.roadlist_page.proofs.finish.Tie as tie
 use Rattle.roadlist_page.proofs.finish.Goals as goal
 
 pub returns : goal.returns

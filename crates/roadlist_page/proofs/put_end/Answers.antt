@@ -1,13 +1,8 @@
 -- The end is accepted, and the page is printed; or the line of its refusal.
 use mathlib.Core.Path.{◌∙◌, ap}
 use Rattle.overlay.specs.Lent.{overlay_in}
-use Rattle.reader.specs.State.{State}
 use Rattle.roadlist_page.specs.Finish.{end_output}
 use Rattle.roadlist_page.proofs.Ends.{end_overlay, end_lines, ends_page, ends_refused}
-use borrow.Author.Rules.{rules}
-use Rattle.roadlist_page.proofs.put_end.Reads as reads
-use Rattle.roadlist_page.proofs.put_end.Lts as lts
-use Rattle.roadlist_page.proofs.put_end.Tie as tie
 use Rattle.roadlist_page.proofs.put_end.Goals as goal
 
 pub put_page-requires : goal.put_page-requires

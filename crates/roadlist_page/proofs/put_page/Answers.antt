@@ -1,11 +1,6 @@
 -- The listing, or the line of its refusal.
-use Rattle.overlay.specs.Overlay.{Overlay}
 use Rattle.overlay.specs.Lent.{overlay_in}
 use Rattle.roadlist_page.proofs.Ends.{page_listed, page_refused}
-use borrow.Author.Rules.{rules}
-use Rattle.roadlist_page.proofs.put_page.Reads as reads
-use Rattle.roadlist_page.proofs.put_page.Lts as lts
-use Rattle.roadlist_page.proofs.put_page.Tie as tie
 use Rattle.roadlist_page.proofs.put_page.Goals as goal
 
 pub returns-in-Length : goal.returns-in-Length

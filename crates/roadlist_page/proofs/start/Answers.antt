@@ -1,10 +1,6 @@
 -- The overlay is set up, and the reader is fresh.
 use native.Mathlib.Omega.{arith}
 use Rattle.roadlist_page.proofs.Ends.{started_by}
-use borrow.Author.Rules.{rules}
-use Rattle.roadlist_page.proofs.start.Reads as reads
-use Rattle.roadlist_page.proofs.start.Lts as lts
-use Rattle.roadlist_page.proofs.start.Tie as tie
 use Rattle.roadlist_page.proofs.start.Goals as goal
 
 pub returns : goal.returns

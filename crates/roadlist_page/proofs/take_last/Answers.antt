@@ -2,12 +2,7 @@
 use mathlib.Core.Path.{sym}
 use lib.Seq.{length-take-le}
 use Rattle.overlay.specs.Lent.{overlay_in}
-use Rattle.reader.specs.State.{State}
 use Rattle.roadlist_page.proofs.Ends.{last_none, last_event}
-use borrow.Author.Rules.{rules}
-use Rattle.roadlist_page.proofs.take_last.Reads as reads
-use Rattle.roadlist_page.proofs.take_last.Lts as lts
-use Rattle.roadlist_page.proofs.take_last.Tie as tie
 use Rattle.roadlist_page.proofs.take_last.Goals as goal
 
 pub returns-then-n-eq0 : goal.returns-then-n-eq0

@@ -2,7 +2,6 @@
 use mathlib.Core.Path.{ap}
 use mir.Syntax.{w64}
 use mir.Val.{to_z}
-use borrow.Author.Rules.{rules}
 use Rattle.signed.proofs.Bits.{twice}
 use Rattle.signed.proofs.i64_of_bits.Goals as goal
 

@@ -1,6 +1,5 @@
 -- `version_floor::higher_of` meets its contract.
 use mir.Syntax.{w32}
-use borrow.Author.Rules.{rules}
 use Rattle.signed.proofs.Bits.{compared}
 use Rattle.version_floor.specs.Version.{higher}
 use Rattle.version_floor.proofs.higher_of.Goals as goal

@@ -1,6 +1,5 @@
 -- `version_floor::version_of_word` meets its contract.
 use mir.Facts.{to_z-of_z, sfits_to_z, Fits-of_lt}
-use borrow.Author.Rules.{rules}
 use borrow.Author.Tests.{lt-ltb, le-ltb}
 use Rattle.version_floor.specs.Version.{of_word}
 use Rattle.version_floor.proofs.version_of_word.Goals as goal

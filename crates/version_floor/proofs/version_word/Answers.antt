@@ -2,7 +2,6 @@
 use mathlib.Core.Path.{ap, ◌∙◌}
 use mir.Syntax.{w32}
 use mir.Val.{of_z}
-use borrow.Author.Rules.{rules}
 use Rattle.signed.proofs.Bits.{held}
 use Rattle.version_floor.specs.Version.{word_of}
 use Rattle.version_floor.proofs.version_word.Goals as goal

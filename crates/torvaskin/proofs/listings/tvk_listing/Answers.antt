@@ -1,10 +1,6 @@
 -- The output and the reply are those of `listing::list`.
 use Rattle.torvaskin.specs.Listings.{listing_reply}
 use Rattle.torvaskin.proofs.ListingReplies.{listing_is}
-use borrow.Author.Rules.{rules}
-use Rattle.torvaskin.proofs.listings.tvk_listing.Reads as reads
-use Rattle.torvaskin.proofs.listings.tvk_listing.Lts as lts
-use Rattle.torvaskin.proofs.listings.tvk_listing.Tie as tie
 use Rattle.torvaskin.proofs.listings.tvk_listing.Goals as goal
 
 pub returns : goal.returns

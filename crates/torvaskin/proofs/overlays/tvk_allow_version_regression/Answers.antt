@@ -1,10 +1,6 @@
 -- The lent storage and the reply are those of `overlay::allow_version_regression`.
 use Rattle.torvaskin.specs.Overlays.{allow_reply}
 use Rattle.torvaskin.proofs.OverlayReplies.{replied_is}
-use borrow.Author.Rules.{rules}
-use Rattle.torvaskin.proofs.overlays.tvk_allow_version_regression.Reads as reads
-use Rattle.torvaskin.proofs.overlays.tvk_allow_version_regression.Lts as lts
-use Rattle.torvaskin.proofs.overlays.tvk_allow_version_regression.Tie as tie
 use Rattle.torvaskin.proofs.overlays.tvk_allow_version_regression.Goals as goal
 
 pub returns : goal.returns

@@ -2,10 +2,6 @@
 use Rattle.signed.proofs.Bits.{bits_back}
 use Rattle.torvaskin.specs.Overlays.{delete_reply}
 use Rattle.torvaskin.proofs.OverlayReplies.{replied_is, unknown_is}
-use borrow.Author.Rules.{rules}
-use Rattle.torvaskin.proofs.overlays.tvk_delete.Reads as reads
-use Rattle.torvaskin.proofs.overlays.tvk_delete.Lts as lts
-use Rattle.torvaskin.proofs.overlays.tvk_delete.Tie as tie
 use Rattle.torvaskin.proofs.overlays.tvk_delete.Goals as goal
 
 pub returns-in-Is : goal.returns-in-Is

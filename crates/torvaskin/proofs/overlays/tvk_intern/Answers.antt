@@ -1,10 +1,6 @@
 -- The lent storage and the reply are those of `overlay_direct::intern`.
 use Rattle.torvaskin.specs.Overlays.{intern_reply}
 use Rattle.torvaskin.proofs.OverlayReplies.{interned_is}
-use borrow.Author.Rules.{rules}
-use Rattle.torvaskin.proofs.overlays.tvk_intern.Reads as reads
-use Rattle.torvaskin.proofs.overlays.tvk_intern.Lts as lts
-use Rattle.torvaskin.proofs.overlays.tvk_intern.Tie as tie
 use Rattle.torvaskin.proofs.overlays.tvk_intern.Goals as goal
 
 pub returns : goal.returns

@@ -1,10 +1,6 @@
 -- What `overlay_direct::push` leaves and answers; or nothing changes, and 22 or 17 is replied.
 use Rattle.torvaskin.specs.Overlays.{push_reply}
 use Rattle.torvaskin.proofs.OverlayReplies.{replied_is, unknown_is}
-use borrow.Author.Rules.{rules}
-use Rattle.torvaskin.proofs.overlays.tvk_push.Reads as reads
-use Rattle.torvaskin.proofs.overlays.tvk_push.Lts as lts
-use Rattle.torvaskin.proofs.overlays.tvk_push.Tie as tie
 use Rattle.torvaskin.proofs.overlays.tvk_push.Goals as goal
 
 pub returns-in-Is : goal.returns-in-Is

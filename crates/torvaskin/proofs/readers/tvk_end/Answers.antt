@@ -1,12 +1,7 @@
 -- The reply is that of `reader_calls::end`, or 22.
 use mathlib.Core.Path.{sym, ◌∙◌}
-use Rattle.overlay.specs.Overlay.{Overlay}
 use Rattle.overlay.specs.Lent.{overlay_in}
 use Rattle.torvaskin.proofs.ReaderReplies.{end_is, end_none}
-use borrow.Author.Rules.{rules}
-use Rattle.torvaskin.proofs.readers.tvk_end.Reads as reads
-use Rattle.torvaskin.proofs.readers.tvk_end.Lts as lts
-use Rattle.torvaskin.proofs.readers.tvk_end.Tie as tie
 use Rattle.torvaskin.proofs.readers.tvk_end.Goals as goal
 
 pub returns-then-is_reader : goal.returns-then-is_reader

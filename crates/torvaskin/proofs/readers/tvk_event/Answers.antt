@@ -1,12 +1,7 @@
 -- What is left and the reply are those of `reader_calls::event`; or nothing changes, and 22 is replied.
 use mathlib.Core.Path.{sym, ◌∙◌}
-use Rattle.overlay.specs.Overlay.{Overlay}
 use Rattle.overlay.specs.Lent.{overlay_in}
 use Rattle.torvaskin.proofs.ReaderReplies.{event_is, event_none}
-use borrow.Author.Rules.{rules}
-use Rattle.torvaskin.proofs.readers.tvk_event.Reads as reads
-use Rattle.torvaskin.proofs.readers.tvk_event.Lts as lts
-use Rattle.torvaskin.proofs.readers.tvk_event.Tie as tie
 use Rattle.torvaskin.proofs.readers.tvk_event.Goals as goal
 
 pub returns-then-is_reader : goal.returns-then-is_reader

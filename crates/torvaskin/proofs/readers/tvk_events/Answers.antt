@@ -1,12 +1,7 @@
 -- What is left and the reply are those of `reader_events::events`; or nothing changes, and 22 is replied.
 use mathlib.Core.Path.{sym, ◌∙◌}
-use Rattle.overlay.specs.Overlay.{Overlay}
 use Rattle.overlay.specs.Lent.{overlay_in}
 use Rattle.torvaskin.proofs.ReaderReplies.{events_is, events_none}
-use borrow.Author.Rules.{rules}
-use Rattle.torvaskin.proofs.readers.tvk_events.Reads as reads
-use Rattle.torvaskin.proofs.readers.tvk_events.Lts as lts
-use Rattle.torvaskin.proofs.readers.tvk_events.Tie as tie
 use Rattle.torvaskin.proofs.readers.tvk_events.Goals as goal
 
 pub returns-then-is_reader : goal.returns-then-is_reader

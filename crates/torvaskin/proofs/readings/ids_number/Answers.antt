@@ -1,9 +1,5 @@
 -- All ids of a list of the kind with their known versions; or 22, else 17.
 use Rattle.torvaskin.specs.Readings.{ids_reply}
-use borrow.Author.Rules.{rules}
-use Rattle.torvaskin.proofs.readings.ids_number.Reads as reads
-use Rattle.torvaskin.proofs.readings.ids_number.Lts as lts
-use Rattle.torvaskin.proofs.readings.ids_number.Tie as tie
 use Rattle.torvaskin.proofs.readings.ids_number.Goals as goal
 
 pub returns-in-Is : goal.returns-in-Is

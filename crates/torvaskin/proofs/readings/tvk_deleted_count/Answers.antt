@@ -1,9 +1,5 @@
 -- The deleted ids of the kind, counted; or 22, else 17.
 use Rattle.torvaskin.specs.Readings.{count_number}
-use borrow.Author.Rules.{rules}
-use Rattle.torvaskin.proofs.readings.tvk_deleted_count.Reads as reads
-use Rattle.torvaskin.proofs.readings.tvk_deleted_count.Lts as lts
-use Rattle.torvaskin.proofs.readings.tvk_deleted_count.Tie as tie
 use Rattle.torvaskin.proofs.readings.tvk_deleted_count.Goals as goal
 
 pub returns-in-Is : goal.returns-in-Is

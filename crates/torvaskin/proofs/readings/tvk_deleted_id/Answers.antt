@@ -1,9 +1,5 @@
 -- The n-th deleted id of the kind; or 22, else 17.
 use Rattle.torvaskin.specs.Readings.{id_number}
-use borrow.Author.Rules.{rules}
-use Rattle.torvaskin.proofs.readings.tvk_deleted_id.Reads as reads
-use Rattle.torvaskin.proofs.readings.tvk_deleted_id.Lts as lts
-use Rattle.torvaskin.proofs.readings.tvk_deleted_id.Tie as tie
 use Rattle.torvaskin.proofs.readings.tvk_deleted_id.Goals as goal
 
 pub returns-in-Is : goal.returns-in-Is

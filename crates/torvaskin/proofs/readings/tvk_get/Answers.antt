@@ -1,10 +1,6 @@
 -- Where the record of the id lies, if it is live; or 22, else 17.
 use Rattle.torvaskin.specs.Readings.{get_part}
 use Rattle.signed.proofs.Bits.{bits_back}
-use borrow.Author.Rules.{rules}
-use Rattle.torvaskin.proofs.readings.tvk_get.Reads as reads
-use Rattle.torvaskin.proofs.readings.tvk_get.Lts as lts
-use Rattle.torvaskin.proofs.readings.tvk_get.Tie as tie
 use Rattle.torvaskin.proofs.readings.tvk_get.Goals as goal
 
 pub returns-in-Is : goal.returns-in-Is

@@ -1,10 +1,6 @@
 -- Whether the id is live; or 22, else 17.
 use Rattle.torvaskin.specs.Readings.{has_number}
 use Rattle.signed.proofs.Bits.{bits_back}
-use borrow.Author.Rules.{rules}
-use Rattle.torvaskin.proofs.readings.tvk_has.Reads as reads
-use Rattle.torvaskin.proofs.readings.tvk_has.Lts as lts
-use Rattle.torvaskin.proofs.readings.tvk_has.Tie as tie
 use Rattle.torvaskin.proofs.readings.tvk_has.Goals as goal
 
 pub returns-in-Is : goal.returns-in-Is

@@ -1,10 +1,6 @@
 -- Whether the id is deleted; or 22, else 17.
 use Rattle.torvaskin.specs.Readings.{is_deleted_number}
 use Rattle.signed.proofs.Bits.{bits_back}
-use borrow.Author.Rules.{rules}
-use Rattle.torvaskin.proofs.readings.tvk_is_deleted.Reads as reads
-use Rattle.torvaskin.proofs.readings.tvk_is_deleted.Lts as lts
-use Rattle.torvaskin.proofs.readings.tvk_is_deleted.Tie as tie
 use Rattle.torvaskin.proofs.readings.tvk_is_deleted.Goals as goal
 
 pub returns-in-Is : goal.returns-in-Is

@@ -1,10 +1,6 @@
 -- The known version of the id; or 22, else 17.
 use Rattle.torvaskin.specs.Readings.{known_number}
 use Rattle.signed.proofs.Bits.{bits_back}
-use borrow.Author.Rules.{rules}
-use Rattle.torvaskin.proofs.readings.tvk_known_version.Reads as reads
-use Rattle.torvaskin.proofs.readings.tvk_known_version.Lts as lts
-use Rattle.torvaskin.proofs.readings.tvk_known_version.Tie as tie
 use Rattle.torvaskin.proofs.readings.tvk_known_version.Goals as goal
 
 pub returns-in-Is : goal.returns-in-Is

@@ -1,9 +1,5 @@
 -- Where the record of the n-th live id of the kind lies; or 22, else 17.
 use Rattle.torvaskin.specs.Readings.{record_part}
-use borrow.Author.Rules.{rules}
-use Rattle.torvaskin.proofs.readings.tvk_record.Reads as reads
-use Rattle.torvaskin.proofs.readings.tvk_record.Lts as lts
-use Rattle.torvaskin.proofs.readings.tvk_record.Tie as tie
 use Rattle.torvaskin.proofs.readings.tvk_record.Goals as goal
 
 pub returns-in-Is : goal.returns-in-Is

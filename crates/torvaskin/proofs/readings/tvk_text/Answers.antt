@@ -1,8 +1,4 @@
 -- The part of `overlay_reading::text`.
-use borrow.Author.Rules.{rules}
-use Rattle.torvaskin.proofs.readings.tvk_text.Reads as reads
-use Rattle.torvaskin.proofs.readings.tvk_text.Lts as lts
-use Rattle.torvaskin.proofs.readings.tvk_text.Tie as tie
 use Rattle.torvaskin.proofs.readings.tvk_text.Goals as goal
 
 pub returns : goal.returns

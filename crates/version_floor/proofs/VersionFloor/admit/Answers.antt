@@ -1,7 +1,6 @@
 -- `version_floor::VersionFloor::admit` meets its contract.
 use mathlib.Core.Path.{ap}
 use mir.Syntax.{w32}
-use borrow.Author.Rules.{rules}
 use Rattle.signed.proofs.Bits.{held, compared}
 use Rattle.version_floor.specs.Version.{admit_of}
 use Rattle.version_floor.specs.declared.Admit.TheVariants.{Below}
