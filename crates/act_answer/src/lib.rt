@@ -11,10 +11,16 @@ ghost use Rattle.act_answer.specs.Answer.{claim_answer};
 
 use kind::Kind;
 use overlay_blocks::{COUNTERS, SETTING};
-use version_floor::{Admit, Version, VersionFloor};
+use version_floor::VersionFloor;
 
 // The known version of an id.
-fn known_in(words: &[u64], bytes: &[u8], counters: &[u64; COUNTERS], kind: Kind, id: u64) -> Version
+fn known_in(
+    words: &[u64],
+    bytes: &[u8],
+    counters: &[u64; COUNTERS],
+    kind: Kind,
+    id: u64,
+) -> Option<i32>
     ensures { result ≡ known_version kind (kind_store_of kind (lent words.now bytes.now counters.now)) (to_z w64 id) }
 {
     let p = overlay_blocks::part_in(kind, counters, words.len(), bytes.len());
@@ -34,13 +40,13 @@ pub fn claim_below(
     counters: &[u64; COUNTERS],
     kind: Kind,
     id: u64,
-    claim: Version,
-) -> Admit
+    claim: Option<i32>,
+) -> Result<(), i32>
     ensures { result ≡ claim_answer kind (to_z w64 id) claim (lent words.now bytes.now counters.now) }
 {
     if counters[SETTING] == 0 {
         let known = known_in(words, bytes, counters, kind, id);
         return VersionFloor::new(known).admit(claim);
     }
-    Admit::Admitted
+    Ok(())
 }

@@ -1,8 +1,8 @@
 -- Lists of calls: readers do not disturb each other, refused calls change nothing, texts only grow, and a longer list goes on where a shorter one ended.
+use Rattle.std.specs.Prelude.{None, Option, Some}
 use Prim.Native.Nat.{ℕ, ◌<◌}
 use mathlib.Core.Path.{◌≡◌, refl, sym, ◌∙◌, ap}
 use mathlib.Core.Bool.{Bool, true, false, cond}
-use mathlib.Core.Option.{Option, none, some}
 use mathlib.Core.List.{List, [], ◌∷◌, ◌++◌}
 use lib.Dec.{eqb}
 use borrow.Author.Tests.{ne_eqb, eq-eqb, eqb-true}
@@ -75,8 +75,8 @@ taken_acts w (c ∷ cs) =
 -- ---- two lists, one after the other
 
 before_append : (o : Option (Act Bytes)) (xs ys : List (Act Bytes)) → acts_before o (xs ++ ys) ≡ acts_before o xs ++ ys
-before_append none xs ys = refl
-before_append (some a) xs ys = refl
+before_append None xs ys = refl
+before_append (Some a) xs ys = refl
 
 pub world_append : (w : World) (cs ds : List Answered) → world_after w (cs ++ ds) ≡ world_after (world_after w cs) ds
 unfolding world_after
@@ -127,8 +127,8 @@ turn_left w m n (bad x) = by_bool (eqb n m) (λ q. rw q (ap w.readers (eqb-true 
 lines_left : (w : World) (n : ℕ) (c : Call) (ls : List Bytes) → reader_after ((outcome w c).world.readers n) ls ≡ reader_after (w.readers n) (line_read n c ls)
 unfolding outcome reader_after
 lines_left w n (interns t) ls = refl
-lines_left w n (pushes id none) ls = refl
-lines_left w n (pushes id (some r)) ls = refl
+lines_left w n (pushes id None) ls = refl
+lines_left w n (pushes id (Some r)) ls = refl
 lines_left w n (deletes k id m) ls = refl
 lines_left w n (reads m s) ls =
     by_bool (eqb n m)
@@ -183,8 +183,8 @@ texts_from w (c ∷ cs) = elim c.accepted [ true ↦ texts_by w c.call ++ texts_
 call_texts : (w : World) (c : Call) → (outcome w c).world.texts ≡ take_all_of w.texts (texts_by w c)
 unfolding outcome take_all_of
 call_texts w (interns t) = refl
-call_texts w (pushes id none) = refl
-call_texts w (pushes id (some r)) = refl
+call_texts w (pushes id None) = refl
+call_texts w (pushes id (Some r)) = refl
 call_texts w (deletes k id m) = refl
 call_texts w (reads n s) = go (turn s (w.readers n))
   where
@@ -221,8 +221,8 @@ take_distinct : (held : List Bytes) (t : Bytes) → distinct held ≡ true → d
 take_distinct held t d = go (handle_of t held) refl
   where
     go : (o : Option ℕ) → handle_of t held ≡ o → distinct (take_in held t) ≡ true
-    go none e = rw (take_new held t e) (distinct_new held t d e)
-    go (some h) e = rw (take_held held t h e) d
+    go None e = rw (take_new held t e) (distinct_new held t d e)
+    go (Some h) e = rw (take_held held t h e) d
 
 pub all_distinct : (held ts : List Bytes) → distinct held ≡ true → distinct (take_all_of held ts) ≡ true
 unfolding take_all_of
@@ -236,23 +236,23 @@ pub reached_distinct : (cs : List Answered) → distinct (world_after begin cs).
 unfolding distinct all both
 reached_distinct cs = rw (texts_after begin cs) (all_distinct no_texts (texts_from begin cs) refl)
 
-pub reached_empty : (cs : List Answered) → handle_of [] (world_after begin cs).texts ≡ some 0
+pub reached_empty : (cs : List Answered) → handle_of [] (world_after begin cs).texts ≡ Some 0
 unfolding first_empty same
 reached_empty cs = rw (texts_after begin cs) (empty_handle (take_all_of no_texts (texts_from begin cs)) (all_first_empty no_texts (texts_from begin cs) refl))
 
 -- a text keeps its handle
-handle_more : (t : Bytes) (held x : List Bytes) (h : ℕ) → handle_of t held ≡ some h → handle_of t (held ++ x) ≡ some h
+handle_more : (t : Bytes) (held x : List Bytes) (h : ℕ) → handle_of t held ≡ Some h → handle_of t (held ++ x) ≡ Some h
 unfolding handle_of
 handle_more t [] x h e = no (cc)
 handle_more t (s ∷ ss) x h e =
     by_bool (same t s)
     (λ p. rw p (rw p at e))
-    (λ p. let r = raised (handle_of t ss) h (rw p at e) in rw (p, handle_more t ss x r.0 r.1.0) (ap {B = Option ℕ} some r.1.1))
+    (λ p. let r = raised (handle_of t ss) h (rw p at e) in rw (p, handle_more t ss x r.0 r.1.0) (ap {B = Option ℕ} Some r.1.1))
 
-pub handle_kept : (w : World) (cs : List Answered) (t : Bytes) (h : ℕ) → handle_of t w.texts ≡ some h → handle_of t (world_after w cs).texts ≡ some h
+pub handle_kept : (w : World) (cs : List Answered) (t : Bytes) (h : ℕ) → handle_of t w.texts ≡ Some h → handle_of t (world_after w cs).texts ≡ Some h
 handle_kept w cs t h e = let g = texts_grow w cs in rw g.1 (handle_more t w.texts g.0 h e)
 
 -- "n stands for the n-th new text taken in": a new text gets the number of those before it as its handle, for good
-pub new_handle : (w : World) (cs : List Answered) (t : Bytes) → handle_of t w.texts ≡ none → handle_of t (world_after w (taken_call (interns t) ∷ cs)).texts ≡ some (length w.texts)
+pub new_handle : (w : World) (cs : List Answered) (t : Bytes) → handle_of t w.texts ≡ None → handle_of t (world_after w (taken_call (interns t) ∷ cs)).texts ≡ Some (length w.texts)
 unfolding world_after outcome
 new_handle w cs t e = handle_kept (record { texts = take_in w.texts t; readers = w.readers }) cs t (length w.texts) (rw (take_new w.texts t e) (handle_new t w.texts e))

@@ -1,7 +1,7 @@
 -- The acts of a document are what the document changes: of each object in `create` and `modify` a push of its kind, in `delete` a deletion of its kind.
+use Rattle.std.specs.Prelude.{None, Option, Some}
 use mathlib.Core.Path.{◌≡◌, refl, sym, ◌∙◌, ap}
 use mathlib.Core.Bool.{Bool, true, false}
-use mathlib.Core.Option.{Option, none, some}
 use mathlib.Core.List.{List, [], ◌∷◌, ◌++◌, append-nil, map}
 use Rattle.base.specs.Bytes.{Bytes}
 use Rattle.kind.specs.declared.Kind.{Kind}
@@ -38,8 +38,8 @@ change_of (push id r) = pushes (kind_of r.body)
 change_of (delete k id claim) = deletes k
 
 abbrev pub changes_by : Option (Act Bytes) → List Change
-changes_by none = []
-changes_by (some a) = change_of a ∷ []
+changes_by None = []
+changes_by (Some a) = change_of a ∷ []
 
 -- ---- one line
 
@@ -54,7 +54,7 @@ mark_makes true n p = refl
 mark_makes false n p = refl
 
 -- one mark, by where it leads and what it makes
-one_mark : {p q : Place} {m : Mark} {cs : List Change} → mark_step p m ≡ some q → makes p m ≡ cs → Leads p (m ∷ []) cs q
+one_mark : {p q : Place} {m : Mark} {cs : List Change} → mark_step p m ≡ Some q → makes p m ≡ cs → Leads p (m ∷ []) cs q
 one_mark {q = q} e h = making (goes e (stays q)) (append-nil _ ∙ h)
 
 -- a line leads where its mark does, and its act is what the mark makes
@@ -64,7 +64,7 @@ module _ (r : Reader) where
 
   -- what an element makes at its opening, and at its end, in a `create` or `modify` section
   begun_makes : (e : Bool) (k : Kind) (q : Place) (id : ℤ) (m : Meta Bytes) (b : Body Bytes) (a : Action) → (a ≡ A.Delete → ⊥) → kind_of b ≡ k
-      → OfTurn (λ t. (some q ≡ some t.reader.place) × (made_at_opening e a k ≡ changes_by t.act)) (turn_of (begins e q id m b) r)
+      → OfTurn (λ t. (Some q ≡ Some t.reader.place) × (made_at_opening e a k ≡ changes_by t.act)) (turn_of (begins e q id m b) r)
   unfolding turn_of made_at_opening
   begun_makes true k q id m b A.Create s h = (refl, rw h)
   begun_makes true k q id m b A.Modify s h = (refl, rw h)
@@ -90,7 +90,7 @@ module _ (r : Reader) where
 
   -- where an open or an empty element leads, and what it makes
   start_makes : (e : Bool) (attrs : List Attr) {o : Opened} {d : Decision} → Starts r.place e attrs o d
-      → OfTurn (λ t. (place_taken o ≡ some t.reader.place) × (opened_makes e r.place.section o ≡ changes_by t.act)) (turn_of d r)
+      → OfTurn (λ t. (place_taken o ≡ Some t.reader.place) × (opened_makes e r.place.section o ≡ changes_by t.act)) (turn_of d r)
   unfolding turn_of place_taken opened_makes made_at_opening
   start_makes e attrs (D.refuse x) = tt
   start_makes e attrs D.goes = (refl, refl)
@@ -123,8 +123,8 @@ pub data Takes : Reader → List Bytes → List (Act Bytes) → Reader → Type 
       → Takes r (line ∷ lines) (acts_before t.act acts) q
 
 changes_before : (o : Option (Act Bytes)) (acts : List (Act Bytes)) → map change_of (acts_before o acts) ≡ changes_by o ++ map change_of acts
-changes_before none acts = refl
-changes_before (some a) acts = refl
+changes_before None acts = refl
+changes_before (Some a) acts = refl
 
 pub lines_lead : {r q : Reader} {lines : List Bytes} {acts : List (Act Bytes)} → KindAgrees r → Takes r lines acts q → Leads r.place (each_gives line_marks lines) (map change_of acts) q.place
 unfolding each_gives turn decide

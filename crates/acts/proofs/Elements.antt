@@ -1,7 +1,7 @@
 -- A push is made of its element's opening and of its children in order: "a push from that and its children in order".
+use Rattle.std.specs.Prelude.{None, Option, Some}
 use mathlib.Core.Path.{◌≡◌, refl, sym, ◌∙◌, ap, subst}
 use mathlib.Core.Bool.{Bool, true, false}
-use mathlib.Core.Option.{Option, none, some}
 use mathlib.Core.List.{List, [], ◌∷◌, ◌++◌, append_assoc, append-nil}
 use lib.IntN.{ℤ}
 use Rattle.base.specs.Bytes.{Bytes}
@@ -47,10 +47,10 @@ list_of (bad r) = []
 
 -- the child that stands in some attributes
 abbrev pub child_in : Option Child → List Attr → Children
-child_in none attrs = no_children
-child_in (some C.Tag) attrs = record { tags = list_of (tag_of attrs); refs = []; members = [] }
-child_in (some C.Nd) attrs = record { tags = []; refs = list_of (ref_of attrs); members = [] }
-child_in (some C.Member) attrs = record { tags = []; refs = []; members = list_of (member_of attrs) }
+child_in None attrs = no_children
+child_in (Some C.Tag) attrs = record { tags = list_of (tag_of attrs); refs = []; members = [] }
+child_in (Some C.Nd) attrs = record { tags = []; refs = list_of (ref_of attrs); members = [] }
+child_in (Some C.Member) attrs = record { tags = []; refs = []; members = list_of (member_of attrs) }
 
 abbrev pub children_in : Reading → Children
 children_in (reads (starts e n attrs)) = child_in (child_named (name_of n)) attrs
@@ -180,11 +180,11 @@ line_begins p x (D.start {e = e} {n = n} {attrs = attrs} s) = start_begins p e (
 -- the opening of an element that is to be pushed (where exactly, decision.proofs.Decided says), the lines inside it, and its close: the push of its record
 pub element_pushed : (r : Reader) {q : Reader} (line last : Bytes) {lines : List Bytes} {t : Turn} {p : Place} {id : ℤ} {m : Meta Bytes} {b : Body Bytes}
     → decide line r.place ≡ begins false p id m b → turn line r ≡ got t → Inside t.reader lines q → q.place.level ≡ L.Element → event_of last ≡ reads closes
-    → act_in (turn last q) ≡ some (push id (record { meta = m; body = grown b (children_of lines); tags = (children_of lines).tags }))
+    → act_in (turn last q) ≡ Some (push id (record { meta = m; body = grown b (children_of lines); tags = (children_of lines).tags }))
 unfolding turn turn_of decide
 element_pushed r {q} line last {lines} {t} {p} {id = id} {m = m} {b = b} d e i l c =
     let a : Reader = record { place = p; staged = record { id = id; held = first m b } } in
-    let u : Turn = record { reader = a; texts = user_text m; act = none } in
+    let u : Turn = record { reader = a; texts = user_text m; act = None } in
     let f : got u ≡ got t = rw d at e in
     let h : u ≡ t = cc in
     let g = line_begins r.place (event_of line) ((decide_exactly line r.place _).0 d) in
@@ -197,7 +197,7 @@ element_pushed r {q} line last {lines} {t} {p} {id = id} {m = m} {b = b} d e i l
 pub record Drops (r : Reader) (t : Turn) : Type 0 where
   pub staged : t.reader.staged ≡ r.staged
   pub texts : t.texts ≡ []
-  pub act : t.act ≡ none
+  pub act : t.act ≡ None
 
 module _ (r : Reader) (inside : is_inside r.place.level ≡ true) (deleting : r.place.section ≡ A.Delete) where
   start_drops : (e : Bool) (n : Name) (attrs : List Attr) (o : Opened) {d : Decision} → Leads e n r.place o → Starts r.place e attrs o d → OfTurn (Drops r) (turn_of d r)

@@ -1,8 +1,8 @@
 -- What a turn comes to: where it makes an act and that it makes none elsewhere, the texts that it takes in, and what every turn keeps of its reader.
+use Rattle.std.specs.Prelude.{None, Option, Some}
 use mathlib.Core.Path.{◌≡◌, refl, sym, ◌∙◌}
 use mathlib.Core.Bool.{Bool, true, false}
 use mathlib.Core.Logic.{◌↔◌}
-use mathlib.Core.Option.{Option, none, some}
 use mathlib.Core.List.{List, [], ◌∷◌}
 use lib.IntN.{ℤ}
 use Rattle.base.specs.Ascii.{ascii}
@@ -42,7 +42,7 @@ pub of_turn : (P : Turn → Type 0) {f : Field Turn} {t : Turn} → OfTurn P f �
 of_turn P h e = rw e at h
 
 -- "An `other` event does nothing."
-pub other_does_nothing : (line : Bytes) (r : Reader) → event_of line ≡ reads others → turn line r ≡ got (record { reader = r; texts = []; act = none })
+pub other_does_nothing : (line : Bytes) (r : Reader) → event_of line ≡ reads others → turn line r ≡ got (record { reader = r; texts = []; act = None })
 unfolding turn turn_of decide
 other_does_nothing line r e = rw (e, decides_so r.place D.other)
 
@@ -70,7 +70,7 @@ turn_first line r = refused_so (decide line r.place) r ∙ decide_first line r.p
 -- the act of what an event comes to, if there is one
 abbrev pub act_in : Field Turn → Option (Act Bytes)
 act_in (got t) = t.act
-act_in (bad x) = none
+act_in (bad x) = None
 
 -- a line makes an act, by what it reads as
 pub data Made (r : Reader) : Reading → Act Bytes → Type 0 where
@@ -85,13 +85,13 @@ pub data Made (r : Reader) : Reading → Act Bytes → Type 0 where
 
 module _ (r : Reader) {a : Act Bytes} where
   begin_makes : (e : Bool) {n : Bytes} {attrs : List Attr} {k : Kind} {q : Place} (id : ℤ) (m : Meta Bytes) (b : Body Bytes) → opened e (name_of n) r.place ≡ O.Begins k q → Pushing r.place
-      → id_field attrs ≡ got id → metadata_of attrs ≡ got m → body_for k attrs ≡ got b → act_in (turn_of (begins e q id m b) r) ≡ some a → Made r (reads (starts e n attrs)) a
+      → id_field attrs ≡ got id → metadata_of attrs ≡ got m → body_for k attrs ≡ got b → act_in (turn_of (begins e q id m b) r) ≡ Some a → Made r (reads (starts e n attrs)) a
   unfolding turn_of
   begin_makes true id m b o h i j x e = let s : push id (first m b) ≡ a = cc in rw (← s) (at_empty o h i j x)
   begin_makes false id m b o h i j x e = no (cc)
 
   start_makes : (e : Bool) {n : Bytes} {attrs : List Attr} {d : Decision} (o : Opened) → opened e (name_of n) r.place ≡ o → Starts r.place e attrs o d
-      → act_in (turn_of d r) ≡ some a → Made r (reads (starts e n attrs)) a
+      → act_in (turn_of d r) ≡ Some a → Made r (reads (starts e n attrs)) a
   unfolding turn_of
   start_makes e o h (D.begin {id = id} {m = m} {b = b} p i j x) y = begin_makes e id m b h p i j x y
   start_makes e o h (D.delete {k = k} {id = id} {m = m} s i j) y = let z : delete k id (claim_of m) ≡ a = cc in rw (← z) (at_opening h s i j)
@@ -102,7 +102,7 @@ module _ (r : Reader) {a : Act Bytes} where
   start_makes e o h (D.member p f) y = no (cc)
   start_makes e o h (D.drop s c) y = no (cc)
 
-  makes : {x : Reading} {d : Decision} → Decides r.place x d → act_in (turn_of d r) ≡ some a → Made r x a
+  makes : {x : Reading} {d : Decision} → Decides r.place x d → act_in (turn_of d r) ≡ Some a → Made r x a
   unfolding turn_of
   makes D.bad_line y = no (cc)
   makes (D.start {e = e} {n = n} s) y = start_makes e (opened e (name_of n) r.place) refl s y
@@ -114,14 +114,14 @@ started : (p : Place) (e : Bool) (n : Bytes) (attrs : List Attr) {o : Opened} {d
     → decide_reading (reads (starts e n attrs)) p ≡ d
 started p e n attrs h s = decides_so p (D.start {e = e} {n = n} {attrs = attrs} (rw h s))
 
-made : (r : Reader) {x : Reading} {a : Act Bytes} → Made r x a → act_in (turn_of (decide_reading x r.place) r) ≡ some a
+made : (r : Reader) {x : Reading} {a : Act Bytes} → Made r x a → act_in (turn_of (decide_reading x r.place) r) ≡ Some a
 unfolding turn_of
 made r (at_close l p) = rw (decides_so r.place (D.end l p))
 made r (at_empty {n = n} {attrs = attrs} o p i j x) = rw (started r.place true n attrs o (D.begin p i j x))
 made r (at_opening {e = e} {n = n} {attrs = attrs} o s i j) = rw (started r.place e n attrs o (D.delete s i j))
 
 -- an act is made exactly there
-pub act_made : (line : Bytes) (r : Reader) (a : Act Bytes) → (act_in (turn line r) ≡ some a) ↔ Made r (event_of line) a
+pub act_made : (line : Bytes) (r : Reader) (a : Act Bytes) → (act_in (turn line r) ≡ Some a) ↔ Made r (event_of line) a
 unfolding turn decide
 act_made line r a = (λ h. makes r (decided r.place (event_of line)) h, λ h. made r h)
 
@@ -187,8 +187,8 @@ module _ (p : Bytes → Bool) (empty : p [] ≡ true) where
   user_all m h = by_bool (flagged 4 m.flags) (λ t. rw t (one h)) (λ t. rw t (all_nil p))
 
   role_all : (attrs : List Attr) (o : Option Bytes) → all (λ a. p a.value) attrs ≡ true → value_of (ascii "role") attrs ≡ o → p (or_empty o) ≡ true
-  role_all attrs none h e = empty
-  role_all attrs (some v) h e = value_all p (ascii "role") attrs h e
+  role_all attrs None h e = empty
+  role_all attrs (Some v) h e = value_all p (ascii "role") attrs h e
 
   module _ (r : Reader) where
     begun_texts : (e : Bool) (q : Place) (id : ℤ) (m : Meta Bytes) (b : Body Bytes) → all p (user_text m) ≡ true → Texts (turn_of (begins e q id m b) r)

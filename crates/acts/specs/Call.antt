@@ -1,6 +1,5 @@
 -- Condition 3: "Each gets its own list of these calls, refused ones included: intern, direct push, direct delete, a reader's event, a reader's end". And the regression setting.
-use Rattle.std.specs.Prelude.{ℕ, Bool, true, false, cond, List, [], ◌∷◌, eqb, ℤ}
-use Rattle.std.proofs.Math.Option.{Option, none, some}
+use Rattle.std.specs.Prelude.{ℕ, Bool, true, false, cond, List, [], ◌∷◌, eqb, ℤ, None, Option, Some}
 use Rattle.base.specs.Bytes.{Bytes}
 use Rattle.interner.specs.Texts.{take_in, take_all_of, no_texts, text_of}
 use Rattle.kind.specs.declared.Kind.{Kind}
@@ -44,11 +43,11 @@ pub record Outcome : Type 0 where
   pub act : Option (Act Bytes)
 
 abbrev pub quiet : World → Outcome
-quiet w = record { world = w; act = none }
+quiet w = record { world = w; act = None }
 
 abbrev pub push_of : World → ℤ → Option (Record ℕ) → Outcome
-push_of w id none = quiet w
-push_of w id (some r) = record { world = w; act = some (push id (swap_record (text_of w.texts) r)) }
+push_of w id None = quiet w
+push_of w id (Some r) = record { world = w; act = Some (push id (swap_record (text_of w.texts) r)) }
 
 abbrev pub turned : World → ℕ → Field Turn → Outcome
 turned w n (bad r) = quiet w
@@ -58,14 +57,14 @@ turned w n (got t) =
 unfoldable pub outcome : World → Call → Outcome
 outcome w (interns t) = quiet (record { texts = take_in w.texts t; readers = w.readers })
 outcome w (pushes id r) = push_of w id r
-outcome w (deletes k id m) = record { world = w; act = some (delete k id (claim_of m)) }
+outcome w (deletes k id m) = record { world = w; act = Some (delete k id (claim_of m)) }
 outcome w (reads n s) = turned w n (turn s (w.readers n))
 outcome w (ends n) = quiet w
 outcome w (allows setting) = quiet w
 
 abbrev pub acts_before : Option (Act Bytes) → List (Act Bytes) → List (Act Bytes)
-acts_before none acts = acts
-acts_before (some a) acts = a ∷ acts
+acts_before None acts = acts
+acts_before (Some a) acts = a ∷ acts
 
 -- what a list of answered calls leaves: a refused one leaves what was there
 unfoldable pub world_after : World → List Answered → World

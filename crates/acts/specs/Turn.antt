@@ -1,6 +1,5 @@
 -- Document 01: what one event does to its reader, which texts it takes in and which act it makes, by what is decided of it: one clause a decision.
-use Rattle.std.specs.Prelude.{true, false, cond, List, [], ◌∷◌, ◌++◌, ℤ, pos}
-use Rattle.std.proofs.Math.Option.{Option, none, some}
+use Rattle.std.specs.Prelude.{true, false, cond, List, [], ◌∷◌, ◌++◌, ℤ, pos, None, Option, Some}
 use Rattle.base.specs.Bytes.{Bytes}
 use Rattle.kind.specs.declared.Kind.{Kind}
 use Rattle.kind.specs.declared.Kind.TheVariants as K
@@ -72,17 +71,17 @@ with_member m r = record { meta = r.meta; body = body_with_member m r.body; tags
 
 -- the element grows by a child
 abbrev pub grows : Place → (Record Bytes → Record Bytes) → List Bytes → Reader → Turn
-grows p f ts r = record { reader = record { place = p; staged = record { id = r.staged.id; held = f r.staged.held } }; texts = ts; act = none }
+grows p f ts r = record { reader = record { place = p; staged = record { id = r.staged.id; held = f r.staged.held } }; texts = ts; act = None }
 
 -- nothing stands there any more
 abbrev pub clears : Place → List Bytes → Act Bytes → Turn
-clears p ts a = record { reader = record { place = p; staged = no_element p.kind }; texts = ts; act = some a }
+clears p ts a = record { reader = record { place = p; staged = no_element p.kind }; texts = ts; act = Some a }
 
 unfoldable pub turn_of : Decision → Reader → Field Turn
 turn_of (refuses x) r = bad x
-turn_of (moves p) r = got (record { reader = record { place = p; staged = r.staged }; texts = []; act = none })
+turn_of (moves p) r = got (record { reader = record { place = p; staged = r.staged }; texts = []; act = None })
 turn_of (begins true p id m b) r = got (clears p (user_text m) (push id (first m b)))
-turn_of (begins false p id m b) r = got (record { reader = record { place = p; staged = record { id = id; held = first m b } }; texts = user_text m; act = none })
+turn_of (begins false p id m b) r = got (record { reader = record { place = p; staged = record { id = id; held = first m b } }; texts = user_text m; act = None })
 turn_of (deletes k p id m) r = got (clears p (user_text m) (delete k id (claim_of m)))
 turn_of (tags p t) r = got (grows p (with_tag t) (t.key ∷ []) r)
 turn_of (refers p z) r = got (grows p (with_ref z) [] r)

@@ -1,3 +1,4 @@
 pub mod Bytes
 pub mod Ascii
 pub mod Chars
+pub mod Options

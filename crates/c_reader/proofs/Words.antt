@@ -1,8 +1,9 @@
 -- A reader is what its words stand for, and words that are a reader's are its words: each code names one, and each is named by one.
+use Rattle.reader.specs.declared.RefusedAt.{RefusedAt}
+use Rattle.std.specs.Prelude.{Some, Option, None}
 use Prim.Native.Nat.{ℕ, zero, suc, ◌<◌, ◌≤◌}
 use mathlib.Core.Path.{◌≡◌, refl, sym, ◌∙◌, ap}
 use mathlib.Core.Bool.{true}
-use mathlib.Core.Option.{some}
 use mathlib.Core.List.{List, [], ◌∷◌}
 use native.Mathlib.Omega.{arith}
 use lib.Dec.{leb}
@@ -26,16 +27,14 @@ use Rattle.nesting.specs.declared.Action.TheVariants.{Create, Modify, Delete}
 use Rattle.nesting.specs.declared.Level.{Level}
 use Rattle.nesting.specs.declared.Level.TheVariants.{Doc, Root, Section, Element, Leaf, Other, Done}
 use Rattle.overlay.specs.Given.{head_fits, meta_fits}
-use Rattle.reader.specs.State.{fresh_reader}
+use Rattle.reader.specs.State.{fresh_reader, refusal_at}
 use Rattle.reader.specs.Event.{stopped_at}
-use Rattle.reader.specs.declared.Stop.{Stop}
-use Rattle.reader.specs.declared.Stop.TheVariants.{Going, At}
 use Rattle.reader.specs.declared.EventReader.{EventReader}
 use Rattle.c_reader.specs.Words.{level_word, section_word, mark_number, mark_line, mark_held, words_of_reader, word_at, level_in, section_in, kind_in, refusal_numbered, stop_in, reader_in, place_coded, head_coded, meta_coded, stop_coded, is_reader, reader_of_words}
 use Rattle.c_reader.proofs.Fits.{place_of, stop_of, held_within}
 
 -- 19 zeros are a fresh reader
-pub fresh_words : reader_of_words (0 ∷ 0 ∷ 0 ∷ 0 ∷ 0 ∷ 0 ∷ 0 ∷ 0 ∷ 0 ∷ 0 ∷ 0 ∷ 0 ∷ 0 ∷ 0 ∷ 0 ∷ 0 ∷ 0 ∷ 0 ∷ 0 ∷ []) ≡ some fresh_reader
+pub fresh_words : reader_of_words (0 ∷ 0 ∷ 0 ∷ 0 ∷ 0 ∷ 0 ∷ 0 ∷ 0 ∷ 0 ∷ 0 ∷ 0 ∷ 0 ∷ 0 ∷ 0 ∷ 0 ∷ 0 ∷ 0 ∷ 0 ∷ 0 ∷ []) ≡ Some fresh_reader
 unfolding reader_of_words is_reader place_coded head_coded meta_coded stop_coded stop_in refusal_numbered both either
 fresh_words = refl
 
@@ -194,12 +193,12 @@ kinds_coded Way = (refl, refl)
 kinds_coded Relation = (refl, refl)
 
 -- a mark's HELD is a number of 32 bits
-abbrev pub HeldFits : Stop → Type 0
-HeldFits Going = Unit {0}
-HeldFits (At r n) = SFits w32 (held_of r)
+abbrev pub HeldFits : Option RefusedAt → Type 0
+HeldFits None = Unit {0}
+HeldFits (Some a) = SFits w32 (held_of a.refusal)
 
 refusals_coded : (r : Refusal) (line : ℕ) → SFits w32 (held_of r)
-    → (stop_coded (number_of r) line (of_z w32 (held_of r)) ≡ true) × (stop_in (number_of r) line (of_z w32 (held_of r)) ≡ At r line)
+    → (stop_coded (number_of r) line (of_z w32 (held_of r)) ≡ true) × (stop_in (number_of r) line (of_z w32 (held_of r)) ≡ Some (refusal_at r line))
 unfolding stop_coded stop_in refusal_numbered both either
 refusals_coded R.Size line f = (refl, refl)
 refusals_coded R.LongLine line f = (refl, refl)
@@ -212,7 +211,7 @@ refusals_coded R.NotInteger line f = (refl, refl)
 refusals_coded R.NotTimestamp line f = (refl, refl)
 refusals_coded R.CoordinateRange line f = (refl, refl)
 refusals_coded R.MemberType line f = (refl, refl)
-refusals_coded (R.Regression v) line f = (rw (lt-ltb (of_z w32 v) 4294967296 (Fits-of_z f).fits), ap (λ (z : ℤ). At (R.Regression z) line) (to_z-of_z f))
+refusals_coded (R.Regression v) line f = (rw (lt-ltb (of_z w32 v) 4294967296 (Fits-of_z f).fits), ap (λ (z : ℤ). Some (refusal_at (R.Regression z) line)) (to_z-of_z f))
 refusals_coded R.StringsFull line f = (refl, refl)
 refusals_coded R.IdsFull line f = (refl, refl)
 refusals_coded R.ArenaFull line f = (refl, refl)
@@ -224,10 +223,10 @@ refusals_coded R.NotInOrder line f = (refl, refl)
 refusals_coded R.NoSuchNumber line f = (refl, refl)
 refusals_coded R.Unsound line f = (refl, refl)
 
-marks_coded : (m : Stop) → HeldFits m → (stop_coded (mark_number m) (mark_line m) (mark_held m) ≡ true) × (stop_in (mark_number m) (mark_line m) (mark_held m) ≡ m)
+marks_coded : (m : Option RefusedAt) → HeldFits m → (stop_coded (mark_number m) (mark_line m) (mark_held m) ≡ true) × (stop_in (mark_number m) (mark_line m) (mark_held m) ≡ m)
 unfolding stop_coded stop_in both either
-marks_coded Going f = (refl, refl)
-marks_coded (At r n) f = refusals_coded r n f
+marks_coded None f = (refl, refl)
+marks_coded (Some a) f = refusals_coded a.refusal a.line f
 
 -- each number of a reader within its type
 pub record ReaderFits (r : EventReader) : Type 0 where
@@ -261,6 +260,6 @@ module _ (r : EventReader) (f : ReaderFits r) where
       rw ((levels_coded r.place.level).1, (sections_coded r.place.section).1, (kinds_coded r.place.kind).1, (marks_coded r.stop f.held).1)
 
   -- a reader's words stand for it
-  pub reader_back : reader_of_words (words_of_reader r) ≡ some r
+  pub reader_back : reader_of_words (words_of_reader r) ≡ Some r
   unfolding reader_of_words
   reader_back = rw (is_reader_lem, reader_in_lem)

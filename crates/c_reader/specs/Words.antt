@@ -1,8 +1,9 @@
 -- A reader as C holds it, in 19 words: 0 level, 1 section, 2 kind; 3 to 7 the head id, lat, lon, count, tags; 8 to 13 the metadata flags, version, timestamp, changeset,
 -- uid, user; 14 the staged bytes; 15 the lines; 16 to 18 the stop mark: its number, 0 while the reader goes on, its line, and HELD. Signed numbers stand in their bits.
 -- So 19 zeros are a fresh reader.
-use Rattle.std.specs.Prelude.{ℕ, Bool, cond, List, [], ◌∷◌, leb, ltb, eqb, get_or}
-use Rattle.std.proofs.Math.Option.{Option, none, some}
+use Rattle.reader.specs.State.{refusal_at}
+use Rattle.reader.specs.declared.RefusedAt.{RefusedAt}
+use Rattle.std.specs.Prelude.{ℕ, Bool, cond, List, [], ◌∷◌, leb, ltb, eqb, get_or, None, Option, Some}
 use Rattle.std.specs.Int.{w32}
 use Rattle.std.proofs.Common.{to_z, of_z}
 use Rattle.base.specs.Bytes.{both, either}
@@ -19,8 +20,6 @@ use Rattle.nesting.specs.declared.Level.TheVariants.{Doc, Root, Section, Element
 use Rattle.nesting.specs.declared.Place.{Place}
 use Rattle.compact.specs.declared.ArenaMeta.{ArenaMeta}
 use Rattle.compact.specs.declared.PushHead.{PushHead}
-use Rattle.reader.specs.declared.Stop.{Stop}
-use Rattle.reader.specs.declared.Stop.TheVariants.{Going, At}
 use Rattle.reader.specs.declared.EventReader.{EventReader}
 
 -- ---- a reader in words
@@ -39,17 +38,17 @@ section_word Create = 0
 section_word Modify = 1
 section_word Delete = 2
 
-abbrev pub mark_number : Stop → ℕ
-mark_number Going = 0
-mark_number (At r line) = number_of r
+abbrev pub mark_number : Option RefusedAt → ℕ
+mark_number None = 0
+mark_number (Some a) = number_of a.refusal
 
-abbrev pub mark_line : Stop → ℕ
-mark_line Going = 0
-mark_line (At r line) = line
+abbrev pub mark_line : Option RefusedAt → ℕ
+mark_line None = 0
+mark_line (Some a) = a.line
 
-abbrev pub mark_held : Stop → ℕ
-mark_held Going = 0
-mark_held (At r line) = of_z w32 (held_of r)
+abbrev pub mark_held : Option RefusedAt → ℕ
+mark_held None = 0
+mark_held (Some a) = of_z w32 (held_of a.refusal)
 
 unfoldable pub words_of_reader : EventReader → List ℕ
 words_of_reader r =
@@ -102,8 +101,8 @@ refusal_codes held =
 unfoldable pub refusal_numbered : ℕ → ℕ → Refusal
 refusal_numbered n held = get_or (refusal_codes held) n R.Unsound
 
-unfoldable pub stop_in : ℕ → ℕ → ℕ → Stop
-stop_in number line held = cond (eqb number 0) Going (At (refusal_numbered number held) line)
+unfoldable pub stop_in : ℕ → ℕ → ℕ → Option RefusedAt
+stop_in number line held = cond (eqb number 0) None (Some (refusal_at (refusal_numbered number held) line))
 
 abbrev pub reader_in : List ℕ → EventReader
 reader_in w =
@@ -137,4 +136,4 @@ is_reader w = both (place_coded w) (both (head_coded w) (both (meta_coded w) (st
 
 -- words that are no reader's stand for none
 unfoldable pub reader_of_words : List ℕ → Option EventReader
-reader_of_words w = cond (is_reader w) (some (reader_in w)) none
+reader_of_words w = cond (is_reader w) (Some (reader_in w)) None

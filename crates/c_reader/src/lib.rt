@@ -8,8 +8,8 @@ ghost use Rattle.c_reader.specs.Words.{level_word, section_word, mark_number, ma
 use compact::{ArenaMeta, PushHead};
 use kind::Kind;
 use nesting::{Action, Level, Place};
-use reader::{EventReader, Pending, Stop};
-use refusal::Refusal;
+use reader::{EventReader, Pending, RefusedAt};
+use refusal::{Refusal, Reply};
 
 // ---- whether words are a reader's
 
@@ -149,14 +149,14 @@ fn refusal_in(number: u64, held: u32) -> Refusal
     }
 }
 
-fn stop_in(number: u64, line: u64, held: u64) -> Stop
+fn stop_in(number: u64, line: u64, held: u64) -> Option<RefusedAt>
     ensures { held < 4294967296 → result ≡ stop_in number line held }
 {
     if number == 0 {
-        return Stop::Going;
+        return None;
     }
     let refusal = refusal_in(number, little::narrow(held));
-    Stop::At(refusal, line)
+    Some(RefusedAt { refusal, line })
 }
 
 fn place_in(level: u64, section: u64, kind: u64) -> Place
@@ -234,20 +234,20 @@ struct MarkWords {
     held: u64,
 }
 
-fn mark_words(stop: Stop) -> MarkWords
+fn mark_words(stop: Option<RefusedAt>) -> MarkWords
     ensures { result ≡ record { number = mark_number stop; line = mark_line stop; held = mark_held stop } }
 {
     match stop {
-        Stop::Going => MarkWords {
+        None => MarkWords {
             number: 0,
             line: 0,
             held: 0,
         },
-        Stop::At(refusal, line) => {
-            let reply = refusal::reply_of(refusal);
+        Some(at) => {
+            let reply = Reply::from(at.refusal);
             MarkWords {
                 number: reply.number as u64,
-                line,
+                line: at.line,
                 held: signed::bits_of_i32(reply.held) as u64,
             }
         }
@@ -265,8 +265,7 @@ pub fn put_reader(words: &mut [u64; 19], reader: EventReader)
     let pending = reader.pending;
     let head = pending.head;
     let meta = pending.meta;
-    let stop = reader.stop;
-    let mark = mark_words(stop);
+    let mark = mark_words(reader.stop);
     *words = [
         level_word(level),
         section_word(section),

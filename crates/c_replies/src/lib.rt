@@ -1,28 +1,19 @@
-// What the C entries reply: a struct of numbers for each kind of answer, and each answer as its struct.
+// What the C entries reply: a struct of numbers for each kind of answer, and each answer converted to its struct.
 #![tactic(auto)]
 
 ghost use Rattle.std.specs.Prelude.{◌≡◌};
-ghost use Rattle.kind_reading.specs.declared.View.TheVariants as view;
-ghost use Rattle.overlay_reading.specs.declared.Read.TheVariants.{Refused};
 ghost use Rattle.c_replies.specs.Listings.{listed_reply};
-ghost use Rattle.c_replies.specs.Lookups.{overlap_number, span_places, seek_place, place_word, sought_cursor};
-ghost use Rattle.c_replies.specs.Numbers.{order_number, truth, admit_reply, integer_number, stamp_number};
-ghost use Rattle.c_replies.specs.Overlays.{kept_reply, sound_reply, unknown_reply, handle_text};
+ghost use Rattle.c_replies.specs.Lookups.{span_places, seek_place, place_word, found_cursor};
+ghost use Rattle.c_replies.specs.Numbers.{order_number};
+ghost use Rattle.c_replies.specs.Overlays.{kept_reply, handle_text};
 ghost use Rattle.c_replies.specs.Readers.{answer_reply, taken_reply};
 ghost use Rattle.c_replies.specs.Readings.{read_number, no_part, view_part, unknown_kind};
 
-use integer::Integer;
-use kind_reading::View;
-use kind_store::Kept;
-use listing::Listed;
-use osm_id::Ordering;
-use overlay_reading::Read;
-use overlay_store::Handle;
-use reader::EventAnswer;
+use little::Span;
+use reader::RefusedAt;
 use refusal::{Refusal, Reply};
-use sorted::{Overlap, Place, Sought};
-use stamp::Stamp;
-use version_floor::Admit;
+use sorted::{Found, IdRange};
+use std::cmp::Ordering;
 
 // ---- ids, versions, integer and timestamp fields, and text
 
@@ -34,7 +25,7 @@ pub struct Number {
     pub value: u64,
 }
 
-// 0 less, 1 equal, 2 greater.
+// 0 less, 1 equal, 2 greater. Rust's own numbers are -1, 0 and 1.
 pub fn order_number(order: Ordering) -> u8
     ensures { result ≡ order_number order }
 {
@@ -45,44 +36,19 @@ pub fn order_number(order: Ordering) -> u8
     }
 }
 
-// 1 for yes, 0 for no.
-pub fn truth(yes: bool) -> u8
-    ensures { result ≡ truth yes }
-{
-    if yes { 1 } else { 0 }
-}
+impl From<Result<u64, Refusal>> for Number {
+    ghost from_gives = { λ read number. number ≡ read_number read };
 
-pub fn admit_reply(answer: Admit) -> Reply
-    ensures { result ≡ admit_reply answer }
-{
-    let Admit::Below(held) = answer else {
-        return Reply { number: 0, held: 0 };
-    };
-    Reply { number: 12, held }
-}
-
-pub fn integer_number(i: Integer) -> Number
-    ensures { result ≡ integer_number i }
-{
-    let Integer::Is(value) = i else {
-        return Number {
-            number: 8,
-            value: 0,
-        };
-    };
-    Number { number: 0, value }
-}
-
-pub fn stamp_number(at: Stamp) -> Number
-    ensures { result ≡ stamp_number at }
-{
-    let Stamp::At(value) = at else {
-        return Number {
-            number: 9,
-            value: 0,
-        };
-    };
-    Number { number: 0, value }
+    #[tactic(auto, unfolding(refusal::specs::Refusal::reply_of))]
+    fn from(read: Result<u64, Refusal>) -> Number {
+        match read {
+            Ok(value) => Number { number: 0, value },
+            Err(refusal) => Number {
+                number: Reply::from(refusal).number,
+                value: 0,
+            },
+        }
+    }
 }
 
 // ---- an overlay
@@ -95,43 +61,39 @@ pub struct Text {
     pub handle: u64,
 }
 
-pub fn kept_reply(answer: Kept) -> Reply
+// A function, since both types are of the crate refusal, which alone may convert one to the other.
+pub fn kept_reply(answer: Result<(), Refusal>) -> Reply
     ensures { result ≡ kept_reply answer }
 {
     match answer {
-        Kept::Taken => Reply { number: 0, held: 0 },
-        Kept::Refused(refusal) => refusal::reply_of(refusal),
+        Ok(()) => Reply { number: 0, held: 0 },
+        Err(refusal) => Reply::from(refusal),
     }
 }
 
-pub fn handle_text(answer: Handle) -> Text
-    ensures { result ≡ handle_text answer }
-{
-    match answer {
-        Handle::Is(handle) => Text { number: 0, handle },
-        Handle::Refused(refusal) => Text {
-            number: refusal::reply_of(refusal).number,
-            handle: 0,
-        },
+impl From<Result<u64, Refusal>> for Text {
+    ghost from_gives = { λ answer text. text ≡ handle_text answer };
+
+    #[tactic(auto, unfolding(refusal::specs::Refusal::reply_of))]
+    fn from(answer: Result<u64, Refusal>) -> Text {
+        match answer {
+            Ok(handle) => Text { number: 0, handle },
+            Err(refusal) => Text {
+                number: Reply::from(refusal).number,
+                handle: 0,
+            },
+        }
     }
 }
 
-// 22 for an unsound overlay, else 0.
-pub fn sound_reply(sound: bool) -> Reply
-    ensures { result ≡ sound_reply sound }
+// The refusal where a kind's number means no kind: 22, else 17.
+pub fn unknown_kind(sound: bool) -> Refusal
+    ensures { result ≡ unknown_kind sound }
 {
     if sound {
-        return Reply { number: 0, held: 0 };
+        return Refusal::BadRecord;
     }
-    refusal::reply_of(Refusal::Unsound)
-}
-
-// The reply where a kind's number means no kind: 22, else 17.
-pub fn unknown_reply(sound: bool) -> Reply
-    ensures { result ≡ unknown_reply sound }
-{
-    let refusal = unknown_kind(sound);
-    refusal::reply_of(refusal)
+    Refusal::Unsound
 }
 
 // ---- a reader
@@ -145,21 +107,21 @@ pub struct EventReply {
     pub line: u64,
 }
 
-pub fn event_reply(answer: EventAnswer) -> EventReply
+pub fn event_reply(answer: Result<(), RefusedAt>) -> EventReply
     ensures { result ≡ answer_reply answer }
 {
     match answer {
-        EventAnswer::Accepted => EventReply {
+        Ok(()) => EventReply {
             number: 0,
             held: 0,
             line: 0,
         },
-        EventAnswer::Refused(refusal, line) => {
-            let reply = refusal::reply_of(refusal);
+        Err(at) => {
+            let reply = Reply::from(at.refusal);
             EventReply {
                 number: reply.number,
                 held: reply.held,
-                line,
+                line: at.line,
             }
         }
     }
@@ -175,25 +137,15 @@ pub struct EventsReply {
     pub taken: usize,
 }
 
-pub fn events_reply(answer: EventAnswer, taken: usize) -> EventsReply
+pub fn events_reply(answer: Result<(), RefusedAt>, taken: usize) -> EventsReply
     ensures { result ≡ taken_reply (answer_reply answer) taken }
 {
-    match answer {
-        EventAnswer::Accepted => EventsReply {
-            number: 0,
-            held: 0,
-            line: 0,
-            taken,
-        },
-        EventAnswer::Refused(refusal, line) => {
-            let reply = refusal::reply_of(refusal);
-            EventsReply {
-                number: reply.number,
-                held: reply.held,
-                line,
-                taken,
-            }
-        }
+    let reply = event_reply(answer);
+    EventsReply {
+        number: reply.number,
+        held: reply.held,
+        line: reply.line,
+        taken,
     }
 }
 
@@ -209,18 +161,6 @@ pub struct Part {
     pub len: usize,
 }
 
-pub fn read_number(read: Read) -> Number
-    ensures { result ≡ read_number read }
-{
-    match read {
-        Read::Is(value) => Number { number: 0, value },
-        Read::Refused(refusal) => Number {
-            number: refusal::reply_of(refusal).number,
-            value: 0,
-        },
-    }
-}
-
 fn no_part(number: u32) -> Part
     ensures { result ≡ no_part number }
 {
@@ -232,44 +172,22 @@ fn no_part(number: u32) -> Part
     }
 }
 
-pub fn view_part(view: View) -> Part
-    ensures { result ≡ view_part view }
-{
-    match view {
-        View::Part { start, len } => Part {
-            number: 0,
-            found: 1,
-            start,
-            len,
-        },
-        View::Nothing => no_part(0),
-        View::Refused(refusal) => no_part(refusal::reply_of(refusal).number),
+impl From<Result<Option<Span>, Refusal>> for Part {
+    ghost from_gives = { λ view part. part ≡ view_part view };
+
+    #[tactic(auto, unfolding(refusal::specs::Refusal::reply_of))]
+    fn from(view: Result<Option<Span>, Refusal>) -> Part {
+        match view {
+            Ok(Some(at)) => Part {
+                number: 0,
+                found: 1,
+                start: at.start,
+                len: at.len,
+            },
+            Ok(None) => no_part(0),
+            Err(refusal) => no_part(Reply::from(refusal).number),
+        }
     }
-}
-
-// The refusal where a kind's number means no kind: 22, else 17.
-fn unknown_kind(sound: bool) -> Refusal
-    ensures { result ≡ unknown_kind sound }
-{
-    if sound {
-        return Refusal::BadRecord;
-    }
-    Refusal::Unsound
-}
-
-// The replies where a kind's number means no kind.
-pub fn unknown_number(sound: bool) -> Number
-    ensures { result ≡ read_number (Refused (unknown_kind sound)) }
-{
-    let refusal = unknown_kind(sound);
-    read_number(Read::Refused(refusal))
-}
-
-pub fn unknown_part(sound: bool) -> Part
-    ensures { result ≡ view_part (view.Refused (unknown_kind sound)) }
-{
-    let refusal = unknown_kind(sound);
-    view_part(View::Refused(refusal))
 }
 
 // ---- the lookups in lists
@@ -295,79 +213,56 @@ pub struct Cursor {
 // A word from here on is no place.
 const NO_PLACE: usize = 9223372036854775808;
 
-pub fn overlap_number(answer: Overlap) -> Number
-    ensures { result ≡ overlap_number answer }
-{
-    match answer {
-        Overlap::Yes => Number {
-            number: 0,
-            value: 1,
-        },
-        Overlap::No => Number {
-            number: 0,
-            value: 0,
-        },
-        Overlap::NotInOrder => Number {
-            number: 20,
-            value: 0,
-        },
+impl From<Result<IdRange, Refusal>> for Places {
+    ghost from_gives = { λ answer places. places ≡ span_places answer };
+
+    #[tactic(auto, unfolding(refusal::specs::Refusal::reply_of))]
+    fn from(answer: Result<IdRange, Refusal>) -> Places {
+        match answer {
+            Ok(range) => Places {
+                number: 0,
+                from: range.from,
+                to: range.to,
+            },
+            Err(refusal) => Places {
+                number: Reply::from(refusal).number,
+                from: 0,
+                to: 0,
+            },
+        }
     }
 }
 
-pub fn span_places(answer: sorted::Span) -> Places
-    ensures { result ≡ span_places answer }
-{
-    match answer {
-        sorted::Span::From(from, to) => Places {
-            number: 0,
-            from,
-            to,
-        },
-        sorted::Span::NotInOrder => Places {
-            number: 20,
-            from: 0,
-            to: 0,
-        },
-    }
-}
-
-pub fn place_of(word: usize) -> Place
+pub fn place_of(word: usize) -> Option<usize>
     ensures { result ≡ seek_place word }
 {
-    if word < NO_PLACE {
-        return Place::At(word);
-    }
-    Place::Fresh
+    (word < NO_PLACE).then_some(word)
 }
 
-pub fn place_word(place: Place) -> usize
+fn place_word(place: Option<usize>) -> usize
     ensures { result ≡ place_word place }
 {
-    match place {
-        Place::Fresh => NO_PLACE,
-        Place::At(p) => p,
-    }
+    place.unwrap_or(NO_PLACE)
 }
 
-pub fn sought_cursor(answer: Sought, place: usize) -> Cursor
-    ensures { result ≡ sought_cursor answer place }
-{
-    match answer {
-        Sought::At(found) => Cursor {
-            number: 0,
-            found,
-            place,
-        },
-        Sought::Nowhere => Cursor {
-            number: 0,
-            found: NO_PLACE,
-            place,
-        },
-        Sought::NotInOrder => Cursor {
-            number: 20,
-            found: NO_PLACE,
-            place,
-        },
+impl From<Found> for Cursor {
+    ghost from_gives = { λ found cursor. cursor ≡ found_cursor found };
+
+    #[tactic(auto, unfolding(refusal::specs::Refusal::reply_of))]
+    fn from(found: Found) -> Cursor {
+        let place = place_word(found.place);
+        match found.answer {
+            Ok(at) => Cursor {
+                number: 0,
+                found: place_word(at),
+                place,
+            },
+            Err(refusal) => Cursor {
+                number: Reply::from(refusal).number,
+                found: NO_PLACE,
+                place,
+            },
+        }
     }
 }
 
@@ -381,14 +276,17 @@ pub struct ListingReply {
     pub length: usize,
 }
 
-pub fn listed_reply(answer: Listed) -> ListingReply
-    ensures { result ≡ listed_reply answer }
-{
-    match answer {
-        Listed::Length(length) => ListingReply { number: 0, length },
-        Listed::Refused(refusal) => ListingReply {
-            number: refusal::reply_of(refusal).number,
-            length: 0,
-        },
+impl From<Result<usize, Refusal>> for ListingReply {
+    ghost from_gives = { λ answer reply. reply ≡ listed_reply answer };
+
+    #[tactic(auto, unfolding(refusal::specs::Refusal::reply_of))]
+    fn from(answer: Result<usize, Refusal>) -> ListingReply {
+        match answer {
+            Ok(length) => ListingReply { number: 0, length },
+            Err(refusal) => ListingReply {
+                number: Reply::from(refusal).number,
+                length: 0,
+            },
+        }
     }
 }

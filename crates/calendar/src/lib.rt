@@ -7,43 +7,28 @@ ghost use Rattle.calendar.specs.Calendar.{leap, month_days, months_days, years_d
 pub fn is_leap(year: u32) -> bool
     ensures { result ≡ leap year }
 {
-    if year % 400 == 0 {
-        return true;
-    }
-    if year % 100 == 0 {
-        return false;
-    }
-    year % 4 == 0
+    year % 4 == 0 && (year % 100 != 0 || year % 400 == 0)
 }
 
 // The length of a month, 1 to 12; 31 for any other number. But for February, 31 and 30 days come in turn from January, and anew from August, the 8th month.
 pub fn month_length(leap_year: bool, month: u8) -> u8
     ensures { result ≡ month_days leap_year month }
 {
-    if month == 0 {
-        return 31;
+    match month {
+        2 if leap_year => 29,
+        2 => 28,
+        0 | 13.. => 31,
+        _ => 30 + (month + month / 8) % 2,
     }
-    if 12 < month {
-        return 31;
-    }
-    if month == 2 {
-        if leap_year {
-            return 29;
-        }
-        return 28;
-    }
-    30 + (month + month / 8) % 2
 }
 
 // The days of the year before a month.
 pub fn days_before_month(leap_year: bool, month: u8) -> u64
     ensures { result ≡ months_days leap_year (month - 1) }
 {
-    let mut days: u64 = 0;
-    let mut m: u8 = 1;
-    while m < month {
-        days += month_length(leap_year, m) as u64;
-        m += 1;
+    let mut days = 0;
+    for m in 1..month {
+        days += u64::from(month_length(leap_year, m));
     }
     days
 }
@@ -52,6 +37,6 @@ pub fn days_before_month(leap_year: bool, month: u8) -> u64
 pub fn days_before_year(year: u32) -> u64
     ensures { result ≡ years_days year }
 {
-    let y = year as u64;
+    let y = u64::from(year);
     365 * y + (y + 3) / 4 - (y + 99) / 100 + (y + 399) / 400
 }

@@ -1,9 +1,9 @@
 -- Lists of calls: after each, what is lent agrees with the calls and their replies. The overlay reflects the texts taken in and the acts accepted; each reader's storage is
 -- sound but for its count of lines, and stands for the reader that the accepted lines make.
+use Rattle.std.specs.Prelude.{None, Ok, Option, Some, Err}
 use Prim.Native.Nat.{ℕ, ◌+◌, ◌<◌}
 use mathlib.Core.Path.{◌≡◌, refl, sym, ◌∙◌, ap, subst}
 use mathlib.Core.Bool.{Bool, true, false, cond}
-use mathlib.Core.Option.{Option, none, some}
 use mathlib.Core.List.{List, [], ◌∷◌, ◌++◌, append_assoc, append-nil}
 use lib.IntN.{ℤ}
 use lib.ListN.{length}
@@ -40,7 +40,6 @@ use Rattle.overlay.specs.Given.{head_fits, meta_fits}
 use Rattle.overlay.specs.Calls.{allow_on}
 use Rattle.overlay_direct.specs.Calls.{push_on, delete_on, intern_on}
 use Rattle.overlay_store.specs.Calls.{handle_in}
-use Rattle.overlay_store.specs.declared.Handle.TheVariants as H
 use Rattle.overlay.proofs.Answers.{by_kept}
 use Rattle.overlay_store.proofs.Answers.{by_handle}
 use Rattle.overlay_direct.proofs.Answers.{push_refused, delete_refused, intern_refused, intern_taken}
@@ -48,8 +47,7 @@ use Rattle.overlay.proofs.Bounds.{meta_given}
 use Rattle.overlay.proofs.Decides.{decides}
 use Rattle.overlay_store.proofs.Keeps.{kept_as}
 use Rattle.overlay_direct.proofs.Keeps.{push_kept, delete_kept}
-use Rattle.reader.specs.declared.EventAnswer.TheVariants as E
-use Rattle.reader.specs.State.{State}
+use Rattle.reader.specs.State.{State, refusal_at}
 use Rattle.reader.specs.Event.{event_on, end_on}
 use Rattle.reader.specs.Means.{reader_of}
 use Rattle.reader.proofs.Answers.{by_answer, event_counts, end_keeps}
@@ -67,7 +65,7 @@ unfolding fits_signed
 given_id id h = lt-ltb _ _ (sfits_to_z {w = w64} (Fits-of_lt h)).sfits
 
 -- a handle that is answered was not refused 13
-is_held : (i : Interned) (n : ℕ) → handle_in i ≡ H.Is n → intern_accepted i ≡ true
+is_held : (i : Interned) (n : ℕ) → handle_in i ≡ Ok n → intern_accepted i ≡ true
 is_held (I.Held h) n e = refl
 is_held (I.New h) n e = refl
 is_held I.Full n e = no cc
@@ -159,8 +157,8 @@ module _ (refused : Bool) (l : Storage) (w : World) (acts : List (Act Bytes)) (g
 
   push_leaves : (id : ℤ) (x : Option (Record ℕ)) (n : ℕ) → (outcome w (Call.pushes id x)).world.readers n ≡ w.readers n
   unfolding outcome
-  push_leaves id none n = refl
-  push_leaves id (some r) n = refl
+  push_leaves id None n = refl
+  push_leaves id (Some r) n = refl
 
   push_adds : (k : Kind) (h : PushHead) (m : ArenaMeta) (parts : Bytes) → head_fits h ≡ true → meta_fits m ≡ true → all is_byte parts ≡ true
       → Adds (push_on k h m parts l.overlay).overlay (answer_of (pushes k h m parts) l)
@@ -186,7 +184,7 @@ module _ (refused : Bool) (l : Storage) (w : World) (acts : List (Act Bytes)) (g
       (λ r e. rw (e, intern_refused t l.overlay r e) (same_adds (call_of (interns t))))
 
   -- a refused event changes its stop mark alone, which its reader's meaning does not look at
-  refused_means : (line : Bytes) (s : State) (r : Refusal) (m : ℕ) → (event_on line s).answer ≡ E.Refused r m → ((event_on line s).state.overlay ≡ s.overlay) × (reader_of (event_on line s).state ≡ reader_of s)
+  refused_means : (line : Bytes) (s : State) (r : Refusal) (m : ℕ) → (event_on line s).answer ≡ Err (refusal_at r m) → ((event_on line s).state.overlay ≡ s.overlay) × (reader_of (event_on line s).state ≡ reader_of s)
   unfolding reader_of
   refused_means line s r m a =
       by_refused line s r m a (λ u k j e. (ap (λ (z : State). z.overlay) e, ap reader_of e)) (λ u t e. (ap (λ (z : State). z.overlay) e, ap reader_of e))

@@ -1,4 +1,5 @@
 -- What an overlay holds is what the texts that were taken in and the acts that were accepted come to. One act or one text more keeps that, whoever makes it: a direct call or a reader's event.
+use Rattle.std.specs.Prelude.{Err, Ok, Option}
 use Prim.Native.Nat.{ℕ}
 use mathlib.Core.Path.{◌≡◌, refl, sym, ◌∙◌, ap, subst}
 use mathlib.Core.Bool.{Bool, true, false}
@@ -17,9 +18,7 @@ use Rattle.text.specs.Check.{is_text}
 use Rattle.kind.specs.declared.Kind.{Kind}
 use Rattle.kind.specs.declared.Kind.TheVariants.{Node, Way, Relation}
 use Rattle.kind.proofs.Numbers.{by_kind}
-use Rattle.version_floor.specs.declared.Version.{Version}
 use Rattle.version_floor.specs.Version.{admit_of}
-use Rattle.version_floor.specs.declared.Admit.TheVariants.{Below}
 use Rattle.version_floor.proofs.Versions.{below_is}
 use Rattle.refusal.specs.declared.Refusal.TheVariants.{Regression}
 use Rattle.interner.specs.Texts.{text_of, take_in, no_texts, intern_accepted}
@@ -37,7 +36,6 @@ use Rattle.compact_legal.specs.Whole.{kept_bytes}
 use Rattle.listing_page.specs.Summary as Summary
 use Rattle.kind_store.specs.KindStore.{KindStore, known_version, checked, pushed, deleted, taken_in}
 use Rattle.kind_store.specs.WellFormed.{rows_in, WellFormed}
-use Rattle.kind_store.specs.declared.Kept.TheVariants.{Taken, Refused}
 use Rattle.kind_store.proofs.Answers.{push_regression, delete_regression}
 use Rattle.kind_store.proofs.Claims.{Narrow}
 use Rattle.kind_store.proofs.KindStores.{push_laid, push_arena, delete_laid, delete_arena}
@@ -123,7 +121,7 @@ module _ (refused : Bool) (o : Overlay) (held : List Bytes) (acts : List (Act By
 
   -- an accepted push of a legal record
   module _ (k : Kind) (x : KeptRecord) (fits : fits_kept k x ≡ true) (lawful : legal o.texts.strings x.held ≡ true)
-      (taken : (pushed k o.setting (kind_store_of k o) x.id (claim_of x.held.meta) (kept_bytes x)).answer ≡ Taken) where
+      (taken : (pushed k o.setting (kind_store_of k o) x.id (claim_of x.held.meta) (kept_bytes x)).answer ≡ (Ok tt)) where
     pub reflects_push : Reflects refused (with_kind_store k (pushed k o.setting (kind_store_of k o) x.id (claim_of x.held.meta) (kept_bytes x)).kind_store o) held (acts ++ (push_of held x ∷ []))
     reflects_push =
         let strings = o.texts.strings in
@@ -140,7 +138,7 @@ module _ (refused : Bool) (o : Overlay) (held : List Bytes) (acts : List (Act By
         (rw l.rows (ranked_put x.id _ _ (signed_fits x.id i) (rows_in s) (w.ranks.rows k)))
 
   -- an accepted delete
-  module _ (k : Kind) (id : ℤ) (claim : Version) (fits : fits_signed w64 id ≡ true) (narrow : Narrow claim) (taken : (deleted k o.setting (kind_store_of k o) id claim).answer ≡ Taken) where
+  module _ (k : Kind) (id : ℤ) (claim : Option ℤ) (fits : fits_signed w64 id ≡ true) (narrow : Narrow claim) (taken : (deleted k o.setting (kind_store_of k o) id claim).answer ≡ (Ok tt)) where
     pub reflects_delete : Reflects refused (with_kind_store k (deleted k o.setting (kind_store_of k o) id claim).kind_store o) held (acts ++ (delete k id claim ∷ []))
     reflects_delete =
         let strings = o.texts.strings in
@@ -205,8 +203,8 @@ module _ (refused : Bool) (o : Overlay) (held : List Bytes) (acts : List (Act By
   ids_reflect key f = unnamed Summary.nothing acts key w.ids f
 
   -- T13: what the store refuses 12, where regression was refused throughout
-  module _ (z : refused ≡ true) (k : Kind) (id : ℤ) (fits : SFits w64 id) (claim : Version) (v : ℤ) where
-    regresses : (admit_of (known_version k (kind_store_of k o) id) claim ≡ Below v) ↔ Regresses acts (key_in k id) claim v
+  module _ (z : refused ≡ true) (k : Kind) (id : ℤ) (fits : SFits w64 id) (claim : Option ℤ) (v : ℤ) where
+    regresses : (admit_of (known_version k (kind_store_of k o) id) claim ≡ Err v) ↔ Regresses acts (key_in k id) claim v
     regresses =
         let h = (w.tells k).high z id fits in
         let b = below_is (known_version k (kind_store_of k o) id) claim v in (
@@ -215,20 +213,20 @@ module _ (refused : Bool) (o : Overlay) (held : List Bytes) (acts : List (Act By
         )
 
     -- an answer that is given where the check refuses
-    as_checked : (P : ℕ → Type 0) → P 0 ↔ (admit_of (known_version k (kind_store_of k o) id) claim ≡ Below v) → P o.setting ↔ Regresses acts (key_in k id) claim v
+    as_checked : (P : ℕ → Type 0) → P 0 ↔ (admit_of (known_version k (kind_store_of k o) id) claim ≡ Err v) → P o.setting ↔ Regresses acts (key_in k id) claim v
     as_checked P e =
-        let f = subst (λ (n : ℕ). P n ↔ (admit_of (known_version k (kind_store_of k o) id) claim ≡ Below v)) (sym (w.set z)) e in
+        let f = subst (λ (n : ℕ). P n ↔ (admit_of (known_version k (kind_store_of k o) id) claim ≡ Err v)) (sym (w.set z)) e in
         (λ x. regresses.0 (f.0 x), λ x. f.1 (regresses.1 x))
 
-    pub admit_regresses : (checked o.setting (known_version k (kind_store_of k o) id) claim ≡ Below v) ↔ Regresses acts (key_in k id) claim v
+    pub admit_regresses : (checked o.setting (known_version k (kind_store_of k o) id) claim ≡ Err v) ↔ Regresses acts (key_in k id) claim v
     unfolding checked
-    admit_regresses = as_checked (λ n. checked n (known_version k (kind_store_of k o) id) claim ≡ Below v) ((λ x. x, λ x. x))
+    admit_regresses = as_checked (λ n. checked n (known_version k (kind_store_of k o) id) claim ≡ Err v) ((λ x. x, λ x. x))
 
-    pub push_regresses : (bytes : Bytes) → ((pushed k o.setting (kind_store_of k o) id claim bytes).answer ≡ Refused (Regression v)) ↔ Regresses acts (key_in k id) claim v
-    push_regresses bytes = as_checked (λ n. (pushed k n (kind_store_of k o) id claim bytes).answer ≡ Refused (Regression v)) (push_regression k (kind_store_of k o) id claim bytes v)
+    pub push_regresses : (bytes : Bytes) → ((pushed k o.setting (kind_store_of k o) id claim bytes).answer ≡ Err (Regression v)) ↔ Regresses acts (key_in k id) claim v
+    push_regresses bytes = as_checked (λ n. (pushed k n (kind_store_of k o) id claim bytes).answer ≡ Err (Regression v)) (push_regression k (kind_store_of k o) id claim bytes v)
 
-    pub delete_regresses : ((deleted k o.setting (kind_store_of k o) id claim).answer ≡ Refused (Regression v)) ↔ Regresses acts (key_in k id) claim v
-    delete_regresses = as_checked (λ n. (deleted k n (kind_store_of k o) id claim).answer ≡ Refused (Regression v)) (delete_regression k (kind_store_of k o) id claim v)
+    pub delete_regresses : ((deleted k o.setting (kind_store_of k o) id claim).answer ≡ Err (Regression v)) ↔ Regresses acts (key_in k id) claim v
+    delete_regresses = as_checked (λ n. (deleted k n (kind_store_of k o) id claim).answer ≡ Err (Regression v)) (delete_regression k (kind_store_of k o) id claim v)
 
 -- ---- an empty overlay stands for no act
 
@@ -240,7 +238,7 @@ reflects_empty refused setting o set fit b = by_set_up o.sizes setting o (λ s e
     told Way = tells_nothing Way refused o.ways.table o.ways.arena no_texts
     told Relation = tells_nothing Relation refused o.relations.table o.relations.arena no_texts
 
-    go : (set_up o.sizes setting o).answer ≡ Taken → (set_up o.sizes setting o).overlay ≡ empty setting o → Reflects refused (empty setting o) no_texts []
+    go : (set_up o.sizes setting o).answer ≡ (Ok tt) → (set_up o.sizes setting o).overlay ≡ empty setting o → Reflects refused (empty setting o) no_texts []
     go e f =
         record {
           sound = subst Sound f (setup_sound o.sizes setting o (ap taken_in e));

@@ -1,8 +1,8 @@
 -- A sound kind store: it is fair, and at the place of each live row a legal record is read, whatever is appended behind it.
+use Rattle.std.specs.Prelude.{Some}
 use Prim.Native.Nat.{ℕ, ◌+◌, ◌^◌, ◌<◌, ◌≤◌}
 use mathlib.Core.Path.{◌≡◌, refl, sym, ◌∙◌, ap}
 use mathlib.Core.Bool.{true, not}
-use mathlib.Core.Option.{some}
 use native.Mathlib.Omega.{arith}
 use lib.ListN.{length, take, drop, length-append, length-drop}
 use lib.Seq.{length-take-le}
@@ -31,7 +31,7 @@ use Rattle.kind_sound.specs.Sound.{SoundKindStore, sound_row}
 use Rattle.listing.specs.Known.{held_in, record_in}
 
 -- what is read at a start of whole records is its record
-pub whole_read : (strings : ℕ) (k : Kind) (s : Bytes) (w : Whole strings k s) (at : ℕ) (x : KeptRecord) → record_at at w.kept ≡ some x → held_in (cut_record k (drop at s)) ≡ some x.held
+pub whole_read : (strings : ℕ) (k : Kind) (s : Bytes) (w : Whole strings k s) (at : ℕ) (x : KeptRecord) → record_at at w.kept ≡ Some x → held_in (cut_record k (drop at s)) ≡ Some x.held
 whole_read strings k s w at x h = rw (w.same, (record_there k at w.kept x w.fits h).1)
 
 pub kept_kind : (k : Kind) (x : KeptRecord) → fits_kept k x ≡ true → kind_of x.held.body ≡ k
@@ -40,23 +40,23 @@ kept_kind k x h = Numbers.same_yes (kind_of x.held.body) k (both_left _ _ h)
 
 module _ (strings : ℕ) (k : Kind) (s : KindStore) (w : SoundKindStore strings k s) where
   -- at the place of a live row a record starts
-  pub live_starts : (n : ℕ) (r : Row) → find n (rows_in s) ≡ some r → is_live r.place ≡ true → (x : KeptRecord) × (record_at r.place w.whole.kept ≡ some x)
+  pub live_starts : (n : ℕ) (r : Row) → find n (rows_in s) ≡ Some r → is_live r.place ≡ true → (x : KeptRecord) × (record_at r.place w.whole.kept ≡ Some x)
   unfolding sound_row
   live_starts n r e l =
       by_either (not (is_live r.place)) (starts_at (id_of r.rank) r.place w.whole.kept) (find_passes (sound_row w.whole.kept) n (rows_in s) r w.rows e)
       (λ t. clash (sym (ap not l) ∙ t) refl)
       (λ t. let y = start_is (id_of r.rank) r.place w.whole.kept t in (y.0, y.1.0))
 
-  pub record_read : (at : ℕ) (x : KeptRecord) → record_at at w.whole.kept ≡ some x → record_in k s at ≡ some x.held
+  pub record_read : (at : ℕ) (x : KeptRecord) → record_at at w.whole.kept ≡ Some x → record_in k s at ≡ Some x.held
   unfolding record_in
   record_read at x h = whole_read strings k (take s.used s.arena) w.whole at x h
 
-  pub record_legal : (at : ℕ) (x : KeptRecord) → record_at at w.whole.kept ≡ some x → legal strings x.held ≡ true
+  pub record_legal : (at : ℕ) (x : KeptRecord) → record_at at w.whole.kept ≡ Some x → legal strings x.held ≡ true
   record_legal at x h = record_passes (λ (x : KeptRecord). legal strings x.held) at w.whole.kept x w.whole.legals h
 
   module _ (b : all is_byte s.arena ≡ true) where
     -- a record ends within the used bytes
-    ends_within : (at : ℕ) (x : KeptRecord) → record_at at w.whole.kept ≡ some x → at + (head_len k + 29) ≤ s.used
+    ends_within : (at : ℕ) (x : KeptRecord) → record_at at w.whole.kept ≡ Some x → at + (head_len k + 29) ≤ s.used
     ends_within at x h =
         let y = record_there k at w.whole.kept x w.whole.fits h in
         let u = drop at (take s.used s.arena) in

@@ -1,4 +1,5 @@
 -- After a list of calls a reader is stopped exactly where one of its events was refused, while its count of lines is below its largest.
+use Rattle.std.specs.Prelude.{Ok}
 use Prim.Native.Nat.{ℕ, ◌+◌, ◌<◌}
 use mathlib.Core.Path.{◌≡◌, refl, ◌∙◌, ap}
 use mathlib.Core.Bool.{Bool, true, false, not}
@@ -11,7 +12,6 @@ use Rattle.base.proofs.Split.{by_eq, no, clash}
 use Rattle.base.proofs.Lists.{all_head, all_tail}
 use Rattle.model.specs.Act.{Act}
 use Rattle.acts.specs.Call.{World, world_after, acts_from, lines_read}
-use Rattle.reader.specs.declared.EventAnswer.TheVariants as E
 use Rattle.reader.specs.State.{State, is_stopped, state_sound}
 use Rattle.reader.specs.Event.{event_on}
 use Rattle.reader.proofs.Answers.{answer_is, by_event, by_answer, event_counts, end_keeps}
@@ -36,7 +36,7 @@ either_assoc true b c = refl
 either_assoc false b c = refl
 
 -- an event: accepted, its reader was not stopped and is not; refused, its reader is stopped
-going_before : (line : Bytes) (s : State) → (event_on line s).answer ≡ E.Accepted → is_stopped s.reader.stop ≡ false
+going_before : (line : Bytes) (s : State) → (event_on line s).answer ≡ Ok tt → is_stopped s.reader.stop ≡ false
 going_before line s a =
     by_event line s (λ u w. let z = answer_is w a in no (cc)) (λ r n u g t w. let z = answer_is w a in no (cc)) (λ r u g f w. let z = answer_is w a in no (cc)) (λ l u g f w. g)
 

@@ -1,8 +1,8 @@
 -- What a kind store tells is what the accepted acts on its kind come to: an accepted push, an accepted delete, an act on another kind and a text taken in keep that.
+use Rattle.std.specs.Prelude.{Ok, Option, Some}
 use Prim.Native.Nat.{ℕ, ◌+◌, ◌<◌}
 use mathlib.Core.Path.{◌≡◌, refl, sym, ◌∙◌, ap}
 use mathlib.Core.Bool.{Bool, true, false, cond}
-use mathlib.Core.Option.{some}
 use mathlib.Core.List.{List, [], ◌∷◌, ◌++◌}
 use native.Mathlib.Omega.{arith}
 use lib.IntN.{ℤ}
@@ -18,7 +18,6 @@ use Rattle.kind.proofs.Numbers as Numbers
 use Rattle.osm_id.specs.Order.{rank}
 use Rattle.osm_id.proofs.Orders.{rank_injective}
 use Rattle.version_floor.specs.Version.{higher}
-use Rattle.version_floor.specs.declared.Version.{Version}
 use Rattle.interner.specs.Texts.{text_of}
 use Rattle.model.specs.Record.{Meta, Body, place, refs, members, kind_of, claim_of}
 use Rattle.model.specs.Act.{Act, Key, push, delete, key_of, claimed_by, left_by}
@@ -37,7 +36,6 @@ use Rattle.listing_page.specs.Summary as Summary
 use Rattle.listing_page.proofs.Tables.{known_more}
 use Rattle.kind_store.specs.KindStore.{KindStore, kind_store_with, known_version, pushed, deleted}
 use Rattle.kind_store.specs.WellFormed.{WellFormed}
-use Rattle.kind_store.specs.declared.Kept.TheVariants.{Taken}
 use Rattle.kind_store.proofs.Claims.{Narrow}
 use Rattle.kind_store.proofs.KindStores.{known_none, push_used, push_raises, push_other, delete_used, delete_raises, delete_other}
 use Rattle.kind_sound.specs.Sound.{SoundKindStore}
@@ -69,7 +67,7 @@ module _ (acts : List (Act Bytes)) (a : Act Bytes) (key : Key) where
 module _ (k : Kind) (refused : Bool) (s t : KindStore) (held : List Bytes) (acts : List (Act Bytes)) (a : Act Bytes) (id : ℤ) (fits : SFits w64 id) (own : key_in k id ≡ key_of a) where
   -- what holds of its own id and of the others makes what holds of all
   tells_on : Tells k refused s held acts → t.used ≡ s.used + pushed_by k a
-      → last_of k t (text_of held) id ≡ some (left_by a)
+      → last_of k t (text_of held) id ≡ Some (left_by a)
       → ((other : ℤ) → (rank other ≡ rank id → ⊥) → last_of k t (text_of held) other ≡ last_of k s (text_of held) other)
       → (refused ≡ true → known_version k t id ≡ higher (known_version k s id) (claimed_by a))
       → ((other : ℤ) → (rank other ≡ rank id → ⊥) → known_version k t other ≡ known_version k s other)
@@ -136,7 +134,7 @@ unfolding record_bytes
 kept_parts k x h = rw (kept_kind k x h)
 
 bytes_raise : (k : Kind) (setting : ℕ) (s : KindStore) (id : ℤ) (h : Head) (m : Meta ℕ) (parts bytes : Bytes) → bytes ≡ head_bytes k h ++ meta_bytes m ++ parts → WellFormed k s → fits_meta m ≡ true
-    → (pushed k setting s id (claim_of m) bytes).answer ≡ Taken → setting ≡ 0 → known_version k (pushed k setting s id (claim_of m) bytes).kind_store id ≡ higher (known_version k s id) (claim_of m)
+    → (pushed k setting s id (claim_of m) bytes).answer ≡ (Ok tt) → setting ≡ 0 → known_version k (pushed k setting s id (claim_of m) bytes).kind_store id ≡ higher (known_version k s id) (claim_of m)
 bytes_raise k setting s id h m parts bytes e well_formed f taken z = rw e (push_raises k setting s id h m parts well_formed f (rw e at taken) z)
 
 -- the act that a push of a record is, where these texts are held
@@ -148,7 +146,7 @@ push_key k held x fits = ap (λ (j : Kind). key_in j x.id) (sym (kept_kind k x f
 
 module _ (strings : ℕ) (k : Kind) (refused : Bool) (setting : ℕ) (s : KindStore) (held : List Bytes) (acts : List (Act Bytes)) (w : SoundKindStore strings k s) (well_formed : WellFormed k s) (told : Tells k refused s held acts) where
   module _ (x : KeptRecord) (fits : fits_kept k x ≡ true) (lawful : legal strings x.held ≡ true)
-      (taken : (pushed k setting s x.id (claim_of x.held.meta) (kept_bytes x)).answer ≡ Taken) where
+      (taken : (pushed k setting s x.id (claim_of x.held.meta) (kept_bytes x)).answer ≡ (Ok tt)) where
     own_used : (pushed k setting s x.id (claim_of x.held.meta) (kept_bytes x)).kind_store.used ≡ s.used + pushed_by k (push_of held x)
     own_used =
         rw (push_used k setting s x.id (claim_of x.held.meta) (kept_bytes x) taken, body_kind (text_of held) x.held.body, kept_kind k x fits, Numbers.same_refl k, record_length_lem (text_of held) x.id x.held)
@@ -167,7 +165,7 @@ module _ (strings : ℕ) (k : Kind) (refused : Bool) (setting : ℕ) (s : KindSt
 
   -- ---- an accepted delete
 
-  pub tells_delete : (id : ℤ) (claim : Version) → SFits w64 id → Narrow claim → (deleted k setting s id claim).answer ≡ Taken
+  pub tells_delete : (id : ℤ) (claim : Option ℤ) → SFits w64 id → Narrow claim → (deleted k setting s id claim).answer ≡ (Ok tt)
       → Tells k refused (deleted k setting s id claim).kind_store held (acts ++ (delete k id claim ∷ []))
   tells_delete id claim f n taken =
       let t = (deleted k setting s id claim).kind_store in

@@ -1,10 +1,10 @@
 -- T7 to T10 and T13 over lists of calls, refused ones included: `intern`, direct pushes and deletes, events and ends of any readers, the regression setting, on an overlay that
 -- starts empty, whatever its sizes. The acts are those of the calls and their replies.
+use Rattle.std.specs.Prelude.{Err, Ok, Some}
 use Prim.Native.Nat.{ℕ, ◌+◌, ◌^◌, ◌<◌}
 use mathlib.Core.Path.{◌≡◌, refl, ◌∙◌, ap}
 use mathlib.Core.Bool.{Bool, true, false}
 use mathlib.Core.Logic.{◌↔◌}
-use mathlib.Core.Option.{some}
 use mathlib.Core.List.{List, []}
 use native.Mathlib.Omega.{arith}
 use native.Mathlib.Nat.{zero-add}
@@ -26,12 +26,10 @@ use Rattle.compact.specs.Legal.{legal_meta}
 use Rattle.compact.specs.declared.ArenaMeta.{ArenaMeta}
 use Rattle.compact.specs.declared.PushHead.{PushHead}
 use Rattle.compact_legal.specs.Judge.{fault_for}
-use Rattle.compact_legal.specs.declared.Fault.TheVariants as F
 use Rattle.interner.specs.Texts.{handle_of, take_in}
 use Rattle.interner.specs.Sound.{texts_of}
 use Rattle.listing_page.specs.Summary as Summary
 use Rattle.kind_store.specs.KindStore as KindStore
-use Rattle.kind_store.specs.declared.Kept.TheVariants.{Taken, Refused}
 use Rattle.event_fields.specs.Field.{got}
 use Rattle.acts.specs.Turn.{Turn, turn}
 use Rattle.acts.specs.Call.{begin, world_after, acts_of, lines_read}
@@ -41,14 +39,12 @@ use Rattle.overlay.specs.Given.{InBytes, head_fits}
 use Rattle.overlay.specs.Sound.{is_sound}
 use Rattle.overlay.specs.Calls.{OverlayAfter, set_up}
 use Rattle.overlay_direct.specs.Calls.{push_on, delete_on, intern_on}
-use Rattle.overlay_store.specs.declared.Handle.TheVariants as H
 use Rattle.overlay_direct.proofs.Answers.{push_store, delete_store}
 use Rattle.overlay.proofs.Answers.{by_set_up, by_allow}
 use Rattle.overlay.proofs.Bounds.{id_given}
 use Rattle.overlay.proofs.Decides.{decides}
 use Rattle.overlay_direct.proofs.Keeps.{intern_kept}
-use Rattle.reader.specs.declared.EventAnswer.TheVariants as E
-use Rattle.reader.specs.State.{is_stopped}
+use Rattle.reader.specs.State.{is_stopped, refusal_at}
 use Rattle.reader.specs.Given.{StateGiven}
 use Rattle.reader.specs.Event.{event_on}
 use Rattle.reader.proofs.Keeps.{fresh_ready, fresh_means, ready_sound}
@@ -61,7 +57,7 @@ use Rattle.calls.proofs.Stops.{stopped_calls}
 use Rattle.calls.proofs.Lists.{Agrees, agrees_fine, agrees_calls, lines_counted}
 
 -- set-up with the overlay's sizes leaves what the calls start with
-pub set_up_starts : (setting : ℕ) (o : Overlay) → sizes_fit largest o ≡ true → (parts : ℕ → Bytes) → set_up o.sizes setting o ≡ record { overlay = (started setting o parts).overlay; answer = Taken }
+pub set_up_starts : (setting : ℕ) (o : Overlay) → sizes_fit largest o ≡ true → (parts : ℕ → Bytes) → set_up o.sizes setting o ≡ record { overlay = (started setting o parts).overlay; answer = (Ok tt) }
 set_up_starts setting o sizes parts = by_set_up o.sizes setting o (λ s e. clash sizes s) (λ s e. e)
 
 module _ (setting : ℕ) (o : Overlay) (sizes : sizes_fit largest o ≡ true) (lent : InBytes o) (parts : ℕ → Bytes) (room : PartsGiven parts) where
@@ -106,8 +102,8 @@ module _ (setting : ℕ) (o : Overlay) (sizes : sizes_fit largest o ≡ true) (l
     pub texts_held : texts_of (storage_after setting o parts cs).overlay.texts ≡ (world_after begin (replies setting o parts cs)).texts
     texts_held = agrees_after.overlay.texts
 
-    pub handle_next : (t : Bytes) (n : ℕ) → (intern_on t (storage_after setting o parts cs).overlay).answer ≡ H.Is n
-        → handle_of t (take_in (world_after begin (replies setting o parts cs)).texts t) ≡ some n
+    pub handle_next : (t : Bytes) (n : ℕ) → (intern_on t (storage_after setting o parts cs).overlay).answer ≡ Ok n
+        → handle_of t (take_in (world_after begin (replies setting o parts cs)).texts t) ≡ Some n
     handle_next t n e = let k = intern_kept t (storage_after setting o parts cs).overlay n e in rw (← texts_held, ← k.texts) k.place
 
     -- T8: the used bytes are those of the accepted pushes
@@ -133,8 +129,8 @@ module _ (o : Overlay) (sizes : sizes_fit largest o ≡ true) (lent : InBytes o)
 
   -- T13: an act that passes the earlier checks is refused 12 exactly where its version is below the highest, and the refusal names the highest
   pub regression_push : (k : Kind) (h : PushHead) (m : ArenaMeta) (bytes : Bytes) → head_fits h ≡ true
-      → fault_for (storage_after 0 o parts cs).overlay.texts.strings (pushed_record k (head_in k h) (meta_of m) bytes) ≡ F.Legal → (v : ℤ)
-      → ((push_on k h m bytes (storage_after 0 o parts cs).overlay).answer ≡ Refused (Regression v))
+      → fault_for (storage_after 0 o parts cs).overlay.texts.strings (pushed_record k (head_in k h) (meta_of m) bytes) ≡ (Ok tt) → (v : ℤ)
+      → ((push_on k h m bytes (storage_after 0 o parts cs).overlay).answer ≡ Err (Regression v))
       ↔ Regresses (acts_of (replies 0 o parts cs)) (record { kind = k; id = to_z w64 h.id }) (claim_of (meta_of m)) v
   regression_push k h m bytes f l v =
       let q = (storage_after 0 o parts cs).overlay in
@@ -142,7 +138,7 @@ module _ (o : Overlay) (sizes : sizes_fit largest o ≡ true) (lent : InBytes o)
       rw e (push_regresses _ q _ _ agrees.overlay throughout k (to_z w64 h.id) (id_given h f) (claim_of (meta_of m)) v _)
 
   pub regression_delete : (k : Kind) (id : ℕ) (m : ArenaMeta) → id < 2 ^ 64 → legal_meta (storage_after 0 o parts cs).overlay.texts.strings (meta_of m) ≡ true → (v : ℤ)
-      → ((delete_on k (to_z w64 id) (meta_of m) (storage_after 0 o parts cs).overlay).answer ≡ Refused (Regression v))
+      → ((delete_on k (to_z w64 id) (meta_of m) (storage_after 0 o parts cs).overlay).answer ≡ Err (Regression v))
       ↔ Regresses (acts_of (replies 0 o parts cs)) (record { kind = k; id = to_z w64 id }) (claim_of (meta_of m)) v
   regression_delete k id m f l v =
       let q = (storage_after 0 o parts cs).overlay in
@@ -152,8 +148,8 @@ module _ (o : Overlay) (sizes : sizes_fit largest o ≡ true) (lent : InBytes o)
   -- and so is an act that a reader's event makes, at the line that is one more than those that the reader has taken, unless one of its events was refused before or the count
   -- of its lines is at its largest
   pub regression_event : (n : ℕ) (line : Bytes) (t : Turn) (a : Act Bytes) → stopped_in n (replies 0 o parts cs) ≡ false
-      → length (lines_read n (replies 0 o parts cs)) < 18446744073709551615 → turn line ((world_after begin (replies 0 o parts cs)).readers n) ≡ got t → t.act ≡ some a → (v : ℤ)
-      → ((event_on line (state_of n (storage_after 0 o parts cs))).answer ≡ E.Refused (Regression v) (length (lines_read n (replies 0 o parts cs)) + 1))
+      → length (lines_read n (replies 0 o parts cs)) < 18446744073709551615 → turn line ((world_after begin (replies 0 o parts cs)).readers n) ≡ got t → t.act ≡ Some a → (v : ℤ)
+      → ((event_on line (state_of n (storage_after 0 o parts cs))).answer ≡ Err (refusal_at (Regression v) (length (lines_read n (replies 0 o parts cs)) + 1)))
       ↔ Regresses (acts_of (replies 0 o parts cs)) (key_of a) (claimed_by a) v
   regression_event n line t a never below h k v =
       let s = state_of n (storage_after 0 o parts cs) in

@@ -1,6 +1,8 @@
 -- Condition 3: "Each gets its own list of these calls, refused ones included: intern, direct push, direct delete, a reader's event, a reader's end". And the regression setting.
 -- The calls as they are made: "Each call gets the overlay, and each event or end its reader, as last left; readers begin fresh, anywhere in a list."
-use Rattle.std.specs.Prelude.{ℕ, ◌≡◌, Bool, true, false, not, cond, List, [], ◌∷◌, eqb, ltb, length}
+use Rattle.reader.specs.declared.RefusedAt.{RefusedAt}
+use Rattle.refusal.specs.declared.Refusal.{Refusal}
+use Rattle.std.specs.Prelude.{ℕ, ◌≡◌, Bool, true, false, not, cond, List, [], ◌∷◌, eqb, ltb, length, Err, Ok, Result}
 use Rattle.std.specs.Int.{w64}
 use Rattle.std.proofs.Common.{to_z}
 use Rattle.base.specs.Bytes.{Bytes, both, either, all}
@@ -15,11 +17,7 @@ use Rattle.overlay.specs.Overlay.{Overlay, empty}
 use Rattle.overlay.specs.Given.{head_fits, meta_fits}
 use Rattle.overlay.specs.Calls.{allow_on}
 use Rattle.overlay_direct.specs.Calls.{push_on, delete_on, intern_on}
-use Rattle.overlay_store.specs.declared.Handle.{Handle}
-use Rattle.overlay_store.specs.declared.Handle.TheVariants as H
 use Rattle.reader.specs.declared.EventReader.{EventReader}
-use Rattle.reader.specs.declared.EventAnswer.{EventAnswer}
-use Rattle.reader.specs.declared.EventAnswer.TheVariants as E
 use Rattle.reader.specs.State.{State, fresh_reader}
 use Rattle.reader.specs.Event.{event_on, end_on}
 use Rattle.acts.specs.Call.{Call, Answered}
@@ -70,13 +68,13 @@ with_overlay o l = record { overlay = o; readers = l.readers; parts = l.parts }
 -- ---- one call: what it leaves, and whether its reply accepted it
 
 -- "accepted unless refused": of a push, a delete or the setting by `taken_in`
-abbrev pub handled : Handle → Bool
-handled (H.Is h) = true
-handled (H.Refused r) = false
+abbrev pub handled : Result ℕ Refusal → Bool
+handled (Ok h) = true
+handled (Err r) = false
 
-abbrev pub event_taken : EventAnswer → Bool
-event_taken E.Accepted = true
-event_taken (E.Refused r n) = false
+abbrev pub event_taken : Result Unit RefusedAt → Bool
+event_taken (Ok tt) = true
+event_taken (Err a) = false
 
 abbrev pub leaves : Ask → Storage → Storage
 leaves (interns t) l = with_overlay (intern_on t l.overlay).overlay l

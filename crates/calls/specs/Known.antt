@@ -1,11 +1,9 @@
 -- Of the accepted acts: when a version is below the highest claimed, and the bytes that pushes took.
-use Rattle.std.specs.Prelude.{ℕ, ◌+◌, ◌*◌, ◌≡◌, true, cond, List, [], ◌∷◌, ℤ, length}
+use Rattle.std.specs.Prelude.{ℕ, ◌+◌, ◌*◌, ◌≡◌, true, cond, List, [], ◌∷◌, ℤ, length, Option, Some}
 use Rattle.std.specs.Int.Signed.{lt_z}
 use Rattle.base.specs.Bytes.{Bytes}
 use Rattle.kind.specs.Kind.{same_kind}
 use Rattle.kind.specs.declared.Kind.{Kind}
-use Rattle.version_floor.specs.declared.Version.{Version}
-use Rattle.version_floor.specs.declared.Version.TheVariants.{Is}
 use Rattle.model.specs.Record.{Record, Body, place, refs, members, Tag, kind_of}
 use Rattle.model.specs.Act.{Act, Key, push, delete}
 use Rattle.compact.specs.Layout.{head_len}
@@ -13,10 +11,10 @@ use Rattle.listing_page.specs.Summary.{Known}
 use Rattle.listing_page.specs.Summary as Summary
 
 -- "its version is below the highest that accepted acts claimed for its kind and id": a claim, and the highest
-pub record Regresses (acts : List (Act Bytes)) (key : Key) (claim : Version) (highest : ℤ) : Type 0 where
+pub record Regresses (acts : List (Act Bytes)) (key : Key) (claim : Option ℤ) (highest : ℤ) : Type 0 where
   pub version : ℤ
-  pub claims : claim ≡ Is version
-  pub known : (Summary.known acts key).high ≡ Is highest
+  pub claims : claim ≡ Some version
+  pub known : (Summary.known acts key).high ≡ Some highest
   pub below : lt_z version highest ≡ true
 
 -- ---- "Used arena bytes are the lengths of all accepted pushes."

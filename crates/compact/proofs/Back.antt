@@ -1,8 +1,9 @@
 -- What is read from a record is what was appended: head, metadata, each ref, each member and each tag, field by field and by a user's readers and steps.
+use Rattle.std.specs.Prelude.{Option, Some}
+use Rattle.base.specs.Options.{bind}
 use Prim.Native.Nat.{ℕ, zero, suc, ◌+◌, ◌-◌, ◌*◌, ◌^◌, ◌<◌, ◌≤◌}
 use mathlib.Core.Path.{◌≡◌, refl, ap}
 use mathlib.Core.Bool.{Bool, true}
-use mathlib.Core.Option.{Option, some, bind}
 use mathlib.Core.List.{List, [], ◌∷◌, ◌++◌, append_assoc}
 use native.Mathlib.Omega.{arith}
 use native.Mathlib.Nat.{zero-add, add-zero, add-suc, suc-add}
@@ -105,9 +106,9 @@ head_back id (members ms) n s r h e = counts_back id (length ms) n s r h e
 
 module _ {A : Type 0} (s : Bytes) (f : ℕ → Option A) (bytes : A → Bytes) (fits : A → Bool) (width base : ℕ)
     (long : (a : A) → length (bytes a) ≡ width)
-    (here : (i : ℕ) (a : A) (r : Bytes) → fits a ≡ true → drop (base + width * i) s ≡ bytes a ++ r → f i ≡ some a) where
+    (here : (i : ℕ) (a : A) (r : Bytes) → fits a ≡ true → drop (base + width * i) s ≡ bytes a ++ r → f i ≡ Some a) where
   -- the j-th of those that begin with number i
-  element : (xs : List A) (i j : ℕ) (d : A) (r : Bytes) → all fits xs ≡ true → drop (base + width * i) s ≡ joined_bytes bytes xs ++ r → j < length xs → f (i + j) ≡ some (get_or xs j d)
+  element : (xs : List A) (i j : ℕ) (d : A) (r : Bytes) → all fits xs ≡ true → drop (base + width * i) s ≡ joined_bytes bytes xs ++ r → j < length xs → f (i + j) ≡ Some (get_or xs j d)
   unfolding joined_bytes
   element [] i j d r h e l = absurd (omega arith)
   element (x ∷ xs) i zero d r h e l = rw add-zero (here i x _ (all_head fits x xs h) (rw append_assoc at e))
@@ -116,11 +117,11 @@ module _ {A : Type 0} (s : Bytes) (f : ℕ → Option A) (bytes : A → Bytes) (
       let n = later width (base + width * suc i) (long x) (omega arith) w in
       rw (add-suc, ← suc-add) (element xs (suc i) j d r (all_tail fits x xs h) n.is (omega arith))
 
-ref_back : (s : Bytes) (i : ℕ) (z : ℤ) (r : Bytes) → fits_signed w64 z ≡ true → drop (45 + 8 * i) s ≡ i64 z ++ r → ◌≡◌ {A = Option ℤ} (some (to_z w64 (ref_at s i))) (some z)
+ref_back : (s : Bytes) (i : ℕ) (z : ℤ) (r : Bytes) → fits_signed w64 z ≡ true → drop (45 + 8 * i) s ≡ i64 z ++ r → ◌≡◌ {A = Option ℤ} (Some (to_z w64 (ref_at s i))) (Some z)
 unfolding ref_at
 ref_back s i z r h e = let w : Lie s (45 + 8 * i) (i64 z ∷ []) r = record { is = e } in rw (i64_at z h w)
 
-member_back : (s : Bytes) (i : ℕ) (m : Member ℕ) (r : Bytes) → fits_member m ≡ true → drop (45 + 13 * i) s ≡ member_bytes m ++ r → member_held (member_at s i) ≡ some m
+member_back : (s : Bytes) (i : ℕ) (m : Member ℕ) (r : Bytes) → fits_member m ≡ true → drop (45 + 13 * i) s ≡ member_bytes m ++ r → member_held (member_at s i) ≡ Some m
 unfolding member_held member_at member_bytes fits_member
 member_back s i m r h e =
     let w1 : Lie s (45 + 13 * i) (i64 m.ref ∷ le 1 (kind_number m.type) ∷ u32 m.role ∷ []) r = record { is = simp append_assoc at e } in
@@ -128,15 +129,15 @@ member_back s i m r h e =
     let w3 = later 1 (45 + 13 * i + 9) (length_le 1 _) (omega arith) w2 in
     rw (i64_at m.ref (both_left _ _ h) w1, number_at 1 (kind_number m.type) (type_fits m.type) w2, number_at 4 m.role (both_right _ _ h) w3, number_back m.type)
 
-refs_back : (s : Bytes) (rs : List ℤ) (r : Bytes) → all (fits_signed w64) rs ≡ true → drop 45 s ≡ joined_bytes i64 rs ++ r → (i : ℕ) → i < length rs → some (to_z w64 (ref_at s i)) ≡ some (get_or rs i (pos 0))
-refs_back s rs r h e i l = rw zero-add at (element s (λ i. some (to_z w64 (ref_at s i))) i64 (fits_signed w64) 8 45 length_i64 (ref_back s) rs 0 i (pos 0) r h e l)
+refs_back : (s : Bytes) (rs : List ℤ) (r : Bytes) → all (fits_signed w64) rs ≡ true → drop 45 s ≡ joined_bytes i64 rs ++ r → (i : ℕ) → i < length rs → Some (to_z w64 (ref_at s i)) ≡ Some (get_or rs i (pos 0))
+refs_back s rs r h e i l = rw zero-add at (element s (λ i. Some (to_z w64 (ref_at s i))) i64 (fits_signed w64) 8 45 length_i64 (ref_back s) rs 0 i (pos 0) r h e l)
 
-members_back : (s : Bytes) (ms : List (Member ℕ)) (r : Bytes) → all fits_member ms ≡ true → drop 45 s ≡ joined_bytes member_bytes ms ++ r → (i : ℕ) (d : Member ℕ) → i < length ms → member_held (member_at s i) ≡ some (get_or ms i d)
+members_back : (s : Bytes) (ms : List (Member ℕ)) (r : Bytes) → all fits_member ms ≡ true → drop 45 s ≡ joined_bytes member_bytes ms ++ r → (i : ℕ) (d : Member ℕ) → i < length ms → member_held (member_at s i) ≡ Some (get_or ms i d)
 members_back s ms r h e i d l = rw zero-add at (element s (λ i. member_held (member_at s i)) member_bytes fits_member 13 45 length_member (member_back s) ms 0 i d r h e l)
 
 -- ---- heads and metadata, by a user's readers
 
-head_read_lem : (id : ℤ) (b : Body ℕ) (n : ℕ) (s r : Bytes) → fits_head (kind_of b) (head_of id b n) ≡ true → s ≡ head_bytes (kind_of b) (head_of id b n) ++ r → head_read (kind_of b) s ≡ some (head_of id b n)
+head_read_lem : (id : ℤ) (b : Body ℕ) (n : ℕ) (s r : Bytes) → fits_head (kind_of b) (head_of id b n) ≡ true → s ≡ head_bytes (kind_of b) (head_of id b n) ++ r → head_read (kind_of b) s ≡ Some (head_of id b n)
 unfolding head_read node_read way_read relation_read node_bits way_bits relation_bits node_head way_head relation_head counts_head fits_head head_of
 head_read_lem id (place lat lon) n s r h e =
     let h2 = both_right _ _ h in let h3 = both_right _ _ h2 in
@@ -144,7 +145,7 @@ head_read_lem id (place lat lon) n s r h e =
 head_read_lem id (refs rs) n s r h e = rw (e, head_cut id n r (refs rs) h, (signed_again w64 8 refl id (both_left _ _ h)).0)
 head_read_lem id (members ms) n s r h e = rw (e, head_cut id n r (members ms) h, (signed_again w64 8 refl id (both_left _ _ h)).0)
 
-meta_read_lem : (s : Bytes) (at : ℕ) (m : Meta ℕ) (r : Bytes) → fits_meta m ≡ true → drop at s ≡ meta_bytes m ++ r → meta_given (meta_read s at) ≡ some m
+meta_read_lem : (s : Bytes) (at : ℕ) (m : Meta ℕ) (r : Bytes) → fits_meta m ≡ true → drop at s ≡ meta_bytes m ++ r → meta_given (meta_read s at) ≡ Some m
 unfolding meta_read meta_bits meta_of fits_meta
 meta_read_lem s at m r h1 e =
     let h2 = both_right _ _ h1 in let h3 = both_right _ _ h2 in let h4 = both_right _ _ h3 in let h5 = both_right _ _ h4 in
@@ -178,7 +179,7 @@ value_at_lem s at t r e =
 module _ {A : Type 0} (s : Bytes) (f : ℕ → ℕ → ReadStep A) (bytes : A → Bytes) (fits : A → Bool)
     (last : (at : ℕ) → f at 0 ≡ done)
     (here : (at n : ℕ) (a : A) (r : Bytes) → at ≤ length s → fits a ≡ true → drop at s ≡ bytes a ++ r → f at (suc n) ≡ yields a (length s - length r)) where
-  steps_back : (xs : List A) (at : ℕ) (r : Bytes) → at ≤ length s → all fits xs ≡ true → drop at s ≡ joined_bytes bytes xs ++ r → steps_from f at (length xs) ≡ some xs
+  steps_back : (xs : List A) (at : ℕ) (r : Bytes) → at ≤ length s → all fits xs ≡ true → drop at s ≡ joined_bytes bytes xs ++ r → steps_from f at (length xs) ≡ Some xs
   unfolding steps_from joined_bytes
   steps_back [] at r l h e = rw (last at)
   steps_back (x ∷ xs) at r l h e =
@@ -214,15 +215,15 @@ module _ (s : Bytes) where
       let q : at + 8 + length t.value ≡ length s - length r = omega arith in
       rw (step_some _ _ _ _ s at (suc n) (more n) t r c, p, q, value_at_lem s at t r e)
 
-  refs_from_lem : (rs : List ℤ) (at : ℕ) (r : Bytes) → at ≤ length s → all (fits_signed w64) rs ≡ true → drop at s ≡ joined_bytes i64 rs ++ r → refs_from s at (length rs) ≡ some rs
+  refs_from_lem : (rs : List ℤ) (at : ℕ) (r : Bytes) → at ≤ length s → all (fits_signed w64) rs ≡ true → drop at s ≡ joined_bytes i64 rs ++ r → refs_from s at (length rs) ≡ Some rs
   unfolding refs_from ref_step
   refs_from_lem = steps_back s (λ o m. ref_given (ref_step s o m)) i64 (fits_signed w64) (λ at. rw (step_done _ _ _ _ s at 0 refl)) ref_here
 
-  members_from_lem : (ms : List (Member ℕ)) (at : ℕ) (r : Bytes) → at ≤ length s → all fits_member ms ≡ true → drop at s ≡ joined_bytes member_bytes ms ++ r → members_from s at (length ms) ≡ some ms
+  members_from_lem : (ms : List (Member ℕ)) (at : ℕ) (r : Bytes) → at ≤ length s → all fits_member ms ≡ true → drop at s ≡ joined_bytes member_bytes ms ++ r → members_from s at (length ms) ≡ Some ms
   unfolding members_from member_step
   members_from_lem = steps_back s (λ o m. member_given (member_step s o m)) member_bytes fits_member (λ at. rw (step_done _ _ _ _ s at 0 refl)) member_here
 
-  tags_from_lem : (ts : List (Tag ℕ)) (at : ℕ) (r : Bytes) → at ≤ length s → all (λ t. both (fits_tag t) (is_text t.value)) ts ≡ true → drop at s ≡ joined_bytes tag_bytes ts ++ r → tags_from s at (length ts) ≡ some ts
+  tags_from_lem : (ts : List (Tag ℕ)) (at : ℕ) (r : Bytes) → at ≤ length s → all (λ t. both (fits_tag t) (is_text t.value)) ts ≡ true → drop at s ≡ joined_bytes tag_bytes ts ++ r → tags_from s at (length ts) ≡ Some ts
   unfolding tags_from tag_step
   tags_from_lem = steps_back s (λ o m. tag_given s (tag_step s o m)) tag_bytes (λ t. both (fits_tag t) (is_text t.value)) (λ at. rw (step_done _ _ _ _ s at 0 refl)) tag_here
 
@@ -231,7 +232,7 @@ all_both p q [] g h = all_nil (λ x. both (p x) (q x))
 all_both p q (x ∷ xs) g h =
     all_cons (λ x. both (p x) (q x)) x xs (both_of (all_head p x xs g) (all_head q x xs h)) (all_both p q xs (all_tail p x xs g) (all_tail q x xs h))
 
-body_read_lem : (id : ℤ) (b : Body ℕ) (n : ℕ) (s r : Bytes) → fits_body b ≡ true → head_len (kind_of b) + 29 ≤ length s → drop (head_len (kind_of b) + 29) s ≡ body_bytes b ++ r → body_read (kind_of b) (head_of id b n) s ≡ some b
+body_read_lem : (id : ℤ) (b : Body ℕ) (n : ℕ) (s r : Bytes) → fits_body b ≡ true → head_len (kind_of b) + 29 ≤ length s → drop (head_len (kind_of b) + 29) s ≡ body_bytes b ++ r → body_read (kind_of b) (head_of id b n) s ≡ Some b
 unfolding body_read tags_at head_of body_bytes fits_body
 body_read_lem id (place lat lon) n s r h l e = refl
 body_read_lem id (refs rs) n s r h l e = rw (refs_from_lem s rs 45 r l h e)
@@ -253,7 +254,7 @@ refs_of (refs xs) s r h e rs i q l = let z : xs ≡ rs = cc in let x = refs_back
 refs_of (members ms) s r h e rs i q l = no cc
 
 members_of : (b : Body ℕ) (s r : Bytes) → fits_body b ≡ true → drop (head_len (kind_of b) + 29) s ≡ body_bytes b ++ r
-    → (ms : List (Member ℕ)) (i : ℕ) (d : Member ℕ) → b ≡ members ms → i < length ms → member_held (member_at s i) ≡ some (get_or ms i d)
+    → (ms : List (Member ℕ)) (i : ℕ) (d : Member ℕ) → b ≡ members ms → i < length ms → member_held (member_at s i) ≡ Some (get_or ms i d)
 unfolding fits_body body_bytes
 members_of (place lat lon) s r h e ms i d q l = no cc
 members_of (refs rs) s r h e ms i d q l = no cc
@@ -264,17 +265,17 @@ pub record Found (id : ℤ) (r : Record ℕ) (s : Bytes) : Type 0 where
   pub head : head_at (kind_of r.body) s ≡ head_of id r.body (length r.tags)
   pub meta : meta_of (meta_at s (head_len (kind_of r.body))) ≡ r.meta
   pub refs_at : (rs : List ℤ) (i : ℕ) → r.body ≡ refs rs → i < length rs → to_z w64 (ref_at s i) ≡ get_or rs i (pos 0)
-  pub members_at : (ms : List (Member ℕ)) (i : ℕ) (d : Member ℕ) → r.body ≡ members ms → i < length ms → member_held (member_at s i) ≡ some (get_or ms i d)
-  pub head_read_lem : head_read (kind_of r.body) s ≡ some (head_of id r.body (length r.tags))
-  pub meta_read_lem : meta_given (meta_read s (head_len (kind_of r.body))) ≡ some r.meta
-  pub body_read_lem : body_read (kind_of r.body) (head_of id r.body (length r.tags)) s ≡ some r.body
-  pub tags : tags_from s (tags_at (kind_of r.body) (head_of id r.body (length r.tags)).count) (length r.tags) ≡ some r.tags
-  pub whole : read_record (kind_of r.body) s ≡ some (record { id = id; held = r })
+  pub members_at : (ms : List (Member ℕ)) (i : ℕ) (d : Member ℕ) → r.body ≡ members ms → i < length ms → member_held (member_at s i) ≡ Some (get_or ms i d)
+  pub head_read_lem : head_read (kind_of r.body) s ≡ Some (head_of id r.body (length r.tags))
+  pub meta_read_lem : meta_given (meta_read s (head_len (kind_of r.body))) ≡ Some r.meta
+  pub body_read_lem : body_read (kind_of r.body) (head_of id r.body (length r.tags)) s ≡ Some r.body
+  pub tags : tags_from s (tags_at (kind_of r.body) (head_of id r.body (length r.tags)).count) (length r.tags) ≡ Some r.tags
+  pub whole : read_record (kind_of r.body) s ≡ Some (record { id = id; held = r })
 
-all_of_it : (id : ℤ) (r : Record ℕ) (s : Bytes) → head_read (kind_of r.body) s ≡ some (head_of id r.body (length r.tags)) → meta_given (meta_read s (head_len (kind_of r.body))) ≡ some r.meta
-    → body_read (kind_of r.body) (head_of id r.body (length r.tags)) s ≡ some r.body
-    → tags_from s (tags_at (kind_of r.body) (head_of id r.body (length r.tags)).count) (length r.tags) ≡ some r.tags
-    → read_record (kind_of r.body) s ≡ some (record { id = id; held = r })
+all_of_it : (id : ℤ) (r : Record ℕ) (s : Bytes) → head_read (kind_of r.body) s ≡ Some (head_of id r.body (length r.tags)) → meta_given (meta_read s (head_len (kind_of r.body))) ≡ Some r.meta
+    → body_read (kind_of r.body) (head_of id r.body (length r.tags)) s ≡ Some r.body
+    → tags_from s (tags_at (kind_of r.body) (head_of id r.body (length r.tags)).count) (length r.tags) ≡ Some r.tags
+    → read_record (kind_of r.body) s ≡ Some (record { id = id; held = r })
 unfolding read_record bind
 all_of_it id r s hd m b t = rw (hd, m, b, head_tags id r.body (length r.tags), t, head_id id r.body (length r.tags))
 

@@ -1,8 +1,8 @@
 -- Each part of a record, and the record: what is written is cut off again, and what is cut off was written.
+use Rattle.std.specs.Prelude.{None, Option, Some}
 use Prim.Native.Nat.{ℕ, zero, suc}
 use mathlib.Core.Path.{◌≡◌, refl, ◌∙◌, ap}
 use mathlib.Core.Bool.{true}
-use mathlib.Core.Option.{Option, none, some}
 use mathlib.Core.List.{[], ◌∷◌, ◌++◌, append_assoc, append-nil}
 use lib.IntN.{ℤ}
 use lib.ListN.{length}
@@ -42,7 +42,7 @@ meta_back m r h1 =
       (number 4).back m.user _ (both_right _ _ h5),
     ))
 
-meta_forth : (s : Bytes) (c : Cut (Meta ℕ)) → all is_byte s ≡ true → cut_meta s ≡ some c → (s ≡ meta_bytes c.item ++ c.rest) × (fits_meta c.item ≡ true)
+meta_forth : (s : Bytes) (c : Cut (Meta ℕ)) → all is_byte s ≡ true → cut_meta s ≡ Some c → (s ≡ meta_bytes c.item ++ c.rest) × (fits_meta c.item ≡ true)
 unfolding cut_meta meta_bytes fits_meta
 meta_forth s c b h =
     begin (number 1) b h (λ o1. begin i32_format o1.small o1.then (λ o2. begin i64_format o2.small o2.then (λ o3.
@@ -63,7 +63,7 @@ member_back m r h =
     (rw (i64_format.back m.ref _ (both_left _ _ h), (number 1).back (kind_number m.type) _ (type_fits m.type), (number 4).back m.role _ (both_right _ _ h), kind_back m.type))
 
 -- a type byte that names a kind is the kind's
-member_ends : (ref : ℤ) (n role : ℕ) {s r : Bytes} {c : Cut (Member ℕ)} → member_as ref (of_number n) role r ≡ some c → Starts s (i64 ref ++ le 1 n ++ u32 role) r
+member_ends : (ref : ℤ) (n role : ℕ) {s r : Bytes} {c : Cut (Member ℕ)} → member_as ref (of_number n) role r ≡ Some c → Starts s (i64 ref ++ le 1 n ++ u32 role) r
     → both (fits_signed w64 ref) (fits_number 4 role) ≡ true → (s ≡ member_bytes c.item ++ c.rest) × (fits_member c.item ≡ true)
 unfolding of_number member_bytes fits_member
 member_ends ref zero role h p q = ends fits_member member_bytes h p q
@@ -71,7 +71,7 @@ member_ends ref (suc zero) role h p q = ends fits_member member_bytes h p q
 member_ends ref (suc (suc zero)) role h p q = ends fits_member member_bytes h p q
 member_ends ref (suc (suc (suc n))) role h p q = no cc
 
-member_forth : (s : Bytes) (c : Cut (Member ℕ)) → all is_byte s ≡ true → cut_member s ≡ some c → (s ≡ member_bytes c.item ++ c.rest) × (fits_member c.item ≡ true)
+member_forth : (s : Bytes) (c : Cut (Member ℕ)) → all is_byte s ≡ true → cut_member s ≡ Some c → (s ≡ member_bytes c.item ++ c.rest) × (fits_member c.item ≡ true)
 unfolding cut_member
 member_forth s c b h =
     begin i64_format b h (λ o1. begin (number 1) o1.small o1.then (λ o2. begin (number 4) o2.small o2.then (λ o3.
@@ -88,7 +88,7 @@ tag_back t r h =
     simp append_assoc
     (rw ((number 4).back t.key _ (both_left _ _ h), (number 4).back (length t.value) _ (both_right _ _ h), bytes_back (length t.value) t.value r refl))
 
-tag_forth : (s : Bytes) (c : Cut (Tag ℕ)) → all is_byte s ≡ true → cut_tag s ≡ some c → (s ≡ tag_bytes c.item ++ c.rest) × (fits_tag c.item ≡ true)
+tag_forth : (s : Bytes) (c : Cut (Tag ℕ)) → all is_byte s ≡ true → cut_tag s ≡ Some c → (s ≡ tag_bytes c.item ++ c.rest) × (fits_tag c.item ≡ true)
 unfolding cut_tag tag_bytes fits_tag
 tag_forth s c b h =
     begin (number 4) b h (λ o1. begin (number 4) o1.small o1.then (λ o2.
@@ -118,13 +118,13 @@ module _ (id : ℤ) (tags : ℕ) (r : Bytes) where
 
 counts_forth : (k : Kind) → ((h : Head) → head_bytes k h ≡ i64 h.id ++ u32 h.count ++ u32 h.tags)
     → ((h : Head) → fits_head k h ≡ both (fits_signed w64 h.id) (both (fits_number 4 h.count) (fits_number 4 h.tags)))
-    → (s : Bytes) (c : Cut Head) → all is_byte s ≡ true → cut_counts s ≡ some c → (s ≡ head_bytes k c.item ++ c.rest) × (fits_head k c.item ≡ true)
+    → (s : Bytes) (c : Cut Head) → all is_byte s ≡ true → cut_counts s ≡ Some c → (s ≡ head_bytes k c.item ++ c.rest) × (fits_head k c.item ≡ true)
 unfolding cut_counts
 counts_forth k e f s c b h =
     begin i64_format b h (λ o1. begin (number 4) o1.small o1.then (λ o2. begin (number 4) o2.small o2.then (λ o3.
     ends (fits_head k) (head_bytes k) o3.then (rw (e _) (glue (glue o1.here o2.here) o3.here)) (rw (f _) (both_of o1.fit (both_of o2.fit o3.fit))))))
 
-pub head_forth : (k : Kind) (s : Bytes) (c : Cut Head) → all is_byte s ≡ true → cut_head k s ≡ some c → (s ≡ head_bytes k c.item ++ c.rest) × (fits_head k c.item ≡ true)
+pub head_forth : (k : Kind) (s : Bytes) (c : Cut Head) → all is_byte s ≡ true → cut_head k s ≡ Some c → (s ≡ head_bytes k c.item ++ c.rest) × (fits_head k c.item ≡ true)
 unfolding cut_head head_bytes fits_head
 head_forth Node s c b h =
     begin i64_format b h (λ o1. begin i32_format o1.small o1.then (λ o2. begin i32_format o2.small o2.then (λ o3. begin (number 4) o3.small o3.then (λ o4.
@@ -149,7 +149,7 @@ pub record Cuts (k : Kind) (h : Head) (s : Bytes) (b : Body ℕ) (r : Bytes) : T
   pub head : head_bytes (kind_of b) (head_of h.id b h.tags) ≡ head_bytes k h
   pub head_fits : fits_head (kind_of b) (head_of h.id b h.tags) ≡ fits_head k h
 
-body_forth : (k : Kind) (h : Head) (s : Bytes) (c : Cut (Body ℕ)) → all is_byte s ≡ true → cut_body k h s ≡ some c → Cuts k h s c.item c.rest
+body_forth : (k : Kind) (h : Head) (s : Bytes) (c : Cut (Body ℕ)) → all is_byte s ≡ true → cut_body k h s ≡ Some c → Cuts k h s c.item c.rest
 unfolding cut_body body_bytes fits_body head_of head_bytes fits_head
 body_forth Node h s c b e = of_cut (Cuts Node h s) e (record { here = record { is = refl }; fit = refl; kind = refl; head = refl; head_fits = refl })
 body_forth Way h s c b e =
@@ -191,7 +191,7 @@ pub record Parts (k : Kind) (h : Head) (m : Meta ℕ) (s : Bytes) (r : Record �
   pub head_fits : fits_head (kind_of r.body) (head_of h.id r.body (length r.tags)) ≡ fits_head k h
   pub meta : r.meta ≡ m
 
-pub parts_forth : (k : Kind) (h : Head) (m : Meta ℕ) (s : Bytes) (c : Cut (Record ℕ)) → all is_byte s ≡ true → cut_parts k h m s ≡ some c → Parts k h m s c.item c.rest
+pub parts_forth : (k : Kind) (h : Head) (m : Meta ℕ) (s : Bytes) (c : Cut (Record ℕ)) → all is_byte s ≡ true → cut_parts k h m s ≡ Some c → Parts k h m s c.item c.rest
 unfolding cut_parts parts_bytes
 parts_forth k h m s c b e =
     first (Cuts k h s) (λ x. body_forth k h s x b) e (λ a r w t. begin (list tag_format h.tags) (small_rest w.here b) t (λ o.
@@ -228,7 +228,7 @@ pub together : {k : Kind} {h : Head} {m : Meta ℕ} {s : Bytes} {r : Record ℕ}
 unfolding record_bytes fitting
 together w f g = (rw (w.head, w.meta), both_of (w.head_fits ∙ f) (both_of (rw w.meta g) w.fit))
 
-record_forth : (k : Kind) (s : Bytes) (c : Cut KeptRecord) → all is_byte s ≡ true → cut_record k s ≡ some c → (s ≡ record_bytes c.item.id c.item.held ++ c.rest) × (fits_kept k c.item ≡ true)
+record_forth : (k : Kind) (s : Bytes) (c : Cut KeptRecord) → all is_byte s ≡ true → cut_record k s ≡ Some c → (s ≡ record_bytes c.item.id c.item.held ++ c.rest) × (fits_kept k c.item ≡ true)
 unfolding cut_record fits_kept
 record_forth k s c b e =
     first (λ h r. (s ≡ head_bytes k h ++ r) × (fits_head k h ≡ true)) (λ x. head_forth k s x b) e (λ h r x t.
@@ -248,26 +248,26 @@ record_format k = record { back = kept_back k; forth = record_forth k }
 -- ---- a direct push
 
 pub pushed_back : (id : ℤ) (r : Record ℕ) → both (fits_body r.body) (all fits_tag r.tags) ≡ true
-    → pushed_record (kind_of r.body) (head_of id r.body (length r.tags)) r.meta (parts_bytes r) ≡ some r
+    → pushed_record (kind_of r.body) (head_of id r.body (length r.tags)) r.meta (parts_bytes r) ≡ Some r
 unfolding pushed_record
 pushed_back id r h = let e = parts_back id r [] h in rw append-nil at (ap whole e)
 
 -- what is pushed is a record's parts up to the last byte
-pub pushed : (k : Kind) (h : Head) (m : Meta ℕ) (parts : Bytes) (r : Record ℕ) → all is_byte parts ≡ true → pushed_record k h m parts ≡ some r → Parts k h m parts r []
+pub pushed : (k : Kind) (h : Head) (m : Meta ℕ) (parts : Bytes) (r : Record ℕ) → all is_byte parts ≡ true → pushed_record k h m parts ≡ Some r → Parts k h m parts r []
 unfolding pushed_record
 pushed k h m parts r b e = go (cut_parts k h m parts) refl e
   where
-    used_up_lem : (x : Record ℕ) (q : Bytes) → used_up x q ≡ some r → Parts k h m parts x q → Parts k h m parts r []
+    used_up_lem : (x : Record ℕ) (q : Bytes) → used_up x q ≡ Some r → Parts k h m parts x q → Parts k h m parts r []
     used_up_lem x [] e w = let z : x ≡ r = cc in rw (← z) w
     used_up_lem x (b ∷ q) e w = no cc
 
-    go : (o : Option (Cut (Record ℕ))) → cut_parts k h m parts ≡ o → whole o ≡ some r → Parts k h m parts r []
-    go none t e = no cc
-    go (some c) t e = used_up_lem c.item c.rest e (parts_forth k h m parts c b t)
+    go : (o : Option (Cut (Record ℕ))) → cut_parts k h m parts ≡ o → whole o ≡ Some r → Parts k h m parts r []
+    go None t e = no cc
+    go (Some c) t e = used_up_lem c.item c.rest e (parts_forth k h m parts c b t)
 
 -- the bytes that a direct push appends are its record's
 pub pushed_bytes : (k : Kind) (h : Head) (m : Meta ℕ) (parts : Bytes) (r : Record ℕ) → all is_byte parts ≡ true → fits_head k h ≡ true → fits_meta m ≡ true
-    → pushed_record k h m parts ≡ some r → (head_bytes k h ++ meta_bytes m ++ parts ≡ record_bytes h.id r) × (fitting h.id r ≡ true)
+    → pushed_record k h m parts ≡ Some r → (head_bytes k h ++ meta_bytes m ++ parts ≡ record_bytes h.id r) × (fitting h.id r ≡ true)
 pushed_bytes k h m parts r b f g e =
     let w = pushed k h m parts r b e in
     let p : parts ≡ parts_bytes r = rw append-nil at w.here.is in

@@ -1,8 +1,8 @@
 -- A format: what is written is cut off again, and what is cut off was written. Formats of numbers, of runs of bytes and of counted lists.
+use Rattle.std.specs.Prelude.{None, Option, Some}
 use Prim.Native.Nat.{ℕ, zero, suc, ◌^◌, ◌<◌, ◌≤◌}
 use mathlib.Core.Path.{◌≡◌, refl, sym, ◌∙◌, ap, subst}
 use mathlib.Core.Bool.{Bool, true}
-use mathlib.Core.Option.{Option, none, some}
 use mathlib.Core.List.{List, [], ◌∷◌, ◌++◌, append-nil, append_assoc}
 use native.Mathlib.Omega.{arith}
 use lib.Dec.{eqb}
@@ -24,7 +24,7 @@ use Rattle.compact.specs.Fits.{fits_number, fits_signed}
 
 pub record Format {A : Type 0} (fits : A → Bool) (bytes : A → Bytes) (cut : Bytes → Option (Cut A)) : Type 0 where
   pub back : (a : A) (r : Bytes) → fits a ≡ true → cut (bytes a ++ r) ≡ found a r
-  pub forth : (s : Bytes) (c : Cut A) → all is_byte s ≡ true → cut s ≡ some c → (s ≡ bytes c.item ++ c.rest) × (fits c.item ≡ true)
+  pub forth : (s : Bytes) (c : Cut A) → all is_byte s ≡ true → cut s ≡ Some c → (s ≡ bytes c.item ++ c.rest) × (fits c.item ≡ true)
 
 -- ---- one part after another
 
@@ -41,13 +41,13 @@ small_rest {s} {x} {r} p b = all_right is_byte x r (rw (← p.is) b)
 
 -- a part that was cut off, of which P is known, and the parts after it
 pub first : {A B C : Type 0} (P : A → Bytes → Type 0) {o : Option (Cut A)} {g : A → Bytes → Option (Cut B)} {c : Cut B}
-    → ((x : Cut A) → o ≡ some x → P x.item x.rest) → then_cut o g ≡ some c → ((a : A) (r : Bytes) → P a r → g a r ≡ some c → C) → C
+    → ((x : Cut A) → o ≡ Some x → P x.item x.rest) → then_cut o g ≡ Some c → ((a : A) (r : Bytes) → P a r → g a r ≡ Some c → C) → C
 unfolding then_cut
 first {A} {B} {C} P {o} {g} {c} f h k = go o refl h
   where
-    go : (x : Option (Cut A)) → o ≡ x → then_cut x g ≡ some c → C
-    go none e t = no cc
-    go (some a) e t = k a.item a.rest (f a e) t
+    go : (x : Option (Cut A)) → o ≡ x → then_cut x g ≡ Some c → C
+    go None e t = no cc
+    go (Some a) e t = k a.item a.rest (f a e) t
 
 -- the same of a format
 pub record Begun {A B : Type 0} (fits : A → Bool) (bytes : A → Bytes) (g : A → Bytes → Option (Cut B)) (s : Bytes) (c : Cut B) : Type 0 where
@@ -56,26 +56,26 @@ pub record Begun {A B : Type 0} (fits : A → Bool) (bytes : A → Bytes) (g : A
   pub here : Starts s (bytes item) rest
   pub fit : fits item ≡ true
   pub small : all is_byte rest ≡ true
-  pub then : g item rest ≡ some c
+  pub then : g item rest ≡ Some c
 
 module _ {A B C : Type 0} {fits : A → Bool} {bytes : A → Bytes} {cut : Bytes → Option (Cut A)} where
-  pub begin : Format fits bytes cut → {g : A → Bytes → Option (Cut B)} {s : Bytes} {c : Cut B} → all is_byte s ≡ true → then_cut (cut s) g ≡ some c
+  pub begin : Format fits bytes cut → {g : A → Bytes → Option (Cut B)} {s : Bytes} {c : Cut B} → all is_byte s ≡ true → then_cut (cut s) g ≡ Some c
       → (Begun fits bytes g s c → C) → C
   begin f {g} {s} {c} b h k =
       first (λ a r. (s ≡ bytes a ++ r) × (fits a ≡ true)) (λ x e. f.forth s x b e) h
       (λ a r x t. k (record { item = a; rest = r; here = record { is = x.0 }; fit = x.1; small = all_right is_byte (bytes a) r (rw (← x.0) b); then = t }))
 
 -- what was found last
-pub of_cut : {A : Type 0} (P : A → Bytes → Type 0) {a : A} {r : Bytes} {c : Cut A} → found a r ≡ some c → P a r → P c.item c.rest
+pub of_cut : {A : Type 0} (P : A → Bytes → Type 0) {a : A} {r : Bytes} {c : Cut A} → found a r ≡ Some c → P a r → P c.item c.rest
 of_cut {A} P {a} {r} {c} h p = let e : ◌≡◌ {A = Cut A} (record { item = a; rest = r }) c = cc in subst (λ (x : Cut A). P x.item x.rest) e p
 
-pub ends : {A : Type 0} (fits : A → Bool) (bytes : A → Bytes) {s : Bytes} {a : A} {r : Bytes} {c : Cut A} → found a r ≡ some c → Starts s (bytes a) r → fits a ≡ true
+pub ends : {A : Type 0} (fits : A → Bool) (bytes : A → Bytes) {s : Bytes} {a : A} {r : Bytes} {c : Cut A} → found a r ≡ Some c → Starts s (bytes a) r → fits a ≡ true
     → (s ≡ bytes c.item ++ c.rest) × (fits c.item ≡ true)
 ends fits bytes {s} h p q = of_cut (λ a r. (s ≡ bytes a ++ r) × (fits a ≡ true)) h (p.is, q)
 
 -- ---- bytes and numbers
 
-pub cut_short : (n : ℕ) (s : Bytes) → length s < n → cut_bytes n s ≡ none
+pub cut_short : (n : ℕ) (s : Bytes) → length s < n → cut_bytes n s ≡ None
 unfolding cut_bytes
 cut_short n s h = rw (lt-leb n (length s) h)
 
@@ -87,20 +87,20 @@ pub bytes_back : (n : ℕ) (t r : Bytes) → length t ≡ n → cut_bytes n (t +
 bytes_back n t r e =
     rw (← e) (cut_whole (length t) (t ++ r) (omega (arith, length-append t r)) ∙ rw (take-append_seam t r, drop-append_seam t r))
 
-pub bytes_forth : (n : ℕ) (s : Bytes) (c : Cut Bytes) → cut_bytes n s ≡ some c → (s ≡ c.item ++ c.rest) × (length c.item ≡ n)
+pub bytes_forth : (n : ℕ) (s : Bytes) (c : Cut Bytes) → cut_bytes n s ≡ Some c → (s ≡ c.item ++ c.rest) × (length c.item ≡ n)
 bytes_forth n s c h =
     by_le n (length s)
-    (λ l. let e : found (take n s) (drop n s) ≡ some c = sym (cut_whole n s l) ∙ h in
+    (λ l. let e : found (take n s) (drop n s) ≡ Some c = sym (cut_whole n s l) ∙ h in
     let p : take n s ≡ c.item = cc in
     let q : drop n s ≡ c.rest = cc in
     (rw (← p, ← q) (sym (take-append-drop n s)), rw (← p) (length-take-le n s l)))
-    (λ l. let e : none ≡ some c = sym (cut_short n s l) ∙ h in no cc)
+    (λ l. let e : None ≡ Some c = sym (cut_short n s l) ∙ h in no cc)
 
 number_back : (n v : ℕ) (r : Bytes) → fits_number n v ≡ true → cut_number n (le n v ++ r) ≡ found v r
 unfolding cut_number then_cut fits_number
 number_back n v r h = rw (bytes_back n (le n v) r (length_le n v), value_back n v (ltb-true v (256 ^ n) h))
 
-number_forth : (n : ℕ) (s : Bytes) (c : Cut ℕ) → all is_byte s ≡ true → cut_number n s ≡ some c → (s ≡ le n c.item ++ c.rest) × (fits_number n c.item ≡ true)
+number_forth : (n : ℕ) (s : Bytes) (c : Cut ℕ) → all is_byte s ≡ true → cut_number n s ≡ Some c → (s ≡ le n c.item ++ c.rest) × (fits_number n c.item ≡ true)
 unfolding cut_number fits_number
 number_forth n s c b h =
     first (λ t r. (s ≡ t ++ r) × (length t ≡ n)) (bytes_forth n s) h (λ t r x e.
@@ -121,7 +121,7 @@ module _ {A B : Type 0} {fits : A → Bool} {bytes : A → Bytes} {cut : Bytes �
   unfolding then_cut
   as_back b r h = let g = again b h in rw (f.back (of b) r g.1, g.0)
 
-  as_forth : (s : Bytes) (c : Cut B) → all is_byte s ≡ true → then_cut (cut s) (λ a q. found (to a) q) ≡ some c → (s ≡ bytes (of c.item) ++ c.rest) × (fits_b c.item ≡ true)
+  as_forth : (s : Bytes) (c : Cut B) → all is_byte s ≡ true → then_cut (cut s) (λ a q. found (to a) q) ≡ Some c → (s ≡ bytes (of c.item) ++ c.rest) × (fits_b c.item ≡ true)
   as_forth s c b h =
       begin f b h (λ o. let g = there o.item o.fit in ends fits_b (λ b. bytes (of b)) o.then (record { is = rw g.0 o.here.is }) g.1)
 
@@ -178,7 +178,7 @@ module _ {A : Type 0} {fits : A → Bool} {bytes : A → Bytes} {cut : Bytes →
   times_again : (n : ℕ) (xs : List A) (r : Bytes) → counted fits n xs ≡ true → times cut n (joined_bytes bytes xs ++ r) ≡ found xs r
   times_again n xs r h = let k = counted_is fits n xs h in rw (← k.0) (times_back xs r k.1)
 
-  times_forth : (n : ℕ) (s : Bytes) (c : Cut (List A)) → all is_byte s ≡ true → times cut n s ≡ some c → (s ≡ joined_bytes bytes c.item ++ c.rest) × (counted fits n c.item ≡ true)
+  times_forth : (n : ℕ) (s : Bytes) (c : Cut (List A)) → all is_byte s ≡ true → times cut n s ≡ Some c → (s ≡ joined_bytes bytes c.item ++ c.rest) × (counted fits n c.item ≡ true)
   unfolding times joined_bytes counted
   times_forth zero s c b h = ends (counted fits 0) (joined_bytes bytes) h (record { is = refl }) (counted_of fits [] (all_nil fits))
   times_forth (suc n) s c b h =

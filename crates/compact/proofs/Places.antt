@@ -1,7 +1,7 @@
 -- What is cut off the bytes from a place on: how far it goes, and what stands there.
+use Rattle.std.specs.Prelude.{None, Option, Some}
 use Prim.Native.Nat.{ℕ, zero, suc, ◌+◌, ◌-◌, ◌<◌, ◌≤◌}
 use mathlib.Core.Path.{◌≡◌, refl, sym, ◌∙◌, ap}
-use mathlib.Core.Option.{Option, none, some}
 use mathlib.Core.List.{List, [], ◌∷◌}
 use native.Mathlib.Omega.{arith}
 use lib.IntN.{ℤ, pos}
@@ -15,8 +15,6 @@ use Rattle.little.specs.Little.{value_at}
 use Rattle.kind.specs.Kind.{of_number}
 use Rattle.kind.specs.declared.Kind.{Kind}
 use Rattle.kind.specs.declared.Kind.TheVariants.{Node, Way, Relation}
-use Rattle.kind.specs.declared.Named.{Named}
-use Rattle.kind.specs.declared.Named.TheVariants.{Is, Unknown}
 use Rattle.model.specs.Record.{Member, Tag}
 use Rattle.compact.specs.Layout.{head_len}
 use Rattle.compact.specs.Cut.{Cut, then_cut, found, cut_bytes, cut_number, cut_i32, cut_i64, times, cut_meta, member_as, cut_member, cut_tag, cut_counts, cut_head}
@@ -52,32 +50,32 @@ off_end s at {r} {n} h a =
 
 -- ---- how far each cut goes
 
-pub bytes_off : (n : ℕ) (s : Bytes) (c : Cut Bytes) → cut_bytes n s ≡ some c → Off s n c.rest × (length c.item ≡ n)
+pub bytes_off : (n : ℕ) (s : Bytes) (c : Cut Bytes) → cut_bytes n s ≡ Some c → Off s n c.rest × (length c.item ≡ n)
 bytes_off n s c h =
     by_le n (length s)
     (λ l. of_cut (λ t r. Off s n r × (length t ≡ n)) (sym (cut_whole n s l) ∙ h) (record { fits = l; is = refl }, length-take-le n s l))
-    (λ l. let e : none ≡ some c = sym (cut_short n s l) ∙ h in no cc)
+    (λ l. let e : None ≡ Some c = sym (cut_short n s l) ∙ h in no cc)
 
-pub number_off : (n : ℕ) (s : Bytes) (c : Cut ℕ) → cut_number n s ≡ some c → Off s n c.rest
+pub number_off : (n : ℕ) (s : Bytes) (c : Cut ℕ) → cut_number n s ≡ Some c → Off s n c.rest
 unfolding cut_number
 number_off n s c h =
     first (λ t r. Off s n r × (length t ≡ n)) (bytes_off n s) h (λ t r o e. of_cut (λ v q. Off s n q) e o.0)
 
-pub i64_off : (s : Bytes) (c : Cut ℤ) → cut_i64 s ≡ some c → Off s 8 c.rest
+pub i64_off : (s : Bytes) (c : Cut ℤ) → cut_i64 s ≡ Some c → Off s 8 c.rest
 unfolding cut_i64
 i64_off s c h = first (λ v r. Off s 8 r) (number_off 8 s) h (λ v r o e. of_cut (λ z q. Off s 8 q) e o)
 
-member_as_off : {s q : Bytes} {c : Cut (Member ℕ)} (ref : ℤ) (role : ℕ) (x : Named) → member_as ref x role q ≡ some c → Off s 13 q → Off s 13 c.rest
-member_as_off {s} ref role (Is k) e o = of_cut (λ m q. Off s 13 q) e o
-member_as_off ref role Unknown e o = no cc
+member_as_off : {s q : Bytes} {c : Cut (Member ℕ)} (ref : ℤ) (role : ℕ) (x : Option Kind) → member_as ref x role q ≡ Some c → Off s 13 q → Off s 13 c.rest
+member_as_off {s} ref role (Some k) e o = of_cut (λ m q. Off s 13 q) e o
+member_as_off ref role None e o = no cc
 
-pub member_off : (s : Bytes) (c : Cut (Member ℕ)) → cut_member s ≡ some c → Off s 13 c.rest
+pub member_off : (s : Bytes) (c : Cut (Member ℕ)) → cut_member s ≡ Some c → Off s 13 c.rest
 unfolding cut_member
 member_off s c h =
     first (λ v r. Off s 8 r) (i64_off s) h (λ ref s1 o1 h1. first (λ v r. Off s1 1 r) (number_off 1 s1) h1 (λ type s2 o2 h2.
     first (λ v r. Off s2 4 r) (number_off 4 s2) h2 (λ role q o3 h3. member_as_off ref role (of_number type) h3 (off_then (off_then o1 o2) o3))))
 
-pub tag_off : (s : Bytes) (c : Cut (Tag ℕ)) → cut_tag s ≡ some c → Off s (8 + length c.item.value) c.rest
+pub tag_off : (s : Bytes) (c : Cut (Tag ℕ)) → cut_tag s ≡ Some c → Off s (8 + length c.item.value) c.rest
 unfolding cut_tag
 tag_off s c h =
     first (λ v r. Off s 4 r) (number_off 4 s) h (λ key s1 o1 h1. first (λ v r. Off s1 4 r) (number_off 4 s1) h1 (λ n s2 o2 h2.
@@ -89,8 +87,8 @@ abbrev pub total : {A : Type 0} → (A → ℕ) → List A → ℕ
 total long [] = 0
 total long (x ∷ xs) = long x + total long xs
 
-module _ {A : Type 0} (cut : Bytes → Option (Cut A)) (long : A → ℕ) (off : (s : Bytes) (c : Cut A) → cut s ≡ some c → Off s (long c.item) c.rest) where
-  pub times_off : (n : ℕ) (s : Bytes) (c : Cut (List A)) → times cut n s ≡ some c → Off s (total long c.item) c.rest × (length c.item ≡ n)
+module _ {A : Type 0} (cut : Bytes → Option (Cut A)) (long : A → ℕ) (off : (s : Bytes) (c : Cut A) → cut s ≡ Some c → Off s (long c.item) c.rest) where
+  pub times_off : (n : ℕ) (s : Bytes) (c : Cut (List A)) → times cut n s ≡ Some c → Off s (total long c.item) c.rest × (length c.item ≡ n)
   unfolding times
   times_off zero s c h = of_cut (λ xs q. Off s (total long xs) q × (length xs ≡ 0)) h (off_none s, refl)
   times_off (suc n) s c h =
@@ -101,16 +99,16 @@ module _ {A : Type 0} (cut : Bytes → Option (Cut A)) (long : A → ℕ) (off :
 
 -- a part of n bytes, read from a place on; none where it is not what it should be
 abbrev pub leaving : {A : Type 0} → Option A → Bytes → Option (Cut A)
-leaving none r = none
-leaving (some a) r = found a r
+leaving None r = None
+leaving (Some a) r = found a r
 
 pub record Sized {A : Type 0} (cut : Bytes → Option (Cut A)) (n : ℕ) (to : Bytes → ℕ → Option A) : Type 0 where
   pub whole : (s : Bytes) (at : ℕ) → at + n ≤ length s → cut (drop at s) ≡ leaving (to s at) (drop (at + n) s)
-  pub short : (s : Bytes) (at : ℕ) → at ≤ length s → length s < at + n → cut (drop at s) ≡ none
+  pub short : (s : Bytes) (at : ℕ) → at ≤ length s → length s < at + n → cut (drop at s) ≡ None
 
 -- there is none where it would run past the end, from whatever place on
 pub sized_none : {A : Type 0} {cut : Bytes → Option (Cut A)} {n : ℕ} {to : Bytes → ℕ → Option A} → Sized cut n to → 0 < n
-    → (s : Bytes) (at : ℕ) → length s < at + n → cut (drop at s) ≡ none
+    → (s : Bytes) (at : ℕ) → length s < at + n → cut (drop at s) ≡ None
 sized_none f z s at h =
     by_le at (length s)
     (λ l. f.short s at l h)
@@ -120,7 +118,7 @@ sized_none f z s at h =
 pub next_is : (s : Bytes) (e : ℕ) → e ≤ length s → length s - length (drop e s) ≡ e
 next_is s e h = omega (arith, length-drop e s)
 
-pub number_sized : (n : ℕ) → Sized (cut_number n) n (λ s at. some (value_at n s at))
+pub number_sized : (n : ℕ) → Sized (cut_number n) n (λ s at. Some (value_at n s at))
 unfolding cut_number then_cut value_at
 number_sized n =
     record {
@@ -138,7 +136,7 @@ last_sized o =
 
 -- one part after the other
 module _ {A B : Type 0} {cut : Bytes → Option (Cut A)} {n m : ℕ} {to : Bytes → ℕ → A} {next : A → Bytes → Option (Cut B)} {on : A → Bytes → ℕ → Option B} where
-  pub then_sized : Sized cut n (λ s at. some (to s at)) → ((a : A) → Sized (next a) m (on a)) → Sized (λ s. then_cut (cut s) next) (n + m) (λ s at. on (to s at) s (at + n))
+  pub then_sized : Sized cut n (λ s at. Some (to s at)) → ((a : A) → Sized (next a) m (on a)) → Sized (λ s. then_cut (cut s) next) (n + m) (λ s at. on (to s at) s (at + n))
   unfolding then_cut
   then_sized f g =
       record {
@@ -149,23 +147,23 @@ module _ {A B : Type 0} {cut : Bytes → Option (Cut A)} {n m : ℕ} {to : Bytes
             (λ k. rw (f.short s at l k));
       }
 
-pub i32_sized : Sized cut_i32 4 (λ s at. some (to_z w32 (value_at 4 s at)))
+pub i32_sized : Sized cut_i32 4 (λ s at. Some (to_z w32 (value_at 4 s at)))
 unfolding cut_i32
-i32_sized = then_sized (number_sized 4) (λ v. last_sized (some (to_z w32 v)))
+i32_sized = then_sized (number_sized 4) (λ v. last_sized (Some (to_z w32 v)))
 
-pub i64_sized : Sized cut_i64 8 (λ s at. some (to_z w64 (value_at 8 s at)))
+pub i64_sized : Sized cut_i64 8 (λ s at. Some (to_z w64 (value_at 8 s at)))
 unfolding cut_i64
-i64_sized = then_sized (number_sized 8) (λ v. last_sized (some (to_z w64 v)))
+i64_sized = then_sized (number_sized 8) (λ v. last_sized (Some (to_z w64 v)))
 
-member_as_lem : (ref : ℤ) (x : Named) (role : ℕ) → Sized (member_as ref x role) 0 (λ s at. member_named ref x role)
-member_as_lem ref (Is k) role = last_sized (some (record { ref = ref; type = k; role = role }))
-member_as_lem ref Unknown role = last_sized none
+member_as_lem : (ref : ℤ) (x : Option Kind) (role : ℕ) → Sized (member_as ref x role) 0 (λ s at. member_named ref x role)
+member_as_lem ref (Some k) role = last_sized (Some (record { ref = ref; type = k; role = role }))
+member_as_lem ref None role = last_sized None
 
 pub member_sized : Sized cut_member 13 (λ s at. member_named (to_z w64 (value_at 8 s at)) (of_number (value_at 1 s (at + 8))) (value_at 4 s (at + 8 + 1)))
 unfolding cut_member
 member_sized = then_sized i64_sized (λ ref. then_sized (number_sized 1) (λ type. then_sized (number_sized 4) (λ role. member_as_lem ref (of_number type) role)))
 
-pub meta_sized : Sized cut_meta 29 (λ s at. some (record {
+pub meta_sized : Sized cut_meta 29 (λ s at. Some (record {
   flags = value_at 1 s at;
   version = to_z w32 (value_at 4 s (at + 1));
   timestamp = to_z w64 (value_at 8 s (at + 1 + 4));
@@ -177,7 +175,7 @@ unfolding cut_meta
 meta_sized =
     then_sized (number_sized 1) (λ flags. then_sized i32_sized (λ version. then_sized i64_sized (λ timestamp. then_sized i64_sized (λ changeset.
     then_sized i32_sized (λ uid. then_sized (number_sized 4) (λ user.
-    last_sized (some (record { flags = flags; version = version; timestamp = timestamp; changeset = changeset; uid = uid; user = user }))))))))
+    last_sized (Some (record { flags = flags; version = version; timestamp = timestamp; changeset = changeset; uid = uid; user = user }))))))))
 
 pub meta_there : (s : Bytes) (at : ℕ) → at + 29 ≤ length s → cut_meta (drop at s) ≡ found (meta_of (meta_at s at)) (drop (at + 29) s)
 unfolding meta_of meta_at
@@ -192,7 +190,7 @@ meta_there s at h =
 
 module _ (s : Bytes) (at : ℕ) where
   -- fewer than 8 bytes hold no tag
-  pub tag_short : length s < at + 8 → cut_tag (drop at s) ≡ none
+  pub tag_short : length s < at + 8 → cut_tag (drop at s) ≡ None
   unfolding cut_tag then_cut
   tag_short h =
       by_le (at + 4) (length s)
@@ -206,7 +204,7 @@ module _ (s : Bytes) (at : ℕ) where
         let e : at + 4 + 4 ≡ at + 8 = omega arith in
         rw ((number_sized 4).whole s at (omega arith), (number_sized 4).whole s (at + 4) (omega arith), e)
 
-    pub tag_long : (n : ℕ) → n ≡ value_at 4 s (at + 4) → length s < at + 8 + n → cut_tag (drop at s) ≡ none
+    pub tag_long : (n : ℕ) → n ≡ value_at 4 s (at + 4) → length s < at + 8 + n → cut_tag (drop at s) ≡ None
     unfolding then_cut
     tag_long n e h = rw (tag_value, ← e, cut_short n (drop (at + 8) s) (omega (arith, length-drop (at + 8) s)))
 
@@ -217,13 +215,13 @@ module _ (s : Bytes) (at : ℕ) where
 
 -- ---- heads
 
-pub counts_sized : Sized cut_counts 16 (λ s at. some (counts_head (value_at 8 s at) (value_at 4 s (at + 8)) (value_at 4 s (at + 8 + 4))))
+pub counts_sized : Sized cut_counts 16 (λ s at. Some (counts_head (value_at 8 s at) (value_at 4 s (at + 8)) (value_at 4 s (at + 8 + 4))))
 unfolding cut_counts counts_head
 counts_sized =
     then_sized i64_sized (λ id. then_sized (number_sized 4) (λ count. then_sized (number_sized 4) (λ tags.
-    last_sized (some (record { id = id; lat = pos 0; lon = pos 0; count = count; tags = tags })))))
+    last_sized (Some (record { id = id; lat = pos 0; lon = pos 0; count = count; tags = tags })))))
 
-pub place_sized : Sized (cut_head Node) 20 (λ s at. some (record {
+pub place_sized : Sized (cut_head Node) 20 (λ s at. Some (record {
   id = to_z w64 (value_at 8 s at);
   lat = to_z w32 (value_at 4 s (at + 8));
   lon = to_z w32 (value_at 4 s (at + 8 + 4));
@@ -233,7 +231,7 @@ pub place_sized : Sized (cut_head Node) 20 (λ s at. some (record {
 unfolding cut_head
 place_sized =
     then_sized i64_sized (λ id. then_sized i32_sized (λ lat. then_sized i32_sized (λ lon. then_sized (number_sized 4) (λ tags.
-    last_sized (some (record { id = id; lat = lat; lon = lon; count = 0; tags = tags }))))))
+    last_sized (Some (record { id = id; lat = lat; lon = lon; count = 0; tags = tags }))))))
 
 pub head_whole : (k : Kind) (s : Bytes) → head_len k ≤ length s → cut_head k s ≡ found (head_at k s) (drop (head_len k) s)
 unfolding cut_head head_at node_head node_at way_head way_at relation_head relation_at counts_head
@@ -241,7 +239,7 @@ head_whole Node s h = place_sized.whole s 0 h
 head_whole Way s h = counts_sized.whole s 0 h
 head_whole Relation s h = counts_sized.whole s 0 h
 
-pub head_short : (k : Kind) (s : Bytes) → length s < head_len k → cut_head k s ≡ none
+pub head_short : (k : Kind) (s : Bytes) → length s < head_len k → cut_head k s ≡ None
 unfolding cut_head
 head_short Node s h = place_sized.short s 0 (omega arith) h
 head_short Way s h = counts_sized.short s 0 (omega arith) h

@@ -1,8 +1,8 @@
 -- A walk over a record's tags: where it begins, that a tag which is yielded ends within the bytes, and that the walk stays where it was when none is.
+use Rattle.std.specs.Prelude.{Err, None, Ok, Option, Some}
 use Prim.Native.Nat.{ℕ, ◌+◌, ◌-◌, ◌≤◌, ◌<◌}
 use mathlib.Core.Path.{◌≡◌, refl, sym, ap, ◌∙◌}
 use mathlib.Core.Bool.{Bool, cond}
-use mathlib.Core.Option.{Option, none, some}
 use native.Mathlib.Omega.{arith}
 use lib.ListN.{length, drop, length-drop}
 use Rattle.base.specs.Bytes.{Bytes}
@@ -10,12 +10,12 @@ use Rattle.base.proofs.Split.{by_eq, by_bool, no}
 use Rattle.text.specs.Check.{is_text}
 use Rattle.kind.specs.declared.Kind.{Kind}
 use Rattle.model.specs.Record.{Tag}
-use Rattle.compact.specs.declared.TagStep.{TagStep}
-use Rattle.compact.specs.declared.TagStep.TheVariants as tag
+use Rattle.refusal.specs.declared.Refusal.TheVariants.{Unsound}
+use Rattle.compact.specs.declared.TagPart.{TagPart}
 use Rattle.compact.specs.declared.CompactTagIter.{CompactTagIter}
 use Rattle.compact.specs.Layout.{head_len}
 use Rattle.compact.specs.Cut.{Cut, found}
-use Rattle.compact.specs.View.{head_at, tags_at, cut_text, tag_step}
+use Rattle.compact.specs.View.{TagStep, head_at, tags_at, cut_text, tag_step}
 use Rattle.compact.specs.Tags.{tag_place, turn_by, tag_turn, tag_next}
 use Rattle.compact.proofs.Format.{first, of_cut}
 use Rattle.compact.proofs.Places.{Off, tag_off, off_length, head_whole, head_short}
@@ -33,7 +33,7 @@ module _ (k : Kind) (s : Bytes) where
   place_whole h = rw (head_whole k s h)
 
   -- a head that is cut short: the first step answers 22
-  pub short_22 : length s < head_len k → tag_step s (tag_place k s).offset (tag_place k s).remaining ≡ tag.Unsound
+  pub short_22 : length s < head_len k → tag_step s (tag_place k s).offset (tag_place k s).remaining ≡ Err Unsound
   short_22 h = rw (← place_short h) (sym (tag_past s (length s) 1 (λ e. no (omega arith)) (omega arith)))
 
 -- ---- a tag that is yielded
@@ -43,26 +43,26 @@ pub record Left (s : Bytes) (remaining start len : ℕ) : Type 0 where
   pub fits : start + len ≤ length s
   pub more : 1 ≤ remaining
 
-text_off : (s : Bytes) (c : Cut (Tag ℕ)) → cut_text s ≡ some c → Off s (8 + length c.item.value) c.rest
+text_off : (s : Bytes) (c : Cut (Tag ℕ)) → cut_text s ≡ Some c → Off s (8 + length c.item.value) c.rest
 unfolding cut_text
 text_off s c h =
     first (λ t r. Off s (8 + length t.value) r) (tag_off s) h (λ t r o e. by_bool (is_text t.value)
-    (λ b. of_cut (λ t r. Off s (8 + length t.value) r) (ap (λ (x : Bool). cond x (found t r) none) (sym b) ∙ e) o)
-    (λ b. let f : none ≡ some c = ap (λ (x : Bool). cond x (found t r) none) (sym b) ∙ e in no cc))
+    (λ b. of_cut (λ t r. Off s (8 + length t.value) r) (ap (λ (x : Bool). cond x (found t r) None) (sym b) ∙ e) o)
+    (λ b. let f : None ≡ Some c = ap (λ (x : Bool). cond x (found t r) None) (sym b) ∙ e in no cc))
 
-module _ (s : Bytes) (offset remaining key start len : ℕ) where
-  pub tag_left : tag_step s offset remaining ≡ tag.Tag key start len → Left s remaining start len
+module _ (s : Bytes) (offset remaining : ℕ) (t : TagPart) where
+  pub tag_left : tag_step s offset remaining ≡ Ok (Some t) → Left s remaining t.start t.len
   unfolding tag_step
-  tag_left e = by_eq remaining 0 (λ z. let f : tag.Done ≡ tag.Tag key start len = sym (step_done _ _ _ _ s offset remaining z) ∙ e in no cc) (λ z. go z (cut_text (drop offset s)) refl)
+  tag_left e = by_eq remaining 0 (λ z. let f : ◌≡◌ {A = TagStep} (Ok None) (Ok (Some t)) = sym (step_done _ _ _ _ s offset remaining z) ∙ e in no cc) (λ z. go z (cut_text (drop offset s)) refl)
     where
-      go : (remaining ≡ 0 → ⊥) → (o : Option (Cut (Tag ℕ))) → cut_text (drop offset s) ≡ o → Left s remaining start len
-      go z none q = let f : tag.Unsound ≡ tag.Tag key start len = sym (step_none _ _ _ _ s offset remaining z q) ∙ e in no cc
-      go z (some c) q =
+      go : (remaining ≡ 0 → ⊥) → (o : Option (Cut (Tag ℕ))) → cut_text (drop offset s) ≡ o → Left s remaining t.start t.len
+      go z None q = let f : ◌≡◌ {A = TagStep} (Err Unsound) (Ok (Some t)) = sym (step_none _ _ _ _ s offset remaining z q) ∙ e in no cc
+      go z (Some c) q =
           let w = text_off (drop offset s) c q in
           let n = length c.item.value in
-          let f : tag.Tag c.item.key (length s - length c.rest - n) n ≡ tag.Tag key start len = sym (step_some _ _ _ _ s offset remaining z c.item c.rest q) ∙ e in
-          let a : length s - length c.rest - n ≡ start = cc in
-          let b : n ≡ len = cc in
+          let f : ◌≡◌ {A = TagStep} (Ok (Some (record { key = c.item.key; start = length s - length c.rest - n; len = n }))) (Ok (Some t)) = sym (step_some _ _ _ _ s offset remaining z c.item c.rest q) ∙ e in
+          let a : length s - length c.rest - n ≡ t.start = cc in
+          let b : n ≡ t.len = cc in
           let l = off_length w in
           let g = w.fits in
           let d = length-drop offset s in
@@ -78,16 +78,16 @@ module _ (s : Bytes) (offset remaining : ℕ) where
 -- the step is the one that was taken
 turn_step : (t : TagStep) (offset remaining : ℕ) → (turn_by t offset remaining).step ≡ t
 unfolding turn_by
-turn_step tag.Done offset remaining = refl
-turn_step tag.Unsound offset remaining = refl
-turn_step (tag.Tag key start len) offset remaining = refl
+turn_step (Ok None) offset remaining = refl
+turn_step (Err r) offset remaining = refl
+turn_step (Ok (Some p)) offset remaining = refl
 
 -- where it yields no tag, the walk stays where it was
-pub turn_stays : (t : TagStep) (offset remaining : ℕ) → ((key start len : ℕ) → t ≡ tag.Tag key start len → ⊥) → turn_by t offset remaining ≡ record { step = t; offset = offset; remaining = remaining }
+pub turn_stays : (t : TagStep) (offset remaining : ℕ) → ((p : TagPart) → t ≡ Ok (Some p) → ⊥) → turn_by t offset remaining ≡ record { step = t; offset = offset; remaining = remaining }
 unfolding turn_by
-turn_stays tag.Done offset remaining none_there = refl
-turn_stays tag.Unsound offset remaining none_there = refl
-turn_stays (tag.Tag key start len) offset remaining none_there = absurd (none_there key start len refl)
+turn_stays (Ok None) offset remaining none_there = refl
+turn_stays (Err r) offset remaining none_there = refl
+turn_stays (Ok (Some p)) offset remaining none_there = absurd (none_there p refl)
 
 module _ (it : CompactTagIter) where
   abbrev taken : TagStep
@@ -98,18 +98,18 @@ module _ (it : CompactTagIter) where
   unfolding tag_next tag_turn
   next_step = turn_step taken it.offset it.remaining
 
-  next_stays : ((key start len : ℕ) → taken ≡ tag.Tag key start len → ⊥) → (tag_next it).iter ≡ it
+  next_stays : ((p : TagPart) → taken ≡ Ok (Some p) → ⊥) → (tag_next it).iter ≡ it
   unfolding tag_next tag_turn
   next_stays none_there = rw (turn_stays taken it.offset it.remaining none_there)
 
   -- on 22, and where no tag remains, the iterator is unchanged
-  pub next_22 : taken ≡ tag.Unsound → (tag_next it).iter ≡ it
-  next_22 e = next_stays (λ key start len f. let g : tag.Unsound ≡ tag.Tag key start len = sym e ∙ f in no cc)
+  pub next_22 : taken ≡ Err Unsound → (tag_next it).iter ≡ it
+  next_22 e = next_stays (λ p f. let g : ◌≡◌ {A = TagStep} (Err Unsound) (Ok (Some p)) = sym e ∙ f in no cc)
 
-  pub next_done : taken ≡ tag.Done → (tag_next it).iter ≡ it
-  next_done e = next_stays (λ key start len f. let g : tag.Done ≡ tag.Tag key start len = sym e ∙ f in no cc)
+  pub next_done : taken ≡ Ok None → (tag_next it).iter ≡ it
+  next_done e = next_stays (λ p f. let g : ◌≡◌ {A = TagStep} (Ok None) (Ok (Some p)) = sym e ∙ f in no cc)
 
   -- a tag that is yielded is passed by: the iterator goes on behind its value
-  pub next_tag : (key start len : ℕ) → taken ≡ tag.Tag key start len → (tag_next it).iter ≡ record { bytes = it.bytes; offset = start + len; remaining = it.remaining - 1 }
+  pub next_tag : (p : TagPart) → taken ≡ Ok (Some p) → (tag_next it).iter ≡ record { bytes = it.bytes; offset = p.start + p.len; remaining = it.remaining - 1 }
   unfolding tag_next tag_turn turn_by
-  next_tag key start len e = rw e
+  next_tag p e = rw e

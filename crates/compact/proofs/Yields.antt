@@ -1,8 +1,8 @@
 -- An iterator over a record's bytes yields the record's tags, in their order, and then none.
+use Rattle.std.specs.Prelude.{Err, None, Ok, Some, option_map}
 use Prim.Native.Nat.{ℕ, zero, suc, ◌+◌, ◌-◌, ◌≤◌}
 use mathlib.Core.Path.{◌≡◌, refl, ap, ◌∙◌}
 use mathlib.Core.Bool.{true}
-use mathlib.Core.Option.{some, map}
 use mathlib.Core.List.{List, ◌∷◌, ◌++◌}
 use native.Mathlib.Omega.{arith}
 use lib.IntN.{ℤ}
@@ -10,13 +10,11 @@ use lib.ListN.{length, take, drop, length-append}
 use denote.Ref.{Bor}
 use Rattle.base.specs.Bytes.{Bytes}
 use Rattle.model.specs.Record.{Record, kind_of}
-use Rattle.compact.specs.declared.TagStep.{TagStep}
-use Rattle.compact.specs.declared.TagStep.TheVariants as tag
 use Rattle.compact.specs.declared.CompactTagIter.{CompactTagIter}
 use Rattle.compact.specs.Layout.{head_len, head_of, record_bytes}
 use Rattle.compact.specs.Fits.{fitting}
 use Rattle.compact.specs.Legal.{legal_texts}
-use Rattle.compact.specs.View.{head_at, tag_step, tag_given, steps_onward, steps_from, tags_from}
+use Rattle.compact.specs.View.{TagStep, head_at, tag_step, tag_given, steps_onward, steps_from, tags_from}
 use Rattle.compact.specs.Tags.{tags_of, tag_next, yielded, all_tags}
 use Rattle.compact.proofs.Lengths.{length_head}
 use Rattle.compact.proofs.Cuts.{head_tags}
@@ -38,15 +36,15 @@ module _ (b : Bor (List ℕ)) where
   yields_from (suc n) o = rw (next_step (it o (suc n))) (go (λ at. yields_from n at) (tag_step b.now o (suc n)) refl)
     where
       go : ((at : ℕ) → yielded n (it at n) ≡ tags_from b.now at n) → (t : TagStep) → tag_step b.now o (suc n) ≡ t → steps_onward (tag_given b.now t) (λ at. yielded n (tag_next (it o (suc n))).iter) ≡ steps_onward (tag_given b.now t) (λ at. tags_from b.now at n)
-      go later tag.Done e = refl
-      go later tag.Unsound e = refl
-      go later (tag.Tag key start len) e =
+      go later (Ok None) e = refl
+      go later (Err r) e = refl
+      go later (Ok (Some t)) e =
           let less : suc n - 1 ≡ n = omega arith in
-          ap (map (record { key = key; value = take len (drop start b.now) } ∷◌))
-          (ap (yielded n) (next_tag (it o (suc n)) key start len e ∙ ap (it (start + len)) less) ∙ later (start + len))
+          ap (option_map (record { key = t.key; value = take t.len (drop t.start b.now) } ∷◌))
+          (ap (yielded n) (next_tag (it o (suc n)) t e ∙ ap (it (t.start + t.len)) less) ∙ later (t.start + t.len))
 
   -- of the bytes of a record, whatever follows them
-  pub yields_tags : (id : ℤ) (r : Record ℕ) (q : Bytes) → fitting id r ≡ true → legal_texts r ≡ true → b.now ≡ record_bytes id r ++ q → all_tags (tags_of (kind_of r.body) b) ≡ some r.tags
+  pub yields_tags : (id : ℤ) (r : Record ℕ) (q : Bytes) → fitting id r ≡ true → legal_texts r ≡ true → b.now ≡ record_bytes id r ++ q → all_tags (tags_of (kind_of r.body) b) ≡ Some r.tags
   unfolding tags_of
   yields_tags id r q h g e =
       let k = kind_of r.body in

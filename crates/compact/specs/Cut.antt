@@ -1,6 +1,5 @@
 -- The same layout read: what is cut off the front of bytes, and what is left; none where the bytes are cut short or a type byte is above 2.
-use Rattle.std.specs.Prelude.{ℕ, zero, suc, cond, List, [], ◌∷◌, leb, ℤ, pos, length, take, drop}
-use Rattle.std.proofs.Math.Option.{Option, none, some}
+use Rattle.std.specs.Prelude.{ℕ, zero, suc, cond, List, [], ◌∷◌, leb, ℤ, pos, length, take, drop, None, Option, Some}
 use Rattle.std.specs.Int.{w32, w64}
 use Rattle.std.proofs.Common.{to_z}
 use Rattle.base.specs.Bytes.{Bytes}
@@ -8,8 +7,6 @@ use Rattle.little.specs.Little.{value}
 use Rattle.kind.specs.Kind.{of_number}
 use Rattle.kind.specs.declared.Kind.{Kind}
 use Rattle.kind.specs.declared.Kind.TheVariants.{Node, Way, Relation}
-use Rattle.kind.specs.declared.Named.{Named}
-use Rattle.kind.specs.declared.Named.TheVariants.{Is, Unknown}
 use Rattle.model.specs.Record.{Meta, Member, Tag, Body, place, refs, members, Record}
 use Rattle.compact.specs.Layout.{Head}
 
@@ -19,15 +16,15 @@ pub record Cut (A : Type 0) : Type 0 where
   pub rest : Bytes
 
 unfoldable pub then_cut : {A B : Type 0} → Option (Cut A) → (A → Bytes → Option (Cut B)) → Option (Cut B)
-then_cut none f = none
-then_cut (some c) f = f c.item c.rest
+then_cut None f = None
+then_cut (Some c) f = f c.item c.rest
 
 abbrev pub found : {A : Type 0} → A → Bytes → Option (Cut A)
-found a r = some (record { item = a; rest = r })
+found a r = Some (record { item = a; rest = r })
 
 -- n bytes
 unfoldable pub cut_bytes : ℕ → Bytes → Option (Cut Bytes)
-cut_bytes n s = cond (leb n (length s)) (found (take n s) (drop n s)) none
+cut_bytes n s = cond (leb n (length s)) (found (take n s) (drop n s)) None
 
 -- a number of n bytes
 unfoldable pub cut_number : ℕ → Bytes → Option (Cut ℕ)
@@ -50,9 +47,9 @@ cut_meta s =
     then_cut (cut_i64 s3) (λ changeset s4. then_cut (cut_i32 s4) (λ uid s5. then_cut (cut_number 4 s5) (λ user r.
     found (record { flags = flags; version = version; timestamp = timestamp; changeset = changeset; uid = uid; user = user }) r))))))
 
-abbrev pub member_as : ℤ → Named → ℕ → Bytes → Option (Cut (Member ℕ))
-member_as ref (Is k) role r = found (record { ref = ref; type = k; role = role }) r
-member_as ref Unknown role r = none
+abbrev pub member_as : ℤ → Option Kind → ℕ → Bytes → Option (Cut (Member ℕ))
+member_as ref (Some k) role r = found (record { ref = ref; type = k; role = role }) r
+member_as ref None role r = None
 
 unfoldable pub cut_member : Bytes → Option (Cut (Member ℕ))
 cut_member s = then_cut (cut_i64 s) (λ ref s1. then_cut (cut_number 1 s1) (λ type s2. then_cut (cut_number 4 s2) (λ role r. member_as ref (of_number type) role r)))
@@ -72,12 +69,12 @@ cut_parts k h m s = then_cut (cut_body k h s) (λ b s1. then_cut (times cut_tag 
 
 -- "A direct push whose parts are cut short, or not as many as it counts, is refused 17 too.": the parts are used up to the last byte
 abbrev pub used_up : {A : Type 0} → A → Bytes → Option A
-used_up a [] = some a
-used_up a (b ∷ bs) = none
+used_up a [] = Some a
+used_up a (b ∷ bs) = None
 
 abbrev pub whole : {A : Type 0} → Option (Cut A) → Option A
-whole none = none
-whole (some c) = used_up c.item c.rest
+whole None = None
+whole (Some c) = used_up c.item c.rest
 
 unfoldable pub pushed_record : Kind → Head → Meta ℕ → Bytes → Option (Record ℕ)
 pushed_record k h m parts = whole (cut_parts k h m parts)

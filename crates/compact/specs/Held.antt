@@ -1,11 +1,8 @@
 -- Records as the code holds them, in bits: "flags u8, version i32, ..", signed numbers in two's complement.
-use Rattle.std.specs.Prelude.{ℕ, ℤ, pos}
-use Rattle.std.proofs.Math.Option.{Option, none, some}
+use Rattle.std.specs.Prelude.{ℕ, ℤ, pos, None, Option, Some}
 use Rattle.std.specs.Int.{w32, w64}
 use Rattle.std.proofs.Common.{to_z, of_z}
 use Rattle.kind.specs.Kind.{of_number}
-use Rattle.kind.specs.declared.Named.{Named}
-use Rattle.kind.specs.declared.Named.TheVariants.{Is, Unknown}
 use Rattle.model.specs.Record.{Meta, Member}
 use Rattle.compact.specs.declared.ArenaMeta.{ArenaMeta}
 use Rattle.kind.specs.declared.Kind.{Kind}
@@ -63,9 +60,9 @@ way_bits h = record { id = of_z w64 h.id; ref_count = h.count; tag_count = h.tag
 unfoldable pub relation_bits : Head → CompactRelation
 relation_bits h = record { id = of_z w64 h.id; member_count = h.count; tag_count = h.tags }
 
-abbrev pub member_named : ℤ → Named → ℕ → Option (Member ℕ)
-member_named ref (Is k) role = some (record { ref = ref; type = k; role = role })
-member_named ref Unknown role = none
+abbrev pub member_named : ℤ → Option Kind → ℕ → Option (Member ℕ)
+member_named ref (Some k) role = Some (record { ref = ref; type = k; role = role })
+member_named ref None role = None
 
 -- a member, or none where its type byte names no kind
 unfoldable pub member_held : CompactMember → Option (Member ℕ)

@@ -1,6 +1,5 @@
 -- Document 01: which metadata and which records are legal; "17 flags, handle or type byte not as above, or an unflagged field not 0; then 3, 10, 16".
-use Rattle.std.specs.Prelude.{ℕ, ◌+◌, Bool, true, cond, List, [], ◌∷◌, ltb, leb, eqb, pos, nat_abs, length}
-use Rattle.std.proofs.Math.Option.{Option, none, some}
+use Rattle.std.specs.Prelude.{ℕ, ◌+◌, Bool, true, cond, List, [], ◌∷◌, ltb, leb, eqb, pos, nat_abs, length, None, Option, Some}
 use Rattle.base.specs.Bytes.{both, either, all}
 use Rattle.osm_id.specs.Order.{same_id}
 use Rattle.text.specs.Check.{is_text}
@@ -72,10 +71,10 @@ fault_of strings r =
     cond (legal_handles strings r)
     (cond (legal_texts r)
     (cond (in_range r.body)
-    (cond (within_limits limits r) none (some TooManyParts))
-    (some CoordinateRange))
-    (some NotText))
-    (some BadRecord)
+    (cond (within_limits limits r) None (Some TooManyParts))
+    (Some CoordinateRange))
+    (Some NotText))
+    (Some BadRecord)
 
 unfoldable pub legal : ℕ → Record ℕ → Bool
 legal strings r = both (legal_handles strings r) (both (legal_texts r) (both (in_range r.body) (within_limits limits r)))

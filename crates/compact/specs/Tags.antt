@@ -1,17 +1,14 @@
 -- A walk over a record's tags: where it begins, and where a step leaves it. For callers that hold the place themselves, and for the iterator that holds the record's bytes with it.
-use Rattle.std.specs.Prelude.{ℕ, zero, suc, ◌+◌, ◌-◌, List, length}
-use Rattle.std.proofs.Math.Option.{Option, none}
+use Rattle.std.specs.Prelude.{ℕ, zero, suc, ◌+◌, ◌-◌, List, length, Err, None, Ok, Option, Some}
 use Rattle.std.specs.Borrow.{Bor}
 use Rattle.base.specs.Bytes.{Bytes}
 use Rattle.kind.specs.declared.Kind.{Kind}
-use Rattle.compact.specs.declared.TagStep.{TagStep}
-use Rattle.compact.specs.declared.TagStep.TheVariants.{Done, Unsound, Tag}
 use Rattle.compact.specs.declared.TagPlace.{TagPlace}
 use Rattle.compact.specs.declared.TagTurn.{TagTurn}
 use Rattle.compact.specs.declared.CompactTagIter.{CompactTagIter}
 use Rattle.model.specs.Record as model
 use Rattle.compact.specs.Cut.{cut_head}
-use Rattle.compact.specs.View.{answer_cut, tags_at, tag_step, tag_given, steps_onward}
+use Rattle.compact.specs.View.{TagStep, answer_cut, tags_at, tag_step, tag_given, steps_onward}
 
 -- behind the head, the metadata and the refs or members, with the head's count of tags remaining. Of a head that is cut short: at the bytes' end with a tag remaining, so that the first step answers 22
 unfoldable pub tag_place : Kind → Bytes → TagPlace
@@ -19,9 +16,9 @@ tag_place k s = answer_cut (record { offset = length s; remaining = 1 }) (λ h r
 
 -- past the tag that a step yields, with one tag less remaining; where it yields none the walk stays where it was
 unfoldable pub turn_by : TagStep → ℕ → ℕ → TagTurn
-turn_by Done offset remaining = record { step = Done; offset = offset; remaining = remaining }
-turn_by Unsound offset remaining = record { step = Unsound; offset = offset; remaining = remaining }
-turn_by (Tag key start len) offset remaining = record { step = Tag key start len; offset = start + len; remaining = remaining - 1 }
+turn_by (Ok None) offset remaining = record { step = Ok None; offset = offset; remaining = remaining }
+turn_by (Err r) offset remaining = record { step = Err r; offset = offset; remaining = remaining }
+turn_by (Ok (Some p)) offset remaining = record { step = Ok (Some p); offset = p.start + p.len; remaining = remaining - 1 }
 
 unfoldable pub tag_turn : Bytes → ℕ → ℕ → TagTurn
 tag_turn s offset remaining = turn_by (tag_step s offset remaining) offset remaining
@@ -48,7 +45,7 @@ tag_next it = next_by it.bytes (tag_turn it.bytes.now it.offset it.remaining)
 
 -- what `next` yields, call after call, until none remain
 unfoldable pub yielded : ℕ → CompactTagIter → Option (List (model.Tag ℕ))
-yielded zero it = steps_onward (tag_given it.bytes.now (tag_next it).step) (λ at. none)
+yielded zero it = steps_onward (tag_given it.bytes.now (tag_next it).step) (λ at. None)
 yielded (suc n) it = steps_onward (tag_given it.bytes.now (tag_next it).step) (λ at. yielded n (tag_next it).iter)
 
 abbrev pub all_tags : CompactTagIter → Option (List (model.Tag ℕ))

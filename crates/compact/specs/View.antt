@@ -1,6 +1,8 @@
 -- What is read of a record's bytes: each field at the place that the layout gives it, for the library's own code; and a user's readers and steps.
-use Rattle.std.specs.Prelude.{ℕ, zero, suc, ◌+◌, ◌-◌, ◌*◌, cond, List, [], ◌∷◌, eqb, ℤ, length, take, drop}
-use Rattle.std.proofs.Math.Option.{Option, none, some, map, bind}
+use Rattle.refusal.specs.declared.Refusal.TheVariants.{Unsound}
+use Rattle.refusal.specs.declared.Refusal.{Refusal}
+use Rattle.base.specs.Options.{bind}
+use Rattle.std.specs.Prelude.{ℕ, zero, suc, ◌+◌, ◌-◌, ◌*◌, cond, List, [], ◌∷◌, eqb, ℤ, length, take, drop, Err, None, Ok, Option, Result, Some, option_map}
 use Rattle.std.specs.Int.{w64}
 use Rattle.std.proofs.Common.{to_z, of_z}
 use Rattle.base.specs.Bytes.{Bytes}
@@ -16,20 +18,9 @@ use Rattle.compact.specs.declared.CompactNode.{CompactNode}
 use Rattle.compact.specs.declared.CompactWay.{CompactWay}
 use Rattle.compact.specs.declared.CompactRelation.{CompactRelation}
 use Rattle.compact.specs.declared.CompactMember.{CompactMember}
-use Rattle.compact.specs.declared.NodeRead.{NodeRead}
-use Rattle.compact.specs.declared.NodeRead.TheVariants as node
-use Rattle.compact.specs.declared.WayRead.{WayRead}
-use Rattle.compact.specs.declared.WayRead.TheVariants as way
-use Rattle.compact.specs.declared.RelationRead.{RelationRead}
-use Rattle.compact.specs.declared.RelationRead.TheVariants as relation
-use Rattle.compact.specs.declared.MetaRead.{MetaRead}
-use Rattle.compact.specs.declared.MetaRead.TheVariants as meta
-use Rattle.compact.specs.declared.RefStep.{RefStep}
-use Rattle.compact.specs.declared.RefStep.TheVariants as ref
-use Rattle.compact.specs.declared.MemberStep.{MemberStep}
-use Rattle.compact.specs.declared.MemberStep.TheVariants as member
-use Rattle.compact.specs.declared.TagStep.{TagStep}
-use Rattle.compact.specs.declared.TagStep.TheVariants as tag
+use Rattle.compact.specs.declared.RefPart.{RefPart}
+use Rattle.compact.specs.declared.MemberPart.{MemberPart}
+use Rattle.compact.specs.declared.TagPart.{TagPart}
 use Rattle.compact.specs.Layout.{Head, head_len}
 use Rattle.compact.specs.Cut.{Cut, then_cut, found, cut_i64, cut_meta, cut_member, cut_tag, cut_head, KeptRecord}
 use Rattle.compact.specs.Held.{meta_of, meta_bits, node_head, way_head, relation_head, node_bits, way_bits, relation_bits}
@@ -85,22 +76,32 @@ abbrev pub unsound_number : ℕ
 unsound_number = number_of refused.Unsound
 
 abbrev pub answer_cut : {A B : Type 0} → B → (A → Bytes → B) → Option (Cut A) → B
-answer_cut unsound is none = unsound
-answer_cut unsound is (some c) = is c.item c.rest
+answer_cut unsound is None = unsound
+answer_cut unsound is (Some c) = is c.item c.rest
 
-unfoldable pub node_read : Bytes → NodeRead
-node_read s = answer_cut node.Unsound (λ h r. node.Is (node_bits h)) (cut_head Node s)
+unfoldable pub node_read : Bytes → Result CompactNode Refusal
+node_read s = answer_cut (Err Unsound) (λ h r. Ok (node_bits h)) (cut_head Node s)
 
-unfoldable pub way_read : Bytes → WayRead
-way_read s = answer_cut way.Unsound (λ h r. way.Is (way_bits h)) (cut_head Way s)
+unfoldable pub way_read : Bytes → Result CompactWay Refusal
+way_read s = answer_cut (Err Unsound) (λ h r. Ok (way_bits h)) (cut_head Way s)
 
-unfoldable pub relation_read : Bytes → RelationRead
-relation_read s = answer_cut relation.Unsound (λ h r. relation.Is (relation_bits h)) (cut_head Relation s)
+unfoldable pub relation_read : Bytes → Result CompactRelation Refusal
+relation_read s = answer_cut (Err Unsound) (λ h r. Ok (relation_bits h)) (cut_head Relation s)
 
-unfoldable pub meta_read : Bytes → ℕ → MetaRead
-meta_read s at = answer_cut meta.Unsound (λ m r. meta.Is (meta_bits m)) (cut_meta (drop at s))
+unfoldable pub meta_read : Bytes → ℕ → Result ArenaMeta Refusal
+meta_read s at = answer_cut (Err Unsound) (λ m r. Ok (meta_bits m)) (cut_meta (drop at s))
 
 -- ---- a user's steps, "one step a call": "none at 0 remaining, else 22 for a tag past the bytes or not text"
+
+-- none remain, 22, or what stands there
+abbrev pub RefStep : Type 0
+RefStep = Result (Option RefPart) Refusal
+
+abbrev pub MemberStep : Type 0
+MemberStep = Result (Option MemberPart) Refusal
+
+abbrev pub TagStep : Type 0
+TagStep = Result (Option TagPart) Refusal
 
 -- over any element: done at 0 remaining, else what is cut off at the offset and the offset of the next one, where the rest begins
 unfoldable pub step_by : {A B : Type 0} → B → B → (A → ℕ → B) → (Bytes → Option (Cut A)) → Bytes → ℕ → ℕ → B
@@ -108,43 +109,43 @@ step_by done unsound yields cut s offset remaining =
     cond (eqb remaining 0) done (answer_cut unsound (λ a r. yields a (length s - length r)) (cut (drop offset s)))
 
 unfoldable pub ref_step : Bytes → ℕ → ℕ → RefStep
-ref_step s offset remaining = step_by ref.Done ref.Unsound (λ z next. ref.Ref (of_z w64 z) next) cut_i64 s offset remaining
+ref_step s offset remaining = step_by (Ok None) (Err Unsound) (λ z next. Ok (Some (record { value = of_z w64 z; next = next }))) cut_i64 s offset remaining
 
 unfoldable pub member_step : Bytes → ℕ → ℕ → MemberStep
 member_step s offset remaining =
-    step_by member.Done member.Unsound (λ m next. member.Member (of_z w64 m.ref) m.type m.role next) cut_member s offset remaining
+    step_by (Ok None) (Err Unsound) (λ m next. Ok (Some (record { reference = of_z w64 m.ref; kind = m.type; role = m.role; next = next }))) cut_member s offset remaining
 
 -- a tag whose value is text
 unfoldable pub cut_text : Bytes → Option (Cut (Tag ℕ))
-cut_text s = then_cut (cut_tag s) (λ t r. cond (is_text t.value) (found t r) none)
+cut_text s = then_cut (cut_tag s) (λ t r. cond (is_text t.value) (found t r) None)
 
 -- "it yields the key's handle, unresolved"; the value lies up to the next tag
 unfoldable pub tag_step : Bytes → ℕ → ℕ → TagStep
 tag_step s offset remaining =
-    step_by tag.Done tag.Unsound (λ t next. tag.Tag t.key (next - length t.value) (length t.value)) cut_text s offset remaining
+    step_by (Ok None) (Err Unsound) (λ t next. Ok (Some (record { key = t.key; start = next - length t.value; len = length t.value }))) cut_text s offset remaining
 
 -- ---- what a user makes of the answers
 
-abbrev pub node_given : NodeRead → Option Head
-node_given (node.Is n) = some (node_head n)
-node_given node.Unsound = none
+abbrev pub node_given : Result CompactNode Refusal → Option Head
+node_given (Ok n) = Some (node_head n)
+node_given (Err r) = None
 
-abbrev pub way_given : WayRead → Option Head
-way_given (way.Is w) = some (way_head w)
-way_given way.Unsound = none
+abbrev pub way_given : Result CompactWay Refusal → Option Head
+way_given (Ok w) = Some (way_head w)
+way_given (Err r) = None
 
-abbrev pub relation_given : RelationRead → Option Head
-relation_given (relation.Is r) = some (relation_head r)
-relation_given relation.Unsound = none
+abbrev pub relation_given : Result CompactRelation Refusal → Option Head
+relation_given (Ok r) = Some (relation_head r)
+relation_given (Err r) = None
 
 unfoldable pub head_read : Kind → Bytes → Option Head
 head_read Node s = node_given (node_read s)
 head_read Way s = way_given (way_read s)
 head_read Relation s = relation_given (relation_read s)
 
-abbrev pub meta_given : MetaRead → Option (Meta ℕ)
-meta_given (meta.Is m) = some (meta_of m)
-meta_given meta.Unsound = none
+abbrev pub meta_given : Result ArenaMeta Refusal → Option (Meta ℕ)
+meta_given (Ok m) = Some (meta_of m)
+meta_given (Err r) = None
 
 pub data ReadStep (A : Type 0) : Type 0 where
   done : ReadStep A
@@ -152,32 +153,32 @@ pub data ReadStep (A : Type 0) : Type 0 where
   yields : A → ℕ → ReadStep A
 
 abbrev pub ref_given : RefStep → ReadStep ℤ
-ref_given ref.Done = done
-ref_given ref.Unsound = unsound
-ref_given (ref.Ref v next) = yields (to_z w64 v) next
+ref_given (Ok None) = done
+ref_given (Err r) = unsound
+ref_given (Ok (Some p)) = yields (to_z w64 p.value) p.next
 
 abbrev pub member_given : MemberStep → ReadStep (Member ℕ)
-member_given member.Done = done
-member_given member.Unsound = unsound
-member_given (member.Member v k role next) = yields (record { ref = to_z w64 v; type = k; role = role }) next
+member_given (Ok None) = done
+member_given (Err r) = unsound
+member_given (Ok (Some p)) = yields (record { ref = to_z w64 p.reference; type = p.kind; role = p.role }) p.next
 
 -- the value is the view's bytes at its place
 abbrev pub tag_given : Bytes → TagStep → ReadStep (Tag ℕ)
-tag_given s tag.Done = done
-tag_given s tag.Unsound = unsound
-tag_given s (tag.Tag key start len) = yields (record { key = key; value = take len (drop start s) }) (start + len)
+tag_given s (Ok None) = done
+tag_given s (Err r) = unsound
+tag_given s (Ok (Some p)) = yields (record { key = p.key; value = take p.len (drop p.start s) }) (p.start + p.len)
 
 -- ---- a record, read by the readers and steps alone
 
 -- an element and those from the next offset on
 abbrev pub steps_onward : {A : Type 0} → ReadStep A → (ℕ → Option (List A)) → Option (List A)
-steps_onward done more = some []
-steps_onward unsound more = none
-steps_onward (yields a next) more = map (a ∷◌) (more next)
+steps_onward done more = Some []
+steps_onward unsound more = None
+steps_onward (yields a next) more = option_map (a ∷◌) (more next)
 
 -- step after step, from an offset on, until none remain
 unfoldable pub steps_from : {A : Type 0} → (ℕ → ℕ → ReadStep A) → ℕ → ℕ → Option (List A)
-steps_from f at zero = steps_onward (f at 0) (λ next. none)
+steps_from f at zero = steps_onward (f at 0) (λ next. None)
 steps_from f at (suc n) = steps_onward (f at (suc n)) (λ next. steps_from f next n)
 
 unfoldable pub refs_from : Bytes → ℕ → ℕ → Option (List ℤ)
@@ -191,11 +192,11 @@ tags_from s at n = steps_from (λ o m. tag_given s (tag_step s o m)) at n
 
 -- refs or members stand after the head and the metadata
 unfoldable pub body_read : Kind → Head → Bytes → Option (Body ℕ)
-body_read Node h s = some (place h.lat h.lon)
-body_read Way h s = map refs (refs_from s (tags_at Way 0) h.count)
-body_read Relation h s = map members (members_from s (tags_at Relation 0) h.count)
+body_read Node h s = Some (place h.lat h.lon)
+body_read Way h s = option_map refs (refs_from s (tags_at Way 0) h.count)
+body_read Relation h s = option_map members (members_from s (tags_at Relation 0) h.count)
 
 unfoldable pub read_record : Kind → Bytes → Option KeptRecord
 read_record k s =
     bind (head_read k s) (λ h. bind (meta_given (meta_read s (head_len k))) (λ m. bind (body_read k h s) (λ b.
-    bind (tags_from s (tags_at k h.count) h.tags) (λ ts. some (record { id = h.id; held = record { meta = m; body = b; tags = ts } })))))
+    bind (tags_from s (tags_at k h.count) h.tags) (λ ts. Some (record { id = h.id; held = record { meta = m; body = b; tags = ts } })))))

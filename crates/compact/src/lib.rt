@@ -10,9 +10,8 @@ ghost use Rattle.compact.specs.View.{node_at, way_at, relation_at, meta_at, ref_
 ghost use Rattle.compact.specs.Tags.{tag_place, tag_turn, tags_of, tag_next};
 ghost use Rattle.compact.specs.View.{unsound_number, node_read, way_read, relation_read, meta_read, ref_step, member_step, tag_step};
 
-use kind::{Kind, Named};
-use refusal::Refusal;
-use version_floor::Version;
+use kind::Kind;
+use refusal::{Refusal, Reply};
 
 // "Metadata, `META_LEN` 29 bytes"
 pub const META_LEN: usize = 29;
@@ -68,59 +67,28 @@ pub struct CompactMember {
     pub role: u32,
 }
 
-// What a user's reader of a head or of metadata answers: the value, or 22 where the bytes are cut short.
+// A ref that a step yields, in bits, and the offset of the next.
 #[derive(Clone, Copy)]
-pub enum NodeRead {
-    Is(CompactNode),
-    Unsound,
+pub struct RefPart {
+    pub value: u64,
+    pub next: usize,
 }
 
+// A member that a step yields, its ref in bits, and the offset of the next.
 #[derive(Clone, Copy)]
-pub enum WayRead {
-    Is(CompactWay),
-    Unsound,
+pub struct MemberPart {
+    pub reference: u64,
+    pub kind: Kind,
+    pub role: u32,
+    pub next: usize,
 }
 
+// A tag that a step yields: its key's handle, and where its value lies. The next tag stands at the value's end.
 #[derive(Clone, Copy)]
-pub enum RelationRead {
-    Is(CompactRelation),
-    Unsound,
-}
-
-#[derive(Clone, Copy)]
-pub enum MetaRead {
-    Is(ArenaMeta),
-    Unsound,
-}
-
-// What a ref step answers: no refs are left; no ref stands here (22); or a ref, in bits, and the offset of the next.
-#[derive(Clone, Copy)]
-pub enum RefStep {
-    Done,
-    Unsound,
-    Ref { value: u64, next: usize },
-}
-
-// The same for a member: 22 also where its type byte is none of 0, 1 and 2.
-#[derive(Clone, Copy)]
-pub enum MemberStep {
-    Done,
-    Unsound,
-    Member {
-        reference: u64,
-        kind: Kind,
-        role: u32,
-        next: usize,
-    },
-}
-
-// What a tag step answers: no tags are left; no tag stands here (22); or a tag, its key's handle and where its value lies.
-// The next tag stands at the value's end.
-#[derive(Clone, Copy)]
-pub enum TagStep {
-    Done,
-    Unsound,
-    Tag { key: u32, start: usize, len: usize },
+pub struct TagPart {
+    pub key: u32,
+    pub start: usize,
+    pub len: usize,
 }
 
 // Where a record's tags begin, and how many remain there.
@@ -133,7 +101,7 @@ pub struct TagPlace {
 // A tag step and the place that it leaves: past the tag that it yields, else where it was.
 #[derive(Clone, Copy)]
 pub struct TagTurn {
-    pub step: TagStep,
+    pub step: Result<Option<TagPart>, Refusal>,
     pub offset: usize,
     pub remaining: u32,
 }
@@ -147,13 +115,13 @@ pub struct CompactTagIter<'a> {
 }
 
 // The version that metadata claims, or none.
-pub fn claim(meta: ArenaMeta) -> Version
+pub fn claim(meta: ArenaMeta) -> Option<i32>
     ensures { result ≡ claim_of (meta_of meta) }
 {
     if meta.flags / 8 % 2 == 1 {
-        Version::Is(signed::i32_of_bits(meta.version))
+        Some(signed::i32_of_bits(meta.version))
     } else {
-        Version::Absent
+        None
     }
 }
 
@@ -195,13 +163,13 @@ impl CompactNode {
         }
     }
 
-    pub fn try_read(bytes: &[u8]) -> NodeRead
+    pub fn try_read(bytes: &[u8]) -> Result<CompactNode, Refusal>
         ensures { result ≡ node_read bytes.now }
     {
         if bytes.len() < CompactNode::META_OFF {
-            return NodeRead::Unsound;
+            return Err(Refusal::Unsound);
         }
-        NodeRead::Is(CompactNode::read(bytes))
+        Ok(CompactNode::read(bytes))
     }
 
     // Where the tags of the bytes' record begin.
@@ -242,13 +210,13 @@ impl CompactWay {
         }
     }
 
-    pub fn try_read(bytes: &[u8]) -> WayRead
+    pub fn try_read(bytes: &[u8]) -> Result<CompactWay, Refusal>
         ensures { result ≡ way_read bytes.now }
     {
         if bytes.len() < CompactWay::META_OFF {
-            return WayRead::Unsound;
+            return Err(Refusal::Unsound);
         }
-        WayRead::Is(CompactWay::read(bytes))
+        Ok(CompactWay::read(bytes))
     }
 
     // Where the tags of the bytes' record begin.
@@ -291,13 +259,13 @@ impl CompactRelation {
         }
     }
 
-    pub fn try_read(bytes: &[u8]) -> RelationRead
+    pub fn try_read(bytes: &[u8]) -> Result<CompactRelation, Refusal>
         ensures { result ≡ relation_read bytes.now }
     {
         if bytes.len() < CompactRelation::META_OFF {
-            return RelationRead::Unsound;
+            return Err(Refusal::Unsound);
         }
-        RelationRead::Is(CompactRelation::read(bytes))
+        Ok(CompactRelation::read(bytes))
     }
 
     // Where the tags of the bytes' record begin.
@@ -365,82 +333,86 @@ pub fn member_at(bytes: &[u8], i: u32) -> CompactMember
 pub fn unsound_number() -> u32
     ensures { result ≡ unsound_number }
 {
-    refusal::reply_of(Refusal::Unsound).number
+    Reply::from(Refusal::Unsound).number
 }
 
 // The metadata from a place on.
-pub fn try_read_meta(bytes: &[u8], at: usize) -> MetaRead
+pub fn try_read_meta(bytes: &[u8], at: usize) -> Result<ArenaMeta, Refusal>
     ensures { result ≡ meta_read bytes.now at }
 {
     if past(bytes.len(), at, META_LEN) {
-        return MetaRead::Unsound;
+        return Err(Refusal::Unsound);
     }
-    MetaRead::Is(read_meta(bytes, at))
+    Ok(read_meta(bytes, at))
 }
 
-// The ref at an offset, with so many refs remaining.
-pub fn ref_step(bytes: &[u8], offset: usize, remaining: u32) -> RefStep
+// The ref at an offset, with so many refs remaining: none where none remain, 22 where no ref stands there.
+pub fn ref_step(bytes: &[u8], offset: usize, remaining: u32) -> Result<Option<RefPart>, Refusal>
     ensures { result ≡ ref_step bytes.now offset remaining }
 {
     if remaining == 0 {
-        return RefStep::Done;
+        return Ok(None); // no refs are left
     }
     if past(bytes.len(), offset, 8) {
-        return RefStep::Unsound;
+        return Err(Refusal::Unsound); // no ref stands here
     }
     let next = offset + 8;
-    RefStep::Ref {
+    Ok(Some(RefPart {
         value: little::get_u64(bytes, offset),
         next,
-    }
+    }))
 }
 
-// The member at an offset, with so many members remaining.
-pub fn member_step(bytes: &[u8], offset: usize, remaining: u32) -> MemberStep
+// The same for a member: 22 also where its type byte is none of 0, 1 and 2.
+pub fn member_step(
+    bytes: &[u8],
+    offset: usize,
+    remaining: u32,
+) -> Result<Option<MemberPart>, Refusal>
     ensures { result ≡ member_step bytes.now offset remaining }
 {
     if remaining == 0 {
-        return MemberStep::Done;
+        return Ok(None); // no members are left
     }
     if past(bytes.len(), offset, CompactRelation::MEMBER_SIZE) {
-        return MemberStep::Unsound;
+        return Err(Refusal::Unsound); // no member stands here
     }
     let next = offset + CompactRelation::MEMBER_SIZE;
-    match kind::kind_of_number(little::get_u8(bytes, offset + 8)) {
-        Named::Is(kind) => MemberStep::Member {
+    match Kind::try_from(little::get_u8(bytes, offset + 8)) {
+        Ok(kind) => Ok(Some(MemberPart {
             reference: little::get_u64(bytes, offset),
             kind,
             role: little::get_u32(bytes, offset + 9),
             next,
-        },
-        Named::Unknown => MemberStep::Unsound,
+        })),
+        Err(_) => Err(Refusal::Unsound),
     }
 }
 
-// The tag at an offset, with so many tags remaining.
-pub fn tag_step(bytes: &[u8], offset: usize, remaining: u32) -> TagStep
+// The tag at an offset, with so many tags remaining: 22 where no tag stands there, or its value is not text.
+pub fn tag_step(bytes: &[u8], offset: usize, remaining: u32) -> Result<Option<TagPart>, Refusal>
     ensures { result ≡ tag_step bytes.now offset remaining }
 {
     if remaining == 0 {
-        return TagStep::Done;
+        return Ok(None); // no tags are left
     }
     if past(bytes.len(), offset, 8) {
-        return TagStep::Unsound;
+        return Err(Refusal::Unsound); // no tag stands here
     }
     let start = offset + 8;
     let len = little::get_u32(bytes, offset + 4) as usize;
     if past(bytes.len(), start, len) {
-        return TagStep::Unsound;
+        return Err(Refusal::Unsound); // the value runs past the bytes
     }
     let end = start + len;
     if text::is_text(&bytes[start..end]) {
-        TagStep::Tag {
+        Ok(Some(TagPart {
             key: little::get_u32(bytes, offset),
             start,
             len,
-        }
+        }))
     } else {
-        TagStep::Unsound
+        Err(Refusal::Unsound)
     }
 }
 
@@ -449,7 +421,7 @@ pub fn tag_next(bytes: &[u8], offset: usize, remaining: u32) -> TagTurn
     ensures { result ≡ tag_turn bytes.now offset remaining }
 {
     let step = tag_step(bytes, offset, remaining);
-    let TagStep::Tag { key: _, start, len } = step else {
+    let Ok(Some(tag)) = step else {
         return TagTurn {
             step,
             offset,
@@ -458,7 +430,7 @@ pub fn tag_next(bytes: &[u8], offset: usize, remaining: u32) -> TagTurn
     };
     TagTurn {
         step,
-        offset: start + len,
+        offset: tag.start + tag.len,
         remaining: remaining - 1,
     }
 }
@@ -491,7 +463,7 @@ impl<'a> CompactTagIter<'a> {
     }
 
     // The next tag. Where none remains or none stands there (22), the iterator is unchanged.
-    pub fn next(&mut self) -> TagStep
+    pub fn next(&mut self) -> Result<Option<TagPart>, Refusal>
         ensures { record { step = result; iter = self.new } ≡ tag_next self.old }
     {
         let turn = tag_next(self.bytes, self.offset, self.remaining);

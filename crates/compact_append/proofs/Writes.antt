@@ -1,4 +1,5 @@
 -- Writers that go on one after another, and what an append leaves.
+use Rattle.std.specs.Prelude.{None, Some}
 use Prim.Native.Nat.{ℕ, ◌+◌, ◌-◌, ◌<◌, ◌≤◌}
 use mathlib.Core.Path.{◌≡◌, refl, sym, ◌∙◌, ap}
 use mathlib.Core.List.{[], ◌++◌}
@@ -11,7 +12,6 @@ use Rattle.base.specs.Bytes.{Bytes}
 use Rattle.little.specs.Little.{le, over}
 use Rattle.little.proofs.Littles.{length_le}
 use Rattle.little.proofs.Overs.{over_nothing, over_over, over_lent_start}
-use Rattle.compact_append.specs.declared.Appended.TheVariants.{End, Full}
 use Rattle.compact_append.specs.Append.{ArenaAfter, append}
 
 -- ---- one after another: n bytes t are written over the start of s₀
@@ -34,15 +34,15 @@ field k v w q = next (le k v) k (length_le k v) w q
 -- ---- an append
 
 module _ (s : Bytes) (used : ℕ) (t : Bytes) where
-  pub fits_is : used + length t ≤ length s → append s used t ≡ record { arena = over s used t; answer = End (used + length t) }
+  pub fits_is : used + length t ≤ length s → append s used t ≡ record { arena = over s used t; answer = Some (used + length t) }
   unfolding append
   fits_is h = rw (le-leb (used + length t) (length s) h)
 
-  pub full_is : length s < used + length t → append s used t ≡ record { arena = s; answer = Full }
+  pub full_is : length s < used + length t → append s used t ≡ record { arena = s; answer = None }
   unfolding append
   full_is h = rw (lt-leb (used + length t) (length s) h)
 
   -- the arena was lent from its used bytes on, and `last` is what the writer left there
   pub append_end : (last : Bytes) (end : ℕ) → used + length t ≤ length s → end ≡ used + length t → last ≡ over (mid_of used (length s - used) s) 0 t
-      → ◌≡◌ {A = ArenaAfter} (record { arena = put_mid used (length s - used) s last; answer = End end }) (append s used t)
+      → ◌≡◌ {A = ArenaAfter} (record { arena = put_mid used (length s - used) s last; answer = Some end }) (append s used t)
   append_end last end h e w = rw (fits_is h, e, over_lent_start s last used t (omega arith) w)

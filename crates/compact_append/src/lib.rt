@@ -10,13 +10,6 @@ ghost use Rattle.compact_append.specs.Append.{record_written, append};
 
 use compact::{ArenaMeta, CompactNode, CompactRelation, CompactWay};
 
-// What an append answers: where the used bytes end now, or that the record is longer than the unused bytes (15).
-#[derive(Clone, Copy)]
-pub enum Appended {
-    End(usize),
-    Full,
-}
-
 // Whether a head and parts of these lengths run past the arena.
 fn lacks(len: usize, used: usize, head: usize, parts: usize) -> bool
     ensures { result ≡ ltb len (used + (head + parts)) }
@@ -93,14 +86,14 @@ pub fn append_node(
     head: CompactNode,
     meta: ArenaMeta,
     parts: &[u8],
-) -> Appended
+) -> Option<usize>
     ensures { record { arena = arena.new; answer = result } ≡ append arena.old used (record_written Node (node_head head) (meta_of meta) parts.now) }
 {
     if lacks(arena.len(), used, CompactNode::HEADER_LEN, parts.len()) {
-        return Appended::Full;
+        return None;
     }
     put_node(&mut arena[used..], head, meta, parts);
-    Appended::End(used + CompactNode::HEADER_LEN + parts.len())
+    Some(used + CompactNode::HEADER_LEN + parts.len())
 }
 
 // Ways and relations have the same head: an id and two counts.
@@ -112,14 +105,14 @@ fn append_counted(
     tags: u32,
     meta: ArenaMeta,
     parts: &[u8],
-) -> Appended
+) -> Option<usize>
     ensures { record { arena = arena.new; answer = result } ≡ append arena.old used (record_written Way (counts_head id count tags) (meta_of meta) parts.now) }
 {
     if lacks(arena.len(), used, CompactWay::HEADER_LEN, parts.len()) {
-        return Appended::Full;
+        return None;
     }
     put_counted(&mut arena[used..], id, count, tags, meta, parts);
-    Appended::End(used + CompactWay::HEADER_LEN + parts.len())
+    Some(used + CompactWay::HEADER_LEN + parts.len())
 }
 
 pub fn append_way(
@@ -128,7 +121,7 @@ pub fn append_way(
     head: CompactWay,
     meta: ArenaMeta,
     parts: &[u8],
-) -> Appended
+) -> Option<usize>
     ensures { record { arena = arena.new; answer = result } ≡ append arena.old used (record_written Way (way_head head) (meta_of meta) parts.now) }
 {
     append_counted(
@@ -148,7 +141,7 @@ pub fn append_relation(
     head: CompactRelation,
     meta: ArenaMeta,
     parts: &[u8],
-) -> Appended
+) -> Option<usize>
     ensures { record { arena = arena.new; answer = result } ≡ append arena.old used (record_written Relation (relation_head head) (meta_of meta) parts.now) }
 {
     append_counted(

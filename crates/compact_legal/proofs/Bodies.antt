@@ -1,7 +1,7 @@
 -- Refs, members or a place: where they end, and what a head tells of them.
+use Rattle.std.specs.Prelude.{None, Option, Some}
 use Prim.Native.Nat.{ℕ, zero, suc, ◌+◌, ◌*◌, ◌<◌, ◌≤◌}
 use mathlib.Core.Path.{◌≡◌, refl, sym, ap}
-use mathlib.Core.Option.{Option, none, some}
 use mathlib.Core.List.{List, [], ◌∷◌}
 use native.Mathlib.Omega.{arith}
 use lib.Dec.{leb}
@@ -20,13 +20,12 @@ use Rattle.compact.specs.Cut.{Cut, then_cut, found, cut_i64, times, cut_member, 
 use Rattle.compact.proofs.Format.{first, of_cut}
 use Rattle.compact.specs.Legal.{limits, handle, body_handles, in_range, body_within}
 use Rattle.compact_legal.specs.Judge.{end_of, members_end, body_end, place_in_range, count_within}
-use Rattle.compact_legal.specs.declared.End.TheVariants.{At, Bad}
 use Rattle.compact.proofs.Places.{Off, off_none, total, times_off, i64_off, member_off, i64_sized}
 use Rattle.compact_legal.proofs.Ends.{end_none, end_found}
 
 -- ---- refs: 8 bytes each
 
-refs_short : (n : ℕ) (s : Bytes) (at : ℕ) → at ≤ length s → length s < at + 8 * n → times cut_i64 n (drop at s) ≡ none
+refs_short : (n : ℕ) (s : Bytes) (at : ℕ) → at ≤ length s → length s < at + 8 * n → times cut_i64 n (drop at s) ≡ None
 unfolding times then_cut
 refs_short zero s at h l = absurd (omega arith)
 refs_short (suc n) s at h l =
@@ -43,15 +42,15 @@ refs_whole (suc n) s at l =
     (to_z w64 (value_at 8 s at) ∷ x.0, rw (i64_sized.whole s at (omega arith), x.1, e))
 
 module _ (strings : ℕ) (h : Head) (s : Bytes) (at : ℕ) where
-  pub body_node : at ≤ length s → At at ≡ body_end strings Node h s at
+  pub body_node : at ≤ length s → Some at ≡ body_end strings Node h s at
   unfolding body_end cut_body body_handles
   body_node l = sym (end_found (body_handles strings) s (place h.lat h.lon) at l)
 
-  pub body_short : at ≤ length s → length s < at + 8 * h.count → Bad ≡ body_end strings Way h s at
+  pub body_short : at ≤ length s → length s < at + 8 * h.count → None ≡ body_end strings Way h s at
   unfolding body_end cut_body then_cut
   body_short l k = rw (refs_short h.count s at l k) (sym (end_none (body_handles strings) (length s)))
 
-  pub body_refs : at + 8 * h.count ≤ length s → At (at + 8 * h.count) ≡ body_end strings Way h s at
+  pub body_refs : at + 8 * h.count ≤ length s → Some (at + 8 * h.count) ≡ body_end strings Way h s at
   unfolding body_end cut_body then_cut body_handles
   body_refs l = let x = refs_whole h.count s at l in rw x.1 (sym (end_found (body_handles strings) s (refs x.0) (at + 8 * h.count) l))
 
@@ -60,8 +59,8 @@ module _ (strings : ℕ) (h : Head) (s : Bytes) (at : ℕ) where
   body_members = go (times cut_member h.count (drop at s))
     where
       go : (o : Option (Cut (List (Member ℕ)))) → end_of (all (λ (m : Member ℕ). handle strings m.role)) (length s) o ≡ end_of (body_handles strings) (length s) (then_cut o (λ ms r. found (members ms) r))
-      go none = refl
-      go (some c) = refl
+      go None = refl
+      go (Some c) = refl
 
 -- ---- what is known of a body that was cut off
 
@@ -75,7 +74,7 @@ pub record BodyCut (k : Kind) (h : Head) (s : Bytes) (b : Body ℕ) (r : Bytes) 
   pub range : in_range b ≡ place_in_range k h.lat h.lon
   pub count : body_within limits b ≡ count_within limits k h.count
 
-pub body_cut : (k : Kind) (h : Head) (s : Bytes) (c : Cut (Body ℕ)) → cut_body k h s ≡ some c → BodyCut k h s c.item c.rest
+pub body_cut : (k : Kind) (h : Head) (s : Bytes) (c : Cut (Body ℕ)) → cut_body k h s ≡ Some c → BodyCut k h s c.item c.rest
 unfolding cut_body place_in_range in_range
 body_cut Node h s c e = of_cut (BodyCut Node h s) e (record { off = off_none s; range = refl; count = refl })
 body_cut Way h s c e =

@@ -1,8 +1,10 @@
 -- A record at the front of bytes: its head and metadata field by field, its parts by the check, and where it ends.
+use Rattle.refusal.specs.declared.Refusal.{Refusal}
+use Rattle.std.specs.Prelude.{None, Option, Result, Some}
+use Rattle.std.specs.Result.{result_ok}
 use Prim.Native.Nat.{ℕ, ◌+◌, ◌-◌, ◌<◌, ◌≤◌}
 use mathlib.Core.Path.{◌≡◌, refl, sym, ◌∙◌, ap}
 use mathlib.Core.Bool.{Bool, true, false, cond}
-use mathlib.Core.Option.{Option, none, some}
 use native.Mathlib.Omega.{arith}
 use lib.IntN.{ℤ}
 use lib.ListN.{length, take, drop, length-drop}
@@ -20,10 +22,6 @@ use Rattle.compact.specs.View.{meta_at, head_at}
 use Rattle.compact.proofs.Format.{first, of_cut}
 use Rattle.compact.specs.Legal.{legal_handles, legal_texts, in_range, within_limits, limits, fault_of, legal}
 use Rattle.compact_legal.specs.Judge.{end_of, record_end, judged, verdict_of}
-use Rattle.compact_legal.specs.declared.End.{End}
-use Rattle.compact_legal.specs.declared.End.TheVariants.{At, Bad}
-use Rattle.compact_legal.specs.declared.Verdict.{Verdict}
-use Rattle.compact_legal.specs.declared.Verdict.TheVariants.{Legal, Refused}
 use Rattle.compact.proofs.Places.{Off, off_then, off_end, off_length, total, times_off, tag_off, meta_sized, meta_there, head_whole, head_short}
 use Rattle.compact_legal.proofs.Ends.{end_none}
 use Rattle.compact_legal.proofs.Bodies.{body_long, body_cut}
@@ -35,7 +33,7 @@ rest_of s at = take_all (length s - at) (drop at s) (omega (arith, length-drop a
 -- ---- head and metadata
 
 module _ (k : Kind) (s : Bytes) where
-  pub record_short : length s < head_len k + 29 → cut_record k s ≡ none
+  pub record_short : length s < head_len k + 29 → cut_record k s ≡ None
   unfolding cut_record then_cut
   record_short h =
       by_le (head_len k) (length s)
@@ -49,7 +47,7 @@ module _ (k : Kind) (s : Bytes) where
 
 -- ---- how far a record goes
 
-parts_off : (k : Kind) (h : Head) (m : Meta ℕ) (s : Bytes) (c : Cut (Record ℕ)) → cut_parts k h m s ≡ some c → (n : ℕ) × Off s n c.rest
+parts_off : (k : Kind) (h : Head) (m : Meta ℕ) (s : Bytes) (c : Cut (Record ℕ)) → cut_parts k h m s ≡ Some c → (n : ℕ) × Off s n c.rest
 unfolding cut_parts
 parts_off k h m s c e =
     first (λ b r. Off s (body_long b) r) (λ x t. (body_cut k h s x t).off) e (λ b s1 o1 e1.
@@ -62,23 +60,18 @@ head_long Way = omega arith
 head_long Relation = omega arith
 
 -- a record takes its head and its metadata at least
-pub record_off : (k : Kind) (s : Bytes) (c : Cut KeptRecord) → cut_record k s ≡ some c → (n : ℕ) × (Off s n c.rest × (45 ≤ n))
+pub record_off : (k : Kind) (s : Bytes) (c : Cut KeptRecord) → cut_record k s ≡ Some c → (n : ℕ) × (Off s n c.rest × (45 ≤ n))
 record_off k s c e =
     by_le (head_len k + 29) (length s)
     (λ l. first (λ r q. (n : ℕ) × Off (drop (head_len k + 29) s) n q) (λ x t. parts_off k (head_at k s) (meta_of (meta_at s (head_len k))) (drop (head_len k + 29) s) x t) (sym (record_is k s l) ∙ e) (λ r q o t.
     of_cut (λ x q. (n : ℕ) × (Off s n q × (45 ≤ n))) t (head_len k + 29 + o.0, (off_then (record { fits = l; is = refl }) o.1, omega (arith, head_long k)))))
-    (λ l. let z : none ≡ some c = sym (record_short k s l) ∙ e in no cc)
+    (λ l. let z : None ≡ Some c = sym (record_short k s l) ∙ e in no cc)
 
 -- ---- the end of a record, by the check
 
--- a verdict without its refusal
-abbrev pub to_end : Verdict → End
-to_end (Legal e) = At e
-to_end (Refused x) = Bad
-
 judged_end : (handles texts range few : Bool) (e : ℕ)
-    → cond (both handles (both texts (both range few))) (At e) Bad
-    ≡ to_end (judged e (cond handles (cond texts (cond range (cond few none (some TooManyParts)) (some CoordinateRange)) (some NotText)) (some BadRecord)))
+    → cond (both handles (both texts (both range few))) (Some e) None
+    ≡ result_ok (judged e (cond handles (cond texts (cond range (cond few None (Some TooManyParts)) (Some CoordinateRange)) (Some NotText)) (Some BadRecord)))
 unfolding both
 judged_end true true true true e = refl
 judged_end true true true false e = refl
@@ -87,12 +80,12 @@ judged_end true false range few e = refl
 judged_end false texts range few e = refl
 
 module _ (strings : ℕ) where
-  none_end : (len : ℕ) (id : Record ℕ → KeptRecord) → end_of (λ (x : KeptRecord). legal strings x.held) len (then_cut none (λ r q. found (id r) q)) ≡ to_end (verdict_of strings true len none)
+  none_end : (len : ℕ) (id : Record ℕ → KeptRecord) → end_of (λ (x : KeptRecord). legal strings x.held) len (then_cut None (λ r q. found (id r) q)) ≡ result_ok (verdict_of strings true len None)
   unfolding end_of then_cut verdict_of
   none_end len id = refl
 
   some_end : (len : ℕ) (id : ℤ) (c : Cut (Record ℕ))
-      → end_of (λ (x : KeptRecord). legal strings x.held) len (then_cut (some c) (λ r q. found (record { id = id; held = r }) q)) ≡ to_end (verdict_of strings true len (some c))
+      → end_of (λ (x : KeptRecord). legal strings x.held) len (then_cut (Some c) (λ r q. found (record { id = id; held = r }) q)) ≡ result_ok (verdict_of strings true len (Some c))
   unfolding end_of then_cut verdict_of either legal fault_of
   some_end len id c = judged_end (legal_handles strings c.item) (legal_texts c.item) (in_range c.item.body) (within_limits limits c.item) (len - length c.rest)
 
@@ -100,52 +93,52 @@ module _ (strings : ℕ) (k : Kind) where
   abbrev is_legal : KeptRecord → Bool
   is_legal x = legal strings x.held
 
-  pub front_short : (s : Bytes) → length s < head_len k + 29 → Bad ≡ record_end strings k s 0
+  pub front_short : (s : Bytes) → length s < head_len k + 29 → None ≡ record_end strings k s 0
   unfolding record_end
   front_short s h = rw (record_short k s h) (sym (end_none is_legal (length s)))
 
-  pub front_is : (s : Bytes) (v : Verdict) → head_len k + 29 ≤ length s
+  pub front_is : (s : Bytes) (v : Result ℕ Refusal) → head_len k + 29 ≤ length s
       → v ≡ verdict_of strings true (length s) (cut_parts k (head_at k s) (meta_of (meta_at s (head_len k))) (drop (head_len k + 29) s))
-      → to_end v ≡ record_end strings k s 0
+      → result_ok v ≡ record_end strings k s 0
   unfolding record_end
   front_is s v h e =
       rw (e, record_is k s h) (sym (go (cut_parts k (head_at k s) (meta_of (meta_at s (head_len k))) (drop (head_len k + 29) s))))
     where
-      go : (o : Option (Cut (Record ℕ))) → end_of is_legal (length s) (then_cut o (λ r q. found (record { id = (head_at k s).id; held = r }) q)) ≡ to_end (verdict_of strings true (length s) o)
-      go none = none_end strings (length s) (λ r. record { id = (head_at k s).id; held = r })
-      go (some c) = some_end strings (length s) (head_at k s).id c
+      go : (o : Option (Cut (Record ℕ))) → end_of is_legal (length s) (then_cut o (λ r q. found (record { id = (head_at k s).id; held = r }) q)) ≡ result_ok (verdict_of strings true (length s) o)
+      go None = none_end strings (length s) (λ r. record { id = (head_at k s).id; held = r })
+      go (Some c) = some_end strings (length s) (head_at k s).id c
 
   -- ---- from a place on
 
   module _ (s : Bytes) (at : ℕ) where
     -- what an end tells
-    pub end_tells : at ≤ length s → (e : ℕ) → record_end strings k s at ≡ At e
-        → (c : Cut KeptRecord) × ((cut_record k (drop at s) ≡ some c) × ((legal strings c.item.held ≡ true) × ((c.rest ≡ drop e s) × ((at < e) × (e ≤ length s)))))
+    pub end_tells : at ≤ length s → (e : ℕ) → record_end strings k s at ≡ Some e
+        → (c : Cut KeptRecord) × ((cut_record k (drop at s) ≡ Some c) × ((legal strings c.item.held ≡ true) × ((c.rest ≡ drop e s) × ((at < e) × (e ≤ length s)))))
     unfolding record_end end_of
     end_tells h e t = go (cut_record k (drop at s)) refl t
       where
-        go : (o : Option (Cut KeptRecord)) → cut_record k (drop at s) ≡ o → end_of is_legal (length s) o ≡ At e
-            → (c : Cut KeptRecord) × ((cut_record k (drop at s) ≡ some c) × ((legal strings c.item.held ≡ true) × ((c.rest ≡ drop e s) × ((at < e) × (e ≤ length s)))))
-        go none q t = no cc
-        go (some c) q t =
+        go : (o : Option (Cut KeptRecord)) → cut_record k (drop at s) ≡ o → end_of is_legal (length s) o ≡ Some e
+            → (c : Cut KeptRecord) × ((cut_record k (drop at s) ≡ Some c) × ((legal strings c.item.held ≡ true) × ((c.rest ≡ drop e s) × ((at < e) × (e ≤ length s)))))
+        go None q t = no cc
+        go (Some c) q t =
             by_bool (legal strings c.item.held)
-            (λ y. let z : At (length s - length c.rest) ≡ At e = rw y at t in
+            (λ y. let z : Some (length s - length c.rest) ≡ Some e = rw y at t in
             let w : length s - length c.rest ≡ e = cc in
             let o = record_off k (drop at s) c q in
             let x = off_end s at h o.1.0 in
             let p : at + o.0 ≡ e = omega (arith, x.1.1) in
             (c, (q, (y, (x.0 ∙ ap (λ n. drop n s) p, (omega (arith, o.1.1), omega (arith, x.1.0)))))))
-            (λ y. let z : Bad ≡ At e = rw y at t in no cc)
+            (λ y. let z : None ≡ Some e = rw y at t in no cc)
 
-    pub end_at : at ≤ length s → (n : ℕ) → At n ≡ record_end strings k (drop at s) 0 → (At (at + n) ≡ record_end strings k s at) × (at + n ≤ length s)
+    pub end_at : at ≤ length s → (n : ℕ) → Some n ≡ record_end strings k (drop at s) 0 → (Some (at + n) ≡ record_end strings k s at) × (at + n ≤ length s)
     unfolding record_end end_of
     end_at h n t = go (cut_record k (drop at s)) refl t
       where
-        go : (o : Option (Cut KeptRecord)) → cut_record k (drop at s) ≡ o → At n ≡ end_of is_legal (length (drop at s)) o → (At (at + n) ≡ end_of is_legal (length s) o) × (at + n ≤ length s)
-        go none q t = no cc
-        go (some c) q t =
+        go : (o : Option (Cut KeptRecord)) → cut_record k (drop at s) ≡ o → Some n ≡ end_of is_legal (length (drop at s)) o → (Some (at + n) ≡ end_of is_legal (length s) o) × (at + n ≤ length s)
+        go None q t = no cc
+        go (Some c) q t =
             by_bool (legal strings c.item.held)
-            (λ y. let z : At n ≡ At (length (drop at s) - length c.rest) = rw y at t in
+            (λ y. let z : Some n ≡ Some (length (drop at s) - length c.rest) = rw y at t in
             let w : n ≡ length (drop at s) - length c.rest = cc in
             let o = record_off k (drop at s) c q in
             let x = off_end s at h o.1.0 in
@@ -153,18 +146,18 @@ module _ (strings : ℕ) (k : Kind) where
             let r = off_length o.1.0 in
             let p : length s - length c.rest ≡ at + n = omega (arith, x.1.0) in
             (rw (y, p), omega (arith, x.1.0)))
-            (λ y. let z : At n ≡ Bad = rw y at t in no cc)
+            (λ y. let z : Some n ≡ None = rw y at t in no cc)
 
-    pub end_bad : Bad ≡ record_end strings k (drop at s) 0 → Bad ≡ record_end strings k s at
+    pub end_bad : None ≡ record_end strings k (drop at s) 0 → None ≡ record_end strings k s at
     unfolding record_end end_of
     end_bad t = go (cut_record k (drop at s)) t
       where
-        go : (o : Option (Cut KeptRecord)) → Bad ≡ end_of is_legal (length (drop at s)) o → Bad ≡ end_of is_legal (length s) o
-        go none t = refl
-        go (some c) t =
+        go : (o : Option (Cut KeptRecord)) → None ≡ end_of is_legal (length (drop at s)) o → None ≡ end_of is_legal (length s) o
+        go None t = refl
+        go (Some c) t =
             by_bool (legal strings c.item.held)
-            (λ y. let z : Bad ≡ At (length (drop at s) - length c.rest) = rw y at t in no cc)
+            (λ y. let z : None ≡ Some (length (drop at s) - length c.rest) = rw y at t in no cc)
             (λ y. rw y)
 
-    pub end_past : length s ≤ at → Bad ≡ record_end strings k s at
+    pub end_past : length s ≤ at → None ≡ record_end strings k s at
     end_past h = end_bad (front_short (drop at s) (omega (arith, length-drop at s)))

@@ -1,8 +1,11 @@
 -- The check: what its tests say of a record, in document 01's order.
+use Rattle.std.specs.Prelude.{Err, None, Option, Result, Some}
+use Rattle.std.specs.Option.{ok_or}
+use Rattle.std.specs.Result.{IsErr, IsErrAnd}
+use Rattle.std.proofs.lemmas.Result.{err_from_is_err_and}
 use Prim.Native.Nat.{ℕ, ◌+◌, ◌-◌, ◌*◌, ◌≤◌}
-use mathlib.Core.Path.{◌≡◌, refl, sym, ◌∙◌}
+use mathlib.Core.Path.{◌≡◌, refl, sym, ◌∙◌, ap}
 use mathlib.Core.Bool.{Bool, true, false, cond}
-use mathlib.Core.Option.{Option, none, some}
 use mathlib.Core.List.{List, [], ◌∷◌}
 use native.Mathlib.Omega.{arith}
 use lib.Dec.{eqb}
@@ -22,17 +25,21 @@ use Rattle.compact.specs.Legal.{limits, handle, legal_meta, body_handles, legal_
 use Rattle.compact_legal.specs.Judge.{end_of, judged, verdict_of, tags_end, body_end, place_in_range, count_within, few, chosen}
 use Rattle.compact.specs.Held.{head_in}
 use Rattle.compact.specs.declared.PushHead.{PushHead}
-use Rattle.compact_legal.specs.declared.End.TheVariants.{At, Bad}
-use Rattle.compact_legal.specs.declared.Verdict.TheVariants.{Refused}
 use Rattle.compact.proofs.Places.{Off, off_length, total, times_off, tag_off}
 use Rattle.compact_legal.proofs.Ends.{Ends, ends_at}
 use Rattle.compact_legal.proofs.TagRuns.{tags_ended, tags_text}
 use Rattle.compact_legal.proofs.Bodies.{body_long, body_cut}
 
+-- what `o.ok_or(x)?` returns where there is none
+pub handed : {A E : Type 0} {o : Option A} {x e : E} {r : Result A E} → ◌≡◌ {A = Result A E} (Err e) (ok_or o x) → o ≡ None → IsErr r × IsErrAnd r (λ y. y ≡ e) → r ≡ Err x
+handed {x = x} {r = r} v n h =
+    let p = err_from_is_err_and r h.1 in
+    p.1 ∙ (ap Err p.2 ∙ (v ∙ ap (λ o. ok_or o x) n))
+
 -- ---- the order of the tests
 
 in_order : (room handles texts range few : Bool) (e : ℕ)
-    → cond room (judged e (cond handles (cond texts (cond range (cond few none (some TooManyParts)) (some CoordinateRange)) (some NotText)) (some BadRecord))) (Refused BadRecord)
+    → cond room (judged e (cond handles (cond texts (cond range (cond few None (Some TooManyParts)) (Some CoordinateRange)) (Some NotText)) (Some BadRecord))) (Err BadRecord)
     ≡ chosen (both handles room) texts range few e
 unfolding chosen both
 in_order true true true true true e = refl
@@ -44,7 +51,7 @@ in_order false true texts range few e = refl
 in_order false false texts range few e = refl
 
 -- handles that are not held are refused 17, with bytes left over and without
-refused : (strings : ℕ) (more : Bool) (len : ℕ) (r : Record ℕ) (q : Bytes) → legal_handles strings r ≡ false → Refused BadRecord ≡ verdict_of strings more len (found r q)
+refused : (strings : ℕ) (more : Bool) (len : ℕ) (r : Record ℕ) (q : Bytes) → legal_handles strings r ≡ false → Err BadRecord ≡ verdict_of strings more len (found r q)
 unfolding verdict_of fault_of
 refused strings more len r q h = by_bool (either more (eqb (length q) 0)) (λ t. rw (t, h)) (λ t. rw t)
 
@@ -82,24 +89,24 @@ both_true false = refl
 
 module _ (strings : ℕ) (k : Kind) (head : PushHead) (m : Meta ℕ) (s : Bytes) (at : ℕ) (within : at ≤ length s) (more : Bool) where
   -- no body, or a role that is not held
-  pub body_refused : body_end strings k (head_in k head) s at ≡ Bad → Refused BadRecord ≡ verdict_of strings more (length s) (cut_parts k (head_in k head) m (drop at s))
+  pub body_refused : body_end strings k (head_in k head) s at ≡ None → Err BadRecord ≡ verdict_of strings more (length s) (cut_parts k (head_in k head) m (drop at s))
   unfolding body_end cut_parts then_cut end_of verdict_of legal_handles
   body_refused h = go (cut_body k (head_in k head) (drop at s)) h
     where
       last : (b : Body ℕ) → body_handles strings b ≡ false → (o : Option (Cut (List (Tag ℕ))))
-          → Refused BadRecord ≡ verdict_of strings more (length s) (then_cut o (λ ts r. found (record { meta = m; body = b; tags = ts }) r))
-      last b t none = refl
-      last b t (some c) = refused strings more (length s) _ c.rest (both_no_right (legal_meta strings m) (both_no_left (body_handles strings b) _ t))
+          → Err BadRecord ≡ verdict_of strings more (length s) (then_cut o (λ ts r. found (record { meta = m; body = b; tags = ts }) r))
+      last b t None = refl
+      last b t (Some c) = refused strings more (length s) _ c.rest (both_no_right (legal_meta strings m) (both_no_left (body_handles strings b) _ t))
 
-      go : (o : Option (Cut (Body ℕ))) → end_of (body_handles strings) (length s) o ≡ Bad
-          → Refused BadRecord ≡ verdict_of strings more (length s) (then_cut o (λ b s1. then_cut (times cut_tag (head_in k head).tags s1) (λ ts r. found (record { meta = m; body = b; tags = ts }) r)))
-      go none t = refl
-      go (some c) t =
+      go : (o : Option (Cut (Body ℕ))) → end_of (body_handles strings) (length s) o ≡ None
+          → Err BadRecord ≡ verdict_of strings more (length s) (then_cut o (λ b s1. then_cut (times cut_tag (head_in k head).tags s1) (λ ts r. found (record { meta = m; body = b; tags = ts }) r)))
+      go None t = refl
+      go (Some c) t =
           by_bool (body_handles strings c.item)
-          (λ y. let z : At (length s - length c.rest) ≡ Bad = rw y at t in no cc)
+          (λ y. let z : Some (length s - length c.rest) ≡ None = rw y at t in no cc)
           (λ y. last c.item y (times cut_tag (head_in k head).tags c.rest))
 
-  module _ (t : ℕ) (body : body_end strings k (head_in k head) s at ≡ At t) where
+  module _ (t : ℕ) (body : body_end strings k (head_in k head) s at ≡ Some t) where
     body_ends : Ends (body_handles strings) s at (cut_body k (head_in k head) (drop at s)) t
     unfolding body_end
     body_ends = ends_at (body_handles strings) s at body_long within (cut_body k (head_in k head) (drop at s)) t (λ c e. (body_cut k (head_in k head) (drop at s) c e).off) body
@@ -112,20 +119,20 @@ module _ (strings : ℕ) (k : Kind) (head : PushHead) (m : Meta ℕ) (s : Bytes)
     parts_are = rw (body_ends.cut, head_tags)
 
     -- no tags, or a key that is not held
-    pub tags_refused : (tags_end strings head.tags s t).end ≡ Bad → Refused BadRecord ≡ verdict_of strings more (length s) (cut_parts k (head_in k head) m (drop at s))
+    pub tags_refused : (tags_end strings head.tags s t).end ≡ None → Err BadRecord ≡ verdict_of strings more (length s) (cut_parts k (head_in k head) m (drop at s))
     unfolding tags_end end_of verdict_of then_cut legal_handles
     tags_refused h = rw parts_are (go (times cut_tag head.tags (drop t s)) (sym (tags_ended strings (length s) (times cut_tag head.tags (drop t s))) ∙ h))
       where
-        go : (o : Option (Cut (List (Tag ℕ)))) → end_of (all (λ (t : Tag ℕ). handle strings t.key)) (length s) o ≡ Bad
-            → Refused BadRecord ≡ verdict_of strings more (length s) (then_cut o (λ ts r. found (record { meta = m; body = body_ends.item; tags = ts }) r))
-        go none h = refl
-        go (some c) h =
+        go : (o : Option (Cut (List (Tag ℕ)))) → end_of (all (λ (t : Tag ℕ). handle strings t.key)) (length s) o ≡ None
+            → Err BadRecord ≡ verdict_of strings more (length s) (then_cut o (λ ts r. found (record { meta = m; body = body_ends.item; tags = ts }) r))
+        go None h = refl
+        go (Some c) h =
             by_bool (all (λ (t : Tag ℕ). handle strings t.key) c.item)
-            (λ y. let z : At (length s - length c.rest) ≡ Bad = rw y at h in no cc)
+            (λ y. let z : Some (length s - length c.rest) ≡ None = rw y at h in no cc)
             (λ y. refused strings more (length s) _ c.rest (both_no_right (legal_meta strings m) (both_no_right (body_handles strings body_ends.item) y)))
 
-    module _ (e : ℕ) (tags : (tags_end strings head.tags s t).end ≡ At e) where
-      tags_off : (c : Cut (List (Tag ℕ))) → times cut_tag head.tags (drop t s) ≡ some c
+    module _ (e : ℕ) (tags : (tags_end strings head.tags s t).end ≡ Some e) where
+      tags_off : (c : Cut (List (Tag ℕ))) → times cut_tag head.tags (drop t s) ≡ Some c
           → Off (drop t s) (total (λ (t : Tag ℕ). 8 + length t.value) c.item) c.rest × (length c.item ≡ head.tags)
       tags_off c h = times_off cut_tag (λ (t : Tag ℕ). 8 + length t.value) tag_off head.tags (drop t s) c h
 

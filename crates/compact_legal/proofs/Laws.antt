@@ -1,8 +1,8 @@
 -- Laws of legal records: a legal record has no fault, more strings held keep it legal, and what a direct push appends is one.
+use Rattle.std.specs.Prelude.{None, Ok, Option, Some}
 use Prim.Native.Nat.{ℕ, ◌≤◌}
 use mathlib.Core.Path.{◌≡◌, refl}
 use mathlib.Core.Bool.{Bool, true, false, cond}
-use mathlib.Core.Option.{Option, none, some}
 use mathlib.Core.List.{List, [], ◌∷◌, ◌++◌}
 use mathlib.Core.Logic.{◌↔◌}
 use native.Mathlib.Omega.{arith}
@@ -22,20 +22,19 @@ use Rattle.compact.proofs.Cuts.{pushed, pushed_bytes}
 use Rattle.compact.specs.Legal.{handle, legal_meta, body_handles, legal_handles, legal_texts, in_range, within_limits, limits, fault_of, legal}
 use Rattle.compact_legal.specs.Judge.{fault_answer, fault_for}
 use Rattle.compact_legal.specs.Whole.{Whole}
-use Rattle.compact_legal.specs.declared.Fault.TheVariants as fault
 use Rattle.compact_legal.proofs.Wholes.{append_whole}
 
 -- ---- a record is legal exactly when it has no fault
 
 no_fault : (handles texts range few : Bool) → both handles (both texts (both range few)) ≡ true
-    → cond handles (cond texts (cond range (cond few none (some TooManyParts)) (some CoordinateRange)) (some NotText)) (some BadRecord) ≡ none
+    → cond handles (cond texts (cond range (cond few None (Some TooManyParts)) (Some CoordinateRange)) (Some NotText)) (Some BadRecord) ≡ None
 no_fault handles texts range few h =
     let h2 = both_right _ _ h in
     let h3 = both_right _ _ h2 in
     rw (both_left _ _ h, both_left _ _ h2, both_left _ _ h3, both_right _ _ h3)
 
 faultless : (handles texts range few : Bool)
-    → cond handles (cond texts (cond range (cond few none (some TooManyParts)) (some CoordinateRange)) (some NotText)) (some BadRecord) ≡ none → both handles (both texts (both range few)) ≡ true
+    → cond handles (cond texts (cond range (cond few None (Some TooManyParts)) (Some CoordinateRange)) (Some NotText)) (Some BadRecord) ≡ None → both handles (both texts (both range few)) ≡ true
 unfolding both
 faultless true true true true h = refl
 faultless true true true false h = no cc
@@ -43,7 +42,7 @@ faultless true true false few h = no cc
 faultless true false range few h = no cc
 faultless false texts range few h = no cc
 
-pub legal_is : (strings : ℕ) (r : Record ℕ) → (legal strings r ≡ true) ↔ (fault_of strings r ≡ none)
+pub legal_is : (strings : ℕ) (r : Record ℕ) → (legal strings r ≡ true) ↔ (fault_of strings r ≡ None)
 unfolding legal fault_of
 legal_is strings r =
     let t = legal_texts r in
@@ -90,19 +89,19 @@ module _ (n m : ℕ) (more : n ≤ m) where
 
 -- ---- what a direct push appends
 
-answered_legal : (f : Option Refusal) → fault_answer f ≡ fault.Legal → f ≡ none
-answered_legal none h = refl
-answered_legal (some x) h = no cc
+answered_legal : (f : Option Refusal) → fault_answer f ≡ (Ok tt) → f ≡ None
+answered_legal None h = refl
+answered_legal (Some x) h = no cc
 
 -- a push that is not refused gives a legal record
-pub push_legal : (strings : ℕ) (o : Option (Record ℕ)) → fault_for strings o ≡ fault.Legal → (r : Record ℕ) × ((o ≡ some r) × (legal strings r ≡ true))
+pub push_legal : (strings : ℕ) (o : Option (Record ℕ)) → fault_for strings o ≡ (Ok tt) → (r : Record ℕ) × ((o ≡ Some r) × (legal strings r ≡ true))
 unfolding fault_for
-push_legal strings none h = no cc
-push_legal strings (some r) h = (r, (refl, (legal_is strings r).1 (answered_legal (fault_of strings r) h)))
+push_legal strings None h = no cc
+push_legal strings (Some r) h = (r, (refl, (legal_is strings r).1 (answered_legal (fault_of strings r) h)))
 
 -- an arena of whole records stays one
 pub push_whole : (strings : ℕ) (k : Kind) (h : Head) (m : Meta ℕ) (parts s : Bytes) → all is_byte parts ≡ true → fits_head k h ≡ true → fits_meta m ≡ true
-    → fault_for strings (pushed_record k h m parts) ≡ fault.Legal → Whole strings k s → Whole strings k (s ++ (head_bytes k h ++ meta_bytes m ++ parts))
+    → fault_for strings (pushed_record k h m parts) ≡ (Ok tt) → Whole strings k s → Whole strings k (s ++ (head_bytes k h ++ meta_bytes m ++ parts))
 unfolding fits_kept
 push_whole strings k h m parts s b f g e w =
     let x = push_legal strings (pushed_record k h m parts) e in

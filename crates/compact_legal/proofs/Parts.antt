@@ -1,8 +1,8 @@
 -- A member and a tag at a place, test by test.
+use Rattle.std.specs.Prelude.{None, Option, Some}
 use Prim.Native.Nat.{ℕ, zero, suc, ◌+◌, ◌-◌, ◌<◌, ◌≤◌}
 use mathlib.Core.Path.{◌≡◌, refl, sym, ◌∙◌}
 use mathlib.Core.Bool.{true, cond}
-use mathlib.Core.Option.{Option, none, some}
 use native.Mathlib.Omega.{arith}
 use lib.Dec.{ltb}
 use lib.IntN.{ℤ}
@@ -19,7 +19,6 @@ use Rattle.compact.specs.Cut.{Cut, found, cut_tag}
 use Rattle.compact.specs.Held.{member_named}
 use Rattle.compact.specs.Legal.{handle}
 use Rattle.compact_legal.specs.Judge.{end_of, member_end, tag_end}
-use Rattle.compact_legal.specs.declared.End.TheVariants.{At, Bad}
 use Rattle.compact.proofs.Places.{leaving, member_sized, tag_short, tag_long, tag_whole}
 use Rattle.compact_legal.proofs.Ends.{end_none, end_found}
 
@@ -32,19 +31,19 @@ pub record Tagged (s : Bytes) (at e : ℕ) : Type 0 where
 module _ (strings : ℕ) (s : Bytes) (at : ℕ) (within : at ≤ length s) where
   -- ---- members
 
-  pub member_bad : length s < at + 13 → Bad ≡ member_end strings s at
+  pub member_bad : length s < at + 13 → None ≡ member_end strings s at
   unfolding member_end
   member_bad h = rw (member_sized.short s at within h) (sym (end_none _ (length s)))
 
   type_and_role : (ref : ℤ) (n role e : ℕ) → e ≤ length s
-      → end_of (λ m. handle strings m.role) (length s) (leaving (member_named ref (of_number n) role) (drop e s)) ≡ cond (both (ltb n 3) (ltb role strings)) (At e) Bad
+      → end_of (λ m. handle strings m.role) (length s) (leaving (member_named ref (of_number n) role) (drop e s)) ≡ cond (both (ltb n 3) (ltb role strings)) (Some e) None
   unfolding of_number both
   type_and_role ref zero role e h = end_found (λ (m : Member ℕ). handle strings m.role) s _ e h
   type_and_role ref (suc zero) role e h = end_found (λ (m : Member ℕ). handle strings m.role) s _ e h
   type_and_role ref (suc (suc zero)) role e h = end_found (λ (m : Member ℕ). handle strings m.role) s _ e h
   type_and_role ref (suc (suc (suc n))) role e h = rw (le-ltb (suc (suc (suc n))) 3 (omega arith)) (end_none (λ (m : Member ℕ). handle strings m.role) (length s))
 
-  pub member_is : at + 13 ≤ length s → member_end strings s at ≡ cond (both (ltb (value_at 1 s (at + 8)) 3) (ltb (value_at 4 s (at + 9)) strings)) (At (at + 13)) Bad
+  pub member_is : at + 13 ≤ length s → member_end strings s at ≡ cond (both (ltb (value_at 1 s (at + 8)) 3) (ltb (value_at 4 s (at + 9)) strings)) (Some (at + 13)) None
   unfolding member_end
   member_is h =
       let e : at + 8 + 1 ≡ at + 9 = omega arith in
@@ -52,36 +51,36 @@ module _ (strings : ℕ) (s : Bytes) (at : ℕ) (within : at ≤ length s) where
 
   -- ---- tags
 
-  pub tag_bad_short : length s < at + 8 → Bad ≡ tag_end s at
+  pub tag_bad_short : length s < at + 8 → None ≡ tag_end s at
   unfolding tag_end
   tag_bad_short h = rw (tag_short s at h) (sym (end_none _ (length s)))
 
   module _ (room : at + 8 ≤ length s) (n : ℕ) (len : n ≡ value_at 4 s (at + 4)) where
-    pub tag_bad_long : length s < at + 8 + n → Bad ≡ tag_end s at
+    pub tag_bad_long : length s < at + 8 + n → None ≡ tag_end s at
     unfolding tag_end
     tag_bad_long h = rw (tag_long s at room n len h) (sym (end_none _ (length s)))
 
-    pub tag_good : at + 8 + n ≤ length s → At (at + 8 + n) ≡ tag_end s at
+    pub tag_good : at + 8 + n ≤ length s → Some (at + 8 + n) ≡ tag_end s at
     unfolding tag_end
     tag_good h = rw (tag_whole s at room n len h) (sym (end_found (λ (t : Tag ℕ). true) s _ (at + 8 + n) h))
 
-  pub tagged : (e : ℕ) → tag_end s at ≡ At e → Tagged s at e
+  pub tagged : (e : ℕ) → tag_end s at ≡ Some e → Tagged s at e
   tagged e h =
       let n = value_at 4 s (at + 4) in
       by_le (at + 8) (length s)
       (λ k. by_le (at + 8 + n) (length s)
-      (λ l. let x : At (at + 8 + n) ≡ At e = tag_good k n refl l ∙ h in
+      (λ l. let x : Some (at + 8 + n) ≡ Some e = tag_good k n refl l ∙ h in
       let y : at + 8 + n ≡ e = cc in
       let z : at + 8 + n - (at + 8) ≡ n = omega arith in
       record { room = omega arith; to = omega arith; cut = rw (← y, z) (tag_whole s at k n refl l) })
-      (λ l. let x : Bad ≡ At e = tag_bad_long k n refl l ∙ h in no cc))
-      (λ k. let x : Bad ≡ At e = tag_bad_short k ∙ h in no cc)
+      (λ l. let x : None ≡ Some e = tag_bad_long k n refl l ∙ h in no cc))
+      (λ k. let x : None ≡ Some e = tag_bad_short k ∙ h in no cc)
 
   -- a tag that is no tag is none whatever is asked of it
-  pub tag_none : Bad ≡ tag_end s at → cut_tag (drop at s) ≡ none
+  pub tag_none : None ≡ tag_end s at → cut_tag (drop at s) ≡ None
   unfolding tag_end end_of
   tag_none h = go (cut_tag (drop at s)) refl h
     where
-      go : (o : Option (Cut (Tag ℕ))) → cut_tag (drop at s) ≡ o → Bad ≡ end_of (λ (t : Tag ℕ). true) (length s) o → cut_tag (drop at s) ≡ none
-      go none e t = e
-      go (some c) e t = no cc
+      go : (o : Option (Cut (Tag ℕ))) → cut_tag (drop at s) ≡ o → None ≡ end_of (λ (t : Tag ℕ). true) (length s) o → cut_tag (drop at s) ≡ None
+      go None e t = e
+      go (Some c) e t = no cc

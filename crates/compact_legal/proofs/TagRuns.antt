@@ -1,8 +1,8 @@
 -- Tags one after the other: where they end whose keys are held, and whether their values are text.
+use Rattle.std.specs.Prelude.{None, Option, Some}
 use Prim.Native.Nat.{ℕ, zero, suc, ◌+◌, ◌-◌, ◌<◌, ◌≤◌}
 use mathlib.Core.Path.{◌≡◌, refl, sym}
 use mathlib.Core.Bool.{Bool, true, false, ◌&&◌}
-use mathlib.Core.Option.{Option, none, some}
 use mathlib.Core.List.{List, ◌∷◌}
 use native.Mathlib.Omega.{arith}
 use lib.Dec.{ltb}
@@ -15,7 +15,6 @@ use Rattle.model.specs.Record.{Tag}
 use Rattle.compact.specs.Cut.{Cut, then_cut, found, times, cut_tag}
 use Rattle.compact.specs.Legal.{handle}
 use Rattle.compact_legal.specs.Judge.{end_of, tag_end, no_run, tag_run_of, tags_end}
-use Rattle.compact_legal.specs.declared.End.TheVariants.{At, Bad}
 use Rattle.compact_legal.specs.declared.TagRun.{TagRun}
 use Rattle.compact_legal.proofs.Parts.{tagged, tag_none}
 
@@ -32,7 +31,7 @@ unfolding both
 after_none true = refl
 after_none false = refl
 
-pub after_all : (t : Bool) (e : ℕ) → after t (record { end = At e; text = true }) ≡ record { end = At e; text = t }
+pub after_all : (t : Bool) (e : ℕ) → after t (record { end = Some e; text = true }) ≡ record { end = Some e; text = t }
 unfolding both
 after_all true e = refl
 after_all false e = refl
@@ -45,29 +44,29 @@ after_after false u r = refl
 module _ (strings len : ℕ) (t : Tag ℕ) where
   held_first : (o : Option (Cut (List (Tag ℕ)))) → handle strings t.key ≡ true → tag_run_of strings len (then_cut o (λ ts q. found (t ∷ ts) q)) ≡ after (is_text t.value) (tag_run_of strings len o)
   unfolding tag_run_of then_cut all both
-  held_first none h = sym (after_none (is_text t.value))
-  held_first (some c) h =
+  held_first None h = sym (after_none (is_text t.value))
+  held_first (Some c) h =
       by_bool (all (λ (t : Tag ℕ). handle strings t.key) c.item)
       (λ y. rw (h, y))
       (λ y. rw (h, y) (sym (after_none (is_text t.value))))
 
   unheld_first : (o : Option (Cut (List (Tag ℕ)))) → handle strings t.key ≡ false → tag_run_of strings len (then_cut o (λ ts q. found (t ∷ ts) q)) ≡ no_run
   unfolding tag_run_of then_cut all both
-  unheld_first none h = refl
-  unheld_first (some c) h = rw h
+  unheld_first None h = refl
+  unheld_first (Some c) h = rw h
 
 module _ (strings : ℕ) (s : Bytes) where
-  pub tags_none : (at : ℕ) → at ≤ length s → tags_end strings 0 s at ≡ record { end = At at; text = true }
+  pub tags_none : (at : ℕ) → at ≤ length s → tags_end strings 0 s at ≡ record { end = Some at; text = true }
   unfolding tags_end tag_run_of times all
   tags_none at h = let l : length s - length (drop at s) ≡ at = omega (arith, length-drop at s) in rw l
 
   module _ (at : ℕ) (within : at ≤ length s) where
-    pub tags_short : (n : ℕ) → 0 < n → Bad ≡ tag_end s at → tags_end strings n s at ≡ no_run
+    pub tags_short : (n : ℕ) → 0 < n → None ≡ tag_end s at → tags_end strings n s at ≡ no_run
     unfolding tags_end tag_run_of times then_cut
     tags_short zero l h = absurd (omega arith)
     tags_short (suc n) l h = rw (tag_none strings s at within h)
 
-    module _ (e : ℕ) (h : At e ≡ tag_end s at) where
+    module _ (e : ℕ) (h : Some e ≡ tag_end s at) where
       pub tag_room : (at + 8 ≤ e) × (e ≤ length s)
       tag_room = let x = tagged strings s at within e (sym h) in (x.room, x.to)
 
@@ -88,10 +87,10 @@ module _ (strings : ℕ) (s : Bytes) where
 
 pub tags_ended : (strings len : ℕ) (o : Option (Cut (List (Tag ℕ)))) → (tag_run_of strings len o).end ≡ end_of (all (λ (t : Tag ℕ). handle strings t.key)) len o
 unfolding tag_run_of end_of
-tags_ended strings len none = refl
-tags_ended strings len (some c) =
+tags_ended strings len None = refl
+tags_ended strings len (Some c) =
     by_bool (all (λ (t : Tag ℕ). handle strings t.key) c.item) (λ y. rw y) (λ y. rw y)
 
-pub tags_text : (strings len : ℕ) (c : Cut (List (Tag ℕ))) → all (λ (t : Tag ℕ). handle strings t.key) c.item ≡ true → (tag_run_of strings len (some c)).text ≡ all (λ (t : Tag ℕ). is_text t.value) c.item
+pub tags_text : (strings len : ℕ) (c : Cut (List (Tag ℕ))) → all (λ (t : Tag ℕ). handle strings t.key) c.item ≡ true → (tag_run_of strings len (Some c)).text ≡ all (λ (t : Tag ℕ). is_text t.value) c.item
 unfolding tag_run_of
 tags_text strings len c h = rw h

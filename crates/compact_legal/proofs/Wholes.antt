@@ -1,8 +1,8 @@
 -- Whole records end to end: the test decides the record `Whole`, and an append keeps it.
+use Rattle.std.specs.Prelude.{None, Option, Some}
 use Prim.Native.Nat.{ℕ, zero, suc, ◌-◌, ◌<◌, ◌≤◌}
 use mathlib.Core.Path.{◌≡◌, refl, sym, ◌∙◌, ap}
 use mathlib.Core.Bool.{Bool, true, false}
-use mathlib.Core.Option.{Option, none, some}
 use mathlib.Core.List.{List, [], ◌∷◌, ◌++◌, append_assoc, append-nil}
 use native.Mathlib.Omega.{arith}
 use lib.ListN.{length, drop, length-drop, length-append}
@@ -20,28 +20,27 @@ use Rattle.compact.proofs.Lengths.{length_record}
 use Rattle.compact.specs.Legal.{legal}
 use Rattle.compact_legal.specs.Judge.{record_end, end_of}
 use Rattle.compact_legal.specs.Whole.{kept_bytes, Whole, legal_rest, after_legal, onward, whole_step, whole_by, whole_records}
-use Rattle.compact_legal.specs.declared.End.TheVariants.{At, Bad}
 use Rattle.compact.proofs.Places.{off_length}
 use Rattle.compact_legal.proofs.Fronts.{record_off, end_tells}
 
 module _ (strings : ℕ) (k : Kind) where
   -- what a legal record at the front tells
-  after_is : (s r : Bytes) → after_legal strings k s ≡ some r → (c : Cut KeptRecord) × ((cut_record k s ≡ some c) × ((legal strings c.item.held ≡ true) × (c.rest ≡ r)))
+  after_is : (s r : Bytes) → after_legal strings k s ≡ Some r → (c : Cut KeptRecord) × ((cut_record k s ≡ Some c) × ((legal strings c.item.held ≡ true) × (c.rest ≡ r)))
   unfolding after_legal
   after_is s r h = go (cut_record k s) refl h
     where
-      go : (o : Option (Cut KeptRecord)) → cut_record k s ≡ o → legal_rest strings o ≡ some r → (c : Cut KeptRecord) × ((cut_record k s ≡ some c) × ((legal strings c.item.held ≡ true) × (c.rest ≡ r)))
-      go none e t = no cc
-      go (some c) e t =
+      go : (o : Option (Cut KeptRecord)) → cut_record k s ≡ o → legal_rest strings o ≡ Some r → (c : Cut KeptRecord) × ((cut_record k s ≡ Some c) × ((legal strings c.item.held ≡ true) × (c.rest ≡ r)))
+      go None e t = no cc
+      go (Some c) e t =
           by_bool (legal strings c.item.held)
-          (λ y. let z : some c.rest ≡ some r = rw y at t in let w : c.rest ≡ r = cc in (c, (e, (y, w))))
-          (λ y. let z : none ≡ some r = rw y at t in no cc)
+          (λ y. let z : Some c.rest ≡ Some r = rw y at t in let w : c.rest ≡ r = cc in (c, (e, (y, w))))
+          (λ y. let z : None ≡ Some r = rw y at t in no cc)
 
-  after_of : (s : Bytes) (c : Cut KeptRecord) → cut_record k s ≡ some c → legal strings c.item.held ≡ true → after_legal strings k s ≡ some c.rest
+  after_of : (s : Bytes) (c : Cut KeptRecord) → cut_record k s ≡ Some c → legal strings c.item.held ≡ true → after_legal strings k s ≡ Some c.rest
   unfolding after_legal
   after_of s c e t = rw (e, t)
 
-  shorter : (s r : Bytes) → after_legal strings k s ≡ some r → length r < length s
+  shorter : (s r : Bytes) → after_legal strings k s ≡ Some r → length r < length s
   shorter s r h =
       let x = after_is s r h in
       let o = record_off k s x.0 x.1.0 in
@@ -53,8 +52,8 @@ module _ (strings : ℕ) (k : Kind) where
   same_onward s f g h = go (after_legal strings k s) refl
     where
       go : (o : Option Bytes) → after_legal strings k s ≡ o → onward o f ≡ onward o g
-      go none e = refl
-      go (some r) e = h r (shorter s r e)
+      go None e = refl
+      go (Some r) e = h r (shorter s r e)
 
   -- ---- fuel: as much as the length is enough
 
@@ -72,33 +71,33 @@ module _ (strings : ℕ) (k : Kind) where
   unfolding whole_records whole_by
   whole_nil = refl
 
-  pub whole_next : (s r : Bytes) → after_legal strings k s ≡ some r → whole_records strings k s ≡ whole_records strings k r
+  pub whole_next : (s r : Bytes) → after_legal strings k s ≡ Some r → whole_records strings k s ≡ whole_records strings k r
   unfolding whole_records whole_by
   whole_next [] r e = absurd (omega (arith, shorter [] r e))
   whole_next (b ∷ s) r e = let l = shorter (b ∷ s) r e in rw e (enough (length s) (length r) r (omega arith) (omega arith))
 
-  pub whole_stops : (s : Bytes) → 0 < length s → after_legal strings k s ≡ none → whole_records strings k s ≡ false
+  pub whole_stops : (s : Bytes) → 0 < length s → after_legal strings k s ≡ None → whole_records strings k s ≡ false
   unfolding whole_records whole_by
   whole_stops [] h e = absurd (omega arith)
   whole_stops (b ∷ s) h e = rw e
 
   -- ---- the walk of the code
 
-  pub walk_on : (s : Bytes) (at e : ℕ) → at ≤ length s → At e ≡ record_end strings k s at → (whole_records strings k (drop at s) ≡ whole_records strings k (drop e s)) × ((at < e) × (e ≤ length s))
+  pub walk_on : (s : Bytes) (at e : ℕ) → at ≤ length s → Some e ≡ record_end strings k s at → (whole_records strings k (drop at s) ≡ whole_records strings k (drop e s)) × ((at < e) × (e ≤ length s))
   walk_on s at e h t =
       let x = end_tells strings k s at h e (sym t) in
       let r = x.1.1.1.0 in
-      (whole_next (drop at s) (drop e s) (after_of (drop at s) x.0 x.1.0 x.1.1.0 ∙ ap some r), x.1.1.1.1)
+      (whole_next (drop at s) (drop e s) (after_of (drop at s) x.0 x.1.0 x.1.1.0 ∙ ap Some r), x.1.1.1.1)
 
-  pub walk_stops : (s : Bytes) (at : ℕ) → at < length s → Bad ≡ record_end strings k s at → whole_records strings k (drop at s) ≡ false
+  pub walk_stops : (s : Bytes) (at : ℕ) → at < length s → None ≡ record_end strings k s at → whole_records strings k (drop at s) ≡ false
   unfolding record_end end_of after_legal
   walk_stops s at h t = whole_stops (drop at s) (omega (arith, length-drop at s)) (go (cut_record k (drop at s)) t)
     where
-      go : (o : Option (Cut KeptRecord)) → Bad ≡ end_of (λ (x : KeptRecord). legal strings x.held) (length s) o → legal_rest strings o ≡ none
-      go none t = refl
-      go (some c) t =
+      go : (o : Option (Cut KeptRecord)) → None ≡ end_of (λ (x : KeptRecord). legal strings x.held) (length s) o → legal_rest strings o ≡ None
+      go None t = refl
+      go (Some c) t =
           by_bool (legal strings c.item.held)
-          (λ y. let z : Bad ≡ At (length s - length c.rest) = rw y at t in no cc)
+          (λ y. let z : None ≡ Some (length s - length c.rest) = rw y at t in no cc)
           (λ y. rw y)
 
 -- ---- the test decides `Whole`
@@ -152,8 +151,8 @@ module _ (strings : ℕ) (k : Kind) where
   sound_step (x ∷ s) f b t next = go (after_legal strings k (x ∷ s)) refl t
     where
       go : (o : Option Bytes) → after_legal strings k (x ∷ s) ≡ o → onward o f ≡ true → Whole strings k (x ∷ s)
-      go none e t = clash t refl
-      go (some r) e t =
+      go None e t = clash t refl
+      go (Some r) e t =
           let y = after_is strings k (x ∷ s) r e in
           let z = (record_format k).forth (x ∷ s) y.0 b y.1.0 in
           let small : all is_byte y.0.rest ≡ true = all_right is_byte (kept_bytes y.0.item) y.0.rest (rw (← z.0) b) in

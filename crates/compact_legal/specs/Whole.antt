@@ -1,7 +1,6 @@
 -- Document 01, sound storage: "each arena's used bytes whole records that pass 3, 10, 16, 17, end to end; every handle held";
 -- "each live with an offset where a record of that id starts".
-use Rattle.std.specs.Prelude.{ℕ, zero, suc, ◌-◌, ◌≡◌, Bool, true, false, cond, List, [], ◌∷◌, ltb, eqb, ℤ, length}
-use Rattle.std.proofs.Math.Option.{Option, none, some}
+use Rattle.std.specs.Prelude.{ℕ, zero, suc, ◌-◌, ◌≡◌, Bool, true, false, cond, List, [], ◌∷◌, ltb, eqb, ℤ, length, None, Option, Some}
 use Rattle.base.specs.Bytes.{Bytes, all}
 use Rattle.osm_id.specs.Order.{same_id}
 use Rattle.kind.specs.declared.Kind.{Kind}
@@ -22,15 +21,15 @@ pub record Whole (strings : ℕ) (k : Kind) (s : Bytes) : Type 0 where
 
 -- the same as a test: what a legal record at the front leaves, until nothing is left; each record takes a byte, so the length is fuel enough
 abbrev pub legal_rest : ℕ → Option (Cut KeptRecord) → Option Bytes
-legal_rest strings none = none
-legal_rest strings (some c) = cond (legal strings c.item.held) (some c.rest) none
+legal_rest strings None = None
+legal_rest strings (Some c) = cond (legal strings c.item.held) (Some c.rest) None
 
 unfoldable pub after_legal : ℕ → Kind → Bytes → Option Bytes
 after_legal strings k s = legal_rest strings (cut_record k s)
 
 abbrev pub onward : Option Bytes → (Bytes → Bool) → Bool
-onward none f = false
-onward (some r) f = f r
+onward None f = false
+onward (Some r) f = f r
 
 abbrev pub whole_step : ℕ → Kind → (Bytes → Bool) → Bytes → Bool
 whole_step strings k f [] = true
@@ -45,12 +44,12 @@ whole_records strings k s = whole_by strings k (length s) s
 
 -- the record that starts at a place
 unfoldable pub record_at : ℕ → List KeptRecord → Option KeptRecord
-record_at at [] = none
-record_at at (x ∷ xs) = cond (eqb at 0) (some x) (cond (ltb at (length (kept_bytes x))) none (record_at (at - length (kept_bytes x)) xs))
+record_at at [] = None
+record_at at (x ∷ xs) = cond (eqb at 0) (Some x) (cond (ltb at (length (kept_bytes x))) None (record_at (at - length (kept_bytes x)) xs))
 
 abbrev pub has_id : ℤ → Option KeptRecord → Bool
-has_id id none = false
-has_id id (some x) = same_id x.id id
+has_id id None = false
+has_id id (Some x) = same_id x.id id
 
 -- a record of that id starts at that place
 unfoldable pub starts_at : ℤ → ℕ → List KeptRecord → Bool

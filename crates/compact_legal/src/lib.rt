@@ -17,31 +17,10 @@ use compact::{ArenaMeta, PushHead};
 use kind::Kind;
 use refusal::Refusal;
 
-// The check's answer to a direct push.
-#[derive(Clone, Copy)]
-pub enum Fault {
-    Legal,
-    Refused(Refusal),
-}
-
-// Where something ends that is as it should be.
-#[derive(Clone, Copy)]
-pub enum End {
-    At(usize),
-    Bad,
-}
-
-// The check's answer to a record's parts: where they end, or why they are refused.
-#[derive(Clone, Copy)]
-enum Verdict {
-    Legal(usize),
-    Refused(Refusal),
-}
-
 // Where tags end, each whole and of a key that is held; and whether each value is text.
-#[derive(Clone, Copy)]
+#[derive(Clone, Copy, PartialEq, Eq, Debug)]
 struct TagRun {
-    end: End,
+    end: Option<usize>,
     text: bool,
 }
 
@@ -70,52 +49,43 @@ pub fn legal_meta(m: ArenaMeta, strings: u64) -> bool
 // ---- parts from a place on
 
 // A member of 13 bytes with a type of at most 2 and a role that is held.
-fn member_end(bytes: &[u8], at: usize, strings: u64) -> End
+fn member_end(bytes: &[u8], at: usize, strings: u64) -> Option<usize>
     requires { at ≤ length bytes.now }
     ensures { result ≡ member_end strings bytes.now at }
 {
     if bytes.len() - at < 13 {
-        return End::Bad;
+        return None;
     }
     let known = little::get_u8(bytes, at + 8) < 3;
     let held = (little::get_u32(bytes, at + 9) as u64) < strings;
-    if known & held {
-        End::At(at + 13)
-    } else {
-        End::Bad
-    }
+    (known & held).then_some(at + 13)
 }
 
 // A tag: a key's handle, a length and as many bytes.
-fn tag_end(bytes: &[u8], at: usize) -> End
+fn tag_end(bytes: &[u8], at: usize) -> Option<usize>
     requires { at ≤ length bytes.now }
     ensures { result ≡ tag_end bytes.now at }
 {
     if bytes.len() - at < 8 {
-        return End::Bad;
+        return None;
     }
     let n = little::get_u32(bytes, at + 4) as usize;
     if bytes.len() - at - 8 < n {
-        return End::Bad;
+        return None;
     }
-    End::At(at + 8 + n)
+    Some(at + 8 + n)
 }
 
 // So many members, one after the other. Each takes bytes, so a count that the bytes cannot hold ends at the last of them.
-fn members_end(bytes: &[u8], at: usize, n: u32, strings: u64) -> End
+fn members_end(bytes: &[u8], at: usize, n: u32, strings: u64) -> Option<usize>
     requires { at ≤ length bytes.now }
     ensures { result ≡ members_end strings n bytes.now at }
 {
     let mut place = at;
-    let mut left = n;
-    while 0 < left {
-        let End::At(next) = member_end(bytes, place, strings) else {
-            return End::Bad;
-        };
-        place = next;
-        left -= 1;
+    for _ in 0..n {
+        place = member_end(bytes, place, strings)?;
     }
-    End::At(place)
+    Some(place)
 }
 
 // The same of tags; each is looked at once.
@@ -124,12 +94,11 @@ fn tags_end(bytes: &[u8], at: usize, n: u32, strings: u64) -> TagRun
     ensures { result ≡ tags_end strings n bytes.now at }
 {
     let mut place = at;
-    let mut left = n;
     let mut text = true;
-    while 0 < left {
-        let End::At(next) = tag_end(bytes, place) else {
+    for _ in 0..n {
+        let Some(next) = tag_end(bytes, place) else {
             return TagRun {
-                end: End::Bad,
+                end: None,
                 text: false,
             };
         };
@@ -137,33 +106,32 @@ fn tags_end(bytes: &[u8], at: usize, n: u32, strings: u64) -> TagRun
             let from = place + 8;
             text = text & text::is_text(&bytes[from..next]);
             place = next;
-            left -= 1;
         } else {
             return TagRun {
-                end: End::Bad,
+                end: None,
                 text: false,
             };
         }
     }
     TagRun {
-        end: End::At(place),
+        end: Some(place),
         text,
     }
 }
 
 // Refs, members or, for a node, nothing. Refs are 8 bytes each, whatever they say.
-fn body_end(kind: Kind, head: PushHead, bytes: &[u8], at: usize, strings: u64) -> End
+fn body_end(kind: Kind, head: PushHead, bytes: &[u8], at: usize, strings: u64) -> Option<usize>
     requires { at ≤ length bytes.now }
     ensures { result ≡ body_end strings kind (head_in kind head) bytes.now at }
 {
     match kind {
-        Kind::Node => End::At(at),
+        Kind::Node => Some(at),
         Kind::Way => {
             let refs = 8 * (head.count as usize);
             if bytes.len() - at < refs {
-                return End::Bad;
+                return None;
             }
-            End::At(at + refs)
+            Some(at + refs)
         }
         Kind::Relation => members_end(bytes, at, head.count, strings),
     }
@@ -205,22 +173,24 @@ fn few_parts(kind: Kind, count: u32, tags: u32, values: usize) -> bool
 // ---- the check
 
 // 17, then 3, then 10, then 16.
-fn choose(held: bool, text: bool, inside: bool, few: bool, e: usize) -> Verdict
+#[tactic(auto, unfolding(crate::specs::Judge::chosen))]
+fn choose(held: bool, text: bool, inside: bool, few: bool, e: usize) -> Result<usize, Refusal>
     ensures { result ≡ chosen held text inside few e }
 {
+    // Nested: with positive tests a flat form tests `held` four times over.
     if held {
         if text {
             if inside {
                 if few {
-                    return Verdict::Legal(e);
+                    return Ok(e);
                 }
-                return Verdict::Refused(Refusal::TooManyParts);
+                return Err(Refusal::TooManyParts);
             }
-            return Verdict::Refused(Refusal::CoordinateRange);
+            return Err(Refusal::CoordinateRange);
         }
-        return Verdict::Refused(Refusal::NotText);
+        return Err(Refusal::NotText);
     }
-    Verdict::Refused(Refusal::BadRecord)
+    Err(Refusal::BadRecord)
 }
 
 // The check of a record whose parts begin at a place. Where no more may follow, they end where the bytes end.
@@ -232,18 +202,13 @@ fn judge(
     at: usize,
     strings: u64,
     more: bool,
-) -> Verdict
+) -> Result<usize, Refusal>
     requires { at ≤ length bytes.now }
     ensures { result ≡ verdict_of strings more (length bytes.now) (cut_parts kind (head_in kind head) (meta_of meta) (drop at bytes.now)) }
 {
-    let End::At(tags) = body_end(kind, head, bytes, at, strings) else {
-        return Verdict::Refused(Refusal::BadRecord);
-    };
+    let tags = body_end(kind, head, bytes, at, strings).ok_or(Refusal::BadRecord)?;
     let walked = tags_end(bytes, tags, head.tags, strings);
-    let last = walked.end;
-    let End::At(end) = last else {
-        return Verdict::Refused(Refusal::BadRecord);
-    };
+    let end = walked.end.ok_or(Refusal::BadRecord)?;
     let held = legal_meta(meta, strings) & (more | (end == bytes.len()));
     let inside = in_place(kind, head.lat, head.lon);
     let few = few_parts(
@@ -256,13 +221,17 @@ fn judge(
 }
 
 // The direct push's check. The parts are refs or members, then tags, as they lie in a record.
-pub fn push_fault(kind: Kind, head: PushHead, meta: ArenaMeta, parts: &[u8], strings: u64) -> Fault
+pub fn push_fault(
+    kind: Kind,
+    head: PushHead,
+    meta: ArenaMeta,
+    parts: &[u8],
+    strings: u64,
+) -> Result<(), Refusal>
     ensures { result ≡ fault_for strings (pushed_record kind (head_in kind head) (meta_of meta) parts.now) }
 {
-    match judge(kind, head, meta, parts, 0, strings, false) {
-        Verdict::Legal(_) => Fault::Legal,
-        Verdict::Refused(r) => Fault::Refused(r),
-    }
+    judge(kind, head, meta, parts, 0, strings, false)?;
+    Ok(())
 }
 
 // ---- records of an arena
@@ -316,30 +285,25 @@ fn read_head(kind: Kind, bytes: &[u8]) -> PushHead
 }
 
 // Where the legal record ends that the bytes begin with.
-fn front_end(kind: Kind, bytes: &[u8], strings: u64) -> End
+fn front_end(kind: Kind, bytes: &[u8], strings: u64) -> Option<usize>
     ensures { result ≡ record_end strings kind bytes.now 0 }
 {
     let at = parts_at(kind);
     if bytes.len() < at {
-        return End::Bad;
+        return None;
     }
     let head = read_head(kind, bytes);
     let meta = compact::read_meta(bytes, at - 29);
-    match judge(kind, head, meta, bytes, at, strings, true) {
-        Verdict::Legal(e) => End::At(e),
-        Verdict::Refused(_) => End::Bad,
-    }
+    judge(kind, head, meta, bytes, at, strings, true).ok()
 }
 
 // Where the legal record ends that starts at a place.
-pub fn record_end(kind: Kind, bytes: &[u8], at: usize, strings: u64) -> End
+pub fn record_end(kind: Kind, bytes: &[u8], at: usize, strings: u64) -> Option<usize>
     ensures { result ≡ record_end strings kind bytes.now at }
 {
     if at < bytes.len() {
-        let End::At(n) = front_end(kind, &bytes[at..], strings) else {
-            return End::Bad;
-        };
-        return End::At(at + n);
+        let n = front_end(kind, &bytes[at..], strings)?;
+        return Some(at + n);
     }
-    End::Bad
+    None
 }

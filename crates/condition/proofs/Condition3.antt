@@ -1,4 +1,5 @@
 -- Condition 3: the page's theorem on acts, at what the listing call answers after any two lists of calls that refuse regression throughout; and the refusals of 12 after any such list.
+use Rattle.std.specs.Prelude.{Ok}
 use Prim.Native.Nat.{ℕ, ◌≤◌}
 use mathlib.Core.Path.{◌≡◌, sym, ◌∙◌, ap}
 use mathlib.Core.Bool.{true}
@@ -16,7 +17,6 @@ use Rattle.overlay.specs.Given.{InBytes}
 use Rattle.overlay.specs.Calls.{set_up}
 use Rattle.overlay.proofs.Answers.{setup_taken}
 use Rattle.listing_page.proofs.Theorem.{same_page}
-use Rattle.listing.specs.declared.Listed.TheVariants.{Length}
 use Rattle.listing.specs.Call.{Output}
 use Rattle.listing.proofs.First.{list_acts}
 use Rattle.listing_page.specs.Summary.{summary}
@@ -37,7 +37,7 @@ taken_start z setting o ps taken lent parts =
 module _ (o : Overlay) (ps : ℕ → Bytes) (cs : List Ask) (start : Start o ps) (given : all ask_fits cs ≡ true) (refuses : all refusing cs ≡ true) where
   -- an output that is long enough gets the page of the accepted acts
   pub listed_after_lem : (out : Bytes) → page_length o ps cs ≤ length out
-      → listed_after o ps cs out ≡ record { out = listing (summary (accepted_acts o ps cs)) ++ drop (page_length o ps cs) out; answer = Length (page_length o ps cs) }
+      → listed_after o ps cs out ≡ record { out = listing (summary (accepted_acts o ps cs)) ++ drop (page_length o ps cs) out; answer = Ok (page_length o ps cs) }
   listed_after_lem out h =
       let w = reflects_after 0 o start.sizes start.bytes ps start.parts cs given in
       list_acts out (storage_left o ps cs).overlay w.bytes w.sound w.ranks (accepted_acts o ps cs) (page_known o start.sizes start.bytes ps start.parts cs given refuses) (ids_reflect _ _ _ _ w) h

@@ -1,9 +1,10 @@
 -- T16 over lists of calls: what a reader's events and its end answer, as far as nesting goes, by the documents of the grammar.
+use Rattle.std.specs.Prelude.{None, Option, Some, Err}
+use Rattle.base.specs.Options.{bind}
 use Prim.Native.Nat.{ℕ, ◌<◌, ◌≤◌}
 use mathlib.Core.Path.{◌≡◌, refl, sym, ◌∙◌, ap}
 use mathlib.Core.Bool.{Bool, true, false, cond}
 use mathlib.Core.Logic.{◌↔◌}
-use mathlib.Core.Option.{Option, none, some, bind}
 use mathlib.Core.List.{List, [], ◌∷◌, ◌++◌}
 use native.Mathlib.Omega.{arith}
 use lib.IntN.{ℤ}
@@ -46,8 +47,7 @@ use Rattle.acts.proofs.Calls.{world_append, own_reader, other_reader}
 use Rattle.acts.proofs.Turns.{fresh_agrees}
 use Rattle.acts.proofs.Changes.{Takes, done, more, lines_lead}
 use Rattle.overlay.specs.Overlay.{Overlay}
-use Rattle.reader.specs.declared.EventAnswer.TheVariants as E
-use Rattle.reader.specs.State.{State, next_line, is_stopped, state_sound}
+use Rattle.reader.specs.State.{State, next_line, is_stopped, state_sound, refusal_at}
 use Rattle.reader.specs.Means.{reader_of}
 use Rattle.reader.specs.Event.{event_on}
 use Rattle.reader.proofs.Answers.{by_answer, end_done, end_18}
@@ -62,30 +62,30 @@ use Rattle.condition.specs.Nesting.{IsDocument, BeginsDocument, NestingRefused, 
 -- ---- marks: the levels take a list of them exactly when a document begins with it
 
 -- what is refused stays refused
-pub run_stops : (p : Place) (xs ys : List Mark) → run p xs ≡ none → run p (xs ++ ys) ≡ none
+pub run_stops : (p : Place) (xs ys : List Mark) → run p xs ≡ None → run p (xs ++ ys) ≡ None
 unfolding run bind
 run_stops p [] ys h = no cc
 run_stops p (m ∷ xs) ys h = go (mark_step p m) (λ q. run_stops q xs ys) h
   where
-    go : (o : Option Place) → ((q : Place) → run q xs ≡ none → run q (xs ++ ys) ≡ none) → bind o (λ q. run q xs) ≡ none → bind o (λ q. run q (xs ++ ys)) ≡ none
-    go none f e = refl
-    go (some q) f e = f q e
+    go : (o : Option Place) → ((q : Place) → run q xs ≡ None → run q (xs ++ ys) ≡ None) → bind o (λ q. run q xs) ≡ None → bind o (λ q. run q (xs ++ ys)) ≡ None
+    go None f e = refl
+    go (Some q) f e = f q e
 
 -- what is taken goes on from where it led
-pub run_after : (p q : Place) (xs ys : List Mark) → run p xs ≡ some q → run p (xs ++ ys) ≡ run q ys
+pub run_after : (p q : Place) (xs ys : List Mark) → run p xs ≡ Some q → run p (xs ++ ys) ≡ run q ys
 unfolding run bind
 run_after p q [] ys e = let z : p ≡ q = cc in rw z
 run_after p q (m ∷ xs) ys e = go (mark_step p m) (λ r. run_after r q xs ys) e
   where
-    go : (o : Option Place) → ((r : Place) → run r xs ≡ some q → run r (xs ++ ys) ≡ run q ys) → bind o (λ r. run r xs) ≡ some q → bind o (λ r. run r (xs ++ ys)) ≡ run q ys
-    go none g h = no cc
-    go (some r) g h = g r h
+    go : (o : Option Place) → ((r : Place) → run r xs ≡ Some q → run r (xs ++ ys) ≡ run q ys) → bind o (λ r. run r xs) ≡ Some q → bind o (λ r. run r (xs ++ ys)) ≡ run q ys
+    go None g h = no cc
+    go (Some r) g h = g r h
 
 -- from each place some marks lead to the end
 pub record Ends (p : Place) : Type 0 where
   pub rest : List Mark
   pub place : Place
-  pub runs : run p rest ≡ some place
+  pub runs : run p rest ≡ Some place
   pub level : place.level ≡ L.Done
 
 ends_from : (l : Level) (a : Action) (k : Kind) → Ends (record { level = l; section = a; kind = k })
@@ -98,24 +98,24 @@ ends_from L.Leaf a k = record { rest = closes ∷ closes ∷ closes ∷ closes �
 ends_from L.Other a k = record { rest = closes ∷ closes ∷ []; place = record { level = L.Done; section = a; kind = k }; runs = refl; level = refl }
 ends_from L.Done a k = record { rest = []; place = record { level = L.Done; section = a; kind = k }; runs = refl; level = refl }
 
-begins_by : (ms : List Mark) (p : Place) → run start ms ≡ some p → BeginsDocument ms
+begins_by : (ms : List Mark) (p : Place) → run start ms ≡ Some p → BeginsDocument ms
 begins_by ms p e = let x = ends_from p.level p.section p.kind in (x.rest, (documents (ms ++ x.rest)).0 (x.place, run_after start p ms x.rest e ∙ x.runs, x.level))
 
-begins_not : (ms : List Mark) → run start ms ≡ none → BeginsDocument ms → ⊥
-begins_not ms e (rest, d) = let x = (documents (ms ++ rest)).1 d in let z : none ≡ some x.0 = sym (run_stops start ms rest e) ∙ x.1 in no cc
+begins_not : (ms : List Mark) → run start ms ≡ None → BeginsDocument ms → ⊥
+begins_not ms e (rest, d) = let x = (documents (ms ++ rest)).1 d in let z : None ≡ Some x.0 = sym (run_stops start ms rest e) ∙ x.1 in no cc
 
-document_by : (ms : List Mark) (p : Place) → run start ms ≡ some p → (p.level ≡ L.Done) ↔ IsDocument ms
+document_by : (ms : List Mark) (p : Place) → run start ms ≡ Some p → (p.level ≡ L.Done) ↔ IsDocument ms
 document_by ms p e = (
   λ h. (documents ms).0 (p, e, h),
-  λ d. let x = (documents ms).1 d in let z : some p ≡ some x.0 = sym e ∙ x.1 in let q : x.0 ≡ p = cc in ap (λ (y : Place). y.level) (sym q) ∙ x.2,
+  λ d. let x = (documents ms).1 d in let z : Some p ≡ Some x.0 = sym e ∙ x.1 in let q : x.0 ≡ p = cc in ap (λ (y : Place). y.level) (sym q) ∙ x.2,
 )
 
 -- ---- one line at a place
 
-bind_some : (o : Option Place) → bind o some ≡ o
+bind_some : (o : Option Place) → bind o Some ≡ o
 unfolding bind
-bind_some none = refl
-bind_some (some q) = refl
+bind_some None = refl
+bind_some (Some q) = refl
 
 module _ (line : Bytes) (p : Place) where
   mark_run : (e : Bool) (n : Name) → run p (mark_of e n ∷ []) ≡ place_taken (opened e n p)
@@ -124,21 +124,21 @@ module _ (line : Bytes) (p : Place) where
   mark_run false n = bind_some (place_taken (opened false n p))
 
   -- a line that leads nowhere
-  opens_nowhere : (o : Opened) → place_taken o ≡ none → Opens line p o → run p (line_marks line) ≡ none
+  opens_nowhere : (o : Opened) → place_taken o ≡ None → Opens line p o → run p (line_marks line) ≡ None
   opens_nowhere o e x = rw x.reading (mark_run x.empty (name_of x.name) ∙ (ap place_taken x.leads_to ∙ e))
 
-  by_nowhere : {C : Type 0} → run p (line_marks line) ≡ none → (Opens line p O.Misplaced → C) → (Opens line p O.OutsideSection → C) → C
+  by_nowhere : {C : Type 0} → run p (line_marks line) ≡ None → (Opens line p O.Misplaced → C) → (Opens line p O.OutsideSection → C) → C
   unfolding place_taken run mark_step bind
   by_nowhere {C} h f g = go (event_of line) refl h
     where
-      leads : (e : Bool) (n : Bytes) (attrs : List Attr) → event_of line ≡ reads (Event.starts e n attrs) → (o : Opened) → opened e (name_of n) p ≡ o → place_taken o ≡ none → C
+      leads : (e : Bool) (n : Bytes) (attrs : List Attr) → event_of line ≡ reads (Event.starts e n attrs) → (o : Opened) → opened e (name_of n) p ≡ o → place_taken o ≡ None → C
       leads e n attrs r O.Misplaced l t = f (record { empty = e; name = n; attrs = attrs; reading = r; leads_to = l })
       leads e n attrs r O.OutsideSection l t = g (record { empty = e; name = n; attrs = attrs; reading = r; leads_to = l })
       leads e n attrs r (O.Goes q) l t = no cc
       leads e n attrs r (O.Begins k q) l t = no cc
       leads e n attrs r (O.Holds c q) l t = no cc
 
-      go : (x : Reading) → event_of line ≡ x → run p (marks_in x) ≡ none → C
+      go : (x : Reading) → event_of line ≡ x → run p (marks_in x) ≡ None → C
       go (reads (Event.starts e n attrs)) r t = leads e n attrs r (opened e (name_of n) p) refl (sym (mark_run e (name_of n)) ∙ t)
       go (reads Event.closes) r t = no cc
       go (reads Event.others) r t = no cc
@@ -162,19 +162,19 @@ turn_refuses line r x h = go (decide line r.place) h
 
 -- an event of a reader that is not stopped is refused 5 or 6 exactly where its mark leads nowhere
 module _ (line : Bytes) (s : State) (sound : state_sound s ≡ true) (going : is_stopped s.reader.stop ≡ false) where
-  refuses_event : (r : Refusal) → number_of r ≤ 11 → ((event_on line s).answer ≡ E.Refused r (next_line s)) ↔ (decide line s.reader.place ≡ refuses r)
+  refuses_event : (r : Refusal) → number_of r ≤ 11 → ((event_on line s).answer ≡ Err (refusal_at r (next_line s))) ↔ (decide line s.reader.place ≡ refuses r)
   unfolding reader_of turn turn_of
   refuses_event r l = let x = event_11 line s sound going r l in (λ a. turn_refuses line (reader_of s) r (x.0 a), λ e. x.1 (rw e))
 
-  pub nowhere_exactly : NestingRefused (event_on line s).answer (next_line s) ↔ (run s.reader.place (line_marks line) ≡ none)
+  pub nowhere_exactly : NestingRefused (event_on line s).answer (next_line s) ↔ (run s.reader.place (line_marks line) ≡ None)
   unfolding place_taken
   nowhere_exactly = (to, from)
     where
-      to : NestingRefused (event_on line s).answer (next_line s) → run s.reader.place (line_marks line) ≡ none
+      to : NestingRefused (event_on line s).answer (next_line s) → run s.reader.place (line_marks line) ≡ None
       to (misplaced a) = opens_nowhere line s.reader.place O.Misplaced refl ((misplaced_exactly line s.reader.place).0 ((refuses_event R.Misplaced (omega arith)).0 a))
       to (outside a) = opens_nowhere line s.reader.place O.OutsideSection refl ((outside_exactly line s.reader.place).0 ((refuses_event R.OutsideSection (omega arith)).0 a))
 
-      from : run s.reader.place (line_marks line) ≡ none → NestingRefused (event_on line s).answer (next_line s)
+      from : run s.reader.place (line_marks line) ≡ None → NestingRefused (event_on line s).answer (next_line s)
       from e =
           by_nowhere line s.reader.place e
           (λ q. misplaced ((refuses_event R.Misplaced (omega arith)).1 ((misplaced_exactly line s.reader.place).1 q)))
@@ -192,8 +192,8 @@ module _ (n : ℕ) where
 
   push_quiet : (w : World) (id : ℤ) (x : Option (Record ℕ)) → (outcome w (Call.pushes id x)).world.readers n ≡ w.readers n
   unfolding outcome
-  push_quiet w id none = refl
-  push_quiet w id (some r) = refl
+  push_quiet w id None = refl
+  push_quiet w id (Some r) = refl
 
   module _ (l : Storage) (w : World) (acts : List (Act Bytes)) (g : Agrees false l w acts) {ls : List Bytes} {xs : List (Act Bytes)} {q : Reader} where
     own : (m : ℕ) (line : Bytes) → n ≡ m → Takes ((world_after w (answer_of (reads m line) l ∷ [])).readers n) ls xs q
@@ -243,11 +243,11 @@ module _ (setting : ℕ) (o : Overlay) (ps : ℕ → Bytes) (given : Start o ps)
   state = reader_state setting o ps cs n
 
   -- it stands where its marks lead
-  marks_lead : run start (marks_read setting o ps cs n) ≡ some state.reader.place
+  marks_lead : run start (marks_read setting o ps cs n) ≡ Some state.reader.place
   unfolding reader_of
   marks_lead =
       let t = takes_calls n cs (started setting o ps) begin [] fits (agrees_started setting o given.sizes given.bytes ps given.parts false (λ z. clash z refl)) in
-      (lines_lead fresh_agrees t.1).runs ∙ ap (λ (r : Reader). some r.place) (sym (agrees.readers n))
+      (lines_lead fresh_agrees t.1).runs ∙ ap (λ (r : Reader). Some r.place) (sym (agrees.readers n))
 
   module _ (never : stopped_in n (replies setting o ps cs) ≡ false) (below : length (lines_read n (replies setting o ps cs)) < 18446744073709551615) where
     counted : state.reader.lines ≡ length (lines_read n (replies setting o ps cs))
@@ -275,6 +275,6 @@ module _ (setting : ℕ) (o : Overlay) (ps : ℕ → Bytes) (given : Start o ps)
         goes_on line = run_after start state.reader.place (marks_read setting o ps cs n) (line_marks line) marks_lead
 
         nowhere : (line : Bytes) → (BeginsDocument (marks_read setting o ps cs n ++ line_marks line) → ⊥) → (x : Option Place) → run state.reader.place (line_marks line) ≡ x
-            → run state.reader.place (line_marks line) ≡ none
-        nowhere line h none e = e
-        nowhere line h (some q) e = absurd (h (begins_by _ q (goes_on line ∙ e)))
+            → run state.reader.place (line_marks line) ≡ None
+        nowhere line h None e = e
+        nowhere line h (Some q) e = absurd (h (begins_by _ q (goes_on line ∙ e)))

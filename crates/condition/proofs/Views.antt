@@ -1,8 +1,8 @@
 -- T6, up to the view that is returned: after any list of calls, whatever its settings, a view reads as the record of the last accepted act on its id.
+use Rattle.std.specs.Prelude.{None, Option, Some}
 use Prim.Native.Nat.{ℕ, ◌<◌}
 use mathlib.Core.Path.{◌≡◌, refl, sym, ◌∙◌, ap, subst}
 use mathlib.Core.Bool.{Bool, true}
-use mathlib.Core.Option.{Option, none, some}
 use mathlib.Core.List.{List, [], append-nil}
 use lib.IntN.{ℤ}
 use mir.Syntax.{w64}
@@ -52,7 +52,7 @@ use Rattle.condition.specs.Condition3.{Start}
 use Rattle.condition.specs.Views.{seen, text_seen, seen_in, ShowsLeft, ReadsLast, ReadsHighest}
 
 -- the readers and steps read a kept record back
-kept_read : (strings : ℕ) (k : Kind) (x : KeptRecord) → fits_kept k x ≡ true → legal strings x.held ≡ true → kind_of x.held.body ≡ k → read_record k (kept_bytes x) ≡ some x
+kept_read : (strings : ℕ) (k : Kind) (x : KeptRecord) → fits_kept k x ≡ true → legal strings x.held ≡ true → kind_of x.held.body ≡ k → read_record k (kept_bytes x) ≡ Some x
 unfolding fits_kept legal
 kept_read strings k x f l e = rw (← e) (rw append-nil at (read_record_lem x.id x.held [] (both_right _ _ f) (both_left _ _ (both_right _ _ l))).whole)
 
@@ -64,7 +64,7 @@ module _ (refused : Bool) (o : Overlay) (held : List Bytes) (acts : List (Act By
 
   module _ (k : Kind) where
     -- the view of a place at which a record starts
-    pub view_seen : (at : ℕ) (x : KeptRecord) → record_at at (w.sound.kind_stores k).whole.kept ≡ some x
+    pub view_seen : (at : ℕ) (x : KeptRecord) → record_at at (w.sound.kind_stores k).whole.kept ≡ Some x
         → seen_in o k (view_in o.texts.strings k (kind_store_of k o) at) ≡ seen x.id (swap_record (text_of held) x.held)
     view_seen at x h =
         let s = kind_store_of k o in
@@ -85,10 +85,10 @@ module _ (refused : Bool) (o : Overlay) (held : List Bytes) (acts : List (Act By
     told_shows id f = go (find (rank id) (rows_in (kind_store_of k o))) refl
       where
         go : (q : Option Row) → find (rank id) (rows_in (kind_store_of k o)) ≡ q → ShowsLeft o k id (last_in k (kind_store_of k o) (text_of held) q)
-        go none e =
+        go None e =
             let x = unknown_reads o w.bytes w.sound k id f e in
             record { get = ap (seen_in o k) x.1.1; has = x.0; deleted = x.1.0 }
-        go (some r) e =
+        go (Some r) e =
             by_bool (is_live r.place)
             (λ t.
             let sw = w.sound.kind_stores k in

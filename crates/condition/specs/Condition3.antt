@@ -1,7 +1,7 @@
 -- Condition 3, in the terms of the public calls' definitions: `intern_on`, `push_on`, `delete_on`, `event_on`, `end_on` and `listing_on` are what their contracts cite. The acts are those
 -- of the calls and their replies (`acts_of`), never of the overlay's own bytes.
-use Rattle.std.specs.Prelude.{ℕ, ◌+◌, ◌^◌, ◌<◌, ◌≤◌, ◌≡◌, true, false, ◌↔◌, List, ℤ, length, take, drop}
-use Rattle.std.proofs.Math.Option.{some}
+use Rattle.reader.specs.State.{refusal_at}
+use Rattle.std.specs.Prelude.{ℕ, ◌+◌, ◌^◌, ◌<◌, ◌≤◌, ◌≡◌, true, false, ◌↔◌, List, ℤ, length, take, drop, Err, Ok, Some}
 use Rattle.std.specs.Int.{w64}
 use Rattle.std.proofs.Common.{to_z}
 use Rattle.base.specs.Bytes.{Bytes}
@@ -15,20 +15,16 @@ use Rattle.compact.specs.Legal.{legal_meta}
 use Rattle.compact.specs.declared.ArenaMeta.{ArenaMeta}
 use Rattle.compact.specs.declared.PushHead.{PushHead}
 use Rattle.compact_legal.specs.Judge.{fault_for}
-use Rattle.compact_legal.specs.declared.Fault.TheVariants as F
-use Rattle.kind_store.specs.declared.Kept.TheVariants.{Refused}
 use Rattle.overlay_blocks.specs.Sizes.{largest}
 use Rattle.overlay.specs.Overlay.{Overlay, sizes_fit}
 use Rattle.overlay.specs.Given.{InBytes, head_fits}
 use Rattle.overlay_direct.specs.Calls.{push_on, delete_on}
 use Rattle.listing_page.specs.Summary.{known, summary}
 use Rattle.listing_page.specs.Listing.{listing}
-use Rattle.listing.specs.declared.Listed.TheVariants.{Length}
 use Rattle.listing.specs.Call.{Output, listing_on}
 use Rattle.event_fields.specs.Field.{got}
 use Rattle.acts.specs.Turn.{Turn, turn}
 use Rattle.acts.specs.Call.{World, begin, world_after, acts_of, lines_read}
-use Rattle.reader.specs.declared.EventAnswer.TheVariants as E
 use Rattle.reader.specs.Event.{event_on}
 use Rattle.calls.specs.Ask.{Ask, Storage, state_of, PartsGiven, storage_after, replies, stopped_in}
 use Rattle.calls.specs.Known.{Regresses}
@@ -66,7 +62,7 @@ module _ (o : Overlay) (ps : ℕ → Bytes) (cs : List Ask) where
 
   -- "an output long enough" gets the listing, which is a rendering of the accepted acts; "output past the listing is unchanged"
   pub record PageListed (out : Bytes) : Type 0 where
-    pub answer : (listed_after out).answer ≡ Length page_length
+    pub answer : (listed_after out).answer ≡ Ok page_length
     pub page : take page_length (listed_after out).out ≡ listing (summary accepted_acts)
     pub rest : drop page_length (listed_after out).out ≡ drop page_length out
 
@@ -75,16 +71,16 @@ module _ (o : Overlay) (ps : ℕ → Bytes) (cs : List Ask) where
   pub record RegressionRefused : Type 0 where
     -- the earlier checks of a direct push: 17, 3, 10 and 16, with as many texts as were taken in
     pub push : (k : Kind) (h : PushHead) (m : ArenaMeta) (bytes : Bytes) → head_fits h ≡ true
-        → fault_for (length world_left.texts) (pushed_record k (head_in k h) (meta_of m) bytes) ≡ F.Legal → (v : ℤ)
-        → ((push_on k h m bytes storage_left.overlay).answer ≡ Refused (Regression v)) ↔ Regresses accepted_acts (record { kind = k; id = to_z w64 h.id }) (claim_of (meta_of m)) v
+        → fault_for (length world_left.texts) (pushed_record k (head_in k h) (meta_of m) bytes) ≡ (Ok tt) → (v : ℤ)
+        → ((push_on k h m bytes storage_left.overlay).answer ≡ Err (Regression v)) ↔ Regresses accepted_acts (record { kind = k; id = to_z w64 h.id }) (claim_of (meta_of m)) v
     -- of a direct delete: 17
     pub delete : (k : Kind) (id : ℕ) (m : ArenaMeta) → id < 2 ^ 64 → legal_meta (length world_left.texts) (meta_of m) ≡ true → (v : ℤ)
-        → ((delete_on k (to_z w64 id) (meta_of m) storage_left.overlay).answer ≡ Refused (Regression v)) ↔ Regresses accepted_acts (record { kind = k; id = to_z w64 id }) (claim_of (meta_of m)) v
+        → ((delete_on k (to_z w64 id) (meta_of m) storage_left.overlay).answer ≡ Err (Regression v)) ↔ Regresses accepted_acts (record { kind = k; id = to_z w64 id }) (claim_of (meta_of m)) v
     -- of an event: 22, of which nothing is left but that the count of its reader's lines is below its largest; no stop mark; 2 to 11, past which its turn makes an act. It is refused
     -- at its line, one more than the lines that its reader has taken.
     pub event : (n : ℕ) (line : Bytes) (t : Turn) (a : Act Bytes) → length (lines_read n (replies 0 o ps cs)) < 18446744073709551615 → stopped_in n (replies 0 o ps cs) ≡ false
-        → turn line (world_left.readers n) ≡ got t → t.act ≡ some a → (v : ℤ)
-        → ((event_on line (state_of n storage_left)).answer ≡ E.Refused (Regression v) (length (lines_read n (replies 0 o ps cs)) + 1)) ↔ Regresses accepted_acts (key_of a) (claimed_by a) v
+        → turn line (world_left.readers n) ≡ got t → t.act ≡ Some a → (v : ℤ)
+        → ((event_on line (state_of n storage_left)).answer ≡ Err (refusal_at (Regression v) (length (lines_read n (replies 0 o ps cs)) + 1))) ↔ Regresses accepted_acts (key_of a) (claimed_by a) v
 
 -- ---- two lists
 

@@ -1,12 +1,13 @@
 -- What a writer leaves: for the writers here, byte by byte; for their callers, by its answer.
+use Rattle.std.specs.Prelude.{None, Some}
 use Prim.Native.Nat.{ℕ, zero, suc, ◌+◌, ◌-◌, ◌/◌, ◌%◌, ◌^◌, ◌<◌, ◌≤◌}
-use mathlib.Core.Path.{◌≡◌, ◌∙◌, ap}
+use mathlib.Core.Path.{◌≡◌, sym, ◌∙◌, ap}
 use mathlib.Core.List.{[], ◌∷◌, ◌++◌}
 use native.Mathlib.Nat.{suc-add, zero-add}
 use native.Mathlib.Omega.{arith}
 use lib.IntN.{negsuc}
 use lib.ListN.{length, set, length-set}
-use mir.Syntax.{Width}
+use mir.Syntax.{Width, w32, w64}
 use mir.Val.{to_z, bits, hbits}
 use mir.Facts.{to_z_pos}
 use borrow.Author.Tests.{le-leb, lt-leb, le-ltb}
@@ -15,7 +16,6 @@ use Rattle.line.specs.Decimal.{number_text, integer_text}
 use Rattle.little.specs.Little.{over}
 use Rattle.little.proofs.Overs.{over_here, over_later, over_nothing, over_step}
 use Rattle.decimal.specs.Put.{Wrote, put_text}
-use Rattle.decimal.specs.declared.Written.TheVariants.{End, Full}
 use Rattle.decimal.proofs.Numbers.{low_digits, low_none, low_more, length_low}
 
 -- ---- digits from the last to the first
@@ -51,17 +51,17 @@ two_stored s at k n d p q h e i j =
 -- ---- what is written, whole or not at all
 
 module _ (s t : Bytes) where
-  pub put_whole : length t ≤ length s → put_text s t ≡ record { bytes = over s 0 t; answer = End (length t) }
+  pub put_whole : length t ≤ length s → put_text s t ≡ record { bytes = over s 0 t; answer = Some (length t) }
   unfolding put_text
   put_whole h = rw (le-leb (length t) (length s) h)
 
-  pub put_nothing : length s < length t → put_text s t ≡ record { bytes = s; answer = Full }
+  pub put_nothing : length s < length t → put_text s t ≡ record { bytes = s; answer = None }
   unfolding put_text
   put_nothing h = rw (lt-leb (length t) (length s) h)
 
   -- of a writer that left the bytes `left`
   module _ (left : Bytes) where
-    pub whole : (n : ℕ) → n ≤ length s → n ≡ length t → left ≡ over s 0 t → ◌≡◌ {A = Wrote} (record { bytes = left; answer = End n }) (put_text s t)
+    pub whole : (n : ℕ) → n ≤ length s → n ≡ length t → left ≡ over s 0 t → ◌≡◌ {A = Wrote} (record { bytes = left; answer = Some n }) (put_text s t)
     whole n h e f = rw (put_whole (rw e at h)) (cc)
 
 -- ---- integers by their bits, at any width
@@ -77,3 +77,13 @@ module _ (w : Width) where
       let z : to_z w b ≡ negsuc (2 ^ bits w - suc b) = rw (le-ltb b (2 ^ hbits w) h) in
       let m : suc (2 ^ bits w - suc b) ≡ 2 ^ bits w - 1 - b + 1 = omega arith in
       ap integer_text z ∙ ap (λ x. 45 ∷ number_text x) m
+
+-- ---- the same integer in more bits
+
+pub wide_small : (b : ℕ) → b < 2 ^ 31 → to_z w64 b ≡ to_z w32 b
+wide_small b h = to_z_pos w64 (omega arith) ∙ sym (to_z_pos w32 h)
+
+pub wide_large : (b : ℕ) → 2 ^ 31 ≤ b → b < 2 ^ 32 → to_z w64 (0xffff_ffff_0000_0000 + b) ≡ to_z w32 b
+wide_large b h g =
+    let e : 2 ^ 64 - suc (0xffff_ffff_0000_0000 + b) ≡ 2 ^ 32 - suc b = omega arith in
+    rw (le-ltb b (2 ^ 31) h, le-ltb (0xffff_ffff_0000_0000 + b) (2 ^ 63) (omega arith), e)

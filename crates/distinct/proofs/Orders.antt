@@ -2,14 +2,16 @@
 use Prim.Native.Nat.{ℕ, zero, suc, ◌+◌, ◌-◌, ◌<◌, ◌≤◌}
 use mathlib.Core.Path.{◌≡◌, refl, sym, ◌∙◌, ap}
 use mathlib.Core.Bool.{true, false}
-use mathlib.Core.List.{List, [], ◌∷◌}
+use mathlib.Core.List.{List, [], ◌∷◌, ◌++◌}
 use native.Mathlib.Numerals.{add-one}
 use native.Mathlib.Omega.{arith}
 use lib.Dec.{ltb, eqb}
+use lib.Pointwise.{pointwise}
 use lib.ListN.{length, get_or, take, drop, length-map}
-use lib.Seq.{take-suc, take_all, take-add}
+use lib.Seq.{take-suc, take_all, take-add, take-append_seam}
+use Rattle.std.proofs.lemmas.List.{drop-drop, drop_at, length-drop, length-append}
 use borrow.Author.Tests.{ltb-true, lt-ltb, le-ltb, eqb-true, eq-eqb}
-use Rattle.base.specs.Bytes.{Bytes, either, all, same}
+use Rattle.base.specs.Bytes.{Bytes, both, either, all, same}
 use Rattle.base.proofs.Split.{by_bool, by_lt, both_left, both_right, both_of, both_no_right, either_left, either_right, by_either, clash}
 use Rattle.base.proofs.Lists.{same_yes, same_refl, all_nil, all_cons, all_head, all_tail}
 use Rattle.distinct.specs.Distinct.{differs, distinct, run_start, run_length, run_in, runs_in, RightOf}
@@ -69,14 +71,23 @@ less_at a b i n h e l =
 pub take_more : (a b : Bytes) (i : ℕ) → length a ≡ length b → i < length a → take i a ≡ take i b → get_or a i 0 ≡ get_or b i 0 → take (i + 1) a ≡ take (i + 1) b
 take_more a b i n h e q = rw (add-one, take-suc a i 0 h, take-suc b i 0 (omega arith), e, q)
 
-pub take_on : (a b : Bytes) (i n : ℕ) → take i a ≡ take i b → take (i + n - i) (drop i a) ≡ take (i + n - i) (drop i b) → take (i + n) a ≡ take (i + n) b
-take_on a b i n e q =
-    let z : i + n - i ≡ n = omega arith in
-    let p : take n (drop i a) ≡ take n (drop i b) = rw z at q in
-    rw (take-add i n a, take-add i n b, e, p)
+-- a part that lies at a place: what follows it, and what both come to
+pub part_at : (a : Bytes) (i n : ℕ) (x r : Bytes) → drop i a ≡ x ++ r → length x ≡ n → 0 < n → (r ≡ drop (i + n) a) × ((take (i + n) a ≡ take i a ++ x) × (i + n ≤ length a))
+part_at a i n x r e l h =
+    let d : drop n (drop i a) ≡ r = rw e (drop_at x r n l) in
+    let t : take n (drop i a) ≡ x = rw (e, ← l) (take-append_seam x r) in
+    let m : length a - i ≡ length x + length r = sym (length-drop i a) ∙ (ap length e ∙ length-append x r) in
+    (sym (rw drop-drop at d), (rw (take-add i n a, t) refl, omega arith))
 
 pub take_whole : (a b : Bytes) (i : ℕ) → length a ≡ length b → length a ≤ i → take i a ≡ take i b → a ≡ b
 take_whole a b i n h e = sym (take_all i a h) ∙ (e ∙ take_all i b (omega arith))
+
+pub pointwise_same : (a b : Bytes) → pointwise eqb a b ≡ same a b
+unfolding same both
+pointwise_same [] [] = refl
+pointwise_same [] (y ∷ ys) = refl
+pointwise_same (x ∷ xs) [] = refl
+pointwise_same (x ∷ xs) (y ∷ ys) = by_bool (eqb x y) (λ p. rw p (pointwise_same xs ys)) (λ p. rw p refl)
 
 pub part_run : (bytes : Bytes) (w a n : ℕ) → a ≡ run_start w → n ≡ run_length w → take (a + n - a) (drop a bytes) ≡ run_in bytes w
 part_run bytes w a n p q = let e : a + n - a ≡ n = omega arith in rw (e, p, q)

@@ -27,32 +27,34 @@ enum Compared {
 pub fn equal(a: &[u8], b: &[u8]) -> bool
     ensures { result ≡ same a.now b.now }
 {
-    check::same(a, b)
+    a == b
 }
 
 // ---- a run as one word: its start and its length, and above them a number by which most runs are sorted
 
-fn wide(b: u8) -> u64
-    ensures { result < 256 }
-{
-    b as u64
+// The value at a place, 0 past the end.
+fn value_at<T: Copy + Default>(values: &[T], i: usize) -> T {
+    values.get(i).copied().unwrap_or_default()
 }
 
-// A byte of a run, 0 past its end.
-fn byte_at(run: &[u8], i: usize) -> u64
-    ensures { result < 256 }
+// A value at a place, where there is room.
+fn put_value<T: Copy>(values: &mut [T], i: usize, value: T)
+    ensures { values.new ≡ set values.old i value }
 {
-    if i < run.len() { wide(run[i]) } else { 0 }
+    // Of a slice after `get_mut` a proof knows no element, so it is written by its place.
+    if i < values.len() {
+        values[i] = value;
+    }
 }
 
 // The length of a run up to 63, and its first three bytes: no greater for a run that is less.
 fn sort_key(run: &[u8]) -> u64
     ensures { result < 1073741824 }
 {
-    let size = little::lesser(run.len(), 63) as u64;
-    let first = byte_at(run, 0);
-    let second = byte_at(run, 1);
-    let third = byte_at(run, 2);
+    let size = run.len().min(63) as u64;
+    let first = u64::from(value_at(run, 0));
+    let second = u64::from(value_at(run, 1));
+    let third = u64::from(value_at(run, 2));
     size * 16777216 + first * 65536 + second * 256 + third
 }
 
@@ -85,9 +87,7 @@ pub fn run_word(bytes: &[u8], start: usize, len: usize) -> u64
 pub fn put_word(words: &mut [u64], i: usize, w: u64)
     ensures { words.new ≡ set words.old i w }
 {
-    if i < words.len() {
-        words[i] = w;
-    }
+    put_value(words, i, w);
 }
 
 fn key_of(w: u64) -> u64 {
@@ -114,12 +114,8 @@ fn alike(a: &[u8], b: &[u8]) -> bool
     ensures { result ≡ true → a.now ≡ b.now }
 {
     let mut all = true;
-    let mut i: usize = 0;
-    while i < a.len() {
-        if a[i] != b[i] {
-            all = false;
-        }
-        i += 1;
+    for (x, y) in a.iter().zip(b) {
+        all = all & (x == y);
     }
     all
 }
@@ -129,16 +125,14 @@ fn agree(a: &[u8], b: &[u8]) -> usize
     requires { length a.now ≡ length b.now }
     ensures { (result ≤ length a.now) × (take result a.now ≡ take result b.now) }
 {
-    let mut i: usize = 0;
-    while 64 <= a.len() - i {
-        let end = i + 64;
-        if alike(&a[i..end], &b[i..end]) {
-            i = end;
-        } else {
-            return i;
+    let mut agreed = 0;
+    for (x, y) in a.chunks_exact(64).zip(b.chunks_exact(64)) {
+        if !alike(x, y) {
+            return agreed;
         }
+        agreed += 64;
     }
-    i
+    agreed
 }
 
 // Shorter runs are less, those of one length are compared as in a dictionary.
@@ -151,16 +145,14 @@ fn compare(a: &[u8], b: &[u8]) -> Compared
     if b.len() < a.len() {
         return Compared::Other;
     }
-    let mut i = agree(a, b);
-    while i < a.len() {
-        if a[i] == b[i] {
-            i += 1;
-            continue;
-        }
-        if a[i] < b[i] {
+    let start = agree(a, b);
+    for (x, y) in a[start..].iter().zip(&b[start..]) {
+        if x < y {
             return Compared::Less;
         }
-        return Compared::Other;
+        if y < x {
+            return Compared::Other;
+        }
     }
     Compared::Same
 }
@@ -183,29 +175,6 @@ fn compare_words(bytes: &[u8], v: u64, w: u64) -> Compared
 }
 
 // ---- the sort: by merging, first runs of one index, then of two, of four and so on
-
-// An index of an order; 0 past its end.
-fn index_at(order: &[u16], i: usize) -> u16 {
-    if i < order.len() { order[i] } else { 0 }
-}
-
-// A word by its index; 0 past the end.
-fn word_of(words: &[u64], h: u16) -> u64 {
-    let i = size(h);
-    if i < words.len() { words[i] } else { 0 }
-}
-
-fn size(h: u16) -> usize
-    ensures { result ≡ h }
-{
-    h as usize
-}
-
-fn put_index(order: &mut [u16], i: usize, h: u16) {
-    if i < order.len() {
-        order[i] = h;
-    }
-}
 
 // Whether a word comes no later than another: by their keys, and where these are the same by the runs.
 fn no_later(bytes: &[u8], v: u64, w: u64) -> bool {
@@ -235,8 +204,8 @@ fn first_next(
     if hi <= j {
         return true;
     }
-    let v = word_of(words, index_at(from, i));
-    let w = word_of(words, index_at(from, j));
+    let v = value_at(words, usize::from(value_at(from, i)));
+    let w = value_at(words, usize::from(value_at(from, j)));
     no_later(bytes, v, w)
 }
 
@@ -254,17 +223,14 @@ fn merge(
 {
     let mut i = lo;
     let mut j = mid;
-    let mut k = lo;
-    while k < hi {
+    for k in lo..hi {
         if first_next(bytes, words, from, i, mid, j, hi) {
-            put_index(to, k, index_at(from, i));
+            put_value(to, k, value_at(from, i));
             i += 1;
-            k += 1;
-            continue;
+        } else {
+            put_value(to, k, value_at(from, j));
+            j += 1;
         }
-        put_index(to, k, index_at(from, j));
-        j += 1;
-        k += 1;
     }
 }
 
@@ -272,18 +238,17 @@ fn merge(
 fn merge_all(bytes: &[u8], words: &[u64], from: &[u16], to: &mut [u16], width: usize)
     requires { (0 < width) × ((width ≤ 65536) × (length words.now ≤ 65536)) }
 {
-    let mut lo: usize = 0;
-    while lo < words.len() {
-        let mid = little::lesser(lo + width, words.len());
-        let hi = little::lesser(mid + width, words.len());
+    for lo in (0..words.len()).step_by(2 * width) {
+        let mid = (lo + width).min(words.len());
+        let hi = (mid + width).min(words.len());
         merge(bytes, words, from, to, lo, mid, hi);
-        lo = hi;
     }
 }
 
 fn merge_sort(bytes: &[u8], words: &[u64], order: &mut [u16], other: &mut [u16])
     requires { length words.now ≤ 8192 }
 {
+    // The width grows fourfold, so no range or slice counts it.
     let mut width: usize = 1;
     while width < words.len() {
         merge_all(bytes, words, order, other, width);
@@ -294,23 +259,19 @@ fn merge_sort(bytes: &[u8], words: &[u64], order: &mut [u16], other: &mut [u16])
 
 // The indexes as they come.
 fn count_up(order: &mut [u16], n: usize)
-    requires { n ≤ 65536 }
+    requires { n ≤ 8192 }
 {
-    let mut i: usize = 0;
-    while i < n {
-        put_index(order, i, i as u16);
-        i += 1;
+    for (h, slot) in (0..n as u16).zip(order) {
+        *slot = h;
     }
 }
 
 // The place of each index in an order.
 fn note_places(order: &[u16], place: &mut [u16], n: usize)
-    requires { n ≤ 65536 }
+    requires { n ≤ 8192 }
 {
-    let mut i: usize = 0;
-    while i < n {
-        put_index(place, size(index_at(order, i)), i as u16);
-        i += 1;
+    for (i, h) in (0..n as u16).zip(order) {
+        put_value(place, usize::from(*h), i);
     }
 }
 
@@ -320,32 +281,21 @@ fn note_places(order: &[u16], place: &mut [u16], n: usize)
 fn stands(order: &[u16], place: &[u16], n: usize, h: usize) -> bool
     ensures { result ≡ true → (get_or place.now h 0 < n) × (get_or order.now (get_or place.now h 0) 0 ≡ h) }
 {
-    if place.len() <= h {
+    let Some(i) = place.get(h) else {
         return false;
-    }
-    let i = size(place[h]);
-    if n <= i {
+    };
+    let i = usize::from(*i);
+    let Some(j) = order.get(i) else {
         return false;
-    }
-    if order.len() <= i {
-        return false;
-    }
-    size(order[i]) == h
+    };
+    i < n && usize::from(*j) == h
 }
 
 // Whether each index does.
 fn all_stand(order: &[u16], place: &[u16], n: usize) -> bool
     ensures { result ≡ true → Placed order.now place.now n }
 {
-    let mut h: usize = 0;
-    while h < n {
-        if stands(order, place, n, h) {
-            h += 1;
-        } else {
-            return false;
-        }
-    }
-    true
+    (0..n).all(|h| stands(order, place, n, h))
 }
 
 // The runs of two indexes compared, where both have one and they are not one index.
@@ -375,8 +325,8 @@ fn neighbours(bytes: &[u8], words: &[u64], order: &[u16], i: usize) -> Compared
     if order.len() <= next {
         return Compared::Other;
     }
-    let j = size(order[i]);
-    let k = size(order[next]);
+    let j = usize::from(order[i]);
+    let k = usize::from(order[next]);
     compare_indexes(bytes, words, j, k)
 }
 
@@ -384,12 +334,9 @@ fn neighbours(bytes: &[u8], words: &[u64], order: &[u16], i: usize) -> Compared
 fn rises(bytes: &[u8], words: &[u64], order: &[u16]) -> Distinctness
     ensures { RisesAs result bytes.now words.now order.now }
 {
-    let mut i: usize = 1;
-    while i < words.len() {
+    for i in 1..words.len() {
         match neighbours(bytes, words, order, i - 1) {
-            Compared::Less => {
-                i += 1;
-            }
+            Compared::Less => {}
             Compared::Same => {
                 return Distinctness::Twice;
             }

@@ -1,8 +1,8 @@
 -- Attributes: a legal one is read back from its field, and a legal field that reads as one is its field.
+use Rattle.std.specs.Prelude.{None, Option, Some}
 use Prim.Native.Nat.{ℕ}
 use mathlib.Core.Path.{◌≡◌, refl, sym, ◌∙◌, ap}
 use mathlib.Core.Bool.{true, false, not}
-use mathlib.Core.Option.{Option, none, some}
 use mathlib.Core.List.{List, [], ◌∷◌, ◌++◌}
 use native.Mathlib.Omega.{arith}
 use borrow.Author.Tests.{eq-eqb, ne_eqb, not-true}
@@ -21,7 +21,7 @@ use Rattle.event.specs.Legal.{legal_field, legal_name, legal_attr}
 
 -- ---- the first `=`
 
-pub parted_at : (n v : Bytes) → lacks 61 n ≡ true → parted (n ++ (61 ∷ v)) ≡ some (record { left = n; right = v })
+pub parted_at : (n v : Bytes) → lacks 61 n ≡ true → parted (n ++ (61 ∷ v)) ≡ Some (record { left = n; right = v })
 unfolding parted
 parted_at [] v h = refl
 parted_at (b ∷ n) v h = rw (ne_eqb b 61 (lacks_head 61 b n h), parted_at n v (lacks_tail 61 b n h))
@@ -32,20 +32,20 @@ pub record Field (f n v : Bytes) : Type 0 where
   pub first : lacks 61 n ≡ true
 
 onto_field : (b : ℕ) (f : Bytes) (o : Option Parted) (p : Parted) → (b ≡ 61 → ⊥)
-    → ((q : Parted) → o ≡ some q → Field f q.left q.right) → onto_left b o ≡ some p → Field (b ∷ f) p.left p.right
-onto_field b f none p n ih e = no (cc)
-onto_field b f (some q) p n ih e =
+    → ((q : Parted) → o ≡ Some q → Field f q.left q.right) → onto_left b o ≡ Some p → Field (b ∷ f) p.left p.right
+onto_field b f None p n ih e = no (cc)
+onto_field b f (Some q) p n ih e =
     let w = ih q refl in
     let l : p.left ≡ b ∷ q.left = cc in
     let r : p.right ≡ q.right = cc in
     rw (l, r) (record { whole = ap (b ∷◌) w.whole; first = lacks_cons 61 b q.left n w.first })
 
-pub parted_some : (f : Bytes) (p : Parted) → parted f ≡ some p → Field f p.left p.right
+pub parted_some : (f : Bytes) (p : Parted) → parted f ≡ Some p → Field f p.left p.right
 unfolding parted
 parted_some [] p e = no (cc)
 parted_some (b ∷ f) p e =
     by_eq b 61
-    (λ q. let z : some (record { left = []; right = f }) ≡ some p = rw (eq-eqb b 61 q) at e in
+    (λ q. let z : Some (record { left = []; right = f }) ≡ Some p = rw (eq-eqb b 61 q) at e in
     let l : p.left ≡ [] = cc in
     let r : p.right ≡ f = cc in
     rw (l, r, q) (record { whole = refl; first = lacks_nil 61 }))
@@ -97,7 +97,7 @@ module _ (a : Attr) (h : legal_attr a ≡ true) where
       field_join a.name (escape a.value) (both_right _ _ name_legal)
       (both_of (escape_clean a.value) (escape_text a.value value_text))
 
-  pub attr_reads : attr_of (attr_field a) ≡ some a
+  pub attr_reads : attr_of (attr_field a) ≡ Some a
   unfolding attr_of legal_name
   attr_reads =
       rw (parted_at a.name (escape a.value) name_lacks, not-true (is_empty a.name) (both_left _ _ name_legal))
@@ -106,18 +106,18 @@ module _ (a : Attr) (h : legal_attr a ≡ true) where
 -- a value read with a name that is not empty
 pub record Named (n : Bytes) (o : Option Bytes) (a : Attr) : Type 0 where
   pub name : a.name ≡ n
-  pub value : o ≡ some a.value
+  pub value : o ≡ Some a.value
 
-pub attr_with_some : (n : Bytes) (o : Option Bytes) (a : Attr) → attr_with n o ≡ some a → Named n o a
-attr_with_some n none a e = no (cc)
-attr_with_some n (some v) a e = record { name = cc; value = cc }
+pub attr_with_some : (n : Bytes) (o : Option Bytes) (a : Attr) → attr_with n o ≡ Some a → Named n o a
+attr_with_some n None a e = no (cc)
+attr_with_some n (Some v) a e = record { name = cc; value = cc }
 
-attr_from_back : (f : Bytes) (p : Parted) (a : Attr) → legal_field f ≡ true → Field f p.left p.right → attr_from (some p) ≡ some a
+attr_from_back : (f : Bytes) (p : Parted) (a : Attr) → legal_field f ≡ true → Field f p.left p.right → attr_from (Some p) ≡ Some a
     → (attr_field a ≡ f) × (legal_attr a ≡ true)
 unfolding legal_attr legal_name legal_field plain_field lacks
 attr_from_back f p a h w e =
     by_bool (is_empty p.left)
-    (λ t. let z : none ≡ some a = rw t at e in no (cc))
+    (λ t. let z : None ≡ Some a = rw t at e in no (cc))
     (λ t. let d = attr_with_some p.left (unescape p.right) a (rw t at e) in
     let k : legal_field (p.left ++ (61 ∷ p.right)) ≡ true = rw w.whole at h in
     let l = field_left p.left p.right k in
@@ -126,13 +126,13 @@ attr_from_back f p a h w e =
       rw d.name (both_of (both_of (ap not t) l) (both_of w.first (unescape_text p.right a.value (both_right _ _ r) d.value))),
     ))
 
-pub attr_back : (f : Bytes) (a : Attr) → legal_field f ≡ true → attr_of f ≡ some a → (attr_field a ≡ f) × (legal_attr a ≡ true)
+pub attr_back : (f : Bytes) (a : Attr) → legal_field f ≡ true → attr_of f ≡ Some a → (attr_field a ≡ f) × (legal_attr a ≡ true)
 unfolding attr_of
 attr_back f a h e = go (parted f) refl e
   where
-    go : (o : Option Parted) → parted f ≡ o → attr_from o ≡ some a → (attr_field a ≡ f) × (legal_attr a ≡ true)
-    go none p q = no (cc)
-    go (some x) p q = attr_from_back f x a h (parted_some f x p) q
+    go : (o : Option Parted) → parted f ≡ o → attr_from o ≡ Some a → (attr_field a ≡ f) × (legal_attr a ≡ true)
+    go None p q = no (cc)
+    go (Some x) p q = attr_from_back f x a h (parted_some f x p) q
 
 -- ---- the attributes of a line, in order
 
@@ -142,7 +142,7 @@ attrs_legal [] h = all_nil legal_field
 attrs_legal (a ∷ attrs) h =
     all_cons legal_field (attr_field a) (attr_fields attrs) (attr_legal a (all_head legal_attr a attrs h)) (attrs_legal attrs (all_tail legal_attr a attrs h))
 
-pub attrs_read : (attrs : List Attr) → all legal_attr attrs ≡ true → attrs_of (attr_fields attrs) ≡ some attrs
+pub attrs_read : (attrs : List Attr) → all legal_attr attrs ≡ true → attrs_of (attr_fields attrs) ≡ Some attrs
 unfolding attrs_of attr_fields
 attrs_read [] h = refl
 attrs_read (a ∷ attrs) h = rw (attr_reads a (all_head legal_attr a attrs h), attrs_read attrs (all_tail legal_attr a attrs h))
@@ -151,16 +151,16 @@ attrs_read (a ∷ attrs) h = rw (attr_reads a (all_head legal_attr a attrs h), a
 pub record Listed (o : Option Attr) (x : Option (List Attr)) (attrs : List Attr) : Type 0 where
   pub head : Attr
   pub tail : List Attr
-  pub first : o ≡ some head
-  pub then : x ≡ some tail
+  pub first : o ≡ Some head
+  pub then : x ≡ Some tail
   pub whole : attrs ≡ head ∷ tail
 
-pub listed : (o : Option Attr) (x : Option (List Attr)) (attrs : List Attr) → beside o x ≡ some attrs → Listed o x attrs
-listed none x attrs e = no (cc)
-listed (some a) none attrs e = no (cc)
-listed (some a) (some t) attrs e = record { head = a; tail = t; first = refl; then = refl; whole = cc }
+pub listed : (o : Option Attr) (x : Option (List Attr)) (attrs : List Attr) → beside o x ≡ Some attrs → Listed o x attrs
+listed None x attrs e = no (cc)
+listed (Some a) None attrs e = no (cc)
+listed (Some a) (Some t) attrs e = record { head = a; tail = t; first = refl; then = refl; whole = cc }
 
-pub attrs_back : (fs : List Bytes) (attrs : List Attr) → all legal_field fs ≡ true → attrs_of fs ≡ some attrs
+pub attrs_back : (fs : List Bytes) (attrs : List Attr) → all legal_field fs ≡ true → attrs_of fs ≡ Some attrs
     → (attr_fields attrs ≡ fs) × (all legal_attr attrs ≡ true)
 unfolding attrs_of attr_fields
 attrs_back [] attrs h e = let q : attrs ≡ [] = cc in (rw q, rw q (all_nil legal_attr))

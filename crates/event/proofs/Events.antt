@@ -1,8 +1,8 @@
 -- Reading and writing are inverse: a legal event is read back from its line, and a line that reads as an event is that event's line.
+use Rattle.std.specs.Prelude.{None, Option, Some}
 use Prim.Native.Nat.{◌<◌, ◌≤◌}
 use mathlib.Core.Path.{◌≡◌, refl, sym, ◌∙◌, ap}
 use mathlib.Core.Bool.{Bool, true, false, not, cond}
-use mathlib.Core.Option.{Option, none, some}
 use mathlib.Core.List.{List, [], ◌∷◌, ◌++◌}
 use mathlib.Core.Logic.{◌↔◌}
 use lib.Dec.{eqb}
@@ -58,7 +58,7 @@ field_plain : (f : Bytes) → legal_field f ≡ true → plain_field f ≡ true
 unfolding legal_field
 field_plain f h = both_left _ _ h
 
-unended_event : (e : Event) → unended (line_of e) ≡ some (tabbed (event_fields e))
+unended_event : (e : Event) → unended (line_of e) ≡ Some (tabbed (event_fields e))
 unfolding line_of line
 unended_event e = unended_line (tabbed (event_fields e))
 
@@ -79,7 +79,7 @@ reads_back e h =
 -- ---- a line that is read
 
 -- the line t without its line feed reads as an event
-event_in_back : (t : Bytes) (e : Event) → length t ≤ 16384 → legal_line t ≡ true → event_in (some t) ≡ reads e → (line_of e ≡ t ++ (10 ∷ [])) × (legal_event e ≡ true)
+event_in_back : (t : Bytes) (e : Event) → length t ≤ 16384 → legal_line t ≡ true → event_in (Some t) ≡ reads e → (line_of e ≡ t ++ (10 ∷ [])) × (legal_event e ≡ true)
 unfolding line_of line legal_event unbroken
 event_in_back t e l k q =
     by_bool (all (λ b. not (eqb b 10)) t)
@@ -90,8 +90,8 @@ event_in_back t e l k q =
 
 unended_back : (s : Bytes) (o : Option Bytes) (e : Event) → unended s ≡ o → length (body s) ≤ 16384 → legal_line (body s) ≡ true → event_in o ≡ reads e
     → (line_of e ≡ s) × (legal_event e ≡ true)
-unended_back s none e p l k q = no (cc)
-unended_back s (some t) e p l k q =
+unended_back s None e p l k q = no (cc)
+unended_back s (Some t) e p l k q =
     let w = event_in_back t e (rw p at l) (rw p at k) q in
     (w.0 ∙ sym (unended_some s t p), w.1)
 

@@ -1,7 +1,7 @@
 -- A legal event is read back from its fields, and legal fields that read as an event are its fields.
+use Rattle.std.specs.Prelude.{None, Option, Some}
 use mathlib.Core.Path.{◌≡◌, refl, ap}
 use mathlib.Core.Bool.{Bool, true, false, not}
-use mathlib.Core.Option.{Option, none, some}
 use mathlib.Core.List.{List, [], ◌∷◌}
 use borrow.Author.Tests.{not-true}
 use Rattle.base.specs.Ascii.{ascii}
@@ -67,11 +67,11 @@ Back : List Bytes → Event → Type 0
 Back fs e = (event_fields e ≡ fs) × (legal_parts e ≡ true)
 
 starts_with_back : (empty : Bool) (n : Bytes) (fs : List Bytes) (o : Option (List Attr)) (e : Event) → legal_name n ≡ true
-    → ((attrs : List Attr) → o ≡ some attrs → (attr_fields attrs ≡ fs) × (all legal_attr attrs ≡ true))
+    → ((attrs : List Attr) → o ≡ Some attrs → (attr_fields attrs ≡ fs) × (all legal_attr attrs ≡ true))
     → starts_with empty n o ≡ reads e → Back (start_word empty ∷ n ∷ fs) e
 unfolding Back legal_parts
-starts_with_back empty n fs none e h k q = no (cc)
-starts_with_back empty n fs (some attrs) e h k q =
+starts_with_back empty n fs None e h k q = no (cc)
+starts_with_back empty n fs (Some attrs) e h k q =
     by_bool (none_twice attrs)
     (λ t. let z : reads (starts empty n attrs) ≡ reads e = rw t at q in
     let i : e ≡ starts empty n attrs = cc in

@@ -1,8 +1,8 @@
 -- Where a line ends, and what its fields hold where the line holds text without a line feed or a carriage return.
+use Rattle.std.specs.Prelude.{None, Option, Some, option_map}
 use Prim.Native.Nat.{ℕ}
 use mathlib.Core.Path.{◌≡◌, refl, sym, ◌∙◌, ap}
 use mathlib.Core.Bool.{Bool, true, false, not}
-use mathlib.Core.Option.{Option, none, some, map}
 use mathlib.Core.List.{List, [], ◌∷◌, ◌++◌}
 use native.Mathlib.Omega.{arith}
 use lib.Dec.{eqb}
@@ -26,26 +26,26 @@ use Rattle.event.specs.Legal.{legal_field}
 -- a line is read as its first byte b before what is read of the others
 record Onto (b : ℕ) (o : Option Bytes) (t : Bytes) : Type 0 where
   rest : Bytes
-  then : o ≡ some rest
+  then : o ≡ Some rest
   whole : t ≡ b ∷ rest
 
-onto : (b : ℕ) (o : Option Bytes) (t : Bytes) → map (b ∷◌) o ≡ some t → Onto b o t
-onto b none t e = no (cc)
-onto b (some u) t e = record { rest = u; then = refl; whole = cc }
+onto : (b : ℕ) (o : Option Bytes) (t : Bytes) → option_map (b ∷◌) o ≡ Some t → Onto b o t
+onto b None t e = no (cc)
+onto b (Some u) t e = record { rest = u; then = refl; whole = cc }
 
-pub unended_line : (t : Bytes) → unended (t ++ (10 ∷ [])) ≡ some t
+pub unended_line : (t : Bytes) → unended (t ++ (10 ∷ [])) ≡ Some t
 unfolding unended
 unended_line [] = refl
 unended_line (b ∷ []) = refl
 unended_line (b ∷ d ∷ t) = rw (unended_line (d ∷ t))
 
-pub unended_some : (s t : Bytes) → unended s ≡ some t → s ≡ t ++ (10 ∷ [])
+pub unended_some : (s t : Bytes) → unended s ≡ Some t → s ≡ t ++ (10 ∷ [])
 unfolding unended
 unended_some [] t e = no (cc)
 unended_some (b ∷ []) t e =
     by_eq b 10
-    (λ q. let z : some [] ≡ some t = rw q at e in cc)
-    (λ n. let z : none ≡ some t = rw (ne_eqb b 10 n) at e in no (cc))
+    (λ q. let z : Some [] ≡ Some t = rw q at e in cc)
+    (λ n. let z : None ≡ Some t = rw (ne_eqb b 10 n) at e in no (cc))
 unended_some (b ∷ d ∷ s) t e =
     let w = onto b (unended (d ∷ s)) t e in
     rw w.whole (ap (b ∷◌) (unended_some (d ∷ s) w.rest w.then))

@@ -1,8 +1,8 @@
 -- Which lines are refused, and by which number: 2, 3 and 4, each exactly where document 01 says, and no other.
+use Rattle.std.specs.Prelude.{None, Option, Some}
 use Prim.Native.Nat.{◌<◌, ◌≤◌}
 use mathlib.Core.Path.{◌≡◌, refl, sym, ◌∙◌, ap}
 use mathlib.Core.Bool.{Bool, true, false, not, cond}
-use mathlib.Core.Option.{Option, none, some}
 use mathlib.Core.List.{List, [], ◌∷◌}
 use mathlib.Core.Logic.{◌↔◌, ◌⊎◌, inl, inr}
 use native.Mathlib.Omega.{arith}
@@ -29,8 +29,8 @@ by_cond true x y = x
 by_cond false x y = y
 
 starts_with_fourth : (empty : Bool) (n : Bytes) (o : Option (List Attr)) → Fourth (starts_with empty n o)
-starts_with_fourth empty n none = is_none
-starts_with_fourth empty n (some attrs) = by_cond (none_twice attrs) (is_event _) is_none
+starts_with_fourth empty n None = is_none
+starts_with_fourth empty n (Some attrs) = by_cond (none_twice attrs) (is_event _) is_none
 
 starts_from_fourth : (empty : Bool) (fs : List Bytes) → Fourth (starts_from empty fs)
 starts_from_fourth empty [] = is_none
@@ -50,8 +50,8 @@ event_from_fourth (w ∷ fs) =
     is_none)))
 
 event_in_fourth : (o : Option Bytes) → Fourth (event_in o)
-event_in_fourth none = is_none
-event_in_fourth (some t) = by_cond (all (λ b. not (eqb b 10)) t) (event_from_fourth (fields t)) is_none
+event_in_fourth None = is_none
+event_in_fourth (Some t) = by_cond (all (λ b. not (eqb b 10)) t) (event_from_fourth (fields t)) is_none
 
 fourth : {C : Type 0} {r : Reading} → Fourth r → ((e : Event) → r ≡ reads e → C) → (r ≡ refused NotEventLine → C) → C
 fourth (is_event e) f g = f e refl

@@ -1,6 +1,5 @@
 -- Document 01, "Event lines": "One event a line, ended by a line feed: `open⇥NAME⇥attr=value..`, `empty⇥NAME⇥..`, `close`, `other`."
-use Rattle.std.specs.Prelude.{ℕ, Bool, true, false, cond, not, List, [], ◌∷◌, ◌++◌, ltb, eqb, length}
-use Rattle.std.proofs.Math.Option.{Option, none, some, map}
+use Rattle.std.specs.Prelude.{ℕ, Bool, true, false, cond, not, List, [], ◌∷◌, ◌++◌, ltb, eqb, length, None, Option, Some, option_map}
 use Rattle.base.specs.Ascii.{ascii}
 use Rattle.base.specs.Bytes.{Bytes, both, all, same}
 use Rattle.base.specs.Chars.{line_feed, carriage_return, equals_sign}
@@ -30,14 +29,14 @@ pub data Reading : Type 0 where
 
 -- a line without its line feed; none where the line feed is missing
 unfoldable pub unended : Bytes → Option Bytes
-unended [] = none
-unended (b ∷ []) = cond (eqb b line_feed) (some []) none
-unended (b ∷ d ∷ ds) = map (b ∷◌) (unended (d ∷ ds))
+unended [] = None
+unended (b ∷ []) = cond (eqb b line_feed) (Some []) None
+unended (b ∷ d ∷ ds) = option_map (b ∷◌) (unended (d ∷ ds))
 
 -- what is measured and judged: the line without its line feed, or all of it where that is missing
 abbrev pub body_of : Bytes → Option Bytes → Bytes
-body_of s none = s
-body_of s (some t) = t
+body_of s None = s
+body_of s (Some t) = t
 
 abbrev pub body : Bytes → Bytes
 body s = body_of s (unended s)
@@ -54,35 +53,35 @@ pub record Parted : Type 0 where
   pub right : Bytes
 
 abbrev pub onto_left : ℕ → Option Parted → Option Parted
-onto_left b none = none
-onto_left b (some p) = some (record { left = b ∷ p.left; right = p.right })
+onto_left b None = None
+onto_left b (Some p) = Some (record { left = b ∷ p.left; right = p.right })
 
 unfoldable pub parted : Bytes → Option Parted
-parted [] = none
-parted (b ∷ bs) = cond (eqb b equals_sign) (some (record { left = []; right = bs })) (onto_left b (parted bs))
+parted [] = None
+parted (b ∷ bs) = cond (eqb b equals_sign) (Some (record { left = []; right = bs })) (onto_left b (parted bs))
 
 abbrev pub is_empty : Bytes → Bool
 is_empty [] = true
 is_empty (b ∷ bs) = false
 
 abbrev pub attr_with : Bytes → Option Bytes → Option Attr
-attr_with n none = none
-attr_with n (some v) = some (record { name = n; value = v })
+attr_with n None = None
+attr_with n (Some v) = Some (record { name = n; value = v })
 
 abbrev pub attr_from : Option Parted → Option Attr
-attr_from none = none
-attr_from (some p) = cond (is_empty p.left) none (attr_with p.left (unescape p.right))
+attr_from None = None
+attr_from (Some p) = cond (is_empty p.left) None (attr_with p.left (unescape p.right))
 
 unfoldable pub attr_of : Bytes → Option Attr
 attr_of f = attr_from (parted f)
 
 abbrev pub beside : Option Attr → Option (List Attr) → Option (List Attr)
-beside none attrs = none
-beside (some a) none = none
-beside (some a) (some attrs) = some (a ∷ attrs)
+beside None attrs = None
+beside (Some a) None = None
+beside (Some a) (Some attrs) = Some (a ∷ attrs)
 
 unfoldable pub attrs_of : List Bytes → Option (List Attr)
-attrs_of [] = some []
+attrs_of [] = Some []
 attrs_of (f ∷ fs) = beside (attr_of f) (attrs_of fs)
 
 unfoldable pub named : Bytes → List Attr → Bool
@@ -96,19 +95,19 @@ none_twice (a ∷ attrs) = both (not (named a.name attrs)) (none_twice attrs)
 
 -- the value of the attribute of a name, if there is one
 unfoldable pub value_of : Bytes → List Attr → Option Bytes
-value_of n [] = none
-value_of n (a ∷ attrs) = cond (same n a.name) (some a.value) (value_of n attrs)
+value_of n [] = None
+value_of n (a ∷ attrs) = cond (same n a.name) (Some a.value) (value_of n attrs)
 
 -- a value that may be missing: empty where it is
 abbrev pub or_empty : Option Bytes → Bytes
-or_empty none = []
-or_empty (some v) = v
+or_empty None = []
+or_empty (Some v) = v
 
 -- ---- events
 
 abbrev pub starts_with : Bool → Bytes → Option (List Attr) → Reading
-starts_with empty n none = refused NotEventLine
-starts_with empty n (some attrs) = cond (none_twice attrs) (reads (starts empty n attrs)) (refused NotEventLine)
+starts_with empty n None = refused NotEventLine
+starts_with empty n (Some attrs) = cond (none_twice attrs) (reads (starts empty n attrs)) (refused NotEventLine)
 
 abbrev pub starts_from : Bool → List Bytes → Reading
 starts_from empty [] = refused NotEventLine
@@ -129,8 +128,8 @@ event_from (w ∷ fs) =
 
 -- "Another escape, or a last line without its line feed, is refused 4."
 abbrev pub event_in : Option Bytes → Reading
-event_in none = refused NotEventLine
-event_in (some t) = cond (all (λ b. not (eqb b line_feed)) t) (event_from (fields t)) (refused NotEventLine)
+event_in None = refused NotEventLine
+event_in (Some t) = cond (all (λ b. not (eqb b line_feed)) t) (event_from (fields t)) (refused NotEventLine)
 
 -- "2 over 16,384 bytes without its line feed; 3 not text; 4 not an event line, or an attribute twice"
 unfoldable pub event_of : Bytes → Reading

@@ -1,11 +1,10 @@
 -- What each answer stands for: the decision of its event.
+use Rattle.std.specs.Prelude.{Ok, Result}
 use Prim.Native.Nat.{ℕ, ◌+◌}
 use mathlib.Core.Path.{◌≡◌, refl, ◌∙◌, ap, subst}
 use mathlib.Core.Bool.{Bool}
 use mathlib.Core.List.{List}
 use lib.Seq.{slice}
-use mir.Syntax.{w64}
-use mir.Val.{to_z}
 use Rattle.base.specs.Bytes.{Bytes}
 use Rattle.refusal.specs.declared.Refusal.{Refusal}
 use Rattle.kind.specs.declared.Kind.{Kind}
@@ -16,62 +15,38 @@ use Rattle.nesting.specs.declared.Action.TheVariants as A
 use Rattle.nesting.specs.declared.Level.{Level}
 use Rattle.nesting.specs.declared.Level.TheVariants as L
 use Rattle.nesting.specs.declared.Place.{Place}
-use Rattle.model.specs.Record.{Body}
 use Rattle.event.specs.Event.{Attr, starts, closes, others, reads, refused, body, event_of}
 use Rattle.event_scan.specs.Scan.{attrs_at, Good, attributes_at}
 use Rattle.event_scan.proofs.Attributes.{attributes_good}
-use Rattle.event_fields.specs.Field.{Field, got, bad, body_for}
+use Rattle.event_fields.specs.Field.{body_for}
 use Rattle.event_decision.specs.Decision.{Decision, refuses, moves, begins, deletes, on_field, push_begins, delete_begins, unless_delete, decide_opened, decide_closed, decide_event, decide}
-use Rattle.event_values.specs.Value.{body_in}
-use Rattle.event_metadata.specs.declared.Metadata.{Metadata}
-use Rattle.event_metadata.specs.Metadata.{meta_written}
 use Rattle.event_decide.specs.declared.Decided.{Decided}
 use Rattle.event_decide.specs.declared.Decided.TheVariants as D
-use Rattle.event_decide.specs.declared.HeadField.{HeadField}
-use Rattle.event_decide.specs.declared.HeadField.TheVariants as H
-use Rattle.event_decide.specs.Decided.{Decides, Heads, unless_deleted}
+use Rattle.event_decide.specs.declared.ElementHead.{ElementHead}
+use Rattle.event_decide.specs.Decided.{Decides, Heads, on_head, unless_deleted}
 
 -- ---- an element begins
 
-module _ (t : Bytes) (attrs : List Attr) {r : HeadField} where
-  head_is : {s : HeadField} → r ≡ s → Heads t attrs r → Heads t attrs s
-  head_is e h = subst (Heads t attrs) e h
+module _ (t : Bytes) (attrs : List Attr) (k : Kind) (p : Place) where
+  pub delete_is : (r : Result ElementHead Refusal) → Heads t attrs r → on_head t r (λ id m. deletes k p id m) ≡ delete_begins k p attrs
+  delete_is r h = h (λ id m. deletes k p id m)
 
-  module _ (k : Kind) (p : Place) where
-    pub delete_bad : {x : Refusal} → r ≡ H.Bad x → Heads t attrs r → refuses x ≡ delete_begins k p attrs
-    delete_bad e h = head_is e h (λ id m. deletes k p id m)
-
-    pub delete_got : {id : ℕ} {m : Metadata} → r ≡ H.Is id m → Heads t attrs r → deletes k p (to_z w64 id) (meta_written t m) ≡ delete_begins k p attrs
-    delete_got e h = head_is e h (λ id m. deletes k p id m)
-
-    module _ (empty : Bool) where
-      pub push_bad : {x : Refusal} → r ≡ H.Bad x → Heads t attrs r → refuses x ≡ push_begins empty k p attrs
-      push_bad e h = head_is e h (λ id m. on_field (body_for k attrs) (λ b. begins empty p id m b))
-
-      push_then : {id : ℕ} {m : Metadata} → r ≡ H.Is id m → Heads t attrs r
-          → on_field (body_for k attrs) (λ b. begins empty p (to_z w64 id) (meta_written t m) b) ≡ push_begins empty k p attrs
-      push_then e h = head_is e h (λ id m. on_field (body_for k attrs) (λ b. begins empty p id m b))
-
-      pub push_bodiless : {id : ℕ} {m : Metadata} {x : Refusal} → r ≡ H.Is id m → Heads t attrs r → bad x ≡ body_for k attrs → refuses x ≡ push_begins empty k p attrs
-      push_bodiless {id} {m} e h b = ap (λ (f : Field (Body Bytes)). on_field f (λ x. begins empty p (to_z w64 id) (meta_written t m) x)) b ∙ push_then e h
-
-      pub push_got : {id : ℕ} {m : Metadata} (lat lon : ℕ) → r ≡ H.Is id m → Heads t attrs r → got (body_in k lat lon) ≡ body_for k attrs
-          → begins empty p (to_z w64 id) (meta_written t m) (body_in k lat lon) ≡ push_begins empty k p attrs
-      push_got {id} {m} lat lon e h b = ap (λ (f : Field (Body Bytes)). on_field f (λ x. begins empty p (to_z w64 id) (meta_written t m) x)) b ∙ push_then e h
+  pub push_is : (empty : Bool) (r : Result ElementHead Refusal) → Heads t attrs r → on_head t r (λ id m. on_field (body_for k attrs) (λ b. begins empty p id m b)) ≡ push_begins empty k p attrs
+  push_is empty r h = h (λ id m. on_field (body_for k attrs) (λ b. begins empty p id m b))
 
 -- ---- inside an element
 
-pub dropped : (t : Bytes) (a : Action) (p : Place) (d : Decided) {e : Decision} → Decides t e d → Decides t (unless_delete a p e) (unless_deleted a p d)
+pub dropped : (t : Bytes) (a : Action) (p : Place) (d : Decided) {e : Decision} → Decides t e (Ok d) → Decides t (unless_delete a p e) (Ok (unless_deleted a p d))
 dropped t A.Create p d h = h
 dropped t A.Modify p d h = h
 dropped t A.Delete p d h = record { is = refl; lies = tt }
 
-pub closed_ends : (t : Bytes) (l : Level) (a : Action) (p : Place) → l ≡ L.Element → Decides t (decide_closed l a p) (unless_deleted a p (D.Ends p))
+pub closed_ends : (t : Bytes) (l : Level) (a : Action) (p : Place) → l ≡ L.Element → Decides t (decide_closed l a p) (Ok (unless_deleted a p (D.Ends p)))
 closed_ends t l a p e = rw e (dropped t a p (D.Ends p) (record { is = refl; lies = tt }))
 
 -- ---- an event
 
-pub moved : (t : Bytes) {p q : Place} → p ≡ q → Decides t (moves q) (D.Moves p)
+pub moved : (t : Bytes) {p q : Place} → p ≡ q → Decides t (moves q) (Ok (D.Moves p))
 moved t e = record { is = ap moves e; lies = tt }
 
 module _ (line : Bytes) (place : Place) where
@@ -92,7 +67,7 @@ module _ (line : Bytes) (place : Place) where
     unfolding decide decide_event
     opened_is = rw (← e, attributes_good (body line) (to + 1) g)
 
-    pub decided_opened : {r : Decided} (t : Bytes) → t ≡ body line
+    pub decided_opened : {r : Result Decided Refusal} (t : Bytes) → t ≡ body line
         → Decides t (decide_opened (opened empty (name_of (slice from to t)) place) empty place.section (attributes_at t (to + 1))) r → Decides (body line) (decide line place) r
     decided_opened {r} t q h =
         let d = subst (λ (t : Bytes). Decides t (decide_opened (opened empty (name_of (slice from to t)) place) empty place.section (attributes_at t (to + 1))) r) q h in

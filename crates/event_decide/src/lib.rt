@@ -2,7 +2,7 @@
 // Numbers are held as their bits; a text is where it is written in the line, with its escapes.
 #![tactic(auto)]
 
-ghost use Rattle.std.specs.Prelude.{◌≡◌, ◌+◌};
+ghost use Rattle.std.specs.Prelude.{◌≡◌, ◌+◌, IfOk, Ok};
 ghost use Rattle.std.proofs.Math.Seq.{slice};
 ghost use Rattle.base.specs.Bytes.{Bytes};
 ghost use Rattle.nesting.specs.Name.{name_of};
@@ -12,11 +12,11 @@ ghost use Rattle.event.specs.Event.{body};
 ghost use Rattle.event_scan.specs.Scan.{attributes_at};
 ghost use Rattle.event_decision.specs.Decision.{push_begins, delete_begins, element_begins, child_of, decide_opened, decide_closed, decide};
 ghost use Rattle.event_values.specs.Value.{Inside};
-ghost use Rattle.event_decide.specs.Decided.{means_decided, DecidedInBounds, Decides, Heads, HeadInBounds, unless_deleted};
+ghost use Rattle.event_decide.specs.Decided.{answer_means, DecidedInBounds, Decides, Heads, HeadInBounds, unless_deleted};
 
-use event_metadata::{MetaField, Metadata};
-use event_scan::Scanned;
-use event_values::{BodyField, Extent, MemberField, TagField, WideField};
+use event_metadata::Metadata;
+use event_scan::{Extent, Scanned};
+use event_values::{Coordinates, MemberExtents, TagExtents};
 use kind::Kind;
 use nesting::{Action, Child, Level, Opened, Place};
 use refusal::Refusal;
@@ -64,11 +64,9 @@ pub struct NewMember {
     pub role: Extent,
 }
 
-// What an event is to do; each but a refusal says where its reader stands after it.
+// What an event is to do, and where its reader stands after it.
 #[derive(Clone, Copy)]
 pub enum Decided {
-    // 2 to 11
-    Refuses(Refusal),
     // the place alone changes
     Moves(Place),
     Begins(Beginning),
@@ -82,61 +80,64 @@ pub enum Decided {
 
 // ---- an element begins
 
-// An element's id and metadata, or the refusal of one of them.
 #[derive(Clone, Copy)]
-enum HeadField {
-    Is { id: u64, meta: Metadata },
-    Bad(Refusal),
+struct ElementHead {
+    id: u64,
+    meta: Metadata,
 }
 
-fn head_field(t: &[u8], at: usize) -> HeadField
+// An element's id and metadata, or the refusal of one of them.
+fn head_field(t: &[u8], at: usize) -> Result<ElementHead, Refusal>
     ensures heads { Heads t.now (attributes_at t.now at) result }
     ensures head_in_bounds { HeadInBounds t.now result }
 {
-    match event_values::wide_field(t, b"id", at) {
-        WideField::Bad(r) => HeadField::Bad(r),
-        WideField::Is(id) => match event_metadata::meta_field(t, at) {
-            MetaField::Bad(r) => HeadField::Bad(r),
-            MetaField::Is(meta) => HeadField::Is { id, meta },
-        },
-    }
+    let id = event_values::wide_field(t, b"id", at)?;
+    let meta = event_metadata::meta_field(t, at)?;
+    Ok(ElementHead { id, meta })
 }
 
-fn push_begins(t: &[u8], at: usize, empty: bool, kind: Kind, place: Place) -> Decided
+fn push_begins(
+    t: &[u8],
+    at: usize,
+    empty: bool,
+    kind: Kind,
+    place: Place,
+) -> Result<Decided, Refusal>
     ensures { Decides t.now (push_begins empty kind place (attributes_at t.now at)) result }
 {
-    match head_field(t, at) {
-        HeadField::Bad(r) => Decided::Refuses(r),
-        HeadField::Is { id, meta } => match event_values::body_field(t, at, kind) {
-            BodyField::Bad(r) => Decided::Refuses(r),
-            BodyField::At { lat, lon } => Decided::Begins(Beginning {
-                empty,
-                kind,
-                place,
-                id,
-                lat,
-                lon,
-                meta,
-            }),
-        },
-    }
+    let ElementHead { id, meta } = head_field(t, at)?;
+    let Coordinates { lat, lon } = event_values::body_field(t, at, kind)?;
+    Ok(Decided::Begins(Beginning {
+        empty,
+        kind,
+        place,
+        id,
+        lat,
+        lon,
+        meta,
+    }))
 }
 
-fn delete_begins(t: &[u8], at: usize, kind: Kind, place: Place) -> Decided
+fn delete_begins(t: &[u8], at: usize, kind: Kind, place: Place) -> Result<Decided, Refusal>
     ensures { Decides t.now (delete_begins kind place (attributes_at t.now at)) result }
 {
-    match head_field(t, at) {
-        HeadField::Bad(r) => Decided::Refuses(r),
-        HeadField::Is { id, meta } => Decided::Deletes(Deletion {
-            kind,
-            place,
-            id,
-            meta,
-        }),
-    }
+    let ElementHead { id, meta } = head_field(t, at)?;
+    Ok(Decided::Deletes(Deletion {
+        kind,
+        place,
+        id,
+        meta,
+    }))
 }
 
-fn element_begins(t: &[u8], at: usize, a: Action, empty: bool, kind: Kind, place: Place) -> Decided
+fn element_begins(
+    t: &[u8],
+    at: usize,
+    a: Action,
+    empty: bool,
+    kind: Kind,
+    place: Place,
+) -> Result<Decided, Refusal>
     ensures { Decides t.now (element_begins a empty kind place (attributes_at t.now at)) result }
 {
     match a {
@@ -159,52 +160,40 @@ fn unless_deleted(a: Action, place: Place, d: Decided) -> Decided
     }
 }
 
-fn tag_child(t: &[u8], at: usize, a: Action, place: Place) -> Decided
+fn tag_child(t: &[u8], at: usize, a: Action, place: Place) -> Result<Decided, Refusal>
     ensures { Decides t.now (child_of children.Tag a place (attributes_at t.now at)) result }
 {
-    match event_values::tag_field(t, at) {
-        TagField::Bad(r) => Decided::Refuses(r),
-        TagField::Is { key, value } => {
-            let tag = NewTag { place, key, value };
-            unless_deleted(a, place, Decided::Tags(tag))
-        }
-    }
+    let TagExtents { key, value } = event_values::tag_field(t, at)?;
+    let tag = NewTag { place, key, value };
+    Ok(unless_deleted(a, place, Decided::Tags(tag)))
 }
 
-fn nd_child(t: &[u8], at: usize, a: Action, place: Place) -> Decided
+fn nd_child(t: &[u8], at: usize, a: Action, place: Place) -> Result<Decided, Refusal>
     ensures { Decides t.now (child_of children.Nd a place (attributes_at t.now at)) result }
 {
-    match event_values::wide_field(t, b"ref", at) {
-        WideField::Bad(r) => Decided::Refuses(r),
-        WideField::Is(reference) => {
-            let to = NewRef { place, reference };
-            unless_deleted(a, place, Decided::Refers(to))
-        }
-    }
+    let reference = event_values::wide_field(t, b"ref", at)?;
+    let to = NewRef { place, reference };
+    Ok(unless_deleted(a, place, Decided::Refers(to)))
 }
 
-fn member_child(t: &[u8], at: usize, a: Action, place: Place) -> Decided
+fn member_child(t: &[u8], at: usize, a: Action, place: Place) -> Result<Decided, Refusal>
     ensures { Decides t.now (child_of children.Member a place (attributes_at t.now at)) result }
 {
-    match event_values::member_field(t, at) {
-        MemberField::Bad(r) => Decided::Refuses(r),
-        MemberField::Is {
-            reference,
-            kind,
-            role,
-        } => {
-            let member = NewMember {
-                place,
-                reference,
-                kind,
-                role,
-            };
-            unless_deleted(a, place, Decided::Joins(member))
-        }
-    }
+    let MemberExtents {
+        reference,
+        kind,
+        role,
+    } = event_values::member_field(t, at)?;
+    let member = NewMember {
+        place,
+        reference,
+        kind,
+        role,
+    };
+    Ok(unless_deleted(a, place, Decided::Joins(member)))
 }
 
-fn child(t: &[u8], at: usize, c: Child, a: Action, place: Place) -> Decided
+fn child(t: &[u8], at: usize, c: Child, a: Action, place: Place) -> Result<Decided, Refusal>
     ensures { Decides t.now (child_of c a place (attributes_at t.now at)) result }
 {
     match c {
@@ -217,15 +206,15 @@ fn child(t: &[u8], at: usize, c: Child, a: Action, place: Place) -> Decided
 // ---- an event
 
 // An open or an empty element, whose name lies from one place to another.
-fn opens(t: &[u8], empty: bool, from: usize, to: usize, place: Place) -> Decided
+fn opens(t: &[u8], empty: bool, from: usize, to: usize, place: Place) -> Result<Decided, Refusal>
     requires { Inside t.now from to }
     ensures { Decides t.now (decide_opened (opened empty (name_of (slice from to t.now)) place) empty place.section (attributes_at t.now (to + 1))) result }
 {
     let section = place.section;
     match nesting::open_at(place, empty, nesting::name_of(&t[from..to])) {
-        Opened::Misplaced => Decided::Refuses(Refusal::Misplaced),
-        Opened::OutsideSection => Decided::Refuses(Refusal::OutsideSection),
-        Opened::Goes(p) => Decided::Moves(p),
+        Opened::Misplaced => Err(Refusal::Misplaced),
+        Opened::OutsideSection => Err(Refusal::OutsideSection),
+        Opened::Goes(p) => Ok(Decided::Moves(p)),
         Opened::Begins(k, p) => element_begins(t, to + 1, section, empty, k, p),
         Opened::Holds(c, p) => child(t, to + 1, c, section, p),
     }
@@ -233,7 +222,7 @@ fn opens(t: &[u8], empty: bool, from: usize, to: usize, place: Place) -> Decided
 
 // A close: a push happens when its element ends.
 fn closes(place: Place) -> Decided
-    ensures { (t : Bytes) → Decides t (decide_closed place.level place.section (closed place)) result }
+    ensures { (t : Bytes) → Decides t (decide_closed place.level place.section (closed place)) (Ok result) }
 {
     let level = place.level;
     let section = place.section;
@@ -244,18 +233,18 @@ fn closes(place: Place) -> Decided
     }
 }
 
-// What an event is to do: its line with its line feed, at a place. The texts of a decision lie in the line without its line feed.
-pub fn decide(line: &[u8], place: Place) -> Decided
-    ensures result_value { means_decided (body line.now) result ≡ decide line.now place }
-    ensures decided_in_bounds { DecidedInBounds (body line.now) result }
+// What an event is to do, or its refusal, 2 to 11: its line with its line feed, at a place. The texts of a decision lie in the line without its line feed.
+pub fn decide(line: &[u8], place: Place) -> Result<Decided, Refusal>
+    ensures result_value { answer_means (body line.now) result ≡ decide line.now place }
+    ensures decided_in_bounds { IfOk result (DecidedInBounds (body line.now)) }
 {
     match event_scan::scan(line) {
-        Scanned::Refused(r) => Decided::Refuses(r),
+        Scanned::Refused(r) => Err(r),
         Scanned::Starts { empty, from, to } => {
             let n = event_scan::body_length(line);
             opens(&line[..n], empty, from, to, place)
         }
-        Scanned::Closes => closes(place),
-        Scanned::Others => Decided::Moves(place),
+        Scanned::Closes => Ok(closes(place)),
+        Scanned::Others => Ok(Decided::Moves(place)),
     }
 }

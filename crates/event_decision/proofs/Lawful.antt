@@ -1,10 +1,10 @@
 -- What a decision holds is within the bounds of its fields: numbers fit their widths, metadata is legal, texts are text, and the place that it leads to is of the kind
 -- of the element that stands open.
+use Rattle.std.specs.Prelude.{None, Option, Some}
 use Prim.Native.Nat.{◌≤◌}
 use mathlib.Core.Path.{◌≡◌, refl, ap}
 use mathlib.Core.Bool.{Bool, true, false, cond}
 use mathlib.Core.List.{List, []}
-use mathlib.Core.Option.{Option, none, some}
 use lib.IntN.{ℤ, nat_abs}
 use mir.Syntax.{w32, w64}
 use mir.Val.{SFits}
@@ -70,8 +70,8 @@ module _ (attrs : List Attr) (h : all (λ (a : Attr). is_text a.value) attrs ≡
   given a b = record { fits = integer_fits (ascii "id") attrs w64 a; legal = meta_legal attrs b; user = meta_user is_text attrs text_nil h b }
 
   role_text : (o : Option Bytes) → value_of (ascii "role") attrs ≡ o → is_text (or_empty o) ≡ true
-  role_text none q = text_nil
-  role_text (some v) q = value_all is_text (ascii "role") attrs h q
+  role_text None q = text_nil
+  role_text (Some v) q = value_all is_text (ascii "role") attrs h q
 
   begun_kind : (e : Bool) (k : Kind) (p : Place) {q : Place} → q ≡ cond e p (record { level = L.Element; section = p.section; kind = k }) → q.kind ≡ cond e p.kind k
   begun_kind true k p l = ap (λ (x : Place). x.kind) l

@@ -1,7 +1,7 @@
 -- Where an open or an empty element leads: of which kind and section that place is, which names are children, and of which elements a child is.
+use Rattle.std.specs.Prelude.{None, Option, Some}
 use mathlib.Core.Path.{◌≡◌, refl, ap}
 use mathlib.Core.Bool.{Bool, true, false, cond}
-use mathlib.Core.Option.{Option, none, some}
 use Rattle.base.proofs.Split.{clash}
 use Rattle.kind.specs.declared.Kind.{Kind}
 use Rattle.kind.specs.declared.Kind.TheVariants as K
@@ -26,18 +26,18 @@ Child_of C.Member k = k ≡ K.Relation
 
 -- the child that a name stands for
 abbrev pub child_named : Name → Option Child
-child_named N.Tag = some C.Tag
-child_named N.Nd = some C.Nd
-child_named N.Member = some C.Member
-child_named N.OsmChange = none
-child_named N.Create = none
-child_named N.Modify = none
-child_named N.Delete = none
-child_named N.Node = none
-child_named N.Way = none
-child_named N.Relation = none
-child_named N.Bounds = none
-child_named N.Unknown = none
+child_named N.Tag = Some C.Tag
+child_named N.Nd = Some C.Nd
+child_named N.Member = Some C.Member
+child_named N.OsmChange = None
+child_named N.Create = None
+child_named N.Modify = None
+child_named N.Delete = None
+child_named N.Node = None
+child_named N.Way = None
+child_named N.Relation = None
+child_named N.Bounds = None
+child_named N.Unknown = None
 
 -- between an element's opening and its close
 abbrev pub is_inside : Level → Bool
@@ -52,7 +52,7 @@ is_inside L.Done = false
 -- a place that is gone to is of the same kind; inside an element it is in the same section, and the name is no child's
 pub record Going (n : Name) (p q : Place) : Type 0 where
   pub kind : q.kind ≡ p.kind
-  pub inside : is_inside p.level ≡ true → (q.section ≡ p.section) × (child_named n ≡ none)
+  pub inside : is_inside p.level ≡ true → (q.section ≡ p.section) × (child_named n ≡ None)
 
 -- an element begins outside elements, and stands open unless it is empty
 pub record Beginning (e : Bool) (k : Kind) (p q : Place) : Type 0 where
@@ -63,7 +63,7 @@ pub record Beginning (e : Bool) (k : Kind) (p q : Place) : Type 0 where
 pub record Holding (n : Name) (c : Child) (p q : Place) : Type 0 where
   pub kind : q.kind ≡ p.kind
   pub section : q.section ≡ p.section
-  pub child : child_named n ≡ some c
+  pub child : child_named n ≡ Some c
   pub child_of_lem : Child_of c p.kind
 
 abbrev pub Leads : Bool → Name → Place → Opened → Type 0
@@ -138,7 +138,7 @@ module _ (e : Bool) (p : Place) (outside : is_inside p.level ≡ false) where
   in_section_leads N.Unknown = tt
 
 module _ (e : Bool) (p : Place) where
-  holding : {n : Name} (c : Child) → child_named n ≡ some c → Child_of c p.kind → Leads e n p (O.Holds c (unless e L.Leaf p))
+  holding : {n : Name} (c : Child) → child_named n ≡ Some c → Child_of c p.kind → Leads e n p (O.Holds c (unless e L.Leaf p))
   holding c h k = record { kind = unless_kind e L.Leaf p; section = unless_section e L.Leaf p; child = h; child_of_lem = k }
 
   way_leads : (k : Kind) → p.kind ≡ k → Leads e N.Nd p (in_way k (O.Holds C.Nd (unless e L.Leaf p)))

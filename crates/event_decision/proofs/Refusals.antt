@@ -1,8 +1,8 @@
 -- Where a line is refused, by place of the check: line, nesting, fields; 5 and 6 exactly where the nesting says so.
+use Rattle.std.specs.Prelude.{Some}
 use Prim.Native.Nat.{◌≤◌}
 use mathlib.Core.Path.{◌≡◌, refl, sym, ◌∙◌, ap}
 use mathlib.Core.Bool.{Bool, true}
-use mathlib.Core.Option.{some}
 use mathlib.Core.List.{List, [], ◌∷◌, ◌++◌}
 use native.Mathlib.Omega.{arith}
 use mathlib.Core.Logic.{◌↔◌, ⊎_elim}
@@ -33,12 +33,12 @@ use Rattle.event_decision.proofs.Decided.{decided}
 use Rattle.event_decision.proofs.Table.{start_first, close_taken}
 
 -- what each row of a table gives, the first gives
-first_gives : {A : Type 0} (P : A → Bool) (rows : List (ConditionRow A)) {a : A} → all (λ r. P r.gives) rows ≡ true → first_of rows ≡ some a → P a ≡ true
+first_gives : {A : Type 0} (P : A → Bool) (rows : List (ConditionRow A)) {a : A} → all (λ r. P r.gives) rows ≡ true → first_of rows ≡ Some a → P a ≡ true
 unfolding first_of
 first_gives P [] h e = no (cc)
 first_gives P (r ∷ rows) {a} h e =
     by_bool r.holds
-    (λ t. let k : some r.gives ≡ some a = rw t at e in let q : r.gives ≡ a = cc in rw (← q) (all_head _ r rows h))
+    (λ t. let k : Some r.gives ≡ Some a = rw t at e in let q : r.gives ≡ a = cc in rw (← q) (all_head _ r rows h))
     (λ t. first_gives P rows (all_tail _ r rows h) (rw t at e))
 
 -- 7 to 11
@@ -95,13 +95,13 @@ module _ (line : Bytes) (p : Place) where
       by : (2 ≤ number_of r) × (number_of r ≤ 4) → RefusedAt line p r
       by h = at_line e h.0 h.1
 
-  field_refused : (rows : List (ConditionRow Refusal)) {r : Refusal} → fields_give rows ≡ true → first_of rows ≡ some r → RefusedAt line p r
+  field_refused : (rows : List (ConditionRow Refusal)) {r : Refusal} → fields_give rows ≡ true → first_of rows ≡ Some r → RefusedAt line p r
   field_refused rows {r} h e =
       let k = first_gives is_field rows h e in
       at_field (leb-true 7 (number_of r) (both_left _ _ k)) (leb-true (number_of r) 11 (both_right _ _ k))
 
   start_refused : (e : Bool) (n : Bytes) (attrs : List Attr) {r : Refusal} → event_of line ≡ reads (starts e n attrs) → (o : Opened) → opened e (name_of n) p ≡ o
-      → first_of (start_rows o p.section attrs) ≡ some r → RefusedAt line p r
+      → first_of (start_rows o p.section attrs) ≡ Some r → RefusedAt line p r
   unfolding first_of
   start_refused e n attrs {r} q O.Misplaced l h =
       let k : R.Misplaced ≡ r = cc in rw (← k) (misplaced (record { empty = e; name = n; attrs = attrs; reading = q; leads_to = l }))
@@ -116,7 +116,7 @@ module _ (line : Bytes) (p : Place) where
   unfolding decide decide_event
   refused_at r h = go (event_of line) refl (ap refusal_in h)
     where
-      go : (x : Reading) → event_of line ≡ x → refusal_in (decide_reading x p) ≡ some r → RefusedAt line p r
+      go : (x : Reading) → event_of line ≡ x → refusal_in (decide_reading x p) ≡ Some r → RefusedAt line p r
       go (reads (starts e n attrs)) q k = start_refused e n attrs q (opened e (name_of n) p) refl (sym (start_first attrs (opened e (name_of n) p) e p.section) ∙ k)
       go (reads closes) q k = no (cc (close_taken p (decided p (reads closes))))
       go (reads others) q k = no (cc)

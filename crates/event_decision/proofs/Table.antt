@@ -1,8 +1,8 @@
 -- A line is refused before the store by the first condition of its table that holds, and where none holds it is not refused.
+use Rattle.std.specs.Prelude.{None, Option, Some}
 use Prim.Native.Nat.{ℕ}
 use mathlib.Core.Path.{◌≡◌, refl, sym, ◌∙◌}
 use mathlib.Core.Bool.{Bool, true, false, not}
-use mathlib.Core.Option.{Option, none, some}
 use mathlib.Core.List.{List, [], ◌∷◌, ◌++◌}
 use lib.IntN.{nat_abs}
 use lib.ListN.{length}
@@ -45,8 +45,8 @@ use Rattle.event_decision.proofs.Decided as D
 
 -- the refusal of a field, if it is one
 abbrev pub refusal_of : {A : Type 0} → Field A → Option Refusal
-refusal_of (got a) = none
-refusal_of (bad r) = some r
+refusal_of (got a) = None
+refusal_of (bad r) = Some r
 
 -- "each field is checked whole before the next"
 then_first : {A B : Type 0} (f : Field A) (g : A → Field B) (xs ys : List (ConditionRow Refusal)) → refusal_of f ≡ first_of xs → ((a : A) → f ≡ got a → refusal_of (g a) ≡ first_of ys)
@@ -66,8 +66,8 @@ last_first (bad r) g = refl
 
 or_first : {A : Type 0} (r : Refusal) (o : Option A) → refusal_of (or_else r o) ≡ first_of (row r (is_none o) ∷ [])
 unfolding first_of
-or_first r none = refl
-or_first r (some a) = refl
+or_first r None = refl
+or_first r (Some a) = refl
 
 -- ---- the fields
 
@@ -77,8 +77,8 @@ module _ (n : Bytes) (attrs : List Attr) where
   text_first = go (value_of n attrs) refl
     where
       go : (o : Option Bytes) → value_of n attrs ≡ o → refusal_of (text_field n attrs) ≡ first_of (missing_row n attrs ∷ [])
-      go none e = rw (e, (value_none n attrs).0 e)
-      go (some v) e = by_bool (named n attrs) (λ t. rw (e, t)) (λ t. no (cc ((value_none n attrs).1 t)))
+      go None e = rw (e, (value_none n attrs).0 e)
+      go (Some v) e = by_bool (named n attrs) (λ t. rw (e, t)) (λ t. no (cc ((value_none n attrs).1 t)))
 
   integer_first : (w : Width) → refusal_of (integer_field w n attrs) ≡ first_of (integer_rows n attrs w)
   unfolding integer_field first_of
@@ -108,7 +108,7 @@ unnamed a h =
     let c = no_either _ _ t.1 in
     ((v.0, t.0), (c.0, (no_either _ _ c.1).0))
 
-took_first : {m n : Meta Bytes} {a : Attr} → Took m a n → first_of (row R.NotInteger (bad_integer a) ∷ row R.NotTimestamp (bad_stamp a) ∷ []) ≡ none
+took_first : {m n : Meta Bytes} {a : Attr} → Took m a n → first_of (row R.NotInteger (bad_integer a) ∷ row R.NotTimestamp (bad_stamp a) ∷ []) ≡ None
 unfolding first_of same both either
 took_first (M.version e) = rw e
 took_first (M.timestamp e) = rw e
@@ -118,7 +118,7 @@ took_first M.user = refl
 took_first M.visible = refl
 took_first {a = a} (M.other h) = let x = unnamed a (h present) in rw (x.0.0, x.1.0, x.1.1, x.0.1)
 
-fault_first : {a : Attr} {r : Refusal} → Fault a r → first_of (row R.NotInteger (bad_integer a) ∷ row R.NotTimestamp (bad_stamp a) ∷ []) ≡ some r
+fault_first : {a : Attr} {r : Refusal} → Fault a r → first_of (row R.NotInteger (bad_integer a) ∷ row R.NotTimestamp (bad_stamp a) ∷ []) ≡ Some r
 unfolding first_of same both either
 fault_first (M.version e) = rw e
 fault_first (M.timestamp e) = rw e
@@ -166,11 +166,11 @@ place_first K.Relation attrs = refl
 -- ---- what is decided
 
 -- a field, then what is not refused
-field_first : {A : Type 0} (f : Field A) (g : A → Decision) → ((a : A) → refusal_in (g a) ≡ none) → refusal_in (on_field f g) ≡ refusal_of f
+field_first : {A : Type 0} (f : Field A) (g : A → Decision) → ((a : A) → refusal_in (g a) ≡ None) → refusal_in (on_field f g) ≡ refusal_of f
 field_first (got a) g k = k a
 field_first (bad r) g k = refl
 
-unless_taken : (a : Action) (p : Place) (d : Decision) → refusal_in d ≡ none → refusal_in (unless_delete a p d) ≡ none
+unless_taken : (a : Action) (p : Place) (d : Decision) → refusal_in d ≡ None → refusal_in (unless_delete a p d) ≡ None
 unless_taken A.Create p d h = h
 unless_taken A.Modify p d h = h
 unless_taken A.Delete p d h = refl
@@ -219,7 +219,7 @@ module _ (attrs : List Attr) where
   start_first (O.Begins k p) e a = element_first a e k p
   start_first (O.Holds c p) e a = child_first c a p
 
-pub close_taken : (p : Place) {d : Decision} → Decides p (reads closes) d → refusal_in d ≡ none
+pub close_taken : (p : Place) {d : Decision} → Decides p (reads closes) d → refusal_in d ≡ None
 close_taken p (D.end l s) = refl
 close_taken p (D.close h) = refl
 

@@ -1,7 +1,6 @@
 -- Document 01, "What is returned, by place of the check", for a line at a place: the rows line, nesting and fields as one ordered list of conditions.
 -- "Places go top to bottom, a row left to right, but each field is checked whole before the next".
-use Rattle.std.specs.Prelude.{ℕ, Bool, true, false, not, List, [], ◌∷◌, ◌++◌, ltb, ℤ, nat_abs, length}
-use Rattle.std.proofs.Math.Option.{Option, none, some}
+use Rattle.std.specs.Prelude.{ℕ, Bool, true, false, not, List, [], ◌∷◌, ◌++◌, ltb, ℤ, nat_abs, length, None, Option, Some}
 use Rattle.std.specs.Int.{Width, w32, w64}
 use Rattle.base.specs.Ascii.{ascii}
 use Rattle.base.specs.Bytes.{Bytes, both, either, same}
@@ -26,24 +25,24 @@ use Rattle.event_decision.specs.Decision.{Decision, refuses, moves, begins, dele
 
 -- the refusal of a decision, if it is one
 abbrev pub refusal_in : Decision → Option Refusal
-refusal_in (refuses r) = some r
-refusal_in (moves p) = none
-refusal_in (begins e p id m b) = none
-refusal_in (deletes k p id m) = none
-refusal_in (tags p t) = none
-refusal_in (refers p z) = none
-refusal_in (joins p m) = none
-refusal_in (ends p) = none
+refusal_in (refuses r) = Some r
+refusal_in (moves p) = None
+refusal_in (begins e p id m b) = None
+refusal_in (deletes k p id m) = None
+refusal_in (tags p t) = None
+refusal_in (refers p z) = None
+refusal_in (joins p m) = None
+refusal_in (ends p) = None
 
 abbrev pub is_none : {A : Type 0} → Option A → Bool
-is_none none = true
-is_none (some a) = false
+is_none None = true
+is_none (Some a) = false
 
 -- ---- fields: "7 missing; 8 not an integer of its width; 9 timestamp; 10 coordinate range; 11 member type not `node`, `way`, `relation`"
 
 abbrev pub exceeds : ℕ → Option ℤ → Bool
-exceeds limit none = false
-exceeds limit (some z) = ltb limit (nat_abs z)
+exceeds limit None = false
+exceeds limit (Some z) = ltb limit (nat_abs z)
 
 module _ (n : Bytes) (attrs : List Attr) where
   abbrev pub value_or_empty : Bytes

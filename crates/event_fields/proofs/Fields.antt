@@ -1,9 +1,9 @@
 -- What the fields of an event give: each refusal exactly when its condition holds, and numbers that fit their widths.
+use Rattle.std.specs.Prelude.{None, Option, Some}
 use Prim.Native.Nat.{ℕ, ◌<◌, ◌≤◌}
 use mathlib.Core.Path.{◌≡◌, refl, sym, ◌∙◌, ap}
 use mathlib.Core.Bool.{Bool, true, false, cond}
 use mathlib.Core.Logic.{◌↔◌, ◌⊎◌, inl, inr, ⊎_elim}
-use mathlib.Core.Option.{Option, none, some}
 use mathlib.Core.List.{List, [], ◌∷◌, Memᴰ}
 use lib.Dec.{leb}
 use lib.IntN.{ℤ, nat_abs}
@@ -45,13 +45,13 @@ last_bad g (got a) r = (λ e. no (cc), λ e. no (cc))
 last_bad g (bad x) r = (λ e. cc, λ e. cc)
 
 module _ {A : Type 0} (x : Refusal) where
-  pub or_got : (o : Option A) (a : A) → (or_else x o ≡ got a) ↔ (o ≡ some a)
-  or_got none a = (λ e. no (cc), λ e. no (cc))
-  or_got (some b) a = (λ e. cc, λ e. cc)
+  pub or_got : (o : Option A) (a : A) → (or_else x o ≡ got a) ↔ (o ≡ Some a)
+  or_got None a = (λ e. no (cc), λ e. no (cc))
+  or_got (Some b) a = (λ e. cc, λ e. cc)
 
-  pub or_bad : (o : Option A) (r : Refusal) → (or_else x o ≡ bad r) ↔ ((o ≡ none) × (r ≡ x))
-  or_bad none r = (λ e. (refl, cc), λ e. ap bad (sym e.1))
-  or_bad (some b) r = (λ e. no (cc), λ e. no (cc e.0))
+  pub or_bad : (o : Option A) (r : Refusal) → (or_else x o ≡ bad r) ↔ ((o ≡ None) × (r ≡ x))
+  or_bad None r = (λ e. (refl, cc), λ e. ap bad (sym e.1))
+  or_bad (Some b) r = (λ e. no (cc), λ e. no (cc e.0))
 
 pub by_field : {A C : Type 0} (f : Field A) → ((a : A) → f ≡ got a → C) → ((r : Refusal) → f ≡ bad r → C) → C
 by_field (got a) g h = g a refl
@@ -67,7 +67,7 @@ pub record Given (n : Bytes) (attrs : List Attr) (v : Bytes) : Type 0 where
   pub value : attr.value ≡ v
 
 -- a name has no value exactly when no attribute has the name
-pub value_none : (n : Bytes) (attrs : List Attr) → (value_of n attrs ≡ none) ↔ (named n attrs ≡ false)
+pub value_none : (n : Bytes) (attrs : List Attr) → (value_of n attrs ≡ None) ↔ (named n attrs ≡ false)
 unfolding value_of named
 value_none n [] = (λ e. refl, λ e. refl)
 value_none n (a ∷ attrs) =
@@ -76,28 +76,28 @@ value_none n (a ∷ attrs) =
     (λ t. rw t (value_none n attrs))
 
 -- what holds of every attribute's value holds of a name's value
-pub value_all : (p : Bytes → Bool) (n : Bytes) (attrs : List Attr) {v : Bytes} → all (λ a. p a.value) attrs ≡ true → value_of n attrs ≡ some v → p v ≡ true
+pub value_all : (p : Bytes → Bool) (n : Bytes) (attrs : List Attr) {v : Bytes} → all (λ a. p a.value) attrs ≡ true → value_of n attrs ≡ Some v → p v ≡ true
 unfolding value_of
 value_all p n [] h e = no (cc)
 value_all p n (a ∷ attrs) {v} h e =
     by_bool (same n a.name)
-    (λ t. let q : some a.value ≡ some v = rw t at e in let r : a.value ≡ v = cc in rw r at (all_head _ a attrs h))
+    (λ t. let q : Some a.value ≡ Some v = rw t at e in let r : a.value ≡ v = cc in rw r at (all_head _ a attrs h))
     (λ t. value_all p n attrs (all_tail _ a attrs h) (rw t at e))
 
 -- ---- texts and integers
 
 module _ (n : Bytes) (attrs : List Attr) where
-  pub text_got : (v : Bytes) → (text_field n attrs ≡ got v) ↔ (value_of n attrs ≡ some v)
+  pub text_got : (v : Bytes) → (text_field n attrs ≡ got v) ↔ (value_of n attrs ≡ Some v)
   unfolding text_field
   text_got v = or_got Missing (value_of n attrs) v
 
   -- "7 missing"
-  pub text_bad : (r : Refusal) → (text_field n attrs ≡ bad r) ↔ ((value_of n attrs ≡ none) × (r ≡ Missing))
+  pub text_bad : (r : Refusal) → (text_field n attrs ≡ bad r) ↔ ((value_of n attrs ≡ None) × (r ≡ Missing))
   unfolding text_field
   text_bad r = or_bad Missing (value_of n attrs) r
 
   module _ (w : Width) where
-    pub integer_got : (z : ℤ) → (integer_field w n attrs ≡ got z) ↔ ((v : Bytes) × ((value_of n attrs ≡ some v) × (integer_of w v ≡ some z)))
+    pub integer_got : (z : ℤ) → (integer_field w n attrs ≡ got z) ↔ ((v : Bytes) × ((value_of n attrs ≡ Some v) × (integer_of w v ≡ Some z)))
     unfolding integer_field
     integer_got z = (
       λ e. let t = then_got _ (text_field n attrs) e in (t.0, ((text_got _).0 t.1.0, (or_got _ _ z).0 t.1.1)),
@@ -106,7 +106,7 @@ module _ (n : Bytes) (attrs : List Attr) where
 
     -- "8 not an integer of its width"
     pub integer_bad : (r : Refusal) → (integer_field w n attrs ≡ bad r)
-        ↔ (((value_of n attrs ≡ none) × (r ≡ Missing)) ⊎ ((v : Bytes) × ((value_of n attrs ≡ some v) × ((integer_of w v ≡ none) × (r ≡ NotInteger)))))
+        ↔ (((value_of n attrs ≡ None) × (r ≡ Missing)) ⊎ ((v : Bytes) × ((value_of n attrs ≡ Some v) × ((integer_of w v ≡ None) × (r ≡ NotInteger)))))
     unfolding integer_field
     integer_bad r = (
       λ e. ⊎_elim (λ b. inl ((text_bad r).0 b)) (λ t. inr (t.0, ((text_got _).0 t.1.0, (or_bad _ _ r).0 t.1.1))) ((then_bad _ (text_field n attrs) r).0 e),
@@ -171,7 +171,7 @@ unfolding ref_of
 ref_fits attrs e = integer_fits (ascii "ref") attrs w64 e
 
 module _ (attrs : List Attr) where
-  pub tag_got : (t : Tag Bytes) → (tag_of attrs ≡ got t) ↔ ((value_of (ascii "k") attrs ≡ some t.key) × (value_of (ascii "v") attrs ≡ some t.value))
+  pub tag_got : (t : Tag Bytes) → (tag_of attrs ≡ got t) ↔ ((value_of (ascii "k") attrs ≡ Some t.key) × (value_of (ascii "v") attrs ≡ Some t.value))
   unfolding tag_of
   tag_got t = (
     λ e.
@@ -182,7 +182,7 @@ module _ (attrs : List Attr) where
     λ h. rw ((text_got _ attrs t.key).1 h.0, (text_got _ attrs t.value).1 h.1),
   )
 
-  pub tag_bad : (r : Refusal) → (tag_of attrs ≡ bad r) ↔ (((value_of (ascii "k") attrs ≡ none) ⊎ (value_of (ascii "v") attrs ≡ none)) × (r ≡ Missing))
+  pub tag_bad : (r : Refusal) → (tag_of attrs ≡ bad r) ↔ (((value_of (ascii "k") attrs ≡ None) ⊎ (value_of (ascii "v") attrs ≡ None)) × (r ≡ Missing))
   unfolding tag_of
   tag_bad r = (
     λ e. ⊎_elim
@@ -249,7 +249,7 @@ type_bad s r = (
 module _ (attrs : List Attr) where
   -- "Member: type, ref, role (optional, else empty)."
   pub member_got : (m : Member Bytes) → (member_of attrs ≡ got m)
-      ↔ ((value_of (ascii "type") attrs ≡ some (word_of m.type)) × ((integer_field w64 (ascii "ref") attrs ≡ got m.ref) × (m.role ≡ or_empty (value_of (ascii "role") attrs))))
+      ↔ ((value_of (ascii "type") attrs ≡ Some (word_of m.type)) × ((integer_field w64 (ascii "ref") attrs ≡ got m.ref) × (m.role ≡ or_empty (value_of (ascii "role") attrs))))
   unfolding member_of
   member_got m = (
     λ e.
@@ -263,8 +263,8 @@ module _ (attrs : List Attr) where
   )
 
   pub member_bad : (r : Refusal) → (member_of attrs ≡ bad r)
-      ↔ (((value_of (ascii "type") attrs ≡ none) × (r ≡ Missing))
-      ⊎ ((s : Bytes) × ((value_of (ascii "type") attrs ≡ some s)
+      ↔ (((value_of (ascii "type") attrs ≡ None) × (r ≡ Missing))
+      ⊎ ((s : Bytes) × ((value_of (ascii "type") attrs ≡ Some s)
       × ((((k : Kind) → s ≡ word_of k → ⊥) × (r ≡ MemberType)) ⊎ ((k : Kind) × ((s ≡ word_of k) × (integer_field w64 (ascii "ref") attrs ≡ bad r)))))))
   unfolding member_of
   member_bad r = (

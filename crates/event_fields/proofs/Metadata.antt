@@ -1,9 +1,9 @@
 -- Metadata that is read is legal, its numbers fit their widths, and each flag is set by exactly the attributes that document 01 names.
+use Rattle.std.specs.Prelude.{None, Option, Some}
 use Prim.Native.Nat.{ℕ, ◌≤◌}
 use mathlib.Core.Path.{◌≡◌, refl, sym, ◌∙◌, ap, subst}
 use mathlib.Core.Bool.{Bool, true, false, cond, not}
 use mathlib.Core.Logic.{◌↔◌, ◌⊎◌, inl, inr, ⊎_elim}
-use mathlib.Core.Option.{Option, none, some}
 use mathlib.Core.List.{List, [], ◌∷◌, Memᴰ}
 use native.Mathlib.Omega.{arith}
 use Prim.Native.String.{String}
@@ -24,7 +24,6 @@ use Rattle.integer.specs.Integer.{integer_of}
 use Rattle.integer.proofs.Integers.{integer_of_is}
 use Rattle.stamp.specs.Stamp.{stamp}
 use Rattle.stamp.proofs.Bounds.{stamp_fits}
-use Rattle.version_floor.specs.declared.Version.TheVariants.{Absent, Is}
 use Rattle.model.specs.Record.{Meta, flagged, claim_of}
 use Rattle.event.specs.Event.{Attr, named}
 use Rattle.event_fields.specs.Field.{Field, got, bad, and_then, or_else, no_meta, mark, with_version, with_timestamp, with_changeset, with_uid, with_user, with_visible, meta_with, meta_from, metadata_of}
@@ -115,20 +114,20 @@ attr s v = record { name = ascii s; value = v }
 
 -- an attribute that is taken: the metadata before it and after it
 pub data Took (m : Meta Bytes) : Attr → Meta Bytes → Type 0 where
-  version : {v : Bytes} {z : ℤ} → integer_of w32 v ≡ some z → Took m (attr "version" v) (with_version m z)
-  timestamp : {v : Bytes} {z : ℤ} → stamp v ≡ some z → Took m (attr "timestamp" v) (with_timestamp m z)
-  changeset : {v : Bytes} {z : ℤ} → integer_of w64 v ≡ some z → Took m (attr "changeset" v) (with_changeset m z)
-  uid : {v : Bytes} {z : ℤ} → integer_of w32 v ≡ some z → Took m (attr "uid" v) (with_uid m z)
+  version : {v : Bytes} {z : ℤ} → integer_of w32 v ≡ Some z → Took m (attr "version" v) (with_version m z)
+  timestamp : {v : Bytes} {z : ℤ} → stamp v ≡ Some z → Took m (attr "timestamp" v) (with_timestamp m z)
+  changeset : {v : Bytes} {z : ℤ} → integer_of w64 v ≡ Some z → Took m (attr "changeset" v) (with_changeset m z)
+  uid : {v : Bytes} {z : ℤ} → integer_of w32 v ≡ Some z → Took m (attr "uid" v) (with_uid m z)
   user : {v : Bytes} → Took m (attr "user" v) (with_user m v)
   visible : {v : Bytes} → Took m (attr "visible" v) (with_visible m v)
   other : {a : Attr} → ((b : Flag) → sets b a ≡ false) → Took m a m
 
 -- an attribute that is refused: "8 not an integer of its width; 9 timestamp"
 pub data Fault : Attr → Refusal → Type 0 where
-  version : {v : Bytes} → integer_of w32 v ≡ none → Fault (attr "version" v) NotInteger
-  timestamp : {v : Bytes} → stamp v ≡ none → Fault (attr "timestamp" v) NotTimestamp
-  changeset : {v : Bytes} → integer_of w64 v ≡ none → Fault (attr "changeset" v) NotInteger
-  uid : {v : Bytes} → integer_of w32 v ≡ none → Fault (attr "uid" v) NotInteger
+  version : {v : Bytes} → integer_of w32 v ≡ None → Fault (attr "version" v) NotInteger
+  timestamp : {v : Bytes} → stamp v ≡ None → Fault (attr "timestamp" v) NotTimestamp
+  changeset : {v : Bytes} → integer_of w64 v ≡ None → Fault (attr "changeset" v) NotInteger
+  uid : {v : Bytes} → integer_of w32 v ≡ None → Fault (attr "uid" v) NotInteger
 
 data Met (m : Meta Bytes) (a : Attr) : Field (Meta Bytes) → Type 0 where
   took : {n : Meta Bytes} → Took m a n → Met m a (got n)
@@ -140,9 +139,9 @@ module _ (m : Meta Bytes) where
   by_name s a {f} e t = subst (λ (n : Bytes). Met m (record { name = n; value = a.value }) f) (sym (same_yes a.name (ascii s) e)) t
 
   -- a value that is read, or refused
-  by_value : (r : Refusal) {a : Attr} (o : Option ℤ) (f : ℤ → Meta Bytes) → ((z : ℤ) → o ≡ some z → Took m a (f z)) → (o ≡ none → Fault a r) → Met m a (and_then (or_else r o) (λ z. got (f z)))
-  by_value r none f t b = failed (b refl)
-  by_value r (some z) f t b = took (t z refl)
+  by_value : (r : Refusal) {a : Attr} (o : Option ℤ) (f : ℤ → Meta Bytes) → ((z : ℤ) → o ≡ Some z → Took m a (f z)) → (o ≡ None → Fault a r) → Met m a (and_then (or_else r o) (λ z. got (f z)))
+  by_value r None f t b = failed (b refl)
+  by_value r (Some z) f t b = took (t z refl)
 
   meet : (a : Attr) → Met m a (meta_with m a)
   unfolding meta_with
@@ -408,9 +407,9 @@ any_named n [] = refl
 any_named n (a ∷ attrs) = rw (same_swap a.name n) (by_bool (same n a.name) (λ t. rw t) (λ t. rw t (any_named n attrs)))
 
 -- "It claims the version it gives": a version is claimed exactly when there is an attribute `version`
-pub meta_claim : (attrs : List Attr) {m : Meta Bytes} → metadata_of attrs ≡ got m → claim_of m ≡ cond (named (ascii "version") attrs) (Is m.version) Absent
+pub meta_claim : (attrs : List Attr) {m : Meta Bytes} → metadata_of attrs ≡ got m → claim_of m ≡ cond (named (ascii "version") attrs) (Some m.version) None
 unfolding claim_of
-meta_claim attrs {m} e = ap (λ (t : Bool). cond t (Is m.version) Absent) (meta_flags attrs e has_version ∙ any_named (ascii "version") attrs)
+meta_claim attrs {m} e = ap (λ (t : Bool). cond t (Some m.version) None) (meta_flags attrs e has_version ∙ any_named (ascii "version") attrs)
 
 -- what holds of every attribute's value, and of the empty text, holds of the user
 pub meta_user : (p : Bytes → Bool) (attrs : List Attr) {m : Meta Bytes} → p [] ≡ true → all (λ a. p a.value) attrs ≡ true → metadata_of attrs ≡ got m → p m.user ≡ true

@@ -1,6 +1,5 @@
 -- Document 01: the fields of an event, or which of 7 to 11 it is; "each field is checked whole before the next".
-use Rattle.std.specs.Prelude.{ℕ, ◌+◌, cond, List, [], ◌∷◌, leb, ℤ, pos, nat_abs}
-use Rattle.std.proofs.Math.Option.{Option, none, some}
+use Rattle.std.specs.Prelude.{ℕ, ◌+◌, cond, List, [], ◌∷◌, leb, ℤ, pos, nat_abs, None, Option, Some}
 use Rattle.std.specs.Int.{Width, w32, w64}
 use Rattle.base.specs.Ascii.{ascii}
 use Rattle.base.specs.Bytes.{Bytes, same}
@@ -28,8 +27,8 @@ and_then (bad r) f = bad r
 
 -- a value that is there, or else a refusal
 abbrev pub or_else : {A : Type 0} → Refusal → Option A → Field A
-or_else r none = bad r
-or_else r (some a) = got a
+or_else r None = bad r
+or_else r (Some a) = got a
 
 -- ---- one attribute
 

@@ -1,5 +1,6 @@
 -- The metadata that the code holds, and what it stands for: metadata of crate field, its user where it is written in the line.
-use Rattle.std.specs.Prelude.{◌≤◌, ◌≡◌, cond}
+use Rattle.refusal.specs.declared.Refusal.{Refusal}
+use Rattle.std.specs.Prelude.{◌≤◌, ◌≡◌, cond, Err, Ok, Result}
 use Rattle.std.specs.Int.{w32, w64}
 use Rattle.std.proofs.Common.{to_z}
 use Rattle.base.specs.Ascii.{ascii}
@@ -12,8 +13,6 @@ use Rattle.event_values.specs.Value.{text_at, ExtentInBounds}
 use Rattle.event_metadata.specs.declared.Metadata.{Metadata}
 use Rattle.event_metadata.specs.declared.MetaName.{MetaName}
 use Rattle.event_metadata.specs.declared.MetaName.TheVariants as M
-use Rattle.event_metadata.specs.declared.MetaField.{MetaField}
-use Rattle.event_metadata.specs.declared.MetaField.TheVariants as D
 
 abbrev pub meta_written : Bytes → Metadata → Meta Bytes
 meta_written t m =
@@ -33,16 +32,16 @@ pub record MetadataInBounds (t : Bytes) (m : Metadata) : Type 0 where
 
 -- ---- an answer: metadata, or a refusal
 
-abbrev pub meta_field : Bytes → MetaField → Field (Meta Bytes)
-meta_field t (D.Is m) = got (meta_written t m)
-meta_field t (D.Bad r) = bad r
+abbrev pub meta_field : Bytes → Result Metadata Refusal → Field (Meta Bytes)
+meta_field t (Ok m) = got (meta_written t m)
+meta_field t (Err r) = bad r
 
-abbrev pub MetaFieldInBounds : Bytes → MetaField → Type 0
-MetaFieldInBounds t (D.Is m) = MetadataInBounds t m
-MetaFieldInBounds t (D.Bad r) = Unit {0}
+abbrev pub MetaFieldInBounds : Bytes → Result Metadata Refusal → Type 0
+MetaFieldInBounds t (Ok m) = MetadataInBounds t m
+MetaFieldInBounds t (Err r) = Unit {0}
 
 -- an answer stands for a field, and holds metadata that lies in the line
-pub record Reads (t : Bytes) (f : Field (Meta Bytes)) (r : MetaField) : Type 0 where
+pub record Reads (t : Bytes) (f : Field (Meta Bytes)) (r : Result Metadata Refusal) : Type 0 where
   pub is : meta_field t r ≡ f
   pub held : MetaFieldInBounds t r
 

@@ -11,11 +11,8 @@ ghost use Rattle.event_values.specs.Value.{Inside};
 ghost use Rattle.event_metadata.specs.Metadata.{meta_written, MetadataInBounds, meta_field, MetaFieldInBounds, Reads, meta_name, meta_as};
 ghost use Rattle.event_metadata.specs.declared.MetaName.TheVariants as names;
 
-use event_scan::Attribute;
-use event_values::{Extent, Narrow};
-use integer::Integer;
+use event_scan::Extent;
 use refusal::Refusal;
-use stamp::Stamp;
 
 // What is not given is 0, and the user the empty extent.
 #[derive(Clone, Copy)]
@@ -28,16 +25,9 @@ pub struct Metadata {
     pub user: Extent,
 }
 
-// Metadata, or the refusal of one of its attributes.
-#[derive(Clone, Copy)]
-pub enum MetaField {
-    Is(Metadata),
-    Bad(Refusal),
-}
-
 // ---- one attribute
 
-#[derive(Clone, Copy)]
+#[derive(Clone, Copy, PartialEq, Eq, Debug)]
 enum MetaName {
     Version,
     Timestamp,
@@ -48,25 +38,26 @@ enum MetaName {
     Other,
 }
 
+// A match over the byte strings leaves a goal for each way through its tests of bytes, more than forty that the check does not find alone.
 fn meta_name(s: &[u8]) -> MetaName
     ensures { result ≡ meta_name s.now }
 {
-    if distinct::equal(s, b"version") {
+    if s == b"version".as_slice() {
         return MetaName::Version;
     }
-    if distinct::equal(s, b"timestamp") {
+    if s == b"timestamp".as_slice() {
         return MetaName::Timestamp;
     }
-    if distinct::equal(s, b"changeset") {
+    if s == b"changeset".as_slice() {
         return MetaName::Changeset;
     }
-    if distinct::equal(s, b"uid") {
+    if s == b"uid".as_slice() {
         return MetaName::Uid;
     }
-    if distinct::equal(s, b"user") {
+    if s == b"user".as_slice() {
         return MetaName::User;
     }
-    if distinct::equal(s, b"visible") {
+    if s == b"visible".as_slice() {
         return MetaName::Visible;
     }
     MetaName::Other
@@ -85,84 +76,97 @@ fn mark(flags: u8, bit: u8) -> u8
     flags + bit
 }
 
-fn with_version(m: Metadata, t: &[u8], from: usize, to: usize) -> MetaField
+fn with_version(m: Metadata, t: &[u8], from: usize, to: usize) -> Result<Metadata, Refusal>
     requires { MetadataInBounds t.now m × Inside t.now from to }
     ensures { Reads t.now (meta_as names.Version (meta_written t.now m) (value_text (slice from to t.now))) result }
 {
-    let Narrow::Is(b) = event_values::integer_32(&t[from..to]) else {
-        return MetaField::Bad(Refusal::NotInteger);
+    let Some(b) = event_values::integer_32(&t[from..to]) else {
+        return Err(Refusal::NotInteger);
     };
-    let mut n = m;
-    n.flags = mark(mark(m.flags, 1), 8);
-    n.version = b;
-    MetaField::Is(n)
+    Ok(Metadata {
+        flags: mark(mark(m.flags, 1), 8),
+        version: b,
+        ..m
+    })
 }
 
-fn with_timestamp(m: Metadata, t: &[u8], from: usize, to: usize) -> MetaField
+fn with_timestamp(m: Metadata, t: &[u8], from: usize, to: usize) -> Result<Metadata, Refusal>
     requires { MetadataInBounds t.now m × Inside t.now from to }
     ensures { Reads t.now (meta_as names.Timestamp (meta_written t.now m) (value_text (slice from to t.now))) result }
 {
-    let Stamp::At(b) = stamp::parse_rfc3339_utc(&t[from..to]) else {
-        return MetaField::Bad(Refusal::NotTimestamp);
+    let Some(b) = stamp::parse_rfc3339_utc(&t[from..to]) else {
+        return Err(Refusal::NotTimestamp);
     };
-    let mut n = m;
-    n.flags = mark(m.flags, 1);
-    n.timestamp = b;
-    MetaField::Is(n)
+    Ok(Metadata {
+        flags: mark(m.flags, 1),
+        timestamp: b,
+        ..m
+    })
 }
 
-fn with_changeset(m: Metadata, t: &[u8], from: usize, to: usize) -> MetaField
+fn with_changeset(m: Metadata, t: &[u8], from: usize, to: usize) -> Result<Metadata, Refusal>
     requires { MetadataInBounds t.now m × Inside t.now from to }
     ensures { Reads t.now (meta_as names.Changeset (meta_written t.now m) (value_text (slice from to t.now))) result }
 {
-    let Integer::Is(b) = integer::read_i64(&t[from..to]) else {
-        return MetaField::Bad(Refusal::NotInteger);
+    let Some(b) = integer::read_i64(&t[from..to]) else {
+        return Err(Refusal::NotInteger);
     };
-    let mut n = m;
-    n.flags = mark(m.flags, 1);
-    n.changeset = b;
-    MetaField::Is(n)
+    Ok(Metadata {
+        flags: mark(m.flags, 1),
+        changeset: b,
+        ..m
+    })
 }
 
-fn with_uid(m: Metadata, t: &[u8], from: usize, to: usize) -> MetaField
+fn with_uid(m: Metadata, t: &[u8], from: usize, to: usize) -> Result<Metadata, Refusal>
     requires { MetadataInBounds t.now m × Inside t.now from to }
     ensures { Reads t.now (meta_as names.Uid (meta_written t.now m) (value_text (slice from to t.now))) result }
 {
-    let Narrow::Is(b) = event_values::integer_32(&t[from..to]) else {
-        return MetaField::Bad(Refusal::NotInteger);
+    let Some(b) = event_values::integer_32(&t[from..to]) else {
+        return Err(Refusal::NotInteger);
     };
-    let mut n = m;
-    n.flags = mark(m.flags, 1);
-    n.uid = b;
-    MetaField::Is(n)
+    Ok(Metadata {
+        flags: mark(m.flags, 1),
+        uid: b,
+        ..m
+    })
 }
 
-fn with_user(m: Metadata, t: &[u8], from: usize, to: usize) -> MetaField
+fn with_user(m: Metadata, t: &[u8], from: usize, to: usize) -> Result<Metadata, Refusal>
     requires { MetadataInBounds t.now m × Inside t.now from to }
     ensures { Reads t.now (meta_as names.User (meta_written t.now m) (value_text (slice from to t.now))) result }
 {
-    let mut n = m;
-    n.flags = mark(mark(m.flags, 1), 4);
-    let user = Extent { from, to };
-    n.user = user;
-    MetaField::Is(n)
+    Ok(Metadata {
+        flags: mark(mark(m.flags, 1), 4),
+        user: Extent { from, to },
+        ..m
+    })
 }
 
 // Only `false` exactly hides.
-fn with_visible(m: Metadata, t: &[u8], from: usize, to: usize) -> MetaField
+fn with_visible(m: Metadata, t: &[u8], from: usize, to: usize) -> Result<Metadata, Refusal>
     requires { MetadataInBounds t.now m × Inside t.now from to }
     ensures { Reads t.now (meta_as names.Visible (meta_written t.now m) (value_text (slice from to t.now))) result }
 {
-    let mut n = m;
-    if distinct::equal(&t[from..to], b"false") {
-        n.flags = mark(mark(m.flags, 1), 2);
-        return MetaField::Is(n);
+    if &t[from..to] == b"false".as_slice() {
+        return Ok(Metadata {
+            flags: mark(mark(m.flags, 1), 2),
+            ..m
+        });
     }
-    n.flags = mark(m.flags, 1);
-    MetaField::Is(n)
+    Ok(Metadata {
+        flags: mark(m.flags, 1),
+        ..m
+    })
 }
 
-fn with_attribute(m: Metadata, name: MetaName, t: &[u8], from: usize, to: usize) -> MetaField
+fn with_attribute(
+    m: Metadata,
+    name: MetaName,
+    t: &[u8],
+    from: usize,
+    to: usize,
+) -> Result<Metadata, Refusal>
     requires { MetadataInBounds t.now m × Inside t.now from to }
     ensures { Reads t.now (meta_as name (meta_written t.now m) (value_text (slice from to t.now))) result }
 {
@@ -173,7 +177,7 @@ fn with_attribute(m: Metadata, name: MetaName, t: &[u8], from: usize, to: usize)
         MetaName::Uid => with_uid(m, t, from, to),
         MetaName::User => with_user(m, t, from, to),
         MetaName::Visible => with_visible(m, t, from, to),
-        MetaName::Other => MetaField::Is(m),
+        MetaName::Other => Ok(m),
     }
 }
 
@@ -190,7 +194,7 @@ fn behind(eq: usize, to: usize) -> usize
 }
 
 // Metadata in line order, of the attributes from a place on.
-pub fn meta_field(t: &[u8], at: usize) -> MetaField
+pub fn meta_field(t: &[u8], at: usize) -> Result<Metadata, Refusal>
     ensures result_value { meta_field t.now result ≡ metadata_of (attributes_at t.now at) }
     ensures meta_field_in_bounds { MetaFieldInBounds t.now result }
 {
@@ -203,20 +207,12 @@ pub fn meta_field(t: &[u8], at: usize) -> MetaField
         uid: 0,
         user,
     };
+    // An attribute's end tells where the next begins, as in event_scan.
     let mut p = at;
-    loop {
-        let Attribute::At { eq, to } = event_scan::attribute_at(t, p) else {
-            return MetaField::Is(m);
-        };
-        let name = meta_name(&t[p..eq]);
-        match with_attribute(m, name, t, behind(eq, to), to) {
-            MetaField::Is(n) => {
-                m = n;
-                p = to + 1;
-            }
-            MetaField::Bad(r) => {
-                return MetaField::Bad(r);
-            }
-        }
+    while let Some(attribute) = event_scan::attribute_at(t, p) {
+        let name = meta_name(&t[p..attribute.eq]);
+        m = with_attribute(m, name, t, behind(attribute.eq, attribute.to), attribute.to)?;
+        p = attribute.to + 1;
     }
+    Ok(m)
 }

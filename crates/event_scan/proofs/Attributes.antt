@@ -1,7 +1,7 @@
 -- Any fields taken as attributes: the walk over them, and the value of a name. The attributes of an event line are taken as they are.
+use Rattle.std.specs.Prelude.{None, Option, Some}
 use Prim.Native.Nat.{ℕ, ◌+◌, ◌≤◌}
 use mathlib.Core.Path.{◌≡◌, refl, sym, ◌∙◌}
-use mathlib.Core.Option.{Option, none, some}
 use mathlib.Core.List.{List, [], ◌∷◌}
 use native.Mathlib.Omega.{arith}
 use lib.ListN.{length}
@@ -9,15 +9,13 @@ use lib.Seq.{slice}
 use Rattle.base.specs.Bytes.{Bytes, same}
 use Rattle.base.proofs.Split.{by_bool, by_le, no}
 use Rattle.event.specs.Event.{value_of, attrs_of}
-use Rattle.event_scan.specs.declared.Attribute.TheVariants as A
-use Rattle.event_scan.specs.declared.Value.{Value}
-use Rattle.event_scan.specs.declared.Value.TheVariants as F
+use Rattle.event_scan.specs.declared.Extent.{Extent}
 use Rattle.event_scan.specs.Piece.{value_text}
 use Rattle.event_scan.specs.Scan.{fields_at, attrs_at, Good, attributes_of, attributes_at, attribute_at, value_in, attribute_value}
 use Rattle.event_scan.proofs.Places.{AttributeAt, stands_here, attribute_here, ended, fields_past}
 use Rattle.event_scan.proofs.Walks.{Step, attrs_step}
 
-pub attributes_end : (t : Bytes) (at : ℕ) → attribute_at t at ≡ A.End → attributes_at t at ≡ []
+pub attributes_end : (t : Bytes) (at : ℕ) → attribute_at t at ≡ None → attributes_at t at ≡ []
 unfolding attributes_at attributes_of
 attributes_end t at e = rw (ended t at e)
 
@@ -27,9 +25,9 @@ unfolding attributes_at attributes_of
 attributes_step d = rw (d.rest, d.name, d.value)
 
 -- what a search tells of the value of a name; a field without `=` ends before its value would begin
-abbrev pub Searched : Bytes → Value → Option Bytes → Type 0
-Searched t F.Missing o = o ≡ none
-Searched t (F.At from to) o = (from ≤ to + 1) × ((to ≤ length t) × (o ≡ some (value_text (slice from to t))))
+abbrev pub Searched : Bytes → Option Extent → Option Bytes → Type 0
+Searched t None o = o ≡ None
+Searched t (Some e) o = (e.from ≤ e.to + 1) × ((e.to ≤ length t) × (o ≡ Some (value_text (slice e.from e.to t))))
 
 module _ (t : Bytes) where
   module _ (name : Bytes) where
@@ -69,7 +67,7 @@ module _ (t : Bytes) where
   good_from (f ∷ fs) at e g =
       by_le at (length t)
       (λ h. let d = stands_here t at h in
-      let s = attrs_step t at _ _ g (attribute_here t at h) in
+      let s = attrs_step t at _ g (attribute_here t at h) in
       let z : f ∷ fs ≡ _ ∷ fields_at t _ = sym e ∙ d.rest in
       good_step d s (good_from fs _ (cc) s.rest))
       (λ h. let z : [] ≡ f ∷ fs = sym (fields_past t at h) ∙ e in no (cc))

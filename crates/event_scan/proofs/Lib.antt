@@ -1,3 +1,4 @@
+pub mod Equal
 pub mod Places
 pub mod Pieces
 pub mod Walks

@@ -1,8 +1,8 @@
 -- Laws of whole lines: where a line ends, and which event its first words make.
+use Rattle.std.specs.Prelude.{None, Option, Some}
 use Prim.Native.Nat.{ℕ, suc, ◌+◌, ◌-◌, ◌<◌, ◌≤◌}
 use mathlib.Core.Path.{◌≡◌, refl, sym, ◌∙◌, ap, subst}
 use mathlib.Core.Bool.{Bool, true, false, not, cond}
-use mathlib.Core.Option.{Option, none, some}
 use mathlib.Core.List.{List, [], ◌∷◌, ◌++◌}
 use native.Mathlib.Omega.{arith}
 use lib.Dec.{eqb}
@@ -29,37 +29,37 @@ use Rattle.event_scan.proofs.Walks.{good_there, stand_there}
 -- ---- where a line ends
 
 module _ (s : Bytes) where
-  pub ended_some : 0 < length s → get_or s (length s - 1) 0 ≡ 10 → unended s ≡ some (take (length s - 1) s)
+  pub ended_some : 0 < length s → get_or s (length s - 1) 0 ≡ 10 → unended s ≡ Some (take (length s - 1) s)
   ended_some h e =
       let n : suc (length s - 1) ≡ length s = omega arith in
       let q : s ≡ take (length s - 1) s ++ (10 ∷ []) = sym (take-length s) ∙ ap (λ k. take k s) (sym n) ∙ take-suc s (length s - 1) 0 (omega arith) ∙ rw e in
       ap unended q ∙ unended_line (take (length s - 1) s)
 
-  pub ended_none : (get_or s (length s - 1) 0 ≡ 10 → ⊥) → unended s ≡ none
+  pub ended_none : (get_or s (length s - 1) 0 ≡ 10 → ⊥) → unended s ≡ None
   ended_none n = go (unended s) refl
     where
       last : (t : Bytes) → get_or (t ++ (10 ∷ [])) (length (t ++ (10 ∷ [])) - 1) 0 ≡ 10
       last t = let k : length (t ++ (10 ∷ [])) - 1 ≡ length t = rw length-append (omega arith) in rw k (get_or-append_seam t 10 [] 0)
 
-      go : (o : Option Bytes) → unended s ≡ o → unended s ≡ none
-      go none p = p
-      go (some t) p = absurd (n (rw (unended_some s t p) (last t)))
+      go : (o : Option Bytes) → unended s ≡ o → unended s ≡ None
+      go None p = p
+      go (Some t) p = absurd (n (rw (unended_some s t p) (last t)))
 
 -- what is judged, as a part of the line
 pub record Judged (s : Bytes) : Type 0 where
   pub part : take (length (body s)) s ≡ body s
   pub within : length (body s) ≤ length s
-  pub whole : length (body s) ≡ length s → unended s ≡ none
-  pub cut : (length (body s) ≡ length s → ⊥) → unended s ≡ some (body s)
+  pub whole : length (body s) ≡ length s → unended s ≡ None
+  pub cut : (length (body s) ≡ length s → ⊥) → unended s ≡ Some (body s)
 
 pub judged : (s : Bytes) → Judged s
 judged s = go (unended s) refl
   where
     go : (o : Option Bytes) → unended s ≡ o → Judged s
-    go none p =
+    go None p =
         let b : body s ≡ s = rw p in
         record { part = rw b (take-length s); within = rw b (omega arith); whole = λ e. p; cut = λ n. absurd (n (rw b)) }
-    go (some t) p =
+    go (Some t) p =
         let b : body s ≡ t = rw p in
         let q = unended_some s t p in
         let l : length s ≡ length t + 1 = ap length q ∙ length-append t (10 ∷ []) in
@@ -74,10 +74,10 @@ judged s = go (unended s) refl
 
 stand_none : (empty : Bool) (n : Bytes) (o : Option (List Attr)) → stand o ≡ false → starts_with empty n o ≡ refused NotEventLine
 unfolding stand
-stand_none empty n none h = refl
-stand_none empty n (some attrs) h = rw h
+stand_none empty n None h = refl
+stand_none empty n (Some attrs) h = rw h
 
-stand_some : (empty : Bool) (n : Bytes) (o : Option (List Attr)) (attrs : List Attr) → o ≡ some attrs → stand o ≡ true → starts_with empty n o ≡ reads (starts empty n attrs)
+stand_some : (empty : Bool) (n : Bytes) (o : Option (List Attr)) (attrs : List Attr) → o ≡ Some attrs → stand o ≡ true → starts_with empty n o ≡ reads (starts empty n attrs)
 unfolding stand
 stand_some empty n o attrs e h = let k : none_twice attrs ≡ true = rw e at h in rw (e, k)
 
@@ -190,7 +190,7 @@ module _ (s : Bytes) (n : ℕ) (e : n ≡ length (body s)) where
       scan_open q = sym (in_line ∙ rw ((judged s).whole (sym e ∙ q)))
 
       module _ (q : n ≡ length s → ⊥) where
-        in_body : event_of s ≡ event_in (some (take n s))
+        in_body : event_of s ≡ event_in (Some (take n s))
         in_body = in_line ∙ rw ((judged s).cut (λ z. q (e ∙ z)), judged_part)
 
         pub scan_broken : all (λ b. not (eqb b 10)) (take n s) ≡ false → refused NotEventLine ≡ event_of s

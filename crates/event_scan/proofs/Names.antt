@@ -1,4 +1,5 @@
 -- No attribute is there twice exactly where the names are distinct; and the words of the names.
+use Rattle.std.specs.Prelude.{None}
 use Prim.Native.Nat.{ℕ, ◌+◌, ◌<◌}
 use mathlib.Core.Path.{◌≡◌, refl, ◌∙◌, ap}
 use mathlib.Core.Bool.{not}
@@ -10,7 +11,6 @@ use Rattle.base.specs.Bytes.{Bytes, both, all, same}
 use Rattle.base.proofs.Split.{by_bool}
 use Rattle.distinct.specs.Distinct.{differs, distinct, run_in, runs_in}
 use Rattle.event.specs.Event.{Attr, named, none_twice}
-use Rattle.event_scan.specs.declared.Attribute.TheVariants as A
 use Rattle.event_scan.specs.Scan.{attrs_at, attribute_at}
 use Rattle.event_scan.specs.Names.{names_of}
 use Rattle.event_scan.proofs.Walks.{Step, attrs_end}
@@ -43,6 +43,6 @@ module _ {t : Bytes} {p eq to : ℕ} (s : Step t p eq to) where
       rw (add-one, take-suc-set words n w h, runs_snoc t (take n words) w, e, append_snoc (runs_in t (take n words)) (slice p eq t) (names_of (attrs_at t (to + 1))))
       (q ∙ rw s.whole)
 
-pub names_end : (t : Bytes) (p : ℕ) (xs names : List Bytes) → attribute_at t p ≡ A.End → names ≡ xs ++ names_of (attrs_at t p) → names ≡ xs
+pub names_end : (t : Bytes) (p : ℕ) (xs names : List Bytes) → attribute_at t p ≡ None → names ≡ xs ++ names_of (attrs_at t p) → names ≡ xs
 unfolding names_of
 names_end t p xs names e q = q ∙ rw (attrs_end t p e) (append-nil xs)

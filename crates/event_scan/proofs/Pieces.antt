@@ -1,14 +1,13 @@
 -- Laws of the pieces of a value: a text is read piece by piece.
-use Prim.Native.Nat.{ℕ, suc, ◌+◌, ◌<◌, ◌≤◌}
+use Rattle.std.specs.Prelude.{None, Option, Some}
+use Prim.Native.Nat.{ℕ, ◌+◌, ◌-◌, ◌<◌, ◌≤◌}
 use mathlib.Core.Path.{◌≡◌, refl, sym, ◌∙◌}
 use mathlib.Core.Bool.{Bool, true, false, not}
-use mathlib.Core.Option.{Option, none, some}
 use mathlib.Core.List.{[], ◌∷◌}
-use native.Mathlib.Numerals.{add-one}
 use native.Mathlib.Omega.{arith}
 use lib.Dec.{eqb}
-use lib.ListN.{length, get_or, drop, set, length-drop, length-set, drop_of_length-le}
-use lib.Seq.{drop-cons, drop-drop, set_out}
+use lib.ListN.{length, get_or, take, drop, set, length-drop, length-set}
+use lib.Seq.{set_out, take_all}
 use borrow.Author.Tests.{eq-eqb, ne_eqb}
 use Rattle.base.specs.Bytes.{Bytes, all}
 use Rattle.base.proofs.Split.{by_eq, by_lt, no, clash}
@@ -17,131 +16,133 @@ use Rattle.text.specs.Escape.{meaning, byte_before, unescape_from, unescape}
 use Rattle.text.proofs.Escapes.{read_byte}
 use Rattle.event.specs.Event.{or_empty}
 use Rattle.little.proofs.Overs.{Writing, stored, over_past}
-use Rattle.event_scan.specs.declared.Piece.TheVariants as P
-use Rattle.event_scan.specs.Piece.{there, lettered, piece_in, value_text}
+use Rattle.event_scan.specs.declared.Piece.{Piece}
+use Rattle.event_scan.specs.Piece.{there, some_piece, lettered, piece_in, value_text}
 
--- ---- what stands at a place
+-- ---- what a value begins with
 
-module _ (v : Bytes) (at : ℕ) (h : at < length v) where
-  pub piece_byte : (get_or v at 0 ≡ 92 → ⊥) → piece_in (drop at v) ≡ P.Is (get_or v at 0) 1
-  unfolding piece_in
-  piece_byte n = rw (drop-cons v at 0 h, ne_eqb (get_or v at 0) 92 n)
+pub piece_none : (v : Bytes) → length v < 1 → piece_in v ≡ None
+unfolding piece_in
+piece_none [] h = refl
+piece_none (b ∷ s) h = no (omega arith)
 
-  pub piece_last : get_or v at 0 ≡ 92 → length v ≤ at + 1 → piece_in (drop at v) ≡ P.Not
-  unfolding piece_in
-  piece_last e g =
-      let z : drop (suc at) v ≡ [] = drop_of_length-le v {i = suc at} (omega arith) in
-      rw (drop-cons v at 0 h, eq-eqb (get_or v at 0) 92 e, z)
+pub piece_byte : (v : Bytes) → 0 < length v → (get_or v 0 0 ≡ 92 → ⊥) → piece_in v ≡ some_piece (get_or v 0 0) 1
+unfolding piece_in
+piece_byte [] h n = no (omega arith)
+piece_byte (b ∷ s) h n = rw (ne_eqb b 92 n)
 
-  pub piece_escape : get_or v at 0 ≡ 92 → at + 1 < length v → piece_in (drop at v) ≡ lettered (meaning (get_or v (at + 1) 0))
-  unfolding piece_in
-  piece_escape e g = rw (drop-cons v at 0 h, eq-eqb (get_or v at 0) 92 e, ← add-one at, drop-cons v (at + 1) 0 g)
+pub piece_last : (v : Bytes) → get_or v 0 0 ≡ 92 → length v ≡ 1 → piece_in v ≡ None
+unfolding piece_in
+piece_last [] e h = no (omega arith)
+piece_last (b ∷ []) e h = rw (eq-eqb b 92 e)
+piece_last (b ∷ m ∷ s) e h = no (omega arith)
+
+pub piece_escape : (v : Bytes) → get_or v 0 0 ≡ 92 → 1 < length v → piece_in v ≡ lettered (meaning (get_or v 1 0))
+unfolding piece_in
+piece_escape [] e h = no (omega arith)
+piece_escape (b ∷ []) e h = no (omega arith)
+piece_escape (b ∷ m ∷ s) e h = rw (eq-eqb b 92 e)
 
 -- ---- a piece, and the rest
 
 -- a value's text begins with the byte, and is read on behind it
-pub record Begins (s : Bytes) (b n : ℕ) : Type 0 where
-  pub some_bytes : 0 < n
-  pub within : n ≤ length s
-  pub is : unescape s ≡ byte_before (some b) (unescape (drop n s))
+pub record Begins (s : Bytes) (p : Piece) : Type 0 where
+  pub some_bytes : 0 < p.size
+  pub within : p.size ≤ length s
+  pub is : unescape s ≡ byte_before (Some p.byte) (unescape (drop p.size s))
 
-escaped_is : (m : ℕ) (s : Bytes) (o : Option ℕ) (b n : ℕ) → meaning m ≡ o → lettered o ≡ P.Is b n → Begins (92 ∷ m ∷ s) b n
+escaped_is : (m : ℕ) (s : Bytes) (o : Option ℕ) (p : Piece) → meaning m ≡ o → lettered o ≡ Some p → Begins (92 ∷ m ∷ s) p
 unfolding unescape_from
-escaped_is m s none b n p e = no (cc)
-escaped_is m s (some x) b n p e =
-    let q : b ≡ x = cc in
-    let k : n ≡ 2 = cc in
-    rw (q, k) (record { some_bytes = omega arith; within = omega arith; is = rw p })
+escaped_is m s None p e h = no (cc)
+escaped_is m s (Some x) p e h =
+    let q : ◌≡◌ {A = Piece} (record { byte = x; size = 2 }) p = cc in
+    rw (← q) (record { some_bytes = omega arith; within = omega arith; is = rw e })
 
-escaped_not : (m : ℕ) (s : Bytes) (o : Option ℕ) → meaning m ≡ o → lettered o ≡ P.Not → unescape (92 ∷ m ∷ s) ≡ none
+escaped_not : (m : ℕ) (s : Bytes) (o : Option ℕ) → meaning m ≡ o → lettered o ≡ None → unescape (92 ∷ m ∷ s) ≡ None
 unfolding unescape_from byte_before
-escaped_not m s none p e = rw p
-escaped_not m s (some x) p e = no (cc)
+escaped_not m s None p e = rw p
+escaped_not m s (Some x) p e = no (cc)
 
-byte_is : (x : ℕ) (s : Bytes) (b n : ℕ) → (x ≡ 92 → ⊥) → P.Is x 1 ≡ P.Is b n → Begins (x ∷ s) b n
-byte_is x s b n g e =
-    let q : b ≡ x = cc in
-    let k : n ≡ 1 = cc in
-    rw (q, k) (record { some_bytes = omega arith; within = omega arith; is = read_byte x s (ne_eqb x 92 g) })
+byte_is : (x : ℕ) (s : Bytes) (p : Piece) → (x ≡ 92 → ⊥) → some_piece x 1 ≡ Some p → Begins (x ∷ s) p
+byte_is x s p g h =
+    let q : ◌≡◌ {A = Piece} (record { byte = x; size = 1 }) p = cc in
+    rw (← q) (record { some_bytes = omega arith; within = omega arith; is = read_byte x s (ne_eqb x 92 g) })
 
-pub piece_is : (s : Bytes) (b n : ℕ) → piece_in s ≡ P.Is b n → Begins s b n
+pub piece_is : (s : Bytes) (p : Piece) → piece_in s ≡ Some p → Begins s p
 unfolding piece_in
-piece_is [] b n e = no (cc)
-piece_is (x ∷ []) b n e =
+piece_is [] p e = no (cc)
+piece_is (x ∷ []) p e =
     by_eq x 92
-    (λ p. let z : P.Not ≡ P.Is b n = rw (eq-eqb x 92 p) at e in no (cc))
-    (λ g. byte_is x [] b n g (rw (ne_eqb x 92 g) at e))
-piece_is (x ∷ m ∷ s) b n e =
+    (λ q. let z : None ≡ Some p = rw (eq-eqb x 92 q) at e in no (cc))
+    (λ g. byte_is x [] p g (rw (ne_eqb x 92 g) at e))
+piece_is (x ∷ m ∷ s) p e =
     by_eq x 92
-    (λ p. rw p (escaped_is m s (meaning m) b n refl (rw (eq-eqb x 92 p) at e)))
-    (λ g. byte_is x (m ∷ s) b n g (rw (ne_eqb x 92 g) at e))
+    (λ q. rw q (escaped_is m s (meaning m) p refl (rw (eq-eqb x 92 q) at e)))
+    (λ g. byte_is x (m ∷ s) p g (rw (ne_eqb x 92 g) at e))
 
-pub piece_not : (s : Bytes) → 0 < length s → piece_in s ≡ P.Not → unescape s ≡ none
+pub piece_not : (s : Bytes) → 0 < length s → piece_in s ≡ None → unescape s ≡ None
 unfolding piece_in unescape_from
 piece_not [] h e = no (omega arith)
 piece_not (x ∷ []) h e =
     by_eq x 92
     (λ p. rw p)
-    (λ g. let z : P.Is x 1 ≡ P.Not = rw (ne_eqb x 92 g) at e in no (cc))
+    (λ g. let z : some_piece x 1 ≡ None = rw (ne_eqb x 92 g) at e in no (cc))
 piece_not (x ∷ m ∷ s) h e =
     by_eq x 92
     (λ p. rw p (escaped_not m s (meaning m) refl (rw (eq-eqb x 92 p) at e)))
-    (λ g. let z : P.Is x 1 ≡ P.Not = rw (ne_eqb x 92 g) at e in no (cc))
+    (λ g. let z : some_piece x 1 ≡ None = rw (ne_eqb x 92 g) at e in no (cc))
 
 -- ---- the text of the rest
 
-there_before : (b : ℕ) (o : Option Bytes) → there (byte_before (some b) o) ≡ there o
+there_before : (b : ℕ) (o : Option Bytes) → there (byte_before (Some b) o) ≡ there o
 unfolding there byte_before
-there_before b none = refl
-there_before b (some t) = refl
+there_before b None = refl
+there_before b (Some t) = refl
 
-text_before : (b : ℕ) (o : Option Bytes) → there o ≡ true → or_empty (byte_before (some b) o) ≡ b ∷ or_empty o
+text_before : (b : ℕ) (o : Option Bytes) → there o ≡ true → or_empty (byte_before (Some b) o) ≡ b ∷ or_empty o
 unfolding there byte_before
-text_before b none h = clash h refl
-text_before b (some t) h = refl
+text_before b None h = clash h refl
+text_before b (Some t) h = refl
 
--- a turn from a place to the place behind its piece
-pub record Turn (v : Bytes) (i b n : ℕ) : Type 0 where
-  pub forward : 0 < n
-  pub within : i + n ≤ length v
-  pub right : there (unescape (drop (i + n) v)) ≡ there (unescape (drop i v))
-  pub text : there (unescape (drop i v)) ≡ true → value_text (drop i v) ≡ b ∷ value_text (drop (i + n) v)
+-- a turn from what is left to what is left behind its first piece
+pub record Turn (s : Bytes) (p : Piece) : Type 0 where
+  pub forward : 0 < p.size
+  pub within : p.size ≤ length s
+  pub behind : take (length s - p.size) (drop p.size s) ≡ drop p.size s
+  pub right : there (unescape (drop p.size s)) ≡ there (unescape s)
+  pub text : there (unescape s) ≡ true → value_text s ≡ p.byte ∷ value_text (drop p.size s)
 
-module _ (v : Bytes) (i b n : ℕ) (w : Begins (drop i v) b n) where
-  next : unescape (drop i v) ≡ byte_before (some b) (unescape (drop (i + n) v))
-  next = w.is ∙ rw (drop-drop n i v)
+module _ (s : Bytes) (p : Piece) (w : Begins s p) where
+  right_on : there (unescape (drop p.size s)) ≡ there (unescape s)
+  right_on = rw w.is (sym (there_before p.byte (unescape (drop p.size s))))
 
-  right_on : there (unescape (drop (i + n) v)) ≡ there (unescape (drop i v))
-  right_on = rw next (sym (there_before b (unescape (drop (i + n) v))))
-
-  text_on : there (unescape (drop i v)) ≡ true → value_text (drop i v) ≡ b ∷ value_text (drop (i + n) v)
+  text_on : there (unescape s) ≡ true → value_text s ≡ p.byte ∷ value_text (drop p.size s)
   unfolding value_text
-  text_on h = rw next (text_before b (unescape (drop (i + n) v)) (right_on ∙ h))
+  text_on h = rw w.is (text_before p.byte (unescape (drop p.size s)) (right_on ∙ h))
 
-pub turn : (v : Bytes) (i b n : ℕ) → piece_in (drop i v) ≡ P.Is b n → Turn v i b n
-turn v i b n e =
-    let w = piece_is (drop i v) b n e in
-    record { forward = w.some_bytes; within = omega (arith, w.some_bytes, w.within, length-drop i v); right = right_on v i b n w; text = text_on v i b n w }
+pub turn : (s : Bytes) (p : Piece) → piece_in s ≡ Some p → Turn s p
+turn s p e =
+    let w = piece_is s p e in
+    record { forward = w.some_bytes; within = w.within; behind = take_all (length s - p.size) (drop p.size s) (omega (arith, length-drop p.size s)); right = right_on s p w; text = text_on s p w }
 
-pub wrong_here : (v : Bytes) (i : ℕ) → i < length v → piece_in (drop i v) ≡ P.Not → there (unescape (drop i v)) ≡ false
-unfolding there
-wrong_here v i h e = rw (piece_not (drop i v) (omega (arith, length-drop i v)) e)
-
-pub right_end : (v : Bytes) (i : ℕ) → length v ≤ i → there (unescape (drop i v)) ≡ true
+-- where no piece begins, the escapes are right if nothing is left
+pub right_ends : (s : Bytes) → piece_in s ≡ None → eqb (length s) 0 ≡ there (unescape s)
 unfolding there unescape_from
-right_end v i h = rw (drop_of_length-le v h)
+right_ends [] e = refl
+right_ends (b ∷ s) e = rw (piece_not (b ∷ s) (omega arith) e) (ne_eqb (length (b ∷ s)) 0 (λ z. omega arith))
 
-pub text_end : (v : Bytes) (i : ℕ) → length v ≤ i → value_text (drop i v) ≡ []
+pub text_ends : (s : Bytes) → piece_in s ≡ None → value_text s ≡ []
 unfolding value_text unescape_from
-text_end v i h = rw (drop_of_length-le v h)
+text_ends [] e = refl
+text_ends (b ∷ s) e = rw (piece_not (b ∷ s) (omega arith) e)
 
 pub text_none : (v : Bytes) → there (unescape v) ≡ false → value_text v ≡ []
 unfolding value_text there
 text_none v h = go (unescape v) h
   where
     go : (o : Option Bytes) → there o ≡ false → or_empty o ≡ []
-    go none q = refl
-    go (some t) q = clash refl q
+    go None q = refl
+    go (Some t) q = clash refl q
 
 -- a byte stored, or left out where there is no room
 pub put_on : {s₀ t : Bytes} (s : Bytes) (i b : ℕ) {rest more : Bytes} → rest ≡ b ∷ more → Writing s₀ t s i rest → Writing s₀ t (set s i b) (i + 1) more
@@ -156,7 +157,7 @@ put_on s i b {rest} {more} e w =
 -- ---- a value without a backslash
 
 -- it is its own text
-pub own_text : (v : Bytes) → all (λ b. not (eqb b 92)) v ≡ true → unescape v ≡ some v
+pub own_text : (v : Bytes) → all (λ b. not (eqb b 92)) v ≡ true → unescape v ≡ Some v
 unfolding unescape_from byte_before
 own_text [] h = refl
 own_text (b ∷ v) h =

@@ -1,8 +1,8 @@
 -- Laws of places in a line: the first of a byte, the field that ends there, the attribute in it.
+use Rattle.std.specs.Prelude.{None, Some}
 use Prim.Native.Nat.{ℕ, zero, suc, ◌+◌, ◌-◌, ◌<◌, ◌≤◌, min}
 use mathlib.Core.Path.{◌≡◌, refl, sym, ◌∙◌, ap}
 use mathlib.Core.Bool.{false, cond}
-use mathlib.Core.Option.{none, some}
 use mathlib.Core.List.{[], ◌∷◌}
 use native.Mathlib.Nat.{suc-add, zero-add}
 use native.Mathlib.Numerals.{add-one}
@@ -16,9 +16,8 @@ use Rattle.base.proofs.Split.{by_eq, by_lt, by_le, no}
 use Rattle.text.specs.Escape.{unescape}
 use Rattle.line.specs.Line.{onto, fields}
 use Rattle.event.specs.Event.{parted, is_empty, attr_with, attr_of}
-use Rattle.event_scan.specs.declared.Attribute.TheVariants as A
-use Rattle.event_scan.specs.declared.Value.TheVariants as F
-use Rattle.event_scan.specs.Scan.{fields_at, UpTo, attribute_at, value_in, attribute_value}
+use Rattle.event_scan.specs.declared.Attribute.{Attribute}
+use Rattle.event_scan.specs.Scan.{fields_at, UpTo, attribute_at, value_in, attribute_value, some_attribute, some_extent}
 
 -- ---- the first of a byte
 
@@ -82,7 +81,7 @@ lent_is from to t h = let e : from + (to - from) ≡ to = omega arith in sym (rw
 
 -- ---- the first `=` of a field
 
-parted_some : (f : Bytes) → UpTo 61 f < length f → parted f ≡ some (record { left = take (UpTo 61 f) f; right = drop (suc (UpTo 61 f)) f })
+parted_some : (f : Bytes) → UpTo 61 f < length f → parted f ≡ Some (record { left = take (UpTo 61 f) f; right = drop (suc (UpTo 61 f)) f })
 unfolding parted
 parted_some [] h = no (omega arith)
 parted_some (b ∷ f) h =
@@ -90,7 +89,7 @@ parted_some (b ∷ f) h =
     (λ e. rw (eq-eqb b 61 e, up_cons_here 61 b f e))
     (λ n. let g : UpTo 61 f < length f = omega (arith, up_cons 61 b f n) in rw (ne_eqb b 61 n, up_cons 61 b f n, parted_some f g))
 
-parted_none : (f : Bytes) → UpTo 61 f ≡ length f → parted f ≡ none
+parted_none : (f : Bytes) → UpTo 61 f ≡ length f → parted f ≡ None
 unfolding parted
 parted_none [] h = refl
 parted_none (b ∷ f) h =
@@ -156,7 +155,7 @@ module _ (t : Bytes) (at : ℕ) (h : at ≤ length t) where
   equals_within : equals_at t at ≤ tab_at t at
   equals_within = omega (arith, field_length, up_within 61 (slice at (tab_at t at) t))
 
-  pub attribute_here : attribute_at t at ≡ A.At (equals_at t at) (tab_at t at)
+  pub attribute_here : attribute_at t at ≡ some_attribute (equals_at t at) (tab_at t at)
   unfolding attribute_at
   attribute_here =
       let e : at + (tab_at t at - at) ≡ tab_at t at = omega arith in
@@ -175,7 +174,7 @@ module _ (t : Bytes) (at : ℕ) (h : at ≤ length t) where
       drop-drop (suc (UpTo 61 (slice at to t))) at (take to t) ∙ ap (λ (n : ℕ). slice n to t) e
 
   valued_here : (name : Bytes)
-      → attribute_value t name at ≡ cond (same name (slice at (equals_at t at) t)) (F.At (equals_at t at + 1) (tab_at t at)) (attribute_value t name (tab_at t at + 1))
+      → attribute_value t name at ≡ cond (same name (slice at (equals_at t at) t)) (some_extent (equals_at t at + 1) (tab_at t at)) (attribute_value t name (tab_at t at + 1))
   unfolding attribute_value value_in
   valued_here name =
       let e : at + (tab_at t at - at) ≡ tab_at t at = omega arith in
@@ -189,7 +188,7 @@ module _ (t : Bytes) (at : ℕ) (h : at ≤ length t) where
       let n : is_empty (slice at (equals_at t at) t) ≡ false = some_bytes (slice at (equals_at t at) t) (omega (arith, length-slice at (equals_at t at) t (omega (arith, tab_within)))) in
       rw (parted_some f (omega (arith, field_length)), name_here, value_here, n)
 
-  attr_nameless : equals_at t at ≡ at → attr_of (slice at (tab_at t at) t) ≡ none
+  attr_nameless : equals_at t at ≡ at → attr_of (slice at (tab_at t at) t) ≡ None
   unfolding attr_of
   attr_nameless e =
       let f = slice at (tab_at t at) t in
@@ -198,7 +197,7 @@ module _ (t : Bytes) (at : ℕ) (h : at ≤ length t) where
       (λ g. rw (parted_some f (omega arith), z))
       (λ g. rw (parted_none f (omega arith)))
 
-  attr_whole : equals_at t at ≡ tab_at t at → attr_of (slice at (tab_at t at) t) ≡ none
+  attr_whole : equals_at t at ≡ tab_at t at → attr_of (slice at (tab_at t at) t) ≡ None
   unfolding attr_of
   attr_whole e = rw (parted_none (slice at (tab_at t at) t) (omega (arith, field_length)))
 
@@ -213,7 +212,7 @@ module _ (t : Bytes) (at eq : ℕ) (e : eq ≡ at + min (UpTo 9 (drop at t)) (Up
       let d : drop eq t ≡ drop k (drop at t) = rw e (sym (drop-drop k at t)) in
       omega (arith, ap (UpTo 9) d, up_drop 9 k (drop at t) (omega arith))
 
-pub attribute_past : (t : Bytes) (at : ℕ) → length t < at → attribute_at t at ≡ A.End
+pub attribute_past : (t : Bytes) (at : ℕ) → length t < at → attribute_at t at ≡ None
 unfolding attribute_at
 attribute_past t at h = rw (fields_past t at h)
 
@@ -227,10 +226,10 @@ pub record AttributeAt (t : Bytes) (at eq to : ℕ) : Type 0 where
   pub rest : fields_at t at ≡ slice at to t ∷ fields_at t (to + 1)
   pub name : take (UpTo 61 (slice at to t)) (slice at to t) ≡ slice at eq t
   pub value : drop (suc (UpTo 61 (slice at to t))) (slice at to t) ≡ slice (eq + 1) to t
-  pub valued : (name : Bytes) → attribute_value t name at ≡ cond (same name (slice at eq t)) (F.At (eq + 1) to) (attribute_value t name (to + 1))
+  pub valued : (name : Bytes) → attribute_value t name at ≡ cond (same name (slice at eq t)) (some_extent (eq + 1) to) (attribute_value t name (to + 1))
   pub attr : at < eq → eq < to → attr_of (slice at to t) ≡ attr_with (slice at eq t) (unescape (slice (eq + 1) to t))
-  pub nameless : eq ≡ at → attr_of (slice at to t) ≡ none
-  pub whole : eq ≡ to → attr_of (slice at to t) ≡ none
+  pub nameless : eq ≡ at → attr_of (slice at to t) ≡ None
+  pub whole : eq ≡ to → attr_of (slice at to t) ≡ None
 
 pub stands_here : (t : Bytes) (at : ℕ) → at ≤ length t → AttributeAt t at (equals_at t at) (tab_at t at)
 stands_here t at h = record {
@@ -246,22 +245,21 @@ stands_here t at h = record {
   whole = attr_whole t at h;
 }
 
-pub stands : (t : Bytes) (at eq to : ℕ) → attribute_at t at ≡ A.At eq to → AttributeAt t at eq to
-stands t at eq to e =
+pub stands : (t : Bytes) (at : ℕ) (a : Attribute) → attribute_at t at ≡ Some a → AttributeAt t at a.eq a.to
+stands t at a e =
     by_le at (length t)
-    (λ h. let z : A.At eq to ≡ A.At (equals_at t at) (tab_at t at) = sym e ∙ attribute_here t at h in
-    let p : eq ≡ equals_at t at = cc in
-    let q : to ≡ tab_at t at = cc in
-    rw (p, q) (stands_here t at h))
-    (λ h. let z : A.At eq to ≡ A.End = sym e ∙ attribute_past t at h in no (cc))
+    (λ h. let z : Some a ≡ some_attribute (equals_at t at) (tab_at t at) = sym e ∙ attribute_here t at h in
+    let x : ◌≡◌ {A = Attribute} a (record { eq = equals_at t at; to = tab_at t at }) = cc in
+    rw x (stands_here t at h))
+    (λ h. let z : Some a ≡ None = sym e ∙ attribute_past t at h in no (cc))
 
 -- none stands there where the line has ended
-pub ended : (t : Bytes) (at : ℕ) → attribute_at t at ≡ A.End → fields_at t at ≡ []
+pub ended : (t : Bytes) (at : ℕ) → attribute_at t at ≡ None → fields_at t at ≡ []
 ended t at e =
     by_le at (length t)
-    (λ h. let z : A.At (equals_at t at) (tab_at t at) ≡ A.End = sym (attribute_here t at h) ∙ e in no (cc))
+    (λ h. let z : some_attribute (equals_at t at) (tab_at t at) ≡ None = sym (attribute_here t at h) ∙ e in no (cc))
     (λ h. fields_past t at h)
 
-pub value_past : (t name : Bytes) (at : ℕ) → attribute_at t at ≡ A.End → attribute_value t name at ≡ F.Missing
+pub value_past : (t name : Bytes) (at : ℕ) → attribute_at t at ≡ None → attribute_value t name at ≡ None
 unfolding attribute_value value_in
 value_past t name at e = rw (ended t at e)

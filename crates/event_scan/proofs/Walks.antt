@@ -1,8 +1,8 @@
 -- A walk from attribute to attribute: which fields are attributes, which attributes those are, and what a name's value is.
+use Rattle.std.specs.Prelude.{None, Option, Some, is_some}
 use Prim.Native.Nat.{ℕ, ◌+◌, ◌<◌, ◌≤◌}
 use mathlib.Core.Path.{◌≡◌, refl, sym, ◌∙◌}
-use mathlib.Core.Bool.{Bool, true, false}
-use mathlib.Core.Option.{Option, none, some}
+use mathlib.Core.Bool.{true, false}
 use mathlib.Core.List.{List, [], ◌∷◌}
 use native.Mathlib.Omega.{arith}
 use lib.ListN.{length, drop}
@@ -14,9 +14,7 @@ use Rattle.line.specs.Line.{fields}
 use Rattle.event.specs.Event.{Attr, attr_with, attr_of, beside, attrs_of, named, none_twice}
 use Rattle.event.proofs.Attrs.{attr_with_some, listed}
 use Rattle.event.specs.Event.{value_of}
-use Rattle.event_scan.specs.declared.Attribute.TheVariants as A
-use Rattle.event_scan.specs.declared.Value.{Value}
-use Rattle.event_scan.specs.declared.Value.TheVariants as F
+use Rattle.event_scan.specs.declared.Attribute.{Attribute}
 use Rattle.event_scan.specs.Piece.{there}
 use Rattle.event_scan.specs.Scan.{fields_at, attrs_at, Good, stand, attribute_at, value_in, attribute_value, text_in}
 use Rattle.event_scan.proofs.Places.{AttributeAt, stands, stands_here, ended, fields_past, fields_within}
@@ -25,14 +23,14 @@ use Rattle.event_scan.proofs.Places.{AttributeAt, stands, stands_here, ended, fi
 
 there_with : (n : Bytes) (o : Option Bytes) → there (attr_with n o) ≡ there o
 unfolding there
-there_with n none = refl
-there_with n (some v) = refl
+there_with n None = refl
+there_with n (Some v) = refl
 
 there_beside : (o : Option Attr) (x : Option (List Attr)) → there (beside o x) ≡ both (there o) (there x)
 unfolding there both
-there_beside none x = refl
-there_beside (some a) none = refl
-there_beside (some a) (some attrs) = refl
+there_beside None x = refl
+there_beside (Some a) None = refl
+there_beside (Some a) (Some attrs) = refl
 
 module _ {t : Bytes} {at eq to : ℕ} (d : AttributeAt t at eq to) where
   pub attr_nameless : eq ≡ at → there (attr_of (slice at to t)) ≡ false
@@ -59,18 +57,18 @@ module _ {t : Bytes} {at eq to : ℕ} (d : AttributeAt t at eq to) where
   unfolding both
   good_stops h = rw listed_here (there_beside (attr_of (slice at to t)) (attrs_of (fields_at t (to + 1))) ∙ rw h)
 
-pub good_ends : (t : Bytes) (at : ℕ) → attribute_at t at ≡ A.End → there (attrs_of (fields_at t at)) ≡ true
+pub good_ends : (t : Bytes) (at : ℕ) → attribute_at t at ≡ None → there (attrs_of (fields_at t at)) ≡ true
 unfolding there attrs_of
 good_ends t at e = rw (ended t at e)
 
 -- ---- good attributes
 
-pub some_there : {B : Type 0} (o : Option B) → there o ≡ true → (x : B) × (o ≡ some x)
+pub some_there : {B : Type 0} (o : Option B) → there o ≡ true → (x : B) × (o ≡ Some x)
 unfolding there
-some_there none h = clash h refl
-some_there (some x) h = (x, refl)
+some_there None h = clash h refl
+some_there (Some x) h = (x, refl)
 
-pub good_some : (t : Bytes) (at : ℕ) (attrs : List Attr) → attrs_of (fields_at t at) ≡ some attrs → (Good t at) × (attrs_at t at ≡ attrs)
+pub good_some : (t : Bytes) (at : ℕ) (attrs : List Attr) → attrs_of (fields_at t at) ≡ Some attrs → (Good t at) × (attrs_at t at ≡ attrs)
 unfolding attrs_at
 good_some t at attrs e = (rw e, rw e)
 
@@ -78,7 +76,7 @@ pub good_there : (t : Bytes) (at : ℕ) → there (attrs_of (fields_at t at)) �
 good_there t at h = let w = some_there (attrs_of (fields_at t at)) h in (good_some t at w.0 w.1).0
 
 -- the same of the bytes from a place on
-pub good_from : (t : Bytes) (at : ℕ) (attrs : List Attr) → at ≤ length t → attrs_of (fields (drop at t)) ≡ some attrs → Good t at
+pub good_from : (t : Bytes) (at : ℕ) (attrs : List Attr) → at ≤ length t → attrs_of (fields (drop at t)) ≡ Some attrs → Good t at
 good_from t at attrs h e = (good_some t at attrs (rw (fields_within t at h) e)).0
 
 -- a good attribute: its places, its text, those behind it
@@ -87,7 +85,7 @@ pub record Step (t : Bytes) (at eq to : ℕ) : Type 0 where
   pub equals : eq < to
   pub end : to ≤ length t
   pub text : Bytes
-  pub value : unescape (slice (eq + 1) to t) ≡ some text
+  pub value : unescape (slice (eq + 1) to t) ≡ Some text
   pub whole : attrs_at t at ≡ record { name = slice at eq t; value = text } ∷ attrs_at t (to + 1)
   pub rest : Good t (to + 1)
 
@@ -100,30 +98,25 @@ renamed a n attrs bs p q = rw (← p, q)
 step_here : (t : Bytes) (at eq to : ℕ) → AttributeAt t at eq to → Good t at → Step t at eq to
 step_here t at eq to d g =
     let w = listed (attr_of (slice at to t)) (attrs_of (fields_at t (to + 1))) (attrs_at t at) (sym (listed_here d) ∙ g) in
-    let n : at < eq = by_eq eq at (λ e. let z : none ≡ some w.head = sym (d.nameless e) ∙ w.first in no (cc)) (λ e. lower at eq d.start e) in
-    let q : eq < to = by_eq eq to (λ e. let z : none ≡ some w.head = sym (d.whole e) ∙ w.first in no (cc)) (λ e. lower eq to d.equals (λ x. e (sym x))) in
+    let n : at < eq = by_eq eq at (λ e. let z : None ≡ Some w.head = sym (d.nameless e) ∙ w.first in no (cc)) (λ e. lower at eq d.start e) in
+    let q : eq < to = by_eq eq to (λ e. let z : None ≡ Some w.head = sym (d.whole e) ∙ w.first in no (cc)) (λ e. lower eq to d.equals (λ x. e (sym x))) in
     let v = attr_with_some (slice at eq t) (unescape (slice (eq + 1) to t)) w.head (sym (d.attr n q) ∙ w.first) in
     let r = good_some t (to + 1) w.tail w.then in
     record { name = n; equals = q; end = d.end; text = w.head.value; value = v.value; whole = w.whole ∙ renamed w.head _ _ _ v.name r.1; rest = r.0 }
 
-pub attrs_step : (t : Bytes) (at eq to : ℕ) → Good t at → attribute_at t at ≡ A.At eq to → Step t at eq to
-attrs_step t at eq to g e = step_here t at eq to (stands t at eq to e) g
+pub attrs_step : (t : Bytes) (at : ℕ) (a : Attribute) → Good t at → attribute_at t at ≡ Some a → Step t at a.eq a.to
+attrs_step t at a g e = step_here t at a.eq a.to (stands t at a e) g
 
-pub attrs_end : (t : Bytes) (at : ℕ) → attribute_at t at ≡ A.End → attrs_at t at ≡ []
+pub attrs_end : (t : Bytes) (at : ℕ) → attribute_at t at ≡ None → attrs_at t at ≡ []
 unfolding attrs_at attrs_of
 attrs_end t at e = rw (ended t at e)
 
 -- ---- the value of a name
 
--- whether a value was found
-abbrev pub found : Value → Bool
-found F.Missing = false
-found (F.At from to) = true
-
 -- the search finds the attribute that has the name
 pub record Found (t name : Bytes) (at : ℕ) : Type 0 where
   pub text : text_in t (attribute_value t name at) ≡ value_of name (attrs_at t at)
-  pub is : found (attribute_value t name at) ≡ named name (attrs_at t at)
+  pub is : is_some (attribute_value t name at) ≡ named name (attrs_at t at)
 
 module _ (t name : Bytes) where
   none_found : (at : ℕ) → fields_at t at ≡ [] → Found t name at
@@ -164,7 +157,7 @@ module _ {t : Bytes} {at eq to : ℕ} (s : Step t at eq to) where
   unfolding none_twice both
   once_on h = rw (s.whole, h)
 
-pub once_ends : (t : Bytes) (at : ℕ) → attribute_at t at ≡ A.End → none_twice (attrs_at t at) ≡ true
+pub once_ends : (t : Bytes) (at : ℕ) → attribute_at t at ≡ None → none_twice (attrs_at t at) ≡ true
 unfolding none_twice
 once_ends t at e = rw (attrs_end t at e)
 
@@ -172,8 +165,8 @@ once_ends t at e = rw (attrs_end t at e)
 
 pub stand_bad : (o : Option (List Attr)) → there o ≡ false → stand o ≡ false
 unfolding there stand
-stand_bad none h = refl
-stand_bad (some attrs) h = clash refl h
+stand_bad None h = refl
+stand_bad (Some attrs) h = clash refl h
 
 pub stand_good : (t : Bytes) (at : ℕ) → Good t at → stand (attrs_of (fields_at t at)) ≡ none_twice (attrs_at t at)
 unfolding stand
@@ -181,5 +174,5 @@ stand_good t at g = rw g
 
 pub stand_there : (o : Option (List Attr)) → stand o ≡ true → there o ≡ true
 unfolding there stand
-stand_there none h = clash h refl
-stand_there (some attrs) h = refl
+stand_there None h = clash h refl
+stand_there (Some attrs) h = refl

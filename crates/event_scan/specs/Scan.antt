@@ -1,6 +1,5 @@
 -- Event lines as they lie in their bytes: where an event's name and its attributes stand. What a line is, is crate event's `event_of`; here its parts are places in the line.
-use Rattle.std.specs.Prelude.{ℕ, suc, ◌+◌, ◌≤◌, ◌≡◌, Bool, false, cond, List, [], ◌∷◌, leb, eqb, length, take, drop}
-use Rattle.std.proofs.Math.Option.{Option, none, some}
+use Rattle.std.specs.Prelude.{ℕ, suc, ◌+◌, ◌≤◌, ◌≡◌, Bool, false, cond, List, [], ◌∷◌, leb, eqb, length, take, drop, None, Option, Some}
 use Rattle.std.proofs.Math.Seq.{slice}
 use Rattle.base.specs.Ascii.{ascii}
 use Rattle.base.specs.Bytes.{Bytes, same}
@@ -13,9 +12,7 @@ use Rattle.event_scan.specs.Piece.{value_text}
 use Rattle.event_scan.specs.declared.Scanned.{Scanned}
 use Rattle.event_scan.specs.declared.Scanned.TheVariants as S
 use Rattle.event_scan.specs.declared.Attribute.{Attribute}
-use Rattle.event_scan.specs.declared.Attribute.TheVariants as A
-use Rattle.event_scan.specs.declared.Value.{Value}
-use Rattle.event_scan.specs.declared.Value.TheVariants as F
+use Rattle.event_scan.specs.declared.Extent.{Extent}
 
 -- the fields from a place on; none past the end
 unfoldable pub fields_at : Bytes → ℕ → List Bytes
@@ -24,8 +21,8 @@ fields_at t at = cond (leb at (length t)) (fields (drop at t)) []
 -- ---- attributes
 
 abbrev pub or_none : Option (List Attr) → List Attr
-or_none none = []
-or_none (some attrs) = attrs
+or_none None = []
+or_none (Some attrs) = attrs
 
 -- the attributes of the fields from a place on
 unfoldable pub attrs_at : Bytes → ℕ → List Attr
@@ -33,12 +30,12 @@ attrs_at t at = or_none (attrs_of (fields_at t at))
 
 -- each of those fields is an attribute
 abbrev pub Good : Bytes → ℕ → Type 0
-Good t at = attrs_of (fields_at t at) ≡ some (attrs_at t at)
+Good t at = attrs_of (fields_at t at) ≡ Some (attrs_at t at)
 
 -- whether they are, and no name is there twice
 unfoldable pub stand : Option (List Attr) → Bool
-stand none = false
-stand (some attrs) = none_twice attrs
+stand None = false
+stand (Some attrs) = none_twice attrs
 
 -- ---- events
 
@@ -67,22 +64,30 @@ unfoldable pub UpTo : ℕ → Bytes → ℕ
 UpTo c [] = 0
 UpTo c (b ∷ bs) = cond (eqb b c) 0 (suc (UpTo c bs))
 
--- the attribute that stands at a place: its name up to the first `=`, its value from there to the field's end
-abbrev pub attribute_in : ℕ → List Bytes → Attribute
-attribute_in at [] = A.End
-attribute_in at (f ∷ fs) = A.At (at + UpTo equals_sign f) (at + length f)
+-- one whose name ends at one place and whose value at another
+abbrev pub some_attribute : ℕ → ℕ → Option Attribute
+some_attribute eq to = Some (record { eq = eq; to = to })
 
-unfoldable pub attribute_at : Bytes → ℕ → Attribute
+-- the attribute that stands at a place: its name up to the first `=`, its value from there to the field's end
+abbrev pub attribute_in : ℕ → List Bytes → Option Attribute
+attribute_in at [] = None
+attribute_in at (f ∷ fs) = some_attribute (at + UpTo equals_sign f) (at + length f)
+
+unfoldable pub attribute_at : Bytes → ℕ → Option Attribute
 attribute_at t at = attribute_in at (fields_at t at)
 
 -- ---- the value of a name, as it is written: that of the first attribute of the name from a place on
 
-unfoldable pub value_in : Bytes → ℕ → List Bytes → Value
-value_in name at [] = F.Missing
-value_in name at (f ∷ fs) =
-    cond (same name (take (UpTo equals_sign f) f)) (F.At (at + UpTo equals_sign f + 1) (at + length f)) (value_in name (at + length f + 1) fs)
+-- a text from one place to another
+abbrev pub some_extent : ℕ → ℕ → Option Extent
+some_extent from to = Some (record { from = from; to = to })
 
-unfoldable pub attribute_value : Bytes → Bytes → ℕ → Value
+unfoldable pub value_in : Bytes → ℕ → List Bytes → Option Extent
+value_in name at [] = None
+value_in name at (f ∷ fs) =
+    cond (same name (take (UpTo equals_sign f) f)) (some_extent (at + UpTo equals_sign f + 1) (at + length f)) (value_in name (at + length f + 1) fs)
+
+unfoldable pub attribute_value : Bytes → Bytes → ℕ → Option Extent
 attribute_value t name at = value_in name at (fields_at t at)
 
 -- ---- any fields as attributes
@@ -100,6 +105,6 @@ unfoldable pub attributes_at : Bytes → ℕ → List Attr
 attributes_at t at = attributes_of (fields_at t at)
 
 -- a value's text
-abbrev pub text_in : Bytes → Value → Option Bytes
-text_in t F.Missing = none
-text_in t (F.At from to) = unescape (slice from to t)
+abbrev pub text_in : Bytes → Option Extent → Option Bytes
+text_in t None = None
+text_in t (Some e) = unescape (slice e.from e.to t)

@@ -1,7 +1,7 @@
 // Event lines: what a line is, and where its name and attributes stand.
 #![tactic(auto)]
 
-ghost use Rattle.std.specs.Prelude.{◌≡◌, not, true, ◌+◌, ◌≤◌, ◌<◌, min, eqb, length, take, drop, set};
+ghost use Rattle.std.specs.Prelude.{◌≡◌, Some, not, true, ◌+◌, ◌≤◌, ◌<◌, min, eqb, length, take, drop, set};
 ghost use Rattle.std.proofs.Math.Seq.{slice};
 ghost use Rattle.base.specs.Bytes.{all, both};
 ghost use Rattle.base.specs.Chars.{horizontal_tab, equals_sign};
@@ -14,7 +14,6 @@ ghost use Rattle.event_scan.specs.Names.{names_of};
 ghost use Rattle.event_scan.specs.Piece.{there, lettered, piece_in, value_text};
 ghost use Rattle.event_scan.specs.Few.{kept_names, among, NamesKept, Tells};
 ghost use Rattle.event_scan.specs.Scan.{fields_at, attrs_at, Good, stand, means, lone, InBounds, UpTo, attribute_at, attribute_value};
-ghost use Rattle.event_scan.specs.declared.Attribute.TheVariants as attribute;
 
 use distinct::Distinctness;
 use refusal::Refusal;
@@ -32,32 +31,30 @@ pub enum Scanned {
     Others,
 }
 
-// An attribute: where its name ends and where its value ends; or that the line has ended.
-#[derive(Clone, Copy)]
-pub enum Attribute {
-    At { eq: usize, to: usize },
-    End,
+// An attribute: where its name ends and where its value ends.
+#[derive(Clone, Copy, PartialEq, Eq, Debug)]
+pub struct Attribute {
+    pub eq: usize,
+    pub to: usize,
 }
 
-// Where a value lies, or that no attribute has the name.
-#[derive(Clone, Copy)]
-pub enum Value {
-    At { from: usize, to: usize },
-    Missing,
+// Where a text is written in a line.
+#[derive(Clone, Copy, PartialEq, Eq, Debug)]
+pub struct Extent {
+    pub from: usize,
+    pub to: usize,
 }
 
 // The first place of a byte from a place on, or the end.
 fn find(t: &[u8], at: usize, c: u8) -> usize
     ensures { result ≡ at + UpTo c (drop at t.now) }
 {
-    let mut i = at;
-    while i < t.len() {
+    for i in at..t.len() {
         if t[i] == c {
             return i;
         }
-        i += 1;
     }
-    i
+    at.max(t.len())
 }
 
 // Whether a byte is nowhere in a run. It looks at all bytes, so that many are looked at together.
@@ -65,11 +62,8 @@ pub fn lacks(t: &[u8], c: u8) -> bool
     ensures { result ≡ all (λ b. not (eqb b c)) t.now }
 {
     let mut ok = true;
-    let mut i: usize = 0;
-    while i < t.len() {
-        let b = t[i];
-        ok = ok & (b != c);
-        i += 1;
+    for b in t {
+        ok = ok & (*b != c);
     }
     ok
 }
@@ -78,119 +72,93 @@ pub fn lacks(t: &[u8], c: u8) -> bool
 fn name_end(t: &[u8], at: usize) -> usize
     ensures { result ≡ at + min (UpTo horizontal_tab (drop at t.now)) (UpTo equals_sign (drop at t.now)) }
 {
-    let mut i = at;
-    while i < t.len() {
-        if t[i] == b'=' {
+    for i in at..t.len() {
+        if t[i] == b'=' || t[i] == b'\t' {
             return i;
         }
-        if t[i] == b'\t' {
-            return i;
-        }
-        i += 1;
     }
-    i
+    at.max(t.len())
 }
 
-// The attribute that stands at a place.
-pub fn attribute_at(t: &[u8], at: usize) -> Attribute
+// The attribute that stands at a place, if the line has not ended there. Its end tells where the next one begins, so the walks over attributes go on from it:
+// there is no slice of them and no range of their places.
+pub fn attribute_at(t: &[u8], at: usize) -> Option<Attribute>
     ensures { result ≡ attribute_at t.now at }
 {
     if t.len() < at {
-        return Attribute::End;
+        return None;
     }
     let eq = name_end(t, at);
     let to = find(t, eq, b'\t');
-    Attribute::At { eq, to }
+    Some(Attribute { eq, to })
 }
 
-// The value of a name, from a place on.
-pub fn value_at(t: &[u8], name: &[u8], at: usize) -> Value
+// Where the value of a name lies, if an attribute from a place on has the name.
+pub fn value_at(t: &[u8], name: &[u8], at: usize) -> Option<Extent>
     ensures { result ≡ attribute_value t.now name.now at }
 {
     let mut p = at;
-    loop {
-        let Attribute::At { eq, to } = attribute_at(t, p) else {
-            return Value::Missing;
-        };
-        if distinct::equal(name, &t[p..eq]) {
-            return Value::At { from: eq + 1, to };
+    while let Some(attribute) = attribute_at(t, p) {
+        if name == &t[p..attribute.eq] {
+            return Some(Extent {
+                from: attribute.eq + 1,
+                to: attribute.to,
+            });
         }
-        p = to + 1;
+        p = attribute.to + 1;
     }
+    None
 }
 
 // ---- escapes
 
-// A byte of a value's text, and how many bytes write it; or that none is written.
-#[derive(Clone, Copy)]
-enum Piece {
-    Is { byte: u8, size: usize },
-    Not,
+// A byte of a value's text, and how many bytes write it.
+#[derive(Clone, Copy, PartialEq, Eq, Debug)]
+struct Piece {
+    byte: u8,
+    size: usize,
 }
 
-// The escape of a letter.
-fn letter(m: u8) -> Piece
-    ensures { result ≡ lettered (meaning m) }
+// The byte that an escape stands for, by its letter.
+fn letter(m: u8) -> Option<u8>
+    ensures { result ≡ meaning m }
 {
-    if m == b't' {
-        return Piece::Is {
-            byte: b'\t',
-            size: 2,
-        };
+    match m {
+        b't' => Some(b'\t'),
+        b'n' => Some(b'\n'),
+        b'r' => Some(b'\r'),
+        b'\\' => Some(b'\\'),
+        _ => None,
     }
-    if m == b'n' {
-        return Piece::Is {
-            byte: b'\n',
-            size: 2,
-        };
-    }
-    if m == b'r' {
-        return Piece::Is {
-            byte: b'\r',
-            size: 2,
-        };
-    }
-    if m == b'\\' {
-        return Piece::Is {
-            byte: b'\\',
-            size: 2,
-        };
-    }
-    Piece::Not
 }
 
-// What stands at a place of a value.
-fn piece_at(v: &[u8], at: usize) -> Piece
-    requires { at < length v.now }
-    ensures { result ≡ piece_in (drop at v.now) }
+// What a value begins with, if it begins with a byte or a right escape.
+fn first_piece(v: &[u8]) -> Option<Piece>
+    ensures { result ≡ piece_in v.now }
 {
-    let b = v[at];
-    if b == b'\\' {
-        let next = at + 1;
-        if next < v.len() {
-            return letter(v[next]);
+    match v {
+        [b'\\', m, ..] => {
+            let byte = letter(*m)?;
+            Some(Piece { byte, size: 2 })
         }
-        return Piece::Not;
+        [b'\\'] => None,
+        [byte, ..] => Some(Piece {
+            byte: *byte,
+            size: 1,
+        }),
+        [] => None,
     }
-    Piece::Is { byte: b, size: 1 }
 }
 
 // Whether a value's escapes are right, from piece to piece.
 fn pieces_right(v: &[u8]) -> bool
     ensures { result ≡ there (unescape v.now) }
 {
-    let mut i: usize = 0;
-    while i < v.len() {
-        match piece_at(v, i) {
-            Piece::Is { byte: _, size } => {
-                i += size;
-            }
-            Piece::Not => {
-                return false;
-            }
-        }
+    let mut rest = v;
+    while let Some(piece) = first_piece(rest) {
+        rest = &rest[piece.size..];
     }
-    true
+    rest.is_empty()
 }
 
 // Whether a value's escapes are right: without a backslash it has none.
@@ -217,19 +185,12 @@ fn write(out: &mut [u8], v: &[u8]) -> usize
     requires { there (unescape v.now) ≡ true }
     ensures { (out.new ≡ over out.old 0 (value_text v.now)) × (result ≡ length (value_text v.now)) }
 {
-    let mut i: usize = 0;
+    let mut rest = v;
     let mut n: usize = 0;
-    while i < v.len() {
-        match piece_at(v, i) {
-            Piece::Is { byte, size } => {
-                put(out, n, byte);
-                i += size;
-                n += 1;
-            }
-            Piece::Not => {
-                return n;
-            }
-        }
+    while let Some(piece) = first_piece(rest) {
+        put(out, n, piece.byte);
+        rest = &rest[piece.size..];
+        n += 1;
     }
     n
 }
@@ -247,18 +208,18 @@ pub fn unescape_into(out: &mut [u8], value: &[u8]) -> usize
 // ---- attributes
 
 // Whether the field of an attribute has a name, an `=` and a value whose escapes are right.
-fn is_attr(t: &[u8], at: usize, eq: usize, to: usize) -> bool
-    requires { attribute_at t.now at ≡ attribute.At eq to }
-    ensures { result ≡ there (attr_of (slice at to t.now)) }
+fn is_attr(t: &[u8], at: usize, attribute: Attribute) -> bool
+    requires { attribute_at t.now at ≡ Some attribute }
+    ensures { result ≡ there (attr_of (slice at attribute.to t.now)) }
 {
-    if eq == at {
+    if attribute.eq == at {
         return false;
     }
-    if eq == to {
+    if attribute.eq == attribute.to {
         return false;
     }
-    let from = eq + 1;
-    escapes_right(&t[from..to])
+    let from = attribute.eq + 1;
+    escapes_right(&t[from..attribute.to])
 }
 
 // Whether each field from a place on is an attribute.
@@ -266,16 +227,14 @@ fn attrs_good(t: &[u8], at: usize) -> bool
     ensures { result ≡ there (attrs_of (fields_at t.now at)) }
 {
     let mut p = at;
-    loop {
-        let Attribute::At { eq, to } = attribute_at(t, p) else {
-            return true;
-        };
-        if is_attr(t, p, eq, to) {
-            p = to + 1;
+    while let Some(attribute) = attribute_at(t, p) {
+        if is_attr(t, p, attribute) {
+            p = attribute.to + 1;
         } else {
             return false;
         }
     }
+    true
 }
 
 // Whether one of the attributes from a place on has a name.
@@ -283,10 +242,7 @@ fn again(t: &[u8], name: &[u8], at: usize) -> bool
     requires { Good t.now at }
     ensures { result ≡ named name.now (attrs_at t.now at) }
 {
-    match value_at(t, name, at) {
-        Value::Missing => false,
-        Value::At { from: _, to: _ } => true,
-    }
+    value_at(t, name, at).is_some()
 }
 
 // Whether no two of the attributes from a place on have one name: each name is compared with those behind it.
@@ -295,15 +251,13 @@ fn once_in_pairs(t: &[u8], at: usize) -> bool
     ensures { result ≡ none_twice (attrs_at t.now at) }
 {
     let mut p = at;
-    loop {
-        let Attribute::At { eq, to } = attribute_at(t, p) else {
-            return true;
-        };
-        if again(t, &t[p..eq], to + 1) {
+    while let Some(attribute) = attribute_at(t, p) {
+        if again(t, &t[p..attribute.eq], attribute.to + 1) {
             return false;
         }
-        p = to + 1;
+        p = attribute.to + 1;
     }
+    true
 }
 
 // The words of the names of the attributes from a place on, as far as there is room. How many names there are is answered.
@@ -313,14 +267,12 @@ fn note_names(t: &[u8], words: &mut [u64], at: usize) -> usize
 {
     let mut n: usize = 0;
     let mut p = at;
-    loop {
-        let Attribute::At { eq, to } = attribute_at(t, p) else {
-            return n;
-        };
-        distinct::put_word(words, n, distinct::run_word(t, p, eq - p));
+    while let Some(attribute) = attribute_at(t, p) {
+        distinct::put_word(words, n, distinct::run_word(t, p, attribute.eq - p));
         n += 1;
-        p = to + 1;
+        p = attribute.to + 1;
     }
+    n
 }
 
 // Whether no two of the attributes from a place on have one name: by the words of the names, where these tell it.
@@ -374,46 +326,34 @@ fn many_stand(t: &[u8], at: usize) -> bool
 // ---- few attributes: one walk, which keeps where their names stand
 
 // Whether attributes stand and no name is there twice: yes, no, or too many to tell.
-#[derive(Clone, Copy)]
+#[derive(Clone, Copy, PartialEq, Eq, Debug)]
 enum Few {
     Stand,
     Not,
     Many,
 }
 
-// Whether a name is one of the first n that are kept.
-fn seen(t: &[u8], name: &[u8], starts: &[usize; 16], ends: &[usize; 16], n: usize) -> bool
-    requires { NamesKept t.now starts.now ends.now n }
-    ensures { result ≡ among name.now (kept_names t.now starts.now ends.now n) }
+// Whether a name is one of those that are kept.
+fn seen(t: &[u8], name: &[u8], kept: &[Extent]) -> bool
+    requires { NamesKept t.now kept.now (length kept.now) }
+    ensures { result ≡ among name.now (kept_names t.now kept.now (length kept.now)) }
 {
-    let mut i: usize = 0;
-    while i < n {
-        let from = starts[i];
-        let to = ends[i];
-        if distinct::equal(&t[from..to], name) {
+    for known in kept {
+        if &t[known.from..known.to] == name {
             return true;
         }
-        i += 1;
     }
     false
 }
 
-// Whether the field of an attribute is one whose name is none of the first n that are kept.
-fn is_new(
-    t: &[u8],
-    at: usize,
-    eq: usize,
-    to: usize,
-    starts: &[usize; 16],
-    ends: &[usize; 16],
-    n: usize,
-) -> bool
-    requires at_value { attribute_at t.now at ≡ attribute.At eq to }
-    requires names_kept { NamesKept t.now starts.now ends.now n }
-    ensures { result ≡ both (there (attr_of (slice at to t.now))) (not (among (slice at eq t.now) (kept_names t.now starts.now ends.now n))) }
+// Whether the field of an attribute is one whose name is none of those that are kept.
+fn is_new(t: &[u8], at: usize, attribute: Attribute, kept: &[Extent]) -> bool
+    requires at_value { attribute_at t.now at ≡ Some attribute }
+    requires names_kept { NamesKept t.now kept.now (length kept.now) }
+    ensures { result ≡ both (there (attr_of (slice at attribute.to t.now))) (not (among (slice at attribute.eq t.now) (kept_names t.now kept.now (length kept.now)))) }
 {
-    if is_attr(t, at, eq, to) {
-        if seen(t, &t[at..eq], starts, ends, n) {
+    if is_attr(t, at, attribute) {
+        if seen(t, &t[at..attribute.eq], kept) {
             return false;
         }
         return true;
@@ -425,26 +365,25 @@ fn is_new(
 fn few_stand(t: &[u8], at: usize) -> Few
     ensures { Tells result (stand (attrs_of (fields_at t.now at))) }
 {
-    let mut starts = [0usize; 16];
-    let mut ends = [0usize; 16];
+    let mut kept = [Extent { from: 0, to: 0 }; 16];
     let mut p = at;
     let mut n: usize = 0;
-    loop {
-        let Attribute::At { eq, to } = attribute_at(t, p) else {
-            return Few::Stand;
-        };
+    while let Some(attribute) = attribute_at(t, p) {
         if n == 16 {
             return Few::Many;
         }
-        if is_new(t, p, eq, to, &starts, &ends, n) {
-            starts[n] = p;
-            ends[n] = eq;
+        if is_new(t, p, attribute, &kept[..n]) {
+            kept[n] = Extent {
+                from: p,
+                to: attribute.eq,
+            };
             n += 1;
-            p = to + 1;
+            p = attribute.to + 1;
         } else {
             return Few::Not;
         }
     }
+    Few::Stand
 }
 
 // Whether the fields from a place on are attributes, and no name is there twice.
@@ -485,10 +424,10 @@ fn alone(w: &[u8]) -> Scanned
     ensures result_value { means w.now result ≡ lone w.now }
     ensures in_bounds { InBounds w.now result }
 {
-    if distinct::equal(w, b"close") {
+    if w == b"close".as_slice() {
         return Scanned::Closes;
     }
-    if distinct::equal(w, b"other") {
+    if w == b"other".as_slice() {
         return Scanned::Others;
     }
     Scanned::Refused(Refusal::NotEventLine)
@@ -501,10 +440,10 @@ fn event(t: &[u8]) -> Scanned
 {
     let to = find(t, 0, b'\t');
     let w = &t[..to];
-    if distinct::equal(w, b"open") {
+    if w == b"open".as_slice() {
         return starts(t, false, to);
     }
-    if distinct::equal(w, b"empty") {
+    if w == b"empty".as_slice() {
         return starts(t, true, to);
     }
     if to < t.len() {

@@ -1,8 +1,8 @@
 -- A value as it is written and its text are read alike where no escape can matter: as an integer, as a timestamp, as a name, as a word.
+use Rattle.std.specs.Prelude.{None, Option, Some, option_map}
 use Prim.Native.Nat.{ℕ, suc, ◌+◌, ◌<◌}
 use mathlib.Core.Path.{◌≡◌, refl, sym, ◌∙◌, ap}
 use mathlib.Core.Bool.{Bool, true, false, not}
-use mathlib.Core.Option.{Option, none, some, map}
 use mathlib.Core.List.{List, [], ◌∷◌, ◌++◌}
 use native.Mathlib.Omega.{arith}
 use lib.Dec.{eqb}
@@ -33,23 +33,23 @@ plain_byte : (b : ℕ) → not (either (breaks b) (eqb b 92)) ≡ true → eqb b
 plain_byte b h = by_bool (eqb b 92) (λ e. clash (sym (ap not (either_right (breaks b) e)) ∙ h) refl) (λ e. e)
 
 -- such a text is its own value
-bare_own : (v : Bytes) → bare v ≡ true → unescape v ≡ some v
+bare_own : (v : Bytes) → bare v ≡ true → unescape v ≡ Some v
 unfolding bare unescape_from byte_before
 bare_own [] h = refl
 bare_own (b ∷ v) h = read_byte b v (plain_byte b (all_head _ b v h)) ∙ rw (bare_own v (all_tail _ b v h))
 
 -- a reader of bare texts alone reads a value as it reads its text, whatever the escapes
-text_reads : {B : Type 0} (f : Bytes → Option B) → ((s : Bytes) (z : B) → f s ≡ some z → bare s ≡ true) → f [] ≡ none → (v : Bytes) → f v ≡ f (value_text v)
+text_reads : {B : Type 0} (f : Bytes → Option B) → ((s : Bytes) (z : B) → f s ≡ Some z → bare s ≡ true) → f [] ≡ None → (v : Bytes) → f v ≡ f (value_text v)
 unfolding value_text
 text_reads {B} f h n v = go (unescape v) refl
   where
-    nothing : unescape v ≡ none → (o : Option B) → f v ≡ o → f v ≡ none
-    nothing e none q = q
-    nothing e (some z) q = let y : none ≡ some v = sym e ∙ bare_own v (h v z q) in no (cc)
+    nothing : unescape v ≡ None → (o : Option B) → f v ≡ o → f v ≡ None
+    nothing e None q = q
+    nothing e (Some z) q = let y : None ≡ Some v = sym e ∙ bare_own v (h v z q) in no (cc)
 
     go : (o : Option Bytes) → unescape v ≡ o → f v ≡ f (or_empty o)
-    go (some x) e = raw_reads f h v x e
-    go none e = nothing e (f v) refl ∙ sym n
+    go (Some x) e = raw_reads f h v x e
+    go None e = nothing e (f v) refl ∙ sym n
 
 -- and so is a bare word that is not empty
 text_same : (w v : Bytes) → bare w ≡ true → same [] w ≡ false → same v w ≡ same (value_text v) w
@@ -57,10 +57,10 @@ unfolding value_text
 text_same w v h n = go (unescape v) refl
   where
     go : (o : Option Bytes) → unescape v ≡ o → same v w ≡ same (or_empty o) w
-    go (some x) e = plain_raw w v x h e
-    go none e =
+    go (Some x) e = plain_raw w v x h e
+    go None e =
         by_bool (same v w)
-        (λ t. let y : none ≡ some v = sym e ∙ bare_own v (rw (same_yes v w t) h) in no (cc))
+        (λ t. let y : None ≡ Some v = sym e ∙ bare_own v (rw (same_yes v w t) h) in no (cc))
         (λ t. t ∙ sym n)
 
 -- ---- integers
@@ -75,14 +75,14 @@ digits_bare (b ∷ s) h =
     let d = digit_is b (all_head is_digit b s h) in
     bare_cons b s (other b (λ e. omega arith) (λ e. omega arith) (λ e. omega arith) (λ e. omega arith)) (digits_bare s (all_tail is_digit b s h))
 
-mapped_bare : {A : Type 0} (f : ℕ → A) (s : Bytes) (z : A) → map f (digits s) ≡ some z → bare s ≡ true
+mapped_bare : {A : Type 0} (f : ℕ → A) (s : Bytes) (z : A) → option_map f (digits s) ≡ Some z → bare s ≡ true
 mapped_bare {A} f s z e = go (digits s) refl e
   where
-    go : (m : Option ℕ) → digits s ≡ m → map f m ≡ some z → bare s ≡ true
-    go none p q = no (cc)
-    go (some n) p q = digits_bare s (digits_is s p).1.0
+    go : (m : Option ℕ) → digits s ≡ m → option_map f m ≡ Some z → bare s ≡ true
+    go None p q = no (cc)
+    go (Some n) p q = digits_bare s (digits_is s p).1.0
 
-integer_bare : (s : Bytes) (z : ℤ) → integer s ≡ some z → bare s ≡ true
+integer_bare : (s : Bytes) (z : ℤ) → integer s ≡ Some z → bare s ≡ true
 unfolding integer breaks either
 integer_bare [] z e = no (cc)
 integer_bare (b ∷ s) z e =
@@ -105,16 +105,16 @@ joined s from n c h f e b r =
     let d : drop from s ≡ take n (drop from s) ++ (get_or s (from + n) 0 ∷ drop (suc (from + n)) s) = sym (take-append-drop n (drop from s)) ∙ rw (drop-drop n from s, drop-cons s (from + n) 0 h) in
     ap bare d ∙ bare_append (take n (drop from s)) _ f (bare_cons (get_or s (from + n) 0) (drop (suc (from + n)) s) (rw (eqb-true (get_or s (from + n) 0) c e) b) r)
 
-module _ (s : Bytes) (m : Moment) (e : moment s ≡ some m) where
-  field_bare : (from n : ℕ) → (stamp_field s from n ≡ none → moment s ≡ none) → bare (take n (drop from s)) ≡ true
+module _ (s : Bytes) (m : Moment) (e : moment s ≡ Some m) where
+  field_bare : (from n : ℕ) → (stamp_field s from n ≡ None → moment s ≡ None) → bare (take n (drop from s)) ≡ true
   unfolding stamp_field
   field_bare from n none_then = go (stamp_field s from n) refl
     where
       go : (o : Option ℕ) → stamp_field s from n ≡ o → bare (take n (drop from s)) ≡ true
-      go none p = let z : none ≡ some m = sym (none_then p) ∙ e in no (cc)
-      go (some z) p = digits_bare (take n (drop from s)) (digits_is (take n (drop from s)) p).1.0
+      go None p = let z : None ≡ Some m = sym (none_then p) ∙ e in no (cc)
+      go (Some z) p = digits_bare (take n (drop from s)) (digits_is (take n (drop from s)) p).1.0
 
-moment_bare : (s : Bytes) (m : Moment) → moment s ≡ some m → shaped s ≡ true → bare s ≡ true
+moment_bare : (s : Bytes) (m : Moment) → moment s ≡ Some m → shaped s ≡ true → bare s ≡ true
 unfolding shaped separated breaks either
 moment_bare s m e h =
     let l : length s ≡ 20 = eqb-true (length s) 20 (both_left _ _ h) in
@@ -133,16 +133,16 @@ moment_bare s m e h =
     (joined s 17 2 90 (omega arith) (f 17 2 (no_second s)) b19 refl
     (rw (drop_of_length-le s {i = 20} (omega arith)) bare_nil))))))
 
-stamp_bare : (s : Bytes) (z : ℤ) → stamp s ≡ some z → bare s ≡ true
+stamp_bare : (s : Bytes) (z : ℤ) → stamp s ≡ Some z → bare s ≡ true
 unfolding stamp accepted_moment
 stamp_bare s z e =
     by_bool (shaped s)
     (λ h. read (moment s) h refl (rw h at e))
-    (λ h. let q : none ≡ some z = rw h at e in no (cc))
+    (λ h. let q : None ≡ Some z = rw h at e in no (cc))
   where
-    read : (o : Option Moment) → shaped s ≡ true → moment s ≡ o → accepted_moment o ≡ some z → bare s ≡ true
-    read none h p q = no (cc)
-    read (some m) h p q = moment_bare s m p h
+    read : (o : Option Moment) → shaped s ≡ true → moment s ≡ o → accepted_moment o ≡ Some z → bare s ≡ true
+    read None h p q = no (cc)
+    read (Some m) h p q = moment_bare s m p h
 
 pub stamp_raw : (v : Bytes) → stamp v ≡ stamp (value_text v)
 unfolding stamp shaped both

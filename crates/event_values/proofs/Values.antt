@@ -1,67 +1,67 @@
 -- A value read where it lies: its integer, its timestamp, and the field of its name.
-use Prim.Native.Nat.{ℕ, suc, ◌-◌, ◌^◌, ◌<◌, ◌≤◌}
-use mathlib.Core.Path.{◌≡◌, refl, sym, ◌∙◌, ap, subst}
+use Rattle.std.specs.Prelude.{None, Option, Some, Err, Result, option_map, ok_or, unwrap_or, IsErr, IsErrAnd}
+use Rattle.std.proofs.lemmas.Result.{err_from_is_err_and}
+use Prim.Native.Nat.{ℕ, ◌-◌, ◌<◌, ◌≤◌, min}
+use mathlib.Core.Path.{◌≡◌, refl, sym, ◌∙◌, ap}
 use mathlib.Core.List.{List, []}
-use mathlib.Core.Option.{Option, none, some}
 use native.Mathlib.Omega.{arith}
 use lib.ListN.{length, take, drop_of_length-le}
 use lib.Seq.{slice, slice_empty, length-take-le}
 use lib.IntN.{ℤ, nat_abs}
-use mir.Syntax.{Width, w32}
-use mir.Val.{to_z, Fits, hbits}
-use mir.Facts.{to_z-of_z, to_z_pos}
-use borrow.Author.Tests.{le-leb, lt-leb, le-ltb}
+use mir.Syntax.{Width, w32, w64}
+use lib.Signed.{mag}
+use mir.Val.{of_z, to_z, Fits}
+use mir.Facts.{to_z-of_z}
+use borrow.Author.Tests.{le-leb, lt-leb}
 use borrow.Rule.Slice.PartMut.{mid_of}
 use Rattle.base.specs.Bytes.{Bytes}
-use Rattle.base.proofs.Split.{by_lt}
-use Rattle.refusal.specs.declared.Refusal.TheVariants.{Missing, CoordinateRange}
+use Rattle.base.proofs.Split.{by_le}
+use Rattle.refusal.specs.declared.Refusal.{Refusal}
+use Rattle.refusal.specs.declared.Refusal.TheVariants.{Missing, NotInteger, CoordinateRange, MemberType}
+use Rattle.kind.specs.declared.Kind.{Kind}
 use Rattle.text.specs.Escape.{unescape_from}
-use Rattle.integer.specs.Integer.{integer_of, integer_answer, read_of}
-use Rattle.integer.specs.declared.Integer.{Integer}
-use Rattle.integer.specs.declared.Integer.TheVariants as I
+use Rattle.integer.specs.Integer.{integer_of, read_of}
 use Rattle.integer.proofs.Integers.{integer_of_is, read_is}
 use Rattle.stamp.specs.Stamp as S
-use Rattle.stamp.specs.declared.Stamp.{Stamp}
 use Rattle.stamp.proofs.Bounds.{stamp_fits}
-use Rattle.event.specs.Event.{Attr, value_of}
-use Rattle.event_scan.specs.declared.Value.{Value}
-use Rattle.event_scan.specs.declared.Value.TheVariants as U
+use Rattle.event.specs.Event.{Attr, value_of, or_empty}
+use Rattle.event_scan.specs.Scan.{some_extent}
 use Rattle.event_scan.specs.Piece.{value_text}
-use Rattle.event_scan.specs.Scan.{attributes_at}
 use Rattle.event_scan.proofs.Places.{lent_is}
 use Rattle.event_scan.proofs.Attributes.{Searched}
-use Rattle.event_fields.specs.Field.{got, bad, an_integer, coordinate_within, text_field, integer_field}
-use Rattle.event_values.specs.Value.{Inside, Located, integer_in, stamp_in}
+use Rattle.event_fields.specs.Field.{got, bad, or_else, coordinate_within, text_field, integer_field}
+use Rattle.event_scan.specs.declared.Extent.{Extent}
+use Rattle.event_values.specs.Value.{Inside, Located, integer_in, stamp_in, text_at, extent_field, field_in, type_field}
 use Rattle.event_values.proofs.Raws.{integer_raw, stamp_raw}
 
 -- ---- answers in bits
 
 read_number : (w : Width) (s : Bytes) → integer_in w (read_of w s) ≡ integer_of w s
-unfolding read_of integer_answer
+unfolding read_of
 read_number w s = go (integer_of w s) refl
   where
-    go : (o : Option ℤ) → integer_of w s ≡ o → integer_in w (integer_answer w o) ≡ o
-    go none e = refl
-    go (some z) e = ap some (to_z-of_z (integer_of_is w s e).1)
+    go : (o : Option ℤ) → integer_of w s ≡ o → integer_in w (option_map (of_z w) o) ≡ o
+    go None e = refl
+    go (Some z) e = ap Some (to_z-of_z (integer_of_is w s e).1)
 
 read_moment : (s : Bytes) → stamp_in (S.stamp_of s) ≡ S.stamp s
-unfolding S.stamp_of S.stamp_answer
+unfolding S.stamp_of
 read_moment s = go (S.stamp s) refl
   where
-    go : (o : Option ℤ) → S.stamp s ≡ o → stamp_in (S.stamp_answer o) ≡ o
-    go none e = refl
-    go (some z) e = ap some (to_z-of_z (stamp_fits s e))
+    go : (o : Option ℤ) → S.stamp s ≡ o → stamp_in (option_map (of_z w64) o) ≡ o
+    go None e = refl
+    go (Some z) e = ap Some (to_z-of_z (stamp_fits s e))
 
 -- ---- a value
 
-pub number_text : (w : Width) (v : Bytes) {r : Integer} → r ≡ read_of w v → integer_in w r ≡ integer_of w (value_text v)
+pub number_text : (w : Width) (v : Bytes) {r : Option ℕ} → r ≡ read_of w v → integer_in w r ≡ integer_of w (value_text v)
 number_text w v e = ap (integer_in w) e ∙ read_number w v ∙ integer_raw w v
 
-pub moment_text : (v : Bytes) {r : Stamp} → r ≡ S.stamp_of v → stamp_in r ≡ S.stamp (value_text v)
+pub moment_text : (v : Bytes) {r : Option ℕ} → r ≡ S.stamp_of v → stamp_in r ≡ S.stamp (value_text v)
 moment_text v e = ap stamp_in e ∙ read_moment v ∙ stamp_raw v
 
 -- the bits of a 32-bit integer are 32
-pub narrow_fits : (s : Bytes) (b : ℕ) → read_of w32 s ≡ I.Is b → Fits w32 b
+pub narrow_fits : (s : Bytes) (b : ℕ) → read_of w32 s ≡ Some b → Fits w32 b
 narrow_fits s b e = (read_is w32 s e).1
 
 -- `&t[from..to]`
@@ -82,54 +82,60 @@ none_behind from to t h k = drop_of_length-le (take to t) {i = from} (omega (ari
 
 -- ---- the value of a name
 
-pub told_found : (t : Bytes) (from to : ℕ) (o : Option Bytes) → from ≤ to → Searched t (U.At from to) o → Located t (U.At from to) o
-told_found t from to o h e = (record { order = h; end = e.1.0 }, e.1.1)
+-- where a field has no `=`, its value would begin behind the end of the field
+pub told_at : (t : Bytes) (from to : ℕ) {m : ℕ} (o : Option Bytes) → m ≡ min from to → Searched t (some_extent from to) o → Located t (Some (record { from = m; to = to })) o
+told_at t from to {m} o e h = (
+  record { order = omega arith; end = h.1.0 },
+  h.1.1 ∙ ap (λ (s : Bytes). Some (value_text s)) (by_le from to
+      (λ l. let q : from ≡ m = omega arith in rw q)
+      (λ l. none_behind from to t (omega arith) h.1.0 ∙ sym (none_behind m to t (omega arith) h.1.0))),
+)
 
--- where a field has no `=`
-pub told_behind : (t : Bytes) (from to : ℕ) (o : Option Bytes) → to < from → Searched t (U.At from to) o → Located t (U.At to to) o
-told_behind t from to o h e =
-    (record { order = omega arith; end = e.1.0 }, e.1.1 ∙ ap (λ (s : Bytes). some (value_text s)) (none_behind from to t (omega arith) e.1.0 ∙ sym (none_behind to to t (omega arith) e.1.0)))
+-- ---- fields
 
-module _ (t n : Bytes) (at : ℕ) {r : Value} where
-  pub found_missing : r ≡ U.Missing → Located t r (value_of n (attributes_at t at)) → value_of n (attributes_at t at) ≡ none
-  found_missing e f = subst (λ (r : Value). Located t r (value_of n (attributes_at t at))) e f
+-- what the exit of a `?` hands on
+pub handed_on : {A E : Type 0} {r : Result A E} {e : E} → IsErr r × IsErrAnd r (λ y. y ≡ e) → r ≡ Err e
+handed_on {r = r} h = let p = err_from_is_err_and r h.1 in p.1 ∙ ap Err p.2
 
-  pub found_at : {from to : ℕ} → r ≡ U.At from to → Located t r (value_of n (attributes_at t at)) → Inside t from to × (value_of n (attributes_at t at) ≡ some (value_text (slice from to t)))
-  found_at e f = subst (λ (r : Value). Located t r (value_of n (attributes_at t at))) e f
+-- the value of a name, or 7 where it has none
+pub field_located : (t n : Bytes) (attrs : List Attr) (o : Option Extent) → Located t o (value_of n attrs) → extent_field t (ok_or o Missing) ≡ text_field n attrs
+unfolding text_field
+field_located t n attrs None h = rw h
+field_located t n attrs (Some e) h = rw h.1
 
-module _ (n : Bytes) (attrs : List Attr) where
-  pub text_missing : value_of n attrs ≡ none → bad Missing ≡ text_field n attrs
-  unfolding text_field
-  text_missing e = rw e
+-- the value of a name, or else the empty text
+pub or_empty_located : (t : Bytes) (v : Option Bytes) (o : Option Extent) → Located t o v → text_at t (unwrap_or o (record { from = 0; to = 0 })) ≡ or_empty v
+or_empty_located t v None h = empty_text t ∙ rw h
+or_empty_located t v (Some e) h = rw h.1
 
-  pub text_got : (x : Bytes) → value_of n attrs ≡ some x → got x ≡ text_field n attrs
-  unfolding text_field
-  text_got x e = rw e
+-- a value that is read, or else a refusal
+pub field_read : {A B : Type 0} (f : A → B) (r : Refusal) (o : Option A) → field_in f (ok_or o r) ≡ or_else r (option_map f o)
+field_read f r None = refl
+field_read f r (Some x) = refl
 
-  pub integer_missing : (w : Width) → value_of n attrs ≡ none → bad Missing ≡ integer_field w n attrs
+pub type_read : (o : Option Kind) → field_in (λ k. k) (ok_or o MemberType) ≡ type_field o
+type_read None = refl
+type_read (Some k) = refl
+
+module _ (n : Bytes) (attrs : List Attr) (w : Width) where
+  pub integer_missing : {r : Refusal} → bad r ≡ text_field n attrs → bad r ≡ integer_field w n attrs
   unfolding integer_field
-  integer_missing w e = rw (← text_missing e)
+  integer_missing e = rw (← e)
 
-  -- what is read of the value is the field
-  pub integer_got : (w : Width) (x : Bytes) (o : Option ℤ) → value_of n attrs ≡ some x → o ≡ integer_of w x → an_integer o ≡ integer_field w n attrs
+  -- an integer of its text, or 8 where that is none
+  pub integer_read : {x : Bytes} (o : Option ℕ) {r : Result ℕ Refusal} → got x ≡ text_field n attrs → integer_in w o ≡ integer_of w x
+      → r ≡ ok_or o NotInteger → field_in (to_z w) r ≡ integer_field w n attrs
   unfolding integer_field
-  integer_got w x o e q = rw (← text_got x e, q)
+  integer_read o e q p = ap (field_in (to_z w)) p ∙ field_read (to_z w) NotInteger o ∙ rw (← e, q)
 
--- ---- "at most 900,000,000 and 1,800,000,000 either side of 0", in bits
+-- ---- "at most 900,000,000 and 1,800,000,000 either side of 0"
 
-module _ (limit b : ℕ) (h : limit ≤ 1800000000) where
-  size_low : b < 2 ^ hbits w32 → nat_abs (to_z w32 b) ≡ b
-  size_low k = ap nat_abs (to_z_pos w32 k)
+-- the size of a number that is read from its bits
+pub size_is : {n : ℕ} {z : ℤ} (b : ℕ) → n ≡ nat_abs (to_z w32 (of_z w32 z)) → mag z < 2147483648 → z ≡ to_z w32 b → n ≡ nat_abs (to_z w32 b)
+size_is {z = z} b e f g = e ∙ ap nat_abs (to_z-of_z {w = w32} {z = z} (record { sfits = f })) ∙ ap nat_abs g
 
-  size_high : 2 ^ hbits w32 ≤ b → nat_abs (to_z w32 b) ≡ suc (4294967296 - suc b)
-  size_high k = rw (le-ltb b (2 ^ hbits w32) k)
+pub within : {n limit : ℕ} (z : ℤ) → n ≡ nat_abs z → n ≤ limit → got z ≡ coordinate_within limit z
+within {limit = limit} z e h = rw (le-leb (nat_abs z) limit (omega arith))
 
-  pub within_low : b ≤ limit → coordinate_within limit (to_z w32 b) ≡ got (to_z w32 b)
-  within_low k = rw (le-leb (nat_abs (to_z w32 b)) limit (rw (size_low (omega arith)) k))
-
-  pub within_high : b < 4294967296 → 4294967295 - limit < b → coordinate_within limit (to_z w32 b) ≡ got (to_z w32 b)
-  within_high f k = rw (le-leb (nat_abs (to_z w32 b)) limit (rw (size_high (omega arith)) (omega arith)))
-
-  pub within_out : limit < b → b ≤ 4294967295 - limit → coordinate_within limit (to_z w32 b) ≡ bad CoordinateRange
-  within_out f k =
-      rw (lt-leb (nat_abs (to_z w32 b)) limit (by_lt b (2 ^ hbits w32) (λ l. rw (size_low l) f) (λ l. rw (size_high l) (omega arith))))
+pub beyond : {n limit : ℕ} (z : ℤ) → n ≡ nat_abs z → limit < n → bad CoordinateRange ≡ coordinate_within limit z
+beyond {limit = limit} z e h = rw (lt-leb (nat_abs z) limit (omega arith))

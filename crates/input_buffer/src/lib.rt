@@ -6,16 +6,13 @@ ghost use Rattle.little.specs.Little.{over};
 ghost use Rattle.input_buffer.specs.Fronts.{is_over, kept_front};
 
 use event_scan::MAX_LINE;
-use reader::EventAnswer;
+use reader::RefusedAt;
 
 // Whether what is left behind lines that were accepted is already too long for a line.
-pub fn is_over(answer: EventAnswer, rest: usize) -> bool
+pub fn is_over(answer: Result<(), RefusedAt>, rest: usize) -> bool
     ensures { result ≡ is_over answer rest }
 {
-    match answer {
-        EventAnswer::Accepted => MAX_LINE < rest,
-        EventAnswer::Refused(refusal, line) => false,
-    }
+    answer.is_ok() && MAX_LINE < rest
 }
 
 // So many bytes of a piece behind those that are held, as far as there is room. The answer is how many there are then.
@@ -31,11 +28,11 @@ pub fn join_piece(buffer: &mut [u8], held: usize, piece: &[u8], got: usize) -> u
 }
 
 // What is held after lines that lay in a buffer: the bytes from one place up to another, moved to its front; after a refusal none.
-pub fn keep_front(buffer: &mut [u8], answer: EventAnswer, from: usize, to: usize) -> usize
+pub fn keep_front(buffer: &mut [u8], answer: Result<(), RefusedAt>, from: usize, to: usize) -> usize
     ensures { record { buffer = buffer.new; kept = result } ≡ kept_front answer buffer.old from to }
 {
     match answer {
-        EventAnswer::Accepted => input_lines::keep_rest(buffer, from, to),
-        EventAnswer::Refused(refusal, line) => 0,
+        Ok(()) => input_lines::keep_rest(buffer, from, to),
+        Err(_) => 0,
     }
 }

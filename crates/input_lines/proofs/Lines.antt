@@ -98,15 +98,15 @@ rest_lacks (b ∷ s) = by_bool (lacks 10 (b ∷ s)) (λ h. rw (rest_open (b ∷ 
 -- ---- joined they are the run
 
 -- there is a line where there is a line feed
-record Some (ls : List Bytes) : Type 0 where
+record HasLine (ls : List Bytes) : Type 0 where
   first : Bytes
   others : List Bytes
   both_of : ls ≡ first ∷ others
 
-onto_some : (b : ℕ) {ls : List Bytes} → Some ls → Some (onto_first b ls)
+onto_some : (b : ℕ) {ls : List Bytes} → HasLine ls → HasLine (onto_first b ls)
 onto_some b w = record { first = b ∷ w.first; others = w.others; both_of = ap (onto_first b) w.both_of }
 
-lines_some : (s : Bytes) → lacks 10 s ≡ false → Some (lines_of s)
+lines_some : (s : Bytes) → lacks 10 s ≡ false → HasLine (lines_of s)
 lines_some [] h = clash (lacks_nil 10) h
 lines_some (b ∷ s) h =
     by_eq b 10

@@ -1,8 +1,8 @@
 -- "2 over 16,384 bytes without its line feed": of such a line its first 16,385 bytes alone decide, so that no more of it need be kept.
+use Rattle.std.specs.Prelude.{None, Option, Some}
 use Prim.Native.Nat.{◌<◌, ◌≤◌}
 use mathlib.Core.Path.{◌≡◌, refl, sym, ◌∙◌}
 use mathlib.Core.Bool.{true}
-use mathlib.Core.Option.{Option, none, some}
 use mathlib.Core.List.{[], ◌∷◌, ◌++◌, append-nil}
 use native.Mathlib.Omega.{arith}
 use lib.ListN.{length, take, drop, length-append, take-append-drop}
@@ -26,8 +26,8 @@ begins_body : (p t : Bytes) → lacks 10 p ≡ true → length p ≤ length (bod
 begins_body p t h = go (unended (p ++ t)) refl
   where
     go : (o : Option Bytes) → unended (p ++ t) ≡ o → length p ≤ length (body (p ++ t))
-    go none e = rw (e, length-append) (omega arith)
-    go (some b) e = rw e (longer p t b h (unended_some (p ++ t) b e))
+    go None e = rw (e, length-append) (omega arith)
+    go (Some b) e = rw e (longer p t b h (unended_some (p ++ t) b e))
 
 module _ (p : Bytes) (k : 16384 < length p) (h : lacks 10 p ≡ true) where
   -- every line that begins with these bytes is refused 2, with or without its line feed

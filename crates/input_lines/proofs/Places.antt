@@ -1,30 +1,31 @@
 -- Lines where they lie: where the next one ends, byte by byte, what lies up to there, and what is kept.
+use Rattle.std.specs.Prelude.{None, Some}
 use Prim.Native.Nat.{ℕ, zero, suc, ◌+◌, ◌-◌, ◌<◌, ◌≤◌, min}
 use mathlib.Core.Path.{◌≡◌, refl, sym, ◌∙◌, ap}
 use mathlib.Core.List.{List, [], ◌∷◌, ◌++◌, append_assoc, flatten}
-use mathlib.Core.Logic.{inl}
 use native.Mathlib.Nat.{suc-add, zero-add}
-use native.Mathlib.Numerals.{add-one}
+use native.Mathlib.Numerals.{add-one, unary_clauses}
 use native.Mathlib.Omega.{arith}
-use lib.ListN.{length, get_or, take, drop, set, length-append, length-drop, length-take, drop_of_length-le}
-use lib.Seq.{slice, drop-cons, drop-drop, take-nil, take-append_seam, drop-append_seam, get_or-drop, get_or-take, drop-set-lt}
+use lib.ListN.{length, get_or, take, drop, length-append, length-drop, length-take, drop_of_length-le}
+use lib.Seq.{slice, drop-cons, drop-drop, take-nil, take-append_seam, drop-append_seam}
+use Rattle.std.proofs.lemmas.List.{nil_from_length}
+use Rattle.std.specs.List.{copy_within}
 use Rattle.base.specs.Bytes.{Bytes}
 use Rattle.base.proofs.Split.{no}
 use Rattle.little.specs.Little.{over}
-use Rattle.little.proofs.Overs.{Writing, begun, stored, written}
+use Rattle.little.proofs.Overs.{over_nothing, over_start}
 use Rattle.input_lines.specs.Lines.{onto_first, lines_of, rest_of}
 use Rattle.input_lines.specs.Place.{behind_first, line_end, Front, keep_rest}
-use Rattle.input_lines.specs.declared.LineEnd.TheVariants.{At, None}
 use Rattle.input_lines.proofs.Lines.{lines_feed, lines_byte, lines_first, rest_first, lines_joined, lines_whole, WholeLine, WholeLines, one_more}
 
 -- ---- byte by byte
 
 behind_onto : (at b : ℕ) (ls : List Bytes) → behind_first at (onto_first b ls) ≡ behind_first (at + 1) ls
 behind_onto at b [] = refl
-behind_onto at b (l ∷ ls) = ap At (omega arith)
+behind_onto at b (l ∷ ls) = ap Some (omega arith)
 
 module _ (s : Bytes) (i : ℕ) where
-  pub end_here : i < length s → get_or s i 0 ≡ 10 → line_end s i ≡ At (i + 1)
+  pub end_here : i < length s → get_or s i 0 ≡ 10 → line_end s i ≡ Some (i + 1)
   unfolding line_end
   end_here h e = rw (drop-cons s i 0 h, e, lines_feed)
 
@@ -66,11 +67,11 @@ module _ (s : Bytes) (at : ℕ) where
         rest = rw d (ap rest_of u ∙ rest_first w.text v);
       }
 
-  pub next_line : (end : ℕ) → line_end s at ≡ At end → NextLine s at end
+  pub next_line : (end : ℕ) → line_end s at ≡ Some end → NextLine s at end
   unfolding line_end flatten
   next_line end e = go (lines_of (drop at s)) refl (lines_whole (drop at s)) e
     where
-      go : (ls : List Bytes) → lines_of (drop at s) ≡ ls → WholeLines ls → behind_first at ls ≡ At end → NextLine s at end
+      go : (ls : List Bytes) → lines_of (drop at s) ≡ ls → WholeLines ls → behind_first at ls ≡ Some end → NextLine s at end
       go [] p ws q = no (cc)
       go (l ∷ ls) p (one_more w ws) q =
           let x : at + length l ≡ end = cc in
@@ -91,44 +92,33 @@ module _ (s : Bytes) (at : ℕ) where
 pub length_part : (from to : ℕ) (s : Bytes) → length (slice from to s) ≡ min to (length s) - from
 length_part from to s = length-drop from (take to s) ∙ ap (◌- from) (length-take to s)
 
--- the buffer s₀ while the bytes from `from` up to `to` are moved: n of them are written, and from the place i on it is as it was
-pub record Moving (s₀ : Bytes) (from to : ℕ) (s : Bytes) (i n : ℕ) : Type 0 where
-  pub place : i ≡ from + n
-  pub some_of : n ≤ length (slice from to s₀)
-  pub writing : Writing s₀ (slice from to s₀) s n (drop n (slice from to s₀))
-  pub unread : drop i s ≡ drop i s₀
+take_end : (to : ℕ) (s : Bytes) → take (min to (length s)) s ≡ take to s
+take_end zero s = simp unary_clauses
+take_end (suc to) [] = simp unary_clauses
+take_end (suc to) (b ∷ s) = simp unary_clauses (ap (b ∷◌) (take_end to s))
 
-first_same : (s t : Bytes) (i : ℕ) → drop i s ≡ drop i t → get_or s i 0 ≡ get_or t i 0
-first_same s t i e =
-    let n : i + 0 ≡ i = omega arith in
-    rw n at (sym (get_or-drop i s 0 0) ∙ (ap (λ (u : Bytes). get_or u 0 0) e ∙ get_or-drop i t 0 0))
+module _ (s : Bytes) (from to end : ℕ) where
+  -- what is kept, by the end of what is there
+  part_there : end ≡ min to (length s) → from ≤ end → slice from to s ≡ take (end - from) (drop from s)
+  part_there e h =
+      let n : from + (end - from) ≡ end = omega arith in
+      let t : take end s ≡ take to s = ap (λ (k : ℕ). take k s) e ∙ take_end to s in
+      ap (drop from) (sym t) ∙ rw n at (slice_taken from (end - from) s)
 
-module _ {s₀ : Bytes} {from to : ℕ} where
-  pub unmoved : Moving s₀ from to s₀ from 0
-  unmoved = record { place = omega arith; some_of = omega arith; writing = begun; unread = refl }
-
-  -- one byte more, while the place lies within what is moved
-  pub moved_on : (s : Bytes) (i n : ℕ) → i < min to (length s₀) → Moving s₀ from to s i n → Moving s₀ from to (set s n (get_or s i 0)) (i + 1) (n + 1)
-  moved_on s i n h w =
-      let t = slice from to s₀ in
-      let l = length_part from to s₀ in
-      let g : n < length t = omega arith in
-      let at : from + n ≡ i = sym w.place in
-      let u : get_or s i 0 ≡ get_or s₀ i 0 = first_same s s₀ i w.unread in
-      let b : get_or t n 0 ≡ get_or s i 0 = get_or-drop from (take to s₀) n 0 ∙ (get_or-take to s₀ (from + n) 0 (omega arith) ∙ (ap (λ (m : ℕ). get_or s₀ m 0) at ∙ sym u)) in
-      record {
-        place = omega arith;
-        some_of = omega arith;
-        writing = stored s n (get_or s i 0) (omega (arith, w.writing.kept)) (rw (add-one, ← b) (drop-cons t n 0 g)) w.writing;
-        unread = drop-set-lt (i + 1) s n (get_or s i 0) (omega arith) ∙ (sym (drop-drop 1 i s) ∙ (ap (drop 1) w.unread ∙ drop-drop 1 i s₀));
-      }
-
-  -- all are moved
-  pub moved_all : (s : Bytes) (i n : ℕ) → min to (length s₀) ≤ i → Moving s₀ from to s i n → ◌≡◌ {A = Front} (record { buffer = s; kept = n }) (keep_rest s₀ from to)
+  pub kept_none : end ≡ min to (length s) → end ≤ from → ◌≡◌ {A = Front} (record { buffer = s; kept = 0 }) (keep_rest s from to)
   unfolding keep_rest
-  moved_all s i n h w =
-      let t = slice from to s₀ in
-      let l = length_part from to s₀ in
-      let e : n ≡ length t = omega arith in
-      let q : s ≡ over s₀ 0 t = written s n (drop n t) w.writing (inl (drop_of_length-le t {i = n} (omega arith))) in
+  kept_none e h =
+      let l = length_part from to s in
+      let n : slice from to s ≡ [] = nil_from_length (slice from to s) (omega arith) in
+      rw (n, over_nothing)
+
+  pub kept_front : end ≡ min to (length s) → from ≤ end → ◌≡◌ {A = Front} (record { buffer = copy_within s from end 0; kept = end - from }) (keep_rest s from to)
+  unfolding keep_rest
+  kept_front e h =
+      let t = slice from to s in
+      let l : length t ≡ end - from = length_part from to s ∙ omega arith in
+      let p : t ≡ take (end - from) (drop from s) = part_there e h in
+      let q : over s 0 t ≡ t ++ drop (length t) s = over_start s t (omega arith) in
+      let r : copy_within s from end 0 ≡ t ++ drop (length t) s = rw (zero-add, ← p, l) in
+      let u : copy_within s from end 0 ≡ over s 0 t = r ∙ sym q in
       cc

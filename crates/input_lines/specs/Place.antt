@@ -1,19 +1,17 @@
 -- Lines where they lie: where the next one ends, and the rest moved to the front of its buffer.
-use Rattle.std.specs.Prelude.{ℕ, ◌+◌, List, [], ◌∷◌, length, drop}
+use Rattle.std.specs.Prelude.{ℕ, ◌+◌, List, [], ◌∷◌, length, drop, None, Option, Some}
 use Rattle.std.proofs.Math.Seq.{slice}
 use Rattle.base.specs.Bytes.{Bytes}
 use Rattle.little.specs.Little.{over}
 use Rattle.input_lines.specs.Lines.{lines_of}
-use Rattle.input_lines.specs.declared.LineEnd.{LineEnd}
-use Rattle.input_lines.specs.declared.LineEnd.TheVariants.{At, None}
 
 -- behind the first of the lines that begin at a place
-abbrev pub behind_first : ℕ → List Bytes → LineEnd
+abbrev pub behind_first : ℕ → List Bytes → Option ℕ
 behind_first at [] = None
-behind_first at (l ∷ ls) = At (at + length l)
+behind_first at (l ∷ ls) = Some (at + length l)
 
 -- the place behind the first line feed from a place on
-unfoldable pub line_end : Bytes → ℕ → LineEnd
+unfoldable pub line_end : Bytes → ℕ → Option ℕ
 line_end s at = behind_first at (lines_of (drop at s))
 
 -- a buffer, and how many bytes are kept at its front

@@ -1,4 +1,5 @@
 -- The lines of lent bytes and what is left of them; a piece in its buffer.
+use Rattle.std.specs.Prelude.{Ok, Err}
 use Prim.Native.Nat.{ℕ, ◌+◌, ◌-◌, ◌<◌, ◌≤◌}
 use mathlib.Core.Path.{◌≡◌, sym, ◌∙◌, ap}
 use mathlib.Core.Bool.{true, false}
@@ -13,8 +14,7 @@ use Rattle.little.specs.Little.{over}
 use Rattle.little.proofs.Overs.{used_over}
 use Rattle.input_lines.specs.Place.{Front, keep_rest}
 use Rattle.input_lines.proofs.Lines.{rest_lacks}
-use Rattle.reader.specs.State.{State}
-use Rattle.reader.specs.declared.EventAnswer.TheVariants as E
+use Rattle.reader.specs.State.{State, refusal_at}
 use Rattle.reader.specs.Event.{EventResult, event_on}
 use Rattle.reader.proofs.Answers.{by_answer}
 use Rattle.reader_events.specs.Events.{events_on, taken_bytes}
@@ -29,13 +29,13 @@ use Rattle.input_pieces.proofs.Stops.{long_refused}
 module _ (s : Bytes) (t : State) where
   -- what the lines and what is left of them come to; where nothing is refused, the place behind the lines is that of the unfinished one
   abbrev pub Took : EventResult → ℕ → Type 0
-  Took x at = (x ≡ events_on (piece_lines s) t) × (x.answer ≡ E.Accepted → drop at s ≡ rest_of s)
+  Took x at = (x ≡ events_on (piece_lines s) t) × (x.answer ≡ Ok tt → drop at s ≡ rest_of s)
 
   module _ (x : EventResult) (at : ℕ) (e : x ≡ events_on (lines_of s) t) (k : at ≡ taken_bytes (lines_of s) t) where
-    rest_is : x.answer ≡ E.Accepted → drop at s ≡ rest_of s
+    rest_is : x.answer ≡ Ok tt → drop at s ≡ rest_of s
     rest_is a = rw k (run_rest s t (ap (λ (z : EventResult). z.answer) (sym e) ∙ a))
 
-    rest_length : x.answer ≡ E.Accepted → length (rest_of s) ≡ length s - at
+    rest_length : x.answer ≡ Ok tt → length (rest_of s) ≡ length s - at
     rest_length a = ap length (sym (rest_is a)) ∙ length-drop at s
 
     -- it is short, or a line was refused
@@ -55,10 +55,10 @@ module _ (s : Bytes) (t : State) where
         (λ a.
         let h : 16384 < length s - at = ltb-true 16384 (length s - at) (rw a at f) in
         let l : 16384 < length (rest_of s) = omega (arith, h, rest_length a) in
-        let b : (events_on (lines_of s) t).answer ≡ E.Accepted = ap (λ (z : EventResult). z.answer) (sym e) ∙ a in
+        let b : (events_on (lines_of s) t).answer ≡ Ok tt = ap (λ (z : EventResult). z.answer) (sym e) ∙ a in
         let z : y ≡ event_on (rest_of s) (events_on (lines_of s) t).state = g ∙ (λ i. event_on (rest_is a i) (e i).state) in
         long_refused (rest_of s) l (rest_lacks s) (events_on (lines_of s) t).state (λ r n w.
-        let v : y.answer ≡ E.Refused r n = ap (λ (q : EventResult). q.answer) z ∙ w in (
+        let v : y.answer ≡ Err (refusal_at r n) = ap (λ (q : EventResult). q.answer) z ∙ w in (
           z ∙ sym (ap (λ (ls : List Bytes). events_on ls t) (lines_long s l) ∙ (events_more (lines_of s) (rest_of s ∷ []) t b
               ∙ (events_off (rest_of s) [] (events_on (lines_of s) t).state r n w ∙ (λ i. record { state = (event_on (rest_of s) (events_on (lines_of s) t).state).state; answer = sym w i })))),
           λ u. let c = sym v ∙ u in no (cc),
@@ -79,7 +79,7 @@ module _ (t : State) (b p : Bytes) (held : ℕ) (room : held + length p ≤ leng
   unfolding feed_on
   fed_as x e = rw (e, front, is)
 
-  pub fed_by : (x : EventResult) (at : ℕ) → x ≡ events_on (piece_lines (take filled joined)) t → (x.answer ≡ E.Accepted → drop at (take filled joined) ≡ rest_of (take filled joined))
+  pub fed_by : (x : EventResult) (at : ℕ) → x ≡ events_on (piece_lines (take filled joined)) t → (x.answer ≡ Ok tt → drop at (take filled joined) ≡ rest_of (take filled joined))
       → (q : Bytes) (n : ℕ) → ◌≡◌ {A = Front} (record { buffer = q; kept = n }) (kept_front x.answer joined at filled)
       → ◌≡◌ {A = IntakeResult} (record { intake = record { state = x.state; buffer = q; held = n }; answer = x.answer }) (feed_on p intake)
   unfolding keep_rest
@@ -87,7 +87,7 @@ module _ (t : State) (b p : Bytes) (held : ℕ) (room : held + length p ≤ leng
       sym (fed_as x e ∙ by_answer x.answer
       (λ a. let l = sym (g a) in
       let j : ◌≡◌ {A = Front} (record { buffer = q; kept = n }) (keep_rest joined at filled) = rw a at k in
-      rw (a, l) (λ i. record { intake = record { state = x.state; buffer = (sym j i).buffer; held = (sym j i).kept }; answer = E.Accepted }))
+      rw (a, l) (λ i. record { intake = record { state = x.state; buffer = (sym j i).buffer; held = (sym j i).kept }; answer = Ok tt }))
       (λ r m a.
       let j : ◌≡◌ {A = Front} (record { buffer = q; kept = n }) (record { buffer = joined; kept = 0 }) = rw a at k in
-      rw a (λ i. record { intake = record { state = x.state; buffer = (sym j i).buffer; held = (sym j i).kept }; answer = E.Refused r m })))
+      rw a (λ i. record { intake = record { state = x.state; buffer = (sym j i).buffer; held = (sym j i).kept }; answer = Err (refusal_at r m) })))

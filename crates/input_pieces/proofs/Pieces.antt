@@ -1,4 +1,6 @@
 -- Pieces of any size, read up to the first refusal, are taken in as the whole input is.
+use Rattle.reader.specs.declared.RefusedAt.{RefusedAt}
+use Rattle.std.specs.Prelude.{Ok, Err, Result}
 use Prim.Native.Nat.{ℕ, ◌<◌, ◌≤◌, min}
 use mathlib.Core.Path.{◌≡◌, refl, sym, ◌∙◌, ap}
 use mathlib.Core.Bool.{true}
@@ -17,9 +19,7 @@ use Rattle.input_lines.specs.Lines.{lines_of, rest_of}
 use Rattle.input_lines.specs.Stream.{Stream, after_piece, after_end}
 use Rattle.input_lines.proofs.Lines.{rest_lacks}
 use Rattle.input_lines.proofs.Streams.{stopped_early, cut_short}
-use Rattle.reader.specs.State.{State}
-use Rattle.reader.specs.declared.EventAnswer.{EventAnswer}
-use Rattle.reader.specs.declared.EventAnswer.TheVariants as E
+use Rattle.reader.specs.State.{State, refusal_at}
 use Rattle.reader.specs.Event.{EventResult, event_on}
 use Rattle.reader.proofs.Answers.{by_answer}
 use Rattle.reader_events.specs.Events.{events_on}
@@ -41,7 +41,7 @@ module _ (s : Bytes) where
   lines_long h = rw (lt-leb (length (rest_of s)) 16384 h)
 
   -- a refusal among the whole lines is that of all
-  pub lines_enough : (t : State) (r : Refusal) (n : ℕ) → (events_on (lines_of s) t).answer ≡ E.Refused r n → events_on (piece_lines s) t ≡ events_on (lines_of s) t
+  pub lines_enough : (t : State) (r : Refusal) (n : ℕ) → (events_on (lines_of s) t).answer ≡ Err (refusal_at r n) → events_on (piece_lines s) t ≡ events_on (lines_of s) t
   unfolding piece_lines
   lines_enough t r n a = events_enough (lines_of s) (long_line (rest_of s)) t r n a
 
@@ -82,17 +82,17 @@ module _ (f : Intake) (w : Holds f) (p : Bytes) where
   pub record Halted : Type 0 where
     pub refusal : Refusal
     pub line : ℕ
-    pub answered : (feed_on p f).answer ≡ E.Refused refusal line
+    pub answered : (feed_on p f).answer ≡ Err (refusal_at refusal line)
     pub nothing : (feed_on p f).intake.held ≡ 0
     pub final : (ps : List Bytes) → after_end after_event (foldl (after_piece after_event) next ps) ≡ (feed_on p f).intake.state
 
   -- else the stream goes on
   pub record GoesOn : Type 0 where
-    pub answered : (feed_on p f).answer ≡ E.Accepted
+    pub answered : (feed_on p f).answer ≡ Ok tt
     pub holds : Holds (feed_on p f).intake
     pub stream : stream_of (feed_on p f).intake ≡ next
 
-  halted : (r : Refusal) (n : ℕ) (t : State) → feed_on p f ≡ kept_after (over f.buffer f.held p) given (E.Refused r n) t
+  halted : (r : Refusal) (n : ℕ) (t : State) → feed_on p f ≡ kept_after (over f.buffer f.held p) given (Err (refusal_at r n)) t
       → ((ps : List Bytes) → after_end after_event (foldl (after_piece after_event) next ps) ≡ t) → Halted
   halted r n t e g =
       record {
@@ -103,7 +103,7 @@ module _ (f : Intake) (w : Holds f) (p : Bytes) where
         final = λ ps. g ps ∙ sym (ap (λ (z : IntakeResult). z.intake.state) e);
       }
 
-  goes_on : length (rest_of given) ≤ 16384 → feed_on p f ≡ kept_after (over f.buffer f.held p) given E.Accepted lines.state → GoesOn
+  goes_on : length (rest_of given) ≤ 16384 → feed_on p f ≡ kept_after (over f.buffer f.held p) given (Ok tt) lines.state → GoesOn
   goes_on h e =
       let b = over f.buffer f.held p in
       let n : length b ≡ 81920 = length_over f.buffer f.held p ∙ w.room in
@@ -119,7 +119,7 @@ module _ (f : Intake) (w : Holds f) (p : Bytes) where
   by_fed {C} on off =
       by_answer lines.answer
       (λ a. by_le (length (rest_of given)) 16384
-      (λ h. on (goes_on h (fed_by lines (ap (λ (z : List Bytes). events_on z f.state) (lines_short given h)) ∙ ap (λ (x : EventAnswer). kept_after (over f.buffer f.held p) given x lines.state) a)))
+      (λ h. on (goes_on h (fed_by lines (ap (λ (z : List Bytes). events_on z f.state) (lines_short given h)) ∙ ap (λ (x : Result Unit RefusedAt). kept_after (over f.buffer f.held p) given x lines.state) a)))
       (λ h. long_refused (rest_of given) h (rest_lacks given) lines.state (λ r n x.
       off (halted r n (event_on (rest_of given) lines.state).state
       (fed_by _ (ap (λ (z : List Bytes). events_on z f.state) (lines_long given h) ∙ (events_more (lines_of given) (rest_of given ∷ []) f.state a ∙ events_off (rest_of given) [] lines.state r n x)))
@@ -127,17 +127,17 @@ module _ (f : Intake) (w : Holds f) (p : Bytes) where
       ∙ ap (λ (s : State). after_event s (rest_of given)) (sym next_state))))))
       (λ r n a.
       off (halted r n lines.state
-      (fed_by lines (lines_enough given f.state r n a) ∙ ap (λ (x : EventAnswer). kept_after (over f.buffer f.held p) given x lines.state) a)
+      (fed_by lines (lines_enough given f.state r n a) ∙ ap (λ (x : Result Unit RefusedAt). kept_after (over f.buffer f.held p) given x lines.state) a)
       (λ ps. stopped_early after_event next ps (rest_lacks given) (rw (← next_state) (events_still (lines_of given) f.state r n a)) ∙ sym next_state)))
 
 -- ---- pieces, read up to the first refusal
 
 module _ (f : Intake) (p : Bytes) (ps : List Bytes) where
-  read_on_lem : (feed_on p f).answer ≡ E.Accepted → read_on (p ∷ ps) f ≡ read_on ps (feed_on p f).intake
+  read_on_lem : (feed_on p f).answer ≡ Ok tt → read_on (p ∷ ps) f ≡ read_on ps (feed_on p f).intake
   unfolding read_on
   read_on_lem a = rw a
 
-  read_off : (r : Refusal) (n : ℕ) → (feed_on p f).answer ≡ E.Refused r n → read_on (p ∷ ps) f ≡ (feed_on p f).intake
+  read_off : (r : Refusal) (n : ℕ) → (feed_on p f).answer ≡ Err (refusal_at r n) → read_on (p ∷ ps) f ≡ (feed_on p f).intake
   unfolding read_on
   read_off r n a = rw a
 
@@ -161,9 +161,9 @@ reads_stream (p ∷ ps) f w =
 
 -- ---- what `feed` needs at each piece
 
-kept_state : (b s : Bytes) (a : EventAnswer) (t : State) → (kept_after b s a t).intake.state ≡ t
-kept_state b s E.Accepted t = refl
-kept_state b s (E.Refused r n) t = refl
+kept_state : (b s : Bytes) (a : Result Unit RefusedAt) (t : State) → (kept_after b s a t).intake.state ≡ t
+kept_state b s (Ok tt) t = refl
+kept_state b s (Err a) t = refl
 
 -- a state that is sound but for its count of lines stays so
 pub feed_given : (p : Bytes) (f : Intake) → RunGiven f.state → RunGiven (feed_on p f).intake.state

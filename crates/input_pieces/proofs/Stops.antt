@@ -1,5 +1,6 @@
 -- A refused event leaves a state that no further event changes, so events up to the first that is refused are the events of all lines; and a line that is too long is refused
 -- whatever it goes on with.
+use Rattle.std.specs.Prelude.{Err}
 use Prim.Native.Nat.{ℕ, ◌<◌}
 use mathlib.Core.Path.{◌≡◌, sym, ◌∙◌, ap}
 use mathlib.Core.Bool.{true}
@@ -13,8 +14,7 @@ use Rattle.line.proofs.Lines.{lacks}
 use Rattle.input_lines.proofs.Streams.{Still, still_taken}
 use Rattle.input_lines.proofs.Long.{long_stands, long_alone}
 use Rattle.event_decision.specs.Decision.{Decision}
-use Rattle.reader.specs.State.{State, stops_by}
-use Rattle.reader.specs.declared.EventAnswer.TheVariants as E
+use Rattle.reader.specs.State.{State, stops_by, refusal_at}
 use Rattle.reader.specs.Step.{stops, step_of}
 use Rattle.reader.specs.Event.{EventResult, event_on, unless_unsound, unless_stopped, stepped}
 use Rattle.reader.proofs.Answers.{by_answer, by_event, event_22, step_at}
@@ -25,7 +25,7 @@ use Rattle.input_pieces.specs.Feed.{after_event}
 
 -- ---- a refusal
 
-module _ (line : Bytes) (s : State) (r : Refusal) (n : ℕ) (a : (event_on line s).answer ≡ E.Refused r n) where
+module _ (line : Bytes) (s : State) (r : Refusal) (n : ℕ) (a : (event_on line s).answer ≡ Err (refusal_at r n)) where
   pub refused_still : Still after_event (event_on line s).state
   refused_still l =
       by_refused line s r n a
@@ -43,7 +43,7 @@ events_fold (l ∷ ls) s =
     (λ r n a. ap (λ (z : EventResult). z.state) (events_off l ls s r n a) ∙ sym (still_taken after_event (event_on l s).state (refused_still l s r n a) ls))
 
 -- after a refusal it is still
-pub events_still : (ls : List Bytes) (s : State) (r : Refusal) (n : ℕ) → (events_on ls s).answer ≡ E.Refused r n → Still after_event (events_on ls s).state
+pub events_still : (ls : List Bytes) (s : State) (r : Refusal) (n : ℕ) → (events_on ls s).answer ≡ Err (refusal_at r n) → Still after_event (events_on ls s).state
 events_still [] s r n e = let z = sym (ap (λ (z : EventResult). z.answer) (events_none s)) ∙ e in no (cc)
 events_still (l ∷ ls) s r n e =
     by_answer (event_on l s).answer
@@ -61,7 +61,7 @@ module _ (p : Bytes) (k : 16384 < length p) (h : lacks 10 p ≡ true) (s : State
   unfolding step_of
   long_stops = ap (λ (d : Decision). step_of d s) (long_alone p k h s.reader.place)
 
-  pub long_refused : {C : Type 0} → ((r : Refusal) (n : ℕ) → (event_on p s).answer ≡ E.Refused r n → C) → C
+  pub long_refused : {C : Type 0} → ((r : Refusal) (n : ℕ) → (event_on p s).answer ≡ Err (refusal_at r n) → C) → C
   long_refused f =
       by_event p s
       (λ u w. f R.Unsound 0 (ap (λ (z : EventResult). z.answer) w))

@@ -1,13 +1,12 @@
 -- An input in pieces: the whole lines of a piece are events, up to the first that is refused; the unfinished line is kept for the next piece. A line of more than 16,384
 -- bytes is refused 2 as soon as 16,385 of them are there, so what is kept is never longer.
-use Rattle.std.specs.Prelude.{ℕ, cond, leb, length, take}
+use Rattle.reader.specs.declared.RefusedAt.{RefusedAt}
+use Rattle.std.specs.Prelude.{ℕ, cond, leb, length, take, Ok, Err, Result}
 use mathlib.Core.List.{List, [], ◌∷◌, ◌++◌, foldl}
 use Rattle.base.specs.Bytes.{Bytes}
 use Rattle.little.specs.Little.{over}
 use Rattle.input_lines.specs.Lines.{lines_of, rest_of, last_line}
 use Rattle.reader.specs.State.{State}
-use Rattle.reader.specs.declared.EventAnswer.{EventAnswer}
-use Rattle.reader.specs.declared.EventAnswer.TheVariants as E
 use Rattle.reader.specs.Event.{event_on}
 use Rattle.reader_events.specs.Events.{events_on}
 
@@ -33,16 +32,16 @@ pub record Intake : Type 0 where
 
 pub record IntakeResult : Type 0 where
   pub intake : Intake
-  pub answer : EventAnswer
+  pub answer : Result Unit RefusedAt
 
 -- the kept bytes
 abbrev pub kept_line : Intake → Bytes
 kept_line f = take f.held f.buffer
 
 -- after the lines of so many bytes in a buffer: what follows them is moved to its front; after a refusal nothing is kept
-abbrev pub kept_after : Bytes → Bytes → EventAnswer → State → IntakeResult
-kept_after buffer s E.Accepted t = record { intake = record { state = t; buffer = over buffer 0 (rest_of s); held = length (rest_of s) }; answer = E.Accepted }
-kept_after buffer s (E.Refused r n) t = record { intake = record { state = t; buffer = buffer; held = 0 }; answer = E.Refused r n }
+abbrev pub kept_after : Bytes → Bytes → Result Unit RefusedAt → State → IntakeResult
+kept_after buffer s (Ok tt) t = record { intake = record { state = t; buffer = over buffer 0 (rest_of s); held = length (rest_of s) }; answer = Ok tt }
+kept_after buffer s (Err a) t = record { intake = record { state = t; buffer = buffer; held = 0 }; answer = Err a }
 
 -- a piece behind what is kept
 unfoldable pub feed_on : Bytes → Intake → IntakeResult
@@ -52,9 +51,9 @@ feed_on piece f =
     kept_after (over f.buffer f.held piece) s a.answer a.state
 
 -- pieces up to the first in which an event is refused: the program reads no further
-abbrev pub onward_fed : (Intake → Intake) → EventAnswer → Intake → Intake
-onward_fed next E.Accepted f = next f
-onward_fed next (E.Refused r n) f = f
+abbrev pub onward_fed : (Intake → Intake) → Result Unit RefusedAt → Intake → Intake
+onward_fed next (Ok tt) f = next f
+onward_fed next (Err a) f = f
 
 unfoldable pub read_on : List Bytes → Intake → Intake
 read_on [] f = f

@@ -1,10 +1,9 @@
 // An input in pieces: the whole lines of a piece are events, up to the first that is refused, and the unfinished line is held for the next piece.
 #![tactic(auto)]
 
-ghost use Rattle.std.specs.Prelude.{◌≡◌, ◌≤◌, min, length, take, drop};
+ghost use Rattle.std.specs.Prelude.{◌≡◌, ◌≤◌, min, length, take, drop, Ok};
 ghost use Rattle.input_lines.specs.Lines.{rest_of};
 ghost use Rattle.reader.specs.Lent.{state_lent, state_left};
-ghost use Rattle.reader.specs.declared.EventAnswer.TheVariants.{Accepted};
 ghost use Rattle.reader.specs.Event.{event_on};
 ghost use Rattle.reader_events.specs.Events.{events_on};
 ghost use Rattle.reader_events.specs.Runs.{RunGiven};
@@ -12,7 +11,7 @@ ghost use Rattle.input_pieces.specs.Feed.{piece_lines, feed_on};
 
 use event_scan::MAX_LINE;
 use overlay_blocks::COUNTERS;
-use reader::{EventAnswer, EventReader};
+use reader::{EventReader, RefusedAt};
 use reader_events::EventsDone;
 use reader_stage::STAGED;
 
@@ -55,7 +54,7 @@ fn take_lines(
         → record { state = state_left words.new bytes.new counters.new ps.new result.reader; answer = result.answer }
         ≡ events_on (piece_lines run.now) (state_lent words.old bytes.old counters.old ps.old reader) }
     ensures run_value { RunGiven (state_lent words.old bytes.old counters.old ps.old reader)
-        → result.answer ≡ Accepted → drop result.taken run.now ≡ rest_of run.now }
+        → result.answer ≡ Ok tt → drop result.taken run.now ≡ rest_of run.now }
 {
     let done = reader_events::events_untested(words, bytes, counters, ps, reader, run);
     let answer = done.answer;
@@ -82,7 +81,7 @@ fn take_front(
         → record { state = state_left words.new bytes.new counters.new ps.new result.reader; answer = result.answer }
         ≡ events_on (piece_lines (take n buffer.now)) (state_lent words.old bytes.old counters.old ps.old reader) }
     ensures buffer_value { RunGiven (state_lent words.old bytes.old counters.old ps.old reader)
-        → result.answer ≡ Accepted → drop result.taken (take n buffer.now) ≡ rest_of (take n buffer.now) }
+        → result.answer ≡ Ok tt → drop result.taken (take n buffer.now) ≡ rest_of (take n buffer.now) }
 {
     take_lines(words, bytes, counters, ps, reader, &buffer[..n])
 }
@@ -94,7 +93,7 @@ fn take_front(
 pub struct Fed {
     pub reader: EventReader,
     pub held: usize,
-    pub answer: EventAnswer,
+    pub answer: Result<(), RefusedAt>,
 }
 
 // A piece of the input, of which so many bytes were read: its whole lines are events, up to the first that is refused, and the unfinished line is held at the front

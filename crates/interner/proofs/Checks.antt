@@ -1,17 +1,21 @@
 -- The check of the strings, handle by handle, decides their soundness.
+use Rattle.std.specs.Prelude.{None, Option, Some}
 use Prim.Native.Nat.{ℕ, zero, suc, ◌+◌, ◌-◌, ◌*◌, ◌≤◌, ◌<◌}
 use mathlib.Core.Path.{◌≡◌, refl, sym, ◌∙◌, ap}
-use mathlib.Core.Bool.{true, false}
-use mathlib.Core.Option.{Option, none, some}
+use mathlib.Core.Bool.{Bool, true, false}
 use mathlib.Core.List.{List, [], ◌∷◌, map}
+use native.Mathlib.Numerals.{add-one}
 use native.Mathlib.Omega.{arith}
+use native.Mathlib.Nat.{zero-add}
+use Rattle.std.specs.Bool.{MatchBool}
+use Rattle.std.specs.List.{AllWithin, HoldsAt, range_with_len}
+use Rattle.std.proofs.lemmas.List.FromFn.{length-range_with_len, get_or-range_with_len}
 use lib.ListN.{length, take, drop, length-take, length-drop, length-map}
 use borrow.Author.Tests.{le-leb}
 use Rattle.base.specs.Bytes.{Bytes, both, same}
 use Rattle.base.proofs.Split.{by_bool, by_lt, both_left, both_right, both_of, both_no_left, clash, same_test}
 use Rattle.base.proofs.Lists.{same_yes, same_refl}
 use Rattle.text.specs.Check.{is_text}
-use Rattle.interner.specs.declared.Span.TheVariants.{Missing}
 use Rattle.interner.specs.Texts.{handle_of}
 use Rattle.interner.specs.Strings.{start_of, length_of, spanned, bytes_at, span_at, find_in, Store, used_of}
 use Rattle.distinct.specs.Distinct.{differs, distinct}
@@ -23,9 +27,9 @@ use Rattle.interner.proofs.Handles.{length_handles, all_handles, each_handle, al
 use Rattle.interner.proofs.Held.{same_swap, same_not, differs_of, not_held, held_not}
 use Rattle.interner.proofs.Interns.{Sound, sound_parts, length_texts, placed, finds_from}
 
-not_placed : (o : Option ℕ) → is_not (placed 0 o) ≡ true → o ≡ none
-not_placed none e = refl
-not_placed (some k) e = clash e refl
+not_placed : (o : Option ℕ) → is_not (placed 0 o) ≡ true → o ≡ None
+not_placed None e = refl
+not_placed (Some k) e = clash e refl
 
 module _ (f : ℕ → Bytes) where
   pub distinct_made : (n h : ℕ) → ((j k : ℕ) → h ≤ j → j < k → k < h + n → same (f j) (f k) ≡ false) → distinct (map f (handles n h)) ≡ true
@@ -86,7 +90,7 @@ module _ (spans : List ℕ) (bytes : Bytes) where
 
   -- ---- one handle
 
-  pub new_missing : (h : ℕ) → Missing ≡ span_at spans bytes h → new_at spans bytes h ≡ false
+  pub new_missing : (h : ℕ) → None ≡ span_at spans bytes h → new_at spans bytes h ≡ false
   unfolding new_at
   new_missing h e = both_no_left _ _ (lies_not spans bytes h e)
 
@@ -136,6 +140,21 @@ module _ (spans : List ℕ) (bytes : Bytes) where
   -- one string that is not new is enough
   pub upto_not : (n h : ℕ) → h < n → new_at spans bytes h ≡ false → sound_up_to spans bytes n ≡ false
   upto_not n h g e = by_bool (sound_up_to spans bytes n) (λ p. clash (new_within n h g (upto_parts n p)) e) (λ p. p)
+
+  -- each string is new, or one is not
+  upto_each : (n : ℕ) → ((h : ℕ) → h < n → new_at spans bytes h ≡ true) → UpTo n
+  upto_each zero f = upto_none
+  upto_each (suc n) f = rw add-one at (one_more n (upto_each n (λ h g. f h (omega arith))) (f n (omega arith)))
+
+  pub each_decides : (n : ℕ) (r : Bool)
+      → MatchBool r (AllWithin (λ h. new_at spans bytes h ≡ true) (range_with_len 0 n) 0 (length (range_with_len 0 n)))
+      ((k : ℕ) × (k < length (range_with_len 0 n)) × HoldsAt (λ h. new_at spans bytes h ≡ false) (range_with_len 0 n) k)
+      → r ≡ sound_up_to spans bytes n
+  each_decides n true f =
+      sym (upto_of n (upto_each n (λ h g. rw (get_or-range_with_len 0 n h 0 g, zero-add) at (f h 0 (omega arith) (omega (arith, length-range_with_len 0 n))))))
+  each_decides n false f =
+      let g : f.0 < n = omega (arith, f.1, length-range_with_len 0 n) in
+      sym (upto_not n f.0 g (rw (get_or-range_with_len 0 n f.0 0 g, zero-add) at (f.2 0)))
 
 -- ---- the counts and handle 0
 

@@ -1,4 +1,5 @@
 -- Laws of where a string lies and of the search for a text.
+use Rattle.std.specs.Prelude.{None, Some}
 use Prim.Native.Nat.{ℕ, zero, suc, ◌+◌, ◌*◌, ◌≤◌, ◌<◌}
 use mathlib.Core.Path.{◌≡◌, refl, sym, ◌∙◌}
 use mathlib.Core.Bool.{true, false}
@@ -8,8 +9,7 @@ use lib.ListN.{length, take, drop}
 use borrow.Author.Tests.{leb-true, le-leb, lt-leb}
 use Rattle.base.specs.Bytes.{Bytes, both, same}
 use Rattle.base.proofs.Split.{by_bool, both_right, both_of, both_no_left, both_no_right, no}
-use Rattle.interner.specs.declared.Found.TheVariants.{At, Not}
-use Rattle.interner.specs.declared.Span.TheVariants.{Part, Missing}
+use Rattle.little.specs.declared.Span.{Span}
 use Rattle.interner.specs.Strings.{start_of, length_of, spanned, span_at, is_at, find_from}
 
 module _ (spans : List ℕ) (bytes : Bytes) where
@@ -31,11 +31,11 @@ module _ (spans : List ℕ) (bytes : Bytes) where
   unfolding spanned
   no_bytes h p = both_no_right _ (lt-leb _ _ p)
 
-  pub part : (h : ℕ) → spanned spans bytes h ≡ true → span_at spans bytes h ≡ Part (start_of spans h) (length_of spans h)
+  pub part : (h : ℕ) → spanned spans bytes h ≡ true → span_at spans bytes h ≡ Some (record { start = start_of spans h; len = length_of spans h })
   unfolding span_at
   part h e = rw e
 
-  pub missing : (h : ℕ) → spanned spans bytes h ≡ false → span_at spans bytes h ≡ Missing
+  pub missing : (h : ℕ) → spanned spans bytes h ≡ false → span_at spans bytes h ≡ None
   unfolding span_at
   missing h e = rw e
 
@@ -45,13 +45,13 @@ module _ (spans : List ℕ) (bytes : Bytes) where
     pub starts : start ≡ start_of spans h
     pub long : len ≡ length_of spans h
 
-  pub lies : (h start len : ℕ) → Part start len ≡ span_at spans bytes h → SpanWithin h start len
-  lies h start len e =
+  pub lies : (h : ℕ) (s : Span) → Some s ≡ span_at spans bytes h → SpanWithin h s.start s.len
+  lies h s e =
       by_bool (spanned spans bytes h)
       (λ p. let q = part h p in record { within = p; starts = cc; long = cc })
       (λ p. let q = missing h p in no (cc))
 
-  pub lies_not : (h : ℕ) → Missing ≡ span_at spans bytes h → spanned spans bytes h ≡ false
+  pub lies_not : (h : ℕ) → None ≡ span_at spans bytes h → spanned spans bytes h ≡ false
   lies_not h e = by_bool (spanned spans bytes h) (λ p. let q = part h p in no (cc)) (λ p. p)
 
   pub within_bytes : (h start len : ℕ) → SpanWithin h start len → start + len ≤ length bytes
@@ -63,18 +63,18 @@ module _ (spans : List ℕ) (bytes : Bytes) where
   unfolding is_at both
   at_part t h start len l = rw (l.within, l.starts, l.long)
 
-  pub at_missing : (t : Bytes) (h : ℕ) → Missing ≡ span_at spans bytes h → is_at spans bytes t h ≡ false
+  pub at_missing : (t : Bytes) (h : ℕ) → None ≡ span_at spans bytes h → is_at spans bytes t h ≡ false
   unfolding is_at
   at_missing t h e = both_no_left _ _ (lies_not h e)
 
   -- ---- the search
 
   module _ (t : Bytes) where
-    pub find_none : (h : ℕ) → find_from spans bytes t 0 h ≡ Not
+    pub find_none : (h : ℕ) → find_from spans bytes t 0 h ≡ None
     unfolding find_from
     find_none h = refl
 
-    pub find_here : (n h : ℕ) → is_at spans bytes t h ≡ true → find_from spans bytes t (suc n) h ≡ At h
+    pub find_here : (n h : ℕ) → is_at spans bytes t h ≡ true → find_from spans bytes t (suc n) h ≡ Some h
     unfolding find_from
     find_here n h e = rw e
 
@@ -83,6 +83,6 @@ module _ (spans : List ℕ) (bytes : Bytes) where
     find_on n h e = rw e
 
     -- past the spans there is none
-    pub find_past : (n h : ℕ) → length spans < 2 * h + 2 → find_from spans bytes t n h ≡ Not
+    pub find_past : (n h : ℕ) → length spans < 2 * h + 2 → find_from spans bytes t n h ≡ None
     find_past zero h p = find_none h
     find_past (suc n) h p = find_on n h (at_missing t h (sym (missing h (no_words h p)))) ∙ find_past n (suc h) (omega arith)

@@ -1,8 +1,8 @@
 -- Laws of held texts: the handle of a text is its place, taking in adds behind, and a held text keeps its handle.
+use Rattle.std.specs.Prelude.{None, Option, Some, option_map}
 use Prim.Native.Nat.{ℕ, suc, ◌<◌}
 use mathlib.Core.Path.{◌≡◌, refl, sym, ◌∙◌, ap}
 use mathlib.Core.Bool.{true, false}
-use mathlib.Core.Option.{Option, none, some, map}
 use mathlib.Core.List.{List, [], ◌∷◌, ◌++◌, append_assoc, append-nil}
 use native.Mathlib.Omega.{arith}
 use lib.ListN.{length, get_or-append}
@@ -15,11 +15,11 @@ use Rattle.interner.specs.Sound.{first_empty}
 
 -- ---- the handle of a text
 
-pub handle_here : (t s : Bytes) (ss : List Bytes) → same t s ≡ true → handle_of t (s ∷ ss) ≡ some 0
+pub handle_here : (t s : Bytes) (ss : List Bytes) → same t s ≡ true → handle_of t (s ∷ ss) ≡ Some 0
 unfolding handle_of
 handle_here t s ss e = rw e
 
-pub handle_on : (t s : Bytes) (ss : List Bytes) → same t s ≡ false → handle_of t (s ∷ ss) ≡ map suc (handle_of t ss)
+pub handle_on : (t s : Bytes) (ss : List Bytes) → same t s ≡ false → handle_of t (s ∷ ss) ≡ option_map suc (handle_of t ss)
 unfolding handle_of
 handle_on t s ss e = rw e
 
@@ -29,15 +29,15 @@ pub record Holds (held : List Bytes) (h : ℕ) (t : Bytes) : Type 0 where
   pub text : text_of held h ≡ t
 
 -- one more than the handle in the rest
-pub raised : (o : Option ℕ) (h : ℕ) → map suc o ≡ some h → (k : ℕ) × ((o ≡ some k) × (suc k ≡ h))
-raised none h e = no (cc)
-raised (some k) h e = (k, (refl, cc))
+pub raised : (o : Option ℕ) (h : ℕ) → option_map suc o ≡ Some h → (k : ℕ) × ((o ≡ Some k) × (suc k ≡ h))
+raised None h e = no (cc)
+raised (Some k) h e = (k, (refl, cc))
 
-pub unraised : (o : Option ℕ) → map suc o ≡ none → o ≡ none
-unraised none e = refl
-unraised (some k) e = no (cc)
+pub unraised : (o : Option ℕ) → option_map suc o ≡ None → o ≡ None
+unraised None e = refl
+unraised (Some k) e = no (cc)
 
-pub holds : (t : Bytes) (held : List Bytes) (h : ℕ) → handle_of t held ≡ some h → Holds held h t
+pub holds : (t : Bytes) (held : List Bytes) (h : ℕ) → handle_of t held ≡ Some h → Holds held h t
 unfolding handle_of
 holds t [] h e = no (cc)
 holds t (s ∷ ss) h e =
@@ -62,13 +62,13 @@ pub same_not : (s t : Bytes) → differs s t ≡ true → same s t ≡ false
 unfolding differs
 same_not s t e = by_bool (same s t) (λ p. clash (rw p at e) refl) (λ p. p)
 
-pub not_held : (t : Bytes) (held : List Bytes) → all (differs t) held ≡ true → handle_of t held ≡ none
+pub not_held : (t : Bytes) (held : List Bytes) → all (differs t) held ≡ true → handle_of t held ≡ None
 unfolding handle_of
 not_held t [] e = refl
 not_held t (s ∷ ss) e =
     handle_on t s ss (same_not t s (all_head (differs t) s ss e)) ∙ rw (not_held t ss (all_tail (differs t) s ss e))
 
-pub held_not : (t : Bytes) (held : List Bytes) → handle_of t held ≡ none → all (differs t) held ≡ true
+pub held_not : (t : Bytes) (held : List Bytes) → handle_of t held ≡ None → all (differs t) held ≡ true
 held_not t [] e = all_nil (differs t)
 held_not t (s ∷ ss) e =
     by_bool (same t s)
@@ -76,7 +76,7 @@ held_not t (s ∷ ss) e =
     (λ p. all_cons (differs t) s ss (differs_of t s p) (held_not t ss (unraised (handle_of t ss) (sym (handle_on t s ss p) ∙ e))))
 
 -- a new text gets the next handle
-pub handle_new : (t : Bytes) (held : List Bytes) → handle_of t held ≡ none → handle_of t (held ++ (t ∷ [])) ≡ some (length held)
+pub handle_new : (t : Bytes) (held : List Bytes) → handle_of t held ≡ None → handle_of t (held ++ (t ∷ [])) ≡ Some (length held)
 handle_new t [] e = handle_here t t [] (same_refl t)
 handle_new t (s ∷ ss) e =
     by_bool (same t s)
@@ -85,11 +85,11 @@ handle_new t (s ∷ ss) e =
 
 -- ---- taking in
 
-pub take_held : (held : List Bytes) (t : Bytes) (h : ℕ) → handle_of t held ≡ some h → take_in held t ≡ held
+pub take_held : (held : List Bytes) (t : Bytes) (h : ℕ) → handle_of t held ≡ Some h → take_in held t ≡ held
 unfolding take_in
 take_held held t h e = rw e
 
-pub take_new : (held : List Bytes) (t : Bytes) → handle_of t held ≡ none → take_in held t ≡ held ++ (t ∷ [])
+pub take_new : (held : List Bytes) (t : Bytes) → handle_of t held ≡ None → take_in held t ≡ held ++ (t ∷ [])
 unfolding take_in
 take_new held t e = rw e
 
@@ -98,8 +98,8 @@ pub grown : (held : List Bytes) (t : Bytes) → (x : List Bytes) × (take_in hel
 grown held t = go (handle_of t held) refl
   where
     go : (o : Option ℕ) → handle_of t held ≡ o → (x : List Bytes) × (take_in held t ≡ held ++ x)
-    go none e = (t ∷ [], take_new held t e)
-    go (some h) e = ([], take_held held t h e ∙ sym (append-nil held))
+    go None e = (t ∷ [], take_new held t e)
+    go (Some h) e = ([], take_held held t h e ∙ sym (append-nil held))
 
 pub grown_all : (held ts : List Bytes) → (x : List Bytes) × (take_all_of held ts ≡ held ++ x)
 unfolding take_all_of
@@ -134,7 +134,7 @@ unfolding distinct
 distinct_tail t ts e = both_right _ _ e
 
 -- a new text is different from those before it
-pub distinct_new : (held : List Bytes) (t : Bytes) → distinct held ≡ true → handle_of t held ≡ none → distinct (held ++ (t ∷ [])) ≡ true
+pub distinct_new : (held : List Bytes) (t : Bytes) → distinct held ≡ true → handle_of t held ≡ None → distinct (held ++ (t ∷ [])) ≡ true
 distinct_new [] t d e = distinct_cons t [] (all_nil (differs t)) distinct_nil
 distinct_new (s ∷ ss) t d e =
     let p = held_not t (s ∷ ss) e in
@@ -149,7 +149,7 @@ first_empty_more [] x e = clash e refl
 first_empty_more (t ∷ ts) x e = e
 
 -- the empty text has handle 0
-pub empty_handle : (held : List Bytes) → first_empty held ≡ true → handle_of [] held ≡ some 0
+pub empty_handle : (held : List Bytes) → first_empty held ≡ true → handle_of [] held ≡ Some 0
 unfolding first_empty
 empty_handle [] e = clash e refl
 empty_handle (t ∷ ts) e = handle_here [] t ts (same_swap [] t ∙ e)

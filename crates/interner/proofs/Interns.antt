@@ -1,9 +1,8 @@
 -- Sound strings: `intern` keeps them, and what it does to the stored form is what taking in does to the texts.
+use Rattle.std.specs.Prelude.{None, Option, Some, option_map}
 use Prim.Native.Nat.{ℕ, zero, suc, ◌+◌, ◌*◌, ◌≤◌, ◌<◌}
 use mathlib.Core.Path.{◌≡◌, refl, sym, ◌∙◌, ap}
 use mathlib.Core.Bool.{true, false}
-use mathlib.Core.Option
-use mathlib.Core.Option.{Option, none, some}
 use mathlib.Core.List.{List, [], ◌∷◌, ◌++◌, map, map-append}
 use native.Mathlib.Nat.{add-zero, add-suc, suc-add, zero-add}
 use native.Mathlib.Numerals.{add-one}
@@ -18,9 +17,6 @@ use Rattle.text.specs.Check.{is_text}
 use Rattle.text.proofs.Theorem.{text_nil}
 use Rattle.little.specs.Little.{over}
 use Rattle.little.proofs.Overs.{length_over, used_over, get_d_before, get_d_over}
-use Rattle.interner.specs.declared.Found.{Found}
-use Rattle.interner.specs.declared.Found.TheVariants.{At, Not}
-use Rattle.interner.specs.declared.Span.TheVariants.{Part, Missing}
 use Rattle.interner.specs.declared.Interned.TheVariants.{Held, Full}
 use Rattle.interner.specs.Texts.{handle_of, take_in, take_all_of, no_texts, answer_as, intern_accepted, handle_answered, text_of}
 use Rattle.interner.specs.Strings.{start_of, length_of, spanned, bytes_at, is_at, find_from, find_in, Store, used_of, text_room, added, text_taken, intern, intern_all, accepted_of, span_of}
@@ -78,24 +74,24 @@ pub text_at : (s : Store) (h : ℕ) → h < s.strings → text_of (texts_of s) h
 unfolding texts_in
 text_at s h g = rw zero-add at (made_at (bytes_at s.spans (used_of s)) [] s.strings 0 h g)
 
-pub resolved : (s : Store) → Sound s → (h : ℕ) → h < s.strings → span_of s.spans (used_of s) s.strings h ≡ Part (start_of s.spans h) (length_of s.spans h)
+pub resolved : (s : Store) → Sound s → (h : ℕ) → h < s.strings → span_of s.spans (used_of s) s.strings h ≡ Some (record { start = start_of s.spans h; len = length_of s.spans h })
 unfolding span_of
 resolved s p h g = rw (lt-ltb h s.strings g) (part s.spans (used_of s) h (p.spans h g))
 
-pub unheld : (s : Store) (h : ℕ) → s.strings ≤ h → span_of s.spans (used_of s) s.strings h ≡ Missing
+pub unheld : (s : Store) (h : ℕ) → s.strings ≤ h → span_of s.spans (used_of s) s.strings h ≡ None
 unfolding span_of
 unheld s h g = rw (le-ltb h s.strings g)
 
 -- ---- the search finds the handle of the text
 
 -- the place in a list of the strings from h on, as a handle
-abbrev pub placed : ℕ → Option ℕ → Found
-placed h none = Not
-placed h (some k) = At (h + k)
+abbrev pub placed : ℕ → Option ℕ → Option ℕ
+placed h None = None
+placed h (Some k) = Some (h + k)
 
-placed_on : (h : ℕ) (o : Option ℕ) → placed (suc h) o ≡ placed h (Option.map suc o)
-placed_on h none = refl
-placed_on h (some k) = rw (suc-add, add-suc)
+placed_on : (h : ℕ) (o : Option ℕ) → placed (suc h) o ≡ placed h (option_map suc o)
+placed_on h None = refl
+placed_on h (Some k) = rw (suc-add, add-suc)
 
 pub finds_from : (spans : List ℕ) (bytes : Bytes) (t : Bytes) (n h : ℕ)
     → ((k : ℕ) → h ≤ k → k < h + n → spanned spans bytes k ≡ true)
@@ -185,7 +181,7 @@ module _ (s : Store) (t : Bytes) (p : Sound s) (r : text_room s t ≡ true) wher
       rw (strings_added, add-one, handles_more, map-append, map_handles f (bytes_at s.spans (used_of s)) s.strings 0 (λ k a b. string_stays k (omega arith)), zero-add, string_new)
 
   -- the strings are sound with one more, if it is a text that is not held
-  pub sound_added : handle_of t (texts_of s) ≡ none → is_text t ≡ true → Sound (added s t)
+  pub sound_added : handle_of t (texts_of s) ≡ None → is_text t ≡ true → Sound (added s t)
   sound_added e l =
       record {
         words = omega (arith, strings_added, length_spans, words_left);
@@ -199,21 +195,21 @@ module _ (s : Store) (t : Bytes) (p : Sound s) (r : text_room s t ≡ true) wher
 -- ---- what `intern` does to sound strings
 
 module _ (s : Store) (t : Bytes) (p : Sound s) where
-  pub does_held : (h : ℕ) → handle_of t (texts_of s) ≡ some h → intern s t ≡ record { store = s; answer = Held h }
+  pub does_held : (h : ℕ) → handle_of t (texts_of s) ≡ Some h → intern s t ≡ record { store = s; answer = Held h }
   does_held h e = held s t h (finds s t p ∙ rw (e, zero-add))
 
-  pub does_new : handle_of t (texts_of s) ≡ none → text_room s t ≡ true → intern s t ≡ text_taken s t
+  pub does_new : handle_of t (texts_of s) ≡ None → text_room s t ≡ true → intern s t ≡ text_taken s t
   does_new e r = new s t (finds s t p ∙ rw e) r
 
-  pub does_full : handle_of t (texts_of s) ≡ none → text_room s t ≡ false → intern s t ≡ record { store = s; answer = Full }
+  pub does_full : handle_of t (texts_of s) ≡ None → text_room s t ≡ false → intern s t ≡ record { store = s; answer = Full }
   does_full e r = full s t (finds s t p ∙ rw e) r
 
-  by_case : {C : Type 0} → ((h : ℕ) → handle_of t (texts_of s) ≡ some h → C) → (handle_of t (texts_of s) ≡ none → text_room s t ≡ true → C) → (handle_of t (texts_of s) ≡ none → text_room s t ≡ false → C) → C
+  by_case : {C : Type 0} → ((h : ℕ) → handle_of t (texts_of s) ≡ Some h → C) → (handle_of t (texts_of s) ≡ None → text_room s t ≡ true → C) → (handle_of t (texts_of s) ≡ None → text_room s t ≡ false → C) → C
   by_case {C} f g k = go (handle_of t (texts_of s)) refl
     where
       go : (o : Option ℕ) → handle_of t (texts_of s) ≡ o → C
-      go (some h) e = f h e
-      go none e = by_bool (text_room s t) (g e) (k e)
+      go (Some h) e = f h e
+      go None e = by_bool (text_room s t) (g e) (k e)
 
   -- "`intern` returns the handle of an equal text already held, else the next one", 13 where there is no room for it
   pub answers : (intern s t).answer ≡ answer_as (text_room s t) (texts_of s) (handle_of t (texts_of s))
@@ -225,14 +221,14 @@ module _ (s : Store) (t : Bytes) (p : Sound s) where
       (λ e r. rw (does_full e r, e, r))
 
   -- full exactly where the text is not held and there is no room
-  pub full_only : (intern s t).answer ≡ Full → (handle_of t (texts_of s) ≡ none) × (text_room s t ≡ false)
+  pub full_only : (intern s t).answer ≡ Full → (handle_of t (texts_of s) ≡ None) × (text_room s t ≡ false)
   full_only q =
       by_case
       (λ h e. let z = does_held h e in no (cc))
       (λ e r. let z = does_new e r in no (cc))
       (λ e r. (e, r))
 
-  pub full_when : handle_of t (texts_of s) ≡ none → text_room s t ≡ false → (intern s t).answer ≡ Full
+  pub full_when : handle_of t (texts_of s) ≡ None → text_room s t ≡ false → (intern s t).answer ≡ Full
   full_when e r = rw (does_full e r)
 
   -- a refusal changes nothing
@@ -255,16 +251,16 @@ module _ (s : Store) (t : Bytes) (p : Sound s) where
       (λ e r. clash (rw (does_full e r) at q) refl)
 
   -- the handle answered is the place of the text
-  pub handle_after : (h : ℕ) → handle_answered (intern s t).answer ≡ some h → handle_of t (texts_of (intern s t).store) ≡ some h
+  pub handle_after : (h : ℕ) → handle_answered (intern s t).answer ≡ Some h → handle_of t (texts_of (intern s t).store) ≡ Some h
   handle_after h q =
       by_case
-      (λ k e. let i : some k ≡ some h = rw (does_held k e) at q in rw (does_held k e) (e ∙ i))
+      (λ k e. let i : Some k ≡ Some h = rw (does_held k e) at q in rw (does_held k e) (e ∙ i))
       (λ e r.
-      let i : some s.strings ≡ some h = rw (does_new e r) at q in
+      let i : Some s.strings ≡ Some h = rw (does_new e r) at q in
       rw (does_new e r, texts_added s t p r) (handle_new t (texts_of s) e ∙ (rw length_texts i)))
-      (λ e r. let i : none ≡ some h = rw (does_full e r) at q in no (cc))
+      (λ e r. let i : None ≡ Some h = rw (does_full e r) at q in no (cc))
 
-  pub text_answered : (h : ℕ) → handle_answered (intern s t).answer ≡ some h → text_of (texts_of (intern s t).store) h ≡ t
+  pub text_answered : (h : ℕ) → handle_answered (intern s t).answer ≡ Some h → text_of (texts_of (intern s t).store) h ≡ t
   text_answered h q = (holds t (texts_of (intern s t).store) h (handle_after h q)).text
 
   pub keeps : is_text t ≡ true → Sound (intern s t).store

@@ -1,4 +1,5 @@
 -- What `intern` does by its cases: the text is held, there is room, there is none.
+use Rattle.std.specs.Prelude.{None, Some}
 use Prim.Native.Nat.{ℕ, ◌+◌, ◌*◌, ◌≤◌, min}
 use mathlib.Core.Path.{◌≡◌, sym, ◌∙◌}
 use mathlib.Core.Bool.{true, false}
@@ -9,20 +10,19 @@ use lib.Seq.{take_all}
 use borrow.Author.Tests.{leb-true}
 use Rattle.base.specs.Bytes.{Bytes}
 use Rattle.base.proofs.Split.{by_le, both_left, both_right}
-use Rattle.interner.specs.declared.Found.TheVariants.{At, Not}
 use Rattle.interner.specs.declared.Interned.TheVariants.{Held, Full}
 use Rattle.interner.specs.Strings.{find_in, Store, used_of, text_room, text_taken, taken_as, intern}
 
 module _ (s : Store) (t : Bytes) where
-  pub held : (h : ℕ) → find_in s.spans (used_of s) s.strings t ≡ At h → intern s t ≡ record { store = s; answer = Held h }
+  pub held : (h : ℕ) → find_in s.spans (used_of s) s.strings t ≡ Some h → intern s t ≡ record { store = s; answer = Held h }
   unfolding intern taken_as
   held h e = rw e
 
-  pub new : find_in s.spans (used_of s) s.strings t ≡ Not → text_room s t ≡ true → intern s t ≡ text_taken s t
+  pub new : find_in s.spans (used_of s) s.strings t ≡ None → text_room s t ≡ true → intern s t ≡ text_taken s t
   unfolding intern taken_as
   new e r = rw (e, r)
 
-  pub full : find_in s.spans (used_of s) s.strings t ≡ Not → text_room s t ≡ false → intern s t ≡ record { store = s; answer = Full }
+  pub full : find_in s.spans (used_of s) s.strings t ≡ None → text_room s t ≡ false → intern s t ≡ record { store = s; answer = Full }
   unfolding intern taken_as
   full e r = rw (e, r)
 

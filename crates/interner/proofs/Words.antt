@@ -1,4 +1,5 @@
 -- The words of the strings: their runs are the texts, so whether these are distinct decides soundness where all are legal.
+use Rattle.std.specs.Prelude.{None}
 use Prim.Native.Nat.{ℕ, zero, suc, ◌+◌, ◌-◌, ◌≤◌, ◌<◌}
 use mathlib.Core.Path.{◌≡◌, refl, sym, ◌∙◌}
 use mathlib.Core.Bool.{true, false}
@@ -11,7 +12,6 @@ use Rattle.base.specs.Bytes.{Bytes, both}
 use Rattle.base.proofs.Split.{by_bool, by_eq, both_left, both_right, both_of, both_no_left, clash}
 use Rattle.text.specs.Check.{is_text}
 use Rattle.distinct.specs.Distinct.{distinct, run_in, runs_in}
-use Rattle.interner.specs.declared.Span.TheVariants.{Missing}
 use Rattle.interner.specs.Strings.{spanned, bytes_at, span_at}
 use Rattle.interner.specs.Sound.{handles, texts_in, span_within, sound_up_to}
 use Rattle.interner.specs.Check.{legal_at, WordsNoted}
@@ -40,7 +40,7 @@ module _ (spans : List ℕ) (bytes : Bytes) where
       (λ q. rw (q, get_or-set_same words h w 0 g) e)
       (λ q. rw (get_or-set_other words h j w 0 q) (d j (omega arith)))
 
-  pub legal_missing : (h : ℕ) → Missing ≡ span_at spans bytes h → legal_at spans bytes h ≡ false
+  pub legal_missing : (h : ℕ) → None ≡ span_at spans bytes h → legal_at spans bytes h ≡ false
   unfolding legal_at
   legal_missing h e = both_no_left _ _ (lies_not spans bytes h e)
 

@@ -1,15 +1,13 @@
 -- What the check of the strings goes by, handle by handle. Soundness itself is Sound.
-use Rattle.std.specs.Prelude.{ℕ, ◌<◌, ◌≡◌, Bool, true, false, List, get_or}
+use Rattle.std.specs.Prelude.{ℕ, ◌<◌, ◌≡◌, Bool, true, false, List, get_or, None, Option, Some}
 use Rattle.base.specs.Bytes.{Bytes, both}
 use Rattle.text.specs.Check.{is_text}
 use Rattle.distinct.specs.Distinct.{run_in}
-use Rattle.interner.specs.declared.Found.{Found}
-use Rattle.interner.specs.declared.Found.TheVariants.{At, Not}
 use Rattle.interner.specs.Strings.{spanned, bytes_at, find_in}
 
-abbrev pub is_not : Found → Bool
-is_not Not = true
-is_not (At h) = false
+abbrev pub is_not : Option ℕ → Bool
+is_not None = true
+is_not (Some h) = false
 
 -- the string of a handle lies within the bytes, is legal text, and no handle before it has an equal one
 unfoldable pub new_at : List ℕ → Bytes → ℕ → Bool

@@ -1,12 +1,9 @@
 -- How texts are stored: two words a string, where it starts among the string bytes and how long it is.
-use Rattle.std.specs.Prelude.{ℕ, zero, suc, ◌+◌, ◌*◌, Bool, cond, List, [], ◌∷◌, ltb, leb, length, get_or, take, drop}
+use Rattle.std.specs.Prelude.{ℕ, zero, suc, ◌+◌, ◌*◌, Bool, cond, List, [], ◌∷◌, ltb, leb, length, get_or, take, drop, None, Option, Some}
 use Rattle.base.specs.Bytes.{Bytes, both, same}
 use Rattle.little.specs.Little.{over}
+use Rattle.little.specs.declared.Span.{Span}
 use Rattle.interner.specs.Texts.{intern_accepted}
-use Rattle.interner.specs.declared.Found.{Found}
-use Rattle.interner.specs.declared.Found.TheVariants.{At, Not}
-use Rattle.interner.specs.declared.Span.{Span}
-use Rattle.interner.specs.declared.Span.TheVariants.{Part, Missing}
 use Rattle.interner.specs.declared.Taken.{Taken}
 use Rattle.interner.specs.declared.Interned.{Interned}
 use Rattle.interner.specs.declared.Interned.TheVariants.{Held, New, Full}
@@ -26,23 +23,23 @@ abbrev pub bytes_at : List ℕ → Bytes → ℕ → Bytes
 bytes_at spans bytes h = take (length_of spans h) (drop (start_of spans h) bytes)
 
 -- where the string of a handle lies
-unfoldable pub span_at : List ℕ → Bytes → ℕ → Span
-span_at spans bytes h = cond (spanned spans bytes h) (Part (start_of spans h) (length_of spans h)) Missing
+unfoldable pub span_at : List ℕ → Bytes → ℕ → Option Span
+span_at spans bytes h = cond (spanned spans bytes h) (Some (record { start = start_of spans h; len = length_of spans h })) None
 
 -- the same, of the handles that are held
-unfoldable pub span_of : List ℕ → Bytes → ℕ → ℕ → Span
-span_of spans bytes count h = cond (ltb h count) (span_at spans bytes h) Missing
+unfoldable pub span_of : List ℕ → Bytes → ℕ → ℕ → Option Span
+span_of spans bytes count h = cond (ltb h count) (span_at spans bytes h) None
 
 -- the string of a handle is the text
 unfoldable pub is_at : List ℕ → Bytes → Bytes → ℕ → Bool
 is_at spans bytes t h = both (spanned spans bytes h) (same t (bytes_at spans bytes h))
 
 -- the first of the n handles from h on whose string is the text
-unfoldable pub find_from : List ℕ → Bytes → Bytes → ℕ → ℕ → Found
-find_from spans bytes t zero h = Not
-find_from spans bytes t (suc n) h = cond (is_at spans bytes t h) (At h) (find_from spans bytes t n (suc h))
+unfoldable pub find_from : List ℕ → Bytes → Bytes → ℕ → ℕ → Option ℕ
+find_from spans bytes t zero h = None
+find_from spans bytes t (suc n) h = cond (is_at spans bytes t h) (Some h) (find_from spans bytes t n (suc h))
 
-unfoldable pub find_in : List ℕ → Bytes → ℕ → Bytes → Found
+unfoldable pub find_in : List ℕ → Bytes → ℕ → Bytes → Option ℕ
 find_in spans bytes count t = find_from spans bytes t count 0
 
 -- ---- taking a text in
@@ -81,9 +78,9 @@ added s t =
 abbrev pub text_taken : Store → Bytes → StoreAfter
 text_taken s t = record { store = added s t; answer = New s.strings }
 
-unfoldable pub taken_as : Store → Bytes → Found → StoreAfter
-taken_as s t (At h) = record { store = s; answer = Held h }
-taken_as s t Not = cond (text_room s t) (text_taken s t) (record { store = s; answer = Full })
+unfoldable pub taken_as : Store → Bytes → Option ℕ → StoreAfter
+taken_as s t (Some h) = record { store = s; answer = Held h }
+taken_as s t None = cond (text_room s t) (text_taken s t) (record { store = s; answer = Full })
 
 -- the store and the answer after `intern`
 unfoldable pub intern : Store → Bytes → StoreAfter

@@ -10,20 +10,7 @@ ghost use Rattle.interner.specs.Sound.{sound_up_to, sound_strings, fresh_spans};
 ghost use Rattle.interner.specs.Check.{new_at, legal_at, WordsNoted};
 
 use distinct::Distinctness;
-
-// The handle of an equal text, or that none is held.
-#[derive(Clone, Copy)]
-pub enum Found {
-    At(u64),
-    Not,
-}
-
-// Where a string lies among the bytes, or that it does not.
-#[derive(Clone, Copy)]
-pub enum Span {
-    Part { start: usize, len: usize },
-    Missing,
-}
+use little::Span;
 
 // What `intern` answers: the handle of a text that was held, of a new one, or that there is no room (13).
 #[derive(Clone, Copy)]
@@ -41,33 +28,33 @@ pub struct Taken {
     pub used: u64,
 }
 
-// Where the string of a handle lies.
-pub fn span_at(spans: &[u64], bytes: &[u8], h: usize) -> Span
+// Where the string of a handle lies among the bytes, if it does.
+pub fn span_at(spans: &[u64], bytes: &[u8], h: usize) -> Option<Span>
     ensures { result ≡ span_at spans.now bytes.now h }
 {
     if spans.len() / 2 <= h {
-        return Span::Missing;
+        return None;
     }
     let start = spans[2 * h] as usize;
     let len = spans[2 * h + 1] as usize;
     if bytes.len() < len {
-        return Span::Missing;
+        return None;
     }
     if start <= bytes.len() - len {
-        Span::Part { start, len }
+        Some(Span { start, len })
     } else {
-        Span::Missing
+        None
     }
 }
 
 // Where the text of a held handle lies.
-pub fn resolve(spans: &[u64], bytes: &[u8], count: u64, handle: u64) -> Span
+pub fn resolve(spans: &[u64], bytes: &[u8], count: u64, handle: u64) -> Option<Span>
     ensures { result ≡ span_of spans.now bytes.now count handle }
 {
     if handle < count {
         span_at(spans, bytes, handle as usize)
     } else {
-        Span::Missing
+        None
     }
 }
 
@@ -75,30 +62,28 @@ pub fn resolve(spans: &[u64], bytes: &[u8], count: u64, handle: u64) -> Span
 pub fn is_at(spans: &[u64], bytes: &[u8], text: &[u8], h: usize) -> bool
     ensures { result ≡ is_at spans.now bytes.now text.now h }
 {
-    let Span::Part { start, len } = span_at(spans, bytes, h) else {
+    let Some(p) = span_at(spans, bytes, h) else {
         return false;
     };
-    let end = start + len;
-    distinct::equal(text, &bytes[start..end])
+    let end = p.start + p.len;
+    distinct::equal(text, &bytes[p.start..end])
 }
 
 // The first handle from one on, of those that are held, whose string is the text. Handles past the spans have none.
-pub fn find_from(spans: &[u64], bytes: &[u8], from: usize, count: u64, text: &[u8]) -> Found
+pub fn find_from(spans: &[u64], bytes: &[u8], from: usize, count: u64, text: &[u8]) -> Option<u64>
     ensures { result ≡ find_from spans.now bytes.now text.now (count - from) from }
 {
     let end = little::lesser(count as usize, spans.len() / 2);
-    let mut h = from;
-    while h < end {
+    for h in from..end {
         if is_at(spans, bytes, text, h) {
-            return Found::At(h as u64);
+            return Some(h as u64);
         }
-        h += 1;
     }
-    Found::Not
+    None
 }
 
 // The first of the held handles whose string is the text.
-pub fn find_text(spans: &[u64], bytes: &[u8], count: u64, text: &[u8]) -> Found
+pub fn find_text(spans: &[u64], bytes: &[u8], count: u64, text: &[u8]) -> Option<u64>
     ensures { result ≡ find_in spans.now bytes.now count text.now }
 {
     find_from(spans, bytes, 0, count, text)
@@ -161,11 +146,11 @@ pub fn intern_found(
     strings: u64,
     used: u64,
     text: &[u8],
-    found: Found,
+    found: Option<u64>,
 ) -> Taken
     ensures { store_after spans.new bytes.new result ≡ taken_as (store_with spans.old bytes.old strings used) text.now found }
 {
-    if let Found::At(h) = found {
+    if let Some(h) = found {
         return Taken {
             answer: Interned::Held(h),
             strings,
@@ -198,15 +183,15 @@ pub fn intern(spans: &mut [u64], bytes: &mut [u8], strings: u64, used: u64, text
 fn is_new(spans: &[u64], bytes: &[u8], h: usize) -> bool
     ensures { result ≡ new_at spans.now bytes.now h }
 {
-    let Span::Part { start, len } = span_at(spans, bytes, h) else {
+    let Some(p) = span_at(spans, bytes, h) else {
         return false;
     };
-    let end = start + len;
-    let t = &bytes[start..end];
+    let end = p.start + p.len;
+    let t = &bytes[p.start..end];
     if text::is_text(t) {
         match find_text(spans, bytes, h as u64, t) {
-            Found::Not => true,
-            Found::At(_) => false,
+            None => true,
+            Some(_) => false,
         }
     } else {
         false
@@ -217,15 +202,7 @@ fn is_new(spans: &[u64], bytes: &[u8], h: usize) -> bool
 fn sound_in_pairs(spans: &[u64], bytes: &[u8], n: usize) -> bool
     ensures { result ≡ sound_up_to spans.now bytes.now n }
 {
-    let mut h: usize = 0;
-    while h < n {
-        if is_new(spans, bytes, h) {
-            h += 1;
-        } else {
-            return false;
-        }
-    }
-    true
+    (0..n).all(|h| is_new(spans, bytes, h))
 }
 
 // Whether the string of a handle lies within the bytes and is legal text. Its word is noted.
@@ -234,12 +211,12 @@ fn note_text(spans: &[u64], bytes: &[u8], words: &mut [u64], h: usize) -> bool
     ensures value { result ≡ legal_at spans.now bytes.now h }
     ensures words_noted { result ≡ true → WordsNoted spans.now bytes.now words.new (h + 1) }
 {
-    let Span::Part { start, len } = span_at(spans, bytes, h) else {
+    let Some(p) = span_at(spans, bytes, h) else {
         return false;
     };
-    let end = start + len;
-    if text::is_text(&bytes[start..end]) {
-        distinct::put_word(words, h, distinct::run_word(bytes, start, len));
+    let end = p.start + p.len;
+    if text::is_text(&bytes[p.start..end]) {
+        distinct::put_word(words, h, distinct::run_word(bytes, p.start, p.len));
         true
     } else {
         false
@@ -252,11 +229,8 @@ fn note_texts(spans: &[u64], bytes: &[u8], words: &mut [u64], n: usize) -> bool
     ensures n_value { result ≡ true → sound_up_to spans.now bytes.now n ≡ distinct (runs_in bytes.now (take n words.new)) }
     ensures n_value_2 { result ≡ false → sound_up_to spans.now bytes.now n ≡ false }
 {
-    let mut h: usize = 0;
-    while h < n {
-        if note_text(spans, bytes, words, h) {
-            h += 1;
-        } else {
+    for h in 0..n {
+        if !note_text(spans, bytes, words, h) {
             return false;
         }
     }

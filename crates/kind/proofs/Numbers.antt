@@ -1,4 +1,5 @@
 -- A kind's number tells the kind.
+use Rattle.std.specs.Prelude.{None, Some}
 use Prim.Native.Nat.{ℕ, zero, suc}
 use mathlib.Core.Path.{◌≡◌, refl}
 use mathlib.Core.Bool.{true}
@@ -6,16 +7,15 @@ use Rattle.base.proofs.Split.{by_bool, clash}
 use Rattle.kind.specs.Kind.{kind_number, of_number, same_kind}
 use Rattle.kind.specs.declared.Kind.{Kind}
 use Rattle.kind.specs.declared.Kind.TheVariants.{Node, Way, Relation}
-use Rattle.kind.specs.declared.Named.TheVariants.{Is, Unknown}
 
-pub above : (n : ℕ) → (n ≡ 0 → ⊥) → (n ≡ 1 → ⊥) → (n ≡ 2 → ⊥) → Unknown ≡ of_number n
+pub above : (n : ℕ) → (n ≡ 0 → ⊥) → (n ≡ 1 → ⊥) → (n ≡ 2 → ⊥) → None ≡ of_number n
 unfolding of_number
 above zero a b d = absurd (a refl)
 above (suc zero) a b d = absurd (b refl)
 above (suc (suc zero)) a b d = absurd (d refl)
 above (suc (suc (suc n))) a b d = refl
 
-pub number_back : (k : Kind) → of_number (kind_number k) ≡ Is k
+pub number_back : (k : Kind) → of_number (kind_number k) ≡ Some k
 unfolding of_number
 number_back Node = refl
 number_back Way = refl

@@ -2,39 +2,39 @@
 #![tactic(auto)]
 
 ghost use Rattle.std.specs.Prelude.{◌≡◌};
-ghost use Rattle.kind.specs.Kind.{kind_number, of_number};
+ghost use Rattle.kind.specs.Kind.{kind_number, Numbered};
 
-#[derive(Clone, Copy)]
+#[derive(Clone, Copy, Debug, PartialEq, Eq)]
 pub enum Kind {
-    Node,
-    Way,
-    Relation,
+    Node = 0,
+    Way = 1,
+    Relation = 2,
 }
 
-// A kind's number read back: a number above 2 is no kind.
-#[derive(Clone, Copy)]
-pub enum Named {
-    Is(Kind),
-    Unknown,
-}
+// A number that names no kind.
+#[derive(Clone, Copy, Debug, PartialEq, Eq)]
+pub struct UnknownKind(pub u8);
 
-pub fn kind_number(k: Kind) -> u8
-    ensures { result ≡ kind_number k }
-{
-    match k {
-        Kind::Node => 0,
-        Kind::Way => 1,
-        Kind::Relation => 2,
+impl From<Kind> for u8 {
+    ghost from_gives = { λ k n. n ≡ kind_number k };
+
+    fn from(kind: Kind) -> u8 {
+        kind as u8
     }
 }
 
-pub fn kind_of_number(n: u8) -> Named
-    ensures { result ≡ of_number n }
-{
-    match n {
-        0 => Named::Is(Kind::Node),
-        1 => Named::Is(Kind::Way),
-        2 => Named::Is(Kind::Relation),
-        _ => Named::Unknown,
+impl TryFrom<u8> for Kind {
+    type Error = UnknownKind;
+
+    ghost try_from_gives = { Numbered };
+
+    #[tactic(auto, using(crate::proofs::Numbers::above), unfolding(crate::specs::Kind::of_number))]
+    fn try_from(number: u8) -> Result<Self, UnknownKind> {
+        match number {
+            0 => Ok(Kind::Node),
+            1 => Ok(Kind::Way),
+            2 => Ok(Kind::Relation),
+            _ => Err(UnknownKind(number)),
+        }
     }
 }

@@ -1,9 +1,9 @@
 -- The two lists of a kind: both in OSM order, no id on both, each known id on one; and a row's number on one.
+use Rattle.std.specs.Prelude.{None, Option, Some}
 use Prim.Native.Nat.{ℕ, zero, suc, ◌+◌, ◌<◌, ◌≤◌}
 use mathlib.Core.Path.{subst, ◌≡◌, refl, sym, ◌∙◌, ap}
 use mathlib.Core.Bool.{true, false, not, cond}
 use mathlib.Core.Logic.{◌↔◌}
-use mathlib.Core.Option.{Option, none, some}
 use mathlib.Core.List.{List, [], ◌∷◌}
 use native.Mathlib.Omega.{arith}
 use lib.ListN.{length, get_or}
@@ -16,7 +16,6 @@ use Rattle.kind_table.proofs.Tables.{sound_fits, held_all}
 use Rattle.kind_table.proofs.Maps.{from_head, from_tail, from_cons, from_rising, find_same, find_other, find_low}
 use Rattle.kind_reading.specs.declared.Side.{Side}
 use Rattle.kind_reading.specs.declared.Side.TheVariants.{Live, Deleted}
-use Rattle.kind_reading.specs.declared.Nth.TheVariants.{At, Missing}
 use Rattle.kind_reading.specs.Listed.{rows_read, is_on, rows_on, nth}
 use Rattle.kind_reading.proofs.Walks.{on_more, on_other}
 
@@ -63,8 +62,8 @@ lists_all (r ∷ rs) =
 
 -- what is found, if it is on the list
 abbrev pub if_on : Side → Option Row → Option Row
-if_on side none = none
-if_on side (some r) = cond (is_on side r) (some r) none
+if_on side None = None
+if_on side (Some r) = cond (is_on side r) (Some r) None
 
 -- a list finds what the rows find, if it is on the list
 pub find_on : (side : Side) (k : ℕ) (rs : List Row) → rising rs ≡ true → find k (rows_on side rs) ≡ if_on side (find k rs)
@@ -82,44 +81,44 @@ find_on side k (r ∷ rs) h =
 
 module _ (k : ℕ) (rs : List Row) (h : rising rs ≡ true) where
   -- what a list finds, the rows find, and it is on the list
-  pub on_found : (side : Side) (r : Row) → find k (rows_on side rs) ≡ some r → (find k rs ≡ some r) × (is_on side r ≡ true)
+  pub on_found : (side : Side) (r : Row) → find k (rows_on side rs) ≡ Some r → (find k rs ≡ Some r) × (is_on side r ≡ true)
   on_found side r e = go (find k rs) refl (sym (find_on side k rs h) ∙ e)
     where
-      go : (o : Option Row) → find k rs ≡ o → if_on side o ≡ some r → (find k rs ≡ some r) × (is_on side r ≡ true)
-      go none f g = no cc
-      go (some q) f g =
+      go : (o : Option Row) → find k rs ≡ o → if_on side o ≡ Some r → (find k rs ≡ Some r) × (is_on side r ≡ true)
+      go None f g = no cc
+      go (Some q) f g =
           by_bool (is_on side q)
-          (λ t. let x : some q ≡ some r = rw t at g in let y : q ≡ r = cc in (f ∙ x, rw (← y) t))
-          (λ t. let x : none ≡ some r = rw t at g in no cc)
+          (λ t. let x : Some q ≡ Some r = rw t at g in let y : q ≡ r = cc in (f ∙ x, rw (← y) t))
+          (λ t. let x : None ≡ Some r = rw t at g in no cc)
 
   -- a live row is on the live list and not on the deleted one, any other on the deleted list and not on the live one
-  pub find_live : (r : Row) → find k rs ≡ some r → is_live r.place ≡ true → (find k (rows_on Live rs) ≡ some r) × (find k (rows_on Deleted rs) ≡ none)
+  pub find_live : (r : Row) → find k rs ≡ Some r → is_live r.place ≡ true → (find k (rows_on Live rs) ≡ Some r) × (find k (rows_on Deleted rs) ≡ None)
   find_live r e t = (find_on Live k rs h ∙ rw (e, t), find_on Deleted k rs h ∙ rw (e, t))
 
-  pub find_deleted : (r : Row) → find k rs ≡ some r → is_live r.place ≡ false → (find k (rows_on Live rs) ≡ none) × (find k (rows_on Deleted rs) ≡ some r)
+  pub find_deleted : (r : Row) → find k rs ≡ Some r → is_live r.place ≡ false → (find k (rows_on Live rs) ≡ None) × (find k (rows_on Deleted rs) ≡ Some r)
   find_deleted r e t = (find_on Live k rs h ∙ rw (e, t), find_on Deleted k rs h ∙ rw (e, t))
 
   -- an id that is not known is on neither
-  pub find_neither : find k rs ≡ none → (side : Side) → find k (rows_on side rs) ≡ none
+  pub find_neither : find k rs ≡ None → (side : Side) → find k (rows_on side rs) ≡ None
   find_neither e side = find_on side k rs h ∙ rw e
 
 -- ---- by number
 
-pub nth_at : (rs : List Row) (n : ℕ) (d : Row) → n < length rs → nth rs n ≡ At (get_or rs n d)
+pub nth_at : (rs : List Row) (n : ℕ) (d : Row) → n < length rs → nth rs n ≡ Some (get_or rs n d)
 unfolding nth
 nth_at [] n d l = absurd (omega arith)
 nth_at (r ∷ rs) zero d l = refl
 nth_at (r ∷ rs) (suc n) d l = nth_at rs n d (omega arith)
 
-nth_past : (rs : List Row) (n : ℕ) → length rs ≤ n → nth rs n ≡ Missing
+nth_past : (rs : List Row) (n : ℕ) → length rs ≤ n → nth rs n ≡ None
 unfolding nth
 nth_past [] n l = refl
 nth_past (r ∷ rs) zero l = absurd (omega arith)
 nth_past (r ∷ rs) (suc n) l = nth_past rs n (omega arith)
 
 -- "21 number not below its list's count"
-pub missing_is : (rs : List Row) (n : ℕ) → (nth rs n ≡ Missing) ↔ (length rs ≤ n)
+pub missing_is : (rs : List Row) (n : ℕ) → (nth rs n ≡ None) ↔ (length rs ≤ n)
 missing_is rs n = (
-  λ e. by_lt n (length rs) (λ l. let d : Row = record { rank = 0; place = 0; floor = 0 } in let z : At (get_or rs n d) ≡ Missing = sym (nth_at rs n d l) ∙ e in no (cc)) (λ l. l),
+  λ e. by_lt n (length rs) (λ l. let d : Row = record { rank = 0; place = 0; floor = 0 } in let z : Some (get_or rs n d) ≡ None = sym (nth_at rs n d l) ∙ e in no (cc)) (λ l. l),
   nth_past rs n,
 )

@@ -1,9 +1,9 @@
 -- What is known of an id: in a sound table, what its rank finds among the rows.
+use Rattle.std.specs.Prelude.{Err, None, Ok, Option, Result, Some}
 use Prim.Native.Nat.{ℕ}
 use mathlib.Core.Path.{◌≡◌, refl, sym, ◌∙◌, ap}
 use mathlib.Core.Bool.{true, false}
 use mathlib.Core.Logic.{◌↔◌}
-use mathlib.Core.Option.{Option, none, some}
 use mathlib.Core.List.{List}
 use lib.IntN.{ℤ}
 use Rattle.base.proofs.Split.{by_bool, no}
@@ -12,15 +12,13 @@ use Rattle.kind_store.specs.KindStore.{is_live}
 use Rattle.kind_table.specs.Rows.{find}
 use Rattle.kind_table.specs.Words.{rows_of, sound_table, lookup}
 use Rattle.kind_table.specs.declared.Row.{Row}
-use Rattle.kind_table.specs.declared.Found.{Found}
-use Rattle.kind_table.specs.declared.Found.TheVariants.{At, Place}
 use Rattle.kind_table.proofs.Tables.{found_row, found_none}
 use Rattle.kind_reading.specs.declared.Standing.{Standing}
 use Rattle.kind_reading.specs.declared.Standing.TheVariants.{Live, Deleted, Unknown}
 use Rattle.kind_reading.specs.Listed.{row_standing, standing_at, standing_of}
 
 module _ (table : List ℕ) (ids : ℕ) (id : ℤ) where
-  pub standing_at_lem : (f : Found) → f ≡ lookup table ids (rank id) → standing_of table ids id ≡ standing_at table f
+  pub standing_at_lem : (f : Result ℕ ℕ) → f ≡ lookup table ids (rank id) → standing_of table ids id ≡ standing_at table f
   unfolding standing_of
   standing_at_lem f e = rw e
 
@@ -43,21 +41,21 @@ module _ (r : Row) where
 
 -- the standing of what was found
 abbrev pub standing_is : Option Row → Standing
-standing_is none = Unknown
-standing_is (some r) = row_standing r
+standing_is None = Unknown
+standing_is (Some r) = row_standing r
 
 module _ (table : List ℕ) (ids : ℕ) (sound : sound_table table ids ≡ true) (id : ℤ) where
   pub standing_is_lem : standing_of table ids id ≡ standing_is (find (rank id) (rows_of table ids))
   standing_is_lem = go (lookup table ids (rank id)) refl
     where
-      go : (f : Found) → f ≡ lookup table ids (rank id) → standing_of table ids id ≡ standing_is (find (rank id) (rows_of table ids))
-      go (At i) e = rw (standing_at_lem table ids id (At i) e, (found_row table ids sound (rank id) i (sym e)).1)
-      go (Place p) e = rw (standing_at_lem table ids id (Place p) e, (found_none table ids sound (rank id) p (sym e)).0)
+      go : (f : Result ℕ ℕ) → f ≡ lookup table ids (rank id) → standing_of table ids id ≡ standing_is (find (rank id) (rows_of table ids))
+      go (Ok i) e = rw (standing_at_lem table ids id (Ok i) e, (found_row table ids sound (rank id) i (sym e)).1)
+      go (Err p) e = rw (standing_at_lem table ids id (Err p) e, (found_none table ids sound (rank id) p (sym e)).0)
 
   -- unknown exactly when no row has the id's rank
-  pub unknown_is : (standing_of table ids id ≡ Unknown) ↔ (find (rank id) (rows_of table ids) ≡ none)
+  pub unknown_is : (standing_of table ids id ≡ Unknown) ↔ (find (rank id) (rows_of table ids) ≡ None)
   unknown_is = (λ e. go (find (rank id) (rows_of table ids)) (sym standing_is_lem ∙ e), λ e. standing_is_lem ∙ ap standing_is e)
     where
-      go : (o : Option Row) → standing_is o ≡ Unknown → o ≡ none
-      go none e = refl
-      go (some r) e = absurd (row_known r e)
+      go : (o : Option Row) → standing_is o ≡ Unknown → o ≡ None
+      go None e = refl
+      go (Some r) e = absurd (row_known r e)

@@ -1,7 +1,7 @@
 -- A record's view: it ends past its start.
+use Rattle.std.specs.Prelude.{None, Ok, Option, Some}
 use Prim.Native.Nat.{ℕ, zero, suc, ◌+◌, ◌-◌, ◌<◌, ◌≤◌, min}
 use mathlib.Core.Path.{◌≡◌, refl, sym, ◌∙◌, ap}
-use mathlib.Core.Option.{some}
 use mathlib.Core.List.{[], ◌∷◌}
 use native.Mathlib.Omega.{arith}
 use lib.ListN.{length, take, drop, length-append, length-take, length-drop}
@@ -12,20 +12,17 @@ use Rattle.kind.specs.declared.Kind.{Kind}
 use Rattle.compact.specs.Cut.{KeptRecord}
 use Rattle.compact.specs.Legal.{legal}
 use Rattle.compact_legal.specs.Judge.{record_end}
-use Rattle.compact_legal.specs.declared.End.{End}
-use Rattle.compact_legal.specs.declared.End.TheVariants.{At, Bad}
 use Rattle.compact_legal.specs.Whole.{kept_bytes, Whole, record_at}
 use Rattle.compact_legal.proofs.Wholes.{kept_long}
 use Rattle.compact_legal.proofs.Starts.{record_passes, bytes_there, start_ends}
 use Rattle.compact_legal.proofs.Fronts.{end_tells, end_past}
-use Rattle.kind_reading.specs.declared.View.TheVariants.{Part}
 use Rattle.kind_reading.specs.Listed.{view_to, view_at}
 
-pub end_later : (strings : ℕ) (k : Kind) (s : Bytes) (at e : ℕ) → At e ≡ record_end strings k s at → at < e
+pub end_later : (strings : ℕ) (k : Kind) (s : Bytes) (at e : ℕ) → Some e ≡ record_end strings k s at → at < e
 end_later strings k s at e t =
     by_le at (length s)
     (λ l. (end_tells strings k s at l e (sym t)).1.1.1.1.0)
-    (λ l. let z : Bad ≡ At e = end_past strings k s at (omega arith) ∙ sym t in no (cc))
+    (λ l. let z : None ≡ Some e = end_past strings k s at (omega arith) ∙ sym t in no (cc))
 
 -- the used bytes, as far as the arena goes
 take_most : (n : ℕ) (s : Bytes) → take (min n (length s)) s ≡ take n s
@@ -34,7 +31,7 @@ take_most n s =
     (λ l. let e : min n (length s) ≡ n = omega arith in rw e)
     (λ l. let e : min n (length s) ≡ length s = omega arith in rw e (take-length s ∙ sym (take_all n s (omega arith))))
 
-pub view_to_lem : (strings : ℕ) (k : Kind) (arena : Bytes) (used at n : ℕ) (x : End) → n ≡ min used (length arena) → x ≡ record_end strings k (take n arena) at
+pub view_to_lem : (strings : ℕ) (k : Kind) (arena : Bytes) (used at n : ℕ) (x : Option ℕ) → n ≡ min used (length arena) → x ≡ record_end strings k (take n arena) at
     → view_to at x ≡ view_at strings k arena used at
 unfolding view_at
 view_to_lem strings k arena used at n x e h = ap (view_to at) (h ∙ ap (λ s. record_end strings k s at) (ap (λ m. take m arena) e ∙ take_most used arena))
@@ -48,8 +45,8 @@ part_used (suc at) n (suc used) (b ∷ s) h = part_used at n used s (omega arith
 
 -- ---- in an arena of whole records the view at a start is its record
 
-module _ (strings : ℕ) (k : Kind) (arena : Bytes) (used : ℕ) (w : Whole strings k (take used arena)) (at : ℕ) (x : KeptRecord) (h : record_at at w.kept ≡ some x) where
-  pub view_is : view_at strings k arena used at ≡ Part at (length (kept_bytes x))
+module _ (strings : ℕ) (k : Kind) (arena : Bytes) (used : ℕ) (w : Whole strings k (take used arena)) (at : ℕ) (x : KeptRecord) (h : record_at at w.kept ≡ Some x) where
+  pub view_is : view_at strings k arena used at ≡ Ok (Some (record { start = at; len = length (kept_bytes x) }))
   unfolding view_at
   view_is =
       let l = record_passes (λ (y : KeptRecord). legal strings y.held) at w.kept x w.legals h in

@@ -1,4 +1,5 @@
 -- The walk over the rows: the rows of a list from the i-th on, and a row's number among them.
+use Rattle.std.specs.Prelude.{None, Some}
 use Prim.Native.Nat.{ℕ, zero, suc, ◌+◌, ◌-◌, ◌<◌, ◌≤◌}
 use mathlib.Core.Path.{◌≡◌, refl}
 use mathlib.Core.Bool.{true, false}
@@ -7,7 +8,6 @@ use native.Mathlib.Omega.{arith}
 use Rattle.kind_table.specs.Words.{row_at, rows_from, rows_of}
 use Rattle.kind_table.specs.declared.Row.{Row}
 use Rattle.kind_reading.specs.declared.Side.{Side}
-use Rattle.kind_reading.specs.declared.Nth.TheVariants.{At, Missing}
 use Rattle.kind_reading.specs.Listed.{is_on, rows_on, nth}
 
 -- a row on the list, and one that is not
@@ -21,11 +21,11 @@ module _ (side : Side) (r : Row) (rs : List Row) where
   on_other t = rw t
 
 -- a number counts the rows before it
-pub nth_none : (n : ℕ) → nth [] n ≡ Missing
+pub nth_none : (n : ℕ) → nth [] n ≡ None
 unfolding nth
 nth_none n = refl
 
-pub nth_first : (r : Row) (rs : List Row) → nth (r ∷ rs) 0 ≡ At r
+pub nth_first : (r : Row) (rs : List Row) → nth (r ∷ rs) 0 ≡ Some r
 unfolding nth
 nth_first r rs = refl
 

@@ -1,26 +1,20 @@
 -- Document 01, sorted.rs: "Live and deleted ids per kind in OSM order, read by number. .. A record read is a view of the arena from its offset to that record's end";
 -- parse.rs: what is known of an id, for the thin readers.
-use Rattle.std.specs.Prelude.{ℕ, zero, suc, ◌-◌, Bool, not, cond, List, [], ◌∷◌, ℤ, take}
+use Rattle.std.specs.Prelude.{ℕ, zero, suc, ◌-◌, Bool, not, cond, List, [], ◌∷◌, ℤ, take, Err, None, Ok, Option, Result, Some}
 use Rattle.base.specs.Bytes.{Bytes}
 use Rattle.kind.specs.declared.Kind.{Kind}
 use Rattle.osm_id.specs.Order.{rank}
+use Rattle.little.specs.declared.Span.{Span}
+use Rattle.refusal.specs.declared.Refusal.{Refusal}
 use Rattle.refusal.specs.declared.Refusal.TheVariants as R
 use Rattle.compact_legal.specs.Judge.{record_end}
-use Rattle.compact_legal.specs.declared.End as legal
-use Rattle.compact_legal.specs.declared.End.TheVariants as E
 use Rattle.kind_table.specs.Words.{row_at, rows_of, held, lookup}
 use Rattle.kind_table.specs.declared.Row.{Row}
-use Rattle.kind_table.specs.declared.Found as table
-use Rattle.kind_table.specs.declared.Found.TheVariants as F
 use Rattle.kind_store.specs.KindStore.{is_live}
 use Rattle.kind_reading.specs.declared.Side.{Side}
 use Rattle.kind_reading.specs.declared.Side.TheVariants.{Live, Deleted}
-use Rattle.kind_reading.specs.declared.Nth.{Nth}
-use Rattle.kind_reading.specs.declared.Nth.TheVariants as N
 use Rattle.kind_reading.specs.declared.Standing.{Standing}
 use Rattle.kind_reading.specs.declared.Standing.TheVariants as S
-use Rattle.kind_reading.specs.declared.View.{View}
-use Rattle.kind_reading.specs.declared.View.TheVariants as view
 
 -- ---- by number
 
@@ -39,9 +33,9 @@ rows_on side [] = []
 rows_on side (r ∷ rs) = cond (is_on side r) (r ∷ rows_on side rs) (rows_on side rs)
 
 -- "21 number not below its list's count"
-unfoldable pub nth : List Row → ℕ → Nth
-nth [] n = N.Missing
-nth (r ∷ rs) zero = N.At r
+unfoldable pub nth : List Row → ℕ → Option Row
+nth [] n = None
+nth (r ∷ rs) zero = Some r
 nth (r ∷ rs) (suc n) = nth rs n
 
 -- ---- by id
@@ -50,18 +44,22 @@ nth (r ∷ rs) (suc n) = nth rs n
 unfoldable pub row_standing : Row → Standing
 row_standing r = cond (is_live r.place) (S.Live r.place) S.Deleted
 
-abbrev pub standing_at : List ℕ → table.Found → Standing
-standing_at table (F.At i) = row_standing (row_at table i)
-standing_at table (F.Place p) = S.Unknown
+abbrev pub standing_at : List ℕ → Result ℕ ℕ → Standing
+standing_at table (Ok i) = row_standing (row_at table i)
+standing_at table (Err p) = S.Unknown
 
 unfoldable pub standing_of : List ℕ → ℕ → ℤ → Standing
 standing_of table ids id = standing_at table (lookup table ids (rank id))
 
 -- ---- a record's view: from its offset to its end
 
-abbrev pub view_to : ℕ → legal.End → View
-view_to at (E.At e) = view.Part at (e - at)
-view_to at E.Bad = view.Refused R.Unsound
+-- where a record or a text lies, that there is none, or a refusal
+abbrev pub View : Type 0
+View = Result (Option Span) Refusal
+
+abbrev pub view_to : ℕ → Option ℕ → View
+view_to at (Some e) = Ok (Some (record { start = at; len = e - at }))
+view_to at None = Err R.Unsound
 
 unfoldable pub view_at : ℕ → Kind → Bytes → ℕ → ℕ → View
 view_at strings k arena used at = view_to at (record_end strings k (take used arena) at)

@@ -6,39 +6,24 @@ ghost use Rattle.std.specs.Int.{w64};
 ghost use Rattle.std.proofs.Common.{to_z};
 ghost use Rattle.kind_reading.specs.Listed.{rows_read, is_on, rows_on, nth, row_standing, standing_of, view_at};
 
-use compact_legal::End;
 use kind::Kind;
-use kind_table::{DELETED, Found, Row};
+use kind_table::{DELETED, Row};
+use little::Span;
 use refusal::Refusal;
 
 // One of a kind's two lists.
-#[derive(Clone, Copy)]
+#[derive(Clone, Copy, PartialEq, Eq, Debug)]
 pub enum Side {
     Live,
     Deleted,
 }
 
-// The row of a number, or that the list is shorter (21).
-#[derive(Clone, Copy)]
-pub enum Nth {
-    At(Row),
-    Missing,
-}
-
 // What is known of an id: live with the place of its record, deleted, or nothing.
-#[derive(Clone, Copy)]
+#[derive(Clone, Copy, PartialEq, Eq, Debug)]
 pub enum Standing {
     Live(u64),
     Deleted,
     Unknown,
-}
-
-// Where a record or a text lies, that there is none, or a refusal.
-#[derive(Clone, Copy)]
-pub enum View {
-    Part { start: usize, len: usize },
-    Nothing,
-    Refused(Refusal),
 }
 
 // Whether a row is on a list.
@@ -58,34 +43,30 @@ pub fn count_on(side: Side, table: &[u64], ids: u64) -> u64
 {
     let n = little::lesser(ids as usize, table.len() / 3);
     let mut count: u64 = 0;
-    let mut i: usize = 0;
-    while i < n {
+    for i in 0..n {
         if is_on(side, kind_table::row_at(table, i)) {
             count += 1;
         }
-        i += 1;
     }
     count
 }
 
 // The row of a number on a list.
-pub fn row_on(side: Side, table: &[u64], ids: u64, n: u64) -> Nth
+pub fn row_on(side: Side, table: &[u64], ids: u64, n: u64) -> Option<Row>
     ensures { result ≡ nth (rows_on side (rows_read table.now ids)) n }
 {
     let end = little::lesser(ids as usize, table.len() / 3);
     let mut left = n;
-    let mut i: usize = 0;
-    while i < end {
+    for i in 0..end {
         let row = kind_table::row_at(table, i);
         if is_on(side, row) {
             if left == 0 {
-                return Nth::At(row);
+                return Some(row);
             }
             left -= 1;
         }
-        i += 1;
     }
-    Nth::Missing
+    None
 }
 
 fn row_standing(row: Row) -> Standing
@@ -103,22 +84,28 @@ pub fn standing_of(table: &[u64], ids: u64, id: u64) -> Standing
 {
     let rank = osm_id::rank_of_bits(id);
     match kind_table::find_row(table, ids, rank) {
-        Found::At(i) => row_standing(kind_table::row_at(table, i)),
-        Found::Place(_) => Standing::Unknown,
+        Ok(i) => row_standing(kind_table::row_at(table, i)),
+        Err(_) => Standing::Unknown,
     }
 }
 
 // A record's view: from its offset to its end.
-pub fn view_at(kind: Kind, arena: &[u8], used: u64, strings: u64, at: u64) -> View
+pub fn view_at(
+    kind: Kind,
+    arena: &[u8],
+    used: u64,
+    strings: u64,
+    at: u64,
+) -> Result<Option<Span>, Refusal>
     ensures { result ≡ view_at strings kind arena.now used at }
 {
     let n = little::lesser(used as usize, arena.len());
     let start = at as usize;
     match compact_legal::record_end(kind, &arena[..n], start, strings) {
-        End::At(e) => View::Part {
+        Some(e) => Ok(Some(Span {
             start,
             len: e - start,
-        },
-        End::Bad => View::Refused(Refusal::Unsound),
+        })),
+        None => Err(Refusal::Unsound),
     }
 }

@@ -1,9 +1,9 @@
 -- The test decides `SoundKindStore`, both ways.
+use Rattle.std.specs.Prelude.{None, Some}
 use Prim.Native.Nat.{ℕ, ◌+◌, ◌-◌, ◌≤◌}
 use mathlib.Core.Path.{◌≡◌, refl, sym, ◌∙◌, ap}
 use mathlib.Core.Logic.{◌↔◌}
 use mathlib.Core.Bool.{Bool, true, false}
-use mathlib.Core.Option.{none, some}
 use mathlib.Core.List.{List, [], ◌∷◌, ◌++◌}
 use native.Mathlib.Omega.{arith}
 use lib.ListN.{length, take, drop, length-append, length-drop}
@@ -30,7 +30,6 @@ use Rattle.compact.proofs.Format.{first, of_cut}
 use Rattle.compact.specs.Legal.{legal}
 use Rattle.compact_legal.specs.Judge.{end_of, record_end}
 use Rattle.compact_legal.specs.Whole.{kept_bytes, Whole, record_at, starts_at}
-use Rattle.compact_legal.specs.declared.End.TheVariants.{At}
 use Rattle.compact_legal.proofs.Fronts.{record_is, record_short}
 use Rattle.compact_legal.proofs.Wholes.{kept_long, sound, complete}
 use Rattle.kind_table.specs.Words.{rows_of}
@@ -53,12 +52,12 @@ head_there Node s = refl
 head_there Way s = refl
 head_there Relation s = refl
 
-cut_id : (k : Kind) (s : Bytes) (c : Cut KeptRecord) → cut_record k s ≡ some c → c.item.id ≡ to_z w64 (value_at 8 s 0)
+cut_id : (k : Kind) (s : Bytes) (c : Cut KeptRecord) → cut_record k s ≡ Some c → c.item.id ≡ to_z w64 (value_at 8 s 0)
 cut_id k s c e =
     by_le (head_len k + 29) (length s)
     (λ l. first (λ (r : Record ℕ) q. Unit {0}) (λ x t. tt) (sym (record_is k s l) ∙ e)
     (λ r q u t. of_cut (λ (x : KeptRecord) q. x.id ≡ to_z w64 (value_at 8 s 0)) t (head_there k s)))
-    (λ l. let z : none ≡ some c = sym (record_short k s l) ∙ e in no cc)
+    (λ l. let z : None ≡ Some c = sym (record_short k s l) ∙ e in no cc)
 
 module _ (strings : ℕ) (k : Kind) (s : Bytes) where
   -- a record at a place, with the records after it
@@ -76,7 +75,7 @@ module _ (strings : ℕ) (k : Kind) (s : Bytes) where
       omega arith
 
   end_is : (at : ℕ) (x : KeptRecord) (xs : List KeptRecord) → fits_kept k x ≡ true → legal strings x.held ≡ true → drop at s ≡ kept_bytes x ++ joined_bytes kept_bytes xs
-      → record_end strings k s at ≡ At (at + length (kept_bytes x))
+      → record_end strings k s at ≡ Some (at + length (kept_bytes x))
   unfolding record_end end_of
   end_is at x xs f l e =
       let n : length s - length (joined_bytes kept_bytes xs) ≡ at + length (kept_bytes x) = omega (arith, long at x xs e) in
@@ -99,7 +98,7 @@ module _ (strings : ℕ) (k : Kind) (s : Bytes) where
         let lx = all_head (λ (x : KeptRecord). legal strings x.held) x xs q in
         let n = kept_long x in
         let g = long at x xs e in
-        let t : record_end strings k s at ≡ At (at + length (kept_bytes x)) = end_is at x xs fx lx e in
+        let t : record_end strings k s at ≡ Some (at + length (kept_bytes x)) = end_is at x xs fx lx e in
         by_eq at place
         (λ i. let z : place - at ≡ 0 = omega arith in
         let c : comes_to strings k s place f at ≡ true = arrived strings k s place f at (omega arith) ∙ eq-eqb at place i in

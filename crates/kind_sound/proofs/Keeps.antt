@@ -1,4 +1,5 @@
 -- A kind store that holds nothing is sound; an accepted push of a legal record and an accepted delete keep a kind store sound.
+use Rattle.std.specs.Prelude.{Ok, Option}
 use Prim.Native.Nat.{ℕ, ◌+◌, ◌≤◌}
 use mathlib.Core.Path.{◌≡◌, refl, sym, ◌∙◌, ap}
 use mathlib.Core.Bool.{Bool, true, not}
@@ -15,7 +16,6 @@ use Rattle.base.proofs.Lists.{all_nil, all_cons, all_head, all_tail}
 use Rattle.kind.specs.declared.Kind.{Kind}
 use Rattle.osm_id.specs.Order.{rank, id_of}
 use Rattle.osm_id.proofs.Orders.{id_rank, same_is}
-use Rattle.version_floor.specs.declared.Version.{Version}
 use Rattle.version_floor.specs.Version.{higher, word_of}
 use Rattle.compact_append.proofs.Writes.{fits_is}
 use Rattle.compact_append.proofs.Joins.{appended}
@@ -33,7 +33,6 @@ use Rattle.kind_table.specs.Words.{rows_of, rows_from}
 use Rattle.kind_table.proofs.Tables.{sound_empty}
 use Rattle.kind_table.proofs.Maps.{put_nil, put_before, put_over, put_behind}
 use Rattle.kind_store.specs.KindStore.{KindStore, kind_store_with, is_live, gone, rowed, known_version, floor_of, floor_after, pushed, deleted}
-use Rattle.kind_store.specs.declared.Kept.TheVariants.{Taken}
 use Rattle.kind_store.proofs.Answers.{by_delete, answered}
 use Rattle.kind_store.proofs.KindStores.{Laid, delete_laid, push_laid, push_fits, push_used, push_arena}
 use Rattle.kind_sound.specs.Sound.{sound_row, SoundKindStore}
@@ -76,8 +75,8 @@ laid_sound strings k s t id place floor ys l w f v e h =
       rows = rw l.rows (all_put (sound_row v.kept) (record { rank = rank id; place = place; floor = floor }) (rows_of s.table s.ids) h (rw e (rows_stay w.whole.kept ys (rows_of s.table s.ids) w.rows)));
     }
 
-module _ (strings : ℕ) (k : Kind) (setting : ℕ) (s : KindStore) (id : ℤ) (claim : Version) (w : SoundKindStore strings k s) where
-  delete_bytes : (deleted k setting s id claim).answer ≡ Taken → ((deleted k setting s id claim).kind_store.used ≡ s.used) × ((deleted k setting s id claim).kind_store.arena ≡ s.arena)
+module _ (strings : ℕ) (k : Kind) (setting : ℕ) (s : KindStore) (id : ℤ) (claim : Option ℤ) (w : SoundKindStore strings k s) where
+  delete_bytes : (deleted k setting s id claim).answer ≡ (Ok tt) → ((deleted k setting s id claim).kind_store.used ≡ s.used) × ((deleted k setting s id claim).kind_store.arena ≡ s.arena)
   unfolding rowed
   delete_bytes e =
       by_delete k setting s id claim
@@ -88,7 +87,7 @@ module _ (strings : ℕ) (k : Kind) (setting : ℕ) (s : KindStore) (id : ℤ) (
   unfolding sound_row is_live
   gone_sound xs n floor = either_left _ _ refl
 
-  pub delete_sound : (deleted k setting s id claim).answer ≡ Taken → SoundKindStore strings k (deleted k setting s id claim).kind_store
+  pub delete_sound : (deleted k setting s id claim).answer ≡ (Ok tt) → SoundKindStore strings k (deleted k setting s id claim).kind_store
   delete_sound e =
       let t = (deleted k setting s id claim).kind_store in
       let b = delete_bytes e in
@@ -98,8 +97,8 @@ module _ (strings : ℕ) (k : Kind) (setting : ℕ) (s : KindStore) (id : ℤ) (
       (sym (append-nil w.whole.kept)) (gone_sound w.whole.kept (rank id) (word_of (higher (known_version k s id) claim)))
 
 -- a push of a legal record's bytes under its own id
-module _ (strings : ℕ) (k : Kind) (setting : ℕ) (s : KindStore) (claim : Version) (x : KeptRecord) (f : fits_kept k x ≡ true) (g : legal strings x.held ≡ true) (i : SFits w64 x.id)
-    (w : SoundKindStore strings k s) (taken : (pushed k setting s x.id claim (kept_bytes x)).answer ≡ Taken) where
+module _ (strings : ℕ) (k : Kind) (setting : ℕ) (s : KindStore) (claim : Option ℤ) (x : KeptRecord) (f : fits_kept k x ≡ true) (g : legal strings x.held ≡ true) (i : SFits w64 x.id)
+    (w : SoundKindStore strings k s) (taken : (pushed k setting s x.id claim (kept_bytes x)).answer ≡ (Ok tt)) where
   push_bytes : take (pushed k setting s x.id claim (kept_bytes x)).kind_store.used (pushed k setting s x.id claim (kept_bytes x)).kind_store.arena ≡ take s.used s.arena ++ kept_bytes x
   push_bytes =
       let l = push_fits k setting s x.id claim (kept_bytes x) taken in

@@ -1,4 +1,5 @@
 -- A walk from record to record to a place, step by step; and the cells that tell on its way where records start.
+use Rattle.std.specs.Prelude.{None, Some}
 use Prim.Native.Nat.{ℕ, zero, suc, ◌+◌, ◌/◌, ◌<◌, ◌≤◌}
 use mathlib.Core.Path.{◌≡◌, refl, sym, ◌∙◌, ap}
 use mathlib.Core.Bool.{true, false}
@@ -13,7 +14,6 @@ use Rattle.base.proofs.Split.{by_bool, by_lt, by_eq, clash, both_no_left, both_n
 use Rattle.kind.specs.declared.Kind.{Kind}
 use Rattle.compact_legal.specs.Judge.{record_end}
 use Rattle.compact_legal.specs.Whole.{whole_records}
-use Rattle.compact_legal.specs.declared.End.TheVariants.{At, Bad}
 use Rattle.compact_legal.proofs.Fronts.{record_off, end_tells}
 use Rattle.compact_legal.proofs.Wholes.{whole_nil, walk_on, walk_stops}
 use Rattle.compact.proofs.Places.{off_end}
@@ -26,12 +26,12 @@ module _ (strings : ℕ) (k : Kind) (s : Bytes) (place : ℕ) where
   arrived zero at h = refl
   arrived (suc f) at h = rw (le-ltb at place h)
 
-  pub steps : (f at e : ℕ) → place ≤ at + f → at < place → At e ≡ record_end strings k s at → at < e → (g : ℕ) × ((place ≤ e + g) × (comes_to strings k s place g e ≡ comes_to strings k s place f at))
+  pub steps : (f at e : ℕ) → place ≤ at + f → at < place → Some e ≡ record_end strings k s at → at < e → (g : ℕ) × ((place ≤ e + g) × (comes_to strings k s place g e ≡ comes_to strings k s place f at))
   unfolding comes_to
   steps zero at e l h t n = absurd (omega arith)
   steps (suc f) at e l h t n = (f, (omega arith, rw (lt-ltb at place h, ← t)))
 
-  pub stops : (f at : ℕ) → place ≤ at + f → at < place → Bad ≡ record_end strings k s at → comes_to strings k s place f at ≡ false
+  pub stops : (f at : ℕ) → place ≤ at + f → at < place → None ≡ record_end strings k s at → comes_to strings k s place f at ≡ false
   unfolding comes_to
   stops zero at l h t = absurd (omega arith)
   stops (suc f) at l h t = rw (lt-ltb at place h, ← t)
@@ -46,7 +46,7 @@ module _ (strings : ℕ) (k : Kind) (s : Bytes) (place : ℕ) where
   pub coming_first : Coming 0
   coming_first = record { inside = omega arith; fuel = place; enough = omega arith; same = refl }
 
-  pub coming_next : (at e : ℕ) → Coming at → at < place → At e ≡ record_end strings k s at → (at < e) × Coming e
+  pub coming_next : (at e : ℕ) → Coming at → at < place → Some e ≡ record_end strings k s at → (at < e) × Coming e
   coming_next at e w h t =
       let o = walk_on strings k s at e w.inside t in
       let g = steps w.fuel at e w.enough h t o.1.0 in
@@ -61,7 +61,7 @@ module _ (strings : ℕ) (k : Kind) (s : Bytes) where
   unfolding Reached
   reached_first place h = (place, (omega arith, refl))
 
-  module _ (at e : ℕ) (reached : Reached strings k s at) (t : At e ≡ record_end strings k s at) (h : at < e) where
+  module _ (at e : ℕ) (reached : Reached strings k s at) (t : Some e ≡ record_end strings k s at) (h : at < e) where
     pub reached_next : Reached strings k s e
     unfolding Reached
     reached_next place l =
@@ -116,7 +116,7 @@ module _ (strings : ℕ) (k : Kind) (s : Bytes) (cells : List ℕ) where
 
   module _ (at : ℕ) (w : Noting strings k s cells at) where
     -- a record more
-    module _ (e : ℕ) (t : At e ≡ record_end strings k s at) where
+    module _ (e : ℕ) (t : Some e ≡ record_end strings k s at) where
       forth : at < e
       forth = (walk_on strings k s at e w.inside t).1.0
 
@@ -174,7 +174,7 @@ module _ (strings : ℕ) (k : Kind) (s : Bytes) (cells : List ℕ) where
             },
           )
 
-    pub noting_bad : at < length s → Bad ≡ record_end strings k s at → whole_records strings k s ≡ false
+    pub noting_bad : at < length s → None ≡ record_end strings k s at → whole_records strings k s ≡ false
     noting_bad h t = sym w.whole ∙ walk_stops strings k s at h t
 
     pub noting_last : length s ≤ at → (whole_records strings k s ≡ true) × Noted strings k s cells

@@ -1,5 +1,5 @@
 -- The test of `SoundKindStore`, total for any storage. proofs/Decides shows that it holds exactly where the kind store is sound.
-use Rattle.std.specs.Prelude.{ℕ, zero, suc, Bool, false, not, cond, List, ltb, leb, eqb, length, take}
+use Rattle.std.specs.Prelude.{ℕ, zero, suc, Bool, false, not, cond, List, ltb, leb, eqb, length, take, None, Option, Some}
 use Rattle.std.specs.Int.{w64}
 use Rattle.std.proofs.Common.{to_z}
 use Rattle.base.specs.Bytes.{Bytes, both, either, all}
@@ -8,15 +8,13 @@ use Rattle.kind.specs.declared.Kind.{Kind}
 use Rattle.osm_id.specs.Order.{same_id, id_of}
 use Rattle.compact_legal.specs.Judge.{record_end}
 use Rattle.compact_legal.specs.Whole.{whole_records}
-use Rattle.compact_legal.specs.declared.End.{End}
-use Rattle.compact_legal.specs.declared.End.TheVariants.{At, Bad}
 use Rattle.kind_table.specs.Words.{sound_table, rows_of}
 use Rattle.kind_table.specs.declared.Row.{Row}
 use Rattle.kind_store.specs.KindStore.{KindStore, is_live}
 
-abbrev pub further : End → (ℕ → Bool) → Bool
-further (At e) f = f e
-further Bad f = false
+abbrev pub further : Option ℕ → (ℕ → Bool) → Bool
+further (Some e) f = f e
+further None f = false
 
 -- a walk from record to record, from `at` on, comes to the place; each record takes a byte, so the way to the place is fuel enough
 unfoldable pub comes_to : ℕ → Kind → Bytes → ℕ → ℕ → ℕ → Bool

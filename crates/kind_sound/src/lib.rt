@@ -13,7 +13,6 @@ ghost use Rattle.kind_store.specs.KindStore.{kind_store_with};
 ghost use Rattle.kind_sound.specs.Check.{comes_to, row_passes, sound_used, sound_kind_store};
 ghost use Rattle.kind_sound.specs.Cells.{cell_of, Empty, Noted};
 
-use compact_legal::End;
 use kind::Kind;
 use kind_table::{DELETED, Row};
 
@@ -38,14 +37,15 @@ fn note(cells: &mut [u8; 23302], at: usize)
     }
 }
 
-// One walk from record to record: whether all are whole and legal, with their starts noted.
+// One walk from record to record: whether all are whole and legal, with their starts noted. It is a `while`, here and in `comes_to`: each record
+// tells where the next one starts, so no range or slice has the places to go over.
 fn note_starts(kind: Kind, bytes: &[u8], strings: u64, cells: &mut [u8; 23302]) -> bool
     requires { Empty cells.old }
     ensures { (result ≡ whole_records strings kind bytes.now) × (result ≡ true → Noted strings kind bytes.now cells.new) }
 {
     let mut at: usize = 0;
     while at < bytes.len() {
-        let End::At(e) = compact_legal::record_end(kind, bytes, at, strings) else {
+        let Some(e) = compact_legal::record_end(kind, bytes, at, strings) else {
             return false;
         };
         note(cells, at);
@@ -60,7 +60,7 @@ fn comes_to(kind: Kind, bytes: &[u8], place: usize, strings: u64) -> bool
 {
     let mut at: usize = 0;
     while at < place {
-        let End::At(e) = compact_legal::record_end(kind, bytes, at, strings) else {
+        let Some(e) = compact_legal::record_end(kind, bytes, at, strings) else {
             return false;
         };
         at = e;
@@ -109,16 +109,7 @@ fn rows_pass(
     requires { Noted strings kind bytes.now cells.now }
     ensures { result ≡ all (row_passes strings kind bytes.now) (rows_of table.now ids) }
 {
-    let n = ids as usize;
-    let mut i: usize = 0;
-    while i < n {
-        if row_passes(kind, bytes, kind_table::row_at(table, i), strings, cells) {
-            i += 1;
-        } else {
-            return false;
-        }
-    }
-    true
+    (0..ids as usize).all(|i| row_passes(kind, bytes, kind_table::row_at(table, i), strings, cells))
 }
 
 // The used bytes, then the rows.

@@ -1,4 +1,5 @@
 -- The version that a record claims: read from bytes that stay, from a record that was joined, and of 32 bits.
+use Rattle.std.specs.Prelude.{None, Option, Some}
 use Prim.Native.Nat.{ℕ, ◌+◌, ◌^◌, ◌<◌, ◌≤◌}
 use mathlib.Core.Path.{◌≡◌, refl, sym, ◌∙◌, ap}
 use mathlib.Core.Bool.{true}
@@ -18,8 +19,6 @@ use Rattle.little.proofs.Littles.{length_le, value_at_within, value_back}
 use Rattle.little.proofs.Overs.{over_fits}
 use Rattle.kind.specs.declared.Kind.{Kind}
 use Rattle.version_floor.specs.Version.{higher}
-use Rattle.version_floor.specs.declared.Version.{Version}
-use Rattle.version_floor.specs.declared.Version.TheVariants.{Absent, Is}
 use Rattle.version_floor.proofs.Versions.{by_higher}
 use Rattle.model.specs.Record.{Meta, flagged, claim_of}
 use Rattle.compact.specs.Layout.{Head, head_len, head_bytes, meta_bytes}
@@ -72,13 +71,13 @@ version_joined k h m parts s used f l =
 
 -- ---- versions are of 32 bits
 
-abbrev pub Narrow : Version → Type 0
-Narrow v = (x : ℤ) → v ≡ Is x → SFits w32 x
+abbrev pub Narrow : Option ℤ → Type 0
+Narrow v = (x : ℤ) → v ≡ Some x → SFits w32 x
 
-pub narrow_none : Narrow Absent
+pub narrow_none : Narrow None
 narrow_none x e = no (cc)
 
-pub narrow_higher : (v w : Version) → Narrow v → Narrow w → Narrow (higher v w)
+pub narrow_higher : (v w : Option ℤ) → Narrow v → Narrow w → Narrow (higher v w)
 narrow_higher v w f g x e = by_higher v w (λ h. f x (sym h ∙ e)) (λ h. g x (sym h ∙ e))
 
 -- of metadata that fits

@@ -1,8 +1,8 @@
 -- Which rows an accepted push or delete leaves, and what is known of each id after it.
+use Rattle.std.specs.Prelude.{Err, None, Ok, Option, Result, Some}
 use Prim.Native.Nat.{ℕ, suc, ◌+◌, ◌*◌, ◌^◌, ◌<◌, ◌≤◌}
 use mathlib.Core.Path.{◌≡◌, refl, sym, ◌∙◌, ap}
 use mathlib.Core.Bool.{true, false}
-use mathlib.Core.Option.{Option, none, some}
 use mathlib.Core.List.{List, ◌++◌}
 use native.Mathlib.Omega.{arith}
 use lib.Dec.{leb}
@@ -18,22 +18,16 @@ use Rattle.little.proofs.Overs.{take_over, length_over, over_fits}
 use Rattle.kind.specs.declared.Kind.{Kind}
 use Rattle.osm_id.specs.Order.{rank}
 use Rattle.version_floor.specs.Version.{higher, admit_of, word_of, of_word}
-use Rattle.version_floor.specs.declared.Version.{Version}
-use Rattle.version_floor.specs.declared.Version.TheVariants.{Absent, Is}
-use Rattle.version_floor.specs.declared.Admit.TheVariants.{Admitted}
 use Rattle.version_floor.proofs.Versions.{higher_left, higher_right, commutative, associative, idempotent, admitted_highest, word_version, word_absent, word_fits}
 use Rattle.model.specs.Record.{Meta, claim_of}
 use Rattle.compact.specs.Layout.{Head, head_len, head_bytes, meta_bytes}
 use Rattle.compact.specs.Fits.{fits_meta}
 use Rattle.kind_table.specs.declared.Put.TheVariants as answers
 use Rattle.kind_table.specs.declared.Row.{Row}
-use Rattle.kind_table.specs.declared.Found.{Found}
-use Rattle.kind_table.specs.declared.Found.TheVariants.{At, Place}
 use Rattle.kind_table.specs.Rows.{rising, find, put}
 use Rattle.kind_table.specs.Words.{row_at, rows_from, rows_of, lookup, stored, sound_table}
 use Rattle.kind_table.proofs.Maps.{find_put_same, find_put_other}
 use Rattle.kind_table.proofs.Tables.{sound_of, stored_known, stored_new, found_row, found_none, rows_stored, sound_stored, length_stored}
-use Rattle.kind_store.specs.declared.Kept.TheVariants.{Taken}
 use Rattle.kind_store.specs.KindStore.{KindStore, KindStoreAfter, kind_store_with, is_live, gone, version_at, live_version, known_of, known_version, floor_of, floor_after, checked, id_room, rowed, pushed, deleted}
 use Rattle.kind_store.specs.WellFormed.{rows_in, WellFormed}
 use Rattle.kind_store.proofs.Answers.{dropped, laid, by_delete, by_push, answered, check_refused}
@@ -42,27 +36,27 @@ use Rattle.kind_store.proofs.Claims.{version_same, version_joined, Narrow, narro
 -- ---- what is known of an id, by its row in a sound table
 
 module _ (k : Kind) (s : KindStore) (sound : sound_table s.table s.ids ≡ true) (id : ℤ) where
-  by_row : {C : Type 0} → ((i : ℕ) → lookup s.table s.ids (rank id) ≡ At i → find (rank id) (rows_in s) ≡ some (row_at s.table i) → C)
-      → ((p : ℕ) → lookup s.table s.ids (rank id) ≡ Place p → find (rank id) (rows_in s) ≡ none → C) → C
+  by_row : {C : Type 0} → ((i : ℕ) → lookup s.table s.ids (rank id) ≡ Ok i → find (rank id) (rows_in s) ≡ Some (row_at s.table i) → C)
+      → ((p : ℕ) → lookup s.table s.ids (rank id) ≡ Err p → find (rank id) (rows_in s) ≡ None → C) → C
   by_row {C} f g = go (lookup s.table s.ids (rank id)) refl
     where
-      go : (o : Found) → lookup s.table s.ids (rank id) ≡ o → C
-      go (At i) e = f i e (found_row s.table s.ids sound (rank id) i e).1
-      go (Place p) e = g p e (found_none s.table s.ids sound (rank id) p e).0
+      go : (o : Result ℕ ℕ) → lookup s.table s.ids (rank id) ≡ o → C
+      go (Ok i) e = f i e (found_row s.table s.ids sound (rank id) i e).1
+      go (Err p) e = g p e (found_none s.table s.ids sound (rank id) p e).0
 
-  pub known_row : (r : Row) → find (rank id) (rows_in s) ≡ some r → known_version k s id ≡ known_of k s.arena r
+  pub known_row : (r : Row) → find (rank id) (rows_in s) ≡ Some r → known_version k s id ≡ known_of k s.arena r
   unfolding known_version
   known_row r e = by_row (λ i l f. let x : row_at s.table i ≡ r = cc in rw (l, x)) (λ p l f. no (cc))
 
-  pub known_none : find (rank id) (rows_in s) ≡ none → known_version k s id ≡ Absent
+  pub known_none : find (rank id) (rows_in s) ≡ None → known_version k s id ≡ None
   unfolding known_version
   known_none e = by_row (λ i l f. no (cc)) (λ p l f. rw l)
 
-  pub floor_row : (r : Row) → find (rank id) (rows_in s) ≡ some r → floor_of s id ≡ r.floor
+  pub floor_row : (r : Row) → find (rank id) (rows_in s) ≡ Some r → floor_of s id ≡ r.floor
   unfolding floor_of
   floor_row r e = by_row (λ i l f. let x : row_at s.table i ≡ r = cc in rw (l, ← x)) (λ p l f. no (cc))
 
-  pub floor_none : find (rank id) (rows_in s) ≡ none → floor_of s id ≡ 2 ^ 32
+  pub floor_none : find (rank id) (rows_in s) ≡ None → floor_of s id ≡ 2 ^ 32
   unfolding floor_of
   floor_none e = by_row (λ i l f. no (cc)) (λ p l f. rw l)
 
@@ -86,9 +80,9 @@ module _ (s : KindStore) (id : ℤ) (place floor : ℕ) (sound : sound_table s.t
       row : Row
       row = record { rank = rank id; place = place; floor = floor }
 
-      go : (o : Found) → lookup s.table s.ids (rank id) ≡ o → ⊥
-      go (At i) l = let x = ap (λ z. z.answer) (stored_known s.table s.ids row i l) in no (cc)
-      go (Place p) l =
+      go : (o : Result ℕ ℕ) → lookup s.table s.ids (rank id) ≡ o → ⊥
+      go (Ok i) l = let x = ap (λ z. z.answer) (stored_known s.table s.ids row i l) in no (cc)
+      go (Err p) l =
           let r : leb (3 * suc s.ids) (length s.table) ≡ true = rw l at roomy in
           let x = ap (λ z. z.answer) (stored_new s.table s.ids row p l (leb-true (3 * suc s.ids) (length s.table) r)) in no (cc)
 
@@ -106,16 +100,16 @@ module _ (s : KindStore) (id : ℤ) (place floor : ℕ) (sound : sound_table s.t
         before = b;
       }
 
-module _ (k : Kind) (setting : ℕ) (s : KindStore) (id : ℤ) (claim : Version) (sound : sound_table s.table s.ids ≡ true) where
+module _ (k : Kind) (setting : ℕ) (s : KindStore) (id : ℤ) (claim : Option ℤ) (sound : sound_table s.table s.ids ≡ true) where
   -- an accepted delete: the table stays sound, and the row is put among the rows
-  pub delete_laid : (deleted k setting s id claim).answer ≡ Taken → Laid s id gone (word_of (higher (known_version k s id) claim)) (deleted k setting s id claim).kind_store
+  pub delete_laid : (deleted k setting s id claim).answer ≡ (Ok tt) → Laid s id gone (word_of (higher (known_version k s id) claim)) (deleted k setting s id claim).kind_store
   delete_laid e =
       by_delete k setting s id claim
       (λ v c w. let z = answered w e in no (cc)) (λ c r w. let z = answered w e in no (cc))
       (λ c r w. rw w (rowed_laid s id gone (word_of (higher (known_version k s id) claim)) sound r s.arena s.used refl (omega arith) refl))
 
   -- an accepted push too, at the used bytes' end
-  pub push_laid : (bytes : Bytes) → (pushed k setting s id claim bytes).answer ≡ Taken
+  pub push_laid : (bytes : Bytes) → (pushed k setting s id claim bytes).answer ≡ (Ok tt)
       → Laid s id s.used (floor_after setting (known_version k s id) claim (floor_of s id)) (pushed k setting s id claim bytes).kind_store
   push_laid bytes e =
       by_push k setting s id claim bytes
@@ -131,14 +125,14 @@ unfolding known_of live_version
 narrow_row k arena r h =
     by_bool (is_live r.place)
     (λ t. rw t (narrow_higher (version_at k arena r.place) (of_word r.floor) (narrow_at k arena r.place h) (word_fits r.floor)))
-    (λ t. rw t (narrow_higher Absent (of_word r.floor) narrow_none (word_fits r.floor)))
+    (λ t. rw t (narrow_higher None (of_word r.floor) narrow_none (word_fits r.floor)))
 
 pub known_narrow : (k : Kind) (s : KindStore) (id : ℤ) → WellFormed k s → Narrow (known_version k s id)
 known_narrow k s id well_formed = go (find (rank id) (rows_in s)) refl
   where
     go : (o : Option Row) → find (rank id) (rows_in s) ≡ o → Narrow (known_version k s id)
-    go (some r) e = rw (known_row k s well_formed.sound id r e) (narrow_row k s.arena r well_formed.bytes)
-    go none e = rw (known_none k s well_formed.sound id e) narrow_none
+    go (Some r) e = rw (known_row k s well_formed.sound id r e) (narrow_row k s.arena r well_formed.bytes)
+    go None e = rw (known_none k s well_formed.sound id e) narrow_none
 
 -- ---- after an accepted act
 
@@ -155,11 +149,11 @@ module _ (k : Kind) (s t : KindStore) (id : ℤ) (place floor : ℕ) (well_forme
       same = rw laid.rows (find_put_other (rank other) (record { rank = rank id; place = place; floor = floor }) (rows_in s) n)
 
       go : (o : Option Row) → find (rank other) (rows_in s) ≡ o → known_version k t other ≡ known_version k s other
-      go (some r) e =
+      go (Some r) e =
           known_row k t laid.sound other r (same ∙ e)
           ∙ known_kept k t.arena s.arena s.used r (well_formed.places (rank other) r e) laid.before
           ∙ sym (known_row k s well_formed.sound other r e)
-      go none e = known_none k t laid.sound other (same ∙ e) ∙ sym (known_none k s well_formed.sound other e)
+      go None e = known_none k t laid.sound other (same ∙ e) ∙ sym (known_none k s well_formed.sound other e)
 
   -- and of the id itself it is what its new row says
   pub own_known : known_version k t id ≡ known_of k t.arena (record { rank = rank id; place = place; floor = floor })
@@ -175,11 +169,11 @@ module _ (k : Kind) (s t : KindStore) (id : ℤ) (place floor : ℕ) (well_forme
         places = λ n r e l.
             by_eq n (rank id)
             (λ q. let row : Row = record { rank = rank id; place = place; floor = floor } in
-            let x : find (rank id) (rows_in t) ≡ some row = rw laid.rows (find_put_same row (rows_in s)) in
+            let x : find (rank id) (rows_in t) ≡ Some row = rw laid.rows (find_put_same row (rows_in s)) in
             let y : row ≡ r = cc (rw q at e) in
             let z : place ≡ r.place = ap (λ (w : Row). w.place) y in
             rw (← z) (p (rw z l)))
-            (λ q. let x : find n (rows_in s) ≡ some r = sym (find_put_other n (record { rank = rank id; place = place; floor = floor }) (rows_in s) q) ∙ rw laid.rows at e in
+            (λ q. let x : find n (rows_in s) ≡ Some r = sym (find_put_other n (record { rank = rank id; place = place; floor = floor }) (rows_in s) q) ∙ rw laid.rows at e in
             omega (arith, well_formed.places n r x l, laid.grown));
       }
 
@@ -189,7 +183,7 @@ not_live : is_live gone ≡ false
 unfolding is_live
 not_live = refl
 
-module _ (k : Kind) (setting : ℕ) (s : KindStore) (id : ℤ) (claim : Version) (well_formed : WellFormed k s) (taken : (deleted k setting s id claim).answer ≡ Taken) where
+module _ (k : Kind) (setting : ℕ) (s : KindStore) (id : ℤ) (claim : Option ℤ) (well_formed : WellFormed k s) (taken : (deleted k setting s id claim).answer ≡ (Ok tt)) where
   deleted_is : (deleted k setting s id claim).kind_store ≡ dropped k setting s id claim
   deleted_is =
       by_delete k setting s id claim (λ v c w. let z = answered w taken in no (cc)) (λ c r w. let z = answered w taken in no (cc))
@@ -222,14 +216,14 @@ module _ (k : Kind) (setting : ℕ) (s : KindStore) (id : ℤ) (claim : Version)
 
 -- ---- an accepted push
 
-module _ (k : Kind) (setting : ℕ) (s : KindStore) (id : ℤ) (claim : Version) (bytes : Bytes) (taken : (pushed k setting s id claim bytes).answer ≡ Taken) where
-  is_taken : {C : Type 0} → (checked setting (known_version k s id) claim ≡ Admitted → s.used + length bytes ≤ length s.arena → (pushed k setting s id claim bytes).kind_store ≡ laid k setting s id claim bytes → C) → C
+module _ (k : Kind) (setting : ℕ) (s : KindStore) (id : ℤ) (claim : Option ℤ) (bytes : Bytes) (taken : (pushed k setting s id claim bytes).answer ≡ (Ok tt)) where
+  is_taken : {C : Type 0} → (checked setting (known_version k s id) claim ≡ (Ok tt) → s.used + length bytes ≤ length s.arena → (pushed k setting s id claim bytes).kind_store ≡ laid k setting s id claim bytes → C) → C
   is_taken f =
       by_push k setting s id claim bytes
       (λ v c w. let z = answered w taken in no (cc)) (λ c r w. let z = answered w taken in no (cc)) (λ c r l w. let z = answered w taken in no (cc))
       (λ c r l w. f c l (ap (λ (z : KindStoreAfter). z.kind_store) w))
 
-  pub push_admitted : checked setting (known_version k s id) claim ≡ Admitted
+  pub push_admitted : checked setting (known_version k s id) claim ≡ (Ok tt)
   push_admitted = is_taken (λ c l w. c)
 
   pub push_fits : s.used + length bytes ≤ length s.arena
@@ -265,17 +259,17 @@ unfolding known_of
 floor_under k s id sound = go (find (rank id) (rows_in s)) refl
   where
     go : (o : Option Row) → find (rank id) (rows_in s) ≡ o → higher (known_version k s id) (of_word (floor_of s id)) ≡ known_version k s id
-    go (some r) e =
+    go (Some r) e =
         rw (known_row k s sound id r e, floor_row k s sound id r e) (associative (live_version k s.arena r) (of_word r.floor) (of_word r.floor) ∙ rw (idempotent (of_word r.floor)))
-    go none e = rw (known_none k s sound id e, floor_none k s sound id e) (higher_left (of_word (2 ^ 32)) ∙ word_absent (2 ^ 32) (omega arith))
+    go None e = rw (known_none k s sound id e, floor_none k s sound id e) (higher_left (of_word (2 ^ 32)) ∙ word_absent (2 ^ 32) (omega arith))
 
 -- a claim that is admitted is above the known version and above its floor
-raised_claim : (v f : Version) (x : ℤ) → admit_of v (Is x) ≡ Admitted → higher v f ≡ v → higher (Is x) f ≡ higher v (Is x)
-raised_claim v f x a e = cc (admitted_highest v x a, associative v (Is x) f, commutative (Is x) f, associative v f (Is x))
+raised_claim : (v f : Option ℤ) (x : ℤ) → admit_of v (Some x) ≡ (Ok tt) → higher v f ≡ v → higher (Some x) f ≡ higher v (Some x)
+raised_claim v f x a e = cc (admitted_highest v x a, associative v (Some x) f, commutative (Some x) f, associative v f (Some x))
 
 -- a push of a record, and what is known of its id after it
 module _ (k : Kind) (setting : ℕ) (s : KindStore) (id : ℤ) (h : Head) (m : Meta ℕ) (parts : Bytes) (well_formed : WellFormed k s) (fits : fits_meta m ≡ true)
-    (taken : (pushed k setting s id (claim_of m) (head_bytes k h ++ meta_bytes m ++ parts)).answer ≡ Taken) where
+    (taken : (pushed k setting s id (claim_of m) (head_bytes k h ++ meta_bytes m ++ parts)).answer ≡ (Ok tt)) where
   live : is_live s.used ≡ true
   unfolding is_live
   live = lt-ltb s.used (2 ^ 63) (omega (arith, push_fits k setting s id (claim_of m) (head_bytes k h ++ meta_bytes m ++ parts) taken, well_formed.short))
@@ -294,9 +288,9 @@ module _ (k : Kind) (setting : ℕ) (s : KindStore) (id : ℤ) (h : Head) (m : M
   pub push_raises : setting ≡ 0 → known_version k (pushed k setting s id (claim_of m) (head_bytes k h ++ meta_bytes m ++ parts)).kind_store id ≡ higher (known_version k s id) (claim_of m)
   push_raises z = push_known ∙ go (claim_of m) (push_admitted k setting s id (claim_of m) (head_bytes k h ++ meta_bytes m ++ parts) taken)
     where
-      go : (c : Version) → checked setting (known_version k s id) c ≡ Admitted → higher c (of_word (floor_after setting (known_version k s id) c (floor_of s id))) ≡ higher (known_version k s id) c
-      go Absent e = rw (z, higher_left, higher_right) (word_version (known_version k s id) (known_narrow k s id well_formed))
-      go (Is x) e = raised_claim (known_version k s id) (of_word (floor_of s id)) x (rw (z, check_refused) at e) (floor_under k s id well_formed.sound)
+      go : (c : Option ℤ) → checked setting (known_version k s id) c ≡ (Ok tt) → higher c (of_word (floor_after setting (known_version k s id) c (floor_of s id))) ≡ higher (known_version k s id) c
+      go None e = rw (z, higher_left, higher_right) (word_version (known_version k s id) (known_narrow k s id well_formed))
+      go (Some x) e = raised_claim (known_version k s id) (of_word (floor_of s id)) x (rw (z, check_refused) at e) (floor_under k s id well_formed.sound)
 
 -- ---- a kind store without ids is fair
 

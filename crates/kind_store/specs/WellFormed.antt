@@ -1,6 +1,5 @@
 -- What the laws of acts ask of a kind store: less than soundness, which names what each record holds.
-use Rattle.std.specs.Prelude.{ℕ, ◌+◌, ◌^◌, ◌<◌, ◌≤◌, ◌≡◌, true, List, length}
-use Rattle.std.proofs.Math.Option.{some}
+use Rattle.std.specs.Prelude.{ℕ, ◌+◌, ◌^◌, ◌<◌, ◌≤◌, ◌≡◌, true, List, length, Some}
 use Rattle.base.specs.Bytes.{all}
 use Rattle.little.specs.Little.{is_byte}
 use Rattle.kind.specs.declared.Kind.{Kind}
@@ -20,4 +19,4 @@ pub record WellFormed (k : Kind) (s : KindStore) : Type 0 where
   -- "known ids strictly in OSM order"
   pub sound : sound_table s.table s.ids ≡ true
   -- the head and the metadata of each live record lie within the used bytes
-  pub places : (n : ℕ) (r : Row) → find n (rows_in s) ≡ some r → is_live r.place ≡ true → r.place + (head_len k + 29) ≤ s.used
+  pub places : (n : ℕ) (r : Row) → find n (rows_in s) ≡ Some r → is_live r.place ≡ true → r.place + (head_len k + 29) ≤ s.used

@@ -9,29 +9,20 @@ ghost use Rattle.model.specs.Record.{claim_of};
 ghost use Rattle.compact.specs.Layout.{head_len, head_bytes, meta_bytes};
 ghost use Rattle.compact.specs.Held.{meta_of, head_in};
 ghost use Rattle.compact_append.specs.Append.{append};
-ghost use Rattle.version_floor.specs.declared.Admit.TheVariants.{Admitted};
 ghost use Rattle.refusal.specs.declared.Refusal.TheVariants.{IdsFull};
 ghost use Rattle.kind_table.specs.Words.{lookup, stored, count_after};
 ghost use Rattle.kind_store.specs.KindStore.{kind_store_with, live_version, known_of, known_at, known_version, floor_at, checked, room_at, floor_after, kind_store_refused, record_joined, pushed, deleted_as, deleted};
 
 use compact::{ArenaMeta, CompactNode, CompactRelation, CompactWay, PushHead};
-use compact_append::Appended;
 use kind::Kind;
-use kind_table::{DELETED, Found, Put, Row};
+use kind_table::{DELETED, Put, Row};
 use refusal::Refusal;
-use version_floor::{Admit, Version, VersionFloor};
-
-// What an act comes to on a kind store.
-#[derive(Clone, Copy)]
-pub enum Kept {
-    Taken,
-    Refused(Refusal),
-}
+use version_floor::VersionFloor;
 
 // An act's answer, and the used counts of ids and of arena bytes after it.
 #[derive(Clone, Copy)]
 pub struct Outcome {
-    pub answer: Kept,
+    pub answer: Result<(), Refusal>,
     pub ids: u64,
     pub used: u64,
 }
@@ -49,7 +40,7 @@ fn meta_off(kind: Kind) -> usize
 }
 
 // The version that a row's record claims; a place from 2^63 on is no record's.
-fn live_version(kind: Kind, arena: &[u8], row: Row) -> Version
+fn live_version(kind: Kind, arena: &[u8], row: Row) -> Option<i32>
     ensures { result ≡ live_version kind arena.now row }
 {
     let place = row.place;
@@ -57,11 +48,11 @@ fn live_version(kind: Kind, arena: &[u8], row: Row) -> Version
         let at = place as usize + meta_off(kind);
         return compact::claim(compact::read_meta(arena, at));
     }
-    Version::Absent
+    None
 }
 
 // The known version that a row says: the larger of its record's and its floor, or the one that exists.
-pub fn row_version(kind: Kind, arena: &[u8], row: Row) -> Version
+pub fn row_version(kind: Kind, arena: &[u8], row: Row) -> Option<i32>
     ensures { result ≡ known_of kind arena.now row }
 {
     let live = live_version(kind, arena, row);
@@ -69,16 +60,21 @@ pub fn row_version(kind: Kind, arena: &[u8], row: Row) -> Version
     version_floor::higher_of(live, floor)
 }
 
-fn version_found(kind: Kind, table: &[u64], arena: &[u8], found: Found) -> Version
+fn version_found(
+    kind: Kind,
+    table: &[u64],
+    arena: &[u8],
+    found: Result<usize, usize>,
+) -> Option<i32>
     ensures { result ≡ known_at kind table.now arena.now found }
 {
     match found {
-        Found::At(i) => row_version(kind, arena, kind_table::row_at(table, i)),
-        Found::Place(_) => Version::Absent,
+        Ok(i) => row_version(kind, arena, kind_table::row_at(table, i)),
+        Err(_) => None,
     }
 }
 
-pub fn known_version(kind: Kind, table: &[u64], ids: u64, arena: &[u8], id: u64) -> Version
+pub fn known_version(kind: Kind, table: &[u64], ids: u64, arena: &[u8], id: u64) -> Option<i32>
     ensures { (used : ℕ) → result ≡ known_version kind (kind_store_with table.now ids arena.now used) (to_z w64 id) }
 {
     let found = kind_table::find_row(table, ids, osm_id::rank_of_bits(id));
@@ -88,29 +84,29 @@ pub fn known_version(kind: Kind, table: &[u64], ids: u64, arena: &[u8], id: u64)
 // ---- the checks of an act
 
 // 12: with regression refused (setting 0) a claim is checked against the known version.
-fn check(setting: u64, known: Version, claim: Version) -> Admit
+fn check(setting: u64, known: Option<i32>, claim: Option<i32>) -> Result<(), i32>
     ensures { result ≡ checked setting known claim }
 {
     if setting == 0 {
         return VersionFloor::new(known).admit(claim);
     }
-    Admit::Admitted
+    Ok(())
 }
 
 // 14: whether a row that was found, or one more, has room.
-fn has_room(table: &[u64], ids: u64, found: Found) -> bool
+fn has_room(table: &[u64], ids: u64, found: Result<usize, usize>) -> bool
     ensures { result ≡ room_at table.now ids found }
 {
     match found {
-        Found::At(_) => true,
-        Found::Place(_) => (ids as usize) < table.len() / 3,
+        Ok(_) => true,
+        Err(_) => (ids as usize) < table.len() / 3,
     }
 }
 
 // ---- a row set
 
 // Sets a row where its rank was found, and says how many rows are counted then.
-fn set_row(table: &mut [u64], ids: u64, found: Found, row: Row) -> u64
+fn set_row(table: &mut [u64], ids: u64, found: Result<usize, usize>, row: Row) -> u64
     ensures { found ≡ lookup table.old ids row.rank
         → (table.new ≡ (stored table.old ids row).words) × (result ≡ count_after (stored table.old ids row).answer ids) }
 {
@@ -123,28 +119,23 @@ fn set_row(table: &mut [u64], ids: u64, found: Found, row: Row) -> u64
 
 // ---- push
 
-fn floor_found(table: &[u64], found: Found) -> u64
+fn floor_found(table: &[u64], found: Result<usize, usize>) -> u64
     ensures { result ≡ floor_at table.now found }
 {
     match found {
-        Found::At(i) => kind_table::row_at(table, i).floor,
-        Found::Place(_) => 0x1_0000_0000,
+        Ok(i) => kind_table::row_at(table, i).floor,
+        Err(_) => 0x1_0000_0000,
     }
 }
 
 // The floor word that a push leaves: without a version it carries the known one, only while regression is refused.
-fn floor_after(setting: u64, known: Version, claim: Version, floor: u64) -> u64
+fn floor_after(setting: u64, known: Option<i32>, claim: Option<i32>, floor: u64) -> u64
     ensures { result ≡ floor_after setting known claim floor }
 {
-    match claim {
-        Version::Is(_) => floor,
-        Version::Absent => {
-            if setting == 0 {
-                return version_floor::version_word(known);
-            }
-            floor
-        }
+    if claim.is_none() && setting == 0 {
+        return version_floor::version_word(known);
     }
+    floor
 }
 
 fn append_record(
@@ -154,7 +145,7 @@ fn append_record(
     head: PushHead,
     meta: ArenaMeta,
     parts: &[u8],
-) -> Appended
+) -> Option<usize>
     ensures { record { arena = arena.new; answer = result } ≡ append arena.old used (head_bytes kind (head_in kind head) ++ meta_bytes (meta_of meta) ++ parts.now) }
 {
     match kind {
@@ -197,15 +188,15 @@ fn join(
     head: PushHead,
     meta: ArenaMeta,
     parts: &[u8],
-    found: Found,
+    found: Result<usize, usize>,
 ) -> Outcome
     ensures { found ≡ lookup table.old ids (rank (to_z w64 head.id))
         → record { kind_store = kind_store_with table.new result.ids arena.new result.used; answer = result.answer }
         ≡ record_joined (kind_store_with table.old ids arena.old used) (to_z w64 head.id) floor (head_bytes kind (head_in kind head) ++ meta_bytes (meta_of meta) ++ parts.now) }
 {
-    let Appended::End(end) = append_record(kind, arena, used as usize, head, meta, parts) else {
+    let Some(end) = append_record(kind, arena, used as usize, head, meta, parts) else {
         return Outcome {
-            answer: Kept::Refused(Refusal::ArenaFull),
+            answer: Err(Refusal::ArenaFull),
             ids,
             used,
         };
@@ -216,7 +207,7 @@ fn join(
         floor,
     };
     Outcome {
-        answer: Kept::Taken,
+        answer: Ok(()),
         ids: set_row(table, ids, found, row),
         used: end as u64,
     }
@@ -233,7 +224,7 @@ fn push_admitted(
     head: PushHead,
     meta: ArenaMeta,
     parts: &[u8],
-    found: Found,
+    found: Result<usize, usize>,
 ) -> Outcome
     ensures { found ≡ lookup table.old ids (rank (to_z w64 head.id))
         → record { kind_store = kind_store_with table.new result.ids arena.new result.used; answer = result.answer }
@@ -246,7 +237,7 @@ fn push_admitted(
         );
     }
     Outcome {
-        answer: Kept::Refused(Refusal::IdsFull),
+        answer: Err(Refusal::IdsFull),
         ids,
         used,
     }
@@ -268,14 +259,14 @@ pub fn push(
     let found = kind_table::find_row(table, ids, osm_id::rank_of_bits(head.id));
     let version = version_found(kind, table, arena, found);
     let claim = compact::claim(meta);
-    let Admit::Below(held) = check(setting, version, claim) else {
+    let Err(held) = check(setting, version, claim) else {
         let floor = floor_after(setting, version, claim, floor_found(table, found));
         return push_admitted(
             kind, table, ids, arena, used, floor, head, meta, parts, found,
         );
     };
     Outcome {
-        answer: Kept::Refused(Refusal::Regression(held)),
+        answer: Err(Refusal::Regression(held)),
         ids,
         used,
     }
@@ -291,12 +282,12 @@ fn delete_admitted(
     arena: &[u8],
     used: u64,
     id: u64,
-    claim: Version,
-    found: Found,
-    version: Version,
+    claim: Option<i32>,
+    found: Result<usize, usize>,
+    version: Option<i32>,
 ) -> Outcome
     requires { (found ≡ lookup table.old ids (rank (to_z w64 id))) × (version ≡ known_version kind (kind_store_with table.old ids arena.now used) (to_z w64 id)) }
-    ensures { record { kind_store = kind_store_with table.new result.ids arena.now result.used; answer = result.answer } ≡ deleted_as kind (kind_store_with table.old ids arena.now used) (to_z w64 id) claim Admitted }
+    ensures { record { kind_store = kind_store_with table.new result.ids arena.now result.used; answer = result.answer } ≡ deleted_as kind (kind_store_with table.old ids arena.now used) (to_z w64 id) claim (Ok tt) }
 {
     if has_room(table, ids, found) {
         let floor = version_floor::version_word(version_floor::higher_of(version, claim));
@@ -306,13 +297,13 @@ fn delete_admitted(
             floor,
         };
         return Outcome {
-            answer: Kept::Taken,
+            answer: Ok(()),
             ids: set_row(table, ids, found, row),
             used,
         };
     }
     Outcome {
-        answer: Kept::Refused(Refusal::IdsFull),
+        answer: Err(Refusal::IdsFull),
         ids,
         used,
     }
@@ -326,17 +317,17 @@ pub fn delete(
     arena: &[u8],
     used: u64,
     id: u64,
-    claim: Version,
+    claim: Option<i32>,
 ) -> Outcome
     ensures { record { kind_store = kind_store_with table.new result.ids arena.now result.used; answer = result.answer } ≡ deleted kind setting (kind_store_with table.old ids arena.now used) (to_z w64 id) claim }
 {
     let found = kind_table::find_row(table, ids, osm_id::rank_of_bits(id));
     let version = version_found(kind, table, arena, found);
-    let Admit::Below(held) = check(setting, version, claim) else {
+    let Err(held) = check(setting, version, claim) else {
         return delete_admitted(kind, table, ids, arena, used, id, claim, found, version);
     };
     Outcome {
-        answer: Kept::Refused(Refusal::Regression(held)),
+        answer: Err(Refusal::Regression(held)),
         ids,
         used,
     }

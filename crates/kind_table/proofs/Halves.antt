@@ -1,8 +1,9 @@
 -- The search by halves: a turn of it, and that in rising rows it ends behind the smaller ranks.
+use Rattle.std.proofs.lemmas.Option.{none-some}
+use Rattle.std.specs.Prelude.{Err, None, Ok, Option, Some}
 use Prim.Native.Nat.{ℕ, zero, suc, ◌+◌, ◌-◌, ◌/◌, ◌<◌, ◌≤◌}
 use mathlib.Core.Path.{◌≡◌, refl, sym, ◌∙◌, ap}
 use mathlib.Core.Bool.{true}
-use mathlib.Core.Option.{Option, none, some, none-ne-some}
 use mathlib.Core.List.{List}
 use native.Mathlib.Omega.{arith}
 use lib.Dec.{ltb, eqb}
@@ -11,7 +12,6 @@ use borrow.Author.Tests.{lt-ltb, le-ltb, ltb-true, eq-eqb, ne_eqb}
 use Rattle.base.specs.Bytes.{both}
 use Rattle.base.proofs.Split.{by_bool, by_lt, no, both_left, both_of, both_no_left, both_no_right}
 use Rattle.kind_table.specs.declared.Row.{Row}
-use Rattle.kind_table.specs.declared.Found.TheVariants.{At, Place}
 use Rattle.kind_table.specs.Rows.{rising, find, smaller, at_or_place, position_of}
 use Rattle.kind_table.specs.Words.{rank_at, row_at, rows_of, held, halve, answer_at, lookup}
 use Rattle.kind_table.proofs.Maps.{smaller_before, smaller_from, smaller_le, find_place, find_rank, find_row}
@@ -20,22 +20,22 @@ use Rattle.kind_table.proofs.Spans.{rows_length, rows_at}
 -- ---- the answer
 
 module _ (ws : List ℕ) (n rank p : ℕ) where
-  pub answer_at_lem : p < n → rank_at ws p ≡ rank → answer_at ws n rank p ≡ At p
+  pub answer_at_lem : p < n → rank_at ws p ≡ rank → answer_at ws n rank p ≡ Ok p
   unfolding answer_at
   answer_at_lem l e = rw (both_of (lt-ltb p n l) (eq-eqb (rank_at ws p) rank e))
 
-  pub answer_place : (p < n → rank_at ws p ≡ rank → ⊥) → answer_at ws n rank p ≡ Place p
+  pub answer_place : (p < n → rank_at ws p ≡ rank → ⊥) → answer_at ws n rank p ≡ Err p
   unfolding answer_at
   answer_place f =
       by_lt p n
       (λ l. rw (both_no_right (ltb p n) (ne_eqb (rank_at ws p) rank (f l))))
       (λ l. rw (both_no_left (ltb p n) (eqb (rank_at ws p) rank) (le-ltb p n l)))
 
-pub position_known : (k : ℕ) (rs : List Row) (r : Row) → find k rs ≡ some r → position_of k rs ≡ At (smaller k rs)
+pub position_known : (k : ℕ) (rs : List Row) (r : Row) → find k rs ≡ Some r → position_of k rs ≡ Ok (smaller k rs)
 unfolding position_of at_or_place
 position_known k rs r e = rw e
 
-pub position_new : (k : ℕ) (rs : List Row) → find k rs ≡ none → position_of k rs ≡ Place (smaller k rs)
+pub position_new : (k : ℕ) (rs : List Row) → find k rs ≡ None → position_of k rs ≡ Err (smaller k rs)
 unfolding position_of at_or_place
 position_new k rs e = rw e
 
@@ -90,23 +90,23 @@ module _ (ws : List ℕ) (rank : ℕ) where
 
   -- ---- in any words: what is found stands among the rows that are held, and a place is at most behind them
 
-  pub lookup_at : (count i : ℕ) → lookup ws count rank ≡ At i → i < held ws count
+  pub lookup_at : (count i : ℕ) → lookup ws count rank ≡ Ok i → i < held ws count
   unfolding lookup answer_at
   lookup_at count i e =
       let n = held ws count in
       let p = halve n ws rank 0 n in
       by_bool (both (ltb p n) (eqb (rank_at ws p) rank))
-      (λ t. let x : At p ≡ At i = rw t at e in let y : p ≡ i = cc in omega (arith, ltb-true p n (both_left _ _ t)))
-      (λ t. let x : Place p ≡ At i = rw t at e in no (cc))
+      (λ t. let x : Ok p ≡ Ok i = rw t at e in let y : p ≡ i = cc in omega (arith, ltb-true p n (both_left _ _ t)))
+      (λ t. let x : Err p ≡ Ok i = rw t at e in no (cc))
 
-  pub lookup_place : (count p : ℕ) → lookup ws count rank ≡ Place p → p ≤ held ws count
+  pub lookup_place : (count p : ℕ) → lookup ws count rank ≡ Err p → p ≤ held ws count
   unfolding lookup answer_at
   lookup_place count q e =
       let n = held ws count in
       let p = halve n ws rank 0 n in
       by_bool (both (ltb p n) (eqb (rank_at ws p) rank))
-      (λ t. let x : At p ≡ Place q = rw t at e in no (cc))
-      (λ t. let x : Place p ≡ Place q = rw t at e in let y : p ≡ q = cc in omega (arith, halve_le n 0 n (omega arith)))
+      (λ t. let x : Ok p ≡ Err q = rw t at e in no (cc))
+      (λ t. let x : Err p ≡ Err q = rw t at e in let y : p ≡ q = cc in omega (arith, halve_le n 0 n (omega arith)))
 
   -- ---- in rising rows
 
@@ -146,15 +146,15 @@ module _ (ws : List ℕ) (rank : ℕ) where
         p = smaller rank (rows_of ws n)
 
         go : (o : Option Row) → find rank (rows_of ws n) ≡ o → answer_at ws n rank p ≡ position_of rank (rows_of ws n)
-        go (some r) e =
+        go (Some r) e =
             let x = find_place rank (rows_of ws n) r (row_at ws p) rises e in
             let l : p < n = omega (arith, x.0, rows_length ws n) in
             let y : row_at ws p ≡ r = sym (rows_at ws n p (row_at ws p) l) ∙ x.1 in
             answer_at_lem ws n rank p l (ap (λ q. q.rank) y ∙ find_rank rank (rows_of ws n) r e) ∙ sym (position_known rank (rows_of ws n) r e)
-        go none e =
+        go None e =
             answer_place ws n rank p
             (λ l i.
             let y : get_or (rows_of ws n) p (row_at ws p) ≡ row_at ws p = rows_at ws n p (row_at ws p) l in
             let x = find_row (rows_of ws n) rises p (row_at ws p) (omega (arith, rows_length ws n)) in
-            none-ne-some (row_at ws p) (sym e ∙ ap (λ k. find k (rows_of ws n)) (sym i) ∙ rw y at x))
+            none-some (row_at ws p) (sym e ∙ ap (λ k. find k (rows_of ws n)) (sym i) ∙ rw y at x))
             ∙ sym (position_new rank (rows_of ws n) e)

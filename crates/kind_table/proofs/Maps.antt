@@ -1,8 +1,9 @@
 -- Rows as a map from ranks: what is found after a row was put, that ranks go on rising, and that rising rows are what their ranks find.
+use Rattle.std.proofs.lemmas.Option.{none-some, same_Some}
+use Rattle.std.specs.Prelude.{None, Some}
 use Prim.Native.Nat.{ℕ, zero, suc, ◌<◌, ◌≤◌}
 use mathlib.Core.Path.{subst, ◌≡◌, refl, sym, ◌∙◌, ap}
 use mathlib.Core.Bool.{Bool, true, cond}
-use mathlib.Core.Option.{none, some, none-ne-some, some-injective}
 use mathlib.Core.List.{List, [], ◌∷◌, ◌++◌}
 use native.Mathlib.Omega.{arith}
 use lib.Dec.{eqb}
@@ -51,7 +52,7 @@ climbs (r ∷ rs) h (suc i) (suc j) d l g = climbs rs (from_rising r.rank rs h) 
 
 -- ---- what a rank finds
 
-pub find_same : (r : Row) (rs : List Row) → find r.rank (r ∷ rs) ≡ some r
+pub find_same : (r : Row) (rs : List Row) → find r.rank (r ∷ rs) ≡ Some r
 unfolding find
 find_same r rs = rw (eq-eqb r.rank r.rank refl)
 
@@ -60,25 +61,25 @@ unfolding find
 find_other k r rs d = rw (ne_eqb k r.rank d)
 
 -- what is found has the rank
-pub find_rank : (k : ℕ) (rs : List Row) (r : Row) → find k rs ≡ some r → r.rank ≡ k
+pub find_rank : (k : ℕ) (rs : List Row) (r : Row) → find k rs ≡ Some r → r.rank ≡ k
 unfolding find
-find_rank k [] r e = absurd (none-ne-some r e)
+find_rank k [] r e = absurd (none-some r e)
 find_rank k (q ∷ rs) r e =
     by_eq k q.rank
-    (λ i. let x : some q ≡ some r = sym (find_same q rs) ∙ subst (λ j. find j (q ∷ rs) ≡ some r) i e in cc (some-injective q r x))
+    (λ i. let x : Some q ≡ Some r = sym (find_same q rs) ∙ subst (λ j. find j (q ∷ rs) ≡ Some r) i e in cc (same_Some q r x))
     (λ d. find_rank k rs r (sym (find_other k q rs d) ∙ e))
 
 -- what is found passes what every row passes
-pub find_passes : (p : Row → Bool) (k : ℕ) (rs : List Row) (r : Row) → all p rs ≡ true → find k rs ≡ some r → p r ≡ true
+pub find_passes : (p : Row → Bool) (k : ℕ) (rs : List Row) (r : Row) → all p rs ≡ true → find k rs ≡ Some r → p r ≡ true
 unfolding find
-find_passes p k [] r h e = absurd (none-ne-some r e)
+find_passes p k [] r h e = absurd (none-some r e)
 find_passes p k (q ∷ rs) r h e =
     by_bool (eqb k q.rank)
-    (λ t. let x : some q ≡ some r = rw t at e in let y : q ≡ r = some-injective q r x in rw (← y) (all_head p q rs h))
+    (λ t. let x : Some q ≡ Some r = rw t at e in let y : q ≡ r = same_Some q r x in rw (← y) (all_head p q rs h))
     (λ t. find_passes p k rs r (all_tail p q rs h) (rw t at e))
 
 -- no rank below the first is found
-pub find_low : (j k : ℕ) (rs : List Row) → j ≤ k → rising_from k rs ≡ true → find j rs ≡ none
+pub find_low : (j k : ℕ) (rs : List Row) → j ≤ k → rising_from k rs ≡ true → find j rs ≡ None
 unfolding find
 find_low j k [] l h = refl
 find_low j k (r ∷ rs) l h =
@@ -108,7 +109,7 @@ by_rank : {C : Type 0} (n r : Row) → (n.rank < r.rank → C) → (n.rank ≡ r
 by_rank n r f g h = by_lt n.rank r.rank f (λ l. by_eq n.rank r.rank g (λ d. h (omega arith)))
 
 -- what is found after a row was put: that row at its rank, and what was found before at any other
-pub find_put : (k : ℕ) (n : Row) (rs : List Row) → find k (put n rs) ≡ cond (eqb k n.rank) (some n) (find k rs)
+pub find_put : (k : ℕ) (n : Row) (rs : List Row) → find k (put n rs) ≡ cond (eqb k n.rank) (Some n) (find k rs)
 unfolding find
 find_put k n [] = rw (put_nil n)
 find_put k n (r ∷ rs) =
@@ -119,7 +120,7 @@ find_put k n (r ∷ rs) =
     (λ e. rw (eq-eqb k r.rank e, ne_eqb k n.rank (λ i. omega arith)))
     (λ d. rw (ne_eqb k r.rank d))))
 
-pub find_put_same : (n : Row) (rs : List Row) → find n.rank (put n rs) ≡ some n
+pub find_put_same : (n : Row) (rs : List Row) → find n.rank (put n rs) ≡ Some n
 find_put_same n rs = find_put n.rank n rs ∙ rw (eq-eqb n.rank n.rank refl)
 
 pub find_put_other : (k : ℕ) (n : Row) (rs : List Row) → (k ≡ n.rank → ⊥) → find k (put n rs) ≡ find k rs
@@ -149,21 +150,21 @@ rising_put n (r ∷ rs) h =
 pub rising_same : (rs ss : List Row) → rising rs ≡ true → rising ss ≡ true → ((k : ℕ) → find k rs ≡ find k ss) → rs ≡ ss
 unfolding rising find
 rising_same [] [] h g e = refl
-rising_same [] (s ∷ ss) h g e = absurd (none-ne-some s (e s.rank ∙ find_same s ss))
-rising_same (r ∷ rs) [] h g e = absurd (none-ne-some r (sym (e r.rank) ∙ find_same r rs))
+rising_same [] (s ∷ ss) h g e = absurd (none-some s (e s.rank ∙ find_same s ss))
+rising_same (r ∷ rs) [] h g e = absurd (none-some r (sym (e r.rank) ∙ find_same r rs))
 rising_same (r ∷ rs) (s ∷ ss) h g e =
     by_rank r s
     (λ l. absurd (out r s rs ss l g (e r.rank)))
     (λ i.
-    let x : r ≡ s = some-injective r s (sym (find_same r rs) ∙ e r.rank ∙ subst (λ j. find j (s ∷ ss) ≡ some s) (sym i) (find_same s ss)) in
+    let x : r ≡ s = same_Some r s (sym (find_same r rs) ∙ e r.rank ∙ subst (λ j. find j (s ∷ ss) ≡ Some s) (sym i) (find_same s ss)) in
     let y : rs ≡ ss = rising_same rs ss (from_rising r.rank rs h) (from_rising s.rank ss g) (λ k. rest k i) in
     cc)
     (λ l. absurd (out s r ss rs l h (sym (e s.rank))))
   where
     out : (a b : Row) (xs ys : List Row) → a.rank < b.rank → rising_from b.rank ys ≡ true → find a.rank (a ∷ xs) ≡ find a.rank (b ∷ ys) → ⊥
     out a b xs ys l t f =
-        let x : find a.rank (b ∷ ys) ≡ none = find_other a.rank b ys (λ i. omega arith) ∙ find_low a.rank b.rank ys (omega arith) t in
-        none-ne-some a (sym x ∙ sym f ∙ find_same a xs)
+        let x : find a.rank (b ∷ ys) ≡ None = find_other a.rank b ys (λ i. omega arith) ∙ find_low a.rank b.rank ys (omega arith) t in
+        none-some a (sym x ∙ sym f ∙ find_same a xs)
 
     rest : (k : ℕ) → r.rank ≡ s.rank → find k rs ≡ find k ss
     rest k i =
@@ -175,10 +176,10 @@ rising_same (r ∷ rs) (s ∷ ss) h g e =
 pub put_swap : (n m : Row) (rs : List Row) → (n.rank ≡ m.rank → ⊥) → rising rs ≡ true → put n (put m rs) ≡ put m (put n rs)
 put_swap n m rs d h =
     rising_same (put n (put m rs)) (put m (put n rs)) (rising_put n (put m rs) (rising_put m rs h)) (rising_put m (put n rs) (rising_put n rs h))
-    (λ k. find_put k n (put m rs) ∙ ap (λ o. cond (eqb k n.rank) (some n) o) (find_put k m rs)
-    ∙ either_order k ∙ sym (find_put k m (put n rs) ∙ ap (λ o. cond (eqb k m.rank) (some m) o) (find_put k n rs)))
+    (λ k. find_put k n (put m rs) ∙ ap (λ o. cond (eqb k n.rank) (Some n) o) (find_put k m rs)
+    ∙ either_order k ∙ sym (find_put k m (put n rs) ∙ ap (λ o. cond (eqb k m.rank) (Some m) o) (find_put k n rs)))
   where
-    either_order : (k : ℕ) → cond (eqb k n.rank) (some n) (cond (eqb k m.rank) (some m) (find k rs)) ≡ cond (eqb k m.rank) (some m) (cond (eqb k n.rank) (some n) (find k rs))
+    either_order : (k : ℕ) → cond (eqb k n.rank) (Some n) (cond (eqb k m.rank) (Some m) (find k rs)) ≡ cond (eqb k m.rank) (Some m) (cond (eqb k n.rank) (Some n) (find k rs))
     either_order k =
         by_eq k n.rank
         (λ e. rw (eq-eqb k n.rank e, ne_eqb k m.rank (λ i. d (sym e ∙ i))))
@@ -238,12 +239,12 @@ smaller_from k (r ∷ rs) h (suc i) d g b =
     (λ l. smaller_from k rs (rising_tail r rs h) i d (omega (arith, smaller_more k r rs l)) (omega arith))
     (λ l. omega (arith, climbs (r ∷ rs) h 0 (suc i) d (omega arith) b))
 
-find_below : (k : ℕ) (r : Row) (rs : List Row) → k < r.rank → rising (r ∷ rs) ≡ true → find k (r ∷ rs) ≡ none
+find_below : (k : ℕ) (r : Row) (rs : List Row) → k < r.rank → rising (r ∷ rs) ≡ true → find k (r ∷ rs) ≡ None
 unfolding rising
 find_below k r rs l h = find_other k r rs (λ e. omega arith) ∙ find_low k r.rank rs (omega arith) h
 
 -- a row is found by its rank
-pub find_row : (rs : List Row) → rising rs ≡ true → (i : ℕ) (d : Row) → i < length rs → find (get_or rs i d).rank rs ≡ some (get_or rs i d)
+pub find_row : (rs : List Row) → rising rs ≡ true → (i : ℕ) (d : Row) → i < length rs → find (get_or rs i d).rank rs ≡ Some (get_or rs i d)
 find_row [] h i d g = absurd (omega arith)
 find_row (r ∷ rs) h zero d g = find_same r rs
 find_row (r ∷ rs) h (suc i) d g =
@@ -251,44 +252,44 @@ find_row (r ∷ rs) h (suc i) d g =
     ∙ find_row rs (rising_tail r rs h) i d (omega arith)
 
 -- what is found stands behind the rows of smaller ranks
-pub find_place : (k : ℕ) (rs : List Row) (r d : Row) → rising rs ≡ true → find k rs ≡ some r → (smaller k rs < length rs) × (get_or rs (smaller k rs) d ≡ r)
+pub find_place : (k : ℕ) (rs : List Row) (r d : Row) → rising rs ≡ true → find k rs ≡ Some r → (smaller k rs < length rs) × (get_or rs (smaller k rs) d ≡ r)
 unfolding find
-find_place k [] r d h e = absurd (none-ne-some r e)
+find_place k [] r d h e = absurd (none-some r e)
 find_place k (q ∷ rs) r d h e =
     by_lt q.rank k
     (λ l. let x = find_place k rs r d (rising_tail q rs h) (sym (find_other k q rs (λ i. omega arith)) ∙ e) in rw (smaller_more k q rs l) (omega (arith, x.0), x.1))
     (λ l. rw (smaller_first k q rs l h) (
       omega arith,
       by_eq k q.rank
-          (λ i. some-injective q r (sym (find_same q rs) ∙ subst (λ j. find j (q ∷ rs) ≡ some r) i e))
-          (λ f. absurd (none-ne-some r (sym (find_below k q rs (omega arith) h) ∙ e))),
+          (λ i. same_Some q r (sym (find_same q rs) ∙ subst (λ j. find j (q ∷ rs) ≡ Some r) i e))
+          (λ f. absurd (none-some r (sym (find_below k q rs (omega arith) h) ∙ e))),
     ))
 
 -- ---- where a row goes: behind the rows of smaller ranks, over the row of the same rank, before the others
 
-pub put_known : (n : Row) (rs : List Row) (r : Row) → rising rs ≡ true → find n.rank rs ≡ some r → put n rs ≡ take (smaller n.rank rs) rs ++ (n ∷ drop (suc (smaller n.rank rs)) rs)
+pub put_known : (n : Row) (rs : List Row) (r : Row) → rising rs ≡ true → find n.rank rs ≡ Some r → put n rs ≡ take (smaller n.rank rs) rs ++ (n ∷ drop (suc (smaller n.rank rs)) rs)
 unfolding find
-put_known n [] r h e = absurd (none-ne-some r e)
+put_known n [] r h e = absurd (none-some r e)
 put_known n (q ∷ rs) r h e =
     by_rank n q
-    (λ l. absurd (none-ne-some r (sym (find_below n.rank q rs l h) ∙ e)))
+    (λ l. absurd (none-some r (sym (find_below n.rank q rs l h) ∙ e)))
     (λ i. rw (put_over n q rs i, smaller_first n.rank q rs (omega arith) h))
     (λ l. rw (put_behind n q rs l, smaller_more n.rank q rs l)
     (ap (λ x. q ∷ x) (put_known n rs r (rising_tail q rs h) (sym (find_other n.rank q rs (λ i. omega arith)) ∙ e))))
 
-pub put_new : (n : Row) (rs : List Row) → rising rs ≡ true → find n.rank rs ≡ none → put n rs ≡ take (smaller n.rank rs) rs ++ (n ∷ drop (smaller n.rank rs) rs)
+pub put_new : (n : Row) (rs : List Row) → rising rs ≡ true → find n.rank rs ≡ None → put n rs ≡ take (smaller n.rank rs) rs ++ (n ∷ drop (smaller n.rank rs) rs)
 unfolding smaller
 put_new n [] h e = put_nil n
 put_new n (q ∷ rs) h e =
     by_rank n q
     (λ l. rw (put_before n q rs l, smaller_first n.rank q rs (omega arith) h))
-    (λ i. absurd (none-ne-some q (sym e ∙ rw i (find_same q rs))))
+    (λ i. absurd (none-some q (sym e ∙ rw i (find_same q rs))))
     (λ l. rw (put_behind n q rs l, smaller_more n.rank q rs l)
     (ap (λ x. q ∷ x) (put_new n rs (rising_tail q rs h) (sym (find_other n.rank q rs (λ i. omega arith)) ∙ e))))
 
 -- one row more exactly when the rank is new
-pub length_known : (n : Row) (rs : List Row) (r : Row) → rising rs ≡ true → find n.rank rs ≡ some r → length (put n rs) ≡ length rs
+pub length_known : (n : Row) (rs : List Row) (r : Row) → rising rs ≡ true → find n.rank rs ≡ Some r → length (put n rs) ≡ length rs
 length_known n rs r h e = rw (put_known n rs r h e) (simp (length-append, length-take, length-drop) (omega (arith, (find_place n.rank rs r n h e).0)))
 
-pub length_new : (n : Row) (rs : List Row) → rising rs ≡ true → find n.rank rs ≡ none → length (put n rs) ≡ suc (length rs)
+pub length_new : (n : Row) (rs : List Row) → rising rs ≡ true → find n.rank rs ≡ None → length (put n rs) ≡ suc (length rs)
 length_new n rs h e = rw (put_new n rs h e) (simp (length-append, length-take, length-drop) (omega (arith, smaller_le n.rank rs)))

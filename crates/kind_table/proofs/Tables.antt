@@ -1,16 +1,14 @@
 -- Sound tables: what a search of one finds, and what a row stored in one makes of its rows.
+use Rattle.std.specs.Prelude.{Err, None, Ok, Option, Result, Some}
 use Prim.Native.Nat.{ℕ, suc, ◌*◌, ◌<◌, ◌≤◌}
 use mathlib.Core.Path.{◌≡◌, refl, sym, ◌∙◌, ap}
 use mathlib.Core.Bool.{true}
-use mathlib.Core.Option.{Option, none, some}
 use mathlib.Core.List.{List, ◌++◌}
 use native.Mathlib.Omega.{arith}
 use lib.ListN.{length, drop, length-append}
 use borrow.Author.Tests.{le-leb, lt-leb, leb-true}
 use Rattle.base.proofs.Split.{by_le, both_left, both_right, both_of, no}
 use Rattle.kind_table.specs.declared.Row.{Row}
-use Rattle.kind_table.specs.declared.Found.{Found}
-use Rattle.kind_table.specs.declared.Found.TheVariants.{At, Place}
 use Rattle.kind_table.specs.declared.Put.TheVariants.{Replaced, Inserted, Full}
 use Rattle.kind_table.specs.declared.Put.{Put}
 use Rattle.kind_table.specs.Rows.{rising, find, put, smaller, position_of}
@@ -54,15 +52,15 @@ sound_empty ws = sound_of ws 0 (omega arith) refl
 -- ---- what was stored, by what the search found
 
 module _ (ws : List ℕ) (count : ℕ) (row : Row) where
-  pub stored_known : (i : ℕ) → lookup ws count row.rank ≡ At i → stored ws count row ≡ record { words = row_over ws i row; answer = Replaced }
+  pub stored_known : (i : ℕ) → lookup ws count row.rank ≡ Ok i → stored ws count row ≡ record { words = row_over ws i row; answer = Replaced }
   unfolding stored stored_at
   stored_known i e = rw e
 
-  pub stored_new : (p : ℕ) → lookup ws count row.rank ≡ Place p → 3 * suc count ≤ length ws → stored ws count row ≡ record { words = inserted ws p count row; answer = Inserted }
+  pub stored_new : (p : ℕ) → lookup ws count row.rank ≡ Err p → 3 * suc count ≤ length ws → stored ws count row ≡ record { words = inserted ws p count row; answer = Inserted }
   unfolding stored stored_at
   stored_new p e h = rw (e, le-leb (3 * suc count) (length ws) h)
 
-  pub stored_full : (p : ℕ) → lookup ws count row.rank ≡ Place p → length ws < 3 * suc count → stored ws count row ≡ record { words = ws; answer = Full }
+  pub stored_full : (p : ℕ) → lookup ws count row.rank ≡ Err p → length ws < 3 * suc count → stored ws count row ≡ record { words = ws; answer = Full }
   unfolding stored stored_at
   stored_full p e h = rw (e, lt-leb (3 * suc count) (length ws) h)
 
@@ -78,33 +76,33 @@ module _ (ws : List ℕ) (count : ℕ) (sound : sound_table ws count ≡ true) w
     lookup_is = rw (held_all ws count (sound_fits ws count sound)) (searched ws rank count (sound_rises ws count sound))
 
     -- the row that was found, and the place of a rank that is new: behind the smaller ranks
-    pub found_row : (i : ℕ) → lookup ws count rank ≡ At i → (i < count) × (find rank (rows_of ws count) ≡ some (row_at ws i))
+    pub found_row : (i : ℕ) → lookup ws count rank ≡ Ok i → (i < count) × (find rank (rows_of ws count) ≡ Some (row_at ws i))
     found_row i e = go (find rank (rows_of ws count)) refl
       where
-        go : (o : Option Row) → find rank (rows_of ws count) ≡ o → (i < count) × (find rank (rows_of ws count) ≡ some (row_at ws i))
-        go (some r) f =
+        go : (o : Option Row) → find rank (rows_of ws count) ≡ o → (i < count) × (find rank (rows_of ws count) ≡ Some (row_at ws i))
+        go (Some r) f =
             let x = find_place rank (rows_of ws count) r (row_at ws i) (sound_rises ws count sound) f in
-            let y : At i ≡ At (smaller rank (rows_of ws count)) = sym e ∙ lookup_is ∙ position_known rank (rows_of ws count) r f in
+            let y : Ok i ≡ Ok (smaller rank (rows_of ws count)) = sym e ∙ lookup_is ∙ position_known rank (rows_of ws count) r f in
             let z : smaller rank (rows_of ws count) ≡ i = cc in
             let l : i < count = omega (arith, x.0, rows_length ws count) in
-            (l, f ∙ ap some (sym (rw z at x.1) ∙ rows_at ws count i (row_at ws i) l))
-        go none f = let y : At i ≡ Place (smaller rank (rows_of ws count)) = sym e ∙ lookup_is ∙ position_new rank (rows_of ws count) f in no (cc)
+            (l, f ∙ ap Some (sym (rw z at x.1) ∙ rows_at ws count i (row_at ws i) l))
+        go None f = let y : Ok i ≡ Err (smaller rank (rows_of ws count)) = sym e ∙ lookup_is ∙ position_new rank (rows_of ws count) f in no (cc)
 
-    pub found_none : (p : ℕ) → lookup ws count rank ≡ Place p → (find rank (rows_of ws count) ≡ none) × (p ≡ smaller rank (rows_of ws count))
+    pub found_none : (p : ℕ) → lookup ws count rank ≡ Err p → (find rank (rows_of ws count) ≡ None) × (p ≡ smaller rank (rows_of ws count))
     found_none p e = go (find rank (rows_of ws count)) refl
       where
-        go : (o : Option Row) → find rank (rows_of ws count) ≡ o → (find rank (rows_of ws count) ≡ none) × (p ≡ smaller rank (rows_of ws count))
-        go (some r) f = let y : Place p ≡ At (smaller rank (rows_of ws count)) = sym e ∙ lookup_is ∙ position_known rank (rows_of ws count) r f in no (cc)
-        go none f = let y : Place p ≡ Place (smaller rank (rows_of ws count)) = sym e ∙ lookup_is ∙ position_new rank (rows_of ws count) f in (f, cc)
+        go : (o : Option Row) → find rank (rows_of ws count) ≡ o → (find rank (rows_of ws count) ≡ None) × (p ≡ smaller rank (rows_of ws count))
+        go (Some r) f = let y : Err p ≡ Ok (smaller rank (rows_of ws count)) = sym e ∙ lookup_is ∙ position_known rank (rows_of ws count) r f in no (cc)
+        go None f = let y : Err p ≡ Err (smaller rank (rows_of ws count)) = sym e ∙ lookup_is ∙ position_new rank (rows_of ws count) f in (f, cc)
 
 -- ---- a row stored in any table: its words are as many as before
 
 pub length_stored : (ws : List ℕ) (count : ℕ) (row : Row) → length (stored ws count row).words ≡ length ws
 length_stored ws count row = go (lookup ws count row.rank) refl
   where
-    go : (o : Found) → lookup ws count row.rank ≡ o → length (stored ws count row).words ≡ length ws
-    go (At i) e = rw (stored_known ws count row i e) (length_over ws (held ws count) row (held_fits ws count) i (lookup_at ws row.rank count i e))
-    go (Place p) e =
+    go : (o : Result ℕ ℕ) → lookup ws count row.rank ≡ o → length (stored ws count row).words ≡ length ws
+    go (Ok i) e = rw (stored_known ws count row i e) (length_over ws (held ws count) row (held_fits ws count) i (lookup_at ws row.rank count i e))
+    go (Err p) e =
         by_le (3 * suc count) (length ws)
         (λ h. rw (stored_new ws count row p e h)
         (length_inserted ws count row (omega arith) p (omega (arith, lookup_place ws row.rank count p e, held_counted ws count)) h))
@@ -117,7 +115,7 @@ abbrev pub putting : List ℕ → ℕ → Row → ℕ → Put → Stored
 putting ws count row n answer = record { words = words_of (put row (rows_of ws count)) ++ drop (3 * n) ws; answer = answer }
 
 module _ (ws : List ℕ) (count : ℕ) (row : Row) (sound : sound_table ws count ≡ true) where
-  pub replaces : (r : Row) → find row.rank (rows_of ws count) ≡ some r → stored ws count row ≡ putting ws count row count Replaced
+  pub replaces : (r : Row) → find row.rank (rows_of ws count) ≡ Some r → stored ws count row ≡ putting ws count row count Replaced
   replaces r e =
       let rises = sound_rises ws count sound in
       let p = smaller row.rank (rows_of ws count) in
@@ -125,7 +123,7 @@ module _ (ws : List ℕ) (count : ℕ) (row : Row) (sound : sound_table ws count
       stored_known ws count row p (lookup_is ws count sound row.rank ∙ position_known row.rank (rows_of ws count) r e)
       ∙ rw (put_known row (rows_of ws count) r rises e, words_over ws count row (sound_fits ws count sound) p l)
 
-  pub inserts : find row.rank (rows_of ws count) ≡ none → 3 * suc count ≤ length ws → stored ws count row ≡ putting ws count row (suc count) Inserted
+  pub inserts : find row.rank (rows_of ws count) ≡ None → 3 * suc count ≤ length ws → stored ws count row ≡ putting ws count row (suc count) Inserted
   inserts e h =
       let p = smaller row.rank (rows_of ws count) in
       let l : p ≤ count = omega (arith, smaller_le row.rank (rows_of ws count), rows_length ws count) in
@@ -133,7 +131,7 @@ module _ (ws : List ℕ) (count : ℕ) (row : Row) (sound : sound_table ws count
       ∙ rw (put_new row (rows_of ws count) (sound_rises ws count sound) e, words_inserted ws count row (sound_fits ws count sound) p l)
 
   -- 14: "new id, ids full", and nothing changes
-  pub fills : find row.rank (rows_of ws count) ≡ none → length ws < 3 * suc count → stored ws count row ≡ record { words = ws; answer = Full }
+  pub fills : find row.rank (rows_of ws count) ≡ None → length ws < 3 * suc count → stored ws count row ≡ record { words = ws; answer = Full }
   fills e h =
       stored_full ws count row (smaller row.rank (rows_of ws count)) (lookup_is ws count sound row.rank ∙ position_new row.rank (rows_of ws count) e) h
 
@@ -145,8 +143,8 @@ module _ (ws : List ℕ) (count : ℕ) (row : Row) (sound : sound_table ws count
   by_stored {C} f h = go (find row.rank (rows_of ws count)) refl
     where
       go : (o : Option Row) → find row.rank (rows_of ws count) ≡ o → C
-      go (some r) e = f Replaced (replaces r e) (length_known row (rows_of ws count) r (sound_rises ws count sound) e ∙ rows_length ws count)
-      go none e =
+      go (Some r) e = f Replaced (replaces r e) (length_known row (rows_of ws count) r (sound_rises ws count sound) e ∙ rows_length ws count)
+      go None e =
           by_le (3 * suc count) (length ws)
           (λ l. f Inserted (inserts e l) (length_new row (rows_of ws count) (sound_rises ws count sound) e ∙ ap suc (rows_length ws count)))
           (λ l. h (fills e l))

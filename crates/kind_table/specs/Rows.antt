@@ -1,10 +1,7 @@
 -- Document 01, "Forms that must change": "id tables held in OSM order in lent storage". A table is a map from an id's rank to what is known of it.
-use Rattle.std.specs.Prelude.{ℕ, suc, Bool, true, cond, List, [], ◌∷◌, ltb, eqb}
-use Rattle.std.proofs.Math.Option.{Option, none, some}
+use Rattle.std.specs.Prelude.{ℕ, suc, Bool, true, cond, List, [], ◌∷◌, ltb, eqb, Err, None, Ok, Option, Result, Some}
 use Rattle.base.specs.Bytes.{both}
 use Rattle.kind_table.specs.declared.Row.{Row}
-use Rattle.kind_table.specs.declared.Found.{Found}
-use Rattle.kind_table.specs.declared.Found.TheVariants.{At, Place}
 
 -- ranks strictly rise: "known ids strictly in OSM order"
 unfoldable pub rising_from : ℕ → List Row → Bool
@@ -17,8 +14,8 @@ rising (r ∷ rs) = rising_from r.rank rs
 
 -- the row of a rank
 unfoldable pub find : ℕ → List Row → Option Row
-find k [] = none
-find k (r ∷ rs) = cond (eqb k r.rank) (some r) (find k rs)
+find k [] = None
+find k (r ∷ rs) = cond (eqb k r.rank) (Some r) (find k rs)
 
 -- a row in its place, over the row of the same rank if there is one
 unfoldable pub put : Row → List Row → List Row
@@ -31,10 +28,10 @@ smaller k [] = 0
 smaller k (r ∷ rs) = cond (ltb r.rank k) (suc (smaller k rs)) (smaller k rs)
 
 -- a row that was found stands at p; where none was, p is its place
-unfoldable pub at_or_place : Option Row → ℕ → Found
-at_or_place (some r) p = At p
-at_or_place none p = Place p
+unfoldable pub at_or_place : Option Row → ℕ → Result ℕ ℕ
+at_or_place (Some r) p = Ok p
+at_or_place None p = Err p
 
 -- where the row of a rank stands, or where it belongs: behind the rows of smaller ranks
-unfoldable pub position_of : ℕ → List Row → Found
+unfoldable pub position_of : ℕ → List Row → Result ℕ ℕ
 position_of k rs = at_or_place (find k rs) (smaller k rs)

@@ -1,10 +1,8 @@
 -- A table as it is lent: three words a row. The words past the counted rows belong to the table too, and keep what they hold.
-use Rattle.std.specs.Prelude.{ℕ, zero, suc, ◌+◌, ◌*◌, ◌/◌, min, Bool, cond, List, [], ◌∷◌, ◌++◌, leb, ltb, eqb, length, get_or, take, drop}
+use Rattle.std.specs.Prelude.{ℕ, zero, suc, ◌+◌, ◌*◌, ◌/◌, min, Bool, cond, List, [], ◌∷◌, ◌++◌, leb, ltb, eqb, length, get_or, take, drop, Err, Ok, Result}
 use Rattle.std.proofs.Math.Seq.{slice}
 use Rattle.base.specs.Bytes.{both}
 use Rattle.kind_table.specs.declared.Row.{Row}
-use Rattle.kind_table.specs.declared.Found.{Found}
-use Rattle.kind_table.specs.declared.Found.TheVariants.{At, Place}
 use Rattle.kind_table.specs.declared.Put.{Put}
 use Rattle.kind_table.specs.declared.Put.TheVariants.{Replaced, Inserted, Full}
 use Rattle.kind_table.specs.Rows.{rising}
@@ -48,10 +46,10 @@ halve (suc fuel) ws rank lo hi =
     lo
 
 -- the place p among n rows, and whether the row of the rank stands there
-unfoldable pub answer_at : List ℕ → ℕ → ℕ → ℕ → Found
-answer_at ws n rank p = cond (both (ltb p n) (eqb (rank_at ws p) rank)) (At p) (Place p)
+unfoldable pub answer_at : List ℕ → ℕ → ℕ → ℕ → Result ℕ ℕ
+answer_at ws n rank p = cond (both (ltb p n) (eqb (rank_at ws p) rank)) (Ok p) (Err p)
 
-unfoldable pub lookup : List ℕ → ℕ → ℕ → Found
+unfoldable pub lookup : List ℕ → ℕ → ℕ → Result ℕ ℕ
 lookup ws count rank = answer_at ws (held ws count) rank (halve (held ws count) ws rank 0 (held ws count))
 
 -- ---- a row stored
@@ -73,9 +71,9 @@ pub record Stored : Type 0 where
   pub words : List ℕ
   pub answer : Put
 
-unfoldable pub stored_at : List ℕ → ℕ → Row → Found → Stored
-stored_at ws count row (At i) = record { words = row_over ws i row; answer = Replaced }
-stored_at ws count row (Place p) =
+unfoldable pub stored_at : List ℕ → ℕ → Row → Result ℕ ℕ → Stored
+stored_at ws count row (Ok i) = record { words = row_over ws i row; answer = Replaced }
+stored_at ws count row (Err p) =
     cond (leb (3 * suc count) (length ws))
     (record { words = inserted ws p count row; answer = Inserted })
     (record { words = ws; answer = Full })

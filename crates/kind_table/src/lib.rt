@@ -9,22 +9,15 @@ ghost use Rattle.kind_table.specs.Words.{row_at, sound_table, held, halve, looku
 pub const DELETED: u64 = 0x8000_0000_0000_0000;
 
 // A row: the id's rank in OSM order; where its record starts, or that it is deleted; its floor. Every word means something.
-#[derive(Clone, Copy)]
+#[derive(Clone, Copy, PartialEq, Eq, Debug)]
 pub struct Row {
     pub rank: u64,
     pub place: u64,
     pub floor: u64,
 }
 
-// Where the row of a rank stands, or where it belongs.
-#[derive(Clone, Copy)]
-pub enum Found {
-    At(usize),
-    Place(usize),
-}
-
 // Full: the rank is new and there is no room for one more row.
-#[derive(Clone, Copy)]
+#[derive(Clone, Copy, PartialEq, Eq, Debug)]
 pub enum Put {
     Replaced,
     Inserted,
@@ -65,13 +58,11 @@ pub fn is_rising(table: &[u64], count: u64) -> bool
     if table.len() / 3 < n {
         return false;
     }
-    let mut i: usize = 1;
-    while i < n {
+    for i in 1..n {
         let at = 3 * i;
         if table[at] <= table[at - 3] {
             return false;
         }
-        i += 1;
     }
     true
 }
@@ -85,7 +76,8 @@ fn rows_held(table: &[u64], count: u64) -> usize
     if n < most { n } else { most }
 }
 
-// Where a rank belongs among n rows, by halves.
+// Where a rank belongs among n rows, by halves. It is a loop: a row is three words, and `find_row` also promises what this search answers where
+// ranks do not rise, which the library's `partition_point` leaves open.
 fn place_of(table: &[u64], n: usize, rank: u64) -> usize
     requires { 3 * n ≤ length table.now }
     ensures { result ≡ halve n table.now rank 0 n }
@@ -104,30 +96,25 @@ fn place_of(table: &[u64], n: usize, rank: u64) -> usize
 }
 
 // The row of a rank, or its place behind the rows of smaller ranks.
-pub fn find_row(table: &[u64], count: u64, rank: u64) -> Found
+pub fn find_row(table: &[u64], count: u64, rank: u64) -> Result<usize, usize>
     ensures { result ≡ lookup table.now count rank }
 {
     let n = rows_held(table, count);
     let p = place_of(table, n, rank);
     if p < n {
         if table[3 * p] == rank {
-            return Found::At(p);
+            return Ok(p);
         }
     }
-    Found::Place(p)
+    Err(p)
 }
 
-// Moves the first n words three further on, the last first; from place 0 on, so that it is compiled to one block move.
+// Moves the first n words three further on; from place 0 on, so that it is compiled to one block move.
 fn move_up(words: &mut [u64], n: usize)
     requires { n + 3 ≤ length words.old }
     ensures { words.new ≡ gap words.old 0 n }
 {
-    let mut i = n;
-    while 0 < i {
-        i -= 1;
-        let word = words[i];
-        words[i + 3] = word;
-    }
+    words.copy_within(0..n, 3);
 }
 
 // Moves the words from `at` up to `used` three further on.
@@ -160,7 +147,7 @@ fn insert_row(table: &mut [u64], p: usize, n: usize, row: Row)
 
 // Stores a row by where its rank was found: over the row there, or inserted in its place and the later rows moved up by one. Where
 // the table has no such row or place, nothing is stored.
-pub fn put_row(table: &mut [u64], count: u64, found: Found, row: Row) -> Put
+pub fn put_row(table: &mut [u64], count: u64, found: Result<usize, usize>, row: Row) -> Put
     ensures result_after { found ≡ lookup table.old count row.rank
         → record { words = table.new; answer = result } ≡ stored table.old count row }
     ensures count_in_bounds { result ≡ P.Inserted → 3 * count + 3 ≤ length table.old }
@@ -168,14 +155,14 @@ pub fn put_row(table: &mut [u64], count: u64, found: Found, row: Row) -> Put
     let n = count as usize;
     let most = table.len() / 3;
     match found {
-        Found::At(i) => {
+        Ok(i) => {
             if i < most {
                 store_row(table, i, row);
                 return Put::Replaced;
             }
             Put::Full
         }
-        Found::Place(p) => {
+        Err(p) => {
             if n < most {
                 if p <= n {
                     insert_row(table, p, n, row);

@@ -1,8 +1,8 @@
 -- A number and an integer are read back from what is written of them.
+use Rattle.std.specs.Prelude.{None, Some}
 use Prim.Native.Nat.{ℕ, zero, suc, ◌+◌, ◌/◌, ◌%◌, ◌<◌, ◌≤◌}
 use mathlib.Core.Path.{◌≡◌, refl, sym, ◌∙◌, ap}
 use mathlib.Core.Bool.{true, false}
-use mathlib.Core.Option.{none, some}
 use mathlib.Core.List.{[], ◌∷◌}
 use native.Mathlib.Omega.{arith}
 use lib.IntN.{ℤ, pos, negsuc}
@@ -85,32 +85,32 @@ module _ (n : ℕ) where
   unfolding number_text
   number_first h = first_digit n n [] (omega arith) h
 
-  pub digits_number : digits (number_text n) ≡ some n
-  digits_number = digits_of (number_text n) number_some number_digits ∙ ap some number_value
+  pub digits_number : digits (number_text n) ≡ Some n
+  digits_number = digits_of (number_text n) number_some number_digits ∙ ap Some number_value
 
 pub number_injective : (m n : ℕ) → number_text m ≡ number_text n → m ≡ n
 number_injective m n e = sym (number_value m) ∙ ap (decimal 0) e ∙ number_value n
 
 -- ---- integers
 
-minus : (n : ℕ) → integer (45 ∷ number_text (suc n)) ≡ some (negsuc n)
+minus : (n : ℕ) → integer (45 ∷ number_text (suc n)) ≡ Some (negsuc n)
 unfolding integer
 minus n = rw (digits_number (suc n))
 
-pub integer_read : (z : ℤ) → integer (integer_text z) ≡ some z
+pub integer_read : (z : ℤ) → integer (integer_text z) ≡ Some z
 unfolding integer_text
-integer_read (pos n) = integer_digits (number_text n) (number_some n) (number_digits n) ∙ ap (λ x. some (pos x)) (number_value n)
+integer_read (pos n) = integer_digits (number_text n) (number_some n) (number_digits n) ∙ ap (λ x. Some (pos x)) (number_value n)
 integer_read (negsuc n) = minus n
 
 pub integer_injective : (y z : ℤ) → integer_text y ≡ integer_text z → y ≡ z
 integer_injective y z e = cc (integer_read y, integer_read z)
 
 -- what is no integer is not written
-pub never : (z : ℤ) (s : Bytes) → integer s ≡ none → integer_text z ≡ s → ⊥
+pub never : (z : ℤ) (s : Bytes) → integer s ≡ None → integer_text z ≡ s → ⊥
 never z s h e = no (cc (integer_read z))
 
 -- so a byte that is no digit is not written alone: no `?`, no `+`, no `-`
-alone : (b : ℕ) → is_digit b ≡ false → integer (b ∷ []) ≡ none
+alone : (b : ℕ) → is_digit b ≡ false → integer (b ∷ []) ≡ None
 unfolding integer digits all both
 alone b h =
     by_eq b 43

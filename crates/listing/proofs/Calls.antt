@@ -1,4 +1,5 @@
 -- The call: measured first, lent the output's end; then written, where it fits.
+use Rattle.std.specs.Prelude.{Err, None, Ok, Option, Some}
 use Prim.Native.Nat.{ℕ, ◌+◌, ◌-◌, ◌<◌, ◌≤◌, min}
 use mathlib.Core.Path.{◌≡◌, refl, sym, ◌∙◌, ap}
 use mathlib.Core.Bool.{true, false}
@@ -13,8 +14,6 @@ use Rattle.base.proofs.Split.{by_le, no}
 use Rattle.little.proofs.Overs.{over_start}
 use Rattle.kind.specs.declared.Kind.{Kind}
 use Rattle.refusal.specs.declared.Refusal.TheVariants as R
-use Rattle.print.specs.declared.Room.{Room}
-use Rattle.print.specs.declared.Room.TheVariants.{Left, Full}
 use Rattle.print.specs.Print.{Printed, print, joined_pieces}
 use Rattle.print.specs.Piece.{behind}
 use Rattle.print.proofs.Prints as Prints
@@ -32,7 +31,6 @@ use Rattle.overlay.specs.Lent.{overlay_in}
 use Rattle.overlay.proofs.Puts.{kind_store_in_lem}
 use Rattle.overlay.specs.Given.{InBytes}
 use Rattle.overlay.specs.Sound.{is_sound}
-use Rattle.listing.specs.declared.Listed.TheVariants.{Length, Refused}
 use Rattle.listing.specs.Pieces.{kind_lines, pieces_of}
 use Rattle.listing.specs.Call.{Output, not_listed, page_of, page_over, listing_on}
 use Rattle.listing.proofs.Pages.{page_pieces}
@@ -77,19 +75,19 @@ module _ (out page : Bytes) where
   unfolding page_over
   over_short h = rw (lt-leb (length page) (length out) h)
 
-  over_whole : length page ≤ length out → record { out = page ++ drop (length page) out; answer = Length (length page) } ≡ page_over out page
+  over_whole : length page ≤ length out → record { out = page ++ drop (length page) out; answer = Ok (length page) } ≡ page_over out page
   unfolding page_over
   over_whole h = rw (le-leb (length page) (length out) h)
 
 -- ---- the room that measuring leaves
 
-left_fits : (n l left : ℕ) → Left left ≡ behind (Left n) l → (l ≤ n) × (left ≡ n - l)
+left_fits : (n l left : ℕ) → Some left ≡ behind (Some n) l → (l ≤ n) × (left ≡ n - l)
 left_fits n l left e =
     by_le l n
     (λ h. let w = behind_fits n l h in (h, (cc)))
     (λ h. let w = behind_past n l h in no (cc))
 
-full_past : (n l : ℕ) → Full ≡ behind (Left n) l → n < l
+full_past : (n l : ℕ) → None ≡ behind (Some n) l → n < l
 full_past n l e =
     by_le l n
     (λ h. let w = behind_fits n l h in no (cc))
@@ -105,7 +103,7 @@ none_of (b ∷ s) h = absurd (omega arith)
 abbrev pub ending : Bytes → Bytes
 ending out = mid_of (length out) (length out - length out) out
 
-module _ (out : Bytes) (xs : List Bytes) (x : Bytes) (r : Room) (e : record { out = x; room = r } ≡ print (length out) xs (record { out = ending out; room = Left (length out) })) where
+module _ (out : Bytes) (xs : List Bytes) (x : Bytes) (r : Option ℕ) (e : record { out = x; room = r } ≡ print (length out) xs (record { out = ending out; room = Some (length out) })) where
   -- nothing is written there
   measured_out : put_mid (length out) (length out - length out) out x ≡ out
   measured_out =
@@ -113,21 +111,21 @@ module _ (out : Bytes) (xs : List Bytes) (x : Bytes) (r : Room) (e : record { ou
       let a : x ≡ [] = none_of x (ap (λ (p : Printed). length p.out) e ∙ (length_print (length out) xs _ ∙ n)) in
       ap (put_mid (length out) (length out - length out) out) (a ∙ sym (none_of (ending out) n)) ∙ put_same (length out) (length out - length out) out
 
-  measured_room : r ≡ behind (Left (length out)) (length (joined_pieces xs))
+  measured_room : r ≡ behind (Some (length out)) (length (joined_pieces xs))
   measured_room = ap (λ (p : Printed). p.room) e ∙ room_print (length out) xs _
 
-  pub short_listed : Full ≡ r → record { out = put_mid (length out) (length out - length out) out x; answer = Refused R.ShortOutput } ≡ page_over out (joined_pieces xs)
+  pub short_listed : None ≡ r → record { out = put_mid (length out) (length out - length out) out x; answer = Err R.ShortOutput } ≡ page_over out (joined_pieces xs)
   short_listed f = rw measured_out (over_short out (joined_pieces xs) (full_past (length out) (length (joined_pieces xs)) (f ∙ measured_room)))
 
-  module _ (l : ℕ) (f : Left l ≡ r) where
+  module _ (l : ℕ) (f : Some l ≡ r) where
     left_over : (length (joined_pieces xs) ≤ length out) × (l ≡ length out - length (joined_pieces xs))
     left_over = left_fits (length out) (length (joined_pieces xs)) l (f ∙ measured_room)
 
     pub room_left : l ≤ length out
     room_left = omega (arith, left_over.0, left_over.1)
 
-    pub whole_listed : (y : Bytes) (q : Room) → record { out = y; room = q } ≡ print (length out) xs (record { out = put_mid (length out) (length out - length out) out x; room = Left (length out) })
-        → record { out = y; answer = Length (length out - l) } ≡ page_over out (joined_pieces xs)
+    pub whole_listed : (y : Bytes) (q : Option ℕ) → record { out = y; room = q } ≡ print (length out) xs (record { out = put_mid (length out) (length out - length out) out x; room = Some (length out) })
+        → record { out = y; answer = Ok (length out - l) } ≡ page_over out (joined_pieces xs)
     whole_listed y q g =
         let w = left_over in
         let v = Prints.written xs out (length out) w.0 (omega arith) in
@@ -152,6 +150,6 @@ module _ (out : Bytes) (o : Overlay) where
     unfolding listing_on
     list_19 h = rw t (over_short out (page_of o) h)
 
-    pub list_length : length (page_of o) ≤ length out → record { out = page_of o ++ drop (length (page_of o)) out; answer = Length (length (page_of o)) } ≡ listing_on out o
+    pub list_length : length (page_of o) ≤ length out → record { out = page_of o ++ drop (length (page_of o)) out; answer = Ok (length (page_of o)) } ≡ listing_on out o
     unfolding listing_on
     list_length h = rw t (over_whole out (page_of o) h)

@@ -1,4 +1,5 @@
 -- An example, by computation: storage that holds what input A of document 01 leaves is sound, its page is output A, and what the call makes of three outputs.
+use Rattle.std.specs.Prelude.{Ok}
 use Prim.Native.Nat.{◌+◌, ◌^◌}
 use mathlib.Core.Path.{◌≡◌, refl}
 use mathlib.Core.Bool.{true}
@@ -37,7 +38,6 @@ use Rattle.overlay.specs.Sound.{is_sound, kind_stores_sound}
 use Rattle.listing_page.specs.Listing.{kind_field, version_field, each, counted, body_fields, record_fields, row_fields, listing}
 use Rattle.listing.specs.Known.{record_in}
 use Rattle.listing.specs.Table.{left_at, kind_table, table_of}
-use Rattle.listing.specs.declared.Listed.TheVariants.{Length}
 use Rattle.listing.specs.Call.{not_listed, page_of, page_over, listing_on}
 
 -- node 7: id, latitude 10, longitude -20, one tag; flags 9 and version 3, the rest of the metadata 0; key 1 and the value `A`
@@ -67,11 +67,11 @@ unfolding ends_of is_sound sizes_fit Sizes.sizes_in_range Sizes.kind_fits Sizes.
 stored_sound = refl
 
 -- the call: an output of 46 bytes gets the page and keeps its last two, one of 44 is enough, and one of 43 gets 19 and keeps all
-pub listed_a : listing_on (replicate 46 7) stored_a ≡ record { out = output_a ++ (7 ∷ 7 ∷ []); answer = Length 44 }
+pub listed_a : listing_on (replicate 46 7) stored_a ≡ record { out = output_a ++ (7 ∷ 7 ∷ []); answer = Ok 44 }
 unfolding listing_on page_over
 listed_a = rw (stored_sound, stored_page)
 
-pub enough_a : listing_on (replicate 44 7) stored_a ≡ record { out = output_a; answer = Length 44 }
+pub enough_a : listing_on (replicate 44 7) stored_a ≡ record { out = output_a; answer = Ok 44 }
 unfolding listing_on page_over
 enough_a = rw (stored_sound, stored_page)
 

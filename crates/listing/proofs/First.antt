@@ -1,4 +1,5 @@
 -- What the listing answers and leaves: refused by the first condition of its table that holds, and then no byte is written; else the page and its length.
+use Rattle.std.specs.Prelude.{Err, Ok}
 use Prim.Native.Nat.{ℕ, ◌<◌, ◌≤◌}
 use mathlib.Core.Path.{◌≡◌, refl, sym, ◌∙◌, ap}
 use mathlib.Core.Bool.{true, false}
@@ -25,7 +26,6 @@ use Rattle.refusal.specs.First.{first_of}
 use Rattle.listing_page.specs.Summary as Summary
 use Rattle.listing_page.specs.Summary.{summary}
 use Rattle.listing_page.specs.Listing.{listing}
-use Rattle.listing.specs.declared.Listed.TheVariants.{Length, Refused}
 use Rattle.listing.specs.Known.{known_in}
 use Rattle.listing.specs.Table.{kind_table, table_of, Ranked}
 use Rattle.listing.specs.Call.{Output, not_listed, page_of, listing_on}
@@ -36,7 +36,7 @@ use Rattle.listing.proofs.Summaries.{listed_page}
 module _ (out : Bytes) (o : Overlay) where
   -- the page over the first bytes of the output
   abbrev listed_on : Output
-  listed_on = record { out = page_of o ++ drop (length (page_of o)) out; answer = Length (length (page_of o)) }
+  listed_on = record { out = page_of o ++ drop (length (page_of o)) out; answer = Ok (length (page_of o)) }
 
   -- the three cases: 22, 19, listed
   by_listing : {C : Type 0} → (is_sound o ≡ false → listing_on out o ≡ not_listed out R.Unsound → C)
@@ -54,23 +54,23 @@ module _ (out : Bytes) (o : Overlay) where
       by_listing (λ t e. rw (e, t)) (λ t l e. rw (e, t, lt-ltb (length out) (length (page_of o)) l)) (λ t l e. rw (e, t, le-ltb (length out) (length (page_of o)) l))
 
   -- "19 output shorter than the listing" with no byte written, and so 22
-  pub list_refused : (r : Refusal) → (listing_on out o).answer ≡ Refused r → (listing_on out o).out ≡ out
+  pub list_refused : (r : Refusal) → (listing_on out o).answer ≡ Err r → (listing_on out o).out ≡ out
   list_refused r h =
-      by_listing (λ t e. rw e) (λ t l e. rw e) (λ t l e. let z : Length (length (page_of o)) ≡ Refused r = sym (ap (λ (x : Output). x.answer) e) ∙ h in no (cc))
+      by_listing (λ t e. rw e) (λ t l e. rw e) (λ t l e. let z : Ok (length (page_of o)) ≡ Err r = sym (ap (λ (x : Output). x.answer) e) ∙ h in no (cc))
 
   -- listed exactly where the overlay is sound and the output is as long as the page, and the answer is the page's length
-  pub list_listed : (n : ℕ) → ((listing_on out o).answer ≡ Length n) ↔ ((is_sound o ≡ true) × ((length (page_of o) ≤ length out) × (n ≡ length (page_of o))))
+  pub list_listed : (n : ℕ) → ((listing_on out o).answer ≡ Ok n) ↔ ((is_sound o ≡ true) × ((length (page_of o) ≤ length out) × (n ≡ length (page_of o))))
   list_listed n = (to, λ h. rw (← list_length out o h.0 h.1.0, h.1.1))
     where
-      to : (listing_on out o).answer ≡ Length n → (is_sound o ≡ true) × ((length (page_of o) ≤ length out) × (n ≡ length (page_of o)))
+      to : (listing_on out o).answer ≡ Ok n → (is_sound o ≡ true) × ((length (page_of o) ≤ length out) × (n ≡ length (page_of o)))
       to h =
           by_listing
-          (λ t e. let z : Refused R.Unsound ≡ Length n = sym (ap (λ (x : Output). x.answer) e) ∙ h in no (cc))
-          (λ t l e. let z : Refused R.ShortOutput ≡ Length n = sym (ap (λ (x : Output). x.answer) e) ∙ h in no (cc))
-          (λ t l e. let z : Length (length (page_of o)) ≡ Length n = sym (ap (λ (x : Output). x.answer) e) ∙ h in let m : n ≡ length (page_of o) = cc in (t, (l, m)))
+          (λ t e. let z : Err R.Unsound ≡ Ok n = sym (ap (λ (x : Output). x.answer) e) ∙ h in no (cc))
+          (λ t l e. let z : Err R.ShortOutput ≡ Ok n = sym (ap (λ (x : Output). x.answer) e) ∙ h in no (cc))
+          (λ t l e. let z : Ok (length (page_of o)) ≡ Ok n = sym (ap (λ (x : Output). x.answer) e) ∙ h in let m : n ≡ length (page_of o) = cc in (t, (l, m)))
 
   -- then the output begins with the page, and "output past the listing is unchanged"
-  pub list_page : (n : ℕ) → (listing_on out o).answer ≡ Length n → (take n (listing_on out o).out ≡ page_of o) × (drop n (listing_on out o).out ≡ drop n out)
+  pub list_page : (n : ℕ) → (listing_on out o).answer ≡ Ok n → (take n (listing_on out o).out ≡ page_of o) × (drop n (listing_on out o).out ≡ drop n out)
   list_page n h =
       let w = (list_listed n).0 h in
       let e = ap (λ (x : Output). x.out) (list_length out o w.0 w.1.0) in
@@ -94,7 +94,7 @@ page_acts o w n acts h u = ap listing (listed_page o w n acts h u)
 -- and an output as long as that page gets it
 pub list_acts : (out : Bytes) (o : Overlay) → InBytes o → Sound o → Ranked o → (acts : List (Act Bytes)) → ((key : Key) → SFits w64 key.id → known_in o key ≡ Summary.known acts key)
     → ((key : Key) → fits_signed w64 key.id ≡ false → Summary.known acts key ≡ Summary.nothing) → length (listing (summary acts)) ≤ length out
-    → listing_on out o ≡ record { out = listing (summary acts) ++ drop (length (listing (summary acts))) out; answer = Length (length (listing (summary acts))) }
+    → listing_on out o ≡ record { out = listing (summary acts) ++ drop (length (listing (summary acts))) out; answer = Ok (length (listing (summary acts))) }
 list_acts out o b w n acts h u l =
     let p = page_acts o w n acts h u in
     rw (← p) (sym (list_length out o ((decides o b).1 w) (rw p l)))

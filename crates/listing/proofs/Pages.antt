@@ -1,8 +1,8 @@
 -- In sound storage the printed pieces are together the listing of the overlay's table.
+use Rattle.std.specs.Prelude.{Some}
 use Prim.Native.Nat.{ℕ, suc, ◌<◌}
 use mathlib.Core.Path.{◌≡◌, refl, sym}
 use mathlib.Core.Bool.{true}
-use mathlib.Core.Option.{some}
 use mathlib.Core.List.{List, [], ◌∷◌, ◌++◌, append_assoc, map}
 use native.Mathlib.Omega.{arith}
 use lib.ListN.{length, take, drop, get_or}
@@ -48,7 +48,7 @@ module _ (strings : ℕ) (k : Kind) (s : KindStore) (w : SoundKindStore strings 
   used = take s.used s.arena
 
   -- the fields of a row that its rank finds
-  row_fields_lem : (r : table.Row) → find r.rank (rows_in s) ≡ some r → row_fields_at f k used r ≡ row_fields (row_of k s f r)
+  row_fields_lem : (r : table.Row) → find r.rank (rows_in s) ≡ Some r → row_fields_at f k used r ≡ row_fields (row_of k s f r)
   unfolding row_fields_at row_fields left_at
   row_fields_lem r e =
       let h = find_passes (sound_row w.whole.kept) r.rank (rows_in s) r w.rows e in

@@ -1,8 +1,8 @@
 -- A sound kind store, row by row: at the place of each live row the readers find a legal record of its kind, and the known version of a row's id is the one that the row says.
+use Rattle.std.specs.Prelude.{None, Some}
 use Prim.Native.Nat.{ℕ, zero, suc, ◌+◌, ◌-◌, ◌^◌, ◌≤◌}
 use mathlib.Core.Path.{◌≡◌, refl, sym, ◌∙◌, ap, subst}
 use mathlib.Core.Bool.{true, not}
-use mathlib.Core.Option.{none, some}
 use mathlib.Core.List.{List, ◌++◌}
 use native.Mathlib.Omega.{arith}
 use lib.ListN.{length, take, drop, length-take, length-drop}
@@ -35,11 +35,11 @@ unfolding fits_kept
 kept_kind k x h = Numbers.same_yes (kind_of x.held.body) k (both_left _ _ h)
 
 -- what is read at a start of whole records is its record
-pub whole_read : (strings : ℕ) (k : Kind) (s : Bytes) (w : Whole strings k s) (at : ℕ) (x : KeptRecord) → record_at at w.kept ≡ some x → held_in (cut_record k (drop at s)) ≡ some x.held
+pub whole_read : (strings : ℕ) (k : Kind) (s : Bytes) (w : Whole strings k s) (at : ℕ) (x : KeptRecord) → record_at at w.kept ≡ Some x → held_in (cut_record k (drop at s)) ≡ Some x.held
 whole_read strings k s w at x h = rw (w.same, (record_there k at w.kept x w.fits h).1)
 
 -- and the readers find it there, whatever follows it
-pub whole_found : (strings : ℕ) (k : Kind) (s : Bytes) (w : Whole strings k s) (at : ℕ) (x : KeptRecord) → record_at at w.kept ≡ some x → Found x.id x.held (drop at s)
+pub whole_found : (strings : ℕ) (k : Kind) (s : Bytes) (w : Whole strings k s) (at : ℕ) (x : KeptRecord) → record_at at w.kept ≡ Some x → Found x.id x.held (drop at s)
 unfolding fits_kept legal
 whole_found strings k s w at x h =
     let f = record_passes (fits_kept k) at w.kept x w.fits h in
@@ -49,15 +49,15 @@ whole_found strings k s w at x h =
     subst (Found x.id x.held) (sym e) (read_record_lem x.id x.held b.0 (both_right _ _ f) (both_left _ _ (both_right _ _ l)))
 
 -- a live row that is sound points at the start of a record of its id
-pub row_starts : (kept : List KeptRecord) (r : Row) → sound_row kept r ≡ true → is_live r.place ≡ true → (x : KeptRecord) × ((record_at r.place kept ≡ some x) × (x.id ≡ id_of r.rank))
+pub row_starts : (kept : List KeptRecord) (r : Row) → sound_row kept r ≡ true → is_live r.place ≡ true → (x : KeptRecord) × ((record_at r.place kept ≡ Some x) × (x.id ≡ id_of r.rank))
 unfolding sound_row
 row_starts kept r h l =
     by_either (not (is_live r.place)) (starts_at (id_of r.rank) r.place kept) h
     (λ t. clash (sym (ap not l) ∙ t) refl)
     (λ t. start_is (id_of r.rank) r.place kept t)
 
-module _ (strings : ℕ) (k : Kind) (s : KindStore) (w : SoundKindStore strings k s) (at : ℕ) (x : KeptRecord) (h : record_at at w.whole.kept ≡ some x) where
-  pub record_read : record_in k s at ≡ some x.held
+module _ (strings : ℕ) (k : Kind) (s : KindStore) (w : SoundKindStore strings k s) (at : ℕ) (x : KeptRecord) (h : record_at at w.whole.kept ≡ Some x) where
+  pub record_read : record_in k s at ≡ Some x.held
   unfolding record_in
   record_read = whole_read strings k (take s.used s.arena) w.whole at x h
 
@@ -71,7 +71,7 @@ module _ (strings : ℕ) (k : Kind) (s : KindStore) (w : SoundKindStore strings 
       let u = drop at (take s.used s.arena) in
       by_le (head_len k + 29) (length u)
       (λ l. omega (arith, length-drop at (take s.used s.arena), length-take s.used s.arena))
-      (λ l. let z : none ≡ some x.held = sym (ap held_in (record_short k u l)) ∙ record_read in no (cc))
+      (λ l. let z : None ≡ Some x.held = sym (ap held_in (record_short k u l)) ∙ record_read in no (cc))
 
   pub record_kind : kind_of x.held.body ≡ k
   record_kind = kept_kind k x (record_passes (fits_kept k) at w.whole.kept x w.whole.fits h)
@@ -88,7 +88,7 @@ rank_back (suc n) =
     (λ l. let e : suc n - 2 ^ 63 ≡ suc (n - 2 ^ 63) = omega arith in rw (id_positive l, e) (omega arith))
 
 -- the search finds the row itself, and its record's version stands within the used bytes
-pub row_version : (strings : ℕ) (k : Kind) (s : KindStore) (w : SoundKindStore strings k s) (r : Row) → find r.rank (rows_in s) ≡ some r → sound_row w.whole.kept r ≡ true
+pub row_version : (strings : ℕ) (k : Kind) (s : KindStore) (w : SoundKindStore strings k s) (r : Row) → find r.rank (rows_in s) ≡ Some r → sound_row w.whole.kept r ≡ true
     → known_of k (take s.used s.arena) r ≡ known_version k s (id_of r.rank)
 row_version strings k s w r e h =
     known_kept k (take s.used s.arena) s.arena s.used r

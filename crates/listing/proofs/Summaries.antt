@@ -1,9 +1,8 @@
 -- The overlay's table is sorted, and each key finds in it what the overlay knows of the key. So it is the summary of the acts that the overlay stands for.
+use Rattle.std.specs.Prelude.{None, Option, Some, option_map}
 use Prim.Native.Nat.{ℕ, zero, suc, ◌*◌, ◌^◌, ◌<◌, ◌≤◌}
 use mathlib.Core.Path.{◌≡◌, refl, sym, ◌∙◌, ap, subst}
 use mathlib.Core.Bool.{Bool, true, false}
-use mathlib.Core.Option
-use mathlib.Core.Option.{Option, none, some}
 use mathlib.Core.List.{List, [], ◌∷◌, ◌++◌, map}
 use native.Mathlib.Omega.{arith}
 use lib.Dec.{ltb, eqb}
@@ -97,19 +96,19 @@ module _ (k : Kind) (s : KindStore) (f : ℕ → Bytes) where
 
   -- ---- what is found among the rows of a kind
 
-  find_rows : (id : ℤ) → SFits w64 id → (rs : List table.Row) → all is_rank rs ≡ true → find_key (record { kind = k; id = id }) (rowed rs) ≡ Option.map (row_of k s f) (Rows.find (rank id) rs)
+  find_rows : (id : ℤ) → SFits w64 id → (rs : List table.Row) → all is_rank rs ≡ true → find_key (record { kind = k; id = id }) (rowed rs) ≡ option_map (row_of k s f) (Rows.find (rank id) rs)
   unfolding Rows.find
   find_rows id g [] a = find_nil _
   find_rows id g (r ∷ rs) a =
       let fr = Fits-of_lt (rank_below r (all_head is_rank r rs a)) in
       by_eq (rank id) r.rank
       (λ e. let i : id ≡ id_of r.rank = sym (id_rank g) ∙ ap id_of e in
-      let m : Rows.find (rank id) (r ∷ rs) ≡ some r = subst (λ (z : ℕ). Rows.find z (r ∷ rs) ≡ some r) (sym e) (Maps.find_same r rs) in
-      find_here (record { kind = k; id = id }) (row_of k s f r) (rowed rs) (λ j. record { kind = k; id = i j }) ∙ sym (ap (Option.map (row_of k s f)) m))
+      let m : Rows.find (rank id) (r ∷ rs) ≡ Some r = subst (λ (z : ℕ). Rows.find z (r ∷ rs) ≡ Some r) (sym e) (Maps.find_same r rs) in
+      find_here (record { kind = k; id = id }) (row_of k s f r) (rowed rs) (λ j. record { kind = k; id = i j }) ∙ sym (ap (option_map (row_of k s f)) m))
       (λ d. find_later (record { kind = k; id = id }) (row_of k s f r) (rowed rs) (λ e. d (ap (λ (z : Key). rank z.id) e ∙ rank_id fr))
-      ∙ (find_rows id g rs (all_tail is_rank r rs a) ∙ sym (ap (Option.map (row_of k s f)) (Maps.find_other (rank id) r rs d))))
+      ∙ (find_rows id g rs (all_tail is_rank r rs a) ∙ sym (ap (option_map (row_of k s f)) (Maps.find_other (rank id) r rs d))))
 
-  find_none : (key : Key) → ((n : ℕ) → n < 2 ^ 64 → key ≡ record { kind = k; id = id_of n } → ⊥) → (rs : List table.Row) → all is_rank rs ≡ true → find_key key (rowed rs) ≡ none
+  find_none : (key : Key) → ((n : ℕ) → n < 2 ^ 64 → key ≡ record { kind = k; id = id_of n } → ⊥) → (rs : List table.Row) → all is_rank rs ≡ true → find_key key (rowed rs) ≡ None
   find_none key h [] a = find_nil key
   find_none key h (r ∷ rs) a =
       find_later key (row_of k s f r) (rowed rs) (h r.rank (rank_below r (all_head is_rank r rs a))) ∙ find_none key h rs (all_tail is_rank r rs a)
@@ -117,12 +116,12 @@ module _ (k : Kind) (s : KindStore) (f : ℕ → Bytes) where
 -- ---- three kinds
 
 abbrev first : Option PageRow → Option PageRow → Option PageRow
-first none y = y
-first (some r) y = some r
+first None y = y
+first (Some r) y = Some r
 
-first_none : (x : Option PageRow) → first x none ≡ x
-first_none none = refl
-first_none (some r) = refl
+first_none : (x : Option PageRow) → first x None ≡ x
+first_none None = refl
+first_none (Some r) = refl
 
 find_append : (k : Key) (xs ys : Table) → find_key k (xs ++ ys) ≡ first (find_key k xs) (find_key k ys)
 unfolding find_key
@@ -158,7 +157,7 @@ module _ (o : Overlay) (w : Sound o) (n : Ranked o) where
   part k = kind_table k (kind_store_of k o) (held_texts o)
 
   -- a key finds what it finds among the rows of its kind
-  in_kind : (j : Kind) (id : ℤ) → ((k : Kind) → (k ≡ j → ⊥) → find_key (record { kind = j; id = id }) (part k) ≡ none)
+  in_kind : (j : Kind) (id : ℤ) → ((k : Kind) → (k ≡ j → ⊥) → find_key (record { kind = j; id = id }) (part k) ≡ None)
       → find_key (record { kind = j; id = id }) (table_of o) ≡ find_key (record { kind = j; id = id }) (part j)
   unfolding table_of
   in_kind Node id h =
@@ -171,17 +170,17 @@ module _ (o : Overlay) (w : Sound o) (n : Ranked o) where
       let key : Key = record { kind = Relation; id = id } in
       rw (find_append key (part Node ++ part Way) (part Relation), find_append key (part Node) (part Way), h Node (λ e. no (cc)), h Way (λ e. no (cc)))
 
-  part_none : (key : Key) (k : Kind) → ((m : ℕ) → m < 2 ^ 64 → key ≡ record { kind = k; id = id_of m } → ⊥) → find_key key (part k) ≡ none
+  part_none : (key : Key) (k : Kind) → ((m : ℕ) → m < 2 ^ 64 → key ≡ record { kind = k; id = id_of m } → ⊥) → find_key key (part k) ≡ None
   unfolding kind_table
   part_none key k h = find_none k (kind_store_of k o) (held_texts o) key h (rows_in (kind_store_of k o)) (n.rows k)
 
   -- the row of an id says what the overlay knows of it
   row_known : (key : Key) → SFits w64 key.id → (x : Option table.Row) → Rows.find (rank key.id) (rows_in (kind_store_of key.kind o)) ≡ x
-      → Option.map (row_of key.kind (kind_store_of key.kind o) (held_texts o)) x
+      → option_map (row_of key.kind (kind_store_of key.kind o) (held_texts o)) x
       ≡ row_in key (record { last = last_in key.kind (kind_store_of key.kind o) (held_texts o) x; high = known_version key.kind (kind_store_of key.kind o) key.id })
   unfolding left_at
-  row_known key g none e = refl
-  row_known key g (some r) e =
+  row_known key g None e = refl
+  row_known key g (Some r) e =
       let k = key.kind in
       let s = kind_store_of k o in
       let i : id_of r.rank ≡ key.id = ap id_of (Maps.find_rank (rank key.id) (rows_in s) r e) ∙ id_rank g in
@@ -200,10 +199,10 @@ module _ (o : Overlay) (w : Sound o) (n : Ranked o) where
       ∙ (find_rows k s (held_texts o) key.id g (rows_in s) (n.rows k) ∙ row_known key g (Rows.find (rank key.id) (rows_in s)) refl)
 
   -- an id that has not 64 bits has no row
-  pub table_none : (key : Key) → (SFits w64 key.id → ⊥) → find_key key (table_of o) ≡ none
+  pub table_none : (key : Key) → (SFits w64 key.id → ⊥) → find_key key (table_of o) ≡ None
   unfolding table_of
   table_none key g =
-      let gone : (k : Kind) → find_key key (part k) ≡ none = λ k. part_none key k (λ m f e. g (subst (SFits w64) (sym (ap (λ (z : Key). z.id) e)) (id_fits (Fits-of_lt f)))) in
+      let gone : (k : Kind) → find_key key (part k) ≡ None = λ k. part_none key k (λ m f e. g (subst (SFits w64) (sym (ap (λ (z : Key). z.id) e)) (id_fits (Fits-of_lt f)))) in
       rw (find_append key (part Node ++ part Way) (part Relation), find_append key (part Node) (part Way), gone Node, gone Way, gone Relation)
 
   -- ---- the bridge to the page

@@ -1,6 +1,6 @@
 -- Document 01, "The listing": "No header; an empty overlay lists as no bytes, and output past the listing is unchanged." 22 first, then "19 output shorter than
 -- the listing"; at a refusal no byte is written. The answer of an accepted call is the listing's length.
-use Rattle.std.specs.Prelude.{cond, ◌++◌, leb, length, drop}
+use Rattle.std.specs.Prelude.{cond, ◌++◌, leb, length, drop, Err, Ok, Result, ℕ}
 use Rattle.base.specs.Bytes.{Bytes}
 use Rattle.refusal.specs.declared.Refusal.{Refusal}
 use Rattle.refusal.specs.declared.Refusal.TheVariants as R
@@ -8,16 +8,14 @@ use Rattle.listing_page.specs.Listing.{listing}
 use Rattle.overlay.specs.Overlay.{Overlay}
 use Rattle.overlay.specs.Sound.{is_sound}
 use Rattle.listing.specs.Table.{table_of}
-use Rattle.listing.specs.declared.Listed.{Listed}
-use Rattle.listing.specs.declared.Listed.TheVariants.{Length, Refused}
 
 -- the output, and the answer
 pub record Output : Type 0 where
   pub out : Bytes
-  pub answer : Listed
+  pub answer : Result ℕ Refusal
 
 abbrev pub not_listed : Bytes → Refusal → Output
-not_listed out r = record { out = out; answer = Refused r }
+not_listed out r = record { out = out; answer = Err r }
 
 -- the page of an overlay
 abbrev pub page_of : Overlay → Bytes
@@ -26,7 +24,7 @@ page_of o = listing (table_of o)
 -- a page over the first bytes of the output, or 19
 unfoldable pub page_over : Bytes → Bytes → Output
 page_over out page =
-    cond (leb (length page) (length out)) (record { out = page ++ drop (length page) out; answer = Length (length page) }) (not_listed out R.ShortOutput)
+    cond (leb (length page) (length out)) (record { out = page ++ drop (length page) out; answer = Ok (length page) }) (not_listed out R.ShortOutput)
 
 unfoldable pub listing_on : Bytes → Overlay → Output
 listing_on out o = cond (is_sound o) (page_over out (page_of o)) (not_listed out R.Unsound)

@@ -1,6 +1,5 @@
 -- "A call .. is refused when, and only when, .. a condition of the table holds at its place": the listing's conditions in order, 22, then 19.
-use Rattle.std.proofs.Math.Option.{Option, none, some}
-use Rattle.std.specs.Prelude.{List, [], ◌∷◌, ltb, length}
+use Rattle.std.specs.Prelude.{List, [], ◌∷◌, ltb, length, Err, None, Ok, Option, Result, Some, ℕ}
 use Rattle.base.specs.Bytes.{Bytes}
 use Rattle.refusal.specs.declared.Refusal.{Refusal}
 use Rattle.refusal.specs.declared.Refusal.TheVariants as R
@@ -8,13 +7,11 @@ use Rattle.overlay.specs.Overlay.{Overlay}
 use Rattle.refusal.specs.First.{ConditionRow, row}
 use Rattle.overlay.specs.First.{unsound_row}
 use Rattle.listing.specs.Call.{page_of}
-use Rattle.listing.specs.declared.Listed.{Listed}
-use Rattle.listing.specs.declared.Listed.TheVariants.{Length, Refused}
 
 abbrev pub listing_table : Bytes → Overlay → List (ConditionRow Refusal)
 listing_table out o = unsound_row o ∷ row R.ShortOutput (ltb (length out) (length (page_of o))) ∷ []
 
 -- the refusal of an answer, if it is one
-abbrev pub listed_refusal : Listed → Option Refusal
-listed_refusal (Length n) = none
-listed_refusal (Refused r) = some r
+abbrev pub listed_refusal : Result ℕ Refusal → Option Refusal
+listed_refusal (Ok n) = None
+listed_refusal (Err r) = Some r

@@ -1,6 +1,5 @@
 -- What an overlay knows of a kind and id, in the terms of the accepted acts: what the last act left, its texts as texts, and the known version.
-use Rattle.std.specs.Prelude.{ℕ, cond, drop, take}
-use Rattle.std.proofs.Math.Option.{Option, none, some}
+use Rattle.std.specs.Prelude.{ℕ, cond, drop, take, None, Option, Some}
 use Rattle.base.specs.Bytes.{Bytes}
 use Rattle.kind.specs.declared.Kind.{Kind}
 use Rattle.osm_id.specs.Order.{rank}
@@ -19,20 +18,20 @@ use Rattle.listing_page.specs.Summary.{Known}
 
 -- the record that stands at a place of a kind store's used bytes
 abbrev pub held_in : Option (Cut KeptRecord) → Option (Record ℕ)
-held_in none = none
-held_in (some c) = some c.item.held
+held_in None = None
+held_in (Some c) = Some c.item.held
 
 unfoldable pub record_in : Kind → KindStore → ℕ → Option (Record ℕ)
 record_in k s at = held_in (cut_record k (drop at (take s.used s.arena)))
 
 -- with its texts as texts
 abbrev pub live_record : (ℕ → Bytes) → Option (Record ℕ) → Option (Left Bytes)
-live_record f none = none
-live_record f (some r) = some (live (swap_record f r))
+live_record f None = None
+live_record f (Some r) = Some (live (swap_record f r))
 
 abbrev pub last_in : Kind → KindStore → (ℕ → Bytes) → Option Row → Option (Left Bytes)
-last_in k s f none = none
-last_in k s f (some r) = cond (is_live r.place) (live_record f (record_in k s r.place)) (some gone)
+last_in k s f None = None
+last_in k s f (Some r) = cond (is_live r.place) (live_record f (record_in k s r.place)) (Some gone)
 
 unfoldable pub known_in : Overlay → Key → Known
 known_in o key =

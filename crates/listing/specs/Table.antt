@@ -1,6 +1,5 @@
 -- Document 01, "The listing": "Kinds n, w, r in that order, ids in OSM order, live and deleted merged." An overlay as the page's table: a row for each known id.
-use Rattle.std.specs.Prelude.{ℕ, ◌≡◌, Bool, true, cond, ◌++◌, map, ltb}
-use Rattle.std.proofs.Math.Option.{Option, none, some}
+use Rattle.std.specs.Prelude.{ℕ, ◌≡◌, Bool, true, cond, ◌++◌, map, ltb, None, Option, Some}
 use Rattle.base.specs.Bytes.{Bytes, all}
 use Rattle.kind.specs.declared.Kind.{Kind}
 use Rattle.kind.specs.declared.Kind.TheVariants.{Node, Way, Relation}
@@ -19,8 +18,8 @@ use Rattle.listing.specs.Known.{record_in}
 
 -- live with a record, its texts as texts; a place at which no record starts is unsound
 abbrev pub left_with : (ℕ → Bytes) → Option (Record ℕ) → Left Bytes
-left_with f none = gone
-left_with f (some r) = live (swap_record f r)
+left_with f None = gone
+left_with f (Some r) = live (swap_record f r)
 
 -- "`+` live or `-` deleted": the record that starts at the row's place, or none
 unfoldable pub left_at : Kind → KindStore → (ℕ → Bytes) → table.Row → Left Bytes

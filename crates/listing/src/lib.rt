@@ -3,7 +3,6 @@
 
 ghost use Rattle.std.specs.Prelude.{◌≡◌};
 ghost use Rattle.print.specs.Print.{print, joined_pieces};
-ghost use Rattle.print.specs.declared.Room.TheVariants.{Left};
 ghost use Rattle.listing_fields.specs.Fields.{held_text};
 ghost use Rattle.listing_rows.specs.Lines.{kind_pieces};
 ghost use Rattle.overlay.specs.Overlay.{kind_store_of};
@@ -13,15 +12,7 @@ ghost use Rattle.listing.specs.Call.{page_over, listing_on};
 
 use kind::Kind;
 use overlay_blocks::{ARENA, COUNTERS, STRING_BYTES, STRINGS};
-use print::Room;
 use refusal::Refusal;
-
-// What the listing answers: its length, or a refusal.
-#[derive(Clone, Copy)]
-pub enum Listed {
-    Length(usize),
-    Refused(Refusal),
-}
 
 // The lines of one kind, with the spans of the strings and their used bytes.
 fn put_rows(
@@ -33,8 +24,8 @@ fn put_rows(
     texts: &[u8],
     out: &mut [u8],
     cap: usize,
-    room: Room,
-) -> Room
+    room: Option<usize>,
+) -> Option<usize>
     ensures { record { out = out.new; room = result }
         ≡ print cap (kind_pieces (held_text spans.now texts.now (lent words.now bytes.now counters.now).texts.strings) kind (kind_store_of kind (lent words.now bytes.now counters.now)))
         (record { out = out.old; room = room }) }
@@ -67,8 +58,8 @@ fn put_kind(
     kind: Kind,
     out: &mut [u8],
     cap: usize,
-    room: Room,
-) -> Room
+    room: Option<usize>,
+) -> Option<usize>
     ensures { record { out = out.new; room = result }
         ≡ print cap (kind_lines kind (lent words.now bytes.now counters.now)) (record { out = out.old; room = room }) }
 {
@@ -96,43 +87,41 @@ fn put_page(
     counters: &[u64; COUNTERS],
     out: &mut [u8],
     cap: usize,
-) -> Room
+) -> Option<usize>
     ensures { record { out = out.new; room = result }
-        ≡ print cap (pieces_of (lent words.now bytes.now counters.now)) (record { out = out.old; room = Left cap }) }
+        ≡ print cap (pieces_of (lent words.now bytes.now counters.now)) (record { out = out.old; room = Some cap }) }
 {
-    let room = put_kind(
-        words,
-        bytes,
-        counters,
-        Kind::Node,
-        out,
-        cap,
-        Room::Left(cap),
-    );
+    let room = put_kind(words, bytes, counters, Kind::Node, out, cap, Some(cap));
     let room = put_kind(words, bytes, counters, Kind::Way, out, cap, room);
     put_kind(words, bytes, counters, Kind::Relation, out, cap, room)
 }
 
 // The page over the first bytes of the output, or 19: first measured, lent the output's end, then written.
-fn put_listing(words: &[u64], bytes: &[u8], counters: &[u64; COUNTERS], out: &mut [u8]) -> Listed
+fn put_listing(
+    words: &[u64],
+    bytes: &[u8],
+    counters: &[u64; COUNTERS],
+    out: &mut [u8],
+) -> Result<usize, Refusal>
     ensures { record { out = out.new; answer = result }
         ≡ page_over out.old (joined_pieces (pieces_of (lent words.now bytes.now counters.now))) }
 {
     let end = out.len();
-    let Room::Left(left) = put_page(words, bytes, counters, &mut out[end..], end) else {
-        return Listed::Refused(Refusal::ShortOutput);
-    };
+    let left = put_page(words, bytes, counters, &mut out[end..], end).ok_or(Refusal::ShortOutput)?;
     put_page(words, bytes, counters, out, end);
-    Listed::Length(end - left)
+    Ok(end - left)
 }
 
 // The listing of an overlay at the start of the output: 22, 19, or its length.
-pub fn list(words: &[u64], bytes: &[u8], counters: &[u64; COUNTERS], out: &mut [u8]) -> Listed
+pub fn list(
+    words: &[u64],
+    bytes: &[u8],
+    counters: &[u64; COUNTERS],
+    out: &mut [u8],
+) -> Result<usize, Refusal>
     ensures { record { out = out.new; answer = result }
         ≡ listing_on out.old (lent words.now bytes.now counters.now) }
 {
-    if overlay::is_sound(words, bytes, counters) {
-        return put_listing(words, bytes, counters, out);
-    }
-    Listed::Refused(Refusal::Unsound)
+    overlay::check_sound(words, bytes, counters)?;
+    put_listing(words, bytes, counters, out)
 }

@@ -1,8 +1,7 @@
 -- Of a record that the readers find the fields are the page's: the fields of the record with its texts as texts. In sound strings a handle's text is the held one.
+use Rattle.std.specs.Prelude.{Err, None, Ok, Option, Some, option_map}
 use Prim.Native.Nat.{ℕ, zero, suc, ◌+◌, ◌<◌}
 use mathlib.Core.Path.{◌≡◌, refl, sym, ◌∙◌, ap}
-use mathlib.Core.Option
-use mathlib.Core.Option.{Option, none, some}
 use mathlib.Core.List.{List, [], ◌∷◌, map}
 use native.Mathlib.Omega.{arith}
 use native.Mathlib.Nat.{zero-add}
@@ -16,8 +15,6 @@ use Rattle.base.proofs.Split.{by_lt, no}
 use Rattle.kind.specs.Kind.{kind_number, of_number}
 use Rattle.kind.specs.declared.Kind.{Kind}
 use Rattle.kind.specs.declared.Kind.TheVariants.{Node, Way, Relation}
-use Rattle.kind.specs.declared.Named.{Named}
-use Rattle.kind.specs.declared.Named.TheVariants.{Is, Unknown}
 use Rattle.line.specs.Decimal.{number_text}
 use Rattle.interner.specs.Texts.{text_of}
 use Rattle.interner.specs.Strings.{Store, used_of, span_of}
@@ -27,10 +24,8 @@ use Rattle.model.specs.Record.{Member, Tag, Body, place, refs, members, Record, 
 use Rattle.model.specs.Swap.{swap_member, swap_tag, swap_body, swap_record}
 use Rattle.compact.specs.Layout.{head_of}
 use Rattle.compact.specs.Held.{member_named, member_held}
-use Rattle.compact.specs.View.{ref_at, member_at, step_by, tag_step, tag_given, steps_onward, steps_from, tags_from}
+use Rattle.compact.specs.View.{TagStep, ref_at, member_at, step_by, tag_step, tag_given, steps_onward, steps_from, tags_from}
 use Rattle.compact.specs.declared.CompactMember.{CompactMember}
-use Rattle.compact.specs.declared.TagStep.{TagStep}
-use Rattle.compact.specs.declared.TagStep.TheVariants as step
 use Rattle.compact.proofs.Back.{Found}
 use Rattle.compact.proofs.Cuts.{head_tags}
 use Rattle.listing_page.specs.Listing.{each, counted, ref_fields, member_fields, tag_fields, body_fields, record_fields}
@@ -65,42 +60,42 @@ unfolding counted
 counted_map f g xs = rw (length-map xs g, each_map f g xs)
 
 -- a number that names a kind is its number
-number_is : (n : ℕ) (k : Kind) → of_number n ≡ Is k → n ≡ kind_number k
+number_is : (n : ℕ) (k : Kind) → of_number n ≡ Some k → n ≡ kind_number k
 unfolding of_number
 number_is zero k e = let q : Node ≡ k = cc in ap kind_number q
 number_is (suc zero) k e = let q : Way ≡ k = cc in ap kind_number q
 number_is (suc (suc zero)) k e = let q : Relation ≡ k = cc in ap kind_number q
 number_is (suc (suc (suc n))) k e = no (cc)
 
-member_is : (f : ℕ → Bytes) (x : CompactMember) (m : Member ℕ) → member_held x ≡ some m → held_member f x ≡ member_fields (swap_member f m)
+member_is : (f : ℕ → Bytes) (x : CompactMember) (m : Member ℕ) → member_held x ≡ Some m → held_member f x ≡ member_fields (swap_member f m)
 unfolding member_held
 member_is f x m e = go (of_number x.kind) refl
   where
-    go : (n : Named) → of_number x.kind ≡ n → held_member f x ≡ member_fields (swap_member f m)
-    go (Is k) q =
-        let w : some (record { ref = to_z w64 x.reference; type = k; role = x.role }) ≡ some m = sym (ap (λ n. member_named (to_z w64 x.reference) n x.role) q) ∙ e in
+    go : (n : Option Kind) → of_number x.kind ≡ n → held_member f x ≡ member_fields (swap_member f m)
+    go (Some k) q =
+        let w : Some (record { ref = to_z w64 x.reference; type = k; role = x.role }) ≡ Some m = sym (ap (λ n. member_named (to_z w64 x.reference) n x.role) q) ∙ e in
         let v : record { ref = to_z w64 x.reference; type = k; role = x.role } ≡ m = cc in
         rw (← v, number_is x.kind k q)
-    go Unknown q = let w : none ≡ some m = sym (ap (λ n. member_named (to_z w64 x.reference) n x.role) q) ∙ e in no (cc)
+    go None q = let w : None ≡ Some m = sym (ap (λ n. member_named (to_z w64 x.reference) n x.role) q) ∙ e in no (cc)
 
 module _ (f : ℕ → Bytes) (s : Bytes) where
   -- ---- tags
 
-  onward_is : (n : ℕ) (more : ℕ → Option (List (Tag ℕ))) (mine : ℕ → List Bytes) → ((at : ℕ) (ts : List (Tag ℕ)) → more at ≡ some ts → mine at ≡ each (λ t. tag_fields (swap_tag f t)) ts)
-      → (t : TagStep) (ts : List (Tag ℕ)) → steps_onward (tag_given s t) more ≡ some ts → step_fields f s t mine ≡ each (λ t. tag_fields (swap_tag f t)) ts
+  onward_is : (n : ℕ) (more : ℕ → Option (List (Tag ℕ))) (mine : ℕ → List Bytes) → ((at : ℕ) (ts : List (Tag ℕ)) → more at ≡ Some ts → mine at ≡ each (λ t. tag_fields (swap_tag f t)) ts)
+      → (t : TagStep) (ts : List (Tag ℕ)) → steps_onward (tag_given s t) more ≡ Some ts → step_fields f s t mine ≡ each (λ t. tag_fields (swap_tag f t)) ts
   unfolding each
-  onward_is n more mine h step.Done ts e = let q : [] ≡ ts = cc in rw (← q)
-  onward_is n more mine h step.Unsound ts e = no (cc)
-  onward_is n more mine h (step.Tag key start len) ts e = go (more (start + len)) refl
+  onward_is n more mine h (Ok None) ts e = let q : [] ≡ ts = cc in rw (← q)
+  onward_is n more mine h (Err r) ts e = no (cc)
+  onward_is n more mine h (Ok (Some p)) ts e = go (more (p.start + p.len)) refl
     where
-      go : (o : Option (List (Tag ℕ))) → more (start + len) ≡ o → step_fields f s (step.Tag key start len) mine ≡ each (λ t. tag_fields (swap_tag f t)) ts
-      go none q = let w : none ≡ some ts = sym (ap (λ (o : Option (List (Tag ℕ))). Option.map (record { key = key; value = take len (drop start s) } ∷◌) o) q) ∙ e in no (cc)
-      go (some us) q =
-          let w : some (record { key = key; value = take len (drop start s) } ∷ us) ≡ some ts = sym (ap (λ (o : Option (List (Tag ℕ))). Option.map (record { key = key; value = take len (drop start s) } ∷◌) o) q) ∙ e in
-          let v : record { key = key; value = take len (drop start s) } ∷ us ≡ ts = cc in
-          rw (← v, h (start + len) us q)
+      go : (o : Option (List (Tag ℕ))) → more (p.start + p.len) ≡ o → step_fields f s (Ok (Some p)) mine ≡ each (λ t. tag_fields (swap_tag f t)) ts
+      go None q = let w : None ≡ Some ts = sym (ap (λ (o : Option (List (Tag ℕ))). option_map (record { key = p.key; value = take p.len (drop p.start s) } ∷◌) o) q) ∙ e in no (cc)
+      go (Some us) q =
+          let w : Some (record { key = p.key; value = take p.len (drop p.start s) } ∷ us) ≡ Some ts = sym (ap (λ (o : Option (List (Tag ℕ))). option_map (record { key = p.key; value = take p.len (drop p.start s) } ∷◌) o) q) ∙ e in
+          let v : record { key = p.key; value = take p.len (drop p.start s) } ∷ us ≡ ts = cc in
+          rw (← v, h (p.start + p.len) us q)
 
-  tags_are : (n at : ℕ) (ts : List (Tag ℕ)) → tags_from s at n ≡ some ts → tag_fields_from f s at n ≡ each (λ t. tag_fields (swap_tag f t)) ts
+  tags_are : (n at : ℕ) (ts : List (Tag ℕ)) → tags_from s at n ≡ Some ts → tag_fields_from f s at n ≡ each (λ t. tag_fields (swap_tag f t)) ts
   unfolding tags_from steps_from step_by tag_fields_from tag_step each
   tags_are zero at ts e = let q : [] ≡ ts = cc in rw (← q)
   tags_are (suc n) at ts e = onward_is n (λ next. tags_from s next n) (λ next. tag_fields_from f s next n) (tags_are n) (tag_step s at (suc n)) ts e
@@ -111,7 +106,7 @@ module _ (f : ℕ → Bytes) (s : Bytes) where
   none_held = record { ref = pos 0; type = Node; role = 0 }
 
   body_is : (id : ℤ) (b : Body ℕ) (n : ℕ) → ((rs : List ℤ) (i : ℕ) → b ≡ refs rs → i < length rs → to_z w64 (ref_at s i) ≡ get_or rs i (pos 0))
-      → ((ms : List (Member ℕ)) (i : ℕ) (d : Member ℕ) → b ≡ members ms → i < length ms → member_held (member_at s i) ≡ some (get_or ms i d))
+      → ((ms : List (Member ℕ)) (i : ℕ) (d : Member ℕ) → b ≡ members ms → i < length ms → member_held (member_at s i) ≡ Some (get_or ms i d))
       → body_fields_at f (kind_of b) (head_of id b n) s ≡ body_fields (swap_body f b)
   unfolding body_fields_at body_fields head_of counted
   body_is id (place lat lon) n r m = refl

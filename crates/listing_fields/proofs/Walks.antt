@@ -1,4 +1,5 @@
 -- The walks over a record's parts: fields printed one after the other, element by element and tag by tag.
+use Rattle.std.specs.Prelude.{Err, None, Ok, Some}
 use Prim.Native.Nat.{ℕ, zero, suc, ◌+◌, ◌-◌, ◌<◌, ◌≤◌}
 use mathlib.Core.Path.{◌≡◌, refl, ◌∙◌}
 use mathlib.Core.List.{List, [], ◌∷◌, ◌++◌}
@@ -13,15 +14,16 @@ use Rattle.text.specs.Check.{is_text}
 use Rattle.text.specs.Escape.{escape}
 use Rattle.line.specs.Decimal.{integer_text}
 use Rattle.kind.specs.declared.Kind.{Kind}
+use Rattle.refusal.specs.declared.Refusal.{Refusal}
 use Rattle.interner.specs.Strings.{span_of}
-use Rattle.interner.specs.declared.Span.TheVariants.{Part, Missing}
+use Rattle.little.specs.declared.Span.{Span}
 use Rattle.interner.proofs.Finds.{lies, within_bytes}
 use Rattle.model.specs.Swap.{swap_meta}
 use Rattle.compact.specs.Layout.{head_len}
 use Rattle.compact.specs.Held.{meta_of}
 use Rattle.compact.specs.View.{meta_at, head_at, member_at, tag_step}
 use Rattle.compact.specs.declared.ArenaMeta.{ArenaMeta}
-use Rattle.compact.specs.declared.TagStep.TheVariants as step
+use Rattle.compact.specs.declared.TagPart.{TagPart}
 use Rattle.compact.proofs.Steps.{tag_past, tag_over, tag_judged}
 use Rattle.listing_page.specs.Listing.{meta_fields}
 use Rattle.print.specs.Print.{Printed, print, tab, tabs}
@@ -31,20 +33,20 @@ use Rattle.listing_fields.specs.Fields.{held_text, each_from, held_member, tag_f
 -- ---- a text
 
 -- the span of a held handle lies within the bytes
-pub held_within : (spans : List ℕ) (bytes : Bytes) (strings h start len : ℕ) → Part start len ≡ span_of spans bytes strings h → start + len ≤ length bytes
+pub held_within : (spans : List ℕ) (bytes : Bytes) (strings h : ℕ) (s : Span) → Some s ≡ span_of spans bytes strings h → s.start + s.len ≤ length bytes
 unfolding span_of
-held_within spans bytes strings h start len e =
+held_within spans bytes strings h s e =
     by_bool (ltb h strings)
-    (λ t. within_bytes spans bytes h start len (lies spans bytes h start len (e ∙ rw t)))
+    (λ t. within_bytes spans bytes h s.start s.len (lies spans bytes h s (e ∙ rw t)))
     (λ t. no (cc))
 
 module _ (cap : ℕ) (spans : List ℕ) (bytes : Bytes) (strings h : ℕ) where
-  pub held_printed : (start len : ℕ) (p q : Printed) → Part start len ≡ span_of spans bytes strings h → q ≡ print cap (tab ∷ escape (take (start + len - start) (drop start bytes)) ∷ []) p
+  pub held_printed : (s : Span) (p q : Printed) → Some s ≡ span_of spans bytes strings h → q ≡ print cap (tab ∷ escape (take (s.start + s.len - s.start) (drop s.start bytes)) ∷ []) p
       → q ≡ print cap (tabs (escape (held_text spans bytes strings h) ∷ [])) p
   unfolding held_text tabs
-  held_printed start len p q e f = let d : start + len - start ≡ len = omega arith in rw (← e, ← d) f
+  held_printed s p q e f = let d : s.start + s.len - s.start ≡ s.len = omega arith in rw (← e, ← d) f
 
-  pub missing_printed : (p q : Printed) → Missing ≡ span_of spans bytes strings h → q ≡ print cap (tab ∷ escape [] ∷ []) p → q ≡ print cap (tabs (escape (held_text spans bytes strings h) ∷ [])) p
+  pub missing_printed : (p q : Printed) → None ≡ span_of spans bytes strings h → q ≡ print cap (tab ∷ escape [] ∷ []) p → q ≡ print cap (tabs (escape (held_text spans bytes strings h) ∷ [])) p
   unfolding held_text tabs
   missing_printed p q e f = rw (← e) f
 
@@ -71,9 +73,6 @@ module _ (cap : ℕ) where
         let s : suc i ≡ i + 1 = omega arith in
         rw (d, s, tabs_append (g i) (each_from g (i + 1) (n - (i + 1))), print_append cap (tabs (g i)) (tabs (each_from g (i + 1) (n - (i + 1)))) p, e)
 
-    pub each_starts : (p : Printed) → print cap (tabs (each_from g 0 (n - 0))) p ≡ print cap (tabs (each_from g 0 n)) p
-    each_starts p = let d : n - 0 ≡ n = omega arith in rw d
-
     pub each_ends : (i : ℕ) (p : Printed) → n ≤ i → print cap (tabs (each_from g i (n - i))) p ≡ p
     unfolding each_from tabs print
     each_ends i p h = let d : n - i ≡ 0 = omega arith in rw d
@@ -86,40 +85,40 @@ fields_of spans bytes strings view i = held_member (held_text spans bytes string
 
 module _ (s : Bytes) (at n : ℕ) (more : 0 < n) where
   -- a tag lies within the bytes
-  pub tag_within : (key start len : ℕ) → step.Tag key start len ≡ tag_step s at n → start + len ≤ length s
-  tag_within key start len e =
+  pub tag_within : (t : TagPart) → Ok (Some t) ≡ tag_step s at n → t.start + t.len ≤ length s
+  tag_within t e =
       let m : n ≡ 0 → ⊥ = λ z. omega arith in
       let v = value_at 4 s (at + 4) in
       by_le (at + 8) (length s)
       (λ r. by_le (at + 8 + v) (length s)
       (λ h. let w = tag_judged s at n m r v refl h in
       by_bool (is_text (take v (drop (at + 8) s)))
-      (λ t. let x = rw t at w in let a : start ≡ at + 8 = cc in let b : len ≡ v = cc in omega arith)
-      (λ t. let x = rw t at w in no (cc)))
+      (λ q. let x = rw q at w in let a : t.start ≡ at + 8 = cc in let b : t.len ≡ v = cc in omega arith)
+      (λ q. let x = rw q at w in no (cc)))
       (λ h. let w = tag_over s at n m r v refl h in no (cc)))
       (λ h. let w = tag_past s at n m h in no (cc))
 
 module _ (cap : ℕ) (f : ℕ → Bytes) (s : Bytes) where
-  pub tags_next : (at n key start len : ℕ) (p q : Printed) → 0 < n → step.Tag key start len ≡ tag_step s at n
-      → q ≡ print cap (tabs (escape (f key) ∷ escape (take len (drop start s)) ∷ [])) p
-      → print cap (tabs (tag_fields_from f s (start + len) (n - 1))) q ≡ print cap (tabs (tag_fields_from f s at n)) p
+  pub tags_next : (at n : ℕ) (t : TagPart) (p q : Printed) → 0 < n → Ok (Some t) ≡ tag_step s at n
+      → q ≡ print cap (tabs (escape (f t.key) ∷ escape (take t.len (drop t.start s)) ∷ [])) p
+      → print cap (tabs (tag_fields_from f s (t.start + t.len) (n - 1))) q ≡ print cap (tabs (tag_fields_from f s at n)) p
   unfolding tag_fields_from tabs print
-  tags_next at zero key start len p q h t e = absurd (omega arith)
-  tags_next at (suc n) key start len p q h t e = let d : suc n - 1 ≡ n = omega arith in rw (d, ← t, e)
+  tags_next at zero t p q h w e = absurd (omega arith)
+  tags_next at (suc n) t p q h w e = let d : suc n - 1 ≡ n = omega arith in rw (d, ← w, e)
 
   pub tags_end : (at : ℕ) (p : Printed) → print cap (tabs (tag_fields_from f s at 0)) p ≡ p
   unfolding tag_fields_from tabs print
   tags_end at p = refl
 
-  pub tags_done : (at n : ℕ) (p : Printed) → step.Done ≡ tag_step s at n → print cap (tabs (tag_fields_from f s at n)) p ≡ p
+  pub tags_done : (at n : ℕ) (p : Printed) → Ok None ≡ tag_step s at n → print cap (tabs (tag_fields_from f s at n)) p ≡ p
   unfolding tag_fields_from tabs print
   tags_done at zero p e = refl
   tags_done at (suc n) p e = rw (← e)
 
-  pub tags_stop : (at n : ℕ) (p : Printed) → step.Unsound ≡ tag_step s at n → print cap (tabs (tag_fields_from f s at n)) p ≡ p
+  pub tags_stop : (r : Refusal) (at n : ℕ) (p : Printed) → Err r ≡ tag_step s at n → print cap (tabs (tag_fields_from f s at n)) p ≡ p
   unfolding tag_fields_from tabs print
-  tags_stop at zero p e = refl
-  tags_stop at (suc n) p e = rw (← e)
+  tags_stop r at zero p e = refl
+  tags_stop r at (suc n) p e = rw (← e)
 
 -- ---- a record: metadata, then place or refs or members, then tags
 

@@ -1,7 +1,7 @@
 -- Document 01, "The listing", of a live line: "flags, version, timestamp, changeset, uid, user; node: lat7, lon7; way: ref count, refs; relation: member count, then
 -- type (0 to 2), ref, role each; last the tag count and each key and value." The fields are read at the places that the layout gives them, in any bytes: bytes that
 -- are missing read as 0, a handle that is not held has the empty text, and the tags end where no tag stands. Of a legal record they are the page's (proofs/Records).
-use Rattle.std.specs.Prelude.{ℕ, zero, suc, ◌+◌, List, [], ◌∷◌, ◌++◌, take, drop}
+use Rattle.std.specs.Prelude.{ℕ, zero, suc, ◌+◌, List, [], ◌∷◌, ◌++◌, take, drop, Err, None, Ok, Option, Some}
 use Rattle.std.specs.Int.{w64}
 use Rattle.std.proofs.Common.{to_z}
 use Rattle.base.specs.Bytes.{Bytes}
@@ -10,22 +10,19 @@ use Rattle.line.specs.Decimal.{number_text, integer_text}
 use Rattle.kind.specs.declared.Kind.{Kind}
 use Rattle.kind.specs.declared.Kind.TheVariants.{Node, Way, Relation}
 use Rattle.interner.specs.Strings.{span_of}
-use Rattle.interner.specs.declared.Span.{Span}
-use Rattle.interner.specs.declared.Span.TheVariants.{Part, Missing}
+use Rattle.little.specs.declared.Span.{Span}
 use Rattle.model.specs.Swap.{swap_meta}
 use Rattle.compact.specs.Layout.{Head, head_len}
 use Rattle.compact.specs.Held.{meta_of}
-use Rattle.compact.specs.View.{meta_at, ref_at, member_at, tags_at, tag_step, head_at}
+use Rattle.compact.specs.View.{TagStep, meta_at, ref_at, member_at, tags_at, tag_step, head_at}
 use Rattle.compact.specs.declared.CompactMember.{CompactMember}
-use Rattle.compact.specs.declared.TagStep.{TagStep}
-use Rattle.compact.specs.declared.TagStep.TheVariants as step
 use Rattle.listing_page.specs.Listing.{meta_fields, ref_fields}
 
 -- ---- texts
 
-abbrev pub span_text : Bytes → Span → Bytes
-span_text bytes (Part start len) = take len (drop start bytes)
-span_text bytes Missing = []
+abbrev pub span_text : Bytes → Option Span → Bytes
+span_text bytes (Some p) = take p.len (drop p.start bytes)
+span_text bytes None = []
 
 -- the text of a handle, by the spans and the used bytes of so many strings
 unfoldable pub held_text : List ℕ → Bytes → ℕ → ℕ → Bytes
@@ -49,9 +46,9 @@ held_member f m = number_text m.kind ∷ integer_text (to_z w64 m.reference) ∷
 
 -- a step's tag, and those from the next offset on
 abbrev pub step_fields : (ℕ → Bytes) → Bytes → TagStep → (ℕ → List Bytes) → List Bytes
-step_fields f s step.Done more = []
-step_fields f s step.Unsound more = []
-step_fields f s (step.Tag key start len) more = escape (f key) ∷ escape (take len (drop start s)) ∷ more (start + len)
+step_fields f s (Ok None) more = []
+step_fields f s (Err r) more = []
+step_fields f s (Ok (Some t)) more = escape (f t.key) ∷ escape (take t.len (drop t.start s)) ∷ more (t.start + t.len)
 
 -- "each key and value", of n tags from an offset on
 unfoldable pub tag_fields_from : (ℕ → Bytes) → Bytes → ℕ → ℕ → List Bytes

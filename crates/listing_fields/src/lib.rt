@@ -12,30 +12,28 @@ ghost use Rattle.listing_page.specs.Listing.{meta_fields};
 ghost use Rattle.print.specs.Print.{print, tabs};
 ghost use Rattle.listing_fields.specs.Fields.{held_text, each_from, ref_fields_at, held_member, tag_fields_from, record_fields_at};
 
-use compact::{ArenaMeta, CompactMember, CompactNode, CompactRelation, CompactWay, TagStep};
-use interner::Span;
+use compact::{ArenaMeta, CompactMember, CompactNode, CompactRelation, CompactWay};
 use kind::Kind;
-use print::Room;
 
 // The text of a handle.
 fn put_held(
     out: &mut [u8],
     cap: usize,
-    room: Room,
+    room: Option<usize>,
     spans: &[u64],
     bytes: &[u8],
     strings: u64,
     handle: u32,
-) -> Room
+) -> Option<usize>
     ensures { record { out = out.new; room = result }
         ≡ print cap (tabs (escape (held_text spans.now bytes.now strings handle) ∷ [])) (record { out = out.old; room = room }) }
 {
     match interner::resolve(spans, bytes, strings, handle as u64) {
-        Span::Part { start, len } => {
-            let end = start + len;
-            print::put_text(out, cap, room, &bytes[start..end])
+        Some(p) => {
+            let end = p.start + p.len;
+            print::put_text(out, cap, room, &bytes[p.start..end])
         }
-        Span::Missing => print::put_text(out, cap, room, b""),
+        None => print::put_text(out, cap, room, b""),
     }
 }
 
@@ -43,12 +41,12 @@ fn put_held(
 fn put_meta(
     out: &mut [u8],
     cap: usize,
-    room: Room,
+    room: Option<usize>,
     meta: ArenaMeta,
     spans: &[u64],
     bytes: &[u8],
     strings: u64,
-) -> Room
+) -> Option<usize>
     ensures { record { out = out.new; room = result }
         ≡ print cap (tabs (meta_fields (swap_meta (held_text spans.now bytes.now strings) (meta_of meta)))) (record { out = out.old; room = room }) }
 {
@@ -61,15 +59,13 @@ fn put_meta(
 }
 
 // "ref count, refs"
-fn put_refs(out: &mut [u8], cap: usize, room: Room, view: &[u8], n: u32) -> Room
+fn put_refs(out: &mut [u8], cap: usize, room: Option<usize>, view: &[u8], n: u32) -> Option<usize>
     ensures { record { out = out.new; room = result }
         ≡ print cap (tabs (number_text n ∷ each_from (ref_fields_at view.now) 0 n)) (record { out = out.old; room = room }) }
 {
     let mut left = print::put_number(out, cap, room, n as u64);
-    let mut i: u32 = 0;
-    while i < n {
+    for i in 0..n {
         left = print::put_integer(out, cap, left, compact::ref_at(view, i));
-        i += 1;
     }
     left
 }
@@ -78,12 +74,12 @@ fn put_refs(out: &mut [u8], cap: usize, room: Room, view: &[u8], n: u32) -> Room
 fn put_member(
     out: &mut [u8],
     cap: usize,
-    room: Room,
+    room: Option<usize>,
     member: CompactMember,
     spans: &[u64],
     bytes: &[u8],
     strings: u64,
-) -> Room
+) -> Option<usize>
     ensures { record { out = out.new; room = result }
         ≡ print cap (tabs (held_member (held_text spans.now bytes.now strings) member)) (record { out = out.old; room = room }) }
 {
@@ -96,29 +92,20 @@ fn put_member(
 fn put_members(
     out: &mut [u8],
     cap: usize,
-    room: Room,
+    room: Option<usize>,
     view: &[u8],
     n: u32,
     spans: &[u64],
     bytes: &[u8],
     strings: u64,
-) -> Room
+) -> Option<usize>
     ensures { record { out = out.new; room = result }
         ≡ print cap (tabs (number_text n ∷ each_from (λ i. held_member (held_text spans.now bytes.now strings) (member_at view.now i)) 0 n)) (record { out = out.old; room = room }) }
 {
     let mut left = print::put_number(out, cap, room, n as u64);
-    let mut i: u32 = 0;
-    while i < n {
-        left = put_member(
-            out,
-            cap,
-            left,
-            compact::member_at(view, i),
-            spans,
-            bytes,
-            strings,
-        );
-        i += 1;
+    for i in 0..n {
+        let member = compact::member_at(view, i);
+        left = put_member(out, cap, left, member, spans, bytes, strings);
     }
     left
 }
@@ -127,13 +114,13 @@ fn put_members(
 fn put_tag(
     out: &mut [u8],
     cap: usize,
-    room: Room,
+    room: Option<usize>,
     value: &[u8],
     key: u32,
     spans: &[u64],
     bytes: &[u8],
     strings: u64,
-) -> Room
+) -> Option<usize>
     ensures { record { out = out.new; room = result }
         ≡ print cap (tabs (escape (held_text spans.now bytes.now strings key) ∷ escape value.now ∷ [])) (record { out = out.old; room = room }) }
 {
@@ -145,37 +132,27 @@ fn put_tag(
 fn put_tags(
     out: &mut [u8],
     cap: usize,
-    room: Room,
+    room: Option<usize>,
     view: &[u8],
     offset: usize,
     n: u32,
     spans: &[u64],
     bytes: &[u8],
     strings: u64,
-) -> Room
+) -> Option<usize>
     ensures { record { out = out.new; room = result }
         ≡ print cap (tabs (number_text n ∷ tag_fields_from (held_text spans.now bytes.now strings) view.now offset n)) (record { out = out.old; room = room }) }
 {
     let mut left = print::put_number(out, cap, room, n as u64);
     let mut at = offset;
-    let mut remaining = n;
-    while 0 < remaining {
-        let TagStep::Tag { key, start, len } = compact::tag_step(view, at, remaining) else {
+    for i in 0..n {
+        let Ok(Some(tag)) = compact::tag_step(view, at, n - i) else {
             return left;
         };
-        let end = start + len;
-        left = put_tag(
-            out,
-            cap,
-            left,
-            &view[start..end],
-            key,
-            spans,
-            bytes,
-            strings,
-        );
+        let end = tag.start + tag.len;
+        let value = &view[tag.start..end];
+        left = put_tag(out, cap, left, value, tag.key, spans, bytes, strings);
         at = end;
-        remaining -= 1;
     }
     left
 }
@@ -183,12 +160,12 @@ fn put_tags(
 fn put_node(
     out: &mut [u8],
     cap: usize,
-    room: Room,
+    room: Option<usize>,
     view: &[u8],
     spans: &[u64],
     bytes: &[u8],
     strings: u64,
-) -> Room
+) -> Option<usize>
     ensures { record { out = out.new; room = result }
         ≡ print cap (tabs (record_fields_at (held_text spans.now bytes.now strings) Node view.now)) (record { out = out.old; room = room }) }
 {
@@ -214,12 +191,12 @@ fn put_node(
 fn put_way(
     out: &mut [u8],
     cap: usize,
-    room: Room,
+    room: Option<usize>,
     view: &[u8],
     spans: &[u64],
     bytes: &[u8],
     strings: u64,
-) -> Room
+) -> Option<usize>
     ensures { record { out = out.new; room = result }
         ≡ print cap (tabs (record_fields_at (held_text spans.now bytes.now strings) Way view.now)) (record { out = out.old; room = room }) }
 {
@@ -244,12 +221,12 @@ fn put_way(
 fn put_relation(
     out: &mut [u8],
     cap: usize,
-    room: Room,
+    room: Option<usize>,
     view: &[u8],
     spans: &[u64],
     bytes: &[u8],
     strings: u64,
-) -> Room
+) -> Option<usize>
     ensures { record { out = out.new; room = result }
         ≡ print cap (tabs (record_fields_at (held_text spans.now bytes.now strings) Relation view.now)) (record { out = out.old; room = room }) }
 {
@@ -284,13 +261,13 @@ fn put_relation(
 pub fn put_record(
     out: &mut [u8],
     cap: usize,
-    room: Room,
+    room: Option<usize>,
     kind: Kind,
     view: &[u8],
     spans: &[u64],
     bytes: &[u8],
     strings: u64,
-) -> Room
+) -> Option<usize>
     ensures { record { out = out.new; room = result }
         ≡ print cap (tabs (record_fields_at (held_text spans.now bytes.now strings) kind view.now)) (record { out = out.old; room = room }) }
 {

@@ -1,4 +1,5 @@
 -- Each writer of fields is a code: its fields are plain, and what it wrote, and where that ends, can be told from them.
+use Rattle.std.specs.Prelude.{None, Option, Some, ℤ}
 use Prim.Native.Nat.{ℕ}
 use mathlib.Core.Path.{◌≡◌, refl, sym, ◌∙◌, ap}
 use mathlib.Core.Bool.{true, false}
@@ -18,8 +19,6 @@ use Rattle.line.proofs.Decimals.{number_plain, number_injective, integer_plain, 
 use Rattle.kind.specs.Kind.{kind_number}
 use Rattle.kind.specs.declared.Kind.{Kind}
 use Rattle.kind.specs.declared.Kind.TheVariants.{Node, Way, Relation}
-use Rattle.version_floor.specs.declared.Version.{Version}
-use Rattle.version_floor.specs.declared.Version.TheVariants.{Absent, Is}
 use Rattle.model.specs.Record.{Body, place, refs, members, Record, kind_of}
 use Rattle.model.specs.Act.{Left, gone, live}
 use Rattle.model.proofs.Keys.{same_kind_lem}
@@ -81,18 +80,18 @@ kind_injective Relation Relation e = refl
 pub kind_code : Code (λ k. kind_field k ∷ [])
 kind_code = one kind_field kind_plain kind_injective
 
-version_plain : (v : Version) → plain_field (version_field v) ≡ true
+version_plain : (v : Option ℤ) → plain_field (version_field v) ≡ true
 unfolding version_field plain_field all both breaks either
-version_plain Absent = refl
-version_plain (Is v) = integer_plain v
+version_plain None = refl
+version_plain (Some v) = integer_plain v
 
 -- `?` is no integer
-version_injective : (u v : Version) → version_field u ≡ version_field v → u ≡ v
+version_injective : (u v : Option ℤ) → version_field u ≡ version_field v → u ≡ v
 unfolding version_field is_digit both
-version_injective Absent Absent e = refl
-version_injective Absent (Is y) e = absurd (never_alone y 63 refl (sym e))
-version_injective (Is x) Absent e = absurd (never_alone x 63 refl e)
-version_injective (Is x) (Is y) e = ap Is (integer_injective x y e)
+version_injective None None e = refl
+version_injective None (Some y) e = absurd (never_alone y 63 refl (sym e))
+version_injective (Some x) None e = absurd (never_alone x 63 refl e)
+version_injective (Some x) (Some y) e = ap Some (integer_injective x y e)
 
 pub version_code : Code (λ v. version_field v ∷ [])
 version_code = one version_field version_plain version_injective

@@ -1,4 +1,5 @@
 -- Examples, by computation: output A of document 01, ids in OSM order, a version that an unversioned push keeps.
+use Rattle.std.specs.Prelude.{Some}
 use mathlib.Core.Path.{◌≡◌, refl}
 use mathlib.Core.List.{List, [], ◌∷◌, map}
 use lib.IntN.{ℤ, pos, negsuc}
@@ -6,7 +7,6 @@ use Rattle.base.specs.Bytes.{Bytes, both}
 use Rattle.kind.specs.Kind.{same_kind}
 use Rattle.kind.specs.declared.Kind.TheVariants.{Way}
 use Rattle.version_floor.specs.Version.{higher}
-use Rattle.version_floor.specs.declared.Version.TheVariants.{Is}
 use Rattle.osm_id.specs.Order.{before, same_id}
 use Rattle.text.specs.Escape.{escaped, escape}
 use Rattle.line.specs.Line.{tabbed, line}
@@ -33,8 +33,8 @@ unfolding summary summary_from find_key put_row same_key key_before same_kind bo
 osm_order = refl
 
 -- after a delete of way -4 at version 2, a push without a version: the way is live, and version 2 is still known
-pub version_kept : summary (delete Way (negsuc 3) (Is (pos 2)) ∷ push (negsuc 3) (bare (refs [])) ∷ [])
-    ≡ record { key = record { kind = Way; id = negsuc 3 }; high = Is (pos 2); last = live (bare (refs [])) } ∷ []
+pub version_kept : summary (delete Way (negsuc 3) (Some (pos 2)) ∷ push (negsuc 3) (bare (refs [])) ∷ [])
+    ≡ record { key = record { kind = Way; id = negsuc 3 }; high = Some (pos 2); last = live (bare (refs [])) } ∷ []
 unfolding summary summary_from find_key put_row same_key key_before same_kind both before same_id higher claim_of flagged
 version_kept = refl
 
@@ -46,7 +46,7 @@ input_a =
       body = place (pos 10) (negsuc 19);
       tags = record { key = 110 ∷ 97 ∷ 109 ∷ 101 ∷ []; value = 65 ∷ [] } ∷ [];
     })
-    ∷ delete Way (negsuc 3) (Is (pos 2))
+    ∷ delete Way (negsuc 3) (Some (pos 2))
     ∷ []
 
 abbrev output_a : Bytes

@@ -1,7 +1,7 @@
 -- Sorted tables: what is found in them, that this is all there is to them, and that the summary of acts is one that holds what is known of each key.
+use Rattle.std.specs.Prelude.{None, Option, Some, option_map}
 use mathlib.Core.Path.{◌≡◌, refl, sym, ◌∙◌, ap}
 use mathlib.Core.Bool.{true, cond}
-use mathlib.Core.Option.{Option, none, some, map}
 use mathlib.Core.List.{List, [], ◌∷◌, ◌++◌}
 use Rattle.base.specs.Bytes.{Bytes}
 use Rattle.base.proofs.Split.{clash, no}
@@ -28,12 +28,12 @@ Sorted (r ∷ rs) = Above r.key rs × Sorted rs
 
 -- ---- find and put, by cases
 
-pub find_nil : (k : Key) → find_key k [] ≡ none
+pub find_nil : (k : Key) → find_key k [] ≡ None
 unfolding find_key
 find_nil k = refl
 
 module _ (k : Key) (r : PageRow) (rs : Table) where
-  pub find_here : k ≡ r.key → find_key k (r ∷ rs) ≡ some r
+  pub find_here : k ≡ r.key → find_key k (r ∷ rs) ≡ Some r
   unfolding find_key
   find_here e = rw ((same_key_lem k r.key).1 e)
 
@@ -60,7 +60,7 @@ by_place n r = by_order keys n.key r.key
 
 -- ---- what is found after a row is put
 
-pub find_put_same : (k : Key) (n : PageRow) (rs : Table) → k ≡ n.key → find_key k (put_row n rs) ≡ some n
+pub find_put_same : (k : Key) (n : PageRow) (rs : Table) → k ≡ n.key → find_key k (put_row n rs) ≡ Some n
 unfolding put_row
 find_put_same k n [] e = find_here k n [] e
 find_put_same k n (r ∷ rs) e =
@@ -82,7 +82,7 @@ find_put_other k n (r ∷ rs) m =
     (λ e. find_here k r (put_row n rs) e ∙ sym (find_here k r rs e))
     (λ d. find_later k r (put_row n rs) d ∙ find_put_other k n rs m ∙ sym (find_later k r rs d))))
 
-pub find_key_lem : (k : Key) (rs : Table) (r : PageRow) → find_key k rs ≡ some r → k ≡ r.key
+pub find_key_lem : (k : Key) (rs : Table) (r : PageRow) → find_key k rs ≡ Some r → k ≡ r.key
 find_key_lem k [] r e = no (cc (find_nil k))
 find_key_lem k (q ∷ rs) r e =
     by_key k q.key
@@ -120,7 +120,7 @@ sorted_put n (r ∷ rs) h =
 
 -- ---- two sorted tables in which each key finds the same are the same
 
-find_above : (k : Key) (rs : Table) → Above k rs → find_key k rs ≡ none
+find_above : (k : Key) (rs : Table) → Above k rs → find_key k rs ≡ None
 unfolding Every
 find_above k [] a = find_nil k
 find_above k (r ∷ rs) a =
@@ -173,12 +173,12 @@ summary_sorted acts = sorted_from [] acts sorted_nil
 
 -- what a row says, or that there is none
 abbrev pub known_in : Option PageRow → Known
-known_in none = nothing
-known_in (some r) = record { last = some r.last; high = r.high }
+known_in None = nothing
+known_in (Some r) = record { last = Some r.last; high = r.high }
 
 high_in_lem : (r : Option PageRow) → (known_in r).high ≡ high_in r
-high_in_lem none = refl
-high_in_lem (some r) = refl
+high_in_lem None = refl
+high_in_lem (Some r) = refl
 
 -- the table learns of an act what is to be known after it
 module _ (a : Act Bytes) (t : Table) (k : Key) where
@@ -205,21 +205,21 @@ known_summary acts k = rw (find_nil k) at (known_from_lem [] acts k)
 
 -- the row for what is known of a key
 abbrev pub row_in : Key → Known → Option PageRow
-row_in k x = map (λ l. record { key = k; high = x.high; last = l }) x.last
+row_in k x = option_map (λ l. record { key = k; high = x.high; last = l }) x.last
 
 -- a key has a row exactly when an act named it, and the row holds what the last act left and the highest version
 pub find_summary : (acts : List (Act Bytes)) (k : Key) → find_key k (summary acts) ≡ row_in k (known acts k)
 find_summary acts k = rw (known_summary acts k) (go (find_key k (summary acts)) refl)
   where
     go : (o : Option PageRow) → find_key k (summary acts) ≡ o → o ≡ row_in k (known_in o)
-    go none e = refl
-    go (some r) e = λ i. some (record { key = sym (find_key_lem k (summary acts) r e) i; high = r.high; last = r.last })
+    go None e = refl
+    go (Some r) e = λ i. Some (record { key = sym (find_key_lem k (summary acts) r e) i; high = r.high; last = r.last })
 
 -- a key that no act named has no version
-pub unnamed : (acts : List (Act Bytes)) (k : Key) → (known acts k).last ≡ none → known acts k ≡ nothing
+pub unnamed : (acts : List (Act Bytes)) (k : Key) → (known acts k).last ≡ None → known acts k ≡ nothing
 unnamed acts k e = known_summary acts k ∙ ap known_in (find_summary acts k ∙ gone_row)
   where
-    gone_row : row_in k (known acts k) ≡ none
+    gone_row : row_in k (known acts k) ≡ None
     gone_row = rw e
 
 -- ---- one act more

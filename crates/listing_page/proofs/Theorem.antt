@@ -1,7 +1,7 @@
 -- Condition 3's claim on acts: two lists of acts list alike, byte for byte, exactly when they come to the same for every kind and id.
+use Rattle.std.specs.Prelude.{Option}
 use mathlib.Core.Path.{◌≡◌, refl, sym, ◌∙◌, ap}
 use mathlib.Core.Logic.{◌↔◌}
-use mathlib.Core.Option.{Option}
 use mathlib.Core.List.{List, [], ◌∷◌, ◌++◌}
 use Rattle.base.specs.Bytes.{Bytes}
 use Rattle.line.specs.Line.{line}

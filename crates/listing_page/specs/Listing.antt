@@ -1,12 +1,10 @@
 -- Document 01, "The listing": "Fields: kind; id; `+` live or `-` deleted; known version or `?`. A deleted line ends there. A live one goes on: ..".
-use Rattle.std.specs.Prelude.{List, [], ◌∷◌, ◌++◌, ℤ, length}
+use Rattle.std.specs.Prelude.{List, [], ◌∷◌, ◌++◌, ℤ, length, None, Option, Some}
 use Rattle.base.specs.Ascii.{ascii}
 use Rattle.base.specs.Bytes.{Bytes}
 use Rattle.kind.specs.Kind.{kind_number}
 use Rattle.kind.specs.declared.Kind.{Kind}
 use Rattle.kind.specs.declared.Kind.TheVariants.{Node, Way, Relation}
-use Rattle.version_floor.specs.declared.Version.{Version}
-use Rattle.version_floor.specs.declared.Version.TheVariants.{Absent, Is}
 use Rattle.text.specs.Escape.{escape}
 use Rattle.line.specs.Line.{line}
 use Rattle.line.specs.Decimal.{number_text, integer_text}
@@ -21,9 +19,9 @@ kind_field Way = ascii "w"
 kind_field Relation = ascii "r"
 
 -- "known version or `?`"
-unfoldable pub version_field : Version → Bytes
-version_field Absent = ascii "?"
-version_field (Is v) = integer_text v
+unfoldable pub version_field : Option ℤ → Bytes
+version_field None = ascii "?"
+version_field (Some v) = integer_text v
 
 -- the fields of each element of a list, one after the other
 unfoldable pub each : {A : Type 0} → (A → List Bytes) → List A → List Bytes

@@ -1,23 +1,20 @@
 -- Condition 3: "the accepted acts named the same ids and left each with the same last act .. and the same highest version claimed, or none".
-use Rattle.std.specs.Prelude.{cond, List, [], ◌∷◌}
-use Rattle.std.proofs.Math.Option.{Option, none, some}
+use Rattle.std.specs.Prelude.{cond, List, [], ◌∷◌, None, Option, Some, ℤ}
 use Rattle.base.specs.Bytes.{Bytes}
 use Rattle.version_floor.specs.Version.{higher}
-use Rattle.version_floor.specs.declared.Version.{Version}
-use Rattle.version_floor.specs.declared.Version.TheVariants.{Absent}
 use Rattle.model.specs.Act.{Act, Key, Left, key_of, claimed_by, left_by, same_key, key_before}
 
 -- what is known of a key: what the last act on it left, if any act named it, and the highest version claimed for it
 pub record Known : Type 0 where
   pub last : Option (Left Bytes)
-  pub high : Version
+  pub high : Option ℤ
 
 abbrev pub nothing : Known
-nothing = record { last = none; high = Absent }
+nothing = record { last = None; high = None }
 
 -- what is known after one act more
 abbrev pub learn : Act Bytes → Known → Known
-learn a k = record { last = some (left_by a); high = higher k.high (claimed_by a) }
+learn a k = record { last = Some (left_by a); high = higher k.high (claimed_by a) }
 
 unfoldable pub known_from : Known → List (Act Bytes) → Key → Known
 known_from k [] key = k
@@ -30,23 +27,23 @@ known acts key = known_from nothing acts key
 -- the same as a table: a row for each key that was named, kinds in order and ids in OSM order
 pub record PageRow : Type 0 where
   pub key : Key
-  pub high : Version
+  pub high : Option ℤ
   pub last : Left Bytes
 
 abbrev pub Table : Type 0
 Table = List PageRow
 
 unfoldable pub find_key : Key → Table → Option PageRow
-find_key k [] = none
-find_key k (r ∷ rs) = cond (same_key k r.key) (some r) (find_key k rs)
+find_key k [] = None
+find_key k (r ∷ rs) = cond (same_key k r.key) (Some r) (find_key k rs)
 
 unfoldable pub put_row : PageRow → Table → Table
 put_row n [] = n ∷ []
 put_row n (r ∷ rs) = cond (key_before n.key r.key) (n ∷ r ∷ rs) (cond (same_key n.key r.key) (n ∷ rs) (r ∷ put_row n rs))
 
-abbrev pub high_in : Option PageRow → Version
-high_in none = Absent
-high_in (some r) = r.high
+abbrev pub high_in : Option PageRow → Option ℤ
+high_in None = None
+high_in (Some r) = r.high
 
 -- the row that an act leaves
 abbrev pub row_after : Act Bytes → Option PageRow → PageRow

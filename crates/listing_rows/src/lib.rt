@@ -13,11 +13,9 @@ ghost use Rattle.listing_rows.specs.Lines.{sign_of, last_at, row_fields_at, row_
 
 use kind::Kind;
 use kind_table::{DELETED, Row};
-use print::Room;
-use version_floor::Version;
 
 // "Kinds n, w, r"
-fn put_kind(out: &mut [u8], cap: usize, room: Room, kind: Kind) -> Room
+fn put_kind(out: &mut [u8], cap: usize, room: Option<usize>, kind: Kind) -> Option<usize>
     ensures { record { out = out.new; room = result } ≡ print_step cap (kind_field kind) (record { out = out.old; room = room }) }
 {
     match kind {
@@ -28,35 +26,41 @@ fn put_kind(out: &mut [u8], cap: usize, room: Room, kind: Kind) -> Room
 }
 
 // "`+` live or `-` deleted"
-fn put_sign(out: &mut [u8], cap: usize, room: Room, live: bool) -> Room
+fn put_sign(out: &mut [u8], cap: usize, room: Option<usize>, live: bool) -> Option<usize>
     ensures { record { out = out.new; room = result } ≡ print cap (tabs (sign_of live ∷ [])) (record { out = out.old; room = room }) }
 {
     if live {
-        return print::put_text(out, cap, room, b"+");
+        print::put_text(out, cap, room, b"+")
+    } else {
+        print::put_text(out, cap, room, b"-")
     }
-    print::put_text(out, cap, room, b"-")
 }
 
 // "known version or `?`"
-fn put_version(out: &mut [u8], cap: usize, room: Room, version: Version) -> Room
+fn put_version(
+    out: &mut [u8],
+    cap: usize,
+    room: Option<usize>,
+    version: Option<i32>,
+) -> Option<usize>
     ensures { record { out = out.new; room = result } ≡ print cap (tabs (version_field version ∷ [])) (record { out = out.old; room = room }) }
 {
-    let Version::Is(v) = version else {
-        return print::put_text(out, cap, room, b"?");
-    };
-    print::put_integer32(out, cap, room, signed::bits_of_i32(v))
+    match version {
+        Some(v) => print::put_integer32(out, cap, room, signed::bits_of_i32(v)),
+        None => print::put_text(out, cap, room, b"?"),
+    }
 }
 
 // "kind; id; `+` live or `-` deleted; known version or `?`"
 fn put_key(
     out: &mut [u8],
     cap: usize,
-    room: Room,
+    room: Option<usize>,
     kind: Kind,
     id: u64,
     live: bool,
-    version: Version,
-) -> Room
+    version: Option<i32>,
+) -> Option<usize>
     ensures { record { out = out.new; room = result }
         ≡ print cap (kind_field kind ∷ tabs (integer_text (to_z w64 id) ∷ sign_of live ∷ version_field version ∷ [])) (record { out = out.old; room = room }) }
 {
@@ -70,14 +74,14 @@ fn put_key(
 fn put_last(
     out: &mut [u8],
     cap: usize,
-    room: Room,
+    room: Option<usize>,
     kind: Kind,
     arena: &[u8],
     place: u64,
     spans: &[u64],
     bytes: &[u8],
     strings: u64,
-) -> Room
+) -> Option<usize>
     ensures { record { out = out.new; room = result }
         ≡ print cap (tabs (last_at (held_text spans.now bytes.now strings) kind arena.now place)) (record { out = out.old; room = room }) }
 {
@@ -101,14 +105,14 @@ fn put_last(
 fn put_line(
     out: &mut [u8],
     cap: usize,
-    room: Room,
+    room: Option<usize>,
     kind: Kind,
     arena: &[u8],
     spans: &[u64],
     bytes: &[u8],
     strings: u64,
     row: Row,
-) -> Room
+) -> Option<usize>
     ensures { record { out = out.new; room = result }
         ≡ print cap (line_pieces (row_fields_at (held_text spans.now bytes.now strings) kind arena.now row)) (record { out = out.old; room = room }) }
 {
@@ -125,7 +129,7 @@ fn put_line(
 pub fn put_lines(
     out: &mut [u8],
     cap: usize,
-    room: Room,
+    room: Option<usize>,
     kind: Kind,
     table: &[u64],
     ids: u64,
@@ -133,17 +137,15 @@ pub fn put_lines(
     spans: &[u64],
     bytes: &[u8],
     strings: u64,
-) -> Room
+) -> Option<usize>
     ensures { record { out = out.new; room = result }
         ≡ print cap (row_pieces (held_text spans.now bytes.now strings) kind arena.now (rows_of table.now (held table.now ids))) (record { out = out.old; room = room }) }
 {
     let n = little::lesser(ids as usize, table.len() / 3);
     let mut left = room;
-    let mut i: usize = 0;
-    while i < n {
+    for i in 0..n {
         let row = kind_table::row_at(table, i);
         left = put_line(out, cap, left, kind, arena, spans, bytes, strings, row);
-        i += 1;
     }
     left
 }

@@ -1,13 +1,14 @@
 -- Laws of little-endian numbers, over the number of bytes.
-use Prim.Native.Nat.{ℕ, zero, suc, ◌+◌, ◌-◌, ◌*◌, ◌/◌, ◌%◌, ◌^◌, ◌≤◌, ◌<◌, min}
+use Prim.Native.Nat.{ℕ, zero, suc, ◌+◌, ◌-◌, ◌*◌, ◌/◌, ◌%◌, ◌^◌, ◌≤◌, ◌<◌}
 use mathlib.Core.Path.{◌≡◌, refl, sym, ◌∙◌, ap}
 use mathlib.Core.Bool.{true}
-use mathlib.Core.List.{[], ◌∷◌}
+use mathlib.Core.List.{[], ◌∷◌, reverse}
 use native.Mathlib.Nat.{mod-eq_of_lt, pow-suc, pow-le-pow_right, one-le-pow}
 use native.Mathlib.Omega.{arith}
 use lib.Arith.{mod-mul}
 use lib.ListN.{length, get_or, take, drop, length-take, length-drop, take-append-drop}
-use lib.Seq.{drop-cons, get_or-take, get_or-drop}
+use lib.Seq.{drop-cons}
+use Rattle.std.proofs.lemmas.List.{get_or-reverse}
 use borrow.Author.Tests.{ltb-true, lt-ltb}
 use Rattle.base.specs.Bytes.{Bytes, all}
 use Rattle.base.proofs.Lists.{all_nil, all_cons, all_head, all_tail, all_left, all_right}
@@ -110,20 +111,17 @@ pub value_at_within : (n : ℕ) (s : Bytes) (at : ℕ) → all is_byte s ≡ tru
 unfolding value_at
 value_at_within n s at h = value_within (take n (drop at s)) n (bytes_take n (drop at s) (bytes_drop at s h)) (omega (arith, length-take n (drop at s)))
 
--- ---- a reader on its way down: it has read the bytes from i on
+-- ---- a reader on its way down: it has read the last j bytes
 
-module _ (n : ℕ) (s : Bytes) (at : ℕ) where
-  pub there : length (take n (drop at s)) ≡ min n (length s - at)
-  there = rw (length-take, length-drop)
-
+module _ (s : Bytes) where
   -- one byte more
-  pub next : (i r : ℕ) → 0 < i → i ≤ length (take n (drop at s)) → r ≡ value (drop i (take n (drop at s))) → r * 256 + get_or s (at + (i - 1)) 0 ≡ value (drop (i - 1) (take n (drop at s)))
-  next i r g h e =
-      let d : get_or (take n (drop at s)) (i - 1) 0 ≡ get_or s (at + (i - 1)) 0 = rw (get_or-take n (drop at s) (i - 1) 0 (omega (arith, there)), get_or-drop) in
-      let j : suc (i - 1) ≡ i = omega arith in
-      rw (drop-cons (take n (drop at s)) (i - 1) 0 (omega arith), d, value_cons, j, e) (omega arith)
+  pub next : (j b r : ℕ) → j < length s → b ≡ get_or (reverse s) j b → r ≡ value (drop (length s - j) s) → r * 256 + b ≡ value (drop (length s - (j + 1)) s)
+  next j b r g h e =
+      let d : get_or s (length s - (j + 1)) b ≡ b = let i : length s - (j + 1) ≡ length s - 1 - j = omega arith in rw i (sym (h ∙ get_or-reverse s j b g)) in
+      let k : suc (length s - (j + 1)) ≡ length s - j = omega arith in
+      rw (drop-cons s (length s - (j + 1)) b (omega arith), d, value_cons, k, e) (omega arith)
 
-  pub next_within : (i : ℕ) → all is_byte s ≡ true → n ≤ 8 → value (drop i (take n (drop at s))) < 2 ^ 64
-  next_within i h g =
-      value_within (drop i (take n (drop at s))) 8 (bytes_drop i (take n (drop at s)) (bytes_take n (drop at s) (bytes_drop at s h)))
-      (omega (arith, there, length-drop i (take n (drop at s))))
+  pub next_fits : (j b r : ℕ) → j < length s → b ≡ get_or (reverse s) j b → r ≡ value (drop (length s - j) s) → all is_byte s ≡ true → length s ≤ 8 → r * 256 + b < 2 ^ 64
+  next_fits j b r g h e bytes few =
+      let i = length s - (j + 1) in
+      rw (next j b r g h e) (value_within (drop i s) 8 (bytes_drop i s bytes) (omega (arith, length-drop i s)))

@@ -1,5 +1,5 @@
 -- Laws of bytes over others: what `over` changes, what it leaves, and how writers go on one after another.
-use Prim.Native.Nat.{ℕ, zero, suc, ◌+◌, ◌-◌, ◌≤◌, ◌<◌}
+use Prim.Native.Nat.{ℕ, zero, suc, ◌+◌, ◌-◌, ◌≤◌, ◌<◌, min}
 use mathlib.Core.Path.{◌≡◌, refl, sym, ◌∙◌, ap}
 use mathlib.Core.List.{[], ◌∷◌, ◌++◌, append-nil, append_assoc}
 use native.Mathlib.Nat.{suc-add, zero-add, add-zero}
@@ -116,6 +116,24 @@ pub over_step : (s : Bytes) (i b : ℕ) (t : Bytes) → i < length s → over s 
 over_step [] i b t h = absurd (omega arith)
 over_step (x ∷ s) zero b t h = rw (over_here, over_later)
 over_step (x ∷ s) (suc i) b t h = rw (over_later, suc-add, over_later) (ap (x ∷◌) (over_step s i b t (omega arith)))
+
+-- what of it there is room for
+pub over_cut : (s t : Bytes) (n : ℕ) → n ≡ min (length t) (length s) → over s 0 t ≡ take n t ++ drop n s
+over_cut [] t zero h = over_none 0 t
+over_cut [] t (suc n) h = absurd (omega arith)
+over_cut (x ∷ s) [] zero h = over_nothing (x ∷ s) 0
+over_cut (x ∷ s) [] (suc n) h = absurd (omega arith)
+over_cut (x ∷ s) (b ∷ t) zero h = absurd (omega arith)
+over_cut (x ∷ s) (b ∷ t) (suc n) h = rw over_here (ap (b ∷◌) (over_cut s t n (omega arith)))
+
+-- a writer that is lent what there is room for
+pub over_front : (s t : Bytes) (n : ℕ) → n ≡ min (length t) (length s) → over (take n s) 0 t ++ drop n s ≡ over s 0 t
+over_front [] t zero h = simp over_none
+over_front [] t (suc n) h = absurd (omega arith)
+over_front (x ∷ s) [] zero h = simp over_nothing
+over_front (x ∷ s) [] (suc n) h = absurd (omega arith)
+over_front (x ∷ s) (b ∷ t) zero h = absurd (omega arith)
+over_front (x ∷ s) (b ∷ t) (suc n) h = simp over_here (ap (b ∷◌) (over_front s t n (omega arith)))
 
 -- a second writer goes on where the first ended
 pub over_over : (s : Bytes) (at : ℕ) (t u : Bytes) → over (over s at t) (at + length t) u ≡ over s at (t ++ u)

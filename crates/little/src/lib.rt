@@ -1,37 +1,40 @@
 // Little-endian numbers in lent bytes, by one writer and one reader for every width.
 #![tactic(auto)]
 
-ghost use Rattle.std.specs.Prelude.{◌≡◌, ◌-◌, ◌≤◌, ◌<◌, min};
-ghost use Rattle.little.specs.Little.{le, value_at, over};
+ghost use Rattle.std.specs.Prelude.{◌≡◌, ◌≤◌, ◌<◌, ◌^◌, min, length, take, drop};
+ghost use Rattle.little.specs.Little.{le, value, value_at, over};
+
+// Where bytes lie among others.
+#[derive(Clone, Copy, PartialEq, Eq, Debug)]
+pub struct Span {
+    pub start: usize,
+    pub len: usize,
+}
 
 // The smaller of two sizes.
 pub fn lesser(a: usize, b: usize) -> usize
     ensures { result ≡ min a b }
 {
-    if a < b { a } else { b }
+    a.min(b)
 }
 
 // A word in 32 bits; one that does not fit them becomes 0.
 pub fn narrow(word: u64) -> u32
     ensures { word < 4294967296 → result ≡ word }
 {
-    if word < 4294967296 {
-        return word as u32;
-    }
-    0
+    u32::try_from(word).unwrap_or(0)
 }
 
 // The low n bytes of a number over the start of what is lent, as far as there is room.
 pub fn put_le(out: &mut [u8], n: usize, v: u64)
     ensures { out.new ≡ over out.old 0 (le n v) }
 {
-    let end = lesser(n, out.len());
+    let end = n.min(out.len());
+    let part = &mut out[..end];
     let mut x = v;
-    let mut i: usize = 0;
-    while i < end {
-        out[i] = (x % 256) as u8;
-        x = x / 256;
-        i += 1;
+    for b in part.iter_mut() {
+        *b = (x % 256) as u8;
+        x /= 256;
     }
 }
 
@@ -39,12 +42,8 @@ pub fn put_le(out: &mut [u8], n: usize, v: u64)
 pub fn copy_in(out: &mut [u8], s: &[u8])
     ensures { out.new ≡ over out.old 0 s.now }
 {
-    let end = lesser(s.len(), out.len());
-    let mut i: usize = 0;
-    while i < end {
-        out[i] = s[i];
-        i += 1;
-    }
+    let end = s.len().min(out.len());
+    out[..end].copy_from_slice(&s[..end]);
 }
 
 // The low n bytes of a number from a place on: the writer is lent the rest from there.
@@ -65,31 +64,33 @@ pub fn copy_at(out: &mut [u8], at: usize, s: &[u8])
     }
 }
 
-fn wide(b: u8) -> u64
-    ensures { result ≡ b }
+// The n bytes from a place on, of which those past the end are left out.
+fn there(s: &[u8], at: usize, n: usize) -> &[u8]
+    ensures { result.now ≡ take n (drop at s.now) }
 {
-    b as u64
+    let rest = &s[at.min(s.len())..];
+    &rest[..n.min(rest.len())]
 }
 
-// How many of the n bytes from a place on are there.
-fn there(len: usize, at: usize, n: usize) -> usize
-    ensures { result ≡ min n (len - at) }
+// The number in at most eight bytes: from the highest byte down.
+fn number(s: &[u8]) -> u64
+    requires { length s.now ≤ 8 }
+    ensures { result ≡ value s.now }
 {
-    if at < len { lesser(n, len - at) } else { 0 }
-}
-
-// The number in the n bytes from a place on, of which those past the end are left out: from the highest byte down.
-fn get_le(s: &[u8], at: usize, n: usize) -> u64
-    requires { n ≤ 8 }
-    ensures { result ≡ value_at n s.now at }
-{
-    let mut i = there(s.len(), at, n);
-    let mut r: u64 = 0;
-    while 0 < i {
-        i -= 1;
-        r = r * 256 + wide(s[at + i]);
+    let mut r = 0;
+    for b in s.iter().rev() {
+        r = r * 256 + u64::from(*b);
     }
     r
+}
+
+// The number in the n bytes from a place on, of which those past the end are left out.
+fn get_le(s: &[u8], at: usize, n: usize) -> u64
+    requires { n ≤ 8 }
+    ensures value { result ≡ value_at n s.now at }
+    ensures bound { result < 256 ^ n }
+{
+    number(there(s, at, n))
 }
 
 pub fn get_u8(s: &[u8], at: usize) -> u8

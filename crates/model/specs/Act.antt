@@ -1,10 +1,9 @@
 -- Document 01: "An act is a direct push or delete, or the event at which the nesting rules make one. .. It claims the version it gives".
-use Rattle.std.specs.Prelude.{Bool, true, cond, ltb, ℤ}
+use Rattle.std.specs.Prelude.{Bool, true, cond, ltb, ℤ, Option}
 use Rattle.base.specs.Bytes.{both}
 use Rattle.kind.specs.Kind.{kind_number, same_kind}
 use Rattle.kind.specs.declared.Kind.{Kind}
 use Rattle.osm_id.specs.Order.{before, same_id}
-use Rattle.version_floor.specs.declared.Version.{Version}
 use Rattle.model.specs.Record.{Record, claim_of, kind_of}
 
 -- a kind and an id
@@ -21,14 +20,14 @@ key_before a b = cond (ltb (kind_number a.kind) (kind_number b.kind)) true (both
 
 pub data Act (S : Type 0) : Type 0 where
   push : ℤ → Record S → Act S
-  delete : Kind → ℤ → Version → Act S
+  delete : Kind → ℤ → Option ℤ → Act S
 
 abbrev pub key_of : {S : Type 0} → Act S → Key
 key_of (push id r) = record { kind = kind_of r.body; id = id }
 key_of (delete k id claim) = record { kind = k; id = id }
 
 -- the version that an act claims, or none
-abbrev pub claimed_by : {S : Type 0} → Act S → Version
+abbrev pub claimed_by : {S : Type 0} → Act S → Option ℤ
 claimed_by (push id r) = claim_of r.meta
 claimed_by (delete k id claim) = claim
 

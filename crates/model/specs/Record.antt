@@ -1,10 +1,8 @@
 -- Document 01, compact.rs: what a record holds. S is the type of its texts: bytes in an act, handles in storage.
-use Rattle.std.specs.Prelude.{ℕ, ◌/◌, ◌%◌, Bool, cond, List, eqb, ℤ}
+use Rattle.std.specs.Prelude.{ℕ, ◌/◌, ◌%◌, Bool, cond, List, eqb, ℤ, None, Option, Some}
 use Rattle.base.specs.Bytes.{Bytes}
 use Rattle.kind.specs.declared.Kind.{Kind}
 use Rattle.kind.specs.declared.Kind.TheVariants.{Node, Way, Relation}
-use Rattle.version_floor.specs.declared.Version.{Version}
-use Rattle.version_floor.specs.declared.Version.TheVariants.{Absent, Is}
 
 -- "flags u8, version i32, timestamp i64, changeset i64, uid i32, user handle u32"
 pub record Meta (S : Type 0) : Type 0 where
@@ -20,8 +18,8 @@ unfoldable pub flagged : ℕ → ℕ → Bool
 flagged bit flags = eqb (flags / bit % 2) 1
 
 -- the version that metadata claims, or none: a missing version is no version, and not version 0
-unfoldable pub claim_of : {S : Type 0} → Meta S → Version
-claim_of m = cond (flagged 8 m.flags) (Is m.version) Absent
+unfoldable pub claim_of : {S : Type 0} → Meta S → Option ℤ
+claim_of m = cond (flagged 8 m.flags) (Some m.version) None
 
 -- "members of 13 bytes (ref i64, type u8 with 0 node, 1 way, 2 relation, role handle u32)"
 pub record Member (S : Type 0) : Type 0 where

@@ -1,9 +1,11 @@
 -- What the levels take to the end is a document: from each place, the marks that are left are those of what is left of one. By the marks, from the last.
+use Rattle.std.proofs.lemmas.Option.{none-some, same_Some}
+use Rattle.std.specs.Prelude.{None, Option, Some}
+use Rattle.base.specs.Options.{bind}
 use Prim.Native.Nat.{ℕ, suc}
 use mathlib.Core.Path.{◌≡◌, refl, sym, ◌∙◌, ap, subst}
 use mathlib.Core.Bool.{Bool, true, false, cond}
 use mathlib.Core.List.{List, [], ◌∷◌, ◌++◌, append_assoc}
-use mathlib.Core.Option.{Option, none, some, bind, none-ne-some, some-injective}
 use Rattle.kind.specs.declared.Kind.{Kind}
 use Rattle.kind.specs.declared.Kind.TheVariants as K
 use Rattle.nesting.specs.declared.Name.{Name}
@@ -52,8 +54,8 @@ Left l k ms = (r : Rest l k) × (tail l k r ≡ ms)
 
 -- the same at the place where a mark leads, if anywhere
 abbrev After : Option Place → List Mark → Type 0
-After none ms = ⊥
-After (some q) ms = Left q.level q.kind ms
+After None ms = ⊥
+After (Some q) ms = Left q.level q.kind ms
 
 -- an open or an empty element
 abbrev mark : Bool → Name → Mark
@@ -64,7 +66,7 @@ next m e = ap {B = List Mark} (λ zs. m ∷ zs) e
 
 -- One mark more in front, level by level: an open or an empty element that is taken there begins a piece of the document.
 module _ (a : Action) {ms : List Mark} where
-  part_back : {k : Kind} (n : Name) (x : Bare → Part k) → ((w : Bare) → part_marks (x w) ≡ bare n w) → (e : Bool) → After (some (unless e Leaf (place Element a k))) ms → Left Element k (mark e n ∷ ms)
+  part_back : {k : Kind} (n : Name) (x : Bare → Part k) → ((w : Bare) → part_marks (x w) ≡ bare n w) → (e : Bool) → After (Some (unless e Leaf (place Element a k))) ms → Left Element k (mark e n ∷ ms)
   unfolding each_gives written
   part_back n x s true h = ((x empty ∷ h.0.0, h.0.1), rw (s empty) (next _ h.1))
   part_back n x s false h = ((x (full tt) ∷ h.0.0, h.0.1), rw (s (full tt)) (next _ h.1))
@@ -115,7 +117,7 @@ module _ (a : Action) {ms : List Mark} where
   block_back k b true h = ((block b empty ∷ h.0.0, h.0.1), next _ h.1)
   block_back k b false h = ((block b (full h.0.0) ∷ h.0.1.0, h.0.1.1), rw append_assoc (rw append_assoc (next _ h.1)))
 
-  foreign_back : (k : Kind) (f : Foreign) (e : Bool) → After (some (unless e Other (place Root a k))) ms → Left Root k (mark e (foreign_name f) ∷ ms)
+  foreign_back : (k : Kind) (f : Foreign) (e : Bool) → After (Some (unless e Other (place Root a k))) ms → Left Root k (mark e (foreign_name f) ∷ ms)
   unfolding place_taken each_gives item_marks written
   foreign_back k f true h = ((foreign f empty ∷ h.0.0, h.0.1), next _ h.1)
   foreign_back k f false h = ((foreign f (full tt) ∷ h.0.0, h.0.1), next _ h.1)
@@ -135,7 +137,7 @@ module _ (a : Action) {ms : List Mark} where
   root_back k e N.Bounds h = foreign_back k foreign_bounds e h
   root_back k e N.Unknown h = foreign_back k foreign_unknown e h
 
-  document_back : (k : Kind) (e : Bool) → After (some (at (cond e Done Root) (place Doc a k))) ms → Left Doc k (mark e N.OsmChange ∷ ms)
+  document_back : (k : Kind) (e : Bool) → After (Some (at (cond e Done Root) (place Doc a k))) ms → Left Doc k (mark e N.OsmChange ∷ ms)
   unfolding events strays written
   document_back k true h = (record { before = 0; root = empty; after = h.0 }, next _ h.1)
   document_back k false h = (record { before = 0; root = full h.0.0; after = h.0.1 }, rw append_assoc (next _ h.1))
@@ -166,7 +168,7 @@ module _ (a : Action) {ms : List Mark} where
   opened_back Done k e n h = absurd h
 
   -- a close ends a piece, or is a stray
-  closed_back : (l : Level) (k : Kind) → After (some (closed (place l a k))) ms → Left l k (closes ∷ ms)
+  closed_back : (l : Level) (k : Kind) → After (Some (closed (place l a k))) ms → Left l k (closes ∷ ms)
   unfolding closed closed_to each_gives strays events
   closed_back Doc k h = (record { before = suc h.0.before; root = h.0.root; after = h.0.after }, next _ h.1)
   closed_back Root k h = (([], h.0), next _ h.1)
@@ -186,11 +188,11 @@ ended : (l : Level) (k : Kind) → l ≡ Done → Left l k []
 unfolding strays
 ended l k e = subst (λ (x : Level). Left x k []) (sym e) (0, refl)
 
-pub parsed : (ms : List Mark) (p q : Place) → run p ms ≡ some q → q.level ≡ Done → Left p.level p.kind ms
+pub parsed : (ms : List Mark) (p q : Place) → run p ms ≡ Some q → q.level ≡ Done → Left p.level p.kind ms
 unfolding run bind
-parsed [] p q e d = ended _ _ (ap (λ (x : Place). x.level) (some-injective p q e) ∙ d)
+parsed [] p q e d = ended _ _ (ap (λ (x : Place). x.level) (same_Some p q e) ∙ d)
 parsed (m ∷ ms) p q e d = back p m (go (mark_step p m) e (λ x i. parsed ms x q i d))
   where
-    go : (o : Option Place) → bind o (λ x. run x ms) ≡ some q → ((x : Place) → run x ms ≡ some q → Left x.level x.kind ms) → After o ms
-    go none i f = none-ne-some q i
-    go (some x) i f = f x i
+    go : (o : Option Place) → bind o (λ x. run x ms) ≡ Some q → ((x : Place) → run x ms ≡ Some q → Left x.level x.kind ms) → After o ms
+    go None i f = none-some q i
+    go (Some x) i f = f x i

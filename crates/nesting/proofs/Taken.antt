@@ -1,9 +1,9 @@
 -- Every document is taken to its end, and makes its changes: piece by piece, from the parts of an object to the root.
+use Rattle.std.specs.Prelude.{Option, Some}
 use Prim.Native.Nat.{ℕ, zero, suc}
 use mathlib.Core.Path.{◌≡◌, refl, ap, subst}
 use mathlib.Core.Bool.{Bool, true, false}
 use mathlib.Core.List.{List, [], ◌∷◌, ◌++◌, append-nil}
-use mathlib.Core.Option.{Option, some}
 use Rattle.kind.specs.declared.Kind.{Kind}
 use Rattle.kind.specs.declared.Kind.TheVariants as K
 use Rattle.nesting.specs.declared.Name.{Name}
@@ -22,7 +22,7 @@ abbrev pub place : Level → Action → Kind → Place
 place l a k = record { level = l; section = a; kind = k }
 
 -- a bare element that only moves to the level l and back
-quiet : (n : Name) (l : Level) (p : Place) → ((e : Bool) → place_taken (opened e n p) ≡ some (unless e l p)) → ((e : Bool) → opened_makes e p.section (opened e n p) ≡ [])
+quiet : (n : Name) (l : Level) (p : Place) → ((e : Bool) → place_taken (opened e n p) ≡ Some (unless e l p)) → ((e : Bool) → opened_makes e p.section (opened e n p) ≡ [])
     → closed (at l p) ≡ p → closed_makes l p.section p.kind ≡ [] → (w : Bare) → Leads p (bare n w) [] p
 unfolding written mark_step makes
 quiet n l p t o c d empty = making (alone (t true)) (o true)
@@ -108,7 +108,7 @@ items_lead a₀ k₀ (i ∷ is) =
 strays_lead : (p : Place) → closed p ≡ p → closed_makes p.level p.section p.kind ≡ [] → (n : ℕ) → Leads p (strays n) [] p
 unfolding strays mark_step makes
 strays_lead p e d zero = stays p
-strays_lead p e d (suc n) = making (goes (ap {B = Option Place} some e) (strays_lead p e d n)) (rw d)
+strays_lead p e d (suc n) = making (goes (ap {B = Option Place} Some e) (strays_lead p e d n)) (rw d)
 
 root_leads : (w : Written (List Item)) → (a : Action) × (k : Kind) × Leads start (written N.OsmChange (each_gives item_marks) w) (inside (each_gives item_changes) w) (place Done a k)
 unfolding inside written mark_step makes place_taken opened_makes closed_makes closed closed_to opened opened_at in_doc

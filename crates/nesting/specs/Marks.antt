@@ -1,6 +1,6 @@
 -- A document as the levels see it: opens, empties and closes in order, read by `opened` and `closed` (Nesting). An `other` event does nothing, and is no mark.
-use Rattle.std.specs.Prelude.{Bool, true, false, cond, List, [], ◌∷◌, ◌++◌, ◌≡◌}
-use Rattle.std.proofs.Math.Option.{Option, none, some, bind, Option-elim}
+use Rattle.base.specs.Options.{Option-elim, bind}
+use Rattle.std.specs.Prelude.{Bool, true, false, cond, List, [], ◌∷◌, ◌++◌, ◌≡◌, None, Option, Some}
 use Rattle.kind.specs.declared.Kind.{Kind}
 use Rattle.nesting.specs.declared.Name.{Name}
 use Rattle.nesting.specs.declared.Action.{Action}
@@ -19,25 +19,25 @@ pub data Mark : Type 0 where
 
 -- the place after an open or an empty element; none where it is refused 5 or 6
 unfoldable pub place_taken : Opened → Option Place
-place_taken Misplaced = none
-place_taken OutsideSection = none
-place_taken (Goes p) = some p
-place_taken (Begins k p) = some p
-place_taken (Holds c p) = some p
+place_taken Misplaced = None
+place_taken OutsideSection = None
+place_taken (Goes p) = Some p
+place_taken (Begins k p) = Some p
+place_taken (Holds c p) = Some p
 
 unfoldable pub mark_step : Place → Mark → Option Place
 mark_step p (opens n) = place_taken (opened false n p)
 mark_step p (empties n) = place_taken (opened true n p)
-mark_step p closes = some (closed p)
+mark_step p closes = Some (closed p)
 
 -- the place after a list of marks; none where one is refused
 unfoldable pub run : Place → List Mark → Option Place
-run p [] = some p
+run p [] = Some p
 run p (m ∷ ms) = bind (mark_step p m) (λ q. run q ms)
 
 -- the levels take the whole list, and its end too: "18 level is not Done"
 abbrev pub Accepted : List Mark → Type 0
-Accepted ms = (p : Place) × (run start ms ≡ some p) × (p.level ≡ Done)
+Accepted ms = (p : Place) × (run start ms ≡ Some p) × (p.level ≡ Done)
 
 -- what an object does to the overlay
 pub data Change : Type 0 where

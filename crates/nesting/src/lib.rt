@@ -4,12 +4,12 @@
 ghost use Rattle.std.specs.Prelude.{◌≡◌, cond, drop};
 ghost use Rattle.base.specs.Bytes.{same};
 ghost use Rattle.nesting.specs.Name.{spellings, name_in, name_of};
-ghost use Rattle.nesting.specs.Nesting.{at, unless, section_of, begins_as, in_doc, in_root, in_section, in_way, in_relation, not_in_node, in_element, opened, closed_to, closed};
+ghost use Rattle.nesting.specs.Nesting.{at, unless, section_of, begins_as, in_doc, in_root, in_section, in_element, opened, closed_to, closed};
 
 use kind::Kind;
 
 // An element's name; `bbox` and `bounds` are one, every name that the document does not give is Unknown.
-#[derive(Clone, Copy)]
+#[derive(Clone, Copy, PartialEq, Eq, Debug)]
 pub enum Name {
     OsmChange,
     Create,
@@ -26,7 +26,7 @@ pub enum Name {
 }
 
 // A section's action.
-#[derive(Clone, Copy)]
+#[derive(Clone, Copy, PartialEq, Eq, Debug)]
 pub enum Action {
     Create,
     Modify,
@@ -34,7 +34,7 @@ pub enum Action {
 }
 
 // Where in the document the reader stands.
-#[derive(Clone, Copy)]
+#[derive(Clone, Copy, PartialEq, Eq, Debug)]
 pub enum Level {
     Doc,
     Root,
@@ -54,7 +54,7 @@ pub struct Place {
 }
 
 // A child that an element keeps.
-#[derive(Clone, Copy)]
+#[derive(Clone, Copy, PartialEq, Eq, Debug)]
 pub enum Child {
     Tag,
     Nd,
@@ -76,28 +76,11 @@ pub enum Opened {
     Holds(Child, Place),
 }
 
-// Whether two runs of bytes are the same.
-fn is(s: &[u8], name: &[u8]) -> bool
-    ensures { result ≡ same s.now name.now }
-{
-    if s.len() != name.len() {
-        return false;
-    }
-    let mut i = 0;
-    while i < name.len() {
-        if s[i] != name[i] {
-            return false;
-        }
-        i += 1;
-    }
-    true
-}
-
 // The name `n` if `s` spells it, else the name that the other spellings give.
 fn named(s: &[u8], spelling: &[u8], n: Name, other: Name) -> Name
     ensures { result ≡ cond (same s.now spelling.now) n other }
 {
-    if is(s, spelling) { n } else { other }
+    if s == spelling { n } else { other }
 }
 
 // The names of what an element holds: the spellings from the eighth on.
@@ -226,47 +209,16 @@ fn in_section(empty: bool, n: Name, p: Place) -> Opened
     }
 }
 
-// A child of a way.
-fn in_way(k: Kind, o: Opened) -> Opened
-    ensures { result ≡ in_way k o }
-{
-    match k {
-        Kind::Way => o,
-        _ => Opened::Misplaced,
-    }
-}
-
-// A child of a relation.
-fn in_relation(k: Kind, o: Opened) -> Opened
-    ensures { result ≡ in_relation k o }
-{
-    match k {
-        Kind::Relation => o,
-        _ => Opened::Misplaced,
-    }
-}
-
-// A child of a way or a relation.
-fn not_in_node(k: Kind, o: Opened) -> Opened
-    ensures { result ≡ not_in_node k o }
-{
-    match k {
-        Kind::Node => Opened::Misplaced,
-        _ => o,
-    }
-}
-
 // One in an element.
 fn in_element(empty: bool, n: Name, p: Place) -> Opened
     ensures { result ≡ in_element empty n p }
 {
-    let k = p.kind;
     let q = unless(empty, Level::Leaf, p);
-    match n {
-        Name::Tag => Opened::Holds(Child::Tag, q),
-        Name::Nd => in_way(k, Opened::Holds(Child::Nd, q)),
-        Name::Member => in_relation(k, Opened::Holds(Child::Member, q)),
-        Name::Bounds => not_in_node(k, Opened::Goes(q)),
+    match (n, p.kind) {
+        (Name::Tag, _) => Opened::Holds(Child::Tag, q),
+        (Name::Nd, Kind::Way) => Opened::Holds(Child::Nd, q),
+        (Name::Member, Kind::Relation) => Opened::Holds(Child::Member, q),
+        (Name::Bounds, Kind::Way) | (Name::Bounds, Kind::Relation) => Opened::Goes(q),
         _ => Opened::Misplaced,
     }
 }

@@ -1,10 +1,10 @@
 -- The order of ids is a strict total order; keys and ranks carry it; and the first and the last id of a range.
 use Prim.Native.Nat.{ℕ, zero, suc, ◌+◌, ◌-◌, ◌^◌, ◌<◌, ◌≤◌}
 use mathlib.Core.Path.{◌≡◌, refl, sym, ◌∙◌, ap}
-use mathlib.Core.Bool.{true, false, cond}
+use mathlib.Core.Bool.{true, false, cond, not}
 use mathlib.Core.Logic.{◌↔◌}
 use native.Mathlib.Omega.{arith}
-use lib.Dec.{ltb, leb-zero, leb-suc-zero, leb-suc-suc}
+use lib.Dec.{ltb, eqb, leb-zero, leb-suc-zero, leb-suc-suc}
 use lib.IntN.{ℤ, pos, negsuc}
 use lib.Signed.{mag, le_z}
 use mir.Syntax.{w64}
@@ -13,7 +13,12 @@ use borrow.Author.Tests.{lt-ltb, le-ltb, ltb-true, le-leb, leb-true, eq-eqb, eqb
 use Rattle.base.proofs.Split.{by_bool, by_le, by_eq, clash, no, same_test}
 use Rattle.base.proofs.Strict.{Strict, by_order, asymmetric, by_places}
 use Rattle.osm_id.specs.Order.{before, same_id, osm_key_of, cmp_of, id_key_before, rank, id_of, first_key, last_key, EndKey}
-use Rattle.osm_id.specs.declared.Ordering.TheVariants.{Less, Equal, Greater}
+use Rattle.std.specs.declared.cmp.Ordering.TheVariants.{Less, Equal, Greater}
+use Rattle.std.specs.declared.cmp.Ordering.{Ordering}
+use Rattle.std.specs.Ordering.{nat_cmp, partial_ordering_then, partial_lt, partial_le}
+use Rattle.std.specs.Prelude.{Option, Some}
+use Rattle.osm_id.specs.declared.OsmIdKey.{OsmIdKey}
+use Rattle.std.proofs.lemmas.Bool.Decides.{nat_tests}
 
 -- the rank, and the id of a rank, with room for h negatives instead of 2 ^ 63: any ids have such places for an h that is large enough
 abbrev place : ℕ → ℤ → ℕ
@@ -117,6 +122,19 @@ key_injective a b e =
     (λ q. q)
     (λ t. clash t (cc (key_before b a, key_before b b, order.irreflexive b)))
 
+-- what the derived order of keys answers, and `<` and `<=` by it
+abbrev pub key_order : OsmIdKey → OsmIdKey → Option Ordering
+key_order x y = partial_ordering_then (Some (nat_cmp x.class y.class)) (Some (nat_cmp x.magnitude y.magnitude))
+
+module _ (x y : OsmIdKey) where
+  pub key_lt : partial_lt key_order x y ≡ id_key_before x y
+  unfolding id_key_before
+  key_lt = grind (arith, nat_tests)
+
+  pub key_le : partial_le key_order x y ≡ not (id_key_before y x)
+  unfolding id_key_before
+  key_le = grind (arith, nat_tests)
+
 -- ---- ranks
 
 rank_place : (a : ℤ) → rank a ≡ place (2 ^ 63) a
@@ -139,6 +157,16 @@ module _ {a b : ℤ} (f : SFits w64 a) (g : SFits w64 b) where
 
   pub rank_injective : rank a ≡ rank b → a ≡ b
   rank_injective e = sym (id_rank f) ∙ ap id_of e ∙ id_rank g
+
+  rank_same : eqb (rank a) (rank b) ≡ same_id a b
+  rank_same =
+      same_test _ _
+      (λ t. (same_is a b).1 (rank_injective (eqb-true (rank a) (rank b) t)))
+      (λ t. eq-eqb (rank a) (rank b) (ap rank ((same_is a b).0 t)))
+
+  pub rank_cmp : nat_cmp (rank a) (rank b) ≡ cmp_of a b
+  unfolding cmp_of
+  rank_cmp = rw (rank_before, rank_same)
 
 pub rank_fits : {a : ℤ} → SFits w64 a → rank a < 2 ^ 64
 unfolding rank

@@ -6,10 +6,8 @@ use lib.IntN.{ℤ, pos, negsuc}
 use mir.Syntax.{w64}
 use mir.Val.{Fits, SFits, of_z, to_z}
 use mir.Facts.{to_z-of_z, to_z_pos, to_z-neg}
-use borrow.Author.Tests.{lt-ltb}
-use Rattle.osm_id.specs.Order.{cmp_of, rank, id_of}
-use Rattle.osm_id.specs.declared.Ordering.TheVariants.{Less, Equal, Greater}
-use Rattle.osm_id.proofs.Orders.{less_is, equal_is, greater_is, rank_before, rank_injective, id_negative, id_positive, id_fits}
+use Rattle.osm_id.specs.Order.{id_of}
+use Rattle.osm_id.proofs.Orders.{id_negative, id_positive, id_fits}
 use Rattle.signed.proofs.Bits.{of_low, of_high}
 
 -- which id has the bits b. A signed argument reaches the callee by its bits, so z stands in what the call ensures as it is read back from them
@@ -42,20 +40,3 @@ module _ {r : ℕ} where
 
     pub result_is : {z : ℤ} → z ≡ id_of r → to_z w64 (of_z w64 z) ≡ id_of r
     result_is e = rw e (to_z-of_z (id_fits f))
-
--- two ranks that were computed say how their ids compare
-module _ {a b : ℤ} (f : SFits w64 a) (g : SFits w64 b) {x y : ℕ} (p : x ≡ rank (to_z w64 (of_z w64 a))) (q : y ≡ rank (to_z w64 (of_z w64 b))) where
-  x_is : x ≡ rank a
-  x_is = rw (to_z-of_z f) at p
-
-  y_is : y ≡ rank b
-  y_is = rw (to_z-of_z g) at q
-
-  pub less : x < y → Less ≡ cmp_of a b
-  less h = sym ((less_is a b).1 (sym (rank_before f g) ∙ lt-ltb (rank a) (rank b) (omega (arith, x_is, y_is))))
-
-  pub equal : x ≡ y → Equal ≡ cmp_of a b
-  equal e = sym ((equal_is a b).1 (rank_injective f g (cc (x_is, y_is))))
-
-  pub greater : y ≤ x → (x ≡ y → ⊥) → Greater ≡ cmp_of a b
-  greater h n = sym ((greater_is a b).1 (sym (rank_before g f) ∙ lt-ltb (rank b) (rank a) (omega (arith, x_is, y_is))))

@@ -2,8 +2,8 @@
 use Rattle.std.specs.Prelude.{ℕ, zero, suc, ◌+◌, ◌-◌, ◌^◌, ◌≡◌, Bool, true, false, cond, ltb, eqb, ℤ, pos, negsuc}
 use Rattle.std.specs.Int.Signed.{le_z}
 use Rattle.osm_id.specs.declared.OsmIdKey.{OsmIdKey}
-use Rattle.osm_id.specs.declared.Ordering.{Ordering}
-use Rattle.osm_id.specs.declared.Ordering.TheVariants.{Less, Equal, Greater}
+use Rattle.std.specs.declared.cmp.Ordering.{Ordering}
+use Rattle.std.specs.declared.cmp.Ordering.TheVariants.{Less, Equal, Greater}
 
 -- the id a comes before the id b: 0 first, then the negatives by growing magnitude, then the positives
 unfoldable pub before : ℤ → ℤ → Bool

@@ -6,19 +6,14 @@ ghost use Rattle.std.specs.Int.{w64};
 ghost use Rattle.std.proofs.Common.{to_z};
 ghost use Rattle.osm_id.specs.Order.{osm_key_of, cmp_of, first_key, last_key, rank, id_of};
 
-// The canonical-order key: class 0 for zero, 1 for a negative id, 2 for a positive one; and the magnitude.
+use std::cmp::Ordering;
+
+// The canonical-order key: class 0 for zero, 1 for a negative id, 2 for a positive one; and the magnitude. Keys compare by class first.
 #[repr(C)]
-#[derive(Clone, Copy)]
+#[derive(Clone, Copy, PartialEq, Eq, PartialOrd, Ord, Debug)]
 pub struct OsmIdKey {
     pub class: u8,
     pub magnitude: u64,
-}
-
-#[derive(Clone, Copy)]
-pub enum Ordering {
-    Less,
-    Equal,
-    Greater,
 }
 
 pub fn osm_id_key(id: i64) -> OsmIdKey
@@ -78,15 +73,7 @@ pub fn osm_id_of_rank(r: u64) -> i64
 pub fn osm_id_cmp(a: i64, b: i64) -> Ordering
     ensures { result ≡ cmp_of a b }
 {
-    let x = osm_id_rank(a);
-    let y = osm_id_rank(b);
-    if x < y {
-        return Ordering::Less;
-    }
-    if x == y {
-        return Ordering::Equal;
-    }
-    Ordering::Greater
+    osm_id_rank(a).cmp(&osm_id_rank(b))
 }
 
 // The least key of the ids from min_id to max_id.

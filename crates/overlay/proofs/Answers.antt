@@ -1,4 +1,5 @@
 -- The parts of an overlay; and what each answer of set-up and of the regression setting means: a refusal is of the place that refuses, and changes nothing.
+use Rattle.std.specs.Prelude.{Err, Ok, Result}
 use Prim.Native.Nat.{ℕ}
 use mathlib.Core.Path.{◌≡◌, refl, sym, ◌∙◌, ap}
 use mathlib.Core.Bool.{true, false}
@@ -13,8 +14,6 @@ use Rattle.refusal.specs.declared.Refusal.{Refusal}
 use Rattle.refusal.specs.declared.Refusal.TheVariants as R
 use Rattle.interner.proofs.Interns as Interns
 use Rattle.kind_store.specs.KindStore.{taken_in}
-use Rattle.kind_store.specs.declared.Kept.{Kept}
-use Rattle.kind_store.specs.declared.Kept.TheVariants.{Taken, Refused}
 use Rattle.overlay_blocks.specs.Sizes.{largest}
 use Rattle.overlay.specs.Overlay.{Overlay, counters_of, kind_store_of, with_kind_store, with_setting, with_sizes, sizes_fit, empty}
 use Rattle.overlay.specs.Lent.{overlay_in}
@@ -55,19 +54,19 @@ kind_store_back Way o = refl
 kind_store_back Relation o = refl
 
 -- an act is taken or refused
-pub by_kept : {C : Type 0} (x : Kept) → (taken_in x ≡ true → C) → ((r : Refusal) → x ≡ Refused r → C) → C
-by_kept Taken f g = f refl
-by_kept (Refused r) f g = g r refl
+pub by_kept : {C : Type 0} (x : Result Unit Refusal) → (taken_in x ≡ true → C) → ((r : Refusal) → x ≡ Err r → C) → C
+by_kept (Ok tt) f g = f refl
+by_kept (Err r) f g = g r refl
 
-pub is_taken : (x : Kept) → taken_in x ≡ true → x ≡ Taken
-is_taken Taken e = refl
-is_taken (Refused r) e = no (cc)
+pub is_taken : (x : Result Unit Refusal) → taken_in x ≡ true → x ≡ (Ok tt)
+is_taken (Ok tt) e = refl
+is_taken (Err r) e = no (cc)
 
 -- an answer, by what the whole is
-pub answered : {a : OverlayAfter} {t : Overlay} {x y : Kept} → a ≡ record { overlay = t; answer = x } → a.answer ≡ y → x ≡ y
+pub answered : {a : OverlayAfter} {t : Overlay} {x y : Result Unit Refusal} → a ≡ record { overlay = t; answer = x } → a.answer ≡ y → x ≡ y
 answered {a} e f = sym (ap (λ (z : OverlayAfter). z.answer) e) ∙ f
 
-pub taken_as : {a : OverlayAfter} {t : Overlay} {x : Kept} → a ≡ record { overlay = t; answer = x } → taken_in a.answer ≡ true → taken_in x ≡ true
+pub taken_as : {a : OverlayAfter} {t : Overlay} {x : Result Unit Refusal} → a ≡ record { overlay = t; answer = x } → taken_in a.answer ≡ true → taken_in x ≡ true
 taken_as {a} e f = sym (ap (λ (z : OverlayAfter). taken_in z.answer) e) ∙ f
 
 -- ---- set-up
@@ -76,19 +75,19 @@ module _ (z : Sizes) (setting : ℕ) (o : Overlay) where
   -- set-up is refused 1, or taken
   pub by_set_up : {C : Type 0}
       → (sizes_fit largest (with_sizes z o) ≡ false → set_up z setting o ≡ overlay_refused o R.Size → C)
-      → (sizes_fit largest (with_sizes z o) ≡ true → set_up z setting o ≡ record { overlay = empty setting (with_sizes z o); answer = Taken } → C) → C
+      → (sizes_fit largest (with_sizes z o) ≡ true → set_up z setting o ≡ record { overlay = empty setting (with_sizes z o); answer = (Ok tt) } → C) → C
   unfolding set_up
   by_set_up f g = by_bool (sizes_fit largest (with_sizes z o)) (λ e. g e (rw e)) (λ e. f e (rw e))
 
   -- a refusal changes nothing
-  pub setup_refused : (r : Refusal) → (set_up z setting o).answer ≡ Refused r → (set_up z setting o).overlay ≡ o
+  pub setup_refused : (r : Refusal) → (set_up z setting o).answer ≡ Err r → (set_up z setting o).overlay ≡ o
   setup_refused r e = by_set_up (λ s w. ap (λ (w : OverlayAfter). w.overlay) w) (λ s w. let v = answered w e in no (cc))
 
   -- 1 exactly where a lent size is outside, and no other refusal
-  pub setup_1 : sizes_fit largest (with_sizes z o) ≡ false → (set_up z setting o).answer ≡ Refused R.Size
+  pub setup_1 : sizes_fit largest (with_sizes z o) ≡ false → (set_up z setting o).answer ≡ Err R.Size
   setup_1 e = by_set_up (λ s w. ap (λ (w : OverlayAfter). w.answer) w) (λ s w. clash s e)
 
-  pub setup_1_only : (r : Refusal) → (set_up z setting o).answer ≡ Refused r → (r ≡ R.Size) × (sizes_fit largest (with_sizes z o) ≡ false)
+  pub setup_1_only : (r : Refusal) → (set_up z setting o).answer ≡ Err r → (r ≡ R.Size) × (sizes_fit largest (with_sizes z o) ≡ false)
   setup_1_only r e = by_set_up (λ s w. let v = answered w e in (cc, s)) (λ s w. let v = answered w e in no (cc))
 
   pub setup_taken : taken_in (set_up z setting o).answer ≡ true → (sizes_fit largest (with_sizes z o) ≡ true) × ((set_up z setting o).overlay ≡ empty setting (with_sizes z o))
@@ -100,19 +99,19 @@ module _ (setting : ℕ) (o : Overlay) where
   -- it is refused 22, or taken
   pub by_allow : {C : Type 0}
       → (is_sound o ≡ false → allow_on setting o ≡ overlay_refused o R.Unsound → C)
-      → (is_sound o ≡ true → allow_on setting o ≡ record { overlay = with_setting setting o; answer = Taken } → C) → C
+      → (is_sound o ≡ true → allow_on setting o ≡ record { overlay = with_setting setting o; answer = (Ok tt) } → C) → C
   unfolding allow_on
   by_allow f g = by_bool (is_sound o) (λ e. g e (rw e)) (λ e. f e (rw e))
 
   -- a refusal changes nothing
-  pub allow_refused : (r : Refusal) → (allow_on setting o).answer ≡ Refused r → (allow_on setting o).overlay ≡ o
+  pub allow_refused : (r : Refusal) → (allow_on setting o).answer ≡ Err r → (allow_on setting o).overlay ≡ o
   allow_refused r e = by_allow (λ s w. ap (λ (z : OverlayAfter). z.overlay) w) (λ s w. let z = answered w e in no (cc))
 
   -- 22 exactly where the overlay is unsound, and no other refusal
-  pub allow_22 : is_sound o ≡ false → (allow_on setting o).answer ≡ Refused R.Unsound
+  pub allow_22 : is_sound o ≡ false → (allow_on setting o).answer ≡ Err R.Unsound
   allow_22 e = by_allow (λ s w. ap (λ (z : OverlayAfter). z.answer) w) (λ s w. clash s e)
 
-  pub allow_22_only : (r : Refusal) → (allow_on setting o).answer ≡ Refused r → (r ≡ R.Unsound) × (is_sound o ≡ false)
+  pub allow_22_only : (r : Refusal) → (allow_on setting o).answer ≡ Err r → (r ≡ R.Unsound) × (is_sound o ≡ false)
   allow_22_only r e = by_allow (λ s w. let z = answered w e in (cc, s)) (λ s w. let z = answered w e in no (cc))
 
   -- an accepted one stores the setting, and nothing else changes

@@ -1,8 +1,8 @@
 -- T4: set-up and the regression setting are refused by the first condition of their table that holds, and accepted where none holds.
+use Rattle.std.specs.Prelude.{Some}
 use Prim.Native.Nat.{ℕ}
 use mathlib.Core.Path.{◌≡◌}
 use mathlib.Core.Bool.{true, false}
-use mathlib.Core.Option.{some}
 use mathlib.Core.List.{List, ◌∷◌}
 use Rattle.refusal.specs.declared.Refusal.{Refusal}
 use Rattle.refusal.specs.declared.Refusal.TheVariants as R
@@ -29,7 +29,7 @@ allow_first setting o = by_allow setting o (λ s w. rw (w, s)) (λ s w. rw (w, s
 -- ---- 22 before other rows
 
 module _ (o : Overlay) (rs : List (ConditionRow Refusal)) where
-  pub unsound_first : is_sound o ≡ false → first_of (unsound_row o ∷ rs) ≡ some R.Unsound
+  pub unsound_first : is_sound o ≡ false → first_of (unsound_row o ∷ rs) ≡ Some R.Unsound
   unfolding first_of
   unsound_first e = rw e
 

@@ -2,6 +2,7 @@ pub mod KindStores
 pub mod Tiles
 pub mod Puts
 pub mod Parts
+pub mod Checked
 pub mod Decides
 pub mod Answers
 pub mod Bounds

@@ -1,4 +1,5 @@
 -- Laws of an overlay by its parts, as the functions are lent them.
+use Rattle.std.specs.Prelude.{Ok}
 use Prim.Native.Nat.{ℕ, ◌-◌}
 use mathlib.Core.Path.{◌≡◌, refl, ◌∙◌}
 use mathlib.Core.Bool.{Bool, true, false}
@@ -10,7 +11,6 @@ use lib.Seq.{get_or-set_same, get_or-set_other}
 use borrow.Author.Tests.{eqb-false}
 use Rattle.base.specs.Bytes.{Bytes}
 use Rattle.refusal.specs.declared.Refusal.TheVariants as R
-use Rattle.kind_store.specs.declared.Kept.TheVariants.{Taken as Done}
 use Rattle.overlay_blocks.specs.declared.Sizes.{Sizes}
 use Rattle.kind.specs.declared.Kind.{Kind}
 use Rattle.kind.specs.declared.Kind.TheVariants.{Node, Way, Relation}
@@ -37,7 +37,7 @@ unfolding allow_on
 allow_unsound setting o s = rw s
 
 pub allow_stored : (setting : ℕ) (words : List ℕ) (bytes : Bytes) (c d : List ℕ) → length c ≡ 17 → is_sound (overlay_in words bytes c) ≡ true → d ≡ set c 8 setting
-    → record { overlay = overlay_in words bytes d; answer = Done } ≡ allow_on setting (overlay_in words bytes c)
+    → record { overlay = overlay_in words bytes d; answer = (Ok tt) } ≡ allow_on setting (overlay_in words bytes c)
 unfolding allow_on
 allow_stored setting words bytes c d long s e =
     let k : (i : ℕ) → eqb i 8 ≡ false → get_or (set c 8 setting) i 0 ≡ get_or c i 0 = λ i p. get_or-set_other c 8 i setting 0 (eqb-false i 8 p) in
@@ -65,7 +65,7 @@ setup_refuses z setting words bytes counters h = rw (← fits_in z words bytes c
 pub setup_makes : (z : Sizes) (setting : ℕ) (words bytes counters : List ℕ) → fitted largest z (length words) (length bytes) ≡ true
     → (d : List ℕ) → d ≡ fresh_counters setting z → (p : TextPart) → p ≡ text_part_in (sizes_in d) (length words) (length bytes)
     → (s : List ℕ) → s ≡ fresh_spans (cut p.spans (length words) words)
-    → record { overlay = overlay_for z (put_mid p.spans (length words - p.spans) words s) bytes d; answer = Done } ≡ set_up z setting (overlay_for z words bytes counters)
+    → record { overlay = overlay_for z (put_mid p.spans (length words - p.spans) words s) bytes d; answer = (Ok tt) } ≡ set_up z setting (overlay_for z words bytes counters)
 unfolding set_up
 setup_makes z setting words bytes counters h d g p q s f =
     let q2 : p ≡ text_part_in z (length words) (length bytes) = rw g at q in

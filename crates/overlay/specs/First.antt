@@ -1,26 +1,21 @@
 -- The tables of set-up and of the regression setting, and the row that each later call begins with (proofs/First).
-use Rattle.std.specs.Prelude.{ℕ, true, not, List, [], ◌∷◌, pos}
-use Rattle.std.proofs.Math.Option.{Option, none, some}
+use Rattle.std.specs.Prelude.{ℕ, true, not, List, [], ◌∷◌, pos, Err, None, Ok, Option, Result, Some}
 use Rattle.kind.specs.Kind.{of_number}
 use Rattle.kind.specs.declared.Kind.{Kind}
-use Rattle.kind.specs.declared.Named.{Named}
-use Rattle.kind.specs.declared.Named.TheVariants.{Is, Unknown}
 use Rattle.refusal.specs.First.{ConditionRow, row}
 use Rattle.refusal.specs.Refusal.{number_of, reply_of}
 use Rattle.refusal.specs.declared.Reply.{Reply}
 use Rattle.refusal.specs.declared.Refusal.{Refusal}
 use Rattle.refusal.specs.declared.Refusal.TheVariants as R
-use Rattle.kind_store.specs.declared.Kept.{Kept}
-use Rattle.kind_store.specs.declared.Kept.TheVariants.{Taken, Refused}
 use Rattle.overlay_blocks.specs.Sizes.{largest}
 use Rattle.overlay.specs.Overlay.{Overlay, with_sizes, sizes_fit}
 use Rattle.overlay_blocks.specs.declared.Sizes.{Sizes}
 use Rattle.overlay.specs.Sound.{is_sound}
 
 -- an answer by its refusal, if there is one
-abbrev pub kept_by : Option Refusal → Kept
-kept_by none = Taken
-kept_by (some r) = Refused r
+abbrev pub kept_by : Option Refusal → Result Unit Refusal
+kept_by None = Ok tt
+kept_by (Some r) = Err r
 
 -- set-up: 1
 abbrev pub set_up_table : Sizes → Overlay → List (ConditionRow Refusal)
@@ -37,18 +32,18 @@ allow_table o = unsound_row o ∷ []
 -- ---- at the C boundary
 
 -- a kind goes by its number: 17 for one that means no kind, else the rows of that kind
-abbrev pub kind_rows : Named → (Kind → List (ConditionRow Refusal)) → List (ConditionRow Refusal)
-kind_rows (Is k) rows = rows k
-kind_rows Unknown rows = row R.BadRecord true ∷ []
+abbrev pub kind_rows : Option Kind → (Kind → List (ConditionRow Refusal)) → List (ConditionRow Refusal)
+kind_rows (Some k) rows = rows k
+kind_rows None rows = row R.BadRecord true ∷ []
 
 abbrev pub kind_call_table : ℕ → (Kind → List (ConditionRow Refusal)) → Overlay → List (ConditionRow Refusal)
 kind_call_table kind rows o = unsound_row o ∷ kind_rows (of_number kind) rows
 
 -- the number of a reply by its refusal, if there is one, and the whole reply
 abbrev pub number_by : Option Refusal → ℕ
-number_by none = 0
-number_by (some r) = number_of r
+number_by None = 0
+number_by (Some r) = number_of r
 
 abbrev pub reply_by : Option Refusal → Reply
-reply_by none = record { number = 0; held = pos 0 }
-reply_by (some r) = reply_of r
+reply_by None = record { number = 0; held = pos 0 }
+reply_by (Some r) = reply_of r

@@ -6,10 +6,9 @@ ghost use Rattle.interner.specs.Sound.{sound_strings};
 ghost use Rattle.overlay.specs.Overlay.{fresh_counters};
 ghost use Rattle.overlay.specs.Lent.{lent, left, lent_for, left_for};
 ghost use Rattle.overlay.specs.Sound.{is_sound, sound_of, kind_stores_sound};
-ghost use Rattle.overlay.specs.Calls.{set_up, allow_on};
+ghost use Rattle.overlay.specs.Calls.{set_up, sound_answer, allow_on};
 
 use kind::Kind;
-use kind_store::Kept;
 use overlay_blocks::{ARENA, COUNTERS, SETTING, STRING_BYTES, STRINGS, Sizes};
 use refusal::Refusal;
 
@@ -46,7 +45,7 @@ pub fn set_up(
     counters: &mut [u64; COUNTERS],
     z: Sizes,
     setting: u64,
-) -> Kept
+) -> Result<(), Refusal>
     ensures { record { overlay = left_for z words.new bytes.now counters.new; answer = result } ≡ set_up z setting (lent_for z words.old bytes.now counters.old) }
 {
     if overlay_blocks::sizes_fit(z, words.len(), bytes.len()) {
@@ -54,9 +53,9 @@ pub fn set_up(
         let t = overlay_blocks::texts_in(counters, words.len(), bytes.len());
         let c = t.spans;
         interner::empty_strings(&mut words[c..]);
-        return Kept::Taken;
+        return Ok(());
     }
-    Kept::Refused(Refusal::Size)
+    Err(Refusal::Size)
 }
 
 // ---- soundness
@@ -80,16 +79,13 @@ fn kind_sound(words: &[u64], bytes: &[u8], counters: &[u64; COUNTERS], kind: Kin
     )
 }
 
+#[tactic(auto, unfolding(crate::specs::Sound::kind_stores_sound, base::specs::Bytes::both))]
 fn kind_stores_sound(words: &[u64], bytes: &[u8], counters: &[u64; COUNTERS]) -> bool
     ensures { result ≡ kind_stores_sound (lent words.now bytes.now counters.now) }
 {
-    if kind_sound(words, bytes, counters, Kind::Node) {
-        if kind_sound(words, bytes, counters, Kind::Way) {
-            return kind_sound(words, bytes, counters, Kind::Relation);
-        }
-        return false;
-    }
-    false
+    kind_sound(words, bytes, counters, Kind::Node)
+        && kind_sound(words, bytes, counters, Kind::Way)
+        && kind_sound(words, bytes, counters, Kind::Relation)
 }
 
 // Not inlined: the interner's array makes a frame whose stack probe, as clang writes it, overwrites a register that a caller with tests before it still holds.
@@ -109,16 +105,23 @@ fn strings_sound(words: &[u64], bytes: &[u8], counters: &[u64; COUNTERS]) -> boo
 }
 
 // Whether an overlay is sound: the sizes, the strings, then each kind.
+#[tactic(auto, using(crate::proofs::Parts::sizes_in_lem), unfolding(crate::specs::Sound::is_sound, base::specs::Bytes::both))]
 pub fn is_sound(words: &[u64], bytes: &[u8], counters: &[u64; COUNTERS]) -> bool
     ensures { result ≡ is_sound (lent words.now bytes.now counters.now) }
 {
-    if overlay_blocks::sizes_fit(overlay_blocks::sizes_in(counters), words.len(), bytes.len()) {
-        if strings_sound(words, bytes, counters) {
-            return kind_stores_sound(words, bytes, counters);
-        }
-        return false;
+    overlay_blocks::sizes_fit(overlay_blocks::sizes_in(counters), words.len(), bytes.len())
+        && strings_sound(words, bytes, counters)
+        && kind_stores_sound(words, bytes, counters)
+}
+
+// 22, or nothing: what each call tests first.
+pub fn check_sound(words: &[u64], bytes: &[u8], counters: &[u64; COUNTERS]) -> Result<(), Refusal>
+    ensures { result ≡ sound_answer (lent words.now bytes.now counters.now) }
+{
+    if is_sound(words, bytes, counters) {
+        return Ok(());
     }
-    false
+    Err(Refusal::Unsound)
 }
 
 // ---- the regression setting
@@ -136,12 +139,10 @@ pub fn allow_version_regression(
     bytes: &[u8],
     counters: &mut [u64; COUNTERS],
     setting: u64,
-) -> Kept
+) -> Result<(), Refusal>
     ensures { record { overlay = left words.now bytes.now counters.new; answer = result } ≡ allow_on setting (lent words.now bytes.now counters.old) }
 {
-    if is_sound(words, bytes, counters) {
-        put_setting(counters, setting);
-        return Kept::Taken;
-    }
-    Kept::Refused(Refusal::Unsound)
+    check_sound(words, bytes, counters)?;
+    put_setting(counters, setting);
+    Ok(())
 }

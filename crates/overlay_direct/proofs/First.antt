@@ -1,8 +1,8 @@
 -- T4: each direct call is refused by the first condition of its table that holds, and accepted where none holds.
+use Rattle.std.specs.Prelude.{Err, None, Ok, Option, Some}
 use Prim.Native.Nat.{ℕ}
 use mathlib.Core.Path.{◌≡◌, refl, sym, ◌∙◌, ap}
 use mathlib.Core.Bool.{true}
-use mathlib.Core.Option.{Option, none, some}
 use mathlib.Core.List.{List, ◌++◌}
 use lib.IntN.{ℤ}
 use mir.Syntax.{w64}
@@ -18,7 +18,6 @@ use Rattle.compact.specs.Legal.{legal_handles, legal_texts, in_range, within_lim
 use Rattle.compact.specs.declared.ArenaMeta.{ArenaMeta}
 use Rattle.compact.specs.declared.PushHead.{PushHead}
 use Rattle.compact_legal.specs.Judge.{fault_answer, fault_for}
-use Rattle.compact_legal.specs.declared.Fault.TheVariants as F
 use Rattle.overlay.specs.Overlay.{Overlay, kind_store_of}
 use Rattle.overlay.specs.Sound.{is_sound}
 use Rattle.overlay_store.specs.Calls.{bytes_of}
@@ -37,8 +36,8 @@ use Rattle.overlay.proofs.First.{unsound_first, sound_first}
 
 fault_first : (strings : ℕ) (x : Option (Record ℕ)) → fault_for strings x ≡ fault_answer (first_of (record_rows strings x))
 unfolding first_of fault_for fault_of
-fault_first strings none = refl
-fault_first strings (some r) =
+fault_first strings None = refl
+fault_first strings (Some r) =
     by_bool (legal_handles strings r)
     (λ t. by_bool (legal_texts r)
     (λ u. by_bool (in_range r.body) (λ v. by_bool (within_limits limits r) (λ w. rw (t, u, v, w)) (λ w. rw (t, u, v, w))) (λ v. rw (t, u, v)))
@@ -47,13 +46,13 @@ fault_first strings (some r) =
 
 -- ---- direct push and delete
 
-is_none : (x : Option Refusal) → fault_answer x ≡ F.Legal → x ≡ none
-is_none none e = refl
-is_none (some r) e = no (cc)
+is_none : (x : Option Refusal) → fault_answer x ≡ (Ok tt) → x ≡ None
+is_none None e = refl
+is_none (Some r) e = no (cc)
 
-is_some : (x : Option Refusal) (r : Refusal) → fault_answer x ≡ F.Refused r → x ≡ some r
-is_some none r e = no (cc)
-is_some (some x) r e = cc
+is_some : (x : Option Refusal) (r : Refusal) → fault_answer x ≡ Err r → x ≡ Some r
+is_some None r e = no (cc)
+is_some (Some x) r e = cc
 
 module _ (k : Kind) (h : PushHead) (m : ArenaMeta) (parts : Bytes) (o : Overlay) where
   abbrev check : List (ConditionRow Refusal)
@@ -70,9 +69,9 @@ module _ (k : Kind) (h : PushHead) (m : ArenaMeta) (parts : Bytes) (o : Overlay)
       let c = fault_first o.texts.strings (pushed_record k (head_in k h) (meta_of m) parts) in
       by_push_on k h m parts o
       (λ s w. rw w (sym (ap kept_by (unsound_first o (check ++ store) s))))
-      (λ r s g w. rw w (sym (ap kept_by (by_check (some r) s (is_some (first_of check) r (sym c ∙ g))))))
+      (λ r s g w. rw w (sym (ap kept_by (by_check (Some r) s (is_some (first_of check) r (sym c ∙ g))))))
       (λ s g w. rw w (pushed_first k o.setting (kind_store_of k o) (to_z w64 h.id) (claim_of (meta_of m)) (bytes_of k h m parts)
-      ∙ sym (ap kept_by (by_check none s (is_none (first_of check) (sym c ∙ g))))))
+      ∙ sym (ap kept_by (by_check None s (is_none (first_of check) (sym c ∙ g))))))
 
 module _ (k : Kind) (id : ℤ) (m : Meta ℕ) (o : Overlay) where
   pub delete_first : (delete_on k id m o).answer ≡ kept_by (first_of (delete_table k id m o))

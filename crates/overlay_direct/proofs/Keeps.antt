@@ -1,8 +1,8 @@
 -- What a direct call leaves: an accepted one told by records, the parts that stay, and a sound overlay of bytes that stays one.
+use Rattle.std.specs.Prelude.{Ok, Some}
 use Prim.Native.Nat.{ℕ}
 use mathlib.Core.Path.{◌≡◌, refl, sym, ◌∙◌, ap}
 use mathlib.Core.Bool.{true}
-use mathlib.Core.Option.{some}
 use lib.IntN.{ℤ}
 use mir.Syntax.{w64}
 use mir.Val.{to_z}
@@ -30,7 +30,6 @@ use Rattle.interner.specs.declared.Interned.TheVariants as I
 use Rattle.interner.proofs.Interns as Interns
 use Rattle.kind_store.specs.KindStore.{KindStore, taken_in}
 use Rattle.kind_store.specs.KindStore as KindStore
-use Rattle.kind_store.specs.declared.Kept.TheVariants.{Taken}
 use Rattle.kind_store.proofs.KindStores.{delete_laid, push_laid, push_arena}
 use Rattle.kind_sound.proofs.Keeps as Sounds
 use Rattle.overlay_blocks.specs.Sizes.{largest}
@@ -39,7 +38,6 @@ use Rattle.overlay.specs.Given.{head_fits, meta_fits, InBytes}
 use Rattle.overlay.specs.Sound.{Sound, is_sound}
 use Rattle.overlay_store.specs.Calls.{bytes_of, handle_in}
 use Rattle.overlay_direct.specs.Calls.{push_on, delete_on, intern_on}
-use Rattle.overlay_store.specs.declared.Handle.TheVariants as H
 use Rattle.overlay.proofs.Answers.{by_kept, kind_store_back, strings_sound}
 use Rattle.overlay_store.proofs.Answers.{by_handle}
 use Rattle.overlay_direct.proofs.Answers.{by_push_on, push_stored, push_refused, push_taken, by_delete_on, delete_stored, delete_refused, delete_taken, by_intern_on, intern_refused, intern_taken}
@@ -55,14 +53,14 @@ use Rattle.overlay.proofs.Keeps.{more_sound, put_sound, put_bytes}
 pub record PushKept (k : Kind) (h : PushHead) (m : ArenaMeta) (parts : Bytes) (o : Overlay) : Type 0 where
   pub sound : is_sound o ≡ true
   pub held : Record ℕ
-  pub made : pushed_record k (head_in k h) (meta_of m) parts ≡ some held
+  pub made : pushed_record k (head_in k h) (meta_of m) parts ≡ Some held
   pub kind : kind_of held.body ≡ k
   pub meta : held.meta ≡ meta_of m
   pub lawful : legal o.texts.strings held ≡ true
   pub fits : fits_kept k (kept_as h held) ≡ true
   pub bytes : bytes_of k h m parts ≡ kept_bytes (kept_as h held)
   pub same : push_stored k h m parts o ≡ stored_as k o (kept_as h held)
-  pub stored : (stored_as k o (kept_as h held)).answer ≡ Taken
+  pub stored : (stored_as k o (kept_as h held)).answer ≡ (Ok tt)
   pub left : (push_on k h m parts o).overlay ≡ with_kind_store k (stored_as k o (kept_as h held)).kind_store o
 
 module _ (k : Kind) (h : PushHead) (m : ArenaMeta) (parts : Bytes) (o : Overlay) where
@@ -93,7 +91,7 @@ module _ (k : Kind) (h : PushHead) (m : ArenaMeta) (parts : Bytes) (o : Overlay)
 pub record DeleteKept (k : Kind) (id : ℤ) (m : Meta ℕ) (o : Overlay) : Type 0 where
   pub sound : is_sound o ≡ true
   pub lawful : legal_meta o.texts.strings m ≡ true
-  pub stored : (delete_stored k id m o).answer ≡ Taken
+  pub stored : (delete_stored k id m o).answer ≡ (Ok tt)
   pub left : (delete_on k id m o).overlay ≡ with_kind_store k (delete_stored k id m o).kind_store o
 
 pub delete_kept : (k : Kind) (id : ℤ) (m : Meta ℕ) (o : Overlay) → taken_in (delete_on k id m o).answer ≡ true → DeleteKept k id m o
@@ -105,16 +103,16 @@ pub record InternKept (t : Bytes) (o : Overlay) (n : ℕ) : Type 0 where
   pub lawful : is_text t ≡ true
   pub left : (intern_on t o).overlay ≡ with_texts (intern o.texts t).store o
   pub texts : texts_of (intern o.texts t).store ≡ take_in (texts_of o.texts) t
-  pub place : handle_of t (texts_of (intern o.texts t).store) ≡ some n
+  pub place : handle_of t (texts_of (intern o.texts t).store) ≡ Some n
   pub text : text_of (texts_of (intern o.texts t).store) n ≡ t
 
 -- the handle that an accepted answer gives
-is_handle : (i : Interned) (n : ℕ) → handle_in i ≡ H.Is n → (Texts.intern_accepted i ≡ true) × (Texts.handle_answered i ≡ some n)
+is_handle : (i : Interned) (n : ℕ) → handle_in i ≡ Ok n → (Texts.intern_accepted i ≡ true) × (Texts.handle_answered i ≡ Some n)
 is_handle (I.Held h) n e = (refl, cc)
 is_handle (I.New h) n e = (refl, cc)
 is_handle I.Full n e = no (cc)
 
-pub intern_kept : (t : Bytes) (o : Overlay) (n : ℕ) → (intern_on t o).answer ≡ H.Is n → InternKept t o n
+pub intern_kept : (t : Bytes) (o : Overlay) (n : ℕ) → (intern_on t o).answer ≡ Ok n → InternKept t o n
 intern_kept t o n e =
     let w = intern_taken t o n e in
     let s = strings_sound o w.0 in

@@ -1,4 +1,6 @@
 -- Each direct call's answers, place by place.
+use Rattle.std.specs.Prelude.{Result}
+use Rattle.refusal.specs.declared.Refusal.{Refusal}
 use Prim.Native.Nat.{ℕ}
 use mathlib.Core.Path.{◌≡◌}
 use mathlib.Core.Bool.{true, false}
@@ -14,7 +16,6 @@ use Rattle.compact.specs.Legal.{legal_meta}
 use Rattle.compact.specs.declared.ArenaMeta.{ArenaMeta}
 use Rattle.compact.specs.declared.PushHead.{PushHead}
 use Rattle.compact_legal.specs.Judge.{fault_for}
-use Rattle.compact_legal.specs.declared.Fault.{Fault}
 use Rattle.overlay.specs.Overlay.{Overlay}
 use Rattle.overlay.specs.Sound.{is_sound}
 use Rattle.overlay.specs.Calls.{OverlayAfter, overlay_refused}
@@ -40,7 +41,7 @@ module _ (o : Overlay) where
     unfolding push_on
     push_unsound e = rw e
 
-    pub push_judged : is_sound o ≡ true → (f : Fault) → fault_for o.texts.strings (pushed_record k (head_in k h) (meta_of m) parts) ≡ f
+    pub push_judged : is_sound o ≡ true → (f : Result Unit Refusal) → fault_for o.texts.strings (pushed_record k (head_in k h) (meta_of m) parts) ≡ f
         → (x : OverlayAfter) → x ≡ push_as f k h m parts o → x ≡ push_on k h m parts o
     unfolding push_on
     push_judged e f g x w = rw (e, g) w

@@ -1,4 +1,5 @@
 -- Sound overlays hold records: storage that is set up takes a node, and is sound with it.
+use Rattle.std.specs.Prelude.{Ok}
 use mathlib.Core.Path.{◌≡◌, refl, ◌∙◌, ap}
 use mathlib.Core.Bool.{true}
 use mathlib.Core.List.{[]}
@@ -20,11 +21,9 @@ use Rattle.compact.specs.Legal.{legal_meta, legal_handles, body_handles, legal_t
 use Rattle.compact.specs.declared.ArenaMeta.{ArenaMeta}
 use Rattle.compact.specs.declared.PushHead.{PushHead}
 use Rattle.compact_legal.specs.Judge.{fault_for}
-use Rattle.compact_legal.specs.declared.Fault.TheVariants as F
 use Rattle.kind_table.specs.Words.{held, halve, answer_at, lookup, stored, stored_at, count_after}
 use Rattle.compact_append.specs.Append.{append}
 use Rattle.kind_store.specs.KindStore.{kind_store_with, known_version, checked, id_room, rowed, record_joined, pushed, taken_in}
-use Rattle.kind_store.specs.declared.Kept.TheVariants.{Taken}
 use Rattle.kind_store.proofs.KindStores.{push_used}
 use Rattle.interner.specs.Strings.{store_with}
 use Rattle.overlay_blocks.specs.declared.KindSize.{KindSize}
@@ -80,11 +79,11 @@ head = record { id = 7; lat = 10; lon = 20; count = 0; tags = 0 }
 abbrev meta : ArenaMeta
 meta = record { flags = 9; version = 3; timestamp = 0; changeset = 0; uid = 0; user = 0 }
 
-legal_node : push_fault Node head meta [] begun ≡ F.Legal
+legal_node : push_fault Node head meta [] begun ≡ (Ok tt)
 unfolding fault_for pushed_record cut_parts cut_body then_cut times head_in node_head meta_of fault_of legal_handles legal_meta body_handles legal_texts in_range within_limits value_bytes both either all flagged same_id
 legal_node = refl
 
-stored_node : (push_stored Node head meta [] begun).answer ≡ Taken
+stored_node : (push_stored Node head meta [] begun).answer ≡ (Ok tt)
 unfolding pushed known_version lookup held halve answer_at both checked admit_of id_room record_joined append head_in node_head meta_of head_bytes meta_bytes claim_of flagged rank le
 stored_node = refl
 

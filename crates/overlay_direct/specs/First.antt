@@ -1,6 +1,5 @@
 -- The tables of the direct calls: "each call but lookups in lists, first: 22", then "direct call: 17 .., then 3, 10, 16", then the store (proofs/First).
-use Rattle.std.specs.Prelude.{ℕ, Bool, false, not, List, [], ◌∷◌, ◌++◌, ℤ}
-use Rattle.std.proofs.Math.Option.{Option, none, some}
+use Rattle.std.specs.Prelude.{ℕ, Bool, false, not, List, [], ◌∷◌, ◌++◌, ℤ, None, Option, Some}
 use Rattle.std.specs.Int.{w64}
 use Rattle.std.proofs.Common.{to_z}
 use Rattle.base.specs.Bytes.{Bytes}
@@ -28,8 +27,8 @@ intern_table t o = unsound_row o ∷ row R.NotText (not (is_text t)) ∷ text_ro
 -- ---- what is pushed: 17, 3, 10, 16. Parts that make no record are 17.
 
 abbrev pub passes : (Record ℕ → Bool) → Option (Record ℕ) → Bool
-passes p none = false
-passes p (some r) = p r
+passes p None = false
+passes p (Some r) = p r
 
 abbrev pub record_rows : ℕ → Option (Record ℕ) → List (ConditionRow Refusal)
 record_rows strings x =

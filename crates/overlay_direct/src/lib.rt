@@ -10,11 +10,8 @@ ghost use Rattle.overlay.specs.Lent.{lent, left};
 ghost use Rattle.overlay_direct.specs.Calls.{intern_on, push_on, delete_on};
 
 use compact::{ArenaMeta, PushHead};
-use compact_legal::Fault;
 use kind::Kind;
-use kind_store::Kept;
 use overlay_blocks::{COUNTERS, STRINGS};
-use overlay_store::Handle;
 use refusal::Refusal;
 
 // Takes a text in: 22, 3, 13, or its handle.
@@ -23,16 +20,14 @@ pub fn intern(
     bytes: &mut [u8],
     counters: &mut [u64; COUNTERS],
     text: &[u8],
-) -> Handle
+) -> Result<u64, Refusal>
     ensures { record { overlay = left words.new bytes.new counters.new; answer = result } ≡ intern_on text.now (lent words.old bytes.old counters.old) }
 {
-    if overlay::is_sound(words, bytes, counters) {
-        if text::is_text(text) {
-            return overlay_store::store_text(words, bytes, counters, text);
-        }
-        return Handle::Refused(Refusal::NotText);
+    overlay::check_sound(words, bytes, counters)?;
+    if text::is_text(text) {
+        return overlay_store::store_text(words, bytes, counters, text);
     }
-    Handle::Refused(Refusal::Unsound)
+    Err(Refusal::NotText)
 }
 
 // A direct push of a node, way or relation: 22; 17, 3, 10, 16; then 12, 14, 15.
@@ -44,22 +39,12 @@ pub fn push(
     head: PushHead,
     meta: ArenaMeta,
     parts: &[u8],
-) -> Kept
+) -> Result<(), Refusal>
     ensures { record { overlay = left words.new bytes.new counters.new; answer = result } ≡ push_on kind head meta parts.now (lent words.old bytes.old counters.old) }
 {
-    if overlay::is_sound(words, bytes, counters) {
-        let Fault::Refused(refusal) = compact_legal::push_fault(
-            kind,
-            head,
-            meta,
-            parts,
-            counters[STRINGS],
-        ) else {
-            return overlay_store::store_push(words, bytes, counters, kind, head, meta, parts);
-        };
-        return Kept::Refused(refusal);
-    }
-    Kept::Refused(Refusal::Unsound)
+    overlay::check_sound(words, bytes, counters)?;
+    compact_legal::push_fault(kind, head, meta, parts, counters[STRINGS])?;
+    overlay_store::store_push(words, bytes, counters, kind, head, meta, parts)
 }
 
 // A direct delete: 22; 17 of its metadata; then 12, 14.
@@ -70,15 +55,13 @@ pub fn delete(
     kind: Kind,
     id: u64,
     meta: ArenaMeta,
-) -> Kept
+) -> Result<(), Refusal>
     ensures { record { overlay = left words.new bytes.now counters.new; answer = result } ≡ delete_on kind (to_z w64 id) (meta_of meta) (lent words.old bytes.now counters.old) }
 {
-    if overlay::is_sound(words, bytes, counters) {
-        if compact_legal::legal_meta(meta, counters[STRINGS]) {
-            let claim = compact::claim(meta);
-            return overlay_store::store_delete(words, bytes, counters, kind, id, claim);
-        }
-        return Kept::Refused(Refusal::BadRecord);
+    overlay::check_sound(words, bytes, counters)?;
+    if compact_legal::legal_meta(meta, counters[STRINGS]) {
+        let claim = compact::claim(meta);
+        return overlay_store::store_delete(words, bytes, counters, kind, id, claim);
     }
-    Kept::Refused(Refusal::Unsound)
+    Err(Refusal::BadRecord)
 }

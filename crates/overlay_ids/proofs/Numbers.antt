@@ -1,4 +1,5 @@
 -- The rows of a list, row by row, are the readings by number, one after the other.
+use Rattle.std.specs.Prelude.{Ok}
 use Prim.Native.Nat.{ℕ, suc, ◌+◌, ◌<◌, ◌≤◌, min}
 use mathlib.Core.Path.{◌≡◌, refl, ap}
 use mathlib.Core.Bool.{true}
@@ -17,7 +18,6 @@ use Rattle.kind_reading.specs.declared.Side.{Side}
 use Rattle.kind_reading.proofs.Lists.{nth_at}
 use Rattle.overlay.specs.Overlay.{Overlay, kind_store_of}
 use Rattle.overlay.specs.Sound.{is_sound}
-use Rattle.overlay_reading.specs.declared.Read.TheVariants.{Is}
 use Rattle.overlay_reading.specs.Reading.{count_on, id_on, known_on}
 use Rattle.overlay_ids.specs.Bulk.{AllIds, each_number, id_of_number, version_of_number, not_written, all_ids_on}
 use Rattle.overlay_ids.specs.Rows.{row_id, row_version, rows_listed, kind_ids}
@@ -41,7 +41,7 @@ each_row f g (r ∷ rs) i h =
 -- one kind's list, written or not
 module _ (k : Kind) (side : Side) (s : KindStore) (ids versions : List ℕ) (n : ℕ) (e : n ≡ length (rows_listed side s)) where
   pub kind_written : (a b : List ℕ) → n ≤ min (length ids) (length versions) → a ≡ over ids 0 (map row_id (rows_listed side s)) → b ≡ over versions 0 (map (row_version k s) (rows_listed side s))
-      → ◌≡◌ {A = AllIds} (record { ids = a; versions = b; answer = Is n }) (kind_ids k side s ids versions)
+      → ◌≡◌ {A = AllIds} (record { ids = a; versions = b; answer = Ok n }) (kind_ids k side s ids versions)
   unfolding kind_ids
   kind_written a b h p q = rw (le-leb (length (rows_listed side s)) (min (length ids) (length versions)) (omega arith), ← e, ← p, ← q)
 

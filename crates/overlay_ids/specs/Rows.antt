@@ -1,5 +1,5 @@
 -- One kind's list as the code goes about it, row by row. In sound storage it is what the readings by number give (proofs/Numbers, `rows_numbers`).
-use Rattle.std.specs.Prelude.{ℕ, min, cond, List, map, leb, length}
+use Rattle.std.specs.Prelude.{ℕ, min, cond, List, map, leb, length, Ok}
 use Rattle.std.specs.Int.{w64}
 use Rattle.std.proofs.Common.{to_z, of_z}
 use Rattle.kind.specs.declared.Kind.{Kind}
@@ -11,7 +11,6 @@ use Rattle.kind_table.specs.declared.Row.{Row}
 use Rattle.kind_store.specs.KindStore.{KindStore, known_version}
 use Rattle.kind_reading.specs.declared.Side.{Side}
 use Rattle.kind_reading.specs.Listed.{rows_read, rows_on}
-use Rattle.overlay_reading.specs.declared.Read.TheVariants.{Is}
 use Rattle.overlay_ids.specs.Bulk.{AllIds, not_written}
 
 -- the bits of a row's id
@@ -28,5 +27,5 @@ rows_listed side s = rows_on side (rows_read s.table s.ids)
 unfoldable pub kind_ids : Kind → Side → KindStore → List ℕ → List ℕ → AllIds
 kind_ids k side s ids versions =
     cond (leb (length (rows_listed side s)) (min (length ids) (length versions)))
-    (record { ids = over ids 0 (map row_id (rows_listed side s)); versions = over versions 0 (map (row_version k s) (rows_listed side s)); answer = Is (length (rows_listed side s)) })
+    (record { ids = over ids 0 (map row_id (rows_listed side s)); versions = over versions 0 (map (row_version k s) (rows_listed side s)); answer = Ok (length (rows_listed side s)) })
     (not_written ids versions R.ShortOutput)

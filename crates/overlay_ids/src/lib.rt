@@ -18,7 +18,6 @@ use kind::Kind;
 use kind_reading::Side;
 use kind_table::Row;
 use overlay_blocks::COUNTERS;
-use overlay_reading::Read;
 use refusal::Refusal;
 
 // The bits of a row's id.
@@ -52,11 +51,9 @@ fn put_rows(
         (map (row_version kind (kind_store_with table.now count arena.now used)) (rows_on side (rows_read table.now count)))) }
 {
     let end = little::lesser(count as usize, table.len() / 3);
-    let mut i: usize = 0;
     let mut n: usize = 0;
-    while i < end {
+    for i in 0..end {
         let row = kind_table::row_at(table, i);
-        i += 1;
         if kind_reading::is_on(side, row) {
             let id = row_id(row);
             ids[n] = id;
@@ -76,16 +73,16 @@ fn put_kind(
     arena: &[u8],
     ids: &mut [u64],
     versions: &mut [u64],
-) -> Read
+) -> Result<u64, Refusal>
     ensures { (used : ℕ) → record { ids = ids.new; versions = versions.new; answer = result }
         ≡ kind_ids kind side (kind_store_with table.now count arena.now used) ids.old versions.old }
 {
     let n = kind_reading::count_on(side, table, count);
     if n <= little::lesser(ids.len(), versions.len()) as u64 {
         put_rows(kind, side, table, count, arena, ids, versions);
-        return Read::Is(n);
+        return Ok(n);
     }
-    Read::Refused(Refusal::ShortOutput)
+    Err(Refusal::ShortOutput)
 }
 
 // The list of one kind of the three.
@@ -97,7 +94,7 @@ fn put_one(
     side: Side,
     ids: &mut [u64],
     versions: &mut [u64],
-) -> Read
+) -> Result<u64, Refusal>
     ensures { record { ids = ids.new; versions = versions.new; answer = result }
         ≡ kind_ids kind side (kind_store_of kind (lent words.now bytes.now counters.now)) ids.old versions.old }
 {
@@ -127,12 +124,10 @@ pub fn all_ids(
     side: Side,
     ids: &mut [u64],
     versions: &mut [u64],
-) -> Read
+) -> Result<u64, Refusal>
     ensures { record { ids = ids.new; versions = versions.new; answer = result }
         ≡ all_ids_on kind side ids.old versions.old (lent words.now bytes.now counters.now) }
 {
-    if overlay::is_sound(words, bytes, counters) {
-        return put_one(words, bytes, counters, kind, side, ids, versions);
-    }
-    Read::Refused(Refusal::Unsound)
+    overlay::check_sound(words, bytes, counters)?;
+    put_one(words, bytes, counters, kind, side, ids, versions)
 }

@@ -1,8 +1,8 @@
 -- T4: each reading is refused by the first condition of its table that holds, and answered where none holds.
+use Rattle.std.specs.Prelude.{Err, None, Ok, Result}
 use Prim.Native.Nat.{ℕ}
 use mathlib.Core.Path.{◌≡◌, refl, ◌∙◌, ap}
 use mathlib.Core.Bool.{Bool, true, false}
-use mathlib.Core.Option.{none}
 use lib.IntN.{ℤ}
 use lib.ListN.{length}
 use mir.Syntax.{w64}
@@ -15,17 +15,13 @@ use Rattle.refusal.specs.declared.Refusal.{Refusal}
 use Rattle.interner.proofs.Interns.{resolved, unheld}
 use Rattle.kind_reading.specs.declared.Side.{Side}
 use Rattle.kind_reading.specs.declared.Side.TheVariants.{Live}
-use Rattle.kind_reading.specs.declared.View.{View}
-use Rattle.kind_reading.specs.declared.View.TheVariants as view
-use Rattle.kind_reading.specs.Listed.{rows_read, rows_on}
+use Rattle.kind_reading.specs.Listed.{View, rows_read, rows_on}
 use Rattle.kind_reading.proofs.Lists.{nth_at, missing_is}
 use Rattle.overlay.specs.Overlay.{Overlay, kind_store_of}
 use Rattle.overlay.specs.Given.{InBytes}
 use Rattle.overlay.specs.Sound.{is_sound}
 use Rattle.overlay.proofs.Answers.{strings_sound}
 use Rattle.overlay.proofs.Decides.{decides}
-use Rattle.overlay_reading.specs.declared.Read.{Read}
-use Rattle.overlay_reading.specs.declared.Read.TheVariants.{Is}
 use Rattle.overlay_reading.specs.Reading.{checked_read, no_ids, is_live_now, is_deleted_now, standing_in, yes, count_in, count_on, is_empty_on, id_on, record_on, get_on, has_on, is_deleted_on, known_on, text_on}
 use Rattle.overlay_reading.specs.First.{read_refusal, view_refusal, read_table, number_table}
 use Rattle.overlay_reading.proofs.Records.{get_given}
@@ -33,19 +29,19 @@ use Rattle.overlay_reading.proofs.Numbers.{record_row, record_missing, counted}
 
 -- ---- 22 alone
 
-yes_given : (b : Bool) → read_refusal (yes b) ≡ none
+yes_given : (b : Bool) → read_refusal (yes b) ≡ None
 yes_given true = refl
 yes_given false = refl
 
 module _ (o : Overlay) where
   -- what is read after the test is no refusal
-  pub read_first : (x : Read) → read_refusal x ≡ none → read_refusal (checked_read o x) ≡ first_of (read_table o)
+  pub read_first : (x : Result ℕ Refusal) → read_refusal x ≡ None → read_refusal (checked_read o x) ≡ first_of (read_table o)
   unfolding first_of
   read_first x e = by_bool (is_sound o) (λ s. rw s e) (λ s. rw s)
 
   pub count_first : (k : Kind) (side : Side) → read_refusal (count_on k side o) ≡ first_of (read_table o)
   unfolding count_on
-  count_first k side = read_first (Is (count_in side (kind_store_of k o))) refl
+  count_first k side = read_first (Ok (count_in side (kind_store_of k o))) refl
 
   pub empty_first : read_refusal (is_empty_on o) ≡ first_of (read_table o)
   unfolding is_empty_on
@@ -61,13 +57,12 @@ module _ (o : Overlay) where
 
   pub known_first : (k : Kind) (id : ℤ) → read_refusal (known_on k id o) ≡ first_of (read_table o)
   unfolding known_on
-  known_first k id = read_first (Is _) refl
+  known_first k id = read_first (Ok _) refl
 
 -- a view that is no refusal
-view_given : (v : View) → ((r : Refusal) → v ≡ view.Refused r → ⊥) → view_refusal v ≡ none
-view_given (view.Part start len) h = refl
-view_given view.Nothing h = refl
-view_given (view.Refused r) h = absurd (h r refl)
+view_given : (v : View) → ((r : Refusal) → v ≡ Err r → ⊥) → view_refusal v ≡ None
+view_given (Ok o) h = refl
+view_given (Err r) h = absurd (h r refl)
 
 module _ (o : Overlay) (b : InBytes o) (k : Kind) where
   pub get_first : (id : ℤ) → SFits w64 id → view_refusal (get_on k id o) ≡ first_of (read_table o)
@@ -101,7 +96,7 @@ module _ (o : Overlay) (b : InBytes o) (k : Kind) (n : ℕ) where
   abbrev live : ℕ
   live = count_in Live (kind_store_of k o)
 
-  live_is : is_sound o ≡ true → count_on k Live o ≡ Is live
+  live_is : is_sound o ≡ true → count_on k Live o ≡ Ok live
   unfolding count_on
   live_is s = rw s
 

@@ -1,4 +1,5 @@
 -- In a sound overlay the view of a handle is its text, and 21 is given exactly where the handle is not held.
+use Rattle.std.specs.Prelude.{Err, Ok, Some}
 use Prim.Native.Nat.{ℕ, ◌+◌, ◌<◌, ◌≤◌}
 use mathlib.Core.Path.{◌≡◌, sym, ◌∙◌}
 use mathlib.Core.Logic.{◌↔◌}
@@ -11,7 +12,7 @@ use Rattle.interner.specs.Sound.{texts_of}
 use Rattle.interner.specs.Texts.{text_of}
 use Rattle.interner.proofs.Interns.{sound_parts, text_at, resolved, unheld}
 use Rattle.refusal.specs.declared.Refusal.TheVariants as R
-use Rattle.kind_reading.specs.declared.View.TheVariants.{Part, Refused}
+use Rattle.kind_reading.specs.Listed.{View}
 use Rattle.kind_reading.proofs.Views.{part_used}
 use Rattle.overlay.specs.Overlay.{Overlay}
 use Rattle.overlay.specs.Given.{InBytes}
@@ -26,7 +27,7 @@ module _ (o : Overlay) (b : InBytes o) (w : Sound o) (h : ℕ) where
   abbrev long : ℕ
   long = length_of o.texts.spans h
 
-  pub text_is : h < o.texts.strings → text_on h o ≡ Part start long
+  pub text_is : h < o.texts.strings → text_on h o ≡ Ok (Some (record { start = start; len = long }))
   unfolding text_on
   text_is l = rw ((decides o b).1 w, resolved o.texts (sound_parts o.texts w.strings) h l)
 
@@ -38,9 +39,9 @@ module _ (o : Overlay) (b : InBytes o) (w : Sound o) (h : ℕ) where
       let m = length-take o.texts.used o.texts.bytes in
       sym (part_used start long o.texts.used o.texts.bytes (omega arith)) ∙ sym (text_at o.texts h l)
 
-  pub text_missing : (text_on h o ≡ Refused R.NoSuchNumber) ↔ (o.texts.strings ≤ h)
+  pub text_missing : (text_on h o ≡ Err R.NoSuchNumber) ↔ (o.texts.strings ≤ h)
   unfolding text_on
   text_missing = (
-    λ e. by_lt h o.texts.strings (λ l. let z : Part start long ≡ Refused R.NoSuchNumber = sym (text_is l) ∙ e in no cc) (λ l. l),
+    λ e. by_lt h o.texts.strings (λ l. let z : ◌≡◌ {A = View} (Ok (Some (record { start = start; len = long }))) (Err R.NoSuchNumber) = sym (text_is l) ∙ e in no cc) (λ l. l),
     λ l. rw ((decides o b).1 w, unheld o.texts h l),
   )

@@ -1,25 +1,20 @@
 -- The tables of the readings: "each call but lookups in lists, first: 22"; then "21 number not below its list's count" (proofs/First).
-use Rattle.std.specs.Prelude.{ℕ, not, List, [], ◌∷◌, ltb}
-use Rattle.std.proofs.Math.Option.{Option, none, some}
+use Rattle.std.specs.Prelude.{ℕ, not, List, [], ◌∷◌, ltb, Err, None, Ok, Option, Result, Some}
 use Rattle.refusal.specs.First.{ConditionRow, row}
 use Rattle.refusal.specs.declared.Refusal.{Refusal}
 use Rattle.refusal.specs.declared.Refusal.TheVariants as R
-use Rattle.kind_reading.specs.declared.View.{View}
-use Rattle.kind_reading.specs.declared.View.TheVariants as view
+use Rattle.kind_reading.specs.Listed.{View}
 use Rattle.overlay.specs.Overlay.{Overlay}
 use Rattle.overlay.specs.First.{unsound_row}
-use Rattle.overlay_reading.specs.declared.Read.{Read}
-use Rattle.overlay_reading.specs.declared.Read.TheVariants.{Is, Refused}
 
 -- the refusal of what is read, if it is one
-abbrev pub read_refusal : Read → Option Refusal
-read_refusal (Is n) = none
-read_refusal (Refused r) = some r
+abbrev pub read_refusal : Result ℕ Refusal → Option Refusal
+read_refusal (Ok n) = None
+read_refusal (Err r) = Some r
 
 abbrev pub view_refusal : View → Option Refusal
-view_refusal (view.Part start len) = none
-view_refusal view.Nothing = none
-view_refusal (view.Refused r) = some r
+view_refusal (Ok o) = None
+view_refusal (Err r) = Some r
 
 -- 21, of a number on a list of so many
 abbrev pub number_rows : ℕ → ℕ → List (ConditionRow Refusal)

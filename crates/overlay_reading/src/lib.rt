@@ -11,19 +11,12 @@ ghost use Rattle.overlay.specs.Lent.{lent};
 ghost use Rattle.overlay.specs.Overlay.{kind_store_of};
 ghost use Rattle.overlay_reading.specs.Reading.{yes, count_in, count_on, is_empty_on, row_in, id_read, id_on, view_in, record_on, standing_in, get_on, is_live_now, has_on, is_deleted_now, is_deleted_on, known_on, text_view, text_on};
 
-use interner::Span;
 use kind::Kind;
-use kind_reading::{Nth, Side, Standing, View};
+use kind_reading::{Side, Standing};
+use kind_table::Row;
+use little::Span;
 use overlay_blocks::{ARENA, COUNTERS, STRING_BYTES, STRINGS};
 use refusal::Refusal;
-use version_floor::Version;
-
-// A number that was read, or a refusal.
-#[derive(Clone, Copy)]
-pub enum Read {
-    Is(u64),
-    Refused(Refusal),
-}
 
 // ---- one kind of the three
 
@@ -46,7 +39,7 @@ fn row_in(
     kind: Kind,
     side: Side,
     n: u64,
-) -> Nth
+) -> Option<Row>
     ensures { result ≡ row_in side n (kind_store_of kind (lent words.now bytes.now counters.now)) }
 {
     let p = overlay_blocks::part_in(kind, counters, words.len(), bytes.len());
@@ -74,7 +67,13 @@ fn standing_in(
 }
 
 // The view of a kind's record.
-fn view_in(words: &[u64], bytes: &[u8], counters: &[u64; COUNTERS], kind: Kind, offset: u64) -> View
+fn view_in(
+    words: &[u64],
+    bytes: &[u8],
+    counters: &[u64; COUNTERS],
+    kind: Kind,
+    offset: u64,
+) -> Result<Option<Span>, Refusal>
     ensures { result ≡ view_in (get_or counters.now 6 0) kind (kind_store_of kind (lent words.now bytes.now counters.now)) offset }
 {
     let p = overlay_blocks::part_in(kind, counters, words.len(), bytes.len());
@@ -97,7 +96,7 @@ fn version_in(
     counters: &[u64; COUNTERS],
     kind: Kind,
     id: u64,
-) -> Version
+) -> Option<i32>
     ensures { result ≡ known_version kind (kind_store_of kind (lent words.now bytes.now counters.now)) (to_z w64 id) }
 {
     let p = overlay_blocks::part_in(kind, counters, words.len(), bytes.len());
@@ -118,39 +117,39 @@ pub fn count(
     counters: &[u64; COUNTERS],
     kind: Kind,
     side: Side,
-) -> Read
+) -> Result<u64, Refusal>
     ensures { result ≡ count_on kind side (lent words.now bytes.now counters.now) }
 {
     if overlay::is_sound(words, bytes, counters) {
-        return Read::Is(count_in(words, bytes, counters, kind, side));
+        return Ok(count_in(words, bytes, counters, kind, side));
     }
-    Read::Refused(Refusal::Unsound)
+    Err(Refusal::Unsound)
 }
 
-fn yes(b: bool) -> Read
+fn yes(b: bool) -> Result<u64, Refusal>
     ensures { result ≡ yes b }
 {
-    if b { Read::Is(1) } else { Read::Is(0) }
+    if b { Ok(1) } else { Ok(0) }
 }
 
 // Whether no id of any kind is known.
-pub fn is_empty(words: &[u64], bytes: &[u8], counters: &[u64; COUNTERS]) -> Read
+pub fn is_empty(words: &[u64], bytes: &[u8], counters: &[u64; COUNTERS]) -> Result<u64, Refusal>
     ensures { result ≡ is_empty_on (lent words.now bytes.now counters.now) }
 {
     if overlay::is_sound(words, bytes, counters) {
         return yes((counters[0] == 0) & ((counters[1] == 0) & (counters[2] == 0)));
     }
-    Read::Refused(Refusal::Unsound)
+    Err(Refusal::Unsound)
 }
 
 // ---- ids and records by number
 
-fn id_read(nth: Nth) -> Read
+fn id_read(nth: Option<Row>) -> Result<u64, Refusal>
     ensures { result ≡ id_read nth }
 {
     match nth {
-        Nth::At(row) => Read::Is(signed::bits_of_i64(osm_id::osm_id_of_rank(row.rank))),
-        Nth::Missing => Read::Refused(Refusal::NoSuchNumber),
+        Some(row) => Ok(signed::bits_of_i64(osm_id::osm_id_of_rank(row.rank))),
+        None => Err(Refusal::NoSuchNumber),
     }
 }
 
@@ -162,13 +161,13 @@ pub fn id_at(
     kind: Kind,
     side: Side,
     n: u64,
-) -> Read
+) -> Result<u64, Refusal>
     ensures { result ≡ id_on kind side n (lent words.now bytes.now counters.now) }
 {
     if overlay::is_sound(words, bytes, counters) {
         return id_read(row_in(words, bytes, counters, kind, side, n));
     }
-    Read::Refused(Refusal::Unsound)
+    Err(Refusal::Unsound)
 }
 
 // The view of the record of the n-th live id of a kind, or 21.
@@ -178,31 +177,37 @@ pub fn record_at(
     counters: &[u64; COUNTERS],
     kind: Kind,
     n: u64,
-) -> View
+) -> Result<Option<Span>, Refusal>
     ensures { result ≡ record_on kind n (lent words.now bytes.now counters.now) }
 {
     if overlay::is_sound(words, bytes, counters) {
-        let Nth::At(row) = row_in(words, bytes, counters, kind, Side::Live, n) else {
-            return View::Refused(Refusal::NoSuchNumber);
+        let Some(row) = row_in(words, bytes, counters, kind, Side::Live, n) else {
+            return Err(Refusal::NoSuchNumber);
         };
         return view_in(words, bytes, counters, kind, row.place);
     }
-    View::Refused(Refusal::Unsound)
+    Err(Refusal::Unsound)
 }
 
 // ---- by id, which is given in bits
 
 // The view of an id's record, if the id is live.
-pub fn get(words: &[u64], bytes: &[u8], counters: &[u64; COUNTERS], kind: Kind, id: u64) -> View
+pub fn get(
+    words: &[u64],
+    bytes: &[u8],
+    counters: &[u64; COUNTERS],
+    kind: Kind,
+    id: u64,
+) -> Result<Option<Span>, Refusal>
     ensures { result ≡ get_on kind (to_z w64 id) (lent words.now bytes.now counters.now) }
 {
     if overlay::is_sound(words, bytes, counters) {
         let Standing::Live(at) = standing_in(words, bytes, counters, kind, id) else {
-            return View::Nothing;
+            return Ok(None);
         };
         return view_in(words, bytes, counters, kind, at);
     }
-    View::Refused(Refusal::Unsound)
+    Err(Refusal::Unsound)
 }
 
 fn is_live_now(standing: Standing) -> bool
@@ -224,13 +229,19 @@ fn is_deleted_now(standing: Standing) -> bool
 }
 
 // Whether an id is live.
-pub fn has(words: &[u64], bytes: &[u8], counters: &[u64; COUNTERS], kind: Kind, id: u64) -> Read
+pub fn has(
+    words: &[u64],
+    bytes: &[u8],
+    counters: &[u64; COUNTERS],
+    kind: Kind,
+    id: u64,
+) -> Result<u64, Refusal>
     ensures { result ≡ has_on kind (to_z w64 id) (lent words.now bytes.now counters.now) }
 {
     if overlay::is_sound(words, bytes, counters) {
         return yes(is_live_now(standing_in(words, bytes, counters, kind, id)));
     }
-    Read::Refused(Refusal::Unsound)
+    Err(Refusal::Unsound)
 }
 
 // Whether an id is deleted.
@@ -240,13 +251,13 @@ pub fn is_deleted(
     counters: &[u64; COUNTERS],
     kind: Kind,
     id: u64,
-) -> Read
+) -> Result<u64, Refusal>
     ensures { result ≡ is_deleted_on kind (to_z w64 id) (lent words.now bytes.now counters.now) }
 {
     if overlay::is_sound(words, bytes, counters) {
         return yes(is_deleted_now(standing_in(words, bytes, counters, kind, id)));
     }
-    Read::Refused(Refusal::Unsound)
+    Err(Refusal::Unsound)
 }
 
 // The known version of an id as a word: below 2^32 its bits, else none.
@@ -256,29 +267,35 @@ pub fn known_version(
     counters: &[u64; COUNTERS],
     kind: Kind,
     id: u64,
-) -> Read
+) -> Result<u64, Refusal>
     ensures { result ≡ known_on kind (to_z w64 id) (lent words.now bytes.now counters.now) }
 {
     if overlay::is_sound(words, bytes, counters) {
         let version = version_in(words, bytes, counters, kind, id);
-        return Read::Is(version_floor::version_word(version));
+        return Ok(version_floor::version_word(version));
     }
-    Read::Refused(Refusal::Unsound)
+    Err(Refusal::Unsound)
 }
 
 // ---- texts
 
-fn text_view(span: Span) -> View
+fn text_view(span: Option<Span>) -> Result<Option<Span>, Refusal>
     ensures { result ≡ text_view span }
 {
     match span {
-        Span::Part { start, len } => View::Part { start, len },
-        Span::Missing => View::Refused(Refusal::NoSuchNumber),
+        Some(_) => Ok(span),
+        None => Err(Refusal::NoSuchNumber),
     }
 }
 
 // The view of a handle's text among the used bytes of the strings, or 21.
-fn text_at(spans: &[u64], strings: &[u8], count: u64, used: u64, handle: u64) -> View
+fn text_at(
+    spans: &[u64],
+    strings: &[u8],
+    count: u64,
+    used: u64,
+    handle: u64,
+) -> Result<Option<Span>, Refusal>
     ensures { result ≡ text_view (span_of spans.now (take used strings.now) count handle) }
 {
     let n = little::lesser(used as usize, strings.len());
@@ -286,7 +303,12 @@ fn text_at(spans: &[u64], strings: &[u8], count: u64, used: u64, handle: u64) ->
 }
 
 // The same over what the blocks have of the strings.
-fn text_in(words: &[u64], bytes: &[u8], counters: &[u64; COUNTERS], handle: u64) -> View
+fn text_in(
+    words: &[u64],
+    bytes: &[u8],
+    counters: &[u64; COUNTERS],
+    handle: u64,
+) -> Result<Option<Span>, Refusal>
     ensures { result ≡ text_view (span_of (lent words.now bytes.now counters.now).texts.spans (used_of (lent words.now bytes.now counters.now).texts) (lent words.now bytes.now counters.now).texts.strings handle) }
 {
     let t = overlay_blocks::texts_in(counters, words.len(), bytes.len());
@@ -302,11 +324,16 @@ fn text_in(words: &[u64], bytes: &[u8], counters: &[u64; COUNTERS], handle: u64)
 }
 
 // Where the text of a handle lies among the string bytes, or 21.
-pub fn text(words: &[u64], bytes: &[u8], counters: &[u64; COUNTERS], handle: u64) -> View
+pub fn text(
+    words: &[u64],
+    bytes: &[u8],
+    counters: &[u64; COUNTERS],
+    handle: u64,
+) -> Result<Option<Span>, Refusal>
     ensures { result ≡ text_on handle (lent words.now bytes.now counters.now) }
 {
     if overlay::is_sound(words, bytes, counters) {
         return text_in(words, bytes, counters, handle);
     }
-    View::Refused(Refusal::Unsound)
+    Err(Refusal::Unsound)
 }

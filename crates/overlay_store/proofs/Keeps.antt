@@ -1,8 +1,8 @@
 -- What the store leaves: a record under its id, an arena that a delete leaves, and strings no fewer than before.
+use Rattle.std.specs.Prelude.{None, Option, Some}
 use Prim.Native.Nat.{ℕ, ◌≤◌}
 use mathlib.Core.Path.{◌≡◌, refl, sym, ◌∙◌, ap}
 use mathlib.Core.Bool.{true}
-use mathlib.Core.Option.{Option, none, some}
 use native.Mathlib.Omega.{arith}
 use lib.IntN.{ℤ}
 use lib.ListN.{length}
@@ -14,7 +14,6 @@ use Rattle.little.specs.Little.{is_byte}
 use Rattle.little.proofs.Overs.{length_over}
 use Rattle.kind.specs.declared.Kind.{Kind}
 use Rattle.kind.proofs.Numbers.{same_refl}
-use Rattle.version_floor.specs.declared.Version.{Version}
 use Rattle.model.specs.Record.{Record, claim_of}
 use Rattle.compact.specs.Cut.{KeptRecord, pushed_record}
 use Rattle.compact.specs.Fits.{fitting, fits_kept}
@@ -49,7 +48,7 @@ stored_as k o x = KindStore.pushed k o.setting (kind_store_of k o) x.id (claim_o
 
 -- what a push gives for a record is that record's bytes, under the id given
 pub record_given : (k : Kind) (h : PushHead) (m : ArenaMeta) (parts : Bytes) (r : Record ℕ) → head_fits h ≡ true → meta_fits m ≡ true → all is_byte parts ≡ true
-    → pushed_record k (head_in k h) (meta_of m) parts ≡ some r → (bytes_of k h m parts ≡ kept_bytes (kept_as h r)) × (fits_kept k (kept_as h r) ≡ true)
+    → pushed_record k (head_in k h) (meta_of m) parts ≡ Some r → (bytes_of k h m parts ≡ kept_bytes (kept_as h r)) × (fits_kept k (kept_as h r) ≡ true)
 unfolding fits_kept
 record_given k h m parts r f g b e =
     let y = pushed_bytes k (head_in k h) (meta_of m) parts r b (head_given h k f) (meta_given m g) e in
@@ -60,7 +59,7 @@ record_given k h m parts r f g b e =
 -- ---- a delete
 
 -- a delete writes no byte
-pub delete_arena : (k : Kind) (setting : ℕ) (s : KindStore) (id : ℤ) (claim : Version) → (KindStore.deleted k setting s id claim).kind_store.arena ≡ s.arena
+pub delete_arena : (k : Kind) (setting : ℕ) (s : KindStore) (id : ℤ) (claim : Option ℤ) → (KindStore.deleted k setting s id claim).kind_store.arena ≡ s.arena
 unfolding rowed
 delete_arena k setting s id claim = Acts.by_delete k setting s id claim (λ v c w. rw w) (λ c r w. rw w) (λ c r w. rw w)
 
@@ -77,8 +76,8 @@ module _ (s : Store) (t : Bytes) (p : Interns.Sound s) where
   by_intern {C} f g = go (handle_of t (texts_of s)) refl
     where
       go : (x : Option ℕ) → handle_of t (texts_of s) ≡ x → C
-      go (some h) e = f (ap (λ (z : Strings.StoreAfter). z.store) (Interns.does_held s t p h e))
-      go none e =
+      go (Some h) e = f (ap (λ (z : Strings.StoreAfter). z.store) (Interns.does_held s t p h e))
+      go None e =
           by_bool (text_room s t)
           (λ r. g (ap (λ (z : Strings.StoreAfter). z.store) (Interns.does_new s t p e r)))
           (λ r. f (ap (λ (z : Strings.StoreAfter). z.store) (Interns.does_full s t p e r)))

@@ -1,4 +1,6 @@
 -- Laws of an overlay by its parts, as the functions are lent them.
+use Rattle.refusal.specs.declared.Refusal.{Refusal}
+use Rattle.std.specs.Prelude.{Option, Result}
 use Prim.Native.Nat.{ℕ, ◌+◌, ◌-◌, ◌<◌}
 use mathlib.Core.Path.{◌≡◌, refl, ◌∙◌}
 use mathlib.Core.List.{List}
@@ -12,7 +14,6 @@ use Rattle.kind.specs.declared.Kind.{Kind}
 use Rattle.interner.specs.Strings as Strings
 use Rattle.interner.specs.declared.Taken.{Taken}
 use Rattle.kind_store.specs.KindStore as KindStore
-use Rattle.kind_store.specs.declared.Kept.{Kept}
 use Rattle.overlay_blocks.specs.declared.KindPart.{KindPart}
 use Rattle.overlay_blocks.specs.declared.TextPart.{TextPart}
 use Rattle.overlay_blocks.specs.Blocks.{cut, sizes_in, part_in, text_part_in}
@@ -20,7 +21,6 @@ use Rattle.overlay.specs.Overlay.{kind_store_of}
 use Rattle.overlay.specs.Lent.{kind_store_in, overlay_in}
 use Rattle.overlay.proofs.Puts.{Others, kind_store_in_lem, kind_put, texts_lent, texts_put}
 use Rattle.overlay_store.specs.Calls.{on_kind_store, handle_in, store_text, bytes_of, store_push, store_delete}
-use Rattle.version_floor.specs.declared.Version.{Version}
 use Rattle.model.specs.Record.{claim_of}
 use Rattle.compact.specs.Held.{meta_of}
 use Rattle.compact.specs.declared.ArenaMeta.{ArenaMeta}
@@ -28,7 +28,6 @@ use Rattle.compact.specs.declared.PushHead.{PushHead}
 use lib.IntN.{ℤ}
 use mir.Syntax.{w64}
 use mir.Val.{to_z}
-use Rattle.overlay_store.specs.declared.Handle.{Handle}
 
 -- ---- two counters written
 
@@ -44,7 +43,7 @@ module _ (c : List ℕ) (n : ℕ) (long : length c ≡ n) (i j a b : ℕ) where
 
 -- a kind's counters hold what its kind store counts
 pub counted_at : (c : List ℕ) → length c ≡ 17 → (at : ℕ) → at < 3 → (d : List ℕ) (ids used : ℕ) → d ≡ set (set c at ids) (at + 3) used
-    → (table : List ℕ) (arena : Bytes) (r : Kept) (x : KindStore.KindStoreAfter) → record { kind_store = KindStore.kind_store_with table ids arena used; answer = r } ≡ x
+    → (table : List ℕ) (arena : Bytes) (r : Result Unit Refusal) (x : KindStore.KindStoreAfter) → record { kind_store = KindStore.kind_store_with table ids arena used; answer = r } ≡ x
     → (record { kind_store = KindStore.kind_store_with table (get_or d at 0) arena (get_or d (at + 3) 0); answer = r } ≡ x) × Others at (at + 3) c d
 counted_at c long at h d ids used e table arena r x f =
     rw (e, first_stored c 17 long at (at + 3) ids used (omega arith) (λ q. omega (arith, q)), second_stored c 17 long at (at + 3) ids used (omega arith))
@@ -54,7 +53,7 @@ counted_at c long at h d ids used e table arena r x f =
 
 -- what is lent of a kind comes to the overlay
 pub kind_after : (k : Kind) (words bytes c d : List ℕ) (p : KindPart) → p ≡ part_in k (sizes_in c) (length words) (length bytes) → (table arena : List ℕ)
-    → length table ≡ length (cut p.from p.to words) → length arena ≡ length (cut p.first p.end bytes) → (r : Kept) (f : KindStore.KindStore → KindStore.KindStoreAfter)
+    → length table ≡ length (cut p.from p.to words) → length arena ≡ length (cut p.first p.end bytes) → (r : Result Unit Refusal) (f : KindStore.KindStore → KindStore.KindStoreAfter)
     → (record { kind_store = KindStore.kind_store_with table (get_or d p.at 0) arena (get_or d (p.at + 3) 0); answer = r }
     ≡ f (kind_store_in p words bytes c)) × Others p.at (p.at + 3) c d
     → record { overlay = overlay_in (put_mid p.from (p.to - p.from) words table) (put_mid p.first (p.end - p.first) bytes arena) d; answer = r }
@@ -65,7 +64,7 @@ kind_after k words bytes c d p q table arena m n r f h =
 -- ---- the strings changed
 
 pub texts_after : (words bytes c d : List ℕ) → length c ≡ 17 → (e : TextPart) → e ≡ text_part_in (sizes_in c) (length words) (length bytes) → (spans texts : List ℕ)
-    → length spans ≡ length (cut e.spans (length words) words) → length texts ≡ length (cut e.bytes (length bytes) bytes) → (k : Taken) (r : Handle) (t : Bytes)
+    → length spans ≡ length (cut e.spans (length words) words) → length texts ≡ length (cut e.bytes (length bytes) bytes) → (k : Taken) (r : Result ℕ Refusal) (t : Bytes)
     → Strings.store_after spans texts k ≡ Strings.intern (Strings.store_with (cut e.spans (length words) words) (cut e.bytes (length bytes) bytes) (get_or c 6 0) (get_or c 7 0)) t
     → d ≡ set (set c 6 k.strings) 7 k.used → r ≡ handle_in k.answer
     → record { overlay = overlay_in (put_mid e.spans (length words - e.spans) words spans) (put_mid e.bytes (length bytes - e.bytes) bytes texts) d; answer = r }
@@ -78,7 +77,7 @@ texts_after words bytes c d long e q spans texts m n k r t i f g =
 
 -- ---- a push and a delete
 
-module _ (k : Kind) (words bytes c d : List ℕ) (p : KindPart) (q : p ≡ part_in k (sizes_in c) (length words) (length bytes)) (table : List ℕ) (r : Kept) where
+module _ (k : Kind) (words bytes c d : List ℕ) (p : KindPart) (q : p ≡ part_in k (sizes_in c) (length words) (length bytes)) (table : List ℕ) (r : Result Unit Refusal) where
   -- a kind's part, as it is lent
   abbrev lent : KindStore.KindStore
   lent = kind_store_in p words bytes c
@@ -91,7 +90,7 @@ module _ (k : Kind) (words bytes c d : List ℕ) (p : KindPart) (q : p ≡ part_
   push_after arena i j h m parts e =
       kind_after k words bytes c d p q table arena i j r (λ s. KindStore.pushed k (get_or c 8 0) s (to_z w64 h.id) (claim_of (meta_of m)) (bytes_of k h m parts)) e
 
-  pub delete_after : length table ≡ length (cut p.from p.to words) → (id : ℤ) (claim : Version)
+  pub delete_after : length table ≡ length (cut p.from p.to words) → (id : ℤ) (claim : Option ℤ)
       → (record { kind_store = KindStore.kind_store_with table (get_or d p.at 0) (cut p.first p.end bytes) (get_or d (p.at + 3) 0); answer = r }
       ≡ KindStore.deleted k (get_or c 8 0) lent id claim) × Others p.at (p.at + 3) c d
       → record { overlay = overlay_in (put_mid p.from (p.to - p.from) words table) bytes d; answer = r } ≡ store_delete k id claim (overlay_in words bytes c)

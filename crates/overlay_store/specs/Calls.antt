@@ -1,10 +1,10 @@
 -- Document 01, the table's row "store", of a text, a push and a delete: what each leaves, and what it answers. Soundness and what is given are tested before it.
-use Rattle.std.specs.Prelude.{◌++◌, ℤ}
+use Rattle.refusal.specs.declared.Refusal.{Refusal}
+use Rattle.std.specs.Prelude.{◌++◌, ℤ, Err, Ok, Option, Result, ℕ}
 use Rattle.std.specs.Int.{w64}
 use Rattle.std.proofs.Common.{to_z}
 use Rattle.base.specs.Bytes.{Bytes}
 use Rattle.kind.specs.declared.Kind.{Kind}
-use Rattle.version_floor.specs.declared.Version.{Version}
 use Rattle.refusal.specs.declared.Refusal.TheVariants as R
 use Rattle.model.specs.Record.{claim_of}
 use Rattle.compact.specs.Layout.{head_bytes, meta_bytes}
@@ -17,19 +17,17 @@ use Rattle.interner.specs.declared.Interned.TheVariants as I
 use Rattle.kind_store.specs.KindStore as KindStore
 use Rattle.overlay.specs.Overlay.{Overlay, kind_store_of, with_kind_store, with_texts}
 use Rattle.overlay.specs.Calls.{OverlayAfter}
-use Rattle.overlay_store.specs.declared.Handle.{Handle}
-use Rattle.overlay_store.specs.declared.Handle.TheVariants as H
 
 -- ---- a text: 13, or its handle
 
 pub record Interning : Type 0 where
   pub overlay : Overlay
-  pub answer : Handle
+  pub answer : Result ℕ Refusal
 
-abbrev pub handle_in : Interned → Handle
-handle_in (I.Held h) = H.Is h
-handle_in (I.New h) = H.Is h
-handle_in I.Full = H.Refused R.StringsFull
+abbrev pub handle_in : Interned → Result ℕ Refusal
+handle_in (I.Held h) = Ok h
+handle_in (I.New h) = Ok h
+handle_in I.Full = Err R.StringsFull
 
 abbrev pub store_text : Bytes → Overlay → Interning
 store_text t o = record { overlay = with_texts (Strings.intern o.texts t).store o; answer = handle_in (Strings.intern o.texts t).answer }
@@ -49,5 +47,5 @@ store_push k h m parts o = on_kind_store k o (KindStore.pushed k o.setting (kind
 
 -- ---- a delete: 12, 14
 
-abbrev pub store_delete : Kind → ℤ → Version → Overlay → OverlayAfter
+abbrev pub store_delete : Kind → ℤ → Option ℤ → Overlay → OverlayAfter
 store_delete k id claim o = on_kind_store k o (KindStore.deleted k o.setting (kind_store_of k o) id claim)

@@ -16,17 +16,8 @@ ghost use Rattle.overlay_store.specs.Calls.{bytes_of, store_push, store_delete, 
 use compact::{ArenaMeta, PushHead};
 use interner::{Interned, Taken};
 use kind::Kind;
-use kind_store::Kept;
 use overlay_blocks::{ARENA, COUNTERS, SETTING, STRING_BYTES, STRINGS};
 use refusal::Refusal;
-use version_floor::Version;
-
-// What `intern` answers: the text's handle, or a refusal.
-#[derive(Clone, Copy)]
-pub enum Handle {
-    Is(u64),
-    Refused(Refusal),
-}
 
 // Writes two counters.
 fn put_two(used: &mut [u64], i: usize, a: u64, j: usize, b: u64)
@@ -39,24 +30,22 @@ fn put_two(used: &mut [u64], i: usize, a: u64, j: usize, b: u64)
 
 // ---- a text
 
-fn handle_in(answer: Interned) -> Handle
+fn handle_in(answer: Interned) -> Result<u64, Refusal>
     ensures { result ≡ handle_in answer }
 {
     match answer {
-        Interned::Held(h) => Handle::Is(h),
-        Interned::New(h) => Handle::Is(h),
-        Interned::Full => Handle::Refused(Refusal::StringsFull),
+        Interned::Held(h) | Interned::New(h) => Ok(h),
+        Interned::Full => Err(Refusal::StringsFull),
     }
 }
 
 // Counts a text as taken in: 13, or its handle.
-fn count_taken(counters: &mut [u64], taken: Taken) -> Handle
+fn count_taken(counters: &mut [u64], taken: Taken) -> Result<u64, Refusal>
     requires { 7 < length counters.old }
     ensures { (counters.new ≡ set (set counters.old 6 taken.strings) 7 taken.used) × (result ≡ handle_in taken.answer) }
 {
     put_two(counters, STRINGS, taken.strings, STRING_BYTES, taken.used);
-    let answer = taken.answer;
-    handle_in(answer)
+    handle_in(taken.answer)
 }
 
 // Takes a text in: 13, or its handle.
@@ -65,7 +54,7 @@ pub fn store_text(
     bytes: &mut [u8],
     counters: &mut [u64; COUNTERS],
     text: &[u8],
-) -> Handle
+) -> Result<u64, Refusal>
     ensures { record { overlay = left words.new bytes.new counters.new; answer = result } ≡ store_text text.now (lent words.old bytes.old counters.old) }
 {
     let t = overlay_blocks::texts_in(counters, words.len(), bytes.len());
@@ -88,7 +77,7 @@ pub fn store_text_by(
     counters: &mut [u64; COUNTERS],
     ix: &[u16],
     text: &[u8],
-) -> Handle
+) -> Result<u64, Refusal>
     ensures { IndexGiven ix.now (lent words.old bytes.old counters.old).texts
         → record { overlay = left words.new bytes.new counters.new; answer = result } ≡ store_text text.now (lent words.old bytes.old counters.old) }
 {
@@ -113,7 +102,7 @@ pub fn handle_by(
     counters: &[u64; COUNTERS],
     ix: &[u16],
     text: &[u8],
-) -> Handle
+) -> Result<u64, Refusal>
     ensures { IndexGiven ix.now (lent words.now bytes.now counters.now).texts → result ≡ (store_text text.now (lent words.now bytes.now counters.now)).answer }
 {
     let t = overlay_blocks::texts_in(counters, words.len(), bytes.len());
@@ -158,7 +147,7 @@ fn push_at(
     head: PushHead,
     meta: ArenaMeta,
     parts: &[u8],
-) -> Kept
+) -> Result<(), Refusal>
     requires { at < 3 }
     ensures { (record { kind_store = kind_store_left at table.new arena.new used.new; answer = result }
         ≡ pushed kind (setting_in used.old) (kind_store_lent at table.old arena.old used.old) (to_z w64 head.id) (claim_of (meta_of meta)) (bytes_of kind head meta parts.now))
@@ -190,7 +179,7 @@ pub fn store_push(
     head: PushHead,
     meta: ArenaMeta,
     parts: &[u8],
-) -> Kept
+) -> Result<(), Refusal>
     ensures { record { overlay = left words.new bytes.new counters.new; answer = result } ≡ store_push kind head meta parts.now (lent words.old bytes.old counters.old) }
 {
     let p = overlay_blocks::part_in(kind, counters, words.len(), bytes.len());
@@ -220,8 +209,8 @@ fn delete_at(
     arena: &[u8],
     used: &mut [u64; COUNTERS],
     id: u64,
-    claim: Version,
-) -> Kept
+    claim: Option<i32>,
+) -> Result<(), Refusal>
     requires { at < 3 }
     ensures { (record { kind_store = kind_store_left at table.new arena.now used.new; answer = result } ≡ deleted kind (setting_in used.old) (kind_store_lent at table.old arena.now used.old) (to_z w64 id) claim)
         × OthersKept at used.old used.new }
@@ -240,8 +229,8 @@ pub fn store_delete(
     counters: &mut [u64; COUNTERS],
     kind: Kind,
     id: u64,
-    claim: Version,
-) -> Kept
+    claim: Option<i32>,
+) -> Result<(), Refusal>
     ensures { record { overlay = left words.new bytes.now counters.new; answer = result } ≡ store_delete kind (to_z w64 id) claim (lent words.old bytes.now counters.old) }
 {
     let p = overlay_blocks::part_in(kind, counters, words.len(), bytes.len());

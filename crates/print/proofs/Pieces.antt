@@ -1,5 +1,6 @@
 -- One piece, as its writers go: its place in the output, integers of another width, the bytes of an escape.
-use Prim.Native.Nat.{ℕ, zero, suc, ◌+◌, ◌-◌, ◌^◌, ◌≤◌, ◌<◌}
+use Rattle.std.specs.Prelude.{None, Option, Some}
+use Prim.Native.Nat.{ℕ, zero, suc, ◌+◌, ◌-◌, ◌≤◌, ◌<◌}
 use mathlib.Core.Path.{◌≡◌, refl, sym, ◌∙◌, ap}
 use mathlib.Core.Bool.{Bool, true, false, ◌&&◌}
 use mathlib.Core.List.{[], ◌∷◌, ◌++◌, append_assoc}
@@ -8,10 +9,7 @@ use native.Mathlib.Omega.{arith}
 use lib.Dec.{leb}
 use lib.ListN.{length, get_or, set, drop, length-take, length-drop, drop_of_length-le}
 use lib.Seq.{drop-cons}
-use mir.Syntax.{w32, w64}
-use mir.Val.{to_z}
-use mir.Facts.{to_z_pos}
-use borrow.Author.Tests.{le-leb, lt-leb, leb-true, leb-false, le-ltb, ne_eqb}
+use borrow.Author.Tests.{le-leb, lt-leb, leb-true, leb-false, ne_eqb}
 use borrow.Rule.Slice.PartMut.{mid_of, put_mid}
 use Rattle.base.specs.Bytes.{Bytes}
 use Rattle.base.proofs.Split.{by_le, clash}
@@ -20,8 +18,6 @@ use Rattle.little.specs.Little.{over}
 use Rattle.little.proofs.Overs.{over_past, over_step, over_lent_start}
 use Rattle.decimal.specs.Put.{Wrote as Put, put_text}
 use Rattle.decimal.proofs.Puts.{put_whole, put_nothing}
-use Rattle.print.specs.declared.Room.{Room}
-use Rattle.print.specs.declared.Room.TheVariants.{Left, Full}
 use Rattle.print.specs.Print.{Printed, print_step, print}
 use Rattle.print.specs.Piece.{behind, output_place, escaped_by, Advance}
 use Rattle.print.proofs.Prints.{behind_fits, behind_past, behind_full, placed_within, placed_past, step_fits, step_past, step_full}
@@ -29,29 +25,29 @@ use Rattle.print.proofs.Prints.{behind_fits, behind_past, behind_full, placed_wi
 -- ---- the place of a piece
 
 module _ (cap len : ℕ) where
-  pub place_within : (r l : ℕ) → cap - r + (r - l) ≤ len → output_place cap (Left r) (Left l) len ≡ cap - r
+  pub place_within : (r l : ℕ) → cap - r + (r - l) ≤ len → output_place cap (Some r) (Some l) len ≡ cap - r
   unfolding output_place
   place_within r l h = rw (le-leb (cap - r + (r - l)) len h)
 
-  pub place_past : (r l : ℕ) → len < cap - r + (r - l) → output_place cap (Left r) (Left l) len ≡ len
+  pub place_past : (r l : ℕ) → len < cap - r + (r - l) → output_place cap (Some r) (Some l) len ≡ len
   unfolding output_place
   place_past r l h = rw (lt-leb (cap - r + (r - l)) len h)
 
-  pub place_full : (room : Room) → output_place cap room Full len ≡ len
+  pub place_full : (room : Option ℕ) → output_place cap room None len ≡ len
   unfolding output_place
-  place_full (Left r) = refl
-  place_full Full = refl
+  place_full (Some r) = refl
+  place_full None = refl
 
-  pub place_none : (left : Room) → output_place cap Full left len ≡ len
+  pub place_none : (left : Option ℕ) → output_place cap None left len ≡ len
   unfolding output_place
   place_none left = refl
 
   -- the place and the length as a function computed them, with the test that it made
   module _ (r l at n : ℕ) (p : at ≡ cap - r) (q : n ≡ r - l) where
-    pub place_taken : leb (at + n) len ≡ true → (at ≡ output_place cap (Left r) (Left l) len) × (at ≤ len)
+    pub place_taken : leb (at + n) len ≡ true → (at ≡ output_place cap (Some r) (Some l) len) × (at ≤ len)
     place_taken t = let h = leb-true (at + n) len t in (p ∙ sym (place_within r l (omega arith)), omega arith)
 
-    pub place_left : leb (at + n) len ≡ false → (len ≡ output_place cap (Left r) (Left l) len) × (len ≤ len)
+    pub place_left : leb (at + n) len ≡ false → (len ≡ output_place cap (Some r) (Some l) len) × (len ≤ len)
     place_left t = let h = leb-false (at + n) len t in (sym (place_past r l (omega arith)), omega arith)
 
 -- a piece is whole within the output, or goes to its end
@@ -60,25 +56,25 @@ pub record Placing (n len at : ℕ) : Type 0 where
   pub whole : at < len → at + n ≤ len
 
 module _ (cap : ℕ) (n len : ℕ) where
-  past : (room : Room) (at : ℕ) → output_place cap room (behind room n) len ≡ len → at ≡ output_place cap room (behind room n) len → Placing n len at
+  past : (room : Option ℕ) (at : ℕ) → output_place cap room (behind room n) len ≡ len → at ≡ output_place cap room (behind room n) len → Placing n len at
   past room at p e = let q : at ≡ len = e ∙ p in record { start = omega arith; whole = λ h. absurd (omega arith) }
 
-  pub placing : (room : Room) (at : ℕ) → at ≡ output_place cap room (behind room n) len → Placing n len at
-  placing Full at e = past Full at (place_none cap len _) e
-  placing (Left r) at e =
+  pub placing : (room : Option ℕ) (at : ℕ) → at ≡ output_place cap room (behind room n) len → Placing n len at
+  placing None at e = past None at (place_none cap len _) e
+  placing (Some r) at e =
       by_le n r
       (λ h. let b = behind_fits r n h in
       let d : r - (r - n) ≡ n = omega arith in
       by_le (cap - r + n) len
       (λ g. let q : at ≡ cap - r = e ∙ rw (b, place_within cap len r (r - n) (rw d g)) in record { start = omega arith; whole = λ l. omega arith })
-      (λ g. past (Left r) at (rw (b, place_past cap len r (r - n) (rw d g))) e))
-      (λ h. past (Left r) at (rw (behind_past r n h, place_full)) e)
+      (λ g. past (Some r) at (rw (b, place_past cap len r (r - n) (rw d g))) e))
+      (λ h. past (Some r) at (rw (behind_past r n h, place_full)) e)
 
 -- a step writes its piece there
-pub step_is : (cap : ℕ) (room : Room) (x out : Bytes) → print_step cap x (record { out = out; room = room })
+pub step_is : (cap : ℕ) (room : Option ℕ) (x out : Bytes) → print_step cap x (record { out = out; room = room })
     ≡ record { out = over out (output_place cap room (behind room (length x)) (length out)) x; room = behind room (length x) }
-step_is cap Full x out = rw (behind_full, place_none, over_past out (length out) x (omega arith)) (step_full cap x out)
-step_is cap (Left r) x out =
+step_is cap None x out = rw (behind_full, place_none, over_past out (length out) x (omega arith)) (step_full cap x out)
+step_is cap (Some r) x out =
     let len = length out in
     by_le (length x) r
     (λ h. let d : r - (r - length x) ≡ length x = omega arith in
@@ -89,7 +85,7 @@ step_is cap (Left r) x out =
     (λ h. rw (behind_past r (length x) h, place_full, over_past out len x (omega arith)) (step_past cap x out r h))
 
 -- a writer was lent the rest from that place on
-pub piece_written : (cap : ℕ) (room left : Room) (x out last : Bytes) (at : ℕ) → left ≡ behind room (length x) → at ≡ output_place cap room left (length out)
+pub piece_written : (cap : ℕ) (room left : Option ℕ) (x out last : Bytes) (at : ℕ) → left ≡ behind room (length x) → at ≡ output_place cap room left (length out)
     → last ≡ over (mid_of at (length out - at) out) 0 x
     → ◌≡◌ {A = Printed} (record { out = put_mid at (length out - at) out last; room = left }) (print_step cap x (record { out = out; room = room }))
 piece_written cap room left x out last at b p e =
@@ -97,7 +93,7 @@ piece_written cap room left x out last at b p e =
     rw (step_is cap room x out, ← b, ← p, ← over_lent_start out last at x w.start e)
 
 -- the same of a writer of numbers, which writes whole numbers only
-pub number_written : (cap : ℕ) (room left : Room) (x out last : Bytes) (at : ℕ) → left ≡ behind room (length x) → at ≡ output_place cap room left (length out)
+pub number_written : (cap : ℕ) (room left : Option ℕ) (x out last : Bytes) (at : ℕ) → left ≡ behind room (length x) → at ≡ output_place cap room left (length out)
     → last ≡ (put_text (mid_of at (length out - at) out) x).bytes
     → ◌≡◌ {A = Printed} (record { out = put_mid at (length out - at) out last; room = left }) (print_step cap x (record { out = out; room = room }))
 number_written cap room left x out last at b p e =
@@ -109,16 +105,6 @@ number_written cap room left x out last at b p e =
     (λ h. e ∙ ap (λ (u : Put). u.bytes) (put_whole lent x h))
     (λ h. e ∙ ap (λ (u : Put). u.bytes) (put_nothing lent x h) ∙ sym (over_past lent 0 x
     (by_le (length out) at (λ g. omega arith) (λ g. omega (arith, d.whole g))))))
-
--- ---- integers
-
-pub wide_small : (b : ℕ) → b < 2 ^ 31 → to_z w64 b ≡ to_z w32 b
-wide_small b h = to_z_pos w64 (omega arith) ∙ sym (to_z_pos w32 h)
-
-pub wide_large : (b : ℕ) → 2 ^ 31 ≤ b → b < 2 ^ 32 → to_z w64 (0xffff_ffff_0000_0000 + b) ≡ to_z w32 b
-wide_large b h g =
-    let e : 2 ^ 64 - suc (0xffff_ffff_0000_0000 + b) ≡ 2 ^ 32 - suc b = omega arith in
-    rw (le-ltb b (2 ^ 31) h, le-ltb (0xffff_ffff_0000_0000 + b) (2 ^ 63) (omega arith), e)
 
 -- ---- escapes
 

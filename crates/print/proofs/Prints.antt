@@ -1,4 +1,5 @@
 -- Laws of printing: piece after piece, lent no bytes, lent the output, and the pieces of a line.
+use Rattle.std.specs.Prelude.{None, Option, Some}
 use Prim.Native.Nat.{ℕ, ◌+◌, ◌-◌, ◌≤◌, ◌<◌}
 use mathlib.Core.Path.{◌≡◌, refl, sym, ◌∙◌, ap}
 use mathlib.Core.List.{List, [], ◌∷◌, ◌++◌, append_assoc, append-nil}
@@ -10,33 +11,31 @@ use Rattle.base.proofs.Split.{by_le}
 use Rattle.line.specs.Line.{tabbed, line}
 use Rattle.little.specs.Little.{over}
 use Rattle.little.proofs.Overs.{over_none, over_nothing, over_over, length_over}
-use Rattle.print.specs.declared.Room.{Room}
-use Rattle.print.specs.declared.Room.TheVariants.{Left, Full}
 use Rattle.print.specs.Print.{Printed, placed_at, print_step, print, joined_pieces, tab, tabs, line_pieces}
 use Rattle.print.specs.Piece.{behind}
 
 -- ---- the room behind a piece
 
-pub behind_fits : (r n : ℕ) → n ≤ r → behind (Left r) n ≡ Left (r - n)
+pub behind_fits : (r n : ℕ) → n ≤ r → behind (Some r) n ≡ Some (r - n)
 unfolding behind
 behind_fits r n h = rw (le-leb n r h)
 
-pub behind_past : (r n : ℕ) → r < n → behind (Left r) n ≡ Full
+pub behind_past : (r n : ℕ) → r < n → behind (Some r) n ≡ None
 unfolding behind
 behind_past r n h = rw (lt-leb n r h)
 
-pub behind_full : (n : ℕ) → behind Full n ≡ Full
+pub behind_full : (n : ℕ) → behind None n ≡ None
 unfolding behind
 behind_full n = refl
 
-pub behind_nothing : (room : Room) → behind room 0 ≡ room
-behind_nothing (Left r) = let d : r - 0 ≡ r = omega arith in rw (behind_fits r 0 (omega arith), d)
-behind_nothing Full = behind_full 0
+pub behind_nothing : (room : Option ℕ) → behind room 0 ≡ room
+behind_nothing (Some r) = let d : r - 0 ≡ r = omega arith in rw (behind_fits r 0 (omega arith), d)
+behind_nothing None = behind_full 0
 
 -- two pieces leave the room that both together leave
-pub behind_both : (room : Room) (m n : ℕ) → behind (behind room m) n ≡ behind room (m + n)
-behind_both Full m n = rw (behind_full m, behind_full n, behind_full (m + n))
-behind_both (Left r) m n =
+pub behind_both : (room : Option ℕ) (m n : ℕ) → behind (behind room m) n ≡ behind room (m + n)
+behind_both None m n = rw (behind_full m, behind_full n, behind_full (m + n))
+behind_both (Some r) m n =
     by_le m r
     (λ h. let w = behind_fits r m h in
     by_le (m + n) r
@@ -64,29 +63,29 @@ length_placed out at x =
     (λ h. ap length (placed_past out at x h))
 
 module _ (cap : ℕ) (x out : Bytes) where
-  pub step_fits : (r : ℕ) → length x ≤ r → print_step cap x (record { out = out; room = Left r }) ≡ record { out = placed_at out (cap - r) x; room = Left (r - length x) }
+  pub step_fits : (r : ℕ) → length x ≤ r → print_step cap x (record { out = out; room = Some r }) ≡ record { out = placed_at out (cap - r) x; room = Some (r - length x) }
   unfolding print_step
   step_fits r h = rw (le-leb (length x) r h)
 
-  pub step_past : (r : ℕ) → r < length x → print_step cap x (record { out = out; room = Left r }) ≡ record { out = out; room = Full }
+  pub step_past : (r : ℕ) → r < length x → print_step cap x (record { out = out; room = Some r }) ≡ record { out = out; room = None }
   unfolding print_step
   step_past r h = rw (lt-leb (length x) r h)
 
-  pub step_full : print_step cap x (record { out = out; room = Full }) ≡ record { out = out; room = Full }
+  pub step_full : print_step cap x (record { out = out; room = None }) ≡ record { out = out; room = None }
   unfolding print_step
   step_full = refl
 
-  pub length_step : (room : Room) → length (print_step cap x (record { out = out; room = room })).out ≡ length out
-  length_step Full = rw step_full
-  length_step (Left r) =
+  pub length_step : (room : Option ℕ) → length (print_step cap x (record { out = out; room = room })).out ≡ length out
+  length_step None = rw step_full
+  length_step (Some r) =
       by_le (length x) r
       (λ h. rw (step_fits r h) (length_placed out (cap - r) x))
       (λ h. rw (step_past r h))
 
   -- the room does not go by the output
-  pub room_step : (room : Room) → (print_step cap x (record { out = out; room = room })).room ≡ behind room (length x)
-  room_step Full = rw (step_full, behind_full)
-  room_step (Left r) =
+  pub room_step : (room : Option ℕ) → (print_step cap x (record { out = out; room = room })).room ≡ behind room (length x)
+  room_step None = rw (step_full, behind_full)
+  room_step (Some r) =
       by_le (length x) r
       (λ h. rw (step_fits r h, behind_fits r (length x) h))
       (λ h. rw (step_past r h, behind_past r (length x) h))
@@ -117,14 +116,14 @@ room_print cap (x ∷ xs) p =
 
 -- ---- lent no bytes: the length is measured
 
-step_none : (cap : ℕ) (x : Bytes) (room : Room) → print_step cap x (record { out = []; room = room }) ≡ record { out = []; room = behind room (length x) }
-step_none cap x Full = rw (step_full, behind_full)
-step_none cap x (Left r) =
+step_none : (cap : ℕ) (x : Bytes) (room : Option ℕ) → print_step cap x (record { out = []; room = room }) ≡ record { out = []; room = behind room (length x) }
+step_none cap x None = rw (step_full, behind_full)
+step_none cap x (Some r) =
     by_le (length x) r
     (λ h. rw (step_fits cap x [] r h, behind_fits r (length x) h, placed_none))
     (λ h. rw (step_past cap x [] r h, behind_past r (length x) h))
 
-pub measured : (cap : ℕ) (xs : List Bytes) (room : Room) → print cap xs (record { out = []; room = room }) ≡ record { out = []; room = behind room (length (joined_pieces xs)) }
+pub measured : (cap : ℕ) (xs : List Bytes) (room : Option ℕ) → print cap xs (record { out = []; room = room }) ≡ record { out = []; room = behind room (length (joined_pieces xs)) }
 unfolding print joined_pieces
 measured cap [] room = rw behind_nothing
 measured cap (x ∷ xs) room = rw (step_none cap x room, measured cap xs (behind room (length x)), behind_both, length-append)
@@ -132,7 +131,7 @@ measured cap (x ∷ xs) room = rw (step_none cap x room, measured cap xs (behind
 -- ---- lent the output: what fits is written
 
 written_of : (cap : ℕ) (xs : List Bytes) (out : Bytes) (r : ℕ) → cap ≡ length out → length (joined_pieces xs) ≤ r → r ≤ cap
-    → print cap xs (record { out = out; room = Left r }) ≡ record { out = over out (cap - r) (joined_pieces xs); room = Left (r - length (joined_pieces xs)) }
+    → print cap xs (record { out = out; room = Some r }) ≡ record { out = over out (cap - r) (joined_pieces xs); room = Some (r - length (joined_pieces xs)) }
 unfolding print joined_pieces
 written_of cap [] out r c h g = let d : r - 0 ≡ r = omega arith in rw (over_nothing, d)
 written_of cap (x ∷ xs) out r c h g =
@@ -145,7 +144,7 @@ written_of cap (x ∷ xs) out r c h g =
     rw (step_fits cap x out r (omega arith), p, written_of cap xs (over out at x) (r - length x) n (omega arith) (omega arith), a, over_over, length-append, d)
 
 pub written : (xs : List Bytes) (out : Bytes) (r : ℕ) → length (joined_pieces xs) ≤ r → r ≤ length out
-    → print (length out) xs (record { out = out; room = Left r }) ≡ record { out = over out (length out - r) (joined_pieces xs); room = Left (r - length (joined_pieces xs)) }
+    → print (length out) xs (record { out = out; room = Some r }) ≡ record { out = over out (length out - r) (joined_pieces xs); room = Some (r - length (joined_pieces xs)) }
 written xs out r h g = written_of (length out) xs out r refl h g
 
 -- ---- the pieces of a line

@@ -10,62 +10,43 @@ ghost use Rattle.little.specs.Little.{over};
 ghost use Rattle.print.specs.Print.{print_step, print, tab};
 ghost use Rattle.print.specs.Piece.{behind, output_place, escaped_by, Advance};
 
-// How much room is left, or that a piece did not fit.
-#[derive(Clone, Copy)]
-pub enum Room {
-    Left(usize),
-    Full,
-}
-
 // The room behind a piece of n bytes.
-fn behind_bytes(room: Room, n: usize) -> Room
+fn behind_bytes(room: Option<usize>, n: usize) -> Option<usize>
     ensures { result ≡ behind room n }
 {
-    let Room::Left(r) = room else {
-        return Room::Full;
+    let Some(r) = room else {
+        return None;
     };
-    if n <= r {
-        return Room::Left(r - n);
-    }
-    Room::Full
-}
-
-// How much is left of a after b, nothing where b is larger.
-fn less(a: usize, b: usize) -> usize
-    ensures { result ≡ a - b }
-{
-    if b <= a { a - b } else { 0 }
+    if n <= r { Some(r - n) } else { None }
 }
 
 // Whether n bytes from a place on lie within so many.
 fn within(at: usize, n: usize, len: usize) -> bool
     ensures { result ≡ leb (at + n) len }
 {
-    if at <= len {
-        return n <= len - at;
-    }
-    false
+    at <= len && n <= len - at
 }
 
 // Where a piece goes, by the room before and behind it: to the output's end where nothing of it is written.
-fn place(cap: usize, room: Room, left: Room, len: usize) -> usize
+fn place(cap: usize, room: Option<usize>, left: Option<usize>, len: usize) -> usize
     ensures { (result ≡ output_place cap room left len) × (result ≤ len) }
 {
-    let Room::Left(r) = room else {
+    let Some(r) = room else {
         return len;
     };
-    let Room::Left(l) = left else {
+    let Some(l) = left else {
         return len;
     };
-    let at = less(cap, r);
-    if within(at, less(r, l), len) {
-        return at;
+    let at = cap.saturating_sub(r);
+    if within(at, r.saturating_sub(l), len) {
+        at
+    } else {
+        len
     }
-    len
 }
 
 // A piece of bytes.
-pub fn put_bytes(out: &mut [u8], cap: usize, room: Room, piece: &[u8]) -> Room
+pub fn put_bytes(out: &mut [u8], cap: usize, room: Option<usize>, piece: &[u8]) -> Option<usize>
     ensures { record { out = out.new; room = result } ≡ print_step cap piece.now (record { out = out.old; room = room }) }
 {
     let left = behind_bytes(room, piece.len());
@@ -75,7 +56,7 @@ pub fn put_bytes(out: &mut [u8], cap: usize, room: Room, piece: &[u8]) -> Room
 }
 
 // A tab.
-fn put_tab(out: &mut [u8], cap: usize, room: Room) -> Room
+fn put_tab(out: &mut [u8], cap: usize, room: Option<usize>) -> Option<usize>
     ensures { record { out = out.new; room = result } ≡ print_step cap tab (record { out = out.old; room = room }) }
 {
     put_bytes(out, cap, room, b"\t")
@@ -84,7 +65,7 @@ fn put_tab(out: &mut [u8], cap: usize, room: Room) -> Room
 // ---- numbers
 
 // The digits of a number.
-fn number_piece(out: &mut [u8], cap: usize, room: Room, v: u64) -> Room
+fn number_piece(out: &mut [u8], cap: usize, room: Option<usize>, v: u64) -> Option<usize>
     ensures { record { out = out.new; room = result } ≡ print_step cap (number_text v) (record { out = out.old; room = room }) }
 {
     let n = decimal::number_length(v);
@@ -95,7 +76,7 @@ fn number_piece(out: &mut [u8], cap: usize, room: Room, v: u64) -> Room
 }
 
 // A tab and a number.
-pub fn put_number(out: &mut [u8], cap: usize, room: Room, v: u64) -> Room
+pub fn put_number(out: &mut [u8], cap: usize, room: Option<usize>, v: u64) -> Option<usize>
     ensures { record { out = out.new; room = result } ≡ print cap (tab ∷ number_text v ∷ []) (record { out = out.old; room = room }) }
 {
     let room = put_tab(out, cap, room);
@@ -103,7 +84,7 @@ pub fn put_number(out: &mut [u8], cap: usize, room: Room, v: u64) -> Room
 }
 
 // The room behind an integer.
-fn behind_integer(room: Room, bits: u64) -> Room
+fn behind_integer(room: Option<usize>, bits: u64) -> Option<usize>
     ensures { result ≡ behind room (length (integer_text (to_z w64 bits))) }
 {
     if bits < 0x8000_0000_0000_0000 {
@@ -116,7 +97,7 @@ fn behind_integer(room: Room, bits: u64) -> Room
 }
 
 // An integer with its minus sign.
-fn integer_piece(out: &mut [u8], cap: usize, room: Room, bits: u64) -> Room
+fn integer_piece(out: &mut [u8], cap: usize, room: Option<usize>, bits: u64) -> Option<usize>
     ensures { record { out = out.new; room = result } ≡ print_step cap (integer_text (to_z w64 bits)) (record { out = out.old; room = room }) }
 {
     if bits < 0x8000_0000_0000_0000 {
@@ -129,28 +110,18 @@ fn integer_piece(out: &mut [u8], cap: usize, room: Room, bits: u64) -> Room
 }
 
 // A tab and an integer of 64 bits, given by its bits.
-pub fn put_integer(out: &mut [u8], cap: usize, room: Room, bits: u64) -> Room
+pub fn put_integer(out: &mut [u8], cap: usize, room: Option<usize>, bits: u64) -> Option<usize>
     ensures { record { out = out.new; room = result } ≡ print cap (tab ∷ integer_text (to_z w64 bits) ∷ []) (record { out = out.old; room = room }) }
 {
     let room = put_tab(out, cap, room);
     integer_piece(out, cap, room, bits)
 }
 
-// The same integer in 64 bits.
-fn widened(bits: u32) -> u64
-    ensures { to_z w64 result ≡ to_z w32 bits }
-{
-    if bits < 0x8000_0000 {
-        return bits as u64;
-    }
-    0xffff_ffff_0000_0000 + bits as u64
-}
-
 // A tab and an integer of 32 bits.
-pub fn put_integer32(out: &mut [u8], cap: usize, room: Room, bits: u32) -> Room
+pub fn put_integer32(out: &mut [u8], cap: usize, room: Option<usize>, bits: u32) -> Option<usize>
     ensures { record { out = out.new; room = result } ≡ print cap (tab ∷ integer_text (to_z w32 bits) ∷ []) (record { out = out.old; room = room }) }
 {
-    put_integer(out, cap, room, widened(bits))
+    put_integer(out, cap, room, decimal::widened(bits))
 }
 
 // ---- texts
@@ -159,19 +130,13 @@ pub fn put_integer32(out: &mut [u8], cap: usize, room: Room, bits: u32) -> Room
 fn letter(b: u8) -> u8
     ensures { escaped b ≡ escaped_by b result }
 {
-    if b == b'\t' {
-        return b't';
+    match b {
+        b'\t' => b't',
+        b'\n' => b'n',
+        b'\r' => b'r',
+        b'\\' => b'\\',
+        _ => 0,
     }
-    if b == b'\n' {
-        return b'n';
-    }
-    if b == b'\r' {
-        return b'r';
-    }
-    if b == b'\\' {
-        return b'\\';
-    }
-    0
 }
 
 // By how many bytes the escape of a byte is longer than the byte.
@@ -185,18 +150,16 @@ fn longer(b: u8) -> usize
 fn is_plain(b: u8) -> bool
     ensures { result ≡ true → escaped b ≡ b ∷ [] }
 {
-    (13 < b) & (b != b'\\')
+    (b'\r' < b) & (b != b'\\')
 }
 
-// Whether each byte of a text surely stands for itself.
+// Whether each byte of a text surely stands for itself. It looks at all bytes, so that many are looked at together: no early end.
 fn all_plain(text: &[u8]) -> bool
     ensures { result ≡ true → escape text.now ≡ text.now }
 {
     let mut ok = true;
-    let mut i: usize = 0;
-    while i < text.len() {
-        ok = ok & is_plain(text[i]);
-        i += 1;
+    for b in text {
+        ok = ok & is_plain(*b);
     }
     ok
 }
@@ -205,11 +168,9 @@ fn all_plain(text: &[u8]) -> bool
 fn text_longer(text: &[u8]) -> usize
     ensures { length (escape text.now) ≡ length text.now + result }
 {
-    let mut n: usize = 0;
-    let mut i: usize = 0;
-    while i < text.len() {
-        n += longer(text[i]);
-        i += 1;
+    let mut n = 0;
+    for b in text {
+        n += longer(*b);
     }
     n
 }
@@ -241,16 +202,14 @@ fn put_escaped(out: &mut [u8], at: usize, b: u8) -> usize
 fn put_escape(out: &mut [u8], text: &[u8])
     ensures { out.new ≡ over out.old 0 (escape text.now) }
 {
-    let mut at: usize = 0;
-    let mut i: usize = 0;
-    while i < text.len() {
-        at = put_escaped(out, at, text[i]);
-        i += 1;
+    let mut at = 0;
+    for b in text {
+        at = put_escaped(out, at, *b);
     }
 }
 
 // The escape of a text: a copy of it where each byte stands for itself.
-fn text_piece(out: &mut [u8], cap: usize, room: Room, text: &[u8]) -> Room
+fn text_piece(out: &mut [u8], cap: usize, room: Option<usize>, text: &[u8]) -> Option<usize>
     ensures { record { out = out.new; room = result } ≡ print_step cap (escape text.now) (record { out = out.old; room = room }) }
 {
     if all_plain(text) {
@@ -263,7 +222,7 @@ fn text_piece(out: &mut [u8], cap: usize, room: Room, text: &[u8]) -> Room
 }
 
 // A tab and a text with its escapes.
-pub fn put_text(out: &mut [u8], cap: usize, room: Room, text: &[u8]) -> Room
+pub fn put_text(out: &mut [u8], cap: usize, room: Option<usize>, text: &[u8]) -> Option<usize>
     ensures { record { out = out.new; room = result } ≡ print cap (tab ∷ escape text.now ∷ []) (record { out = out.old; room = room }) }
 {
     let room = put_tab(out, cap, room);

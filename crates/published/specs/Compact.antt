@@ -1,7 +1,7 @@
 -- compact.rs: how records lie in an arena, and what its iterators and accessors read of one. The refusals of counts past 2^32 are left out: no call of the domain has such a count.
 -- Where a reader panics, an index or a slice outside of the bytes or `arena_invariant_broken`, it is none here.
-use Rattle.std.specs.Prelude.{ℕ, zero, suc, ◌+◌, ◌-◌, ◌*◌, ◌/◌, ◌%◌, Bool, cond, List, [], ◌∷◌, ◌++◌, length, ℤ, ◌==◌}
-use Rattle.std.proofs.Math.Option.{Option, none, some, map, bind}
+use Rattle.base.specs.Options.{bind}
+use Rattle.std.specs.Prelude.{ℕ, zero, suc, ◌+◌, ◌-◌, ◌*◌, ◌/◌, ◌%◌, Bool, cond, List, [], ◌∷◌, ◌++◌, length, ℤ, ◌==◌, None, Option, Some, option_map}
 use Rattle.std.specs.Int.{w32, w64}
 use Rattle.std.proofs.Common.{of_z, to_z}
 use Rattle.base.specs.Bytes.{Bytes}
@@ -20,13 +20,13 @@ u32 n = to_le 4 n
 
 -- fn read_i64_le, read_i32_le, read_u32_le (data: &[u8], offset: usize)
 abbrev pub read_i64_le : Bytes → ℕ → Option ℤ
-read_i64_le s offset = map (λ bytes. to_z w64 (from_le bytes)) (slice s offset 8)
+read_i64_le s offset = option_map (λ bytes. to_z w64 (from_le bytes)) (slice s offset 8)
 
 abbrev pub read_i32_le : Bytes → ℕ → Option ℤ
-read_i32_le s offset = map (λ bytes. to_z w32 (from_le bytes)) (slice s offset 4)
+read_i32_le s offset = option_map (λ bytes. to_z w32 (from_le bytes)) (slice s offset 4)
 
 abbrev pub read_u32_le : Bytes → ℕ → Option ℕ
-read_u32_le s offset = map from_le (slice s offset 4)
+read_u32_le s offset = option_map from_le (slice s offset 4)
 
 -- fn member_type_to_byte(mt: MemberType) -> ParseResult<u8>; `ParsedMember::member_type` makes no MemberType::Unknown, so a MemberType is an ElementKind here
 abbrev pub member_type_to_byte : ElementKind → ℕ
@@ -36,7 +36,7 @@ member_type_to_byte Relation = 2
 
 -- fn byte_to_member_type(b: u8) -> MemberType
 unfoldable pub byte_to_member_type : ℕ → Option ElementKind
-byte_to_member_type b = cond (b == 0) (some Node) (cond (b == 1) (some Way) (cond (b == 2) (some Relation) none))
+byte_to_member_type b = cond (b == 0) (Some Node) (cond (b == 1) (Some Way) (cond (b == 2) (Some Relation) None))
 
 -- ---- the metadata block
 
@@ -85,7 +85,7 @@ clear flags bit = flags / bit % 2 == 0
 
 -- fn version_claim(&self) -> Option<i32>
 unfoldable pub version_claim : ArenaMeta → Option ℤ
-version_claim m = cond (clear m.flags META_FLAG_HAS_VERSION) none (some m.version)
+version_claim m = cond (clear m.flags META_FLAG_HAS_VERSION) None (Some m.version)
 
 abbrev pub NODE_META_OFF : ℕ
 NODE_META_OFF = 8 + 4 + 4 + 4
@@ -99,7 +99,7 @@ RELATION_META_OFF = 8 + 4 + 4
 -- fn version_at(data: &[u8], record_offset: usize, meta_off: usize) -> Option<i32>; none too where it panics
 unfoldable pub version_at : Bytes → ℕ → ℕ → Option ℤ
 version_at s offset meta_off =
-    bind (index s (offset + meta_off)) (λ flags. cond (clear flags META_FLAG_HAS_VERSION) none (read_i32_le s (offset + meta_off + M_VERSION)))
+    bind (index s (offset + meta_off)) (λ flags. cond (clear flags META_FLAG_HAS_VERSION) None (read_i32_le s (offset + meta_off + M_VERSION)))
 
 -- fn arena_append_meta(arena: &mut Vec<u8>, meta: &ArenaMeta)
 unfoldable pub arena_append_meta : ArenaMeta → Bytes
@@ -116,19 +116,19 @@ pub record Metadata : Type 0 where
 
 -- if flags & META_FLAG_HAS_USER != 0 { strings.resolve(..) } else { "" }
 abbrev pub read_user : StringTable → Bytes → ℕ → ℕ → Option Bytes
-read_user strings s offset flags = cond (clear flags META_FLAG_HAS_USER) (some []) (bind (read_u32_le s (offset + M_USER_ID)) (resolve strings))
+read_user strings s offset flags = cond (clear flags META_FLAG_HAS_USER) (Some []) (bind (read_u32_le s (offset + M_USER_ID)) (resolve strings))
 
 -- fn read_meta(data, offset, strings) -> Option<Metadata>
 unfoldable pub read_meta : StringTable → Bytes → ℕ → Option (Option Metadata)
 read_meta strings s offset =
     bind (index s offset) (λ flags.
-    cond (clear flags META_FLAG_PRESENT) (some none)
+    cond (clear flags META_FLAG_PRESENT) (Some None)
     (bind (read_i32_le s (offset + M_VERSION)) (λ version.
     bind (read_i64_le s (offset + M_TIMESTAMP)) (λ timestamp.
     bind (read_i64_le s (offset + M_CHANGESET)) (λ changeset.
     bind (read_i32_le s (offset + M_UID)) (λ uid.
     bind (read_user strings s offset flags) (λ user.
-    some (some (record { version = version; timestamp = timestamp; changeset = changeset; uid = uid; user = user; visible = clear flags META_FLAG_HIDDEN })))))))))
+    Some (Some (record { version = version; timestamp = timestamp; changeset = changeset; uid = uid; user = user; visible = clear flags META_FLAG_HIDDEN })))))))))
 
 -- ---- appends
 
@@ -178,11 +178,11 @@ pub record Yielded (A : Type 0) : Type 0 where
   pub iter : Iter
 
 abbrev pub yielded : {A : Type 0} → A → ℕ → ℕ → Option (Option (Yielded A))
-yielded a offset remaining = some (some (record { item = a; iter = record { offset = offset; remaining = remaining } }))
+yielded a offset remaining = Some (Some (record { item = a; iter = record { offset = offset; remaining = remaining } }))
 
 -- if self.remaining == 0 { return None; } self.remaining -= 1;
 abbrev pub unless_done : {A : Type 0} → Iter → Option (Option (Yielded A)) → Option (Option (Yielded A))
-unless_done i x = cond (i.remaining == 0) (some none) x
+unless_done i x = cond (i.remaining == 0) (Some None) x
 
 -- CompactRefIter: fn next(&mut self) -> Option<i64>
 unfoldable pub ref_next : Bytes → Iter → Option (Option (Yielded ℤ))
@@ -218,16 +218,16 @@ tag_next from_utf8 strings s i =
     bind (read_u32_le s (i.offset + 4)) (λ value_len.
     bind (slice s (i.offset + 4 + 4) value_len) (λ value.
     bind (resolve strings key_id) (λ key.
-    cond (from_utf8 value) (yielded (record { k = key; v = value }) (i.offset + 4 + 4 + value_len) (i.remaining - 1)) none)))))
+    cond (from_utf8 value) (yielded (record { k = key; v = value }) (i.offset + 4 + 4 + value_len) (i.remaining - 1)) None)))))
 
 -- iter.collect(): the items in order; `size_hint` says how many there are
 abbrev pub onward : {A : Type 0} → Option (Option (Yielded A)) → (Iter → Option (List A)) → Option (List A)
-onward none more = none
-onward (some none) more = some []
-onward (some (some y)) more = map (y.item ∷◌) (more y.iter)
+onward None more = None
+onward (Some None) more = Some []
+onward (Some (Some y)) more = option_map (y.item ∷◌) (more y.iter)
 
 unfoldable pub collect_from : {A : Type 0} → (Iter → Option (Option (Yielded A))) → ℕ → Iter → Option (List A)
-collect_from next zero i = onward (next i) (λ j. none)
+collect_from next zero i = onward (next i) (λ j. None)
 collect_from next (suc n) i = onward (next i) (collect_from next n)
 
 unfoldable pub collect : {A : Type 0} → (Iter → Option (Option (Yielded A))) → Iter → Option (List A)
@@ -286,9 +286,9 @@ members strings s = bind (member_count s) (λ n. collect (member_next strings s)
 
 -- let tag_offset = ..
 abbrev pub tag_offset : ElementKind → Bytes → Option ℕ
-tag_offset Node s = some (HEADER_LEN Node)
-tag_offset Way s = map (λ n. HEADER_LEN Way + n * 8) (ref_count s)
-tag_offset Relation s = map (λ n. HEADER_LEN Relation + n * MEMBER_SIZE) (member_count s)
+tag_offset Node s = Some (HEADER_LEN Node)
+tag_offset Way s = option_map (λ n. HEADER_LEN Way + n * 8) (ref_count s)
+tag_offset Relation s = option_map (λ n. HEADER_LEN Relation + n * MEMBER_SIZE) (member_count s)
 
 -- fn tags(&self), collected
 abbrev pub tags : (Bytes → Bool) → ElementKind → StringTable → Bytes → Option (List Tag)

@@ -1,7 +1,5 @@
 -- interner.rs. The refusals past 2^32 are left out: no call of the domain comes near. `strings` and `into_strings` are the field of that name.
-use Rattle.std.specs.Prelude.{ℕ, cond, List, [], ◌∷◌, ◌++◌, length}
-use Rattle.std.proofs.Math.Option.{Option, none, some}
-use Rattle.std.proofs.Math.ListN.{get_elem?}
+use Rattle.std.specs.Prelude.{ℕ, cond, List, [], ◌∷◌, ◌++◌, length, None, Option, Some, slice_get}
 use Rattle.base.specs.Bytes.{Bytes, same}
 use Rattle.published.specs.Std.{slice}
 
@@ -27,8 +25,8 @@ pub record StringInterner : Type 0 where
 
 -- self.lookup.get(s)
 unfoldable pub get_text : List TextEntry → Bytes → Option ℕ
-get_text [] s = none
-get_text (e ∷ m) s = cond (same e.text s) (some e.id) (get_text m s)
+get_text [] s = None
+get_text (e ∷ m) s = cond (same e.text s) (Some e.id) (get_text m s)
 
 -- StringInterner::new(): "Reserve intern_id 0 for the empty string."
 abbrev pub new : StringInterner
@@ -43,8 +41,8 @@ abbrev pub pushed : StringTable → Bytes → StringTable
 pushed t s = record { bytes = t.bytes ++ s; table = t.table ++ (record { offset = length t.bytes; len = length s } ∷ []) }
 
 abbrev pub intern_as : StringInterner → Bytes → Option ℕ → Interned
-intern_as i s (some id) = record { interner = i; id = id }
-intern_as i s none =
+intern_as i s (Some id) = record { interner = i; id = id }
+intern_as i s None =
     record {
       interner = record { strings = pushed i.strings s; lookup = record { text = s; id = length i.strings.table } ∷ i.lookup };
       id = length i.strings.table;
@@ -56,9 +54,9 @@ intern i s = intern_as i s (get_text i.lookup s)
 
 -- self.data.get(start..start + len), of the span of an id; none where `resolve` panics. That a span begins and ends between characters is left out: each is a whole text.
 abbrev pub resolve_in : Bytes → Option Span → Option Bytes
-resolve_in bytes none = none
-resolve_in bytes (some p) = slice bytes p.offset p.len
+resolve_in bytes None = None
+resolve_in bytes (Some p) = slice bytes p.offset p.len
 
 -- fn resolve(&self, id: u32) -> &str; none where it panics
 unfoldable pub resolve : StringTable → ℕ → Option Bytes
-resolve t id = resolve_in t.bytes (get_elem? t.table id)
+resolve t id = resolve_in t.bytes (slice_get t.table id)

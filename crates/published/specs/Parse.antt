@@ -1,9 +1,9 @@
 -- parse.rs: `CompactDiffOverlay`. Its fields of one kind stand together, and what push_* and delete_* do to them is written once: the three of each differ in the kind's fields and in
 -- the append alone. Left out: files, sizes on the heap, and the iterators over a map's keys, whose order is the map's own (`node_ids`, `deleted_ids`).
-use Rattle.std.specs.Prelude.{ℕ, Bool, true, false, cond, List, [], ◌∷◌, ◌++◌, length, ℤ}
-use Rattle.std.proofs.Math.Option.{Option, none, some, bind}
+use Rattle.base.specs.Options.{bind}
+use Rattle.std.specs.Prelude.{ℕ, Bool, true, false, cond, List, [], ◌∷◌, ◌++◌, length, ℤ, None, Option, Some, Result, Ok, Err}
 use Rattle.base.specs.Bytes.{Bytes, both}
-use Rattle.published.specs.Std.{Result, Ok, Err, map_ok, ElementKind, Node, Way, Relation, max_z, slice_from, HashMap, get, insert, remove, HashSet, contains, insert_into, remove_from}
+use Rattle.published.specs.Std.{map_ok, ElementKind, Node, Way, Relation, max_z, slice_from, HashMap, get, insert, remove, HashSet, contains, insert_into, remove_from}
 use Rattle.published.specs.VersionFloor.{admit}
 use Rattle.published.specs.VersionFloor as VersionFloor
 use Rattle.published.specs.Interner.{StringInterner}
@@ -65,8 +65,8 @@ get_data s id = bind (get s.index id) (slice_from s.arena)
 
 -- self.index.contains_key(&id)
 abbrev pub is_some : {A : Type 0} → Option A → Bool
-is_some none = false
-is_some (some a) = true
+is_some None = false
+is_some (Some a) = true
 
 -- fn has_node, has_way, has_relation (&self, id: i64) -> bool
 unfoldable pub has : KindFields → ℤ → Bool
@@ -91,14 +91,14 @@ is_empty o = both (no_ids_of o.nodes) (both (no_ids_of o.ways) (no_ids_of o.rela
 -- ---- the version gate
 -- .and_then(|&offset| version_at(self.arena, offset, self.meta_off))
 abbrev pub live_version : ℕ → Bytes → Option ℕ → Option ℤ
-live_version meta_off arena none = none
-live_version meta_off arena (some offset) = version_at arena offset meta_off
+live_version meta_off arena None = None
+live_version meta_off arena (Some offset) = version_at arena offset meta_off
 
 -- match (live, dead) { (Some(a), Some(b)) => Some(a.max(b)), (a, b) => a.or(b) }
 unfoldable pub max_or : Option ℤ → Option ℤ → Option ℤ
-max_or (some a) (some b) = some (max_z a b)
-max_or (some a) none = some a
-max_or none b = b
+max_or (Some a) (Some b) = Some (max_z a b)
+max_or (Some a) None = Some a
+max_or None b = b
 
 -- fn stored_version(&self, id: i64) -> Option<i32>
 unfoldable pub stored_version : ℕ → KindFields → ℤ → Option ℤ
@@ -106,19 +106,19 @@ stored_version meta_off s id = max_or (live_version meta_off s.arena (get s.inde
 
 -- fn check_version_advance(&self, kind, id, store, incoming_version) -> ParseResult<()>; the error carries `stored`
 unfoldable pub check_version_advance : Bool → ℕ → KindFields → ℤ → ℤ → Result (Unit {0}) ℤ
-check_version_advance allow meta_off s id incoming = cond allow (Ok tt) (admit (VersionFloor.new (stored_version meta_off s id)) (some incoming))
+check_version_advance allow meta_off s id incoming = cond allow (Ok tt) (admit (VersionFloor.new (stored_version meta_off s id)) (Some incoming))
 
 -- floors.entry(id).and_modify(|v| *v = (*v).max(highest)).or_insert(highest);
 abbrev pub modified : Option ℤ → ℤ → ℤ
-modified none highest = highest
-modified (some v) highest = max_z v highest
+modified None highest = highest
+modified (Some v) highest = max_z v highest
 
 -- fn raise_floor(floors, id, carried: Option<i32>, meta: &ArenaMeta), given meta.version_claim()
 unfoldable pub raise_floor : HashMap ℤ → ℤ → Option ℤ → Option ℤ → HashMap ℤ
-raise_floor floors id (some a) (some b) = insert floors id (modified (get floors id) (max_z a b))
-raise_floor floors id (some a) none = insert floors id (modified (get floors id) a)
-raise_floor floors id none (some a) = insert floors id (modified (get floors id) a)
-raise_floor floors id none none = floors
+raise_floor floors id (Some a) (Some b) = insert floors id (modified (get floors id) (max_z a b))
+raise_floor floors id (Some a) None = insert floors id (modified (get floors id) a)
+raise_floor floors id None (Some a) = insert floors id (modified (get floors id) a)
+raise_floor floors id None None = floors
 
 -- let offset = arena_append_..(..)?; self.index.insert(id, offset); self.deleted.remove(&id);
 abbrev pub appended : KindFields → HashMap ℤ → ℤ → Bytes → KindFields
@@ -132,9 +132,9 @@ after_check (Err e) s = Err e
 
 -- push_node, push_way, push_relation, given meta.version_claim() and the bytes that the append writes
 abbrev pub push_with : Bool → ℕ → KindFields → ℤ → Bytes → Option ℤ → Result KindFields ℤ
-push_with allow meta_off s id bytes (some claim) = after_check (check_version_advance allow meta_off s id claim) (appended s s.floors id bytes)
-push_with allow meta_off s id bytes none =
-    Ok (appended s (cond allow s.floors (raise_floor s.floors id (stored_version meta_off s id) none)) id bytes)
+push_with allow meta_off s id bytes (Some claim) = after_check (check_version_advance allow meta_off s id claim) (appended s s.floors id bytes)
+push_with allow meta_off s id bytes None =
+    Ok (appended s (cond allow s.floors (raise_floor s.floors id (stored_version meta_off s id) None)) id bytes)
 
 unfoldable pub push : Bool → ℕ → KindFields → ℤ → Bytes → ArenaMeta → Result KindFields ℤ
 push allow meta_off s id bytes meta = push_with allow meta_off s id bytes (version_claim meta)
@@ -151,8 +151,8 @@ marked_deleted meta_off s id claim =
 
 -- delete_node, delete_way, delete_relation, given meta.version_claim()
 abbrev pub delete_with : Bool → ℕ → KindFields → ℤ → Option ℤ → Result KindFields ℤ
-delete_with allow meta_off s id (some claim) = after_check (check_version_advance allow meta_off s id claim) (marked_deleted meta_off s id (some claim))
-delete_with allow meta_off s id none = Ok (marked_deleted meta_off s id none)
+delete_with allow meta_off s id (Some claim) = after_check (check_version_advance allow meta_off s id claim) (marked_deleted meta_off s id (Some claim))
+delete_with allow meta_off s id None = Ok (marked_deleted meta_off s id None)
 
 unfoldable pub delete : Bool → ℕ → KindFields → ℤ → ArenaMeta → Result KindFields ℤ
 delete allow meta_off s id meta = delete_with allow meta_off s id (version_claim meta)

@@ -1,7 +1,6 @@
 -- sorted.rs: ids in order, a record by its number, and the lookups in lists of ids.
-use Rattle.std.specs.Prelude.{ℕ, suc, ◌+◌, Bool, false, cond, List, [], ◌∷◌, map, drop, ℤ}
-use Rattle.std.proofs.Math.Option.{Option, none, some, bind}
-use Rattle.std.proofs.Math.ListN.{get_elem?}
+use Rattle.base.specs.Options.{bind}
+use Rattle.std.specs.Prelude.{ℕ, suc, ◌+◌, Bool, false, cond, List, [], ◌∷◌, map, drop, ℤ, None, Option, Some, slice_get}
 use Rattle.base.specs.Bytes.{Bytes, either}
 use Rattle.published.specs.Std.{ElementKind, Node, Way, Relation, is_lt, is_le, eq_z, slice_from, Entry, HashMap, HashSet}
 use Rattle.published.specs.OsmId.{OsmIdKey, cmp, osm_id_key, osm_id_cmp, blob_osm_first_key, blob_osm_last_key}
@@ -35,7 +34,7 @@ build arena index deleted = build_from arena (sort_by_id (λ (e : Entry ℕ). e.
 
 -- fn record(&self, i: usize) -> &[u8]: &self.arena[self.offsets[i]..]; none where it panics
 unfoldable pub table_record : KindTable → ℕ → Option Bytes
-table_record t i = bind (get_elem? t.offsets i) (slice_from t.arena)
+table_record t i = bind (slice_get t.offsets i) (slice_from t.arena)
 
 -- pub(crate) struct SortedDiff
 pub record SortedDiff : Type 0 where
@@ -63,12 +62,12 @@ partition_point p [] = 0
 partition_point p (x ∷ xs) = cond (p x) (suc (partition_point p xs)) 0
 
 abbrev pub key_at_most : OsmIdKey → Option ℤ → Bool
-key_at_most last none = false
-key_at_most last (some id) = is_le (cmp (osm_id_key id) last)
+key_at_most last None = false
+key_at_most last (Some id) = is_le (cmp (osm_id_key id) last)
 
 -- the closure `hit` of any_in
 unfoldable pub hit : OsmIdKey → OsmIdKey → List ℤ → Bool
-hit first last ids = key_at_most last (get_elem? ids (partition_point (λ id. is_lt (cmp (osm_id_key id) first)) ids))
+hit first last ids = key_at_most last (slice_get ids (partition_point (λ id. is_lt (cmp (osm_id_key id) first)) ids))
 
 -- fn range_overlaps(&self, kind, min_id, max_id) -> bool, of a kind's two lists
 unfoldable pub range_overlaps : List ℤ → List ℤ → ℤ → ℤ → Bool
@@ -92,19 +91,19 @@ seek_on pos (x ∷ xs) id = cond (is_lt (osm_id_cmp x id)) (seek_on (suc pos) xs
 
 -- self.0.get_or_insert_with(..)
 abbrev pub seek_start : Option ℕ → List ℤ → ℤ → ℕ
-seek_start none ids id = partition_point (λ x. is_lt (osm_id_cmp x id)) ids
-seek_start (some pos) ids id = pos
+seek_start None ids id = partition_point (λ x. is_lt (osm_id_cmp x id)) ids
+seek_start (Some pos) ids id = pos
 
 pub record SeekFound : Type 0 where
   pub seek : Option ℕ
   pub found : Option ℕ
 
 abbrev pub found_at : ℕ → Option ℤ → ℤ → Option ℕ
-found_at pos none id = none
-found_at pos (some x) id = cond (eq_z x id) (some pos) none
+found_at pos None id = None
+found_at pos (Some x) id = cond (eq_z x id) (Some pos) None
 
 -- fn find(&mut self, ids: &[i64], id: i64) -> Option<usize>
 unfoldable pub find : Option ℕ → List ℤ → ℤ → SeekFound
 find seek ids id =
     let pos = seek_on (seek_start seek ids id) (drop (seek_start seek ids id) ids) id in
-    record { seek = some pos; found = found_at pos (get_elem? ids pos) id }
+    record { seek = Some pos; found = found_at pos (slice_get ids pos) id }

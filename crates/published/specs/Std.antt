@@ -1,15 +1,8 @@
--- What the published files use of Rust itself: Result, orderings, hash maps and hash sets, integers compared, read from text and as little-endian bytes, slices; and of the crate's
+-- What the published files use of Rust itself: what is done with a Result, orderings, hash maps and hash sets, integers compared, read from text and as little-endian bytes, slices; and of the crate's
 -- other files ElementKind.
-use Rattle.std.specs.Prelude.{ℕ, zero, suc, ◌+◌, ◌-◌, ◌*◌, ◌/◌, ◌%◌, ◌^◌, Bool, true, false, cond, List, [], ◌∷◌, length, take, drop, ℤ, pos, negsuc, ◌==◌, int_lt, nat_le, nat_lt}
-use Rattle.std.proofs.Math.Option.{Option, none, some}
-use Rattle.std.proofs.Math.ListN.{get_elem?}
+use Rattle.std.specs.Prelude.{ℕ, zero, suc, ◌+◌, ◌-◌, ◌*◌, ◌/◌, ◌%◌, ◌^◌, Bool, true, false, cond, List, [], ◌∷◌, length, take, drop, ℤ, pos, negsuc, ◌==◌, int_lt, nat_le, nat_lt, None, Option, Some, slice_get, Result, Ok, Err}
 use Rattle.base.specs.Ascii.{ascii}
 use Rattle.base.specs.Bytes.{Bytes, same, is_digit}
-
--- Result<A, E>
-pub data Result (A E : Type 0) : Type 0 where
-  Ok : A → Result A E
-  Err : E → Result A E
 
 -- result.map(f)
 abbrev pub map_ok : {A B E : Type 0} → (A → B) → Result A E → Result B E
@@ -40,7 +33,7 @@ pub data ElementKind : Type 0 where
 
 -- ElementKind::from_name; like `Metadata` it is not in the published files, and stands in the judge as a stand-in
 unfoldable pub from_name : Bytes → Option ElementKind
-from_name n = cond (same n (ascii "node")) (some Node) (cond (same n (ascii "way")) (some Way) (cond (same n (ascii "relation")) (some Relation) none))
+from_name n = cond (same n (ascii "node")) (Some Node) (cond (same n (ascii "way")) (Some Way) (cond (same n (ascii "relation")) (Some Relation) None))
 
 -- ---- integers
 
@@ -57,21 +50,21 @@ max_z a b = cond (int_lt b a) a b
 
 -- str::parse::<i64>() with 63 and str::parse::<i32>() with 31: an optional sign, one digit or more, no overflow
 unfoldable pub digits : ℕ → Bytes → Option ℕ
-digits acc [] = some acc
-digits acc (b ∷ bs) = cond (is_digit b) (digits (acc * 10 + (b - 48)) bs) none
+digits acc [] = Some acc
+digits acc (b ∷ bs) = cond (is_digit b) (digits (acc * 10 + (b - 48)) bs) None
 
 abbrev pub within : ℕ → Bool → Option ℕ → Option ℤ
-within bits negative none = none
-within bits true (some zero) = some (pos 0)
-within bits true (some (suc n)) = cond (nat_lt n (2 ^ bits)) (some (negsuc n)) none
-within bits false (some n) = cond (nat_lt n (2 ^ bits)) (some (pos n)) none
+within bits negative None = None
+within bits true (Some zero) = Some (pos 0)
+within bits true (Some (suc n)) = cond (nat_lt n (2 ^ bits)) (Some (negsuc n)) None
+within bits false (Some n) = cond (nat_lt n (2 ^ bits)) (Some (pos n)) None
 
 abbrev pub unsigned : ℕ → Bool → Bytes → Option ℤ
-unsigned bits negative [] = none
+unsigned bits negative [] = None
 unsigned bits negative (b ∷ bs) = within bits negative (digits 0 (b ∷ bs))
 
 unfoldable pub parse_int : ℕ → Bytes → Option ℤ
-parse_int bits [] = none
+parse_int bits [] = None
 parse_int bits (b ∷ bs) = cond (b == 45) (unsigned bits true bs) (cond (b == 43) (unsigned bits false bs) (unsigned bits false (b ∷ bs)))
 
 -- n.to_le_bytes() of an unsigned number of so many bytes; from_le_bytes
@@ -87,15 +80,15 @@ from_le (b ∷ bs) = b + 256 * from_le bs
 
 -- data[i]; none where it panics
 abbrev pub index : Bytes → ℕ → Option ℕ
-index s i = get_elem? s i
+index s i = slice_get s i
 
 -- &data[i..i + n]; none where it panics
 unfoldable pub slice : Bytes → ℕ → ℕ → Option Bytes
-slice s i n = cond (nat_le (i + n) (length s)) (some (take n (drop i s))) none
+slice s i n = cond (nat_le (i + n) (length s)) (Some (take n (drop i s))) None
 
 -- &data[i..]; none where it panics
 abbrev pub slice_from : Bytes → ℕ → Option Bytes
-slice_from s i = cond (nat_le i (length s)) (some (drop i s)) none
+slice_from s i = cond (nat_le i (length s)) (Some (drop i s)) None
 
 -- ---- FxHashMap<i64, T>, as its entries in no order that is ever looked at; a key stands in it once
 
@@ -109,8 +102,8 @@ HashMap T = List (Entry T)
 module _ {T : Type 0} where
   -- map.get(&key)
   unfoldable pub get : HashMap T → ℤ → Option T
-  get [] k = none
-  get (e ∷ m) k = cond (eq_z e.key k) (some e.value) (get m k)
+  get [] k = None
+  get (e ∷ m) k = cond (eq_z e.key k) (Some e.value) (get m k)
 
   -- map.remove(&key)
   unfoldable pub remove : HashMap T → ℤ → HashMap T

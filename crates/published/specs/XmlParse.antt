@@ -1,11 +1,10 @@
 -- xml_parse.rs, the part that is bought: the readers of attributes, `CompactSink`, handle_open, handle_close, and of drive_osc one turn of its loop and the end test. The sink stands
 -- before the driver that calls it. An event is what quick-xml hands over: a name and attributes. The Rust reads k, v, type, role
 -- and user normalized and the other values raw; events come from lines here, and a value is both. Left out: `LexSink` and batches, files, cancellation, paths and messages.
-use Rattle.std.specs.Prelude.{ℕ, ◌+◌, Bool, true, false, cond, List, [], ◌∷◌, ◌++◌, ℤ, pos}
-use Rattle.std.proofs.Math.Option.{Option, none, some}
+use Rattle.std.specs.Prelude.{ℕ, ◌+◌, Bool, true, false, cond, List, [], ◌∷◌, ◌++◌, ℤ, pos, None, Option, Some, Result, Ok, Err}
 use Rattle.base.specs.Ascii.{ascii}
 use Rattle.base.specs.Bytes.{Bytes, same, either}
-use Rattle.published.specs.Std.{Result, Ok, Err, ElementKind, Node, Way, Relation, from_name, parse_int}
+use Rattle.published.specs.Std.{ElementKind, Node, Way, Relation, from_name, parse_int}
 use Rattle.published.specs.Compact.{ArenaMeta, TagPart, MemberPart, Tag, member_type_to_byte, META_FLAG_PRESENT, META_FLAG_HIDDEN, META_FLAG_HAS_USER, META_FLAG_HAS_VERSION}
 use Rattle.published.specs.Parse.{CompactDiffOverlay, intern_in, handle_in_overlay, push_node, push_way, push_relation, delete_kind}
 
@@ -50,15 +49,15 @@ then (Err e) f = Err e
 
 -- .ok_or(e), .map_err(|_| e)
 abbrev pub ok_or : {A : Type 0} → Error → Option A → Result A Error
-ok_or e none = Err e
-ok_or e (some a) = Ok a
+ok_or e None = Err e
+ok_or e (Some a) = Ok a
 
 -- ---- attributes
 
 -- the loop of parse_i64_attr, append_str_attr and append_str_attr_optional: the first attribute of a name
 unfoldable pub find_attr : List Attribute → Bytes → Option Bytes
-find_attr [] name = none
-find_attr (a ∷ attrs) name = cond (same a.key name) (some a.value) (find_attr attrs name)
+find_attr [] name = None
+find_attr (a ∷ attrs) name = cond (same a.key name) (Some a.value) (find_attr attrs name)
 
 -- fn parse_i64_attr(e, name) -> ParseResult<i64>
 unfoldable pub parse_i64_attr : BytesStart → Bytes → Result ℤ Error
@@ -70,8 +69,8 @@ parse_str_attr e name = ok_or missing_attr (find_attr e.attributes name)
 
 -- fn append_str_attr_optional(e, name, out), of an empty `out`
 abbrev pub or_empty : Option Bytes → Bytes
-or_empty none = []
-or_empty (some v) = v
+or_empty None = []
+or_empty (Some v) = v
 
 -- ---- object children
 
@@ -117,7 +116,7 @@ pub record MetaSoFar : Type 0 where
 
 -- ArenaMeta::default(), and no user
 abbrev pub default : MetaSoFar
-default = record { any = false; hidden = false; has_version = false; version = pos 0; timestamp = pos 0; changeset = pos 0; uid = pos 0; user = none }
+default = record { any = false; hidden = false; has_version = false; version = pos 0; timestamp = pos 0; changeset = pos 0; uid = pos 0; user = None }
 
 module _ (np : NotPublished) where
   -- one attribute: any = true; f(field, &attr)?;
@@ -136,7 +135,7 @@ module _ (np : NotPublished) where
       (then (ok_or not_integer (parse_int 31 a.value)) (λ z.
       Ok (record { any = true; hidden = m.hidden; has_version = m.has_version; version = m.version; timestamp = m.timestamp; changeset = m.changeset; uid = z; user = m.user })))
       (cond (same a.key (ascii "user"))
-      (Ok (record { any = true; hidden = m.hidden; has_version = m.has_version; version = m.version; timestamp = m.timestamp; changeset = m.changeset; uid = m.uid; user = some a.value }))
+      (Ok (record { any = true; hidden = m.hidden; has_version = m.has_version; version = m.version; timestamp = m.timestamp; changeset = m.changeset; uid = m.uid; user = Some a.value }))
       (cond (same a.key (ascii "visible"))
       (Ok (record { any = true; hidden = cond (same a.value (ascii "false")) true m.hidden; has_version = m.has_version; version = m.version; timestamp = m.timestamp; changeset = m.changeset; uid = m.uid; user = m.user }))
       (Ok m))))))
@@ -150,8 +149,8 @@ bit true n = n
 bit false n = 0
 
 abbrev pub given : Option Bytes → Bool
-given none = false
-given (some t) = true
+given None = false
+given (Some t) = true
 
 -- meta.flags, as arena_meta leaves it
 abbrev pub flags_of : MetaSoFar → ℕ
@@ -159,12 +158,12 @@ flags_of m = bit m.any META_FLAG_PRESENT + bit m.hidden META_FLAG_HIDDEN + bit (
 
 -- if let Some(name) = user { meta.user_id = overlay.intern(&name)?; .. }: what it leaves of the overlay, and the handle
 abbrev pub user_interned : CompactDiffOverlay → Option Bytes → CompactDiffOverlay
-user_interned o none = o
-user_interned o (some t) = intern_in o t
+user_interned o None = o
+user_interned o (Some t) = intern_in o t
 
 abbrev pub user_handle : CompactDiffOverlay → Option Bytes → ℕ
-user_handle o none = 0
-user_handle o (some t) = handle_in_overlay o t
+user_handle o None = 0
+user_handle o (Some t) = handle_in_overlay o t
 
 -- the ArenaMeta that arena_meta(e, overlay) returns
 abbrev pub arena_meta_of : CompactDiffOverlay → MetaSoFar → ArenaMeta
@@ -206,8 +205,8 @@ failed s e = record { sink = s; result = Err e }
 
 -- self.staged()?: the staged element changed, or an error where there is none
 abbrev pub staged : CompactDiffOverlay → Option Staging → (Staging → Staging) → Sunk
-staged o none f = failed (sink_with o none) internal
-staged o (some st) f = sunk o (some (f st))
+staged o None f = failed (sink_with o None) internal
+staged o (Some st) f = sunk o (Some (f st))
 
 abbrev pub add_tag : ℕ → Bytes → Staging → Staging
 add_tag k v st =
@@ -240,7 +239,7 @@ sink_member s (Ok m) =
 
 -- self.overlay.delete_..(id, &meta)?; self.staging = None;
 abbrev pub deleted_as : CompactSink → Result CompactDiffOverlay ℤ → Sunk
-deleted_as s (Ok o) = sunk o none
+deleted_as s (Ok o) = sunk o None
 deleted_as s (Err v) = failed s (version_regression v)
 
 -- st.tag_keys.iter().zip(st.tag_values.iter())
@@ -256,12 +255,12 @@ push_staged Relation o st = push_relation o st.id st.members (zip_tags st.tag_ke
 
 -- self.staging.take() comes before the push
 abbrev pub pushed_as : CompactDiffOverlay → Result CompactDiffOverlay ℤ → Sunk
-pushed_as o (Ok p) = sunk p none
-pushed_as o (Err v) = failed (sink_with o none) (version_regression v)
+pushed_as o (Ok p) = sunk p None
+pushed_as o (Err v) = failed (sink_with o None) (version_regression v)
 
 abbrev pub end_staged : CompactDiffOverlay → Option Staging → Sunk
-end_staged o none = sunk o none
-end_staged o (some st) = pushed_as o (push_staged st.kind o st)
+end_staged o None = sunk o None
+end_staged o (Some st) = pushed_as o (push_staged st.kind o st)
 
 -- fn end_element(&mut self)
 unfoldable pub end_element : CompactSink → Sunk
@@ -289,7 +288,7 @@ module _ (np : NotPublished) where
   begin_staged s kind id m (Err e) = failed (sink_with (user_interned s.overlay m.user) s.staging) e
   begin_staged s kind id m (Ok c) =
       sunk (user_interned s.overlay m.user)
-      (some (record { kind = kind; id = id; lat = c.lat; lon = c.lon; meta = arena_meta_of s.overlay m; tag_keys = []; tag_values = []; refs = []; members = [] }))
+      (Some (record { kind = kind; id = id; lat = c.lat; lon = c.lon; meta = arena_meta_of s.overlay m; tag_keys = []; tag_values = []; refs = []; members = [] }))
 
   abbrev pub begin_delete : CompactSink → ElementKind → ℤ → MetaSoFar → Sunk
   begin_delete s kind id m =
@@ -314,7 +313,7 @@ module _ (np : NotPublished) where
 
 -- fn action_for(name: &str) -> Option<OscAction>
 unfoldable pub action_for : Bytes → Option OscAction
-action_for n = cond (same n (ascii "create")) (some Create) (cond (same n (ascii "modify")) (some Modify) (cond (same n (ascii "delete")) (some Delete) none))
+action_for n = cond (same n (ascii "create")) (Some Create) (cond (same n (ascii "modify")) (Some Modify) (cond (same n (ascii "delete")) (Some Delete) None))
 
 -- enum Level
 pub data Level : Type 0 where
@@ -400,14 +399,14 @@ ended d x = end_begun d x.sink x.result
 module _ (np : NotPublished) where
   -- fn handle_open(e, is_empty, state, sink, path), level by level
   abbrev pub open_section : Bool → BytesStart → DriveState → CompactSink → Option ElementKind → Driven
-  open_section is_empty e d s none = refused d s misplaced
-  open_section true e d s (some kind) = ended d (begin_element np s d.section kind e)
-  open_section false e d s (some kind) = sunk_then d (record { level = Element; section = d.section; open_kind = kind }) (begin_element np s d.section kind e)
+  open_section is_empty e d s None = refused d s misplaced
+  open_section true e d s (Some kind) = ended d (begin_element np s d.section kind e)
+  open_section false e d s (Some kind) = sunk_then d (record { level = Element; section = d.section; open_kind = kind }) (begin_element np s d.section kind e)
 
   abbrev pub open_root : Bool → BytesStart → DriveState → CompactSink → Option OscAction → Option ElementKind → Driven
-  open_root is_empty e d s (some action) k = driven (cond is_empty d (record { level = Section; section = action; open_kind = d.open_kind })) s
-  open_root is_empty e d s none (some kind) = refused d s outside_section
-  open_root is_empty e d s none none = cond (same e.name ROOT) (refused d s misplaced) (driven (cond is_empty d (at_level d Level.Other)) s)
+  open_root is_empty e d s (Some action) k = driven (cond is_empty d (record { level = Section; section = action; open_kind = d.open_kind })) s
+  open_root is_empty e d s None (Some kind) = refused d s outside_section
+  open_root is_empty e d s None None = cond (same e.name ROOT) (refused d s misplaced) (driven (cond is_empty d (at_level d Level.Other)) s)
 
   abbrev pub open_at : Level → Bool → BytesStart → DriveState → CompactSink → Driven
   open_at Element is_empty e d s = sunk_then d (cond is_empty d (at_level d Leaf)) (handle_element_child e d.section d.open_kind s)

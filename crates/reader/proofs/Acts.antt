@@ -1,8 +1,8 @@
 -- What a turn asks of the overlay, as direct calls: its text is taken in by `intern`, its act is a push or a delete. Such calls keep the overlay sound, whoever makes them.
+use Rattle.std.specs.Prelude.{None, Ok, Option, Some}
 use Prim.Native.Nat.{ℕ, ◌+◌, ◌<◌, ◌≤◌}
 use mathlib.Core.Path.{◌≡◌, refl, ◌∙◌, ap}
 use mathlib.Core.Bool.{true}
-use mathlib.Core.Option.{Option, none, some}
 use mathlib.Core.List.{List, [], ◌∷◌}
 use native.Mathlib.Omega.{arith}
 use lib.ListN.{length, length-append}
@@ -30,7 +30,6 @@ use Rattle.overlay.specs.Overlay.{Overlay}
 use Rattle.overlay.specs.Sound.{Sound, is_sound}
 use Rattle.overlay.specs.Given.{head_fits, meta_fits, InBytes}
 use Rattle.overlay_direct.specs.Calls.{push_on, delete_on, intern_on}
-use Rattle.overlay_store.specs.declared.Handle.TheVariants as H
 use Rattle.overlay.proofs.Answers.{strings_sound}
 use Rattle.overlay.proofs.Decides.{decides}
 use Rattle.overlay.proofs.Tiles.{sized_spans}
@@ -41,16 +40,16 @@ use Rattle.reader.proofs.Small.{text_small}
 -- the texts of a turn are taken in by `intern`: at most one
 pub data TakesIn (o : Overlay) : List Bytes → Overlay → Type 0 where
   no_text : TakesIn o [] o
-  a_text : (t : Bytes) (n : ℕ) → is_text t ≡ true → (intern_on t o).answer ≡ H.Is n → TakesIn o (t ∷ []) (intern_on t o).overlay
+  a_text : (t : Bytes) (n : ℕ) → is_text t ≡ true → (intern_on t o).answer ≡ Ok n → TakesIn o (t ∷ []) (intern_on t o).overlay
 
 -- the act of a turn is a direct push or delete that is accepted
 pub data Acts (o : Overlay) : Option (Act Bytes) → Overlay → Type 0 where
-  no_act : Acts o none o
+  no_act : Acts o None o
   a_push : (k : Kind) (h : PushHead) (m : ArenaMeta) (parts : Bytes) (r : Record ℕ) → head_fits h ≡ true → meta_fits m ≡ true → all is_byte parts ≡ true
-      → pushed_record k (head_in k h) (meta_of m) parts ≡ some r → taken_in (push_on k h m parts o).answer ≡ true
-      → Acts o (some (push (to_z w64 h.id) (swap_record (text_of (texts_of o.texts)) r))) (push_on k h m parts o).overlay
+      → pushed_record k (head_in k h) (meta_of m) parts ≡ Some r → taken_in (push_on k h m parts o).answer ≡ true
+      → Acts o (Some (push (to_z w64 h.id) (swap_record (text_of (texts_of o.texts)) r))) (push_on k h m parts o).overlay
   a_delete : (k : Kind) (id : ℕ) (m : ArenaMeta) → id < 18446744073709551616 → meta_fits m ≡ true → taken_in (delete_on k (to_z w64 id) (meta_of m) o).answer ≡ true
-      → Acts o (some (delete k (to_z w64 id) (claim_of (meta_of m)))) (delete_on k (to_z w64 id) (meta_of m) o).overlay
+      → Acts o (Some (delete k (to_z w64 id) (claim_of (meta_of m)))) (delete_on k (to_z w64 id) (meta_of m) o).overlay
 
 -- first the texts, then the act
 pub record Acted (o : Overlay) (t : Turn) (q : Overlay) : Type 0 where

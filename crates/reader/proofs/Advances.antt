@@ -1,8 +1,8 @@
 -- An event that goes on, whatever is decided of it: a turn of the acts' reader that its state stands for, the direct calls of that turn, and again a legal element staged.
+use Rattle.std.specs.Prelude.{None, Ok, Result, Some}
 use Prim.Native.Nat.{ℕ, ◌+◌, ◌<◌, ◌≤◌}
 use mathlib.Core.Path.{◌≡◌, refl, sym, ◌∙◌, ap, subst}
 use mathlib.Core.Bool.{true, false}
-use mathlib.Core.Option.{none, some}
 use mathlib.Core.List.{List, [], ◌∷◌, ◌++◌, map, map-append}
 use native.Mathlib.Omega.{arith}
 use lib.IntN.{ℤ}
@@ -33,9 +33,7 @@ use Rattle.compact_legal.specs.Judge.{fault_for}
 use Rattle.compact_legal.proofs.Laws.{legal_more}
 use Rattle.interner.specs.Texts.{text_of}
 use Rattle.interner.specs.Sound.{texts_of}
-use Rattle.version_floor.specs.declared.Admit.{Admit}
 use Rattle.kind_store.specs.KindStore.{known_version, checked, taken_in}
-use Rattle.kind_store.specs.declared.Kept.TheVariants.{Taken}
 use Rattle.overlay.specs.Overlay.{Overlay, kind_store_of}
 use Rattle.overlay.specs.Sound.{is_sound}
 use Rattle.overlay.specs.Given.{head_fits, meta_fits}
@@ -76,14 +74,14 @@ pub record Advances (d : Decision) (s : State) (l : Advanced) : Type 0 where
 
 -- a push of the element that is staged
 held_acts : (k : Kind) (parts : Bytes) (x : Pending) (o : Overlay) → Held o.texts.strings k parts x → is_sound o ≡ true → all is_byte parts ≡ true
-    → (store_push k x.head x.meta (take x.used parts) o).answer ≡ Taken
-    → Acts o (some (push (staged_of (texts_of o.texts) k parts x).id (staged_of (texts_of o.texts) k parts x).held)) (store_push k x.head x.meta (take x.used parts) o).overlay
+    → (store_push k x.head x.meta (take x.used parts) o).answer ≡ (Ok tt)
+    → Acts o (Some (push (staged_of (texts_of o.texts) k parts x).id (staged_of (texts_of o.texts) k parts x).held)) (store_push k x.head x.meta (take x.used parts) o).overlay
 held_acts k parts x o v e b a =
     let bytes = take x.used parts in
     let p = stages_back k x.head x.meta bytes v.held v.stages in
     let s = push_store k x.head x.meta bytes o e (ap (fault_for o.texts.strings) p ∙ fault_legal o.texts.strings v.held v.lawful) in
     let i = a_push k x.head x.meta bytes v.held v.head v.meta (bytes_take x.used parts b) p (ap (λ (z : OverlayAfter). taken_in z.answer) s ∙ ap taken_in a) in
-    subst (λ (y : Staged). Acts o (some (push y.id y.held)) (store_push k x.head x.meta bytes o).overlay) (sym (held_means o.texts.strings k parts x v (texts_of o.texts)))
+    subst (λ (y : Staged). Acts o (Some (push y.id y.held)) (store_push k x.head x.meta bytes o).overlay) (sym (held_means o.texts.strings k parts x v (texts_of o.texts)))
     (rw (ap (λ (z : OverlayAfter). z.overlay) s) at i)
 
 -- an element that begins behind its user's text
@@ -111,19 +109,19 @@ module _ (o : Overlay) (w : Fine o) (id : ℤ) (m : Meta Bytes) (g : Decided.Giv
       held_means q.texts.strings (kind_of b) parts _ (begun_held id m b g.fits g.legal f q.texts.strings h t.held named_small z parts) (texts_of q.texts)
       ∙ begun_means id m b g.fits g.legal f q.texts.strings h t.held named_small z (texts_of q.texts) t.text
 
-  first_acts : (b : Body Bytes) → Decided.First b → (store_push (kind_of b) (head_for id b) (bits_with_user m h) [] q).answer ≡ Taken
-      → Acts q (some (push id (first m b))) (store_push (kind_of b) (head_for id b) (bits_with_user m h) [] q).overlay
+  first_acts : (b : Body Bytes) → Decided.First b → (store_push (kind_of b) (head_for id b) (bits_with_user m h) [] q).answer ≡ (Ok tt)
+      → Acts q (Some (push id (first m b))) (store_push (kind_of b) (head_for id b) (bits_with_user m h) [] q).overlay
   first_acts b f a =
-      subst (λ (y : Staged). Acts q (some (push y.id y.held)) (store_push (kind_of b) (head_for id b) (bits_with_user m h) [] q).overlay) (named_means b f [])
+      subst (λ (y : Staged). Acts q (Some (push y.id y.held)) (store_push (kind_of b) (head_for id b) (bits_with_user m h) [] q).overlay) (named_means b f [])
       (held_acts (kind_of b) [] (record { head = head_for id b; meta = bits_with_user m h; used = 0 }) q (named_held b f []) named_fine.sound (all_nil is_byte) a)
 
-  delete_acts : (k : Kind) → (store_delete k id (claim_of m) q).answer ≡ Taken → Acts q (some (delete k id (claim_of m))) (store_delete k id (claim_of m) q).overlay
+  delete_acts : (k : Kind) → (store_delete k id (claim_of m) q).answer ≡ (Ok tt) → Acts q (Some (delete k id (claim_of m))) (store_delete k id (claim_of m) q).overlay
   delete_acts k a =
       let x = bits_with_user m h in
       let i : to_z w64 (of_z w64 id) ≡ id = to_z-of_z g.fits in
       let c = claim_same m g.legal h in
       let s : delete_on k (to_z w64 (of_z w64 id)) (meta_of x) q ≡ store_delete k id (claim_of m) q = rw (i, ← c) (delete_store k id (meta_of x) q named_fine.sound named_legal) in
-      let d : Acts q (some (delete k (to_z w64 (of_z w64 id)) (claim_of (meta_of x)))) (delete_on k (to_z w64 (of_z w64 id)) (meta_of x) q).overlay =
+      let d : Acts q (Some (delete k (to_z w64 (of_z w64 id)) (claim_of (meta_of x)))) (delete_on k (to_z w64 (of_z w64 id)) (meta_of x) q).overlay =
       a_delete k (of_z w64 id) x (Fits-of_z g.fits).fits named_fits (ap (λ (z : OverlayAfter). taken_in z.answer) s ∙ ap taken_in a) in
       rw (ap (λ (z : OverlayAfter). z.overlay) s, i, c) at d
 
@@ -229,7 +227,7 @@ module _ (s : State) (g : StateGiven s) (e : state_sound s ≡ true) where
   unfolding fits_number
   handle_fits o w n l = lt-ltb n 4294967296 (omega (arith, strings_few o w.sound))
 
-  abbrev admit : Kind → ℤ → Meta Bytes → Admit
+  abbrev admit : Kind → ℤ → Meta Bytes → Result Unit ℤ
   admit k id m = checked s.overlay.setting (known_version k (kind_store_of k s.overlay) id) (claim_of m)
 
   pub advances : (d : Decision) → Lawful s.reader.place d → EachStep (Advances d s) (step_of d s)
@@ -238,7 +236,7 @@ module _ (s : State) (g : StateGiven s) (e : state_sound s ≡ true) where
   advances (moves p) w =
       let v : Held s.overlay.texts.strings p.kind s.parts pending = rw w held in
       leaves (record {
-        comes = record { reader = record { place = p; staged = (reader_of s).staged }; texts = []; act = none };
+        comes = record { reader = record { place = p; staged = (reader_of s).staged }; texts = []; act = None };
         is = refl;
         place = refl;
         acted = record { between = s.overlay; taken = no_text; acted = no_act };
@@ -258,7 +256,7 @@ module _ (s : State) (g : StateGiven s) (e : state_sound s ≡ true) where
       let y : Pending = record { head = head_for id b; meta = bits_with_user m h; used = 0 } in
       let v : Held q.texts.strings p.kind s.parts y = rw w.1.1 (named_held s.overlay fine id m w.0 h q t z b w.1.0 s.parts) in
       leaves (record {
-        comes = record { reader = record { place = p; staged = record { id = id; held = first m b } }; texts = user_text m; act = none };
+        comes = record { reader = record { place = p; staged = record { id = id; held = first m b } }; texts = user_text m; act = None };
         is = refl;
         place = refl;
         acted = record { between = q; taken = t.takes; acted = no_act };
@@ -316,7 +314,7 @@ module _ (s : State) (g : StateGiven s) (e : state_sound s ≡ true) where
 
   -- ---- 16: "A reader gives 16 at the child that passes the limit"; a child is within the limits exactly where the element with it is
 
-  module _ (r : Record ℕ) (is : pending_record kind s.parts pending ≡ some r) where
+  module _ (r : Record ℕ) (is : pending_record kind s.parts pending ≡ Some r) where
     same : held.held ≡ r
     unfolding pending_record
     same = cc (stages_back kind pending.head pending.meta (take pending.used s.parts) held.held held.stages, is)

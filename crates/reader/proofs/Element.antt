@@ -1,8 +1,8 @@
 -- An element that is staged: its head counts a record's parts, its bytes are theirs; and with one part more it is staged for the record with that part.
+use Rattle.std.specs.Prelude.{None, Option, Some}
 use Prim.Native.Nat.{ℕ, ◌+◌, ◌*◌, ◌≤◌}
 use mathlib.Core.Path.{◌≡◌, refl, sym, ◌∙◌, ap}
 use mathlib.Core.Bool.{Bool, true, false}
-use mathlib.Core.Option.{Option, none, some}
 use mathlib.Core.List.{List, [], ◌∷◌, ◌++◌, append-nil}
 use native.Mathlib.Omega.{arith}
 use lib.Dec.{leb}
@@ -40,7 +40,7 @@ module _ (h : PushHead) where
   abbrev Counted : Kind → Body ℕ → ℕ → Type 0
   Counted k b tags = head_of (to_z w64 h.id) b tags ≡ head_in k h
 
-  body_head : (k : Kind) (s : Bytes) (c : Cut (Body ℕ)) → all is_byte s ≡ true → cut_body k (head_in k h) s ≡ some c
+  body_head : (k : Kind) (s : Bytes) (c : Cut (Body ℕ)) → all is_byte s ≡ true → cut_body k (head_in k h) s ≡ Some c
       → Counted k c.item h.tags × (all is_byte c.rest ≡ true)
   unfolding cut_body head_of head_in node_head counts_head
   body_head Node s c b e = of_cut (λ x r. Counted Node x h.tags × (all is_byte r ≡ true)) e (refl, b)
@@ -57,7 +57,7 @@ module _ (h : PushHead) where
   head_tags Way = refl
   head_tags Relation = refl
 
-  parts_head : (k : Kind) (m : Meta ℕ) (s : Bytes) (c : Cut (Record ℕ)) → all is_byte s ≡ true → cut_parts k (head_in k h) m s ≡ some c
+  parts_head : (k : Kind) (m : Meta ℕ) (s : Bytes) (c : Cut (Record ℕ)) → all is_byte s ≡ true → cut_parts k (head_in k h) m s ≡ Some c
       → Counted k c.item.body (length c.item.tags)
   unfolding cut_parts
   parts_head k m s c b e =
@@ -74,22 +74,22 @@ pub record Stages (k : Kind) (h : PushHead) (m : ArenaMeta) (x : Bytes) (r : Rec
   pub fit : both (fits_body r.body) (all fits_tag r.tags) ≡ true
   pub bytes : x ≡ parts_bytes r
 
-pub stages_of : (k : Kind) (h : PushHead) (m : ArenaMeta) (x : Bytes) (r : Record ℕ) → all is_byte x ≡ true → pushed_record k (head_in k h) (meta_of m) x ≡ some r
+pub stages_of : (k : Kind) (h : PushHead) (m : ArenaMeta) (x : Bytes) (r : Record ℕ) → all is_byte x ≡ true → pushed_record k (head_in k h) (meta_of m) x ≡ Some r
     → Stages k h m x r
 unfolding pushed_record
 stages_of k h m x r b e = go (cut_parts k (head_in k h) (meta_of m) x) refl e
   where
-    used_up_lem : (y : Record ℕ) (q : Bytes) → used_up y q ≡ some r → cut_parts k (head_in k h) (meta_of m) x ≡ some (record { item = y; rest = q }) → head_of (to_z w64 h.id) r.body (length r.tags) ≡ head_in k h
+    used_up_lem : (y : Record ℕ) (q : Bytes) → used_up y q ≡ Some r → cut_parts k (head_in k h) (meta_of m) x ≡ Some (record { item = y; rest = q }) → head_of (to_z w64 h.id) r.body (length r.tags) ≡ head_in k h
     used_up_lem y [] e w = let z : y ≡ r = cc in rw (← z) (parts_head h k (meta_of m) x _ b w)
     used_up_lem y (d ∷ q) e w = no cc
 
-    go : (o : Option (Cut (Record ℕ))) → cut_parts k (head_in k h) (meta_of m) x ≡ o → whole o ≡ some r → Stages k h m x r
-    go none t e = no cc
-    go (some c) t f =
+    go : (o : Option (Cut (Record ℕ))) → cut_parts k (head_in k h) (meta_of m) x ≡ o → whole o ≡ Some r → Stages k h m x r
+    go None t e = no cc
+    go (Some c) t f =
         let p = pushed k (head_in k h) (meta_of m) x r b e in
         record { kind = p.kind; head = used_up_lem c.item c.rest f t; meta = p.meta; fit = p.fit; bytes = rw append-nil at p.here.is }
 
-pub stages_back : (k : Kind) (h : PushHead) (m : ArenaMeta) (x : Bytes) (r : Record ℕ) → Stages k h m x r → pushed_record k (head_in k h) (meta_of m) x ≡ some r
+pub stages_back : (k : Kind) (h : PushHead) (m : ArenaMeta) (x : Bytes) (r : Record ℕ) → Stages k h m x r → pushed_record k (head_in k h) (meta_of m) x ≡ Some r
 stages_back k h m x r w = rw (← w.head, ← w.meta, w.bytes, ← w.kind) (pushed_back (to_z w64 h.id) r w.fit)
 
 -- ---- what the counts say of the record

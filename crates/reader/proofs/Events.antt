@@ -1,10 +1,11 @@
 -- An accepted event is a turn of the acts' reader that its state stands for, by the direct calls that the turn makes. The overlay stays sound and so does what is staged,
 -- whatever the count of lines; the reader too, until its count is at its largest.
+use Rattle.reader.specs.declared.RefusedAt.{RefusedAt}
+use Rattle.std.specs.Prelude.{None, Option, Some, Ok, Err}
 use Prim.Native.Nat.{ℕ, ◌≤◌}
 use mathlib.Core.Path.{◌≡◌, refl, sym, ◌∙◌, ap}
 use mathlib.Core.Bool.{true, false, cond}
 use mathlib.Core.Logic.{◌↔◌}
-use mathlib.Core.Option.{Option, none, some}
 use mathlib.Core.List.{List, [], ◌∷◌}
 use native.Mathlib.Omega.{arith}
 use borrow.Author.Tests.{le-leb}
@@ -26,15 +27,12 @@ use Rattle.event_decision.proofs.Table.{refusal_of, decide_first}
 use Rattle.acts.proofs.Turns.{turn_first}
 use Rattle.event_decision.proofs.Refusals.{decide_within}
 use Rattle.acts.specs.Turn.{Turn, turn_of, turn}
-use Rattle.reader.specs.declared.Stop.{Stop}
-use Rattle.reader.specs.declared.Stop.TheVariants.{At}
-use Rattle.reader.specs.declared.EventAnswer.TheVariants as E
-use Rattle.reader.specs.State.{State, next_line, stops_by, is_stopped, pending_sound, reader_sound, state_sound}
+use Rattle.reader.specs.State.{State, next_line, stops_by, is_stopped, pending_sound, reader_sound, state_sound, refusal_at}
 use Rattle.reader.specs.Given.{StateGiven}
 use Rattle.reader.specs.Step.{goes, stops, step_of}
 use Rattle.reader.specs.Event.{EventResult, refused_at, stopped_at, stepped, event_on, end_on}
 use Rattle.reader.specs.Means.{reader_of}
-use Rattle.reader.proofs.Answers.{answer_is, step_at, event_stopped, event_going, by_event, event_goes, end_stopped}
+use Rattle.reader.proofs.Answers.{answer_is, step_at, event_stopped, event_going, by_event, event_goes, end_stopped, same_refusal}
 use Rattle.reader.specs.Table.{store_rows_of}
 use Rattle.reader.proofs.Acts.{Acted, acted_fine, acted_texts}
 use Rattle.reader.proofs.Held.{held_sound}
@@ -59,7 +57,7 @@ pub record TurnDone (line : Bytes) (s t : State) : Type 0 where
   pub pending : pending_sound t.overlay.texts.strings t.reader.place.kind t.parts t.reader.pending ≡ true
 
 module _ (line : Bytes) (s : State) (g : StateGiven s) where
-  pub event_accepted : (event_on line s).answer ≡ E.Accepted → TurnDone line s (event_on line s).state
+  pub event_accepted : (event_on line s).answer ≡ Ok tt → TurnDone line s (event_on line s).state
   unfolding reader_of turn
   event_accepted a =
       let w = event_goes line s a in
@@ -86,7 +84,7 @@ abbrev pub Among : ℕ → ℕ → List (ConditionRow Refusal) → Type 0
 Among lo hi [] = Unit {0}
 Among lo hi (x ∷ rows) = ((lo ≤ number_of x.gives) × (number_of x.gives ≤ hi)) × Among lo hi rows
 
-pub first_among : (lo hi : ℕ) (rows : List (ConditionRow Refusal)) (r : Refusal) → Among lo hi rows → first_of rows ≡ some r → (lo ≤ number_of r) × (number_of r ≤ hi)
+pub first_among : (lo hi : ℕ) (rows : List (ConditionRow Refusal)) (r : Refusal) → Among lo hi rows → first_of rows ≡ Some r → (lo ≤ number_of r) × (number_of r ≤ hi)
 unfolding first_of
 first_among lo hi [] r w e = no (cc)
 first_among lo hi (x ∷ rows) r w e = by_bool x.holds (λ t. let z : x.gives ≡ r = cc (rw t at e) in rw (← z) w.0) (λ t. first_among lo hi rows r w.1 (rw t at e))
@@ -103,7 +101,7 @@ store_among (refers p z) s = ((omega arith, omega arith), tt)
 store_among (joins p m) s = ((omega arith, omega arith), ((omega arith, omega arith), tt))
 store_among (ends p) s = ((omega arith, omega arith), ((omega arith, omega arith), ((omega arith, omega arith), tt)))
 
-refuses_in : (d : Decision) (r : Refusal) → refusal_in d ≡ some r → d ≡ refuses r
+refuses_in : (d : Decision) (r : Refusal) → refusal_in d ≡ Some r → d ≡ refuses r
 refuses_in (refuses x) r e = cc
 refuses_in (moves p) r e = no (cc)
 refuses_in (begins b p id m x) r e = no (cc)
@@ -131,13 +129,13 @@ module _ (line : Bytes) (s : State) (e : state_sound s ≡ true) where
       → (decide line s.reader.place ≡ refuses r → C) → (12 ≤ number_of r → number_of r ≤ 16 → C) → C
   by_refusal {C} r f decided store = go (refusal_in d) refl
     where
-      first : some r ≡ before (refusal_in d) (first_of (store_rows_of d s))
+      first : Some r ≡ before (refusal_in d) (first_of (store_rows_of d s))
       first = ap refusal_by (sym f) ∙ (step_first s e d (decide_lawful line s.reader.place)).first
 
       go : (x : Option Refusal) → refusal_in d ≡ x → C
-      go (some y) q = let z : some r ≡ some y = first ∙ ap (λ (o : Option Refusal). before o (first_of (store_rows_of d s))) q in decided (refuses_in d r (cc))
-      go none q =
-          let z : some r ≡ first_of (store_rows_of d s) = first ∙ ap (λ (o : Option Refusal). before o (first_of (store_rows_of d s))) q in
+      go (Some y) q = let z : Some r ≡ Some y = first ∙ ap (λ (o : Option Refusal). before o (first_of (store_rows_of d s))) q in decided (refuses_in d r (cc))
+      go None q =
+          let z : Some r ≡ first_of (store_rows_of d s) = first ∙ ap (λ (o : Option Refusal). before o (first_of (store_rows_of d s))) q in
           let w = first_among 12 16 (store_rows_of d s) r (store_among d s) (sym z) in
           store w.0 w.1
 
@@ -146,22 +144,22 @@ module _ (line : Bytes) (s : State) (e : state_sound s ≡ true) where
 
   module _ (g : is_stopped s.reader.stop ≡ false) where
     -- an event that the acts' turn refuses is refused so, at its line; and each refusal up to 11 is the turn's
-    pub event_bad : (r : Refusal) → turn line (reader_of s) ≡ bad r → (event_on line s).answer ≡ E.Refused r (next_line s)
+    pub event_bad : (r : Refusal) → turn line (reader_of s) ≡ bad r → (event_on line s).answer ≡ Err (refusal_at r (next_line s))
     unfolding reader_of step_of
     event_bad r h =
         let k : d ≡ refuses r = refuses_in d r (decide_first line s.reader.place ∙ (sym (turn_first line (reader_of s)) ∙ ap refusal_of h)) in
         ap (λ (z : EventResult). z.answer) (event_going line s e g) ∙ ap (λ (x : Decision). (stepped s (step_of x s)).answer) k
 
     -- a refusal is at the next line, is one of 2 to 16, and stops the reader with itself
-    pub event_stops : (r : Refusal) (n : ℕ) → (event_on line s).answer ≡ E.Refused r n → (step_at line s ≡ stops r) × (n ≡ next_line s)
+    pub event_stops : (r : Refusal) (n : ℕ) → (event_on line s).answer ≡ Err (refusal_at r n) → (step_at line s ≡ stops r) × (n ≡ next_line s)
     event_stops r n a =
         by_event line s
         (λ u w. clash e u)
         (λ x m u q t w. clash (rw q t) g)
-        (λ x u q f w. let z = answer_is w a in let k : x ≡ r = cc in (rw k at f, cc))
+        (λ x u q f w. let z = same_refusal (answer_is w a) in (rw z.0 at f, sym z.1))
         (λ l u q f w. let z = answer_is w a in no (cc))
 
-    pub event_11 : (r : Refusal) → number_of r ≤ 11 → ((event_on line s).answer ≡ E.Refused r (next_line s)) ↔ (turn line (reader_of s) ≡ bad r)
+    pub event_11 : (r : Refusal) → number_of r ≤ 11 → ((event_on line s).answer ≡ Err (refusal_at r (next_line s))) ↔ (turn line (reader_of s) ≡ bad r)
     unfolding turn turn_of reader_of
     event_11 r l = (
       λ a. by_refusal r (event_stops r (next_line s) a).0 (λ q. ap (λ (x : Decision). turn_of x (reader_of s)) q) (λ x y. let n : ⊥ = omega arith in absurd n),
@@ -175,29 +173,29 @@ marked s r n = record { overlay = s.overlay; reader = stopped_at s.reader r n; p
 
 module _ (line : Bytes) (s : State) where
   -- an event is refused 22, or with a stop mark
-  pub by_refused : {C : Type 0} (r : Refusal) (n : ℕ) → (event_on line s).answer ≡ E.Refused r n
+  pub by_refused : {C : Type 0} (r : Refusal) (n : ℕ) → (event_on line s).answer ≡ Err (refusal_at r n)
       → (state_sound s ≡ false → r ≡ R.Unsound → n ≡ 0 → (event_on line s).state ≡ s → C)
       → (state_sound s ≡ true → stops_by r ≡ true → (event_on line s).state ≡ marked s r n → C) → C
   by_refused r n a unsound refused =
       by_event line s
-      (λ u w. let z = answer_is w a in unsound u (cc) (cc) (ap (λ (z : EventResult). z.state) w))
-      (λ x m u q t w. let z = answer_is w a in let k : x ≡ r = cc in let j : m ≡ n = cc in
-      let i : s.reader.stop ≡ At r n = q ∙ (λ y. At (k y) (j y)) in
+      (λ u w. let z = same_refusal (answer_is w a) in unsound u (sym z.0) (sym z.1) (ap (λ (z : EventResult). z.state) w))
+      (λ x m u q t w. let z = same_refusal (answer_is w a) in let k : x ≡ r = z.0 in let j : m ≡ n = z.1 in
+      let i : s.reader.stop ≡ Some (refusal_at r n) = q ∙ (λ y. Some (refusal_at (k y) (j y))) in
       refused u (rw (← k) t) (ap (λ (z : EventResult). z.state) w
-      ∙ ap (λ (y : Stop). record { overlay = s.overlay; reader = record { place = s.reader.place; pending = s.reader.pending; lines = s.reader.lines; stop = y }; parts = s.parts }) i))
-      (λ x u q f w. let z = answer_is w a in let k : x ≡ r = cc in let j : next_line s ≡ n = cc in
+      ∙ ap (λ (y : Option RefusedAt). record { overlay = s.overlay; reader = record { place = s.reader.place; pending = s.reader.pending; lines = s.reader.lines; stop = y }; parts = s.parts }) i))
+      (λ x u q f w. let z = same_refusal (answer_is w a) in let k : x ≡ r = z.0 in let j : next_line s ≡ n = z.1 in
       refused u (rw (← k) (step_stops line s u x f)) (ap (λ (z : EventResult). z.state) w ∙ (λ y. marked s (k y) (j y))))
       (λ l u q f w. let z = answer_is w a in no (cc))
 
   -- 22 changes nothing; each other refusal its reader's mark alone, and that is the mark of a reader that was stopped
-  pub event_refused_same : (r : Refusal) (n : ℕ) → (event_on line s).answer ≡ E.Refused r n → (event_on line s).state ≡ cond (stops_by r) (marked s r n) s
+  pub event_refused_same : (r : Refusal) (n : ℕ) → (event_on line s).answer ≡ Err (refusal_at r n) → (event_on line s).state ≡ cond (stops_by r) (marked s r n) s
   event_refused_same r n a = by_refused r n a (λ u k j w. rw (k, unsound_stops_not) w) (λ u t w. rw t w)
 
-  module _ (r : Refusal) (n : ℕ) (a : (event_on line s).answer ≡ E.Refused r n) (other_than_22 : r ≡ R.Unsound → ⊥) where
+  module _ (r : Refusal) (n : ℕ) (a : (event_on line s).answer ≡ Err (refusal_at r n)) (other_than_22 : r ≡ R.Unsound → ⊥) where
     abbrev after : State
     after = (event_on line s).state
 
-    stays_stopped : {C : Type 0} → (state_sound after ≡ true → after.reader.stop ≡ At r n → stops_by r ≡ true → C) → C
+    stays_stopped : {C : Type 0} → (state_sound after ≡ true → after.reader.stop ≡ Some (refusal_at r n) → stops_by r ≡ true → C) → C
     unfolding state_sound reader_sound
     stays_stopped f = by_refused r n a (λ u k j w. absurd (other_than_22 k)) (λ u t w. f (rw w u) (ap (λ (z : State). z.reader.stop) w) t)
 

@@ -1,8 +1,9 @@
 -- The element that is staged, as a legal record: what the test of a reader says, and what stays when texts are taken in; and an element without parts.
+use Rattle.refusal.specs.declared.Refusal.{Refusal}
+use Rattle.std.specs.Prelude.{Err, Ok, Result, Some, is_ok}
 use Prim.Native.Nat.{ℕ, ◌<◌, ◌≤◌}
 use mathlib.Core.Path.{◌≡◌, refl, sym, ◌∙◌, ap}
 use mathlib.Core.Bool.{true}
-use mathlib.Core.Option.{some}
 use mathlib.Core.List.{List, []}
 use native.Mathlib.Omega.{arith}
 use lib.ListN.{length, take}
@@ -25,14 +26,12 @@ use Rattle.compact.specs.Legal.{limits, handle, value_bytes, legal_meta, body_ha
 use Rattle.compact.specs.declared.ArenaMeta.{ArenaMeta}
 use Rattle.compact.specs.declared.PushHead.{PushHead}
 use Rattle.compact_legal.specs.Judge.{fault_answer, fault_for}
-use Rattle.compact_legal.specs.declared.Fault.{Fault}
-use Rattle.compact_legal.specs.declared.Fault.TheVariants as F
 use Rattle.compact_legal.proofs.Laws.{legal_is, legal_more, push_legal}
 use Rattle.interner.specs.Texts.{text_of}
 use Rattle.overlay.specs.Given.{head_fits, meta_fits}
 use Rattle.acts.specs.Turn.{Staged}
 use Rattle.reader.specs.declared.Pending.{Pending}
-use Rattle.reader.specs.State.{is_legal, pending_record, pending_sound}
+use Rattle.reader.specs.State.{pending_record, pending_sound}
 use Rattle.reader.specs.Means.{staged_of}
 use Rattle.reader.proofs.Texts.{legal_agree}
 use Rattle.reader.proofs.Element.{Stages, stages_of, stages_back}
@@ -45,13 +44,13 @@ pub record Held (strings : ℕ) (k : Kind) (parts : Bytes) (x : Pending) : Type 
   pub head : head_fits x.head ≡ true
   pub meta : meta_fits x.meta ≡ true
 
-pub fault_legal : (n : ℕ) (r : Record ℕ) → legal n r ≡ true → fault_for n (some r) ≡ F.Legal
+pub fault_legal : (n : ℕ) (r : Record ℕ) → legal n r ≡ true → fault_for n (Some r) ≡ (Ok tt)
 unfolding fault_for
 fault_legal n r l = ap fault_answer ((legal_is n r).0 l)
 
-is_legal_lem : (f : Fault) → is_legal f ≡ true → f ≡ F.Legal
-is_legal_lem F.Legal e = refl
-is_legal_lem (F.Refused r) e = clash e refl
+legal_held : (f : Result Unit Refusal) → is_ok f ≡ true → f ≡ (Ok tt)
+legal_held (Ok tt) e = refl
+legal_held (Err r) e = clash e refl
 
 -- the texts of a record under its id, in an act's terms
 abbrev pub element_as : List Bytes → PushHead → Record ℕ → Staged
@@ -62,7 +61,7 @@ module _ (strings : ℕ) (k : Kind) (parts : Bytes) (x : Pending) where
   pub held_of : head_fits x.head ≡ true → meta_fits x.meta ≡ true → all is_byte parts ≡ true → pending_sound strings k parts x ≡ true → Held strings k parts x
   unfolding pending_sound pending_record
   held_of h m b e =
-      let r = push_legal strings (pending_record k parts x) (is_legal_lem _ (both_right _ _ e)) in
+      let r = push_legal strings (pending_record k parts x) (legal_held _ (both_right _ _ e)) in
       record {
         held = r.0;
         stages = stages_of k x.head x.meta (take x.used parts) r.0 (bytes_take x.used parts b) r.1.0;
@@ -77,7 +76,7 @@ module _ (strings : ℕ) (k : Kind) (parts : Bytes) (x : Pending) where
     unfolding pending_sound pending_record
     held_sound =
         both_of (le-leb x.used (length parts) w.fits)
-        (ap is_legal (ap (fault_for strings) (stages_back k x.head x.meta (take x.used parts) w.held w.stages) ∙ fault_legal strings w.held w.lawful))
+        (ap is_ok (ap (fault_for strings) (stages_back k x.head x.meta (take x.used parts) w.held w.stages) ∙ fault_legal strings w.held w.lawful))
 
     pub held_few : within_limits limits w.held ≡ true
     unfolding legal

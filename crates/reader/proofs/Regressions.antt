@@ -1,9 +1,9 @@
 -- 12 of an event: where its turn makes an act, the first of the store's rows is that act's, so it is refused 12 exactly where the act's version is below the known one,
 -- and the refusal names that one.
+use Rattle.std.specs.Prelude.{Err, None, Ok, Result, Some}
 use mathlib.Core.Path.{◌≡◌, refl, sym, ◌∙◌, ap}
 use mathlib.Core.Bool.{true, false}
 use mathlib.Core.Logic.{◌↔◌}
-use mathlib.Core.Option.{none, some}
 use mathlib.Core.List.{List, [], ◌∷◌}
 use native.Mathlib.Omega.{arith}
 use lib.IntN.{ℤ}
@@ -14,8 +14,6 @@ use Rattle.base.proofs.Split.{no}
 use Rattle.refusal.specs.First.{ConditionRow, row, first_of}
 use Rattle.refusal.specs.declared.Refusal.{Refusal}
 use Rattle.refusal.specs.declared.Refusal.TheVariants as R
-use Rattle.version_floor.specs.declared.Admit.{Admit}
-use Rattle.version_floor.specs.declared.Admit.TheVariants.{Admitted, Below}
 use Rattle.model.specs.Record.{claim_of}
 use Rattle.model.specs.Act.{Act, push, delete, key_of, claimed_by}
 use Rattle.model.proofs.Swaps.{body_kind}
@@ -31,8 +29,7 @@ use Rattle.event_decision.specs.Decision.{Decision, refuses, moves, begins, dele
 use Rattle.event_decision.specs.Table.{refusal_in}
 use Rattle.event_decision.proofs.Lawful.{Lawful, decide_lawful}
 use Rattle.acts.specs.Turn.{Staged, Turn, first, turn_of, turn}
-use Rattle.reader.specs.declared.EventAnswer.TheVariants as E
-use Rattle.reader.specs.State.{State, next_line, is_stopped, state_sound}
+use Rattle.reader.specs.State.{State, next_line, is_stopped, state_sound, refusal_at}
 use Rattle.reader.specs.Given.{StateGiven}
 use Rattle.reader.specs.Step.{Step, goes, stops, step_of}
 use Rattle.reader.specs.Event.{EventResult, stepped, event_on}
@@ -45,7 +42,7 @@ use Rattle.reader.proofs.Tables.{refusal_by, step_first}
 use Rattle.reader.proofs.Events.{Among, first_among, event_stops}
 
 -- the version check of an act
-abbrev pub admit_as : Overlay → Act Bytes → Admit
+abbrev pub admit_as : Overlay → Act Bytes → Result Unit ℤ
 admit_as o a = checked o.setting (known_version (key_of a).kind (kind_store_of (key_of a).kind o) (key_of a).id) (claimed_by a)
 
 abbrev row_of : Overlay → Act Bytes → ConditionRow Refusal
@@ -55,11 +52,11 @@ row_of o a = regression_row o (key_of a).kind (key_of a).id (claimed_by a)
 record Makes (d : Decision) (s : State) (a : Act Bytes) : Type 0 where
   rest : List (ConditionRow Refusal)
   rows : store_rows_of d s ≡ row_of s.overlay a ∷ rest
-  decided : refusal_in d ≡ none
+  decided : refusal_in d ≡ None
   others : Among 13 16 rest
   fits : SFits w64 (key_of a).id
 
-got_act : {t x : Turn} {a : Act Bytes} → ◌≡◌ {A = Field Turn} (got x) (got t) → t.act ≡ some a → x.act ≡ some a
+got_act : {t x : Turn} {a : Act Bytes} → ◌≡◌ {A = Field Turn} (got x) (got t) → t.act ≡ Some a → x.act ≡ Some a
 got_act {t} {x} e h = let q : x ≡ t = cc in ap (λ (z : Turn). z.act) q ∙ h
 
 module _ (s : State) (g : StateGiven s) (e : state_sound s ≡ true) where
@@ -81,7 +78,7 @@ module _ (s : State) (g : StateGiven s) (e : state_sound s ≡ true) where
       let m = held_means s.overlay.texts.strings s.reader.place.kind s.parts s.reader.pending (state_held s g e) (texts_of s.overlay.texts) in
       rw m (id_given s.reader.pending.head g.reader.head)
 
-  makes : (d : Decision) → Lawful s.reader.place d → (t : Turn) (a : Act Bytes) → turn_of d (reader_of s) ≡ got t → t.act ≡ some a → Makes d s a
+  makes : (d : Decision) → Lawful s.reader.place d → (t : Turn) (a : Act Bytes) → turn_of d (reader_of s) ≡ got t → t.act ≡ Some a → Makes d s a
   unfolding turn_of store_rows_of
   makes (refuses r) w t a h k = no (cc)
   makes (moves p) w t a h k = let z = got_act h k in no (cc)
@@ -104,18 +101,18 @@ module _ (s : State) (g : StateGiven s) (e : state_sound s ≡ true) where
 
 -- ---- the first row
 
-by_first : (c : Admit) (rest : List (ConditionRow Refusal)) (v : ℤ) → Among 13 16 rest → (first_of (row (R.Regression (held_by c)) (is_below c) ∷ rest) ≡ some (R.Regression v)) ↔ (c ≡ Below v)
+by_first : (c : Result Unit ℤ) (rest : List (ConditionRow Refusal)) (v : ℤ) → Among 13 16 rest → (first_of (row (R.Regression (held_by c)) (is_below c) ∷ rest) ≡ Some (R.Regression v)) ↔ (c ≡ Err v)
 unfolding first_of
-by_first Admitted rest v w = (λ e. let n : ⊥ = omega (arith, (first_among 13 16 rest (R.Regression v) w e).0) in absurd n, λ e. no (cc))
-by_first (Below x) rest v w = (λ e. cc, λ e. cc)
+by_first (Ok tt) rest v w = (λ e. let n : ⊥ = omega (arith, (first_among 13 16 rest (R.Regression v) w e).0) in absurd n, λ e. no (cc))
+by_first (Err x) rest v w = (λ e. cc, λ e. cc)
 
-stops_of : (x : Step) (r : Refusal) → refusal_by x ≡ some r → x ≡ stops r
+stops_of : (x : Step) (r : Refusal) → refusal_by x ≡ Some r → x ≡ stops r
 stops_of (goes l) r e = no (cc)
 stops_of (stops y) r e = cc
 
 module _ (line : Bytes) (s : State) (g : StateGiven s) (e : state_sound s ≡ true) (going : is_stopped s.reader.stop ≡ false) where
-  pub event_regression : (t : Turn) (a : Act Bytes) → turn line (reader_of s) ≡ got t → t.act ≡ some a → (v : ℤ)
-      → ((event_on line s).answer ≡ E.Refused (R.Regression v) (next_line s)) ↔ (admit_as s.overlay a ≡ Below v)
+  pub event_regression : (t : Turn) (a : Act Bytes) → turn line (reader_of s) ≡ got t → t.act ≡ Some a → (v : ℤ)
+      → ((event_on line s).answer ≡ Err (refusal_at (R.Regression v) (next_line s))) ↔ (admit_as s.overlay a ≡ Err v)
   unfolding turn reader_of
   event_regression t a h k v =
       let d = decide line s.reader.place in
@@ -128,6 +125,6 @@ module _ (line : Bytes) (s : State) (g : StateGiven s) (e : state_sound s ≡ tr
       )
 
   -- the id that the act names is one of 64 bits
-  pub act_fits : (t : Turn) (a : Act Bytes) → turn line (reader_of s) ≡ got t → t.act ≡ some a → SFits w64 (key_of a).id
+  pub act_fits : (t : Turn) (a : Act Bytes) → turn line (reader_of s) ≡ got t → t.act ≡ Some a → SFits w64 (key_of a).id
   unfolding turn reader_of
   act_fits t a h k = (makes s g e (decide line s.reader.place) (decide_lawful line s.reader.place) t a h k).fits

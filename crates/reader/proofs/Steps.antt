@@ -1,4 +1,5 @@
 -- What holds of everything that a step leaves, part by part: behind 12, behind a text that is taken in, behind the store's answer, behind 16.
+use Rattle.std.specs.Prelude.{Err, Ok, Result, ℤ}
 use Prim.Native.Nat.{ℕ, ◌<◌}
 use mathlib.Core.Path.{◌≡◌, refl, sym, ◌∙◌, ap}
 use mathlib.Core.Bool.{Bool, true, false, cond}
@@ -8,8 +9,6 @@ use Rattle.base.specs.Bytes.{Bytes}
 use Rattle.base.proofs.Split.{by_bool, clash}
 use Rattle.text.specs.Check.{is_text}
 use Rattle.refusal.specs.declared.Refusal.{Refusal}
-use Rattle.version_floor.specs.declared.Admit.{Admit}
-use Rattle.version_floor.specs.declared.Admit.TheVariants.{Admitted, Below}
 use Rattle.model.specs.Record.{Meta, flagged}
 use Rattle.compact.specs.declared.ArenaMeta.{ArenaMeta}
 use Rattle.interner.specs.Strings as Strings
@@ -19,14 +18,11 @@ use Rattle.interner.specs.declared.Interned.{Interned}
 use Rattle.interner.specs.declared.Interned.TheVariants as I
 use Rattle.interner.proofs.Interns.{length_texts}
 use Rattle.interner.proofs.Held as Texts
-use Rattle.kind_store.specs.declared.Kept.{Kept}
-use Rattle.kind_store.specs.declared.Kept.TheVariants as K
 use Rattle.overlay.specs.Overlay.{Overlay, with_texts}
 use Rattle.overlay.specs.Sound.{is_sound}
 use Rattle.overlay.specs.Calls.{OverlayAfter}
 use Rattle.overlay_store.specs.Calls.{Interning, handle_in}
 use Rattle.overlay_direct.specs.Calls.{intern_on}
-use Rattle.overlay_store.specs.declared.Handle.TheVariants as H
 use Rattle.overlay.proofs.Answers.{strings_sound}
 use Rattle.overlay_direct.proofs.Answers.{intern_store}
 use Rattle.overlay_direct.proofs.Keeps.{intern_kept}
@@ -57,10 +53,10 @@ empty_text o e =
     (x.text, omega (arith, x.below, length_texts o.texts))
 
 module _ (o : Overlay) (e : is_sound o ≡ true) where
-  took : (t : Bytes) (n : ℕ) → is_text t ≡ true → handle_in (Strings.intern o.texts t).answer ≡ H.Is n
+  took : (t : Bytes) (n : ℕ) → is_text t ≡ true → handle_in (Strings.intern o.texts t).answer ≡ Ok n
       → TakenAs o (t ∷ []) (with_texts (Strings.intern o.texts t).store o) n t
   took t n l a =
-      let i : (intern_on t o).answer ≡ H.Is n = ap (λ (z : Interning). z.answer) (intern_store t o e l) ∙ a in
+      let i : (intern_on t o).answer ≡ Ok n = ap (λ (z : Interning). z.answer) (intern_store t o e l) ∙ a in
       let k = intern_kept t o n i in
       record {
         takes = rw k.left at (a_text t n l i);
@@ -91,15 +87,15 @@ module _ (o : Overlay) (e : is_sound o ≡ true) where
 -- ---- behind the other checks
 
 module _ {P : Advanced → Type 0} where
-  pub each_admit : (a : Admit) (x : Step) → EachStep P x → EachStep P (unless_below a x)
-  each_admit Admitted x h = h
-  each_admit (Below v) x h = stopped
+  pub each_admit : (a : Result Unit ℤ) (x : Step) → EachStep P x → EachStep P (unless_below a x)
+  each_admit (Ok tt) x h = h
+  each_admit (Err v) x h = stopped
 
-  each_kept : (y : Kept) (x : Step) → (y ≡ K.Taken → EachStep P x) → EachStep P (on_kept y x)
-  each_kept K.Taken x h = h refl
-  each_kept (K.Refused r) x h = stopped
+  each_kept : (y : Result Unit Refusal) (x : Step) → (y ≡ (Ok tt) → EachStep P x) → EachStep P (on_kept y x)
+  each_kept (Ok tt) x h = h refl
+  each_kept (Err r) x h = stopped
 
-  pub each_after : (a : OverlayAfter) (f : Overlay → Step) → (a.answer ≡ K.Taken → EachStep P (f a.overlay)) → EachStep P (on_after a f)
+  pub each_after : (a : OverlayAfter) (f : Overlay → Step) → (a.answer ≡ (Ok tt) → EachStep P (f a.overlay)) → EachStep P (on_after a f)
   each_after a f h = each_kept a.answer (f a.overlay) h
 
   pub each_within : (t : Bool) (l : Advanced) (r : Refusal) → (t ≡ true → P l) → EachStep P (cond t (goes l) (stops r))

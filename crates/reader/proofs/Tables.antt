@@ -1,8 +1,9 @@
 -- T4: an event and an end are refused by the first condition of their table that holds, with its line and its HELD, and accepted where none holds.
+use Rattle.reader.specs.declared.RefusedAt.{RefusedAt}
+use Rattle.std.specs.Prelude.{Err, None, Ok, Option, Result, Some}
 use Prim.Native.Nat.{ℕ}
 use mathlib.Core.Path.{◌≡◌, refl, sym, ◌∙◌, ap}
 use mathlib.Core.Bool.{Bool, true, false, not}
-use mathlib.Core.Option.{Option, none, some}
 use mathlib.Core.List.{List, [], ◌∷◌, ◌++◌}
 use lib.IntN.{ℤ}
 use lib.ListN.{length, take}
@@ -20,9 +21,6 @@ use Rattle.kind.specs.declared.Kind.{Kind}
 use Rattle.nesting.specs.declared.Place.{Place}
 use Rattle.nesting.specs.declared.Level.{Level}
 use Rattle.nesting.specs.declared.Level.TheVariants as L
-use Rattle.version_floor.specs.declared.Version.{Version}
-use Rattle.version_floor.specs.declared.Admit.{Admit}
-use Rattle.version_floor.specs.declared.Admit.TheVariants.{Admitted, Below}
 use Rattle.model.specs.Record.{Meta, kind_of, flagged, claim_of}
 use Rattle.compact.specs.Held.{meta_of, head_in}
 use Rattle.compact.specs.Legal.{limits}
@@ -45,20 +43,18 @@ use Rattle.event_decision.specs.Decision.{Decision, refuses, moves, begins, dele
 use Rattle.event_decision.proofs.Lawful.{Lawful, decide_lawful}
 use Rattle.event_decision.specs.Table.{refusal_in, decide_table}
 use Rattle.event_decision.proofs.Table.{decide_first}
-use Rattle.reader.specs.declared.Stop.{Stop}
-use Rattle.reader.specs.declared.Stop.TheVariants.{Going, At}
 use Rattle.reader_stage.specs.Stage.{ref_part, member_part, tag_part}
-use Rattle.reader.specs.State.{State, next_line, stops_by, is_stopped, pending_sound, reader_sound, state_sound, more_tags, more_parts}
+use Rattle.reader.specs.State.{State, refusal_at, next_line, stops_by, is_stopped, pending_sound, reader_sound, state_sound, more_tags, more_parts}
 use Rattle.reader.specs.Step.{Advanced, Step, goes, stops, unless_below, on_handle, with_text, bits_with_user, taking_user, on_after, clears_to, stages, head_for, member_bits, tag_within, part_within, part_place, step_of}
 use Rattle.reader.specs.Event.{EventResult, stepped, event_on, end_at, end_on}
-use Rattle.reader.specs.Table.{RefusalAt, refusal_at, answer_by, at_line, regression_row, text_row, user_row, ids_row, arena_row, limit_row, store_rows_of, unsound_state_row, stop_rows, event_table, is_done, end_table}
+use Rattle.reader.specs.Table.{answer_by, at_line, regression_row, text_row, user_row, ids_row, arena_row, limit_row, store_rows_of, unsound_state_row, stop_rows, event_table, is_done, end_table}
 use Rattle.reader.proofs.Answers.{by_event, by_end}
 use Rattle.reader.proofs.Legals.{claim_same, bits_id}
 
 -- the refusal of a step, if there is one
 abbrev pub refusal_by : Step → Option Refusal
-refusal_by (goes l) = none
-refusal_by (stops r) = some r
+refusal_by (goes l) = None
+refusal_by (stops r) = Some r
 
 -- a step is refused by the first of these rows
 pub record By (rows : List (ConditionRow Refusal)) (x : Step) : Type 0 where
@@ -74,14 +70,14 @@ goes_first l = record { first = refl }
 pub record Behind (x : Option Refusal) (rows : List (ConditionRow Refusal)) (y : Step) : Type 0 where
   pub first : refusal_by y ≡ before x (first_of rows)
 
-behind : {rows : List (ConditionRow Refusal)} {y : Step} → By rows y → Behind none rows y
+behind : {rows : List (ConditionRow Refusal)} {y : Step} → By rows y → Behind None rows y
 behind h = record { first = h.first }
 
 -- 12
-by_admit : (a : Admit) (rows : List (ConditionRow Refusal)) (x : Step) → (a ≡ Admitted → By rows x) → By (row (R.Regression (held_by a)) (is_below a) ∷ rows) (unless_below a x)
+by_admit : (a : Result Unit ℤ) (rows : List (ConditionRow Refusal)) (x : Step) → (a ≡ (Ok tt) → By rows x) → By (row (R.Regression (held_by a)) (is_below a) ∷ rows) (unless_below a x)
 unfolding first_of
-by_admit Admitted rows x h = record { first = (h refl).first }
-by_admit (Below v) rows x h = record { first = refl }
+by_admit (Ok tt) rows x h = record { first = (h refl).first }
+by_admit (Err v) rows x h = record { first = refl }
 
 -- an overlay that differs in its texts alone
 record Beside (o q : Overlay) : Type 0 where
@@ -98,9 +94,9 @@ module _ (o : Overlay) (e : is_sound o ≡ true) (rows : List (ConditionRow Refu
   by_text t f h = rw (Interns.answers o.texts t (strings_sound o e)) (go (handle_of t (texts_of o.texts)) (Strings.text_room o.texts t))
     where
       go : (x : Option ℕ) (r : Bool) → By (row R.StringsFull (both (not_held x) (not r)) ∷ rows) (on_handle (answer_as r (texts_of o.texts) x) (λ n. f n (with_texts (Strings.intern o.texts t).store o)))
-      go (some n) r = record { first = (h n _ (beside o _)).first }
-      go none true = record { first = (h (length (texts_of o.texts)) _ (beside o _)).first }
-      go none false = record { first = refl }
+      go (Some n) r = record { first = (h n _ (beside o _)).first }
+      go None true = record { first = (h (length (texts_of o.texts)) _ (beside o _)).first }
+      go None false = record { first = refl }
 
   by_user : (m : Meta Bytes) (f : ArenaMeta → Overlay → Step) → ((h : ℕ) (q : Overlay) → Beside o q → By rows (f (bits_with_user m h) q)) → By (user_row o m ∷ rows) (taking_user m o f)
   unfolding first_of taking_user both
@@ -117,7 +113,7 @@ by_limit false s o p h at x = record { first = refl }
 
 -- 12, 14, 15 of a push; 12, 14 of a delete: a text that is taken in before changes neither
 module _ (s : State) (p : Place) (k : Kind) (o q : Overlay) (w : Beside o q) where
-  by_push : (h : PushHead) (m : ArenaMeta) (parts : Bytes) (id : ℤ) (claim : Version) → to_z w64 h.id ≡ id → claim_of (meta_of m) ≡ claim
+  by_push : (h : PushHead) (m : ArenaMeta) (parts : Bytes) (id : ℤ) (claim : Option ℤ) → to_z w64 h.id ≡ id → claim_of (meta_of m) ≡ claim
       → By (regression_row o k id claim ∷ ids_row o k id ∷ arena_row o k (length parts) ∷ []) (on_after (store_push k h m parts q) (clears_to s p))
   unfolding first_of
   by_push h m parts id claim i j =
@@ -129,7 +125,7 @@ module _ (s : State) (p : Place) (k : Kind) (o q : Overlay) (w : Beside o q) whe
       (λ c r l x. record { first = rw (← i, ← j, ← y, ← z, x, c, r, ← n, lt-ltb _ _ l) })
       (λ c r l x. record { first = rw (← i, ← j, ← y, ← z, x, c, r, ← n, le-ltb _ _ l) })
 
-  by_delete : (id : ℤ) (claim : Version) → By (regression_row o k id claim ∷ ids_row o k id ∷ []) (on_after (store_delete k id claim q) (clears_to s p))
+  by_delete : (id : ℤ) (claim : Option ℤ) → By (regression_row o k id claim ∷ ids_row o k id ∷ []) (on_after (store_delete k id claim q) (clears_to s p))
   unfolding first_of
   by_delete id claim =
       let y = w.kind_store k in
@@ -138,7 +134,7 @@ module _ (s : State) (p : Place) (k : Kind) (o q : Overlay) (w : Beside o q) whe
       (λ v c x. record { first = rw (← y, ← z, x, c) }) (λ c r x. record { first = rw (← y, ← z, x, c, r) }) (λ c r x. record { first = rw (← y, ← z, x, c, r) })
 
 -- where 12 was passed
-passed : (a : Admit) (rows : List (ConditionRow Refusal)) (x : Step) → a ≡ Admitted → By (row (R.Regression (held_by a)) (is_below a) ∷ rows) x → By rows x
+passed : (a : Result Unit ℤ) (rows : List (ConditionRow Refusal)) (x : Step) → a ≡ (Ok tt) → By (row (R.Regression (held_by a)) (is_below a) ∷ rows) x → By rows x
 unfolding first_of
 passed a rows x c h = record { first = rw c at h.first }
 
@@ -153,7 +149,7 @@ module _ (s : State) (e : state_sound s ≡ true) where
   unfolding state_sound reader_sound pending_sound
   used_fits = length-take-le _ _ (leb-true _ _ (both_left _ _ (both_left _ _ (both_right _ _ e))))
 
-  abbrev admit : Kind → ℤ → Meta Bytes → Admit
+  abbrev admit : Kind → ℤ → Meta Bytes → Result Unit ℤ
   admit k id m = checked s.overlay.setting (known_version k (kind_store_of k s.overlay) id) (claim_of m)
 
   pub step_first : (d : Decision) → Lawful s.reader.place d → Behind (refusal_in d) (store_rows_of d s) (step_of d s)
@@ -180,9 +176,9 @@ module _ (s : State) (e : state_sound s ≡ true) where
 -- ---- an event and an end
 
 -- a refusal at a line
-abbrev refusal_at_line : ℕ → Option Refusal → Option RefusalAt
-refusal_at_line n none = none
-refusal_at_line n (some r) = some (refusal_at r n)
+abbrev refusal_at_line : ℕ → Option Refusal → Option RefusedAt
+refusal_at_line n None = None
+refusal_at_line n (Some r) = Some (refusal_at r n)
 
 first_at : (n : ℕ) (rows : List (ConditionRow Refusal)) → first_of (at_line n rows) ≡ refusal_at_line n (first_of rows)
 unfolding first_of
@@ -190,24 +186,24 @@ first_at n [] = refl
 first_at n (x ∷ rows) = by_bool x.holds (λ t. rw t) (λ t. rw t (first_at n rows))
 
 -- 22, then the stop mark
-module _ (s : State) (rows : List (ConditionRow RefusalAt)) where
-  abbrev table : List (ConditionRow RefusalAt)
+module _ (s : State) (rows : List (ConditionRow RefusedAt)) where
+  abbrev table : List (ConditionRow RefusedAt)
   table = unsound_state_row s ∷ (stop_rows s.reader.stop ++ rows)
 
-  table_22 : state_sound s ≡ false → first_of table ≡ some (refusal_at R.Unsound 0)
+  table_22 : state_sound s ≡ false → first_of table ≡ Some (refusal_at R.Unsound 0)
   unfolding first_of
   table_22 e = rw e
 
-  stop_first : (m : Stop) → is_stopped m ≡ false → first_of (stop_rows m ++ rows) ≡ first_of rows
+  stop_first : (m : Option RefusedAt) → is_stopped m ≡ false → first_of (stop_rows m ++ rows) ≡ first_of rows
   unfolding first_of
-  stop_first Going e = refl
-  stop_first (At r n) e = rw e
+  stop_first None e = refl
+  stop_first (Some a) e = rw e
 
   table_going : state_sound s ≡ true → is_stopped s.reader.stop ≡ false → first_of table ≡ first_of rows
   unfolding first_of
   table_going e g = rw e (stop_first s.reader.stop g)
 
-  table_stopped : (r : Refusal) (n : ℕ) → state_sound s ≡ true → s.reader.stop ≡ At r n → stops_by r ≡ true → first_of table ≡ some (refusal_at r n)
+  table_stopped : (r : Refusal) (n : ℕ) → state_sound s ≡ true → s.reader.stop ≡ Some (refusal_at r n) → stops_by r ≡ true → first_of table ≡ Some (refusal_at r n)
   unfolding first_of
   table_stopped r n e g t = rw (e, g, t)
 

@@ -1,6 +1,5 @@
 -- What a reader in storage stands for among the acts' definitions: its place, and the element that it is putting together with its texts as texts.
-use Rattle.std.specs.Prelude.{ℕ, List}
-use Rattle.std.proofs.Math.Option.{Option, none, some}
+use Rattle.std.specs.Prelude.{ℕ, List, None, Option, Some}
 use Rattle.std.specs.Int.{w64}
 use Rattle.std.proofs.Common.{to_z}
 use Rattle.base.specs.Bytes.{Bytes}
@@ -14,8 +13,8 @@ use Rattle.reader.specs.declared.Pending.{Pending}
 use Rattle.reader.specs.State.{State, pending_record}
 
 abbrev pub staged_as : (ℕ → Bytes) → Kind → ℕ → Option (Record ℕ) → Staged
-staged_as f k id none = no_element k
-staged_as f k id (some r) = record { id = to_z w64 id; held = swap_record f r }
+staged_as f k id None = no_element k
+staged_as f k id (Some r) = record { id = to_z w64 id; held = swap_record f r }
 
 unfoldable pub staged_of : List Bytes → Kind → Bytes → Pending → Staged
 staged_of held k parts x = staged_as (text_of held) k x.head.id (pending_record k parts x)

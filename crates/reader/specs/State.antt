@@ -1,6 +1,6 @@
 -- A reader in storage, with the overlay that it reads into and the bytes that are lent for the parts of its element.
-use Rattle.std.specs.Prelude.{ℕ, ◌+◌, ◌*◌, ◌-◌, Bool, true, false, leb, ltb, length, take}
-use Rattle.std.proofs.Math.Option.{Option}
+use Rattle.reader.specs.declared.RefusedAt.{RefusedAt}
+use Rattle.std.specs.Prelude.{ℕ, ◌+◌, ◌*◌, ◌-◌, Bool, true, false, leb, ltb, length, take, is_ok, Option, Result, Some, None}
 use Rattle.base.specs.Bytes.{Bytes, both}
 use Rattle.refusal.specs.Refusal.{number_of}
 use Rattle.refusal.specs.declared.Refusal.{Refusal}
@@ -12,13 +12,9 @@ use Rattle.compact.specs.Cut.{pushed_record}
 use Rattle.compact.specs.Held.{meta_of, head_in}
 use Rattle.compact.specs.declared.PushHead.{PushHead}
 use Rattle.compact_legal.specs.Judge.{fault_for}
-use Rattle.compact_legal.specs.declared.Fault.{Fault}
-use Rattle.compact_legal.specs.declared.Fault.TheVariants as F
 use Rattle.overlay.specs.Overlay.{Overlay}
 use Rattle.overlay.specs.Sound.{is_sound}
 use Rattle.reader.specs.declared.Pending.{Pending}
-use Rattle.reader.specs.declared.Stop.{Stop}
-use Rattle.reader.specs.declared.Stop.TheVariants.{Going, At}
 use Rattle.reader.specs.declared.EventReader.{EventReader}
 
 pub record State : Type 0 where
@@ -37,7 +33,11 @@ no_pending =
 
 -- "readers begin fresh"
 abbrev pub fresh_reader : EventReader
-fresh_reader = record { place = start; pending = no_pending; lines = 0; stop = Going }
+fresh_reader = record { place = start; pending = no_pending; lines = 0; stop = None }
+
+-- a refusal, and the line at which it is given
+abbrev pub refusal_at : Refusal → ℕ → RefusedAt
+refusal_at r n = record { refusal = r; line = n }
 
 -- the line of the next event: "line from 1", accepted events and one
 abbrev pub next_line : State → ℕ
@@ -49,15 +49,11 @@ next_line s = s.reader.lines + 1
 unfoldable pub stops_by : Refusal → Bool
 stops_by r = both (leb 2 (number_of r)) (leb (number_of r) 16)
 
-abbrev pub is_stopped : Stop → Bool
-is_stopped Going = false
-is_stopped (At r line) = stops_by r
+abbrev pub is_stopped : Option RefusedAt → Bool
+is_stopped None = false
+is_stopped (Some a) = stops_by a.refusal
 
 -- ---- Sound, of a reader: "staged parts passing the same; line count (u64) below its largest"
-
-abbrev pub is_legal : Fault → Bool
-is_legal F.Legal = true
-is_legal (F.Refused r) = false
 
 -- the record that is staged, in handles; there is one in sound storage
 unfoldable pub pending_record : Kind → Bytes → Pending → Option (Record ℕ)
@@ -66,7 +62,7 @@ pending_record k parts x = pushed_record k (head_in k x.head) (meta_of x.meta) (
 -- the parts that are staged lie within the lent bytes, and the push that they will make passes 17, 3, 10 and 16
 unfoldable pub pending_sound : ℕ → Kind → Bytes → Pending → Bool
 pending_sound strings k parts x =
-    both (leb x.used (length parts)) (is_legal (fault_for strings (pending_record k parts x)))
+    both (leb x.used (length parts)) (is_ok (fault_for strings (pending_record k parts x)))
 
 unfoldable pub reader_sound : State → Bool
 reader_sound s =

@@ -1,5 +1,5 @@
 -- Document 01: what is decided of an event, done in storage: one clause a decision. The store's row: "12 .. 13 .. 14 .. 15 .. 16".
-use Rattle.std.specs.Prelude.{ℕ, ◌+◌, Bool, true, false, cond, [], leb, ℤ, length, take}
+use Rattle.std.specs.Prelude.{ℕ, ◌+◌, Bool, true, false, cond, [], leb, ℤ, length, take, Err, Ok, Option, Result}
 use Rattle.std.specs.Int.{w32, w64}
 use Rattle.std.proofs.Common.{of_z}
 use Rattle.base.specs.Bytes.{Bytes, both}
@@ -8,9 +8,6 @@ use Rattle.refusal.specs.declared.Refusal.TheVariants as R
 use Rattle.kind.specs.Kind.{kind_number}
 use Rattle.kind.specs.declared.Kind.{Kind}
 use Rattle.nesting.specs.declared.Place.{Place}
-use Rattle.version_floor.specs.declared.Version.{Version}
-use Rattle.version_floor.specs.declared.Admit.{Admit}
-use Rattle.version_floor.specs.declared.Admit.TheVariants.{Admitted, Below}
 use Rattle.model.specs.Record.{Meta, Member, Tag, Body, place, refs, members, kind_of, flagged, claim_of}
 use Rattle.compact.specs.Legal.{limits}
 use Rattle.compact.specs.declared.ArenaMeta.{ArenaMeta}
@@ -21,8 +18,6 @@ use Rattle.interner.specs.Strings as Strings
 use Rattle.interner.specs.declared.Interned.{Interned}
 use Rattle.interner.specs.declared.Interned.TheVariants as I
 use Rattle.kind_store.specs.KindStore.{known_version, checked}
-use Rattle.kind_store.specs.declared.Kept.{Kept}
-use Rattle.kind_store.specs.declared.Kept.TheVariants as K
 use Rattle.overlay.specs.Overlay.{Overlay, kind_store_of, with_texts}
 use Rattle.overlay.specs.Calls.{OverlayAfter}
 use Rattle.overlay_store.specs.Calls.{store_push, store_delete}
@@ -53,11 +48,11 @@ clears_to s p o = goes (record { overlay = o; place = p; pending = no_pending; p
 -- ---- the store's row
 
 -- 12, of an act that claims a version
-abbrev pub unless_below : Admit → Step → Step
-unless_below Admitted f = f
-unless_below (Below v) f = stops (R.Regression v)
+abbrev pub unless_below : Result Unit ℤ → Step → Step
+unless_below (Ok tt) f = f
+unless_below (Err v) f = stops (R.Regression v)
 
-abbrev pub unless_regression : Overlay → Kind → ℤ → Version → Step → Step
+abbrev pub unless_regression : Overlay → Kind → ℤ → Option ℤ → Step → Step
 unless_regression o k id claim f = unless_below (checked o.setting (known_version k (kind_store_of k o) id) claim) f
 
 -- 13, of a text: it is taken in, and its handle goes on
@@ -86,9 +81,9 @@ unfoldable pub taking_user : Meta Bytes → Overlay → (ArenaMeta → Overlay �
 taking_user m o f = cond (flagged 4 m.flags) (with_text m.user o (λ h q. f (bits_with_user m h) q)) (f (bits_with_user m 0) o)
 
 -- 14 and 15, of an act
-abbrev pub on_kept : Kept → Step → Step
-on_kept K.Taken f = f
-on_kept (K.Refused r) f = stops r
+abbrev pub on_kept : Result Unit Refusal → Step → Step
+on_kept (Ok tt) f = f
+on_kept (Err r) f = stops r
 
 abbrev pub on_after : OverlayAfter → (Overlay → Step) → Step
 on_after a f = on_kept a.answer (f a.overlay)

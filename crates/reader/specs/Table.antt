@@ -1,7 +1,7 @@
 -- Document 01, "What is returned, by place of the check", for an event and for an end: one ordered list of conditions each. 22; the stop mark; then, at the event's line,
 -- the rows of line, nesting and fields, and the store's row of what is decided. "12, 14 and 15 at the push or delete"; "13 at the event with the text".
-use Rattle.std.specs.Prelude.{ℕ, ◌+◌, Bool, true, false, not, List, [], ◌∷◌, ◌++◌, map, ltb, ℤ, length}
-use Rattle.std.proofs.Math.Option.{Option, none, some}
+use Rattle.reader.specs.declared.RefusedAt.{RefusedAt}
+use Rattle.std.specs.Prelude.{ℕ, ◌+◌, Bool, true, false, not, List, [], ◌∷◌, ◌++◌, map, ltb, ℤ, length, None, Option, Some, Ok, Err, Result}
 use Rattle.std.specs.Int.{w64}
 use Rattle.std.proofs.Common.{to_z}
 use Rattle.base.specs.Bytes.{Bytes, both}
@@ -11,7 +11,6 @@ use Rattle.refusal.specs.declared.Refusal.TheVariants as R
 use Rattle.kind.specs.declared.Kind.{Kind}
 use Rattle.nesting.specs.declared.Level.{Level}
 use Rattle.nesting.specs.declared.Level.TheVariants as L
-use Rattle.version_floor.specs.declared.Version.{Version}
 use Rattle.model.specs.Record.{Meta, kind_of, flagged, claim_of}
 use Rattle.compact.specs.Held.{meta_of}
 use Rattle.compact.specs.Layout.{head_len}
@@ -21,34 +20,22 @@ use Rattle.overlay.specs.Overlay.{Overlay, kind_store_of}
 use Rattle.overlay_store.specs.First.{is_below, held_by, full_for}
 use Rattle.event_decision.specs.Decision.{Decision, refuses, moves, begins, deletes, tags, refers, joins, ends, decide}
 use Rattle.event_decision.specs.Table.{decide_table}
-use Rattle.reader.specs.declared.Stop.{Stop}
-use Rattle.reader.specs.declared.Stop.TheVariants.{Going, At}
-use Rattle.reader.specs.declared.EventAnswer.{EventAnswer}
-use Rattle.reader.specs.declared.EventAnswer.TheVariants as E
-use Rattle.reader.specs.State.{State, next_line, stops_by, state_sound}
+use Rattle.reader.specs.State.{State, next_line, stops_by, state_sound, refusal_at}
 use Rattle.reader.specs.Step.{tag_within, part_within}
 
--- a refusal and its line
-pub record RefusalAt : Type 0 where
-  pub refusal : Refusal
-  pub line : ℕ
-
-abbrev pub refusal_at : Refusal → ℕ → RefusalAt
-refusal_at r n = record { refusal = r; line = n }
-
-abbrev pub answer_by : Option RefusalAt → EventAnswer
-answer_by none = E.Accepted
-answer_by (some t) = E.Refused t.refusal t.line
+abbrev pub answer_by : Option RefusedAt → Result Unit RefusedAt
+answer_by None = Ok tt
+answer_by (Some a) = Err a
 
 -- rows that are given at a line
-abbrev pub at_line : ℕ → List (ConditionRow Refusal) → List (ConditionRow RefusalAt)
+abbrev pub at_line : ℕ → List (ConditionRow Refusal) → List (ConditionRow RefusedAt)
 at_line n rows = map (λ (r : ConditionRow Refusal). row (refusal_at r.gives n) r.holds) rows
 
 -- ---- the store: "12 regression; 13 strings or string bytes full; 14 new id, ids full; 15 record longer than the arena's unused bytes; 16 .."
 
 module _ (o : Overlay) where
   -- 12 of an act on an id of a kind, with the known version
-  abbrev pub regression_row : Kind → ℤ → Version → ConditionRow Refusal
+  abbrev pub regression_row : Kind → ℤ → Option ℤ → ConditionRow Refusal
   regression_row k id claim =
       row (R.Regression (held_by (checked o.setting (known_version k (kind_store_of k o) id) claim))) (is_below (checked o.setting (known_version k (kind_store_of k o) id) claim))
 
@@ -90,15 +77,15 @@ store_rows_of (ends p) s =
 -- ---- an event and an end
 
 -- "each call but lookups in lists, first": it names no line
-abbrev pub unsound_state_row : State → ConditionRow RefusalAt
+abbrev pub unsound_state_row : State → ConditionRow RefusedAt
 unsound_state_row s = row (refusal_at R.Unsound 0) (not (state_sound s))
 
 -- "later events and the end repeat that number, line and HELD"
-abbrev pub stop_rows : Stop → List (ConditionRow RefusalAt)
-stop_rows Going = []
-stop_rows (At r n) = row (refusal_at r n) (stops_by r) ∷ []
+abbrev pub stop_rows : Option RefusedAt → List (ConditionRow RefusedAt)
+stop_rows None = []
+stop_rows (Some a) = row a (stops_by a.refusal) ∷ []
 
-unfoldable pub event_table : Bytes → State → List (ConditionRow RefusalAt)
+unfoldable pub event_table : Bytes → State → List (ConditionRow RefusedAt)
 event_table line s =
     unsound_state_row s ∷ (stop_rows s.reader.stop
     ++ at_line (next_line s) (decide_table line s.reader.place ++ store_rows_of (decide line s.reader.place) s))
@@ -113,5 +100,5 @@ is_done L.Leaf = false
 is_done L.Other = false
 
 -- "18 level is not Done"
-unfoldable pub end_table : State → List (ConditionRow RefusalAt)
+unfoldable pub end_table : State → List (ConditionRow RefusedAt)
 end_table s = unsound_state_row s ∷ (stop_rows s.reader.stop ++ (row (refusal_at R.Unfinished (next_line s)) (not (is_done s.reader.place.level)) ∷ []))

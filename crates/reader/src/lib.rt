@@ -14,25 +14,18 @@ pub struct Pending {
     pub used: usize,
 }
 
-// The mark of a stopped reader: the refusal that stopped it, and its line.
+// A refusal, and the line at which it was given.
 #[derive(Clone, Copy)]
-pub enum Stop {
-    Going,
-    At(Refusal, u64),
+pub struct RefusedAt {
+    pub refusal: Refusal,
+    pub line: u64,
 }
 
-// The line count is that of the accepted events.
+// The line count is that of the accepted events. A stopped reader has the refusal that stopped it as its stop mark.
 #[derive(Clone, Copy)]
 pub struct EventReader {
     pub place: Place,
     pub pending: Pending,
     pub lines: u64,
-    pub stop: Stop,
-}
-
-// What an event or an end answers: a refusal with its line.
-#[derive(Clone, Copy)]
-pub enum EventAnswer {
-    Accepted,
-    Refused(Refusal, u64),
+    pub stop: Option<RefusedAt>,
 }

@@ -1,4 +1,6 @@
 -- A handle is at most the number of held strings, whatever is lent; and what the handle of the user's text says.
+use Rattle.refusal.specs.declared.Refusal.{Refusal}
+use Rattle.std.specs.Prelude.{Err, None, Ok, Option, Result, Some}
 use Prim.Native.Nat.{ℕ, zero, suc, ◌+◌, ◌≤◌, ◌<◌}
 use mathlib.Core.Path.{◌≡◌, refl, sym, ◌∙◌, ap}
 use mathlib.Core.Bool.{true, false}
@@ -7,8 +9,6 @@ use native.Mathlib.Omega.{arith}
 use Rattle.base.specs.Bytes.{Bytes}
 use Rattle.base.proofs.Split.{by_bool, no}
 use Rattle.interner.specs.Strings.{Store, is_at, find_from, find_in, used_of, text_room, intern}
-use Rattle.interner.specs.declared.Found.{Found}
-use Rattle.interner.specs.declared.Found.TheVariants as F
 use Rattle.interner.specs.declared.Interned.TheVariants as I
 use Rattle.interner.proofs.Finds.{find_none, find_here, find_on}
 use Rattle.interner.proofs.Takes as Takes
@@ -19,11 +19,9 @@ use Rattle.refusal.specs.declared.Refusal.TheVariants.{StringsFull}
 use Rattle.model.specs.Record.{Meta, flagged}
 use Rattle.overlay.specs.Overlay.{Overlay}
 use Rattle.overlay_store.specs.Calls.{Interning, store_text}
-use Rattle.overlay_store.specs.declared.Handle.{Handle}
-use Rattle.overlay_store.specs.declared.Handle.TheVariants as H
 use Rattle.reader_acts.specs.Acts.{with_user, HandleFits, UserIs}
 
-found_below : (spans : List ℕ) (bytes t : Bytes) (n h j : ℕ) → find_from spans bytes t n h ≡ F.At j → j < h + n
+found_below : (spans : List ℕ) (bytes t : Bytes) (n h j : ℕ) → find_from spans bytes t n h ≡ Some j → j < h + n
 found_below spans bytes t zero h j e = let z = sym (find_none spans bytes t h) ∙ e in no (cc)
 found_below spans bytes t (suc n) h j e =
     by_bool (is_at spans bytes t h)
@@ -38,9 +36,9 @@ pub by_intern : {C : Type 0} (s : Store) (t : Bytes)
 unfolding find_in
 by_intern {C} s t f g h = go (find_in s.spans (used_of s) s.strings t) refl
   where
-    go : (x : Found) → find_in s.spans (used_of s) s.strings t ≡ x → C
-    go (F.At j) p = f j (let l = found_below s.spans (used_of s) t s.strings 0 j p in omega arith) (Takes.held s t j p)
-    go F.Not p = by_bool (text_room s t) (λ r. g _ (Takes.new s t p r)) (λ r. h (Takes.full s t p r))
+    go : (x : Option ℕ) → find_in s.spans (used_of s) s.strings t ≡ x → C
+    go (Some j) p = f j (let l = found_below s.spans (used_of s) t s.strings 0 j p in omega arith) (Takes.held s t j p)
+    go None p = by_bool (text_room s t) (λ r. g _ (Takes.new s t p r)) (λ r. h (Takes.full s t p r))
 
 pub handle_fits : (t : Bytes) (o : Overlay) → o.texts.strings < 4294967296 → HandleFits (store_text t o).answer
 handle_fits t o l =
@@ -55,10 +53,10 @@ module _ (m : Meta Bytes) (o : Overlay) (n : ℕ) (user : UserIs m o n) where
       by_bool (flagged 4 m.flags)
       (λ t. let e = rw t at user in
       by_intern o.texts m.user
-      (λ j l i. let q : H.Is j ≡ H.Is n = rw i at e in let z : j ≡ n = cc in f (omega arith) (rw (t, i)))
-      (λ q i. let p : H.Is o.texts.strings ≡ H.Is n = rw i at e in g t (cc))
-      (λ i. let q : H.Refused StringsFull ≡ H.Is n = rw i at e in no (cc)))
-      (λ t. let q : H.Is 0 ≡ H.Is n = rw t at user in h t (cc))
+      (λ j l i. let q : Ok j ≡ Ok n = rw i at e in let z : j ≡ n = cc in f (omega arith) (rw (t, i)))
+      (λ q i. let p : Ok o.texts.strings ≡ Ok n = rw i at e in g t (cc))
+      (λ i. let q : Err StringsFull ≡ Ok n = rw i at e in no (cc)))
+      (λ t. let q : Ok 0 ≡ Ok n = rw t at user in h t (cc))
 
   pub user_fits : o.texts.strings < 4294967296 → n < 4294967296
   user_fits l = by_user (λ b e. omega arith) (λ t e. omega arith) (λ t e. omega arith)
@@ -67,7 +65,7 @@ module _ (m : Meta Bytes) (o : Overlay) (n : ℕ) (user : UserIs m o n) where
   pub user_held : n < o.texts.strings → with_user m o ≡ o
   user_held l = by_user (λ b e. e) (λ t e. absurd (omega arith)) (λ t e. rw t)
 
-  pub user_taken : {ix : List ℕ} → IndexGiven ix o.texts → o.texts.strings ≤ n → {q : Overlay} {h : Handle} → record { overlay = q; answer = h } ≡ store_text m.user o → q ≡ with_user m o
+  pub user_taken : {ix : List ℕ} → IndexGiven ix o.texts → o.texts.strings ≤ n → {q : Overlay} {h : Result ℕ Refusal} → record { overlay = q; answer = h } ≡ store_text m.user o → q ≡ with_user m o
   user_taken g l w =
       by_user (λ b e. absurd (omega arith)) (λ t e. rw t (ap (λ (z : Interning). z.overlay) w))
       (λ t e. absurd (omega (arith, some_held o.texts (sound_parts o.texts g.sound))))

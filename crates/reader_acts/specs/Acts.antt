@@ -1,63 +1,55 @@
 -- Document 01, the acts of an event: "12 .. 13 .. 14 .. 15 ..", and the first of them is answered. "Nothing lent changes" at a refusal.
-use Rattle.std.specs.Prelude.{ℕ, ◌<◌, ◌≤◌, ◌≡◌, cond, List, [], ℤ, length, take}
+use Rattle.std.specs.Prelude.{ℕ, ◌<◌, ◌≤◌, ◌≡◌, cond, List, [], ℤ, length, take, Err, Ok, Result}
 use Rattle.base.specs.Bytes.{Bytes}
 use Rattle.refusal.specs.declared.Refusal.{Refusal}
 use Rattle.refusal.specs.declared.Refusal.TheVariants.{Regression}
 use Rattle.kind.specs.declared.Kind.{Kind}
-use Rattle.version_floor.specs.declared.Admit.{Admit}
-use Rattle.version_floor.specs.declared.Admit.TheVariants.{Admitted, Below}
 use Rattle.model.specs.Record.{Meta, Body, kind_of, flagged, claim_of}
 use Rattle.compact.specs.declared.ArenaMeta.{ArenaMeta}
 use Rattle.text_index.specs.Index.{IndexGiven}
 use Rattle.kind_store.specs.KindStore.{known_version, checked}
-use Rattle.kind_store.specs.declared.Kept.{Kept}
-use Rattle.kind_store.specs.declared.Kept.TheVariants as K
 use Rattle.overlay.specs.Overlay.{Overlay, kind_store_of}
 use Rattle.overlay.specs.Calls.{OverlayAfter, overlay_refused}
 use Rattle.overlay_store.specs.Calls.{store_text, store_push, store_delete}
-use Rattle.overlay_store.specs.declared.Handle.{Handle}
-use Rattle.overlay_store.specs.declared.Handle.TheVariants as H
 use Rattle.event_metadata.specs.Metadata.{MetadataInBounds}
 use Rattle.event_metadata.specs.declared.Metadata.{Metadata}
 use Rattle.reader.specs.declared.Pending.{Pending}
 use Rattle.reader.specs.Step.{bits_with_user, head_for}
-use Rattle.reader_acts.specs.declared.Begun.{Begun}
-use Rattle.reader_acts.specs.declared.Begun.TheVariants as B
 
 -- ---- an element begins: the user that its metadata names is taken in
 
 -- what that leaves, and the metadata with its user's handle
 pub record AfterBegun : Type 0 where
   pub overlay : Overlay
-  pub answer : Begun
+  pub answer : Result ArenaMeta Refusal
 
-abbrev pub begun_by : Meta Bytes → Handle → Begun
-begun_by m (H.Is h) = B.With (bits_with_user m h)
-begun_by m (H.Refused r) = B.Refused r
+abbrev pub begun_by : Meta Bytes → Result ℕ Refusal → Result ArenaMeta Refusal
+begun_by m (Ok h) = Ok (bits_with_user m h)
+begun_by m (Err r) = Err r
 
 -- 13, or the metadata; where it names no user the handle is 0
 unfoldable pub begin_on : Meta Bytes → Overlay → AfterBegun
 begin_on m o =
     cond (flagged 4 m.flags)
     (record { overlay = (store_text m.user o).overlay; answer = begun_by m (store_text m.user o).answer })
-    (record { overlay = o; answer = B.With (bits_with_user m 0) })
+    (record { overlay = o; answer = Ok (bits_with_user m 0) })
 
 -- what follows, by its refusal or by the metadata
-abbrev pub by_begun : {A : Type 0} → (Refusal → A) → (ArenaMeta → A) → Begun → A
-by_begun g f (B.With a) = f a
-by_begun g f (B.Refused r) = g r
+abbrev pub by_begun : {A : Type 0} → (Refusal → A) → (ArenaMeta → A) → Result ArenaMeta Refusal → A
+by_begun g f (Ok a) = f a
+by_begun g f (Err r) = g r
 
 -- ---- an act
 
 -- 12, or what follows
-abbrev pub admitted : Overlay → Admit → OverlayAfter → OverlayAfter
-admitted o (Below v) a = overlay_refused o (Regression v)
-admitted o Admitted a = a
+abbrev pub admitted : Overlay → Result Unit ℤ → OverlayAfter → OverlayAfter
+admitted o (Err v) a = overlay_refused o (Regression v)
+admitted o (Ok tt) a = a
 
 -- 14 and 15: not even the text before them is kept
-abbrev pub act_kept_as : Overlay → Overlay → Kept → OverlayAfter
-act_kept_as o q K.Taken = record { overlay = q; answer = K.Taken }
-act_kept_as o q (K.Refused r) = overlay_refused o r
+abbrev pub act_kept_as : Overlay → Overlay → Result Unit Refusal → OverlayAfter
+act_kept_as o q (Ok tt) = record { overlay = q; answer = (Ok tt) }
+act_kept_as o q (Err r) = overlay_refused o r
 
 abbrev pub act_kept : Overlay → OverlayAfter → OverlayAfter
 act_kept o a = act_kept_as o a.overlay a.answer
@@ -82,17 +74,17 @@ push_staged_on k x parts o = store_push k x.head x.meta (take x.used parts) o
 -- ---- an act done once: with the handle that the user's text has or will get, and the text behind it (proofs/Once: this is `act_on`)
 
 -- that handle, or 13; without a user it is 0
-abbrev pub handle_for : Meta Bytes → Overlay → Handle
-handle_for m o = cond (flagged 4 m.flags) (store_text m.user o).answer (H.Is 0)
+abbrev pub handle_for : Meta Bytes → Overlay → Result ℕ Refusal
+handle_for m o = cond (flagged 4 m.flags) (store_text m.user o).answer (Ok 0)
 
 -- the text taken in
 abbrev pub with_user : Meta Bytes → Overlay → Overlay
 with_user m o = cond (flagged 4 m.flags) (store_text m.user o).overlay o
 
 -- the text behind an act that was taken; a refused one is left as it is
-abbrev pub then_user : Meta Bytes → Overlay → Kept → OverlayAfter
-then_user m q K.Taken = record { overlay = with_user m q; answer = K.Taken }
-then_user m q (K.Refused r) = overlay_refused q r
+abbrev pub then_user : Meta Bytes → Overlay → Result Unit Refusal → OverlayAfter
+then_user m q (Ok tt) = record { overlay = with_user m q; answer = (Ok tt) }
+then_user m q (Err r) = overlay_refused q r
 
 abbrev pub then_user_on : Meta Bytes → OverlayAfter → OverlayAfter
 then_user_on m a = then_user m a.overlay a.answer
@@ -108,9 +100,9 @@ pub record ActGiven (ix : List ℕ) (line : Bytes) (m : Metadata) (o : Overlay) 
 
 -- the user's text has or will get that handle
 abbrev pub UserIs : Meta Bytes → Overlay → ℕ → Type 0
-UserIs m o n = handle_for m o ≡ H.Is n
+UserIs m o n = handle_for m o ≡ Ok n
 
 -- a handle fits the metadata's field
-abbrev pub HandleFits : Handle → Type 0
-HandleFits (H.Is n) = n < 4294967296
-HandleFits (H.Refused r) = Unit {0}
+abbrev pub HandleFits : Result ℕ Refusal → Type 0
+HandleFits (Ok n) = n < 4294967296
+HandleFits (Err r) = Unit {0}

@@ -19,20 +19,10 @@ ghost use Rattle.reader_acts.specs.Acts.{begun_by, begin_on, admitted, handle_fo
 use compact::{ArenaMeta, PushHead};
 use event_metadata::Metadata;
 use kind::Kind;
-use kind_store::Kept;
 use overlay_blocks::{COUNTERS, STRINGS};
-use overlay_store::Handle;
 use reader::Pending;
 use reader_stage::STAGED;
 use refusal::Refusal;
-use version_floor::{Admit, Version};
-
-// What an element begins with: its metadata with its user's handle, or 13.
-#[derive(Clone, Copy)]
-pub enum Begun {
-    With(ArenaMeta),
-    Refused(Refusal),
-}
 
 // ---- in bits
 
@@ -80,18 +70,18 @@ fn arena_meta(meta: Metadata, user: u32) -> ArenaMeta
 }
 
 // The version that metadata claims.
-fn claimed(meta: Metadata) -> Version
+fn claimed(meta: Metadata) -> Option<i32>
     ensures { (line : Bytes) → result ≡ claim_of (meta_written line meta) }
 {
     compact::claim(arena_meta(meta, 0))
 }
 
-fn begun_by(meta: Metadata, handle: Handle) -> Begun
+fn begun_by(meta: Metadata, handle: Result<u64, Refusal>) -> Result<ArenaMeta, Refusal>
     ensures { (line : Bytes) → HandleFits handle → result ≡ begun_by (meta_written line meta) handle }
 {
     match handle {
-        Handle::Is(n) => Begun::With(arena_meta(meta, little::narrow(n))),
-        Handle::Refused(r) => Begun::Refused(r),
+        Ok(n) => Ok(arena_meta(meta, little::narrow(n))),
+        Err(r) => Err(r),
     }
 }
 
@@ -105,7 +95,7 @@ pub fn begin_element(
     ix: &[u16],
     meta: Metadata,
     line: &[u8],
-) -> Begun
+) -> Result<ArenaMeta, Refusal>
     ensures { ActGiven ix.now line.now meta (lent words.old bytes.old counters.old)
         → record { overlay = left words.new bytes.new counters.new; answer = result }
         ≡ begin_on (meta_written line.now meta) (lent words.old bytes.old counters.old) }
@@ -115,7 +105,7 @@ pub fn begin_element(
         let handle = reader_texts::take_text(words, bytes, counters, ix, line, user);
         return begun_by(meta, handle);
     }
-    Begun::With(arena_meta(meta, 0))
+    Ok(arena_meta(meta, 0))
 }
 
 // ---- an element that ends
@@ -129,7 +119,7 @@ fn push_first(
     kind: Kind,
     head: PushHead,
     meta: ArenaMeta,
-) -> Kept
+) -> Result<(), Refusal>
     ensures { record { overlay = left words.new bytes.new counters.new; answer = result }
         ≡ store_push kind head meta (take n parts.now) (lent words.old bytes.old counters.old) }
 {
@@ -145,7 +135,7 @@ pub fn push_staged(
     parts: &[u8; STAGED],
     kind: Kind,
     pending: Pending,
-) -> Kept
+) -> Result<(), Refusal>
     ensures { record { overlay = left words.new bytes.new counters.new; answer = result }
         ≡ push_staged_on kind pending parts.now (lent words.old bytes.old counters.old) }
 {
@@ -173,7 +163,7 @@ fn user_handle(
     ix: &[u16],
     meta: Metadata,
     line: &[u8],
-) -> Handle
+) -> Result<u64, Refusal>
     ensures { ActGiven ix.now line.now meta (lent words.now bytes.now counters.now)
         → result ≡ handle_for (meta_written line.now meta) (lent words.now bytes.now counters.now) }
 {
@@ -181,7 +171,7 @@ fn user_handle(
         let user = meta.user;
         return reader_texts::text_handle(words, bytes, counters, ix, line, user);
     }
-    Handle::Is(0)
+    Ok(0)
 }
 
 // An act whose user's text is refused: 12 if its claim is below the known version, else that refusal.
@@ -193,15 +183,15 @@ fn user_refused(
     id: u64,
     meta: Metadata,
     refusal: Refusal,
-) -> Kept
+) -> Result<(), Refusal>
     ensures { (line : Bytes) → record { overlay = lent words.now bytes.now counters.now; answer = result }
         ≡ admitted (lent words.now bytes.now counters.now) (claim_answer kind (to_z w64 id) (claim_of (meta_written line meta)) (lent words.now bytes.now counters.now)) (overlay_refused (lent words.now bytes.now counters.now) refusal) }
 {
     let claim = claimed(meta);
-    let Admit::Below(held) = act_answer::claim_below(words, bytes, counters, kind, id, claim) else {
-        return Kept::Refused(refusal);
+    let Err(held) = act_answer::claim_below(words, bytes, counters, kind, id, claim) else {
+        return Err(refusal);
     };
-    Kept::Refused(Refusal::Regression(held))
+    Err(Refusal::Regression(held))
 }
 
 // The user's text taken in, by its handle: one below the count is held.
@@ -220,7 +210,8 @@ fn take_user(
 {
     if counters[STRINGS] <= user {
         let at = meta.user;
-        reader_texts::take_text(words, bytes, counters, ix, line, at);
+        // its answer is known: there is room for it
+        let _ = reader_texts::take_text(words, bytes, counters, ix, line, at);
     }
 }
 
@@ -233,18 +224,18 @@ fn then_user(
     meta: Metadata,
     line: &[u8],
     user: u64,
-    kept: Kept,
-) -> Kept
+    kept: Result<(), Refusal>,
+) -> Result<(), Refusal>
     ensures { ActGiven ix.now line.now meta (lent words.old bytes.old counters.old)
         → UserIs (meta_written line.now meta) (lent words.old bytes.old counters.old) user
         → record { overlay = left words.new bytes.new counters.new; answer = result } ≡ then_user (meta_written line.now meta) (lent words.old bytes.old counters.old) kept }
 {
     match kept {
-        Kept::Taken => {
+        Ok(()) => {
             take_user(words, bytes, counters, ix, meta, line, user);
-            Kept::Taken
+            Ok(())
         }
-        Kept::Refused(refusal) => Kept::Refused(refusal),
+        Err(refusal) => Err(refusal),
     }
 }
 
@@ -261,7 +252,7 @@ fn push_with_user(
     meta: Metadata,
     line: &[u8],
     user: u64,
-) -> Kept
+) -> Result<(), Refusal>
     ensures { ActGiven ix.now line.now meta (lent words.old bytes.old counters.old)
         → UserIs (meta_written line.now meta) (lent words.old bytes.old counters.old) user
         → record { overlay = left words.new bytes.new counters.new; answer = result }
@@ -284,17 +275,17 @@ pub fn push_empty(
     lon: u32,
     meta: Metadata,
     line: &[u8],
-) -> Kept
+) -> Result<(), Refusal>
     ensures { ActGiven ix.now line.now meta (lent words.old bytes.old counters.old)
         → record { overlay = left words.new bytes.new counters.new; answer = result }
         ≡ push_empty_on (to_z w64 id) (meta_written line.now meta) (body_in kind lat lon) (lent words.old bytes.old counters.old) }
 {
     match user_handle(words, bytes, counters, ix, meta, line) {
-        Handle::Is(user) => {
+        Ok(user) => {
             let head = head_for(kind, id, lat, lon);
             push_with_user(words, bytes, counters, ix, kind, head, meta, line, user)
         }
-        Handle::Refused(r) => user_refused(words, bytes, counters, kind, id, meta, r),
+        Err(r) => user_refused(words, bytes, counters, kind, id, meta, r),
     }
 }
 
@@ -310,16 +301,16 @@ pub fn delete_element(
     id: u64,
     meta: Metadata,
     line: &[u8],
-) -> Kept
+) -> Result<(), Refusal>
     ensures { ActGiven ix.now line.now meta (lent words.old bytes.old counters.old)
         → record { overlay = left words.new bytes.new counters.new; answer = result }
         ≡ delete_element_on kind (to_z w64 id) (meta_written line.now meta) (lent words.old bytes.old counters.old) }
 {
     match user_handle(words, bytes, counters, ix, meta, line) {
-        Handle::Is(user) => {
+        Ok(user) => {
             let kept = overlay_store::store_delete(words, bytes, counters, kind, id, claimed(meta));
             then_user(words, bytes, counters, ix, meta, line, user, kept)
         }
-        Handle::Refused(r) => user_refused(words, bytes, counters, kind, id, meta, r),
+        Err(r) => user_refused(words, bytes, counters, kind, id, meta, r),
     }
 }

@@ -1,4 +1,6 @@
 -- Each answer of an event, place by place: 22, the stop mark, then the step.
+use Rattle.reader_elements.specs.declared.Progress.{Progress}
+use Rattle.std.specs.Prelude.{Err, Result, Some, None}
 use Prim.Native.Nat.{ℕ}
 use mathlib.Core.Path.{◌≡◌, refl, sym, ◌∙◌, ap}
 use mathlib.Core.Bool.{true, false}
@@ -8,7 +10,7 @@ use Rattle.base.proofs.Split.{both_left}
 use Rattle.refusal.specs.declared.Refusal.{Refusal}
 use Rattle.refusal.specs.declared.Refusal.TheVariants as R
 use Rattle.event.specs.Event.{body}
-use Rattle.event_decision.specs.Decision.{decide}
+use Rattle.event_decision.specs.Decision.{decide, refuses}
 use Rattle.event_decide.specs.Decided.{means_decided, DecidedInBounds}
 use Rattle.event_decide.specs.declared.Decided.{Decided}
 use Rattle.interner.specs.Sound.{texts_of, sound_strings}
@@ -18,8 +20,7 @@ use Rattle.text_index.proofs.Index.{indexed_none}
 use Rattle.overlay.specs.Overlay.{Overlay}
 use Rattle.overlay.specs.Sound.{is_sound}
 use Rattle.overlay.proofs.Answers.{strings_sound}
-use Rattle.reader.specs.declared.Stop.TheVariants.{Going, At}
-use Rattle.reader.specs.State.{State, state_sound}
+use Rattle.reader.specs.State.{State, state_sound, refusal_at}
 use Rattle.reader.specs.Step.{Step, goes, stops, step_of}
 use Rattle.reader.specs.Event.{EventResult, refused_at, stepped, event_on}
 use Rattle.reader.proofs.Answers.{event_22, event_stopped, event_going}
@@ -28,7 +29,6 @@ use Rattle.reader_sound.proofs.Mark.{unmarked, marked}
 use Rattle.reader_sound.proofs.Sound.{sound_used, sound_strings_lem}
 use Rattle.reader_sound.proofs.Line.{short_line}
 use Rattle.reader_elements.specs.Done.{StepDone, done_by, StepGiven}
-use Rattle.reader_elements.specs.declared.Stepped.{Stepped}
 use Rattle.reader_calls.specs.Done.{event_done}
 use Rattle.reader_calls.specs.declared.EventDone.{EventDone}
 
@@ -51,14 +51,22 @@ module _ (line : Bytes) (s : State) where
   result_is (goes l) = refl
   result_is (stops r) = refl
 
-  -- what is left after it; t is the line without its line feed
-  pub event_steps : state_sound s ≡ true → (ix : List ℕ) → IndexGiven ix s.overlay.texts → (t : Bytes) → t ≡ body line
-      → (d : Decided) → means_decided (body line) d ≡ decide line s.reader.place → DecidedInBounds (body line) d → {q : Overlay} {ps : Bytes} {a : Stepped} {r : EventDone}
-      → (StepGiven ix t d s → record { overlay = q; parts = ps; answer = a } ≡ done_by s (step_of (means_decided t d) s)) → r ≡ event_done s.reader a
-      → record { state = record { overlay = q; reader = r.reader; parts = ps }; answer = r.answer } ≡ stepped s (step_of (decide line s.reader.place) s)
-  event_steps e ix i t p d f l h g =
-      let w = (rw p at h) (step_given e ix i d f l) in
-      rw (g, ← f) (ap done_result w ∙ result_is (step_of (means_decided (body line) d) s))
+  -- a refusal of the line
+  pub step_refused : {r : Refusal} → refuses r ≡ decide line s.reader.place → record { overlay = s.overlay; parts = s.parts; answer = Err r } ≡ done_by s (step_of (decide line s.reader.place) s)
+  unfolding step_of
+  step_refused e = rw (← e)
+
+  -- what is decided, done; t is the line without its line feed
+  pub step_decided : state_sound s ≡ true → (ix : List ℕ) → IndexGiven ix s.overlay.texts → (t : Bytes) → t ≡ body line
+      → (d : Decided) → means_decided (body line) d ≡ decide line s.reader.place → DecidedInBounds (body line) d → {q : Overlay} {ps : Bytes} {a : Result Progress Refusal}
+      → (StepGiven ix t d s → record { overlay = q; parts = ps; answer = a } ≡ done_by s (step_of (means_decided t d) s))
+      → record { overlay = q; parts = ps; answer = a } ≡ done_by s (step_of (decide line s.reader.place) s)
+  step_decided e ix i t p d f l h = (rw p at h) (step_given e ix i d f l) ∙ ap (λ x. done_by s (step_of x s)) f
+
+  -- what is left after it
+  pub event_steps : {q : Overlay} {ps : Bytes} {a : Result Progress Refusal} {r : EventDone} → record { overlay = q; parts = ps; answer = a } ≡ done_by s (step_of (decide line s.reader.place) s)
+      → r ≡ event_done s.reader a → record { state = record { overlay = q; reader = r.reader; parts = ps }; answer = r.answer } ≡ stepped s (step_of (decide line s.reader.place) s)
+  event_steps w g = rw g (ap done_result w ∙ result_is (step_of (decide line s.reader.place) s))
 
   -- ---- 22, and the stop mark
 
@@ -66,10 +74,10 @@ module _ (line : Bytes) (s : State) where
   event_unsound e = sym (event_22 line s e)
 
   module _ (e : state_sound s ≡ true) where
-    pub event_marked : (r : Refusal) (n : ℕ) → stop_mark s.reader.stop ≡ At r n → refused_at s r n ≡ event_on line s
+    pub event_marked : (r : Refusal) (n : ℕ) → stop_mark s.reader.stop ≡ Some (refusal_at r n) → refused_at s r n ≡ event_on line s
     event_marked r n g = let m = marked s.reader.stop r n g in sym (event_stopped line s r n e m.0 m.1)
 
-    pub event_goes_on : stop_mark s.reader.stop ≡ Going → {x : EventResult} → x ≡ stepped s (step_of (decide line s.reader.place) s) → x ≡ event_on line s
+    pub event_goes_on : stop_mark s.reader.stop ≡ None → {x : EventResult} → x ≡ stepped s (step_of (decide line s.reader.place) s) → x ≡ event_on line s
     event_goes_on g w = w ∙ sym (event_going line s e (unmarked s.reader.stop g))
 
 -- ---- an array of chains

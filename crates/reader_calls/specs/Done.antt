@@ -1,13 +1,12 @@
 -- A reader after its step: the lines count on, or the reader stops.
-use Rattle.std.specs.Prelude.{◌+◌}
+use Rattle.refusal.specs.declared.Refusal.{Refusal}
+use Rattle.reader_elements.specs.declared.Progress.{Progress}
+use Rattle.reader.specs.State.{refusal_at}
+use Rattle.std.specs.Prelude.{◌+◌, Ok, Err, Result, None}
 use Rattle.reader.specs.Event.{stopped_at}
-use Rattle.reader.specs.declared.Stop.TheVariants.{Going}
-use Rattle.reader.specs.declared.EventAnswer.TheVariants as E
 use Rattle.reader.specs.declared.EventReader.{EventReader}
-use Rattle.reader_elements.specs.declared.Stepped.{Stepped}
-use Rattle.reader_elements.specs.declared.Stepped.TheVariants as S
 use Rattle.reader_calls.specs.declared.EventDone.{EventDone}
 
-abbrev pub event_done : EventReader → Stepped → EventDone
-event_done r (S.Goes p x) = record { reader = record { place = p; pending = x; lines = r.lines + 1; stop = Going }; answer = E.Accepted }
-event_done r (S.Stops x) = record { reader = stopped_at r x (r.lines + 1); answer = E.Refused x (r.lines + 1) }
+abbrev pub event_done : EventReader → Result Progress Refusal → EventDone
+event_done r (Ok x) = record { reader = record { place = x.place; pending = x.pending; lines = r.lines + 1; stop = None }; answer = Ok tt }
+event_done r (Err x) = record { reader = stopped_at r x (r.lines + 1); answer = Err (refusal_at x (r.lines + 1)) }

@@ -4,18 +4,19 @@
 ghost use Rattle.std.specs.Prelude.{◌≡◌, true, ◌+◌, ◌<◌};
 ghost use Rattle.event_decision.specs.Decision.{decide};
 ghost use Rattle.text_index.specs.Index.{IndexGiven};
-ghost use Rattle.overlay.specs.Lent.{lent};
+ghost use Rattle.overlay.specs.Lent.{lent, left};
 ghost use Rattle.reader.specs.Lent.{state_lent, state_left};
 ghost use Rattle.reader.specs.State.{state_sound};
 ghost use Rattle.reader.specs.Step.{step_of};
 ghost use Rattle.reader.specs.Event.{stepped, event_on, end_on};
 ghost use Rattle.reader.specs.Table.{is_done};
+ghost use Rattle.reader_elements.specs.Done.{done_by};
 ghost use Rattle.reader_calls.specs.Done.{event_done};
 
 use nesting::Level;
 use overlay_blocks::COUNTERS;
-use reader::{EventAnswer, EventReader, Stop};
-use reader_elements::Stepped;
+use reader::{EventReader, RefusedAt};
+use reader_elements::Progress;
 use reader_stage::STAGED;
 use refusal::Refusal;
 
@@ -25,7 +26,7 @@ use refusal::Refusal;
 #[derive(Clone, Copy)]
 pub struct EventDone {
     pub reader: EventReader,
-    pub answer: EventAnswer,
+    pub answer: Result<(), RefusedAt>,
 }
 
 // The number of the next line, where there is one.
@@ -39,35 +40,58 @@ fn next_line(lines: u64) -> u64
 }
 
 // The lines count on, or the reader stops: then only its stop mark changes.
-fn event_done(reader: EventReader, step: Stepped) -> EventDone
+fn event_done(reader: EventReader, step: Result<Progress, Refusal>) -> EventDone
     ensures { reader.lines < 18446744073709551615 → result ≡ event_done reader step }
 {
     let line = next_line(reader.lines);
     match step {
-        Stepped::Goes { place, pending } => {
+        Ok(progress) => {
             let reader = EventReader {
-                place,
-                pending,
+                place: progress.place,
+                pending: progress.pending,
                 lines: line,
-                stop: Stop::Going,
+                stop: None,
             };
-            let answer = EventAnswer::Accepted;
-            EventDone { reader, answer }
+            EventDone {
+                reader,
+                answer: Ok(()),
+            }
         }
-        Stepped::Stops(refusal) => {
-            let place = reader.place;
-            let pending = reader.pending;
-            let stop = Stop::At(refusal, line);
+        Err(refusal) => {
+            let at = RefusedAt { refusal, line };
             let reader = EventReader {
-                place,
-                pending,
-                lines: reader.lines,
-                stop,
+                stop: Some(at),
+                ..reader
             };
-            let answer = EventAnswer::Refused(refusal, line);
-            EventDone { reader, answer }
+            EventDone {
+                reader,
+                answer: Err(at),
+            }
         }
     }
+}
+
+// The step of an event of a state that was found sound: what is decided of its line, done, or the refusal.
+fn line_step(
+    words: &mut [u64],
+    bytes: &mut [u8],
+    counters: &mut [u64; COUNTERS],
+    ix: &[u16],
+    parts: &mut [u8; STAGED],
+    reader: EventReader,
+    line: &[u8],
+) -> Result<Progress, Refusal>
+    ensures { state_sound (state_lent words.old bytes.old counters.old parts.old reader) ≡ true
+        → IndexGiven ix.now (lent words.old bytes.old counters.old).texts
+        → record { overlay = left words.new bytes.new counters.new; parts = parts.new; answer = result }
+        ≡ done_by (state_lent words.old bytes.old counters.old parts.old reader)
+        (step_of (decide line.now reader.place)
+        (state_lent words.old bytes.old counters.old parts.old reader)) }
+{
+    let decided = event_decide::decide(line, reader.place)?;
+    let n = event_scan::body_length(line);
+    let body = &line[..n];
+    reader_step::step(words, bytes, counters, ix, parts, reader, body, decided)
 }
 
 // An event of a state that was found sound, whose reader is not stopped: its step. The array of chains, or an empty slice, finds held texts.
@@ -87,11 +111,7 @@ pub fn event_going(
         (step_of (decide line.now reader.place)
         (state_lent words.old bytes.old counters.old parts.old reader)) }
 {
-    let place = reader.place;
-    let d = event_decide::decide(line, place);
-    let n = event_scan::body_length(line);
-    let t = &line[..n];
-    let step = reader_step::step(words, bytes, counters, ix, parts, reader, t, d);
+    let step = line_step(words, bytes, counters, ix, parts, reader, line);
     event_done(reader, step)
 }
 
@@ -108,14 +128,18 @@ pub fn event(
         ≡ event_on line.now (state_lent words.old bytes.old counters.old parts.old reader) }
 {
     if reader_sound::state_sound(words, bytes, counters, parts, reader) {
-        let stop = reader.stop;
-        let Stop::At(refusal, at) = reader_sound::mark_of(stop) else {
-            return event_going(words, bytes, counters, &[], parts, reader, line);
+        return match reader_sound::mark_of(reader.stop) {
+            Some(at) => EventDone {
+                reader,
+                answer: Err(at),
+            },
+            None => event_going(words, bytes, counters, &[], parts, reader, line),
         };
-        let answer = EventAnswer::Refused(refusal, at);
-        return EventDone { reader, answer };
     }
-    let answer = EventAnswer::Refused(Refusal::Unsound, 0);
+    let answer = Err(RefusedAt {
+        refusal: Refusal::Unsound,
+        line: 0,
+    });
     EventDone { reader, answer }
 }
 
@@ -124,15 +148,7 @@ pub fn event(
 fn is_done(level: Level) -> bool
     ensures { result ≡ is_done level }
 {
-    match level {
-        Level::Doc => false,
-        Level::Root => false,
-        Level::Section => false,
-        Level::Element => false,
-        Level::Leaf => false,
-        Level::Other => false,
-        Level::Done => true,
-    }
+    matches!(level, Level::Done)
 }
 
 // The end of a document: 22, the stop mark, or 18 where the level is not Done. It changes nothing.
@@ -142,21 +158,24 @@ pub fn end(
     counters: &[u64; COUNTERS],
     parts: &[u8; STAGED],
     reader: EventReader,
-) -> EventAnswer
+) -> Result<(), RefusedAt>
     ensures { record { state = state_left words.now bytes.now counters.now parts.now reader; answer = result }
         ≡ end_on (state_lent words.now bytes.now counters.now parts.now reader) }
 {
     if reader_sound::state_sound(words, bytes, counters, parts, reader) {
-        let stop = reader.stop;
-        let Stop::At(refusal, line) = reader_sound::mark_of(stop) else {
-            let place = reader.place;
-            let level = place.level;
-            if is_done(level) {
-                return EventAnswer::Accepted;
-            }
-            return EventAnswer::Refused(Refusal::Unfinished, reader.lines + 1);
-        };
-        return EventAnswer::Refused(refusal, line);
+        if let Some(at) = reader_sound::mark_of(reader.stop) {
+            return Err(at);
+        }
+        if is_done(reader.place.level) {
+            return Ok(());
+        }
+        return Err(RefusedAt {
+            refusal: Refusal::Unfinished,
+            line: reader.lines + 1,
+        });
     }
-    EventAnswer::Refused(Refusal::Unsound, 0)
+    Err(RefusedAt {
+        refusal: Refusal::Unsound,
+        line: 0,
+    })
 }

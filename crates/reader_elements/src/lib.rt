@@ -19,19 +19,17 @@ ghost use Rattle.reader_elements.specs.Done.{StepGiven, done_by, act_stepped, be
 
 use compact::{ArenaMeta, PushHead};
 use event_decide::{Beginning, Deletion};
-use kind_store::Kept;
 use nesting::Place;
 use overlay_blocks::COUNTERS;
 use reader::{EventReader, Pending};
-use reader_acts::Begun;
 use reader_stage::STAGED;
 use refusal::Refusal;
 
-// Where the reader stands after an event and the element that it is putting together, or the event's refusal.
+// Where the reader stands after an event, and the element that it is putting together.
 #[derive(Clone, Copy)]
-pub enum Stepped {
-    Goes { place: Place, pending: Pending },
-    Stops(Refusal),
+pub struct Progress {
+    pub place: Place,
+    pub pending: Pending,
 }
 
 // ---- the answers of the calls below
@@ -62,32 +60,28 @@ fn no_pending() -> Pending
     }
 }
 
-fn cleared(place: Place, answer: Kept) -> Stepped
+fn cleared(place: Place, answer: Result<(), Refusal>) -> Result<Progress, Refusal>
     ensures { result ≡ act_stepped place answer }
 {
-    match answer {
-        Kept::Taken => {
-            let pending = no_pending();
-            Stepped::Goes { place, pending }
-        }
-        Kept::Refused(r) => Stepped::Stops(r),
-    }
+    answer?;
+    let pending = no_pending();
+    Ok(Progress { place, pending })
 }
 
-fn begun(place: Place, head: PushHead, answer: Begun) -> Stepped
+fn begun(
+    place: Place,
+    head: PushHead,
+    answer: Result<ArenaMeta, Refusal>,
+) -> Result<Progress, Refusal>
     ensures { result ≡ begin_stepped place head answer }
 {
-    match answer {
-        Begun::With(meta) => {
-            let pending = Pending {
-                head,
-                meta,
-                used: 0,
-            };
-            Stepped::Goes { place, pending }
-        }
-        Begun::Refused(r) => Stepped::Stops(r),
-    }
+    let meta = answer?;
+    let pending = Pending {
+        head,
+        meta,
+        used: 0,
+    };
+    Ok(Progress { place, pending })
 }
 
 // ---- acts
@@ -100,7 +94,7 @@ fn push_empty(
     ix: &[u16],
     line: &[u8],
     b: Beginning,
-) -> Kept
+) -> Result<(), Refusal>
     ensures { ActGiven ix.now line.now b.meta (lent words.old bytes.old counters.old)
         → record { overlay = left words.new bytes.new counters.new; answer = result }
         ≡ push_empty_on (to_z w64 b.id) (meta_written line.now b.meta) (body_in b.kind b.lat b.lon) (lent words.old bytes.old counters.old) }
@@ -120,7 +114,7 @@ pub fn begin(
     ix: &[u16],
     line: &[u8],
     b: Beginning,
-) -> Stepped
+) -> Result<Progress, Refusal>
     ensures { (reader : EventReader) (parts : Bytes) → StepGiven ix.now line.now (D.Begins b) (record { overlay = lent words.old bytes.old counters.old; reader = reader; parts = parts })
         → record { overlay = left words.new bytes.new counters.new; parts = parts; answer = result } ≡ done_by (record { overlay = lent words.old bytes.old counters.old; reader = reader; parts = parts }) (step_of (means_decided line.now (D.Begins b)) (record { overlay = lent words.old bytes.old counters.old; reader = reader; parts = parts })) }
 {
@@ -144,7 +138,7 @@ pub fn delete(
     ix: &[u16],
     line: &[u8],
     d: Deletion,
-) -> Stepped
+) -> Result<Progress, Refusal>
     ensures { (reader : EventReader) (parts : Bytes) → StepGiven ix.now line.now (D.Deletes d) (record { overlay = lent words.old bytes.old counters.old; reader = reader; parts = parts })
         → record { overlay = left words.new bytes.new counters.new; parts = parts; answer = result } ≡ done_by (record { overlay = lent words.old bytes.old counters.old; reader = reader; parts = parts }) (step_of (means_decided line.now (D.Deletes d)) (record { overlay = lent words.old bytes.old counters.old; reader = reader; parts = parts })) }
 {
@@ -164,7 +158,7 @@ pub fn end(
     parts: &[u8; STAGED],
     reader: EventReader,
     place: Place,
-) -> Stepped
+) -> Result<Progress, Refusal>
     ensures { (line : Bytes)
         → record { overlay = left words.new bytes.new counters.new; parts = parts.now; answer = result } ≡ done_by (state_lent words.old bytes.old counters.old parts.now reader) (step_of (means_decided line (D.Ends place)) (state_lent words.old bytes.old counters.old parts.now reader)) }
 {

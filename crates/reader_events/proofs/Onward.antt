@@ -1,4 +1,5 @@
 -- Lines up to the first that is refused: those of one list behind another, and what a caller who streams keeps.
+use Rattle.std.specs.Prelude.{Ok, Err}
 use Prim.Native.Nat.{ℕ, ◌+◌}
 use mathlib.Core.Path.{◌≡◌, refl, sym, ◌∙◌, ap}
 use mathlib.Core.List.{List, [], ◌∷◌, ◌++◌, flatten}
@@ -9,8 +10,7 @@ use Rattle.base.proofs.Split.{no}
 use Rattle.refusal.specs.declared.Refusal.{Refusal}
 use Rattle.input_lines.specs.Lines.{lines_of, rest_of}
 use Rattle.input_lines.proofs.Lines.{lines_joined}
-use Rattle.reader.specs.State.{State}
-use Rattle.reader.specs.declared.EventAnswer.TheVariants as E
+use Rattle.reader.specs.State.{State, refusal_at}
 use Rattle.reader.specs.Event.{EventResult, event_on}
 use Rattle.reader.proofs.Answers.{by_answer}
 use Rattle.reader_events.specs.Events.{events_on, taken_bytes}
@@ -18,23 +18,23 @@ use Rattle.reader_events.specs.Events.{events_on, taken_bytes}
 -- ---- the cases
 
 module _ (l : Bytes) (ls : List Bytes) (s : State) where
-  pub events_on_lem : (event_on l s).answer ≡ E.Accepted → events_on (l ∷ ls) s ≡ events_on ls (event_on l s).state
+  pub events_on_lem : (event_on l s).answer ≡ Ok tt → events_on (l ∷ ls) s ≡ events_on ls (event_on l s).state
   unfolding events_on
   events_on_lem a = rw a
 
-  pub taken_on : (event_on l s).answer ≡ E.Accepted → taken_bytes (l ∷ ls) s ≡ length l + taken_bytes ls (event_on l s).state
+  pub taken_on : (event_on l s).answer ≡ Ok tt → taken_bytes (l ∷ ls) s ≡ length l + taken_bytes ls (event_on l s).state
   unfolding taken_bytes
   taken_on a = rw a
 
-  pub events_off : (r : Refusal) (n : ℕ) → (event_on l s).answer ≡ E.Refused r n → events_on (l ∷ ls) s ≡ record { state = (event_on l s).state; answer = E.Refused r n }
+  pub events_off : (r : Refusal) (n : ℕ) → (event_on l s).answer ≡ Err (refusal_at r n) → events_on (l ∷ ls) s ≡ record { state = (event_on l s).state; answer = Err (refusal_at r n) }
   unfolding events_on
   events_off r n a = rw a
 
-  pub taken_off : (r : Refusal) (n : ℕ) → (event_on l s).answer ≡ E.Refused r n → taken_bytes (l ∷ ls) s ≡ 0
+  pub taken_off : (r : Refusal) (n : ℕ) → (event_on l s).answer ≡ Err (refusal_at r n) → taken_bytes (l ∷ ls) s ≡ 0
   unfolding taken_bytes
   taken_off r n a = rw a
 
-pub events_none : (s : State) → events_on [] s ≡ record { state = s; answer = E.Accepted }
+pub events_none : (s : State) → events_on [] s ≡ record { state = s; answer = Ok tt }
 unfolding events_on
 events_none s = refl
 
@@ -44,7 +44,7 @@ taken_none s = refl
 
 -- ---- one list behind another
 
-pub events_more : (ls ms : List Bytes) (s : State) → (events_on ls s).answer ≡ E.Accepted → events_on (ls ++ ms) s ≡ events_on ms (events_on ls s).state
+pub events_more : (ls ms : List Bytes) (s : State) → (events_on ls s).answer ≡ Ok tt → events_on (ls ++ ms) s ≡ events_on ms (events_on ls s).state
 events_more [] ms s e = ap (λ (z : EventResult). events_on ms z.state) (sym (events_none s))
 events_more (l ∷ ls) ms s e =
     by_answer (event_on l s).answer
@@ -52,7 +52,7 @@ events_more (l ∷ ls) ms s e =
     events_on_lem l (ls ++ ms) s a ∙ rw w (events_more ls ms (event_on l s).state (sym (ap (λ (z : EventResult). z.answer) w) ∙ e)))
     (λ r n a. let z = sym (ap (λ (z : EventResult). z.answer) (events_off l ls s r n a)) ∙ e in no (cc))
 
-pub events_enough : (ls ms : List Bytes) (s : State) (r : Refusal) (n : ℕ) → (events_on ls s).answer ≡ E.Refused r n → events_on (ls ++ ms) s ≡ events_on ls s
+pub events_enough : (ls ms : List Bytes) (s : State) (r : Refusal) (n : ℕ) → (events_on ls s).answer ≡ Err (refusal_at r n) → events_on (ls ++ ms) s ≡ events_on ls s
 events_enough [] ms s r n e = let z = sym (ap (λ (z : EventResult). z.answer) (events_none s)) ∙ e in no (cc)
 events_enough (l ∷ ls) ms s r n e =
     by_answer (event_on l s).answer
@@ -63,7 +63,7 @@ events_enough (l ∷ ls) ms s r n e =
 -- ---- the bytes that are taken
 
 -- where all are accepted, all
-pub taken_all : (ls : List Bytes) (s : State) → (events_on ls s).answer ≡ E.Accepted → taken_bytes ls s ≡ length (flatten ls)
+pub taken_all : (ls : List Bytes) (s : State) → (events_on ls s).answer ≡ Ok tt → taken_bytes ls s ≡ length (flatten ls)
 unfolding flatten
 taken_all [] s e = taken_none s
 taken_all (l ∷ ls) s e =
@@ -78,14 +78,14 @@ pub record RefusedLine (ls : List Bytes) (s : State) : Type 0 where
   pub line : Bytes
   pub behind : List Bytes
   pub are : ls ≡ before ++ (line ∷ behind)
-  pub accepted : (events_on before s).answer ≡ E.Accepted
+  pub accepted : (events_on before s).answer ≡ Ok tt
   pub bytes : taken_bytes ls s ≡ length (flatten before)
   pub last : events_on ls s ≡ event_on line (events_on before s).state
 
 -- ---- a run that a caller reads piece by piece
 
 module _ (run : Bytes) (s : State) where
-  module _ (a : (events_on (lines_of run) s).answer ≡ E.Accepted) where
+  module _ (a : (events_on (lines_of run) s).answer ≡ Ok tt) where
     -- behind the bytes that were taken lies the unfinished line
     pub run_rest : drop (taken_bytes (lines_of run) s) run ≡ rest_of run
     run_rest =

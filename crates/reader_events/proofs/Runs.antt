@@ -1,5 +1,7 @@
 -- The lines of a run, one at a time: what is to come from the present place on, after the present state, is what all lines come to. Soundness is tested once, since an event
 -- keeps it, but for the count of lines.
+use Rattle.reader.specs.declared.RefusedAt.{RefusedAt}
+use Rattle.std.specs.Prelude.{None, Option, Some, Ok, Err, Result}
 use Prim.Native.Nat.{ℕ, ◌+◌, ◌-◌, ◌<◌, ◌≤◌}
 use mathlib.Core.Path.{◌≡◌, refl, sym, ◌∙◌, ap, subst}
 use mathlib.Core.Bool.{Bool, true, false, cond}
@@ -16,15 +18,11 @@ use Rattle.refusal.specs.declared.Refusal.TheVariants as R
 use Rattle.event_scan.proofs.Places.{lent_is}
 use Rattle.input_lines.specs.Lines.{lines_of}
 use Rattle.input_lines.specs.Place.{line_end}
-use Rattle.input_lines.specs.declared.LineEnd.{LineEnd}
-use Rattle.input_lines.specs.declared.LineEnd.TheVariants.{At, None}
 use Rattle.input_lines.proofs.Places.{NextLine, next_line, no_line, length_part}
 use Rattle.compact.specs.declared.ArenaMeta.{ArenaMeta}
 use Rattle.compact.specs.declared.PushHead.{PushHead}
 use Rattle.overlay.specs.Given.{head_fits, meta_fits}
-use Rattle.reader.specs.declared.EventAnswer.{EventAnswer}
-use Rattle.reader.specs.declared.EventAnswer.TheVariants as E
-use Rattle.reader.specs.State.{State, reader_sound, state_sound}
+use Rattle.reader.specs.State.{State, reader_sound, state_sound, refusal_at}
 use Rattle.reader.specs.Given.{StateGiven}
 use Rattle.reader.specs.Event.{EventResult, event_on}
 use Rattle.reader.proofs.Answers.{by_answer, event_22}
@@ -92,43 +90,43 @@ module _ (run : Bytes) (at : ℕ) (s : State) where
   pub event_part : (to : ℕ) → at ≤ to → (x : EventResult) → x ≡ event_on (mid_of at (to - at) run) s → x ≡ event_on (slice at to run) s
   event_part to h x e = rw (lent_is at to run h) at e
 
-  pub point_line : (to : ℕ) → line_end run at ≡ At to → (x : EventResult) → x ≡ event_on (slice at to run) s → (n : ℕ) → n ≡ behind_line at to x.answer
+  pub point_line : (to : ℕ) → line_end run at ≡ Some to → (x : EventResult) → x ≡ event_on (slice at to run) s → (n : ℕ) → n ≡ behind_line at to x.answer
       → record { result = x; taken = n } ≡ point_on run at s
   unfolding point_on
   point_line to e x f n g = rw e (let m : n ≡ behind_line at to (event_on (slice at to run) s).answer = g ∙ ap (λ (z : EventResult). behind_line at to z.answer) f in λ i. record { result = f i; taken = m i })
 
-  pub point_none : line_end run at ≡ None → record { result = record { state = s; answer = E.Accepted }; taken = at } ≡ point_on run at s
+  pub point_none : line_end run at ≡ None → record { result = record { state = s; answer = Ok tt }; taken = at } ≡ point_on run at s
   unfolding point_on
   point_none e = rw e
 
-  pub by_line : {C : Type 0} → ((to : ℕ) → line_end run at ≡ At to → C) → (line_end run at ≡ None → C) → C
+  pub by_line : {C : Type 0} → ((to : ℕ) → line_end run at ≡ Some to → C) → (line_end run at ≡ None → C) → C
   by_line {C} f g = go (line_end run at) refl
     where
-      go : (l : LineEnd) → line_end run at ≡ l → C
-      go (At to) e = f to e
+      go : (l : Option ℕ) → line_end run at ≡ l → C
+      go (Some to) e = f to e
       go None e = g e
 
 -- the place behind a line lies in its run
-pub behind_within : (at to n : ℕ) (a : EventAnswer) → at ≤ n → to ≤ n → behind_line at to a ≤ n
-behind_within at to n E.Accepted h k = k
-behind_within at to n (E.Refused r m) h k = h
+pub behind_within : (at to n : ℕ) (a : Result Unit RefusedAt) → at ≤ n → to ≤ n → behind_line at to a ≤ n
+behind_within at to n (Ok tt) h k = k
+behind_within at to n (Err refused) h k = h
 
 -- ---- the first line, before which all is tested
 
 module _ (run : Bytes) (s : State) where
-  abbrev pub Came : State → EventAnswer → ℕ → Type 0
+  abbrev pub Came : State → Result Unit RefusedAt → ℕ → Type 0
   Came t answer taken = (record { state = t; answer = answer } ≡ events_on (lines_of run) s) × (taken ≡ taken_bytes (lines_of run) s)
 
-  pub came_none : line_end run 0 ≡ None → Came s E.Accepted 0
+  pub came_none : line_end run 0 ≡ None → Came s (Ok tt) 0
   came_none e = let n : lines_of run ≡ [] = (no_line run 0 e).0 in (rw n (sym (events_none s)), rw n (sym (taken_none s)))
 
-  pub came_22 : (to : ℕ) → line_end run 0 ≡ At to → state_sound s ≡ false → Came s (E.Refused R.Unsound 0) 0
+  pub came_22 : (to : ℕ) → line_end run 0 ≡ Some to → state_sound s ≡ false → Came s (Err (refusal_at R.Unsound 0)) 0
   came_22 to e u =
       let f : lines_of run ≡ slice 0 to run ∷ lines_of (drop to run) = (next_line run 0 to e).first in
       let w = event_22 (slice 0 to run) s u in
-      let a : (event_on (slice 0 to run) s).answer ≡ E.Refused R.Unsound 0 = ap (λ (z : EventResult). z.answer) w in
+      let a : (event_on (slice 0 to run) s).answer ≡ Err (refusal_at R.Unsound 0) = ap (λ (z : EventResult). z.answer) w in
       let t : (event_on (slice 0 to run) s).state ≡ s = ap (λ (z : EventResult). z.state) w in (
-        rw f (sym (events_off (slice 0 to run) (lines_of (drop to run)) s R.Unsound 0 a ∙ ap (λ (z : State). record { state = z; answer = E.Refused R.Unsound 0 }) t)),
+        rw f (sym (events_off (slice 0 to run) (lines_of (drop to run)) s R.Unsound 0 a ∙ ap (λ (z : State). record { state = z; answer = Err (refusal_at R.Unsound 0) }) t)),
         rw f (sym (taken_off (slice 0 to run) (lines_of (drop to run)) s R.Unsound 0 a)),
       )
 
@@ -143,11 +141,11 @@ pub record Running (run : Bytes) (s₀ : State) (more : Bool) (at : ℕ) (x : Ev
   pub taken : taken_bytes (lines_of run) s₀ ≡ at + cond more (taken_bytes (lines_of (drop at run)) x.state) 0
   pub given : RunGiven x.state
 
-pub run_start : (run : Bytes) (s : State) → RunGiven s → Running run s true 0 (record { state = s; answer = E.Accepted })
+pub run_start : (run : Bytes) (s : State) → RunGiven s → Running run s true 0 (record { state = s; answer = Ok tt })
 run_start run s k = record { total = refl; taken = omega arith; given = k }
 
 module _ (run : Bytes) (s₀ : State) (at : ℕ) (x : EventResult) (w : Running run s₀ true at x) where
-  module _ (to : ℕ) (e : line_end run at ≡ At to) where
+  module _ (to : ℕ) (e : line_end run at ≡ Some to) where
     n : NextLine run at to
     n = next_line run at to e
 
@@ -177,7 +175,7 @@ module _ (run : Bytes) (s₀ : State) (at : ℕ) (x : EventResult) (w : Running 
         }))
 
   module _ (e : line_end run at ≡ None) where
-    run_none : Running run s₀ (ltb at at) at (record { state = x.state; answer = E.Accepted })
+    run_none : Running run s₀ (ltb at at) at (record { state = x.state; answer = Ok tt })
     run_none =
         let z : lines_of (drop at run) ≡ [] = (no_line run at e).0 in
         rw (le-ltb at at (omega arith)) (record {

@@ -14,9 +14,8 @@ ghost use Rattle.reader.specs.Event.{event_on};
 ghost use Rattle.reader_events.specs.Events.{events_on, taken_bytes};
 ghost use Rattle.reader_events.specs.Runs.{RunGiven, behind_line, point_on};
 
-use input_lines::LineEnd;
 use overlay_blocks::COUNTERS;
-use reader::{EventAnswer, EventReader, Stop};
+use reader::{EventReader, RefusedAt};
 use reader_calls::{EventDone, event_going};
 use reader_stage::STAGED;
 use refusal::Refusal;
@@ -25,7 +24,7 @@ use refusal::Refusal;
 #[derive(Clone, Copy)]
 pub struct EventsDone {
     pub reader: EventReader,
-    pub answer: EventAnswer,
+    pub answer: Result<(), RefusedAt>,
     pub taken: usize,
 }
 
@@ -47,24 +46,28 @@ fn line_event(
         ≡ event_on line.now (state_lent words.old bytes.old counters.old ps.old reader) }
 {
     if reader.lines < 18446744073709551615 {
-        let stop = reader.stop;
-        let Stop::At(refusal, at) = reader_sound::mark_of(stop) else {
-            return event_going(words, bytes, counters, ix, ps, reader, line);
+        return match reader_sound::mark_of(reader.stop) {
+            Some(at) => EventDone {
+                reader,
+                answer: Err(at),
+            },
+            None => event_going(words, bytes, counters, ix, ps, reader, line),
         };
-        let answer = EventAnswer::Refused(refusal, at);
-        return EventDone { reader, answer };
     }
-    let answer = EventAnswer::Refused(Refusal::Unsound, 0);
+    let answer = Err(RefusedAt {
+        refusal: Refusal::Unsound,
+        line: 0,
+    });
     EventDone { reader, answer }
 }
 
 // The place behind a line that is accepted; one that is refused is not taken.
-fn behind_line(at: usize, to: usize, answer: EventAnswer) -> usize
+fn behind_line(at: usize, to: usize, answer: Result<(), RefusedAt>) -> usize
     ensures { result ≡ behind_line at to answer }
 {
     match answer {
-        EventAnswer::Accepted => to,
-        EventAnswer::Refused(refusal, line) => at,
+        Ok(()) => to,
+        Err(_) => at,
     }
 }
 
@@ -86,10 +89,10 @@ fn next_event(
         ≡ point_on run.now at (state_lent words.old bytes.old counters.old ps.old reader) }
     ensures taken_in_bounds { result.taken ≤ length run.now }
 {
-    let LineEnd::At(to) = input_lines::line_end(run, at) else {
+    let Some(to) = input_lines::line_end(run, at) else {
         return EventsDone {
             reader,
-            answer: EventAnswer::Accepted,
+            answer: Ok(()),
             taken: at,
         };
     };
@@ -127,9 +130,10 @@ fn events_by(
 {
     let mut done = EventsDone {
         reader,
-        answer: EventAnswer::Accepted,
+        answer: Ok(()),
         taken: 0,
     };
+    // What a step takes tells where the next begins, and the reader goes from step to step: no range or iterator over the run gives them.
     let mut more = true;
     while more {
         let reader = done.reader;
@@ -201,10 +205,10 @@ pub fn events(
         ≡ events_on (lines_of run.now) (state_lent words.old bytes.old counters.old ps.old reader) }
     ensures taken_value { result.taken ≡ taken_bytes (lines_of run.now) (state_lent words.old bytes.old counters.old ps.old reader) }
 {
-    let LineEnd::At(_) = input_lines::line_end(run, 0) else {
+    let Some(_) = input_lines::line_end(run, 0) else {
         return EventsDone {
             reader,
-            answer: EventAnswer::Accepted,
+            answer: Ok(()),
             taken: 0,
         };
     };
@@ -213,7 +217,10 @@ pub fn events(
     }
     EventsDone {
         reader,
-        answer: EventAnswer::Refused(Refusal::Unsound, 0),
+        answer: Err(RefusedAt {
+            refusal: Refusal::Unsound,
+            line: 0,
+        }),
         taken: 0,
     }
 }

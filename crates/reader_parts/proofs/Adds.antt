@@ -1,4 +1,5 @@
 -- A child by its cases: its text refused, over the limits, staged. The handle of a text is at most the number of held strings, so in sound storage it fits 32 bits.
+use Rattle.std.specs.Prelude.{Err, None, Ok, Option, Result, Some}
 use Prim.Native.Nat.{ℕ, zero, suc, ◌+◌, ◌-◌, ◌*◌, ◌≤◌, ◌<◌, min}
 use mathlib.Core.Path.{◌≡◌, refl, sym, ◌∙◌, ap}
 use mathlib.Core.Bool.{Bool, true, false}
@@ -17,30 +18,24 @@ use Rattle.model.specs.Record.{Member, Tag}
 use Rattle.compact.specs.Legal.{limits}
 use Rattle.compact.specs.declared.PushHead.{PushHead}
 use Rattle.reader_stage.specs.Stage.{staged, member_part, tag_part}
-use Rattle.interner.specs.declared.Found.{Found}
-use Rattle.interner.specs.declared.Found.TheVariants as F
 use Rattle.interner.specs.declared.Interned.TheVariants as I
 use Rattle.interner.specs.Strings.{Store, used_of, is_at, find_from, find_in, text_room, text_taken, intern}
 use Rattle.interner.proofs.Finds.{find_none, find_here, find_on}
 use Rattle.interner.proofs.Takes.{held, new, full}
 use Rattle.overlay.specs.Overlay.{Overlay}
 use Rattle.overlay_store.specs.Calls.{Interning, store_text}
-use Rattle.overlay_store.specs.declared.Handle.{Handle}
-use Rattle.overlay_store.specs.declared.Handle.TheVariants as H
 use Rattle.overlay_store.proofs.Answers.{by_handle}
 use Rattle.reader.specs.declared.Pending.{Pending}
 use Rattle.reader.specs.State.{middle, values_in, more_tags, more_parts}
 use Rattle.reader.specs.Step.{member_bits}
 use Rattle.reader_parts.specs.Parts.{Adding, tag_fits, part_fits, refusal_over, pending_with, add_part, add_with}
-use Rattle.reader_parts.specs.declared.Added.{Added}
-use Rattle.reader_parts.specs.declared.Added.TheVariants as A
 
 -- ---- what `intern` does, by its cases
 
 -- a handle that the search finds is one of those searched
-found_below : (spans : List ℕ) (bytes t : Bytes) (n h k : ℕ) → find_from spans bytes t n h ≡ F.At k → k < h + n
+found_below : (spans : List ℕ) (bytes t : Bytes) (n h k : ℕ) → find_from spans bytes t n h ≡ Some k → k < h + n
 found_below spans bytes t zero h k e =
-    let z : F.Not ≡ F.At k = sym (find_none spans bytes t h) ∙ e in
+    let z : None ≡ Some k = sym (find_none spans bytes t h) ∙ e in
     let q : ◌≡◌ {A = ℕ} 0 1 = cc in
     no q
 found_below spans bytes t (suc n) h k e =
@@ -48,7 +43,7 @@ found_below spans bytes t (suc n) h k e =
     (λ p. let q : h ≡ k = at_inj (sym (find_here spans bytes t n h p) ∙ e) in omega arith)
     (λ p. let q = found_below spans bytes t n (suc h) k (sym (find_on spans bytes t n h p) ∙ e) in omega arith)
   where
-    at_inj : {a b : ℕ} → F.At a ≡ F.At b → a ≡ b
+    at_inj : {a b : ℕ} → Some a ≡ Some b → a ≡ b
     at_inj r = cc
 
 module _ (s : Store) (t : Bytes) {C : Type 0} where
@@ -59,30 +54,30 @@ module _ (s : Store) (t : Bytes) {C : Type 0} where
   unfolding find_in
   by_intern f g z = go (find_in s.spans (used_of s) s.strings t) refl
     where
-      go : (x : Found) → find_in s.spans (used_of s) s.strings t ≡ x → C
-      go (F.At h) e = let b = found_below s.spans (used_of s) t s.strings 0 h e in f h (omega arith) (held s t h e)
-      go F.Not e = by_bool (text_room s t) (λ r. g (new s t e r)) (λ r. z (full s t e r))
+      go : (x : Option ℕ) → find_in s.spans (used_of s) s.strings t ≡ x → C
+      go (Some h) e = let b = found_below s.spans (used_of s) t s.strings 0 h e in f h (omega arith) (held s t h e)
+      go None e = by_bool (text_room s t) (λ r. g (new s t e r)) (λ r. z (full s t e r))
 
 -- ---- a text taken in
 
 module _ (t : Bytes) (o : Overlay) where
   -- its handle is at most the number of held strings
-  pub handle_few : (h : ℕ) → (store_text t o).answer ≡ H.Is h → h ≤ o.texts.strings
+  pub handle_few : (h : ℕ) → (store_text t o).answer ≡ Ok h → h ≤ o.texts.strings
   handle_few h e =
       by_intern o.texts t
       (λ k b i. let q : k ≡ h = is_inj (rw i at e) in omega arith)
       (λ i. let q : o.texts.strings ≡ h = is_inj (rw i at e) in omega arith)
-      (λ i. let q : H.Refused R.StringsFull ≡ H.Is h = rw i at e in let z : ◌≡◌ {A = ℕ} 0 1 = cc in no z)
+      (λ i. let q : Err R.StringsFull ≡ Ok h = rw i at e in let z : ◌≡◌ {A = ℕ} 0 1 = cc in no z)
     where
-      is_inj : {a b : ℕ} → H.Is a ≡ H.Is b → a ≡ b
+      is_inj : {a b : ℕ} → ◌≡◌ {A = Result ℕ Refusal} (Ok a) (Ok b) → a ≡ b
       is_inj r = cc
 
   -- a refused one changes nothing
-  pub text_kept : (r : Refusal) → (store_text t o).answer ≡ H.Refused r → (store_text t o).overlay ≡ o
+  pub text_kept : (r : Refusal) → (store_text t o).answer ≡ Err r → (store_text t o).overlay ≡ o
   text_kept r e =
       by_intern o.texts t
       (λ k b i. rw i)
-      (λ i. let q : H.Is o.texts.strings ≡ H.Refused r = rw i at e in let z : ◌≡◌ {A = ℕ} 0 1 = cc in no z)
+      (λ i. let q : Ok o.texts.strings ≡ Err r = rw i at e in let z : ◌≡◌ {A = ℕ} 0 1 = cc in no z)
       (λ i. rw i)
 
 -- ---- a child with a text
@@ -129,7 +124,7 @@ text_added y = add_with y.within y.text y.head y.at y.part y.pending y.parts y.o
 
 module _ (y : TextChild) where
   -- what the calls left is what is to be left: its text taken in
-  module _ {q : Overlay} {a : Handle} (stored : record { overlay = q; answer = a } ≡ store_text y.text y.overlay) where
+  module _ {q : Overlay} {a : Result ℕ Refusal} (stored : record { overlay = q; answer = a } ≡ store_text y.text y.overlay) where
     answered : (store_text y.text y.overlay).answer ≡ a
     answered = sym (ap (λ (i : Interning). i.answer) stored)
 
@@ -137,25 +132,25 @@ module _ (y : TextChild) where
     after = sym (ap (λ (i : Interning). i.overlay) stored)
 
     -- the handle fits 32 bits
-    pub handle_fits : {n : ℕ} → a ≡ H.Is n → y.overlay.texts.strings < 4294967296 → n < 4294967296
+    pub handle_fits : {n : ℕ} → a ≡ Ok n → y.overlay.texts.strings < 4294967296 → n < 4294967296
     handle_fits {n} e h = let f = handle_few y.text y.overlay n (answered ∙ e) in omega arith
 
     -- and the part is staged
-    pub staged_left : {n : ℕ} {s : Bytes} {r : Pending} → y.within ≡ true → a ≡ H.Is n
+    pub staged_left : {n : ℕ} {s : Bytes} {r : Pending} → y.within ≡ true → a ≡ Ok n
         → (s ≡ staged y.parts y.pending.used y.at (y.part n)) × (r ≡ pending_with y.head (y.part n) y.pending)
-        → record { overlay = q; parts = s; answer = A.Is r } ≡ text_added y
+        → record { overlay = q; parts = s; answer = Ok r } ≡ text_added y
     unfolding add_with
     staged_left w e f = rw (answered ∙ e, w, f.0, f.1, after)
 
     -- its text refused
-    pub refused_left : {r : Refusal} → a ≡ H.Refused r → record { overlay = q; parts = y.parts; answer = A.Refused r } ≡ text_added y
+    pub refused_left : {r : Refusal} → a ≡ Err r → record { overlay = q; parts = y.parts; answer = Err r } ≡ text_added y
     unfolding add_with
     refused_left {r} e =
         let z : q ≡ y.overlay = sym after ∙ text_kept y.text y.overlay r (answered ∙ e) in
         rw (answered ∙ e, z)
 
   -- over the limits: 13 where the text would be refused, else 16
-  pub over_left : {r : Added} → y.within ≡ false → r ≡ A.Refused (refusal_over (store_text y.text y.overlay).answer)
+  pub over_left : {r : Result Pending Refusal} → y.within ≡ false → r ≡ Err (refusal_over (store_text y.text y.overlay).answer)
       → record { overlay = y.overlay; parts = y.parts; answer = r } ≡ text_added y
   unfolding add_with
   over_left w e =
@@ -164,23 +159,23 @@ module _ (y : TextChild) where
       (λ r f. rw (e, f))
 
   -- a refused child changes nothing
-  pub text_child_kept : (r : Refusal) → (text_added y).answer ≡ A.Refused r → ((text_added y).overlay ≡ y.overlay) × ((text_added y).parts ≡ y.parts)
+  pub text_child_kept : (r : Refusal) → (text_added y).answer ≡ Err r → ((text_added y).overlay ≡ y.overlay) × ((text_added y).parts ≡ y.parts)
   unfolding add_with
   text_child_kept r e =
       by_handle (store_text y.text y.overlay).answer
       (λ n f.
       by_bool y.within
-      (λ w. let q : A.Is (pending_with y.head (y.part n) y.pending) ≡ A.Refused r = rw (f, w) at e in let z : ◌≡◌ {A = ℕ} 0 1 = cc in no z)
+      (λ w. let q : Ok (pending_with y.head (y.part n) y.pending) ≡ Err r = rw (f, w) at e in let z : ◌≡◌ {A = ℕ} 0 1 = cc in no z)
       (λ w. (rw (f, w), rw (f, w))))
       (λ x f. (rw f, rw f))
 
 -- ---- a child with none
 
 module _ (within : Bool) (h : PushHead) (at : ℕ) (part : Bytes) (x : Pending) (parts : Bytes) (o q : Overlay) where
-  pub part_kept : (r : Refusal) → (add_part within h at part x parts o q).answer ≡ A.Refused r → ((add_part within h at part x parts o q).overlay ≡ o) × ((add_part within h at part x parts o q).parts ≡ parts)
+  pub part_kept : (r : Refusal) → (add_part within h at part x parts o q).answer ≡ Err r → ((add_part within h at part x parts o q).overlay ≡ o) × ((add_part within h at part x parts o q).parts ≡ parts)
   part_kept r e =
       by_bool within
-      (λ w. let z : A.Is (pending_with h part x) ≡ A.Refused r = rw w at e in let n : ◌≡◌ {A = ℕ} 0 1 = cc in no n)
+      (λ w. let z : Ok (pending_with h part x) ≡ Err r = rw w at e in let n : ◌≡◌ {A = ℕ} 0 1 = cc in no n)
       (λ w. (rw w, rw w))
 
 -- ---- the limits

@@ -1,4 +1,5 @@
 -- Each child is a step of a reader: what crate reader says of it, by what is left here, and that a refused one changes nothing.
+use Rattle.std.specs.Prelude.{Err}
 use Prim.Native.Nat.{ℕ}
 use mathlib.Core.Path.{◌≡◌, refl, ◌∙◌}
 use mathlib.Core.Bool.{Bool, true, false}
@@ -21,12 +22,11 @@ use Rattle.event_decision.specs.Decision.{Decision, tags, refers, joins}
 use Rattle.reader.specs.State.{State, more_parts}
 use Rattle.reader.specs.Step.{on_handle, with_text, stages, part_within, part_place, step_of}
 use Rattle.reader_parts.specs.Parts.{Adding, add_part, on_text, add_with, add_tag, add_ref, add_member, child_step}
-use Rattle.reader_parts.specs.declared.Added.TheVariants as A
 use Rattle.reader_parts.proofs.Adds.{text_child_kept, part_kept}
 
 pub record ChildStep (d : Decision) (s : State) (p : Place) (a : Adding) : Type 0 where
   pub step : step_of d s ≡ child_step p a
-  pub kept : (r : Refusal) → a.answer ≡ A.Refused r → (a.overlay ≡ s.overlay) × (a.parts ≡ s.parts)
+  pub kept : (r : Refusal) → a.answer ≡ Err r → (a.overlay ≡ s.overlay) × (a.parts ≡ s.parts)
 
 module _ (s : State) (p : Place) where
   part_steps : (within : Bool) (h : PushHead) (at : ℕ) (part : Bytes) (q : Overlay)

@@ -1,6 +1,6 @@
 -- Document 01: a child of the element that a reader is putting together, one tag, ref or member more: 13 of its text, then "A reader gives 16 at the child that passes the
 -- limit". A refused child changes nothing.
-use Rattle.std.specs.Prelude.{ℕ, ◌+◌, ◌≤◌, ◌<◌, Bool, cond, List, leb, ℤ, length}
+use Rattle.std.specs.Prelude.{ℕ, ◌+◌, ◌≤◌, ◌<◌, Bool, cond, List, leb, ℤ, length, Err, Ok, Result}
 use Rattle.std.specs.Int.{w64}
 use Rattle.std.proofs.Common.{of_z}
 use Rattle.base.specs.Bytes.{Bytes, both}
@@ -15,13 +15,9 @@ use Rattle.reader_stage.specs.Stage.{staged, ref_part, member_part, tag_part}
 use Rattle.overlay.specs.Overlay.{Overlay}
 use Rattle.text_index.specs.Index.{IndexGiven}
 use Rattle.overlay_store.specs.Calls.{store_text}
-use Rattle.overlay_store.specs.declared.Handle.{Handle}
-use Rattle.overlay_store.specs.declared.Handle.TheVariants as H
 use Rattle.reader.specs.declared.Pending.{Pending}
 use Rattle.reader.specs.State.{middle, values_in, more_tags, more_parts}
 use Rattle.reader.specs.Step.{Step, goes, stops, member_bits}
-use Rattle.reader_parts.specs.declared.Added.{Added}
-use Rattle.reader_parts.specs.declared.Added.TheVariants as A
 
 -- what a sound state and a line that is no longer than it may be give: a handle fits 32 bits, what is staged lies within the lent bytes, and the array of chains is one for the overlay's texts
 pub record ChildGiven (ix : List ℕ) (o : Overlay) (x : Pending) (parts line : Bytes) : Type 0 where
@@ -41,9 +37,9 @@ abbrev pub part_fits : Pending → ℕ → Bool
 part_fits x limit = leb (x.head.count + 1) limit
 
 -- the refusal of a child with a text that is not within them: 13 where the text would be refused, else 16
-abbrev pub refusal_over : Handle → Refusal
-refusal_over (H.Is h) = R.TooManyParts
-refusal_over (H.Refused r) = r
+abbrev pub refusal_over : Result ℕ Refusal → Refusal
+refusal_over (Ok h) = R.TooManyParts
+refusal_over (Err r) = r
 
 -- ---- a child
 
@@ -51,10 +47,10 @@ refusal_over (H.Refused r) = r
 pub record Adding : Type 0 where
   pub overlay : Overlay
   pub parts : Bytes
-  pub answer : Added
+  pub answer : Result Pending Refusal
 
 abbrev pub not_added : Refusal → Bytes → Overlay → Adding
-not_added r parts o = record { overlay = o; parts = parts; answer = A.Refused r }
+not_added r parts o = record { overlay = o; parts = parts; answer = Err r }
 
 -- the element with a part more
 abbrev pub pending_with : PushHead → Bytes → Pending → Pending
@@ -62,16 +58,16 @@ pending_with h part x = record { head = h; meta = x.meta; used = x.used + length
 
 -- the part staged at its place
 abbrev pub part_added : PushHead → ℕ → Bytes → Pending → Bytes → Overlay → Adding
-part_added h at part x parts o = record { overlay = o; parts = staged parts x.used at part; answer = A.Is (pending_with h part x) }
+part_added h at part x parts o = record { overlay = o; parts = staged parts x.used at part; answer = Ok (pending_with h part x) }
 
 -- 16, else the part staged; the overlay before its text was taken in, and after
 abbrev pub add_part : Bool → PushHead → ℕ → Bytes → Pending → Bytes → Overlay → Overlay → Adding
 add_part within h at part x parts o q = cond within (part_added h at part x parts q) (not_added R.TooManyParts parts o)
 
 -- 13 first
-abbrev pub on_text : Handle → Bytes → Overlay → (ℕ → Adding) → Adding
-on_text (H.Is h) parts o f = f h
-on_text (H.Refused r) parts o f = not_added r parts o
+abbrev pub on_text : Result ℕ Refusal → Bytes → Overlay → (ℕ → Adding) → Adding
+on_text (Ok h) parts o f = f h
+on_text (Err r) parts o f = not_added r parts o
 
 unfoldable pub add_with : Bool → Bytes → PushHead → ℕ → (ℕ → Bytes) → Pending → Bytes → Overlay → Adding
 add_with within text h at part x parts o =
@@ -91,9 +87,9 @@ add_member k x m parts o =
 
 -- ---- the step of a reader that it is (proofs/Steps)
 
-abbrev pub step_as : Added → Place → Bytes → Overlay → Step
-step_as (A.Is x) p parts o = goes (record { overlay = o; place = p; pending = x; parts = parts })
-step_as (A.Refused r) p parts o = stops r
+abbrev pub step_as : Result Pending Refusal → Place → Bytes → Overlay → Step
+step_as (Ok x) p parts o = goes (record { overlay = o; place = p; pending = x; parts = parts })
+step_as (Err r) p parts o = stops r
 
 abbrev pub child_step : Place → Adding → Step
 child_step p a = step_as a.answer p a.parts a.overlay

@@ -12,25 +12,15 @@ ghost use Rattle.overlay.specs.Lent.{lent, left};
 ghost use Rattle.overlay_store.specs.Calls.{store_text};
 ghost use Rattle.reader.specs.State.{middle, values_in, more_tags, more_parts};
 ghost use Rattle.reader_parts.specs.Parts.{ChildGiven, tag_fits, part_fits, refusal_over, pending_with, add_tag, add_ref, add_member};
-ghost use Rattle.reader_parts.specs.declared.Added.TheVariants as added;
 
 use compact::{CompactMember, PushHead};
 use event_decide::{NewMember, NewTag};
-use event_scan::MAX_LINE;
-use event_values::Extent;
+use event_scan::{Extent, MAX_LINE};
 use kind::Kind;
 use overlay_blocks::COUNTERS;
-use overlay_store::Handle;
 use reader::Pending;
 use reader_stage::STAGED;
 use refusal::Refusal;
-
-// What a child is answered: the element with it, or a refusal.
-#[derive(Clone, Copy)]
-pub enum Added {
-    Is(Pending),
-    Refused(Refusal),
-}
 
 // ---- the limits: 16
 
@@ -84,14 +74,14 @@ fn over_limit(
     ix: &[u16],
     line: &[u8],
     text: Extent,
-) -> Added
+) -> Result<Pending, Refusal>
     ensures { ExtentInBounds line.now text → length line.now ≤ 16384
         → IndexGiven ix.now (lent words.now bytes.now counters.now).texts
-        → result ≡ added.Refused (refusal_over (store_text (text_at line.now text) (lent words.now bytes.now counters.now)).answer) }
+        → result ≡ Err (refusal_over (store_text (text_at line.now text) (lent words.now bytes.now counters.now)).answer) }
 {
     match reader_texts::text_handle(words, bytes, counters, ix, line, text) {
-        Handle::Is(_) => Added::Refused(Refusal::TooManyParts),
-        Handle::Refused(refusal) => Added::Refused(refusal),
+        Ok(_) => Err(Refusal::TooManyParts),
+        Err(refusal) => Err(refusal),
     }
 }
 
@@ -164,15 +154,15 @@ fn tag_with(
     line: &[u8],
     key: Extent,
     value: &[u8],
-) -> Added
+) -> Result<Pending, Refusal>
     ensures { ChildGiven ix.now (lent words.old bytes.old counters.old) pending parts.old line.now → ExtentInBounds line.now key
         → record { overlay = left words.new bytes.new counters.new; parts = parts.new; answer = result }
         ≡ add_tag kind pending (record { key = text_at line.now key; value = value.now }) parts.old (lent words.old bytes.old counters.old) }
 {
     if tag_fits(kind, pending, value.len()) {
         return match reader_texts::take_text(words, bytes, counters, ix, line, key) {
-            Handle::Is(handle) => Added::Is(with_tag(parts, pending, handle, value)),
-            Handle::Refused(refusal) => Added::Refused(refusal),
+            Ok(handle) => Ok(with_tag(parts, pending, handle, value)),
+            Err(refusal) => Err(refusal),
         };
     }
     over_limit(words, bytes, counters, ix, line, key)
@@ -189,7 +179,7 @@ fn tag_resolved(
     pending: Pending,
     line: &[u8],
     tag: NewTag,
-) -> Added
+) -> Result<Pending, Refusal>
     ensures { ChildGiven ix.now (lent words.old bytes.old counters.old) pending parts.old line.now → ExtentInBounds line.now tag.key → ExtentInBounds line.now tag.value
         → record { overlay = left words.new bytes.new counters.new; parts = parts.new; answer = result }
         ≡ add_tag kind pending (record { key = text_at line.now tag.key; value = text_at line.now tag.value }) parts.old (lent words.old bytes.old counters.old) }
@@ -222,7 +212,7 @@ pub fn add_tag(
     pending: Pending,
     line: &[u8],
     tag: NewTag,
-) -> Added
+) -> Result<Pending, Refusal>
     ensures { ChildGiven ix.now (lent words.old bytes.old counters.old) pending parts.old line.now → ExtentInBounds line.now tag.key → ExtentInBounds line.now tag.value
         → record { overlay = left words.new bytes.new counters.new; parts = parts.new; answer = result }
         ≡ add_tag kind pending (record { key = text_at line.now tag.key; value = text_at line.now tag.value }) parts.old (lent words.old bytes.old counters.old) }
@@ -242,14 +232,19 @@ pub fn add_tag(
 // ---- a ref and a member
 
 // A ref more: 16, or the ref staged. It leaves an overlay as it is.
-pub fn add_ref(parts: &mut [u8; STAGED], kind: Kind, pending: Pending, reference: u64) -> Added
+pub fn add_ref(
+    parts: &mut [u8; STAGED],
+    kind: Kind,
+    pending: Pending,
+    reference: u64,
+) -> Result<Pending, Refusal>
     ensures { (o : Overlay) → pending.used ≤ length parts.old
         → record { overlay = o; parts = parts.new; answer = result } ≡ add_ref kind pending (to_z w64 reference) parts.old o }
 {
     if part_fits(pending, 2000) {
-        return Added::Is(with_ref(parts, kind, pending, reference));
+        return Ok(with_ref(parts, kind, pending, reference));
     }
-    Added::Refused(Refusal::TooManyParts)
+    Err(Refusal::TooManyParts)
 }
 
 // A member more: 13 of its role, 16, or the member staged.
@@ -263,23 +258,22 @@ pub fn add_member(
     pending: Pending,
     line: &[u8],
     member: NewMember,
-) -> Added
+) -> Result<Pending, Refusal>
     ensures { ChildGiven ix.now (lent words.old bytes.old counters.old) pending parts.old line.now → ExtentInBounds line.now member.role
         → record { overlay = left words.new bytes.new counters.new; parts = parts.new; answer = result }
         ≡ add_member kind pending (record { ref = to_z w64 member.reference; type = member.kind; role = text_at line.now member.role }) parts.old (lent words.old bytes.old counters.old) }
 {
     if part_fits(pending, 2000) {
         return match reader_texts::take_text(words, bytes, counters, ix, line, member.role) {
-            Handle::Is(handle) => {
-                let member_kind = member.kind;
+            Ok(handle) => {
                 let compact = CompactMember {
                     reference: member.reference,
-                    kind: kind::kind_number(member_kind),
+                    kind: u8::from(member.kind),
                     role: little::narrow(handle),
                 };
-                Added::Is(with_member(parts, kind, pending, compact))
+                Ok(with_member(parts, kind, pending, compact))
             }
-            Handle::Refused(refusal) => Added::Refused(refusal),
+            Err(refusal) => Err(refusal),
         };
     }
     over_limit(words, bytes, counters, ix, line, member.role)

@@ -1,4 +1,5 @@
 -- The soundness of a reader, test by test, and what it gives the steps of an event.
+use Rattle.std.specs.Prelude.{is_ok}
 use Prim.Native.Nat.{ℕ, ◌<◌, ◌≤◌}
 use mathlib.Core.Path.{◌≡◌}
 use mathlib.Core.Bool.{true, false}
@@ -11,16 +12,15 @@ use Rattle.kind.specs.declared.Kind.{Kind}
 use Rattle.compact.specs.Cut.{pushed_record}
 use Rattle.compact.specs.Held.{meta_of, head_in}
 use Rattle.compact_legal.specs.Judge.{fault_for}
-use Rattle.compact_legal.specs.declared.Fault.{Fault}
 use Rattle.overlay.specs.Sound.{is_sound}
 use Rattle.reader.proofs.Acts.{strings_few}
 use Rattle.reader.specs.declared.Pending.{Pending}
-use Rattle.reader.specs.State.{State, is_legal, pending_record, pending_sound, reader_sound, state_sound}
+use Rattle.reader.specs.State.{State, pending_record, pending_sound, reader_sound, state_sound}
 
 module _ (strings : ℕ) (k : Kind) (parts : Bytes) (x : Pending) where
-  pub pending_faulted : x.used ≤ length parts → (f : Fault) → fault_for strings (pushed_record k (head_in k x.head) (meta_of x.meta) (take x.used parts)) ≡ f → is_legal f ≡ pending_sound strings k parts x
+  pub pending_faulted : x.used ≤ length parts → is_ok (fault_for strings (pushed_record k (head_in k x.head) (meta_of x.meta) (take x.used parts))) ≡ pending_sound strings k parts x
   unfolding pending_sound pending_record both
-  pending_faulted h f e = rw (le-leb x.used (length parts) h, e)
+  pending_faulted h = rw (le-leb x.used (length parts) h)
 
   pub pending_beyond : length parts < x.used → false ≡ pending_sound strings k parts x
   unfolding pending_sound pending_record both

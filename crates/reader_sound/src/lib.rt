@@ -7,12 +7,11 @@ ghost use Rattle.reader.specs.State.{stops_by, pending_sound, state_sound};
 ghost use Rattle.reader_sound.specs.Mark.{stop_mark};
 
 use compact::{ArenaMeta, PushHead};
-use compact_legal::Fault;
 use kind::Kind;
 use overlay_blocks::{COUNTERS, STRINGS};
-use reader::{EventReader, Pending, Stop};
+use reader::{EventReader, Pending, RefusedAt};
 use reader_stage::STAGED;
-use refusal::Refusal;
+use refusal::{Refusal, Reply};
 
 // Whether the staged parts lie within the lent bytes, and the push that they will make passes 17, 3, 10 and 16.
 fn pending_sound(strings: u64, kind: Kind, parts: &[u8], pending: Pending) -> bool
@@ -22,10 +21,7 @@ fn pending_sound(strings: u64, kind: Kind, parts: &[u8], pending: Pending) -> bo
     if used <= parts.len() {
         let head = pending.head;
         let meta = pending.meta;
-        return match compact_legal::push_fault(kind, head, meta, &parts[..used], strings) {
-            Fault::Legal => true,
-            Fault::Refused(_) => false,
-        };
+        return compact_legal::push_fault(kind, head, meta, &parts[..used], strings).is_ok();
     }
     false
 }
@@ -54,21 +50,13 @@ pub fn state_sound(
 fn stops_by(refusal: Refusal) -> bool
     ensures { result ≡ stops_by refusal }
 {
-    let reply = refusal::reply_of(refusal);
+    let reply = Reply::from(refusal);
     (2 <= reply.number) & (reply.number <= 16)
 }
 
 // The mark that stops a reader; a mark that no refused event leaves stops nothing.
-pub fn mark_of(stop: Stop) -> Stop
+pub fn mark_of(stop: Option<RefusedAt>) -> Option<RefusedAt>
     ensures { result ≡ stop_mark stop }
 {
-    match stop {
-        Stop::Going => Stop::Going,
-        Stop::At(refusal, line) => {
-            if stops_by(refusal) {
-                return Stop::At(refusal, line);
-            }
-            Stop::Going
-        }
-    }
+    stop.filter(|at| stops_by(at.refusal))
 }

@@ -1,46 +1,36 @@
--- Bytes moved up from the last one on, and a part written where they stood.
-use Prim.Native.Nat.{ℕ, suc, ◌+◌, ◌-◌, ◌<◌, ◌≤◌}
+-- Bytes moved up in one block, and a part written where they stood.
+use Prim.Native.Nat.{ℕ, ◌+◌, ◌-◌, ◌≤◌}
 use mathlib.Core.Path.{◌≡◌, sym, ◌∙◌}
 use mathlib.Core.Bool.{Bool, true, false}
 use mathlib.Core.List.{◌++◌, append_assoc}
 use native.Mathlib.Nat.{zero-add}
 use native.Mathlib.Omega.{arith}
 use lib.Dec.{leb}
-use lib.ListN.{length, get_or, set, length-append}
-use lib.Seq.{take-take, slice, slice_empty, slice-cons}
+use lib.ListN.{length, take, drop, length-append}
+use lib.Seq.{take-take, slice, slice_empty, paste, length-slice}
+use Rattle.std.proofs.lemmas.List.{drop-take}
 use borrow.Author.Tests.{leb-true}
 use Rattle.base.specs.Bytes.{Bytes, both}
 use Rattle.base.proofs.Split.{both_left, both_right}
 use Rattle.little.specs.Little.{over}
-use Rattle.little.proofs.Overs.{over_nothing, get_d_before, over_step, over_over, over_before, set_over, over_whole}
+use Rattle.little.proofs.Overs.{over_nothing, over_over, over_before, over_whole, over_fits}
 use Rattle.little.proofs.Littles.{length_le}
 use Rattle.compact.specs.declared.CompactMember.{CompactMember}
 use Rattle.reader_stage.specs.Stage.{staged, member_part, tag_part}
 
--- ---- the bytes from i up to `used` stand n further on
+-- ---- the bytes from a place up to `used` stand n further on
 
 module _ (s : Bytes) (used n : ℕ) where
   pub gap_closed : over s (used + n) (slice used used s) ≡ s
   gap_closed = rw slice_empty (over_nothing s (used + n))
 
-  -- the byte before the gap moves over it
-  gap_byte : (j : ℕ) → j < used → used + n ≤ length s
-      → set (over s (suc j + n) (slice (suc j) used s)) (j + n) (get_or (over s (suc j + n) (slice (suc j) used s)) j 0) ≡ over s (j + n) (slice j used s)
-  gap_byte j h fits =
-      let t = slice (suc j) used s in
-      let b = get_or s j 0 in
-      let next : suc j + n ≡ j + n + 1 = omega arith in
-      rw (
-        get_d_before s (suc j + n) t j 0 (omega arith),
-        set_over s (j + n) b (suc j + n) t (omega arith),
-        slice-cons j used s 0 h (omega arith),
-        over_step s (j + n) b t (omega arith),
-        next,
-      )
-
-  pub gap_step : (i : ℕ) → 0 < i → i ≤ used → used + n ≤ length s
-      → set (over s (i + n) (slice i used s)) (i - 1 + n) (get_or (over s (i + n) (slice i used s)) (i - 1) 0) ≡ over s (i - 1 + n) (slice (i - 1) used s)
-  gap_step i h g fits = let e : i ≡ suc (i - 1) = omega arith in rw (← e) at (gap_byte (i - 1) (omega arith) fits)
+  -- the bytes from `at` on, copied in one block
+  pub moved : (at : ℕ) → at ≤ used → used + n ≤ length s → paste s (at + n) (drop at s) (used - at) ≡ over s (at + n) (slice at used s)
+  moved at h fits =
+      let e : at + (used - at) ≡ used = omega arith in
+      let part : slice at used s ≡ take (used - at) (drop at s) = rw e at (drop-take at (used - at) s) in
+      let long : length (slice at used s) ≡ used - at = length-slice at used s (omega arith) in
+      rw (over_fits s (at + n) (slice at used s) (omega arith), long, part, append_assoc)
 
 -- ---- a part of n bytes, where the test told whether there is room
 

@@ -29,17 +29,12 @@ fn has_room(len: usize, used: usize, at: usize, numbers: usize, value: usize) ->
     value <= free - numbers
 }
 
-// Moves the bytes from `at` up to `used` n further on, the last first.
+// Moves the bytes from `at` up to `used` n further on.
 fn open_gap(parts: &mut [u8], at: usize, used: usize, n: usize)
     requires { (at ≤ used) × (used + n ≤ length parts.old) }
     ensures { parts.new ≡ over parts.old (at + n) (slice at used parts.old) }
 {
-    let mut i = used;
-    while at < i {
-        i -= 1;
-        let byte = parts[i];
-        parts[i + n] = byte;
-    }
+    parts.copy_within(at..used, at + n);
 }
 
 // ---- the fields of a part, one after another

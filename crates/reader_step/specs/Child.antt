@@ -1,10 +1,10 @@
 -- The step of a child of the open element, by the answer of the call that it makes.
+use Rattle.reader_elements.specs.declared.Progress.{Progress}
+use Rattle.refusal.specs.declared.Refusal.{Refusal}
+use Rattle.reader.specs.declared.Pending.{Pending}
+use Rattle.std.specs.Prelude.{Err, Ok, Result}
 use Rattle.nesting.specs.declared.Place.{Place}
-use Rattle.reader_parts.specs.declared.Added.{Added}
-use Rattle.reader_parts.specs.declared.Added.TheVariants as A
-use Rattle.reader_elements.specs.declared.Stepped.{Stepped}
-use Rattle.reader_elements.specs.declared.Stepped.TheVariants as S
 
-abbrev pub child_stepped : Place → Added → Stepped
-child_stepped p (A.Is x) = S.Goes p x
-child_stepped p (A.Refused r) = S.Stops r
+abbrev pub child_stepped : Place → Result Pending Refusal → Result Progress Refusal
+child_stepped p (Ok x) = Ok (record { place = p; pending = x })
+child_stepped p (Err r) = Err r

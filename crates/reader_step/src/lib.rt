@@ -15,20 +15,18 @@ ghost use Rattle.reader_step.specs.Child.{child_stepped};
 use event_decide::{Decided, NewMember, NewRef, NewTag};
 use nesting::Place;
 use overlay_blocks::COUNTERS;
-use reader::EventReader;
-use reader_elements::{Stepped, begin, delete, end};
-use reader_parts::Added;
+use reader::{EventReader, Pending};
+use reader_elements::{Progress, begin, delete, end};
 use reader_stage::STAGED;
+use refusal::Refusal;
 
 // ---- children
 
-fn added(place: Place, answer: Added) -> Stepped
+fn added(place: Place, answer: Result<Pending, Refusal>) -> Result<Progress, Refusal>
     ensures { result ≡ child_stepped place answer }
 {
-    match answer {
-        Added::Is(pending) => Stepped::Goes { place, pending },
-        Added::Refused(r) => Stepped::Stops(r),
-    }
+    let pending = answer?;
+    Ok(Progress { place, pending })
 }
 
 fn tag(
@@ -40,7 +38,7 @@ fn tag(
     reader: EventReader,
     line: &[u8],
     t: NewTag,
-) -> Stepped
+) -> Result<Progress, Refusal>
     ensures { StepGiven ix.now line.now (D.Tags t) (state_lent words.old bytes.old counters.old parts.old reader)
         → record { overlay = left words.new bytes.new counters.new; parts = parts.new; answer = result } ≡ done_by (state_lent words.old bytes.old counters.old parts.old reader) (step_of (means_decided line.now (D.Tags t)) (state_lent words.old bytes.old counters.old parts.old reader)) }
 {
@@ -52,7 +50,7 @@ fn tag(
     added(place, answer)
 }
 
-fn refer(parts: &mut [u8; STAGED], reader: EventReader, to: NewRef) -> Stepped
+fn refer(parts: &mut [u8; STAGED], reader: EventReader, to: NewRef) -> Result<Progress, Refusal>
     ensures { (ix : List ℕ) (line : Bytes) (o : Overlay) → StepGiven ix line (D.Refers to) (record { overlay = o; reader = reader; parts = parts.old })
         → record { overlay = o; parts = parts.new; answer = result }
         ≡ done_by (record { overlay = o; reader = reader; parts = parts.old })
@@ -75,7 +73,7 @@ fn join(
     reader: EventReader,
     line: &[u8],
     m: NewMember,
-) -> Stepped
+) -> Result<Progress, Refusal>
     ensures { StepGiven ix.now line.now (D.Joins m) (state_lent words.old bytes.old counters.old parts.old reader)
         → record { overlay = left words.new bytes.new counters.new; parts = parts.new; answer = result } ≡ done_by (state_lent words.old bytes.old counters.old parts.old reader) (step_of (means_decided line.now (D.Joins m)) (state_lent words.old bytes.old counters.old parts.old reader)) }
 {
@@ -101,7 +99,7 @@ pub fn step(
     reader: EventReader,
     line: &[u8],
     decided: Decided,
-) -> Stepped
+) -> Result<Progress, Refusal>
     ensures { StepGiven ix.now line.now decided (state_lent words.old bytes.old counters.old parts.old reader)
         → record { overlay = left words.new bytes.new counters.new; parts = parts.new; answer = result }
         ≡ done_by (state_lent words.old bytes.old counters.old parts.old reader)
@@ -110,8 +108,7 @@ pub fn step(
 {
     let pending = reader.pending;
     match decided {
-        Decided::Refuses(r) => Stepped::Stops(r),
-        Decided::Moves(place) => Stepped::Goes { place, pending },
+        Decided::Moves(place) => Ok(Progress { place, pending }),
         Decided::Begins(b) => begin(words, bytes, counters, ix, line, b),
         Decided::Deletes(d) => delete(words, bytes, counters, ix, line, d),
         Decided::Tags(t) => tag(words, bytes, counters, ix, parts, reader, line, t),

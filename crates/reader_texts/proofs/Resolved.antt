@@ -1,8 +1,8 @@
 -- The text of an extent: no longer than its line, so an array of a line's largest length holds it whole.
+use Rattle.std.specs.Prelude.{None, Option, Some}
 use Prim.Native.Nat.{ℕ, suc, ◌-◌, ◌≤◌, min}
 use mathlib.Core.Path.{◌≡◌, sym, ◌∙◌}
 use mathlib.Core.Bool.{Bool, true, false, not}
-use mathlib.Core.Option.{Option, none, some}
 use mathlib.Core.List.{[], ◌∷◌}
 use native.Mathlib.Omega.{arith}
 use lib.ListN.{length, take}
@@ -19,15 +19,15 @@ use Rattle.event_scan.specs.Piece.{value_text}
 use Rattle.event_scan.proofs.Places.{lent_is}
 use Rattle.event_scan.proofs.Pieces.{text_bare}
 use Rattle.event_values.specs.Value.{text_at, ExtentInBounds}
-use Rattle.event_values.specs.declared.Extent.{Extent}
+use Rattle.event_scan.specs.declared.Extent.{Extent}
 
 -- ---- a text is no longer than the value that writes it
 
 one_more : (m : Option ℕ) (x : Option Bytes) (n : ℕ) → length (or_empty x) ≤ n → length (or_empty (byte_before m x)) ≤ suc n
 unfolding byte_before
-one_more none x n h = omega arith
-one_more (some b) none n h = omega arith
-one_more (some b) (some t) n h = omega arith
+one_more None x n h = omega arith
+one_more (Some b) None n h = omega arith
+one_more (Some b) (Some t) n h = omega arith
 
 shorter : (v : Bytes) (marked : Bool) → length (or_empty (unescape_from marked v)) ≤ length v
 unfolding unescape_from
@@ -37,7 +37,7 @@ shorter (b ∷ v) true = one_more (meaning b) (unescape_from false v) (length v)
 shorter (b ∷ v) false =
     by_bool (eqb b 92)
     (λ e. let h = shorter v true in rw (e, unescape_from) (omega arith))
-    (λ e. rw (e, unescape_from) (one_more (some b) (unescape_from false v) (length v) (shorter v false)))
+    (λ e. rw (e, unescape_from) (one_more (Some b) (unescape_from false v) (length v) (shorter v false)))
 
 pub text_shorter : (v : Bytes) → length (value_text v) ≤ length v
 unfolding value_text

@@ -9,10 +9,9 @@ ghost use Rattle.text_index.specs.Index.{IndexGiven};
 ghost use Rattle.overlay.specs.Lent.{lent, left};
 ghost use Rattle.overlay_store.specs.Calls.{store_text};
 
-use event_scan::MAX_LINE;
-use event_values::Extent;
+use event_scan::{Extent, MAX_LINE};
 use overlay_blocks::COUNTERS;
-use overlay_store::Handle;
+use refusal::Refusal;
 
 // The text of an extent at the start of what is lent, as far as there is room; its whole length is answered.
 pub fn text_into(out: &mut [u8], line: &[u8], at: Extent) -> usize
@@ -34,7 +33,7 @@ fn take_resolved(
     ix: &[u16],
     line: &[u8],
     at: Extent,
-) -> Handle
+) -> Result<u64, Refusal>
     ensures { ExtentInBounds line.now at → length line.now ≤ 16384
         → IndexGiven ix.now (lent words.old bytes.old counters.old).texts
         → record { overlay = left words.new bytes.new counters.new; answer = result } ≡ store_text (text_at line.now at) (lent words.old bytes.old counters.old) }
@@ -53,7 +52,7 @@ pub fn take_text(
     ix: &[u16],
     line: &[u8],
     at: Extent,
-) -> Handle
+) -> Result<u64, Refusal>
     ensures { ExtentInBounds line.now at → length line.now ≤ 16384
         → IndexGiven ix.now (lent words.old bytes.old counters.old).texts
         → record { overlay = left words.new bytes.new counters.new; answer = result } ≡ store_text (text_at line.now at) (lent words.old bytes.old counters.old) }
@@ -77,7 +76,7 @@ fn handle_resolved(
     ix: &[u16],
     line: &[u8],
     at: Extent,
-) -> Handle
+) -> Result<u64, Refusal>
     ensures { ExtentInBounds line.now at → length line.now ≤ 16384
         → IndexGiven ix.now (lent words.now bytes.now counters.now).texts
         → result ≡ (store_text (text_at line.now at) (lent words.now bytes.now counters.now)).answer }
@@ -96,7 +95,7 @@ pub fn text_handle(
     ix: &[u16],
     line: &[u8],
     at: Extent,
-) -> Handle
+) -> Result<u64, Refusal>
     ensures { ExtentInBounds line.now at → length line.now ≤ 16384
         → IndexGiven ix.now (lent words.now bytes.now counters.now).texts
         → result ≡ (store_text (text_at line.now at) (lent words.now bytes.now counters.now)).answer }

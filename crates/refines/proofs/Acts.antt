@@ -1,6 +1,7 @@
 -- parse.rs, one kind: the stored version, a push and a delete.
+use Rattle.std.specs.Prelude.{None, Option, Some, Result, Ok, Err}
+use Rattle.base.specs.Options.{bind}
 use Rattle.std.proofs.Common.{◌≡◌, ℕ, zero, suc, ◌+◌, ◌/◌, ◌%◌, ◌^◌, ◌<◌, ◌≤◌, true, false, cond, not, eqb, [], ◌∷◌, length, get_or, take, drop, ℤ, sym, refl, ap, ◌∙◌, arith, length-take-le, take-take, w64, SFits, lt-ltb, le-leb}
-use mathlib.Core.Option.{Option, none, some, bind}
 use Rattle.base.specs.Bytes.{Bytes}
 use Rattle.base.proofs.Split.{by_bool, by_eq, no}
 use Rattle.little.specs.Little.{value, value_at, over}
@@ -10,8 +11,6 @@ use Rattle.kind.specs.declared.Kind.TheVariants.{Node, Way, Relation}
 use Rattle.osm_id.specs.Order.{rank}
 use Rattle.osm_id.proofs.Orders.{rank_injective}
 use Rattle.version_floor.specs.Version.{higher, word_of, of_word}
-use Rattle.version_floor.specs.declared.Version.TheVariants.{Absent, Is}
-use Rattle.version_floor.specs.declared.Admit.TheVariants.{Admitted, Below}
 use Rattle.version_floor.proofs.Versions.{higher_left, higher_right, commutative, associative, word_version, word_absent, admit_missing}
 use Rattle.model.specs.Record.{flagged, claim_of}
 use Rattle.compact.specs.Layout.{head_len}
@@ -23,10 +22,9 @@ use Rattle.kind_table.specs.declared.Row.{Row}
 use Rattle.kind_table.proofs.Maps.{find_put_same, find_put_other}
 use Rattle.kind_store.specs.KindStore.{KindStore, is_live, gone, version_at, live_version, known_of, known_version, floor_of, floor_after, checked, pushed, deleted}
 use Rattle.kind_store.specs.WellFormed.{rows_in, WellFormed}
-use Rattle.kind_store.specs.declared.Kept.TheVariants.{Taken}
 use Rattle.kind_store.proofs.Claims.{Narrow, narrow_higher, version_same}
 use Rattle.kind_store.proofs.KindStores.{Laid, known_row, known_none, floor_row, floor_none, floor_under, known_narrow, push_laid, push_used, push_arena, push_fits, delete_laid, delete_arena, delete_used}
-use Rattle.published.specs.Std.{Result, Ok, Err, from_le, index, slice, max_z, HashMap, get, contains}
+use Rattle.published.specs.Std.{from_le, index, slice, max_z, HashMap, get, contains}
 use Rattle.published.specs.Compact as C
 use Rattle.published.specs.Parse as P
 use Rattle.published.specs.Parse.{KindFields}
@@ -64,12 +62,12 @@ off_head Way = refl
 off_head Relation = refl
 
 -- the bytes of a place inside are there
-index_in : (s : Bytes) (i : ℕ) → i < length s → index s i ≡ some (get_or s i 0)
+index_in : (s : Bytes) (i : ℕ) → i < length s → index s i ≡ Some (get_or s i 0)
 index_in [] i h = absurd (omega arith)
 index_in (b ∷ s) zero h = refl
 index_in (b ∷ s) (suc i) h = index_in s i (omega arith)
 
-slice_in : (s : Bytes) (i n : ℕ) → i + n ≤ length s → slice s i n ≡ some (take n (drop i s))
+slice_in : (s : Bytes) (i n : ℕ) → i + n ≤ length s → slice s i n ≡ Some (take n (drop i s))
 unfolding slice
 slice_in s i n h = rw (le-leb _ _ h)
 
@@ -85,9 +83,9 @@ version_used k arena used place u h =
 
 same_max_or : (a b : Option ℤ) → version (P.max_or a b) ≡ higher (version a) (version b)
 unfolding P.max_or
-same_max_or none b = sym (higher_left (version b))
-same_max_or (some a) none = sym (higher_right (Is a))
-same_max_or (some a) (some b) = same_max a b
+same_max_or None b = sym (higher_left (version b))
+same_max_or (Some a) None = sym (higher_right (Some a))
+same_max_or (Some a) (Some b) = same_max a b
 
 -- ---- the stored version is the known version
 
@@ -98,8 +96,8 @@ module _ (k : Kind) (s : KindStore) (r : KindFields) (well : WellFormed k s) (sa
       same_max_or (P.live_version (meta_off k) r.arena (get r.index id)) (get r.floors id) ∙ go (row_of s id) refl
     where
       go : (o : Option Row) → row_of s id ≡ o → higher (version (P.live_version (meta_off k) r.arena (get r.index id))) (version (get r.floors id)) ≡ known_version k s id
-      go none e = rw (same.offsets id fits, same.floors id fits, e, known_none k s well.sound id e) (higher_left Absent)
-      go (some row) e =
+      go None e = rw (same.offsets id fits, same.floors id fits, e, known_none k s well.sound id e) (higher_left None)
+      go (Some row) e =
           by_bool (is_live row.place)
           (λ t. rw (same.offsets id fits, same.floors id fits, e, known_row k s well.sound id row e, t, same.arena, version_used k s.arena s.used row.place same.within (well.places (rank id) row e t)))
           (λ t. rw (same.offsets id fits, same.floors id fits, e, known_row k s well.sound id row e, t))
@@ -108,31 +106,31 @@ module _ (k : Kind) (s : KindStore) (r : KindFields) (well : WellFormed k s) (sa
   same_floor = go (row_of s id) refl
     where
       go : (o : Option Row) → row_of s id ≡ o → of_word (floor_of s id) ≡ floor_in (row_of s id)
-      go none e = rw (e, floor_none k s well.sound id e) (word_absent (2 ^ 32) (omega arith))
-      go (some row) e = rw (e, floor_row k s well.sound id row e)
+      go None e = rw (e, floor_none k s well.sound id e) (word_absent (2 ^ 32) (omega arith))
+      go (Some row) e = rw (e, floor_row k s well.sound id row e)
 
   -- the place of a live record's metadata lies inside the arena: `version_at` does not panic
-  pub version_inside : (at : ℕ) → get r.index id ≡ some at → at + (meta_off k + 29) ≤ length r.arena
+  pub version_inside : (at : ℕ) → get r.index id ≡ Some at → at + (meta_off k + 29) ≤ length r.arena
   version_inside at e =
       let l = length-take-le s.used s.arena same.within in
       go (row_of s id) refl (rw same.arena l)
     where
       go : (o : Option Row) → row_of s id ≡ o → length r.arena ≡ s.used → at + (meta_off k + 29) ≤ length r.arena
-      go none q l = let z : none ≡ some at = rw (same.offsets id fits, q) at e in no cc
-      go (some row) q l =
+      go None q l = let z : None ≡ Some at = rw (same.offsets id fits, q) at e in no cc
+      go (Some row) q l =
           by_bool (is_live row.place)
-          (λ t. let z : some row.place ≡ some at = rw (same.offsets id fits, q, t) at e in
+          (λ t. let z : Some row.place ≡ Some at = rw (same.offsets id fits, q, t) at e in
           let p : row.place ≡ at = cc in
           omega (arith, well.places (rank id) row q t, off_head k, p, l))
-          (λ t. let z : none ≡ some at = rw (same.offsets id fits, q, t) at e in no cc)
+          (λ t. let z : None ≡ Some at = rw (same.offsets id fits, q, t) at e in no cc)
 
 -- ---- the check
 
-is_err : (a : Result (Unit {0}) ℤ) (v : ℤ) → admission a ≡ Below v → a ≡ Err v
+is_err : (a : Result (Unit {0}) ℤ) (v : ℤ) → admission a ≡ Err v → a ≡ Err v
 is_err (Ok u) v e = no cc
 is_err (Err w) v e = let q : w ≡ v = cc in ap Err q
 
-is_ok : (a : Result (Unit {0}) ℤ) → admission a ≡ Admitted → a ≡ Ok tt
+is_ok : (a : Result (Unit {0}) ℤ) → admission a ≡ (Ok tt) → a ≡ Ok tt
 is_ok (Ok u) e = refl
 is_ok (Err w) e = no cc
 
@@ -140,38 +138,38 @@ is_ok (Err w) e = no cc
 
 raised_other : (floors : HashMap ℤ) (id j : ℤ) (carried claim : Option ℤ) → (j ≡ id → ⊥) → get (P.raise_floor floors id carried claim) j ≡ get floors j
 unfolding P.raise_floor
-raised_other floors id j none none n = refl
-raised_other floors id j none (some b) n = get_other floors id j _ n
-raised_other floors id j (some a) none n = get_other floors id j _ n
-raised_other floors id j (some a) (some b) n = get_other floors id j _ n
+raised_other floors id j None None n = refl
+raised_other floors id j None (Some b) n = get_other floors id j _ n
+raised_other floors id j (Some a) None n = get_other floors id j _ n
+raised_other floors id j (Some a) (Some b) n = get_other floors id j _ n
 
-same_modified : (o : Option ℤ) (a : ℤ) → Is (P.modified o a) ≡ higher (version o) (Is a)
-same_modified none a = sym (higher_left (Is a))
-same_modified (some v) a = same_max v a
+same_modified : (o : Option ℤ) (a : ℤ) → Some (P.modified o a) ≡ higher (version o) (Some a)
+same_modified None a = sym (higher_left (Some a))
+same_modified (Some v) a = same_max v a
 
 -- where what is carried is not below the floor
 raised_own : (floors : HashMap ℤ) (id : ℤ) (carried claim : Option ℤ) → higher (version carried) (version (get floors id)) ≡ version carried
     → version (get (P.raise_floor floors id carried claim) id) ≡ higher (version carried) (version claim)
 unfolding P.raise_floor
-raised_own floors id none none h = rw (higher_left Absent) (sym (higher_left _) ∙ h)
-raised_own floors id none (some b) h =
-    let z : version (get floors id) ≡ Absent = sym (higher_left _) ∙ h in
+raised_own floors id None None h = rw (higher_left None) (sym (higher_left _) ∙ h)
+raised_own floors id None (Some b) h =
+    let z : version (get floors id) ≡ None = sym (higher_left _) ∙ h in
     rw get_own (same_modified (get floors id) b ∙ rw z)
-raised_own floors id (some a) none h = rw (get_own, higher_right) (same_modified (get floors id) a ∙ commutative _ _ ∙ h)
-raised_own floors id (some a) (some b) h =
-    rw get_own (same_modified (get floors id) (max_z a b) ∙ rw same_max (sym (associative _ _ _) ∙ ap (λ z. higher z (Is b)) (commutative _ _ ∙ h)))
+raised_own floors id (Some a) None h = rw (get_own, higher_right) (same_modified (get floors id) a ∙ commutative _ _ ∙ h)
+raised_own floors id (Some a) (Some b) h =
+    rw get_own (same_modified (get floors id) (max_z a b) ∙ rw same_max (sym (associative _ _ _) ∙ ap (λ z. higher z (Some b)) (commutative _ _ ∙ h)))
 
 -- ---- the row of an id set on one side, its entries on the other
 
 module _ (s t : KindStore) (r q : KindFields) (id : ℤ) (place floor : ℕ) (fits : SFits w64 id) (laid : Laid s id place floor t) (same : SameFields s r) where
-  row_own : row_of t id ≡ some (record { rank = rank id; place = place; floor = floor })
+  row_own : row_of t id ≡ Some (record { rank = rank id; place = place; floor = floor })
   row_own = rw laid.rows (find_put_same (record { rank = rank id; place = place; floor = floor }) (rows_in s))
 
   row_other : (j : ℤ) → SFits w64 j → (j ≡ id → ⊥) → row_of t j ≡ row_of s j
   row_other j f n = rw laid.rows (find_put_other (rank j) (record { rank = rank id; place = place; floor = floor }) (rows_in s) (λ e. n (rank_injective f fits e)))
 
   same_laid : q.arena ≡ take t.used t.arena → t.used ≤ length t.arena
-      → get q.index id ≡ cond (is_live place) (some place) none → ((j : ℤ) → (j ≡ id → ⊥) → get q.index j ≡ get r.index j)
+      → get q.index id ≡ cond (is_live place) (Some place) None → ((j : ℤ) → (j ≡ id → ⊥) → get q.index j ≡ get r.index j)
       → contains q.deleted id ≡ cond (is_live place) false true → ((j : ℤ) → (j ≡ id → ⊥) → contains q.deleted j ≡ contains r.deleted j)
       → version (get q.floors id) ≡ of_word floor → ((j : ℤ) → (j ≡ id → ⊥) → get q.floors j ≡ get r.floors j)
       → keyed q.index ≡ true → once q.deleted ≡ true → SameFields t q
@@ -194,22 +192,22 @@ not_live = refl
 
 module _ (k : Kind) (setting : ℕ) (s : KindStore) (r : KindFields) (well : WellFormed k s) (same : SameFields s r) (id : ℤ) (fits : SFits w64 id) where
   -- the check answers the same
-  check_below : (x v : ℤ) → checked setting (known_version k s id) (Is x) ≡ Below v → P.check_version_advance (allowed setting) (meta_off k) r id x ≡ Err v
+  check_below : (x v : ℤ) → checked setting (known_version k s id) (Some x) ≡ Err v → P.check_version_advance (allowed setting) (meta_off k) r id x ≡ Err v
   unfolding P.check_version_advance checked
   check_below x v e =
       by_bool (eqb setting 0)
-      (λ t. rw t (is_err _ v (same_admit (P.stored_version (meta_off k) r id) (some x) ∙ rw (same_stored k s r well same id fits) (rw t at e))))
+      (λ t. rw t (is_err _ v (same_admit (P.stored_version (meta_off k) r id) (Some x) ∙ rw (same_stored k s r well same id fits) (rw t at e))))
       (λ t. no (cc (rw t at e)))
 
-  check_taken : (x : ℤ) → checked setting (known_version k s id) (Is x) ≡ Admitted → P.check_version_advance (allowed setting) (meta_off k) r id x ≡ Ok tt
+  check_taken : (x : ℤ) → checked setting (known_version k s id) (Some x) ≡ (Ok tt) → P.check_version_advance (allowed setting) (meta_off k) r id x ≡ Ok tt
   unfolding P.check_version_advance checked
   check_taken x e =
       by_bool (eqb setting 0)
-      (λ t. rw t (is_ok _ (same_admit (P.stored_version (meta_off k) r id) (some x) ∙ rw (same_stored k s r well same id fits) (rw t at e))))
+      (λ t. rw t (is_ok _ (same_admit (P.stored_version (meta_off k) r id) (Some x) ∙ rw (same_stored k s r well same id fits) (rw t at e))))
       (λ t. rw t)
 
   -- no claim is refused
-  unclaimed : (v : ℤ) → checked setting (known_version k s id) Absent ≡ Below v → ⊥
+  unclaimed : (v : ℤ) → checked setting (known_version k s id) None ≡ Err v → ⊥
   unfolding checked
   unclaimed v e = by_bool (eqb setting 0) (λ t. no (cc (admit_missing (known_version k s id), rw t at e))) (λ t. no (cc (rw t at e)))
 
@@ -219,31 +217,31 @@ module _ (k : Kind) (setting : ℕ) (s : KindStore) (r : KindFields) (well : Wel
   -- ---- push
 
   module _ (bytes : Bytes) where
-    pub push_err : (c : Option ℤ) (v : ℤ) → checked setting (known_version k s id) (version c) ≡ Below v → P.push_with (allowed setting) (meta_off k) r id bytes c ≡ Err v
-    push_err none v e = absurd (unclaimed v e)
-    push_err (some x) v e = rw (check_below x v e)
+    pub push_err : (c : Option ℤ) (v : ℤ) → checked setting (known_version k s id) (version c) ≡ Err v → P.push_with (allowed setting) (meta_off k) r id bytes c ≡ Err v
+    push_err None v e = absurd (unclaimed v e)
+    push_err (Some x) v e = rw (check_below x v e)
 
     -- the floors that a push leaves
     abbrev pub floors_left : Option ℤ → HashMap ℤ
-    floors_left (some x) = r.floors
-    floors_left none = cond (allowed setting) r.floors (P.raise_floor r.floors id (P.stored_version (meta_off k) r id) none)
+    floors_left (Some x) = r.floors
+    floors_left None = cond (allowed setting) r.floors (P.raise_floor r.floors id (P.stored_version (meta_off k) r id) None)
 
-    pub push_ok : (c : Option ℤ) → checked setting (known_version k s id) (version c) ≡ Admitted → P.push_with (allowed setting) (meta_off k) r id bytes c ≡ Ok (P.appended r (floors_left c) id bytes)
-    push_ok none e = refl
-    push_ok (some x) e = rw (check_taken x e)
+    pub push_ok : (c : Option ℤ) → checked setting (known_version k s id) (version c) ≡ (Ok tt) → P.push_with (allowed setting) (meta_off k) r id bytes c ≡ Ok (P.appended r (floors_left c) id bytes)
+    push_ok None e = refl
+    push_ok (Some x) e = rw (check_taken x e)
 
     floors_own : (c : Option ℤ) → version (get (floors_left c) id) ≡ of_word (floor_after setting (known_version k s id) (version c) (floor_of s id))
-    floors_own (some x) = same.floors id fits ∙ sym (same_floor k s r well same id fits)
-    floors_own none =
+    floors_own (Some x) = same.floors id fits ∙ sym (same_floor k s r well same id fits)
+    floors_own None =
         by_bool (eqb setting 0)
-        (λ t. rw (t, word_version (known_version k s id) (known_narrow k s id well)) (raised_own r.floors id (P.stored_version (meta_off k) r id) none carries ∙ rw (same_stored k s r well same id fits) (higher_right _)))
+        (λ t. rw (t, word_version (known_version k s id) (known_narrow k s id well)) (raised_own r.floors id (P.stored_version (meta_off k) r id) None carries ∙ rw (same_stored k s r well same id fits) (higher_right _)))
         (λ t. rw t (same.floors id fits ∙ sym (same_floor k s r well same id fits)))
 
     floors_other : (c : Option ℤ) (j : ℤ) → (j ≡ id → ⊥) → get (floors_left c) j ≡ get r.floors j
-    floors_other (some x) j n = refl
-    floors_other none j n = by_bool (eqb setting 0) (λ t. rw t (raised_other r.floors id j (P.stored_version (meta_off k) r id) none n)) (λ t. rw t)
+    floors_other (Some x) j n = refl
+    floors_other None j n = by_bool (eqb setting 0) (λ t. rw t (raised_other r.floors id j (P.stored_version (meta_off k) r id) None n)) (λ t. rw t)
 
-    pub push_same : (c : Option ℤ) → (pushed k setting s id (version c) bytes).answer ≡ Taken
+    pub push_same : (c : Option ℤ) → (pushed k setting s id (version c) bytes).answer ≡ (Ok tt)
         → SameFields (pushed k setting s id (version c) bytes).kind_store (P.appended r (floors_left c) id bytes)
     unfolding is_live
     push_same c e =
@@ -258,22 +256,22 @@ module _ (k : Kind) (setting : ℕ) (s : KindStore) (r : KindFields) (well : Wel
         (push_laid k setting s id (version c) well.sound bytes e) same
         (rw (u, a, same.arena) (sym (Joins.appended s.arena s.used bytes (over s.arena s.used bytes) (s.used + length bytes) (fits_is s.arena s.used bytes h)).used_bytes))
         (omega (arith, u, z, h))
-        (rw live (get_own r.index id (length r.arena) ∙ ap some n)) (λ j m. get_other r.index id j _ m)
+        (rw live (get_own r.index id (length r.arena) ∙ ap Some n)) (λ j m. get_other r.index id j _ m)
         (rw live (contains_removed r.deleted id)) (λ j m. contains_kept r.deleted id j m)
         (floors_own c) (floors_other c)
         (keyed_insert r.index id (length r.arena) fits same.index_keyed) (once_remove r.deleted id same.deleted_once)
 
   -- ---- delete
 
-  pub delete_err : (c : Option ℤ) (v : ℤ) → checked setting (known_version k s id) (version c) ≡ Below v → P.delete_with (allowed setting) (meta_off k) r id c ≡ Err v
-  delete_err none v e = absurd (unclaimed v e)
-  delete_err (some x) v e = rw (check_below x v e)
+  pub delete_err : (c : Option ℤ) (v : ℤ) → checked setting (known_version k s id) (version c) ≡ Err v → P.delete_with (allowed setting) (meta_off k) r id c ≡ Err v
+  delete_err None v e = absurd (unclaimed v e)
+  delete_err (Some x) v e = rw (check_below x v e)
 
-  pub delete_ok : (c : Option ℤ) → checked setting (known_version k s id) (version c) ≡ Admitted → P.delete_with (allowed setting) (meta_off k) r id c ≡ Ok (P.marked_deleted (meta_off k) r id c)
-  delete_ok none e = refl
-  delete_ok (some x) e = rw (check_taken x e)
+  pub delete_ok : (c : Option ℤ) → checked setting (known_version k s id) (version c) ≡ (Ok tt) → P.delete_with (allowed setting) (meta_off k) r id c ≡ Ok (P.marked_deleted (meta_off k) r id c)
+  delete_ok None e = refl
+  delete_ok (Some x) e = rw (check_taken x e)
 
-  pub delete_same : (c : Option ℤ) → Narrow (version c) → (deleted k setting s id (version c)).answer ≡ Taken
+  pub delete_same : (c : Option ℤ) → Narrow (version c) → (deleted k setting s id (version c)).answer ≡ (Ok tt)
       → SameFields (deleted k setting s id (version c)).kind_store (P.marked_deleted (meta_off k) r id c)
   delete_same c narrow e =
       let t = (deleted k setting s id (version c)).kind_store in

@@ -1,11 +1,12 @@
 -- compact.rs: what is appended for a record is the library's record bytes.
+use Rattle.std.specs.Prelude.{Result}
 use Rattle.std.proofs.Common.{◌≡◌, ℕ, zero, suc, ◌/◌, List, [], ◌∷◌, ◌++◌, map, length, ℤ, refl, ap, append_assoc, append-nil, w32, w64, of_z}
 use lib.ListN.{length-map}
 use Rattle.little.specs.Little.{le}
 use Rattle.model.specs.Record.{Meta, Member, Tag, Body, place, refs, members, Record, kind_of}
 use Rattle.compact.specs.Layout.{meta_bytes, member_bytes, tag_bytes, joined_bytes, head_bytes, head_of, body_bytes, parts_bytes, record_bytes}
 use Rattle.base.specs.Bytes.{Bytes}
-use Rattle.published.specs.Std.{Result, to_le}
+use Rattle.published.specs.Std.{to_le}
 use Rattle.published.specs.Compact.{ArenaMeta, TagPart, arena_append_node, arena_append_way, arena_append_relation}
 use Rattle.published.specs.Compact as C
 use Rattle.published.specs.Parse.{CompactDiffOverlay, push_node, push_way, push_relation}

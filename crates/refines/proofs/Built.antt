@@ -1,7 +1,7 @@
 -- sorted.rs, `KindTable::build`: of a kind that is the same it is our rows, in order.
+use Rattle.std.proofs.lemmas.Option.{none-some}
+use Rattle.std.specs.Prelude.{None, Option, Some, option_map}
 use Rattle.std.proofs.Common.{◌≡◌, ℕ, ◌^◌, ◌≤◌, Bool, true, false, cond, not, eqb, ltb, List, [], ◌∷◌, map, take, ℤ, sym, refl, ap, ◌∙◌, arith, w64, SFits, ltb-true, le-ltb, lt-ltb, eq-eqb, ne_eqb}
-use mathlib.Core.Option
-use mathlib.Core.Option.{Option, none, some, none-ne-some}
 use mathlib.Core.List.{map-map}
 use mir.Facts.{Fits-of_lt}
 use Rattle.base.specs.Bytes.{all}
@@ -40,7 +40,7 @@ module _ {A : Type 0} (id : A → ℤ) (row : A → Row) (ranked : (x : A) → (
   -- ids of 64 bits, each once
   abbrev Distinct : List A → Type 0
   Distinct [] = Unit {0}
-  Distinct (x ∷ xs) = (fits x ≡ true) × (find (row x).rank (map row xs) ≡ none) × Distinct xs
+  Distinct (x ∷ xs) = (fits x ≡ true) × (find (row x).rank (map row xs) ≡ None) × Distinct xs
 
   put_fits : (x : A) (ys : List A) → fits x ≡ true → all fits ys ≡ true → all fits (put_sorted id x ys) ≡ true
   unfolding put_sorted
@@ -51,14 +51,14 @@ module _ {A : Type 0} (id : A → ℤ) (row : A → Row) (ranked : (x : A) → (
       (λ t. rw t (all_cons fits y (put_sorted id x ys) (all_head fits y ys h) (put_fits x ys f (all_tail fits y ys h))))
 
   -- an element put in order is its row put in the table
-  put_rows : (x : A) (ys : List A) → fits x ≡ true → all fits ys ≡ true → find (row x).rank (map row ys) ≡ none → map row (put_sorted id x ys) ≡ put (row x) (map row ys)
+  put_rows : (x : A) (ys : List A) → fits x ≡ true → all fits ys ≡ true → find (row x).rank (map row ys) ≡ None → map row (put_sorted id x ys) ≡ put (row x) (map row ys)
   unfolding put_sorted
   put_rows x [] f h n = sym (put_nil (row x))
   put_rows x (y ∷ ys) f h n =
       let u : before (id x) (id y) ≡ ltb (row x).rank (row y).rank =
       sym (rank_before (tested_fits (id x) f) (tested_fits (id y) (all_head fits y ys h))) ∙ rw (ranked x, ranked y) in
       by_eq (row x).rank (row y).rank
-      (λ e. absurd (none-ne-some (row y) (sym n ∙ rw e (find_same (row y) (map row ys)))))
+      (λ e. absurd (none-some (row y) (sym n ∙ rw e (find_same (row y) (map row ys)))))
       (λ d. by_lt (row x).rank (row y).rank
       (λ l. rw (lt_id (id x) (id y), u, lt-ltb _ _ l) (sym (put_before (row x) (row y) (map row ys) l)))
       (λ l. rw (lt_id (id x) (id y), u, le-ltb _ _ l)
@@ -75,7 +75,7 @@ module _ {A : Type 0} (id : A → ℤ) (row : A → Row) (ranked : (x : A) → (
       let e = put_rows x (sort_by_id id xs) d.0 s.0 (s.2 (row x).rank ∙ d.1) in (
         put_fits x (sort_by_id id xs) d.0 s.0,
         rw e (rising_put (row x) (map row (sort_by_id id xs)) s.1),
-        λ k. ap (find k) e ∙ find_put k (row x) (map row (sort_by_id id xs)) ∙ ap (cond (eqb k (row x).rank) (some (row x))) (s.2 k),
+        λ k. ap (find k) e ∙ find_put k (row x) (map row (sort_by_id id xs)) ∙ ap (cond (eqb k (row x).rank) (Some (row x))) (s.2 k),
       )
 
   distinct_fits : (xs : List A) → Distinct xs → all fits xs ≡ true
@@ -83,7 +83,7 @@ module _ {A : Type 0} (id : A → ℤ) (row : A → Row) (ranked : (x : A) → (
   distinct_fits [] d = refl
   distinct_fits (x ∷ xs) d = all_cons fits x xs d.0 (distinct_fits xs d.2)
 
-  past : (j : ℕ) → 2 ^ 64 ≤ j → (xs : List A) → all fits xs ≡ true → find j (map row xs) ≡ none
+  past : (j : ℕ) → 2 ^ 64 ≤ j → (xs : List A) → all fits xs ≡ true → find j (map row xs) ≡ None
   unfolding find
   past j l [] h = refl
   past j l (x ∷ xs) h =
@@ -98,7 +98,7 @@ module _ {A : Type 0} (id : A → ℤ) (row : A → Row) (ranked : (x : A) → (
 
   -- rows that rise, of ranks of 64 bits, and that each id finds as it finds the elements, are the elements sorted
   module _ (xs : List A) (d : Distinct xs) (rs : List Row) (rises : rising rs ≡ true)
-      (found : (k : ℤ) → SFits w64 k → find (rank k) (map row xs) ≡ find (rank k) rs) (none_past : (j : ℕ) → 2 ^ 64 ≤ j → find j rs ≡ none) where
+      (found : (k : ℤ) → SFits w64 k → find (rank k) (map row xs) ≡ find (rank k) rs) (none_past : (j : ℕ) → 2 ^ 64 ≤ j → find j rs ≡ None) where
     sorted_rows : map row (sort_by_id id xs) ≡ rs
     sorted_rows =
         let s = sort_rows xs d in
@@ -119,7 +119,7 @@ abbrev entry_row : Entry ℕ → Row
 entry_row e = record { rank = rank e.key; place = e.value; floor = 0 }
 
 entry_found : (m : HashMap ℕ) → all (fits key_of entry_row (λ e. refl)) m ≡ true → (k : ℤ) → SFits w64 k
-    → find (rank k) (map entry_row m) ≡ Option.map (λ v. record { rank = rank k; place = v; floor = 0 }) (get m k)
+    → find (rank k) (map entry_row m) ≡ option_map (λ v. record { rank = rank k; place = v; floor = 0 }) (get m k)
 unfolding find get
 entry_found [] h k f = refl
 entry_found (e ∷ m) h k f =
@@ -128,9 +128,9 @@ entry_found (e ∷ m) h k f =
     (λ n. rw (ne_eqb (rank k) (rank e.key) (λ q. n (rank_injective (tested_fits e.key (all_head _ e m h)) f (sym q))), eq_no e.key k n)
     (entry_found m (all_tail _ e m h) k f))
 
-is_none : {B : Type 0} (x : Option B) → not (is_some x) ≡ true → x ≡ none
-is_none none h = refl
-is_none (some b) h = clash h refl
+is_none : {B : Type 0} (x : Option B) → not (is_some x) ≡ true → x ≡ None
+is_none None h = refl
+is_none (Some b) h = clash h refl
 
 keyed_distinct : (m : HashMap ℕ) → keyed m ≡ true → Distinct key_of entry_row (λ e. refl) m
 unfolding keyed
@@ -153,7 +153,7 @@ map_self : (s : HashSet) → map self s ≡ s
 map_self [] = refl
 map_self (x ∷ s) = ap (λ (q : HashSet). x ∷ q) (map_self s)
 
-id_found : (s : HashSet) → all (fits self id_row (λ x. refl)) s ≡ true → (k : ℤ) → SFits w64 k → find (rank k) (map id_row s) ≡ cond (contains s k) (some (id_row k)) none
+id_found : (s : HashSet) → all (fits self id_row (λ x. refl)) s ≡ true → (k : ℤ) → SFits w64 k → find (rank k) (map id_row s) ≡ cond (contains s k) (Some (id_row k)) None
 unfolding find contains
 id_found [] h k f = refl
 id_found (x ∷ s) h k f =
@@ -177,7 +177,7 @@ once_distinct (x ∷ s) h =
 -- ---- our rows, of which the other side knows less
 
 module _ (f : Row → Row) (keeps : (q : Row) → (f q).rank ≡ q.rank) where
-  find_map : (j : ℕ) (rs : List Row) → find j (map f rs) ≡ Option.map f (find j rs)
+  find_map : (j : ℕ) (rs : List Row) → find j (map f rs) ≡ option_map f (find j rs)
   unfolding find
   find_map j [] = refl
   find_map j (q ∷ rs) =
@@ -202,21 +202,21 @@ abbrev named : Row → Row
 named q = record { rank = q.rank; place = 0; floor = 0 }
 
 module _ (s : KindStore) (r : KindFields) (same : SameFields s r) (rises : rising (rows_in s) ≡ true) (ranks : all is_rank (rows_in s) ≡ true) where
-  rows_past : (j : ℕ) → 2 ^ 64 ≤ j → find j (rows_in s) ≡ none
+  rows_past : (j : ℕ) → 2 ^ 64 ≤ j → find j (rows_in s) ≡ None
   unfolding is_rank
   rows_past j l = go (find j (rows_in s)) refl
     where
-      go : (x : Option Row) → find j (rows_in s) ≡ x → find j (rows_in s) ≡ none
-      go none e = e
-      go (some q) e =
+      go : (x : Option Row) → find j (rows_in s) ≡ x → find j (rows_in s) ≡ None
+      go None e = e
+      go (Some q) e =
           let u = ltb-true q.rank 18446744073709551616 (find_passes is_rank j (rows_in s) q ranks e) in
           absurd (omega (arith, find_rank j (rows_in s) q e))
 
   module _ (f : Row → Row) (keeps : (q : Row) → (f q).rank ≡ q.rank) (side : Side) where
-    found_on : (j : ℕ) → find j (map f (rows_on side (rows_in s))) ≡ Option.map f (if_on side (find j (rows_in s)))
-    found_on j = find_map f keeps j (rows_on side (rows_in s)) ∙ ap (Option.map f) (find_on side j (rows_in s) rises)
+    found_on : (j : ℕ) → find j (map f (rows_on side (rows_in s))) ≡ option_map f (if_on side (find j (rows_in s)))
+    found_on j = find_map f keeps j (rows_on side (rows_in s)) ∙ ap (option_map f) (find_on side j (rows_in s) rises)
 
-    none_past : (j : ℕ) → 2 ^ 64 ≤ j → find j (map f (rows_on side (rows_in s))) ≡ none
+    none_past : (j : ℕ) → 2 ^ 64 ≤ j → find j (map f (rows_on side (rows_in s))) ≡ None
     none_past j l = found_on j ∙ rw (rows_past j l)
 
     list_rises : rising (map f (rows_on side (rows_in s))) ≡ true
@@ -227,18 +227,18 @@ module _ (s : KindStore) (r : KindFields) (same : SameFields s r) (rises : risin
       entry_found r.index (distinct_fits key_of entry_row (λ e. refl) r.index (keyed_distinct r.index same.index_keyed)) k f
       ∙ rw (same.offsets k f) (go (find (rank k) (rows_in s)) refl ∙ sym (found_on placed (λ q. refl) Live (rank k)))
     where
-      go : (x : Option Row) → find (rank k) (rows_in s) ≡ x → Option.map (λ v. record { rank = rank k; place = v; floor = 0 }) (offset_in x) ≡ Option.map placed (if_on Live (find (rank k) (rows_in s)))
-      go none e = rw e
-      go (some q) e = rw e (by_bool (is_live q.place) (λ t. rw (t, find_rank (rank k) (rows_in s) q e)) (λ t. rw t))
+      go : (x : Option Row) → find (rank k) (rows_in s) ≡ x → option_map (λ v. record { rank = rank k; place = v; floor = 0 }) (offset_in x) ≡ option_map placed (if_on Live (find (rank k) (rows_in s)))
+      go None e = rw e
+      go (Some q) e = rw e (by_bool (is_live q.place) (λ t. rw (t, find_rank (rank k) (rows_in s) q e)) (λ t. rw t))
 
   deleted_found : (k : ℤ) → SFits w64 k → find (rank k) (map id_row r.deleted) ≡ find (rank k) (map named (rows_on Deleted (rows_in s)))
   deleted_found k f =
       id_found r.deleted (distinct_fits self id_row (λ e. refl) r.deleted (once_distinct r.deleted same.deleted_once)) k f
       ∙ rw (same.deleted k f) (go (find (rank k) (rows_in s)) refl ∙ sym (found_on named (λ q. refl) Deleted (rank k)))
     where
-      go : (x : Option Row) → find (rank k) (rows_in s) ≡ x → cond (deleted_in x) (some (id_row k)) none ≡ Option.map named (if_on Deleted (find (rank k) (rows_in s)))
-      go none e = rw e
-      go (some q) e = rw e (by_bool (is_live q.place) (λ t. rw t) (λ t. rw (t, find_rank (rank k) (rows_in s) q e)))
+      go : (x : Option Row) → find (rank k) (rows_in s) ≡ x → cond (deleted_in x) (Some (id_row k)) None ≡ option_map named (if_on Deleted (find (rank k) (rows_in s)))
+      go None e = rw e
+      go (Some q) e = rw e (by_bool (is_live q.place) (λ t. rw t) (λ t. rw (t, find_rank (rank k) (rows_in s) q e)))
 
   pub built_ids : (kind_sorted r).ids ≡ map (λ (q : Row). id_of q.rank) (rows_on Live (rows_in s))
   unfolding build

@@ -1,6 +1,6 @@
 -- Condition 2: what both hold, told record by record, from what they hold byte by byte; and the theorem.
+use Rattle.std.specs.Prelude.{Some}
 use Rattle.std.proofs.Common.{◌≡◌, ℕ, Bool, true, List, ℤ, refl, ◌∙◌, arith, w64, SFits, to_z}
-use mathlib.Core.Option.{some}
 use Rattle.base.specs.Bytes.{Bytes, all}
 use Rattle.base.proofs.Split.{by_lt, both_right}
 use Rattle.kind.specs.declared.Kind.{Kind}
@@ -59,7 +59,7 @@ use Rattle.refines.proofs.Lists.{Alike, lists_agree, started_alike}
 module _ (from_utf8 : Bytes → Bool) (texts : (t : Bytes) → is_text t ≡ true → from_utf8 t ≡ true) (refused : Bool) (o : Overlay) (acts : List (Act Bytes)) (held : List Bytes)
     (w : Reflects refused o held acts) (r : CompactDiffOverlay) (same : SameOverlay o r) (k : Kind) where
   -- the record at a place at which one starts
-  place_read : (at : ℕ) (x : KeptRecord) → record_at at (w.sound.kind_stores k).whole.kept ≡ some x
+  place_read : (at : ℕ) (x : KeptRecord) → record_at at (w.sound.kind_stores k).whole.kept ≡ Some x
       → RecordAs k from_utf8 r.interner.strings (rust_view (kind_store_of k o) (view_in o.texts.strings k (kind_store_of k o) at)) (seen_in o k (view_in o.texts.strings k (kind_store_of k o) at))
   unfolding fits_kept
   place_read at x h =
@@ -75,7 +75,7 @@ module _ (from_utf8 : Bytes → Bool) (texts : (t : Bytes) → is_text t ≡ tru
       )
 
   -- the record of a live row
-  row_read : (id : ℤ) (q : Row) → find (rank id) (rows_in (kind_store_of k o)) ≡ some q → is_live q.place ≡ true
+  row_read : (id : ℤ) (q : Row) → find (rank id) (rows_in (kind_store_of k o)) ≡ Some q → is_live q.place ≡ true
       → RecordAs k from_utf8 r.interner.strings (rust_view (kind_store_of k o) (view_in o.texts.strings k (kind_store_of k o) q.place)) (seen_in o k (view_in o.texts.strings k (kind_store_of k o) q.place))
   row_read id q e t =
       let s = w.sound.kind_stores k in

@@ -1,10 +1,10 @@
 -- D1: what the Rust keeps of an event that it refuses.
+use Rattle.std.specs.Prelude.{None, Option, Some, Result, Ok, Err}
 use Rattle.std.proofs.Common.{◌≡◌, Bool, true, false, cond, ℤ, refl}
-use mathlib.Core.Option.{Option, none, some}
 use Rattle.base.specs.Ascii.{ascii}
 use Rattle.base.specs.Bytes.{Bytes, same, either}
 use Rattle.base.proofs.Split.{by_bool, no}
-use Rattle.published.specs.Std.{Result, Ok, Err, ElementKind, Node, Way, Relation, from_name}
+use Rattle.published.specs.Std.{ElementKind, Node, Way, Relation, from_name}
 use Rattle.published.specs.Compact.{Tag}
 use Rattle.published.specs.Parse.{CompactDiffOverlay, delete_kind}
 use Rattle.published.specs.XmlParse.{Error, internal, misplaced, BytesStart, Event, Start, Empty, End, OscAction, Level, Doc, Root, Section, Element, Leaf, Done, DriveState, Driven, CompactSink, Sunk, Staging, MetaSoFar, Coordinates, ParsedMember, default, NotPublished, parse_i64_attr, parse_tag, parse_nd, parse_member, scan_meta_attrs, sink_with, user_interned, arena_meta_of, action_for, end_element, push_staged, live, begin_element, handle_element_child, handle_open, handle_close, drive_event}
@@ -36,13 +36,13 @@ unfolding end_element
 ends_leave s = go s.staging
   where
     go : (st : Option Staging) → Leaves s.overlay (X.end_staged s.overlay st).sink.overlay (X.end_staged s.overlay st).result
-    go none = taken _ _
-    go (some st) = pushes_leave s.overlay (push_staged st.kind s.overlay st)
+    go None = taken _ _
+    go (Some st) = pushes_leave s.overlay (push_staged st.kind s.overlay st)
 
 -- a child: only the error that the driver never meets comes after its text was taken in
 staged_leaves : (kept o : CompactDiffOverlay) (st : Option Staging) (f : Staging → Staging) → Leaves kept (X.staged o st f).sink.overlay (X.staged o st f).result
-staged_leaves kept o none f = λ x e n. absurd (n cc)
-staged_leaves kept o (some st) f = taken kept o
+staged_leaves kept o None f = λ x e n. absurd (n cc)
+staged_leaves kept o (Some st) f = taken kept o
 
 tag_leaves : (s : CompactSink) (x : Result Tag Error) → Leaves s.overlay (X.sink_tag s x).sink.overlay (X.sink_tag s x).result
 tag_leaves s (Ok t) = staged_leaves s.overlay _ s.staging _
@@ -121,8 +121,8 @@ module _ (np : NotPublished) (s : CompactSink) (d : DriveState) (k : ElementKind
 
   begun_leaves : (b : Bool) (next : DriveState) (a : Bool) (i : Result ℤ Error) (m : Result MetaSoFar Error) → X.scan_meta_attrs np default e.attributes ≡ m
       → DrivenLeaves (user_read i m) (comes b next (X.begin_id np s a k e i))
-  begun_leaves b next a (Err x) m q = failed_comes none b next s x refl
-  begun_leaves b next a (Ok id) (Err x) q = rw q (failed_comes none b next s x refl)
+  begun_leaves b next a (Err x) m q = failed_comes None b next s x refl
+  begun_leaves b next a (Ok id) (Err x) q = rw q (failed_comes None b next s x refl)
   begun_leaves b next true (Ok id) (Ok m) q = rw q (staged_comes b next id m (X.coordinates np k e))
   begun_leaves b next false (Ok id) (Ok m) q = rw q (deleted_comes b next m.user s.staging (delete_kind (user_interned s.overlay m.user) k id (arena_meta_of s.overlay m)))
 
@@ -136,15 +136,15 @@ module _ (np : NotPublished) (s : CompactSink) (d : DriveState) (k : ElementKind
 module _ (np : NotPublished) where
   section_leaves : (b : Bool) (e : BytesStart) (d : DriveState) (s : CompactSink) (k : Option ElementKind)
       → Leaves (user_interned s.overlay (user_begun np Section k e)) (X.open_section np b e d s k).sink.overlay (X.open_section np b e d s k).result
-  section_leaves b e d s none = λ x q n. refl
-  section_leaves true e d s (some k) = begins_leave np s d k e true d d.section
-  section_leaves false e d s (some k) = begins_leave np s d k e false (record { level = Element; section = d.section; open_kind = k }) d.section
+  section_leaves b e d s None = λ x q n. refl
+  section_leaves true e d s (Some k) = begins_leave np s d k e true d d.section
+  section_leaves false e d s (Some k) = begins_leave np s d k e false (record { level = Element; section = d.section; open_kind = k }) d.section
 
   root_leaves : (b : Bool) (e : BytesStart) (d : DriveState) (s : CompactSink) (a : Option OscAction) (k : Option ElementKind)
       → Leaves s.overlay (X.open_root np b e d s a k).sink.overlay (X.open_root np b e d s a k).result
-  root_leaves b e d s (some a) k = taken _ _
-  root_leaves b e d s none (some k) = λ x q n. refl
-  root_leaves b e d s none none = by_bool (same e.name X.ROOT) (λ t. rw t (λ x q n. refl)) (λ t. rw t (taken _ _))
+  root_leaves b e d s (Some a) k = taken _ _
+  root_leaves b e d s None (Some k) = λ x q n. refl
+  root_leaves b e d s None None = by_bool (same e.name X.ROOT) (λ t. rw t (λ x q n. refl)) (λ t. rw t (taken _ _))
 
   opens_leave : (l : Level) (b : Bool) (e : BytesStart) (d : DriveState) (s : CompactSink)
       → Leaves (user_interned s.overlay (user_begun np l (from_name e.name) e)) (X.open_at np l b e d s).sink.overlay (X.open_at np l b e d s).result

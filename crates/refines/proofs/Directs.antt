@@ -1,6 +1,7 @@
 -- A direct call on an overlay: `intern`, push, delete, the regression setting. Done, or refused 12, it is so on both sides, with the same left.
+use Rattle.std.proofs.lemmas.Option.{same_Some}
+use Rattle.std.specs.Prelude.{None, Option, Some, Result, Ok, Err}
 use Rattle.std.proofs.Common.{◌≡◌, ℕ, ◌<◌, true, List, [], ◌∷◌, ◌++◌, map, ℤ, sym, refl, ap, ◌∙◌, subst, append-nil, arith, w32, w64, SFits, to_z}
-use mathlib.Core.Option.{Option, none, some, some-injective}
 use mir.Facts.{Fits-of_lt, sfits_to_z}
 use Rattle.base.specs.Bytes.{Bytes, all}
 use Rattle.base.proofs.Split.{no}
@@ -20,7 +21,6 @@ use Rattle.interner.specs.Texts.{handle_of, take_in}
 use Rattle.interner.specs.Sound.{texts_of}
 use Rattle.kind_store.specs.KindStore.{taken_in}
 use Rattle.kind_store.specs.WellFormed.{WellFormed}
-use Rattle.kind_store.specs.declared.Kept.TheVariants.{Taken, Refused}
 use Rattle.kind_store.proofs.Answers.{push_12, delete_12}
 use Rattle.kind_store.proofs.Claims.{given_claim}
 use Rattle.overlay.specs.Overlay.{Overlay, kind_store_of}
@@ -33,12 +33,10 @@ use Rattle.overlay.proofs.Keeps.{allow_sound, allow_bytes}
 use Rattle.overlay.proofs.KindStores.{setting_kind_store}
 use Rattle.overlay.proofs.Tiles.{sized_arena}
 use Rattle.overlay_store.specs.Calls.{bytes_of, store_push, store_delete}
-use Rattle.overlay_store.specs.declared.Handle.TheVariants as H
 use Rattle.overlay_direct.specs.Calls.{push_on, delete_on, intern_on}
 use Rattle.overlay_direct.proofs.Answers.{by_fault, push_store, push_taken, push_refusal, delete_store, delete_taken, delete_refusal}
 use Rattle.overlay_direct.proofs.Keeps.{push_kept, push_sound, push_bytes, delete_sound, delete_bytes, intern_kept, intern_sound, intern_bytes, intern_kind_store, intern_setting}
 use Rattle.calls.proofs.Rows.{well_formed_sound}
-use Rattle.published.specs.Std.{Result, Ok, Err}
 use Rattle.published.specs.Compact.{refs_appended, members_appended, append_tags}
 use Rattle.published.specs.Parse.{CompactDiffOverlay, intern_in, handle_in_overlay, allow, delete_kind}
 use Rattle.refines.specs.OneKind.{allowed, SameFields}
@@ -56,30 +54,30 @@ well_sound o sound bytes k =
 -- ---- what is handed to the Rust
 
 -- a node's place is that of its head
-place_given : (h : Head) (m : Meta ℕ) (parts : Bytes) (x : Record ℕ) → pushed_record K.Node h m parts ≡ some x → x.body ≡ place h.lat h.lon
+place_given : (h : Head) (m : Meta ℕ) (parts : Bytes) (x : Record ℕ) → pushed_record K.Node h m parts ≡ Some x → x.body ≡ place h.lat h.lon
 unfolding pushed_record cut_parts cut_body then_cut
 place_given h m parts x e = go (times cut_tag h.tags parts) e
   where
-    up : (ts : List (Tag ℕ)) (q : Bytes) → used_up (record { meta = m; body = place h.lat h.lon; tags = ts }) q ≡ some x → x.body ≡ place h.lat h.lon
-    up ts [] e = let z : record { meta = m; body = place h.lat h.lon; tags = ts } ≡ x = some-injective _ _ e in ap (λ (y : Record ℕ). y.body) (sym z)
+    up : (ts : List (Tag ℕ)) (q : Bytes) → used_up (record { meta = m; body = place h.lat h.lon; tags = ts }) q ≡ Some x → x.body ≡ place h.lat h.lon
+    up ts [] e = let z : record { meta = m; body = place h.lat h.lon; tags = ts } ≡ x = same_Some _ _ e in ap (λ (y : Record ℕ). y.body) (sym z)
     up ts (b ∷ q) e = no cc
 
-    go : (o : Option (Cut (List (Tag ℕ)))) → whole (then_cut o (λ ts r. found (record { meta = m; body = place h.lat h.lon; tags = ts }) r)) ≡ some x → x.body ≡ place h.lat h.lon
-    go none e = no cc
-    go (some c) e = up c.item c.rest e
+    go : (o : Option (Cut (List (Tag ℕ)))) → whole (then_cut o (λ ts r. found (record { meta = m; body = place h.lat h.lon; tags = ts }) r)) ≡ Some x → x.body ≡ place h.lat h.lon
+    go None e = no cc
+    go (Some c) e = up c.item c.rest e
 
 meta_words_lem : (m : ArenaMeta) → meta_words m ≡ arena_meta (meta_of m)
 unfolding meta_of
 meta_words_lem m = refl
 
-body_given : (k : Kind) (h : PushHead) (m : ArenaMeta) (parts : Bytes) (x : Record ℕ) → k ≡ K.Node → pushed_record k (head_in k h) (meta_of m) parts ≡ some x
+body_given : (k : Kind) (h : PushHead) (m : ArenaMeta) (parts : Bytes) (x : Record ℕ) → k ≡ K.Node → pushed_record k (head_in k h) (meta_of m) parts ≡ Some x
     → x.body ≡ place (to_z w32 h.lat) (to_z w32 h.lon)
 unfolding head_in node_head
 body_given k h m parts x e made = place_given (head_in K.Node h) (meta_of m) parts x (rw e at made)
 
 as_record : (k : Kind) (h : PushHead) (m : ArenaMeta) (r : CompactDiffOverlay) (meta : Meta ℕ) (body : Body ℕ) (tags : List (Tag ℕ)) → kind_of body ≡ k → meta ≡ meta_of m
     → (k ≡ K.Node → body ≡ place (to_z w32 h.lat) (to_z w32 h.lon))
-    → push_handed k h m (some (record { meta = meta; body = body; tags = tags })) r ≡ push_record r (to_z w64 h.id) (record { meta = meta; body = body; tags = tags })
+    → push_handed k h m (Some (record { meta = meta; body = body; tags = tags })) r ≡ push_record r (to_z w64 h.id) (record { meta = meta; body = body; tags = tags })
 unfolding meta_of
 as_record K.Node h m r meta body tags e q n = rw (n refl, q)
 as_record K.Way h m r meta (refs rs) tags e q n = rw q
@@ -89,7 +87,7 @@ as_record K.Relation h m r meta (members ms) tags e q n = rw q
 as_record K.Relation h m r meta (place lat lon) tags e q n = no cc
 as_record K.Relation h m r meta (refs rs) tags e q n = no cc
 
-module _ (k : Kind) (h : PushHead) (m : ArenaMeta) (parts : Bytes) (b : all is_byte parts ≡ true) (x : Record ℕ) (made : pushed_record k (head_in k h) (meta_of m) parts ≡ some x) where
+module _ (k : Kind) (h : PushHead) (m : ArenaMeta) (parts : Bytes) (b : all is_byte parts ≡ true) (x : Record ℕ) (made : pushed_record k (head_in k h) (meta_of m) parts ≡ Some x) where
   -- the parts are the bytes that the Rust appends for them
   pub parts_handed : parts ≡ refs_appended (refs_in x.body) ++ members_appended (map member_part (members_in x.body)) ++ append_tags (map tag_part x.tags)
   parts_handed = (rw append-nil at (pushed k (head_in k h) (meta_of m) parts x b made).here.is) ∙ sym (same_parts x)
@@ -116,7 +114,7 @@ module _ (o : Overlay) (r : CompactDiffOverlay) (w : SameOverlay o r) where
         let p = push_kept k h m parts o f g b e in
         let t = push_taken k h m parts o e in
         let q : push_on k h m parts o ≡ store_push k h m parts o = push_store k h m parts o t.0 t.1.0 in
-        let a : (store_push k h m parts o).answer ≡ Taken = ap (λ (z : OverlayAfter). z.answer) (sym q) ∙ is_taken _ e in
+        let a : (store_push k h m parts o).answer ≡ (Ok tt) = ap (λ (z : OverlayAfter). z.answer) (sym q) ∙ is_taken _ e in
         let v = store_pushes o r well w.core k h m parts p.held (id_given h f) p.kind p.meta p.bytes a in (
           v.0,
           (
@@ -125,7 +123,7 @@ module _ (o : Overlay) (r : CompactDiffOverlay) (w : SameOverlay o r) where
           ),
         )
 
-    pub push_refuses : (v : ℤ) → (push_on k h m parts o).answer ≡ Refused (R.Regression v) → rust_push k h m parts r ≡ Err v
+    pub push_refuses : (v : ℤ) → (push_on k h m parts o).answer ≡ Err (R.Regression v) → rust_push k h m parts r ≡ Err v
     push_refuses v e =
         push_refusal k h m parts o (R.Regression v) e
         (λ s q. no cc)
@@ -146,7 +144,7 @@ module _ (o : Overlay) (r : CompactDiffOverlay) (w : SameOverlay o r) where
     delete_done e =
         let t = delete_taken k (to_z w64 n) (meta_of m) o e in
         let q : delete_on k (to_z w64 n) (meta_of m) o ≡ store_delete k (to_z w64 n) (claim_of (meta_of m)) o = delete_store k (to_z w64 n) (meta_of m) o t.0 t.1.0 in
-        let a : (store_delete k (to_z w64 n) (claim_of (meta_of m)) o).answer ≡ Taken = ap (λ (z : OverlayAfter). z.answer) (sym q) ∙ is_taken _ e in
+        let a : (store_delete k (to_z w64 n) (claim_of (meta_of m)) o).answer ≡ (Ok tt) = ap (λ (z : OverlayAfter). z.answer) (sym q) ∙ is_taken _ e in
         let v = store_deletes o r well w.core k (to_z w64 n) (meta_of m) deleted_fits (given_claim (meta_of m) (meta_given m g)) a in (
           v.0,
           (
@@ -155,7 +153,7 @@ module _ (o : Overlay) (r : CompactDiffOverlay) (w : SameOverlay o r) where
           ),
         )
 
-    pub delete_refuses : (v : ℤ) → (delete_on k (to_z w64 n) (meta_of m) o).answer ≡ Refused (R.Regression v) → rust_delete k n m r ≡ Err v
+    pub delete_refuses : (v : ℤ) → (delete_on k (to_z w64 n) (meta_of m) o).answer ≡ Err (R.Regression v) → rust_delete k n m r ≡ Err v
     delete_refuses v e =
         delete_refusal k (to_z w64 n) (meta_of m) o (R.Regression v) e
         (λ s q. no cc) (λ s l q. no cc)
@@ -164,12 +162,12 @@ module _ (o : Overlay) (r : CompactDiffOverlay) (w : SameOverlay o r) where
 
   -- ---- a text, and the setting
 
-  pub intern_done : (t : Bytes) (n : ℕ) → all is_byte t ≡ true → (intern_on t o).answer ≡ H.Is n → (handle_in_overlay r t ≡ n) × SameOverlay (intern_on t o).overlay (intern_in r t)
+  pub intern_done : (t : Bytes) (n : ℕ) → all is_byte t ≡ true → (intern_on t o).answer ≡ Ok n → (handle_in_overlay r t ≡ n) × SameOverlay (intern_on t o).overlay (intern_in r t)
   intern_done t n b e =
       let p = intern_kept t o n e in
-      let i : handle_of t (take_in (texts_of o.texts) t) ≡ some n = rw p.texts at p.place in
+      let i : handle_of t (take_in (texts_of o.texts) t) ≡ Some n = rw p.texts at p.place in
       let texts : texts_of (intern_on t o).overlay.texts ≡ take_in (texts_of o.texts) t = rw p.left p.texts in (
-        some-injective _ _ (sym (handle_intern (texts_of o.texts) r.interner w.core.texts t) ∙ i),
+        same_Some _ _ (sym (handle_intern (texts_of o.texts) r.interner w.core.texts t) ∙ i),
         record {
           sound = intern_sound t o w.sound;
           bytes = intern_bytes t o b w.bytes;

@@ -1,6 +1,6 @@
 -- xml_parse.rs, handle_open and handle_close: what the Rust does with an event is what the library decides of it, done by the Rust's sink.
+use Rattle.std.specs.Prelude.{None, Option, Some, Result, Ok, Err}
 use Rattle.std.proofs.Common.{◌≡◌, Bool, true, false, cond, List, [], map, ℤ, sym, refl, ap, ◌∙◌, w64}
-use mathlib.Core.Option.{Option, none, some}
 use Rattle.base.specs.Ascii.{ascii}
 use Rattle.base.specs.Bytes.{Bytes, same, both, either}
 use Rattle.base.proofs.Split.{by_bool}
@@ -22,7 +22,7 @@ use Rattle.event.specs.Event.{Attr, Event, starts, closes, others, value_of, or_
 use Rattle.event_fields.specs.Field.{got, and_then, id_field, metadata_of, body_for, member_of, latitude, longitude, integer_field}
 use Rattle.event_fields.specs.Field as F
 use Rattle.event_decision.specs.Decision.{begins, deletes, tags, refers, joins, on_field, push_begins, delete_begins, element_begins, unless_delete, decide_opened, decide_closed, decide_event}
-use Rattle.published.specs.Std.{Result, Ok, Err, ElementKind, from_name}
+use Rattle.published.specs.Std.{ElementKind, from_name}
 use Rattle.published.specs.Std as O
 use Rattle.published.specs.Compact as C
 use Rattle.published.specs.Parse.{CompactDiffOverlay, delete_kind}
@@ -133,8 +133,8 @@ module _ (name : Bytes) (attrs : List Attr) where
   role_is = rw (same_attr attrs (ascii "role")) (go (value_of (ascii "role") attrs))
     where
       go : (o : Option Bytes) → X.or_empty o ≡ or_empty o
-      go none = refl
-      go (some v) = refl
+      go None = refl
+      go (Some v) = refl
 
   same_member : field_of member_from (parse_member (bytes_start name attrs)) ≡ member_of attrs
   unfolding parse_member member_of
@@ -180,13 +180,13 @@ module _ (p : Place) (attrs : List Attr) (name : Bytes) (s : CompactSink) where
 
   staged_comes : (empty : Bool) (k : Kind) (id : ℤ) (m : MetaSoFar) (b : Body Bytes) → element_kind (kind_of b) ≡ element_kind k
       → comes empty k (X.sunk (X.user_interned s.overlay m.user)
-      (some (record { kind = element_kind k; id = id; lat = lat_of b; lon = lon_of b; meta = X.arena_meta_of s.overlay m; tag_keys = []; tag_values = []; refs = []; members = [] })))
+      (Some (record { kind = element_kind k; id = id; lat = lat_of b; lon = lon_of b; meta = X.arena_meta_of s.overlay m; tag_keys = []; tag_values = []; refs = []; members = [] })))
       ≡ done_as (begins empty (next_place empty k) id (meta_so_far m) b) s
   unfolding done_as
   staged_comes true k id m b e =
       rw (same_user m, e) (sunk_turn (drive_state p) (drive_state p) (end_element (record {
         overlay = X.user_interned s.overlay m.user;
-        staging = some (record { kind = element_kind k; id = id; lat = lat_of b; lon = lon_of b; meta = X.arena_meta_of s.overlay m; tag_keys = []; tag_values = []; refs = []; members = [] });
+        staging = Some (record { kind = element_kind k; id = id; lat = lat_of b; lon = lon_of b; meta = X.arena_meta_of s.overlay m; tag_keys = []; tag_values = []; refs = []; members = [] });
       })))
   staged_comes false k id m b e = rw (same_user m, e)
 
@@ -377,11 +377,11 @@ module _ (empty : Bool) (name : Bytes) (attrs : List Attr) (a : Action) (k : Kin
       go N.Bounds e = rw e (by_bool empty (λ t. rw t) (λ t. rw t))
       go N.Unknown e = rw e (by_bool empty (λ t. rw t) (λ t. rw t))
 
-  element_begins_lem : (j : Kind) → driven (X.open_section by_documents empty (bytes_start name attrs) (drive_state (placed L.Section a k)) s (some (element_kind j)))
+  element_begins_lem : (j : Kind) → driven (X.open_section by_documents empty (bytes_start name attrs) (drive_state (placed L.Section a k)) s (Some (element_kind j)))
       ≡ done_as (element_begins a empty j (next_place (placed L.Section a k) attrs name s empty j) attrs) s
   element_begins_lem j = go empty refl
     where
-      go : (t : Bool) → empty ≡ t → driven (X.open_section by_documents t (bytes_start name attrs) (drive_state (placed L.Section a k)) s (some (element_kind j)))
+      go : (t : Bool) → empty ≡ t → driven (X.open_section by_documents t (bytes_start name attrs) (drive_state (placed L.Section a k)) s (Some (element_kind j)))
           ≡ done_as (element_begins a t j (next_place (placed L.Section a k) attrs name s t j) attrs) s
       go true e = begins_comes (placed L.Section a k) attrs name s true j a
       go false e = begins_comes (placed L.Section a k) attrs name s false j a
@@ -422,7 +422,7 @@ module _ (empty : Bool) (name : Bytes) (attrs : List Attr) (a : Action) (k : Kin
 
 -- while an element of a delete section stands open, nothing is staged
 abbrev pub NothingStaged : Level → Action → CompactSink → Type 0
-NothingStaged l a s = l ≡ L.Element → a ≡ A.Delete → s.staging ≡ none
+NothingStaged l a s = l ≡ L.Element → a ≡ A.Delete → s.staging ≡ None
 
 closes_comes : (l : Level) (a : Action) (k : Kind) (s : CompactSink) → NothingStaged l a s
     → driven (X.close_at (level l) (drive_state (placed l a k)) s) ≡ done_as (decide_closed l a (at (closed_to l) (placed l a k))) s

@@ -1,7 +1,7 @@
 -- Condition 2, equality with the Rust, over lists: a call in the domain tells the same on both sides and leaves the same; one outside leaves the library as it was, and is not given to
 -- the Rust.
+use Rattle.std.specs.Prelude.{Option, Result, Ok, Err}
 use Rattle.std.proofs.Common.{◌≡◌, ℕ, ◌≤◌, Bool, true, false, not, eqb, ltb, List, [], ◌∷◌, ℤ, sym, refl, ap, ◌∙◌, subst, arith, w64, to_z, ltb-true, eq-eqb, ne_eqb, leb-true}
-use mathlib.Core.Option.{Option}
 use Rattle.base.specs.Bytes.{Bytes, both, either, all}
 use Rattle.base.proofs.Split.{by_bool, by_eq, both_left, both_right, both_of, clash, no}
 use Rattle.base.proofs.Lists.{all_head, all_tail}
@@ -26,15 +26,12 @@ use Rattle.interner.proofs.Interns.{sound_parts}
 use Rattle.kind_table.specs.Rows.{find}
 use Rattle.kind_table.specs.Words.{rows_from, rows_of}
 use Rattle.kind_store.specs.KindStore.{KindStore}
-use Rattle.kind_store.specs.declared.Kept.{Kept}
 use Rattle.overlay.specs.Overlay.{Overlay, kind_store_of, emptied, empty}
 use Rattle.overlay.specs.Sound.{Sound, is_sound}
 use Rattle.overlay.specs.Given.{InBytes}
 use Rattle.overlay.specs.Calls.{allow_on}
 use Rattle.overlay.proofs.Answers.{by_kept, is_taken, allow_refused, allow_22_only, allow_taken}
 use Rattle.overlay.proofs.Decides.{decides}
-use Rattle.overlay_store.specs.declared.Handle.{Handle}
-use Rattle.overlay_store.specs.declared.Handle.TheVariants as H
 use Rattle.overlay_store.specs.Calls.{bytes_of}
 use Rattle.overlay_store.proofs.Answers.{by_handle, by_pushed, by_deleted}
 use Rattle.overlay_store.proofs.Keeps.{grown}
@@ -55,7 +52,7 @@ use Rattle.calls.specs.Ask.{put_at, Ask, interns, pushes, deletes, reads, ends, 
 use Rattle.calls.proofs.Reflects.{reflects_empty}
 use Rattle.calls.proofs.Stops.{event_stopped}
 use Rattle.condition.specs.Condition3.{Start}
-use Rattle.published.specs.Std.{Result, Ok, Err, get, contains}
+use Rattle.published.specs.Std.{get, contains}
 use Rattle.published.specs.Parse.{CompactDiffOverlay}
 use Rattle.published.specs.Parse as Parse
 use Rattle.published.specs.XmlParse.{Error, CompactSink, Staging, DriveState, sink_with, end_test}
@@ -320,7 +317,7 @@ module _ (o : Overlay) (sound : is_sound o ≡ true) (r : Refusal) (i : inside_o
   abbrev Regresses : Type 0
   Regresses = (v : ℤ) × (r ≡ R.Regression v)
 
-  push_inside : (k : Kind) (h : PushHead) (m : ArenaMeta) (parts : Bytes) → (push_on k h m parts o).answer ≡ Kept.Refused r → Regresses
+  push_inside : (k : Kind) (h : PushHead) (m : ArenaMeta) (parts : Bytes) → (push_on k h m parts o).answer ≡ Err r → Regresses
   unfolding inside_of all both
   push_inside k h m parts e =
       push_refusal k h m parts o r e
@@ -328,7 +325,7 @@ module _ (o : Overlay) (sound : is_sound o ≡ true) (r : Refusal) (i : inside_o
       (λ u q. by_fault o.texts.strings (pushed_record k (head_in k h) (meta_of m) parts) r q (λ z. clash (rw z at i) refl) (λ z. clash (rw z at i) refl) (λ z. clash (rw z at i) refl) (λ z. clash (rw z at i) refl))
       (λ u g a. by_pushed k o.setting (kind_store_of k o) (to_z w64 h.id) (claim_of (meta_of m)) (bytes_of k h m parts) r a (λ v q. (v, q)) (λ q. clash (rw q at i) refl) (λ q. clash (rw q at i) refl))
 
-  delete_inside : (k : Kind) (id : ℤ) (m : Meta ℕ) → (delete_on k id m o).answer ≡ Kept.Refused r → Regresses
+  delete_inside : (k : Kind) (id : ℤ) (m : Meta ℕ) → (delete_on k id m o).answer ≡ Err r → Regresses
   unfolding inside_of all both
   delete_inside k id m e =
       delete_refusal k id m o r e
@@ -336,11 +333,11 @@ module _ (o : Overlay) (sound : is_sound o ≡ true) (r : Refusal) (i : inside_o
       (λ u g q. clash (rw q at i) refl)
       (λ u g a. by_deleted k o.setting (kind_store_of k o) id (claim_of m) r a (λ v q. (v, q)) (λ q. clash (rw q at i) refl))
 
-  intern_inside : (t : Bytes) → (intern_on t o).answer ≡ H.Refused r → ⊥
+  intern_inside : (t : Bytes) → (intern_on t o).answer ≡ Err r → ⊥
   unfolding inside_of all both
   intern_inside t e = intern_refusal t o r e (λ u q. clash sound u) (λ u g q. clash (rw q at i) refl) (λ u g f q. clash (rw q at i) refl)
 
-  allow_inside : (setting : ℕ) → (allow_on setting o).answer ≡ Kept.Refused r → ⊥
+  allow_inside : (setting : ℕ) → (allow_on setting o).answer ≡ Err r → ⊥
   allow_inside setting e = clash sound (allow_22_only setting o r e).1
 
 -- no text is lost
@@ -372,7 +369,7 @@ module _ (l : Storage) (w : RustHeld) (h : Alike l w) where
       (λ e. let d = push_done o w.overlay h.overlay k p m parts fh fm fb e in
       rw (d.1.0, is_taken (push_on k p m parts o).answer e) (refl, put_overlay _ _ d.1.1 (rw (push_texts k p m parts o) (omega arith))))
       (λ x e. let v = push_inside o tested x (rw e at i) k p m parts e in
-      let q : (push_on k p m parts o).answer ≡ Kept.Refused (R.Regression v.0) = e ∙ ap Kept.Refused v.1 in
+      let q : (push_on k p m parts o).answer ≡ Err (R.Regression v.0) = e ∙ ap Err v.1 in
       rw (push_refuses o w.overlay h.overlay k p m parts fh fm fb v.0 q, q, push_refused k p m parts o _ q) (refl, h))
 
   delete_agrees : (k : Kind) (n : ℕ) (m : ArenaMeta) → ask_fits (deletes k n m) ≡ true → told_inside direct_outside (told (deletes k n m) l) ≡ true → Agree (deletes k n m) l w
@@ -384,7 +381,7 @@ module _ (l : Storage) (w : RustHeld) (h : Alike l w) where
       (λ e. let d = delete_done o w.overlay h.overlay k n m fi fm e in
       rw (d.1.0, is_taken (delete_on k (to_z w64 n) (meta_of m) o).answer e) (refl, put_overlay _ _ d.1.1 (rw (delete_texts k (to_z w64 n) (meta_of m) o) (omega arith))))
       (λ x e. let v = delete_inside o tested x (rw e at i) k (to_z w64 n) (meta_of m) e in
-      let q : (delete_on k (to_z w64 n) (meta_of m) o).answer ≡ Kept.Refused (R.Regression v.0) = e ∙ ap Kept.Refused v.1 in
+      let q : (delete_on k (to_z w64 n) (meta_of m) o).answer ≡ Err (R.Regression v.0) = e ∙ ap Err v.1 in
       rw (delete_refuses o w.overlay h.overlay k n m fi fm v.0 q, q, delete_refused k (to_z w64 n) (meta_of m) o _ q) (refl, h))
 
   intern_agrees : (t : Bytes) → ask_fits (interns t) ≡ true → told_inside direct_outside (told (interns t) l) ≡ true → Agree (interns t) l w
@@ -405,15 +402,15 @@ module _ (l : Storage) (w : RustHeld) (h : Alike l w) where
 -- ---- one call
 
 -- a reply outside is a refusal
-kept_outside : (x : Kept) → both true (told_inside direct_outside (kept_told x)) ≡ false → (y : Refusal) × (x ≡ Kept.Refused y)
+kept_outside : (x : Result Unit Refusal) → both true (told_inside direct_outside (kept_told x)) ≡ false → (y : Refusal) × (x ≡ Err y)
 unfolding both
-kept_outside Kept.Taken e = clash refl e
-kept_outside (Kept.Refused y) e = (y, refl)
+kept_outside (Ok tt) e = clash refl e
+kept_outside (Err y) e = (y, refl)
 
-handle_outside : (x : Handle) → both true (told_inside direct_outside (handle_told x)) ≡ false → (y : Refusal) × (x ≡ H.Refused y)
+handle_outside : (x : Result ℕ Refusal) → both true (told_inside direct_outside (handle_told x)) ≡ false → (y : Refusal) × (x ≡ Err y)
 unfolding both
-handle_outside (H.Is n) e = clash refl e
-handle_outside (H.Refused y) e = (y, refl)
+handle_outside (Ok n) e = clash refl e
+handle_outside (Err y) e = (y, refl)
 
 step_inside : (c : Ask) (p : Past) (l : Storage) (w : RustHeld) → Alike l w → Known p l → ask_fits c ≡ true → both (going c p) (told_inside (outside_of c) (told c l)) ≡ true → Agree c l w
 step_inside (interns t) p l w h v f i = intern_agrees l w h t f (both_right _ _ i)

@@ -1,14 +1,12 @@
 -- sorted.rs, lookups in lists of ids in order: range_overlaps, upsert_range, Seek::find.
+use Rattle.std.specs.Prelude.{None, Option, Some, slice_get}
 use Rattle.std.proofs.Common.{◌≡◌, ℕ, zero, suc, ◌+◌, ◌-◌, ◌<◌, ◌≤◌, Bool, true, false, cond, not, eqb, ltb, List, [], ◌∷◌, length, drop, ℤ, sym, refl, ap, ◌∙◌, arith, ltb-false, le-ltb, lt-ltb, eq-eqb, eqb-true}
-use mathlib.Core.Option.{Option, none, some}
-use lib.ListN.{get_elem?}
 use Rattle.base.specs.Bytes.{both}
 use Rattle.base.proofs.Split.{by_bool, by_lt, clash, both_of, both_left, both_right, both_no_left, same_test}
 use Rattle.osm_id.specs.Order.{before, same_id, osm_key_of, id_key_before}
 use Rattle.osm_id.specs.declared.OsmIdKey.{OsmIdKey}
 use Rattle.osm_id.proofs.Orders.{order, key_before, same_is}
-use Rattle.sorted.specs.Lookup.{id_at, count, in_order, key_within, any_within, overlaps, ids_before, ids_up_to, under, advance, standing, reached, stands_at, range_of, overlap_of, found_of}
-use Rattle.sorted.specs.declared.Span.TheVariants as Sp
+use Rattle.sorted.specs.Lookup.{id_at, count, in_order, key_within, any_within, overlaps, ids_before, ids_up_to, under, advance, standing, reached, stands_at, places_from, range_of, overlap_of, found_of}
 use Rattle.sorted.proofs.Keys.{Closed, under_closed}
 use Rattle.sorted.proofs.Counts.{splits, tail}
 use Rattle.sorted.proofs.Lookups.{some_at, some_place, later, smaller_keys, up_to_keys}
@@ -16,7 +14,7 @@ use Rattle.published.specs.Std.{eq_z, is_lt, is_le}
 use Rattle.published.specs.OsmId as Rust
 use Rattle.published.specs.Sorted as Rust'
 use Rattle.refines.specs.Same.{osm_key}
-use Rattle.refines.specs.Lookups.{place_from, found_from, SameLookups}
+use Rattle.refines.specs.Lookups.{found_from, SameLookups}
 use Rattle.refines.proofs.Ids.{same_key, same_first, same_last, cmp_greater}
 use Rattle.refines.proofs.Maps.{eq_yes, eq_self, elem_past}
 
@@ -100,7 +98,7 @@ drop_order ids zero o = o
 drop_order [] (suc n) o = refl
 drop_order (a ∷ ids) (suc n) o = drop_order ids n (tail a ids o)
 
-elem_at : (ids : List ℤ) (k : ℕ) → k < length ids → get_elem? ids k ≡ some (id_at ids k)
+elem_at : (ids : List ℤ) (k : ℕ) → k < length ids → slice_get ids k ≡ Some (id_at ids k)
 elem_at [] k h = absurd (omega arith)
 elem_at (a ∷ ids) zero h = refl
 elem_at (a ∷ ids) (suc k) h = elem_at ids k (omega arith)
@@ -114,9 +112,9 @@ module _ (first last : Rust.OsmIdKey) (ids : List ℤ) (o : in_order ids ≡ tru
   here : (k : ℕ) → k < length ids → under false (osm_key first) (id_at ids k) ≡ ltb k c
   here = splits (under_closed false (osm_key first)) ids o
 
-  hit_at : Rust'.hit first last ids ≡ Rust'.key_at_most last (get_elem? ids c)
+  hit_at : Rust'.hit first last ids ≡ Rust'.key_at_most last (slice_get ids c)
   unfolding Rust'.hit
-  hit_at = ap (λ (k : ℕ). Rust'.key_at_most last (get_elem? ids k)) (point (λ id. is_lt (Rust.cmp (Rust.osm_id_key id) first)) (under false (osm_key first)) (is_under first) (under_closed false (osm_key first)) ids o)
+  hit_at = ap (λ (k : ℕ). Rust'.key_at_most last (slice_get ids k)) (point (λ id. is_lt (Rust.cmp (Rust.osm_id_key id) first)) (under false (osm_key first)) (is_under first) (under_closed false (osm_key first)) ids o)
 
   same_hit : Rust'.hit first last ids ≡ any_within (osm_key first) (osm_key last) ids
   unfolding key_within under
@@ -162,13 +160,10 @@ module _ (ids : List ℤ) (o : in_order ids ≡ true) (first last : ℤ) where
       let u : count (under true (osm_key key)) ids ≡ ids_up_to last ids = ap (λ (x : OsmIdKey). count (under true x) ids) (same_key last) ∙ sym (up_to_keys last ids) in
       ap (λ (x : ℕ). x + n) (p ∙ d) ∙ rw (u, starts)
 
-  same_range : range_of ids first last ≡ Sp.From (Rust'.upsert_range ids first (Rust.osm_id_key last)).start (Rust'.upsert_range ids first (Rust.osm_id_key last)).end
+  same_range : range_of ids first last ≡ places_from (Rust'.upsert_range ids first (Rust.osm_id_key last)).start (Rust'.upsert_range ids first (Rust.osm_id_key last)).end
   unfolding range_of
   same_range =
-      rw (o, starts, ends)
-      (by_lt (ids_up_to last ids) (ids_before first ids)
-      (λ l. rw (lt-ltb (ids_up_to last ids) (ids_before first ids) l) (ap (Sp.From (ids_before first ids)) (omega arith)))
-      (λ l. rw (le-ltb (ids_up_to last ids) (ids_before first ids) l) (ap (Sp.From (ids_before first ids)) (omega arith))))
+      rw (o, starts, ends) (ap (places_from (ids_before first ids)) (omega arith))
 
 -- ---- Seek::find
 
@@ -180,16 +175,16 @@ seeks id pos (a ∷ ids) = rw (lt_id a id) (ap (λ (x : ℕ). cond (before a id)
 before_closed : (id : ℤ) → Closed (λ a. before a id)
 before_closed id a b s t = order.transitive a b id s t
 
-same_standing : (seek : Option ℕ) (ids : List ℤ) → in_order ids ≡ true → (id : ℤ) → Rust'.seek_start seek ids id ≡ standing (place_from seek) id ids
+same_standing : (seek : Option ℕ) (ids : List ℤ) → in_order ids ≡ true → (id : ℤ) → Rust'.seek_start seek ids id ≡ standing seek id ids
 unfolding ids_before
-same_standing none ids o id = point (λ x. is_lt (Rust.osm_id_cmp x id)) (λ a. before a id) (λ a. lt_id a id) (before_closed id) ids o
-same_standing (some p) ids o id = refl
+same_standing None ids o id = point (λ x. is_lt (Rust.osm_id_cmp x id)) (λ a. before a id) (λ a. lt_id a id) (before_closed id) ids o
+same_standing (Some p) ids o id = refl
 
-same_stands : (ids : List ℤ) (pos : ℕ) (id : ℤ) → Rust'.found_at pos (get_elem? ids pos) id ≡ cond (stands_at id pos ids) (some pos) none
+same_stands : (ids : List ℤ) (pos : ℕ) (id : ℤ) → Rust'.found_at pos (slice_get ids pos) id ≡ cond (stands_at id pos ids) (Some pos) None
 unfolding stands_at both
 same_stands ids pos id =
     by_lt pos (length ids)
-    (λ h. rw (elem_at ids pos h, lt-ltb pos (length ids) h) (ap (λ (b : Bool). cond b (some pos) none) (swapped (id_at ids pos))))
+    (λ h. rw (elem_at ids pos h, lt-ltb pos (length ids) h) (ap (λ (b : Bool). cond b (Some pos) None) (swapped (id_at ids pos))))
     (λ h. rw (elem_past ids pos h, both_no_left _ (same_id id (id_at ids pos)) (le-ltb pos (length ids) h)))
   where
     swapped : (x : ℤ) → eq_z x id ≡ both true (same_id id x)
@@ -199,29 +194,29 @@ same_stands ids pos id =
         (λ t. rw ((same_is id x).0 t) (eq_self x))
 
 module _ (seek : Option ℕ) (ids : List ℤ) (o : in_order ids ≡ true) (id : ℤ) where
-  same_place : (Rust'.find seek ids id).seek ≡ some (reached (place_from seek) id ids)
+  same_place : (Rust'.find seek ids id).seek ≡ Some (reached seek id ids)
   unfolding Rust'.find
-  same_place = ap some (rw (same_standing seek ids o id) (seeks id (standing (place_from seek) id ids) (drop (standing (place_from seek) id ids) ids)))
+  same_place = ap Some (rw (same_standing seek ids o id) (seeks id (standing seek id ids) (drop (standing seek id ids) ids)))
 
-  same_found : (Rust'.find seek ids id).found ≡ cond (stands_at id (reached (place_from seek) id ids) ids) (some (reached (place_from seek) id ids)) none
+  same_found : (Rust'.find seek ids id).found ≡ cond (stands_at id (reached seek id ids) ids) (Some (reached seek id ids)) None
   unfolding Rust'.find
   same_found =
-      rw (same_standing seek ids o id, seeks id (standing (place_from seek) id ids) (drop (standing (place_from seek) id ids) ids)) (same_stands ids (reached (place_from seek) id ids) id)
+      rw (same_standing seek ids o id, seeks id (standing seek id ids) (drop (standing seek id ids) ids)) (same_stands ids (reached seek id ids) id)
 
 -- ---- the three, up to what their callers get
 
 module _ (live deleted : List ℤ) (o : in_order live ≡ true) (q : in_order deleted ≡ true) where
-  found_same : (seek : Option ℕ) (id : ℤ) → found_of (place_from seek) live id ≡ found_from (Rust'.find seek live id)
+  found_same : (seek : Option ℕ) (id : ℤ) → found_of seek live id ≡ found_from (Rust'.find seek live id)
   unfolding found_of
   found_same seek id =
       rw (o, same_place seek live o id, same_found seek live o id)
-      (by_bool (stands_at id (reached (place_from seek) id live) live) (λ t. rw t) (λ t. rw t))
+      (by_bool (stands_at id (reached seek id live) live) (λ t. rw t) (λ t. rw t))
 
   pub lookups_same : SameLookups live deleted
   unfolding overlap_of
   lookups_same =
       record {
-        overlap = λ lo hi. rw (same_overlaps live deleted o q lo hi, both_of o q) (by_bool (overlaps live deleted lo hi) (λ t. rw t) (λ t. rw t));
+        overlap = λ lo hi. rw (same_overlaps live deleted o q lo hi, both_of o q);
         range = λ first last. same_range live o first last;
         found = found_same;
       }

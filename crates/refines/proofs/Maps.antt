@@ -1,7 +1,6 @@
 -- Hash maps and sets: what is found after a key was put in or taken out; and a list past its end.
+use Rattle.std.specs.Prelude.{None, Some, slice_get}
 use Rattle.std.proofs.Common.{◌≡◌, ℕ, zero, suc, ◌≤◌, true, false, cond, List, [], ◌∷◌, length, ℤ, pos, negsuc, sym, refl, ap, ◌∙◌, arith, eq-eqb, eqb-true}
-use mathlib.Core.Option.{none, some}
-use lib.ListN.{get_elem?}
 use Rattle.base.proofs.Split.{by_bool, clash}
 use Rattle.published.specs.Std.{eq_z, HashMap, get, insert, remove, HashSet, contains, insert_into, remove_from}
 
@@ -24,7 +23,7 @@ pub by_id : {C : Type 0} (a b : ℤ) → (a ≡ b → C) → ((a ≡ b → ⊥) 
 by_id a b f g = by_bool (eq_z a b) (λ t. f (eq_yes a b t)) (λ t. g (λ e. clash (rw e (eq_self b)) t))
 
 module _ {T : Type 0} where
-  pub get_removed : (m : HashMap T) (k : ℤ) → get (remove m k) k ≡ none
+  pub get_removed : (m : HashMap T) (k : ℤ) → get (remove m k) k ≡ None
   unfolding get remove
   get_removed [] k = refl
   get_removed (e ∷ m) k = by_bool (eq_z e.key k) (λ t. rw t (get_removed m k)) (λ t. rw (t, t) (get_removed m k))
@@ -35,9 +34,9 @@ module _ {T : Type 0} where
   get_kept (e ∷ m) k j n =
       by_bool (eq_z e.key k)
       (λ t. let d : eq_z e.key j ≡ false = eq_no e.key j (λ q. n (sym q ∙ eq_yes e.key k t)) in rw (t, d) (get_kept m k j n))
-      (λ t. rw t (ap (cond (eq_z e.key j) (some e.value)) (get_kept m k j n)))
+      (λ t. rw t (ap (cond (eq_z e.key j) (Some e.value)) (get_kept m k j n)))
 
-  pub get_own : (m : HashMap T) (k : ℤ) (v : T) → get (insert m k v) k ≡ some v
+  pub get_own : (m : HashMap T) (k : ℤ) (v : T) → get (insert m k v) k ≡ Some v
   unfolding get insert
   get_own m k v = rw (eq_self k)
 
@@ -67,7 +66,7 @@ unfolding contains insert_into
 contains_other s k j n = rw (eq_no k j (λ e. n (sym e))) (contains_kept s k j n)
 
 -- xs.get(n)
-pub elem_past : {A : Type 0} (xs : List A) (n : ℕ) → length xs ≤ n → get_elem? xs n ≡ none
+pub elem_past : {A : Type 0} (xs : List A) (n : ℕ) → length xs ≤ n → slice_get xs n ≡ None
 elem_past [] n l = refl
 elem_past (x ∷ xs) zero l = absurd (omega arith)
 elem_past (x ∷ xs) (suc n) l = elem_past xs n (omega arith)

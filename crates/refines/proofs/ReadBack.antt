@@ -1,6 +1,7 @@
 -- compact.rs: its accessors and iterators do not panic on the bytes of a legal record, whatever follows them, and read what was appended, texts resolved.
+use Rattle.std.specs.Prelude.{None, Option, Some}
+use Rattle.base.specs.Options.{bind}
 use Rattle.std.proofs.Common.{◌≡◌, ℕ, zero, suc, ◌+◌, ◌-◌, ◌*◌, ◌^◌, ◌<◌, ◌≤◌, Bool, true, eqb, List, [], ◌∷◌, ◌++◌, map, length, drop, ℤ, refl, ap, ◌∙◌, append_assoc, mod-eq_of_lt, arith, length-append, length-drop, drop-drop, take_at, drop_at, w32, w64, of_z, ltb-true, eqb-true, le-leb}
-use mathlib.Core.Option.{Option, none, some, bind}
 use mathlib.Core.List.{map-map}
 use lib.Dec.{eqb-suc-zero}
 use Rattle.base.specs.Bytes.{Bytes, both, either, all}
@@ -41,7 +42,7 @@ index_first [] (suc i) = refl
 index_first (b ∷ s) zero = refl
 index_first (b ∷ s) (suc i) = index_first s i
 
-type_back : (k : Kind) → Rust.byte_to_member_type (kind_number k) ≡ some (element_kind k)
+type_back : (k : Kind) → Rust.byte_to_member_type (kind_number k) ≡ Some (element_kind k)
 unfolding Rust.byte_to_member_type
 type_back Node = refl
 type_back Way = refl
@@ -67,31 +68,31 @@ module _ {s : Bytes} {at : ℕ} {xs : List Bytes} {r : Bytes} where
   later : {x : Bytes} (n a : ℕ) → length x ≡ n → a ≡ at + n → Lie s at (x ∷ xs) r → Lie s a xs r
   later {x} n a e f w = record { is = rw (f, ← drop-drop, w.is) (drop_at x (flat xs r) n e); within = rw f (ends n e w) }
 
-  slice_there : {x : Bytes} (n : ℕ) → length x ≡ n → Lie s at (x ∷ xs) r → slice s at n ≡ some x
+  slice_there : {x : Bytes} (n : ℕ) → length x ≡ n → Lie s at (x ∷ xs) r → slice s at n ≡ Some x
   unfolding slice
   slice_there {x} n e w = rw (le-leb (at + n) (length s) (ends n e w), w.is, take_at x (flat xs r) n e)
 
-  read_u32 : (v : ℕ) → fits_number 4 v ≡ true → Lie s at (u32 v ∷ xs) r → Rust.read_u32_le s at ≡ some v
+  read_u32 : (v : ℕ) → fits_number 4 v ≡ true → Lie s at (u32 v ∷ xs) r → Rust.read_u32_le s at ≡ Some v
   read_u32 v h w = rw (slice_there 4 (length_le 4 v) w, from_le_lem 4 v h)
 
-  read_i32 : (z : ℤ) → fits_signed w32 z ≡ true → Lie s at (i32 z ∷ xs) r → Rust.read_i32_le s at ≡ some z
+  read_i32 : (z : ℤ) → fits_signed w32 z ≡ true → Lie s at (i32 z ∷ xs) r → Rust.read_i32_le s at ≡ Some z
   read_i32 z h w = let g = signed_again w32 4 refl z h in rw (slice_there 4 (length_le 4 (of_z w32 z)) w, from_le_lem 4 (of_z w32 z) g.1, g.0)
 
-  read_i64 : (z : ℤ) → fits_signed w64 z ≡ true → Lie s at (i64 z ∷ xs) r → Rust.read_i64_le s at ≡ some z
+  read_i64 : (z : ℤ) → fits_signed w64 z ≡ true → Lie s at (i64 z ∷ xs) r → Rust.read_i64_le s at ≡ Some z
   read_i64 z h w = let g = signed_again w64 8 refl z h in rw (slice_there 8 (length_le 8 (of_z w64 z)) w, from_le_lem 8 (of_z w64 z) g.1, g.0)
 
-  read_byte : (v : ℕ) → fits_number 1 v ≡ true → Lie s at (le 1 v ∷ xs) r → index s at ≡ some v
+  read_byte : (v : ℕ) → fits_number 1 v ≡ true → Lie s at (le 1 v ∷ xs) r → index s at ≡ Some v
   unfolding fits_number le
-  read_byte v h w = rw (index_first s at, w.is) (ap some (mod-eq_of_lt (ltb-true v 256 h)))
+  read_byte v h w = rw (index_first s at, w.is) (ap Some (mod-eq_of_lt (ltb-true v 256 h)))
 
 -- ---- an iterator that yields each element where its bytes stand
 
 module _ {A B : Type 0} (s : Bytes) (next : Iter → Option (Option (Yielded B))) (bytes : A → Bytes) (item : A → B) (good : A → Bool)
-    (last : (at : ℕ) → next (record { offset = at; remaining = 0 }) ≡ some none)
+    (last : (at : ℕ) → next (record { offset = at; remaining = 0 }) ≡ Some None)
     (here : (at n : ℕ) (a : A) (q : Bytes) → good a ≡ true → Lie s at (bytes a ∷ []) q
     → next (record { offset = at; remaining = suc n }) ≡ yielded (item a) (at + length (bytes a)) (suc n - 1)) where
   collected : (xs : List A) (at : ℕ) (q : Bytes) → all good xs ≡ true → Lie s at (joined_bytes bytes xs ∷ []) q
-      → collect_from next (length xs) (record { offset = at; remaining = length xs }) ≡ some (map item xs)
+      → collect_from next (length xs) (record { offset = at; remaining = length xs }) ≡ Some (map item xs)
   unfolding collect_from joined_bytes
   collected [] at q h w = rw (last at)
   collected (x ∷ xs) at q h w =
@@ -115,14 +116,14 @@ module _ (s : Bytes) where
   unfolding Rust.ref_next bind
   ref_here at n z q h w = rw (one_more, read_i64 z h w, length_i64 z)
 
-  ref_last : (at : ℕ) → Rust.ref_next s (record { offset = at; remaining = 0 }) ≡ some none
+  ref_last : (at : ℕ) → Rust.ref_next s (record { offset = at; remaining = 0 }) ≡ Some None
   unfolding Rust.ref_next
   ref_last at = refl
 
   refs_collected : (rs : List ℤ) (at : ℕ) (q : Bytes) → all (fits_signed w64) rs ≡ true → Lie s at (joined_bytes i64 rs ∷ []) q
-      → collect (Rust.ref_next s) (record { offset = at; remaining = length rs }) ≡ some rs
+      → collect (Rust.ref_next s) (record { offset = at; remaining = length rs }) ≡ Some rs
   unfolding collect
-  refs_collected rs at q h w = collected s (Rust.ref_next s) i64 (λ z. z) (fits_signed w64) ref_last ref_here rs at q h w ∙ ap some (map_same rs)
+  refs_collected rs at q h w = collected s (Rust.ref_next s) i64 (λ z. z) (fits_signed w64) ref_last ref_here rs at q h w ∙ ap Some (map_same rs)
     where
       map_same : (xs : List ℤ) → map (λ z. z) xs ≡ xs
       map_same [] = refl
@@ -131,14 +132,14 @@ module _ (s : Bytes) where
 -- ---- texts by their handles, metadata, members, tags
 
 module _ (from_utf8 : Bytes → Bool) (texts : (t : Bytes) → is_text t ≡ true → from_utf8 t ≡ true)
-    (held : List Bytes) (strings : StringTable) (resolves : (n : ℕ) → n < length held → resolve strings n ≡ some (text_of held n)) (empty : text_of held 0 ≡ []) where
-  resolved : (n : ℕ) → handle (length held) n ≡ true → resolve strings n ≡ some (text_of held n)
+    (held : List Bytes) (strings : StringTable) (resolves : (n : ℕ) → n < length held → resolve strings n ≡ Some (text_of held n)) (empty : text_of held 0 ≡ []) where
+  resolved : (n : ℕ) → handle (length held) n ≡ true → resolve strings n ≡ Some (text_of held n)
   resolved n h = resolves n (ltb-true n (length held) h)
 
   module _ (s : Bytes) where
     -- a user that is not flagged is the empty text, which handle 0 stands for
     user_read_lem : (at flags user : ℕ) (xs : List Bytes) (r : Bytes) → fits_number 4 user ≡ true → either (flagged 4 flags) (eqb user 0) ≡ true → handle (length held) user ≡ true
-        → Lie s (at + 25) (u32 user ∷ xs) r → Rust.read_user strings s at flags ≡ some (text_of held user)
+        → Lie s (at + 25) (u32 user ∷ xs) r → Rust.read_user strings s at flags ≡ Some (text_of held user)
     unfolding bind
     user_read_lem at flags user xs r h g k w =
         by_bool (flagged 4 flags)
@@ -146,7 +147,7 @@ module _ (from_utf8 : Bytes → Bool) (texts : (t : Bytes) → is_text t ≡ tru
         (λ t. by_either (flagged 4 flags) (eqb user 0) g (λ u. clash u t) (λ u. rw (clear_flag, t, eqb-true user 0 u, empty)))
 
     meta_read_lem : (at : ℕ) (m : Meta ℕ) (xs : List Bytes) (r : Bytes) → fits_meta m ≡ true → legal_meta (length held) m ≡ true → Lie s at (meta_bytes m ∷ xs) r
-        → Rust.read_meta strings s at ≡ some (metadata_read (swap_meta (text_of held) m))
+        → Rust.read_meta strings s at ≡ Some (metadata_read (swap_meta (text_of held) m))
     unfolding Rust.read_meta bind meta_bytes fits_meta legal_meta
     meta_read_lem at m xs r h1 g1 w =
         let h2 = both_right _ _ h1 in let h3 = both_right _ _ h2 in let h4 = both_right _ _ h3 in let h5 = both_right _ _ h4 in
@@ -170,7 +171,7 @@ module _ (from_utf8 : Bytes → Bool) (texts : (t : Bytes) → is_text t ≡ tru
         )
         (by_bool (flagged 1 m.flags) (λ t. rw t) (λ t. rw t))
 
-    flags_read : (at : ℕ) (m : Meta ℕ) (xs : List Bytes) (r : Bytes) → fits_meta m ≡ true → Lie s at (meta_bytes m ∷ xs) r → index s at ≡ some m.flags
+    flags_read : (at : ℕ) (m : Meta ℕ) (xs : List Bytes) (r : Bytes) → fits_meta m ≡ true → Lie s at (meta_bytes m ∷ xs) r → index s at ≡ Some m.flags
     unfolding meta_bytes fits_meta
     flags_read at m xs r h w =
         let w1 : Lie s at (le 1 m.flags ∷ i32 m.version ∷ i64 m.timestamp ∷ i64 m.changeset ∷ i32 m.uid ∷ u32 m.user ∷ xs) r =
@@ -216,16 +217,16 @@ module _ (from_utf8 : Bytes → Bool) (texts : (t : Bytes) → is_text t ≡ tru
           e,
         )
 
-    member_last : (at : ℕ) → Rust.member_next strings s (record { offset = at; remaining = 0 }) ≡ some none
+    member_last : (at : ℕ) → Rust.member_next strings s (record { offset = at; remaining = 0 }) ≡ Some None
     unfolding Rust.member_next
     member_last at = refl
 
-    tag_last : (at : ℕ) → Rust.tag_next from_utf8 strings s (record { offset = at; remaining = 0 }) ≡ some none
+    tag_last : (at : ℕ) → Rust.tag_next from_utf8 strings s (record { offset = at; remaining = 0 }) ≡ Some None
     unfolding Rust.tag_next
     tag_last at = refl
 
     members_collected : (ms : List (Member ℕ)) (at : ℕ) (q : Bytes) → all fits_member ms ≡ true → all (λ m. handle (length held) m.role) ms ≡ true → Lie s at (joined_bytes member_bytes ms ∷ []) q
-        → collect (Rust.member_next strings s) (record { offset = at; remaining = length ms }) ≡ some (map member_item (map (swap_member (text_of held)) ms))
+        → collect (Rust.member_next strings s) (record { offset = at; remaining = length ms }) ≡ Some (map member_item (map (swap_member (text_of held)) ms))
     unfolding collect
     members_collected ms at q h g w =
         rw (map-map member_item (swap_member (text_of held)) ms)
@@ -234,7 +235,7 @@ module _ (from_utf8 : Bytes → Bool) (texts : (t : Bytes) → is_text t ≡ tru
 
     tags_collected : (ts : List (Tag ℕ)) (at : ℕ) (q : Bytes) → all fits_tag ts ≡ true → all (λ t. is_text t.value) ts ≡ true → all (λ t. handle (length held) t.key) ts ≡ true
         → Lie s at (joined_bytes tag_bytes ts ∷ []) q
-        → collect (Rust.tag_next from_utf8 strings s) (record { offset = at; remaining = length ts }) ≡ some (map tag_text (map (swap_tag (text_of held)) ts))
+        → collect (Rust.tag_next from_utf8 strings s) (record { offset = at; remaining = length ts }) ≡ Some (map tag_text (map (swap_tag (text_of held)) ts))
     unfolding collect
     tags_collected ts at q h g k w =
         rw (map-map tag_text (swap_tag (text_of held)) ts)

@@ -1,7 +1,6 @@
 -- xml_parse.rs: integers, attributes, children and metadata, as the library's fields read them.
+use Rattle.std.specs.Prelude.{None, Option, Some, option_map, Result, Ok, Err}
 use Rattle.std.proofs.Common.{◌≡◌, ℕ, zero, suc, ◌+◌, ◌-◌, ◌*◌, ◌^◌, Bool, true, false, cond, eqb, ltb, leb, List, [], ◌∷◌, map, ℤ, pos, neg_ℤ, nat_abs, refl, ap, ◌∙◌, w32, w64, eqb-true}
-use mathlib.Core.Option
-use mathlib.Core.Option.{Option, none, some}
 use mir.Syntax.{Width}
 use mir.Val.{hbits}
 use Rattle.base.specs.Ascii.{ascii}
@@ -13,7 +12,7 @@ use Rattle.model.specs.Record.{flagged}
 use Rattle.stamp.specs.Stamp.{stamp}
 use Rattle.event.specs.Event.{Attr, value_of}
 use Rattle.event_fields.specs.Field.{Field, got, and_then, text_field, integer_field, mark, meta_with, meta_from, metadata_of}
-use Rattle.published.specs.Std.{Result, Ok, Err, parse_int}
+use Rattle.published.specs.Std.{parse_int}
 use Rattle.published.specs.Std as Rust
 use Rattle.published.specs.XmlParse.{Error, find_attr, parse_i64_attr, parse_str_attr, MetaSoFar, scan_one, scan_meta_attrs, bit, given}
 use Rattle.published.specs.Compact as C
@@ -25,23 +24,23 @@ use Rattle.refines.proofs.Sinks.{field_of, meta_so_far, user_of}
 
 -- ---- integers
 
-same_digits : (acc : ℕ) (bs : Bytes) → Rust.digits acc bs ≡ cond (all is_digit bs) (some (decimal acc bs)) none
+same_digits : (acc : ℕ) (bs : Bytes) → Rust.digits acc bs ≡ cond (all is_digit bs) (Some (decimal acc bs)) None
 unfolding Rust.digits all decimal both
 same_digits acc [] = refl
 same_digits acc (b ∷ bs) = by_bool (is_digit b) (λ t. rw (t, same_digits (acc * 10 + (b - 48)) bs)) (λ t. rw t)
 
 module _ (w : Width) (positive : ltb 0 (2 ^ hbits w) ≡ true) where
-  same_within : (negative : Bool) (o : Option ℕ) → Rust.within (hbits w) negative o ≡ of_width w (Option.map (λ n. cond negative (neg_ℤ (pos n)) (pos n)) o)
+  same_within : (negative : Bool) (o : Option ℕ) → Rust.within (hbits w) negative o ≡ of_width w (option_map (λ n. cond negative (neg_ℤ (pos n)) (pos n)) o)
   unfolding of_width holds
-  same_within negative none = refl
-  same_within true (some zero) = rw positive
-  same_within true (some (suc n)) = refl
-  same_within false (some n) = refl
+  same_within negative None = refl
+  same_within true (Some zero) = rw positive
+  same_within true (Some (suc n)) = refl
+  same_within false (Some n) = refl
 
-  same_unsigned : (negative : Bool) (bs : Bytes) → Rust.unsigned (hbits w) negative bs ≡ of_width w (Option.map (λ n. cond negative (neg_ℤ (pos n)) (pos n)) (digits bs))
+  same_unsigned : (negative : Bool) (bs : Bytes) → Rust.unsigned (hbits w) negative bs ≡ of_width w (option_map (λ n. cond negative (neg_ℤ (pos n)) (pos n)) (digits bs))
   unfolding of_width digits
   same_unsigned negative [] = refl
-  same_unsigned negative (b ∷ bs) = rw (same_digits 0 (b ∷ bs)) (same_within negative (cond (all is_digit (b ∷ bs)) (some (decimal 0 (b ∷ bs))) none))
+  same_unsigned negative (b ∷ bs) = rw (same_digits 0 (b ∷ bs)) (same_within negative (cond (all is_digit (b ∷ bs)) (Some (decimal 0 (b ∷ bs))) None))
 
   same_int : (bs : Bytes) → parse_int (hbits w) bs ≡ integer_of w bs
   unfolding parse_int integer_of integer of_width
@@ -62,7 +61,7 @@ same_i32 bs = same_int w32 refl bs
 pub same_attr : (attrs : List Attr) (n : Bytes) → find_attr (map attribute attrs) n ≡ value_of n attrs
 unfolding find_attr value_of
 same_attr [] n = refl
-same_attr (a ∷ attrs) n = rw (same_swap a.name n) (ap (cond (same n a.name) (some a.value)) (same_attr attrs n))
+same_attr (a ∷ attrs) n = rw (same_swap a.name n) (ap (cond (same n a.name) (Some a.value)) (same_attr attrs n))
 
 plain : {A : Type 0} → A → A
 plain a = a
@@ -76,25 +75,25 @@ module _ (name : Bytes) (attrs : List Attr) (n : Bytes) where
   same_text_field = rw (same_attr attrs n) (go (value_of n attrs))
     where
       go : (o : Option Bytes) → field (X.ok_or X.missing_attr o) ≡ F.required o
-      go none = refl
-      go (some v) = refl
+      go None = refl
+      go (Some v) = refl
 
   -- an integer, by its reader
   integer_as : (f : Bytes → Option ℤ) (o : Option Bytes) → field (X.then (X.ok_or X.missing_attr o) (λ v. X.ok_or X.not_integer (f v))) ≡ and_then (F.required o) (λ v. F.an_integer (f v))
-  integer_as f none = refl
-  integer_as f (some v) = go (f v)
+  integer_as f None = refl
+  integer_as f (Some v) = go (f v)
     where
       go : (z : Option ℤ) → field (X.ok_or X.not_integer z) ≡ F.an_integer z
-      go none = refl
-      go (some z) = refl
+      go None = refl
+      go (Some z) = refl
 
   pub same_integer_field : field (parse_i64_attr (bytes_start name attrs) n) ≡ integer_field w64 n attrs
   unfolding parse_i64_attr integer_field text_field
   same_integer_field = rw (same_attr attrs n) (integer_as (parse_int 63) (value_of n attrs) ∙ reads (value_of n attrs))
     where
       reads : (o : Option Bytes) → and_then (F.required o) (λ v. F.an_integer (parse_int 63 v)) ≡ and_then (F.required o) (λ v. F.an_integer (integer_of w64 v))
-      reads none = refl
-      reads (some v) = rw (same_i64 v)
+      reads None = refl
+      reads (Some v) = rw (same_i64 v)
 
   pub same_coordinate : (limit : ℕ) → field (coordinate7 n limit (bytes_start name attrs)) ≡ F.coordinate n limit attrs
   unfolding integer_field text_field
@@ -104,13 +103,13 @@ module _ (name : Bytes) (attrs : List Attr) (n : Bytes) where
       within z = by_bool (leb (nat_abs z) limit) (λ t. rw t) (λ t. rw t)
 
       read : (z : Option ℤ) → field (X.then (X.ok_or X.not_integer z) (Driving.limited limit)) ≡ and_then (F.an_integer z) (F.coordinate_within limit)
-      read none = refl
-      read (some z) = within z
+      read None = refl
+      read (Some z) = within z
 
       go : (o : Option Bytes) → field (X.then (X.then (X.ok_or X.missing_attr o) (λ v. X.ok_or X.not_integer (parse_int 31 v))) (Driving.limited limit))
           ≡ and_then (and_then (F.required o) (λ v. F.an_integer (integer_of w32 v))) (F.coordinate_within limit)
-      go none = refl
-      go (some v) = rw (same_i32 v) (read (integer_of w32 v))
+      go None = refl
+      go (Some v) = rw (same_i32 v) (read (integer_of w32 v))
 
 -- ---- metadata
 
@@ -166,9 +165,9 @@ flag_4 = each4 (λ p h u v. flagged 4 (bits p h u v) ≡ u) refl refl refl refl 
 pub same_user : (m : MetaSoFar) → user_of (meta_so_far m) ≡ m.user
 same_user m = rw (flag_4 m.any m.hidden (given m.user) m.has_version) (go m.user)
   where
-    go : (o : Option Bytes) → cond (given o) (some (X.or_empty o)) none ≡ o
-    go none = refl
-    go (some t) = refl
+    go : (o : Option Bytes) → cond (given o) (Some (X.or_empty o)) None ≡ o
+    go None = refl
+    go (Some t) = refl
 
 module _ (m : MetaSoFar) where
   abbrev p : Bool
@@ -185,23 +184,23 @@ module _ (m : MetaSoFar) where
 
   version_as : (o : Option ℤ) → field_of meta_so_far (X.then (X.ok_or X.not_integer o) (λ z. Ok (record { any = true; hidden = m.hidden; has_version = true; version = z; timestamp = m.timestamp; changeset = m.changeset; uid = m.uid; user = m.user })))
       ≡ and_then (F.an_integer o) (λ z. got (F.with_version (meta_so_far m) z))
-  version_as none = refl
-  version_as (some z) = rw (mark_1 p h u v, mark_8 true h u v)
+  version_as None = refl
+  version_as (Some z) = rw (mark_1 p h u v, mark_8 true h u v)
 
   stamp_as : (o : Option ℤ) → field_of meta_so_far (X.then (X.ok_or X.bad_timestamp o) (λ z. Ok (record { any = true; hidden = m.hidden; has_version = m.has_version; version = m.version; timestamp = z; changeset = m.changeset; uid = m.uid; user = m.user })))
       ≡ and_then (F.a_stamp o) (λ z. got (F.with_timestamp (meta_so_far m) z))
-  stamp_as none = refl
-  stamp_as (some z) = rw (mark_1 p h u v)
+  stamp_as None = refl
+  stamp_as (Some z) = rw (mark_1 p h u v)
 
   changeset_as : (o : Option ℤ) → field_of meta_so_far (X.then (X.ok_or X.not_integer o) (λ z. Ok (record { any = true; hidden = m.hidden; has_version = m.has_version; version = m.version; timestamp = m.timestamp; changeset = z; uid = m.uid; user = m.user })))
       ≡ and_then (F.an_integer o) (λ z. got (F.with_changeset (meta_so_far m) z))
-  changeset_as none = refl
-  changeset_as (some z) = rw (mark_1 p h u v)
+  changeset_as None = refl
+  changeset_as (Some z) = rw (mark_1 p h u v)
 
   uid_as : (o : Option ℤ) → field_of meta_so_far (X.then (X.ok_or X.not_integer o) (λ z. Ok (record { any = true; hidden = m.hidden; has_version = m.has_version; version = m.version; timestamp = m.timestamp; changeset = m.changeset; uid = z; user = m.user })))
       ≡ and_then (F.an_integer o) (λ z. got (F.with_uid (meta_so_far m) z))
-  uid_as none = refl
-  uid_as (some z) = rw (mark_1 p h u v)
+  uid_as None = refl
+  uid_as (Some z) = rw (mark_1 p h u v)
 
   one_attribute : (a : Attr) → field_of meta_so_far (scan_one by_documents m (attribute a)) ≡ meta_with (meta_so_far m) a
   unfolding scan_one meta_with

@@ -1,6 +1,6 @@
 -- An event that is refused, in storage: the Rust refuses it with the same number, unless the refusal is one that the Rust has not.
+use Rattle.std.specs.Prelude.{None, Ok, Option, Result, Some, Err}
 use Rattle.std.proofs.Common.{◌≡◌, ℕ, Bool, true, false, cond, [], take, ℤ, sym, refl, ap, ◌∙◌, subst, w64, to_z}
-use mathlib.Core.Option.{Option, none, some}
 use Rattle.base.specs.Bytes.{Bytes, both, all}
 use Rattle.base.proofs.Split.{by_bool, clash, no}
 use Rattle.kind.specs.declared.Kind.{Kind}
@@ -8,8 +8,6 @@ use Rattle.kind.specs.declared.Kind.TheVariants as K
 use Rattle.refusal.specs.Refusal.{number_of}
 use Rattle.refusal.specs.declared.Refusal.{Refusal}
 use Rattle.refusal.specs.declared.Refusal.TheVariants as R
-use Rattle.version_floor.specs.declared.Admit.{Admit}
-use Rattle.version_floor.specs.declared.Admit.TheVariants.{Admitted, Below}
 use Rattle.nesting.specs.declared.Place.{Place}
 use Rattle.model.specs.Record.{Meta, Body, Record, kind_of, flagged, claim_of}
 use Rattle.compact.specs.Held.{meta_of}
@@ -19,7 +17,6 @@ use Rattle.interner.specs.declared.Interned.{Interned}
 use Rattle.interner.specs.declared.Interned.TheVariants as I
 use Rattle.kind_store.specs.KindStore.{known_version, checked}
 use Rattle.kind_store.specs.WellFormed.{WellFormed}
-use Rattle.kind_store.specs.declared.Kept.{Kept}
 use Rattle.kind_store.proofs.Answers.{push_12, delete_12}
 use Rattle.overlay.specs.Overlay.{Overlay, kind_store_of, with_texts}
 use Rattle.overlay.proofs.KindStores.{texts_kind_store}
@@ -33,7 +30,6 @@ use Rattle.reader.specs.Given.{StateGiven}
 use Rattle.reader.specs.Step.{Step, stops, on_handle, taking_user, bits_with_user, head_for, clears_to, step_of, tag_within, part_within}
 use Rattle.reader.specs.Step as S
 use Rattle.reader.proofs.Legals.{claim_same, bits_id, body_in}
-use Rattle.published.specs.Std.{Err}
 use Rattle.published.specs.Parse.{CompactDiffOverlay, delete_kind}
 use Rattle.published.specs.XmlParse.{CompactSink, Staging, end_element, user_interned, user_handle}
 use Rattle.published.specs.XmlParse as X
@@ -48,14 +44,14 @@ use Rattle.refines.proofs.Stores.{refuse_push, refuse_delete}
 use Rattle.refines.proofs.Turns.{bare, bare_staging, meta_handled_lem, kind_in, push_as, Ordered, staged_at, held, stands}
 
 fields_user : (r : CompactDiffOverlay) (u : Option Bytes) (k : Kind) → fields_of k (user_interned r u) ≡ fields_of k r
-fields_user r none k = refl
-fields_user r (some t) K.Node = refl
-fields_user r (some t) K.Way = refl
-fields_user r (some t) K.Relation = refl
+fields_user r None k = refl
+fields_user r (Some t) K.Node = refl
+fields_user r (Some t) K.Way = refl
+fields_user r (Some t) K.Relation = refl
 
 allows_user : (r : CompactDiffOverlay) (u : Option Bytes) → (user_interned r u).allow_version_regression ≡ r.allow_version_regression
-allows_user r none = refl
-allows_user r (some t) = refl
+allows_user r None = refl
+allows_user r (Some t) = refl
 
 -- ---- what a step's refusal tells of the Rust
 
@@ -83,13 +79,13 @@ module _ (t : RustTurn) where
   told_within true l = tt
   told_within false l = λ z. clash z refl
 
-  told_admit : (a : Admit) (x : Step) → ((v : ℤ) → a ≡ Below v → t ≡ D.stops (R.Regression v)) → (a ≡ Admitted → ToldOf x) → ToldOf (S.unless_below a x)
-  told_admit Admitted x f g = g refl
-  told_admit (Below v) x f g = λ z. f v refl
+  told_admit : (a : Result Unit ℤ) (x : Step) → ((v : ℤ) → a ≡ Err v → t ≡ D.stops (R.Regression v)) → (a ≡ (Ok tt) → ToldOf x) → ToldOf (S.unless_below a x)
+  told_admit (Ok tt) x f g = g refl
+  told_admit (Err v) x f g = λ z. f v refl
 
-  told_kept : (y : Kept) (x : Step) → ((r : Refusal) → y ≡ Kept.Refused r → inside_of event_outside (number_of r) ≡ true → t ≡ D.stops r) → ToldOf x → ToldOf (S.on_kept y x)
-  told_kept Kept.Taken x f g = g
-  told_kept (Kept.Refused r) x f g = f r refl
+  told_kept : (y : Result Unit Refusal) (x : Step) → ((r : Refusal) → y ≡ Err r → inside_of event_outside (number_of r) ≡ true → t ≡ D.stops r) → ToldOf x → ToldOf (S.on_kept y x)
+  told_kept (Ok tt) x f g = g
+  told_kept (Err r) x f g = f r refl
 
 -- ---- each decision
 
@@ -102,7 +98,7 @@ module _ (s : State) (g : StateGiven s) (e : state_sound s ≡ true) (well : (k 
   user_allows u = allows_user k.overlay u ∙ w.allows
 
   -- a push of a staged element that is refused
-  refused_turn : (p : Place) (r : CompactDiffOverlay) (i v : ℤ) (x : Record ℕ) → push_record r i x ≡ Err v → sunk_at p (X.end_staged r (some (staging_of i x))) ≡ D.stops (R.Regression v)
+  refused_turn : (p : Place) (r : CompactDiffOverlay) (i v : ℤ) (x : Record ℕ) → push_record r i x ≡ Err v → sunk_at p (X.end_staged r (Some (staging_of i x))) ≡ D.stops (R.Regression v)
   refused_turn p r i v x a = rw (push_as r i x.meta x.body x.tags, a)
 
   empty_told : (p : Place) (i : ℤ) (m : Meta Bytes) (b : Body Bytes) → Lawful s.reader.place (begins true p i m b) → ToldOf (done_as (begins true p i m b) k) (step_of (begins true p i m b) s)
@@ -113,15 +109,15 @@ module _ (s : State) (g : StateGiven s) (e : state_sound s ≡ true) (well : (k 
       let cl : (h : ℕ) → claim_of (meta_of (bits_with_user m h)) ≡ claim_of m = claim_same m l.0.legal in
       told_admit _ (checked s.overlay.setting (known_version (kind_of b) (kind_store_of (kind_of b) s.overlay) i) (claim_of m))
       (taking_user m s.overlay (λ a o. S.on_after (store_push (kind_of b) (head_for i b) a [] o) (clears_to s p)))
-      (λ v a. ap (λ (y : Staging). sunk_at p (X.end_staged (user_interned k.overlay (user_of m)) (some y))) (sym (bare_staging k.overlay i m l.0.legal b n refl))
+      (λ v a. ap (λ (y : Staging). sunk_at p (X.end_staged (user_interned k.overlay (user_of m)) (Some y))) (sym (bare_staging k.overlay i m l.0.legal b n refl))
       ∙ refused_turn p (user_interned k.overlay (user_of m)) i v x
       (refuse_push s.overlay (user_interned k.overlay (user_of m)) well (user_kinds (user_of m)) (user_allows (user_of m)) (kind_of b) i x l.0.fits (kind_in b) v (rw (cl n) a)))
       (λ a. told_user _ m s.overlay (λ a o. S.on_after (store_push (kind_of b) (head_for i b) a [] o) (clears_to s p)) (λ h q same set.
       told_kept _ (store_push (kind_of b) (head_for i b) (bits_with_user m h) [] q).answer (clears_to s p (store_push (kind_of b) (head_for i b) (bits_with_user m h) [] q).overlay) (λ y z.
       let z' = bits_id i b l.0.fits in
       by_pushed (kind_of b) q.setting (kind_store_of (kind_of b) q) (to_z w64 (head_for i b).id) (claim_of (meta_of (bits_with_user m h))) (bytes_of (kind_of b) (head_for i b) (bits_with_user m h) []) y z
-      (λ v t. let c = (push_12 (kind_of b) q.setting (kind_store_of (kind_of b) q) (to_z w64 (head_for i b).id) (claim_of (meta_of (bits_with_user m h))) (bytes_of (kind_of b) (head_for i b) (bits_with_user m h) []) v).0 (z ∙ ap Kept.Refused t) in
-      let c2 : checked s.overlay.setting (known_version (kind_of b) (kind_store_of (kind_of b) s.overlay) i) (claim_of m) ≡ Below v = rw (same (kind_of b), set, z', cl h) at c in
+      (λ v t. let c = (push_12 (kind_of b) q.setting (kind_store_of (kind_of b) q) (to_z w64 (head_for i b).id) (claim_of (meta_of (bits_with_user m h))) (bytes_of (kind_of b) (head_for i b) (bits_with_user m h) []) v).0 (z ∙ ap Err t) in
+      let c2 : checked s.overlay.setting (known_version (kind_of b) (kind_store_of (kind_of b) s.overlay) i) (claim_of m) ≡ Err v = rw (same (kind_of b), set, z', cl h) at c in
       no cc)
       (λ t f. clash (rw t at f) refl) (λ t f. clash (rw t at f) refl)) tt))
 
@@ -137,8 +133,8 @@ module _ (s : State) (g : StateGiven s) (e : state_sound s ≡ true) (well : (k 
       (λ a. told_user _ m s.overlay (λ a o. S.on_after (store_delete j i (claim_of m) o) (clears_to s p)) (λ h q same set.
       told_kept _ (store_delete j i (claim_of m) q).answer (clears_to s p (store_delete j i (claim_of m) q).overlay) (λ y z.
       by_deleted j q.setting (kind_store_of j q) i (claim_of m) y z
-      (λ v t. let c = (delete_12 j q.setting (kind_store_of j q) i (claim_of m) v).0 (z ∙ ap Kept.Refused t) in
-      let c2 : checked s.overlay.setting (known_version j (kind_store_of j s.overlay) i) (claim_of m) ≡ Below v = rw (same j, set) at c in
+      (λ v t. let c = (delete_12 j q.setting (kind_store_of j q) i (claim_of m) v).0 (z ∙ ap Err t) in
+      let c2 : checked s.overlay.setting (known_version j (kind_store_of j s.overlay) i) (claim_of m) ≡ Err v = rw (same j, set) at c in
       no cc)
       (λ t f. clash (rw t at f) refl)) tt))
 
@@ -151,7 +147,7 @@ module _ (s : State) (g : StateGiven s) (e : state_sound s ≡ true) (well : (k 
       let parts = take x.used s.parts in
       told_kept _ (store_push j x.head x.meta parts s.overlay).answer (clears_to s p (store_push j x.head x.meta parts s.overlay).overlay) (λ y z.
       by_pushed j s.overlay.setting (kind_store_of j s.overlay) (to_z w64 x.head.id) (claim_of (meta_of x.meta)) (bytes_of j x.head x.meta parts) y z
-      (λ u t f. let c = (push_12 j s.overlay.setting (kind_store_of j s.overlay) (to_z w64 x.head.id) (claim_of (meta_of x.meta)) (bytes_of j x.head x.meta parts) u).0 (z ∙ ap Kept.Refused t) in
+      (λ u t f. let c = (push_12 j s.overlay.setting (kind_store_of j s.overlay) (to_z w64 x.head.id) (claim_of (meta_of x.meta)) (bytes_of j x.head x.meta parts) u).0 (z ∙ ap Err t) in
       ap (λ (y : Option Staging). sunk_at p (X.end_staged k.overlay y)) (stands s g e well k w st h.1)
       ∙ (refused_turn p k.overlay (to_z w64 x.head.id) u v.held
       (refuse_push s.overlay k.overlay well w.kinds w.allows j (to_z w64 x.head.id) v.held (id_given x.head v.head) v.stages.kind u (rw v.stages.meta c))

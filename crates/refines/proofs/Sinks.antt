@@ -1,6 +1,6 @@
 -- What the library decides of an event, done by the Rust's sink.
+use Rattle.std.specs.Prelude.{None, Option, Some, Result, Ok, Err}
 use Rattle.std.proofs.Common.{◌≡◌, true, false, cond, [], ℤ, refl}
-use mathlib.Core.Option.{Option, none, some}
 use Rattle.base.specs.Bytes.{Bytes}
 use Rattle.kind.specs.Kind.{kind_number}
 use Rattle.refusal.specs.declared.Refusal.{Refusal}
@@ -9,7 +9,6 @@ use Rattle.nesting.specs.declared.Place.{Place}
 use Rattle.model.specs.Record.{Meta, Body, kind_of, flagged}
 use Rattle.event_fields.specs.Field.{Field, got, bad}
 use Rattle.event_decision.specs.Decision.{Decision, refuses, moves, begins, deletes, tags, refers, joins, ends}
-use Rattle.published.specs.Std.{Result, Ok, Err}
 use Rattle.published.specs.Compact.{ArenaMeta}
 use Rattle.published.specs.Parse.{CompactDiffOverlay, intern_in, handle_in_overlay, delete_kind}
 use Rattle.published.specs.XmlParse.{misplaced, outside_section, missing_attr, not_integer, bad_timestamp, bad_coordinate, unknown_member_type, version_regression, truncated, internal, Driven, Error, DriveState, CompactSink, Staging, Sunk, MetaSoFar, or_empty, flags_of, user_interned, user_handle, sink_with, staged, add_tag, add_ref, add_member, end_element}
@@ -56,7 +55,7 @@ abbrev pub meta_so_far : MetaSoFar → Meta Bytes
 meta_so_far m = record { flags = flags_of m; version = m.version; timestamp = m.timestamp; changeset = m.changeset; uid = m.uid; user = or_empty m.user }
 
 abbrev pub user_of : Meta Bytes → Option Bytes
-user_of m = cond (flagged 4 m.flags) (some m.user) none
+user_of m = cond (flagged 4 m.flags) (Some m.user) None
 
 abbrev pub meta_handled : CompactDiffOverlay → Meta Bytes → ArenaMeta
 meta_handled o m =
@@ -72,10 +71,10 @@ staging_for o id m b =
     record { kind = element_kind (kind_of b); id = id; lat = lat_of b; lon = lon_of b; meta = meta_handled o m; tag_keys = []; tag_values = []; refs = []; members = [] }
 
 abbrev pub begun : CompactSink → ℤ → Meta Bytes → Body Bytes → CompactSink
-begun s id m b = sink_with (user_interned s.overlay (user_of m)) (some (staging_for s.overlay id m b))
+begun s id m b = sink_with (user_interned s.overlay (user_of m)) (Some (staging_for s.overlay id m b))
 
 abbrev pub deleted_at : Place → Result CompactDiffOverlay ℤ → RustTurn
-deleted_at p (Ok o) = goes (drive_state p) (sink_with o none)
+deleted_at p (Ok o) = goes (drive_state p) (sink_with o None)
 deleted_at p (Err v) = stops (R.Regression v)
 
 unfoldable pub done_as : Decision → CompactSink → RustTurn

@@ -1,13 +1,11 @@
 -- A push and a delete of the store, with no test before them: what the Rust does then.
+use Rattle.std.specs.Prelude.{Option, Ok, Err}
 use Rattle.std.proofs.Common.{◌≡◌, ℕ, Bool, List, map, ℤ, sym, refl, ap, ◌∙◌, w64, SFits, to_z}
-use mathlib.Core.Option.{Option}
 use Rattle.kind.proofs.Numbers.{by_kind}
 use Rattle.base.specs.Bytes.{Bytes}
 use Rattle.base.proofs.Split.{by_bool, no}
 use Rattle.kind.specs.declared.Kind.{Kind}
 use Rattle.kind.specs.declared.Kind.TheVariants as K
-use Rattle.version_floor.specs.declared.Version.{Version}
-use Rattle.version_floor.specs.declared.Admit.TheVariants.{Admitted, Below}
 use Rattle.model.specs.Record.{Meta, Body, place, refs, members, Record, kind_of, flagged, claim_of}
 use Rattle.compact.specs.Held.{meta_of}
 use Rattle.compact.specs.Layout.{record_bytes}
@@ -16,14 +14,13 @@ use Rattle.compact.specs.declared.PushHead.{PushHead}
 use Rattle.kind_store.specs.KindStore as KindStore
 use Rattle.kind_store.specs.KindStore.{KindStore, known_version, checked}
 use Rattle.kind_store.specs.WellFormed.{WellFormed}
-use Rattle.kind_store.specs.declared.Kept.TheVariants.{Taken}
 use Rattle.kind_store.proofs.Answers.{by_delete, answered}
 use Rattle.kind_store.proofs.Claims.{Narrow}
 use Rattle.kind_store.proofs.KindStores.{push_admitted}
 use Rattle.overlay.specs.Overlay.{Overlay, kind_store_of, with_kind_store}
 use Rattle.overlay.proofs.KindStores.{kind_store_same, kind_store_other, kind_store_texts, kind_store_setting}
 use Rattle.overlay_store.specs.Calls.{bytes_of, store_push, store_delete}
-use Rattle.published.specs.Std.{Ok, Err, map_ok}
+use Rattle.published.specs.Std.{map_ok}
 use Rattle.published.specs.Compact as C
 use Rattle.published.specs.Parse as P
 use Rattle.published.specs.Parse.{KindFields, CompactDiffOverlay, delete_kind}
@@ -59,7 +56,7 @@ delete_fields : (k : Kind) (r : CompactDiffOverlay) (id : ℤ) (m : C.ArenaMeta)
 unfolding delete_kind
 delete_fields k r id m = refl
 
-delete_admitted : (k : Kind) (setting : ℕ) (s : KindStore) (id : ℤ) (claim : Version) → (KindStore.deleted k setting s id claim).answer ≡ Taken → checked setting (known_version k s id) claim ≡ Admitted
+delete_admitted : (k : Kind) (setting : ℕ) (s : KindStore) (id : ℤ) (claim : Option ℤ) → (KindStore.deleted k setting s id claim).answer ≡ (Ok tt) → checked setting (known_version k s id) claim ≡ (Ok tt)
 delete_admitted k setting s id claim e =
     by_delete k setting s id claim (λ v c x. let z = answered x e in no (cc)) (λ c a x. c) (λ c a x. c)
 
@@ -89,7 +86,7 @@ fields_rest K.Relation r s = (refl, refl)
 -- ---- a regression, whatever texts are held
 
 module _ (o : Overlay) (r : CompactDiffOverlay) (well : (k : Kind) → WellFormed k (kind_store_of k o)) (kinds : (k : Kind) → SameFields (kind_store_of k o) (fields_of k r)) (allows : r.allow_version_regression ≡ allowed o.setting) where
-  pub refuse_push : (k : Kind) (id : ℤ) (x : Record ℕ) → SFits w64 id → kind_of x.body ≡ k → (v : ℤ) → checked o.setting (known_version k (kind_store_of k o) id) (claim_of x.meta) ≡ Below v → push_record r id x ≡ Err v
+  pub refuse_push : (k : Kind) (id : ℤ) (x : Record ℕ) → SFits w64 id → kind_of x.body ≡ k → (v : ℤ) → checked o.setting (known_version k (kind_store_of k o) id) (claim_of x.meta) ≡ Err v → push_record r id x ≡ Err v
   unfolding P.push
   refuse_push k id x f kind v e =
       let bytes = record_appended id x in
@@ -98,7 +95,7 @@ module _ (o : Overlay) (r : CompactDiffOverlay) (well : (k : Kind) → WellForme
       ∙ ap (map_ok (with_fields k r)) (ap (λ (b : Bool). P.push_with b (meta_off k) (fields_of k r) id bytes c) allows
       ∙ push_err k o.setting (kind_store_of k o) (fields_of k r) (well k) (kinds k) id f bytes c v (rw (same_claim x.meta) e))
 
-  pub refuse_delete : (k : Kind) (id : ℤ) (m : Meta ℕ) → SFits w64 id → (v : ℤ) → checked o.setting (known_version k (kind_store_of k o) id) (claim_of m) ≡ Below v → delete_kind r (element_kind k) id (arena_meta m) ≡ Err v
+  pub refuse_delete : (k : Kind) (id : ℤ) (m : Meta ℕ) → SFits w64 id → (v : ℤ) → checked o.setting (known_version k (kind_store_of k o) id) (claim_of m) ≡ Err v → delete_kind r (element_kind k) id (arena_meta m) ≡ Err v
   unfolding P.delete
   refuse_delete k id m f v e =
       let c = C.version_claim (arena_meta m) in
@@ -132,10 +129,10 @@ module _ (o : Overlay) (r : CompactDiffOverlay) (well : (k : Kind) → WellForme
     unfolding P.push
     rust_push_lem = rw (push_body_lem k r id x.body (map tag_part x.tags) (arena_meta x.meta) kind, w.allows, same_bytes id x)
 
-    pub store_pushes : (store_push k h m parts o).answer ≡ Taken → (q : CompactDiffOverlay) × ((push_record r id x ≡ Ok q) × SameCore (store_push k h m parts o).overlay q)
+    pub store_pushes : (store_push k h m parts o).answer ≡ (Ok tt) → (q : CompactDiffOverlay) × ((push_record r id x ≡ Ok q) × SameCore (store_push k h m parts o).overlay q)
     store_pushes e =
         let s = kind_store_of k o in
-        let taken : (KindStore.pushed k o.setting s id (version claim) (record_bytes id x)).answer ≡ Taken = rw (claims, ← bytes) e in
+        let taken : (KindStore.pushed k o.setting s id (version claim) (record_bytes id x)).answer ≡ (Ok tt) = rw (claims, ← bytes) e in
         let n = floors_left k o.setting s (fields_of k r) (well k) (w.kinds k) id f (record_bytes id x) claim in
         let same = push_same k o.setting s (fields_of k r) (well k) (w.kinds k) id f (record_bytes id x) claim taken in (
           with_fields k r (P.appended (fields_of k r) n id (record_bytes id x)),
@@ -150,13 +147,13 @@ module _ (o : Overlay) (r : CompactDiffOverlay) (well : (k : Kind) → WellForme
     unfolding P.delete
     rust_delete_lem = rw (delete_fields k r id (arena_meta m), w.allows)
 
-    pub store_deletes : (store_delete k id (claim_of m) o).answer ≡ Taken
+    pub store_deletes : (store_delete k id (claim_of m) o).answer ≡ (Ok tt)
         → (q : CompactDiffOverlay) × ((delete_kind r (element_kind k) id (arena_meta m) ≡ Ok q) × SameCore (store_delete k id (claim_of m) o).overlay q)
     store_deletes e =
         let s = kind_store_of k o in
         let c = C.version_claim (arena_meta m) in
         let p : version c ≡ claim_of m = same_claim m in
-        let taken : (KindStore.deleted k o.setting s id (version c)).answer ≡ Taken = rw p e in
+        let taken : (KindStore.deleted k o.setting s id (version c)).answer ≡ (Ok tt) = rw p e in
         let same = delete_same k o.setting s (fields_of k r) (well k) (w.kinds k) id f c (rw p narrow) taken in (
           with_fields k r (P.marked_deleted (meta_off k) (fields_of k r) id c),
           (

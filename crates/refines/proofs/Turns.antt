@@ -1,6 +1,7 @@
 -- An event in storage: an accepted one leaves on both sides the same overlay, the same place and the same staged element.
+use Rattle.std.proofs.lemmas.Option.{same_Some}
+use Rattle.std.specs.Prelude.{None, Option, Some, Ok}
 use Rattle.std.proofs.Common.{◌≡◌, ℕ, ◌+◌, ◌≤◌, Bool, true, false, cond, List, [], ◌∷◌, map, length, take, ℤ, sym, refl, ap, ◌∙◌, arith, to_z-of_z, w64, SFits, to_z, of_z, lt-ltb}
-use mathlib.Core.Option.{Option, none, some, some-injective}
 use mathlib.Core.List.{map-append}
 use Rattle.base.specs.Bytes.{Bytes}
 use Rattle.base.proofs.Split.{by_bool}
@@ -47,7 +48,6 @@ use Rattle.overlay.specs.Overlay.{Overlay, kind_store_of, with_texts}
 use Rattle.overlay.proofs.KindStores.{texts_kind_store}
 use Rattle.overlay.proofs.Bounds.{meta_given, id_given}
 use Rattle.overlay_store.specs.Calls.{store_push, store_delete, handle_in}
-use Rattle.overlay_store.specs.declared.Handle.TheVariants as H
 use Rattle.overlay_store.proofs.Keeps.{record_given}
 use Rattle.overlay_direct.specs.Calls.{intern_on}
 use Rattle.overlay_direct.proofs.Answers.{intern_store}
@@ -65,7 +65,6 @@ use Rattle.reader.proofs.Held.{Held, held_few}
 use Rattle.event_fields.proofs.Metadata.{Legal}
 use Rattle.reader.proofs.Legals.{claim_same, meta_fits_lem, head_fits_lem, bits_id, body_in}
 use Rattle.reader.proofs.Steps.{EachStep, stopped, leaves, each_admit, each_after, each_within}
-use Rattle.published.specs.Std.{Ok}
 use Rattle.published.specs.Parse.{CompactDiffOverlay, intern_in, handle_in_overlay}
 use Rattle.published.specs.XmlParse.{CompactSink, Staging, end_element, sink_with, user_interned, user_handle, push_staged, zip_tags}
 use Rattle.published.specs.XmlParse as X
@@ -90,13 +89,13 @@ staged_at p x parts = shows p (staged_as (to_z w64 x.head.id) (pending_record p.
 abbrev pub Ordered : Place → Decision → Type 0
 Ordered p (refuses r) = Unit {0}
 Ordered p (moves q) = (st : Option Staging) → shows q st ≡ shows p st
-Ordered p (begins true q id m b) = (st : Option Staging) → shows q st ≡ none
+Ordered p (begins true q id m b) = (st : Option Staging) → shows q st ≡ None
 Ordered p (begins false q id m b) = (st : Option Staging) → shows q st ≡ st
-Ordered p (deletes k q id m) = (st : Option Staging) → shows q st ≡ none
+Ordered p (deletes k q id m) = (st : Option Staging) → shows q st ≡ None
 Ordered p (tags q t) = ((st : Option Staging) → shows q st ≡ st) × ((st : Option Staging) → shows p st ≡ st)
 Ordered p (refers q z) = ((st : Option Staging) → shows q st ≡ st) × ((st : Option Staging) → shows p st ≡ st)
 Ordered p (joins q m) = ((st : Option Staging) → shows q st ≡ st) × ((st : Option Staging) → shows p st ≡ st)
-Ordered p (ends q) = ((st : Option Staging) → shows q st ≡ none) × ((st : Option Staging) → shows p st ≡ st)
+Ordered p (ends q) = ((st : Option Staging) → shows q st ≡ None) × ((st : Option Staging) → shows p st ≡ st)
 
 ordered_field : {A : Type 0} (p : Place) (x : Field A) (f : A → Decision) → ((a : A) → Ordered p (f a)) → Ordered p (on_field x f)
 ordered_field p (got a) f h = h a
@@ -231,17 +230,17 @@ module _ (o : Overlay) (r : CompactDiffOverlay) (w : SameCore o r) (f : Fine o) 
   fields_interner t K.Way = refl
   fields_interner t K.Relation = refl
 
-  took_core : (t : Bytes) (n : ℕ) → is_text t ≡ true → handle_in (Strings.intern o.texts t).answer ≡ H.Is n → CoreText (with_texts (Strings.intern o.texts t).store o) r t n
+  took_core : (t : Bytes) (n : ℕ) → is_text t ≡ true → handle_in (Strings.intern o.texts t).answer ≡ Ok n → CoreText (with_texts (Strings.intern o.texts t).store o) r t n
   took_core t n l e =
       let z = intern_store t o f.sound l in
-      let a : (intern_on t o).answer ≡ H.Is n = ap (λ x. x.answer) z ∙ e in
+      let a : (intern_on t o).answer ≡ Ok n = ap (λ x. x.answer) z ∙ e in
       let p = intern_kept t o n a in
       let left : (intern_on t o).overlay ≡ with_texts (Strings.intern o.texts t).store o = p.left in
       let fine : Fine (with_texts (Strings.intern o.texts t).store o) = rw left at (takes_fine f (a_text t n l a)) in
-      let i : handle_of t (take_in (texts_of o.texts) t) ≡ some n = rw p.texts at p.place in
+      let i : handle_of t (take_in (texts_of o.texts) t) ≡ Some n = rw p.texts at p.place in
       let b = (holds t (texts_of (Strings.intern o.texts t).store) n p.place).below in
       record {
-        handle = some-injective _ _ (sym (handle_intern (texts_of o.texts) r.interner w.texts t) ∙ i);
+        handle = same_Some _ _ (sym (handle_intern (texts_of o.texts) r.interner w.texts t) ∙ i);
         core = record {
           kinds = λ k. rw (texts_kind_store k (Strings.intern o.texts t).store o, fields_interner t k) (w.kinds k);
           texts = rw p.texts (texts_intern (texts_of o.texts) r.interner w.texts t);
@@ -282,7 +281,7 @@ meta_handled_lem r m w n e =
 abbrev pub bare : Meta ℕ → Body ℕ → Record ℕ
 bare m b = record { meta = m; body = b; tags = [] }
 
-pub bare_record : (id : ℤ) (b : Body Bytes) → First b → (m : Meta ℕ) → pushed_record (kind_of b) (head_in (kind_of b) (head_for id b)) m [] ≡ some (bare m (body_in b))
+pub bare_record : (id : ℤ) (b : Body Bytes) → First b → (m : Meta ℕ) → pushed_record (kind_of b) (head_in (kind_of b) (head_for id b)) m [] ≡ Some (bare m (body_in b))
 unfolding pushed_record cut_parts cut_body times then_cut head_in node_head counts_head
 bare_record id (place lat lon) f m = rw (to_z-of_z f.0.1, to_z-of_z f.1.1)
 bare_record id (refs rs) f m = refl
@@ -343,12 +342,12 @@ module _ (s : State) (g : StateGiven s) (e : state_sound s ≡ true) (well : (k 
   pub held : Held s.overlay.texts.strings here.kind s.parts pending
   held = state_held s g e
 
-  pub is_held : pending_record here.kind s.parts pending ≡ some held.held
+  pub is_held : pending_record here.kind s.parts pending ≡ Some held.held
   unfolding pending_record
   is_held = stages_back here.kind pending.head pending.meta (take pending.used s.parts) held.held held.stages
 
   -- where an element stands open, it is staged
-  pub stands : ((x : Option Staging) → shows here x ≡ x) → k.staging ≡ some (staging_of id held.held)
+  pub stands : ((x : Option Staging) → shows here x ≡ x) → k.staging ≡ Some (staging_of id held.held)
   stands h = st ∙ (h _ ∙ ap (staged_as id) is_held)
 
   -- an element ends: it is pushed, and nothing is staged any more
@@ -359,7 +358,7 @@ module _ (s : State) (g : StateGiven s) (e : state_sound s ≡ true) (well : (k 
   -- ---- an element begins
 
   begun_record : (p : Place) (i : ℤ) (m : Meta Bytes) (b : Body Bytes) → First b → p.kind ≡ kind_of b → (n : ℕ)
-      → pending_record p.kind s.parts (record { head = head_for i b; meta = bits_with_user m n; used = 0 }) ≡ some (bare (meta_of (bits_with_user m n)) (body_in b))
+      → pending_record p.kind s.parts (record { head = head_for i b; meta = bits_with_user m n; used = 0 }) ≡ Some (bare (meta_of (bits_with_user m n)) (body_in b))
   unfolding pending_record
   begun_record p i m b f q n = rw q (bare_record i b f (meta_of (bits_with_user m n)))
 
@@ -372,14 +371,14 @@ module _ (s : State) (g : StateGiven s) (e : state_sound s ≡ true) (well : (k 
         done = refl;
         core = c;
         staged =
-            ap some (sym (bare_staging k.overlay i m l.0.legal b n u))
+            ap Some (sym (bare_staging k.overlay i m l.0.legal b n u))
             ∙ (sym (h _)
-            ∙ (ap (λ (z : ℤ). shows p (staged_as z (some (bare (meta_of (bits_with_user m n)) (body_in b))))) (sym (bits_id i b l.0.fits))
+            ∙ (ap (λ (z : ℤ). shows p (staged_as z (Some (bare (meta_of (bits_with_user m n)) (body_in b))))) (sym (bits_id i b l.0.fits))
             ∙ ap (λ z. shows p (staged_as (to_z w64 (head_for i b).id) z)) (sym (begun_record p i m b l.1.0 l.1.1 n))));
       }))
 
   -- what a push of a staged element comes to
-  pub pushed_turn : (p : Place) (r q : CompactDiffOverlay) (i : ℤ) (x : Record ℕ) → push_record r i x ≡ Ok q → sunk_at p (X.end_staged r (some (staging_of i x))) ≡ goes (drive_state p) (record { overlay = q; staging = none })
+  pub pushed_turn : (p : Place) (r q : CompactDiffOverlay) (i : ℤ) (x : Record ℕ) → push_record r i x ≡ Ok q → sunk_at p (X.end_staged r (Some (staging_of i x))) ≡ goes (drive_state p) (record { overlay = q; staging = None })
   pushed_turn p r q i x a = rw (push_as r i x.meta x.body x.tags, a)
 
   empty_follows : (p : Place) (i : ℤ) (m : Meta Bytes) (b : Body Bytes) → Lawful here (begins true p i m b) → Ordered here (begins true p i m b) → EachStep (Follows (begins true p i m b) k) (step_of (begins true p i m b) s)
@@ -398,8 +397,8 @@ module _ (s : State) (g : StateGiven s) (e : state_sound s ≡ true) (well : (k 
       fits (kind_in b) refl y.0 a in
       let t = pushed_turn p (user_interned k.overlay (user_of m)) v.0 i x (rw z at v.1.0) in
       leaves (record {
-        sink = record { overlay = v.0; staging = none };
-        done = ap (λ (y : Staging). sunk_at p (X.end_staged (user_interned k.overlay (user_of m)) (some y))) (sym (bare_staging k.overlay i m l.0.legal b n u)) ∙ t;
+        sink = record { overlay = v.0; staging = None };
+        done = ap (λ (y : Staging). sunk_at p (X.end_staged (user_interned k.overlay (user_of m)) (Some y))) (sym (bare_staging k.overlay i m l.0.legal b n u)) ∙ t;
         core = v.1.1;
         staged = sym (h _);
       }))))
@@ -416,7 +415,7 @@ module _ (s : State) (g : StateGiven s) (e : state_sound s ≡ true) (well : (k 
       let narrow : Narrow (claim_of x) = given_claim x (meta_given (bits_with_user m n) (meta_fits_lem m l.legal n small)) in
       let v = store_deletes q (user_interned k.overlay (user_of m)) (well_on q (user_interned k.overlay (user_of m)) c same) c j i x l.fits narrow (rw cl a) in
       leaves (record {
-        sink = record { overlay = v.0; staging = none };
+        sink = record { overlay = v.0; staging = None };
         done = rw (← meta_handled_lem k.overlay m l.legal n u, v.1.0);
         core = rw (← cl) v.1.1;
         staged = sym (h _);
@@ -434,13 +433,13 @@ module _ (s : State) (g : StateGiven s) (e : state_sound s ≡ true) (well : (k 
   -- one part more is one part more of what is staged
   grown : (p : Place) → p.kind ≡ here.kind → ((x : Option Staging) → shows p x ≡ x) → (j : PushHead) → j.id ≡ pending.head.id → (at : ℕ) (x : Bytes) (next : Record ℕ)
       → PartStaged here.kind j pending.meta s.parts pending.used at x next
-      → staged_at p (record { head = j; meta = pending.meta; used = pending.used + length x }) (staged s.parts pending.used at x) ≡ some (staging_of id next)
+      → staged_at p (record { head = j; meta = pending.meta; used = pending.used + length x }) (staged s.parts pending.used at x) ≡ Some (staging_of id next)
   unfolding pending_record
   grown p q sh j i put x next b =
       let z = staged s.parts pending.used put x in
       let y : Pending = record { head = j; meta = pending.meta; used = pending.used + length x } in
-      let made : pending_record p.kind z y ≡ some next = rw q (stages_back here.kind j pending.meta (take (pending.used + length x) z) next b.stages) in
-      sh _ ∙ (ap (staged_as (to_z w64 j.id)) made ∙ ap (λ (v : ℕ). some (staging_of (to_z w64 v) next)) i)
+      let made : pending_record p.kind z y ≡ Some next = rw q (stages_back here.kind j pending.meta (take (pending.used + length x) z) next b.stages) in
+      sh _ ∙ (ap (staged_as (to_z w64 j.id)) made ∙ ap (λ (v : ℕ). Some (staging_of (to_z w64 v) next)) i)
 
   tag_follows : (p : Place) (t : Tag Bytes) → Lawful here (tags p t) → Ordered here (tags p t) → EachStep (Follows (tags p t) k) (step_of (tags p t) s)
   unfolding step_of done_as
@@ -453,7 +452,7 @@ module _ (s : State) (g : StateGiven s) (e : state_sound s ≡ true) (well : (k 
       let lim = sym (limit_tag s g e held.held is_held t n) ∙ y in
       let b = tag_grows here.kind pending.head pending.meta s.parts pending.used held.held held.stages held.fits few g.reader.room u (handle_small n c.below) lim in
       record {
-        sink = sink_with (intern_in k.overlay t.key) (some (X.add_tag (handle_in_overlay k.overlay t.key) t.value (staging_of id held.held)));
+        sink = sink_with (intern_in k.overlay t.key) (Some (X.add_tag (handle_in_overlay k.overlay t.key) t.value (staging_of id held.held)));
         done = ap (λ (y : Option Staging). sunk_at p (X.staged (intern_in k.overlay t.key) y (X.add_tag (handle_in_overlay k.overlay t.key) t.value))) (stands h.1);
         core = c.core;
         staged = rw (c.handle, grown p l.0 h.0 (more_tags pending.head) refl pending.used (tag_part n t.value) (with_tag held.held u) b, map-append (λ (v : Tag ℕ). v.key) held.held.tags (u ∷ []), map-append (λ (v : Tag ℕ). v.value) held.held.tags (u ∷ []));
@@ -469,10 +468,10 @@ module _ (s : State) (g : StateGiven s) (e : state_sound s ≡ true) (well : (k 
       let lim = sym (limit_ref s g e held.held is_held x.0 z l.1.0 x.1) ∙ y in
       let b = ref_grows here.kind pending.head pending.meta s.parts pending.used held.held held.stages held.fits few g.reader.room x.0 z l.1.0 x.1 l.1.1 lim in
       record {
-        sink = sink_with k.overlay (some (X.add_ref z (staging_of id held.held)));
+        sink = sink_with k.overlay (Some (X.add_ref z (staging_of id held.held)));
         done = ap (λ (y : Option Staging). sunk_at p (X.staged k.overlay y (X.add_ref z))) (stands h.1);
         core = w;
-        staged = ap some (ref_staged id held.held x.0 z x.1) ∙ sym (grown p l.0 h.0 (more_parts pending.head) refl (part_place s) (ref_part (of_z w64 z)) (with_ref held.held x.0 z) b);
+        staged = ap Some (ref_staged id held.held x.0 z x.1) ∙ sym (grown p l.0 h.0 (more_parts pending.head) refl (part_place s) (ref_part (of_z w64 z)) (with_ref held.held x.0 z) b);
       })
 
   member_follows : (p : Place) (x : Member Bytes) → Lawful here (joins p x) → Ordered here (joins p x) → EachStep (Follows (joins p x) k) (step_of (joins p x) s)
@@ -487,12 +486,12 @@ module _ (s : State) (g : StateGiven s) (e : state_sound s ≡ true) (well : (k 
       let lim = sym (limit_member s g e held.held is_held v.0 u l.1.0 v.1) ∙ y in
       let b = member_grows here.kind pending.head pending.meta s.parts pending.used held.held held.stages held.fits few g.reader.room v.0 u l.1.0 v.1 l.1.1.0 (handle_small n c.below) lim in
       record {
-        sink = sink_with (intern_in k.overlay x.role) (some (X.add_member (record { ref_id = x.ref; type_byte = kind_number x.type; role_id = handle_in_overlay k.overlay x.role }) (staging_of id held.held)));
+        sink = sink_with (intern_in k.overlay x.role) (Some (X.add_member (record { ref_id = x.ref; type_byte = kind_number x.type; role_id = handle_in_overlay k.overlay x.role }) (staging_of id held.held)));
         done = ap (λ (y : Option Staging). sunk_at p (X.staged (intern_in k.overlay x.role) y (X.add_member (record { ref_id = x.ref; type_byte = kind_number x.type; role_id = handle_in_overlay k.overlay x.role })))) (stands h.1);
         core = c.core;
         staged =
-            ap (λ (a : ℕ). some (X.add_member (record { ref_id = x.ref; type_byte = kind_number x.type; role_id = a }) (staging_of id held.held))) c.handle
-            ∙ (ap some (member_staged id held.held v.0 u v.1)
+            ap (λ (a : ℕ). Some (X.add_member (record { ref_id = x.ref; type_byte = kind_number x.type; role_id = a }) (staging_of id held.held))) c.handle
+            ∙ (ap Some (member_staged id held.held v.0 u v.1)
             ∙ sym (grown p l.0 h.0 (more_parts pending.head) refl (part_place s) (member_part (member_bits x n)) (with_member held.held v.0 u) b));
       }))
 
@@ -507,7 +506,7 @@ module _ (s : State) (g : StateGiven s) (e : state_sound s ≡ true) (well : (k 
       let v = store_pushes s.overlay k.overlay well w here.kind pending.head pending.meta (take pending.used s.parts) held.held
       (id_given pending.head held.head) held.stages.kind held.stages.meta y.0 a in
       leaves (record {
-        sink = record { overlay = v.0; staging = none };
+        sink = record { overlay = v.0; staging = None };
         done = ap (λ (y : Option Staging). sunk_at p (X.end_staged k.overlay y)) (stands h.1) ∙ (pushed_turn p k.overlay v.0 id held.held v.1.0);
         core = v.1.1;
         staged = sym (h.0 _);

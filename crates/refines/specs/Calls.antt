@@ -1,10 +1,8 @@
 -- A call on the Rust's side: what its caller is told, and what it leaves; and lists of calls on both sides.
-use Rattle.std.specs.Prelude.{ℕ, cond, List, [], ◌∷◌, ℤ, pos}
-use Rattle.std.proofs.Math.Option.{Option, none}
+use Rattle.std.specs.Prelude.{ℕ, cond, List, [], ◌∷◌, ℤ, pos, None, Option, Result, Ok, Err}
 use Rattle.event.specs.Event.{Event, Reading, event_of}
 use Rattle.event.specs.Event as Line
 use Rattle.calls.specs.Ask.{Ask, interns, pushes, deletes, reads, ends, allows, Storage, put_at, leaves}
-use Rattle.published.specs.Std.{Result, Ok, Err}
 use Rattle.published.specs.Parse.{CompactDiffOverlay, allow, intern_in, handle_in_overlay}
 use Rattle.published.specs.Parse as Parse
 use Rattle.published.specs.XmlParse.{Error, misplaced, outside_section, missing_attr, not_integer, bad_timestamp, bad_coordinate, unknown_member_type, version_regression, truncated, internal, DriveState, Driven, Staging, CompactSink, sink_with, drive_event, end_test, fresh}
@@ -23,7 +21,7 @@ pub record RustHeld : Type 0 where
 
 -- CompactDiffOverlay::new() with its setting, and a driver for each reader
 abbrev pub rust_started : ℕ → RustHeld
-rust_started setting = record { overlay = allow Parse.new (allowed setting); states = λ n. fresh; staged = λ n. none }
+rust_started setting = record { overlay = allow Parse.new (allowed setting); states = λ n. fresh; staged = λ n. None }
 
 abbrev pub with_rust : CompactDiffOverlay → RustHeld → RustHeld
 with_rust o w = record { overlay = o; states = w.states; staged = w.staged }

@@ -1,9 +1,7 @@
 -- Condition 2: "Equal to the Rust on every event sequence and call in document 01's domain". The library is the definitions that the contracts of its public calls cite; the Rust is crate
 -- `published`; which calls of a list lie in the domain is told by document 01's table (`in_domain`). What differs stands in these places of the statement, and nowhere else: D1 in
 -- `turn_left`, D2 in `rust_view`, D3 in `direct_outside`, D9 and coordinates in `by_documents`, stopped readers in `going`, lines refused 2, 3 and 4 in `reading_told`.
-use Rattle.std.specs.Prelude.{◌≡◌, ℕ, Bool, List, length, take, drop, ℤ, FitsSigned}
-use Rattle.std.proofs.Math.Option.{Option, none, some}
-use Rattle.std.proofs.Math.ListN.{get_elem?}
+use Rattle.std.specs.Prelude.{◌≡◌, ℕ, Bool, List, length, take, drop, ℤ, FitsSigned, Err, None, Ok, Option, Some, slice_get}
 use Rattle.std.specs.Int.{w64}
 use Rattle.base.specs.Bytes.{Bytes}
 use Rattle.kind.specs.declared.Kind.{Kind}
@@ -14,9 +12,7 @@ use Rattle.version_floor.specs.Version.{word_of}
 use Rattle.overlay.specs.Overlay.{Overlay, kind_store_of}
 use Rattle.kind_reading.specs.declared.Side.{Side}
 use Rattle.kind_reading.specs.declared.Side.TheVariants.{Live}
-use Rattle.kind_reading.specs.declared.View.{View}
-use Rattle.kind_reading.specs.declared.View.TheVariants as view
-use Rattle.overlay_reading.specs.declared.Read.TheVariants.{Is}
+use Rattle.kind_reading.specs.Listed.{View}
 use Rattle.overlay_reading.specs.Reading.{yes, count_on, id_on, record_on, get_on, has_on, is_deleted_on, known_on, is_empty_on, text_on}
 use Rattle.calls.specs.Ask.{Ask, Storage, state_of, started, storage_after}
 use Rattle.condition.specs.Views.{Seen, absent, seen, unread, seen_in}
@@ -35,18 +31,18 @@ use Rattle.refines.specs.Calls.{RustHeld, rust_started, domain, tolds, rust_afte
 
 -- a record of a kind as both sides' readers read it: none on either side, or one that the Rust's accessors and iterators read as ours do. Ours are never refused there.
 abbrev pub RecordAs : Kind → (Bytes → Bool) → StringTable → Option Bytes → Seen → Type 0
-RecordAs k from_utf8 strings none absent = Unit {0}
-RecordAs k from_utf8 strings (some s) (seen id r) = (kind_of r.body ≡ k) × RecordRead from_utf8 strings s id r
-RecordAs k from_utf8 strings none (seen id r) = ⊥
-RecordAs k from_utf8 strings none unread = ⊥
-RecordAs k from_utf8 strings (some s) absent = ⊥
-RecordAs k from_utf8 strings (some s) unread = ⊥
+RecordAs k from_utf8 strings None absent = Unit {0}
+RecordAs k from_utf8 strings (Some s) (seen id r) = (kind_of r.body ≡ k) × RecordRead from_utf8 strings s id r
+RecordAs k from_utf8 strings None (seen id r) = ⊥
+RecordAs k from_utf8 strings None unread = ⊥
+RecordAs k from_utf8 strings (Some s) absent = ⊥
+RecordAs k from_utf8 strings (Some s) unread = ⊥
 
 -- a text, by the call that reads one: none where 21
 abbrev pub text_read : Overlay → View → Option Bytes
-text_read o (view.Part at n) = some (take n (drop at o.texts.bytes))
-text_read o view.Nothing = none
-text_read o (view.Refused r) = none
+text_read o (Ok (Some p)) = Some (take p.len (drop p.start o.texts.bytes))
+text_read o (Ok None) = None
+text_read o (Err r) = None
 
 -- ---- what an overlay holds, record by record
 
@@ -59,14 +55,14 @@ module _ (from_utf8 : Bytes → Bool) (o : Overlay) (r : CompactDiffOverlay) (k 
     -- its view, where ours ends with the record (D2)
     pub viewed : get_data (fields_of k r) id ≡ rust_view (kind_store_of k o) (get_on k id o)
     pub floor : version (get (fields_of k r).floors id) ≡ floor_in (row_of (kind_store_of k o) id)
-    pub known : known_on k id o ≡ Is (word_of (version (stored_version (meta_off k) (fields_of k r) id)))
+    pub known : known_on k id o ≡ Ok (word_of (version (stored_version (meta_off k) (fields_of k r) id)))
 
   -- by number: how many, each id, and the record of each live one, by `KindTable::build`
   pub record SameNumbers : Type 0 where
-    pub count : (side : Side) → count_on k side o ≡ Is (length (ids_on side (sorted_kind k r)))
-    pub ids : (side : Side) (n : ℕ) → id_on k side n o ≡ numbered (get_elem? (ids_on side (sorted_kind k r)) n)
+    pub count : (side : Side) → count_on k side o ≡ Ok (length (ids_on side (sorted_kind k r)))
+    pub ids : (side : Side) (n : ℕ) → id_on k side n o ≡ numbered (slice_get (ids_on side (sorted_kind k r)) n)
     pub viewed : (n : ℕ) → table_record (sorted_kind k r) n ≡ rust_view (kind_store_of k o) (record_on k n o)
-    pub read : (n id : ℕ) → id_on k Live n o ≡ Is id → RecordAs k from_utf8 r.interner.strings (table_record (sorted_kind k r) n) (seen_in o k (record_on k n o))
+    pub read : (n id : ℕ) → id_on k Live n o ≡ Ok id → RecordAs k from_utf8 r.interner.strings (table_record (sorted_kind k r) n) (seen_in o k (record_on k n o))
 
 pub record SameHeld (from_utf8 : Bytes → Bool) (l : Storage) (w : RustHeld) : Type 0 where
   pub ids : (k : Kind) (id : ℤ) → FitsSigned w64 id → SameId from_utf8 l.overlay w.overlay k id

@@ -1,7 +1,7 @@
 -- Document 01: "Domain of comparison with the Rust: legal lines and calls that by the table meet none of 10, 13 to 17, 20 to 22." It is told by the tables of conditions and by what was told
 -- before, and not by the reply of the call itself.
-use Rattle.std.specs.Prelude.{ℕ, suc, Bool, true, false, not, List, [], ◌∷◌, ◌==◌, nat_lt}
-use Rattle.std.proofs.Math.Option.{Option, none, some}
+use Rattle.reader.specs.declared.RefusedAt.{RefusedAt}
+use Rattle.std.specs.Prelude.{ℕ, suc, Bool, true, false, not, List, [], ◌∷◌, ◌==◌, nat_lt, None, Option, Some}
 use Rattle.std.specs.Int.{w64}
 use Rattle.std.proofs.Common.{to_z}
 use Rattle.base.specs.Bytes.{both, either, all}
@@ -11,7 +11,7 @@ use Rattle.refusal.specs.declared.Refusal.{Refusal}
 use Rattle.compact.specs.Held.{meta_of}
 use Rattle.overlay.specs.First.{allow_table}
 use Rattle.overlay_direct.specs.First.{intern_table, push_table, delete_table}
-use Rattle.reader.specs.Table.{RefusalAt, event_table, end_table}
+use Rattle.reader.specs.Table.{event_table, end_table}
 use Rattle.calls.specs.Ask.{Ask, interns, pushes, deletes, reads, ends, allows, Storage, state_of, put_at}
 use Rattle.refines.specs.Told.{Told, handle, done, refused}
 
@@ -31,12 +31,12 @@ inside_of numbers number = all (λ n. not (n == number)) numbers
 
 -- the first row that holds is none of these, or no row holds
 abbrev pub first_inside : Option Refusal → Bool
-first_inside none = true
-first_inside (some r) = inside_of direct_outside (number_of r)
+first_inside None = true
+first_inside (Some r) = inside_of direct_outside (number_of r)
 
-abbrev pub first_at_inside : Option RefusalAt → Bool
-first_at_inside none = true
-first_at_inside (some t) = inside_of event_outside (number_of t.refusal)
+abbrev pub first_at_inside : Option RefusedAt → Bool
+first_at_inside None = true
+first_at_inside (Some t) = inside_of event_outside (number_of t.refusal)
 
 abbrev pub by_table : Ask → Storage → Bool
 by_table (interns t) l = first_inside (first_of (intern_table t l.overlay))

@@ -1,5 +1,5 @@
 -- An event and a place on both sides: the library's beside the Rust's.
-use Rattle.std.specs.Prelude.{ℕ, Bool, true, false, cond, List, map, ℤ, nat_le, unsigned_abs}
+use Rattle.std.specs.Prelude.{ℕ, Bool, true, false, cond, List, map, ℤ, nat_le, unsigned_abs, Result, Ok, Err}
 use Rattle.base.specs.Ascii.{ascii}
 use Rattle.base.specs.Bytes.{Bytes}
 use Rattle.stamp.specs.Stamp.{stamp}
@@ -9,7 +9,7 @@ use Rattle.nesting.specs.declared.Level.{Level}
 use Rattle.nesting.specs.declared.Level.TheVariants as L
 use Rattle.nesting.specs.declared.Place.{Place}
 use Rattle.event.specs.Event.{Attr, Event, starts, closes, others}
-use Rattle.published.specs.Std.{Result, Ok, Err, parse_int}
+use Rattle.published.specs.Std.{parse_int}
 use Rattle.published.specs.XmlParse.{Attribute, BytesStart, Error, missing_attr, not_integer, bad_coordinate, then, ok_or, find_attr, NotPublished, OscAction, DriveState}
 use Rattle.published.specs.XmlParse as X
 use Rattle.refines.specs.Overlays.{element_kind}

@@ -1,12 +1,9 @@
 -- One kind's storage beside the Rust's fields of that kind: its offsets, deleted ids and floors are what the table's rows say, its arena the used bytes.
-use Rattle.std.specs.Prelude.{◌≡◌, ℕ, ◌≤◌, Bool, true, false, cond, not, [], ◌∷◌, length, take, ℤ, FitsSigned, ◌==◌}
-use Rattle.std.proofs.Math.Option.{Option, none, some}
+use Rattle.std.specs.Prelude.{◌≡◌, ℕ, ◌≤◌, Bool, true, false, cond, not, [], ◌∷◌, length, take, ℤ, FitsSigned, ◌==◌, None, Option, Some}
 use Rattle.std.specs.Int.{w64}
 use Rattle.base.specs.Bytes.{both}
 use Rattle.osm_id.specs.Order.{rank}
 use Rattle.version_floor.specs.Version.{of_word}
-use Rattle.version_floor.specs.declared.Version.{Version}
-use Rattle.version_floor.specs.declared.Version.TheVariants.{Absent}
 use Rattle.compact.specs.Fits.{fits_signed}
 use Rattle.kind_table.specs.declared.Row.{Row}
 use Rattle.kind_table.specs.Rows.{find}
@@ -24,16 +21,16 @@ abbrev pub row_of : KindStore → ℤ → Option Row
 row_of s id = find (rank id) (rows_in s)
 
 abbrev pub offset_in : Option Row → Option ℕ
-offset_in none = none
-offset_in (some r) = cond (is_live r.place) (some r.place) none
+offset_in None = None
+offset_in (Some r) = cond (is_live r.place) (Some r.place) None
 
 abbrev pub deleted_in : Option Row → Bool
-deleted_in none = false
-deleted_in (some r) = cond (is_live r.place) false true
+deleted_in None = false
+deleted_in (Some r) = cond (is_live r.place) false true
 
-abbrev pub floor_in : Option Row → Version
-floor_in none = Absent
-floor_in (some r) = of_word r.floor
+abbrev pub floor_in : Option Row → Option ℤ
+floor_in None = None
+floor_in (Some r) = of_word r.floor
 
 -- "a key stands in it once", and is an i64
 unfoldable pub keyed : {T : Type 0} → HashMap T → Bool

@@ -1,6 +1,5 @@
 -- An overlay beside the Rust's `CompactDiffOverlay`.
-use Rattle.std.specs.Prelude.{◌≡◌, ℕ, ◌<◌, List, [], map, length, ℤ}
-use Rattle.std.proofs.Math.Option.{Option, none, some}
+use Rattle.std.specs.Prelude.{◌≡◌, ℕ, ◌<◌, List, [], map, length, ℤ, None, Option, Some, Result, Ok}
 use Rattle.std.specs.Int.{w32, w64}
 use Rattle.std.proofs.Common.{to_z}
 use Rattle.base.specs.Bytes.{Bytes}
@@ -17,7 +16,7 @@ use Rattle.compact.specs.Cut.{pushed_record}
 use Rattle.compact.specs.Held.{meta_of, head_in}
 use Rattle.compact.specs.declared.ArenaMeta as Bits
 use Rattle.compact.specs.declared.PushHead.{PushHead}
-use Rattle.published.specs.Std.{Result, Ok, ElementKind}
+use Rattle.published.specs.Std.{ElementKind}
 use Rattle.published.specs.Std as Rust
 use Rattle.published.specs.Interner.{StringInterner, get_text, resolve}
 use Rattle.published.specs.Compact.{ArenaMeta, TagPart, MemberPart, META_OFF}
@@ -59,10 +58,10 @@ members_in (members ms) = ms
 
 -- parts that are cut short, or not as many as are counted, or with a member of no type, are 17, and nothing is handed to the Rust
 abbrev pub push_handed : Kind → PushHead → Bits.ArenaMeta → Option (Record ℕ) → CompactDiffOverlay → Result CompactDiffOverlay ℤ
-push_handed k h m none r = Ok r
-push_handed K.Node h m (some x) r = push_node r (to_z w64 h.id) (to_z w32 h.lat) (to_z w32 h.lon) (map tag_part x.tags) (meta_words m)
-push_handed K.Way h m (some x) r = push_way r (to_z w64 h.id) (refs_in x.body) (map tag_part x.tags) (meta_words m)
-push_handed K.Relation h m (some x) r = push_relation r (to_z w64 h.id) (map member_part (members_in x.body)) (map tag_part x.tags) (meta_words m)
+push_handed k h m None r = Ok r
+push_handed K.Node h m (Some x) r = push_node r (to_z w64 h.id) (to_z w32 h.lat) (to_z w32 h.lon) (map tag_part x.tags) (meta_words m)
+push_handed K.Way h m (Some x) r = push_way r (to_z w64 h.id) (refs_in x.body) (map tag_part x.tags) (meta_words m)
+push_handed K.Relation h m (Some x) r = push_relation r (to_z w64 h.id) (map member_part (members_in x.body)) (map tag_part x.tags) (meta_words m)
 
 abbrev pub rust_push : Kind → PushHead → Bits.ArenaMeta → Bytes → CompactDiffOverlay → Result CompactDiffOverlay ℤ
 rust_push k h m parts r = push_handed k h m (pushed_record k (head_in k h) (meta_of m) parts) r
@@ -84,7 +83,7 @@ meta_off k = META_OFF (element_kind k)
 pub record SameTexts (held : List Bytes) (i : StringInterner) : Type 0 where
   pub count : length i.strings.table ≡ length held
   pub lookup : (t : Bytes) → get_text i.lookup t ≡ handle_of t held
-  pub resolves : (n : ℕ) → n < length held → resolve i.strings n ≡ some (text_of held n)
+  pub resolves : (n : ℕ) → n < length held → resolve i.strings n ≡ Some (text_of held n)
 
 -- kinds, texts and setting
 pub record SameCore (o : Overlay) (r : CompactDiffOverlay) : Type 0 where

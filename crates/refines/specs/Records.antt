@@ -1,6 +1,5 @@
 -- What the Rust's accessors and iterators read of a record's data, beside the record with its texts.
-use Rattle.std.specs.Prelude.{◌≡◌, Bool, cond, not, map, ℤ}
-use Rattle.std.proofs.Math.Option.{Option, none, some}
+use Rattle.std.specs.Prelude.{◌≡◌, Bool, cond, not, map, ℤ, None, Option, Some}
 use Rattle.base.specs.Bytes.{Bytes}
 use Rattle.model.specs.Record.{Meta, Member, Tag, Body, place, refs, members, Record, kind_of, flagged}
 use Rattle.published.specs.Std.{index}
@@ -19,18 +18,18 @@ member_item m = record { member_type = element_kind m.type; ref_id = m.ref; role
 abbrev pub metadata_read : Meta Bytes → Option Metadata
 metadata_read m =
     cond (flagged 1 m.flags)
-    (some (record { version = m.version; timestamp = m.timestamp; changeset = m.changeset; uid = m.uid; user = m.user; visible = not (flagged 2 m.flags) }))
-    none
+    (Some (record { version = m.version; timestamp = m.timestamp; changeset = m.changeset; uid = m.uid; user = m.user; visible = not (flagged 2 m.flags) }))
+    None
 
 -- a node's place, a way's refs, a relation's members
 abbrev pub BodyRead : StringTable → Bytes → Body Bytes → Type 0
-BodyRead strings s (place lat lon) = (Rust.decimicro_lat s ≡ some lat) × (Rust.decimicro_lon s ≡ some lon)
-BodyRead strings s (refs rs) = Rust.refs s ≡ some rs
-BodyRead strings s (members ms) = Rust.members strings s ≡ some (map member_item ms)
+BodyRead strings s (place lat lon) = (Rust.decimicro_lat s ≡ Some lat) × (Rust.decimicro_lon s ≡ Some lon)
+BodyRead strings s (refs rs) = Rust.refs s ≡ Some rs
+BodyRead strings s (members ms) = Rust.members strings s ≡ Some (map member_item ms)
 
 pub record RecordRead (from_utf8 : Bytes → Bool) (strings : StringTable) (s : Bytes) (i : ℤ) (r : Record Bytes) : Type 0 where
-  pub id : Rust.record_id s ≡ some i
-  pub flags : index s (Rust.META_OFF (element_kind (kind_of r.body))) ≡ some r.meta.flags
-  pub metadata : Rust.metadata (element_kind (kind_of r.body)) strings s ≡ some (metadata_read r.meta)
+  pub id : Rust.record_id s ≡ Some i
+  pub flags : index s (Rust.META_OFF (element_kind (kind_of r.body))) ≡ Some r.meta.flags
+  pub metadata : Rust.metadata (element_kind (kind_of r.body)) strings s ≡ Some (metadata_read r.meta)
   pub body : BodyRead strings s r.body
-  pub tags : Rust.tags from_utf8 (element_kind (kind_of r.body)) strings s ≡ some (map tag_text r.tags)
+  pub tags : Rust.tags from_utf8 (element_kind (kind_of r.body)) strings s ≡ Some (map tag_text r.tags)

@@ -1,6 +1,5 @@
 -- A reader beside the Rust's state and staged element.
-use Rattle.std.specs.Prelude.{◌≡◌, ℕ, map, ℤ, pos}
-use Rattle.std.proofs.Math.Option.{Option, none, some}
+use Rattle.std.specs.Prelude.{◌≡◌, ℕ, map, ℤ, pos, None, Option, Some}
 use Rattle.std.specs.Int.{w64}
 use Rattle.std.proofs.Common.{to_z}
 use Rattle.nesting.specs.declared.Action.{Action}
@@ -40,23 +39,23 @@ staging_of id r =
     }
 
 abbrev pub staged_as : ℤ → Option (Record ℕ) → Option Staging
-staged_as id none = none
-staged_as id (some r) = some (staging_of id r)
+staged_as id None = None
+staged_as id (Some r) = Some (staging_of id r)
 
 -- "`None` while no create/modify element is being staged"
 abbrev pub if_pushed : Action → Option Staging → Option Staging
 if_pushed A.Create st = st
 if_pushed A.Modify st = st
-if_pushed A.Delete st = none
+if_pushed A.Delete st = None
 
 abbrev pub if_open : Level → Option Staging → Option Staging
-if_open L.Doc st = none
-if_open L.Root st = none
-if_open L.Section st = none
+if_open L.Doc st = None
+if_open L.Root st = None
+if_open L.Section st = None
 if_open L.Element st = st
 if_open L.Leaf st = st
-if_open L.Other st = none
-if_open L.Done st = none
+if_open L.Other st = None
+if_open L.Done st = None
 
 abbrev pub staged_in : State → Option Staging
 staged_in s =

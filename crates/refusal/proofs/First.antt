@@ -1,17 +1,17 @@
 -- The first row of two tables, one after the other.
+use Rattle.std.specs.Prelude.{None, Option, Some}
 use mathlib.Core.Path.{◌≡◌, refl}
 use mathlib.Core.Bool.{Bool, true, false, cond}
-use mathlib.Core.Option.{Option, none, some}
 use mathlib.Core.List.{List, [], ◌∷◌, ◌++◌}
 use Rattle.refusal.specs.First.{ConditionRow, first_of}
 
 -- what comes first, if there is anything, else what comes next
 abbrev pub before : {A : Type 0} → Option A → Option A → Option A
-before none y = y
-before (some x) y = some x
+before None y = y
+before (Some x) y = Some x
 
 module _ {A : Type 0} where
-  after_row : (b : Bool) (a : A) (x y z : Option A) → x ≡ before y z → cond b (some a) x ≡ before (cond b (some a) y) z
+  after_row : (b : Bool) (a : A) (x y z : Option A) → x ≡ before y z → cond b (Some a) x ≡ before (cond b (Some a) y) z
   after_row true a x y z e = refl
   after_row false a x y z e = e
 

@@ -5,75 +5,36 @@
 
 mod answers;
 mod fields;
-mod write;
-
-ghost use Rattle.std.specs.Prelude.{◌≤◌, length, IfOk};
 
 use std::io;
 use std::io::Read;
 
-// One question; a word that is not on the list gets no answer.
-fn answer(rt: &impl Print, line: &[u8]) -> io::Result<()> {
+// A question and its answer; a word that is not on the list gets no answer.
+fn whole_line(rt: &(impl AllocGlobal + Print), line: &[u8]) -> io::Result<()> {
     let word = fields::field(line, 0);
     let a = fields::field(line, 1);
     let b = fields::field(line, 2);
-    if answers::of_ids(rt, word, a, b)? {
-        return Ok(());
+    rt.write_all(line)?;
+    if let Some(answer) = answers::answer_to(rt.alloc(), word, a, b)? {
+        print!(rt; "\t{answer}")?;
     }
-    if answers::of_versions(rt, word, a, b)? {
-        return Ok(());
-    }
-    answers::of_texts(rt, word, a)?;
-    Ok(())
-}
-
-fn whole_line(rt: &impl Print, line: &[u8]) -> io::Result<()> {
-    write::bytes(rt, line)?;
-    answer(rt, line)?;
-    write::bytes(rt, b"\n")
+    rt.write_all(b"\n")
 }
 
 // Every line that a line feed ends.
-fn replay(rt: &impl Print, s: &[u8]) -> io::Result<()> {
-    let mut start: usize = 0;
-    while start < s.len() {
-        let end = fields::seek(s, start, 10);
-        if end == s.len() {
-            return Ok(());
+fn replay(rt: &(impl AllocGlobal + Print), input: &[u8]) -> io::Result<()> {
+    for line in input.split_inclusive(|b| *b == b'\n') {
+        if let [line @ .., b'\n'] = line {
+            whole_line(rt, line)?;
         }
-        whole_line(rt, &s[start..end])?;
-        start = end + 1;
     }
     Ok(())
 }
 
-// Reads until the buffer is full or the input ends, and answers how many bytes it put at the buffer's start.
-fn read_full(input: &mut impl Read, buf: &mut [u8]) -> io::Result<usize>
-    ensures { IfOk result (λ n. n ≤ length buf.new) }
-{
-    let mut done = 0;
-    while done < buf.len() {
-        let n = input.read(&mut buf[done..])?;
-        if n == 0 {
-            break;
-        }
-        done += n;
-    }
-    Ok(done)
-}
-
-fn read(rt: &(impl Input + Print), buf: &mut [u8]) -> io::Result<()> {
-    let n = read_full(&mut rt.reader(), buf)?;
-    replay(rt, &buf[..n])
-}
-
-// An array of this length is lent whole first, and as a slice from here.
-fn lend(rt: &(impl Input + Print), buf: &mut [u8; 131072]) -> io::Result<()> {
-    read(rt, buf)
-}
-
-// The questions are some 57,000 bytes; what does not fit is not read, and is missing from what is written.
+// The questions are some 57,000 bytes; what stands past 131,072 is not read. Where there is no memory for the questions, or for the bytes of a text, the program ends with that error, as it does where a
+// read or a write fails.
 fn main(rt: HostRuntime) -> io::Result<()> {
-    let mut buf = [0u8; 131072];
-    lend(&rt, &mut buf)
+    let mut input = Vec::new(rt.alloc());
+    rt.stdin().take(131_072).read_to_end(&mut input)?;
+    replay(&rt, &input)
 }

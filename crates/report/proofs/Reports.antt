@@ -1,4 +1,5 @@
 -- How the line is printed: HELD by the number, the pieces in order, measured and then written.
+use Rattle.std.specs.Prelude.{None, Option, Some}
 use Prim.Native.Nat.{ℕ, ◌-◌, ◌≤◌}
 use mathlib.Core.Path.{◌≡◌, sym, ◌∙◌, ap}
 use mathlib.Core.List.{[], ◌∷◌}
@@ -19,8 +20,6 @@ use Rattle.refusal.specs.declared.Reply.{Reply}
 use Rattle.line.specs.Decimal.{number_text, integer_text}
 use Rattle.little.specs.Little.{over}
 use Rattle.little.proofs.Overs.{over_nothing, over_lent_start}
-use Rattle.print.specs.declared.Room.{Room}
-use Rattle.print.specs.declared.Room.TheVariants.{Left, Full}
 use Rattle.print.specs.Print.{Printed, print_step, print, joined_pieces, tab, tabs, line_pieces}
 use Rattle.print.specs.Piece.{behind}
 use Rattle.print.proofs.Pieces.{two_printed}
@@ -68,20 +67,20 @@ module _ (s : Bytes) (r : Refusal) (n : ℕ) where
   pieces_joined = line_pieces_lem (ascii "refused") (number_text (number_of r) ∷ number_text n ∷ held_field r ∷ [])
 
   -- lent `&mut s[s.len()..]`, no bytes, it is only measured: `last` is left of the part
-  pub line_measured : (last : Bytes) (room : Room)
+  pub line_measured : (last : Bytes) (room : Option ℕ)
       → ◌≡◌ {A = Printed} (record { out = last; room = room })
-      (print (length s) (line_pieces (refused_fields r n)) (record { out = mid_of (length s) (length s - length s) s; room = Left (length s) }))
-      → (put_mid (length s) (length s - length s) s last ≡ s) × (room ≡ behind (Left (length s)) (length (refused_line r n)))
+      (print (length s) (line_pieces (refused_fields r n)) (record { out = mid_of (length s) (length s - length s) s; room = Some (length s) }))
+      → (put_mid (length s) (length s - length s) s last ≡ s) × (room ≡ behind (Some (length s)) (length (refused_line r n)))
   line_measured last room e =
       let m : mid_of (length s) (length s - length s) s ≡ [] = rw drop-length (take-nil (length s - length s)) in
-      let w = (rw m at e) ∙ measured (length s) (line_pieces (refused_fields r n)) (Left (length s)) in
+      let w = (rw m at e) ∙ measured (length s) (line_pieces (refused_fields r n)) (Some (length s)) in
       let l : last ≡ over (mid_of (length s) (length s - length s) s) 0 [] = rw (over_nothing, m) (ap (λ (p : Printed). p.out) w) in (
         over_lent_start s last (length s) [] (omega arith) l ∙ over_nothing s (length s),
-        ap (λ (p : Printed). p.room) w ∙ ap (λ (t : Bytes). behind (Left (length s)) (length t)) pieces_joined,
+        ap (λ (p : Printed). p.room) w ∙ ap (λ (t : Bytes). behind (Some (length s)) (length t)) pieces_joined,
       )
 
   -- it does not fit
-  pub too_long : Full ≡ behind (Left (length s)) (length (refused_line r n)) → ◌≡◌ {A = Report} (record { out = s; written = 0 }) (report_of s (refused_line r n))
+  pub too_long : None ≡ behind (Some (length s)) (length (refused_line r n)) → ◌≡◌ {A = Report} (record { out = s; written = 0 }) (report_of s (refused_line r n))
   unfolding report_of
   too_long e =
       by_le (length (refused_line r n)) (length s)
@@ -89,15 +88,15 @@ module _ (s : Bytes) (r : Refusal) (n : ℕ) where
       (λ h. rw (lt-leb (length (refused_line r n)) (length s) h))
 
   -- it fits
-  module _ (left : ℕ) (e : Left left ≡ behind (Left (length s)) (length (refused_line r n))) where
+  module _ (left : ℕ) (e : Some left ≡ behind (Some (length s)) (length (refused_line r n))) where
     pub room_left : (length (refused_line r n) ≤ length s) × (left ≡ length s - length (refused_line r n))
     room_left =
         by_le (length (refused_line r n)) (length s)
         (λ h. (h, cc (behind_fits (length s) (length (refused_line r n)) h)))
         (λ h. no (cc (behind_past (length s) (length (refused_line r n)) h)))
 
-    pub line_written : (out : Bytes) (room : Room)
-        → ◌≡◌ {A = Printed} (record { out = out; room = room }) (print (length s) (line_pieces (refused_fields r n)) (record { out = s; room = Left (length s) }))
+    pub line_written : (out : Bytes) (room : Option ℕ)
+        → ◌≡◌ {A = Printed} (record { out = out; room = room }) (print (length s) (line_pieces (refused_fields r n)) (record { out = s; room = Some (length s) }))
         → ◌≡◌ {A = Report} (record { out = out; written = length s - left }) (report_of s (refused_line r n))
     unfolding report_of
     line_written out room d =

@@ -5,14 +5,13 @@ ghost use Rattle.std.specs.Prelude.{◌≡◌, [], ◌∷◌};
 ghost use Rattle.print.specs.Print.{print, tab, line_pieces};
 ghost use Rattle.report.specs.Report.{held_field, refused_fields, refused_line, report_of};
 
-use print::Room;
-use refusal::Refusal;
+use refusal::{Refusal, Reply};
 
 // A tab and HELD: the known version for 12, else `-`.
-fn put_held(out: &mut [u8], cap: usize, room: Room, refusal: Refusal) -> Room
+fn put_held(out: &mut [u8], cap: usize, room: Option<usize>, refusal: Refusal) -> Option<usize>
     ensures { record { out = out.new; room = result } ≡ print cap (tab ∷ held_field refusal ∷ []) (record { out = out.old; room = room }) }
 {
-    let reply = refusal::reply_of(refusal);
+    let reply = Reply::from(refusal);
     if reply.number == 12 {
         return print::put_integer32(out, cap, room, signed::bits_of_i32(reply.held));
     }
@@ -21,10 +20,16 @@ fn put_held(out: &mut [u8], cap: usize, room: Room, refusal: Refusal) -> Room
 }
 
 // The line, piece by piece.
-fn put_line(out: &mut [u8], cap: usize, room: Room, refusal: Refusal, line: u64) -> Room
+fn put_line(
+    out: &mut [u8],
+    cap: usize,
+    room: Option<usize>,
+    refusal: Refusal,
+    line: u64,
+) -> Option<usize>
     ensures { record { out = out.new; room = result } ≡ print cap (line_pieces (refused_fields refusal line)) (record { out = out.old; room = room }) }
 {
-    let reply = refusal::reply_of(refusal);
+    let reply = Reply::from(refusal);
     let room = print::put_bytes(out, cap, room, b"refused");
     let room = print::put_number(out, cap, room, reply.number as u64);
     let room = print::put_number(out, cap, room, line);
@@ -37,9 +42,9 @@ pub fn put_refused(out: &mut [u8], refusal: Refusal, line: u64) -> usize
     ensures { record { out = out.new; written = result } ≡ report_of out.old (refused_line refusal line) }
 {
     let cap = out.len();
-    let Room::Left(left) = put_line(&mut out[cap..], cap, Room::Left(cap), refusal, line) else {
+    let Some(left) = put_line(&mut out[cap..], cap, Some(cap), refusal, line) else {
         return 0;
     };
-    put_line(out, cap, Room::Left(cap), refusal, line);
+    put_line(out, cap, Some(cap), refusal, line);
     cap - left
 }

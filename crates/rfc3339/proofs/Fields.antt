@@ -1,8 +1,8 @@
 -- Digits of two and four places: written, and read back.
+use Rattle.std.specs.Prelude.{Some}
 use Prim.Native.Nat.{ℕ, suc, ◌+◌, ◌-◌, ◌*◌, ◌/◌, ◌%◌, ◌<◌, ◌≤◌}
 use mathlib.Core.Path.{◌≡◌, refl, ap, ◌∙◌}
 use mathlib.Core.Bool.{true}
-use mathlib.Core.Option.{some}
 use mathlib.Core.List.{[], ◌∷◌, ◌++◌}
 use native.Mathlib.Omega.{arith}
 use lib.ListN.{length, get_or, take, drop, length-take, length-drop, take-append-drop}
@@ -26,9 +26,9 @@ module _ (n : ℕ) where
   unfolding two all
   two_all h = both_of (digit_of (48 + n / 10) (omega arith) (omega arith)) (both_of (digit_of (48 + n % 10) (omega arith) (omega arith)) refl)
 
-  pub two_digits : n < 100 → digits (two n) ≡ some n
+  pub two_digits : n < 100 → digits (two n) ≡ Some n
   unfolding two
-  two_digits h = digits_of (two n) (omega arith) (two_all h) ∙ ap some two_reads
+  two_digits h = digits_of (two n) (omega arith) (two_all h) ∙ ap Some two_reads
 
   -- the first two places and the last two
   halves : four n ≡ two (n / 100) ++ two (n % 100)
@@ -51,9 +51,9 @@ four_all n h =
     (both_of (digit_of (48 + n / 10 % 10) (omega arith) (omega arith))
     (both_of (digit_of (48 + n % 10) (omega arith) (omega arith)) refl)))
 
-pub four_digits : (n : ℕ) → n < 10000 → digits (four n) ≡ some n
+pub four_digits : (n : ℕ) → n < 10000 → digits (four n) ≡ Some n
 unfolding four
-four_digits n h = digits_of (four n) (omega arith) (four_all n h) ∙ ap some (four_reads n)
+four_digits n h = digits_of (four n) (omega arith) (four_all n h) ∙ ap Some (four_reads n)
 
 two_spelled : (s : Bytes) → length s ≡ 2 → all is_digit s ≡ true → (s ≡ two (decimal 0 s)) × (decimal 0 s < 100)
 unfolding two decimal
@@ -85,7 +85,7 @@ four_spelled s l h =
     (joined (take 2 s) (drop 2 s) (rw length-take (omega arith)) (rw length-drop (omega arith)) (rw take-append-drop h))
 
 -- two and four digits are those of their number
-module _ (s : Bytes) {n : ℕ} (e : digits s ≡ some n) where
+module _ (s : Bytes) {n : ℕ} (e : digits s ≡ Some n) where
   pub two_back : length s ≡ 2 → s ≡ two n
   two_back l = (two_spelled s l (digits_is s e).1.0).0 ∙ ap two (digits_is s e).1.1
 

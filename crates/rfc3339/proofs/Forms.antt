@@ -1,8 +1,8 @@
 -- Which date-times keep the form: those with capitals, no fraction, `Z` and no leap second.
+use Rattle.std.specs.Prelude.{None, Option, Some}
 use Prim.Native.Nat.{ℕ, ◌≤◌}
 use Prim.Native.Char.{Char, code}
 use mathlib.Core.Path.{◌≡◌, refl, sym, ap, ◌∙◌}
-use mathlib.Core.Option.{Option, none, some}
 use mathlib.Core.List.{◌++◌}
 use native.Mathlib.Omega.{arith}
 use lib.ListN.{get_or, take, drop}
@@ -47,18 +47,18 @@ capital b upper e = refl
 capital b lower e = no (omega arith)
 
 -- after the second only "Z" begins so
-only_z : (o : Option Bytes) (f : Offset) → get_or (after_second o f) 0 0 ≡ code "Z" → (o ≡ none) × (f ≡ utc upper)
+only_z : (o : Option Bytes) (f : Offset) → get_or (after_second o f) 0 0 ≡ code "Z" → (o ≡ None) × (f ≡ utc upper)
 unfolding optional time_offset time_numoffset
-only_z none (utc c) e = (refl, ap utc (capital "Z" c e))
-only_z none (east h m) e = no (omega arith)
-only_z none (west h m) e = no (omega arith)
-only_z (some digits) f e = no (omega arith)
+only_z None (utc c) e = (refl, ap utc (capital "Z" c e))
+only_z None (east h m) e = no (omega arith)
+only_z None (west h m) e = no (omega arith)
+only_z (Some digits) f e = no (omega arith)
 
 -- capitals, no fraction, `Z` and no leap second
 pub record Unmarked (t : DateTime) : Type 0 where
   pub separator : t.separator ≡ upper
   pub second : t.second ≤ 59
-  pub secfrac : t.secfrac ≡ none
+  pub secfrac : t.secfrac ≡ None
   pub offset : t.offset ≡ utc upper
 
 pub kept_unmarked : (t : DateTime) → Ranges t → KeepsForm (date_time t) → Unmarked t

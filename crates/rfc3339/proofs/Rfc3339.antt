@@ -1,9 +1,9 @@
 -- The timestamp reader against RFC 3339: it takes exactly the date-times of the kept form, with their value.
+use Rattle.std.specs.Prelude.{None, Option, Some}
 use Prim.Native.Nat.{ℕ, ◌≤◌}
 use mathlib.Core.Path.{◌≡◌, refl, sym, ap, ◌∙◌}
 use mathlib.Core.Logic.{◌↔◌, ◌⊎◌, ⊎_elim}
 use mathlib.Core.Bool.{true, false, cond}
-use mathlib.Core.Option.{Option, none, some}
 use native.Mathlib.Omega.{arith}
 use lib.IntN.{ℤ, +ℤ_idr}
 use borrow.Author.Tests.{le-leb}
@@ -64,15 +64,15 @@ module _ (m : Moment) where
 -- ---- the theorem
 
 -- the answer at a text of the shape whose fields are a moment's numbers
-answers : (s : Bytes) (m : Moment) → shaped s ≡ true → moment s ≡ some m → stamp s ≡ cond (taken_moment m) (some (seconds_of m)) none
+answers : (s : Bytes) (m : Moment) → shaped s ≡ true → moment s ≡ Some m → stamp s ≡ cond (taken_moment m) (Some (seconds_of m)) None
 unfolding stamp accepted_moment
 answers s m h e = rw (h, e)
 
-unread : (s : Bytes) → shaped s ≡ true → moment s ≡ none → stamp s ≡ none
+unread : (s : Bytes) → shaped s ≡ true → moment s ≡ None → stamp s ≡ None
 unfolding stamp accepted_moment
 unread s h e = rw (h, e)
 
-unshaped : (s : Bytes) → shaped s ≡ false → stamp s ≡ none
+unshaped : (s : Bytes) → shaped s ≡ false → stamp s ≡ None
 unfolding stamp
 unshaped s h = rw h
 
@@ -83,7 +83,7 @@ shape_kept s u m f l =
       bytes20 = u.long;
       capital_t = u.at10;
       capital_z = u.at19;
-      no_second60 = λ e. let w : some 60 ≡ some m.second = ap digits (sym e) ∙ f.second in let q : 60 ≡ m.second = cc in omega arith;
+      no_second60 = λ e. let w : Some 60 ≡ Some m.second = ap digits (sym e) ∙ f.second in let q : 60 ≡ m.second = cc in omega arith;
     }
 
 module _ (s : Bytes) (v : ℤ) where
@@ -94,22 +94,22 @@ module _ (s : Bytes) (v : ℤ) where
       let r = taken_ranges m (field_small s 0 4 (omega arith) f.year) b in
       (shape_kept s u m f b.second, record { parts = date_time_of m; ranges = r; text = spelled s u m f; seconds = sym z ∙ seconds m; whole = refl })
 
-  read : stamp s ≡ some v → KeepsForm s × IsDateTime s v
+  read : stamp s ≡ Some v → KeepsForm s × IsDateTime s v
   read e =
       by_bool (shaped s)
       (λ h. go h (moment s) refl)
-      (λ h. let w : none ≡ some v = sym (unshaped s h) ∙ e in no (cc))
+      (λ h. let w : None ≡ Some v = sym (unshaped s h) ∙ e in no (cc))
     where
       go : shaped s ≡ true → (o : Option Moment) → moment s ≡ o → KeepsForm s × IsDateTime s v
-      go h none p = let w : none ≡ some v = sym (unread s h p) ∙ e in no (cc)
-      go h (some m) p =
+      go h None p = let w : None ≡ Some v = sym (unread s h p) ∙ e in no (cc)
+      go h (Some m) p =
           let a = answers s m h p in
           by_bool (taken_moment m)
-          (λ l. let w : some (seconds_of m) ≡ some v = sym (rw l at a) ∙ e in read_moment (shape s h) m (moment_is s m p) l (cc))
-          (λ l. let w : none ≡ some v = sym (rw l at a) ∙ e in no (cc))
+          (λ l. let w : Some (seconds_of m) ≡ Some v = sym (rw l at a) ∙ e in read_moment (shape s h) m (moment_is s m p) l (cc))
+          (λ l. let w : None ≡ Some v = sym (rw l at a) ∙ e in no (cc))
 
 -- a date-time with nothing but its numbers is taken, with its value
-unmarked_taken : (t : DateTime) → Ranges t → Unmarked t → stamp (date_time t) ≡ some (since_epoch t)
+unmarked_taken : (t : DateTime) → Ranges t → Unmarked t → stamp (date_time t) ≡ Some (since_epoch t)
 unmarked_taken t r p =
     let u : t ≡ unmarked t = is_unmarked t p in
     let h : shaped (date_time t) ≡ true = ap (λ d. shaped (date_time d)) u ∙ unmarked_shape t in
@@ -118,49 +118,49 @@ unmarked_taken t r p =
 
 module _ (s : Bytes) (v : ℤ) where
   -- A date-time of section 5.6 that keeps the form is read as its value.
-  pub accepts : KeepsForm s → IsDateTime s v → stamp s ≡ some v
+  pub accepts : KeepsForm s → IsDateTime s v → stamp s ≡ Some v
   accepts k i =
       let p : Unmarked i.parts = kept_unmarked i.parts i.ranges (rw (← i.text) k) in
       rw (i.text, i.seconds) (unmarked_taken i.parts i.ranges p)
 
   -- A text is read, as v, exactly when it keeps the form and is a date-time of section 5.6 whose value is v.
-  pub exactly : (stamp s ≡ some v) ↔ (KeepsForm s × IsDateTime s v)
+  pub exactly : (stamp s ≡ Some v) ↔ (KeepsForm s × IsDateTime s v)
   exactly = (read s v, λ (k, i). accepts k i)
 
   -- So on texts that keep the form the reader and the RFC agree.
-  pub on_kept : KeepsForm s → (stamp s ≡ some v) ↔ IsDateTime s v
+  pub on_kept : KeepsForm s → (stamp s ≡ Some v) ↔ IsDateTime s v
   on_kept k = (λ e. (exactly.0 e).1, accepts k)
 
 -- ---- what RFC 3339 has and the reader refuses
 
 module _ (t : DateTime) (r : Ranges t) where
   -- Every date-time that does not keep the form: a lower-case letter, a fraction, a numeric offset, second 60.
-  pub unkept_refused : (KeepsForm (date_time t) → ⊥) → stamp (date_time t) ≡ none
+  pub unkept_refused : (KeepsForm (date_time t) → ⊥) → stamp (date_time t) ≡ None
   unkept_refused n = go (stamp (date_time t)) refl
     where
-      go : (o : Option ℤ) → stamp (date_time t) ≡ o → o ≡ none
-      go none e = refl
-      go (some v) e = absurd (n ((exactly (date_time t) v).0 e).0)
+      go : (o : Option ℤ) → stamp (date_time t) ≡ o → o ≡ None
+      go None e = refl
+      go (Some v) e = absurd (n ((exactly (date_time t) v).0 e).0)
 
-  marks_refused : (Unmarked t → ⊥) → stamp (date_time t) ≡ none
+  marks_refused : (Unmarked t → ⊥) → stamp (date_time t) ≡ None
   marks_refused n = unkept_refused (λ k. n (kept_unmarked t r k))
 
   -- By class:
-  pub no_lower_t : t.separator ≡ lower → stamp (date_time t) ≡ none
+  pub no_lower_t : t.separator ≡ lower → stamp (date_time t) ≡ None
   no_lower_t e = marks_refused (λ p. no (cc))
 
-  pub no_lower_z : t.offset ≡ utc lower → stamp (date_time t) ≡ none
+  pub no_lower_z : t.offset ≡ utc lower → stamp (date_time t) ≡ None
   no_lower_z e = marks_refused (λ p. no (cc))
 
-  pub no_fraction : (digits : Bytes) → t.secfrac ≡ some digits → stamp (date_time t) ≡ none
+  pub no_fraction : (digits : Bytes) → t.secfrac ≡ Some digits → stamp (date_time t) ≡ None
   no_fraction digits e = marks_refused (λ p. no (cc))
 
-  pub no_numoffset : (h m : ℕ) → (t.offset ≡ east h m) ⊎ (t.offset ≡ west h m) → stamp (date_time t) ≡ none
+  pub no_numoffset : (h m : ℕ) → (t.offset ≡ east h m) ⊎ (t.offset ≡ west h m) → stamp (date_time t) ≡ None
   no_numoffset h m e = marks_refused (λ p. ⊎_elim (λ q. no (cc)) (λ q. no (cc)) e)
 
-  pub no_leap_second : t.second ≡ 60 → stamp (date_time t) ≡ none
+  pub no_leap_second : t.second ≡ 60 → stamp (date_time t) ≡ None
   no_leap_second e = marks_refused (λ p. no (omega arith))
 
   -- Every other date-time is taken, with its value.
-  pub others_taken : t.separator ≡ upper → t.secfrac ≡ none → t.offset ≡ utc upper → (t.second ≡ 60 → ⊥) → stamp (date_time t) ≡ some (since_epoch t)
+  pub others_taken : t.separator ≡ upper → t.secfrac ≡ None → t.offset ≡ utc upper → (t.second ≡ 60 → ⊥) → stamp (date_time t) ≡ Some (since_epoch t)
   others_taken c o f n = unmarked_taken t r (record { separator = c; second = omega arith; secfrac = o; offset = f })

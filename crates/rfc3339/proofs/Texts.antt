@@ -1,8 +1,8 @@
 -- A text that the reader reads is that of a date-time of the kept form, and a date-time's text gives its numbers back.
+use Rattle.std.specs.Prelude.{None, Option, Some}
 use Prim.Native.Nat.{ℕ, ◌+◌, ◌≤◌}
 use mathlib.Core.Path.{◌≡◌, refl, ◌∙◌}
 use mathlib.Core.Bool.{true}
-use mathlib.Core.Option.{Option, none, some}
 use native.Mathlib.Omega.{arith}
 use lib.ListN.{length, get_or, take, drop, drop_of_length-le}
 use borrow.Author.Tests.{eqb-true}
@@ -34,7 +34,7 @@ marked t c o f =
 
 -- in the kept form
 abbrev pub unmarked : DateTime → DateTime
-unmarked t = marked t upper none (utc upper)
+unmarked t = marked t upper None (utc upper)
 
 -- the numbers of a date-time, as the reader has them
 unfoldable pub moment_of : DateTime → Moment
@@ -51,7 +51,7 @@ date_time_of m =
       hour = m.hour;
       minute = m.minute;
       second = m.second;
-      secfrac = none;
+      secfrac = None;
       offset = utc upper;
     }
 
@@ -88,11 +88,11 @@ shape s h =
 
 -- a text of the shape is that of the moment in its fields
 module _ (s : Bytes) (h : Shape s) where
-  pair : (from : ℕ) {n : ℕ} → from + 2 ≤ 20 → stamp_field s from 2 ≡ some n → take 2 (drop from s) ≡ two n
+  pair : (from : ℕ) {n : ℕ} → from + 2 ≤ 20 → stamp_field s from 2 ≡ Some n → take 2 (drop from s) ≡ two n
   unfolding stamp_field
   pair from l e = two_back (take 2 (drop from s)) e (field_length s from 2 (omega arith))
 
-  quad : {n : ℕ} → stamp_field s 0 4 ≡ some n → take 4 (drop 0 s) ≡ four n
+  quad : {n : ℕ} → stamp_field s 0 4 ≡ Some n → take 4 (drop 0 s) ≡ four n
   unfolding stamp_field
   quad e = four_back (take 4 (drop 0 s)) e (field_length s 0 4 (omega arith))
 
@@ -127,7 +127,7 @@ module _ (t : DateTime) where
   unmarked_shape = refl
 
   -- the numbers stand at the same places in every date-time
-  pub written_moment : Ranges t → moment (date_time t) ≡ some (moment_of t)
+  pub written_moment : Ranges t → moment (date_time t) ≡ Some (moment_of t)
   unfolding moment_of stamp_field date_time full_date full_time partial_time two four
   written_moment r =
       let days = month_bounds (leap t.year) t.month in

@@ -1,8 +1,8 @@
 -- A text is that of one date-time only, so it has one value.
+use Rattle.std.specs.Prelude.{None, Option, Some}
 use Prim.Native.Char.{Char}
 use mathlib.Core.Path.{◌≡◌, refl, sym, ap, ◌∙◌}
 use mathlib.Core.Bool.{true, false}
-use mathlib.Core.Option.{Option, none, some}
 use mathlib.Core.List.{[], ◌∷◌, ◌++◌}
 use native.Mathlib.Omega.{arith}
 use lib.ListN.{length, get_or, take, drop}
@@ -56,12 +56,12 @@ run_alone (c ∷ a) (d ∷ b) x y p q l m e =
 
 after_alone : (o p : Option Bytes) (f g : Offset) → SomeDigits o → SomeDigits p → after_second o f ≡ after_second p g → (o ≡ p) × (f ≡ g)
 unfolding optional
-after_alone none none f g k l e = (refl, offset_alone f g e)
-after_alone none (some b) f g k l e = absurd ((offset_first f).1 (ap (λ s. get_or s 0 0) e))
-after_alone (some a) none f g k l e = absurd ((offset_first g).1 (ap (λ s. get_or s 0 0) (sym e)))
-after_alone (some a) (some b) f g k l e =
+after_alone None None f g k l e = (refl, offset_alone f g e)
+after_alone None (Some b) f g k l e = absurd ((offset_first f).1 (ap (λ s. get_or s 0 0) e))
+after_alone (Some a) None f g k l e = absurd ((offset_first g).1 (ap (λ s. get_or s 0 0) (sym e)))
+after_alone (Some a) (Some b) f g k l e =
     let r = run_alone a b (time_offset f) (time_offset g) k.1 l.1 (offset_first f).0 (offset_first g).0 (ap (drop 1) e) in
-    (ap some r.0, offset_alone f g r.1)
+    (ap Some r.0, offset_alone f g r.1)
 
 after19 : (t : DateTime) → drop 19 (date_time t) ≡ after_second t.secfrac t.offset
 unfolding date_time full_date full_time partial_time two four
@@ -69,7 +69,7 @@ after19 t = refl
 
 pub one_reading : (t u : DateTime) → Ranges t → Ranges u → date_time t ≡ date_time u → t ≡ u
 one_reading t u r q e =
-    let w : some (moment_of t) ≡ some (moment_of u) = sym (written_moment t r) ∙ ap moment e ∙ written_moment u q in
+    let w : Some (moment_of t) ≡ Some (moment_of u) = sym (written_moment t r) ∙ ap moment e ∙ written_moment u q in
     let m : moment_of t ≡ moment_of u = cc in
     let n : unmarked t ≡ unmarked u = sym (moment_back t) ∙ ap date_time_of m ∙ moment_back u in
     let c : t.separator ≡ u.separator = letter_alone "T" t.separator u.separator (sym (at10 t) ∙ ap (λ s. get_or s 10 0) e ∙ at10 u) in

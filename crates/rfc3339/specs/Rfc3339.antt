@@ -1,8 +1,7 @@
 -- RFC 3339, section 5.6: what a date-time is, in the order and by the names of its rules, within the ranges of section 5.7; and its value.
 -- Each rule is the text that it writes of its parts. That an application may write a space for the "T" is a note there and no rule.
-use Rattle.std.specs.Prelude.{ℕ, ◌+◌, ◌-◌, ◌*◌, ◌/◌, ◌%◌, ◌≤◌, ◌≡◌, true, ◌⊎◌, [], ◌∷◌, ◌++◌, length, ℤ, pos, neg_ℤ, ◌-ℤ◌, ◌*ℤ◌}
+use Rattle.std.specs.Prelude.{ℕ, ◌+◌, ◌-◌, ◌*◌, ◌/◌, ◌%◌, ◌≤◌, ◌≡◌, true, ◌⊎◌, [], ◌∷◌, ◌++◌, length, ℤ, pos, neg_ℤ, ◌-ℤ◌, ◌*ℤ◌, None, Option, Some}
 use Prim.Native.Char.{Char, code}
-use Rattle.std.proofs.Math.Option.{Option, none, some}
 use Rattle.base.specs.Ascii.{ascii}
 use Rattle.base.specs.Bytes.{Bytes, all, is_digit}
 use Rattle.integer.specs.Integer.{decimal}
@@ -83,8 +82,8 @@ time_offset (west h m) = time_numoffset "-" h m
 
 -- [time-secfrac]
 unfoldable pub optional : Option Bytes → Bytes
-optional none = []
-optional (some digits) = time_secfrac digits
+optional None = []
+optional (Some digits) = time_secfrac digits
 
 -- partial-time    = time-hour ":" time-minute ":" time-second [time-secfrac]
 unfoldable pub partial_time : DateTime → Bytes
@@ -124,8 +123,8 @@ MonthEnd t = (minute_end t ≡ pos 0) ⊎ (minute_end t ≡ pos (month_days (lea
 
 -- 1*DIGIT, where there is a fraction
 abbrev pub SomeDigits : Option Bytes → Type 0
-SomeDigits none = Unit
-SomeDigits (some digits) = (1 ≤ length digits) × (all is_digit digits ≡ true)
+SomeDigits None = Unit
+SomeDigits (Some digits) = (1 ≤ length digits) × (all is_digit digits ≡ true)
 
 -- the time-hour and the time-minute of an offset
 abbrev pub OffsetRanges : Offset → Type 0
@@ -160,8 +159,8 @@ since_epoch t = pos (from_year0 t) -ℤ pos (years_days 1970 * 86400) -ℤ offse
 
 -- the number that the digits of the fraction write, 0 where there is none
 unfoldable pub fraction : Option Bytes → ℕ
-fraction none = 0
-fraction (some digits) = decimal 0 digits
+fraction None = 0
+fraction (Some digits) = decimal 0 digits
 
 -- the text is a date-time, and its value is v seconds with no fraction of one more
 pub record IsDateTime (s : Bytes) (v : ℤ) : Type 0 where

@@ -4,7 +4,7 @@
 
 use input_pieces::Fed;
 use overlay_blocks::COUNTERS;
-use reader::EventAnswer;
+use reader::RefusedAt;
 use reader_stage::STAGED;
 use std::io;
 use std::io::Read;
@@ -25,10 +25,10 @@ struct Run {
 }
 
 // A further piece may change something, or the reader is stopped and nothing does.
-fn after(answer: EventAnswer) -> Reading {
+fn after(answer: Result<(), RefusedAt>) -> Reading {
     match answer {
-        EventAnswer::Accepted => Reading::Going,
-        EventAnswer::Refused(refusal, line) => Reading::Ended,
+        Ok(()) => Reading::Going,
+        Err(_) => Reading::Ended,
     }
 }
 
@@ -128,7 +128,7 @@ fn read_and_print(
     let fed = Fed {
         reader,
         held: 0,
-        answer: EventAnswer::Accepted,
+        answer: Ok(()),
     };
     let run = read_all(rt, input, words, bytes, counters, ps, buf, piece, fed);
     let fed = run.fed;

@@ -1,4 +1,6 @@
 -- The start, a last line, and what is printed: each step of the code by its definition.
+use Rattle.reader.specs.declared.RefusedAt.{RefusedAt}
+use Rattle.std.specs.Prelude.{Err, Ok, Result}
 use Prim.Native.Nat.{ℕ, ◌+◌, ◌^◌, ◌<◌, ◌≤◌}
 use mathlib.Core.Path.{◌≡◌, refl, sym, ◌∙◌, ap, subst}
 use mathlib.Core.Bool.{true, false}
@@ -16,7 +18,6 @@ use Rattle.refusal.specs.declared.Reply.{Reply}
 use Rattle.refusal.specs.declared.Refusal.{Refusal}
 use Rattle.refusal.specs.declared.Refusal.TheVariants as R
 use Rattle.little.proofs.Overs.{over_start}
-use Rattle.kind_store.specs.declared.Kept.{Kept}
 use Rattle.overlay_blocks.specs.declared.Sizes.{Sizes}
 use Rattle.overlay_blocks.specs.Blocks.{sizes_in}
 use Rattle.overlay_blocks.specs.Sizes.{largest, kind_fits, strings_fit, sizes_in_range, filled, fitted}
@@ -28,14 +29,10 @@ use Rattle.overlay.proofs.Tiles.{fits_in}
 use Rattle.overlay.proofs.Answers.{by_set_up}
 use Rattle.input_lines.specs.Lines.{last_line}
 use Rattle.listing.specs.Call.{Output, page_of, page_over, listing_on, not_listed}
-use Rattle.listing.specs.declared.Listed.{Listed}
-use Rattle.listing.specs.declared.Listed.TheVariants as L
 use Rattle.report.specs.Report.{Report, refused_line, report_of}
 use Rattle.report.proofs.Fits.{refused_fits, refused_whole}
-use Rattle.reader.specs.State.{State, fresh_reader, state_sound, reader_sound}
+use Rattle.reader.specs.State.{State, fresh_reader, state_sound, reader_sound, refusal_at}
 use Rattle.reader.specs.declared.EventReader.{EventReader}
-use Rattle.reader.specs.declared.EventAnswer.{EventAnswer}
-use Rattle.reader.specs.declared.EventAnswer.TheVariants as E
 use Rattle.reader.specs.Event.{EventResult, event_on, end_on}
 use Rattle.reader.proofs.Answers.{by_end, end_22, answer_is}
 use Rattle.roadlist_page.specs.Roadlist.{program_sizes, start_on, refused_ending, page_ending, ending_at}
@@ -54,7 +51,7 @@ program_fits words bytes counters w b =
 
 -- so set-up stores them, and what it leaves is the overlay that its counters name
 pub started_by : (words bytes counters parts : List ℕ) → length words ≡ 5632 → length bytes ≡ 32768 → (z : Sizes) → z ≡ program_sizes
-    → (v c : List ℕ) (k : Kept) → ◌≡◌ {A = OverlayAfter} (record { overlay = overlay_for z v bytes c; answer = k }) (set_up z 0 (overlay_for z words bytes counters))
+    → (v c : List ℕ) (k : Result Unit Refusal) → ◌≡◌ {A = OverlayAfter} (record { overlay = overlay_for z v bytes c; answer = k }) (set_up z 0 (overlay_for z words bytes counters))
     → (r : EventReader) → r ≡ fresh_reader
     → ◌≡◌ {A = State} (record { overlay = overlay_in v bytes c; reader = r; parts = parts }) (start_on (overlay_for program_sizes words bytes counters) parts)
 unfolding start_on
@@ -100,7 +97,7 @@ refused_put out l r n h y g k q m e =
 module _ (out : Bytes) (l : length out ≡ 65536) (o : Overlay) (s : is_sound o ≡ true) (lines : ℕ) where
   -- 19 is the only refusal of the listing
   by_page : {C : Type 0} (x : Output) → x ≡ listing_on out o
-      → (x ≡ record { out = page_of o ++ drop (length (page_of o)) out; answer = L.Length (length (page_of o)) } → page_ending o lines ≡ record { text = page_of o; number = 0 } → C)
+      → (x ≡ record { out = page_of o ++ drop (length (page_of o)) out; answer = Ok (length (page_of o)) } → page_ending o lines ≡ record { text = page_of o; number = 0 } → C)
       → (x ≡ not_listed out R.ShortOutput → page_ending o lines ≡ refused_ending R.ShortOutput (lines + 1) → C) → C
   unfolding listing_on page_over page_ending
   by_page x e f g =
@@ -108,14 +105,14 @@ module _ (out : Bytes) (l : length out ≡ 65536) (o : Overlay) (s : is_sound o 
       (λ h. f (rw (s, l, le-leb (length (page_of o)) 65536 h) at e) (rw (le-leb (length (page_of o)) 65536 h)))
       (λ h. g (rw (s, l, lt-leb (length (page_of o)) 65536 h) at e) (rw (lt-leb (length (page_of o)) 65536 h)))
 
-  pub page_listed : (q : Bytes) (n : ℕ) (z : Listed) → z ≡ L.Length n → ◌≡◌ {A = Output} (record { out = q; answer = z }) (listing_on out o)
+  pub page_listed : (q : Bytes) (n : ℕ) (z : Result ℕ Refusal) → z ≡ Ok n → ◌≡◌ {A = Output} (record { out = q; answer = z }) (listing_on out o)
       → ◌≡◌ {A = EndOutput} (record { out = q; written = n; number = 0 }) (end_output out (page_ending o lines))
   page_listed q n y k e =
       by_page (record { out = q; answer = y }) e
       (λ x p. let z = sym k ∙ ap (λ (z : Output). z.answer) x in let m : n ≡ length (page_of o) = cc in rw p (λ i. record { out = (x i).out; written = m i; number = 0 }))
       (λ x p. let z = sym k ∙ ap (λ (z : Output). z.answer) x in no (cc))
 
-  pub page_refused : (q : Bytes) (r : Refusal) (z : Listed) → z ≡ L.Refused r → ◌≡◌ {A = Output} (record { out = q; answer = z }) (listing_on out o)
+  pub page_refused : (q : Bytes) (r : Refusal) (z : Result ℕ Refusal) → z ≡ Err r → ◌≡◌ {A = Output} (record { out = q; answer = z }) (listing_on out o)
       → (x : EndOutput) → x ≡ end_output q (refused_ending r (lines + 1)) → x ≡ end_output out (page_ending o lines)
   page_refused q r v i e x k =
       by_page (record { out = q; answer = v }) e
@@ -124,27 +121,27 @@ module _ (out : Bytes) (l : length out ≡ 65536) (o : Overlay) (s : is_sound o 
       rw p (rw (m, w) at k))
 
 -- an end is accepted in sound storage alone
-module _ (s : State) (r : EventAnswer) (e : ◌≡◌ {A = EventResult} (record { state = s; answer = r }) (end_on s)) where
-  pub end_sound : r ≡ E.Accepted → state_sound s ≡ true
+module _ (s : State) (r : Result Unit RefusedAt) (e : ◌≡◌ {A = EventResult} (record { state = s; answer = r }) (end_on s)) where
+  pub end_sound : r ≡ Ok tt → state_sound s ≡ true
   end_sound a =
       by_end s
       (λ u w. let z = sym a ∙ answer_is (sym e) (ap (λ (z : EventResult). z.answer) w) in no (cc))
       (λ x n u g t w. u)
       (λ u g w. u)
 
-  pub end_overlay : r ≡ E.Accepted → is_sound s.overlay ≡ true
+  pub end_overlay : r ≡ Ok tt → is_sound s.overlay ≡ true
   unfolding state_sound
   end_overlay a = both_left _ _ (end_sound a)
 
-  pub end_lines : r ≡ E.Accepted → s.reader.lines < 18446744073709551615
+  pub end_lines : r ≡ Ok tt → s.reader.lines < 18446744073709551615
   unfolding state_sound reader_sound
   end_lines a = ltb-true s.reader.lines 18446744073709551615 (both_right _ _ (both_right _ _ (end_sound a)))
 
-  pub ends_page : r ≡ E.Accepted → page_ending s.overlay s.reader.lines ≡ ending_at s
+  pub ends_page : r ≡ Ok tt → page_ending s.overlay s.reader.lines ≡ ending_at s
   unfolding ending_at
   ends_page a = rw (← e, a)
 
-  pub ends_refused : (x : Refusal) (n : ℕ) → r ≡ E.Refused x n → refused_ending x n ≡ ending_at s
+  pub ends_refused : (x : Refusal) (n : ℕ) → r ≡ Err (refusal_at x n) → refused_ending x n ≡ ending_at s
   unfolding ending_at
   ends_refused x n a = rw (← e, a)
 

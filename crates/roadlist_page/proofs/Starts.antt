@@ -1,4 +1,5 @@
 -- What the program lends is set up and sound, and stays so while events come: 22 cannot occur below 2^64 - 1 lines.
+use Rattle.std.specs.Prelude.{Err}
 use Prim.Native.Nat.{ℕ, zero, suc, ◌+◌, ◌-◌, ◌<◌, ◌≤◌}
 use mathlib.Core.Path.{◌≡◌, refl, ◌∙◌, ap}
 use mathlib.Core.Bool.{true}
@@ -24,11 +25,10 @@ use Rattle.overlay.proofs.Puts.{kind_store_for}
 use Rattle.overlay.proofs.Keeps.{setup_sound, setup_bytes}
 use Rattle.input_lines.specs.Lines.{input_lines}
 use Rattle.input_lines.specs.Stream.{after_input}
-use Rattle.reader.specs.State.{State, state_sound}
-use Rattle.reader.specs.declared.EventAnswer.TheVariants as E
+use Rattle.reader.specs.State.{State, state_sound, refusal_at}
 use Rattle.reader.specs.Event.{event_on, end_on}
 use Rattle.reader.proofs.Acts.{Fine}
-use Rattle.reader.proofs.Answers.{by_answer, by_end, by_level, answer_is, event_counts}
+use Rattle.reader.proofs.Answers.{by_answer, by_end, by_level, answer_is, event_counts, same_refusal}
 use Rattle.reader.proofs.Events.{by_refused, unsound_stops_not}
 use Rattle.reader.proofs.Keeps.{ReadyIn, event_fine, event_ready, ready_sound, fresh_ready}
 use Rattle.reader.specs.State.{stops_by}
@@ -127,9 +127,9 @@ module _ (input : Bytes) (short : length (input_lines input) < 18446744073709551
       ready_sound final w.fine w.ready (omega (arith, w.lines))
 
   -- 22 is not the answer of the end, so it is not printed
-  pub no_22 : (n : ℕ) → (end_on final).answer ≡ E.Refused R.Unsound n → ⊥
+  pub no_22 : (n : ℕ) → (end_on final).answer ≡ Err (refusal_at R.Unsound n) → ⊥
   no_22 n a =
       by_end final
       (λ u w. clash final_sound u)
-      (λ r m u g t w. let z = answer_is w a in let k : r ≡ R.Unsound = cc in clash t (ap stops_by k ∙ unsound_stops_not))
-      (λ u g w. by_level final final.reader.place.level (λ d x. let z = answer_is (w ∙ x) a in no (cc)) (λ d x. let z = answer_is (w ∙ x) a in no (cc)))
+      (λ r m u g t w. let k : r ≡ R.Unsound = (same_refusal (answer_is w a)).0 in clash t (ap stops_by k ∙ unsound_stops_not))
+      (λ u g w. by_level final final.reader.place.level (λ d x. let z = answer_is (w ∙ x) a in no (cc)) (λ d x. let k : R.Unfinished ≡ R.Unsound = (same_refusal (answer_is (w ∙ x) a)).0 in no (cc)))

@@ -1,6 +1,7 @@
 -- Document 01, "The listing": "Program `roadlist` reads event lines from standard input and prints the listing, or `refused⇥NUMBER⇥LINE⇥HELD`: line from 1 (for 18 and 19 one
 -- past the last), HELD the known version for 12, else `-`. It lends 512 ids and 8,192 arena bytes a kind, 512 strings, 8,192 string bytes, 65,536 output bytes."
-use Rattle.std.specs.Prelude.{ℕ, ◌+◌, cond, leb, length, replicate}
+use Rattle.reader.specs.declared.RefusedAt.{RefusedAt}
+use Rattle.std.specs.Prelude.{ℕ, ◌+◌, cond, leb, length, replicate, Ok, Err, Result}
 use Rattle.base.specs.Bytes.{Bytes}
 use Rattle.refusal.specs.Refusal.{number_of}
 use Rattle.refusal.specs.declared.Refusal.{Refusal}
@@ -14,8 +15,6 @@ use Rattle.input_lines.specs.Stream.{after_input}
 use Rattle.listing.specs.Call.{page_of}
 use Rattle.report.specs.Report.{refused_line}
 use Rattle.reader.specs.State.{State, fresh_reader}
-use Rattle.reader.specs.declared.EventAnswer.{EventAnswer}
-use Rattle.reader.specs.declared.EventAnswer.TheVariants as E
 use Rattle.reader.specs.Event.{end_on}
 use Rattle.input_pieces.specs.Feed.{after_event}
 
@@ -47,9 +46,9 @@ refused_ending r n = record { text = refused_line r n; number = number_of r }
 unfoldable pub page_ending : Overlay → ℕ → Ending
 page_ending o lines = cond (leb (length (page_of o)) 65536) (record { text = page_of o; number = 0 }) (refused_ending R.ShortOutput (lines + 1))
 
-abbrev pub ending_by : EventAnswer → State → Ending
-ending_by E.Accepted s = page_ending s.overlay s.reader.lines
-ending_by (E.Refused r n) s = refused_ending r n
+abbrev pub ending_by : Result Unit RefusedAt → State → Ending
+ending_by (Ok tt) s = page_ending s.overlay s.reader.lines
+ending_by (Err a) s = refused_ending a.refusal a.line
 
 -- by what the end answers in a state: a refused event stopped its reader, so the end repeats that refusal
 unfoldable pub ending_at : State → Ending

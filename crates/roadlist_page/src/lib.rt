@@ -14,12 +14,11 @@ use compact::{ArenaMeta, PushHead};
 use event_scan::MAX_LINE;
 use input_pieces::Fed;
 use kind::Kind;
-use listing::Listed;
 use nesting::{Action, Level, Place};
 use overlay_blocks::{COUNTERS, KindSize, Sizes};
-use reader::{EventAnswer, EventReader, Pending, Stop};
+use reader::{EventReader, Pending};
 use reader_stage::STAGED;
-use refusal::Refusal;
+use refusal::{Refusal, Reply};
 
 // A fresh reader: before the document, with nothing pending.
 fn fresh_reader() -> EventReader
@@ -50,7 +49,7 @@ fn fresh_reader() -> EventReader
             used: 0,
         },
         lines: 0,
-        stop: Stop::Going,
+        stop: None,
     }
 }
 
@@ -81,7 +80,8 @@ pub fn start(
     ensures { state_left words.new bytes.now counters.new ps.now result
         ≡ start_on (lent_for program_sizes words.old bytes.now counters.old) ps.now }
 {
-    overlay::set_up(words, bytes, counters, program_sizes(), 0);
+    // the sizes are those of the arrays, so it is not refused
+    let _ = overlay::set_up(words, bytes, counters, program_sizes(), 0);
     fresh_reader()
 }
 
@@ -118,7 +118,7 @@ fn put_refusal(out: &mut [u8], refusal: Refusal, line: u64) -> Ended
     requires { length out.old ≡ 65536 }
     ensures { record { out = out.new; written = result.written; number = result.number } ≡ end_output out.old (refused_ending refusal line) }
 {
-    let reply = refusal::reply_of(refusal);
+    let reply = Reply::from(refusal);
     let written = report::put_refused(out, refusal, line);
     Ended {
         written,
@@ -141,11 +141,11 @@ fn put_page(
         ≡ end_output out.old (page_ending (lent words.now bytes.now counters.now) lines) }
 {
     match listing::list(words, bytes, counters, out) {
-        Listed::Length(n) => Ended {
+        Ok(n) => Ended {
             written: n,
             number: 0,
         },
-        Listed::Refused(refusal) => put_refusal(out, refusal, lines + 1),
+        Err(refusal) => put_refusal(out, refusal, lines + 1),
     }
 }
 
@@ -163,8 +163,8 @@ fn put_end(
         ≡ end_output out.old (ending_at (state_lent words.now bytes.now counters.now ps.now reader)) }
 {
     match reader_calls::end(words, bytes, counters, ps, reader) {
-        EventAnswer::Accepted => put_page(words, bytes, counters, out, reader.lines),
-        EventAnswer::Refused(refusal, line) => put_refusal(out, refusal, line),
+        Ok(()) => put_page(words, bytes, counters, out, reader.lines),
+        Err(at) => put_refusal(out, at.refusal, at.line),
     }
 }
 

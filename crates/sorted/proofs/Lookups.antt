@@ -1,7 +1,7 @@
 -- The lookups of document 01, by place and membership: positions, spans and overlaps.
-use Prim.Native.Nat.{ℕ, zero, suc, ◌<◌, ◌≤◌}
+use Prim.Native.Nat.{ℕ, zero, suc, ◌<◌, ◌≤◌, max}
 use mathlib.Core.Path.{◌≡◌, refl, sym, ◌∙◌, ap, fun_ext}
-use mathlib.Core.Bool.{Bool, true, false, cond, not}
+use mathlib.Core.Bool.{Bool, true, false, not}
 use mathlib.Core.List.{List, [], ◌∷◌}
 use mathlib.Core.Logic.{◌↔◌}
 use native.Mathlib.Omega.{arith}
@@ -15,9 +15,11 @@ use Rattle.base.proofs.Strict.{by_order, not_less}
 use Rattle.osm_id.specs.Order.{before, same_id, osm_key_of, first_key, last_key}
 use Rattle.osm_id.specs.declared.OsmIdKey.{OsmIdKey}
 use Rattle.osm_id.proofs.Orders.{order, same_is, key_before}
-use Rattle.sorted.specs.Lookup.{id_at, count, some, ids_rising_from, in_order, key_within, any_within, overlaps, under, ids_before, ids_up_to, stands_at, range_of}
+use Rattle.sorted.specs.Lookup.{id_at, count, some, ids_rising_from, in_order, key_within, any_within, overlaps, under, ids_before, ids_up_to, stands_at, places_from, range_of}
 use Rattle.sorted.specs.Asked.{is_member, between}
-use Rattle.sorted.specs.declared.Span.TheVariants as S
+use Rattle.sorted.specs.declared.IdRange.{IdRange}
+use Rattle.refusal.specs.declared.Refusal.{Refusal}
+use Rattle.std.specs.Prelude.{Ok, Err, Result}
 use Rattle.sorted.proofs.Keys.{under_closed}
 use Rattle.sorted.proofs.Counts.{tail, count_le, splits}
 
@@ -172,53 +174,58 @@ module _ (ids : List ℤ) (o : in_order ids ≡ true) where
 
 -- ---- upsert_range: an id of the list lies between first and last exactly where its place lies in the span
 
-within : (s u k : ℕ) → both (not (ltb k s)) (ltb k u) ≡ both (leb s k) (ltb k (cond (ltb u s) s u))
+within : (s u k : ℕ) → both (not (ltb k s)) (ltb k u) ≡ both (leb s k) (ltb k (max s u))
 unfolding both
 within s u k =
     by_lt k s
     (λ l. rw (lt-ltb k s l, lt-leb s k l))
-    (λ l. rw (le-ltb k s l, le-leb s k l) (by_lt u s
-    (λ m. rw (lt-ltb u s m, le-ltb k u (omega arith), le-ltb k s l))
-    (λ m. rw (le-ltb u s m))))
+    (λ l. rw (le-ltb k s l, le-leb s k l) (same_test _ _
+    (λ t. lt-ltb k (max s u) (omega (arith, ltb-true k u t)))
+    (λ t. lt-ltb k u (omega (arith, ltb-true k (max s u) t)))))
+
+-- the two places of a span
+abbrev starts_of : Result IdRange Refusal → ℕ
+starts_of (Ok r) = r.from
+starts_of (Err r) = 0
+
+abbrev ends_of : Result IdRange Refusal → ℕ
+ends_of (Ok r) = r.to
+ends_of (Err r) = 0
 
 module _ (ids : List ℤ) (first last : ℤ) where
   -- the span of a list in order, by the two numbers
-  span_of : {s e : ℕ} → range_of ids first last ≡ S.From s e →
-      (in_order ids ≡ true) × (s ≡ ids_before first ids) × (e ≡ cond (ltb (ids_up_to last ids) (ids_before first ids)) (ids_before first ids) (ids_up_to last ids))
+  span_of : {s e : ℕ} → range_of ids first last ≡ places_from s e →
+      (in_order ids ≡ true) × (s ≡ ids_before first ids) × (e ≡ max (ids_before first ids) (ids_up_to last ids))
   unfolding range_of
   span_of {s} {e} q =
       by_bool (in_order ids)
       (λ o.
-      let r : S.From (ids_before first ids) (cond (ltb (ids_up_to last ids) (ids_before first ids)) (ids_before first ids) (ids_up_to last ids)) ≡ S.From s e = rw o at q in
-      (o, cc, cc))
+      let r : places_from (ids_before first ids) (max (ids_before first ids) (ids_up_to last ids)) ≡ places_from s e = rw o at q in
+      (o, ap starts_of (sym r), ap ends_of (sym r)))
       (λ n. no (cc))
 
-  pub span_is : {s e : ℕ} → range_of ids first last ≡ S.From s e → (k : ℕ) → k < length ids → between first last (id_at ids k) ≡ both (leb s k) (ltb k e)
+  pub span_is : {s e : ℕ} → range_of ids first last ≡ places_from s e → (k : ℕ) → k < length ids → between first last (id_at ids k) ≡ both (leb s k) (ltb k e)
   unfolding between
   span_is q k h =
       let p = span_of q in
       rw (p.1, p.2, at_smaller first ids p.0 k h, at_up_to last ids p.0 k h) (within (ids_before first ids) (ids_up_to last ids) k)
 
   -- the span lies in the list
-  pub span_fits : {s e : ℕ} → range_of ids first last ≡ S.From s e → (s ≤ e) × (e ≤ length ids)
+  pub span_fits : {s e : ℕ} → range_of ids first last ≡ places_from s e → (s ≤ e) × (e ≤ length ids)
   span_fits q =
       let p = span_of q in
-      rw (p.1, p.2) (by_lt (ids_up_to last ids) (ids_before first ids)
-      (λ l. rw (lt-ltb _ _ l) (omega arith, smaller_le first ids))
-      (λ l. rw (le-ltb _ _ l) (l, up_to_le last ids)))
+      omega (arith, p.1, p.2, smaller_le first ids, up_to_le last ids)
 
   -- "an empty range at the place of the first", where last comes before first
-  pub span_none : in_order ids ≡ true → before last first ≡ true → range_of ids first last ≡ S.From (ids_before first ids) (ids_before first ids)
+  pub span_none : in_order ids ≡ true → before last first ≡ true → range_of ids first last ≡ places_from (ids_before first ids) (ids_before first ids)
   unfolding range_of
   span_none o b =
-      rw o (by_lt (ids_up_to last ids) (ids_before first ids)
-      (λ l. rw (lt-ltb _ _ l))
-      (λ l. rw (le-ltb _ _ l) (ap (S.From (ids_before first ids)) (by_lt (ids_before first ids) (ids_up_to last ids)
+      rw o (ap (places_from (ids_before first ids)) (by_lt (ids_before first ids) (ids_up_to last ids)
       (λ m.
       let k = ids_before first ids in
       let h : k < length ids = omega (arith, up_to_le last ids) in
       clash b (not_less order last (id_at ids k) first (not-true _ (at_up_to last ids o k h ∙ lt-ltb _ _ m)) (at_smaller first ids o k h ∙ not_below k)))
-      (λ m. omega arith)))))
+      (λ m. omega arith)))
 
 -- ---- range_overlaps: some id of either list has its key in the span
 

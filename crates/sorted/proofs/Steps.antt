@@ -5,21 +5,24 @@ use mathlib.Core.Bool.{Bool, true, false}
 use mathlib.Core.List.{List, [], ◌∷◌}
 use native.Mathlib.Omega.{arith}
 use native.Mathlib.Numerals.{add-one}
+use lib.Dec.{ltb}
 use lib.IntN.{ℤ, pos}
 use lib.ListN.{length, drop, get_or, length-map, get_or-map, drop_of_length-le}
 use lib.Seq.{drop-cons}
 use mir.Syntax.{w64}
 use mir.Val.{SFits, to_z, of_z}
 use mir.Facts.{to_z-of_z}
-use borrow.Author.Tests.{ltb-true, ltb-false}
+use borrow.Author.Tests.{lt-ltb, le-ltb, ltb-true}
+use Rattle.std.specs.List.Sorted.{IsPartitionedBy, IsPartitionPoint}
+use Rattle.std.proofs.lemmas.Grind.{get_or_default_zero}
 use Rattle.base.specs.Bytes.{both}
-use Rattle.base.proofs.Split.{both_no_left}
+use Rattle.base.proofs.Split.{by_lt, clash, both_no_left}
 use Rattle.osm_id.specs.Order.{before, osm_key_of, id_key_before}
 use Rattle.osm_id.specs.declared.OsmIdKey.{OsmIdKey}
 use Rattle.osm_id.proofs.Orders.{key_before}
 use Rattle.sorted.specs.Lookup.{ids_of, id_at, count, ids_rising_from, in_order, under, ids_before, ids_up_to}
 use Rattle.sorted.proofs.Keys.{under_closed}
-use Rattle.sorted.proofs.Counts.{splits}
+use Rattle.sorted.proofs.Counts.{count_le, splits}
 use Rattle.sorted.proofs.Lookups.{smaller_keys, up_to_keys}
 
 pub lengths : (ws : List ℕ) → length (ids_of ws) ≡ length ws
@@ -59,15 +62,32 @@ module _ (ids : List ℤ) (i : ℕ) (h : i < length ids) where
     pub rises_no : t ≡ false → rest_rises ids i ≡ false
     rises_no e = step ∙ both_no_left _ _ (sym neighbours ∙ e)
 
--- ---- the search: the test at a place says on which side of it the number lies
+-- ---- the library's search in words: those that pass stand before those that do not
 
-module _ (through : Bool) (key : OsmIdKey) (ids : List ℤ) (o : in_order ids ≡ true) (k : ℕ) (h : k < length ids) {t : Bool}
-    (r : t ≡ under through key (id_at ids k)) where
-  pub above : t ≡ true → k < count (under through key) ids
-  above e = ltb-true _ _ (sym (splits (under_closed through key) ids o k h) ∙ sym r ∙ e)
+module _ (through : Bool) (key : OsmIdKey) (ws : List ℕ) (o : in_order (ids_of ws) ≡ true) where
+  abbrev pub passes : ℕ → Bool
+  passes w = under through key (to_z w64 w)
 
-  pub below : t ≡ false → count (under through key) ids ≤ k
-  below e = ltb-false _ _ (sym (splits (under_closed through key) ids o k h) ∙ sym r ∙ e)
+  at_place : (k d : ℕ) → k < length ws → passes (get_or ws k d) ≡ ltb k (count (under through key) (ids_of ws))
+  at_place k d h =
+      ap passes (get_or_default_zero ws k d h)
+      ∙ (ap (under through key) (sym (word_id ws k)) ∙ splits (under_closed through key) (ids_of ws) o k (omega (arith, lengths ws)))
+
+  pub parted : IsPartitionedBy passes ws
+  parted i j d l m e =
+      let n = count (under through key) (ids_of ws) in
+      let f : j < n = ltb-true j n (sym (at_place j d m) ∙ e) in
+      at_place i d (omega arith) ∙ lt-ltb i n (omega arith)
+
+  pub counted_at : (i : ℕ) → i ≤ length ws → IsPartitionPoint (λ y. passes y ≡ true) (λ y. passes y ≡ false) ws i → i ≡ count (under through key) (ids_of ws)
+  counted_at i h s =
+      let n = count (under through key) (ids_of ws) in
+      let most : n ≤ length ws = omega (arith, count_le (under through key) (ids_of ws), lengths ws) in
+      by_lt i n
+      (λ l. clash (at_place i 0 (omega arith) ∙ lt-ltb i n l) (s.1 i 0 (omega arith) (omega arith)))
+      (λ g. by_lt n i
+      (λ l. clash (s.0 n 0 (omega arith) l) (at_place n 0 (omega arith) ∙ le-ltb n n (omega arith)))
+      (λ k. omega arith))
 
 -- ---- a search for the key of an id: a signed argument reaches the callee by its bits, so the id stands in what the call ensures as it is read back from them
 

@@ -1,17 +1,15 @@
 -- Document 01, sorted.rs: lookups in lent lists of ids. A list is lent as the bits of its ids; 20 is "ids not strictly in OSM order".
-use Rattle.std.specs.Prelude.{ℕ, suc, Bool, true, false, cond, not, List, [], ◌∷◌, map, ltb, ℤ, pos, length, drop, get_or}
+use Rattle.std.specs.Prelude.{ℕ, suc, Bool, true, false, cond, not, List, [], ◌∷◌, map, ltb, ℤ, pos, length, drop, get_or, None, Option, Some, Ok, Err, Result}
+use Prim.Native.Nat.{max}
+use Rattle.std.specs.Bool.{then_some}
 use Rattle.std.specs.Int.{w64}
 use Rattle.std.proofs.Common.{to_z}
 use Rattle.base.specs.Bytes.{both, either}
 use Rattle.osm_id.specs.Order.{before, same_id, osm_key_of, id_key_before, first_key, last_key}
 use Rattle.osm_id.specs.declared.OsmIdKey.{OsmIdKey}
-use Rattle.sorted.specs.declared.Overlap.{Overlap}
-use Rattle.sorted.specs.declared.Overlap.TheVariants as O
-use Rattle.sorted.specs.declared.Span.{Span}
-use Rattle.sorted.specs.declared.Span.TheVariants as S
-use Rattle.sorted.specs.declared.Place.{Place}
-use Rattle.sorted.specs.declared.Place.TheVariants as P
-use Rattle.sorted.specs.declared.Sought.TheVariants as F
+use Rattle.refusal.specs.declared.Refusal.{Refusal}
+use Rattle.refusal.specs.declared.Refusal.TheVariants.{NotInOrder}
+use Rattle.sorted.specs.declared.IdRange.{IdRange}
 use Rattle.sorted.specs.declared.Found.{Found}
 
 -- the ids of a list of words
@@ -57,8 +55,8 @@ any_within first last ids = some (key_within first last) ids
 unfoldable pub overlaps : List ℤ → List ℤ → ℤ → ℤ → Bool
 overlaps live deleted lo hi = either (any_within (first_key lo hi) (last_key lo hi) live) (any_within (first_key lo hi) (last_key lo hi) deleted)
 
-unfoldable pub overlap_of : List ℤ → List ℤ → ℤ → ℤ → Overlap
-overlap_of live deleted lo hi = cond (both (in_order live) (in_order deleted)) (cond (overlaps live deleted lo hi) O.Yes O.No) O.NotInOrder
+unfoldable pub overlap_of : List ℤ → List ℤ → ℤ → ℤ → Result Bool Refusal
+overlap_of live deleted lo hi = cond (both (in_order live) (in_order deleted)) (Ok (overlaps live deleted lo hi)) (Err NotInOrder)
 
 -- ---- positions
 
@@ -75,11 +73,13 @@ unfoldable pub under : Bool → OsmIdKey → ℤ → Bool
 under false key id = id_key_before (osm_key_of id) key
 under true key id = not (id_key_before key (osm_key_of id))
 
+abbrev pub places_from : ℕ → ℕ → Result IdRange Refusal
+places_from s e = Ok (record { from = s; to = e })
+
 -- upsert_range: the places of the ids from first to last; none, at the place of the first, where last comes before first
-unfoldable pub range_of : List ℤ → ℤ → ℤ → Span
+unfoldable pub range_of : List ℤ → ℤ → ℤ → Result IdRange Refusal
 range_of ids first last =
-    cond (in_order ids) (S.From (ids_before first ids) (cond (ltb (ids_up_to last ids) (ids_before first ids)) (ids_before first ids) (ids_up_to last ids)))
-    S.NotInOrder
+    cond (in_order ids) (places_from (ids_before first ids) (max (ids_before first ids) (ids_up_to last ids))) (Err NotInOrder)
 
 -- ---- Seek::find
 
@@ -89,20 +89,20 @@ advance id p [] = p
 advance id p (a ∷ ids) = cond (before a id) (advance id (suc p) ids) p
 
 -- where a cursor stands once it is asked: where it stood, or at first where the id belongs
-abbrev pub standing : Place → ℤ → List ℤ → ℕ
-standing P.Fresh id ids = ids_before id ids
-standing (P.At p) id ids = p
+abbrev pub standing : Option ℕ → ℤ → List ℤ → ℕ
+standing None id ids = ids_before id ids
+standing (Some p) id ids = p
 
 -- the cursor moves forward alone, up to the id; "an id behind its place is answered none"
-abbrev pub reached : Place → ℤ → List ℤ → ℕ
+abbrev pub reached : Option ℕ → ℤ → List ℤ → ℕ
 reached p id ids = advance id (standing p id ids) (drop (standing p id ids) ids)
 
 -- the id stands at a place
 unfoldable pub stands_at : ℤ → ℕ → List ℤ → Bool
 stands_at id p ids = both (ltb p (length ids)) (same_id id (id_at ids p))
 
-unfoldable pub found_of : Place → List ℤ → ℤ → Found
+unfoldable pub found_of : Option ℕ → List ℤ → ℤ → Found
 found_of p ids id =
     cond (in_order ids)
-    (record { place = P.At (reached p id ids); answer = cond (stands_at id (reached p id ids) ids) (F.At (reached p id ids)) F.Nowhere })
-    (record { place = p; answer = F.NotInOrder })
+    (record { place = Some (reached p id ids); answer = Ok (then_some (stands_at id (reached p id ids) ids) (reached p id ids)) })
+    (record { place = p; answer = Err NotInOrder })

@@ -1,93 +1,56 @@
-// Lookups in lent lists of ids (sorted.rs): a list is the bits of its ids. Each answers 20 where a list is not strictly in OSM order.
+// Lookups in lent lists of ids (sorted.rs): a list is the bits of its ids. Each answers NotInOrder (20) where a list is not strictly in OSM order.
 #![tactic(auto)]
 
-ghost use Rattle.std.specs.Prelude.{◌≡◌, true, ◌<◌, length};
-ghost use Rattle.osm_id.specs.Order.{osm_key_of, id_key_before};
-ghost use Rattle.sorted.specs.Lookup.{ids_of, id_at, count, in_order, any_within, overlaps, overlap_of, under, range_of, reached, found_of};
+ghost use Rattle.std.specs.Prelude.{◌≡◌, true};
+ghost use Rattle.std.specs.Int.{w64};
+ghost use Rattle.std.proofs.Common.{to_z};
+ghost use Rattle.osm_id.specs.Order.{osm_key_of};
+ghost use Rattle.sorted.specs.Lookup.{ids_of, count, in_order, any_within, overlaps, overlap_of, under, range_of, reached, found_of};
 
 use osm_id::OsmIdKey;
+use refusal::Refusal;
 
-// Whether ids overlap a range. NotInOrder, here and below, is 20.
-#[derive(Clone, Copy)]
-pub enum Overlap {
-    Yes,
-    No,
-    NotInOrder,
-}
-
-// The places from a first to before a second.
-#[derive(Clone, Copy)]
-pub enum Span {
-    From(usize, usize),
-    NotInOrder,
-}
-
-// Where a forward cursor stands: nowhere yet, or at a place.
-#[derive(Clone, Copy)]
-pub enum Place {
-    Fresh,
-    At(usize),
-}
-
-// What a cursor found.
-#[derive(Clone, Copy)]
-pub enum Sought {
-    At(usize),
-    Nowhere,
-    NotInOrder,
+// The places of the ids from a first to before a second.
+#[derive(Clone, Copy, Debug, PartialEq, Eq)]
+pub struct IdRange {
+    pub from: usize,
+    pub to: usize,
 }
 
 // Where a cursor stands after a search, and its answer.
-#[derive(Clone, Copy)]
+#[derive(Clone, Copy, Debug, PartialEq, Eq)]
 pub struct Found {
-    pub place: Place,
-    pub answer: Sought,
+    pub place: Option<usize>,
+    pub answer: Result<Option<usize>, Refusal>,
 }
 
-// Whether a key is smaller than another: by class, then by magnitude.
-fn key_before(a: OsmIdKey, b: OsmIdKey) -> bool
-    ensures { result ≡ id_key_before a b }
+// The key of an id, which is given in bits.
+fn key_of(id: u64) -> OsmIdKey
+    ensures { result ≡ osm_key_of (to_z w64 id) }
 {
-    if a.class < b.class {
-        return true;
-    }
-    if a.class == b.class {
-        return a.magnitude < b.magnitude;
-    }
-    false
+    osm_id::osm_id_key(signed::i64_of_bits(id))
 }
 
-// The key of the id at a place.
-fn key_at(ids: &[u64], i: usize) -> OsmIdKey
-    requires { i < length ids.now }
-    ensures { result ≡ osm_key_of (id_at (ids_of ids.now) i) }
+// Whether an id, given in bits, has a key smaller than a key or, with `through`, not larger.
+fn is_under(id: u64, key: OsmIdKey, through: bool) -> bool
+    ensures { result ≡ under through key (to_z w64 id) }
 {
-    osm_id::osm_id_key(signed::i64_of_bits(ids[i]))
-}
-
-// Whether the id at a place has a key smaller than a key or, with `through`, not larger.
-fn is_under(ids: &[u64], i: usize, key: OsmIdKey, through: bool) -> bool
-    requires { i < length ids.now }
-    ensures { result ≡ under through key (id_at (ids_of ids.now) i) }
-{
-    let k = key_at(ids, i);
+    let k = key_of(id);
     if through {
-        return !key_before(key, k);
+        return k <= key;
     }
-    key_before(k, key)
+    k < key
 }
 
 // Whether ids stand strictly in OSM order.
 fn in_order(ids: &[u64]) -> bool
     ensures { result ≡ in_order (ids_of ids.now) }
 {
-    let mut i: usize = 1;
-    while i < ids.len() {
-        if key_before(key_at(ids, i - 1), key_at(ids, i)) {
-            i += 1;
-        } else {
-            return false;
+    for i in 1..ids.len() {
+        if key_of(ids[i - 1]) < key_of(ids[i]) {
+            continue;
         }
+        return false;
     }
     true
 }
@@ -97,17 +60,7 @@ fn count_under(ids: &[u64], key: OsmIdKey, through: bool) -> usize
     requires { in_order (ids_of ids.now) ≡ true }
     ensures { result ≡ count (under through key) (ids_of ids.now) }
 {
-    let mut lo: usize = 0;
-    let mut hi = ids.len();
-    while lo < hi {
-        let mid = lo + (hi - lo) / 2;
-        if is_under(ids, mid, key, through) {
-            lo = mid + 1;
-        } else {
-            hi = mid;
-        }
-    }
-    lo
+    ids.partition_point(|id| is_under(*id, key, through))
 }
 
 // Whether an id of a list in order has its key from first to last.
@@ -132,45 +85,44 @@ fn overlap_in(live: &[u64], deleted: &[u64], min_id: i64, max_id: i64) -> bool
 }
 
 // Whether an upserted or deleted id could lie in a blob that claims the numbers from min_id to max_id.
-pub fn range_overlaps(live: &[u64], deleted: &[u64], min_id: i64, max_id: i64) -> Overlap
+pub fn range_overlaps(
+    live: &[u64],
+    deleted: &[u64],
+    min_id: i64,
+    max_id: i64,
+) -> Result<bool, Refusal>
     ensures { result ≡ overlap_of (ids_of live.now) (ids_of deleted.now) min_id max_id }
 {
-    if in_order(live) {
-        if in_order(deleted) {
-            if overlap_in(live, deleted, min_id, max_id) {
-                return Overlap::Yes;
-            }
-            return Overlap::No;
-        }
-        return Overlap::NotInOrder;
+    if in_order(live) && in_order(deleted) {
+        return Ok(overlap_in(live, deleted, min_id, max_id));
     }
-    Overlap::NotInOrder
+    Err(Refusal::NotInOrder)
 }
 
 // The places of the ids from first to last, in OSM order.
-pub fn upsert_range(ids: &[u64], first: i64, last: i64) -> Span
+pub fn upsert_range(ids: &[u64], first: i64, last: i64) -> Result<IdRange, Refusal>
     ensures { result ≡ range_of (ids_of ids.now) first last }
 {
     if in_order(ids) {
-        let start = count_under(ids, osm_id::osm_id_key(first), false);
-        let end = count_under(ids, osm_id::osm_id_key(last), true);
-        if end < start {
-            return Span::From(start, start);
-        }
-        return Span::From(start, end);
+        let from = count_under(ids, osm_id::osm_id_key(first), false);
+        let to = count_under(ids, osm_id::osm_id_key(last), true);
+        return Ok(IdRange {
+            from,
+            to: from.max(to),
+        });
     }
-    Span::NotInOrder
+    Err(Refusal::NotInOrder)
 }
 
 // Where a cursor stands once it was asked for an id: it moves forward alone.
-fn reach(place: Place, ids: &[u64], id: i64) -> usize
+fn reach(place: Option<usize>, ids: &[u64], id: i64) -> usize
     requires { in_order (ids_of ids.now) ≡ true }
     ensures { result ≡ reached place id (ids_of ids.now) }
 {
     let at = count_under(ids, osm_id::osm_id_key(id), false);
     match place {
-        Place::Fresh => at,
-        Place::At(p) => {
+        None => at,
+        Some(p) => {
             if at < p {
                 return p;
             }
@@ -180,18 +132,16 @@ fn reach(place: Place, ids: &[u64], id: i64) -> usize
 }
 
 // A forward cursor, for ids that are asked for in OSM order.
-#[derive(Clone, Copy)]
+#[derive(Clone, Copy, Debug, PartialEq, Eq)]
 pub struct Seek {
-    pub place: Place,
+    pub place: Option<usize>,
 }
 
 impl Seek {
     pub fn new() -> Self
-        ensures { result.place ≡ Place.Fresh }
+        ensures { result.place ≡ None }
     {
-        Seek {
-            place: Place::Fresh,
-        }
+        Seek { place: None }
     }
 
     // The place of an id, if the cursor has not passed it, and the cursor afterwards.
@@ -201,20 +151,15 @@ impl Seek {
         let place = self.place;
         if in_order(ids) {
             let at = reach(place, ids, id);
-            if at < count_under(ids, osm_id::osm_id_key(id), true) {
-                return Found {
-                    place: Place::At(at),
-                    answer: Sought::At(at),
-                };
-            }
+            let stands = at < count_under(ids, osm_id::osm_id_key(id), true);
             return Found {
-                place: Place::At(at),
-                answer: Sought::Nowhere,
+                place: Some(at),
+                answer: Ok(stands.then_some(at)),
             };
         }
         Found {
             place,
-            answer: Sought::NotInOrder,
+            answer: Err(Refusal::NotInOrder),
         }
     }
 }

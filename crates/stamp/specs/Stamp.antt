@@ -1,19 +1,13 @@
 -- Document 01: "`parse_rfc3339_utc` takes 20 bytes, RFC 3339's separators"; document 02, request 6: "Every field of a timestamp must now be digits."
-use Rattle.std.specs.Prelude.{ℕ, ◌+◌, ◌-◌, ◌*◌, Bool, cond, eqb, leb, length, get_or, take, drop, ℤ, pos, ◌-ℤ◌}
-use Rattle.std.proofs.Math.Option.{Option, none, some, bind}
+use Rattle.base.specs.Options.{bind}
+use Rattle.std.specs.Prelude.{ℕ, ◌+◌, ◌-◌, ◌*◌, Bool, cond, eqb, leb, length, get_or, take, drop, ℤ, pos, ◌-ℤ◌, None, Option, Some, option_map}
 use Rattle.std.specs.Int.{w64}
 use Rattle.std.proofs.Common.{of_z}
 use Rattle.base.specs.Bytes.{Bytes, both}
 use Rattle.base.specs.Chars.{minus_sign, colon, letter_t, letter_z}
 use Rattle.integer.specs.Integer.{digits}
 use Rattle.calendar.specs.Calendar.{leap, month_days, months_days, years_days}
-use Rattle.stamp.specs.declared.Field.{Field}
-use Rattle.stamp.specs.declared.Field.TheVariants as field
 use Rattle.stamp.specs.declared.Moment.{Moment}
-use Rattle.stamp.specs.declared.Six.{Six}
-use Rattle.stamp.specs.declared.Six.TheVariants as six
-use Rattle.stamp.specs.declared.Stamp.{Stamp}
-use Rattle.stamp.specs.declared.Stamp.TheVariants.{At, Not}
 
 -- a field of a stamp: the number of count digits from a place on
 unfoldable pub stamp_field : Bytes → ℕ → ℕ → Option ℕ
@@ -63,29 +57,15 @@ moment s =
     bind (stamp_field s 11 2) (λ h.
     bind (stamp_field s 14 2) (λ i.
     bind (stamp_field s 17 2) (λ x.
-    some (record { year = y; month = m; day = d; hour = h; minute = i; second = x })))))))
+    Some (record { year = y; month = m; day = d; hour = h; minute = i; second = x })))))))
 
 unfoldable pub accepted_moment : Option Moment → Option ℤ
-accepted_moment none = none
-accepted_moment (some t) = cond (taken_moment t) (some (seconds_of t)) none
+accepted_moment None = None
+accepted_moment (Some t) = cond (taken_moment t) (Some (seconds_of t)) None
 
 unfoldable pub stamp : Bytes → Option ℤ
-stamp s = cond (shaped s) (accepted_moment (moment s)) none
-
--- ---- the answers
-
-unfoldable pub field_answer : Option ℕ → Field
-field_answer none = field.Not
-field_answer (some n) = field.Is n
-
-unfoldable pub six_answer : Option Moment → Six
-six_answer none = six.Not
-six_answer (some t) = six.Are t
+stamp s = cond (shaped s) (accepted_moment (moment s)) None
 
 -- the reader's answer: the bits of the seconds
-unfoldable pub stamp_answer : Option ℤ → Stamp
-stamp_answer none = Not
-stamp_answer (some z) = At (of_z w64 z)
-
-unfoldable pub stamp_of : Bytes → Stamp
-stamp_of s = stamp_answer (stamp s)
+unfoldable pub stamp_of : Bytes → Option ℕ
+stamp_of s = option_map (of_z w64) (stamp s)

@@ -1,26 +1,10 @@
 // Timestamps: the seconds from 1970-01-01T00:00:00Z of a date-time in UTC, as document 01 words `parse_rfc3339_utc`; each field is digits.
 #![tactic(auto)]
 
-ghost use Rattle.std.specs.Prelude.{◌≡◌, ◌+◌, ◌-◌, ◌≤◌, length, pos, ◌-ℤ◌, true};
+ghost use Rattle.std.specs.Prelude.{◌≡◌, ◌+◌, ◌-◌, ◌≤◌, length, pos, ◌-ℤ◌, true, option_map};
 ghost use Rattle.std.specs.Int.{w64};
 ghost use Rattle.std.proofs.Common.{of_z};
-ghost use Rattle.stamp.specs.Stamp.{stamp_field, separated, moment, taken_moment, days_of, epoch, seconds_of, accepted_moment, field_answer, six_answer, stamp_answer, stamp_of};
-
-use integer::Integer;
-
-// A stamp's answer: the bits of the seconds in two's complement, or that the text is no such date-time.
-#[derive(Clone, Copy)]
-pub enum Stamp {
-    At(u64),
-    Not,
-}
-
-// A field's number, or that the text is not digits.
-#[derive(Clone, Copy)]
-enum Field {
-    Is(u32),
-    Not,
-}
+ghost use Rattle.stamp.specs.Stamp.{stamp_field, separated, moment, taken_moment, days_of, epoch, seconds_of, accepted_moment, stamp_of};
 
 // The six numbers of a stamp.
 #[derive(Clone, Copy)]
@@ -33,21 +17,13 @@ pub struct Moment {
     pub second: u32,
 }
 
-#[derive(Clone, Copy)]
-enum Six {
-    Are(Moment),
-    Not,
-}
-
 // A field of a stamp, of at most four bytes.
-fn stamp_field(s: &[u8], from: usize, to: usize) -> Field
+fn stamp_field(s: &[u8], from: usize, to: usize) -> Option<u32>
     requires { (from ≤ to) × ((to ≤ from + 4) × (to ≤ length s.now)) }
-    ensures { result ≡ field_answer (stamp_field s.now from (to - from)) }
+    ensures { result ≡ stamp_field s.now from (to - from) }
 {
-    let Integer::Is(n) = integer::read_digits(&s[from..to], 9999) else {
-        return Field::Not;
-    };
-    Field::Is(n as u32)
+    let n = integer::read_digits(&s[from..to], 9999)?;
+    Some(n as u32)
 }
 
 // The separators of a text of 20 bytes.
@@ -59,35 +35,17 @@ fn separated(s: &[u8]) -> bool
     (s[4] == 45) & ((s[7] == 45) & ((s[10] == 84) & time))
 }
 
-fn read_six(s: &[u8]) -> Six
+fn read_six(s: &[u8]) -> Option<Moment>
     requires { length s.now ≡ 20 }
-    ensures { result ≡ six_answer (moment s.now) }
+    ensures { result ≡ moment s.now }
 {
-    let Field::Is(year) = stamp_field(s, 0, 4) else {
-        return Six::Not;
-    };
-    let Field::Is(month) = stamp_field(s, 5, 7) else {
-        return Six::Not;
-    };
-    let Field::Is(day) = stamp_field(s, 8, 10) else {
-        return Six::Not;
-    };
-    let Field::Is(hour) = stamp_field(s, 11, 13) else {
-        return Six::Not;
-    };
-    let Field::Is(minute) = stamp_field(s, 14, 16) else {
-        return Six::Not;
-    };
-    let Field::Is(second) = stamp_field(s, 17, 19) else {
-        return Six::Not;
-    };
-    Six::Are(Moment {
-        year,
-        month,
-        day,
-        hour,
-        minute,
-        second,
+    Some(Moment {
+        year: stamp_field(s, 0, 4)?,
+        month: stamp_field(s, 5, 7)?,
+        day: stamp_field(s, 8, 10)?,
+        hour: stamp_field(s, 11, 13)?,
+        minute: stamp_field(s, 14, 16)?,
+        second: stamp_field(s, 17, 19)?,
     })
 }
 
@@ -133,27 +91,22 @@ fn seconds(m: Moment) -> u64
     since_epoch(days(m) * 86400 + m.hour as u64 * 3600 + m.minute as u64 * 60 + m.second as u64)
 }
 
-fn accepted(s: &[u8]) -> Stamp
+fn accepted(s: &[u8]) -> Option<u64>
     requires { length s.now ≡ 20 }
-    ensures { result ≡ stamp_answer (accepted_moment (moment s.now)) }
+    ensures { result ≡ option_map (of_z w64) (accepted_moment (moment s.now)) }
 {
-    let Six::Are(m) = read_six(s) else {
-        return Stamp::Not;
-    };
+    let m = read_six(s)?;
     if taken(m) {
-        return Stamp::At(seconds(m));
+        return Some(seconds(m));
     }
-    Stamp::Not
+    None
 }
 
-pub fn parse_rfc3339_utc(s: &[u8]) -> Stamp
+pub fn parse_rfc3339_utc(s: &[u8]) -> Option<u64>
     ensures { result ≡ stamp_of s.now }
 {
-    if s.len() == 20 {
-        if separated(s) {
-            return accepted(s);
-        }
-        return Stamp::Not;
+    if s.len() == 20 && separated(s) {
+        return accepted(s);
     }
-    Stamp::Not
+    None
 }

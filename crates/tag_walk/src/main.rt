@@ -6,13 +6,14 @@ ghost use Rattle.version_floor.specs.Version.{higher};
 ghost use Rattle.compact.specs.Tags.{tags_of};
 ghost use Rattle.tag_walk.specs.Walk.{two_of};
 
-use compact::{CompactTagIter, TagStep};
+use compact::{CompactTagIter, TagPart};
 use kind::Kind;
+use refusal::Refusal;
 use std::io;
-use version_floor::{Version, VersionFloor};
+use version_floor::VersionFloor;
 
 // What a floor is once a claim has raised it.
-fn raised_to(highest: Version, claim: Version) -> Version
+fn raised_to(highest: Option<i32>, claim: Option<i32>) -> Option<i32>
     ensures { result ≡ higher highest claim }
 {
     let mut floor = VersionFloor(highest);
@@ -21,46 +22,33 @@ fn raised_to(highest: Version, claim: Version) -> Version
 }
 
 // The first two steps over a record's tags.
-#[derive(Clone, Copy)]
-pub struct Two {
-    pub first: TagStep,
-    pub second: TagStep,
-}
-
-fn two_steps(kind: Kind, bytes: &[u8]) -> Two
+fn two_steps(kind: Kind, bytes: &[u8]) -> [Result<Option<TagPart>, Refusal>; 2]
     ensures { result ≡ two_of (tags_of kind bytes.entry) }
 {
     let mut tags = CompactTagIter::of(kind, bytes);
-    let first = tags.next();
-    let second = tags.next();
-    Two { first, second }
+    [tags.next(), tags.next()]
 }
 
-fn print_step(rt: &impl Print, step: TagStep) -> io::Result<()> {
+fn print_step(rt: &impl Print, step: Result<Option<TagPart>, Refusal>) -> io::Result<()> {
     match step {
-        TagStep::Done => println!(rt; "none"),
-        TagStep::Unsound => println!(rt; "{}", compact::unsound_number()),
-        TagStep::Tag { key, start, len } => println!(rt; "{key} at {start} length {len}"),
+        Ok(Some(tag)) => println!(rt; "{} at {} length {}", tag.key, tag.start, tag.len),
+        Ok(None) => println!(rt; "none"),
+        Err(_) => println!(rt; "{}", compact::unsound_number()),
     }
 }
 
-fn print_steps(rt: &impl Print, name: &[u8], kind: Kind, bytes: &[u8]) -> io::Result<()> {
-    rt.write_all(name)?;
-    rt.write_all(b"\n")?;
-    let two = two_steps(kind, bytes);
-    let first = two.first;
-    print_step(rt, first)?;
-    let second = two.second;
-    print_step(rt, second)
+fn print_steps(rt: &impl Print, name: &str, kind: Kind, bytes: &[u8]) -> io::Result<()> {
+    println!(rt; "{name}")?;
+    for step in two_steps(kind, bytes) {
+        print_step(rt, step)?;
+    }
+    Ok(())
 }
 
-fn print_raised(rt: &impl Print, highest: Version, claim: Version) -> io::Result<()> {
-    let word = version_floor::version_word(raised_to(highest, claim));
-    rt.write_all(b"floor ")?;
-    if word < 0x1_0000_0000 {
-        println!(rt; "{word}")
-    } else {
-        println!(rt; "none")
+fn print_raised(rt: &impl Print, highest: Option<i32>, claim: Option<i32>) -> io::Result<()> {
+    match raised_to(highest, claim) {
+        Some(n) => println!(rt; "floor {n}"),
+        None => println!(rt; "floor none"),
     }
 }
 
@@ -100,21 +88,24 @@ fn relation() -> [u8; 67] {
 }
 
 fn main(rt: HostRuntime) -> io::Result<()> {
-    let node = node();
-    print_steps(&rt, b"a node with two tags", Kind::Node, &node)?;
-    let way = way();
-    print_steps(&rt, b"a way with one tag", Kind::Way, &way)?;
-    let relation = relation();
+    print_steps(&rt, "a node with two tags", Kind::Node, &node())?;
+    print_steps(&rt, "a way with one tag", Kind::Way, &way())?;
     print_steps(
         &rt,
-        b"a relation whose tag is not text",
+        "a relation whose tag is not text",
         Kind::Relation,
-        &relation,
+        &relation(),
     )?;
-    print_steps(&rt, b"a head that is cut short", Kind::Node, b"0123456789")?;
-    print_raised(&rt, Version::Absent, Version::Absent)?;
-    print_raised(&rt, Version::Absent, Version::Is(3))?;
-    print_raised(&rt, Version::Is(5), Version::Is(3))?;
-    print_raised(&rt, Version::Is(5), Version::Is(8))?;
-    print_raised(&rt, Version::Is(5), Version::Absent)
+    print_steps(&rt, "a head that is cut short", Kind::Node, b"0123456789")?;
+    let raises = [
+        (None, None),
+        (None, Some(3)),
+        (Some(5), Some(3)),
+        (Some(5), Some(8)),
+        (Some(5), None),
+    ];
+    for (highest, claim) in raises {
+        print_raised(&rt, highest, claim)?;
+    }
+    Ok(())
 }

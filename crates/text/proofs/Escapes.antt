@@ -1,8 +1,8 @@
 -- Laws of the escapes: the round trips, no breaks, text stays text, and a prefix code where a break ends the field.
+use Rattle.std.specs.Prelude.{None, Option, Some}
 use Prim.Native.Nat.{ℕ, ◌*◌, ◌<◌, ◌≤◌}
 use mathlib.Core.Path.{◌≡◌, refl, sym, ◌∙◌, ap}
 use mathlib.Core.Bool.{Bool, true, false, not}
-use mathlib.Core.Option.{Option, none, some}
 use mathlib.Core.List.{List, [], ◌∷◌, ◌++◌, append_assoc}
 use mathlib.Core.Logic.{◌⊎◌, inl, inr, ⊎_elim}
 use native.Mathlib.Omega.{arith}
@@ -25,16 +25,16 @@ use Rattle.text.proofs.Texts.{text_char, text_ascii}
 abbrev pub clean : ℕ → Bool
 clean b = not (breaks b)
 
-none_some : {A C : Type 0} {x : A} → ◌≡◌ {A = Option A} none (some x) → C
+none_some : {A C : Type 0} {x : A} → ◌≡◌ {A = Option A} None (Some x) → C
 none_some e = no (cc)
 
-some_inj : {A : Type 0} {x y : A} → ◌≡◌ {A = Option A} (some x) (some y) → y ≡ x
+some_inj : {A : Type 0} {x y : A} → ◌≡◌ {A = Option A} (Some x) (Some y) → y ≡ x
 some_inj e = cc
 
 -- a byte that is escaped, by the letter m
 record Special (b m : ℕ) : Type 0 where
   pair : escaped b ≡ 92 ∷ m ∷ []
-  back : meaning m ≡ some b
+  back : meaning m ≡ Some b
   cause : either (breaks b) (eqb b 92) ≡ true
   ascii : b < 0x80
   legal : xml_char b ≡ true
@@ -77,7 +77,7 @@ by_escaped b f g =
     })))))
 
 -- a letter that stands for a byte is the one that escapes it
-by_meaning : (m b : ℕ) → meaning m ≡ some b → Special b m
+by_meaning : (m b : ℕ) → meaning m ≡ Some b → Special b m
 unfolding meaning
 by_meaning m b e =
     by_eq m 116 (λ k. let q : b ≡ 9 = some_inj (rw k at e) in rw (k, q) tab)
@@ -92,27 +92,27 @@ escape_append [] b = refl
 escape_append (x ∷ a) b = rw (escape_append a b) (sym (append_assoc (escaped x) (escape a) (escape b)))
 
 -- a byte that is no backslash stands for itself
-pub read_byte : (b : ℕ) (r : Bytes) → eqb b 92 ≡ false → unescape (b ∷ r) ≡ byte_before (some b) (unescape r)
+pub read_byte : (b : ℕ) (r : Bytes) → eqb b 92 ≡ false → unescape (b ∷ r) ≡ byte_before (Some b) (unescape r)
 unfolding unescape_from
 read_byte b r e = rw (e, unescape_from)
 
-unescape_escaped : (b : ℕ) (r : Bytes) → unescape (escaped b ++ r) ≡ byte_before (some b) (unescape r)
+unescape_escaped : (b : ℕ) (r : Bytes) → unescape (escaped b ++ r) ≡ byte_before (Some b) (unescape r)
 unfolding unescape_from
 unescape_escaped b r = by_escaped b (λ m d. rw (d.pair, d.back)) (λ d. rw d.alone (read_byte b r d.other))
 
 -- what is escaped is read back
-pub unescape_escape : (t : Bytes) → unescape (escape t) ≡ some t
+pub unescape_escape : (t : Bytes) → unescape (escape t) ≡ Some t
 unfolding unescape_from escape byte_before
 unescape_escape [] = refl
 unescape_escape (b ∷ t) = unescape_escaped b (escape t) ∙ rw (unescape_escape t)
 
 -- a backslash that ends a value is refused, and so is another escape
-pub backslash_last : (t : Bytes) → unescape (escape t ++ (92 ∷ [])) ≡ none
+pub backslash_last : (t : Bytes) → unescape (escape t ++ (92 ∷ [])) ≡ None
 unfolding unescape_from escape byte_before
 backslash_last [] = refl
 backslash_last (b ∷ t) = rw (append_assoc (escaped b) (escape t) (92 ∷ [])) (unescape_escaped b (escape t ++ (92 ∷ [])) ∙ rw (backslash_last t))
 
-pub other_escape : (t : Bytes) (m : ℕ) (r : Bytes) → meaning m ≡ none → unescape (escape t ++ (92 ∷ m ∷ r)) ≡ none
+pub other_escape : (t : Bytes) (m : ℕ) (r : Bytes) → meaning m ≡ None → unescape (escape t ++ (92 ∷ m ∷ r)) ≡ None
 unfolding unescape_from escape byte_before
 other_escape [] m r h = rw h
 other_escape (b ∷ t) m r h = rw (append_assoc (escaped b) (escape t) (92 ∷ m ∷ r)) (unescape_escaped b (escape t ++ (92 ∷ m ∷ r)) ∙ rw (other_escape t m r h))
@@ -134,7 +134,7 @@ escape_clean (b ∷ t) =
     (escape_clean t)
 
 pub escape_injective : (a b : Bytes) → escape a ≡ escape b → a ≡ b
-escape_injective a b e = let q : some a ≡ some b = cc (ap unescape e, unescape_escape a, unescape_escape b) in cc
+escape_injective a b e = let q : Some a ≡ Some b = cc (ap unescape e, unescape_escape a, unescape_escape b) in cc
 
 -- two runs that go on to the first element that a test refuses
 pub spans : {A : Type 0} (p : A → Bool) (a b : List A) (x y : A) (r s : List A)
@@ -186,15 +186,15 @@ escape_least (b ∷ t) =
 record First (o : Option ℕ) (x : Option Bytes) (t : Bytes) : Type 0 where
   byte : ℕ
   rest : Bytes
-  is : o ≡ some byte
-  then : x ≡ some rest
+  is : o ≡ Some byte
+  then : x ≡ Some rest
   whole : t ≡ byte ∷ rest
 
-first : (o : Option ℕ) (x : Option Bytes) (t : Bytes) → byte_before o x ≡ some t → First o x t
+first : (o : Option ℕ) (x : Option Bytes) (t : Bytes) → byte_before o x ≡ Some t → First o x t
 unfolding byte_before
-first none x t e = none_some e
-first (some b) none t e = none_some e
-first (some b) (some r) t e = record { byte = b; rest = r; is = refl; then = refl; whole = cc }
+first None x t e = none_some e
+first (Some b) None t e = none_some e
+first (Some b) (Some r) t e = record { byte = b; rest = r; is = refl; then = refl; whole = cc }
 
 alone : (b : ℕ) → eqb b 92 ≡ false → clean b ≡ true → escaped b ≡ b ∷ []
 alone b h k =
@@ -207,7 +207,7 @@ marked : Bool → Bytes → Bytes
 marked true v = 92 ∷ v
 marked false v = v
 
-escape_read : (f : Bool) (v t : Bytes) → unescape_from f v ≡ some t → all clean v ≡ true → escape t ≡ marked f v
+escape_read : (f : Bool) (v t : Bytes) → unescape_from f v ≡ Some t → all clean v ≡ true → escape t ≡ marked f v
 unfolding unescape_from escape marked
 escape_read false [] t e h = let q : t ≡ [] = cc in rw q
 escape_read true [] t e h = none_some (sym (backslash_last []) ∙ e)
@@ -218,12 +218,12 @@ escape_read true (b ∷ v) t e h =
 escape_read false (b ∷ v) t e h =
     by_bool (eqb b 92)
     (λ k. let q : b ≡ 92 = eqb-true b 92 k in rw q (escape_read true v t (rw (k, unescape_from) at e) (all_tail clean b v h)))
-    (λ k. let w = first (some b) (unescape v) t (sym (read_byte b v k) ∙ e) in
+    (λ k. let w = first (Some b) (unescape v) t (sym (read_byte b v k) ∙ e) in
     let q : w.byte ≡ b = cc w.is in
     rw (w.whole, q, alone b k (all_head clean b v h), escape_read false v w.rest w.then (all_tail clean b v h)))
 
 -- what a value without breaks reads as is escaped to that value
-pub escape_unescape : (v t : Bytes) → unescape v ≡ some t → all (λ b. not (breaks b)) v ≡ true → escape t ≡ v
+pub escape_unescape : (v t : Bytes) → unescape v ≡ Some t → all (λ b. not (breaks b)) v ≡ true → escape t ≡ v
 unfolding marked
 escape_unescape v t e h = escape_read false v t e h
 
@@ -238,18 +238,18 @@ escape_high (b ∷ p) h =
 
 record Passed (p r t : Bytes) : Type 0 where
   rest : Bytes
-  then : unescape r ≡ some rest
+  then : unescape r ≡ Some rest
   whole : t ≡ p ++ rest
 
-read_high : (p r t : Bytes) → all (leb 0x80) p ≡ true → unescape (p ++ r) ≡ some t → Passed p r t
+read_high : (p r t : Bytes) → all (leb 0x80) p ≡ true → unescape (p ++ r) ≡ Some t → Passed p r t
 read_high [] r t h e = record { rest = t; then = e; whole = refl }
 read_high (b ∷ p) r t h e =
     let l = leb-true 0x80 b (all_head (leb 0x80) b p h) in
-    let w = first (some b) (unescape (p ++ r)) t (sym (read_byte b (p ++ r) (ne_eqb b 92 (λ q. omega arith))) ∙ e) in
+    let w = first (Some b) (unescape (p ++ r)) t (sym (read_byte b (p ++ r) (ne_eqb b 92 (λ q. omega arith))) ∙ e) in
     let d = read_high p r w.rest (all_tail (leb 0x80) b p h) w.then in
     record { rest = d.rest; then = d.then; whole = cc (w.whole, w.is, d.whole) }
 
-mark_high : {C : Type 0} (p r t : Bytes) → all (leb 0x80) p ≡ true → 0 < length p → unescape_from true (p ++ r) ≡ some t → C
+mark_high : {C : Type 0} (p r t : Bytes) → all (leb 0x80) p ≡ true → 0 < length p → unescape_from true (p ++ r) ≡ Some t → C
 unfolding unescape_from
 mark_high [] r t h l e = no (omega arith)
 mark_high (b ∷ p) r t h l e =
@@ -274,8 +274,8 @@ pub escape_text : (t : Bytes) → is_text t ≡ true → is_text (escape t) ≡ 
 escape_text t h = let w = sound t h in rw w.same (escape_chars w.chars w.legal)
 
 -- a legal character before a run that reads as text
-module _ (c : ℕ) (r : Bytes) (x : xml_char c ≡ true) (ih : (f : Bool) (t : Bytes) → unescape_from f r ≡ some t → is_text t ≡ true) where
-  unescape_ascii : (f : Bool) (t : Bytes) → c < 0x80 → unescape_from f (c ∷ r) ≡ some t → is_text t ≡ true
+module _ (c : ℕ) (r : Bytes) (x : xml_char c ≡ true) (ih : (f : Bool) (t : Bytes) → unescape_from f r ≡ Some t → is_text t ≡ true) where
+  unescape_ascii : (f : Bool) (t : Bytes) → c < 0x80 → unescape_from f (c ∷ r) ≡ Some t → is_text t ≡ true
   unfolding unescape_from
   unescape_ascii true t a e =
       let w = first (meaning c) (unescape r) t e in
@@ -284,15 +284,15 @@ module _ (c : ℕ) (r : Bytes) (x : xml_char c ≡ true) (ih : (f : Bool) (t : B
   unescape_ascii false t a e =
       by_bool (eqb c 92)
       (λ k. ih true t (rw (k, unescape_from) at e))
-      (λ k. let w = first (some c) (unescape r) t (sym (read_byte c r k) ∙ e) in
+      (λ k. let w = first (Some c) (unescape r) t (sym (read_byte c r k) ∙ e) in
       let q : t ≡ c ∷ w.rest = cc (w.whole, w.is) in
       rw q (text_ascii c w.rest a ∙ both_of x (ih false w.rest w.then)))
 
-  unescape_high : (f : Bool) (t : Bytes) → 0x80 ≤ c → unescape_from f (utf8 c ++ r) ≡ some t → is_text t ≡ true
+  unescape_high : (f : Bool) (t : Bytes) → 0x80 ≤ c → unescape_from f (utf8 c ++ r) ≡ Some t → is_text t ≡ true
   unescape_high true t a e = mark_high (utf8 c) r t (utf8_high c a) (utf8_some c) e
   unescape_high false t a e = let w = read_high (utf8 c) r t (utf8_high c a) e in rw w.whole (text_char c w.rest x ∙ ih false w.rest w.then)
 
-unescape_chars : (cs : List ℕ) → all xml_char cs ≡ true → (f : Bool) (t : Bytes) → unescape_from f (encoded cs) ≡ some t → is_text t ≡ true
+unescape_chars : (cs : List ℕ) → all xml_char cs ≡ true → (f : Bool) (t : Bytes) → unescape_from f (encoded cs) ≡ Some t → is_text t ≡ true
 unfolding encoded unescape_from escape
 unescape_chars [] h false t e = let q : t ≡ [] = cc in rw q text_nil
 unescape_chars [] h true t e = none_some (sym (backslash_last []) ∙ e)
@@ -302,7 +302,7 @@ unescape_chars (c ∷ cs) h f t e =
     by_lt c 0x80 (λ a. unescape_ascii c (encoded cs) x k f t a (rw (utf8_1 c a) at e)) (λ a. unescape_high c (encoded cs) x k f t a e)
 
 -- what a value that is text reads as is text
-pub unescape_text : (v t : Bytes) → is_text v ≡ true → unescape v ≡ some t → is_text t ≡ true
+pub unescape_text : (v t : Bytes) → is_text v ≡ true → unescape v ≡ Some t → is_text t ≡ true
 unescape_text v t h e = let w = sound v h in unescape_chars w.chars w.legal false t (rw w.same at e)
 
 -- ---- values and texts that need no escape
@@ -335,7 +335,7 @@ pub bare_append : (s t : Bytes) → bare s ≡ true → bare t ≡ true → bare
 unfolding bare
 bare_append s t h k = all_append _ s t h k
 
-marked_text : (u y : Bytes) → unescape_from true u ≡ some y → bare y ≡ false
+marked_text : (u y : Bytes) → unescape_from true u ≡ Some y → bare y ≡ false
 unfolding unescape_from escape
 marked_text [] y e = none_some (sym (backslash_last []) ∙ e)
 marked_text (m ∷ u) y e =
@@ -343,29 +343,29 @@ marked_text (m ∷ u) y e =
     rw w.whole (bare_not w.byte w.rest (by_meaning m w.byte w.is).cause)
 
 -- a value is its own text, or neither of the two is bare
-pub raw : (v x : Bytes) → unescape v ≡ some x → (v ≡ x) ⊎ ((bare v ≡ false) × (bare x ≡ false))
+pub raw : (v x : Bytes) → unescape v ≡ Some x → (v ≡ x) ⊎ ((bare v ≡ false) × (bare x ≡ false))
 unfolding unescape_from
 raw [] x e = inl (cc)
 raw (b ∷ v) x e =
     by_bool (eqb b 92)
     (λ k. inr (bare_not b v (either_right (breaks b) k), marked_text v x (rw (k, unescape_from) at e)))
-    (λ k. let w = first (some b) (unescape v) x (sym (read_byte b v k) ∙ e) in
+    (λ k. let w = first (Some b) (unescape v) x (sym (read_byte b v k) ∙ e) in
     let q : x ≡ b ∷ w.rest = cc (w.whole, w.is) in
     ⊎_elim (λ p. inl (cc)) (λ p. inr (bare_on b v p.0, rw q (bare_on b w.rest p.1))) (raw v w.rest w.then))
 
 -- a reader of bare texts alone reads a value and its text alike
-pub raw_reads : {B : Type 0} (f : Bytes → Option B) → ((s : Bytes) (z : B) → f s ≡ some z → bare s ≡ true) → (v x : Bytes) → unescape v ≡ some x → f v ≡ f x
+pub raw_reads : {B : Type 0} (f : Bytes → Option B) → ((s : Bytes) (z : B) → f s ≡ Some z → bare s ≡ true) → (v x : Bytes) → unescape v ≡ Some x → f v ≡ f x
 raw_reads {B} f h v x e = ⊎_elim (λ p. ap f p) (λ p. nothing v p.0 ∙ sym (nothing x p.1)) (raw v x e)
   where
-    nothing : (s : Bytes) → bare s ≡ false → f s ≡ none
+    nothing : (s : Bytes) → bare s ≡ false → f s ≡ None
     nothing s n = go (f s) refl
       where
-        go : (o : Option B) → f s ≡ o → f s ≡ none
-        go none q = q
-        go (some z) q = clash (h s z q) n
+        go : (o : Option B) → f s ≡ o → f s ≡ None
+        go None q = q
+        go (Some z) q = clash (h s z q) n
 
 -- and so does a comparison with a bare word
-pub plain_raw : (w v x : Bytes) → bare w ≡ true → unescape v ≡ some x → same v w ≡ same x w
+pub plain_raw : (w v x : Bytes) → bare w ≡ true → unescape v ≡ Some x → same v w ≡ same x w
 plain_raw w v x h e = ⊎_elim (λ p. ap (λ s. same s w) p) (λ p. other v p.0 ∙ sym (other x p.1)) (raw v x e)
   where
     other : (s : Bytes) → bare s ≡ false → same s w ≡ false

@@ -4,12 +4,12 @@ use mathlib.Core.Path.{◌≡◌, refl}
 use mathlib.Core.Bool.{Bool, true, false, ◌&&◌, ◌||◌}
 use native.Mathlib.Numerals.{add-one}
 use native.Mathlib.Omega.{arith}
-use lib.Dec.{ltb, leb, eqb}
+use lib.Dec.{leb, eqb}
 use lib.ListN.{length, get_or, drop, drop_of_length-le}
 use lib.Seq.{drop-cons}
-use borrow.Author.Tests.{lt-ltb, ltb-true, leb-true, le-leb, eqb-true}
+use borrow.Author.Tests.{leb-true, eqb-true}
 use Rattle.base.specs.Bytes.{Bytes, both, either, all}
-use Rattle.base.proofs.Split.{both_left, both_right, by_either, same_test}
+use Rattle.base.proofs.Split.{both_left, both_right, by_either}
 use Rattle.base.proofs.Lists.{all_nil}
 use Rattle.text.specs.Char.{from_to, xml_char}
 use Rattle.text.specs.Check.{is_text, is_plain, plain_ascii}
@@ -32,12 +32,9 @@ module _ (p : ℕ → Bool) (s : Bytes) where
 -- ---- plain bytes
 
 -- the test as the code has it
-pub plain_test : (b : ℕ) → (eqb b 9 || (ltb 31 b && ltb b 127)) ≡ is_plain b
+pub plain_test : (b : ℕ) → (eqb b 9 || (leb 32 b && leb b 126)) ≡ is_plain b
 unfolding is_plain from_to either both
-plain_test b =
-    let l : ltb 31 b ≡ leb 32 b = same_test _ _ (λ h. le-leb 32 b (omega (arith, ltb-true 31 b h))) (λ h. lt-ltb 31 b (omega (arith, leb-true 32 b h))) in
-    let u : ltb b 127 ≡ leb b 126 = same_test _ _ (λ h. le-leb b 126 (omega (arith, ltb-true b 127 h))) (λ h. lt-ltb b 127 (omega (arith, leb-true b 126 h))) in
-    rw (l, u) (go (eqb b 9) (leb 32 b) (leb b 126))
+plain_test b = go (eqb b 9) (leb 32 b) (leb b 126)
   where
     go : (x y z : Bool) → (x || (y && z)) ≡ either x (both y z)
     go true y z = refl

@@ -1,6 +1,5 @@
 -- Document 01, event lines: "In values `\t`, `\n`, `\r`, `\\` stand for tab, line feed, carriage return, backslash".
-use Rattle.std.specs.Prelude.{ℕ, Bool, true, false, cond, [], ◌∷◌, ◌++◌, eqb}
-use Rattle.std.proofs.Math.Option.{Option, none, some, map}
+use Rattle.std.specs.Prelude.{ℕ, Bool, true, false, cond, [], ◌∷◌, ◌++◌, eqb, None, Option, Some, option_map}
 use Rattle.base.specs.Bytes.{Bytes, either}
 use Rattle.base.specs.Chars.{horizontal_tab, line_feed, carriage_return, backslash, letter_small_n, letter_small_r, letter_small_t}
 
@@ -20,22 +19,22 @@ escape (b ∷ bs) = escaped b ++ escape bs
 -- what the byte after a backslash stands for; "another escape .. is refused"
 unfoldable pub meaning : ℕ → Option ℕ
 meaning b =
-    cond (eqb b letter_small_t) (some horizontal_tab)
-    (cond (eqb b letter_small_n) (some line_feed)
-    (cond (eqb b letter_small_r) (some carriage_return)
-    (cond (eqb b backslash) (some backslash)
-    none)))
+    cond (eqb b letter_small_t) (Some horizontal_tab)
+    (cond (eqb b letter_small_n) (Some line_feed)
+    (cond (eqb b letter_small_r) (Some carriage_return)
+    (cond (eqb b backslash) (Some backslash)
+    None)))
 
 -- a byte before what follows it, where both are there
 unfoldable pub byte_before : Option ℕ → Option Bytes → Option Bytes
-byte_before none t = none
-byte_before (some b) t = map (b ∷◌) t
+byte_before None t = None
+byte_before (Some b) t = option_map (b ∷◌) t
 
 -- the text of a value; the flag says that a backslash has just been read
 unfoldable pub unescape_from : Bool → Bytes → Option Bytes
-unescape_from false [] = some []
-unescape_from true [] = none
-unescape_from false (b ∷ bs) = elim (eqb b backslash) [ true ↦ unescape_from true bs | false ↦ byte_before (some b) (unescape_from false bs) ]
+unescape_from false [] = Some []
+unescape_from true [] = None
+unescape_from false (b ∷ bs) = elim (eqb b backslash) [ true ↦ unescape_from true bs | false ↦ byte_before (Some b) (unescape_from false bs) ]
 unescape_from true (b ∷ bs) = byte_before (meaning b) (unescape_from false bs)
 
 abbrev pub unescape : Bytes → Option Bytes

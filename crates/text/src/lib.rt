@@ -30,7 +30,7 @@ const CLASS: [u8; 256] = *b"\
 fn byte(s: &[u8], at: usize) -> u8
     ensures { result ≡ byte_at s.now at }
 {
-    if at < s.len() { s[at] } else { 0 }
+    s.get(at).copied().unwrap_or(0)
 }
 
 // The bits of a character so far with the six of a byte that continues it, 0 where it continues none.
@@ -38,13 +38,9 @@ fn join(v: u32, b: u8) -> u32
     requires { v < 0x10000 }
     ensures { (result ≡ joined_bits v b) × (result ≤ v * 64 + 63) }
 {
-    if b < 0x80 {
-        return 0;
-    }
-    if b < 0xc0 {
-        v * 64 + (b - 0x80) as u32
-    } else {
-        0
+    match b {
+        0x80..=0xbf => v * 64 + u32::from(b - 0x80),
+        _ => 0,
     }
 }
 
@@ -53,19 +49,7 @@ fn legal(v: u32) -> bool
     requires { 0x20 ≤ v }
     ensures { result ≡ xml_char v }
 {
-    if v < 0xd800 {
-        return true;
-    }
-    if v < 0xe000 {
-        return false;
-    }
-    if v < 0xfffe {
-        return true;
-    }
-    if v < 0x10000 {
-        return false;
-    }
-    v < 0x110000
+    matches!(v, 0x20..=0xd7ff | 0xe000..=0xfffd | 0x10000..=0x10ffff)
 }
 
 // `k` where the code point is legal and not below the least of `k` bytes.
@@ -73,72 +57,49 @@ fn size(k: usize, least: u32, v: u32) -> usize
     requires { 0x20 ≤ least }
     ensures { result ≡ sized k least v }
 {
-    if v < least {
-        return 0;
-    }
-    if legal(v) { k } else { 0 }
+    if least <= v && legal(v) { k } else { 0 }
 }
 
-// The length of the character that begins at a place with the byte `b` of class 2, 0 where none does.
-fn two(s: &[u8], at: usize, b: u8) -> usize
-    requires { Starting s.now at b 2 }
-    ensures { result ≡ char_len (drop at s.now) }
-{
-    let x = join(b as u32 % 32, byte(s, at + 1));
-    size(2, 0x80, x)
-}
-
-// The same of class 3.
-fn three(s: &[u8], at: usize, b: u8) -> usize
-    requires { Starting s.now at b 3 }
-    ensures { result ≡ char_len (drop at s.now) }
-{
-    let x = join(b as u32 % 16, byte(s, at + 1));
-    let y = join(x, byte(s, at + 2));
-    size(3, 0x800, y)
-}
-
-// The same of class 4.
-fn four(s: &[u8], at: usize, b: u8) -> usize
-    requires { Starting s.now at b 4 }
-    ensures { result ≡ char_len (drop at s.now) }
-{
-    let x = join(b as u32 % 8, byte(s, at + 1));
-    let y = join(x, byte(s, at + 2));
-    let z = join(y, byte(s, at + 3));
-    size(4, 0x10000, z)
-}
-
-// The same of each class `k` but 1.
+// The length of the character that begins at a place with the byte `b` of class `k`, other than 1; 0 where none does.
 fn long(s: &[u8], at: usize, b: u8, k: u8) -> usize
     requires starting { Starting s.now at b k }
     requires fact { k ≡ 1 → ⊥ }
     ensures { result ≡ char_len (drop at s.now) }
 {
-    if k == 2 {
-        return two(s, at, b);
+    let first = u32::from(b);
+    match k {
+        2 => {
+            let x = join(first % 32, byte(s, at + 1));
+            size(2, 0x80, x)
+        }
+        3 => {
+            let x = join(first % 16, byte(s, at + 1));
+            let y = join(x, byte(s, at + 2));
+            size(3, 0x800, y)
+        }
+        4 => {
+            let x = join(first % 8, byte(s, at + 1));
+            let y = join(x, byte(s, at + 2));
+            let z = join(y, byte(s, at + 3));
+            size(4, 0x10000, z)
+        }
+        _ => 0,
     }
-    if k == 3 {
-        return three(s, at, b);
-    }
-    if k == 4 { four(s, at, b) } else { 0 }
 }
 
-// Whether every byte is a tab or one from the blank to the tilde. It looks at all bytes, so that many are looked at together.
+// Whether every byte is a tab or one from the blank to the tilde. It looks at all bytes, so that many are looked at together: no early end, and no branch.
 pub fn plain(s: &[u8]) -> bool
     ensures { result ≡ all is_plain s.now }
 {
     let mut ok = true;
-    let mut i: usize = 0;
-    while i < s.len() {
-        let b = s[i];
-        ok = ok & ((b == 9) | ((31 < b) & (b < 127)));
-        i += 1;
+    for b in s {
+        ok = ok & ((*b == b'\t') | ((b' ' <= *b) & (*b <= b'~')));
     }
     ok
 }
 
 // Whether bytes are legal text, character by character.
+// The loop is no `for`: it goes on by the length of each character.
 fn walk(s: &[u8]) -> bool
     ensures { result ≡ is_text s.now }
 {
@@ -164,8 +125,5 @@ fn walk(s: &[u8]) -> bool
 pub fn is_text(s: &[u8]) -> bool
     ensures { result ≡ is_text s.now }
 {
-    if plain(s) {
-        return true;
-    }
-    walk(s)
+    plain(s) || walk(s)
 }

@@ -1,20 +1,24 @@
 -- The bucket of a text, byte by byte.
-use Prim.Native.Nat.{ℕ, ◌+◌, ◌*◌, ◌/◌, ◌%◌, ◌<◌}
-use mathlib.Core.Path.{◌≡◌}
-use native.Mathlib.Numerals.{add-one}
-use lib.ListN.{length, get_or, drop}
-use lib.Seq.{drop-cons, drop-length}
+use Prim.Native.Nat.{ℕ, ◌+◌, ◌*◌, ◌/◌, ◌%◌}
+use mathlib.Core.Path.{◌≡◌, refl}
+use mathlib.Core.List.{[], ◌∷◌}
+use native.Mathlib.Omega.{arith}
+use Rattle.std.specs.List.{fold}
 use Rattle.base.specs.Bytes.{Bytes}
 use Rattle.text_index.specs.Index.{hash_on, bucket_of}
 
-pub hash_step : (t : Bytes) (i k : ℕ) → i < length t → hash_on k (drop i t) ≡ hash_on ((k * 16777619 + get_or t i 0) % 4294967296) (drop (i + 1) t)
-unfolding hash_on
-hash_step t i k h = rw (drop-cons t i 0 h, add-one)
+-- one byte more, in 32 bits
+abbrev pub hash_step : ℕ → ℕ → ℕ
+hash_step k b = (k * 16777619 % 4294967296 + b) % 4294967296
 
-pub hash_end : (t : Bytes) (i k : ℕ) → i ≡ length t → hash_on k (drop i t) ≡ k
-unfolding hash_on
-hash_end t i k h = rw (h, drop-length)
+step_once : (k b : ℕ) → hash_step k b ≡ (k * 16777619 + b) % 4294967296
+step_once k b = omega arith
 
-pub bucket_hash : (t : Bytes) (k : ℕ) → k ≡ hash_on 0 t → k * 2654435761 % 4294967296 / 1048576 ≡ bucket_of t
+hash_fold : (k : ℕ) (t : Bytes) → fold hash_step k t ≡ hash_on k t
+unfolding hash_on
+hash_fold k [] = refl
+hash_fold k (b ∷ bs) = rw step_once (hash_fold ((k * 16777619 + b) % 4294967296) bs)
+
+pub bucket_hash : (t : Bytes) (k : ℕ) → k ≡ fold hash_step 0 t → k * 2654435761 % 4294967296 / 1048576 ≡ bucket_of t
 unfolding bucket_of
-bucket_hash t k e = rw e
+bucket_hash t k e = rw (e, hash_fold 0 t)

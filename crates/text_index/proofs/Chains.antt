@@ -6,10 +6,10 @@ use mathlib.Core.List.{List, []}
 use native.Mathlib.Nat.{zero-add}
 use native.Mathlib.Omega.{arith}
 use lib.ListN.{length, get_or, length-map}
+use Rattle.std.specs.Prelude.{Some, None}
 use Rattle.base.specs.Bytes.{Bytes}
 use Rattle.base.proofs.Split.{by_bool, by_lt, by_eq, both_left, both_right, clash}
 use Rattle.base.proofs.Lists.{same_yes}
-use Rattle.interner.specs.declared.Found.TheVariants.{At}
 use Rattle.interner.specs.Texts.{text_of}
 use Rattle.interner.specs.Strings.{bytes_at, is_at, find_from, find_in, Store, used_of}
 use Rattle.interner.specs.Sound.{handles, texts_in, counts_within, sound_up_to, sound_strings}
@@ -39,7 +39,7 @@ module _ (spans : List ℕ) (bytes : Bytes) where
 
     -- ---- what is found one by one
 
-    find_at : (n h k : ℕ) → h ≤ k → k < h + n → is_at spans bytes t k ≡ true → ((j : ℕ) → h ≤ j → j < k → is_at spans bytes t j ≡ false) → find_from spans bytes t n h ≡ At k
+    find_at : (n h k : ℕ) → h ≤ k → k < h + n → is_at spans bytes t k ≡ true → ((j : ℕ) → h ≤ j → j < k → is_at spans bytes t j ≡ false) → find_from spans bytes t n h ≡ Some k
     find_at zero h k a b e f = absurd (omega arith)
     find_at (suc n) h k a b e f =
         by_eq h k
@@ -52,24 +52,19 @@ module _ (spans : List ℕ) (bytes : Bytes) where
         let q : suc m + n ≡ suc (m + n) = omega arith in
         rw q (find_on spans bytes t (m + n) h (f h (omega arith) (omega arith)) ∙ find_skip m n (suc h) k (omega arith) (λ j c d. f j (omega arith) d))
 
-    module _ (n count c : ℕ) (b : n ≤ count) (d : FoundBelow spans bytes t n c) where
-      -- a text has one handle
-      pub found_chained : (ix : List ℕ) → ChainsGiven ix spans bytes count → 0 < c → find_in spans bytes count t ≡ At (c - 1)
-      unfolding find_in is_at
-      found_chained ix g p =
-          let u = upto_parts spans bytes count g.sound in
-          find_at count 0 (c - 1) (omega arith) (omega (arith, d.within)) (d.found p)
-          (λ j a e.
-          at_not j
-          (λ q.
-          clash (both_right _ _ (d.found p))
-          (let z = u.differ j (c - 1) e (omega (arith, d.within)) in rw (← q) at z)))
+    -- a text has one handle
+    pub found_chained : (ix : List ℕ) (n count h : ℕ) → n ≤ count → ChainsGiven ix spans bytes count → FoundBelow spans bytes t n (Some h) → find_in spans bytes count t ≡ Some h
+    unfolding find_in is_at
+    found_chained ix n count h b g d =
+        let u = upto_parts spans bytes count g.sound in
+        find_at count 0 h (omega arith) (omega (arith, d.0)) d.1
+        (λ j a e. at_not j (λ q. clash (both_right _ _ d.1) (let z = u.differ j h e (omega (arith, d.0)) in rw (← q) at z)))
 
-      pub found_rest : c ≡ 0 → find_in spans bytes count t ≡ find_from spans bytes t (count - n) n
-      unfolding find_in
-      found_rest p =
-          let e : count ≡ n + (count - n) = omega arith in
-          ap (λ k. find_from spans bytes t k 0) e ∙ find_skip n (count - n) 0 n (omega arith) (λ j a h. d.none j p h)
+    pub found_rest : (n count : ℕ) → n ≤ count → FoundBelow spans bytes t n None → find_in spans bytes count t ≡ find_from spans bytes t (count - n) n
+    unfolding find_in
+    found_rest n count b d =
+        let e : count ≡ n + (count - n) = omega arith in
+        ap (λ k. find_from spans bytes t k 0) e ∙ find_skip n (count - n) 0 n (omega arith) (λ j a h. d j h)
 
 -- ---- the chain
 
@@ -100,20 +95,20 @@ module _ (ix spans : List ℕ) (bytes t : Bytes) (count n : ℕ) (g : ChainsGive
         bucket = λ z. sym (bucket_in (get_or ix b 0 - 1) (omega (arith, l.within))) ∙ (l.last z ∙ q);
       })
 
-  pub chain_next : (c d : ℕ) → 0 < c → c ≤ n → ChainLeft spans bytes t n c → is_at spans bytes t (c - 1) ≡ false → (get_or ix (4095 + c) 0 ≤ c - 1 → d ≡ get_or ix (4095 + c) 0)
+  pub chain_next : (h d : ℕ) → h < n → ChainLeft spans bytes t n (h + 1) → is_at spans bytes t h ≡ false → (get_or ix (4096 + h) 0 ≤ h → d ≡ get_or ix (4096 + h) 0)
       → ChainLeft spans bytes t n d
-  chain_next c d p q w a f =
-      let i : 4096 + (c - 1) ≡ 4095 + c = omega arith in
-      let l = rw i at (g.chains.befores (c - 1) (omega (arith, e))) in
-      let s : d ≡ get_or ix (4095 + c) 0 = f l.within in
-      let k : bucket_at (texts_in spans bytes count) (c - 1) ≡ bucket_of t = bucket_in (c - 1) (omega arith) ∙ w.bucket p in
+  chain_next h d p w a f =
+      let l = g.chains.befores h (omega (arith, e)) in
+      let s : d ≡ get_or ix (4096 + h) 0 = f l.within in
+      let i : h + 1 - 1 ≡ h = omega arith in
+      let k : bucket_at (texts_in spans bytes count) h ≡ bucket_of t = bucket_in h p ∙ rw i at (w.bucket (omega arith)) in
       rw s
       (record {
-        passed = λ h x y.
-            by_lt h (c - 1)
-            (not_in (bucket_at (texts_in spans bytes count) (c - 1)) (c - 1) (get_or ix (4095 + c) 0) (omega arith) k l h x)
-            (λ z. by_eq h (c - 1) (λ v. rw v a) (λ v. w.passed h (omega arith) y));
-        bucket = λ z. sym (bucket_in (get_or ix (4095 + c) 0 - 1) (omega (arith, l.within))) ∙ (l.last z ∙ k);
+        passed = λ j x y.
+            by_lt j h
+            (not_in (bucket_at (texts_in spans bytes count) h) h (get_or ix (4096 + h) 0) (omega arith) k l j x)
+            (λ z. by_eq j h (λ v. rw v a) (λ v. w.passed j (omega arith) y));
+        bucket = λ z. sym (bucket_in (get_or ix (4096 + h) 0 - 1) (omega (arith, l.within))) ∙ (l.last z ∙ k);
       })
 
 -- ---- the strings in use

@@ -8,32 +8,17 @@ ghost use Rattle.interner.specs.Sound.{texts_in};
 ghost use Rattle.text_index.specs.Index.{bucket_of, handles_in, Indexed, IndexGiven};
 ghost use Rattle.text_index.specs.Link.{linked, ChainsGiven, FoundBelow};
 
-use interner::{Found, Interned, Span, Taken};
-
-fn wide(b: u8) -> u64
-    ensures value { result ≡ b }
-    ensures upper_bound { result < 256 }
-{
-    b as u64
-}
-
-fn size(e: u16) -> usize
-    ensures { result ≡ e }
-{
-    e as usize
-}
+use interner::{Interned, Taken};
 
 // The bucket of a text.
 fn bucket(text: &[u8]) -> usize
     ensures { (result ≡ bucket_of text.now) × (result < 4096) }
 {
-    let mut k: u64 = 0;
-    let mut i: usize = 0;
-    while i < text.len() {
-        k = (k * 16777619 + wide(text[i])) % 4294967296;
-        i += 1;
-    }
-    (k * 2654435761 % 4294967296 / 1048576) as usize
+    let hash = text.iter().fold(
+        0u32,
+        |k, b| k.wrapping_mul(16777619).wrapping_add(u32::from(*b)),
+    );
+    (hash.wrapping_mul(2654435761) / 1048576) as usize
 }
 
 // An entry of the array, 0 past its end or where it is more than it may be.
@@ -41,66 +26,66 @@ fn entry(ix: &[u16], i: usize, most: usize) -> usize
     ensures upper_bound { result ≤ most }
     ensures value { get_or ix.now i 0 ≤ most → result ≡ get_or ix.now i 0 }
 {
-    if ix.len() <= i {
-        return 0;
+    match ix.get(i) {
+        Some(e) if usize::from(*e) <= most => usize::from(*e),
+        _ => 0,
     }
-    let e = size(ix[i]);
-    if e <= most { e } else { 0 }
 }
 
-// One more than the last handle of a text among the first n, one by one, or 0 where there is none.
-fn search_down(spans: &[u64], bytes: &[u8], n: usize, text: &[u8]) -> usize
+// The last handle of a text among the first n, one by one.
+fn search_down(spans: &[u64], bytes: &[u8], n: usize, text: &[u8]) -> Option<usize>
     ensures { FoundBelow spans.now bytes.now text.now n result }
 {
-    let mut c = n;
-    while 0 < c {
-        if interner::is_at(spans, bytes, text, c - 1) {
-            return c;
+    // `(0..n).rev().find(..)` was tried, and its proof did not close: the library's lemma of `find` over a range goes from the start.
+    for h in (0..n).rev() {
+        if interner::is_at(spans, bytes, text, h) {
+            return Some(h);
         }
-        c -= 1;
     }
-    0
+    None
 }
 
 // The same by the chain of its bucket, where the array holds n handles. A chain of more than 32 handles is left: so nobody's texts make it slower than a search one by one.
-fn find_chained(ix: &[u16], spans: &[u64], bytes: &[u8], n: usize, text: &[u8]) -> usize
+fn find_chained(ix: &[u16], spans: &[u64], bytes: &[u8], n: usize, text: &[u8]) -> Option<usize>
     requires { n ≤ 4096 }
     ensures { (count : ℕ) → ChainsGiven ix.now spans.now bytes.now count → n ≡ handles_in ix.now
         → FoundBelow spans.now bytes.now text.now n result }
 {
     let b = bucket(text);
     let mut c = entry(ix, b, n);
-    let mut left: usize = 32;
-    while 0 < c {
-        if left == 0 {
-            return search_down(spans, bytes, c, text);
+    for _ in 0..32 {
+        let h = c.checked_sub(1)?;
+        if interner::is_at(spans, bytes, text, h) {
+            return Some(h);
         }
-        if interner::is_at(spans, bytes, text, c - 1) {
-            return c;
-        }
-        c = entry(ix, 4095 + c, c - 1);
-        left -= 1;
+        c = entry(ix, 4096 + h, h);
     }
-    0
+    search_down(spans, bytes, c, text)
 }
 
 // The handle of a text: by the chains among the handles that the array holds, then one by one. Few handles are searched one by one at once.
-fn find_by(ix: &[u16], spans: &[u64], bytes: &[u8], count: u64, text: &[u8]) -> Found
+fn find_by(ix: &[u16], spans: &[u64], bytes: &[u8], count: u64, text: &[u8]) -> Option<u64>
     ensures { ChainsGiven ix.now spans.now bytes.now count → result ≡ find_in spans.now bytes.now count text.now }
 {
     let n = entry(ix, 8192, 4096);
     if n < 16 {
         return interner::find_text(spans, bytes, count, text);
     }
-    let c = find_chained(ix, spans, bytes, n, text);
-    if 0 < c {
-        return Found::At((c - 1) as u64);
+    match find_chained(ix, spans, bytes, n, text) {
+        Some(h) => Some(h as u64),
+        None => interner::find_from(spans, bytes, n, count, text),
     }
-    interner::find_from(spans, bytes, n, count, text)
 }
 
 // The same among all held handles, over the bytes in use.
-fn find_held(ix: &[u16], spans: &[u64], bytes: &[u8], strings: u64, used: u64, text: &[u8]) -> Found
+fn find_held(
+    ix: &[u16],
+    spans: &[u64],
+    bytes: &[u8],
+    strings: u64,
+    used: u64,
+    text: &[u8],
+) -> Option<u64>
     ensures { IndexGiven ix.now (store_with spans.now bytes.now strings used)
         → result ≡ find_in spans.now (take used bytes.now) strings text.now }
 {
@@ -137,8 +122,8 @@ pub fn answer_by(
         → result ≡ (intern (store_with spans.now bytes.now strings used) text.now).answer }
 {
     match find_held(ix, spans, bytes, strings, used, text) {
-        Found::At(h) => Interned::Held(h),
-        Found::Not => {
+        Some(h) => Interned::Held(h),
+        None => {
             if interner::fits(spans.len(), bytes.len(), strings, used, text.len()) {
                 return Interned::New(strings);
             }
@@ -154,11 +139,11 @@ fn bucket_at(spans: &[u64], bytes: &[u8], h: usize) -> usize
     ensures upper_bound { result < 4096 }
     ensures value { spanned spans.now bytes.now h ≡ true → result ≡ bucket_of (bytes_at spans.now bytes.now h) }
 {
-    let Span::Part { start, len } = interner::span_at(spans, bytes, h) else {
+    let Some(p) = interner::span_at(spans, bytes, h) else {
         return 0;
     };
-    let end = start + len;
-    bucket(&bytes[start..end])
+    let end = p.start + p.len;
+    bucket(&bytes[p.start..end])
 }
 
 // The array with one handle more.
@@ -177,11 +162,9 @@ fn link_all(ix: &mut [u16], spans: &[u64], bytes: &[u8], n: usize, end: usize)
     ensures { (count : ℕ) → end ≤ count → n ≡ handles_in ix.old → ChainsGiven ix.old spans.now bytes.now count
         → Indexed ix.new (texts_in spans.now bytes.now count) }
 {
-    let mut h = n;
-    while h < end {
+    for h in n..end {
         let b = bucket_at(spans, bytes, h);
         link(ix, b, h);
-        h += 1;
     }
 }
 

@@ -1,22 +1,22 @@
 -- What an entry leaves and replies, from what a call of the overlay leaves and answers; and where a number means no kind.
+use Rattle.std.specs.Prelude.{Result, ℕ}
+use Rattle.refusal.specs.declared.Refusal.{Refusal}
 use mathlib.Core.Path.{◌≡◌, refl}
 use mathlib.Core.Bool.{Bool, true, false, cond}
 use Rattle.refusal.specs.declared.Reply.{Reply}
 use Rattle.refusal.specs.declared.Refusal.TheVariants as R
-use Rattle.kind_store.specs.declared.Kept.{Kept}
 use Rattle.overlay.specs.Overlay.{Overlay}
 use Rattle.overlay.specs.Sound.{is_sound}
 use Rattle.overlay.specs.Calls.{OverlayAfter, overlay_refused}
 use Rattle.overlay_store.specs.Calls.{Interning}
-use Rattle.overlay_store.specs.declared.Handle.{Handle}
 use Rattle.c_replies.specs.Overlays.{kept_reply, unknown_reply, handle_text}
 use Rattle.c_replies.specs.declared.Text.{Text}
 use Rattle.torvaskin.specs.Overlays.{replied, unknown, interned}
 
-pub replied_is : {x : Overlay} {a : Kept} {r : Reply} {y : OverlayAfter} → r ≡ kept_reply a → record { overlay = x; answer = a } ≡ y → record { overlay = x; reply = r } ≡ replied y
+pub replied_is : {x : Overlay} {a : Result Unit Refusal} {r : Reply} {y : OverlayAfter} → r ≡ kept_reply a → record { overlay = x; answer = a } ≡ y → record { overlay = x; reply = r } ≡ replied y
 replied_is told e = rw (told, ← e)
 
-pub interned_is : {x : Overlay} {a : Handle} {r : Text} {y : Interning} → r ≡ handle_text a → record { overlay = x; answer = a } ≡ y → record { overlay = x; reply = r } ≡ interned y
+pub interned_is : {x : Overlay} {a : Result ℕ Refusal} {r : Text} {y : Interning} → r ≡ handle_text a → record { overlay = x; answer = a } ≡ y → record { overlay = x; reply = r } ≡ interned y
 interned_is told e = rw (told, ← e)
 
 -- 22, else 17, and nothing lent changes

@@ -1,4 +1,5 @@
 -- "Nothing lent changes but the reader's own stop mark": a refused event leaves every word but the three of the stop mark as it was, and 22 and a repeated refusal every word.
+use Rattle.std.specs.Prelude.{Some}
 use Prim.Native.Nat.{ℕ}
 use mathlib.Core.Path.{◌≡◌, ◌∙◌, ap}
 use mathlib.Core.Bool.{true, false}
@@ -9,8 +10,7 @@ use Rattle.base.proofs.Split.{by_bool}
 use Rattle.refusal.specs.declared.Refusal.{Refusal}
 use Rattle.refusal.specs.declared.Refusal.TheVariants as R
 use Rattle.overlay.specs.Overlay.{Overlay}
-use Rattle.reader.specs.declared.Stop.TheVariants.{At}
-use Rattle.reader.specs.State.{State, stops_by, state_sound}
+use Rattle.reader.specs.State.{State, stops_by, state_sound, refusal_at}
 use Rattle.reader.specs.Step.{stops}
 use Rattle.reader.specs.Event.{refused_at, stepped, event_on}
 use Rattle.reader.proofs.Answers.{event_22, event_stopped, by_event}
@@ -49,7 +49,7 @@ module _ (line : Bytes) (o : Overlay) (w : List ℕ) (parts : Bytes) (l : length
   unsound_keeps u = by_bool (is_reader w) (λ i. (same i R.Unsound 0 (event_22 line read u)).0) (λ i. (none i).0)
 
   -- a repeated refusal
-  pub repeat_keeps : state_sound read ≡ true → (r : Refusal) (n : ℕ) → read.reader.stop ≡ At r n → stops_by r ≡ true → (event_reply line o w parts).words ≡ w
+  pub repeat_keeps : state_sound read ≡ true → (r : Refusal) (n : ℕ) → read.reader.stop ≡ Some (refusal_at r n) → stops_by r ≡ true → (event_reply line o w parts).words ≡ w
   repeat_keeps u r n m t = by_bool (is_reader w) (λ i. (same i r n (event_stopped line read r n u m t)).0) (λ i. (none i).0)
 
   -- each refusal

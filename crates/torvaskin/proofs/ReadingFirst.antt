@@ -1,9 +1,9 @@
 -- T4 at the C boundary: the number of each reply is that of the first condition that holds: 22; 17 for a number that means no kind; then those of the reading.
 -- It is 0 where none holds.
+use Rattle.std.specs.Prelude.{Err, None, Ok, Option, Result, Some}
 use Prim.Native.Nat.{ℕ}
 use mathlib.Core.Path.{◌≡◌, refl, sym, ◌∙◌, ap}
 use mathlib.Core.Bool.{true}
-use mathlib.Core.Option.{some}
 use mathlib.Core.List.{List, [], ◌∷◌}
 use lib.IntN.{ℤ}
 use mir.Syntax.{w64}
@@ -11,21 +11,16 @@ use mir.Val.{SFits}
 use Rattle.base.proofs.Split.{by_bool}
 use Rattle.kind.specs.Kind.{of_number}
 use Rattle.kind.specs.declared.Kind.{Kind}
-use Rattle.kind.specs.declared.Named.{Named}
-use Rattle.kind.specs.declared.Named.TheVariants as K
 use Rattle.refusal.specs.First.{ConditionRow, row, first_of}
 use Rattle.refusal.specs.declared.Refusal.{Refusal}
 use Rattle.refusal.specs.declared.Refusal.TheVariants as R
 use Rattle.kind_reading.specs.declared.Side.{Side}
 use Rattle.kind_reading.specs.declared.Side.TheVariants.{Live}
-use Rattle.kind_reading.specs.declared.View.{View}
-use Rattle.kind_reading.specs.declared.View.TheVariants as view
+use Rattle.kind_reading.specs.Listed.{View}
 use Rattle.overlay.specs.Overlay.{Overlay, kind_store_of}
 use Rattle.overlay.specs.Given.{InBytes}
 use Rattle.overlay.specs.Sound.{is_sound}
 use Rattle.overlay.specs.First.{unsound_row, kind_rows, kind_call_table, number_by}
-use Rattle.overlay_reading.specs.declared.Read.{Read}
-use Rattle.overlay_reading.specs.declared.Read.TheVariants.{Is, Refused}
 use Rattle.overlay_reading.specs.Reading.{count_in, count_on, is_empty_on, id_on, record_on, get_on, has_on, is_deleted_on, known_on, text_on}
 use Rattle.overlay_reading.specs.First.{read_refusal, view_refusal, number_rows, read_table, number_table}
 use Rattle.overlay_reading.proofs.First.{count_first, empty_first, has_first, is_deleted_first, known_first, get_first, id_first, text_first, record_first}
@@ -35,32 +30,32 @@ use Rattle.overlay_ids.specs.First.{short_rows}
 use Rattle.overlay_ids.proofs.First.{all_ids_first}
 use Rattle.torvaskin.specs.Readings.{ids_for, ids_reply, number_for, part_for, count_number, id_number, record_part, get_part, has_number, is_deleted_number, known_number}
 
-read_number_lem : (x : Read) → (read_number x).number ≡ number_by (read_refusal x)
-read_number_lem (Is n) = refl
-read_number_lem (Refused r) = refl
+read_number_lem : (x : Result ℕ Refusal) → (read_number x).number ≡ number_by (read_refusal x)
+read_number_lem (Ok n) = refl
+read_number_lem (Err r) = refl
 
 view_number : (v : View) → (view_part v).number ≡ number_by (view_refusal v)
-view_number (view.Part start len) = refl
-view_number view.Nothing = refl
-view_number (view.Refused r) = refl
+view_number (Ok (Some p)) = refl
+view_number (Ok None) = refl
+view_number (Err r) = refl
 
 -- ---- a kind by its number
 
 module _ (o : Overlay) where
-  unknown_first : first_of (unsound_row o ∷ row R.BadRecord true ∷ []) ≡ some (unknown_kind (is_sound o))
+  unknown_first : first_of (unsound_row o ∷ row R.BadRecord true ∷ []) ≡ Some (unknown_kind (is_sound o))
   unfolding first_of
   unknown_first = by_bool (is_sound o) (λ s. rw s) (λ s. rw s)
 
   module _ (rows : Kind → List (ConditionRow Refusal)) where
-    named_number : (f : Kind → Read) → ((k : Kind) → read_refusal (f k) ≡ first_of (unsound_row o ∷ rows k))
-        → (n : Named) → (number_for n f o).number ≡ number_by (first_of (unsound_row o ∷ kind_rows n rows))
-    named_number f h (K.Is k) = read_number_lem (f k) ∙ ap number_by (h k)
-    named_number f h K.Unknown = sym (ap number_by unknown_first)
+    named_number : (f : Kind → Result ℕ Refusal) → ((k : Kind) → read_refusal (f k) ≡ first_of (unsound_row o ∷ rows k))
+        → (n : Option Kind) → (number_for n f o).number ≡ number_by (first_of (unsound_row o ∷ kind_rows n rows))
+    named_number f h (Some k) = read_number_lem (f k) ∙ ap number_by (h k)
+    named_number f h None = sym (ap number_by unknown_first)
 
     named_part : (f : Kind → View) → ((k : Kind) → view_refusal (f k) ≡ first_of (unsound_row o ∷ rows k))
-        → (n : Named) → (part_for n f o).number ≡ number_by (first_of (unsound_row o ∷ kind_rows n rows))
-    named_part f h (K.Is k) = view_number (f k) ∙ ap number_by (h k)
-    named_part f h K.Unknown = sym (ap number_by unknown_first)
+        → (n : Option Kind) → (part_for n f o).number ≡ number_by (first_of (unsound_row o ∷ kind_rows n rows))
+    named_part f h (Some k) = view_number (f k) ∙ ap number_by (h k)
+    named_part f h None = sym (ap number_by unknown_first)
 
   -- ---- 22, 17
 
@@ -98,9 +93,9 @@ module _ (o : Overlay) where
 
   -- ---- 22, 17, 19
 
-  ids_number : (side : Side) (ids versions : List ℕ) (n : Named) → (ids_for n side ids versions o).reply.number ≡ (number_for n (λ k. (all_ids_on k side ids versions o).answer) o).number
-  ids_number side ids versions (K.Is k) = refl
-  ids_number side ids versions K.Unknown = refl
+  ids_number : (side : Side) (ids versions : List ℕ) (n : Option Kind) → (ids_for n side ids versions o).reply.number ≡ (number_for n (λ k. (all_ids_on k side ids versions o).answer) o).number
+  ids_number side ids versions (Some k) = refl
+  ids_number side ids versions None = refl
 
   pub ids_number_first : (kind : ℕ) (side : Side) (ids versions : List ℕ)
       → (ids_reply kind side ids versions o).reply.number ≡ number_by (first_of (kind_call_table kind (λ k. short_rows k side ids versions o) o))

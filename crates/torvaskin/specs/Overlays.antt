@@ -1,9 +1,8 @@
 -- The C boundary of the overlay: what each entry leaves and replies; a kind goes by its number, and one above 2 is refused 17 where 22 is not.
-use Rattle.std.specs.Prelude.{ℕ, ℤ}
+use Rattle.kind.specs.declared.Kind.{Kind}
+use Rattle.std.specs.Prelude.{ℕ, ℤ, None, Option, Some}
 use Rattle.base.specs.Bytes.{Bytes}
 use Rattle.kind.specs.Kind.{of_number}
-use Rattle.kind.specs.declared.Named.{Named}
-use Rattle.kind.specs.declared.Named.TheVariants.{Is, Unknown}
 use Rattle.refusal.specs.declared.Reply.{Reply}
 use Rattle.refusal.specs.declared.Refusal.TheVariants as R
 use Rattle.model.specs.Record.{Meta}
@@ -34,16 +33,16 @@ allow_reply setting o = replied (allow_on setting o)
 abbrev pub unknown : Overlay → OverlayAfter
 unknown o = if_sound o (overlay_refused o R.BadRecord)
 
-abbrev pub push_named : Named → PushHead → ArenaMeta → Bytes → Overlay → OverlayAfter
-push_named (Is k) h m parts o = push_on k h m parts o
-push_named Unknown h m parts o = unknown o
+abbrev pub push_named : Option Kind → PushHead → ArenaMeta → Bytes → Overlay → OverlayAfter
+push_named (Some k) h m parts o = push_on k h m parts o
+push_named None h m parts o = unknown o
 
 unfoldable pub push_reply : ℕ → PushHead → ArenaMeta → Bytes → Overlay → Replied
 push_reply kind h m parts o = replied (push_named (of_number kind) h m parts o)
 
-abbrev pub delete_named : Named → ℤ → Meta ℕ → Overlay → OverlayAfter
-delete_named (Is k) id m o = delete_on k id m o
-delete_named Unknown id m o = unknown o
+abbrev pub delete_named : Option Kind → ℤ → Meta ℕ → Overlay → OverlayAfter
+delete_named (Some k) id m o = delete_on k id m o
+delete_named None id m o = unknown o
 
 unfoldable pub delete_reply : ℕ → ℤ → Meta ℕ → Overlay → Replied
 delete_reply kind id m o = replied (delete_named (of_number kind) id m o)

@@ -1,6 +1,5 @@
 -- The C boundary of a reader: what each entry leaves and replies. Words that are no reader's are refused 22, and nothing changes.
-use Rattle.std.specs.Prelude.{ℕ, List}
-use Rattle.std.proofs.Math.Option.{Option, none, some}
+use Rattle.std.specs.Prelude.{ℕ, List, None, Option, Some}
 use Rattle.base.specs.Bytes.{Bytes}
 use Rattle.overlay.specs.Overlay.{Overlay}
 use Rattle.reader.specs.State.{State}
@@ -24,8 +23,8 @@ abbrev pub replied_event : EventResult → EventReplied
 replied_event x = record { overlay = x.state.overlay; words = words_of_reader x.state.reader; parts = x.state.parts; reply = answer_reply x.answer }
 
 abbrev pub event_named : Option EventReader → Bytes → Overlay → List ℕ → Bytes → EventReplied
-event_named (some r) line o words parts = replied_event (event_on line (record { overlay = o; reader = r; parts = parts }))
-event_named none line o words parts = record { overlay = o; words = words; parts = parts; reply = no_reader }
+event_named (Some r) line o words parts = replied_event (event_on line (record { overlay = o; reader = r; parts = parts }))
+event_named None line o words parts = record { overlay = o; words = words; parts = parts; reply = no_reader }
 
 unfoldable pub event_reply : Bytes → Overlay → List ℕ → Bytes → EventReplied
 event_reply line o words parts = event_named (reader_of_words words) line o words parts
@@ -47,8 +46,8 @@ abbrev pub run_replied : Bytes → State → EventsReplied
 run_replied run s = replied_events (events_on (lines_of run) s) (taken_bytes (lines_of run) s)
 
 abbrev pub events_named : Option EventReader → Bytes → Overlay → List ℕ → Bytes → EventsReplied
-events_named (some r) run o words parts = run_replied run (record { overlay = o; reader = r; parts = parts })
-events_named none run o words parts = record { overlay = o; words = words; parts = parts; reply = taken_reply no_reader 0 }
+events_named (Some r) run o words parts = run_replied run (record { overlay = o; reader = r; parts = parts })
+events_named None run o words parts = record { overlay = o; words = words; parts = parts; reply = taken_reply no_reader 0 }
 
 unfoldable pub events_reply : Bytes → Overlay → List ℕ → Bytes → EventsReplied
 events_reply run o words parts = events_named (reader_of_words words) run o words parts
@@ -56,8 +55,8 @@ events_reply run o words parts = events_named (reader_of_words words) run o word
 -- ---- the end
 
 abbrev pub end_named : Option EventReader → Overlay → Bytes → EventReply
-end_named (some r) o parts = answer_reply (end_on (record { overlay = o; reader = r; parts = parts })).answer
-end_named none o parts = no_reader
+end_named (Some r) o parts = answer_reply (end_on (record { overlay = o; reader = r; parts = parts })).answer
+end_named None o parts = no_reader
 
 unfoldable pub end_reply : Overlay → List ℕ → Bytes → EventReply
 end_reply o words parts = end_named (reader_of_words words) o parts

@@ -1,29 +1,25 @@
 -- The C boundary of the readings: what each entry leaves and replies; a kind goes by its number, and one above 2 is refused 17 where 22 is not.
-use Rattle.std.specs.Prelude.{ℕ, List, ℤ}
+use Rattle.refusal.specs.declared.Refusal.{Refusal}
+use Rattle.std.specs.Prelude.{ℕ, List, ℤ, Err, None, Option, Result, Some}
 use Rattle.kind.specs.Kind.{of_number}
 use Rattle.kind.specs.declared.Kind.{Kind}
-use Rattle.kind.specs.declared.Named.{Named}
-use Rattle.kind.specs.declared.Named.TheVariants as K
 use Rattle.overlay.specs.Overlay.{Overlay}
 use Rattle.overlay.specs.Sound.{is_sound}
 use Rattle.kind_reading.specs.declared.Side.{Side}
-use Rattle.kind_reading.specs.declared.View.{View}
-use Rattle.kind_reading.specs.declared.View.TheVariants as view
+use Rattle.kind_reading.specs.Listed.{View}
 use Rattle.overlay_reading.specs.Reading.{count_on, id_on, record_on, get_on, has_on, is_deleted_on, known_on}
-use Rattle.overlay_reading.specs.declared.Read.{Read}
-use Rattle.overlay_reading.specs.declared.Read.TheVariants.{Refused}
 use Rattle.overlay_ids.specs.Bulk.{AllIds, all_ids_on}
 use Rattle.c_replies.specs.Readings.{read_number, view_part, unknown_kind}
 use Rattle.c_replies.specs.declared.Number.{Number}
 use Rattle.c_replies.specs.declared.Part.{Part}
 
-abbrev pub number_for : Named → (Kind → Read) → Overlay → Number
-number_for (K.Is k) f o = read_number (f k)
-number_for K.Unknown f o = read_number (Refused (unknown_kind (is_sound o)))
+abbrev pub number_for : Option Kind → (Kind → Result ℕ Refusal) → Overlay → Number
+number_for (Some k) f o = read_number (f k)
+number_for None f o = read_number (Err (unknown_kind (is_sound o)))
 
-abbrev pub part_for : Named → (Kind → View) → Overlay → Part
-part_for (K.Is k) f o = view_part (f k)
-part_for K.Unknown f o = view_part (view.Refused (unknown_kind (is_sound o)))
+abbrev pub part_for : Option Kind → (Kind → View) → Overlay → Part
+part_for (Some k) f o = view_part (f k)
+part_for None f o = view_part (Err (unknown_kind (is_sound o)))
 
 unfoldable pub count_number : ℕ → Side → Overlay → Number
 count_number kind side o = number_for (of_number kind) (λ k. count_on k side o) o
@@ -57,9 +53,9 @@ pub record IdsReply : Type 0 where
 abbrev pub all_ids_reply : AllIds → IdsReply
 all_ids_reply a = record { ids = a.ids; versions = a.versions; reply = read_number a.answer }
 
-abbrev pub ids_for : Named → Side → List ℕ → List ℕ → Overlay → IdsReply
-ids_for (K.Is k) side ids versions o = all_ids_reply (all_ids_on k side ids versions o)
-ids_for K.Unknown side ids versions o = record { ids = ids; versions = versions; reply = read_number (Refused (unknown_kind (is_sound o))) }
+abbrev pub ids_for : Option Kind → Side → List ℕ → List ℕ → Overlay → IdsReply
+ids_for (Some k) side ids versions o = all_ids_reply (all_ids_on k side ids versions o)
+ids_for None side ids versions o = record { ids = ids; versions = versions; reply = read_number (Err (unknown_kind (is_sound o))) }
 
 unfoldable pub ids_reply : ℕ → Side → List ℕ → List ℕ → Overlay → IdsReply
 ids_reply kind side ids versions o = ids_for (of_number kind) side ids versions o

@@ -17,5 +17,5 @@ pub extern "C" fn tvk_listing(
     ensures { record { out = out.new; reply = result }
         ≡ listing_reply out.old (lent words.now bytes.now counters.now) }
 {
-    c_replies::listed_reply(listing::list(words, bytes, counters, out))
+    ListingReply::from(listing::list(words, bytes, counters, out))
 }

@@ -10,14 +10,14 @@ use sorted::Seek;
 pub extern "C" fn tvk_range_overlaps(live: &[u64], deleted: &[u64], min: i64, max: i64) -> Number
     ensures { result ≡ overlap_number (overlap_of (ids_of live.now) (ids_of deleted.now) min max) }
 {
-    c_replies::overlap_number(sorted::range_overlaps(live, deleted, min, max))
+    Number::from(sorted::range_overlaps(live, deleted, min, max).map(u64::from))
 }
 
 #[unsafe(no_mangle)]
 pub extern "C" fn tvk_upsert_range(ids: &[u64], first: i64, last: i64) -> Places
     ensures { result ≡ span_places (range_of (ids_of ids.now) first last) }
 {
-    c_replies::span_places(sorted::upsert_range(ids, first, last))
+    Places::from(sorted::upsert_range(ids, first, last))
 }
 
 // A cursor at a place is asked for an id.
@@ -25,9 +25,8 @@ pub extern "C" fn tvk_upsert_range(ids: &[u64], first: i64, last: i64) -> Places
 pub extern "C" fn tvk_seek_find(ids: &[u64], place: usize, id: i64) -> Cursor
     ensures { result ≡ found_cursor (found_of (seek_place place) (ids_of ids.now) id) }
 {
-    let stands = c_replies::place_of(place);
-    let found = Seek { place: stands }.find(ids, id);
-    let answer = found.answer;
-    let reached = found.place;
-    c_replies::sought_cursor(answer, c_replies::place_word(reached))
+    let seek = Seek {
+        place: c_replies::place_of(place),
+    };
+    Cursor::from(seek.find(ids, id))
 }

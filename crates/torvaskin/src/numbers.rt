@@ -11,7 +11,7 @@ ghost use Rattle.c_replies.specs.Numbers.{order_number, truth, admit_reply, inte
 
 use c_replies::Number;
 use osm_id::OsmIdKey;
-use refusal::Reply;
+use refusal::{Refusal, Reply};
 use version_floor::VersionFloor;
 
 #[unsafe(no_mangle)]
@@ -56,7 +56,8 @@ pub extern "C" fn tvk_version_admit(floor: u64, claim: u64) -> Reply
     ensures { result ≡ admit_reply (admit_of (of_word floor) (of_word claim)) }
 {
     let highest = version_floor::version_of_word(floor);
-    c_replies::admit_reply(VersionFloor::new(highest).admit(version_floor::version_of_word(claim)))
+    let answer = VersionFloor::new(highest).admit(version_floor::version_of_word(claim));
+    c_replies::kept_reply(answer.map_err(Refusal::Regression))
 }
 
 #[unsafe(no_mangle)]
@@ -72,21 +73,21 @@ pub extern "C" fn tvk_version_raise(floor: u64, claim: u64) -> u64
 pub extern "C" fn tvk_read_i64(s: &[u8]) -> Number
     ensures { result ≡ integer_number (read_of w64 s.now) }
 {
-    c_replies::integer_number(integer::read_i64(s))
+    Number::from(integer::read_i64(s).ok_or(Refusal::NotInteger))
 }
 
 #[unsafe(no_mangle)]
 pub extern "C" fn tvk_read_i32(s: &[u8]) -> Number
     ensures { result ≡ integer_number (read_of w32 s.now) }
 {
-    c_replies::integer_number(integer::read_i32(s))
+    Number::from(integer::read_i32(s).ok_or(Refusal::NotInteger))
 }
 
 #[unsafe(no_mangle)]
 pub extern "C" fn tvk_parse_rfc3339_utc(s: &[u8]) -> Number
     ensures { result ≡ stamp_number (stamp_of s.now) }
 {
-    c_replies::stamp_number(stamp::parse_rfc3339_utc(s))
+    Number::from(stamp::parse_rfc3339_utc(s).ok_or(Refusal::NotTimestamp))
 }
 
 // 1 for text, 0 for anything else.
@@ -94,5 +95,5 @@ pub extern "C" fn tvk_parse_rfc3339_utc(s: &[u8]) -> Number
 pub extern "C" fn tvk_is_text(s: &[u8]) -> u8
     ensures { result ≡ truth (is_text s.now) }
 {
-    c_replies::truth(text::is_text(s))
+    u8::from(text::is_text(s))
 }

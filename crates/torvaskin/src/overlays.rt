@@ -9,9 +9,9 @@ ghost use Rattle.torvaskin.specs.Overlays.{set_up_reply, allow_reply, intern_rep
 
 use c_replies::Text;
 use compact::{ArenaMeta, PushHead};
-use kind::Named;
+use kind::Kind;
 use overlay_blocks::{COUNTERS, Sizes};
-use refusal::Reply;
+use refusal::{Refusal, Reply};
 
 // 1 for a size outside, or sizes that are not those of the blocks, else an empty overlay. Setting 0 refuses regression, any other allows it.
 #[unsafe(no_mangle)]
@@ -33,14 +33,17 @@ pub extern "C" fn tvk_set_up(
 pub extern "C" fn tvk_is_sound(words: &[u64], bytes: &[u8], counters: &[u64; COUNTERS]) -> Reply
     ensures { result ≡ sound_reply (is_sound (lent words.now bytes.now counters.now)) }
 {
-    c_replies::sound_reply(overlay::is_sound(words, bytes, counters))
+    if overlay::is_sound(words, bytes, counters) {
+        return c_replies::kept_reply(Ok(()));
+    }
+    Reply::from(Refusal::Unsound)
 }
 
 // The reply where a kind's number means no kind: 22, else 17.
 fn unknown(words: &[u64], bytes: &[u8], counters: &[u64; COUNTERS]) -> Reply
     ensures { result ≡ unknown_reply (is_sound (lent words.now bytes.now counters.now)) }
 {
-    c_replies::unknown_reply(overlay::is_sound(words, bytes, counters))
+    Reply::from(c_replies::unknown_kind(overlay::is_sound(words, bytes, counters)))
 }
 
 // Sets the regression setting: 0 refuses regression, any other number allows it.
@@ -68,7 +71,7 @@ pub extern "C" fn tvk_intern(
     ensures { record { overlay = left words.new bytes.new counters.new; reply = result }
         ≡ intern_reply text.now (lent words.old bytes.old counters.old) }
 {
-    c_replies::handle_text(overlay_direct::intern(words, bytes, counters, text))
+    Text::from(overlay_direct::intern(words, bytes, counters, text))
 }
 
 // A direct push of a node (kind 0), way (1) or relation (2).
@@ -85,11 +88,11 @@ pub extern "C" fn tvk_push(
     ensures { record { overlay = left words.new bytes.new counters.new; reply = result }
         ≡ push_reply kind head meta parts.now (lent words.old bytes.old counters.old) }
 {
-    match kind::kind_of_number(kind) {
-        Named::Is(k) => c_replies::kept_reply(overlay_direct::push(
+    match Kind::try_from(kind) {
+        Ok(k) => c_replies::kept_reply(overlay_direct::push(
             words, bytes, counters, k, head, meta, parts,
         )),
-        Named::Unknown => unknown(words, bytes, counters),
+        Err(_) => unknown(words, bytes, counters),
     }
 }
 
@@ -106,8 +109,8 @@ pub extern "C" fn tvk_delete(
     ensures { record { overlay = left words.new bytes.now counters.new; reply = result }
         ≡ delete_reply kind id (meta_of meta) (lent words.old bytes.now counters.old) }
 {
-    match kind::kind_of_number(kind) {
-        Named::Is(k) => c_replies::kept_reply(overlay_direct::delete(
+    match Kind::try_from(kind) {
+        Ok(k) => c_replies::kept_reply(overlay_direct::delete(
             words,
             bytes,
             counters,
@@ -115,6 +118,6 @@ pub extern "C" fn tvk_delete(
             signed::bits_of_i64(id),
             meta,
         )),
-        Named::Unknown => unknown(words, bytes, counters),
+        Err(_) => unknown(words, bytes, counters),
     }
 }

@@ -5,9 +5,15 @@ ghost use Rattle.torvaskin.specs.Readers.{event_reply, events_reply, end_reply};
 
 use c_replies::{EventReply, EventsReply};
 use overlay_blocks::COUNTERS;
-use reader::EventAnswer;
+use reader::RefusedAt;
 use reader_stage::STAGED;
 use refusal::Refusal;
+
+// Words that are no reader's are 22, which names no line.
+const NO_READER: RefusedAt = RefusedAt {
+    refusal: Refusal::Unsound,
+    line: 0,
+};
 
 // An event by its line. Words that are no reader's are 22, and nothing changes.
 #[unsafe(no_mangle)]
@@ -25,12 +31,10 @@ pub extern "C" fn tvk_event(
     if c_reader::is_reader(reader) {
         let read = c_reader::reader_in(reader);
         let done = reader_calls::event(words, bytes, counters, parts, read, line);
-        let after = done.reader;
-        c_reader::put_reader(reader, after);
-        let answer = done.answer;
-        return c_replies::event_reply(answer);
+        c_reader::put_reader(reader, done.reader);
+        return c_replies::event_reply(done.answer);
     }
-    c_replies::event_reply(EventAnswer::Refused(Refusal::Unsound, 0))
+    c_replies::event_reply(Err(NO_READER))
 }
 
 // The whole lines of a run as events, up to the first that is refused. What follows the bytes that were taken is the refused line, or the unfinished one, which a caller
@@ -50,12 +54,10 @@ pub extern "C" fn tvk_events(
     if c_reader::is_reader(reader) {
         let read = c_reader::reader_in(reader);
         let done = reader_events::events(words, bytes, counters, parts, read, run);
-        let after = done.reader;
-        c_reader::put_reader(reader, after);
-        let answer = done.answer;
-        return c_replies::events_reply(answer, done.taken);
+        c_reader::put_reader(reader, done.reader);
+        return c_replies::events_reply(done.answer, done.taken);
     }
-    c_replies::events_reply(EventAnswer::Refused(Refusal::Unsound, 0), 0)
+    c_replies::events_reply(Err(NO_READER), 0)
 }
 
 // The end of a document. It changes nothing.
@@ -73,5 +75,5 @@ pub extern "C" fn tvk_end(
         let read = c_reader::reader_in(reader);
         return c_replies::event_reply(reader_calls::end(words, bytes, counters, parts, read));
     }
-    c_replies::event_reply(EventAnswer::Refused(Refusal::Unsound, 0))
+    c_replies::event_reply(Err(NO_READER))
 }

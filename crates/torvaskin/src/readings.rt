@@ -1,30 +1,28 @@
 // The readings of an overlay.
 ghost use Rattle.std.specs.Prelude.{◌≡◌};
 ghost use Rattle.kind_reading.specs.declared.Side.TheVariants.{Live, Deleted};
-ghost use Rattle.kind_reading.specs.declared.View.TheVariants as view;
 ghost use Rattle.overlay.specs.Lent.{lent};
 ghost use Rattle.overlay.specs.Sound.{is_sound};
-ghost use Rattle.overlay_reading.specs.declared.Read.TheVariants.{Refused};
 ghost use Rattle.overlay_reading.specs.Reading.{is_empty_on, text_on};
 ghost use Rattle.c_replies.specs.Readings.{read_number, view_part, unknown_kind};
 ghost use Rattle.torvaskin.specs.Readings.{count_number, id_number, record_part, get_part, has_number, is_deleted_number, known_number, ids_reply};
 
 use c_replies::{Number, Part};
-use kind::Named;
+use kind::Kind;
 use kind_reading::Side;
 use overlay_blocks::COUNTERS;
 
 // The replies where a kind's number means no kind.
 fn no_read(words: &[u64], bytes: &[u8], counters: &[u64; COUNTERS]) -> Number
-    ensures { result ≡ read_number (Refused (unknown_kind (is_sound (lent words.now bytes.now counters.now)))) }
+    ensures { result ≡ read_number (Err (unknown_kind (is_sound (lent words.now bytes.now counters.now)))) }
 {
-    c_replies::unknown_number(overlay::is_sound(words, bytes, counters))
+    Number::from(Err(c_replies::unknown_kind(overlay::is_sound(words, bytes, counters))))
 }
 
 fn no_view(words: &[u64], bytes: &[u8], counters: &[u64; COUNTERS]) -> Part
-    ensures { result ≡ view_part (view.Refused (unknown_kind (is_sound (lent words.now bytes.now counters.now)))) }
+    ensures { result ≡ view_part (Err (unknown_kind (is_sound (lent words.now bytes.now counters.now)))) }
 {
-    c_replies::unknown_part(overlay::is_sound(words, bytes, counters))
+    Part::from(Err(c_replies::unknown_kind(overlay::is_sound(words, bytes, counters))))
 }
 
 // How many ids of a kind are live.
@@ -37,15 +35,9 @@ pub extern "C" fn tvk_live_count(
 ) -> Number
     ensures { result ≡ count_number kind Live (lent words.now bytes.now counters.now) }
 {
-    match kind::kind_of_number(kind) {
-        Named::Is(k) => c_replies::read_number(overlay_reading::count(
-            words,
-            bytes,
-            counters,
-            k,
-            Side::Live,
-        )),
-        Named::Unknown => no_read(words, bytes, counters),
+    match Kind::try_from(kind) {
+        Ok(k) => Number::from(overlay_reading::count(words, bytes, counters, k, Side::Live)),
+        Err(_) => no_read(words, bytes, counters),
     }
 }
 
@@ -59,15 +51,9 @@ pub extern "C" fn tvk_deleted_count(
 ) -> Number
     ensures { result ≡ count_number kind Deleted (lent words.now bytes.now counters.now) }
 {
-    match kind::kind_of_number(kind) {
-        Named::Is(k) => c_replies::read_number(overlay_reading::count(
-            words,
-            bytes,
-            counters,
-            k,
-            Side::Deleted,
-        )),
-        Named::Unknown => no_read(words, bytes, counters),
+    match Kind::try_from(kind) {
+        Ok(k) => Number::from(overlay_reading::count(words, bytes, counters, k, Side::Deleted)),
+        Err(_) => no_read(words, bytes, counters),
     }
 }
 
@@ -76,7 +62,7 @@ pub extern "C" fn tvk_deleted_count(
 pub extern "C" fn tvk_is_empty(words: &[u64], bytes: &[u8], counters: &[u64; COUNTERS]) -> Number
     ensures { result ≡ read_number (is_empty_on (lent words.now bytes.now counters.now)) }
 {
-    c_replies::read_number(overlay_reading::is_empty(words, bytes, counters))
+    Number::from(overlay_reading::is_empty(words, bytes, counters))
 }
 
 // The bits of the n-th live id in OSM order, or 21.
@@ -90,16 +76,9 @@ pub extern "C" fn tvk_live_id(
 ) -> Number
     ensures { result ≡ id_number kind Live n (lent words.now bytes.now counters.now) }
 {
-    match kind::kind_of_number(kind) {
-        Named::Is(k) => c_replies::read_number(overlay_reading::id_at(
-            words,
-            bytes,
-            counters,
-            k,
-            Side::Live,
-            n,
-        )),
-        Named::Unknown => no_read(words, bytes, counters),
+    match Kind::try_from(kind) {
+        Ok(k) => Number::from(overlay_reading::id_at(words, bytes, counters, k, Side::Live, n)),
+        Err(_) => no_read(words, bytes, counters),
     }
 }
 
@@ -114,16 +93,9 @@ pub extern "C" fn tvk_deleted_id(
 ) -> Number
     ensures { result ≡ id_number kind Deleted n (lent words.now bytes.now counters.now) }
 {
-    match kind::kind_of_number(kind) {
-        Named::Is(k) => c_replies::read_number(overlay_reading::id_at(
-            words,
-            bytes,
-            counters,
-            k,
-            Side::Deleted,
-            n,
-        )),
-        Named::Unknown => no_read(words, bytes, counters),
+    match Kind::try_from(kind) {
+        Ok(k) => Number::from(overlay_reading::id_at(words, bytes, counters, k, Side::Deleted, n)),
+        Err(_) => no_read(words, bytes, counters),
     }
 }
 
@@ -138,11 +110,9 @@ pub extern "C" fn tvk_record(
 ) -> Part
     ensures { result ≡ record_part kind n (lent words.now bytes.now counters.now) }
 {
-    match kind::kind_of_number(kind) {
-        Named::Is(k) => c_replies::view_part(overlay_reading::record_at(
-            words, bytes, counters, k, n,
-        )),
-        Named::Unknown => no_view(words, bytes, counters),
+    match Kind::try_from(kind) {
+        Ok(k) => Part::from(overlay_reading::record_at(words, bytes, counters, k, n)),
+        Err(_) => no_view(words, bytes, counters),
     }
 }
 
@@ -157,15 +127,15 @@ pub extern "C" fn tvk_get(
 ) -> Part
     ensures { result ≡ get_part kind id (lent words.now bytes.now counters.now) }
 {
-    match kind::kind_of_number(kind) {
-        Named::Is(k) => c_replies::view_part(overlay_reading::get(
+    match Kind::try_from(kind) {
+        Ok(k) => Part::from(overlay_reading::get(
             words,
             bytes,
             counters,
             k,
             signed::bits_of_i64(id),
         )),
-        Named::Unknown => no_view(words, bytes, counters),
+        Err(_) => no_view(words, bytes, counters),
     }
 }
 
@@ -180,15 +150,15 @@ pub extern "C" fn tvk_has(
 ) -> Number
     ensures { result ≡ has_number kind id (lent words.now bytes.now counters.now) }
 {
-    match kind::kind_of_number(kind) {
-        Named::Is(k) => c_replies::read_number(overlay_reading::has(
+    match Kind::try_from(kind) {
+        Ok(k) => Number::from(overlay_reading::has(
             words,
             bytes,
             counters,
             k,
             signed::bits_of_i64(id),
         )),
-        Named::Unknown => no_read(words, bytes, counters),
+        Err(_) => no_read(words, bytes, counters),
     }
 }
 
@@ -203,15 +173,15 @@ pub extern "C" fn tvk_is_deleted(
 ) -> Number
     ensures { result ≡ is_deleted_number kind id (lent words.now bytes.now counters.now) }
 {
-    match kind::kind_of_number(kind) {
-        Named::Is(k) => c_replies::read_number(overlay_reading::is_deleted(
+    match Kind::try_from(kind) {
+        Ok(k) => Number::from(overlay_reading::is_deleted(
             words,
             bytes,
             counters,
             k,
             signed::bits_of_i64(id),
         )),
-        Named::Unknown => no_read(words, bytes, counters),
+        Err(_) => no_read(words, bytes, counters),
     }
 }
 
@@ -226,15 +196,15 @@ pub extern "C" fn tvk_known_version(
 ) -> Number
     ensures { result ≡ known_number kind id (lent words.now bytes.now counters.now) }
 {
-    match kind::kind_of_number(kind) {
-        Named::Is(k) => c_replies::read_number(overlay_reading::known_version(
+    match Kind::try_from(kind) {
+        Ok(k) => Number::from(overlay_reading::known_version(
             words,
             bytes,
             counters,
             k,
             signed::bits_of_i64(id),
         )),
-        Named::Unknown => no_read(words, bytes, counters),
+        Err(_) => no_read(words, bytes, counters),
     }
 }
 
@@ -248,7 +218,7 @@ pub extern "C" fn tvk_text(
 ) -> Part
     ensures { result ≡ view_part (text_on handle (lent words.now bytes.now counters.now)) }
 {
-    c_replies::view_part(overlay_reading::text(words, bytes, counters, handle))
+    Part::from(overlay_reading::text(words, bytes, counters, handle))
 }
 
 // All live or all deleted ids of a kind in OSM order and the known version of each: 22, 17, 19, or how many they are.
@@ -264,12 +234,12 @@ fn ids_number(
     ensures { record { ids = ids.new; versions = versions.new; reply = result }
         ≡ ids_reply kind side ids.old versions.old (lent words.now bytes.now counters.now) }
 {
-    match kind::kind_of_number(kind) {
-        Named::Is(k) => {
+    match Kind::try_from(kind) {
+        Ok(k) => {
             let read = overlay_ids::all_ids(words, bytes, counters, k, side, ids, versions);
-            c_replies::read_number(read)
+            Number::from(read)
         }
-        Named::Unknown => no_read(words, bytes, counters),
+        Err(_) => no_read(words, bytes, counters),
     }
 }
 

@@ -2,11 +2,12 @@
 use mathlib.Core.Path.{◌≡◌, refl}
 use mathlib.Core.Bool.{true}
 use Rattle.base.specs.Bytes.{all}
+use Rattle.base.specs.Options.{bind}
 use Rattle.trial.specs.Rows.{right, rows}
 
 -- one computation, with every definition open that the rows go through
 pub claim : all right rows ≡ true
-unfolding mathlib.Core.Option.bind
+unfolding Rattle.base.specs.Options.bind
     Rattle.base.specs.Bytes.both Rattle.base.specs.Bytes.either Rattle.base.specs.Bytes.is_digit Rattle.base.specs.Bytes.all Rattle.base.specs.Bytes.same
     Rattle.kind.specs.Kind.of_number Rattle.kind.specs.Kind.same_kind
     Rattle.osm_id.specs.Order.same_id Rattle.osm_id.specs.Order.osm_key_of Rattle.osm_id.specs.Order.rank Rattle.osm_id.specs.Order.id_of

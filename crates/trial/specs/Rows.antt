@@ -1,5 +1,7 @@
 -- Document 01, "Trial rows († proved)", and its Input A with Output A: one table, from the definitions.
-use Rattle.std.specs.Prelude.{ℕ, Bool, true, false, List, [], ◌∷◌, ◌++◌, map, eqb, ℤ, pos, negsuc, length, take, replicate}
+use Rattle.reader.specs.declared.RefusedAt.{RefusedAt}
+use Rattle.refusal.specs.declared.Refusal.{Refusal}
+use Rattle.std.specs.Prelude.{ℕ, Bool, true, false, List, [], ◌∷◌, ◌++◌, map, eqb, ℤ, pos, negsuc, length, take, replicate, Err, Ok, Result}
 use Rattle.std.specs.Int.{Width, w32, w64}
 use Rattle.std.proofs.Common.{to_z}
 use Rattle.base.specs.Ascii.{ascii}
@@ -11,24 +13,16 @@ use Rattle.refusal.specs.Refusal.{number_of, held_of}
 use Rattle.compact.specs.Layout.{record_bytes}
 use Rattle.compact.specs.Held.{meta_of}
 use Rattle.compact.specs.declared.ArenaMeta.{ArenaMeta}
-use Rattle.kind_store.specs.declared.Kept.{Kept}
-use Rattle.kind_store.specs.declared.Kept.TheVariants.{Taken, Refused}
 use Rattle.overlay_blocks.specs.declared.KindSize.{KindSize}
 use Rattle.overlay_blocks.specs.declared.Sizes.{Sizes}
 use Rattle.overlay.specs.Overlay.{with_sizes}
 use Rattle.overlay.specs.Lent.{overlay_for}
 use Rattle.overlay.specs.Calls.{allow_on}
 use Rattle.overlay_direct.specs.Calls.{push_on, delete_on, intern_on}
-use Rattle.overlay_store.specs.declared.Handle.{Handle}
-use Rattle.overlay_store.specs.declared.Handle.TheVariants as H
-use Rattle.reader.specs.declared.EventAnswer.{EventAnswer}
-use Rattle.reader.specs.declared.EventAnswer.TheVariants as E
 use Rattle.reader.specs.Event.{event_on, end_on}
 use Rattle.event.specs.Event.{Attr}
 use Rattle.event_fields.specs.Field as Field
 use Rattle.event_fields.specs.Field.{Field, got, bad, and_then, integer_field}
-use Rattle.listing.specs.declared.Listed.{Listed}
-use Rattle.listing.specs.declared.Listed.TheVariants as L
 use Rattle.listing.specs.Call.{Output, listing_on}
 use Rattle.calls.specs.Ask.{Ask, Storage, started, state_of, leaves, after}
 
@@ -67,23 +61,23 @@ ask_of (accepts c) = c
 ask_of (refuses c n v) = c
 
 -- the answer is what is said
-abbrev pub agrees : Separates → Kept → Bool
-agrees (accepts c) Taken = true
-agrees (accepts c) (Refused r) = false
-agrees (refuses c n v) Taken = false
-agrees (refuses c n v) (Refused r) = both (eqb (number_of r) n) (same_id (held_of r) v)
+abbrev pub agrees : Separates → Result Unit Refusal → Bool
+agrees (accepts c) (Ok tt) = true
+agrees (accepts c) (Err r) = false
+agrees (refuses c n v) (Ok tt) = false
+agrees (refuses c n v) (Err r) = both (eqb (number_of r) n) (same_id (held_of r) v)
 
 -- a text that has its handle is taken
-abbrev pub kept_in : Handle → Kept
-kept_in (H.Is h) = Taken
-kept_in (H.Refused r) = Refused r
+abbrev pub kept_in : Result ℕ Refusal → Result Unit Refusal
+kept_in (Ok h) = Ok tt
+kept_in (Err r) = Err r
 
-abbrev pub kept_at : EventAnswer → Kept
-kept_at E.Accepted = Taken
-kept_at (E.Refused r n) = Refused r
+abbrev pub kept_at : Result Unit RefusedAt → Result Unit Refusal
+kept_at (Ok tt) = Ok tt
+kept_at (Err a) = Err a.refusal
 
 -- what a call answers
-abbrev pub answer_to : Ask → Storage → Kept
+abbrev pub answer_to : Ask → Storage → Result Unit Refusal
 answer_to (Ask.interns t) l = kept_in (intern_on t l.overlay).answer
 answer_to (Ask.pushes k h m parts) l = (push_on k h m parts l.overlay).answer
 answer_to (Ask.deletes k id m) l = (delete_on k (to_z w64 id) (meta_of m) l.overlay).answer
@@ -100,9 +94,9 @@ abbrev pub zeros : ℕ → Bytes
 zeros n = replicate n 0
 
 -- the listing call's answer is the page's length, and its output begins with the page
-abbrev pub is_page : Bytes → Bytes → Listed → Bool
-is_page page out (L.Length n) = same (take n out) page
-is_page page out (L.Refused r) = false
+abbrev pub is_page : Bytes → Bytes → Result ℕ Refusal → Bool
+is_page page out (Ok n) = same (take n out) page
+is_page page out (Err r) = false
 
 abbrev pub lists : Bytes → Output → Bool
 lists page x = is_page page x.out x.answer

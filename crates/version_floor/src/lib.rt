@@ -5,63 +5,45 @@
 ghost use Rattle.std.specs.Prelude.{◌≡◌};
 ghost use Rattle.version_floor.specs.Version.{higher, admit_of, word_of, of_word};
 
-// A version, or none.
-#[derive(Clone, Copy)]
-pub enum Version {
-    Absent,
-    Is(i32),
-}
-
-// What the rule says of a claim; a refusal carries the floor that the claim fell below.
-#[derive(Clone, Copy)]
-pub enum Admit {
-    Admitted,
-    Below(i32),
-}
-
 // The highest version claimed so far for one object, or none.
 #[derive(Clone, Copy)]
-pub struct VersionFloor(pub Version);
+pub struct VersionFloor(pub Option<i32>);
 
 // The larger of two versions, or the one that exists.
-pub fn higher_of(a: Version, b: Version) -> Version
+pub fn higher_of(a: Option<i32>, b: Option<i32>) -> Option<i32>
     ensures { result ≡ higher a b }
 {
-    let Version::Is(x) = a else {
+    let Some(x) = a else {
         return b;
     };
-    let Version::Is(y) = b else {
+    let Some(y) = b else {
         return a;
     };
     if x < y { b } else { a }
 }
 
 impl VersionFloor {
-    pub fn new(highest: Version) -> Self
+    pub fn new(highest: Option<i32>) -> Self
         ensures { result.0 ≡ highest }
     {
         VersionFloor(highest)
     }
 
-    pub fn admit(self, claim: Version) -> Admit
+    pub fn admit(self, claim: Option<i32>) -> Result<(), i32>
         ensures { result ≡ admit_of self.0 claim }
     {
         let highest = self.0;
-        let Version::Is(floor) = highest else {
-            return Admit::Admitted;
+        let Some(floor) = highest else {
+            return Ok(());
         };
-        let Version::Is(version) = claim else {
-            return Admit::Admitted;
+        let Some(version) = claim else {
+            return Ok(());
         };
-        if version < floor {
-            Admit::Below(floor)
-        } else {
-            Admit::Admitted
-        }
+        if version < floor { Err(floor) } else { Ok(()) }
     }
 
     // The floor after an admitted claim: what `raise` stores.
-    pub fn raised(self, claim: Version) -> Self
+    pub fn raised(self, claim: Option<i32>) -> Self
         ensures { result.0 ≡ higher self.0 claim }
     {
         let highest = self.0;
@@ -69,7 +51,7 @@ impl VersionFloor {
     }
 
     // The floor that is lent is raised to an admitted claim.
-    pub fn raise(&mut self, claim: Version)
+    pub fn raise(&mut self, claim: Option<i32>)
         ensures { self.new.0 ≡ higher self.old.0 claim }
     {
         *self = (*self).raised(claim);
@@ -77,21 +59,21 @@ impl VersionFloor {
 }
 
 // A version as one word, as the id tables and the C entries hold it: below 2^32 the bits of the number, else none.
-pub fn version_word(v: Version) -> u64
+pub fn version_word(v: Option<i32>) -> u64
     ensures { result ≡ word_of v }
 {
-    let Version::Is(n) = v else {
+    let Some(n) = v else {
         return 0x1_0000_0000;
     };
     signed::bits_of_i32(n) as u64
 }
 
-pub fn version_of_word(w: u64) -> Version
+pub fn version_of_word(w: u64) -> Option<i32>
     ensures { result ≡ of_word w }
 {
     if w < 0x1_0000_0000 {
-        Version::Is(signed::i32_of_bits(w as u32))
+        Some(signed::i32_of_bits(w as u32))
     } else {
-        Version::Absent
+        None
     }
 }

@@ -3,8 +3,8 @@ use Rattle.c_reader.proofs.Codes.{mark_is}
 use borrow.Author.Rules.{rules}
 use Rattle.c_reader.proofs.mark_words.Goals as goal
 
-pub returns-in-Going : goal.returns-in-Going
-returns-in-Going c = rw c.in-Going.is
+pub returns-in-None : goal.returns-in-None
+returns-in-None c = rw c.in-None.is
 
-pub returns-in-At : goal.returns-in-At
-returns-in-At c = rw c.in-At.is (mark_is c.in-At.refusal c.reply_of-reply.ensures (search rules) c.bits_of_i32.ensures)
+pub returns-in-Some : goal.returns-in-Some
+returns-in-Some c = rw c.in-Some.is (mark_is c.in-Some.at.refusal c.from-reply.ensures (search rules) c.bits_of_i32.ensures)

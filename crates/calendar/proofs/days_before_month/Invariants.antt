@@ -5,7 +5,4 @@ use Rattle.calendar.specs.Calendar.{months_days}
 use Rattle.calendar.proofs.days_before_month.Given as goal
 
 abbrev pub invariant-loop-m : goal.invariant-loop-m
-invariant-loop-m l = (1 ≤ l.m) × ((l.days ≡ months_days l.leap_year (l.m - 1)) × (l.m ≤ max l.month 1))
-
-abbrev pub decreases-loop-m : goal.decreases-loop-m
-decreases-loop-m l = l.month - l.m
+invariant-loop-m l = (l.m ≤ max l.month 1) × (l.days ≡ months_days l.leap_year (l.m - 1))

@@ -4,4 +4,4 @@ use Rattle.calendar.proofs.Years.{years_formula}
 use Rattle.calendar.proofs.days_before_year.Goals as goal
 
 pub returns : goal.returns
-returns c = sym (years_formula c.args.year)
+returns c = rw c.from-y.ensures (sym (years_formula c.args.year))

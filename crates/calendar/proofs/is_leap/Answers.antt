@@ -1,13 +1,17 @@
--- `is_leap`: each answer is the law of its kind of year.
-use mathlib.Core.Path.{sym}
-use Rattle.calendar.proofs.Years.{leap_400, leap_100, leap_4}
+-- `is_leap`: each answer is the definition, at what the tests said.
+use borrow.Author.Tests.{eq-eqb, ne_eqb}
+use Rattle.base.specs.Bytes.{both, either}
+use Rattle.calendar.specs.Calendar.{leap}
 use Rattle.calendar.proofs.is_leap.Goals as goal
 
-pub returns-then-year-eq0 : goal.returns-then-year-eq0
-returns-then-year-eq0 c = sym (leap_400 c.args.year c.if-year-eq0.true)
+pub returns-then-year-ne0 : goal.returns-then-year-ne0
+unfolding leap both either
+returns-then-year-ne0 c = rw (eq-eqb _ 0 c.if-year-eq0.true, ne_eqb _ 0 c.if-year-ne0.true)
 
-pub returns-then-year-eq0-2 : goal.returns-then-year-eq0-2
-returns-then-year-eq0-2 c = sym (leap_100 c.args.year c.if-year-eq0.false c.if-year-eq0-2.true)
+pub returns-else-year-ne0 : goal.returns-else-year-ne0
+unfolding leap both either
+returns-else-year-ne0 c = rw (eq-eqb _ 0 c.if-year-eq0.true, eq-eqb _ 0 c.if-year-ne0.false)
 
-pub returns : goal.returns
-returns c = sym (leap_4 c.args.year c.if-year-eq0-2.false)
+pub returns-else-year-eq0 : goal.returns-else-year-eq0
+unfolding leap both either
+returns-else-year-eq0 c = rw (ne_eqb _ 0 c.if-year-eq0.false)

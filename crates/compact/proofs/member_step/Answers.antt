@@ -22,19 +22,19 @@ overflow_add-next c = let a = c.args in omega (arith, ltb-false (length a.bytes.
 pub overflow_add-offset : goal.overflow_add-offset
 overflow_add-offset c = let a = c.args in omega (arith, ltb-false (length a.bytes.now) _ (sym c.past.ensures ∙ c.if-past.false))
 
-pub overflow_add-offset-in-Is : goal.overflow_add-offset-in-Is
-overflow_add-offset-in-Is c = let a = c.args in omega (arith, ltb-false (length a.bytes.now) _ (sym c.past.ensures ∙ c.if-past.false))
+pub overflow_add-offset-in-Ok : goal.overflow_add-offset-in-Ok
+overflow_add-offset-in-Ok c = let a = c.args in omega (arith, ltb-false (length a.bytes.now) _ (sym c.past.ensures ∙ c.if-past.false))
 
-pub returns-in-Is : goal.returns-in-Is
-returns-in-Is c =
+pub returns-in-Ok : goal.returns-in-Ok
+returns-in-Ok c =
     let a = c.args in
     let s = a.bytes.now in
     rw (c.get_u64.ensures, c.get_u32.ensures)
     (member_whole s a.offset a.remaining c.if-remaining-eq0.false (ltb-false (length s) _ (sym c.past.ensures ∙ c.if-past.false))
-    (bytes_of s (λ i l. (c.type_inv.bytes i).fits)) _ (sym c.in-Is.is ∙ (c.kind_of_number.ensures ∙ ap of_number c.get_u8.ensures)))
+    (bytes_of s (λ i l. (c.type_inv.bytes i).fits)) _ (rw c.in-Ok.is at c.try_from.ensures ∙ ap of_number c.get_u8.ensures))
 
-pub returns-in-Unknown : goal.returns-in-Unknown
-returns-in-Unknown c =
+pub returns-in-Err : goal.returns-in-Err
+returns-in-Err c =
     let a = c.args in
     member_bad a.bytes.now a.offset a.remaining c.if-remaining-eq0.false (ltb-false (length a.bytes.now) _ (sym c.past.ensures ∙ c.if-past.false))
-    (sym c.in-Unknown.is ∙ (c.kind_of_number.ensures ∙ ap of_number c.get_u8.ensures))
+    ((rw c.in-Err.is at c.try_from.ensures).0 ∙ ap of_number c.get_u8.ensures)

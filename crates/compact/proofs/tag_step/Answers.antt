@@ -1,4 +1,5 @@
 -- A tag at an offset: whether it is within the bytes, and then whether its value is text.
+use Rattle.std.specs.Prelude.{Err, Ok, Some}
 use Prim.Native.Nat.{◌+◌, ◌-◌}
 use mathlib.Core.Path.{◌≡◌, sym, ◌∙◌}
 use mathlib.Core.Bool.{Bool, cond}
@@ -7,7 +8,7 @@ use lib.ListN.{length, take, drop}
 use borrow.Author.Tests.{ltb-true, ltb-false}
 use Rattle.little.specs.Little.{value_at}
 use Rattle.text.specs.Check.{is_text}
-use Rattle.compact.specs.declared.TagStep.TheVariants as tag
+use Rattle.refusal.specs.declared.Refusal.TheVariants.{Unsound}
 use Rattle.compact.specs.View.{tag_step}
 use Rattle.compact.proofs.Steps.{tag_done, tag_past, tag_over, tag_judged}
 use Rattle.compact.proofs.tag_step.Goals as goal
@@ -37,7 +38,7 @@ judged : (c : goal.Else-past-2) {t u : Bool}
     → let a = c.args in
     let n = c.get_u32-len.result in
     t ≡ is_text (take (a.offset + 8 + n - (a.offset + 8)) (drop (a.offset + 8) a.bytes.now)) → t ≡ u
-    → cond u (tag.Tag (value_at 4 a.bytes.now a.offset) (a.offset + 8) n) tag.Unsound ≡ tag_step a.bytes.now a.offset a.remaining
+    → cond u (Ok (Some (record { key = value_at 4 a.bytes.now a.offset; start = a.offset + 8; len = n }))) (Err Unsound) ≡ tag_step a.bytes.now a.offset a.remaining
 judged c p q =
     let a = c.args in
     let n = c.get_u32-len.result in

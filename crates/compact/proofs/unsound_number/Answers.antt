@@ -6,4 +6,4 @@ use Rattle.compact.proofs.unsound_number.Goals as goal
 
 pub returns : goal.returns
 unfolding reply_of
-returns c = ap (λ (r : Reply). r.number) c.reply_of.ensures
+returns c = ap (λ (r : Reply). r.number) c.from.ensures

@@ -7,5 +7,5 @@ use Rattle.decimal.proofs.eight_length.Goals as goal
 pub overflow_add-result : goal.overflow_add-result
 overflow_add-result c = let v = c.args.v in omega (arith, most_four (v / 10000) (omega arith))
 
-pub returns : goal.returns
-returns c = let v = c.args.v in omega (arith, four_less v (omega arith))
+pub returns-in_default : goal.returns-in_default
+returns-in_default c = let v = c.args.v in omega (arith, four_less v (omega arith))

@@ -12,41 +12,8 @@ use Rattle.decimal.proofs.put_digits.Goals as goal
 pub loop-i-init : goal.loop-i-init
 loop-i-init c = (omega arith, (refl, refl))
 
-pub overflow_add-out : goal.overflow_add-out
-overflow_add-out c = omega arith
-
-pub overflow_cast-out : goal.overflow_cast-out
-overflow_cast-out c = omega arith
-
-pub overflow_sub-out : goal.overflow_sub-out
-overflow_sub-out c = omega arith
-
-pub overflow_add-out-in-loop-i : goal.overflow_add-out-in-loop-i
-overflow_add-out-in-loop-i c = omega arith
-
-pub bounds-out-at : goal.bounds-out-at
-bounds-out-at c = omega arith
-
-pub overflow_add-out-in-loop-i-2 : goal.overflow_add-out-in-loop-i-2
-overflow_add-out-in-loop-i-2 c = omega arith
-
-pub overflow_cast-out-in-loop-i : goal.overflow_cast-out-in-loop-i
-overflow_cast-out-in-loop-i c = omega arith
-
-pub overflow_sub-out-in-loop-i : goal.overflow_sub-out-in-loop-i
-overflow_sub-out-in-loop-i c = omega arith
-
-pub overflow_add-out-in-loop-i-3 : goal.overflow_add-out-in-loop-i-3
-overflow_add-out-in-loop-i-3 c = omega arith
-
 pub bounds-out-at-in-loop-i : goal.bounds-out-at-in-loop-i
 bounds-out-at-in-loop-i c = simp length-set (omega arith)
-
-pub overflow_sub-i : goal.overflow_sub-i
-overflow_sub-i c = omega arith
-
-pub loop-i-smaller : goal.loop-i-smaller
-loop-i-smaller c = omega arith
 
 pub loop-i-preserved : goal.loop-i-preserved
 loop-i-preserved c =
@@ -59,12 +26,6 @@ loop-i-preserved c =
         two_stored l.out a.at (l.i - 2) l.x _ _ _ (omega arith) refl (omega arith) (omega arith) ∙ rw m l.invariant.1.1,
       ),
     )
-
-pub overflow_add-out-then-i-eq1 : goal.overflow_add-out-then-i-eq1
-overflow_add-out-then-i-eq1 c = omega arith
-
-pub overflow_cast-out-then-i-eq1 : goal.overflow_cast-out-then-i-eq1
-overflow_cast-out-then-i-eq1 c = omega arith
 
 pub bounds-out-at-then-i-eq1 : goal.bounds-out-at-then-i-eq1
 bounds-out-at-then-i-eq1 c = omega arith

@@ -4,6 +4,7 @@ use mathlib.Core.Path.{sym, ◌∙◌}
 use mathlib.Core.List.{◌∷◌}
 use native.Mathlib.Omega.{arith}
 use lib.ListN.{length-set}
+use borrow.Author.Rules.{rules}
 use Rattle.line.specs.Decimal.{number_text}
 use Rattle.little.proofs.Overs.{over_step}
 use Rattle.decimal.proofs.Puts.{whole, put_nothing}
@@ -13,7 +14,7 @@ pub put_digits-requires : goal.put_digits-requires
 put_digits-requires c = simp length-set (omega arith)
 
 pub shape_of-out-then-n-out : goal.shape_of-out-then-n-out
-shape_of-out-then-n-out c = rw length-set at c.out-1.given
+shape_of-out-then-n-out c = search rules
 
 pub returns-then-n-out : goal.returns-then-n-out
 returns-then-n-out c =

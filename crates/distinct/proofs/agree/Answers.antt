@@ -1,38 +1,23 @@
-use mathlib.Core.Path.{refl}
+-- `agree`: two parts that are the same make both runs agree so much further.
+use mathlib.Core.Path.{sym, ◌∙◌}
 use native.Mathlib.Omega.{arith}
-use lib.ListN.{length-take, length-drop}
-use Rattle.distinct.proofs.Orders.{take_on}
+use Rattle.distinct.proofs.Orders.{part_at}
 use Rattle.distinct.proofs.agree.Goals as goal
 
-pub loop-i-init : goal.loop-i-init
-loop-i-init c = (omega arith, refl)
-
-pub overflow_sub-a : goal.overflow_sub-a
-overflow_sub-a c = omega arith
-
-pub overflow_add-end : goal.overflow_add-end
-overflow_add-end c = omega arith
-
-pub slice_bounds-alike-count : goal.slice_bounds-alike-count
-slice_bounds-alike-count c = omega arith
-
-pub slice_bounds-alike-count-in-loop-i : goal.slice_bounds-alike-count-in-loop-i
-slice_bounds-alike-count-in-loop-i c = omega arith
-
-pub alike-requires : goal.alike-requires
-alike-requires c = simp (length-take, length-drop) (omega arith)
-
-pub loop-i-smaller : goal.loop-i-smaller
-loop-i-smaller c = omega arith
-
-pub loop-i-preserved : goal.loop-i-preserved
-loop-i-preserved c =
-    let a = c.args in
-    let l = c.loop-i in
-    (omega arith, take_on a.a.now a.b.now l.i 64 l.invariant.1 (c.alike.ensures c.if-alike.true))
-
-pub returns-else-alike : goal.returns-else-alike
-returns-else-alike c = c.loop-i.invariant
-
-pub returns : goal.returns
-returns c = c.loop-i.invariant
+pub loop-x-preserved : goal.loop-x-preserved
+loop-x-preserved c =
+    let l = c.loop-x in
+    let i = l.invariant in
+    let h = c.in-Some.ensures.steps in
+    let p = part_at c.args.a.now l.agreed 64 c.in-Some.x.now _ (sym i.first ∙ h.0.1.0) (h.0.1.1 ∙ i.size) (omega arith) in
+    let q = part_at c.args.b.now l.agreed 64 c.in-Some.y.now _ (sym i.second ∙ h.1.1.0) (h.1.1.1 ∙ i.size_2) (omega arith) in
+    record {
+      can = (omega (arith, h.0.0, i.size), omega (arith, h.1.0, i.size_2));
+      finite = tt;
+      first = p.0;
+      second = q.0;
+      size = h.0.0 ∙ i.size;
+      size_2 = h.1.0 ∙ i.size_2;
+      within = p.1.1;
+      same = rw (p.1.0, q.1.0, i.same, c.alike.ensures c.if-not-alike.false);
+    }

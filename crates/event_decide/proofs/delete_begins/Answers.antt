@@ -1,20 +1,16 @@
 -- `delete_begins`: id, then metadata.
-use mathlib.Core.Path.{subst}
+use Rattle.std.specs.Prelude.{Err, Ok}
 use Rattle.event_scan.specs.Scan.{attributes_at}
-use Rattle.event_decide.specs.Decided.{HeadInBounds}
-use Rattle.event_decide.proofs.Decisions.{delete_bad, delete_got}
+use Rattle.event_values.proofs.Values.{handed_on}
+use Rattle.event_decide.proofs.Decisions.{delete_is}
 use Rattle.event_decide.proofs.delete_begins.Goals as goal
 
-pub returns-in-Bad : goal.returns-in-Bad
-returns-in-Bad c =
+pub returns-in_err-id : goal.returns-in_err-id
+returns-in_err-id c =
     let a = c.args in
-    let t = a.t.now in
-    let attrs = attributes_at t a.at in
-    record { is = delete_bad t attrs a.kind a.place c.in-Bad.is c.head_field.ensures.heads; lies = tt }
+    rw (handed_on c.from_residual.ensures) (record { is = delete_is a.t.now (attributes_at a.t.now a.at) a.kind a.place (Err _) c.in_err-id.ensures.heads; lies = tt })
 
-pub returns-in-Is : goal.returns-in-Is
-returns-in-Is c =
+pub returns : goal.returns
+returns c =
     let a = c.args in
-    let t = a.t.now in
-    let attrs = attributes_at t a.at in
-    record { is = delete_got t attrs a.kind a.place c.in-Is.is c.head_field.ensures.heads; lies = subst (HeadInBounds t) c.in-Is.is c.head_field.ensures.head_in_bounds }
+    record { is = delete_is a.t.now (attributes_at a.t.now a.at) a.kind a.place (Ok _) c.in_ok-id.ensures.heads; lies = c.in_ok-id.ensures.head_in_bounds }

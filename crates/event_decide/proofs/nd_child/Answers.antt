@@ -1,21 +1,16 @@
 -- `nd_child`: a refusal, or the child, unless its element is deleted.
-use mathlib.Core.Path.{refl, sym, ◌∙◌, ap}
+use mathlib.Core.Path.{refl}
 use Rattle.event_fields.specs.Field.{ref_of}
-use Rattle.event_values.specs.Value.{wide_field}
-use Rattle.event_decide.specs.declared.Decided.TheVariants as D
+use Rattle.event_values.proofs.Values.{handed_on}
 use Rattle.event_decide.proofs.Decisions.{dropped}
 use Rattle.event_decide.proofs.nd_child.Goals as goal
 
-pub returns-in-Bad : goal.returns-in-Bad
+pub returns-in_err-reference : goal.returns-in_err-reference
 unfolding ref_of
-returns-in-Bad c =
-    let t = c.args.t.now in
-    let e = ap (wide_field) (sym c.in-Bad.is) ∙ c.wide_field.ensures in
-    record { is = rw (← e); lies = tt }
+returns-in_err-reference c = rw (handed_on c.from_residual.ensures, ← c.in_err-reference.ensures) (record { is = refl; lies = tt })
 
-pub returns-in-Is : goal.returns-in-Is
+pub returns : goal.returns
 unfolding ref_of
-returns-in-Is c =
-    let t = c.args.t.now in
-    let e = ap (wide_field) (sym c.in-Is.is) ∙ c.wide_field.ensures in
-    rw (c.unless_deleted.ensures, ← e) (dropped t c.args.a c.args.place (D.Refers (record { place = c.args.place; reference = c.in-Is.reference })) (record { is = refl; lies = tt }))
+returns c =
+    let a = c.args in
+    rw (c.unless_deleted.ensures, ← c.in_ok-reference.ensures) (dropped a.t.now a.a a.place _ (record { is = refl; lies = tt }))

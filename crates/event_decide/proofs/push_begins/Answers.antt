@@ -1,28 +1,23 @@
 -- `push_begins`: id, then metadata, then a node's place.
-use mathlib.Core.Path.{sym, ◌∙◌, ap, subst}
+use Rattle.std.specs.Prelude.{Err, Ok}
 use Rattle.event_scan.specs.Scan.{attributes_at}
-use Rattle.event_values.specs.Value.{body_field}
-use Rattle.event_decide.specs.Decided.{HeadInBounds}
-use Rattle.event_decide.proofs.Decisions.{push_bad, push_bodiless, push_got}
+use Rattle.event_values.proofs.Values.{handed_on}
+use Rattle.event_decide.proofs.Decisions.{push_is}
 use Rattle.event_decide.proofs.push_begins.Goals as goal
 
-pub returns-in-Bad : goal.returns-in-Bad
-returns-in-Bad c =
+pub returns-in_err-id : goal.returns-in_err-id
+returns-in_err-id c =
     let a = c.args in
-    let t = a.t.now in
-    let attrs = attributes_at t a.at in
-    record { is = push_bad t attrs a.kind a.place a.empty c.in-Bad.is c.head_field.ensures.heads; lies = tt }
+    rw (handed_on c.from_residual.ensures) (record { is = push_is a.t.now (attributes_at a.t.now a.at) a.kind a.place a.empty (Err _) c.in_err-id.ensures.heads; lies = tt })
 
-pub returns-in-Bad-body_field : goal.returns-in-Bad-body_field
-returns-in-Bad-body_field c =
+pub returns-in_err-lat : goal.returns-in_err-lat
+returns-in_err-lat c =
     let a = c.args in
-    let t = a.t.now in
-    let attrs = attributes_at t a.at in
-    record { is = push_bodiless t attrs a.kind a.place a.empty c.in-Is.is c.head_field.ensures.heads (ap (body_field a.kind) (sym c.in-Bad-body_field.is) ∙ c.body_field.ensures); lies = tt }
+    let h = push_is a.t.now (attributes_at a.t.now a.at) a.kind a.place a.empty (Ok _) c.in_ok-id.ensures.heads in
+    rw (handed_on c.from_residual-in_err-lat.ensures) (record { is = rw (← h, ← c.in_err-lat.ensures); lies = tt })
 
-pub returns-in-At : goal.returns-in-At
-returns-in-At c =
+pub returns : goal.returns
+returns c =
     let a = c.args in
-    let t = a.t.now in
-    let attrs = attributes_at t a.at in
-    record { is = push_got t attrs a.kind a.place a.empty _ _ c.in-Is.is c.head_field.ensures.heads (ap (body_field a.kind) (sym c.in-At.is) ∙ c.body_field.ensures); lies = subst (HeadInBounds t) c.in-Is.is c.head_field.ensures.head_in_bounds }
+    let h = push_is a.t.now (attributes_at a.t.now a.at) a.kind a.place a.empty (Ok _) c.in_ok-id.ensures.heads in
+    record { is = rw (← h, ← c.in_ok-lat.ensures); lies = c.in_ok-id.ensures.head_in_bounds }

@@ -7,8 +7,8 @@ use Rattle.event_fields.specs.Field.{meta_from, metadata_of}
 use Rattle.event_metadata.specs.Metadata.{meta_written, MetadataInBounds}
 use Rattle.event_metadata.proofs.meta_field.Given as goal
 
-abbrev pub invariant-loop-eq : goal.invariant-loop-eq
-invariant-loop-eq l = MetadataInBounds l.t l.m × (meta_from (meta_written l.t l.m) (attributes_at l.t l.p) ≡ metadata_of (attributes_at l.t l.at))
+abbrev pub invariant-loop-attribute : goal.invariant-loop-attribute
+invariant-loop-attribute l = MetadataInBounds l.t l.m × (meta_from (meta_written l.t l.m) (attributes_at l.t l.p) ≡ metadata_of (attributes_at l.t l.at))
 
-abbrev pub decreases-loop-eq : goal.decreases-loop-eq
-decreases-loop-eq l = suc (length l.t) - l.p
+abbrev pub decreases-loop-attribute : goal.decreases-loop-attribute
+decreases-loop-attribute l = suc (length l.t) - l.p

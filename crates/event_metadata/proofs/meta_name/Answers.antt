@@ -1,32 +1,34 @@
 -- `meta_name`: the names in their order.
-use mathlib.Core.Path.{sym, ◌∙◌}
+use Rattle.std.proofs.lemmas.Bool.Decides.{Decides-eqb}
+use Rattle.std.proofs.lemmas.Slice.Eq.{slice_eq-Decides}
+use Rattle.event_scan.proofs.Equal.{same_known}
 use Rattle.event_metadata.specs.Metadata.{meta_name}
 use Rattle.event_metadata.proofs.meta_name.Goals as goal
 
-pub returns-then-equal : goal.returns-then-equal
+pub returns-then-eq : goal.returns-then-eq
 unfolding meta_name
-returns-then-equal c = rw (sym c.equal.ensures ∙ c.if-equal.true)
+returns-then-eq c = rw (← same_known _ _ _ _ c.as_slice.ensures (slice_eq-Decides Decides-eqb _ _ _ c.eq.ensures), c.if-eq.true)
 
-pub returns-then-equal-2 : goal.returns-then-equal-2
+pub returns-then-eq-2 : goal.returns-then-eq-2
 unfolding meta_name
-returns-then-equal-2 c = rw (sym c.equal.ensures ∙ c.if-equal.false, sym c.equal-2.ensures ∙ c.if-equal-2.true)
+returns-then-eq-2 c = rw (← same_known _ _ _ _ c.as_slice.ensures (slice_eq-Decides Decides-eqb _ _ _ c.eq.ensures), c.if-eq.false, ← same_known _ _ _ _ c.as_slice-2.ensures (slice_eq-Decides Decides-eqb _ _ _ c.eq-2.ensures), c.if-eq-2.true)
 
-pub returns-then-equal-3 : goal.returns-then-equal-3
+pub returns-then-eq-3 : goal.returns-then-eq-3
 unfolding meta_name
-returns-then-equal-3 c = rw (sym c.equal.ensures ∙ c.if-equal.false, sym c.equal-2.ensures ∙ c.if-equal-2.false, sym c.equal-3.ensures ∙ c.if-equal-3.true)
+returns-then-eq-3 c = rw (← same_known _ _ _ _ c.as_slice.ensures (slice_eq-Decides Decides-eqb _ _ _ c.eq.ensures), c.if-eq.false, ← same_known _ _ _ _ c.as_slice-2.ensures (slice_eq-Decides Decides-eqb _ _ _ c.eq-2.ensures), c.if-eq-2.false, ← same_known _ _ _ _ c.as_slice-3.ensures (slice_eq-Decides Decides-eqb _ _ _ c.eq-3.ensures), c.if-eq-3.true)
 
-pub returns-then-equal-4 : goal.returns-then-equal-4
+pub returns-then-eq-4 : goal.returns-then-eq-4
 unfolding meta_name
-returns-then-equal-4 c = rw (sym c.equal.ensures ∙ c.if-equal.false, sym c.equal-2.ensures ∙ c.if-equal-2.false, sym c.equal-3.ensures ∙ c.if-equal-3.false, sym c.equal-4.ensures ∙ c.if-equal-4.true)
+returns-then-eq-4 c = rw (← same_known _ _ _ _ c.as_slice.ensures (slice_eq-Decides Decides-eqb _ _ _ c.eq.ensures), c.if-eq.false, ← same_known _ _ _ _ c.as_slice-2.ensures (slice_eq-Decides Decides-eqb _ _ _ c.eq-2.ensures), c.if-eq-2.false, ← same_known _ _ _ _ c.as_slice-3.ensures (slice_eq-Decides Decides-eqb _ _ _ c.eq-3.ensures), c.if-eq-3.false, ← same_known _ _ _ _ c.as_slice-4.ensures (slice_eq-Decides Decides-eqb _ _ _ c.eq-4.ensures), c.if-eq-4.true)
 
-pub returns-then-equal-5 : goal.returns-then-equal-5
+pub returns-then-eq-5 : goal.returns-then-eq-5
 unfolding meta_name
-returns-then-equal-5 c = rw (sym c.equal.ensures ∙ c.if-equal.false, sym c.equal-2.ensures ∙ c.if-equal-2.false, sym c.equal-3.ensures ∙ c.if-equal-3.false, sym c.equal-4.ensures ∙ c.if-equal-4.false, sym c.equal-5.ensures ∙ c.if-equal-5.true)
+returns-then-eq-5 c = rw (← same_known _ _ _ _ c.as_slice.ensures (slice_eq-Decides Decides-eqb _ _ _ c.eq.ensures), c.if-eq.false, ← same_known _ _ _ _ c.as_slice-2.ensures (slice_eq-Decides Decides-eqb _ _ _ c.eq-2.ensures), c.if-eq-2.false, ← same_known _ _ _ _ c.as_slice-3.ensures (slice_eq-Decides Decides-eqb _ _ _ c.eq-3.ensures), c.if-eq-3.false, ← same_known _ _ _ _ c.as_slice-4.ensures (slice_eq-Decides Decides-eqb _ _ _ c.eq-4.ensures), c.if-eq-4.false, ← same_known _ _ _ _ c.as_slice-5.ensures (slice_eq-Decides Decides-eqb _ _ _ c.eq-5.ensures), c.if-eq-5.true)
 
-pub returns-then-equal-6 : goal.returns-then-equal-6
+pub returns-then-eq-6 : goal.returns-then-eq-6
 unfolding meta_name
-returns-then-equal-6 c = rw (sym c.equal.ensures ∙ c.if-equal.false, sym c.equal-2.ensures ∙ c.if-equal-2.false, sym c.equal-3.ensures ∙ c.if-equal-3.false, sym c.equal-4.ensures ∙ c.if-equal-4.false, sym c.equal-5.ensures ∙ c.if-equal-5.false, sym c.equal-6.ensures ∙ c.if-equal-6.true)
+returns-then-eq-6 c = rw (← same_known _ _ _ _ c.as_slice.ensures (slice_eq-Decides Decides-eqb _ _ _ c.eq.ensures), c.if-eq.false, ← same_known _ _ _ _ c.as_slice-2.ensures (slice_eq-Decides Decides-eqb _ _ _ c.eq-2.ensures), c.if-eq-2.false, ← same_known _ _ _ _ c.as_slice-3.ensures (slice_eq-Decides Decides-eqb _ _ _ c.eq-3.ensures), c.if-eq-3.false, ← same_known _ _ _ _ c.as_slice-4.ensures (slice_eq-Decides Decides-eqb _ _ _ c.eq-4.ensures), c.if-eq-4.false, ← same_known _ _ _ _ c.as_slice-5.ensures (slice_eq-Decides Decides-eqb _ _ _ c.eq-5.ensures), c.if-eq-5.false, ← same_known _ _ _ _ c.as_slice-6.ensures (slice_eq-Decides Decides-eqb _ _ _ c.eq-6.ensures), c.if-eq-6.true)
 
 pub returns : goal.returns
 unfolding meta_name
-returns c = rw (sym c.equal.ensures ∙ c.if-equal.false, sym c.equal-2.ensures ∙ c.if-equal-2.false, sym c.equal-3.ensures ∙ c.if-equal-3.false, sym c.equal-4.ensures ∙ c.if-equal-4.false, sym c.equal-5.ensures ∙ c.if-equal-5.false, sym c.equal-6.ensures ∙ c.if-equal-6.false)
+returns c = rw (← same_known _ _ _ _ c.as_slice.ensures (slice_eq-Decides Decides-eqb _ _ _ c.eq.ensures), c.if-eq.false, ← same_known _ _ _ _ c.as_slice-2.ensures (slice_eq-Decides Decides-eqb _ _ _ c.eq-2.ensures), c.if-eq-2.false, ← same_known _ _ _ _ c.as_slice-3.ensures (slice_eq-Decides Decides-eqb _ _ _ c.eq-3.ensures), c.if-eq-3.false, ← same_known _ _ _ _ c.as_slice-4.ensures (slice_eq-Decides Decides-eqb _ _ _ c.eq-4.ensures), c.if-eq-4.false, ← same_known _ _ _ _ c.as_slice-5.ensures (slice_eq-Decides Decides-eqb _ _ _ c.eq-5.ensures), c.if-eq-5.false, ← same_known _ _ _ _ c.as_slice-6.ensures (slice_eq-Decides Decides-eqb _ _ _ c.eq-6.ensures), c.if-eq-6.false)

@@ -17,5 +17,5 @@ mark-requires c = record { flags_bound = c.requires.0.small; bit_value = (presen
 
 pub returns : goal.returns
 returns c =
-    let e = ap (integer_in w64) (sym c.in-Is.is) ∙ number_text w64 _ (c.read_i64.ensures ∙ ap (read_of w64) (part c.requires.1)) in
+    let e = ap (integer_in w64) (sym c.in-Some.is) ∙ number_text w64 _ (c.read_i64.ensures ∙ ap (read_of w64) (part c.requires.1)) in
     record { is = rw (← e, c.mark.ensures.value); held = record { small = c.mark.ensures.upper_bound; user = c.requires.0.user } }

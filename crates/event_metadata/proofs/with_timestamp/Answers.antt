@@ -16,5 +16,5 @@ mark-requires c = record { flags_bound = c.requires.0.small; bit_value = (presen
 
 pub returns : goal.returns
 returns c =
-    let e = ap stamp_in (sym c.in-At.is) ∙ moment_text _ (c.parse_rfc3339_utc.ensures ∙ ap stamp_of (part c.requires.1)) in
+    let e = ap stamp_in (sym c.in-Some.is) ∙ moment_text _ (c.parse_rfc3339_utc.ensures ∙ ap stamp_of (part c.requires.1)) in
     record { is = rw (← e, c.mark.ensures.value); held = record { small = c.mark.ensures.upper_bound; user = c.requires.0.user } }

@@ -19,5 +19,5 @@ mark-requires c = record { flags_bound = c.requires.0.small; bit_value = (presen
 
 pub returns : goal.returns
 returns c =
-    let e = ap narrow_in (sym c.in-Is.is) ∙ c.integer_32.ensures ∙ ap (λ (s : Bytes). integer_of w32 (value_text s)) (part c.requires.1) in
+    let e = ap narrow_in (sym c.in-Some.is) ∙ c.integer_32.ensures ∙ ap (λ (s : Bytes). integer_of w32 (value_text s)) (part c.requires.1) in
     record { is = rw (← e, c.mark.ensures.value); held = record { small = c.mark.ensures.upper_bound; user = c.requires.0.user } }

@@ -22,5 +22,5 @@ mark-requires-2 c = record { flags_bound = c.mark.ensures.upper_bound; bit_value
 
 pub returns : goal.returns
 returns c =
-    let e = ap narrow_in (sym c.in-Is.is) ∙ c.integer_32.ensures ∙ ap (λ (s : Bytes). integer_of w32 (value_text s)) (part c.requires.1) in
+    let e = ap narrow_in (sym c.in-Some.is) ∙ c.integer_32.ensures ∙ ap (λ (s : Bytes). integer_of w32 (value_text s)) (part c.requires.1) in
     record { is = rw (← e, c.mark-2.ensures.value, c.mark.ensures.value); held = record { small = c.mark-2.ensures.upper_bound; user = c.requires.0.user } }

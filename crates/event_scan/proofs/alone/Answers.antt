@@ -1,15 +1,18 @@
 -- `alone`: `close`, `other`, or no event.
+use Rattle.std.proofs.lemmas.Bool.Decides.{Decides-eqb}
+use Rattle.std.proofs.lemmas.Slice.Eq.{slice_eq-Decides}
+use Rattle.event_scan.proofs.Equal.{same_known}
 use Rattle.event_scan.specs.Scan.{lone}
 use Rattle.event_scan.proofs.alone.Goals as goal
 
-pub returns-then-equal : goal.returns-then-equal
+pub returns-then-eq : goal.returns-then-eq
 unfolding lone
-returns-then-equal c = record { result_value = rw (← c.equal.ensures, c.if-equal.true); in_bounds = tt }
+returns-then-eq c = record { result_value = rw (← (same_known _ _ _ _ c.as_slice.ensures (slice_eq-Decides Decides-eqb _ _ _ c.eq.ensures)), c.if-eq.true); in_bounds = tt }
 
-pub returns-then-equal-2 : goal.returns-then-equal-2
+pub returns-then-eq-2 : goal.returns-then-eq-2
 unfolding lone
-returns-then-equal-2 c = record { result_value = rw (← c.equal.ensures, c.if-equal.false, ← c.equal-2.ensures, c.if-equal-2.true); in_bounds = tt }
+returns-then-eq-2 c = record { result_value = rw (← (same_known _ _ _ _ c.as_slice.ensures (slice_eq-Decides Decides-eqb _ _ _ c.eq.ensures)), c.if-eq.false, ← (same_known _ _ _ _ c.as_slice-2.ensures (slice_eq-Decides Decides-eqb _ _ _ c.eq-2.ensures)), c.if-eq-2.true); in_bounds = tt }
 
 pub returns : goal.returns
 unfolding lone
-returns c = record { result_value = rw (← c.equal.ensures, c.if-equal.false, ← c.equal-2.ensures, c.if-equal-2.false); in_bounds = tt }
+returns c = record { result_value = rw (← (same_known _ _ _ _ c.as_slice.ensures (slice_eq-Decides Decides-eqb _ _ _ c.eq.ensures)), c.if-eq.false, ← (same_known _ _ _ _ c.as_slice-2.ensures (slice_eq-Decides Decides-eqb _ _ _ c.eq-2.ensures)), c.if-eq-2.false); in_bounds = tt }

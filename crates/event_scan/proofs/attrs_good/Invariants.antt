@@ -7,8 +7,8 @@ use Rattle.event_scan.specs.Piece.{there}
 use Rattle.event_scan.specs.Scan.{fields_at}
 use Rattle.event_scan.proofs.attrs_good.Given as goal
 
-abbrev pub invariant-loop-eq : goal.invariant-loop-eq
-invariant-loop-eq l = there (attrs_of (fields_at l.t l.p)) ≡ there (attrs_of (fields_at l.t l.at))
+abbrev pub invariant-loop-attribute : goal.invariant-loop-attribute
+invariant-loop-attribute l = there (attrs_of (fields_at l.t l.p)) ≡ there (attrs_of (fields_at l.t l.at))
 
-abbrev pub decreases-loop-eq : goal.decreases-loop-eq
-decreases-loop-eq l = suc (length l.t) - l.p
+abbrev pub decreases-loop-attribute : goal.decreases-loop-attribute
+decreases-loop-attribute l = suc (length l.t) - l.p

@@ -1,4 +1,7 @@
 -- `event`: by the first word.
+use Rattle.std.proofs.lemmas.Bool.Decides.{Decides-eqb}
+use Rattle.std.proofs.lemmas.Slice.Eq.{slice_eq-Decides}
+use Rattle.event_scan.proofs.Equal.{same_known}
 use mathlib.Core.Path.{sym, ◌∙◌}
 use lib.Seq.{length-take-le}
 use Rattle.event_scan.proofs.Lines.{word_within, event_open, event_empty, event_more, event_alone}
@@ -15,38 +18,38 @@ starts-requires c =
     let f = c.find-to in
     word_within c.args.t.now f.result f.ensures
 
-pub returns-then-equal : goal.returns-then-equal
-returns-then-equal c =
+pub returns-then-eq : goal.returns-then-eq
+returns-then-eq c =
     let t = c.args.t.now in
     let f = c.find-to in
-    record { result_value = c.starts.ensures.result_value ∙ sym (event_open t f.result f.ensures (sym c.equal.ensures ∙ c.if-equal.true)); in_bounds = c.starts.ensures.in_bounds }
+    record { result_value = c.starts.ensures.result_value ∙ sym (event_open t f.result f.ensures (sym (same_known _ _ _ _ c.as_slice.ensures (slice_eq-Decides Decides-eqb _ _ _ c.eq.ensures)) ∙ c.if-eq.true)); in_bounds = c.starts.ensures.in_bounds }
 
-pub starts-requires-then-equal-2 : goal.starts-requires-then-equal-2
-starts-requires-then-equal-2 c =
+pub starts-requires-then-eq-2 : goal.starts-requires-then-eq-2
+starts-requires-then-eq-2 c =
     let f = c.find-to in
     word_within c.args.t.now f.result f.ensures
 
-pub returns-then-equal-2 : goal.returns-then-equal-2
-returns-then-equal-2 c =
+pub returns-then-eq-2 : goal.returns-then-eq-2
+returns-then-eq-2 c =
     let t = c.args.t.now in
     let f = c.find-to in
-    let h = sym c.equal.ensures ∙ c.if-equal.false in
-    let k = sym c.equal-2.ensures ∙ c.if-equal-2.true in
-    record { result_value = c.starts-then-equal-2.ensures.result_value ∙ sym (event_empty t f.result f.ensures h k); in_bounds = c.starts-then-equal-2.ensures.in_bounds }
+    let h = sym (same_known _ _ _ _ c.as_slice.ensures (slice_eq-Decides Decides-eqb _ _ _ c.eq.ensures)) ∙ c.if-eq.false in
+    let k = sym (same_known _ _ _ _ c.as_slice-2.ensures (slice_eq-Decides Decides-eqb _ _ _ c.eq-2.ensures)) ∙ c.if-eq-2.true in
+    record { result_value = c.starts-then-eq-2.ensures.result_value ∙ sym (event_empty t f.result f.ensures h k); in_bounds = c.starts-then-eq-2.ensures.in_bounds }
 
 pub returns-then-to-t : goal.returns-then-to-t
 returns-then-to-t c =
     let t = c.args.t.now in
     let f = c.find-to in
-    let h = sym c.equal.ensures ∙ c.if-equal.false in
-    let k = sym c.equal-2.ensures ∙ c.if-equal-2.false in
+    let h = sym (same_known _ _ _ _ c.as_slice.ensures (slice_eq-Decides Decides-eqb _ _ _ c.eq.ensures)) ∙ c.if-eq.false in
+    let k = sym (same_known _ _ _ _ c.as_slice-2.ensures (slice_eq-Decides Decides-eqb _ _ _ c.eq-2.ensures)) ∙ c.if-eq-2.false in
     record { result_value = sym (event_more t f.result f.ensures h k c.if-to-t.true); in_bounds = tt }
 
 pub returns : goal.returns
 returns c =
     let t = c.args.t.now in
     let f = c.find-to in
-    let h = sym c.equal.ensures ∙ c.if-equal.false in
-    let k = sym c.equal-2.ensures ∙ c.if-equal-2.false in
+    let h = sym (same_known _ _ _ _ c.as_slice.ensures (slice_eq-Decides Decides-eqb _ _ _ c.eq.ensures)) ∙ c.if-eq.false in
+    let k = sym (same_known _ _ _ _ c.as_slice-2.ensures (slice_eq-Decides Decides-eqb _ _ _ c.eq-2.ensures)) ∙ c.if-eq-2.false in
     let e = event_alone t f.result f.ensures h k c.if-to-t.false c.alone.result c.alone.ensures.result_value c.alone.ensures.in_bounds in
     record { result_value = e.0; in_bounds = e.1 }

@@ -8,9 +8,9 @@ use Rattle.event_scan.specs.Scan.{fields_at, stand}
 use Rattle.event_scan.proofs.FewNames.{stand_after}
 use Rattle.event_scan.proofs.few_stand.Given as goal
 
-abbrev pub invariant-loop-eq : goal.invariant-loop-eq
-invariant-loop-eq l =
-    (length l.starts ≡ 16) × (length l.ends ≡ 16) × NamesKept l.t l.starts l.ends l.n × (stand_after (kept_names l.t l.starts l.ends l.n) (attrs_of (fields_at l.t l.p)) ≡ stand (attrs_of (fields_at l.t l.at)))
+abbrev pub invariant-loop-attribute : goal.invariant-loop-attribute
+invariant-loop-attribute l =
+    (length l.kept ≡ 16) × NamesKept l.t l.kept l.n × (stand_after (kept_names l.t l.kept l.n) (attrs_of (fields_at l.t l.p)) ≡ stand (attrs_of (fields_at l.t l.at)))
 
-abbrev pub decreases-loop-eq : goal.decreases-loop-eq
-decreases-loop-eq l = suc (length l.t) - l.p
+abbrev pub decreases-loop-attribute : goal.decreases-loop-attribute
+decreases-loop-attribute l = suc (length l.t) - l.p

@@ -10,14 +10,14 @@ use Rattle.event_scan.proofs.is_attr.Tie as tie
 use Rattle.event_scan.proofs.is_attr.Goals as goal
 
 -- the attribute
-stood : (c : lts.Start tie.the-claims reads.Pre reads.Post) → let a = c.args in AttributeAt a.t.now a.at a.eq a.to
-stood c = let a = c.args in stands a.t.now a.at a.eq a.to c.requires
+stood : (c : lts.Start tie.the-claims reads.Pre reads.Post) → let a = c.args in AttributeAt a.t.now a.at a.attribute.eq a.attribute.to
+stood c = let a = c.args in stands a.t.now a.at _ c.requires
 
-pub returns-then-eq-at : goal.returns-then-eq-at
-returns-then-eq-at c = sym (attr_nameless (stood (search)) c.if-eq-at.true)
+pub returns-then-attribute-at : goal.returns-then-attribute-at
+returns-then-attribute-at c = sym (attr_nameless (stood (search)) c.if-attribute-at.true)
 
-pub returns-then-eq-to : goal.returns-then-eq-to
-returns-then-eq-to c = sym (attr_whole (stood (search)) c.if-eq-to.true)
+pub returns-then-attribute : goal.returns-then-attribute
+returns-then-attribute c = sym (attr_whole (stood (search)) c.if-attribute.true)
 
 pub overflow_add-from : goal.overflow_add-from
 overflow_add-from c = let d = stood (search) in omega (arith, d.equals)
@@ -35,6 +35,6 @@ pub returns : goal.returns
 returns c =
     let a = c.args in
     let d = stood (search) in
-    let g : a.at < a.eq = omega (arith, d.start) in
-    let h : a.eq < a.to = omega (arith, d.equals) in
-    c.escapes_right.ensures ∙ rw (lent_is (a.eq + 1) a.to a.t.now (omega arith)) (sym (attr_value d g h))
+    let g : a.at < a.attribute.eq = omega (arith, d.start) in
+    let h : a.attribute.eq < a.attribute.to = omega (arith, d.equals) in
+    c.escapes_right.ensures ∙ rw (lent_is (a.attribute.eq + 1) a.attribute.to a.t.now (omega arith)) (sym (attr_value d g h))

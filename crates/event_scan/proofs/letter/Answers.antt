@@ -1,26 +1,27 @@
 -- `letter`: the four letters of an escape.
-use borrow.Author.Tests.{eq-eqb, ne_eqb}
+use native.Mathlib.Omega.{arith}
+use borrow.Author.Tests.{ne_eqb}
 use Rattle.text.specs.Escape.{meaning}
 use Rattle.event_scan.proofs.letter.Goals as goal
 
-pub returns-then-m-eq116 : goal.returns-then-m-eq116
+pub returns-in-116 : goal.returns-in-116
 unfolding meaning
-returns-then-m-eq116 c = rw (eq-eqb _ _ c.if-m-eq116.true)
+returns-in-116 c = rw c.in-116.is
 
-pub returns-then-m-eq110 : goal.returns-then-m-eq110
+pub returns-in-110 : goal.returns-in-110
 unfolding meaning
-returns-then-m-eq110 c = rw (ne_eqb _ _ c.if-m-eq116.false, eq-eqb _ _ c.if-m-eq110.true)
+returns-in-110 c = rw c.in-110.is
 
-pub returns-then-m-eq114 : goal.returns-then-m-eq114
+pub returns-in-114 : goal.returns-in-114
 unfolding meaning
-returns-then-m-eq114 c = rw (ne_eqb _ _ c.if-m-eq116.false, ne_eqb _ _ c.if-m-eq110.false, eq-eqb _ _ c.if-m-eq114.true)
+returns-in-114 c = rw c.in-114.is
 
-pub returns-then-m-eq92 : goal.returns-then-m-eq92
+pub returns-in-92 : goal.returns-in-92
 unfolding meaning
-returns-then-m-eq92 c =
-    rw (ne_eqb _ _ c.if-m-eq116.false, ne_eqb _ _ c.if-m-eq110.false, ne_eqb _ _ c.if-m-eq114.false, eq-eqb _ _ c.if-m-eq92.true)
+returns-in-92 c = rw c.in-92.is
 
-pub returns : goal.returns
+pub returns-in_default : goal.returns-in_default
 unfolding meaning
-returns c =
-    rw (ne_eqb _ _ c.if-m-eq116.false, ne_eqb _ _ c.if-m-eq110.false, ne_eqb _ _ c.if-m-eq114.false, ne_eqb _ _ c.if-m-eq92.false)
+returns-in_default c =
+    let m = c.args.m in
+    rw (ne_eqb m 116 (omega arith), ne_eqb m 110 (omega arith), ne_eqb m 114 (omega arith), ne_eqb m 92 (omega arith))

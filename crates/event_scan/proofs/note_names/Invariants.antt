@@ -8,9 +8,9 @@ use Rattle.event_scan.specs.Scan.{attrs_at, Good}
 use Rattle.event_scan.specs.Names.{names_of}
 use Rattle.event_scan.proofs.note_names.Given as goal
 
-abbrev pub invariant-loop-eq : goal.invariant-loop-eq
-invariant-loop-eq l =
+abbrev pub invariant-loop-attribute : goal.invariant-loop-attribute
+invariant-loop-attribute l =
     Good l.t l.p × ((l.n ≤ l.p) × ((length l.words ≡ length l.initial.words) × (l.n ≤ length l.words → names_of (attrs_at l.t l.at) ≡ runs_in l.t (take l.n l.words) ++ names_of (attrs_at l.t l.p))))
 
-abbrev pub decreases-loop-eq : goal.decreases-loop-eq
-decreases-loop-eq l = suc (length l.t) - l.p
+abbrev pub decreases-loop-attribute : goal.decreases-loop-attribute
+decreases-loop-attribute l = suc (length l.t) - l.p

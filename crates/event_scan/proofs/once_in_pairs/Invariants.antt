@@ -6,8 +6,8 @@ use Rattle.event.specs.Event.{none_twice}
 use Rattle.event_scan.specs.Scan.{attrs_at, Good}
 use Rattle.event_scan.proofs.once_in_pairs.Given as goal
 
-abbrev pub invariant-loop-eq : goal.invariant-loop-eq
-invariant-loop-eq l = Good l.t l.p × (none_twice (attrs_at l.t l.p) ≡ none_twice (attrs_at l.t l.at))
+abbrev pub invariant-loop-attribute : goal.invariant-loop-attribute
+invariant-loop-attribute l = Good l.t l.p × (none_twice (attrs_at l.t l.p) ≡ none_twice (attrs_at l.t l.at))
 
-abbrev pub decreases-loop-eq : goal.decreases-loop-eq
-decreases-loop-eq l = suc (length l.t) - l.p
+abbrev pub decreases-loop-attribute : goal.decreases-loop-attribute
+decreases-loop-attribute l = suc (length l.t) - l.p

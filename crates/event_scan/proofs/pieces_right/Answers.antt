@@ -1,35 +1,29 @@
-use mathlib.Core.Path.{refl, sym, ◌∙◌}
+use mathlib.Core.Path.{sym, ◌∙◌}
 use native.Mathlib.Omega.{arith}
-use Rattle.event_scan.proofs.Pieces.{Turn, turn, wrong_here, right_end}
+use lib.ListN.{length-drop}
+use Rattle.event_scan.proofs.Pieces.{Turn, turn, right_ends}
 use Rattle.event_scan.proofs.pieces_right.Goals as goal
 
-pub loop-i-init : goal.loop-i-init
-loop-i-init c = refl
+-- the piece that the rest begins with
+stood : (c : goal.In-Some)
+    → Turn c.loop-piece.rest.now c.in-Some.piece
+stood c = turn _ _ (sym c.first_piece.ensures ∙ c.in-Some.is)
 
-pub piece_at-requires : goal.piece_at-requires
-piece_at-requires c = omega arith
+pub slice_bounds-rest-count : goal.slice_bounds-rest-count
+slice_bounds-rest-count c = (stood c).within
 
--- the piece at the present place
-stood : (c : goal.In-Is)
-    → Turn c.args.v.now c.loop-i.i c.in-Is.byte c.in-Is.size
-stood c = turn _ _ _ _ (sym c.piece_at.ensures ∙ c.in-Is.is)
+pub slice_bounds-rest-start : goal.slice_bounds-rest-start
+slice_bounds-rest-start c = (stood c).within
 
-pub overflow_add-i : goal.overflow_add-i
-overflow_add-i c = omega (arith, (stood c).within)
+pub loop-piece-smaller : goal.loop-piece-smaller
+loop-piece-smaller c =
+    let d : Turn c.loop-piece.rest.now c.in-Some.piece = turn _ _ (sym c.first_piece.ensures ∙ c.in-Some.is) in
+    rw d.behind (omega (arith, d.forward, d.within, length-drop c.in-Some.piece.size c.loop-piece.rest.now))
 
-pub loop-i-smaller : goal.loop-i-smaller
-loop-i-smaller c = omega (arith, (stood c).within, (stood c).forward)
-
-pub loop-i-preserved : goal.loop-i-preserved
-loop-i-preserved c = (stood c).right ∙ c.loop-i.invariant
-
-pub returns-in-Not : goal.returns-in-Not
-returns-in-Not c =
-    let a = c.args in
-    let l = c.loop-i in
-    sym (wrong_here a.v.now l.i (omega arith) (sym c.piece_at.ensures ∙ c.in-Not.is)) ∙ l.invariant
+pub loop-piece-preserved : goal.loop-piece-preserved
+loop-piece-preserved c =
+    let d : Turn c.loop-piece.rest.now c.in-Some.piece = turn _ _ (sym c.first_piece.ensures ∙ c.in-Some.is) in
+    rw d.behind (d.right ∙ c.loop-piece.invariant)
 
 pub returns : goal.returns
-returns c =
-    let l = c.loop-i in
-    sym (right_end c.args.v.now l.i (omega arith)) ∙ l.invariant
+returns c = c.is_empty.ensures ∙ right_ends _ (sym c.first_piece.ensures ∙ c.in_default.is) ∙ c.loop-piece.invariant

@@ -1,60 +1,58 @@
-use mathlib.Core.Path.{◌≡◌, refl, sym, ◌∙◌}
+use Rattle.std.proofs.lemmas.Bool.Decides.{Decides-eqb}
+use Rattle.std.proofs.lemmas.Slice.Eq.{slice_eq-Decides}
+use Rattle.event_scan.proofs.Equal.{same_decided}
+use mathlib.Core.Path.{◌≡◌, refl, sym, ◌∙◌, ap}
 use native.Mathlib.Omega.{arith}
 use lib.Seq.{slice}
-use Rattle.base.specs.Bytes.{same}
-use Rattle.event_scan.proofs.Places.{AttributeAt, stands, lent_is, value_past}
+use Rattle.base.specs.Bytes.{Bytes, same}
+use Rattle.event_scan.proofs.Places.{stands, lent_is, value_past}
 use Rattle.event_scan.proofs.value_at.Goals as goal
 
-pub loop-eq-init : goal.loop-eq-init
-loop-eq-init c = refl
+pub loop-attribute-init : goal.loop-attribute-init
+loop-attribute-init c = refl
 
-pub returns-in_default : goal.returns-in_default
-returns-in_default c =
+pub returns : goal.returns
+returns c =
     let a = c.args in
-    let l = c.loop-eq in
+    let l = c.loop-attribute in
     sym (value_past a.t.now a.name.now l.p (sym c.attribute_at.ensures ∙ c.in_default.is)) ∙ l.invariant
 
--- the attribute at the present place
-stood : (c : goal.In-At)
-    → let a = c.args in AttributeAt a.t.now c.loop-eq.p c.in-At.eq c.in-At.to
-stood c = stands _ _ _ _ (sym c.attribute_at.ensures ∙ c.in-At.is)
+pub slice_bounds-eq-count : goal.slice_bounds-eq-count
+slice_bounds-eq-count c = (stands _ _ _ (sym c.attribute_at.ensures ∙ c.in-Some.is)).start
 
-pub slice_bounds-equal-count : goal.slice_bounds-equal-count
-slice_bounds-equal-count c = (stood c).start
+pub slice_bounds-eq-start : goal.slice_bounds-eq-start
+slice_bounds-eq-start c = (stands _ _ _ (sym c.attribute_at.ensures ∙ c.in-Some.is)).start
 
-pub slice_bounds-equal-start : goal.slice_bounds-equal-start
-slice_bounds-equal-start c = (stood c).start
-
-pub slice_bounds-equal-end : goal.slice_bounds-equal-end
-slice_bounds-equal-end c = omega (arith, (stood c).equals, (stood c).end)
+pub slice_bounds-eq-end : goal.slice_bounds-eq-end
+slice_bounds-eq-end c = omega (arith, (stands _ _ _ (sym c.attribute_at.ensures ∙ c.in-Some.is)).equals, (stands _ _ _ (sym c.attribute_at.ensures ∙ c.in-Some.is)).end)
 
 pub overflow_add-result : goal.overflow_add-result
-overflow_add-result c = omega (arith, (stood (record { before = search; type_inv = search })).equals, (stood (record { before = search; type_inv = search })).end, c.well_formed.0.1)
+overflow_add-result c = omega (arith, (stands _ _ _ (sym c.attribute_at.ensures ∙ c.in-Some.is)).equals, (stands _ _ _ (sym c.attribute_at.ensures ∙ c.in-Some.is)).end, c.well_formed.0.1)
 
-pub returns-then-equal : goal.returns-then-equal
-returns-then-equal c =
+pub returns-then-eq : goal.returns-then-eq
+returns-then-eq c =
     let compared : (let a = c.args in
-    c.equal.result ≡ same a.name.now (slice c.loop-eq.p c.in-At.eq a.t.now)) = let a = c.args in
-    let d = stood (record { before = search; type_inv = search }) in
-    c.equal.ensures ∙ rw (lent_is _ _ a.t.now d.start) in
+    c.eq.result ≡ same a.name.now (slice c.loop-attribute.p c.in-Some.attribute.eq a.t.now)) = let a = c.args in
+    let d = stands _ _ _ (sym c.attribute_at.ensures ∙ c.in-Some.is) in
+    same_decided _ _ _ (slice_eq-Decides Decides-eqb _ _ _ c.eq.ensures) ∙ ap (λ (s : Bytes). same a.name.now s) (lent_is _ _ a.t.now d.start) in
     let a = c.args in
-    let l = c.loop-eq in
-    let d = stood (record { before = search; type_inv = search }) in
-    sym (d.valued a.name.now ∙ rw (← compared, c.if-equal.true)) ∙ l.invariant
+    let l = c.loop-attribute in
+    let d = stands _ _ _ (sym c.attribute_at.ensures ∙ c.in-Some.is) in
+    sym (d.valued a.name.now ∙ rw (← compared, c.if-eq.true)) ∙ l.invariant
 
 pub overflow_add-p : goal.overflow_add-p
-overflow_add-p c = omega (arith, (stood (record { before = search; type_inv = search })).end, c.well_formed.0.1)
+overflow_add-p c = omega (arith, (stands _ _ _ (sym c.attribute_at.ensures ∙ c.in-Some.is)).end, c.well_formed.0.1)
 
-pub loop-eq-smaller : goal.loop-eq-smaller
-loop-eq-smaller c = omega (arith, (stood (record { before = search; type_inv = search })).start, (stood (record { before = search; type_inv = search })).equals, (stood (record { before = search; type_inv = search })).end)
+pub loop-attribute-smaller : goal.loop-attribute-smaller
+loop-attribute-smaller c = omega (arith, (stands _ _ _ (sym c.attribute_at.ensures ∙ c.in-Some.is)).start, (stands _ _ _ (sym c.attribute_at.ensures ∙ c.in-Some.is)).equals, (stands _ _ _ (sym c.attribute_at.ensures ∙ c.in-Some.is)).end)
 
-pub loop-eq-preserved : goal.loop-eq-preserved
-loop-eq-preserved c =
+pub loop-attribute-preserved : goal.loop-attribute-preserved
+loop-attribute-preserved c =
     let compared : (let a = c.args in
-    c.equal.result ≡ same a.name.now (slice c.loop-eq.p c.in-At.eq a.t.now)) = let a = c.args in
-    let d = stood (record { before = search; type_inv = search }) in
-    c.equal.ensures ∙ rw (lent_is _ _ a.t.now d.start) in
+    c.eq.result ≡ same a.name.now (slice c.loop-attribute.p c.in-Some.attribute.eq a.t.now)) = let a = c.args in
+    let d = stands _ _ _ (sym c.attribute_at.ensures ∙ c.in-Some.is) in
+    same_decided _ _ _ (slice_eq-Decides Decides-eqb _ _ _ c.eq.ensures) ∙ ap (λ (s : Bytes). same a.name.now s) (lent_is _ _ a.t.now d.start) in
     let a = c.args in
-    let l = c.loop-eq in
-    let d = stood (record { before = search; type_inv = search }) in
-    sym (d.valued a.name.now ∙ rw (← compared, c.if-equal.false)) ∙ l.invariant
+    let l = c.loop-attribute in
+    let d = stands _ _ _ (sym c.attribute_at.ensures ∙ c.in-Some.is) in
+    sym (d.valued a.name.now ∙ rw (← compared, c.if-eq.false)) ∙ l.invariant

@@ -5,8 +5,8 @@ use lib.ListN.{length}
 use Rattle.event_scan.specs.Scan.{attribute_value}
 use Rattle.event_scan.proofs.value_at.Given as goal
 
-abbrev pub invariant-loop-eq : goal.invariant-loop-eq
-invariant-loop-eq l = attribute_value l.t l.name l.p ≡ attribute_value l.t l.name l.at
+abbrev pub invariant-loop-attribute : goal.invariant-loop-attribute
+invariant-loop-attribute l = attribute_value l.t l.name l.p ≡ attribute_value l.t l.name l.at
 
-abbrev pub decreases-loop-eq : goal.decreases-loop-eq
-decreases-loop-eq l = suc (length l.t) - l.p
+abbrev pub decreases-loop-attribute : goal.decreases-loop-attribute
+decreases-loop-attribute l = suc (length l.t) - l.p

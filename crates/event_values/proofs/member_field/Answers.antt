@@ -1,77 +1,30 @@
 -- `member_field`: type, then ref, then role.
-use mathlib.Core.Path.{sym, ◌∙◌, ap}
-use Rattle.base.specs.Ascii.{ascii}
+use mathlib.Core.Path.{◌∙◌, ap}
 use Rattle.nesting.specs.Name.{name_of}
-use Rattle.event_scan.specs.Scan.{attributes_at}
 use Rattle.event_fields.specs.Field.{type_named, member_of}
-use Rattle.event_values.specs.Value.{wide_field, type_field}
+use Rattle.event_values.specs.Value.{field_in}
 use Rattle.event_values.proofs.Raws.{name_raw}
-use Rattle.event_values.proofs.Values.{part, found_missing, found_at, text_missing, text_got}
+use Rattle.event_values.proofs.Values.{handed_on, part, type_read}
 use Rattle.event_values.proofs.member_field.Goals as goal
 
-pub returns-in_default : goal.returns-in_default
+pub returns-in_err-text-clause-result_value : goal.returns-in_err-text-clause-result_value
 unfolding member_of
-returns-in_default c =
-    let a = c.args in
-    let t = a.t.now in
-    let n = ascii "type" in
-    record { result_value = rw (← text_missing n (attributes_at t a.at) (found_missing t n a.at c.in_default.is c.value.ensures)); member_in_bounds = tt }
+returns-in_err-text-clause-result_value c = rw (handed_on c.from_residual.ensures, ← c.in_err-text.ensures.result_value)
 
-pub slice_bounds-name_of-count : goal.slice_bounds-name_of-count
-slice_bounds-name_of-count c =
-    let a = c.args in
-    let t = a.t.now in
-    let n = ascii "type" in
-    let v = found_at t n a.at c.in-At.is c.value.ensures in
-    v.0.order
-
-pub slice_bounds-name_of-start : goal.slice_bounds-name_of-start
-slice_bounds-name_of-start c =
-    let a = c.args in
-    let t = a.t.now in
-    let n = ascii "type" in
-    let v = found_at t n a.at c.in-At.is c.value.ensures in
-    v.0.order
-
-pub slice_bounds-name_of-end : goal.slice_bounds-name_of-end
-slice_bounds-name_of-end c =
-    let a = c.args in
-    let t = a.t.now in
-    let n = ascii "type" in
-    let v = found_at t n a.at c.in-At.is c.value.ensures in
-    v.0.end
-
-pub returns-in_default-type_named : goal.returns-in_default-type_named
+pub returns-in_err-kind-clause-result_value : goal.returns-in_err-kind-clause-result_value
 unfolding member_of
-returns-in_default-type_named c =
-    let a = c.args in
-    let t = a.t.now in
-    let n = ascii "type" in
-    let v = found_at t n a.at c.in-At.is c.value.ensures in
-    let e = text_got n (attributes_at t a.at) _ v.1 in
-    let k = ap type_field (sym c.in_default-type_named.is) ∙ c.type_named.ensures ∙ ap type_named (c.name_of.ensures ∙ ap name_of (part v.0) ∙ name_raw _) in
-    record { result_value = rw (← e, ← k); member_in_bounds = tt }
+returns-in_err-kind-clause-result_value c =
+    let k = ap (field_in (λ k. k)) c.in_err-kind.ensures.value ∙ type_read _ ∙ c.type_named.ensures ∙ ap type_named (c.name_of.ensures ∙ ap name_of (part c.in_ok-text.ensures.text_in_bounds) ∙ name_raw _) in
+    rw (handed_on c.from_residual-in_err-kind.ensures, ← c.in_ok-text.ensures.result_value, ← k)
 
-pub returns-in-Bad : goal.returns-in-Bad
+pub returns-in_err-reference-clause-result_value : goal.returns-in_err-reference-clause-result_value
 unfolding member_of
-returns-in-Bad c =
-    let a = c.args in
-    let t = a.t.now in
-    let n = ascii "type" in
-    let v = found_at t n a.at c.in-At.is c.value.ensures in
-    let e = text_got n (attributes_at t a.at) _ v.1 in
-    let k = ap type_field (sym c.in-Is.is) ∙ c.type_named.ensures ∙ ap type_named (c.name_of.ensures ∙ ap name_of (part v.0) ∙ name_raw _) in
-    let z = ap wide_field (sym c.in-Bad.is) ∙ c.wide_field.ensures in
-    record { result_value = rw (← e, ← k, ← z); member_in_bounds = tt }
+returns-in_err-reference-clause-result_value c =
+    let k = ap (field_in (λ k. k)) c.in_ok-kind.ensures.value ∙ type_read _ ∙ c.type_named.ensures ∙ ap type_named (c.name_of.ensures ∙ ap name_of (part c.in_ok-text.ensures.text_in_bounds) ∙ name_raw _) in
+    rw (handed_on c.from_residual-in_err-reference.ensures, ← c.in_ok-text.ensures.result_value, ← k, ← c.in_err-reference.ensures)
 
-pub returns-in-Is-wide_field : goal.returns-in-Is-wide_field
+pub returns-clause-result_value : goal.returns-clause-result_value
 unfolding member_of
-returns-in-Is-wide_field c =
-    let a = c.args in
-    let t = a.t.now in
-    let n = ascii "type" in
-    let v = found_at t n a.at c.in-At.is c.value.ensures in
-    let e = text_got n (attributes_at t a.at) _ v.1 in
-    let k = ap type_field (sym c.in-Is.is) ∙ c.type_named.ensures ∙ ap type_named (c.name_of.ensures ∙ ap name_of (part v.0) ∙ name_raw _) in
-    let z = ap wide_field (sym c.in-Is-wide_field.is) ∙ c.wide_field.ensures in
-    record { result_value = rw (← e, ← k, ← z, c.role-role.ensures.result_value); member_in_bounds = c.role-role.ensures.extent_in_bounds }
+returns-clause-result_value c =
+    let k = ap (field_in (λ k. k)) c.in_ok-kind.ensures.value ∙ type_read _ ∙ c.type_named.ensures ∙ ap type_named (c.name_of.ensures ∙ ap name_of (part c.in_ok-text.ensures.text_in_bounds) ∙ name_raw _) in
+    rw (← c.in_ok-text.ensures.result_value, ← k, ← c.in_ok-reference.ensures, c.role-role.ensures.result_value)

@@ -1,23 +1,16 @@
 -- `node_place`: lat7, then lon7.
-use mathlib.Core.Path.{sym, ◌∙◌, ap}
 use Rattle.event_fields.specs.Field.{latitude, longitude}
-use Rattle.event_values.specs.Value.{narrow_field}
+use Rattle.event_values.proofs.Values.{handed_on}
 use Rattle.event_values.proofs.node_place.Goals as goal
 
-pub returns-in-Bad : goal.returns-in-Bad
+pub returns-in_err-lat : goal.returns-in_err-lat
 unfolding latitude longitude
-returns-in-Bad c = let e = ap narrow_field (sym c.in-Bad.is) ∙ c.coordinate.ensures in rw (← e)
+returns-in_err-lat c = rw (handed_on c.from_residual.ensures, ← c.in_err-lat.ensures)
 
-pub returns-in-Bad-coordinate : goal.returns-in-Bad-coordinate
+pub returns-in_err-lon : goal.returns-in_err-lon
 unfolding latitude longitude
-returns-in-Bad-coordinate c =
-    let e = ap narrow_field (sym c.in-Is.is) ∙ c.coordinate.ensures in
-    let f = ap narrow_field (sym c.in-Bad-coordinate.is) ∙ c.coordinate-in-Is.ensures in
-    rw (← e, ← f)
+returns-in_err-lon c = rw (handed_on c.from_residual-in_err-lon.ensures, ← c.in_ok-lat.ensures, ← c.in_err-lon.ensures)
 
-pub returns-in-Is-coordinate : goal.returns-in-Is-coordinate
+pub returns : goal.returns
 unfolding latitude longitude
-returns-in-Is-coordinate c =
-    let e = ap narrow_field (sym c.in-Is.is) ∙ c.coordinate.ensures in
-    let f = ap narrow_field (sym c.in-Is-coordinate.is) ∙ c.coordinate-in-Is.ensures in
-    rw (← e, ← f)
+returns c = rw (← c.in_ok-lat.ensures, ← c.in_ok-lon.ensures)

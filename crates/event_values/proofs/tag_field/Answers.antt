@@ -1,26 +1,16 @@
 -- `tag_field`: k, then v.
-use mathlib.Core.Path.{sym, ◌∙◌, ap, subst}
 use Rattle.event_fields.specs.Field.{tag_of}
-use Rattle.event_values.specs.Value.{extent_field, TextInBounds}
+use Rattle.event_values.proofs.Values.{handed_on}
 use Rattle.event_values.proofs.tag_field.Goals as goal
 
-pub returns-in-Bad : goal.returns-in-Bad
+pub returns-in_err-key-clause-result_value : goal.returns-in_err-key-clause-result_value
 unfolding tag_of
-returns-in-Bad c =
-    let e = ap (extent_field c.args.t.now) (sym c.in-Bad.is) ∙ c.text_field.ensures.result_value in
-    record { result_value = rw (← e); tag_in_bounds = tt }
+returns-in_err-key-clause-result_value c = rw (handed_on c.from_residual.ensures, ← c.in_err-key.ensures.result_value)
 
-pub returns-in-Bad-text_field : goal.returns-in-Bad-text_field
+pub returns-in_err-value-clause-result_value : goal.returns-in_err-value-clause-result_value
 unfolding tag_of
-returns-in-Bad-text_field c =
-    let e = ap (extent_field c.args.t.now) (sym c.in-At.is) ∙ c.text_field.ensures.result_value in
-    let f = ap (extent_field c.args.t.now) (sym c.in-Bad-text_field.is) ∙ c.text_field-in-At.ensures.result_value in
-    record { result_value = rw (← e, ← f); tag_in_bounds = tt }
+returns-in_err-value-clause-result_value c = rw (handed_on c.from_residual-in_err-value.ensures, ← c.in_ok-key.ensures.result_value, ← c.in_err-value.ensures.result_value)
 
-pub returns-in-At-text_field : goal.returns-in-At-text_field
+pub returns-clause-result_value : goal.returns-clause-result_value
 unfolding tag_of
-returns-in-At-text_field c =
-    let t = c.args.t.now in
-    let e = ap (extent_field c.args.t.now) (sym c.in-At.is) ∙ c.text_field.ensures.result_value in
-    let f = ap (extent_field c.args.t.now) (sym c.in-At-text_field.is) ∙ c.text_field-in-At.ensures.result_value in
-    record { result_value = rw (← e, ← f); tag_in_bounds = (subst (TextInBounds t) c.in-At.is c.text_field.ensures.text_in_bounds, subst (TextInBounds t) c.in-At-text_field.is c.text_field-in-At.ensures.text_in_bounds) }
+returns-clause-result_value c = rw (← c.in_ok-key.ensures.result_value, ← c.in_ok-value.ensures.result_value)

@@ -1,34 +1,13 @@
 use native.Mathlib.Omega.{arith}
-use Rattle.input_lines.proofs.Places.{unmoved, moved_on, moved_all}
+use mathlib.Core.Path.{◌≡◌}
+use Rattle.std.specs.List.{copy_within}
+use Rattle.input_lines.proofs.Places.{kept_none, kept_front}
 use Rattle.input_lines.proofs.keep_rest.Goals as goal
 
-pub loop-i-init : goal.loop-i-init
-loop-i-init c = (c.lesser-end.ensures, unmoved)
-
-pub bounds-buffer-i : goal.bounds-buffer-i
-bounds-buffer-i c = omega (arith, c.loop-i.invariant)
-
-pub bounds-buffer-n : goal.bounds-buffer-n
-bounds-buffer-n c = omega (arith, c.loop-i.invariant)
-
-pub overflow_add-n : goal.overflow_add-n
-overflow_add-n c = omega (arith, c.loop-i.invariant)
-
-pub overflow_add-i : goal.overflow_add-i
-overflow_add-i c = omega (arith, c.loop-i.invariant)
-
-pub loop-i-smaller : goal.loop-i-smaller
-loop-i-smaller c = omega arith
-
-pub loop-i-preserved : goal.loop-i-preserved
-loop-i-preserved c =
-    let l = c.loop-i in
-    (l.invariant.0, moved_on l.buffer l.i l.n (omega arith) l.invariant.1)
-
-pub shape_of-buffer : goal.shape_of-buffer
-shape_of-buffer c = c.loop-i.invariant.1.writing.kept
+pub returns-then-end-from : goal.returns-then-end-from
+returns-then-end-from c = kept_none _ _ _ _ c.lesser-end.ensures (omega arith)
 
 pub returns : goal.returns
 returns c =
-    let l = c.loop-i in
-    moved_all l.buffer l.i l.n (omega arith) l.invariant.1
+    let e : c.copy_within.new.self ≡ copy_within c.args.buffer.now c.args.from c.lesser-end.result 0 = c.copy_within.ensures.after in
+    rw e (kept_front _ _ _ _ c.lesser-end.ensures (omega arith))

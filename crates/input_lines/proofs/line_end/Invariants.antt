@@ -1,12 +1,7 @@
 -- `line_end` goes from byte to byte. The invariant: the line that ends next from the present place on is the one from the first.
-use Prim.Native.Nat.{◌-◌}
 use mathlib.Core.Path.{◌≡◌}
-use lib.ListN.{length}
 use Rattle.input_lines.specs.Place.{line_end}
 use Rattle.input_lines.proofs.line_end.Given as goal
 
 abbrev pub invariant-loop-i : goal.invariant-loop-i
 invariant-loop-i l = line_end l.bytes l.i ≡ line_end l.bytes l.at
-
-abbrev pub decreases-loop-i : goal.decreases-loop-i
-decreases-loop-i l = length l.bytes - l.i

@@ -1,16 +1,13 @@
+use Rattle.std.specs.Prelude.{None}
 use Prim.Native.Nat.{◌+◌, ◌-◌, suc}
-use mathlib.Core.Path.{◌≡◌, sym, ◌∙◌, refl}
+use mathlib.Core.Path.{◌≡◌, sym, ◌∙◌}
 use mathlib.Core.Bool.{true, false}
 use native.Mathlib.Numerals.{add-one}
 use native.Mathlib.Omega.{arith}
 use Rattle.base.proofs.Split.{by_le}
-use Rattle.interner.specs.declared.Found.TheVariants.{Not}
 use Rattle.interner.specs.Strings.{is_at, find_from}
 use Rattle.interner.proofs.Finds.{find_none, find_here, find_on, find_past}
 use Rattle.interner.proofs.find_from.Goals as goal
-
-pub loop-h-init : goal.loop-h-init
-loop-h-init c = refl
 
 pub returns-then-is_at : goal.returns-then-is_at
 returns-then-is_at c =
@@ -19,12 +16,6 @@ returns-then-is_at c =
     let e : a.count - l.h ≡ suc (a.count - (l.h + 1)) = omega arith in
     let y : is_at a.spans.now a.bytes.now a.text.now l.h ≡ true = cc in
     sym (find_here a.spans.now a.bytes.now a.text.now (a.count - (l.h + 1)) l.h y) ∙ (rw e at l.invariant)
-
-pub overflow_add-h : goal.overflow_add-h
-overflow_add-h c = omega arith
-
-pub loop-h-smaller : goal.loop-h-smaller
-loop-h-smaller c = omega arith
 
 pub loop-h-preserved : goal.loop-h-preserved
 loop-h-preserved c =
@@ -38,7 +29,7 @@ pub returns : goal.returns
 returns c =
     let a = c.args in
     let l = c.loop-h in
-    let none : Not ≡ find_from a.spans.now a.bytes.now a.text.now (a.count - l.h) l.h =
+    let none : None ≡ find_from a.spans.now a.bytes.now a.text.now (a.count - l.h) l.h =
     by_le a.count l.h
     (λ h. let e : a.count - l.h ≡ 0 = omega arith in rw e (sym (find_none a.spans.now a.bytes.now a.text.now l.h)))
     (λ h. sym (find_past a.spans.now a.bytes.now a.text.now (a.count - l.h) l.h (omega arith))) in

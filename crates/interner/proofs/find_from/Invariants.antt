@@ -6,6 +6,3 @@ use Rattle.interner.proofs.find_from.Given as goal
 
 abbrev pub invariant-loop-h : goal.invariant-loop-h
 invariant-loop-h l = find_from l.spans l.bytes l.text (l.count - l.h) l.h ≡ find_from l.spans l.bytes l.text (l.count - l.from) l.from
-
-abbrev pub decreases-loop-h : goal.decreases-loop-h
-decreases-loop-h l = l.end - l.h

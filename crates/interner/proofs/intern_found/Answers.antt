@@ -5,9 +5,9 @@ use Rattle.interner.specs.Strings.{store_with, text_room, taken_as}
 use Rattle.interner.proofs.Takes.{room_words, room_bytes}
 use Rattle.interner.proofs.intern_found.Goals as goal
 
-pub returns-in-At : goal.returns-in-At
+pub returns-in-Some : goal.returns-in-Some
 unfolding taken_as
-returns-in-At c = rw c.in-At.is
+returns-in-Some c = rw c.in-Some.is
 
 pub add-requires : goal.add-requires
 unfolding text_room

@@ -4,6 +4,7 @@ use mathlib.Core.Path.{◌≡◌, sym, ◌∙◌}
 use native.Mathlib.Omega.{arith}
 use Rattle.interner.proofs.Finds.{SpanWithin, lies, within_bytes, at_part, at_missing}
 use Rattle.interner.proofs.is_at.Goals as goal
+use Rattle.interner.proofs.is_at.Goals.{In-Some}
 
 pub returns-in_default : goal.returns-in_default
 returns-in_default c =
@@ -11,11 +12,11 @@ returns-in_default c =
     sym (at_missing a.spans.now a.bytes.now a.text.now a.h (sym c.in_default.is ∙ c.span_at.ensures))
 
 -- where the string lies
-lain : (c : goal.In-Part)
-    → let a = c.args in SpanWithin a.spans.now a.bytes.now a.h c.in-Part.start c.in-Part.len
+lain : (c : In-Some)
+    → let a = c.args in SpanWithin a.spans.now a.bytes.now a.h c.in-Some.p.start c.in-Some.p.len
 lain c =
     let a = c.args in
-    lies a.spans.now a.bytes.now a.h c.in-Part.start c.in-Part.len (sym c.in-Part.is ∙ c.span_at.ensures)
+    lies a.spans.now a.bytes.now a.h c.in-Some.p (sym c.in-Some.is ∙ c.span_at.ensures)
 
 pub overflow_add-end : goal.overflow_add-end
 overflow_add-end c = omega (arith, within_bytes _ _ _ _ _ (lain (record { before = search; type_inv = search })))
@@ -26,5 +27,5 @@ slice_bounds-equal-end c = omega (arith, within_bytes _ _ _ _ _ (lain (record { 
 pub returns : goal.returns
 returns c =
     let a = c.args in
-    let n : c.in-Part.start + c.in-Part.len - c.in-Part.start ≡ c.in-Part.len = omega arith in
-    rw n at c.equal.ensures ∙ sym (at_part a.spans.now a.bytes.now a.text.now a.h c.in-Part.start c.in-Part.len (lain (record { before = search; type_inv = search })))
+    let n : c.in-Some.p.start + c.in-Some.p.len - c.in-Some.p.start ≡ c.in-Some.p.len = omega arith in
+    rw n at c.equal.ensures ∙ sym (at_part a.spans.now a.bytes.now a.text.now a.h c.in-Some.p.start c.in-Some.p.len (lain (record { before = search; type_inv = search })))

@@ -11,6 +11,7 @@ use Rattle.interner.specs.Check.{is_not, new_at}
 use Rattle.interner.proofs.Finds.{SpanWithin, lies, within_bytes}
 use Rattle.interner.proofs.Checks.{new_missing, new_lies}
 use Rattle.interner.proofs.is_new.Goals as goal
+use Rattle.interner.proofs.is_new.Goals.{In-Some}
 
 pub returns-in_default : goal.returns-in_default
 returns-in_default c =
@@ -18,12 +19,12 @@ returns-in_default c =
     sym (new_missing a.spans.now a.bytes.now a.h (sym c.in_default.is ∙ c.span_at.ensures))
 
 -- where the string lies
-lain : (c : goal.In-Part)
+lain : (c : In-Some)
     → let a = c.args in
-    SpanWithin a.spans.now a.bytes.now a.h c.in-Part.start c.in-Part.len
+    SpanWithin a.spans.now a.bytes.now a.h c.in-Some.p.start c.in-Some.p.len
 lain c =
     let a = c.args in
-    lies a.spans.now a.bytes.now a.h c.in-Part.start c.in-Part.len (sym c.in-Part.is ∙ c.span_at.ensures)
+    lies a.spans.now a.bytes.now a.h c.in-Some.p (sym c.in-Some.is ∙ c.span_at.ensures)
 
 pub overflow_add-end : goal.overflow_add-end
 overflow_add-end c = omega (arith, within_bytes _ _ _ _ _ (lain (record { before = search; type_inv = search })))
@@ -32,23 +33,23 @@ pub slice_bounds-t-end : goal.slice_bounds-t-end
 slice_bounds-t-end c = omega (arith, within_bytes _ _ _ _ _ (lain (record { before = search; type_inv = search })))
 
 -- what is left to show of the string: that it is a text, and not found before
-left : (c : goal.In-Part)
+left : (c : In-Some)
     → let a = c.args in
-    let t = take (c.in-Part.start + c.in-Part.len - c.in-Part.start) (drop c.in-Part.start a.bytes.now) in
+    let t = take (c.in-Some.p.start + c.in-Some.p.len - c.in-Some.p.start) (drop c.in-Some.p.start a.bytes.now) in
     new_at a.spans.now a.bytes.now a.h ≡ both (is_text t) (is_not (find_in a.spans.now a.bytes.now a.h t))
 left c =
     let a = c.args in
-    new_lies a.spans.now a.bytes.now a.h c.in-Part.start c.in-Part.len _ (lain c) refl
+    new_lies a.spans.now a.bytes.now a.h c.in-Some.p.start c.in-Some.p.len _ (lain c) refl
 
-pub returns-in-Not : goal.returns-in-Not
-returns-in-Not c =
-    let t : goal.In-Part = record { before = search; type_inv = search } in
-    sym (left t ∙ both_of (sym c.is_text.ensures ∙ c.if-is_text.true) (rw (← c.find_text.ensures, c.in-Not.is)))
+pub returns-in-None : goal.returns-in-None
+returns-in-None c =
+    let t : In-Some = record { before = search; type_inv = search } in
+    sym (left t ∙ both_of (sym c.is_text.ensures ∙ c.if-is_text.true) (rw (← c.find_text.ensures, c.in-None.is)))
 
-pub returns-in-At : goal.returns-in-At
-returns-in-At c =
-    let t : goal.In-Part = record { before = search; type_inv = search } in
-    sym (left t ∙ both_no_right _ (rw (← c.find_text.ensures, c.in-At.is)))
+pub returns-in-Some-find_text : goal.returns-in-Some-find_text
+returns-in-Some-find_text c =
+    let t : In-Some = record { before = search; type_inv = search } in
+    sym (left t ∙ both_no_right _ (rw (← c.find_text.ensures, c.in-Some-find_text.is)))
 
 pub returns-else-is_text : goal.returns-else-is_text
 returns-else-is_text c = sym (left (record { before = search; type_inv = search }) ∙ both_no_left _ _ (sym c.is_text.ensures ∙ c.if-is_text.false))

@@ -7,6 +7,7 @@ use Rattle.interner.specs.Strings.{bytes_at}
 use Rattle.interner.proofs.Finds.{SpanWithin, lies, within_bytes}
 use Rattle.interner.proofs.Words.{noted_more, legal_missing, legal_lies}
 use Rattle.interner.proofs.note_text.Goals as goal
+use Rattle.interner.proofs.note_text.Goals.{In-Some}
 
 pub returns-in_default : goal.returns-in_default
 returns-in_default c =
@@ -14,12 +15,12 @@ returns-in_default c =
     record { value = sym (legal_missing a.spans.now a.bytes.now a.h (sym c.in_default.is ∙ c.span_at.ensures)); words_noted = λ q. clash q refl }
 
 -- where the string lies
-lain : (c : goal.In-Part)
+lain : (c : In-Some)
     → let a = c.args in
-    SpanWithin a.spans.now a.bytes.now a.h c.in-Part.start c.in-Part.len
+    SpanWithin a.spans.now a.bytes.now a.h c.in-Some.p.start c.in-Some.p.len
 lain c =
     let a = c.args in
-    lies a.spans.now a.bytes.now a.h c.in-Part.start c.in-Part.len (sym c.in-Part.is ∙ c.span_at.ensures)
+    lies a.spans.now a.bytes.now a.h c.in-Some.p (sym c.in-Some.is ∙ c.span_at.ensures)
 
 pub overflow_add-end : goal.overflow_add-end
 overflow_add-end c = omega (arith, within_bytes _ _ _ _ _ (lain (record { before = search; type_inv = search })))
@@ -30,14 +31,14 @@ slice_bounds-is_text-end c = omega (arith, within_bytes _ _ _ _ _ (lain (record 
 pub returns-then-is_text : goal.returns-then-is_text
 returns-then-is_text c =
     let a = c.args in
-    let b : goal.In-Part = record { before = search; type_inv = search } in
+    let b : In-Some = record { before = search; type_inv = search } in
     let l = lain b in
     let w = c.run_word in
     let k : run_in a.bytes.now w.result ≡ bytes_at a.spans.now a.bytes.now a.h =
-    w.ensures (within_bytes _ _ _ _ _ l) c.requires.0 ∙ rw (l.starts, l.long) in record { value = sym (legal_lies a.spans.now a.bytes.now a.h b.in-Part.start b.in-Part.len _ l refl ∙ (sym c.is_text.ensures ∙ c.if-is_text.true)); words_noted = λ q. rw c.put_word.ensures (noted_more a.spans.now a.bytes.now a.words.now a.h w.result c.requires.1.0 c.requires.1.1 k) }
+    w.ensures (within_bytes _ _ _ _ _ l) c.requires.0 ∙ rw (l.starts, l.long) in record { value = sym (legal_lies a.spans.now a.bytes.now a.h b.in-Some.p.start b.in-Some.p.len _ l refl ∙ (sym c.is_text.ensures ∙ c.if-is_text.true)); words_noted = λ q. rw c.put_word.ensures (noted_more a.spans.now a.bytes.now a.words.now a.h w.result c.requires.1.0 c.requires.1.1 k) }
 
 pub returns-else-is_text : goal.returns-else-is_text
 returns-else-is_text c =
     let a = c.args in
-    let b : goal.In-Part = record { before = search; type_inv = search } in
-    record { value = sym (legal_lies a.spans.now a.bytes.now a.h b.in-Part.start b.in-Part.len _ (lain b) refl ∙ (sym c.is_text.ensures ∙ c.if-is_text.false)); words_noted = λ q. clash q refl }
+    let b : In-Some = record { before = search; type_inv = search } in
+    record { value = sym (legal_lies a.spans.now a.bytes.now a.h b.in-Some.p.start b.in-Some.p.len _ (lain b) refl ∙ (sym c.is_text.ensures ∙ c.if-is_text.false)); words_noted = λ q. clash q refl }

@@ -1,34 +1,16 @@
-use mathlib.Core.Path.{◌≡◌, sym, ◌∙◌}
+-- `sound_in_pairs`: each handle is new, or the one at which it stops is not.
+use mathlib.Core.Path.{◌≡◌, refl}
+use mathlib.Core.Bool.{true, false}
 use native.Mathlib.Omega.{arith}
-use Rattle.interner.proofs.Checks.{upto_none, upto_of, upto_not, one_more}
+use Rattle.std.proofs.Common.{rules}
+use borrow.Author.Tests.{tests}
+use Rattle.std.proofs.lemmas.Iterator.{cases_from_all, YieldsList-from_range}
+use Rattle.interner.specs.Check.{new_at}
+use Rattle.interner.proofs.Checks.{each_decides}
 use Rattle.interner.proofs.sound_in_pairs.Goals as goal
-
-pub loop-h-init : goal.loop-h-init
-loop-h-init c =
-    let a = c.args in
-    (omega arith, upto_none a.spans.now a.bytes.now)
-
-pub overflow_add-h : goal.overflow_add-h
-overflow_add-h c = omega arith
-
-pub loop-h-smaller : goal.loop-h-smaller
-loop-h-smaller c = omega arith
-
-pub loop-h-preserved : goal.loop-h-preserved
-loop-h-preserved c =
-    let a = c.args in
-    let l = c.loop-h in
-    (omega arith, one_more a.spans.now a.bytes.now l.h l.invariant.1 (sym c.is_new.ensures ∙ c.if-is_new.true))
-
-pub returns-else-is_new : goal.returns-else-is_new
-returns-else-is_new c =
-    let a = c.args in
-    sym
-    (upto_not a.spans.now a.bytes.now a.n c.loop-h.h c.loop-h-test.true (sym c.is_new.ensures ∙ c.if-is_new.false))
 
 pub returns : goal.returns
 returns c =
     let a = c.args in
-    let l = c.loop-h in
-    let e : l.h ≡ a.n = omega arith in
-    sym (rw e at (upto_of a.spans.now a.bytes.now l.h l.invariant.1))
+    each_decides a.spans.now a.bytes.now a.n c.all.result
+    (cases_from_all _ _ _ (λ h. new_at a.spans.now a.bytes.now h ≡ true) (λ h. new_at a.spans.now a.bytes.now h ≡ false) c.all.ensures.ran (YieldsList-from_range 0 a.n a.n refl (omega arith)) (λ x q k. search (rules, tests)) (λ x q k. search (rules, tests)))

@@ -7,18 +7,6 @@ use Rattle.kind_reading.proofs.Walks.{onward, onward_starts, onward_more, onward
 use Rattle.kind_reading.proofs.count_on.Goals.{then-is_on, else-is_on}
 use Rattle.kind_reading.proofs.count_on.Goals as goal
 
-pub loop-i-init : goal.loop-i-init
-loop-i-init c = (omega arith, (omega arith, omega arith))
-
-pub overflow_add-count : goal.overflow_add-count
-overflow_add-count c = omega arith
-
-pub overflow_add-i : goal.overflow_add-i
-overflow_add-i c = omega arith
-
-pub loop-i-smaller : goal.loop-i-smaller
-loop-i-smaller c = omega arith
-
 pub loop-i-preserved : goal.loop-i-preserved
 loop-i-preserved c =
     let a = c.args in
@@ -26,8 +14,8 @@ loop-i-preserved c =
     let l = c.loop-i in
     let on = c.is_on.ensures ∙ ap (is_on a.side) c.row_at.ensures in
     elim c.if-is_on.branch [
-      | then-is_on w ↦ (omega arith, (omega arith, omega (arith, ap length (onward_more a.side a.table.now n l.i (omega arith) (sym on ∙ w.if-is_on.true)))))
-      | else-is_on w ↦ (omega arith, (omega arith, omega (arith, ap length (onward_other a.side a.table.now n l.i (omega arith) (sym on ∙ w.if-is_on.false)))))
+      | then-is_on w ↦ (omega arith, omega (arith, ap length (onward_more a.side a.table.now n l.i (omega arith) (sym on ∙ w.if-is_on.true))))
+      | else-is_on w ↦ (omega arith, omega (arith, ap length (onward_other a.side a.table.now n l.i (omega arith) (sym on ∙ w.if-is_on.false))))
     ]
 
 pub returns : goal.returns

@@ -1,5 +1,5 @@
 -- Row by row: the rows counted and those from the i-th on are together the list's.
-use Prim.Native.Nat.{◌+◌, ◌-◌, ◌≤◌}
+use Prim.Native.Nat.{◌+◌, ◌≤◌}
 use mathlib.Core.Path.{◌≡◌}
 use lib.ListN.{length}
 use Rattle.kind_reading.proofs.Walks.{onward}
@@ -7,7 +7,4 @@ use Rattle.kind_reading.proofs.count_on.Given as goal
 
 abbrev pub invariant-loop-i : goal.invariant-loop-i
 invariant-loop-i l =
-    (l.i ≤ l.n) × ((l.count ≤ l.i) × (l.count + length (onward l.side l.table l.n l.i) ≡ length (onward l.side l.table l.n 0)))
-
-abbrev pub decreases-loop-i : goal.decreases-loop-i
-decreases-loop-i l = l.n - l.i
+    (l.count ≤ l.i) × (l.count + length (onward l.side l.table l.n l.i) ≡ length (onward l.side l.table l.n 0))

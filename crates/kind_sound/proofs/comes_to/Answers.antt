@@ -15,13 +15,13 @@ returns-in_default c =
     ∙ l.invariant.same
 
 -- a record more
-turn : (c : goal.In-At) → let a = c.args in
-    (c.loop-at.at < c.in-At.e) × Coming a.strings a.kind a.bytes.now a.place c.in-At.e
+turn : (c : goal.In-Some) → let a = c.args in
+    (c.loop-at.at < c.in-Some.e) × Coming a.strings a.kind a.bytes.now a.place c.in-Some.e
 turn c =
     let a = c.args in
     let l = c.loop-at in
-    coming_next a.strings a.kind a.bytes.now a.place l.at c.in-At.e l.invariant c.loop-at-test.true
-    (sym c.in-At.is ∙ c.record_end.ensures)
+    coming_next a.strings a.kind a.bytes.now a.place l.at c.in-Some.e l.invariant c.loop-at-test.true
+    (sym c.in-Some.is ∙ c.record_end.ensures)
 
 pub loop-at-smaller : goal.loop-at-smaller
 loop-at-smaller c = omega (arith, (turn c).0)

@@ -24,11 +24,11 @@ note-requires c = c.loop-at.invariant.size
 -- a record more
 turn : (c : goal.After-note) → let a = c.args in
     let l = c.loop-at in
-    (l.at < c.in-At.e) × Noting a.strings a.kind a.bytes.now (set l.cells (l.at / 45) (cell_of l.at)) c.in-At.e
+    (l.at < c.in-Some.e) × Noting a.strings a.kind a.bytes.now (set l.cells (l.at / 45) (cell_of l.at)) c.in-Some.e
 turn c =
     let a = c.args in
     let l = c.loop-at in
-    noting_next a.strings a.kind a.bytes.now l.cells l.at l.invariant c.in-At.e (sym c.in-At.is ∙ c.record_end.ensures)
+    noting_next a.strings a.kind a.bytes.now l.cells l.at l.invariant c.in-Some.e (sym c.in-Some.is ∙ c.record_end.ensures)
 
 pub loop-at-smaller : goal.loop-at-smaller
 loop-at-smaller c = omega (arith, (turn c).0, (turn c).1.inside)

@@ -3,5 +3,5 @@ use mathlib.Core.Path.{ap}
 use Rattle.kind_table.specs.declared.Row.{Row}
 use Rattle.kind_store.proofs.floor_found.Goals as goal
 
-pub returns-in-At : goal.returns-in-At
-returns-in-At c = rw c.in-At.is (ap (λ (r : Row). r.floor) c.row_at.ensures)
+pub returns-in-Ok : goal.returns-in-Ok
+returns-in-Ok c = rw c.in-Ok.is (ap (λ (r : Row). r.floor) c.row_at.ensures)

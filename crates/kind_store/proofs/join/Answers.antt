@@ -23,4 +23,4 @@ returns c =
     let joined = c in
     let s = c in
     λ e. join_end (kind_store_with c.args.table.now c.args.ids c.args.arena.now c.args.used) (to_z w64 s.args.head.id) s.args.floor (let a = c.args in
-    head_bytes a.kind (head_in a.kind a.head) ++ meta_bytes (meta_of a.meta) ++ a.parts.now) (rw told.in-End.is at joined.append_record.ensures) ranked.rank_of_bits.ensures row.set_row.ensures e
+    head_bytes a.kind (head_in a.kind a.head) ++ meta_bytes (meta_of a.meta) ++ a.parts.now) (rw told.in-Some.is at joined.append_record.ensures) ranked.rank_of_bits.ensures row.set_row.ensures e

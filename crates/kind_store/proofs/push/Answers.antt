@@ -41,6 +41,6 @@ returns c =
     let a = start.args in
     let s = kind_store_with a.table.now a.ids a.arena.now a.used in
     let bytes = head_bytes a.kind (head_in a.kind a.head) ++ meta_bytes (meta_of a.meta) ++ a.parts.now in
-    rw (held w32 c.in-Below.held c.in-Below.known_told-1-own.given.0.1)
+    rw (held w32 c.in-Err.held c.in-Err.known_told-1-own.given.0.1)
     (push_checked a.kind s (to_z w64 a.head.id) a.setting (claim_of (meta_of a.meta)) bytes ranked.rank_of_bits.ensures row.find_row-found.ensures
-    known.version_found-version.ensures claimed.claim-claim.ensures checked.check.ensures c.in-Below.is)
+    known.version_found-version.ensures claimed.claim-claim.ensures checked.check.ensures c.in-Err.is)

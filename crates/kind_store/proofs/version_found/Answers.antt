@@ -3,6 +3,6 @@ use mathlib.Core.Path.{◌∙◌, ap}
 use Rattle.kind_store.specs.KindStore.{known_of}
 use Rattle.kind_store.proofs.version_found.Goals as goal
 
-pub returns-in-At : goal.returns-in-At
-returns-in-At c = let k = c.args in
-    rw c.in-At.is (c.row_version.ensures ∙ ap (known_of k.kind k.arena.now) c.row_at.ensures)
+pub returns-in-Ok : goal.returns-in-Ok
+returns-in-Ok c = let k = c.args in
+    rw c.in-Ok.is (c.row_version.ensures ∙ ap (known_of k.kind k.arena.now) c.row_at.ensures)

@@ -1,67 +1,75 @@
-use Prim.Native.Nat.{ℕ, ◌+◌, ◌-◌}
-use mathlib.Core.Path.{◌≡◌, sym, ◌∙◌}
-use mathlib.Core.Logic.{⊎_elim}
-use mathlib.Core.List.{[], ◌∷◌}
+use Rattle.std.specs.Prelude.{None, Ok, Some}
+use Prim.Native.Nat.{◌+◌, ◌-◌}
+use mathlib.Core.Path.{◌≡◌, sym, ap, ◌∙◌}
+use borrow.Author.Rules.{rules}
 use native.Mathlib.Omega.{arith}
-use denote.Enum.Declared.{tag_of}
-use types.Run.{OneOf}
-use Rattle.base.specs.Bytes.{Bytes}
-use Rattle.compact.specs.View.{tag_step}
-use Rattle.compact.specs.declared.TagStep.{TagStep}
-use Rattle.compact.specs.declared.TagStep.TheVariants as step
-use Rattle.compact.specs.contracts.TagStep as TagStep
+use Rattle.compact.specs.View.{TagStep, tag_step}
 use Rattle.line.specs.Decimal.{number_text}
-use Rattle.print.specs.Print.{Printed, print, tabs}
+use Rattle.print.specs.Print.{tabs}
 use Rattle.listing_fields.specs.Fields.{held_text, tag_fields_from}
 use Rattle.listing_fields.proofs.Walks.{counted_printed, tag_within, tags_next, tags_end, tags_done, tags_stop}
-use borrow.Author.Rules.{rules}
 use Rattle.listing_fields.proofs.put_tags.Goals as goal
 
 -- a step that is no tag ends the tags
-stopped : (cap : ℕ) (f : ℕ → Bytes) (s : Bytes) (at n : ℕ) (p : Printed) (t : TagStep) → OneOf (0 ∷ 1 ∷ []) (tag_of TagStep.the_type t) → t ≡ tag_step s at n
-    → print cap (tabs (tag_fields_from f s at n)) p ≡ p
-stopped cap f s at n p step.Done k e = tags_done cap f s at n p e
-stopped cap f s at n p step.Unsound k e = tags_stop cap f s at n p e
-stopped cap f s at n p (step.Tag key start len) k e = absurd (⊎_elim (λ z. omega arith) (λ z. omega arith) k)
-
 pub returns-in_default : goal.returns-in_default
 unfolding tabs
 returns-in_default c =
-    let l = c.loop-remaining in
+    let l = c.loop-i in
     let a = c.args in
     let f = held_text a.spans.now a.bytes.now a.strings in
-    sym (stopped a.cap f a.view.now l.at l.remaining _ c.tag_step.result (search rules) c.tag_step.ensures)
-    ∙ (l.invariant.1 ∙ counted_printed a.cap (number_text a.n) (tag_fields_from f a.view.now a.offset a.n) _ _ c.put_number-left.ensures)
+    let n : c.in_default.field-0 ≡ None = search rules in
+    sym (tags_done a.cap f a.view.now l.at (a.n - l.i) _ (sym (c.in_default.is ∙ ap Ok n) ∙ c.tag_step.ensures))
+    ∙ (l.invariant ∙ counted_printed a.cap (number_text a.n) (tag_fields_from f a.view.now a.offset a.n) _ _ c.put_number-left.ensures)
+
+pub returns-in_default-2 : goal.returns-in_default-2
+unfolding tabs
+returns-in_default-2 c =
+    let l = c.loop-i in
+    let a = c.args in
+    let f = held_text a.spans.now a.bytes.now a.strings in
+    sym (tags_stop a.cap f a.view.now _ l.at (a.n - l.i) _ (sym c.in_default.is ∙ c.tag_step.ensures))
+    ∙ (l.invariant ∙ counted_printed a.cap (number_text a.n) (tag_fields_from f a.view.now a.offset a.n) _ _ c.put_number-left.ensures)
+
+-- a tag that is yielded
+yielded : (c : goal.After-struct_known-1)
+    → let a = c.args in
+    let l = c.loop-i in
+    ◌≡◌ {A = TagStep} (Ok (Some c.in-Ok-Some.tag)) (tag_step a.view.now l.at (a.n - l.i))
+yielded c =
+    let q : c.in-Ok-Some.field-0 ≡ Some c.in-Ok-Some.tag = c.in-Ok-Some.field-0-is in
+    let p : c.tag_step.result ≡ Ok c.in-Ok-Some.field-0 = c.in-Ok-Some.is in
+    sym (p ∙ ap Ok q) ∙ c.tag_step.ensures
 
 pub overflow_add-end : goal.overflow_add-end
 overflow_add-end c =
-    let l = c.loop-remaining in
+    let l = c.loop-i in
     let a = c.args in
     let w = c.well_formed in
-    omega (arith, tag_within a.view.now l.at l.remaining (omega arith) c.in-Tag.key c.in-Tag.start c.in-Tag.len (sym c.in-Tag.is ∙ c.tag_step.ensures), w.1.0.1)
+    omega (arith, tag_within a.view.now l.at (a.n - l.i) (omega arith) c.in-Ok-Some.tag (yielded c), w.1.0.1)
 
-pub slice_bounds-put_tag-end : goal.slice_bounds-put_tag-end
-slice_bounds-put_tag-end c =
-    let l = c.loop-remaining in
+pub slice_bounds-value-end : goal.slice_bounds-value-end
+slice_bounds-value-end c =
+    let l = c.loop-i in
     let a = c.args in
-    omega (arith, tag_within a.view.now l.at l.remaining (omega arith) c.in-Tag.key c.in-Tag.start c.in-Tag.len (sym c.in-Tag.is ∙ c.tag_step.ensures))
+    omega (arith, tag_within a.view.now l.at (a.n - l.i) (omega arith) c.in-Ok-Some.tag (yielded (record { before = search; type_inv = search })))
 
-pub loop-remaining-preserved : goal.loop-remaining-preserved
-loop-remaining-preserved c =
-    let l = c.loop-remaining in
+pub loop-i-preserved : goal.loop-i-preserved
+loop-i-preserved c =
+    let l = c.loop-i in
     let a = c.args in
-    let d : c.in-Tag.start + c.in-Tag.len - c.in-Tag.start ≡ c.in-Tag.len = omega arith in (
-      omega arith,
-      tags_next a.cap (held_text a.spans.now a.bytes.now a.strings) a.view.now l.at l.remaining c.in-Tag.key c.in-Tag.start c.in-Tag.len _ _ (omega arith)
-          (sym c.in-Tag.is ∙ c.tag_step.ensures) (rw d at c.put_tag-left.ensures) ∙ l.invariant.1,
-    )
+    let t = c.in-Ok-Some.tag in
+    let d : t.start + t.len - t.start ≡ t.len = omega arith in
+    let r : a.n - (l.i + 1) ≡ a.n - l.i - 1 = omega arith in
+    rw r
+    (tags_next a.cap (held_text a.spans.now a.bytes.now a.strings) a.view.now l.at (a.n - l.i) t _ _ (omega arith)
+    (yielded (record { before = search; type_inv = search })) (rw d at c.put_tag-left.ensures) ∙ l.invariant)
 
 pub returns : goal.returns
 unfolding tabs
 returns c =
     let a = c.args in
-    let l = c.loop-remaining in
-    let z : l.remaining ≡ 0 = omega arith in
+    let l = c.loop-i in
+    let z : a.n - l.i ≡ 0 = omega arith in
     let f = held_text a.spans.now a.bytes.now a.strings in
     sym (rw z (tags_end a.cap f a.view.now l.at _))
-    ∙ (l.invariant.1 ∙ counted_printed a.cap (number_text a.n) (tag_fields_from f a.view.now a.offset a.n) _ _ c.put_number-left.ensures)
+    ∙ (l.invariant ∙ counted_printed a.cap (number_text a.n) (tag_fields_from f a.view.now a.offset a.n) _ _ c.put_number-left.ensures)

@@ -7,6 +7,6 @@ pub returns-then-live : goal.returns-then-live
 unfolding tabs escape escaped
 returns-then-live c = rw c.if-live.true c.put_text.ensures
 
-pub returns : goal.returns
+pub returns-else-live : goal.returns-else-live
 unfolding tabs escape escaped
-returns c = rw c.if-live.false c.put_text-2.ensures
+returns-else-live c = rw c.if-live.false c.put_text-else-live.ensures

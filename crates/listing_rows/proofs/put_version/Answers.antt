@@ -9,13 +9,13 @@ use Rattle.print.specs.Print.{tabs}
 use borrow.Author.Rules.{rules}
 use Rattle.listing_rows.proofs.put_version.Goals as goal
 
-pub returns-in_default : goal.returns-in_default
+pub returns-in-None : goal.returns-in-None
 unfolding tabs escape escaped version_field
-returns-in_default c = rw c.in_default.is c.put_text.ensures
+returns-in-None c = rw c.in-None.is c.put_text.ensures
 
-pub returns : goal.returns
+pub returns-in-Some : goal.returns-in-Some
 unfolding tabs version_field
-returns c =
-    let h = held w32 c.in-Is.v (search rules) in
-    let e : to_z w32 c.bits_of_i32.result ≡ c.in-Is.v = ap (to_z w32) (c.bits_of_i32.ensures ∙ ap (of_z w32) h) ∙ h in
-    rw c.in-Is.is (rw e at c.put_integer32.ensures)
+returns-in-Some c =
+    let h = held w32 c.in-Some.v (search rules) in
+    let e : to_z w32 c.bits_of_i32.result ≡ c.in-Some.v = ap (to_z w32) (c.bits_of_i32.ensures ∙ ap (of_z w32) h) ∙ h in
+    rw c.in-Some.is (rw e at c.put_integer32.ensures)

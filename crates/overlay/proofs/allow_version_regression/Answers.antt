@@ -1,21 +1,18 @@
 -- 22, or the counter of the setting holds it.
-use mathlib.Core.Path.{sym, ◌∙◌}
+use native.Mathlib.Omega.{arith}
 use Rattle.overlay.specs.Lent.{overlay_in}
 use Rattle.overlay.proofs.Parts.{allow_stored, allow_unsound}
+use Rattle.overlay.proofs.Checked.{checked_sound, checked_unsound}
 use Rattle.overlay.proofs.allow_version_regression.Goals as goal
 
-pub returns-then-is_sound : goal.returns-then-is_sound
-returns-then-is_sound c =
-    let s = c in
-    let k = s.args in
-    let d = c in
-    let i = c in
-    let l = c in
-    allow_stored k.setting k.words.now k.bytes.now k.counters.now _ l.put_setting-arg-1.given.0.1 (sym d.is_sound.ensures ∙ i.if-is_sound.true) c.put_setting.ensures
+pub returns-in_err-check_sound : goal.returns-in_err-check_sound
+returns-in_err-check_sound c =
+    let k = c.args in
+    let o = overlay_in k.words.now k.bytes.now k.counters.now in
+    let u = checked_unsound o c.in_err-check_sound.ensures c.from_residual.ensures in
+    rw u.1 (allow_unsound k.setting o u.0)
 
 pub returns : goal.returns
 returns c =
-    let s = c in
-    let k = s.args in
-    let d = c in
-    allow_unsound k.setting (overlay_in k.words.now k.bytes.now k.counters.now) (sym d.is_sound.ensures ∙ c.if-is_sound.false)
+    let k = c.args in
+    allow_stored k.setting k.words.now k.bytes.now k.counters.now _ (omega arith) (checked_sound _ c.in_ok-check_sound.ensures) c.put_setting.ensures

@@ -17,12 +17,6 @@ loop-i-init c =
     (rw e c.requires.0)
     (rw e c.requires.1)
 
-pub overflow_add-i : goal.overflow_add-i
-overflow_add-i c = omega arith
-
-pub offset_bounds-ids-n : goal.offset_bounds-ids-n
-offset_bounds-ids-n c = omega arith
-
 pub bounds-ids-n : goal.bounds-ids-n
 bounds-ids-n c =
     let a = c.args in
@@ -30,21 +24,12 @@ bounds-ids-n c =
     let on = c.is_on.ensures ∙ ap (is_on a.side) c.row_at-row.ensures in
     id_fits a.kind a.side a.table.now a.count a.arena.now a.ids.now a.versions.now _ (omega arith) l.invariant (sym on ∙ c.if-is_on.true)
 
-pub offset_bounds-versions-n : goal.offset_bounds-versions-n
-offset_bounds-versions-n c = omega arith
-
 pub bounds-versions-n : goal.bounds-versions-n
 bounds-versions-n c =
     let a = c.args in
     let l = c.loop-i in
     let on = c.is_on.ensures ∙ ap (is_on a.side) c.row_at-row.ensures in
     version_fits a.kind a.side a.table.now a.count a.arena.now a.ids.now a.versions.now _ (omega arith) l.invariant (sym on ∙ c.if-is_on.true)
-
-pub overflow_add-n : goal.overflow_add-n
-overflow_add-n c = omega arith
-
-pub loop-i-smaller-then-is_on : goal.loop-i-smaller-then-is_on
-loop-i-smaller-then-is_on c = omega arith
 
 pub loop-i-preserved-then-is_on : goal.loop-i-preserved-then-is_on
 loop-i-preserved-then-is_on c =
@@ -55,21 +40,12 @@ loop-i-preserved-then-is_on c =
     puts a.kind a.side a.table.now a.count a.arena.now a.ids.now a.versions.now _ (omega arith) l.invariant (sym on ∙ c.if-is_on.true) _ _ e
     (λ used. c.version_of.ensures used ∙ ap (λ x. word_of (known_version a.kind (kind_store_with a.table.now a.count a.arena.now used) (to_z w64 x))) e)
 
-pub loop-i-smaller : goal.loop-i-smaller
-loop-i-smaller c = omega arith
-
 pub loop-i-preserved : goal.loop-i-preserved
 loop-i-preserved c =
     let a = c.args in
     let l = c.loop-i in
     let on = c.is_on.ensures ∙ ap (is_on a.side) c.row_at-row.ensures in
     passes a.kind a.side a.table.now a.count a.arena.now a.ids.now a.versions.now _ (omega arith) l.invariant (sym on ∙ c.if-is_on.false)
-
-pub shape_of-ids : goal.shape_of-ids
-shape_of-ids c = c.loop-i.invariant.long_ids
-
-pub shape_of-versions : goal.shape_of-versions
-shape_of-versions c = c.loop-i.invariant.long_versions
 
 pub returns : goal.returns
 returns c =

@@ -17,7 +17,7 @@ returns-then-is_sound c =
     let i = c in
     let w = c in
     let a = c in
-    rw (← s.is_sound.ensures, i.if-is_sound.true, ← w.row_in.ensures, a.in-At.is) c.view_in.ensures
+    rw (← s.is_sound.ensures, i.if-is_sound.true, ← w.row_in.ensures, a.in-Some.is) c.view_in.ensures
 
 pub returns : goal.returns
 unfolding record_on

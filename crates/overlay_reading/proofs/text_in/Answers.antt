@@ -2,7 +2,7 @@
 use mathlib.Core.Path.{ap}
 use Rattle.interner.specs.Strings.{Store, used_of, span_of}
 use Rattle.overlay.proofs.Puts.{texts_lent}
-use Rattle.kind_reading.specs.declared.View.{View}
+use Rattle.kind_reading.specs.Listed.{View}
 use Rattle.overlay_reading.specs.Reading.{text_view}
 use Rattle.overlay_reading.proofs.text_in.Goals as goal
 

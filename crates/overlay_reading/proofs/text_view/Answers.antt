@@ -1,8 +1,8 @@
 -- A span as a view.
 use Rattle.overlay_reading.proofs.text_view.Goals as goal
 
-pub returns-in-Part : goal.returns-in-Part
-returns-in-Part c = rw c.in-Part.is
+pub returns-in-Some : goal.returns-in-Some
+returns-in-Some c = rw c.in-Some.is
 
-pub returns-in-Missing : goal.returns-in-Missing
-returns-in-Missing c = rw c.in-Missing.is
+pub returns-in-None : goal.returns-in-None
+returns-in-None c = rw c.in-None.is

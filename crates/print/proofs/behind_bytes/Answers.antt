@@ -7,7 +7,7 @@ pub returns-in_default : goal.returns-in_default
 returns-in_default c = rw c.in_default.is (sym (behind_full _))
 
 pub returns-then-n-r : goal.returns-then-n-r
-returns-then-n-r c = rw c.in-Left.is (sym (behind_fits _ _ c.if-n-r.true))
+returns-then-n-r c = rw c.in-Some.is (sym (behind_fits _ _ c.if-n-r.true))
 
-pub returns : goal.returns
-returns c = rw c.in-Left.is (sym (behind_past _ _ c.if-n-r.false))
+pub returns-else-n-r : goal.returns-else-n-r
+returns-else-n-r c = rw c.in-Some.is (sym (behind_past _ _ c.if-n-r.false))

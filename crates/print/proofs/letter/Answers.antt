@@ -1,24 +1,27 @@
 -- `letter` asks for the escaped bytes in turn.
+use native.Mathlib.Omega.{arith}
 use borrow.Author.Tests.{ne_eqb}
 use Rattle.text.specs.Escape.{escaped}
 use Rattle.print.proofs.letter.Goals as goal
 
-pub returns-then-b-eq9 : goal.returns-then-b-eq9
+pub returns-in-9 : goal.returns-in-9
 unfolding escaped
-returns-then-b-eq9 c = rw c.if-b-eq9.true
+returns-in-9 c = rw c.in-9.is
 
-pub returns-then-b-eq10 : goal.returns-then-b-eq10
+pub returns-in-10 : goal.returns-in-10
 unfolding escaped
-returns-then-b-eq10 c = rw c.if-b-eq10.true
+returns-in-10 c = rw c.in-10.is
 
-pub returns-then-b-eq13 : goal.returns-then-b-eq13
+pub returns-in-13 : goal.returns-in-13
 unfolding escaped
-returns-then-b-eq13 c = rw c.if-b-eq13.true
+returns-in-13 c = rw c.in-13.is
 
-pub returns-then-b-eq92 : goal.returns-then-b-eq92
+pub returns-in-92 : goal.returns-in-92
 unfolding escaped
-returns-then-b-eq92 c = rw c.if-b-eq92.true
+returns-in-92 c = rw c.in-92.is
 
-pub returns : goal.returns
+pub returns-in_default : goal.returns-in_default
 unfolding escaped
-returns c = rw (ne_eqb _ 9 c.if-b-eq9.false, ne_eqb _ 10 c.if-b-eq10.false, ne_eqb _ 13 c.if-b-eq13.false, ne_eqb _ 92 c.if-b-eq92.false)
+returns-in_default c =
+    let b = c.args.b in
+    rw (ne_eqb b 9 (λ e. omega arith), ne_eqb b 10 (λ e. omega arith), ne_eqb b 13 (λ e. omega arith), ne_eqb b 92 (λ e. omega arith))

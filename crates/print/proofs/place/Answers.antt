@@ -13,11 +13,11 @@ returns-in_default-left c = (rw c.in_default-left.is (sym (place_full _ _ _)), o
 pub returns-then-within : goal.returns-then-within
 returns-then-within c =
     let a = c.args in
-    rw (c.in-Left.is, c.in-Left-left.is)
-    (place_taken a.cap a.len _ _ _ _ c.less-at.ensures c.less.ensures (sym c.within.ensures ∙ c.if-within.true))
+    rw (c.in-Some.is, c.in-Some-left.is)
+    (place_taken a.cap a.len _ _ _ _ c.saturating_sub-at.ensures c.saturating_sub.ensures (sym c.within.ensures ∙ c.if-within.true))
 
-pub returns : goal.returns
-returns c =
+pub returns-else-within : goal.returns-else-within
+returns-else-within c =
     let a = c.args in
-    rw (c.in-Left.is, c.in-Left-left.is)
-    (place_left a.cap a.len _ _ _ _ c.less-at.ensures c.less.ensures (sym c.within.ensures ∙ c.if-within.false))
+    rw (c.in-Some.is, c.in-Some-left.is)
+    (place_left a.cap a.len _ _ _ _ c.saturating_sub-at.ensures c.saturating_sub.ensures (sym c.within.ensures ∙ c.if-within.false))

@@ -9,4 +9,4 @@ returns-in_default c =
 
 pub returns : goal.returns
 returns c =
-    λ line. rw (held w32 c.in-Below.held c.in-Below.known_told-1-own.given.0.1, ← c.claimed-claim.ensures line, ← c.claim_below.ensures, c.in-Below.is)
+    λ line. rw (held w32 c.in-Err.held c.in-Err.known_told-1-own.given.0.1, ← c.claimed-claim.ensures line, ← c.claim_below.ensures, c.in-Err.is)

@@ -19,5 +19,5 @@ returns-then-state_tested c =
 pub returns : goal.returns
 returns c =
     let p = came_22 c.args.run.now (let k = c.args in
-    record { overlay = overlay_in k.words.now k.bytes.now k.counters.now; reader = k.reader; parts = k.ps.now }) _ (sym c.line_end.ensures ∙ c.in-At.is) (sym c.state_tested.ensures.value ∙ c.if-state_tested.false) in
+    record { overlay = overlay_in k.words.now k.bytes.now k.counters.now; reader = k.reader; parts = k.ps.now }) _ (sym c.line_end.ensures ∙ c.in-Some.is) (sym c.state_tested.ensures.value ∙ c.if-state_tested.false) in
     record { answer_value = p.0; taken_value = p.1 }

@@ -16,23 +16,23 @@ returns-in_default c =
 
 pub slice_bounds-line-count : goal.slice_bounds-line-count
 slice_bounds-line-count c =
-    let n = next_line c.args.run.now c.args.at _ (sym c.line_end.ensures ∙ c.in-At.is) in
+    let n = next_line c.args.run.now c.args.at _ (sym c.line_end.ensures ∙ c.in-Some.is) in
     omega (arith, n.forward)
 
 pub slice_bounds-line-start : goal.slice_bounds-line-start
 slice_bounds-line-start c =
-    let n = next_line c.args.run.now c.args.at _ (sym c.line_end.ensures ∙ c.in-At.is) in
+    let n = next_line c.args.run.now c.args.at _ (sym c.line_end.ensures ∙ c.in-Some.is) in
     omega (arith, n.forward, n.within)
 
 pub slice_bounds-line-end : goal.slice_bounds-line-end
 slice_bounds-line-end c =
-    let n = next_line c.args.run.now c.args.at _ (sym c.line_end.ensures ∙ c.in-At.is) in
+    let n = next_line c.args.run.now c.args.at _ (sym c.line_end.ensures ∙ c.in-Some.is) in
     omega (arith, n.forward, n.within)
 
 pub returns : goal.returns
 returns c =
     let a = c.args in
-    let e = sym c.line_end.ensures ∙ c.in-At.is in
+    let e = sym c.line_end.ensures ∙ c.in-Some.is in
     let n = next_line a.run.now a.at _ e in record {
       fact = λ g i. point_line a.run.now a.at (let k = c.args in
           record { overlay = overlay_in k.words.now k.bytes.now k.counters.now; reader = k.reader; parts = k.ps.now }) _ e _ (event_part a.run.now a.at (let k = c.args in

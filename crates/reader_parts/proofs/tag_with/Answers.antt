@@ -13,22 +13,22 @@ pub with_tag-requires : goal.with_tag-requires
 with_tag-requires c =
     fits_yes c.args.kind c.args.pending (length c.args.value.now) (sym c.tag_fits.ensures ∙ c.if-tag_fits.true)
 
-pub returns-in-Is : goal.returns-in-Is
-returns-in-Is c =
+pub returns-in-Ok : goal.returns-in-Ok
+returns-in-Ok c =
     let k : lts.After-tag_fits tie.the-claims reads.Pre reads.Post = search in
     λ g lies.
     let stored = c.take_text.ensures lies g.short g.indexed in
     staged_left (let k = c.args in
     tag_child k.kind k.pending (record { key = text_at k.line.now k.key; value = k.value.now }) k.parts.now
-    (overlay_in k.words.now k.bytes.now k.counters.now)) stored (sym k.tag_fits.ensures ∙ c.if-tag_fits.true) c.in-Is.is (c.with_tag.ensures (handle_fits (let k = c.args in
+    (overlay_in k.words.now k.bytes.now k.counters.now)) stored (sym k.tag_fits.ensures ∙ c.if-tag_fits.true) c.in-Ok.is (c.with_tag.ensures (handle_fits (let k = c.args in
     tag_child k.kind k.pending (record { key = text_at k.line.now k.key; value = k.value.now }) k.parts.now
-    (overlay_in k.words.now k.bytes.now k.counters.now)) stored c.in-Is.is g.strings) g.used)
+    (overlay_in k.words.now k.bytes.now k.counters.now)) stored c.in-Ok.is g.strings) g.used)
 
-pub returns-in-Refused : goal.returns-in-Refused
-returns-in-Refused c =
+pub returns-in-Err : goal.returns-in-Err
+returns-in-Err c =
     λ g lies. refused_left (let k = c.args in
     tag_child k.kind k.pending (record { key = text_at k.line.now k.key; value = k.value.now }) k.parts.now
-    (overlay_in k.words.now k.bytes.now k.counters.now)) (c.take_text.ensures lies g.short g.indexed) c.in-Refused.is
+    (overlay_in k.words.now k.bytes.now k.counters.now)) (c.take_text.ensures lies g.short g.indexed) c.in-Err.is
 
 pub returns : goal.returns
 returns c =

@@ -6,4 +6,4 @@ use Rattle.reader_sound.proofs.stops_by.Goals as goal
 
 pub returns : goal.returns
 unfolding stops_by reply_of both
-returns c = rw c.reply_of-reply.ensures
+returns c = rw c.from-reply.ensures

@@ -1,12 +1,7 @@
 -- One call a decision.
 use Rattle.overlay.specs.Lent.{overlay_in}
-use Rattle.reader_step.proofs.Steps.{refuses_done, moves_done}
+use Rattle.reader_step.proofs.Steps.{moves_done}
 use Rattle.reader_step.proofs.step.Goals as goal
-
-pub returns-in-Refuses : goal.returns-in-Refuses
-returns-in-Refuses c =
-    rw c.in-Refuses.is (λ g. refuses_done (let k = c.args in
-    record { overlay = overlay_in k.words.now k.bytes.now k.counters.now; reader = k.reader; parts = k.parts.now }) c.args.line.now _)
 
 pub returns-in-Moves : goal.returns-in-Moves
 returns-in-Moves c =

@@ -10,7 +10,7 @@ use Rattle.report.proofs.put_held.Goals as goal
 pub returns-then-reply-eq12 : goal.returns-then-reply-eq12
 returns-then-reply-eq12 c =
     let a = c.args in
-    let y = c.reply_of-reply in
+    let y = c.from-reply in
     let f : SFits w32 y.result.held = search rules in
     known_printed a.refusal y.result y.ensures a.cap _ _ _
     c.if-reply-eq12.true f (c.bits_of_i32.ensures ∙ ap (of_z w32) (to_z-of_z f)) c.put_integer32.ensures
@@ -18,7 +18,7 @@ returns-then-reply-eq12 c =
 pub returns : goal.returns
 returns c =
     let a = c.args in
-    let y = c.reply_of-reply in
+    let y = c.from-reply in
     none_printed a.refusal y.result y.ensures a.cap _ _ _
     c.if-reply-eq12.false
     c.put_bytes-room.ensures c.put_bytes.ensures

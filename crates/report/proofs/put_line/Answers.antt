@@ -5,7 +5,7 @@ use Rattle.report.proofs.put_line.Goals as goal
 pub returns : goal.returns
 returns c =
     let a = c.args in
-    let y = c.reply_of-reply in
+    let y = c.from-reply in
     line_printed a.cap a.refusal a.line y.result y.ensures _ _ _ _ _ _
     c.put_bytes-room.ensures
     c.put_number-room.ensures

@@ -14,10 +14,10 @@ pub overflow_sub-result : goal.overflow_sub-result
 overflow_sub-result c =
     let a = c.args in
     let w = line_measured a.out.now a.refusal a.line _ _ c.put_line.ensures in
-    omega (arith, room_left a.out.now a.refusal a.line _ (sym c.in-Left.is ∙ w.1))
+    omega (arith, room_left a.out.now a.refusal a.line _ (sym c.in-Some.is ∙ w.1))
 
 pub returns : goal.returns
 returns c =
     let a = c.args in
     let w = line_measured a.out.now a.refusal a.line _ _ c.put_line.ensures in
-    line_written a.out.now a.refusal a.line _ (sym c.in-Left.is ∙ w.1) _ _ (rw w.0 at c.put_line-2.ensures)
+    line_written a.out.now a.refusal a.line _ (sym c.in-Some.is ∙ w.1) _ _ (rw w.0 at c.put_line-2.ensures)

@@ -10,20 +10,20 @@ put_page-requires c =
     let e = c.end in
     record {
       counters_value = end_overlay (let k = c.args in
-          record { overlay = overlay_in k.words.now k.bytes.now k.counters.now; reader = k.reader; parts = k.ps.now }) e.result e.ensures c.in-Accepted.is;
+          record { overlay = overlay_in k.words.now k.bytes.now k.counters.now; reader = k.reader; parts = k.ps.now }) e.result e.ensures c.in-Ok.is;
       lines_bound = end_lines (let k = c.args in
-          record { overlay = overlay_in k.words.now k.bytes.now k.counters.now; reader = k.reader; parts = k.ps.now }) e.result e.ensures c.in-Accepted.is;
+          record { overlay = overlay_in k.words.now k.bytes.now k.counters.now; reader = k.reader; parts = k.ps.now }) e.result e.ensures c.in-Ok.is;
       out_len = c.requires;
     }
 
-pub returns-in-Accepted : goal.returns-in-Accepted
-returns-in-Accepted c =
+pub returns-in-Ok : goal.returns-in-Ok
+returns-in-Ok c =
     let e = c.end in
     c.put_page.ensures ∙ ap (end_output c.args.out.now) (ends_page (let k = c.args in
-    record { overlay = overlay_in k.words.now k.bytes.now k.counters.now; reader = k.reader; parts = k.ps.now }) e.result e.ensures c.in-Accepted.is)
+    record { overlay = overlay_in k.words.now k.bytes.now k.counters.now; reader = k.reader; parts = k.ps.now }) e.result e.ensures c.in-Ok.is)
 
-pub returns-in-Refused : goal.returns-in-Refused
-returns-in-Refused c =
+pub returns-in-Err : goal.returns-in-Err
+returns-in-Err c =
     let e = c.end in
     c.put_refusal.ensures ∙ ap (end_output c.args.out.now) (ends_refused (let k = c.args in
-    record { overlay = overlay_in k.words.now k.bytes.now k.counters.now; reader = k.reader; parts = k.ps.now }) e.result e.ensures _ _ c.in-Refused.is)
+    record { overlay = overlay_in k.words.now k.bytes.now k.counters.now; reader = k.reader; parts = k.ps.now }) e.result e.ensures _ _ c.in-Err.is)

@@ -9,6 +9,6 @@ use Rattle.roadlist_page.proofs.put_refusal.Goals as goal
 pub returns : goal.returns
 returns c =
     let a = c.args in
-    let y = c.reply_of-reply in
+    let y = c.from-reply in
     let f : SFits w32 y.result.held = search rules in
     refused_put a.out.now c.requires a.refusal a.line (omega arith) y.result f y.ensures _ _ c.put_refused-written.ensures

@@ -11,18 +11,18 @@ returns-then-at-p c =
     let k = c in
     let ids = ids_of k.args.ids.now in
     let e = smaller_counted k.ranges.id c.osm_id_key.ensures ids c.count_under-at.ensures in
-    rw c.in-At.is (sym (stays ids k.requires k.args.id _ (omega (arith, e))))
+    rw c.in-Some.is (sym (stays ids k.requires k.args.id _ (omega (arith, e))))
 
-pub returns-in-Fresh : goal.returns-in-Fresh
-returns-in-Fresh c =
+pub returns-in-None : goal.returns-in-None
+returns-in-None c =
     let k = c in
     let ids = ids_of k.args.ids.now in
     let e = smaller_counted k.ranges.id c.osm_id_key.ensures ids c.count_under-at.ensures in
-    rw c.in-Fresh.is (e ∙ sym (starts ids k.requires k.args.id))
+    rw c.in-None.is (e ∙ sym (starts ids k.requires k.args.id))
 
 pub returns-else-at-p : goal.returns-else-at-p
 returns-else-at-p c =
     let k = c in
     let ids = ids_of k.args.ids.now in
     let e = smaller_counted k.ranges.id c.osm_id_key.ensures ids c.count_under-at.ensures in
-    rw c.in-At.is (e ∙ sym (goes ids k.requires k.args.id _ (omega (arith, e))))
+    rw c.in-Some.is (e ∙ sym (goes ids k.requires k.args.id _ (omega (arith, e))))

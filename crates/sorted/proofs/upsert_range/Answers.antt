@@ -1,33 +1,23 @@
 -- `sorted::upsert_range` meets its contract.
 use mathlib.Core.Path.{sym, ◌∙◌}
-use borrow.Author.Tests.{lt-ltb, le-ltb}
 use Rattle.sorted.specs.Lookup.{ids_of, range_of}
 use Rattle.sorted.proofs.Steps.{smaller_counted, up_to_counted}
 use Rattle.sorted.proofs.upsert_range.Goals as goal
 
-pub count_under-start-requires : goal.count_under-start-requires
-count_under-start-requires c = sym c.in_order.ensures ∙ c.if-in_order.true
+pub count_under-from-requires : goal.count_under-from-requires
+count_under-from-requires c = sym c.in_order.ensures ∙ c.if-in_order.true
 
-pub count_under-end-requires : goal.count_under-end-requires
-count_under-end-requires c = sym c.in_order.ensures ∙ c.if-in_order.true
-
-pub returns-then-end-start : goal.returns-then-end-start
-unfolding range_of
-returns-then-end-start c =
-    let k = c in
-    let ids = ids_of k.args.ids.now in
-    let e = smaller_counted k.ranges.first c.osm_id_key.ensures ids c.count_under-start.ensures in
-    let u = up_to_counted k.ranges.last c.osm_id_key-then-in_order.ensures ids c.count_under-end.ensures in
-    rw (← c.in_order.ensures, c.if-in_order.true, ← e, ← u, lt-ltb _ _ c.if-end-start.true)
+pub count_under-to-requires : goal.count_under-to-requires
+count_under-to-requires c = sym c.in_order.ensures ∙ c.if-in_order.true
 
 pub returns-then-in_order : goal.returns-then-in_order
 unfolding range_of
 returns-then-in_order c =
     let k = c in
     let ids = ids_of k.args.ids.now in
-    let e = smaller_counted k.ranges.first c.osm_id_key.ensures ids c.count_under-start.ensures in
-    let u = up_to_counted k.ranges.last c.osm_id_key-then-in_order.ensures ids c.count_under-end.ensures in
-    rw (← c.in_order.ensures, c.if-in_order.true, ← e, ← u, le-ltb _ _ c.if-end-start.false)
+    let e = smaller_counted k.ranges.first c.osm_id_key.ensures ids c.count_under-from.ensures in
+    let u = up_to_counted k.ranges.last c.osm_id_key-then-in_order.ensures ids c.count_under-to.ensures in
+    rw (← c.in_order.ensures, c.if-in_order.true, ← e, ← u, c.max.ensures)
 
 pub returns : goal.returns
 unfolding range_of

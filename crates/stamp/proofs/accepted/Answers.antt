@@ -1,18 +1,17 @@
 -- `accepted`: a moment that is taken has its seconds; any other text is refused.
+use Rattle.std.specs.Prelude.{Some}
 use mathlib.Core.Path.{sym, ◌∙◌, ap}
-use Rattle.stamp.specs.declared.Stamp.TheVariants.{At}
-use Rattle.stamp.proofs.Reading.{six_none, six_some}
 use Rattle.stamp.proofs.Answering.{no_moment, not_taken, taken_at}
 use Rattle.stamp.proofs.accepted.Goals as goal
 
-pub returns-in_default : goal.returns-in_default
-returns-in_default c = sym (no_moment _ (six_none _ c.read_six.ensures c.in_default.is))
+pub returns-in_err-m : goal.returns-in_err-m
+returns-in_err-m c = rw c.from_residual.ensures (sym (no_moment _ (sym c.in_err-m.ensures)))
 
 pub seconds-requires : goal.seconds-requires
 seconds-requires c = sym c.taken.ensures ∙ c.if-taken.true
 
 pub returns-then-taken : goal.returns-then-taken
-returns-then-taken c = ap At c.seconds.ensures ∙ sym (taken_at _ _ (six_some _ c.read_six.ensures c.in-Are.is) (sym c.taken.ensures ∙ c.if-taken.true))
+returns-then-taken c = ap Some c.seconds.ensures ∙ sym (taken_at _ _ (sym c.in_ok-m.ensures) (sym c.taken.ensures ∙ c.if-taken.true))
 
 pub returns : goal.returns
-returns c = sym (not_taken _ _ (six_some _ c.read_six.ensures c.in-Are.is) (sym c.taken.ensures ∙ c.if-taken.false))
+returns c = sym (not_taken _ _ (sym c.in_ok-m.ensures) (sym c.taken.ensures ∙ c.if-taken.false))

@@ -4,4 +4,4 @@ use Rattle.text.proofs.PlainBytes.{plain_text}
 use Rattle.text.proofs.is_text.Goals as goal
 
 pub returns-then-plain : goal.returns-then-plain
-returns-then-plain c = sym (plain_text _ (sym c.plain.ensures ∙ c.if-plain.true))
+returns-then-plain c = c.if-plain.true ∙ sym (plain_text _ (sym c.plain.ensures ∙ c.if-plain.true))

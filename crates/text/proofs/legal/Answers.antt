@@ -1,20 +1,23 @@
--- `text::legal` meets its contract: XML 1.0's ranges, one answer for each.
+-- `text::legal` meets its contract: XML 1.0's ranges, one answer for each, and one for each gap.
 use mathlib.Core.Path.{sym}
 use native.Mathlib.Omega.{arith}
-use Rattle.text.proofs.Xml.{legal_low, no_surrogate, legal_middle, no_fffe, legal_rest}
+use Rattle.text.proofs.Xml.{legal_low, no_surrogate, legal_middle, no_fffe, legal_high, none_above}
 use Rattle.text.proofs.legal.Goals as goal
 
-pub returns-then-v-lt55296 : goal.returns-then-v-lt55296
-returns-then-v-lt55296 c = sym (legal_low _ (omega arith) (omega arith))
+pub returns-in-32-to-55295 : goal.returns-in-32-to-55295
+returns-in-32-to-55295 c = sym (legal_low _ (omega arith) (omega arith))
 
-pub returns-then-v-lt57344 : goal.returns-then-v-lt57344
-returns-then-v-lt57344 c = sym (no_surrogate _ (omega arith) (omega arith))
+pub returns-in-32-to-55295-2 : goal.returns-in-32-to-55295-2
+returns-in-32-to-55295-2 c = sym (legal_middle _ (omega arith) (omega arith))
 
-pub returns-then-v-lt65534 : goal.returns-then-v-lt65534
-returns-then-v-lt65534 c = sym (legal_middle _ (omega arith) (omega arith))
+pub returns-in-32-to-55295-3 : goal.returns-in-32-to-55295-3
+returns-in-32-to-55295-3 c = sym (legal_high _ (omega arith) (omega arith))
 
-pub returns-then-v-lt65536 : goal.returns-then-v-lt65536
-returns-then-v-lt65536 c = sym (no_fffe _ (omega arith) (omega arith))
+pub returns-in_default-2 : goal.returns-in_default-2
+returns-in_default-2 c = sym (no_surrogate _ (omega arith) (omega arith))
 
-pub returns : goal.returns
-returns c = sym (legal_rest _ c.if-v-lt65536.false)
+pub returns-in_default-3 : goal.returns-in_default-3
+returns-in_default-3 c = sym (no_fffe _ (omega arith) (omega arith))
+
+pub returns-in_default-4 : goal.returns-in_default-4
+returns-in_default-4 c = sym (none_above _ (omega arith))

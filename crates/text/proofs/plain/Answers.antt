@@ -5,23 +5,16 @@ use Rattle.text.specs.Check.{is_plain}
 use Rattle.text.proofs.PlainBytes.{pass_on, pass_ends, plain_test}
 use Rattle.text.proofs.plain.Goals as goal
 
-pub loop-i-init : goal.loop-i-init
+pub loop-b-init : goal.loop-b-init
 unfolding both
-loop-i-init c = (omega arith, refl)
+loop-b-init c = refl
 
-pub overflow_add-i : goal.overflow_add-i
-overflow_add-i c = omega arith
-
-pub loop-i-smaller : goal.loop-i-smaller
-loop-i-smaller c = omega arith
-
-pub loop-i-preserved : goal.loop-i-preserved
-loop-i-preserved c =
-    let s = c.args.s.now in
-    let l = c.loop-i in
-    (omega arith, rw plain_test (pass_on is_plain s l.ok l.i (omega arith) ∙ l.invariant.1))
+pub loop-b-preserved : goal.loop-b-preserved
+loop-b-preserved c =
+    let l = c.loop-b in
+    rw plain_test (pass_on is_plain c.args.s.now l.ok l.b-index (omega arith) ∙ l.invariant)
 
 pub returns : goal.returns
 returns c =
-    let l = c.loop-i in
-    sym (pass_ends is_plain c.args.s.now l.ok l.i (omega arith)) ∙ l.invariant.1
+    let l = c.loop-b in
+    sym (pass_ends is_plain c.args.s.now l.ok l.b-index (omega arith)) ∙ l.invariant

@@ -6,8 +6,5 @@ use Rattle.text_index.specs.Link.{ChainsGiven}
 use Rattle.text_index.proofs.Chains.{ChainLeft}
 use Rattle.text_index.proofs.find_chained.Given as goal
 
-abbrev pub invariant-loop-c : goal.invariant-loop-c
-invariant-loop-c l = (l.c ≤ l.n) × ((count : ℕ) → ChainsGiven l.ix l.spans l.bytes count → l.n ≡ handles_in l.ix → ChainLeft l.spans l.bytes l.text l.n l.c)
-
-abbrev pub decreases-loop-c : goal.decreases-loop-c
-decreases-loop-c l = l.c
+abbrev pub invariant-loop : goal.invariant-loop
+invariant-loop l = (l.c ≤ l.n) × ((count : ℕ) → ChainsGiven l.ix l.spans l.bytes count → l.n ≡ handles_in l.ix → ChainLeft l.spans l.bytes l.text l.n l.c)

@@ -1,7 +1,6 @@
 -- `link_all` links the handles in order. The invariant: the array holds those passed.
-use Prim.Native.Nat.{ℕ, ◌-◌, ◌≤◌}
+use Prim.Native.Nat.{ℕ, ◌≤◌}
 use mathlib.Core.Path.{◌≡◌}
-use lib.ListN.{length}
 use Rattle.interner.specs.Sound.{texts_in}
 use Rattle.text_index.specs.Index.{handles_in, Indexed}
 use Rattle.text_index.specs.Link.{ChainsGiven}
@@ -9,9 +8,4 @@ use Rattle.text_index.proofs.link_all.Given as goal
 
 abbrev pub invariant-loop-h : goal.invariant-loop-h
 invariant-loop-h l =
-    (l.h ≤ l.end)
-    × ((length l.ix ≡ length l.initial.ix)
-    × ((count : ℕ) → l.end ≤ count → l.n ≡ handles_in l.initial.ix → ChainsGiven l.initial.ix l.spans l.bytes count → Indexed l.ix (texts_in l.spans l.bytes count) × (handles_in l.ix ≡ l.h)))
-
-abbrev pub decreases-loop-h : goal.decreases-loop-h
-decreases-loop-h l = l.end - l.h
+    (count : ℕ) → l.end ≤ count → l.n ≡ handles_in l.initial.ix → ChainsGiven l.initial.ix l.spans l.bytes count → Indexed l.ix (texts_in l.spans l.bytes count) × (handles_in l.ix ≡ l.h)

@@ -5,8 +5,5 @@ use mathlib.Core.Bool.{false}
 use Rattle.interner.specs.Strings.{is_at}
 use Rattle.text_index.proofs.search_down.Given as goal
 
-abbrev pub invariant-loop-c : goal.invariant-loop-c
-invariant-loop-c l = (l.c ≤ l.n) × ((h : ℕ) → l.c ≤ h → h < l.n → is_at l.spans l.bytes l.text h ≡ false)
-
-abbrev pub decreases-loop-c : goal.decreases-loop-c
-decreases-loop-c l = l.c
+abbrev pub invariant-loop-h : goal.invariant-loop-h
+invariant-loop-h l = (j : ℕ) → l.h ≤ j → j < l.n → is_at l.spans l.bytes l.text j ≡ false

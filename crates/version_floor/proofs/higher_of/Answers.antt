@@ -10,18 +10,18 @@ returns-in_default c = rw c.in_default.is
 
 pub returns-in_default-b : goal.returns-in_default-b
 unfolding higher
-returns-in_default-b c = rw (c.in-Is.is, c.in_default-b.is)
+returns-in_default-b c = rw (c.in-Some.is, c.in_default-b.is)
 
 pub returns-then-x-y : goal.returns-then-x-y
 unfolding higher
 returns-then-x-y c =
-    let x = c.in-Is.known_told-1-own.given.0.1 in
-    let y = c.in-Is-b.known_told-in-Is-b-1-own.given.0.1 in
-    rw (c.in-Is.is, c.in-Is-b.is, compared w32 c.in-Is.x c.in-Is-b.y x y c.if-x-y.true)
+    let x = c.in-Some.known_told-1-own.given.0.1 in
+    let y = c.in-Some-b.known_told-in-Some-b-1-own.given.0.1 in
+    rw (c.in-Some.is, c.in-Some-b.is, compared w32 c.in-Some.x c.in-Some-b.y x y c.if-x-y.true)
 
 pub returns-else-x-y : goal.returns-else-x-y
 unfolding higher
 returns-else-x-y c =
-    let x = c.in-Is.known_told-1-own.given.0.1 in
-    let y = c.in-Is-b.known_told-in-Is-b-1-own.given.0.1 in
-    rw (c.in-Is.is, c.in-Is-b.is, compared w32 c.in-Is.x c.in-Is-b.y x y c.if-x-y.false)
+    let x = c.in-Some.known_told-1-own.given.0.1 in
+    let y = c.in-Some-b.known_told-in-Some-b-1-own.given.0.1 in
+    rw (c.in-Some.is, c.in-Some-b.is, compared w32 c.in-Some.x c.in-Some-b.y x y c.if-x-y.false)

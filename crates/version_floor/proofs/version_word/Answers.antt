@@ -13,4 +13,4 @@ returns-in_default c = rw c.in_default.is
 pub returns : goal.returns
 unfolding word_of
 returns c =
-    rw c.in-Is.is (c.bits_of_i32.ensures ∙ ap (of_z w32) (held w32 c.in-Is.n c.in-Is.known_told-1-own.given.0.1))
+    rw c.in-Some.is (c.bits_of_i32.ensures ∙ ap (of_z w32) (held w32 c.in-Some.n c.in-Some.known_told-1-own.given.0.1))

@@ -107,7 +107,7 @@ fn reads() -> Vec<Row> {
             let unsigned = option(unless_panic(|| z(JUDGE_READ_U32(data, at))));
             let s = atom(list(data));
             let signed = format!("Compact.read_i64_le {s} {at} ∷ Compact.read_i32_le {s} {at}");
-            let question = format!("{signed} ∷ Option.map pos (Compact.read_u32_le {s} {at}) ∷ []");
+            let question = format!("{signed} ∷ option_map pos (Compact.read_u32_le {s} {at}) ∷ []");
             out.push(rows(question, &[wide, narrow, unsigned]));
         }
     }
@@ -126,10 +126,10 @@ fn member_name(kind: MemberType) -> &'static str {
 fn member_types() -> Vec<Row> {
     let byte = |kind| member_type_to_byte(kind).expect("a known type").to_string();
     let written = [MemberType::Node, MemberType::Way, MemberType::Relation].map(byte);
-    let to_byte = "map (λ k. some (Compact.member_type_to_byte k)) (Node ∷ Way ∷ Relation ∷ [])".to_owned();
+    let to_byte = "map (λ k. Some (Compact.member_type_to_byte k)) (Node ∷ Way ∷ Relation ∷ [])".to_owned();
     let read = |b: u8| option(unless_panic(|| member_type_to_byte(JUDGE_MEMBER_TYPE(b)).expect("a known type")));
     let read: Vec<String> = (0..=255).map(read).collect();
-    let from_byte = "map (λ b. Option.map Compact.member_type_to_byte (Compact.byte_to_member_type b)) flags";
+    let from_byte = "map (λ b. option_map Compact.member_type_to_byte (Compact.byte_to_member_type b)) flags";
     vec![rows(to_byte, &written.map(|b| option(Some(b)))), rows(from_byte.to_owned(), &read)]
 }
 

@@ -123,7 +123,7 @@ fn defined(name: &'static str) -> Page {
     page.define("np", "NotPublished", &call("not_published", &[stamps(&[STAMP.to_owned()])]));
     page.define("before", "CompactDiffOverlay", &overlay(&before()));
     page.define("unchanged", "Told", "overlay before");
-    page.define("sink_none", "CompactSink", "XmlParse.sink_with before none");
+    page.define("sink_none", "CompactSink", "XmlParse.sink_with before None");
     for (name, version) in [GOING, STALE] {
         for kind in KINDS {
             let sink = format!("XmlParse.sink_with before {}", atom(staged(Some(&begun(kind, version)))));

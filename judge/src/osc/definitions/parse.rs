@@ -113,7 +113,7 @@ fn record_of(kind: ElementKind, name: &str, state: &Overlay) -> Row {
     let fields = atom(fields_of(kind, name));
     let question = |id: i64| {
         let id = z(id);
-        let view = format!("Option.map packed (Parse.get_data {fields} ({id}))");
+        let view = format!("option_map packed (Parse.get_data {fields} ({id}))");
         format!("reads ({view}) (Parse.has {fields} ({id})) (Parse.is_deleted {fields} ({id}))")
     };
     let answer = |id: i64| {

@@ -106,7 +106,7 @@ pub(super) fn told(overlay: &Overlay) -> String {
 
 pub(super) fn staged(staged: Option<&JudgeStaged>) -> String {
     let Some(s) = staged else {
-        return "none".to_owned();
+        return "None".to_owned();
     };
     let (flags, version, timestamp, changeset, uid, user_id) = s.meta;
     let head = meta(&ArenaMeta { flags, version, timestamp, changeset, uid, user_id });

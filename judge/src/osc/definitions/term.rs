@@ -29,7 +29,7 @@ pub(super) fn list(items: impl IntoIterator<Item = impl Display>) -> String {
 }
 
 pub(super) fn option(value: Option<impl Display>) -> String {
-    value.map_or("none".to_owned(), |v| format!("some {}", atom(v)))
+    value.map_or("None".to_owned(), |v| format!("Some {}", atom(v)))
 }
 
 pub(super) fn result(value: Result<String, String>) -> String {

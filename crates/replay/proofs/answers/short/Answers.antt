@@ -5,4 +5,4 @@ use Rattle.integer.proofs.Integers.{read_is}
 use Rattle.replay.proofs.answers.short.Goals as goal
 
 pub overflow_cast-bits : goal.overflow_cast-bits
-overflow_cast-bits g c = (read_is w32 c.args.s.now (sym c.read_i32.ensures ∙ c.in-Is.is)).1
+overflow_cast-bits c = (read_is w32 c.args.s.now (sym c.read_i32.ensures ∙ c.in-Some.is)).1

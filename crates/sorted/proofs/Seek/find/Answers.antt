@@ -1,10 +1,9 @@
 -- `sorted::Seek::find` meets its contract.
 use mathlib.Core.Path.{sym, ◌∙◌}
 use mir.Facts.{to_z-of_z}
-use native.Mathlib.Omega.{arith}
 use Rattle.sorted.specs.Lookup.{ids_of, found_of}
 use Rattle.sorted.proofs.Steps.{up_to_counted}
-use Rattle.sorted.proofs.Seeks.{found_at, found_none}
+use Rattle.sorted.proofs.Seeks.{found_is}
 use Rattle.sorted.proofs.Seek.find.Goals as goal
 
 pub reach-at-requires : goal.reach-at-requires
@@ -13,19 +12,12 @@ reach-at-requires c = sym c.in_order.ensures ∙ c.if-in_order.true
 pub count_under-requires : goal.count_under-requires
 count_under-requires c = sym c.in_order.ensures ∙ c.if-in_order.true
 
-pub returns-then-at-count_under : goal.returns-then-at-count_under
-returns-then-at-count_under c =
-    let k = c in
-    let ids = ids_of k.args.ids.now in
-    let u = up_to_counted k.ranges.id c.osm_id_key.ensures ids c.count_under.ensures in
-    found_at ids (sym c.in_order.ensures ∙ c.if-in_order.true) k.args.id k.args.self.place (rw (to_z-of_z k.ranges.id) at c.reach-at.ensures) (omega (arith, u, c.if-at-count_under.true))
-
 pub returns-then-in_order : goal.returns-then-in_order
 returns-then-in_order c =
     let k = c in
     let ids = ids_of k.args.ids.now in
     let u = up_to_counted k.ranges.id c.osm_id_key.ensures ids c.count_under.ensures in
-    found_none ids (sym c.in_order.ensures ∙ c.if-in_order.true) k.args.id k.args.self.place (rw (to_z-of_z k.ranges.id) at c.reach-at.ensures) (omega (arith, u, c.if-at-count_under.false))
+    rw (c.then_some.ensures, u) (found_is ids (sym c.in_order.ensures ∙ c.if-in_order.true) k.args.id k.args.self.place (rw (to_z-of_z k.ranges.id) at c.reach-at.ensures))
 
 pub returns : goal.returns
 unfolding found_of

@@ -6,4 +6,4 @@ use Rattle.torvaskin.proofs.listings.tvk_listing.Goals as goal
 pub returns : goal.returns
 unfolding listing_reply
 returns c =
-    listing_is c.listed_reply.ensures c.list.ensures
+    listing_is c.from.ensures c.list.ensures

@@ -1,12 +1,4 @@
-use mathlib.Core.Path.{◌∙◌, ap}
-use Rattle.c_replies.specs.Numbers.{integer_number}
 use Rattle.torvaskin.proofs.numbers.tvk_read_i64.Goals as goal
 
-pub read_i64-requires : goal.read_i64-requires
-read_i64-requires c = tt
-
-pub integer_number-requires : goal.integer_number-requires
-integer_number-requires c = tt
-
 pub returns : goal.returns
-returns c = c.integer_number.ensures ∙ ap integer_number c.read_i64.ensures
+returns c = rw (c.from.ensures, c.ok_or.ensures.value, c.read_i64.ensures)

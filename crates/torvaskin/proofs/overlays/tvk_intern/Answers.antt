@@ -6,4 +6,4 @@ use Rattle.torvaskin.proofs.overlays.tvk_intern.Goals as goal
 pub returns : goal.returns
 unfolding intern_reply
 returns c =
-    interned_is c.handle_text.ensures c.intern.ensures
+    interned_is c.from.ensures c.intern.ensures

@@ -3,12 +3,12 @@ use Rattle.torvaskin.specs.Overlays.{push_reply}
 use Rattle.torvaskin.proofs.OverlayReplies.{replied_is, unknown_is}
 use Rattle.torvaskin.proofs.overlays.tvk_push.Goals as goal
 
-pub returns-in-Is : goal.returns-in-Is
+pub returns-in-Ok : goal.returns-in-Ok
 unfolding push_reply
-returns-in-Is c =
-    rw (← c.kind_of_number.ensures, c.in-Is.is) (replied_is c.kept_reply.ensures c.push.ensures)
+returns-in-Ok c =
+    rw (← (rw c.in-Ok.is at c.try_from.ensures)) (replied_is c.kept_reply.ensures c.push.ensures)
 
-pub returns-in-Unknown : goal.returns-in-Unknown
+pub returns-in-Err : goal.returns-in-Err
 unfolding push_reply
-returns-in-Unknown c =
-    rw (← c.kind_of_number.ensures, c.in-Unknown.is) (unknown_is c.unknown.ensures)
+returns-in-Err c =
+    rw (← (rw c.in-Err.is at c.try_from.ensures).0) (unknown_is c.unknown.ensures)

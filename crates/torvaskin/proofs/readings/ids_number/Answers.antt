@@ -2,12 +2,12 @@
 use Rattle.torvaskin.specs.Readings.{ids_reply}
 use Rattle.torvaskin.proofs.readings.ids_number.Goals as goal
 
-pub returns-in-Is : goal.returns-in-Is
+pub returns-in-Ok : goal.returns-in-Ok
 unfolding ids_reply
-returns-in-Is c =
-    rw (← c.kind_of_number.ensures, c.in-Is.is, c.read_number.ensures, ← c.all_ids-read.ensures)
+returns-in-Ok c =
+    rw (← (rw c.in-Ok.is at c.try_from.ensures), c.from.ensures, ← c.all_ids-read.ensures)
 
-pub returns-in-Unknown : goal.returns-in-Unknown
+pub returns-in-Err : goal.returns-in-Err
 unfolding ids_reply
-returns-in-Unknown c =
-    rw (← c.kind_of_number.ensures, c.in-Unknown.is, c.no_read.ensures)
+returns-in-Err c =
+    rw (← (rw c.in-Err.is at c.try_from.ensures).0, c.no_read.ensures)

@@ -3,4 +3,4 @@ use Rattle.torvaskin.proofs.readings.no_read.Goals as goal
 
 pub returns : goal.returns
 returns c =
-    rw (c.unknown_number.ensures, c.is_sound.ensures)
+    rw (c.from.ensures, c.unknown_kind.ensures, c.is_sound.ensures)

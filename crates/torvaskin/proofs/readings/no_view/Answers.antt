@@ -3,4 +3,4 @@ use Rattle.torvaskin.proofs.readings.no_view.Goals as goal
 
 pub returns : goal.returns
 returns c =
-    rw (c.unknown_part.ensures, c.is_sound.ensures)
+    rw (c.from.ensures, c.unknown_kind.ensures, c.is_sound.ensures)

@@ -3,13 +3,13 @@ use Rattle.torvaskin.specs.Readings.{has_number}
 use Rattle.signed.proofs.Bits.{bits_back}
 use Rattle.torvaskin.proofs.readings.tvk_has.Goals as goal
 
-pub returns-in-Is : goal.returns-in-Is
+pub returns-in-Ok : goal.returns-in-Ok
 unfolding has_number
-returns-in-Is c =
+returns-in-Ok c =
     let d = bits_back c.ranges.id c.bits_of_i64.ensures in
-    rw (← c.kind_of_number.ensures, c.in-Is.is, c.read_number.ensures, c.has.ensures, d)
+    rw (← (rw c.in-Ok.is at c.try_from.ensures), c.from.ensures, c.has.ensures, d)
 
-pub returns-in-Unknown : goal.returns-in-Unknown
+pub returns-in-Err : goal.returns-in-Err
 unfolding has_number
-returns-in-Unknown c =
-    rw (← c.kind_of_number.ensures, c.in-Unknown.is, c.no_read.ensures)
+returns-in-Err c =
+    rw (← (rw c.in-Err.is at c.try_from.ensures).0, c.no_read.ensures)

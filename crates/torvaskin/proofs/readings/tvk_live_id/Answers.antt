@@ -2,12 +2,12 @@
 use Rattle.torvaskin.specs.Readings.{id_number}
 use Rattle.torvaskin.proofs.readings.tvk_live_id.Goals as goal
 
-pub returns-in-Is : goal.returns-in-Is
+pub returns-in-Ok : goal.returns-in-Ok
 unfolding id_number
-returns-in-Is c =
-    rw (← c.kind_of_number.ensures, c.in-Is.is, c.read_number.ensures, c.id_at.ensures)
+returns-in-Ok c =
+    rw (← (rw c.in-Ok.is at c.try_from.ensures), c.from.ensures, c.id_at.ensures)
 
-pub returns-in-Unknown : goal.returns-in-Unknown
+pub returns-in-Err : goal.returns-in-Err
 unfolding id_number
-returns-in-Unknown c =
-    rw (← c.kind_of_number.ensures, c.in-Unknown.is, c.no_read.ensures)
+returns-in-Err c =
+    rw (← (rw c.in-Err.is at c.try_from.ensures).0, c.no_read.ensures)

@@ -2,12 +2,12 @@
 use Rattle.torvaskin.specs.Readings.{record_part}
 use Rattle.torvaskin.proofs.readings.tvk_record.Goals as goal
 
-pub returns-in-Is : goal.returns-in-Is
+pub returns-in-Ok : goal.returns-in-Ok
 unfolding record_part
-returns-in-Is c =
-    rw (← c.kind_of_number.ensures, c.in-Is.is, c.view_part.ensures, c.record_at.ensures)
+returns-in-Ok c =
+    rw (← (rw c.in-Ok.is at c.try_from.ensures), c.from.ensures, c.record_at.ensures)
 
-pub returns-in-Unknown : goal.returns-in-Unknown
+pub returns-in-Err : goal.returns-in-Err
 unfolding record_part
-returns-in-Unknown c =
-    rw (← c.kind_of_number.ensures, c.in-Unknown.is, c.no_view.ensures)
+returns-in-Err c =
+    rw (← (rw c.in-Err.is at c.try_from.ensures).0, c.no_view.ensures)

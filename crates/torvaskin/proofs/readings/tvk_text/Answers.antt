@@ -3,4 +3,4 @@ use Rattle.torvaskin.proofs.readings.tvk_text.Goals as goal
 
 pub returns : goal.returns
 returns c =
-    rw (c.view_part.ensures, c.text.ensures)
+    rw (c.from.ensures, c.text.ensures)
