@@ -1,4 +1,8 @@
 -- Metadata by the names of its attributes, in line order.
+use Rattle.std.specs.Prelude.{Option, Result, ok_or}
+use lib.IntN.{ℤ}
+use mir.Syntax.{Width, w32, w64}
+use mir.Val.{to_z}
 use Prim.Native.Nat.{ℕ, ◌+◌, ◌-◌, ◌/◌, ◌%◌, ◌<◌, ◌≤◌}
 use mathlib.Core.Path.{◌≡◌, sym, ◌∙◌, ap}
 use mathlib.Core.Bool.{Bool, cond}
@@ -11,17 +15,20 @@ use Rattle.base.specs.Ascii.{ascii}
 use Rattle.base.specs.Bytes.{Bytes, same}
 use Rattle.base.proofs.Split.{by_bool, by_lt}
 use Rattle.refusal.specs.declared.Refusal.{Refusal}
+use Rattle.refusal.specs.declared.Refusal.TheVariants.{NotInteger, NotTimestamp}
+use Rattle.integer.specs.Integer.{integer_of, read_of}
+use Rattle.stamp.specs.Stamp.{stamp, stamp_of}
 use Rattle.model.specs.Record.{Meta, flagged}
 use Rattle.event.specs.Event.{Attr}
 use Rattle.event_scan.specs.Piece.{value_text}
 use Rattle.event_scan.specs.Scan.{attributes_at}
 use Rattle.event_scan.proofs.Places.{AttributeAt}
 use Rattle.event_scan.proofs.Attributes.{attributes_step}
-use Rattle.event_fields.specs.Field.{got, bad, and_then, mark, meta_with, meta_from}
+use Rattle.event_fields.specs.Field.{got, bad, and_then, or_else, an_integer, a_stamp, mark, meta_with, meta_from}
 use Rattle.event_fields.proofs.Metadata.{Flag, present, hidden, has_user, has_version, bit_of, mark_small}
-use Rattle.event_values.specs.Value.{Inside}
+use Rattle.event_values.specs.Value.{Inside, integer_in, narrow_in, field_in, narrow_field, wide_field}
 use Rattle.event_values.proofs.Raws.{false_raw}
-use Rattle.event_values.proofs.Values.{part, none_behind}
+use Rattle.event_values.proofs.Values.{part, number_text, moment_text, none_behind, field_read}
 use Rattle.event_metadata.specs.Metadata.{meta_name, meta_as}
 
 -- ---- flags
@@ -55,6 +62,21 @@ named_as m a =
     by_bool (same a.name (ascii "uid")) (λ e. rw e) (λ e4. rw e4 (
     by_bool (same a.name (ascii "user")) (λ e. rw e) (λ e5. rw e5 (
     by_bool (same a.name (ascii "visible")) (λ e. rw e) (λ e6. rw e6)))))))))))
+
+-- a value as it is read, or its refusal
+value_read : (w : Width) (x : Refusal) (o : Option ℕ) {r : Result ℕ Refusal} {z : Option ℤ} → r ≡ ok_or o x → integer_in w o ≡ z → field_in (to_z w) r ≡ or_else x z
+value_read w x o p e = ap (field_in (to_z w)) p ∙ field_read (to_z w) x o ∙ ap (or_else x) e
+
+-- the value of an attribute, where it lies: its number, or its refusal
+module _ {t : Bytes} {from to : ℕ} (v : Inside t from to) (o : Option ℕ) {r : Result ℕ Refusal} where
+  pub narrow_value : r ≡ ok_or o NotInteger → narrow_in o ≡ integer_of w32 (value_text (mid_of from (to - from) t)) → narrow_field r ≡ an_integer (integer_of w32 (value_text (slice from to t)))
+  narrow_value p e = value_read w32 NotInteger o p (e ∙ ap (λ (s : Bytes). integer_of w32 (value_text s)) (part v))
+
+  pub wide_value : r ≡ ok_or o NotInteger → o ≡ read_of w64 (mid_of from (to - from) t) → wide_field r ≡ an_integer (integer_of w64 (value_text (slice from to t)))
+  wide_value p e = value_read w64 NotInteger o p (number_text w64 _ (e ∙ ap (read_of w64) (part v)))
+
+  pub moment_value : r ≡ ok_or o NotTimestamp → o ≡ stamp_of (mid_of from (to - from) t) → wide_field r ≡ a_stamp (stamp (value_text (slice from to t)))
+  moment_value p e = value_read w64 NotTimestamp o p (moment_text _ (e ∙ ap stamp_of (part v)))
 
 -- the word `false` is read as it is written
 pub false_here : {t : Bytes} {from to : ℕ} → Inside t from to → {b : Bool} → b ≡ same (mid_of from (to - from) t) (ascii "false") → b ≡ same (value_text (slice from to t)) (ascii "false")

@@ -9,7 +9,6 @@ ghost use Rattle.event_fields.specs.Field.{mark, metadata_of};
 ghost use Rattle.event_fields.proofs.Metadata.{Flag, bit_of};
 ghost use Rattle.event_values.specs.Value.{Inside};
 ghost use Rattle.event_metadata.specs.Metadata.{meta_written, MetadataInBounds, meta_field, MetaFieldInBounds, Reads, meta_name, meta_as};
-ghost use Rattle.event_metadata.specs.declared.MetaName.TheVariants as names;
 
 use event_scan::Extent;
 use refusal::Refusal;
@@ -76,90 +75,7 @@ fn mark(flags: u8, bit: u8) -> u8
     flags + bit
 }
 
-fn with_version(m: Metadata, t: &[u8], from: usize, to: usize) -> Result<Metadata, Refusal>
-    requires { MetadataInBounds t.now m × Inside t.now from to }
-    ensures { Reads t.now (meta_as names.Version (meta_written t.now m) (value_text (slice from to t.now))) result }
-{
-    let Some(b) = event_values::integer_32(&t[from..to]) else {
-        return Err(Refusal::NotInteger);
-    };
-    Ok(Metadata {
-        flags: mark(mark(m.flags, 1), 8),
-        version: b,
-        ..m
-    })
-}
-
-fn with_timestamp(m: Metadata, t: &[u8], from: usize, to: usize) -> Result<Metadata, Refusal>
-    requires { MetadataInBounds t.now m × Inside t.now from to }
-    ensures { Reads t.now (meta_as names.Timestamp (meta_written t.now m) (value_text (slice from to t.now))) result }
-{
-    let Some(b) = stamp::parse_rfc3339_utc(&t[from..to]) else {
-        return Err(Refusal::NotTimestamp);
-    };
-    Ok(Metadata {
-        flags: mark(m.flags, 1),
-        timestamp: b,
-        ..m
-    })
-}
-
-fn with_changeset(m: Metadata, t: &[u8], from: usize, to: usize) -> Result<Metadata, Refusal>
-    requires { MetadataInBounds t.now m × Inside t.now from to }
-    ensures { Reads t.now (meta_as names.Changeset (meta_written t.now m) (value_text (slice from to t.now))) result }
-{
-    let Some(b) = integer::read_i64(&t[from..to]) else {
-        return Err(Refusal::NotInteger);
-    };
-    Ok(Metadata {
-        flags: mark(m.flags, 1),
-        changeset: b,
-        ..m
-    })
-}
-
-fn with_uid(m: Metadata, t: &[u8], from: usize, to: usize) -> Result<Metadata, Refusal>
-    requires { MetadataInBounds t.now m × Inside t.now from to }
-    ensures { Reads t.now (meta_as names.Uid (meta_written t.now m) (value_text (slice from to t.now))) result }
-{
-    let Some(b) = event_values::integer_32(&t[from..to]) else {
-        return Err(Refusal::NotInteger);
-    };
-    Ok(Metadata {
-        flags: mark(m.flags, 1),
-        uid: b,
-        ..m
-    })
-}
-
-fn with_user(m: Metadata, t: &[u8], from: usize, to: usize) -> Result<Metadata, Refusal>
-    requires { MetadataInBounds t.now m × Inside t.now from to }
-    ensures { Reads t.now (meta_as names.User (meta_written t.now m) (value_text (slice from to t.now))) result }
-{
-    Ok(Metadata {
-        flags: mark(mark(m.flags, 1), 4),
-        user: Extent { from, to },
-        ..m
-    })
-}
-
-// Only `false` exactly hides.
-fn with_visible(m: Metadata, t: &[u8], from: usize, to: usize) -> Result<Metadata, Refusal>
-    requires { MetadataInBounds t.now m × Inside t.now from to }
-    ensures { Reads t.now (meta_as names.Visible (meta_written t.now m) (value_text (slice from to t.now))) result }
-{
-    if &t[from..to] == b"false".as_slice() {
-        return Ok(Metadata {
-            flags: mark(mark(m.flags, 1), 2),
-            ..m
-        });
-    }
-    Ok(Metadata {
-        flags: mark(m.flags, 1),
-        ..m
-    })
-}
-
+// Metadata with one attribute more. Only `false` exactly hides.
 fn with_attribute(
     m: Metadata,
     name: MetaName,
@@ -170,15 +86,34 @@ fn with_attribute(
     requires { MetadataInBounds t.now m × Inside t.now from to }
     ensures { Reads t.now (meta_as name (meta_written t.now m) (value_text (slice from to t.now))) result }
 {
+    let value = &t[from..to];
+    let mut given = m;
+    given.flags = mark(m.flags, 1);
     match name {
-        MetaName::Version => with_version(m, t, from, to),
-        MetaName::Timestamp => with_timestamp(m, t, from, to),
-        MetaName::Changeset => with_changeset(m, t, from, to),
-        MetaName::Uid => with_uid(m, t, from, to),
-        MetaName::User => with_user(m, t, from, to),
-        MetaName::Visible => with_visible(m, t, from, to),
-        MetaName::Other => Ok(m),
+        MetaName::Version => {
+            given.flags = mark(given.flags, 8);
+            given.version = event_values::integer_32(value).ok_or(Refusal::NotInteger)?;
+        }
+        MetaName::Timestamp => {
+            given.timestamp = stamp::parse_rfc3339_utc(value).ok_or(Refusal::NotTimestamp)?;
+        }
+        MetaName::Changeset => {
+            given.changeset = integer::read_i64(value).ok_or(Refusal::NotInteger)?;
+        }
+        MetaName::Uid => {
+            given.uid = event_values::integer_32(value).ok_or(Refusal::NotInteger)?;
+        }
+        MetaName::User => {
+            given.flags = mark(given.flags, 4);
+            given.user = Extent { from, to };
+        }
+        MetaName::Visible if value == b"false".as_slice() => {
+            given.flags = mark(given.flags, 2);
+        }
+        MetaName::Visible => {}
+        MetaName::Other => return Ok(m),
     }
+    Ok(given)
 }
 
 // ---- all attributes

@@ -120,26 +120,22 @@ pub fn count(
 ) -> Result<u64, Refusal>
     ensures { result ≡ count_on kind side (lent words.now bytes.now counters.now) }
 {
-    if overlay::is_sound(words, bytes, counters) {
-        return Ok(count_in(words, bytes, counters, kind, side));
-    }
-    Err(Refusal::Unsound)
+    overlay::check_sound(words, bytes, counters)?;
+    Ok(count_in(words, bytes, counters, kind, side))
 }
 
 fn yes(b: bool) -> Result<u64, Refusal>
     ensures { result ≡ yes b }
 {
-    if b { Ok(1) } else { Ok(0) }
+    Ok(u64::from(b))
 }
 
 // Whether no id of any kind is known.
 pub fn is_empty(words: &[u64], bytes: &[u8], counters: &[u64; COUNTERS]) -> Result<u64, Refusal>
     ensures { result ≡ is_empty_on (lent words.now bytes.now counters.now) }
 {
-    if overlay::is_sound(words, bytes, counters) {
-        return yes((counters[0] == 0) & ((counters[1] == 0) & (counters[2] == 0)));
-    }
-    Err(Refusal::Unsound)
+    overlay::check_sound(words, bytes, counters)?;
+    yes(counters[0] == 0 && counters[1] == 0 && counters[2] == 0)
 }
 
 // ---- ids and records by number
@@ -147,10 +143,8 @@ pub fn is_empty(words: &[u64], bytes: &[u8], counters: &[u64; COUNTERS]) -> Resu
 fn id_read(nth: Option<Row>) -> Result<u64, Refusal>
     ensures { result ≡ id_read nth }
 {
-    match nth {
-        Some(row) => Ok(signed::bits_of_i64(osm_id::osm_id_of_rank(row.rank))),
-        None => Err(Refusal::NoSuchNumber),
-    }
+    let row = nth.ok_or(Refusal::NoSuchNumber)?;
+    Ok(signed::bits_of_i64(osm_id::osm_id_of_rank(row.rank)))
 }
 
 // The bits of the n-th live or deleted id of a kind in OSM order, or 21.
@@ -164,10 +158,8 @@ pub fn id_at(
 ) -> Result<u64, Refusal>
     ensures { result ≡ id_on kind side n (lent words.now bytes.now counters.now) }
 {
-    if overlay::is_sound(words, bytes, counters) {
-        return id_read(row_in(words, bytes, counters, kind, side, n));
-    }
-    Err(Refusal::Unsound)
+    overlay::check_sound(words, bytes, counters)?;
+    id_read(row_in(words, bytes, counters, kind, side, n))
 }
 
 // The view of the record of the n-th live id of a kind, or 21.
@@ -180,13 +172,9 @@ pub fn record_at(
 ) -> Result<Option<Span>, Refusal>
     ensures { result ≡ record_on kind n (lent words.now bytes.now counters.now) }
 {
-    if overlay::is_sound(words, bytes, counters) {
-        let Some(row) = row_in(words, bytes, counters, kind, Side::Live, n) else {
-            return Err(Refusal::NoSuchNumber);
-        };
-        return view_in(words, bytes, counters, kind, row.place);
-    }
-    Err(Refusal::Unsound)
+    overlay::check_sound(words, bytes, counters)?;
+    let row = row_in(words, bytes, counters, kind, Side::Live, n).ok_or(Refusal::NoSuchNumber)?;
+    view_in(words, bytes, counters, kind, row.place)
 }
 
 // ---- by id, which is given in bits
@@ -201,31 +189,23 @@ pub fn get(
 ) -> Result<Option<Span>, Refusal>
     ensures { result ≡ get_on kind (to_z w64 id) (lent words.now bytes.now counters.now) }
 {
-    if overlay::is_sound(words, bytes, counters) {
-        let Standing::Live(at) = standing_in(words, bytes, counters, kind, id) else {
-            return Ok(None);
-        };
-        return view_in(words, bytes, counters, kind, at);
-    }
-    Err(Refusal::Unsound)
+    overlay::check_sound(words, bytes, counters)?;
+    let Standing::Live(at) = standing_in(words, bytes, counters, kind, id) else {
+        return Ok(None);
+    };
+    view_in(words, bytes, counters, kind, at)
 }
 
 fn is_live_now(standing: Standing) -> bool
     ensures { result ≡ is_live_now standing }
 {
-    match standing {
-        Standing::Live(_) => true,
-        _ => false,
-    }
+    matches!(standing, Standing::Live(_))
 }
 
 fn is_deleted_now(standing: Standing) -> bool
     ensures { result ≡ is_deleted_now standing }
 {
-    match standing {
-        Standing::Deleted => true,
-        _ => false,
-    }
+    matches!(standing, Standing::Deleted)
 }
 
 // Whether an id is live.
@@ -238,10 +218,8 @@ pub fn has(
 ) -> Result<u64, Refusal>
     ensures { result ≡ has_on kind (to_z w64 id) (lent words.now bytes.now counters.now) }
 {
-    if overlay::is_sound(words, bytes, counters) {
-        return yes(is_live_now(standing_in(words, bytes, counters, kind, id)));
-    }
-    Err(Refusal::Unsound)
+    overlay::check_sound(words, bytes, counters)?;
+    yes(is_live_now(standing_in(words, bytes, counters, kind, id)))
 }
 
 // Whether an id is deleted.
@@ -254,10 +232,8 @@ pub fn is_deleted(
 ) -> Result<u64, Refusal>
     ensures { result ≡ is_deleted_on kind (to_z w64 id) (lent words.now bytes.now counters.now) }
 {
-    if overlay::is_sound(words, bytes, counters) {
-        return yes(is_deleted_now(standing_in(words, bytes, counters, kind, id)));
-    }
-    Err(Refusal::Unsound)
+    overlay::check_sound(words, bytes, counters)?;
+    yes(is_deleted_now(standing_in(words, bytes, counters, kind, id)))
 }
 
 // The known version of an id as a word: below 2^32 its bits, else none.
@@ -270,11 +246,8 @@ pub fn known_version(
 ) -> Result<u64, Refusal>
     ensures { result ≡ known_on kind (to_z w64 id) (lent words.now bytes.now counters.now) }
 {
-    if overlay::is_sound(words, bytes, counters) {
-        let version = version_in(words, bytes, counters, kind, id);
-        return Ok(version_floor::version_word(version));
-    }
-    Err(Refusal::Unsound)
+    overlay::check_sound(words, bytes, counters)?;
+    Ok(version_floor::version_word(version_in(words, bytes, counters, kind, id)))
 }
 
 // ---- texts
@@ -282,10 +255,8 @@ pub fn known_version(
 fn text_view(span: Option<Span>) -> Result<Option<Span>, Refusal>
     ensures { result ≡ text_view span }
 {
-    match span {
-        Some(_) => Ok(span),
-        None => Err(Refusal::NoSuchNumber),
-    }
+    let held = span.ok_or(Refusal::NoSuchNumber)?;
+    Ok(Some(held))
 }
 
 // The view of a handle's text among the used bytes of the strings, or 21.
@@ -332,8 +303,6 @@ pub fn text(
 ) -> Result<Option<Span>, Refusal>
     ensures { result ≡ text_on handle (lent words.now bytes.now counters.now) }
 {
-    if overlay::is_sound(words, bytes, counters) {
-        return text_in(words, bytes, counters, handle);
-    }
-    Err(Refusal::Unsound)
+    overlay::check_sound(words, bytes, counters)?;
+    text_in(words, bytes, counters, handle)
 }

@@ -5,7 +5,7 @@ use mathlib.Core.Bool.{true}
 use mathlib.Core.List.{[], ◌∷◌, ◌++◌, append_assoc}
 use mathlib.Core.Logic.{◌↔◌}
 use native.Mathlib.Omega.{arith}
-use lib.IntN.{pos}
+use lib.IntN.{ℤ, pos}
 use lib.ListN.{get_or}
 use borrow.Author.Tests.{eq-eqb, ne_eqb}
 use Rattle.base.specs.Ascii.{ascii}
@@ -52,6 +52,31 @@ numbered ShortOutput = (omega arith, λ n. refl)
 numbered NotInOrder = (omega arith, λ n. refl)
 numbered NoSuchNumber = (omega arith, λ n. refl)
 numbered Unsound = (omega arith, λ n. refl)
+
+-- 12 is the number of a regression alone
+pub not_12 : (r : Refusal) → ((v : ℤ) → r ≡ Regression v → ⊥) → number_of r ≡ 12 → ⊥
+not_12 Size n e = omega arith
+not_12 LongLine n e = omega arith
+not_12 NotText n e = omega arith
+not_12 NotEventLine n e = omega arith
+not_12 Misplaced n e = omega arith
+not_12 OutsideSection n e = omega arith
+not_12 Missing n e = omega arith
+not_12 NotInteger n e = omega arith
+not_12 NotTimestamp n e = omega arith
+not_12 CoordinateRange n e = omega arith
+not_12 MemberType n e = omega arith
+not_12 (Regression v) n e = n v refl
+not_12 StringsFull n e = omega arith
+not_12 IdsFull n e = omega arith
+not_12 ArenaFull n e = omega arith
+not_12 TooManyParts n e = omega arith
+not_12 BadRecord n e = omega arith
+not_12 Unfinished n e = omega arith
+not_12 ShortOutput n e = omega arith
+not_12 NotInOrder n e = omega arith
+not_12 NoSuchNumber n e = omega arith
+not_12 Unsound n e = omega arith
 
 -- ---- HELD
 

@@ -1,9 +1,10 @@
 -- How the line is printed: HELD by the number, the pieces in order, measured and then written.
 use Rattle.std.specs.Prelude.{None, Option, Some}
 use Prim.Native.Nat.{ℕ, ◌-◌, ◌≤◌}
-use mathlib.Core.Path.{◌≡◌, sym, ◌∙◌, ap}
+use mathlib.Core.Path.{◌≡◌, refl, ◌∙◌, ap}
 use mathlib.Core.List.{[], ◌∷◌}
 use native.Mathlib.Omega.{arith}
+use lib.IntN.{ℤ}
 use lib.ListN.{length}
 use lib.Seq.{take-nil, drop-length}
 use mir.Syntax.{w32}
@@ -14,8 +15,9 @@ use borrow.Rule.Slice.PartMut.{mid_of, put_mid}
 use Rattle.base.specs.Ascii.{ascii}
 use Rattle.base.specs.Bytes.{Bytes}
 use Rattle.base.proofs.Split.{by_le, no}
-use Rattle.refusal.specs.Refusal.{number_of, held_of, reply_of}
+use Rattle.refusal.specs.Refusal.{number_of, reply_of}
 use Rattle.refusal.specs.declared.Refusal.{Refusal}
+use Rattle.refusal.specs.declared.Refusal.TheVariants.{Regression}
 use Rattle.refusal.specs.declared.Reply.{Reply}
 use Rattle.line.specs.Decimal.{number_text, integer_text}
 use Rattle.little.specs.Little.{over}
@@ -24,37 +26,30 @@ use Rattle.print.specs.Print.{Printed, print_step, print, joined_pieces, tab, ta
 use Rattle.print.specs.Piece.{behind}
 use Rattle.print.proofs.Pieces.{two_printed}
 use Rattle.print.proofs.Prints.{behind_fits, behind_past, measured, written, line_pieces_lem}
-use Rattle.report.proofs.Refused.{held_known, held_none}
+use Rattle.report.proofs.Refused.{held_known, held_none, not_12}
 use Rattle.report.specs.Report.{held_field, refused_fields, refused_line, Report, report_of}
 
 -- ---- HELD
 
-module _ (r : Refusal) (y : Reply) (e : y ≡ reply_of r) where
-  number_is : y.number ≡ number_of r
-  unfolding reply_of
-  number_is = ap (λ (z : Reply). z.number) e
+-- a regression holds a version, and no other refusal has its number
+pub known_printed : (r : Refusal) (v : ℤ) → r ≡ Regression v → (cap : ℕ) (p : Printed) (b : ℕ) (q : Printed) → SFits w32 v → b ≡ of_z w32 v
+    → q ≡ print cap (tab ∷ integer_text (to_z w32 b) ∷ []) p → q ≡ print cap (tab ∷ held_field r ∷ []) p
+known_printed r v e cap p b q f d h =
+    let z : to_z w32 b ≡ v = ap (to_z w32) d ∙ to_z-of_z f in
+    rw (e, held_known (Regression v) refl, ← z) h
 
-  held_is : y.held ≡ held_of r
-  unfolding reply_of
-  held_is = ap (λ (z : Reply). z.held) e
-
-  pub known_printed : (cap : ℕ) (p : Printed) (b : ℕ) (q : Printed) → y.number ≡ 12 → SFits w32 y.held → b ≡ of_z w32 y.held
-      → q ≡ print cap (tab ∷ integer_text (to_z w32 b) ∷ []) p → q ≡ print cap (tab ∷ held_field r ∷ []) p
-  known_printed cap p b q n f d h =
-      let z : to_z w32 b ≡ held_of r = ap (to_z w32) d ∙ (to_z-of_z f ∙ held_is) in
-      rw (held_known r (sym number_is ∙ n), ← z) h
-
-  pub none_printed : (cap : ℕ) (p q s : Printed) → (y.number ≡ 12 → ⊥) → q ≡ print_step cap tab p → s ≡ print_step cap (45 ∷ []) q → s ≡ print cap (tab ∷ held_field r ∷ []) p
-  none_printed cap p q s n g h = rw (held_none r (λ x. n (number_is ∙ x))) (two_printed cap tab (45 ∷ []) p q s g h)
+pub none_printed : (r : Refusal) → ((v : ℤ) → r ≡ Regression v → ⊥) → (cap : ℕ) (p q s : Printed) → q ≡ print_step cap tab p → s ≡ print_step cap (45 ∷ []) q
+    → s ≡ print cap (tab ∷ held_field r ∷ []) p
+none_printed r n cap p q s g h = rw (held_none r (not_12 r n)) (two_printed cap tab (45 ∷ []) p q s g h)
 
 -- ---- the pieces
 
 pub line_printed : (cap : ℕ) (r : Refusal) (n : ℕ) (y : Reply) → y ≡ reply_of r → (p a b c d q : Printed)
     → a ≡ print_step cap (ascii "refused") p → b ≡ print cap (tab ∷ number_text y.number ∷ []) a → c ≡ print cap (tab ∷ number_text n ∷ []) b
     → d ≡ print cap (tab ∷ held_field r ∷ []) c → q ≡ print_step cap (10 ∷ []) d → q ≡ print cap (line_pieces (refused_fields r n)) p
-unfolding print line_pieces tabs
+unfolding print line_pieces tabs reply_of
 line_printed cap r n y e p a b c d q f g h i j =
-    let m : number_text y.number ≡ number_text (number_of r) = ap number_text (number_is r y e) in
+    let m : number_text y.number ≡ number_text (number_of r) = ap (λ (z : Reply). number_text z.number) e in
     let k : b ≡ print cap (tab ∷ number_text (number_of r) ∷ []) a = g ∙ ap (λ (t : Bytes). print cap (tab ∷ t ∷ []) a) m in
     j ∙ ap (print_step cap (10 ∷ [])) (i
     ∙ ap (print cap (tab ∷ held_field r ∷ [])) (h ∙ ap (print cap (tab ∷ number_text n ∷ [])) (k ∙ ap (print cap (tab ∷ number_text (number_of r) ∷ [])) f)))

@@ -11,9 +11,8 @@ use refusal::{Refusal, Reply};
 fn put_held(out: &mut [u8], cap: usize, room: Option<usize>, refusal: Refusal) -> Option<usize>
     ensures { record { out = out.new; room = result } ≡ print cap (tab ∷ held_field refusal ∷ []) (record { out = out.old; room = room }) }
 {
-    let reply = Reply::from(refusal);
-    if reply.number == 12 {
-        return print::put_integer32(out, cap, room, signed::bits_of_i32(reply.held));
+    if let Refusal::Regression(known) = refusal {
+        return print::put_integer32(out, cap, room, signed::bits_of_i32(known));
     }
     let room = print::put_bytes(out, cap, room, b"\t");
     print::put_bytes(out, cap, room, b"-")

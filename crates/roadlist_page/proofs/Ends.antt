@@ -1,6 +1,6 @@
 -- The start, a last line, and what is printed: each step of the code by its definition.
 use Rattle.reader.specs.declared.RefusedAt.{RefusedAt}
-use Rattle.std.specs.Prelude.{Err, Ok, Result}
+use Rattle.std.specs.Prelude.{Err, None, Ok, Result, Some}
 use Prim.Native.Nat.{ℕ, ◌+◌, ◌^◌, ◌<◌, ◌≤◌}
 use mathlib.Core.Path.{◌≡◌, refl, sym, ◌∙◌, ap, subst}
 use mathlib.Core.Bool.{true, false}
@@ -10,7 +10,7 @@ use borrow.Author.Tests.{le-leb, lt-leb, ltb-true}
 use mir.Syntax.{w32}
 use mir.Val.{SFits}
 use lib.ListN.{length, drop}
-use lib.Seq.{length-take-le}
+use lib.Seq.{length-take-le, take-length}
 use Rattle.base.specs.Bytes.{Bytes, both}
 use Rattle.base.proofs.Split.{by_le, both_left, both_right, clash, no}
 use Rattle.refusal.specs.Refusal.{held_of, reply_of}
@@ -81,23 +81,28 @@ module _ (f : Intake) where
   unfolding state_at_end
   last_event n h x e = rw (last_some (kept_line f) (omega (arith, n, length-take-le f.held f.buffer h))) (ap (λ (z : EventResult). z.state) e)
 
+-- bytes lent whole are what is held of them
+pub last_lent : (f : Intake) → state_at_end (record { state = f.state; buffer = kept_line f; held = length (kept_line f) }) ≡ state_at_end f
+unfolding state_at_end
+last_lent f = rw (take-length (kept_line f)) refl
+
 -- ---- what is printed
 
 -- the line of a refusal is at the start of the output
 pub refused_put : (out : Bytes) → length out ≡ 65536 → (r : Refusal) (n : ℕ) → n < 2 ^ 64 → (y : Reply) → SFits w32 y.held → y ≡ reply_of r
     → (q : Bytes) (m : ℕ) → ◌≡◌ {A = Report} (record { out = q; written = m }) (report_of out (refused_line r n))
-    → ◌≡◌ {A = EndOutput} (record { out = q; written = m; number = y.number }) (end_output out (refused_ending r n))
+    → ◌≡◌ {A = EndOutput} (record { out = q; written = m; refusal = Some r }) (end_output out (refused_ending r n))
 unfolding reply_of
 refused_put out l r n h y g k q m e =
     let f : SFits w32 (held_of r) = subst (λ (z : Reply). SFits w32 z.held) k g in
     let w = e ∙ refused_whole r n h f out (omega arith) in
     let o : q ≡ refused_line r n ++ drop (length (refused_line r n)) out = ap (λ (z : Report). z.out) w ∙ over_start out (refused_line r n) (omega (arith, refused_fits r n h f)) in
-    λ i. record { out = o i; written = (w i).written; number = (k i).number }
+    λ i. record { out = o i; written = (w i).written; refusal = Some r }
 
 module _ (out : Bytes) (l : length out ≡ 65536) (o : Overlay) (s : is_sound o ≡ true) (lines : ℕ) where
   -- 19 is the only refusal of the listing
   by_page : {C : Type 0} (x : Output) → x ≡ listing_on out o
-      → (x ≡ record { out = page_of o ++ drop (length (page_of o)) out; answer = Ok (length (page_of o)) } → page_ending o lines ≡ record { text = page_of o; number = 0 } → C)
+      → (x ≡ record { out = page_of o ++ drop (length (page_of o)) out; answer = Ok (length (page_of o)) } → page_ending o lines ≡ record { text = page_of o; refusal = None } → C)
       → (x ≡ not_listed out R.ShortOutput → page_ending o lines ≡ refused_ending R.ShortOutput (lines + 1) → C) → C
   unfolding listing_on page_over page_ending
   by_page x e f g =
@@ -106,10 +111,10 @@ module _ (out : Bytes) (l : length out ≡ 65536) (o : Overlay) (s : is_sound o 
       (λ h. g (rw (s, l, lt-leb (length (page_of o)) 65536 h) at e) (rw (lt-leb (length (page_of o)) 65536 h)))
 
   pub page_listed : (q : Bytes) (n : ℕ) (z : Result ℕ Refusal) → z ≡ Ok n → ◌≡◌ {A = Output} (record { out = q; answer = z }) (listing_on out o)
-      → ◌≡◌ {A = EndOutput} (record { out = q; written = n; number = 0 }) (end_output out (page_ending o lines))
+      → ◌≡◌ {A = EndOutput} (record { out = q; written = n; refusal = None }) (end_output out (page_ending o lines))
   page_listed q n y k e =
       by_page (record { out = q; answer = y }) e
-      (λ x p. let z = sym k ∙ ap (λ (z : Output). z.answer) x in let m : n ≡ length (page_of o) = cc in rw p (λ i. record { out = (x i).out; written = m i; number = 0 }))
+      (λ x p. let z = sym k ∙ ap (λ (z : Output). z.answer) x in let m : n ≡ length (page_of o) = cc in rw p (λ i. record { out = (x i).out; written = m i; refusal = None }))
       (λ x p. let z = sym k ∙ ap (λ (z : Output). z.answer) x in no (cc))
 
   pub page_refused : (q : Bytes) (r : Refusal) (z : Result ℕ Refusal) → z ≡ Err r → ◌≡◌ {A = Output} (record { out = q; answer = z }) (listing_on out o)

@@ -1,9 +1,8 @@
 -- Document 01, "The listing": "Program `roadlist` reads event lines from standard input and prints the listing, or `refused⇥NUMBER⇥LINE⇥HELD`: line from 1 (for 18 and 19 one
 -- past the last), HELD the known version for 12, else `-`. It lends 512 ids and 8,192 arena bytes a kind, 512 strings, 8,192 string bytes, 65,536 output bytes."
 use Rattle.reader.specs.declared.RefusedAt.{RefusedAt}
-use Rattle.std.specs.Prelude.{ℕ, ◌+◌, cond, leb, length, replicate, Ok, Err, Result}
+use Rattle.std.specs.Prelude.{ℕ, ◌+◌, cond, leb, length, replicate, Option, None, Some, Ok, Err, Result}
 use Rattle.base.specs.Bytes.{Bytes}
-use Rattle.refusal.specs.Refusal.{number_of}
 use Rattle.refusal.specs.declared.Refusal.{Refusal}
 use Rattle.refusal.specs.declared.Refusal.TheVariants as R
 use Rattle.overlay.specs.Overlay.{Overlay}
@@ -34,17 +33,17 @@ start_on o parts = record { overlay = (set_up program_sizes 0 o).overlay; reader
 unfoldable pub program_start : State
 program_start = start_on program_lends (replicate 44432 0)
 
--- what is printed, and the number of the refusal that it tells, 0 where it is the listing
+-- what is printed, and the refusal that it tells, none where it is the listing
 pub record Ending : Type 0 where
   pub text : Bytes
-  pub number : ℕ
+  pub refusal : Option Refusal
 
 abbrev pub refused_ending : Refusal → ℕ → Ending
-refused_ending r n = record { text = refused_line r n; number = number_of r }
+refused_ending r n = record { text = refused_line r n; refusal = Some r }
 
 -- the listing of an overlay, or 19 where it is longer than the output, at one past so many lines
 unfoldable pub page_ending : Overlay → ℕ → Ending
-page_ending o lines = cond (leb (length (page_of o)) 65536) (record { text = page_of o; number = 0 }) (refused_ending R.ShortOutput (lines + 1))
+page_ending o lines = cond (leb (length (page_of o)) 65536) (record { text = page_of o; refusal = None }) (refused_ending R.ShortOutput (lines + 1))
 
 abbrev pub ending_by : Result Unit RefusedAt → State → Ending
 ending_by (Ok tt) s = page_ending s.overlay s.reader.lines

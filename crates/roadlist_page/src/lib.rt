@@ -92,37 +92,36 @@ fn take_last(
     counters: &mut [u64; COUNTERS],
     ps: &mut [u8; STAGED],
     reader: EventReader,
-    buffer: &[u8],
-    n: usize,
+    last: &[u8],
 ) -> EventReader
-    requires { n ≤ length buffer.now }
     ensures { state_left words.new bytes.new counters.new ps.new result
-        ≡ state_at_end (record { state = state_lent words.old bytes.old counters.old ps.old reader; buffer = buffer.now; held = n }) }
+        ≡ state_at_end (record { state = state_lent words.old bytes.old counters.old ps.old reader; buffer = last.now; held = length last.now }) }
 {
-    if n == 0 {
+    if last.is_empty() {
         return reader;
     }
-    let done = reader_calls::event(words, bytes, counters, ps, reader, &buffer[..n]);
+    let done = reader_calls::event(words, bytes, counters, ps, reader, last);
     done.reader
 }
 
-// What is printed at the end: how many bytes of the output, and the number of the refusal that they tell, 0 where they are the listing.
+// What is printed at the end: how many bytes of the output, and the refusal that they tell, none where they are the listing.
 #[derive(Clone, Copy)]
 pub struct Ended {
     pub written: usize,
-    pub number: u32,
+    pub refusal: Option<Refusal>,
 }
 
 // The line of a refusal at the start of the output.
 fn put_refusal(out: &mut [u8], refusal: Refusal, line: u64) -> Ended
     requires { length out.old ≡ 65536 }
-    ensures { record { out = out.new; written = result.written; number = result.number } ≡ end_output out.old (refused_ending refusal line) }
+    ensures { record { out = out.new; written = result.written; refusal = result.refusal } ≡ end_output out.old (refused_ending refusal line) }
 {
-    let reply = Reply::from(refusal);
+    // read for the proof alone: the version held is an `i32`, so the line fits the output
+    let _reply = Reply::from(refusal);
     let written = report::put_refused(out, refusal, line);
     Ended {
         written,
-        number: reply.number,
+        refusal: Some(refusal),
     }
 }
 
@@ -137,13 +136,13 @@ fn put_page(
     requires counters_value { is_sound (overlay_in words.now bytes.now counters.now) ≡ true }
     requires lines_bound { lines < 18446744073709551615 }
     requires out_len { length out.old ≡ 65536 }
-    ensures { record { out = out.new; written = result.written; number = result.number }
+    ensures { record { out = out.new; written = result.written; refusal = result.refusal }
         ≡ end_output out.old (page_ending (lent words.now bytes.now counters.now) lines) }
 {
     match listing::list(words, bytes, counters, out) {
         Ok(n) => Ended {
             written: n,
-            number: 0,
+            refusal: None,
         },
         Err(refusal) => put_refusal(out, refusal, lines + 1),
     }
@@ -159,7 +158,7 @@ fn put_end(
     out: &mut [u8],
 ) -> Ended
     requires { length out.old ≡ 65536 }
-    ensures { record { out = out.new; written = result.written; number = result.number }
+    ensures { record { out = out.new; written = result.written; refusal = result.refusal }
         ≡ end_output out.old (ending_at (state_lent words.now bytes.now counters.now ps.now reader)) }
 {
     match reader_calls::end(words, bytes, counters, ps, reader) {
@@ -181,12 +180,11 @@ pub fn finish(
     ensures { record {
       overlay = left words.new bytes.new counters.new;
       parts = ps.new;
-      output = record { out = out.new; written = result.written; number = result.number };
+      output = record { out = out.new; written = result.written; refusal = result.refusal };
     }
         ≡ finish_on out.old (record { state = state_lent words.old bytes.old counters.old ps.old fed.reader; buffer = buffer.now; held = min fed.held 16384 }) }
 {
     let held = little::lesser(fed.held, MAX_LINE);
-    let reader = fed.reader;
-    let reader = take_last(words, bytes, counters, ps, reader, buffer, held);
+    let reader = take_last(words, bytes, counters, ps, fed.reader, &buffer[..held]);
     put_end(words, bytes, counters, ps, reader, out)
 }

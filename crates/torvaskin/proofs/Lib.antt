@@ -4,3 +4,4 @@ pub mod ReaderReplies
 pub mod ReaderKeeps
 pub mod ReadingFirst
 pub mod ListingReplies
+pub mod KindReadings

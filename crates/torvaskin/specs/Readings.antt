@@ -13,6 +13,11 @@ use Rattle.c_replies.specs.Readings.{read_number, view_part, unknown_kind}
 use Rattle.c_replies.specs.declared.Number.{Number}
 use Rattle.c_replies.specs.declared.Part.{Part}
 
+-- what a reading answers of the kind, or the refusal where no kind is meant
+abbrev pub read_of : {A : Type 0} → Option Kind → (Kind → Result A Refusal) → Overlay → Result A Refusal
+read_of (Some k) f o = f k
+read_of None f o = Err (unknown_kind (is_sound o))
+
 abbrev pub number_for : Option Kind → (Kind → Result ℕ Refusal) → Overlay → Number
 number_for (Some k) f o = read_number (f k)
 number_for None f o = read_number (Err (unknown_kind (is_sound o)))

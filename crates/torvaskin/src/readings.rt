@@ -1,28 +1,48 @@
 // The readings of an overlay.
-ghost use Rattle.std.specs.Prelude.{◌≡◌};
+ghost use Rattle.std.specs.Prelude.{◌≡◌, ℕ, Result};
+ghost use Rattle.kind.specs.Kind.{of_number};
 ghost use Rattle.kind_reading.specs.declared.Side.TheVariants.{Live, Deleted};
 ghost use Rattle.overlay.specs.Lent.{lent};
-ghost use Rattle.overlay.specs.Sound.{is_sound};
 ghost use Rattle.overlay_reading.specs.Reading.{is_empty_on, text_on};
-ghost use Rattle.c_replies.specs.Readings.{read_number, view_part, unknown_kind};
-ghost use Rattle.torvaskin.specs.Readings.{count_number, id_number, record_part, get_part, has_number, is_deleted_number, known_number, ids_reply};
+ghost use Rattle.c_replies.specs.Readings.{read_number, view_part};
+ghost use Rattle.torvaskin.specs.Readings.{read_of, count_number, id_number, record_part, get_part, has_number, is_deleted_number, known_number, ids_reply};
 
 use c_replies::{Number, Part};
 use kind::Kind;
 use kind_reading::Side;
 use overlay_blocks::COUNTERS;
+use refusal::Refusal;
 
-// The replies where a kind's number means no kind.
-fn no_read(words: &[u64], bytes: &[u8], counters: &[u64; COUNTERS]) -> Number
-    ensures { result ≡ read_number (Err (unknown_kind (is_sound (lent words.now bytes.now counters.now)))) }
+// What a reading answers of the kind that a number means; or 22, else 17.
+fn of_kind<T, F: FnOnce(Kind) -> Result<T, Refusal>>(
+    words: &[u64],
+    bytes: &[u8],
+    counters: &[u64; COUNTERS],
+    kind: u8,
+    reading: F,
+) -> Result<T, Refusal>
+    requires { F.IsAlwaysCallable reading }
+    ensures { (f : Kind → Result T Refusal) → ((k : Kind) (r : Result T Refusal) → F.post reading k r → r ≡ f k)
+        → result ≡ read_of (of_number kind) f (lent words.now bytes.now counters.now) }
 {
-    Number::from(Err(c_replies::unknown_kind(overlay::is_sound(words, bytes, counters))))
+    match Kind::try_from(kind) {
+        Ok(k) => reading(k),
+        Err(_) => Err(c_replies::unknown_kind(overlay::is_sound(words, bytes, counters))),
+    }
 }
 
-fn no_view(words: &[u64], bytes: &[u8], counters: &[u64; COUNTERS]) -> Part
-    ensures { result ≡ view_part (Err (unknown_kind (is_sound (lent words.now bytes.now counters.now)))) }
+// How many ids of a kind are live, or how many are deleted; or 22, else 17.
+fn side_count(
+    words: &[u64],
+    bytes: &[u8],
+    counters: &[u64; COUNTERS],
+    kind: u8,
+    side: Side,
+) -> Number
+    ensures { result ≡ count_number kind side (lent words.now bytes.now counters.now) }
 {
-    Part::from(Err(c_replies::unknown_kind(overlay::is_sound(words, bytes, counters))))
+    let reading = |k| overlay_reading::count(words, bytes, counters, k, side);
+    Number::from(of_kind(words, bytes, counters, kind, reading))
 }
 
 // How many ids of a kind are live.
@@ -35,10 +55,7 @@ pub extern "C" fn tvk_live_count(
 ) -> Number
     ensures { result ≡ count_number kind Live (lent words.now bytes.now counters.now) }
 {
-    match Kind::try_from(kind) {
-        Ok(k) => Number::from(overlay_reading::count(words, bytes, counters, k, Side::Live)),
-        Err(_) => no_read(words, bytes, counters),
-    }
+    side_count(words, bytes, counters, kind, Side::Live)
 }
 
 // How many are deleted.
@@ -51,10 +68,7 @@ pub extern "C" fn tvk_deleted_count(
 ) -> Number
     ensures { result ≡ count_number kind Deleted (lent words.now bytes.now counters.now) }
 {
-    match Kind::try_from(kind) {
-        Ok(k) => Number::from(overlay_reading::count(words, bytes, counters, k, Side::Deleted)),
-        Err(_) => no_read(words, bytes, counters),
-    }
+    side_count(words, bytes, counters, kind, Side::Deleted)
 }
 
 // 1 where no id of any kind is known, else 0.
@@ -63,6 +77,21 @@ pub extern "C" fn tvk_is_empty(words: &[u64], bytes: &[u8], counters: &[u64; COU
     ensures { result ≡ read_number (is_empty_on (lent words.now bytes.now counters.now)) }
 {
     Number::from(overlay_reading::is_empty(words, bytes, counters))
+}
+
+// The bits of the n-th live or the n-th deleted id of a kind in OSM order; or 22, 17, 21.
+fn side_id(
+    words: &[u64],
+    bytes: &[u8],
+    counters: &[u64; COUNTERS],
+    kind: u8,
+    side: Side,
+    n: u64,
+) -> Number
+    ensures { result ≡ id_number kind side n (lent words.now bytes.now counters.now) }
+{
+    let reading = |k| overlay_reading::id_at(words, bytes, counters, k, side, n);
+    Number::from(of_kind(words, bytes, counters, kind, reading))
 }
 
 // The bits of the n-th live id in OSM order, or 21.
@@ -76,10 +105,7 @@ pub extern "C" fn tvk_live_id(
 ) -> Number
     ensures { result ≡ id_number kind Live n (lent words.now bytes.now counters.now) }
 {
-    match Kind::try_from(kind) {
-        Ok(k) => Number::from(overlay_reading::id_at(words, bytes, counters, k, Side::Live, n)),
-        Err(_) => no_read(words, bytes, counters),
-    }
+    side_id(words, bytes, counters, kind, Side::Live, n)
 }
 
 // The bits of the n-th deleted id in OSM order, or 21.
@@ -93,10 +119,7 @@ pub extern "C" fn tvk_deleted_id(
 ) -> Number
     ensures { result ≡ id_number kind Deleted n (lent words.now bytes.now counters.now) }
 {
-    match Kind::try_from(kind) {
-        Ok(k) => Number::from(overlay_reading::id_at(words, bytes, counters, k, Side::Deleted, n)),
-        Err(_) => no_read(words, bytes, counters),
-    }
+    side_id(words, bytes, counters, kind, Side::Deleted, n)
 }
 
 // Where the record of the n-th live id lies in its kind's arena, or 21.
@@ -110,10 +133,8 @@ pub extern "C" fn tvk_record(
 ) -> Part
     ensures { result ≡ record_part kind n (lent words.now bytes.now counters.now) }
 {
-    match Kind::try_from(kind) {
-        Ok(k) => Part::from(overlay_reading::record_at(words, bytes, counters, k, n)),
-        Err(_) => no_view(words, bytes, counters),
-    }
+    let reading = |k| overlay_reading::record_at(words, bytes, counters, k, n);
+    Part::from(of_kind(words, bytes, counters, kind, reading))
 }
 
 // Where the record of an id lies, if the id is live.
@@ -127,16 +148,9 @@ pub extern "C" fn tvk_get(
 ) -> Part
     ensures { result ≡ get_part kind id (lent words.now bytes.now counters.now) }
 {
-    match Kind::try_from(kind) {
-        Ok(k) => Part::from(overlay_reading::get(
-            words,
-            bytes,
-            counters,
-            k,
-            signed::bits_of_i64(id),
-        )),
-        Err(_) => no_view(words, bytes, counters),
-    }
+    let bits = signed::bits_of_i64(id);
+    let reading = |k| overlay_reading::get(words, bytes, counters, k, bits);
+    Part::from(of_kind(words, bytes, counters, kind, reading))
 }
 
 // 1 where an id is live, else 0.
@@ -150,16 +164,9 @@ pub extern "C" fn tvk_has(
 ) -> Number
     ensures { result ≡ has_number kind id (lent words.now bytes.now counters.now) }
 {
-    match Kind::try_from(kind) {
-        Ok(k) => Number::from(overlay_reading::has(
-            words,
-            bytes,
-            counters,
-            k,
-            signed::bits_of_i64(id),
-        )),
-        Err(_) => no_read(words, bytes, counters),
-    }
+    let bits = signed::bits_of_i64(id);
+    let reading = |k| overlay_reading::has(words, bytes, counters, k, bits);
+    Number::from(of_kind(words, bytes, counters, kind, reading))
 }
 
 // 1 where an id is deleted, else 0.
@@ -173,16 +180,9 @@ pub extern "C" fn tvk_is_deleted(
 ) -> Number
     ensures { result ≡ is_deleted_number kind id (lent words.now bytes.now counters.now) }
 {
-    match Kind::try_from(kind) {
-        Ok(k) => Number::from(overlay_reading::is_deleted(
-            words,
-            bytes,
-            counters,
-            k,
-            signed::bits_of_i64(id),
-        )),
-        Err(_) => no_read(words, bytes, counters),
-    }
+    let bits = signed::bits_of_i64(id);
+    let reading = |k| overlay_reading::is_deleted(words, bytes, counters, k, bits);
+    Number::from(of_kind(words, bytes, counters, kind, reading))
 }
 
 // The known version of an id as a word: below 2^32 its bits, else none.
@@ -196,16 +196,9 @@ pub extern "C" fn tvk_known_version(
 ) -> Number
     ensures { result ≡ known_number kind id (lent words.now bytes.now counters.now) }
 {
-    match Kind::try_from(kind) {
-        Ok(k) => Number::from(overlay_reading::known_version(
-            words,
-            bytes,
-            counters,
-            k,
-            signed::bits_of_i64(id),
-        )),
-        Err(_) => no_read(words, bytes, counters),
-    }
+    let bits = signed::bits_of_i64(id);
+    let reading = |k| overlay_reading::known_version(words, bytes, counters, k, bits);
+    Number::from(of_kind(words, bytes, counters, kind, reading))
 }
 
 // Where the text of a handle lies among the string bytes, or 21.
@@ -222,6 +215,7 @@ pub extern "C" fn tvk_text(
 }
 
 // All live or all deleted ids of a kind in OSM order and the known version of each: 22, 17, 19, or how many they are.
+// `of_kind` is for readings that change nothing: its contract says nothing of the lists that a reading fills.
 fn ids_number(
     words: &[u64],
     bytes: &[u8],
@@ -239,7 +233,10 @@ fn ids_number(
             let read = overlay_ids::all_ids(words, bytes, counters, k, side, ids, versions);
             Number::from(read)
         }
-        Err(_) => no_read(words, bytes, counters),
+        Err(_) => {
+            let sound = overlay::is_sound(words, bytes, counters);
+            Number::from(Err(c_replies::unknown_kind(sound)))
+        }
     }
 }
 

@@ -1,11 +1,18 @@
 -- The soundness test, then the count of the kind.
+use Rattle.overlay.specs.Lent.{overlay_in}
+use Rattle.overlay.proofs.Checked.{checked_sound, checked_unsound}
 use Rattle.overlay_reading.specs.Reading.{count_on}
 use Rattle.overlay_reading.proofs.count.Goals as goal
 
-pub returns-then-is_sound : goal.returns-then-is_sound
+pub returns-in_err-check_sound : goal.returns-in_err-check_sound
 unfolding count_on
-returns-then-is_sound c = rw (← c.is_sound.ensures, c.if-is_sound.true, ← c.count_in.ensures)
+returns-in_err-check_sound c =
+    let k = c.args in
+    let u = checked_unsound (overlay_in k.words.now k.bytes.now k.counters.now) c.in_err-check_sound.ensures c.from_residual.ensures in
+    rw (u.1, u.0)
 
 pub returns : goal.returns
 unfolding count_on
-returns c = rw (← c.is_sound.ensures, c.if-is_sound.false)
+returns c =
+    let k = c.args in
+    rw (checked_sound (overlay_in k.words.now k.bytes.now k.counters.now) c.in_ok-check_sound.ensures, ← c.count_in.ensures)

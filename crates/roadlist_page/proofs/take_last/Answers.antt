@@ -1,28 +1,35 @@
 -- Nothing is held, or what is held is an event.
-use mathlib.Core.Path.{sym}
-use lib.Seq.{length-take-le}
+use native.Mathlib.Omega.{arith}
+use mathlib.Core.Path.{◌≡◌, sym, ◌∙◌, ap}
+use lib.ListN.{length}
+use lib.Seq.{take-length}
+use Rattle.base.specs.Bytes.{Bytes}
 use Rattle.overlay.specs.Lent.{overlay_in}
+use Rattle.reader.specs.Event.{event_on}
 use Rattle.roadlist_page.proofs.Ends.{last_none, last_event}
+use borrow.Author.Rules.{rules}
 use Rattle.roadlist_page.proofs.take_last.Goals as goal
 
-pub returns-then-n-eq0 : goal.returns-then-n-eq0
-returns-then-n-eq0 c =
+pub returns-then-is_empty : goal.returns-then-is_empty
+returns-then-is_empty c =
+    let n : length c.args.last.now ≡ 0 = search rules in
     last_none (record {
       state = (let k = c.args in
           record { overlay = overlay_in k.words.now k.bytes.now k.counters.now; reader = k.reader; parts = k.ps.now });
-      buffer = c.args.buffer.now;
-      held = c.args.n;
-    }) c.if-n-eq0.true
-
-pub slice_bounds-event-end : goal.slice_bounds-event-end
-slice_bounds-event-end c =
-    sym (length-take-le c.args.n c.args.buffer.now c.requires)
+      buffer = c.args.last.now;
+      held = length c.args.last.now;
+    }) n
 
 pub returns : goal.returns
 returns c =
+    let k = c.args in
+    let n : length k.last.now ≡ 0 → ⊥ = search rules in
     last_event (record {
-      state = (let k = c.args in
-          record { overlay = overlay_in k.words.now k.bytes.now k.counters.now; reader = k.reader; parts = k.ps.now });
-      buffer = c.args.buffer.now;
-      held = c.args.n;
-    }) c.if-n-eq0.false c.requires _ c.event-done.ensures
+      state = record { overlay = overlay_in k.words.now k.bytes.now k.counters.now; reader = k.reader; parts = k.ps.now };
+      buffer = k.last.now;
+      held = length k.last.now;
+    }) n (omega arith) _ (c.event-done.ensures ∙ ap (λ (l : Bytes). event_on l (record {
+      overlay = overlay_in k.words.now k.bytes.now k.counters.now;
+      reader = k.reader;
+      parts = k.ps.now;
+    })) (sym (take-length k.last.now)))

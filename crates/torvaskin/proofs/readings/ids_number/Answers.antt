@@ -10,4 +10,4 @@ returns-in-Ok c =
 pub returns-in-Err : goal.returns-in-Err
 unfolding ids_reply
 returns-in-Err c =
-    rw (← (rw c.in-Err.is at c.try_from.ensures).0, c.no_read.ensures)
+    rw (← (rw c.in-Err.is at c.try_from.ensures).0, c.from-in-Err.ensures, c.unknown_kind.ensures, c.is_sound-sound.ensures)

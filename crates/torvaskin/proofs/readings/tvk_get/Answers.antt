@@ -1,15 +1,19 @@
 -- Where the record of the id lies, if it is live; or 22, else 17.
+use Rattle.std.proofs.Common.{rules}
+use Rattle.kind.specs.Kind.{of_number}
+use Rattle.kind.specs.declared.Kind.{Kind}
+use Rattle.kind_reading.specs.Listed.{View}
+use Rattle.overlay.specs.Lent.{lent}
+use Rattle.overlay_reading.specs.Reading.{get_on}
 use Rattle.torvaskin.specs.Readings.{get_part}
+use Rattle.torvaskin.proofs.KindReadings.{part_read}
 use Rattle.signed.proofs.Bits.{bits_back}
 use Rattle.torvaskin.proofs.readings.tvk_get.Goals as goal
 
-pub returns-in-Ok : goal.returns-in-Ok
+pub returns : goal.returns
 unfolding get_part
-returns-in-Ok c =
-    let d = bits_back c.ranges.id c.bits_of_i64.ensures in
-    rw (← (rw c.in-Ok.is at c.try_from.ensures), c.from.ensures, c.get.ensures, d)
-
-pub returns-in-Err : goal.returns-in-Err
-unfolding get_part
-returns-in-Err c =
-    rw (← (rw c.in-Err.is at c.try_from.ensures).0, c.no_view.ensures)
+returns c =
+    let o = lent c.args.words.now c.args.bytes.now c.args.counters.now in
+    let f : Kind → View = λ k. get_on k c.args.id o in
+    let d = bits_back c.ranges.id c.bits_of_i64-bits.ensures in
+    rw (c.from.ensures, c.of_kind.ensures f (λ k r p. search rules), part_read (of_number c.args.kind) f o)

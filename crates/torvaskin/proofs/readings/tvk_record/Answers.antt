@@ -1,13 +1,17 @@
 -- Where the record of the n-th live id of the kind lies; or 22, else 17.
+use Rattle.std.proofs.Common.{rules}
+use Rattle.kind.specs.Kind.{of_number}
+use Rattle.kind.specs.declared.Kind.{Kind}
+use Rattle.kind_reading.specs.Listed.{View}
+use Rattle.overlay.specs.Lent.{lent}
+use Rattle.overlay_reading.specs.Reading.{record_on}
 use Rattle.torvaskin.specs.Readings.{record_part}
+use Rattle.torvaskin.proofs.KindReadings.{part_read}
 use Rattle.torvaskin.proofs.readings.tvk_record.Goals as goal
 
-pub returns-in-Ok : goal.returns-in-Ok
+pub returns : goal.returns
 unfolding record_part
-returns-in-Ok c =
-    rw (← (rw c.in-Ok.is at c.try_from.ensures), c.from.ensures, c.record_at.ensures)
-
-pub returns-in-Err : goal.returns-in-Err
-unfolding record_part
-returns-in-Err c =
-    rw (← (rw c.in-Err.is at c.try_from.ensures).0, c.no_view.ensures)
+returns c =
+    let o = lent c.args.words.now c.args.bytes.now c.args.counters.now in
+    let f : Kind → View = λ k. record_on k c.args.n o in
+    rw (c.from.ensures, c.of_kind.ensures f (λ k r p. search rules), part_read (of_number c.args.kind) f o)
