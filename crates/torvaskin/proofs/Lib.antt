@@ -4,4 +4,3 @@ pub mod ReaderReplies
 pub mod ReaderKeeps
 pub mod ReadingFirst
 pub mod ListingReplies
-pub mod KindReadings

@@ -14,17 +14,15 @@ use Rattle.c_replies.specs.declared.Number.{Number}
 use Rattle.c_replies.specs.declared.Part.{Part}
 
 -- what a reading answers of the kind, or the refusal where no kind is meant
-abbrev pub read_of : {A : Type 0} → Option Kind → (Kind → Result A Refusal) → Overlay → Result A Refusal
-read_of (Some k) f o = f k
-read_of None f o = Err (unknown_kind (is_sound o))
+abbrev pub reading_for : {A : Type 0} → Option Kind → (Kind → Result A Refusal) → Overlay → Result A Refusal
+reading_for (Some k) f o = f k
+reading_for None f o = Err (unknown_kind (is_sound o))
 
 abbrev pub number_for : Option Kind → (Kind → Result ℕ Refusal) → Overlay → Number
-number_for (Some k) f o = read_number (f k)
-number_for None f o = read_number (Err (unknown_kind (is_sound o)))
+number_for n f o = read_number (reading_for n f o)
 
 abbrev pub part_for : Option Kind → (Kind → View) → Overlay → Part
-part_for (Some k) f o = view_part (f k)
-part_for None f o = view_part (Err (unknown_kind (is_sound o)))
+part_for n f o = view_part (reading_for n f o)
 
 unfoldable pub count_number : ℕ → Side → Overlay → Number
 count_number kind side o = number_for (of_number kind) (λ k. count_on k side o) o

@@ -5,7 +5,7 @@ ghost use Rattle.kind_reading.specs.declared.Side.TheVariants.{Live, Deleted};
 ghost use Rattle.overlay.specs.Lent.{lent};
 ghost use Rattle.overlay_reading.specs.Reading.{is_empty_on, text_on};
 ghost use Rattle.c_replies.specs.Readings.{read_number, view_part};
-ghost use Rattle.torvaskin.specs.Readings.{read_of, count_number, id_number, record_part, get_part, has_number, is_deleted_number, known_number, ids_reply};
+ghost use Rattle.torvaskin.specs.Readings.{reading_for, count_number, id_number, record_part, get_part, has_number, is_deleted_number, known_number, ids_reply};
 
 use c_replies::{Number, Part};
 use kind::Kind;
@@ -23,7 +23,7 @@ fn of_kind<T, F: FnOnce(Kind) -> Result<T, Refusal>>(
 ) -> Result<T, Refusal>
     requires { F.IsAlwaysCallable reading }
     ensures { (f : Kind → Result T Refusal) → ((k : Kind) (r : Result T Refusal) → F.post reading k r → r ≡ f k)
-        → result ≡ read_of (of_number kind) f (lent words.now bytes.now counters.now) }
+        → result ≡ reading_for (of_number kind) f (lent words.now bytes.now counters.now) }
 {
     match Kind::try_from(kind) {
         Ok(k) => reading(k),

@@ -1,13 +1,11 @@
 -- Whether the id is live; or 22, else 17.
 use Rattle.std.proofs.Common.{rules}
-use Rattle.kind.specs.Kind.{of_number}
 use Rattle.kind.specs.declared.Kind.{Kind}
 use Rattle.refusal.specs.declared.Refusal.{Refusal}
 use Rattle.std.specs.Prelude.{ℕ, Result}
 use Rattle.overlay.specs.Lent.{lent}
 use Rattle.overlay_reading.specs.Reading.{has_on}
 use Rattle.torvaskin.specs.Readings.{has_number}
-use Rattle.torvaskin.proofs.KindReadings.{number_read}
 use Rattle.signed.proofs.Bits.{bits_back}
 use Rattle.torvaskin.proofs.readings.tvk_has.Goals as goal
 
@@ -17,4 +15,4 @@ returns c =
     let o = lent c.args.words.now c.args.bytes.now c.args.counters.now in
     let f : Kind → Result ℕ Refusal = λ k. has_on k c.args.id o in
     let d = bits_back c.ranges.id c.bits_of_i64-bits.ensures in
-    rw (c.from.ensures, c.of_kind.ensures f (λ k r p. search rules), number_read (of_number c.args.kind) f o)
+    rw (c.from.ensures, c.of_kind.ensures f (λ k r p. search rules))
