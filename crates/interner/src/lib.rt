@@ -8,6 +8,8 @@ ghost use Rattle.distinct.specs.Distinct.{distinct, runs_in};
 ghost use Rattle.interner.specs.Strings.{span_at, span_of, is_at, find_from, find_in, store_with, store_after, text_taken, taken_as, intern};
 ghost use Rattle.interner.specs.Sound.{sound_up_to, sound_strings, fresh_spans};
 ghost use Rattle.interner.specs.Check.{new_at, legal_at, WordsNoted};
+ghost use Rattle.interner.specs.Texts.{handle_answered};
+ghost use Rattle.interner.specs.Lent.{store_seen, store_held, IsSameStrings, span_held, find_held};
 
 use distinct::Distinctness;
 use little::Span;
@@ -293,5 +295,79 @@ pub fn sound_strings(spans: &[u64], bytes: &[u8], strings: u64, used: u64) -> bo
         sound_up_to(spans, &bytes[..at], strings as usize)
     } else {
         false
+    }
+}
+
+// ---- what is lent for strings
+
+// What is lent for strings, to be read: two words a string among the spans, the bytes of the texts in the first used bytes, and how many strings are held.
+#[derive(Clone, Copy)]
+pub struct Strings<'a> {
+    pub spans: &'a [u64],
+    pub bytes: &'a [u8],
+    pub count: u64,
+    pub used: u64,
+}
+
+// The same, to take a text in.
+#[derive(Drop)]
+pub struct StringsMut<'a> {
+    pub spans: &'a mut [u64],
+    pub bytes: &'a mut [u8],
+    pub count: u64,
+    pub used: u64,
+}
+
+impl Strings<'_> {
+    // Where the text of a held handle lies among the bytes.
+    pub fn resolve(&self, handle: u64) -> Option<Span>
+        ensures { result ≡ span_held (store_seen self.now) handle }
+    {
+        let end = little::lesser(self.used as usize, self.bytes.len());
+        resolve(self.spans, &self.bytes[..end], self.count, handle)
+    }
+
+    // The first of the held handles whose string is the text.
+    pub fn find(&self, text: &[u8]) -> Option<u64>
+        ensures { result ≡ find_held (store_seen self.now) text.now }
+    {
+        let end = little::lesser(self.used as usize, self.bytes.len());
+        find_text(self.spans, &self.bytes[..end], self.count, text)
+    }
+
+    // Whether the strings are sound.
+    pub fn is_sound(&self) -> bool
+        ensures { result ≡ sound_strings (store_seen self.now) }
+    {
+        sound_strings(self.spans, self.bytes, self.count, self.used)
+    }
+}
+
+impl StringsMut<'_> {
+    // The same strings, to be read.
+    pub fn strings(&self) -> Strings<'_>
+        ensures { store_seen result ≡ store_held self.now }
+    {
+        Strings {
+            spans: self.spans,
+            bytes: self.bytes,
+            count: self.count,
+            used: self.used,
+        }
+    }
+
+    // Takes a text in: the handle of an equal one that is held, else the next one, or none where there is no room. The handle is new where the count has grown.
+    pub fn intern(&mut self, text: &[u8]) -> Option<u64>
+        ensures same { IsSameStrings self.new self.old }
+        ensures store { store_held self.new ≡ (intern (store_held self.old) text.now).store }
+        ensures handle { result ≡ handle_answered (intern (store_held self.old) text.now).answer }
+    {
+        let taken = intern(self.spans, self.bytes, self.count, self.used, text);
+        self.count = taken.strings;
+        self.used = taken.used;
+        match taken.answer {
+            Interned::Held(h) | Interned::New(h) => Some(h),
+            Interned::Full => None,
+        }
     }
 }
