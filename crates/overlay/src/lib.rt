@@ -4,13 +4,95 @@
 ghost use Rattle.std.specs.Prelude.{◌≡◌, ◌<◌, length, set};
 ghost use Rattle.interner.specs.Sound.{sound_strings};
 ghost use Rattle.overlay.specs.Overlay.{fresh_counters};
-ghost use Rattle.overlay.specs.Lent.{lent, left, lent_for, left_for};
+ghost use Rattle.overlay.specs.Lent.{lent, left, lent_for, left_for, overlay_seen, overlay_held, overlay_tabled};
 ghost use Rattle.overlay.specs.Sound.{is_sound, sound_of, kind_stores_sound};
 ghost use Rattle.overlay.specs.Calls.{set_up, sound_answer, allow_on};
 
 use kind::Kind;
 use overlay_blocks::{ARENA, COUNTERS, SETTING, STRING_BYTES, STRINGS, Sizes};
 use refusal::Refusal;
+
+// ---- an overlay as it is lent
+
+// An overlay that is only read: its words, its bytes and its counters.
+#[derive(Clone, Copy)]
+pub struct Storage<'a> {
+    pub words: &'a [u64],
+    pub bytes: &'a [u8],
+    pub counters: &'a [u64; COUNTERS],
+}
+
+// An overlay that a call writes.
+#[derive(Drop)]
+pub struct StorageMut<'a> {
+    pub words: &'a mut [u64],
+    pub bytes: &'a mut [u8],
+    pub counters: &'a mut [u64; COUNTERS],
+}
+
+// An overlay of which a call writes the words and the counters alone, since C lends it the bytes to be read only.
+#[derive(Drop)]
+pub struct StorageTables<'a> {
+    pub words: &'a mut [u64],
+    pub bytes: &'a [u8],
+    pub counters: &'a mut [u64; COUNTERS],
+}
+
+impl Storage<'_> {
+    // Whether the overlay is sound: the sizes, the strings, then each kind.
+    pub fn is_sound(&self) -> bool
+        ensures { result ≡ is_sound (overlay_seen self.now) }
+    {
+        is_sound(self.words, self.bytes, self.counters)
+    }
+
+    // 22, or nothing: what each call tests first.
+    pub fn check_sound(&self) -> Result<(), Refusal>
+        ensures { result ≡ sound_answer (overlay_seen self.now) }
+    {
+        check_sound(self.words, self.bytes, self.counters)
+    }
+}
+
+impl StorageMut<'_> {
+    // The overlay to be read.
+    pub fn storage(&self) -> Storage<'_>
+        ensures { overlay_seen result ≡ overlay_held self.now }
+    {
+        Storage {
+            words: self.words,
+            bytes: self.bytes,
+            counters: self.counters,
+        }
+    }
+
+    // 22, or nothing.
+    pub fn check_sound(&self) -> Result<(), Refusal>
+        ensures { result ≡ sound_answer (overlay_held self.now) }
+    {
+        self.storage().check_sound()
+    }
+}
+
+impl StorageTables<'_> {
+    // The overlay to be read.
+    pub fn storage(&self) -> Storage<'_>
+        ensures { overlay_seen result ≡ overlay_tabled self.now }
+    {
+        Storage {
+            words: self.words,
+            bytes: self.bytes,
+            counters: self.counters,
+        }
+    }
+
+    // 22, or nothing.
+    pub fn check_sound(&self) -> Result<(), Refusal>
+        ensures { result ≡ sound_answer (overlay_tabled self.now) }
+    {
+        self.storage().check_sound()
+    }
+}
 
 // ---- set-up
 
