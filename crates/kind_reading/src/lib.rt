@@ -7,6 +7,7 @@ ghost use Rattle.std.proofs.Common.{to_z};
 ghost use Rattle.kind_reading.specs.Listed.{rows_read, is_on, rows_on, nth, row_standing, standing_of, view_at};
 
 use kind::Kind;
+use kind_store::KindStorage;
 use kind_table::{DELETED, Row};
 use little::Span;
 use refusal::Refusal;
@@ -108,4 +109,38 @@ pub fn view_at(
         })),
         None => Err(Refusal::Unsound),
     }
+}
+
+// ---- the same over what is lent for one kind
+
+// How many rows are on a list.
+pub fn listed_count(storage: &KindStorage<'_>, side: Side) -> u64
+    ensures { result ≡ length (rows_on side (rows_read storage.now.table.now storage.now.ids)) }
+{
+    count_on(side, storage.table, storage.ids)
+}
+
+// The row of a number on a list.
+pub fn listed_row(storage: &KindStorage<'_>, side: Side, n: u64) -> Option<Row>
+    ensures { result ≡ nth (rows_on side (rows_read storage.now.table.now storage.now.ids)) n }
+{
+    row_on(side, storage.table, storage.ids, n)
+}
+
+// What is known of an id, which is given in bits.
+pub fn known_standing(storage: &KindStorage<'_>, id: u64) -> Standing
+    ensures { result ≡ standing_of storage.now.table.now storage.now.ids (to_z w64 id) }
+{
+    standing_of(storage.table, storage.ids, id)
+}
+
+// A record's view: from its offset to its end.
+pub fn record_view(
+    storage: &KindStorage<'_>,
+    strings: u64,
+    at: u64,
+) -> Result<Option<Span>, Refusal>
+    ensures { result ≡ view_at strings storage.now.kind storage.now.arena.now storage.now.used at }
+{
+    view_at(storage.kind, storage.arena, storage.used, strings, at)
 }

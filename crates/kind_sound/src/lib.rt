@@ -10,10 +10,12 @@ ghost use Rattle.osm_id.specs.Order.{rank, id_of};
 ghost use Rattle.compact_legal.specs.Whole.{whole_records};
 ghost use Rattle.kind_table.specs.Words.{rows_of};
 ghost use Rattle.kind_store.specs.KindStore.{kind_store_with};
+ghost use Rattle.kind_store.specs.Lent.{kind_seen};
 ghost use Rattle.kind_sound.specs.Check.{comes_to, row_passes, sound_used, sound_kind_store};
 ghost use Rattle.kind_sound.specs.Cells.{cell_of, Empty, Noted};
 
 use kind::Kind;
+use kind_store::KindStorage;
 use kind_table::{DELETED, Row};
 
 // The rank of the id that stands at a place.
@@ -157,4 +159,18 @@ pub fn sound_kind_store(
         return false;
     }
     used_sound(kind, table, ids, &arena[..n], strings)
+}
+
+// Whether what is lent for one kind is sound, given how many strings are held.
+pub fn is_sound(storage: &KindStorage<'_>, strings: u64) -> bool
+    ensures { result ≡ sound_kind_store strings storage.now.kind (kind_seen storage.now) }
+{
+    sound_kind_store(
+        storage.kind,
+        storage.table,
+        storage.ids,
+        storage.arena,
+        storage.used,
+        strings,
+    )
 }

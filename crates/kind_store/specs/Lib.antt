@@ -1,2 +1,3 @@
 pub mod KindStore
 pub mod WellFormed
+pub mod Lent

@@ -10,8 +10,9 @@ ghost use Rattle.compact.specs.Layout.{head_len, head_bytes, meta_bytes};
 ghost use Rattle.compact.specs.Held.{meta_of, head_in};
 ghost use Rattle.compact_append.specs.Append.{append};
 ghost use Rattle.refusal.specs.declared.Refusal.TheVariants.{IdsFull};
-ghost use Rattle.kind_table.specs.Words.{lookup, stored, count_after};
+ghost use Rattle.kind_table.specs.Words.{held, row_at, lookup, stored, count_after};
 ghost use Rattle.kind_store.specs.KindStore.{kind_store_with, live_version, known_of, known_at, known_version, floor_at, checked, room_at, floor_after, kind_store_refused, record_joined, pushed, deleted_as, deleted};
+ghost use Rattle.kind_store.specs.Lent.{kind_seen, kind_held, kind_rows_held, IsSameKindStorage, IsSameKindStorageTable};
 
 use compact::{ArenaMeta, CompactNode, CompactRelation, CompactWay, PushHead};
 use kind::Kind;
@@ -24,6 +25,36 @@ use version_floor::VersionFloor;
 pub struct Outcome {
     pub answer: Result<(), Refusal>,
     pub ids: u64,
+    pub used: u64,
+}
+
+// What is lent for one kind, to be read: its id table with the count of its ids, and its arena with the count of its used bytes.
+#[derive(Clone, Copy)]
+pub struct KindStorage<'a> {
+    pub kind: Kind,
+    pub table: &'a [u64],
+    pub ids: u64,
+    pub arena: &'a [u8],
+    pub used: u64,
+}
+
+// What is lent for one kind, to be changed.
+#[derive(Drop)]
+pub struct KindStorageMut<'a> {
+    pub kind: Kind,
+    pub table: &'a mut [u64],
+    pub ids: u64,
+    pub arena: &'a mut [u8],
+    pub used: u64,
+}
+
+// What is lent for one kind, with the id table alone to be changed.
+#[derive(Drop)]
+pub struct KindStorageTable<'a> {
+    pub kind: Kind,
+    pub table: &'a mut [u64],
+    pub ids: u64,
+    pub arena: &'a [u8],
     pub used: u64,
 }
 
@@ -330,5 +361,73 @@ pub fn delete(
         answer: Err(Refusal::Regression(held)),
         ids,
         used,
+    }
+}
+
+// ---- the same over what is lent for one kind
+
+impl KindStorage<'_> {
+    // How many rows are read: those counted, as far as the words go.
+    pub fn rows_held(&self) -> usize
+        ensures { result ≡ held self.now.table.now self.now.ids }
+    {
+        kind_table::rows_held(self.table, self.ids)
+    }
+
+    // The i-th row.
+    pub fn row_at(&self, i: usize) -> Row
+        ensures { result ≡ row_at self.now.table.now i }
+    {
+        kind_table::row_at(self.table, i)
+    }
+
+    // The known version that a row says.
+    pub fn row_version(&self, row: Row) -> Option<i32>
+        ensures { result ≡ known_of self.now.kind self.now.arena.now row }
+    {
+        row_version(self.kind, self.arena, row)
+    }
+
+    // The known version of an id, which is given in bits.
+    pub fn known_version(&self, id: u64) -> Option<i32>
+        ensures { result ≡ known_version self.now.kind (kind_seen self.now) (to_z w64 id) }
+    {
+        known_version(self.kind, self.table, self.ids, self.arena, id)
+    }
+}
+
+impl KindStorageMut<'_> {
+    // A push whose record is legal: 12, 14, 15, or taken.
+    pub fn push(
+        &mut self,
+        setting: u64,
+        head: PushHead,
+        meta: ArenaMeta,
+        parts: &[u8],
+    ) -> Result<(), Refusal>
+        ensures same { IsSameKindStorage self.new self.old }
+        ensures done { record { kind_store = kind_held self.new; answer = result } ≡ pushed self.old.kind setting (kind_held self.old) (to_z w64 head.id) (claim_of (meta_of meta)) (head_bytes self.old.kind (head_in self.old.kind head) ++ meta_bytes (meta_of meta) ++ parts.now) }
+    {
+        let o = push(
+            self.kind, setting, self.table, self.ids, self.arena, self.used, head, meta, parts,
+        );
+        self.ids = o.ids;
+        self.used = o.used;
+        o.answer
+    }
+}
+
+impl KindStorageTable<'_> {
+    // A delete whose metadata is legal: 12, 14, or taken.
+    pub fn delete(&mut self, setting: u64, id: u64, claim: Option<i32>) -> Result<(), Refusal>
+        ensures same { IsSameKindStorageTable self.new self.old }
+        ensures done { record { kind_store = kind_rows_held self.new; answer = result } ≡ deleted self.old.kind setting (kind_rows_held self.old) (to_z w64 id) claim }
+    {
+        let o = delete(
+            self.kind, setting, self.table, self.ids, self.arena, self.used, id, claim,
+        );
+        self.ids = o.ids;
+        self.used = o.used;
+        o.answer
     }
 }

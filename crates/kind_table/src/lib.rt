@@ -68,7 +68,7 @@ pub fn is_rising(table: &[u64], count: u64) -> bool
 }
 
 // As many rows as are counted and as the words hold.
-fn rows_held(table: &[u64], count: u64) -> usize
+pub fn rows_held(table: &[u64], count: u64) -> usize
     ensures { result ≡ held table.now count }
 {
     let n = count as usize;
