@@ -2,7 +2,7 @@
 use mathlib.Core.Path.{sym, ◌∙◌}
 use native.Mathlib.Omega.{arith}
 use lib.ListN.{length-take}
-use Rattle.interner.proofs.sound_by_words.Goals as goal
+use Rattle.interner.proofs.Texts.sound_by_words.Goals as goal
 
 pub slice_bounds-runs_differ-end-then-note_texts : goal.slice_bounds-runs_differ-end-then-note_texts
 slice_bounds-runs_differ-end-then-note_texts c = simp length-take (omega arith)

@@ -2,7 +2,7 @@
 use Prim.Native.Nat.{◌-◌}
 use mathlib.Core.Path.{◌≡◌}
 use Rattle.interner.specs.Strings.{find_from}
-use Rattle.interner.proofs.find_from.Given as goal
+use Rattle.interner.proofs.Texts.find_from.Given as goal
 
 abbrev pub invariant-loop-h : goal.invariant-loop-h
-invariant-loop-h l = find_from l.spans l.bytes l.text (l.count - l.h) l.h ≡ find_from l.spans l.bytes l.text (l.count - l.from) l.from
+invariant-loop-h l = find_from l.self.spans.now l.self.bytes.now l.text (l.count - l.h) l.h ≡ find_from l.self.spans.now l.self.bytes.now l.text (l.count - l.from) l.from
