@@ -53,10 +53,10 @@ module _ (spans : List ℕ) (bytes : Bytes) where
         rw q (find_on spans bytes t (m + n) h (f h (omega arith) (omega arith)) ∙ find_skip m n (suc h) k (omega arith) (λ j c d. f j (omega arith) d))
 
     -- a text has one handle
-    pub found_chained : (ix : List ℕ) (n count h : ℕ) → n ≤ count → ChainsGiven ix spans bytes count → FoundBelow spans bytes t n (Some h) → find_in spans bytes count t ≡ Some h
+    pub found_chained : (n count h : ℕ) → n ≤ count → sound_up_to spans bytes count ≡ true → FoundBelow spans bytes t n (Some h) → find_in spans bytes count t ≡ Some h
     unfolding find_in is_at
-    found_chained ix n count h b g d =
-        let u = upto_parts spans bytes count g.sound in
+    found_chained n count h b g d =
+        let u = upto_parts spans bytes count g in
         find_at count 0 h (omega arith) (omega (arith, d.0)) d.1
         (λ j a e. at_not j (λ q. clash (both_right _ _ d.1) (let z = u.differ j h e (omega (arith, d.0)) in rw (← q) at z)))
 
