@@ -72,6 +72,10 @@ overlay_held s = overlay_in s.words.now s.bytes.now s.counters.now
 abbrev pub overlay_tabled : StorageTables → Overlay
 overlay_tabled s = overlay_in s.words.now s.bytes.now s.counters.now
 
+-- by the sizes that set-up is given
+abbrev pub tabled_for : Sizes → StorageTables → Overlay
+tabled_for z s = overlay_for z s.words.now s.bytes.now s.counters.now
+
 -- the same memory: a method leaves its struct with the references that it was given
 pub record IsSameStorage (a b : StorageMut) : Type 0 where
   pub words : a.words.ghost_name ≡ b.words.ghost_name
