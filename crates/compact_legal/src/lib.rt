@@ -13,7 +13,7 @@ ghost use Rattle.compact.specs.Legal.{legal_meta};
 ghost use Rattle.compact_legal.specs.Judge.{fault_for, record_end, verdict_of, member_end, members_end, tag_end, tags_end, body_end, place_in_range, few, chosen};
 ghost use Rattle.compact.specs.Held.{head_in};
 
-use compact::{ArenaMeta, PushHead};
+use compact::{ArenaMeta, PushHead, RecordHead};
 use kind::Kind;
 use refusal::Refusal;
 

@@ -12,7 +12,7 @@ ghost use Rattle.listing_page.specs.Listing.{meta_fields};
 ghost use Rattle.print.specs.Print.{print, tabs};
 ghost use Rattle.listing_fields.specs.Fields.{held_text, each_from, ref_fields_at, held_member, tag_fields_from, record_fields_at};
 
-use compact::{ArenaMeta, CompactMember, CompactNode, CompactRelation, CompactWay};
+use compact::{ArenaMeta, CompactMember, CompactNode, CompactRelation, CompactWay, RecordHead};
 use kind::Kind;
 
 // The text of a handle.

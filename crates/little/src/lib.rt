@@ -1,7 +1,7 @@
 // Little-endian numbers in lent bytes, by one writer and one reader for every width.
 #![tactic(auto)]
 
-ghost use Rattle.std.specs.Prelude.{◌≡◌, ◌≤◌, ◌<◌, ◌^◌, min, length, take, drop};
+ghost use Rattle.std.specs.Prelude.{◌≡◌, ◌≤◌, ◌<◌, ◌+◌, ◌^◌, cond, leb, min, length, take, drop, None, Some};
 ghost use Rattle.little.specs.Little.{le, value, value_at, over};
 
 // Where bytes lie among others.
@@ -16,6 +16,24 @@ pub fn lesser(a: usize, b: usize) -> usize
     ensures { result ≡ min a b }
 {
     a.min(b)
+}
+
+// Whether n more from a place on lie within a length. The place is asked for first, so that no sum passes the largest number.
+pub fn within(at: usize, n: usize, len: usize) -> bool
+    ensures { result ≡ leb (at + n) len }
+{
+    at <= len && n <= len - at
+}
+
+// Where n more from a place on end, or none where they do not lie within a length.
+pub fn end_within(at: usize, n: usize, len: usize) -> Option<usize>
+    ensures { result ≡ cond (leb (at + n) len) (Some (at + n)) None }
+{
+    if within(at, n, len) {
+        Some(at + n)
+    } else {
+        None
+    }
 }
 
 // A word in 32 bits; one that does not fit them becomes 0.

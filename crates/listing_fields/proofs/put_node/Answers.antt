@@ -17,5 +17,5 @@ returns c =
     let f = held_text a.spans.now a.bytes.now a.strings in
     let v = c.read-node.result in
     fields_printed a.cap f Node a.view.now c.read_meta-meta.result (integer_text (to_z w32 v.lat) ∷ integer_text (to_z w32 v.lon) ∷ []) (number_text v.tag_count ∷ tag_fields_from f a.view.now 49 v.tag_count) _ _ _ _
-    c.read_meta-meta.ensures (rw (← c.read-node.ensures)) (rw (← c.read-node.ensures))
+    c.read_meta-meta.ensures (rw (← c.read-node.ensures.front)) (rw (← c.read-node.ensures.front))
     c.put_meta-room.ensures (place_printed a.cap f Node a.view.now _ _ _ _ _ c.put_integer32-room.ensures c.put_integer32-room-2.ensures) c.put_tags.ensures

@@ -15,5 +15,5 @@ returns c =
     let f = held_text a.spans.now a.bytes.now a.strings in
     let v = c.read-relation.result in
     fields_printed a.cap f Relation a.view.now c.read_meta-meta.result (number_text v.member_count ∷ each_from (λ i. held_member f (member_at a.view.now i)) 0 v.member_count) (number_text v.tag_count ∷ tag_fields_from f a.view.now (tags_at Relation v.member_count) v.tag_count) _ _ _ _
-    c.read_meta-meta.ensures (rw (← c.read-relation.ensures)) (rw (← c.read-relation.ensures))
+    c.read_meta-meta.ensures (rw (← c.read-relation.ensures.front)) (rw (← c.read-relation.ensures.front))
     c.put_meta-room.ensures c.put_members-room.ensures (rw c.tags_at-at.ensures at c.put_tags.ensures)
