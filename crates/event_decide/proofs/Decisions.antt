@@ -17,7 +17,7 @@ use Rattle.nesting.specs.declared.Level.TheVariants as L
 use Rattle.nesting.specs.declared.Place.{Place}
 use Rattle.event.specs.Event.{Attr, starts, closes, others, reads, refused, body, event_of}
 use Rattle.event_scan.specs.Scan.{attrs_at, Good, attributes_at}
-use Rattle.event_scan.proofs.Attributes.{attributes_good}
+use Rattle.event_scan.proofs.AnyFields.{attributes_good}
 use Rattle.event_fields.specs.Field.{body_for}
 use Rattle.event_decision.specs.Decision.{Decision, refuses, moves, begins, deletes, on_field, push_begins, delete_begins, unless_delete, decide_opened, decide_closed, decide_event, decide}
 use Rattle.event_decide.specs.declared.Decided.{Decided}

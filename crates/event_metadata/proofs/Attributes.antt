@@ -23,7 +23,7 @@ use Rattle.event.specs.Event.{Attr}
 use Rattle.event_scan.specs.Piece.{value_text}
 use Rattle.event_scan.specs.Scan.{attributes_at}
 use Rattle.event_scan.proofs.Places.{AttributeAt}
-use Rattle.event_scan.proofs.Attributes.{attributes_step}
+use Rattle.event_scan.proofs.AnyFields.{attributes_step}
 use Rattle.event_fields.specs.Field.{got, bad, and_then, or_else, an_integer, a_stamp, mark, meta_with, meta_from}
 use Rattle.event_fields.proofs.Metadata.{Flag, present, hidden, has_user, has_version, bit_of, mark_small}
 use Rattle.event_values.specs.Value.{Inside, integer_in, narrow_in, field_in, narrow_field, wide_field}

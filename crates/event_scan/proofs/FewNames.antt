@@ -15,7 +15,8 @@ use Rattle.event.specs.Event.{Attr, attr_of, beside, attrs_of, named, none_twice
 use Rattle.event.proofs.Attrs.{attr_with_some}
 use Rattle.event_scan.specs.Piece.{there}
 use Rattle.event_scan.specs.declared.Extent.{Extent}
-use Rattle.event_scan.specs.Few.{name_at, kept_names, among, NamesKept}
+use Rattle.event_scan.specs.Names.{among}
+use Rattle.event_scan.specs.Few.{name_at, kept_names, NamesKept}
 use Rattle.event_scan.specs.Scan.{fields_at, stand, attribute_at}
 use Rattle.event_scan.proofs.Places.{AttributeAt, ended}
 use Rattle.event_scan.proofs.Walks.{lower, some_there, listed_here, good_stops}

@@ -4,5 +4,8 @@ pub mod Pieces
 pub mod Walks
 pub mod FewNames
 pub mod Lines
-pub mod Attributes
+pub mod AnyFields
 pub mod Names
+pub mod Parts
+pub mod Standing
+pub mod Noted

@@ -203,3 +203,28 @@ module _ (s : Bytes) (n : ℕ) (e : n ≡ length (body s)) where
 
   pub scan_lies : (r : Scanned) → InBounds (take n s) r → InBounds (body s) r
   scan_lies r m = subst (λ t. InBounds t r) judged_part m
+
+-- ---- the event of fields, by the first of them
+
+module _ (s : Bytes) (w : Bytes) (gs : List Bytes) (e : fields s ≡ w ∷ gs) where
+  pub event_opens : same w (ascii "open") ≡ true → starts_from false gs ≡ event_from (fields s)
+  event_opens h = sym (rw (e, h))
+
+  pub event_empties : same w (ascii "open") ≡ false → same w (ascii "empty") ≡ true → starts_from true gs ≡ event_from (fields s)
+  event_empties h k = sym (rw (e, h, k))
+
+  pub event_longer : (f : Bytes) (hs : List Bytes) → same w (ascii "open") ≡ false → same w (ascii "empty") ≡ false → gs ≡ f ∷ hs → refused NotEventLine ≡ event_from (fields s)
+  event_longer f hs h k m = sym (rw (e, m, h, k) (either_way (same w (ascii "close")) (same w (ascii "other"))))
+
+  pub event_word : same w (ascii "open") ≡ false → same w (ascii "empty") ≡ false → gs ≡ [] → lone w ≡ event_from (fields s)
+  unfolding lone
+  event_word h k m = sym (rw (e, m, h, k))
+
+-- ---- the order of the checks again, where n bytes of the line are judged
+
+module _ (s : Bytes) (n : ℕ) (e : n ≡ length (body s)) (h : n ≤ 16384) (k : legal_line (take n s) ≡ true) (q : n ≡ length s → ⊥) where
+  pub reads_event : all (λ b. not (eqb b 10)) (take n s) ≡ true → event_from (fields (take n s)) ≡ event_of s
+  reads_event f =
+      let z : event_of s ≡ event_in (Some (take n s)) =
+      judged_legal s (omega arith) (sym (ap legal_line (judged_part s n e)) ∙ k) ∙ rw ((judged s).cut (λ z. q (e ∙ z)), judged_part s n e) in
+      sym (z ∙ rw f)

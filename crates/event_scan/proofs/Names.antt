@@ -28,7 +28,7 @@ names_distinct (a ∷ attrs) = rw (not_named a.name attrs, names_distinct attrs)
 
 -- ---- names noted so far, and those behind them
 
-runs_snoc : (t : Bytes) (ws : List ℕ) (w : ℕ) → runs_in t (ws ++ (w ∷ [])) ≡ runs_in t ws ++ (run_in t w ∷ [])
+pub runs_snoc : (t : Bytes) (ws : List ℕ) (w : ℕ) → runs_in t (ws ++ (w ∷ [])) ≡ runs_in t ws ++ (run_in t w ∷ [])
 runs_snoc t [] w = refl
 runs_snoc t (x ∷ ws) w = ap (run_in t x ∷◌) (runs_snoc t ws w)
 

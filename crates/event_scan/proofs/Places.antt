@@ -16,7 +16,7 @@ use Rattle.base.proofs.Split.{by_eq, by_lt, by_le, no}
 use Rattle.text.specs.Escape.{unescape}
 use Rattle.line.specs.Line.{onto, fields}
 use Rattle.event.specs.Event.{parted, is_empty, attr_with, attr_of}
-use Rattle.event_scan.specs.declared.Attribute.{Attribute}
+use Rattle.event_scan.specs.declared.AttributePlaces.{AttributePlaces}
 use Rattle.event_scan.specs.Scan.{fields_at, UpTo, attribute_at, value_in, attribute_value, some_attribute, some_extent}
 
 -- ---- the first of a byte
@@ -70,7 +70,7 @@ module _ (c : ℕ) where
 
 -- ---- parts of a line
 
-slice_take : (from n : ℕ) (t : Bytes) → slice from (from + n) t ≡ take n (drop from t)
+pub slice_take : (from n : ℕ) (t : Bytes) → slice from (from + n) t ≡ take n (drop from t)
 slice_take zero n t = rw zero-add
 slice_take (suc from) n [] = rw suc-add (sym (take-nil n))
 slice_take (suc from) n (b ∷ t) = rw suc-add (slice_take from n t)
@@ -149,7 +149,7 @@ module _ (t : Bytes) (at : ℕ) (h : at ≤ length t) where
       fields_within t at h ∙ fields_first (drop at t)
       ∙ rw (slice_take at (UpTo 9 (drop at t)) t, shift t at (UpTo 9 (drop at t) + 1) h, e)
 
-  field_length : length (slice at (tab_at t at) t) ≡ tab_at t at - at
+  pub field_length : length (slice at (tab_at t at) t) ≡ tab_at t at - at
   field_length = length-slice at (tab_at t at) t tab_within
 
   equals_within : equals_at t at ≤ tab_at t at
@@ -245,11 +245,11 @@ stands_here t at h = record {
   whole = attr_whole t at h;
 }
 
-pub stands : (t : Bytes) (at : ℕ) (a : Attribute) → attribute_at t at ≡ Some a → AttributeAt t at a.eq a.to
+pub stands : (t : Bytes) (at : ℕ) (a : AttributePlaces) → attribute_at t at ≡ Some a → AttributeAt t at a.eq a.to
 stands t at a e =
     by_le at (length t)
     (λ h. let z : Some a ≡ some_attribute (equals_at t at) (tab_at t at) = sym e ∙ attribute_here t at h in
-    let x : ◌≡◌ {A = Attribute} a (record { eq = equals_at t at; to = tab_at t at }) = cc in
+    let x : ◌≡◌ {A = AttributePlaces} a (record { eq = equals_at t at; to = tab_at t at }) = cc in
     rw x (stands_here t at h))
     (λ h. let z : Some a ≡ None = sym e ∙ attribute_past t at h in no (cc))
 

@@ -14,7 +14,7 @@ use Rattle.line.specs.Line.{fields}
 use Rattle.event.specs.Event.{Attr, attr_with, attr_of, beside, attrs_of, named, none_twice}
 use Rattle.event.proofs.Attrs.{attr_with_some, listed}
 use Rattle.event.specs.Event.{value_of}
-use Rattle.event_scan.specs.declared.Attribute.{Attribute}
+use Rattle.event_scan.specs.declared.AttributePlaces.{AttributePlaces}
 use Rattle.event_scan.specs.Piece.{there}
 use Rattle.event_scan.specs.Scan.{fields_at, attrs_at, Good, stand, attribute_at, value_in, attribute_value, text_in}
 use Rattle.event_scan.proofs.Places.{AttributeAt, stands, stands_here, ended, fields_past, fields_within}
@@ -104,7 +104,7 @@ step_here t at eq to d g =
     let r = good_some t (to + 1) w.tail w.then in
     record { name = n; equals = q; end = d.end; text = w.head.value; value = v.value; whole = w.whole ∙ renamed w.head _ _ _ v.name r.1; rest = r.0 }
 
-pub attrs_step : (t : Bytes) (at : ℕ) (a : Attribute) → Good t at → attribute_at t at ≡ Some a → Step t at a.eq a.to
+pub attrs_step : (t : Bytes) (at : ℕ) (a : AttributePlaces) → Good t at → attribute_at t at ≡ Some a → Step t at a.eq a.to
 attrs_step t at a g e = step_here t at a.eq a.to (stands t at a e) g
 
 pub attrs_end : (t : Bytes) (at : ℕ) → attribute_at t at ≡ None → attrs_at t at ≡ []

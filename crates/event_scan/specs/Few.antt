@@ -1,7 +1,7 @@
 -- What only the walk over few attributes needs: names that are kept by their places in the line.
 use Rattle.std.specs.Prelude.{ℕ, zero, suc, ◌<◌, ◌≤◌, ◌≡◌, Bool, true, false, List, [], ◌∷◌, length, get_or}
 use Rattle.std.proofs.Math.Seq.{slice}
-use Rattle.base.specs.Bytes.{Bytes, either, same}
+use Rattle.base.specs.Bytes.{Bytes}
 use Rattle.event_scan.specs.declared.Extent.{Extent}
 use Rattle.event_scan.specs.declared.Few.{Few}
 use Rattle.event_scan.specs.declared.Few.TheVariants as W
@@ -14,11 +14,6 @@ name_at t kept i = slice (get_or kept i (record { from = 0; to = 0 })).from (get
 unfoldable pub kept_names : Bytes → List Extent → ℕ → List Bytes
 kept_names t kept zero = []
 kept_names t kept (suc n) = name_at t kept n ∷ kept_names t kept n
-
--- a name is one of some
-unfoldable pub among : Bytes → List Bytes → Bool
-among n [] = false
-among n (k ∷ ks) = either (same k n) (among n ks)
 
 -- there is room for n, and each lies within the line
 pub record NamesKept (t : Bytes) (kept : List Extent) (n : ℕ) : Type 0 where

@@ -11,7 +11,7 @@ use Rattle.event.specs.Event.{Attr, starts, closes, others, Reading, reads, refu
 use Rattle.event_scan.specs.Piece.{value_text}
 use Rattle.event_scan.specs.declared.Scanned.{Scanned}
 use Rattle.event_scan.specs.declared.Scanned.TheVariants as S
-use Rattle.event_scan.specs.declared.Attribute.{Attribute}
+use Rattle.event_scan.specs.declared.AttributePlaces.{AttributePlaces}
 use Rattle.event_scan.specs.declared.Extent.{Extent}
 
 -- the fields from a place on; none past the end
@@ -65,15 +65,15 @@ UpTo c [] = 0
 UpTo c (b ∷ bs) = cond (eqb b c) 0 (suc (UpTo c bs))
 
 -- one whose name ends at one place and whose value at another
-abbrev pub some_attribute : ℕ → ℕ → Option Attribute
+abbrev pub some_attribute : ℕ → ℕ → Option AttributePlaces
 some_attribute eq to = Some (record { eq = eq; to = to })
 
 -- the attribute that stands at a place: its name up to the first `=`, its value from there to the field's end
-abbrev pub attribute_in : ℕ → List Bytes → Option Attribute
+abbrev pub attribute_in : ℕ → List Bytes → Option AttributePlaces
 attribute_in at [] = None
 attribute_in at (f ∷ fs) = some_attribute (at + UpTo equals_sign f) (at + length f)
 
-unfoldable pub attribute_at : Bytes → ℕ → Option Attribute
+unfoldable pub attribute_at : Bytes → ℕ → Option AttributePlaces
 attribute_at t at = attribute_in at (fields_at t at)
 
 -- ---- the value of a name, as it is written: that of the first attribute of the name from a place on

@@ -10,10 +10,13 @@ ghost use Rattle.event.specs.Event.{body, legal_line, event_of, event_from, star
 ghost use Rattle.little.specs.Little.{over};
 ghost use Rattle.distinct.specs.Distinct.{runs_in};
 ghost use Rattle.text.specs.Escape.{meaning, unescape};
-ghost use Rattle.event_scan.specs.Names.{names_of};
+ghost use Rattle.event_scan.specs.Names.{names_of, among};
 ghost use Rattle.event_scan.specs.Piece.{there, lettered, piece_in, value_text};
-ghost use Rattle.event_scan.specs.Few.{kept_names, among, NamesKept, Tells};
+ghost use Rattle.event_scan.specs.Few.{kept_names, NamesKept, Tells};
 ghost use Rattle.event_scan.specs.Scan.{fields_at, attrs_at, Good, stand, means, lone, InBounds, UpTo, attribute_at, attribute_value};
+
+pub mod event_line;
+pub mod fields;
 
 use distinct::Distinctness;
 use refusal::Refusal;
@@ -33,7 +36,7 @@ pub enum Scanned {
 
 // An attribute: where its name ends and where its value ends.
 #[derive(Clone, Copy, PartialEq, Eq, Debug)]
-pub struct Attribute {
+pub struct AttributePlaces {
     pub eq: usize,
     pub to: usize,
 }
@@ -82,7 +85,7 @@ fn name_end(t: &[u8], at: usize) -> usize
 
 // The attribute that stands at a place, if the line has not ended there. Its end tells where the next one begins, so the walks over attributes go on from it:
 // there is no slice of them and no range of their places.
-pub fn attribute_at(t: &[u8], at: usize) -> Option<Attribute>
+pub fn attribute_at(t: &[u8], at: usize) -> Option<AttributePlaces>
     ensures { result ≡ attribute_at t.now at }
 {
     if t.len() < at {
@@ -90,7 +93,7 @@ pub fn attribute_at(t: &[u8], at: usize) -> Option<Attribute>
     }
     let eq = name_end(t, at);
     let to = find(t, eq, b'\t');
-    Some(Attribute { eq, to })
+    Some(AttributePlaces { eq, to })
 }
 
 // Where the value of a name lies, if an attribute from a place on has the name.
@@ -208,7 +211,7 @@ pub fn unescape_into(out: &mut [u8], value: &[u8]) -> usize
 // ---- attributes
 
 // Whether the field of an attribute has a name, an `=` and a value whose escapes are right.
-fn is_attr(t: &[u8], at: usize, attribute: Attribute) -> bool
+fn is_attr(t: &[u8], at: usize, attribute: AttributePlaces) -> bool
     requires { attribute_at t.now at ≡ Some attribute }
     ensures { result ≡ there (attr_of (slice at attribute.to t.now)) }
 {
@@ -347,7 +350,7 @@ fn seen(t: &[u8], name: &[u8], kept: &[Extent]) -> bool
 }
 
 // Whether the field of an attribute is one whose name is none of those that are kept.
-fn is_new(t: &[u8], at: usize, attribute: Attribute, kept: &[Extent]) -> bool
+fn is_new(t: &[u8], at: usize, attribute: AttributePlaces, kept: &[Extent]) -> bool
     requires at_value { attribute_at t.now at ≡ Some attribute }
     requires names_kept { NamesKept t.now kept.now (length kept.now) }
     ensures { result ≡ both (there (attr_of (slice at attribute.to t.now))) (not (among (slice at attribute.eq t.now) (kept_names t.now kept.now (length kept.now)))) }

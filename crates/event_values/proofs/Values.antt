@@ -28,7 +28,7 @@ use Rattle.event.specs.Event.{Attr, value_of, or_empty}
 use Rattle.event_scan.specs.Scan.{some_extent}
 use Rattle.event_scan.specs.Piece.{value_text}
 use Rattle.event_scan.proofs.Places.{lent_is}
-use Rattle.event_scan.proofs.Attributes.{Searched}
+use Rattle.event_scan.proofs.AnyFields.{Searched}
 use Rattle.event_fields.specs.Field.{got, bad, or_else, coordinate_within, text_field, integer_field}
 use Rattle.event_scan.specs.declared.Extent.{Extent}
 use Rattle.event_values.specs.Value.{Inside, Located, integer_in, stamp_in, text_at, extent_field, field_in, type_field}

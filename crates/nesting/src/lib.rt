@@ -46,7 +46,7 @@ pub enum Level {
 }
 
 // The level, with the section and the element that are open or were open last.
-#[derive(Clone, Copy)]
+#[derive(Clone, Copy, PartialEq, Eq, Debug)]
 pub struct Place {
     pub level: Level,
     pub section: Action,
@@ -62,7 +62,7 @@ pub enum Child {
 }
 
 // What an open or an empty element does at a place.
-#[derive(Clone, Copy)]
+#[derive(Clone, Copy, PartialEq, Eq, Debug)]
 pub enum Opened {
     // refused 5
     Misplaced,

@@ -3,7 +3,7 @@ use mathlib.Core.Path.{◌≡◌, sym, ◌∙◌, ap}
 use native.Mathlib.Omega.{arith}
 use lib.Seq.{slice}
 use Rattle.event_scan.proofs.Places.{stands, lent_is}
-use Rattle.event_scan.proofs.Attributes.{attributes_end}
+use Rattle.event_scan.proofs.AnyFields.{attributes_end}
 use Rattle.event_fields.specs.Field.{meta_from, metadata_of}
 use Rattle.event_values.proofs.Values.{handed_on, empty_text, empty_within}
 use Rattle.event_metadata.specs.Metadata.{meta_written, meta_name}

@@ -4,7 +4,8 @@ use native.Mathlib.Omega.{arith}
 use lib.ListN.{length}
 use lib.Seq.{slice}
 use Rattle.base.specs.Bytes.{both}
-use Rattle.event_scan.specs.Few.{kept_names, among}
+use Rattle.event_scan.specs.Names.{among}
+use Rattle.event_scan.specs.Few.{kept_names}
 use Rattle.event_scan.proofs.Places.{stands, lent_is}
 use Rattle.event_scan.proofs.is_new.Goals as goal
 

@@ -4,7 +4,7 @@ use mathlib.Core.Path.{sym, subst}
 use Rattle.event.specs.Event.{value_of}
 use Rattle.event_scan.specs.declared.Extent.{Extent}
 use Rattle.event_scan.specs.Scan.{attributes_at}
-use Rattle.event_scan.proofs.Attributes.{Searched, value_told}
+use Rattle.event_scan.proofs.AnyFields.{Searched, value_told}
 use Rattle.event_values.specs.Value.{Located}
 use Rattle.event_values.proofs.Values.{told_at}
 use Rattle.event_values.proofs.value.Goals as goal
