@@ -2,7 +2,7 @@
 // Signed numbers are held as their bits.
 #![tactic(auto)]
 
-ghost use Rattle.std.specs.Prelude.{◌≡◌, ◌≤◌, ◌<◌, ℕ, length, refl, IfOk, Ok, Option};
+ghost use Rattle.std.specs.Prelude.{◌≡◌, ◌≤◌, ◌<◌, ◌+◌, ℕ, length, refl, IfOk, Ok, Option};
 ghost use Rattle.base.specs.Bytes.{Bytes};
 ghost use Rattle.kind.specs.declared.Kind.{Kind};
 ghost use Rattle.kind.specs.declared.Kind.TheVariants.{Node, Way, Relation};
@@ -211,6 +211,13 @@ pub trait RecordHead: Copy {
             return Err(Refusal::Unsound);
         }
         Ok(Self::read(bytes))
+    }
+
+    // Where refs, members or tags begin: behind the head and the metadata.
+    final fn parts_at() -> usize
+        ensures { result ≡ head_len kind + 29 }
+    {
+        Self::LEN + META_LEN
     }
 
     ghost is_long: { LEN ≡ head_len kind };
