@@ -34,6 +34,10 @@ pub record StoreChained (c : HandleChains) (s : Store) : Type 0 where
   pub sound : sound_strings s ≡ true
   pub chains : Chained c (texts_of s)
 
+-- what a search by the chains asks of them: where they hold no handle, nothing
+abbrev pub ChainsServe : HandleChains → Store → Type 0
+ChainsServe c s = 0 < c.handles → StoreChained c s
+
 -- the chains with handle h in bucket b
 abbrev pub chain_linked : HandleChains → ℕ → ℕ → HandleChains
 chain_linked c b h = record { lasts = set c.lasts b (h + 1); befores = set c.befores h (get_or c.lasts b 0); handles = h + 1 }

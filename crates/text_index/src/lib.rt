@@ -10,7 +10,7 @@ ghost use Rattle.interner.specs.Texts.{handle_answered};
 ghost use Rattle.interner.specs.Lent.{store_seen, store_held, IsSameStrings, find_held};
 ghost use Rattle.text_index.specs.Index.{bucket_of, handles_in, Indexed, IndexGiven};
 ghost use Rattle.text_index.specs.Link.{linked, ChainsGiven, FoundBelow};
-ghost use Rattle.text_index.specs.Chained.{handle_coded, none_chained, chain_linked, Chained, TextsChained, StoreChained};
+ghost use Rattle.text_index.specs.Chained.{handle_coded, none_chained, chain_linked, Chained, TextsChained, StoreChained, ChainsServe};
 ghost use Rattle.text_index.specs.Lent.{chains_seen, chains_held, IsSameChains};
 
 use interner::{Interned, Strings, StringsMut, Taken, Texts};
@@ -102,7 +102,7 @@ impl Chains<'_> {
 
     // The handle of a held text: by the chains, then one by one. Few handles are searched one by one at once.
     pub fn find(&self, strings: &Strings<'_>, text: &[u8]) -> Option<u64>
-        ensures { StoreChained (chains_seen self.now) (store_seen strings.now) → result ≡ find_held (store_seen strings.now) text.now }
+        ensures { ChainsServe (chains_seen self.now) (store_seen strings.now) → result ≡ find_held (store_seen strings.now) text.now }
     {
         if self.handles < 16 {
             return strings.find(text);
@@ -117,8 +117,8 @@ impl Chains<'_> {
     // Takes a text in as `StringsMut::intern` does.
     pub fn intern(&self, strings: &mut StringsMut<'_>, text: &[u8]) -> Option<u64>
         ensures same { IsSameStrings strings.new strings.old }
-        ensures store { StoreChained (chains_seen self.now) (store_held strings.old) → store_held strings.new ≡ (intern (store_held strings.old) text.now).store }
-        ensures handle { StoreChained (chains_seen self.now) (store_held strings.old) → result ≡ handle_answered (intern (store_held strings.old) text.now).answer }
+        ensures store { ChainsServe (chains_seen self.now) (store_held strings.old) → store_held strings.new ≡ (intern (store_held strings.old) text.now).store }
+        ensures handle { ChainsServe (chains_seen self.now) (store_held strings.old) → result ≡ handle_answered (intern (store_held strings.old) text.now).answer }
     {
         let found = self.find(&strings.strings(), text);
         strings.intern_found(text, found)
@@ -126,7 +126,7 @@ impl Chains<'_> {
 
     // What that would answer, with nothing taken in.
     pub fn answer(&self, strings: &Strings<'_>, text: &[u8]) -> Option<u64>
-        ensures { StoreChained (chains_seen self.now) (store_seen strings.now) → result ≡ handle_answered (intern (store_seen strings.now) text.now).answer }
+        ensures { ChainsServe (chains_seen self.now) (store_seen strings.now) → result ≡ handle_answered (intern (store_seen strings.now) text.now).answer }
     {
         match self.find(strings, text) {
             Some(h) => Some(h),
