@@ -1,1 +1,2 @@
 pub mod Decisions
+pub mod Tasked

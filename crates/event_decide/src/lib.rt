@@ -14,6 +14,8 @@ ghost use Rattle.event_decision.specs.Decision.{push_begins, delete_begins, elem
 ghost use Rattle.event_values.specs.Value.{Inside};
 ghost use Rattle.event_decide.specs.Decided.{answer_means, DecidedInBounds, Decides, Heads, HeadInBounds, unless_deleted};
 
+pub mod tasks;
+
 use event_metadata::Metadata;
 use event_scan::{Extent, Scanned};
 use event_values::{Coordinates, MemberExtents, TagExtents};

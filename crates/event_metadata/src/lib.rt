@@ -10,6 +10,8 @@ ghost use Rattle.event_fields.proofs.Metadata.{Flag, bit_of};
 ghost use Rattle.event_values.specs.Value.{Inside};
 ghost use Rattle.event_metadata.specs.Metadata.{meta_written, MetadataInBounds, meta_field, MetaFieldInBounds, Reads, meta_name, meta_as};
 
+pub mod values;
+
 use event_scan::Extent;
 use refusal::Refusal;
 

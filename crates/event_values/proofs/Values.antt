@@ -31,6 +31,9 @@ use Rattle.event_scan.proofs.Places.{lent_is}
 use Rattle.event_scan.proofs.AnyFields.{Searched}
 use Rattle.event_fields.specs.Field.{got, bad, or_else, coordinate_within, text_field, integer_field}
 use Rattle.event_scan.specs.declared.Extent.{Extent}
+use Rattle.event_scan.specs.declared.fields.Value.{Value}
+use Rattle.event_scan.specs.Fields.{text_written}
+use Rattle.event_values.specs.Values.{value_field}
 use Rattle.event_values.specs.Value.{Inside, Located, integer_in, stamp_in, text_at, extent_field, field_in, type_field}
 use Rattle.event_values.proofs.Raws.{integer_raw, stamp_raw}
 
@@ -107,6 +110,18 @@ field_located t n attrs (Some e) h = rw h.1
 pub or_empty_located : (t : Bytes) (v : Option Bytes) (o : Option Extent) → Located t o v → text_at t (unwrap_or o (record { from = 0; to = 0 })) ≡ or_empty v
 or_empty_located t v None h = empty_text t ∙ rw h
 or_empty_located t v (Some e) h = rw h.1
+
+-- the value of a name, or 7 where it has none
+pub field_written : (n : Bytes) (attrs : List Attr) (o : Option Value) (r : Result Value Refusal) → option_map text_written o ≡ value_of n attrs → r ≡ ok_or o Missing → value_field r ≡ text_field n attrs
+unfolding text_field
+field_written n attrs None r e q = rw (q, ← e)
+field_written n attrs (Some v) r e q = rw (q, ← e)
+
+-- the value of a name, or else the empty one
+pub or_empty_written : (d : Value) (o : Option Value) (x : Option Bytes) → d.bytes.now ≡ [] → option_map text_written o ≡ x → text_written (unwrap_or o d) ≡ or_empty x
+unfolding value_text unescape_from
+or_empty_written d None x e q = rw (e, ← q)
+or_empty_written d (Some v) x e q = rw (← q)
 
 -- a value that is read, or else a refusal
 pub field_read : {A B : Type 0} (f : A → B) (r : Refusal) (o : Option A) → field_in f (ok_or o r) ≡ or_else r (option_map f o)

@@ -13,8 +13,12 @@ ghost use Rattle.event_scan.specs.Scan.{attributes_at};
 ghost use Rattle.event_fields.specs.Field.{integer_field, coordinate, body_for, tag_of, type_named, member_of};
 ghost use Rattle.event_fields.specs.Field as F;
 ghost use Rattle.event_values.specs.Value.{text_at, ExtentInBounds, Located, narrow_in, wide_field, narrow_field, body_field, extent_field, TextInBounds, tag_field, TagInBounds, type_field, member_field, MemberInBounds};
+ghost use Rattle.std.specs.Prelude.{option_map};
+ghost use Rattle.event_scan.specs.Fields.{attributes_left, text_written};
+ghost use Rattle.event_values.specs.Values.{value_field, tag_answered, member_answered};
 
 use event_scan::Extent;
+use event_scan::fields::{Attributes, Value};
 use kind::Kind;
 use nesting::Name;
 use refusal::Refusal;
@@ -68,7 +72,7 @@ fn coordinate(t: &[u8], name: &[u8], at: usize, limit: u32) -> Result<u32, Refus
 }
 
 // What an element holds at first: the coordinates of a node, 0 for another kind.
-#[derive(Clone, Copy)]
+#[derive(Clone, Copy, PartialEq, Eq, Debug)]
 pub struct Coordinates {
     pub lat: u32,
     pub lon: u32,
@@ -145,6 +149,93 @@ pub fn member_field(t: &[u8], at: usize) -> Result<MemberExtents, Refusal>
     let reference = wide_field(t, b"ref", at)?;
     let role = role(t, at);
     Ok(MemberExtents {
+        reference,
+        kind,
+        role,
+    })
+}
+
+// ---- the fields of attributes, by their names
+
+fn required<'a>(attributes: &Attributes<'a>, name: &[u8]) -> Result<Value<'a>, Refusal>
+    ensures { value_field result ≡ F.text_field name.now (attributes_left attributes.now) }
+{
+    attributes.value_of(name).ok_or(Refusal::Missing)
+}
+
+pub fn integer_field(attributes: &Attributes<'_>, name: &[u8]) -> Result<u64, Refusal>
+    ensures { wide_field result ≡ integer_field w64 name.now (attributes_left attributes.now) }
+{
+    let value = required(attributes, name)?;
+    integer::read_i64(value.bytes).ok_or(Refusal::NotInteger)
+}
+
+// A coordinate, at most a limit either side of 0.
+fn coordinate_field(attributes: &Attributes<'_>, name: &[u8], limit: u32) -> Result<u32, Refusal>
+    ensures { narrow_field result ≡ coordinate name.now limit (attributes_left attributes.now) }
+{
+    let value = required(attributes, name)?;
+    let bits = integer_32(value.bytes).ok_or(Refusal::NotInteger)?;
+    if signed::i32_of_bits(bits).unsigned_abs() > limit {
+        return Err(Refusal::CoordinateRange);
+    }
+    Ok(bits)
+}
+
+fn node_coordinates(attributes: &Attributes<'_>) -> Result<Coordinates, Refusal>
+    ensures { body_field kinds.Node result ≡ body_for kinds.Node (attributes_left attributes.now) }
+{
+    let lat = coordinate_field(attributes, b"lat7", 900_000_000)?;
+    let lon = coordinate_field(attributes, b"lon7", 1_800_000_000)?;
+    Ok(Coordinates { lat, lon })
+}
+
+// What an element of a kind holds at first.
+pub fn body_of(attributes: &Attributes<'_>, kind: Kind) -> Result<Coordinates, Refusal>
+    ensures { body_field kind result ≡ body_for kind (attributes_left attributes.now) }
+{
+    match kind {
+        Kind::Node => node_coordinates(attributes),
+        Kind::Way | Kind::Relation => Ok(Coordinates { lat: 0, lon: 0 }),
+    }
+}
+
+// A tag as it is written.
+#[derive(Clone, Copy, Debug)]
+pub struct TagValues<'a> {
+    pub key: Value<'a>,
+    pub value: Value<'a>,
+}
+
+// A tag, or the refusal of its key or its value.
+pub fn tag_of<'a>(attributes: &Attributes<'a>) -> Result<TagValues<'a>, Refusal>
+    ensures { tag_answered result ≡ tag_of (attributes_left attributes.now) }
+{
+    let key = required(attributes, b"k")?;
+    let value = required(attributes, b"v")?;
+    Ok(TagValues { key, value })
+}
+
+// A member, its role as it is written: empty where it is missing.
+#[derive(Clone, Copy, Debug)]
+pub struct MemberValues<'a> {
+    pub reference: u64,
+    pub kind: Kind,
+    pub role: Value<'a>,
+}
+
+// A member, or the refusal of its type or its ref.
+pub fn member_of<'a>(attributes: &Attributes<'a>) -> Result<MemberValues<'a>, Refusal>
+    ensures { member_answered result ≡ member_of (attributes_left attributes.now) }
+{
+    let named = required(attributes, b"type")?;
+    let kind = type_named(nesting::name_of(named.bytes)).ok_or(Refusal::MemberType)?;
+    let reference = integer_field(attributes, b"ref")?;
+    let empty = Value {
+        bytes: b"".as_slice(),
+    };
+    let role = attributes.value_of(b"role").unwrap_or(empty);
+    Ok(MemberValues {
         reference,
         kind,
         role,
