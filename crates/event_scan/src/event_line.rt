@@ -15,7 +15,6 @@ ghost use Rattle.event_scan.specs.Line.{line_means};
 
 use crate::fields::{Attributes, Fields, attribute_name, split_once};
 use crate::{MAX_LINE, body_length, lacks, legal_line};
-use distinct::Distinctness;
 use refusal::Refusal;
 
 // ---- whether attributes stand: each field is one, and no name is there twice
@@ -98,10 +97,9 @@ fn once_by_words(text: &[u8], words: &mut [u64]) -> bool
     if words.len() < n {
         return attributes.once_in_pairs();
     }
-    match distinct::runs_differ(text, &words[..n]) {
-        Distinctness::Distinct => true,
-        Distinctness::Twice => false,
-        Distinctness::Untold => attributes.once_in_pairs(),
+    match distinct::runs_differ(text, &mut words[..n]) {
+        Some(told) => told,
+        None => attributes.once_in_pairs(),
     }
 }
 

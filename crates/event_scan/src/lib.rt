@@ -18,7 +18,6 @@ ghost use Rattle.event_scan.specs.Scan.{fields_at, attrs_at, Good, stand, means,
 pub mod event_line;
 pub mod fields;
 
-use distinct::Distinctness;
 use refusal::Refusal;
 
 // "2 over 16,384 bytes without its line feed"
@@ -290,10 +289,9 @@ fn once_by_words(t: &[u8], words: &mut [u64], at: usize) -> bool
     if words.len() < n {
         return once_in_pairs(t, at);
     }
-    match distinct::runs_differ(t, &words[..n]) {
-        Distinctness::Distinct => true,
-        Distinctness::Twice => false,
-        Distinctness::Untold => once_in_pairs(t, at),
+    match distinct::runs_differ(t, &mut words[..n]) {
+        Some(told) => told,
+        None => once_in_pairs(t, at),
     }
 }
 

@@ -10,14 +10,8 @@ use Rattle.event_scan.proofs.once_by_words.Goals as goal
 pub slice_bounds-runs_differ-end-2 : goal.slice_bounds-runs_differ-end-2
 slice_bounds-runs_differ-end-2 c = simp length-take (omega arith)
 
-pub returns-in-Distinct : goal.returns-in-Distinct
-returns-in-Distinct c =
+pub returns-in-Some : goal.returns-in-Some
+returns-in-Some c =
     let a = c.args in
     let n = c.note_names-n in
-    sym (names_distinct (attrs_at a.t.now a.at) ∙ (ap distinct (n.ensures c.if-words-n.false) ∙ (rw c.in-Distinct.is at c.runs_differ.ensures)))
-
-pub returns-in-Twice : goal.returns-in-Twice
-returns-in-Twice c =
-    let a = c.args in
-    let n = c.note_names-n in
-    sym (names_distinct (attrs_at a.t.now a.at) ∙ (ap distinct (n.ensures c.if-words-n.false) ∙ (rw c.in-Twice.is at c.runs_differ.ensures)))
+    sym (names_distinct (attrs_at a.t.now a.at) ∙ (ap distinct (n.ensures c.if-words-n.false) ∙ c.in-Some.ensures))
