@@ -32,6 +32,7 @@ pub struct ArenaMeta {
 }
 
 impl ArenaMeta {
+    // Whether a flag is set: a power of 2.
     #[tactic(auto, unfolding(model::specs::Record::flagged))]
     fn has(self, flag: u8) -> bool
         requires { 0 < flag }
@@ -108,7 +109,7 @@ pub struct PushHead {
 }
 
 // A record as a direct push gives it: the parts are refs or members and then tags, laid out as in a record.
-#[derive(Clone, Copy)]
+#[derive(Clone, Copy, PartialEq, Eq, Debug)]
 pub struct PushRecord<'a> {
     pub kind: Kind,
     pub head: PushHead,
@@ -156,7 +157,7 @@ pub struct TagPlace {
 }
 
 // "`CompactTagIter` carries the record's bytes with the offset and the tags remaining".
-#[derive(Clone, Copy)]
+#[derive(Clone, Copy, PartialEq, Eq, Debug)]
 pub struct CompactTagIter<'a> {
     pub bytes: &'a [u8],
     pub offset: usize,
@@ -511,7 +512,7 @@ fn step<P: Part>(bytes: &[u8], offset: usize, remaining: u32) -> Result<Option<P
     Ok(Some(part))
 }
 
-// The ref at an offset.
+// The ref at an offset. The bytes, the offset and the count come apart: a caller holds them so, one step a call; over tags, `CompactTagIter` holds them.
 pub fn ref_step(bytes: &[u8], offset: usize, remaining: u32) -> Result<Option<RefPart>, Refusal>
     ensures { result ≡ ref_step bytes.now offset remaining }
 {

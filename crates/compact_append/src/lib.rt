@@ -1,10 +1,10 @@
 // Appends to an arena (compact.rs): a record's head, its metadata and its parts, written into the unused bytes.
 #![tactic(auto)]
 
-ghost use Rattle.std.specs.Prelude.{◌≡◌};
+ghost use Rattle.std.specs.Prelude.{◌≡◌, ◌≤◌, ◌+◌, length};
 ghost use Rattle.kind.specs.declared.Kind.TheVariants.{Node, Way, Relation};
 ghost use Rattle.little.specs.Little.{over};
-ghost use Rattle.compact.specs.Layout.{meta_bytes, head_bytes};
+ghost use Rattle.compact.specs.Layout.{meta_bytes, head_bytes, head_len};
 ghost use Rattle.compact.specs.Held.{meta_of, node_head, counts_head, way_head, relation_head};
 ghost use Rattle.compact.specs.Push.{bytes_given};
 ghost use Rattle.compact_append.specs.Append.{record_written, append};
@@ -23,14 +23,6 @@ fn put_meta(out: &mut [u8], meta: ArenaMeta)
     little::put_at(out, 13, 8, meta.changeset);
     little::put_at(out, 21, 4, meta.uid as u64);
     little::put_at(out, 25, 4, meta.user as u64);
-}
-
-fn put_meta_at(out: &mut [u8], at: usize, meta: ArenaMeta)
-    ensures { out.new ≡ over out.old at (meta_bytes (meta_of meta)) }
-{
-    if at < out.len() {
-        put_meta(&mut out[at..], meta);
-    }
 }
 
 // The head of a way or a relation: an id and two counts.
@@ -72,16 +64,18 @@ impl WrittenHead for CompactRelation {
 }
 
 fn put_record<H: WrittenHead>(out: &mut [u8], head: H, meta: ArenaMeta, parts: &[u8])
+    requires { head_len H.kind + 29 ≤ length out.old }
     ensures { out.new ≡ over out.old 0 (record_written H.kind (H.says head) (meta_of meta) parts.now) }
 {
     head.put(out);
-    put_meta_at(out, H::LEN, meta);
-    little::copy_at(out, H::parts_at(), parts);
+    put_meta(&mut out[H::LEN..], meta);
+    little::copy_in(&mut out[H::parts_at()..], parts);
 }
 
 // ---- appends: the parts are refs or members and then tags, laid out as in a record
 
-// Where the record ends that was appended, or none where it has no room.
+// Where the record ends that was appended, or none where it has no room. The arena and its used count come apart: kind_store's struct
+// holds them with its table, and a struct of `&mut`s inside a struct of `&mut`s is not proved where it is made.
 pub fn append<H: WrittenHead>(
     arena: &mut [u8],
     used: usize,

@@ -17,7 +17,7 @@ use Rattle.base.proofs.Split.{by_bool, by_eq, clash, both_left, both_right}
 use Rattle.little.specs.Little.{value_at}
 use Rattle.kind.specs.declared.Kind.{Kind}
 use Rattle.osm_id.specs.Order.{same_id, id_of}
-use Rattle.compact_legal.proofs.Bits.{and_both}
+use Rattle.base.proofs.Tests.{and_both}
 use Rattle.kind_table.specs.Words.{row_at, rows_from, rows_of}
 use Rattle.kind_table.specs.declared.Row.{Row}
 use Rattle.kind_store.specs.KindStore.{is_live}

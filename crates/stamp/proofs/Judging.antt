@@ -10,12 +10,6 @@ use Rattle.calendar.specs.Calendar.{leap, month_days}
 use Rattle.stamp.specs.Stamp.{taken_moment}
 use Rattle.stamp.specs.declared.Moment.{Moment}
 
--- the code's `&` of two tests
-pub and_both : (a b : Bool) → (a && b) ≡ both a b
-unfolding both
-and_both true b = refl
-and_both false b = refl
-
 module _ (m : Moment) where
   pub before_month : m.month < 1 → taken_moment m ≡ false
   unfolding taken_moment

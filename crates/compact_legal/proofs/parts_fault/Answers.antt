@@ -5,7 +5,7 @@ use mathlib.Core.Path.{sym, ◌∙◌, ap}
 use native.Mathlib.Omega.{arith}
 use Rattle.refusal.specs.declared.Refusal.TheVariants.{BadRecord}
 use Rattle.compact.specs.Held.{meta_of}
-use Rattle.compact_legal.proofs.Bits.{and_both}
+use Rattle.base.proofs.Tests.{and_both}
 use Rattle.compact_legal.proofs.Judging.{handed, walk_refused, walk_pushed}
 use Rattle.compact_legal.proofs.Pushes.{push_is}
 use Rattle.compact_legal.proofs.parts_fault.Goals as goal

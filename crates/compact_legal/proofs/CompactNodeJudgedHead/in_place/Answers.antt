@@ -2,7 +2,7 @@
 use Rattle.compact.specs.Legal.{in_range}
 use Rattle.compact.specs.Held.{node_head}
 use Rattle.compact_legal.specs.Judge.{place_in_range}
-use Rattle.compact_legal.proofs.Bits.{and_both}
+use Rattle.base.proofs.Tests.{and_both}
 use Rattle.compact_legal.proofs.CompactNodeJudgedHead.in_place.Goals as goal
 
 pub returns : goal.returns

@@ -1,6 +1,6 @@
 -- Counts and bytes within the limits.
 use Rattle.compact_legal.specs.Judge.{few}
-use Rattle.compact_legal.proofs.Bits.{and_both}
+use Rattle.base.proofs.Tests.{and_both}
 use Rattle.compact_legal.proofs.JudgedHead.few_parts.Goals as goal
 
 pub returns : goal.returns

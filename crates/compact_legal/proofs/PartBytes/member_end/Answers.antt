@@ -3,7 +3,7 @@ use Rattle.std.specs.Prelude.{Bool, true, false, cond, None, Some, ℕ}
 use Rattle.std.specs.Bool.{then_some}
 use mathlib.Core.Path.{◌≡◌, refl, ◌∙◌}
 use Rattle.little.proofs.Ends.{lies_within, runs_past}
-use Rattle.compact_legal.proofs.Bits.{and_both}
+use Rattle.base.proofs.Tests.{and_both}
 use Rattle.compact_legal.proofs.Parts.{member_bad, member_is}
 use Rattle.compact_legal.proofs.PartBytes.member_end.Goals as goal
 
