@@ -1,7 +1,7 @@
 // Which records are legal, and the one check that decides it: for a direct push, and for the records of an arena.
 #![tactic(auto)]
 
-ghost use Rattle.std.specs.Prelude.{◌≡◌, ◌≤◌, leb, nat_abs, length};
+ghost use Rattle.std.specs.Prelude.{◌≡◌, ◌≤◌, ◌+◌, IfSome, leb, nat_abs, length};
 ghost use Rattle.std.specs.Int.{w32};
 ghost use Rattle.std.proofs.Common.{to_z};
 ghost use Rattle.compact.specs.Cut.{pushed_record};
@@ -79,7 +79,8 @@ impl PartBytes<'_> {
     // A tag: a key's handle, a length and as many bytes.
     fn tag_end(&self, at: usize) -> Option<usize>
         requires { at ≤ length self.now.bytes.now }
-        ensures { result ≡ tag_end self.now.bytes.now at }
+        ensures ends { result ≡ tag_end self.now.bytes.now at }
+        ensures within { IfSome result (λ e. (at + 8 ≤ e) × (e ≤ length self.now.bytes.now)) }
     {
         let value = little::end_within(at, 8, self.bytes.len())?;
         let n = little::get_u32(self.bytes, at + 4) as usize;

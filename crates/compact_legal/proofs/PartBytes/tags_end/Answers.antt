@@ -23,7 +23,7 @@ returns-in_err-next c =
     let a = c.args in
     let p = a.self.now in
     let l = c.loop in
-    let x = tags_short p.strings p.bytes.now l.place l.invariant.0 (a.n - l.counter) (omega arith) c.in_err-next.ensures in
+    let x = tags_short p.strings p.bytes.now l.place l.invariant.0 (a.n - l.counter) (omega arith) c.in_err-next.ensures.ends in
     rw c.from_residual.ensures (rw x at l.invariant.1)
 
 pub returns-then-get_u32-self : goal.returns-then-get_u32-self
@@ -32,26 +32,17 @@ returns-then-get_u32-self c =
     let p = a.self.now in
     let l = c.loop in
     let k : ltb (value_at 4 p.bytes.now l.place) p.strings ≡ false = rw (← c.get_u32.ensures) (le-ltb _ _ c.if-get_u32-self.true) in
-    let x = tags_unheld p.strings p.bytes.now l.place l.invariant.0 c.in_ok-next.next c.in_ok-next.ensures (a.n - l.counter) (omega arith) k in
+    let x = tags_unheld p.strings p.bytes.now l.place l.invariant.0 c.in_ok-next.next c.in_ok-next.ensures.ends (a.n - l.counter) (omega arith) k in
     rw x at l.invariant.1
-
-pub slice_bounds-is_text-count : goal.slice_bounds-is_text-count
-slice_bounds-is_text-count c = let p = c.args.self.now in let l = c.loop in let r = tag_room p.strings p.bytes.now l.place l.invariant.0 c.in_ok-next.next c.in_ok-next.ensures in omega arith
-
-pub slice_bounds-is_text-start : goal.slice_bounds-is_text-start
-slice_bounds-is_text-start c = let p = c.args.self.now in let l = c.loop in let r = tag_room p.strings p.bytes.now l.place l.invariant.0 c.in_ok-next.next c.in_ok-next.ensures in search rules
-
-pub slice_bounds-is_text-end : goal.slice_bounds-is_text-end
-slice_bounds-is_text-end c = let p = c.args.self.now in let l = c.loop in let r = tag_room p.strings p.bytes.now l.place l.invariant.0 c.in_ok-next.next c.in_ok-next.ensures in search rules
 
 pub loop-preserved : goal.loop-preserved
 loop-preserved c =
     let a = c.args in
     let p = a.self.now in
     let l = c.loop in
-    let r = tag_room p.strings p.bytes.now l.place l.invariant.0 c.in_ok-next.next c.in_ok-next.ensures in
+    let r = tag_room p.strings p.bytes.now l.place l.invariant.0 c.in_ok-next.next c.in_ok-next.ensures.ends in
     let k : ltb (value_at 4 p.bytes.now l.place) p.strings ≡ true = rw (← c.get_u32.ensures) (lt-ltb _ _ c.if-get_u32-self.false) in
-    let x = tags_next p.strings p.bytes.now l.place l.invariant.0 c.in_ok-next.next c.in_ok-next.ensures (a.n - l.counter) (omega arith) k in
+    let x = tags_next p.strings p.bytes.now l.place l.invariant.0 c.in_ok-next.next c.in_ok-next.ensures.ends (a.n - l.counter) (omega arith) k in
     let fewer : a.n - l.counter - 1 ≡ a.n - (l.counter + 1) = omega arith in
     (r.1, rw c.is_text-text.ensures (after_after l.text _ _ ∙ (ap (after l.text) (rw fewer at (sym x)) ∙ l.invariant.1)))
 
