@@ -17,7 +17,7 @@ ghost use Rattle.overlay.specs.Lent.{lent, left, overlay_seen, overlay_held, ove
 ghost use Rattle.overlay_store.specs.Lent.{kind_store_lent, kind_store_left, setting_in, strings_at, OthersKept};
 ghost use Rattle.overlay_store.specs.Calls.{bytes_of, store_push, store_delete, handle_in, store_text};
 
-use compact::{ArenaMeta, PushHead};
+use compact::{ArenaMeta, PushHead, PushRecord};
 use interner::{Interned, StringsMut, Taken};
 use kind::Kind;
 use kind_store::{KindStorageMut, KindStorageTable};
@@ -112,7 +112,13 @@ fn push_in(
         arena,
         used: counters[at + ARENA],
     };
-    let answer = part.push(setting, head, meta, parts);
+    let record = PushRecord {
+        kind,
+        head,
+        meta,
+        parts,
+    };
+    let answer = part.push(setting.into(), &record);
     counters[at] = part.ids;
     counters[at + ARENA] = part.used;
     answer
@@ -165,7 +171,7 @@ fn delete_in(
         arena,
         used: counters[at + ARENA],
     };
-    let answer = part.delete(setting, id, claim);
+    let answer = part.delete(setting.into(), id, claim);
     counters[at] = part.ids;
     counters[at + ARENA] = part.used;
     answer
