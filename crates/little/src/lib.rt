@@ -102,7 +102,8 @@ fn number(s: &[u8]) -> u64
     r
 }
 
-// The number in the n bytes from a place on, of which those past the end are left out.
+// The number in the n bytes from a place on, of which those past the end are left out: whoever reads a number has tested that its bytes are there, and has no
+// arm for an error.
 fn get_le(s: &[u8], at: usize, n: usize) -> u64
     requires { n ≤ 8 }
     ensures value { result ≡ value_at n s.now at }
@@ -111,6 +112,7 @@ fn get_le(s: &[u8], at: usize, n: usize) -> u64
     number(there(s, at, n))
 }
 
+// Each width has a function of its own, since its number is a type of its own: one generic function would want a trait with these three bodies.
 pub fn get_u8(s: &[u8], at: usize) -> u8
     ensures { result ≡ value_at 1 s.now at }
 {

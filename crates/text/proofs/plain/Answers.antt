@@ -1,13 +1,8 @@
-use mathlib.Core.Path.{refl, sym, ◌∙◌}
+use mathlib.Core.Path.{sym, ◌∙◌}
 use native.Mathlib.Omega.{arith}
-use Rattle.base.specs.Bytes.{both}
 use Rattle.text.specs.Check.{is_plain}
 use Rattle.text.proofs.PlainBytes.{pass_on, pass_ends, plain_test}
 use Rattle.text.proofs.plain.Goals as goal
-
-pub loop-b-init : goal.loop-b-init
-unfolding both
-loop-b-init c = refl
 
 pub loop-b-preserved : goal.loop-b-preserved
 loop-b-preserved c =
