@@ -1,4 +1,5 @@
 -- Runs that rise are distinct, and a permutation of runs is distinct where they are.
+use Rattle.std.specs.Prelude.{Option, Some, None, Bool}
 use Prim.Native.Nat.{ℕ, zero, suc, ◌+◌, ◌-◌, ◌<◌, ◌≤◌, min}
 use mathlib.Core.Path.{◌≡◌, refl, sym, ◌∙◌, ap}
 use mathlib.Core.Bool.{true, false, cond}
@@ -22,7 +23,7 @@ use Rattle.std.proofs.lemmas.List.Sorted.{IsPermutation-map, IsPermutation-sym, 
 use Rattle.base.specs.Bytes.{Bytes, both, all, same}
 use Rattle.base.proofs.Split.{by_bool, by_le, both_left, both_right, both_of, clash, no, same_test}
 use Rattle.base.proofs.Lists.{same_yes, same_refl, all_nil, all_cons, all_head, all_tail}
-use Rattle.distinct.specs.Distinct.{differs, distinct, run_in, runs_in}
+use Rattle.distinct.specs.Distinct.{differs, distinct, run_in, runs_in, RightOf}
 use Rattle.distinct.specs.Check.{run_cmp, run_at, Rises}
 
 -- ---- the order of runs
@@ -199,3 +200,8 @@ distinct_sorted bytes words sorted p =
     same_test (distinct (runs_in bytes sorted)) (distinct (runs_in bytes words))
     (distinct_moved (runs_in bytes sorted) (runs_in bytes words) (IsPermutation-sym (runs_in bytes words) (runs_in bytes sorted) q))
     (distinct_moved (runs_in bytes words) (runs_in bytes sorted) q)
+
+-- what is right of a test is right of one that agrees
+pub right_as : (o : Option Bool) (a b : Bool) → a ≡ b → RightOf o b → RightOf o a
+right_as (Some t) a b e r = e ∙ r
+right_as None a b e r = r

@@ -2,10 +2,10 @@
 // where the neighbours do not rise, nothing is told.
 #![tactic(auto)]
 
-ghost use Rattle.std.specs.Prelude.{◌≡◌, ◌+◌, ◌<◌, ◌≤◌, length, take, drop, set, IsPermutation};
+ghost use Rattle.std.specs.Prelude.{◌≡◌, Bool, ◌+◌, ◌<◌, ◌≤◌, length, take, drop, set, IsPermutation};
 ghost use Rattle.base.specs.Bytes.{same};
 ghost use Rattle.distinct.specs.Distinct.{distinct, run_start, run_length, run_in, runs_in, RightOf};
-ghost use Rattle.distinct.specs.Check.{run_cmp};
+ghost use Rattle.distinct.specs.Check.{run_cmp, NotesAs};
 
 use std::cmp::Ordering;
 
@@ -35,6 +35,7 @@ fn sort_key(run: &[u8]) -> u64
 }
 
 // A struct of three numbers was tried in place of the word: 640 runs took a third longer to sort.
+#[tactic(auto, unfolding(crate::specs::Distinct::run_start, crate::specs::Distinct::run_length))]
 fn pack(key: u64, start: usize, len: usize) -> u64
     requires { (key < 1073741824) × ((start < 131072) × (len < 131072)) }
     ensures { (run_start result ≡ start) × (run_length result ≡ len) }
@@ -74,12 +75,14 @@ fn key_of(w: u64) -> u64 {
     w / 17179869184
 }
 
+#[tactic(auto, unfolding(crate::specs::Distinct::run_start))]
 fn start_of(w: u64) -> usize
     ensures { (result ≡ run_start w) × (result < 131072) }
 {
     (w / 131072 % 131072) as usize
 }
 
+#[tactic(auto, unfolding(crate::specs::Distinct::run_length))]
 fn length_of(w: u64) -> usize
     ensures { (result ≡ run_length w) × (result < 131072) }
 {
@@ -153,4 +156,38 @@ pub fn runs_differ(bytes: &[u8], words: &mut [u64]) -> Option<bool>
     words.sort_unstable();
     sort_parts(bytes, words);
     rises(bytes, words)
+}
+
+// ---- runs whose words are noted one by one
+
+// How many words there is room for, where many runs are told apart. The library has no heap.
+const ROOM: usize = 5460;
+
+// What `noted_differ` tells, with the words in what is lent.
+fn noted_differ_in<F: FnOnce(&mut [u64]) -> Option<usize>>(
+    bytes: &[u8],
+    words: &mut [u64],
+    note: F,
+) -> Option<bool>
+    requires { F.IsAlwaysCallable note }
+    ensures { (told : Bool) → (length bytes.now < 131072 → NotesAs F.FnOnce note bytes.now told) → RightOf result told }
+{
+    if 131072 <= bytes.len() {
+        return None;
+    }
+    match note(words) {
+        Some(n) if n <= words.len() => runs_differ(bytes, &mut words[..n]),
+        Some(_) => None,
+        None => Some(false),
+    }
+}
+
+// Whether no two of the runs are equal whose words a closure notes, as far as there is room, where it is told. The closure answers how many runs there are, or none where the answer is no
+// already.
+pub fn noted_differ<F: FnOnce(&mut [u64]) -> Option<usize>>(bytes: &[u8], note: F) -> Option<bool>
+    requires { F.IsAlwaysCallable note }
+    ensures { (told : Bool) → (length bytes.now < 131072 → NotesAs F.FnOnce note bytes.now told) → RightOf result told }
+{
+    let mut words = [0u64; ROOM];
+    noted_differ_in(bytes, &mut words, note)
 }

@@ -5,7 +5,7 @@ ghost use Rattle.std.specs.Prelude.{◌≡◌, true, false, [], ◌∷◌, ◌+�
 ghost use Rattle.std.specs.Option.{option_copied};
 ghost use Rattle.base.specs.Bytes.{both};
 ghost use Rattle.little.specs.Little.{over};
-ghost use Rattle.distinct.specs.Distinct.{distinct, runs_in};
+ghost use Rattle.distinct.specs.Check.{NotedAs};
 ghost use Rattle.interner.specs.Strings.{span_at, string_at, span_of, is_at, find_from, find_in, used_of, added, text_room, store_with, store_after, text_taken, taken_as, intern};
 ghost use Rattle.interner.specs.Sound.{sound_up_to, sound_strings, fresh_spans};
 ghost use Rattle.interner.specs.Check.{new_at, legal_at, WordsNoted};
@@ -94,11 +94,12 @@ impl Texts<'_> {
         (0..n).all(|h| self.is_new(h))
     }
 
-    // Whether the string of a handle lies within the bytes and is legal text. Its word is noted.
+    // Whether the string of a handle lies within the bytes and is legal text. Its word is noted, where there is room.
     fn note_text(&self, words: &mut [u64], h: usize) -> bool
-        requires { (length self.now.bytes.now < 131072) × ((h < length words.old) × WordsNoted self.now.spans.now self.now.bytes.now words.old h) }
         ensures value { result ≡ legal_at self.now.spans.now self.now.bytes.now h }
-        ensures words_noted { result ≡ true → WordsNoted self.now.spans.now self.now.bytes.now words.new (h + 1) }
+        ensures long { length words.new ≡ length words.old }
+        ensures words_noted { length self.now.bytes.now < 131072 → h < length words.old → WordsNoted self.now.spans.now self.now.bytes.now words.old h
+            → result ≡ true → WordsNoted self.now.spans.now self.now.bytes.now words.new (h + 1) }
     {
         let Some(p) = self.span_at(h) else {
             return false;
@@ -112,56 +113,33 @@ impl Texts<'_> {
         }
     }
 
-    // Whether the strings of the first n handles lie within the bytes and are legal text. Their words are noted.
-    fn note_texts(&self, words: &mut [u64], n: usize) -> bool
-        requires { (length self.now.bytes.now < 131072) × (n ≤ length words.old) }
-        ensures n_value { result ≡ true → sound_up_to self.now.spans.now self.now.bytes.now n ≡ distinct (runs_in self.now.bytes.now (take n words.new)) }
-        ensures n_value_2 { result ≡ false → sound_up_to self.now.spans.now self.now.bytes.now n ≡ false }
+    // Notes the words of the strings of the first n handles. None where one of them does not lie within the bytes or is no legal text, else how many they are.
+    fn note_texts(&self, words: &mut [u64], n: usize) -> Option<usize>
+        ensures { length self.now.bytes.now < 131072 → NotedAs self.now.bytes.now words.new result (sound_up_to self.now.spans.now self.now.bytes.now n) }
     {
         for h in 0..n {
             if !self.note_text(words, h) {
-                return false;
+                return None;
             }
         }
-        true
+        Some(n)
     }
 
-    // Whether the strings of the first n handles are sound: by their words, where these tell it.
-    fn sound_by_words(&self, words: &mut [u64], n: usize) -> bool
-        ensures { result ≡ sound_up_to self.now.spans.now self.now.bytes.now n }
-    {
-        if words.len() < n {
-            return self.sound_in_pairs(n);
-        }
-        if 131072 <= self.bytes.len() {
-            return self.sound_in_pairs(n);
-        }
-        if self.note_texts(words, n) {
-            // `unwrap_or_else` was tried, and its proof did not close: a proof learns nothing of what the closure answers.
-            match distinct::runs_differ(self.bytes, &mut words[..n]) {
-                Some(told) => told,
-                None => self.sound_in_pairs(n),
-            }
-        } else {
-            false
-        }
-    }
-
-    fn sound_with(&self, words: &mut [u64; 5460], n: usize) -> bool
-        ensures { result ≡ sound_up_to self.now.spans.now self.now.bytes.now n }
-    {
-        self.sound_by_words(words, n)
-    }
-
-    // Whether the strings of the first n handles are sound. A few are compared in pairs.
+    // Whether the strings of the first n handles are sound: by their words, where these tell it. A few are compared in pairs.
     fn sound_up_to(&self, n: usize) -> bool
         ensures { result ≡ sound_up_to self.now.spans.now self.now.bytes.now n }
     {
         if n <= 32 {
             return self.sound_in_pairs(n);
         }
-        let mut words = [0u64; 5460];
-        self.sound_with(&mut words, n)
+        // `unwrap_or_else` was tried, and its proof did not close: a proof learns nothing of what the closure answers.
+        let note = |words: &mut [u64]| -> Option<usize>
+            ensures { length self.entry.now.bytes.now < 131072 → NotedAs self.entry.now.bytes.now words.new result (sound_up_to self.entry.now.spans.now self.entry.now.bytes.now n) }
+        { self.note_texts(words, n) };
+        match distinct::noted_differ(self.bytes, note) {
+            Some(told) => told,
+            None => self.sound_in_pairs(n),
+        }
     }
 }
 
@@ -256,14 +234,8 @@ pub struct StringsMut<'a> {
 fn put_span(out: &mut [u64], start: u64, len: u64)
     ensures { out.new ≡ over out.old 0 (start ∷ len ∷ []) }
 {
-    if out.len() == 0 {
-        return;
-    }
-    out[0] = start;
-    if out.len() == 1 {
-        return;
-    }
-    out[1] = len;
+    distinct::put_word(out, 0, start);
+    distinct::put_word(out, 1, len);
 }
 
 // The spans of an empty overlay, of one string and no used byte: handle 0 is the empty text.
