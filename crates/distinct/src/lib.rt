@@ -183,7 +183,8 @@ fn noted_differ_in<F: FnOnce(&mut [u64]) -> Option<usize>>(
 }
 
 // Whether no two of the runs are equal whose words a closure notes, as far as there is room, where it is told. The closure answers how many runs there are, or none where the answer is no
-// already.
+// already. It is not inlined: where its array lay in a caller's frame, clang's stack probe stood behind the caller's first tests.
+#[inline(never)]
 pub fn noted_differ<F: FnOnce(&mut [u64]) -> Option<usize>>(bytes: &[u8], note: F) -> Option<bool>
     requires { F.IsAlwaysCallable note }
     ensures { (told : Bool) → (length bytes.now < 131072 → NotesAs F.FnOnce note bytes.now told) → RightOf result told }
