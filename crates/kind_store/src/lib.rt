@@ -8,7 +8,6 @@ ghost use Rattle.model.specs.Record.{claim_of};
 ghost use Rattle.compact.specs.Layout.{head_len, head_bytes, meta_bytes};
 ghost use Rattle.compact.specs.Held.{meta_of, head_in};
 ghost use Rattle.compact.specs.Push.{bytes_given};
-ghost use Rattle.compact_append.specs.Append.{append};
 ghost use Rattle.kind_table.specs.Words.{held, row_at};
 ghost use Rattle.kind_store.specs.KindStore.{kind_store_with, live_version, known_of, known_version, checked, room_at, floor_after, pushed, deleted};
 ghost use Rattle.kind_store.specs.Lent.{kind_seen, kind_held, kind_rows_held, IsSameKindStorage, IsSameKindStorageTable};
@@ -218,22 +217,6 @@ impl KindStorage<'_> {
 
 // ---- push
 
-// Joins a record to the used bytes of an arena: where it ends, or none where it does not fit.
-fn append_record(arena: &mut [u8], used: usize, push: &PushRecord<'_>) -> Option<usize>
-    ensures { record { arena = arena.new; answer = result } ≡ append arena.old used (bytes_given push.now) }
-{
-    let head = push.head;
-    match push.kind {
-        Kind::Node => {
-            compact_append::append_node(arena, used, head.into(), push.meta, push.parts)
-        }
-        Kind::Way => compact_append::append_way(arena, used, head.into(), push.meta, push.parts),
-        Kind::Relation => {
-            compact_append::append_relation(arena, used, head.into(), push.meta, push.parts)
-        }
-    }
-}
-
 impl KindStorageMut<'_> {
     // The same, to be read.
     fn storage(&self) -> KindStorage<'_>
@@ -262,7 +245,8 @@ impl KindStorageMut<'_> {
         let claim = push.meta.claim();
         let seat = self.storage().admitted(regression, id, claim)?;
         let place = self.used;
-        let end = append_record(self.arena, place as usize, push).ok_or(Refusal::ArenaFull)?;
+        let end = compact_append::append_record(self.arena, place as usize, push)
+            .ok_or(Refusal::ArenaFull)?;
         let row = Row {
             rank: osm_id::rank_of_bits(id),
             place,
