@@ -245,8 +245,9 @@ impl KindStorageMut<'_> {
         let claim = push.meta.claim();
         let seat = self.storage().admitted(regression, id, claim)?;
         let place = self.used;
-        let end = compact_append::append_record(self.arena, place as usize, push)
-            .ok_or(Refusal::ArenaFull)?;
+        let end = compact_append::append_record(self.arena, place as usize, push).ok_or(
+            Refusal::ArenaFull,
+        )?;
         let row = Row {
             rank: osm_id::rank_of_bits(id),
             place,
