@@ -1,12 +1,13 @@
 -- The class of a first byte: its meaning, and what it says of the character that a run begins with.
-use Prim.Native.Nat.{ℕ, ◌+◌, ◌-◌, ◌*◌, ◌/◌, ◌%◌, ◌<◌, ◌≤◌}
+use Prim.Native.Nat.{ℕ, suc, ◌+◌, ◌-◌, ◌*◌, ◌/◌, ◌%◌, ◌<◌, ◌≤◌}
 use mathlib.Core.Path.{◌≡◌, sym, ◌∙◌, ap}
 use mathlib.Core.Bool.{true, false, cond}
 use mathlib.Core.List.{◌∷◌}
 use native.Mathlib.Omega.{arith}
 use lib.Dec.{eqb, leb}
 use lib.ListN.{length, drop, get_or-eq_default}
-use lib.Seq.{drop-cons}
+use native.Mathlib.Nat.{add-zero}
+use lib.Seq.{drop-cons, get_or-drop}
 use borrow.Author.Tests.{lt-ltb, le-ltb}
 use Rattle.std.specs.Prelude.{Some, None}
 use Rattle.base.specs.Bytes.{Bytes, both}
@@ -150,41 +151,54 @@ len_none s e =
     (λ l u d. no (omega arith))
     (λ l d. len_beyond s l)
 
--- what the code reads of a run by the class of its first byte
-module _ {s : Bytes} where
-  pub of_none : Starting s 0 → char_len s ≡ 0
-  of_none h = len_none s (sym h.class)
+-- what the code reads at a place of a run, by the class of the byte there
+there : (s : Bytes) (at i : ℕ) → byte_at (drop at s) i ≡ byte_at s (at + i)
+there s at i = get_or-drop at s i 0
 
-  pub of_1 : {k : ℕ} → Starting s k → k ≡ 1 → char_len s ≡ 1
-  of_1 h e = rw (drop-cons s 0 0 h.inside) (len_one (byte_at s 0) (drop 1 s) (sym h.class ∙ e))
+first : (s : Bytes) (at : ℕ) → byte_at (drop at s) 0 ≡ byte_at s at
+first s at = there s at 0 ∙ rw add-zero
 
-  pub of_2 : Starting s 2 → char_len s ≡ sized 2 0x80 (joined_bits (byte_at s 0 % 32) (byte_at s 1))
-  of_2 h =
-      let r = class_range (byte_at s 0) 2 h.class (omega arith) in
-      let m : byte_at s 0 - 0xc0 ≡ byte_at s 0 % 32 = omega arith in
-      len_2 s (omega arith) (omega arith) ∙ ap (sized 2 0x80) (point_2 s (omega arith) (omega arith) ∙ rw m)
+module _ {s : Bytes} {at : ℕ} where
+  pub at_none : Starting s at 0 → char_len (drop at s) ≡ 0
+  at_none h = len_none (drop at s) (rw (first s at) (sym h.class))
 
-  pub of_3 : Starting s 3 → char_len s ≡ sized 3 0x800 (joined_bits (joined_bits (byte_at s 0 % 16) (byte_at s 1)) (byte_at s 2))
-  of_3 h =
-      let r = class_range (byte_at s 0) 3 h.class (omega arith) in
-      let m : byte_at s 0 - 0xe0 ≡ byte_at s 0 % 16 = omega arith in
-      len_3 s (omega arith) (omega arith) ∙ ap (sized 3 0x800) (point_3 s (omega arith) (omega arith) ∙ rw m)
+  pub at_1 : {k : ℕ} → Starting s at k → k ≡ 1 → char_len (drop at s) ≡ 1
+  at_1 h e = rw (drop-cons s at 0 h.inside) (len_one (byte_at s at) (drop (suc at) s) (sym h.class ∙ e))
 
-  pub of_4 : Starting s 4 → char_len s ≡ sized 4 0x10000 (joined_bits (joined_bits (joined_bits (byte_at s 0 % 8) (byte_at s 1)) (byte_at s 2)) (byte_at s 3))
-  of_4 h =
-      let r = class_range (byte_at s 0) 4 h.class (omega arith) in
-      let m : byte_at s 0 - 0xf0 ≡ byte_at s 0 % 8 = omega arith in
-      len_4 s (omega arith) ∙ ap (sized 4 0x10000) (point_4 s (omega arith) ∙ rw m)
+  pub at_2 : Starting s at 2 → char_len (drop at s) ≡ sized 2 0x80 (joined_bits (byte_at s at % 32) (byte_at s (at + 1)))
+  at_2 h =
+      let r = class_range (byte_at s at) 2 h.class (omega arith) in
+      let m : byte_at s at - 0xc0 ≡ byte_at s at % 32 = omega arith in
+      let l : 0x80 ≤ byte_at (drop at s) 0 = rw (first s at) (omega arith) in
+      let u : byte_at (drop at s) 0 < 0xe0 = rw (first s at) (omega arith) in
+      len_2 (drop at s) l u ∙ ap (sized 2 0x80) (point_2 (drop at s) l u ∙ rw (first s at, there s at 1, m))
+
+  pub at_3 : Starting s at 3 → char_len (drop at s) ≡ sized 3 0x800 (joined_bits (joined_bits (byte_at s at % 16) (byte_at s (at + 1))) (byte_at s (at + 2)))
+  at_3 h =
+      let r = class_range (byte_at s at) 3 h.class (omega arith) in
+      let m : byte_at s at - 0xe0 ≡ byte_at s at % 16 = omega arith in
+      let l : 0xe0 ≤ byte_at (drop at s) 0 = rw (first s at) (omega arith) in
+      let u : byte_at (drop at s) 0 < 0xf0 = rw (first s at) (omega arith) in
+      len_3 (drop at s) l u ∙ ap (sized 3 0x800) (point_3 (drop at s) l u ∙ rw (first s at, there s at 1, there s at 2, m))
+
+  pub at_4 : Starting s at 4
+      → char_len (drop at s) ≡ sized 4 0x10000 (joined_bits (joined_bits (joined_bits (byte_at s at % 8) (byte_at s (at + 1))) (byte_at s (at + 2))) (byte_at s (at + 3)))
+  at_4 h =
+      let r = class_range (byte_at s at) 4 h.class (omega arith) in
+      let m : byte_at s at - 0xf0 ≡ byte_at s at % 8 = omega arith in
+      let l : 0xf0 ≤ byte_at (drop at s) 0 = rw (first s at) (omega arith) in
+      len_4 (drop at s) l ∙ ap (sized 4 0x10000) (point_4 (drop at s) l ∙ rw (first s at, there s at 1, there s at 2, there s at 3, m))
 
   -- bits that are too few for a character of the class
-  pub stops_2 : Starting s 2 → joined_bits (byte_at s 0 % 32) (byte_at s 1) < 0x80 → char_len s ≡ 0
-  stops_2 h l = of_2 h ∙ sized_low 2 0x80 _ l
+  pub stops_2 : Starting s at 2 → joined_bits (byte_at s at % 32) (byte_at s (at + 1)) < 0x80 → char_len (drop at s) ≡ 0
+  stops_2 h l = at_2 h ∙ sized_low 2 0x80 _ l
 
-  pub stops_3 : Starting s 3 → joined_bits (joined_bits (byte_at s 0 % 16) (byte_at s 1)) (byte_at s 2) < 0x800 → char_len s ≡ 0
-  stops_3 h l = of_3 h ∙ sized_low 3 0x800 _ l
+  pub stops_3 : Starting s at 3 → joined_bits (joined_bits (byte_at s at % 16) (byte_at s (at + 1))) (byte_at s (at + 2)) < 0x800 → char_len (drop at s) ≡ 0
+  stops_3 h l = at_3 h ∙ sized_low 3 0x800 _ l
 
-  pub stops_4 : Starting s 4 → joined_bits (joined_bits (joined_bits (byte_at s 0 % 8) (byte_at s 1)) (byte_at s 2)) (byte_at s 3) < 0x10000 → char_len s ≡ 0
-  stops_4 h l = of_4 h ∙ sized_low 4 0x10000 _ l
+  pub stops_4 : Starting s at 4
+      → joined_bits (joined_bits (joined_bits (byte_at s at % 8) (byte_at s (at + 1))) (byte_at s (at + 2))) (byte_at s (at + 3)) < 0x10000 → char_len (drop at s) ≡ 0
+  stops_4 h l = at_4 h ∙ sized_low 4 0x10000 _ l
 
 -- what the code answers, as a test of the code point
 pub measured : (s : Bytes) (k least v : ℕ) → 0 < k → char_len s ≡ sized k least v → Measured s (cond (both (leb least v) (xml_char v)) (Some k) None)

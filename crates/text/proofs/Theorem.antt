@@ -1,11 +1,11 @@
 -- The text check takes exactly the texts: the encodings of XML 1.0's characters.
-use Prim.Native.Nat.{ℕ, zero, suc, ◌-◌, ◌<◌, ◌≤◌}
+use Prim.Native.Nat.{ℕ, zero, suc, ◌+◌, ◌-◌, ◌<◌, ◌≤◌}
 use mathlib.Core.Path.{◌≡◌, refl, sym, ◌∙◌, ap}
 use mathlib.Core.Bool.{true, false}
 use mathlib.Core.List.{List, [], ◌∷◌, ◌++◌}
 use native.Mathlib.Omega.{arith}
-use lib.ListN.{length, take, drop, length-drop}
-use lib.Seq.{drop-append_seam, drop-nil, take_all}
+use lib.ListN.{length, drop, length-drop, drop_of_length-le}
+use lib.Seq.{drop-append_seam, drop-nil, drop-drop}
 use borrow.Author.Tests.{lt-ltb, ltb-true}
 use Rattle.base.specs.Bytes.{Bytes, both, all}
 use Rattle.base.proofs.Split.{no, both_left, both_right}
@@ -75,21 +75,17 @@ complete_chars (c ∷ cs) h =
 pub complete : (s : Bytes) → Text s → is_text s ≡ true
 complete s t = rw t.same (complete_chars t.chars t.legal)
 
--- nothing is text
-pub turn_ends : (s : Bytes) → length s < 1 → is_text s ≡ true
-turn_ends [] h = text_nil
-turn_ends (b ∷ s) h = no (omega arith)
+-- past the end
+pub turn_ends : (s : Bytes) (at : ℕ) → length s ≤ at → is_text (drop at s) ≡ true
+turn_ends s at h = rw (drop_of_length-le s h) text_nil
 
--- a turn of the check, at a run that is left
-module _ (s : Bytes) where
-  pub turn_within : {n : ℕ} → n ≡ char_len s → n ≤ length s
-  turn_within e = omega (arith, len_within s)
+-- a turn of the check at a place of a run
+module _ (s : Bytes) (at : ℕ) where
+  pub turn_within : {n : ℕ} → n ≡ char_len (drop at s) → at ≤ length s → at + n ≤ length s
+  turn_within e h = omega (arith, len_within (drop at s), length-drop at s)
 
-  pub turn_goes : {n : ℕ} → n ≡ char_len s → 0 < n → is_text (take (length s - n) (drop n s)) ≡ is_text s
-  turn_goes {n} e h =
-      let l = turn_within e in
-      let t : take (length s - n) (drop n s) ≡ drop n s = take_all (length s - n) (drop n s) (omega (arith, length-drop n s)) in
-      rw (t, e) (sym (goes s (omega arith)))
+  pub turn_goes : {n : ℕ} → n ≡ char_len (drop at s) → 0 < n → is_text (drop (at + n) s) ≡ is_text (drop at s)
+  turn_goes {n} e h = rw (← drop-drop n at s, e) (sym (goes (drop at s) (omega arith)))
 
-  pub turn_stops : 0 < length s → char_len s ≡ 0 → is_text s ≡ false
-  turn_stops h e = stops s h e
+  pub turn_stops : at < length s → char_len (drop at s) ≡ 0 → is_text (drop at s) ≡ false
+  turn_stops h e = stops (drop at s) (omega (arith, length-drop at s)) e

@@ -63,10 +63,10 @@ is_plain b = either (eqb b horizontal_tab) (from_to 0x20 0x7e b)
 unfoldable pub sized : ℕ → ℕ → ℕ → ℕ
 sized k least v = cond (both (leb least v) (xml_char v)) k 0
 
--- the first byte of a run is of class k
-pub record Starting (s : Bytes) (k : ℕ) : Type 0 where
-  pub inside : 0 < length s
-  pub class : k ≡ class_of (byte_at s 0)
+-- a byte of class k stands at a place
+pub record Starting (s : Bytes) (at k : ℕ) : Type 0 where
+  pub inside : at < length s
+  pub class : k ≡ class_of (byte_at s at)
 
 -- what is answered of the character that a run begins with: how many bytes it has, or none where the run begins with none
 abbrev pub Measured : Bytes → Option ℕ → Type 0
