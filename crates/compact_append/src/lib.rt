@@ -2,10 +2,10 @@
 #![tactic(auto)]
 
 ghost use Rattle.std.specs.Prelude.{◌≡◌, ◌≤◌, ◌+◌, length};
-ghost use Rattle.kind.specs.declared.Kind.TheVariants.{Node, Way, Relation};
+ghost use Rattle.kind.specs.declared.Kind.TheVariants.{Way};
 ghost use Rattle.little.specs.Little.{over};
 ghost use Rattle.compact.specs.Layout.{meta_bytes, head_bytes, head_len};
-ghost use Rattle.compact.specs.Held.{meta_of, node_head, counts_head, way_head, relation_head};
+ghost use Rattle.compact.specs.Held.{meta_of, counts_head};
 ghost use Rattle.compact.specs.Push.{bytes_given};
 ghost use Rattle.compact_append.specs.Append.{record_written, append};
 
@@ -117,40 +117,4 @@ pub fn append_record(arena: &mut [u8], used: usize, push: &PushRecord) -> Option
             push.parts,
         ),
     }
-}
-
-pub fn append_node(
-    arena: &mut [u8],
-    used: usize,
-    head: CompactNode,
-    meta: ArenaMeta,
-    parts: &[u8],
-) -> Option<usize>
-    ensures { record { arena = arena.new; answer = result } ≡ append arena.old used (record_written Node (node_head head) (meta_of meta) parts.now) }
-{
-    append(arena, used, head, meta, parts)
-}
-
-pub fn append_way(
-    arena: &mut [u8],
-    used: usize,
-    head: CompactWay,
-    meta: ArenaMeta,
-    parts: &[u8],
-) -> Option<usize>
-    ensures { record { arena = arena.new; answer = result } ≡ append arena.old used (record_written Way (way_head head) (meta_of meta) parts.now) }
-{
-    append(arena, used, head, meta, parts)
-}
-
-pub fn append_relation(
-    arena: &mut [u8],
-    used: usize,
-    head: CompactRelation,
-    meta: ArenaMeta,
-    parts: &[u8],
-) -> Option<usize>
-    ensures { record { arena = arena.new; answer = result } ≡ append arena.old used (record_written Relation (relation_head head) (meta_of meta) parts.now) }
-{
-    append(arena, used, head, meta, parts)
 }

@@ -12,7 +12,7 @@ use lib.Dec.{eqb}
 use lib.ListN.{length, drop, length-drop}
 use borrow.Author.Tests.{eqb-true, eq-eqb}
 use Rattle.base.specs.Bytes.{Bytes, both, either, all}
-use Rattle.base.proofs.Split.{by_bool, no, same_test, both_no_left, both_no_right}
+use Rattle.base.proofs.Split.{by_bool, no, both_true, same_test, both_no_left, both_no_right}
 use Rattle.kind.specs.declared.Kind.{Kind}
 use Rattle.refusal.specs.declared.Refusal.TheVariants.{NotText, CoordinateRange, TooManyParts, BadRecord}
 use Rattle.model.specs.Record.{Meta, Tag, Body, Record}
@@ -60,16 +60,6 @@ tag_total : (ts : List (Tag ℕ)) → total (λ (t : Tag ℕ). 8 + length t.valu
 unfolding value_bytes
 tag_total [] = refl
 tag_total (t ∷ ts) = let e = tag_total ts in omega arith
-
-both_yes : (a : Bool) → both a true ≡ a
-unfolding both
-both_yes true = refl
-both_yes false = refl
-
-both_true : (a : Bool) → both a (both true true) ≡ a
-unfolding both
-both_true true = refl
-both_true false = refl
 
 module _ (strings : ℕ) (k : Kind) (head : Head) (s : Bytes) (at : ℕ) (within : at ≤ length s) where
   -- no body, or a role that is not held
@@ -148,7 +138,7 @@ module _ (strings : ℕ) (k : Kind) (head : Head) (s : Bytes) (at : ℕ) (within
 
       handles_are : (m : Meta ℕ) → legal_handles strings (record_is m) ≡ legal_meta strings m
       unfolding legal_handles
-      handles_are m = rw (body_ends.passes, tags_end_lem.passes) (both_true (legal_meta strings m))
+      handles_are m = rw (body_ends.passes, tags_end_lem.passes, both_true, both_true)
 
       texts_are : (m : Meta ℕ) → legal_texts (record_is m) ≡ run.text
       unfolding legal_texts tags_end
@@ -218,4 +208,4 @@ module _ (strings : ℕ) (k : Kind) (head : Head) (s : Bytes) (at : ℕ) (within
       → verdict_of strings true (length s) (cut_parts k head m (drop at s))
       ≡ chosen (legal_meta strings m) w.text (place_in_range k head.lat head.lon) (few k head.count head.tags w.values) w.end
   unfolding either
-  walk_kept m w h = let e = walk_judged m true w h in rw (both_yes (legal_meta strings m)) at e
+  walk_kept m w h = let e = walk_judged m true w h in rw (both_true (legal_meta strings m)) at e

@@ -332,15 +332,3 @@ impl Records<'_> {
         None
     }
 }
-
-// The same of bytes of a kind.
-pub fn record_end(kind: Kind, bytes: &[u8], at: usize, strings: u64) -> Option<usize>
-    ensures { result ≡ record_end strings kind bytes.now at }
-{
-    let records = Records {
-        kind,
-        bytes,
-        strings,
-    };
-    records.end(at)
-}
