@@ -5,7 +5,7 @@ use Rattle.std.proofs.Common.{◌≡◌, ℕ, zero, suc, ◌+◌, ◌-◌, ◌*�
 use mathlib.Core.List.{map-map}
 use lib.Dec.{eqb-suc-zero}
 use Rattle.base.specs.Bytes.{Bytes, both, either, all}
-use Rattle.base.proofs.Split.{by_bool, both_left, both_right, both_of, by_either, clash}
+use Rattle.base.proofs.Split.{by_bool, both_left, both_right, by_either, clash}
 use Rattle.base.proofs.Lists.{all_head, all_tail}
 use Rattle.base.proofs.Tests.{all_both}
 use Rattle.little.specs.Little.{le}
