@@ -319,43 +319,15 @@ pub struct Taken {
     pub used: u64,
 }
 
-// Where the string of a handle lies among the bytes, if it does.
-pub fn span_at(spans: &[u64], bytes: &[u8], h: usize) -> Option<Span>
-    ensures { result ≡ span_at spans.now bytes.now h }
-{
-    Texts { spans, bytes }.span_at(h)
-}
-
 // Where the text of a held handle lies.
 pub fn resolve(spans: &[u64], bytes: &[u8], count: u64, handle: u64) -> Option<Span>
     ensures { result ≡ span_of spans.now bytes.now count handle }
 {
     if handle < count {
-        span_at(spans, bytes, handle as usize)
+        Texts { spans, bytes }.span_at(handle as usize)
     } else {
         None
     }
-}
-
-// Whether the string of a handle is the text.
-pub fn is_at(spans: &[u64], bytes: &[u8], text: &[u8], h: usize) -> bool
-    ensures { result ≡ is_at spans.now bytes.now text.now h }
-{
-    Texts { spans, bytes }.is_at(text, h)
-}
-
-// The first handle from one on, of those that are held, whose string is the text.
-pub fn find_from(spans: &[u64], bytes: &[u8], from: usize, count: u64, text: &[u8]) -> Option<u64>
-    ensures { result ≡ find_from spans.now bytes.now text.now (count - from) from }
-{
-    Texts { spans, bytes }.find_from(from, count, text)
-}
-
-// The first of the held handles whose string is the text.
-pub fn find_text(spans: &[u64], bytes: &[u8], count: u64, text: &[u8]) -> Option<u64>
-    ensures { result ≡ find_in spans.now bytes.now count text.now }
-{
-    find_from(spans, bytes, 0, count, text)
 }
 
 // Whether one more string of a length fits what is lent.
@@ -420,20 +392,12 @@ pub fn intern_found(
 pub fn intern(spans: &mut [u64], bytes: &mut [u8], strings: u64, used: u64, text: &[u8]) -> Taken
     ensures { store_after spans.new bytes.new result ≡ intern (store_with spans.old bytes.old strings used) text.now }
 {
-    let seen = little::lesser(used as usize, bytes.len());
-    let found = find_text(spans, &bytes[..seen], strings, text);
-    intern_found(spans, bytes, strings, used, text, found)
-}
-
-// Whether the strings are sound.
-pub fn sound_strings(spans: &[u64], bytes: &[u8], strings: u64, used: u64) -> bool
-    ensures { result ≡ sound_strings (store_with spans.now bytes.now strings used) }
-{
-    Strings {
+    let found = Strings {
         spans,
         bytes,
         count: strings,
         used,
     }
-    .is_sound()
+    .find(text);
+    intern_found(spans, bytes, strings, used, text, found)
 }

@@ -211,7 +211,7 @@ fn search_down_by(spans: &[u64], bytes: &[u8], n: usize, text: &[u8]) -> Option<
 {
     // `(0..n).rev().find(..)` was tried, and its proof did not close: the library's lemma of `find` over a range goes from the start.
     for h in (0..n).rev() {
-        if interner::is_at(spans, bytes, text, h) {
+        if (Texts { spans, bytes }).is_at(text, h) {
             return Some(h);
         }
     }
@@ -228,7 +228,7 @@ fn find_chained(ix: &[u16], spans: &[u64], bytes: &[u8], n: usize, text: &[u8]) 
     let mut c = entry(ix, b, n);
     for _ in 0..32 {
         let h = c.checked_sub(1)?;
-        if interner::is_at(spans, bytes, text, h) {
+        if (Texts { spans, bytes }).is_at(text, h) {
             return Some(h);
         }
         c = entry(ix, 4096 + h, h);
@@ -242,11 +242,11 @@ fn find_by(ix: &[u16], spans: &[u64], bytes: &[u8], count: u64, text: &[u8]) -> 
 {
     let n = entry(ix, 8192, 4096);
     if n < 16 {
-        return interner::find_text(spans, bytes, count, text);
+        return Texts { spans, bytes }.find_from(0, count, text);
     }
     match find_chained(ix, spans, bytes, n, text) {
         Some(h) => Some(h as u64),
-        None => interner::find_from(spans, bytes, n, count, text),
+        None => Texts { spans, bytes }.find_from(n, count, text),
     }
 }
 
@@ -312,7 +312,7 @@ fn bucket_at_by(spans: &[u64], bytes: &[u8], h: usize) -> usize
     ensures upper_bound { result < 4096 }
     ensures value { spanned spans.now bytes.now h ≡ true → result ≡ bucket_of (bytes_at spans.now bytes.now h) }
 {
-    let Some(p) = interner::span_at(spans, bytes, h) else {
+    let Some(p) = Texts { spans, bytes }.span_at(h) else {
         return 0;
     };
     let end = p.start + p.len;
