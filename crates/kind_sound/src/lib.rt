@@ -147,6 +147,7 @@ pub fn is_sound(storage: &KindStorage<'_>, strings: u64) -> bool
         bytes: &storage.arena[..n],
         strings,
     };
+    // On the stack: the library has no heap.
     let mut cells = [0; CELLS];
     cells_pass(&records, &table, &mut cells)
 }

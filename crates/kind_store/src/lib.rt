@@ -106,6 +106,8 @@ impl VersionRegression {
 
 // ---- what is known of an id
 
+// Where the metadata of a kind's record stand. It is a match and no method of `Kind`: the lengths are constants of the three heads, which lie in a crate
+// above that of `Kind`.
 fn meta_off(kind: Kind) -> usize
     ensures { result ≡ head_len kind }
 {

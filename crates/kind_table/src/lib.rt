@@ -25,7 +25,7 @@ pub struct Table<'a> {
     pub count: u64,
 }
 
-// An id table as it is lent to be changed.
+// An id table as it is lent to be changed. C lends the words, three a row: that is the storage format.
 #[derive(Drop)]
 pub struct TableMut<'a> {
     pub words: &'a mut [u64],
@@ -178,15 +178,6 @@ fn insert_row(words: &mut [u64], p: usize, n: usize, row: Row)
 }
 
 impl TableMut<'_> {
-    pub fn table(&self) -> Table<'_>
-        ensures { (result.words.now ≡ self.now.words.now) × (result.count ≡ self.now.count) }
-    {
-        Table {
-            words: self.words,
-            count: self.count,
-        }
-    }
-
     // Stores a row by where its rank was found: over the row there, or inserted in its place and the later rows moved up by one. Says whether it is
     // stored: where the rank is new and there is no room for one more row, nothing is.
     pub fn put_row(&mut self, found: Result<usize, usize>, row: Row) -> bool
