@@ -17,6 +17,7 @@ use overlay_blocks::{COUNTERS, Sizes};
 use refusal::{Refusal, Reply};
 
 // 1 for a size outside, or sizes that are not those of the blocks, else an empty overlay. Setting 0 refuses regression, any other allows it.
+#[tactic(auto, using(crate::proofs::OverlayReplies::replied_is), unfolding(crate::specs::Overlays::set_up_reply))]
 #[unsafe(no_mangle)]
 pub extern "C" fn tvk_set_up(
     words: &mut [u64],
@@ -74,6 +75,7 @@ pub extern "C" fn tvk_allow_version_regression(
 }
 
 // Takes a text in: 22, 3, 13, or its handle.
+#[tactic(auto, using(crate::proofs::OverlayReplies::interned_is), unfolding(crate::specs::Overlays::intern_reply))]
 #[unsafe(no_mangle)]
 pub extern "C" fn tvk_intern(
     words: &mut [u64],
@@ -93,6 +95,7 @@ pub extern "C" fn tvk_intern(
 }
 
 // A direct push of a node (kind 0), way (1) or relation (2).
+#[tactic(auto, using(crate::proofs::OverlayReplies::replied_is, crate::proofs::OverlayReplies::kind_told, crate::proofs::OverlayReplies::kind_untold, crate::proofs::OverlayReplies::unknown_is), unfolding(crate::specs::Overlays::push_reply))]
 #[unsafe(no_mangle)]
 pub extern "C" fn tvk_push(
     words: &mut [u64],
@@ -118,6 +121,7 @@ pub extern "C" fn tvk_push(
 }
 
 // A direct delete.
+#[tactic(auto, using(crate::proofs::OverlayReplies::replied_is, crate::proofs::OverlayReplies::kind_told, crate::proofs::OverlayReplies::kind_untold, crate::proofs::OverlayReplies::unknown_is, signed::proofs::Bits::bits_back), unfolding(crate::specs::Overlays::delete_reply))]
 #[unsafe(no_mangle)]
 pub extern "C" fn tvk_delete(
     words: &mut [u64],

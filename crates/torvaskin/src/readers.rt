@@ -32,9 +32,9 @@ pub extern "C" fn tvk_event(
         let read = c_reader::reader_in(reader);
         let done = reader_calls::event(words, bytes, counters, parts, read, line);
         c_reader::put_reader(reader, done.reader);
-        return c_replies::event_reply(done.answer);
+        return EventReply::from(done.answer);
     }
-    c_replies::event_reply(Err(NO_READER))
+    EventReply::from(Err(NO_READER))
 }
 
 // The whole lines of a run as events, up to the first that is refused. What follows the bytes that were taken is the refused line, or the unfinished one, which a caller
@@ -73,7 +73,7 @@ pub extern "C" fn tvk_end(
 {
     if c_reader::is_reader(reader) {
         let read = c_reader::reader_in(reader);
-        return c_replies::event_reply(reader_calls::end(words, bytes, counters, parts, read));
+        return EventReply::from(reader_calls::end(words, bytes, counters, parts, read));
     }
-    c_replies::event_reply(Err(NO_READER))
+    EventReply::from(Err(NO_READER))
 }
