@@ -1,10 +1,7 @@
 pub mod Equal
 pub mod Places
 pub mod Pieces
-pub mod Walks
-pub mod FewNames
 pub mod Lines
-pub mod AnyFields
 pub mod Names
 pub mod Parts
 pub mod Standing

@@ -116,6 +116,8 @@ fn once(rest: &Fields<'_>) -> bool
     Attributes { fields: *rest }.once_in_pairs()
 }
 
+// Out of line, since the arrays of the words would make the frame of each line's call as large.
+#[inline(never)]
 fn many_stand(rest: &Fields<'_>) -> bool
     ensures { result ≡ stand (attrs_of (fields_left rest.now)) }
 {
