@@ -15,7 +15,7 @@ use event_scan::event_line::EventLine;
 use event_scan::fields::Attributes;
 use event_values::{Coordinates, MemberValues, TagValues};
 use kind::Kind;
-use nesting::{Action, Child, Level, Opened, Place};
+use nesting::{Action, Child, Level, Opening, Place};
 use refusal::Refusal;
 
 // An element that is to be pushed, and ends too where it is empty; a node's place in bits, 0 for another kind.
@@ -122,18 +122,16 @@ fn opens<'a>(
 ) -> Result<Task<'a>, Refusal>
     ensures { task_answer result ≡ decide_opened (opened empty (name_of name.now) before) empty before.section (attributes_left attributes.now) }
 {
-    match nesting::open_at(before, empty, nesting::name_of(name)) {
-        Opened::Misplaced => Err(Refusal::Misplaced),
-        Opened::OutsideSection => Err(Refusal::OutsideSection),
-        Opened::Goes(place) => Ok(Task {
+    match before.open(empty, nesting::name_of(name))? {
+        Opening::Goes(place) => Ok(Task {
             place,
             work: Work::Nothing,
         }),
-        Opened::Begins(kind, place) => {
+        Opening::Begins(kind, place) => {
             let work = begins(before.section, empty, kind, attributes)?;
             Ok(Task { place, work })
         }
-        Opened::Holds(held, place) => {
+        Opening::Holds(held, place) => {
             let work = child(before.section, held, attributes)?;
             Ok(Task { place, work })
         }
@@ -144,7 +142,7 @@ fn opens<'a>(
 fn closes<'a>(before: Place) -> Task<'a>
     ensures { task_means result ≡ decide_closed before.level before.section (closed before) }
 {
-    let place = nesting::close_at(before);
+    let place = before.close();
     match before.level {
         Level::Element => Task {
             place,
