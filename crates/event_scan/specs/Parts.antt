@@ -16,7 +16,12 @@ parts_seen o = option_map (λ p. record { left = p.0.now; right = p.1.now }) o
 abbrev pub name_seen : Option (Bor Bytes) → Option Bytes
 name_seen o = option_map (λ n. n.now) o
 
--- how many bytes are left of a line
+-- what is left of a line
+abbrev pub text_left : Option (Bor Bytes) → Bytes
+text_left None = []
+text_left (Some s) = s.now
+
+-- how many bytes that is
 abbrev pub size_left : Option (Bor Bytes) → ℕ
 size_left None = 0
 size_left (Some s) = length s.now

@@ -6,9 +6,10 @@ ghost use Rattle.base.specs.Bytes.{Bytes, both};
 ghost use Rattle.line.specs.Line.{fields};
 ghost use Rattle.event.specs.Event.{body, event_of, event_from, starts_from, attr_of, attrs_of, none_twice};
 ghost use Rattle.distinct.specs.Distinct.{runs_in};
+ghost use Rattle.distinct.specs.Check.{NotedAs};
 ghost use Rattle.event_scan.specs.Names.{names_of, among, new_name, texts_of};
 ghost use Rattle.event_scan.specs.Piece.{there};
-ghost use Rattle.event_scan.specs.Parts.{name_seen, attributes_in};
+ghost use Rattle.event_scan.specs.Parts.{name_seen, text_left, attributes_in};
 ghost use Rattle.event_scan.specs.Fields.{fields_left};
 ghost use Rattle.event_scan.specs.Scan.{stand, lone};
 ghost use Rattle.event_scan.specs.Line.{line_means};
@@ -69,14 +70,16 @@ fn few_stand(rest: &Fields<'_>) -> Option<bool>
 
 // ---- many attributes
 
-// The words of the names of a text's attributes, as far as there is room. How many names there are is answered.
-fn note_names(text: &[u8], words: &mut [u64]) -> usize
-    requires { length text.now ≤ 16384 }
-    ensures { result ≤ length words.new → names_of (attributes_in (fields text.now)) ≡ runs_in text.now (take result words.new) }
+// The words of the names of the attributes that fields are, as far as there is room. How many names there are is answered.
+fn note_names(rest: &Fields<'_>, words: &mut [u64]) -> usize
+    ensures { result ≤ length words.new → names_of (attributes_in (fields_left rest.now)) ≡ runs_in (text_left rest.now.rest) (take result words.new) }
 {
+    let Some(text) = rest.rest else {
+        return 0;
+    };
     let mut n: usize = 0;
     let mut at: usize = 0;
-    for field in Fields::new(text) {
+    for field in *rest {
         if let Some((name, _)) = split_once(field, b'=') {
             distinct::put_word(words, n, distinct::run_word(text, at, name.len()));
             n += 1;
@@ -86,38 +89,26 @@ fn note_names(text: &[u8], words: &mut [u64]) -> usize
     n
 }
 
-// Whether no two attributes of a text have one name: by the words of the names, where these tell it.
-fn once_by_words(text: &[u8], words: &mut [u64]) -> bool
-    requires { length text.now ≤ 16384 }
-    ensures { result ≡ none_twice (attributes_in (fields text.now)) }
+// Whether no two attributes have one name. In a short line they are compared in pairs, in a long one by the words of the names, where these tell it.
+fn once(rest: &Fields<'_>) -> bool
+    ensures { result ≡ none_twice (attributes_in (fields_left rest.now)) }
 {
-    let fields = Fields::new(text);
-    let attributes = Attributes { fields };
-    let n = note_names(text, words);
-    if words.len() < n {
+    let attributes = Attributes { fields: *rest };
+    let Some(text) = rest.rest else {
+        return attributes.once_in_pairs();
+    };
+    if text.len() < 256 {
         return attributes.once_in_pairs();
     }
-    match distinct::runs_differ(text, &mut words[..n]) {
+    let note = |words: &mut [u64]| -> Option<usize>
+        ensures { NotedAs (text_left rest.entry.now.rest) words.new result (none_twice (attributes_in (fields_left rest.entry.now))) }
+    { Some(note_names(rest, words)) };
+    match distinct::noted_differ(text, note) {
         Some(told) => told,
         None => attributes.once_in_pairs(),
     }
 }
 
-// Whether no two attributes have one name. In a short line they are compared in pairs.
-fn once(rest: &Fields<'_>) -> bool
-    ensures { result ≡ none_twice (attributes_in (fields_left rest.now)) }
-{
-    if let Some(text) = rest.rest {
-        if 256 <= text.len() {
-            let mut words = [0u64; 5460];
-            return once_by_words(text, &mut words);
-        }
-    }
-    Attributes { fields: *rest }.once_in_pairs()
-}
-
-// Out of line, since the arrays of the words would make the frame of each line's call as large.
-#[inline(never)]
 fn many_stand(rest: &Fields<'_>) -> bool
     ensures { result ≡ stand (attrs_of (fields_left rest.now)) }
 {

@@ -18,11 +18,7 @@ pub const MAX_LINE: usize = 16384;
 pub fn lacks(t: &[u8], c: u8) -> bool
     ensures { result ≡ all (λ b. not (eqb b c)) t.now }
 {
-    let mut ok = true;
-    for b in t {
-        ok = ok & (*b != c);
-    }
-    ok
+    t.iter().fold(true, |ok, b| ok & (*b != c))
 }
 
 // ---- escapes
