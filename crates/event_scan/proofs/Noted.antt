@@ -9,6 +9,7 @@ use lib.ListN.{length, take, drop, set}
 use lib.Seq.{slice, take-suc-set, take-take, append_snoc}
 use borrow.Author.Tests.{eq-eqb, ne_eqb}
 use Rattle.base.specs.Bytes.{Bytes}
+use Rattle.base.proofs.Lists.{slice_take}
 use Rattle.base.proofs.Split.{by_eq, by_le}
 use Rattle.event.specs.Event.{Parted, onto_left}
 use Rattle.distinct.specs.Distinct.{run_in, runs_in}
@@ -16,7 +17,7 @@ use Rattle.event_scan.specs.Names.{names_of}
 use Rattle.event_scan.specs.Parts.{parted_by, attributes_in}
 use Rattle.event_scan.specs.Scan.{fields_at}
 use Rattle.event_scan.proofs.Names.{runs_snoc}
-use Rattle.event_scan.proofs.Places.{slice_take, tab_at, tab_within, field_here, field_length, fields_past}
+use Rattle.event_scan.proofs.Places.{tab_at, tab_within, field_here, field_length, fields_past}
 use Rattle.event_scan.proofs.Parts.{attributes_none, attributes_passed, attributes_more}
 
 -- ---- the field at a place

@@ -5,10 +5,11 @@ use mathlib.Core.List.{[], ◌∷◌}
 use native.Mathlib.Nat.{suc-add, zero-add}
 use native.Mathlib.Omega.{arith}
 use lib.ListN.{length, take, drop, length-drop}
-use lib.Seq.{slice, length-slice, take-nil}
+use lib.Seq.{slice, length-slice}
 use borrow.Author.Tests.{eq-eqb, ne_eqb, le-leb, lt-leb}
 use borrow.Rule.Slice.PartMut.{mid_of}
 use Rattle.base.specs.Bytes.{Bytes}
+use Rattle.base.proofs.Lists.{slice_take}
 use Rattle.base.proofs.Split.{by_eq, by_le, no}
 use Rattle.line.specs.Line.{onto, fields}
 use Rattle.event_scan.specs.Scan.{fields_at, UpTo}
@@ -36,11 +37,6 @@ module _ (c : ℕ) where
       (λ n. rw (up_cons b s n) (omega (arith, up_within s)))
 
 -- ---- parts of a line
-
-pub slice_take : (from n : ℕ) (t : Bytes) → slice from (from + n) t ≡ take n (drop from t)
-slice_take zero n t = rw zero-add
-slice_take (suc from) n [] = rw suc-add (sym (take-nil n))
-slice_take (suc from) n (b ∷ t) = rw suc-add (slice_take from n t)
 
 -- `&t[from..to]`
 pub lent_is : (from to : ℕ) (t : Bytes) → from ≤ to → mid_of from (to - from) t ≡ slice from to t

@@ -11,7 +11,7 @@ use lib.ListN.{length, take, set}
 use lib.Seq.{take-suc-set}
 use Rattle.std.specs.List.{list_any}
 use Rattle.base.specs.Bytes.{Bytes, both, either, same}
-use Rattle.base.proofs.Split.{by_bool, clash, both_left, both_right, both_no_right}
+use Rattle.base.proofs.Split.{by_bool, clash, both_true, both_left, both_right, both_no_right}
 use Rattle.refusal.specs.declared.Refusal.TheVariants.{NotEventLine}
 use Rattle.text.specs.Escape.{unescape}
 use Rattle.event.specs.Event.{Attr, Parted, parted, is_empty, or_empty, attr_with, attr_from, attr_of, beside, attrs_of, named, none_twice, reads, refused, starts, starts_with, starts_from}
@@ -72,15 +72,10 @@ unfoldable pub stand_after : List Bytes → Option (List Attr) → Bool
 stand_after ks None = false
 stand_after ks (Some attrs) = both (none_twice attrs) (none_named ks attrs)
 
-after_first : (x : Bool) → both x true ≡ x
-unfolding both
-after_first true = refl
-after_first false = refl
-
 pub stand_first : (o : Option (List Attr)) → stand_after [] o ≡ stand o
 unfolding stand_after stand none_named
 stand_first None = refl
-stand_first (Some attrs) = after_first (none_twice attrs)
+stand_first (Some attrs) = both_true (none_twice attrs)
 
 none_named_lem : (ks : List Bytes) → none_named ks [] ≡ true
 unfolding none_named named both
