@@ -1,14 +1,18 @@
 -- Plain bytes: one pass over a run tells whether all its bytes pass a test, and a run of plain bytes is text.
-use Prim.Native.Nat.{ℕ}
+use Prim.Native.Nat.{ℕ, ◌+◌, ◌<◌, ◌≤◌}
 use mathlib.Core.Path.{◌≡◌, refl}
 use mathlib.Core.Bool.{Bool, true, false, ◌&&◌, ◌||◌}
+use mathlib.Core.List.{[], ◌∷◌}
+use native.Mathlib.Numerals.{add-one}
 use native.Mathlib.Omega.{arith}
 use lib.Dec.{leb, eqb}
+use lib.ListN.{length, get_or, drop, drop_of_length-le}
+use lib.Seq.{drop-cons}
 use borrow.Author.Tests.{leb-true, eqb-true}
 use Rattle.std.specs.List.{fold}
-use mathlib.Core.List.{[], ◌∷◌}
 use Rattle.base.specs.Bytes.{Bytes, both, either, all}
 use Rattle.base.proofs.Split.{both_left, both_right, by_either}
+use Rattle.base.proofs.Lists.{all_nil}
 use Rattle.text.specs.Char.{from_to, xml_char}
 use Rattle.text.specs.Check.{is_text, is_plain, plain_ascii}
 use Rattle.text.proofs.Texts.{all_imp, text_plain, plain_of}
@@ -22,6 +26,18 @@ fold_all p [] true = refl
 fold_all p [] false = refl
 fold_all p (b ∷ s) true = fold_all p s (p b)
 fold_all p (b ∷ s) false = fold_all p s false
+
+-- the same pass in a loop: the bytes before a place passed where ok is true; those from the place on decide the rest
+module _ (p : ℕ → Bool) (s : Bytes) where
+  pub pass_on : (ok : Bool) (i : ℕ) → i < length s → both (ok && p (get_or s i 0)) (all p (drop (i + 1) s)) ≡ both ok (all p (drop i s))
+  unfolding both all
+  pass_on true i h = rw (drop-cons s i 0 h, add-one)
+  pass_on false i h = refl
+
+  pub pass_ends : (ok : Bool) (i : ℕ) → length s ≤ i → both ok (all p (drop i s)) ≡ ok
+  unfolding both
+  pass_ends true i h = rw (drop_of_length-le s h) (all_nil p)
+  pass_ends false i h = refl
 
 -- ---- plain bytes
 
