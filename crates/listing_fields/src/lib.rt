@@ -1,279 +1,142 @@
 // The fields of a live line, printed from a record's bytes: metadata, place or refs or members, tags.
 #![tactic(auto)]
 
-ghost use Rattle.std.specs.Prelude.{◌≡◌, [], ◌∷◌, ◌+◌};
+ghost use Rattle.std.specs.Prelude.{◌≡◌, [], ◌∷◌};
 ghost use Rattle.text.specs.Escape.{escape};
 ghost use Rattle.line.specs.Decimal.{number_text};
+ghost use Rattle.interner.specs.Lent.{store_seen};
 ghost use Rattle.kind.specs.declared.Kind.TheVariants.{Node, Way, Relation};
 ghost use Rattle.model.specs.Swap.{swap_meta};
 ghost use Rattle.compact.specs.Held.{meta_of};
 ghost use Rattle.compact.specs.View.{member_at};
 ghost use Rattle.listing_page.specs.Listing.{meta_fields};
-ghost use Rattle.print.specs.Print.{print, tabs};
-ghost use Rattle.listing_fields.specs.Fields.{held_text, each_from, ref_fields_at, held_member, tag_fields_from, record_fields_at};
+ghost use Rattle.print.specs.Print.{tabs};
+ghost use Rattle.print.specs.Printer.{Prints};
+ghost use Rattle.listing_fields.specs.Fields.{text_held, each_from, ref_fields_at, held_member, tag_fields_from, record_fields_at};
 
-use compact::{ArenaMeta, CompactMember, CompactNode, CompactRelation, CompactWay, RecordHead};
+use compact::{ArenaMeta, CompactMember, CompactNode, CompactRelation, CompactWay};
+use interner::Strings;
 use kind::Kind;
+use print::{Escaped, Integer, Printer};
 
 // The text of a handle.
-fn put_held(
-    out: &mut [u8],
-    cap: usize,
-    room: Option<usize>,
-    spans: &[u64],
-    bytes: &[u8],
-    strings: u64,
-    handle: u32,
-) -> Option<usize>
-    ensures { record { out = out.new; room = result }
-        ≡ print cap (tabs (escape (held_text spans.now bytes.now strings handle) ∷ [])) (record { out = out.old; room = room }) }
+fn put_held(printer: &mut Printer<'_>, strings: &Strings<'_>, handle: u32)
+    ensures { Prints (tabs (escape (text_held (store_seen strings.now) handle) ∷ [])) printer.old printer.new }
 {
-    match interner::resolve(spans, bytes, strings, handle as u64) {
-        Some(p) => {
-            let end = p.start + p.len;
-            print::put_text(out, cap, room, &bytes[p.start..end])
-        }
-        None => print::put_text(out, cap, room, b""),
-    }
+    let texts = strings.texts();
+    let text = match strings.resolve(u64::from(handle)) {
+        Some(span) => &texts.bytes[span.start..span.start + span.len],
+        None => b"",
+    };
+    printer.put(&Escaped(text));
 }
 
 // "flags, version, timestamp, changeset, uid, user"
-fn put_meta(
-    out: &mut [u8],
-    cap: usize,
-    room: Option<usize>,
-    meta: ArenaMeta,
-    spans: &[u64],
-    bytes: &[u8],
-    strings: u64,
-) -> Option<usize>
-    ensures { record { out = out.new; room = result }
-        ≡ print cap (tabs (meta_fields (swap_meta (held_text spans.now bytes.now strings) (meta_of meta)))) (record { out = out.old; room = room }) }
+fn put_meta(printer: &mut Printer<'_>, strings: &Strings<'_>, meta: ArenaMeta)
+    ensures { Prints (tabs (meta_fields (swap_meta (text_held (store_seen strings.now)) (meta_of meta)))) printer.old printer.new }
 {
-    let room = print::put_number(out, cap, room, meta.flags as u64);
-    let room = print::put_integer32(out, cap, room, meta.version);
-    let room = print::put_integer(out, cap, room, meta.timestamp);
-    let room = print::put_integer(out, cap, room, meta.changeset);
-    let room = print::put_integer32(out, cap, room, meta.uid);
-    put_held(out, cap, room, spans, bytes, strings, meta.user)
+    printer.put(&u64::from(meta.flags));
+    printer.put(&Integer::from_bits_32(meta.version));
+    printer.put(&Integer(meta.timestamp));
+    printer.put(&Integer(meta.changeset));
+    printer.put(&Integer::from_bits_32(meta.uid));
+    put_held(printer, strings, meta.user);
 }
 
 // "ref count, refs"
-fn put_refs(out: &mut [u8], cap: usize, room: Option<usize>, view: &[u8], n: u32) -> Option<usize>
-    ensures { record { out = out.new; room = result }
-        ≡ print cap (tabs (number_text n ∷ each_from (ref_fields_at view.now) 0 n)) (record { out = out.old; room = room }) }
+fn put_refs(printer: &mut Printer<'_>, view: &[u8], n: u32)
+    ensures { Prints (tabs (number_text n ∷ each_from (ref_fields_at view.now) 0 n)) printer.old printer.new }
 {
-    let mut left = print::put_number(out, cap, room, n as u64);
+    printer.put(&u64::from(n));
     for i in 0..n {
-        left = print::put_integer(out, cap, left, compact::ref_at(view, i));
+        printer.put(&Integer(compact::ref_at(view, i)));
     }
-    left
 }
 
 // "type (0 to 2), ref, role"
-fn put_member(
-    out: &mut [u8],
-    cap: usize,
-    room: Option<usize>,
-    member: CompactMember,
-    spans: &[u64],
-    bytes: &[u8],
-    strings: u64,
-) -> Option<usize>
-    ensures { record { out = out.new; room = result }
-        ≡ print cap (tabs (held_member (held_text spans.now bytes.now strings) member)) (record { out = out.old; room = room }) }
+fn put_member(printer: &mut Printer<'_>, strings: &Strings<'_>, member: CompactMember)
+    ensures { Prints (tabs (held_member (text_held (store_seen strings.now)) member)) printer.old printer.new }
 {
-    let room = print::put_number(out, cap, room, member.kind as u64);
-    let room = print::put_integer(out, cap, room, member.reference);
-    put_held(out, cap, room, spans, bytes, strings, member.role)
+    printer.put(&u64::from(member.kind));
+    printer.put(&Integer(member.reference));
+    put_held(printer, strings, member.role);
 }
 
 // "member count, then type (0 to 2), ref, role each"
-fn put_members(
-    out: &mut [u8],
-    cap: usize,
-    room: Option<usize>,
-    view: &[u8],
-    n: u32,
-    spans: &[u64],
-    bytes: &[u8],
-    strings: u64,
-) -> Option<usize>
-    ensures { record { out = out.new; room = result }
-        ≡ print cap (tabs (number_text n ∷ each_from (λ i. held_member (held_text spans.now bytes.now strings) (member_at view.now i)) 0 n)) (record { out = out.old; room = room }) }
+fn put_members(printer: &mut Printer<'_>, strings: &Strings<'_>, view: &[u8], n: u32)
+    ensures { Prints (tabs (number_text n ∷ each_from (λ i. held_member (text_held (store_seen strings.now)) (member_at view.now i)) 0 n)) printer.old printer.new }
 {
-    let mut left = print::put_number(out, cap, room, n as u64);
+    printer.put(&u64::from(n));
     for i in 0..n {
-        let member = compact::member_at(view, i);
-        left = put_member(out, cap, left, member, spans, bytes, strings);
+        put_member(printer, strings, compact::member_at(view, i));
     }
-    left
 }
 
 // A key and a value.
-fn put_tag(
-    out: &mut [u8],
-    cap: usize,
-    room: Option<usize>,
-    value: &[u8],
-    key: u32,
-    spans: &[u64],
-    bytes: &[u8],
-    strings: u64,
-) -> Option<usize>
-    ensures { record { out = out.new; room = result }
-        ≡ print cap (tabs (escape (held_text spans.now bytes.now strings key) ∷ escape value.now ∷ [])) (record { out = out.old; room = room }) }
+fn put_tag(printer: &mut Printer<'_>, strings: &Strings<'_>, key: u32, value: &[u8])
+    ensures { Prints (tabs (escape (text_held (store_seen strings.now) key) ∷ escape value.now ∷ [])) printer.old printer.new }
 {
-    let room = put_held(out, cap, room, spans, bytes, strings, key);
-    print::put_text(out, cap, room, value)
+    put_held(printer, strings, key);
+    printer.put(&Escaped(value));
 }
 
 // "the tag count and each key and value", from an offset on
 fn put_tags(
-    out: &mut [u8],
-    cap: usize,
-    room: Option<usize>,
+    printer: &mut Printer<'_>,
+    strings: &Strings<'_>,
     view: &[u8],
     offset: usize,
     n: u32,
-    spans: &[u64],
-    bytes: &[u8],
-    strings: u64,
-) -> Option<usize>
-    ensures { record { out = out.new; room = result }
-        ≡ print cap (tabs (number_text n ∷ tag_fields_from (held_text spans.now bytes.now strings) view.now offset n)) (record { out = out.old; room = room }) }
+)
+    ensures { Prints (tabs (number_text n ∷ tag_fields_from (text_held (store_seen strings.now)) view.now offset n)) printer.old printer.new }
 {
-    let mut left = print::put_number(out, cap, room, n as u64);
+    printer.put(&u64::from(n));
     let mut at = offset;
     for i in 0..n {
         let Ok(Some(tag)) = compact::tag_step(view, at, n - i) else {
-            return left;
+            return;
         };
         let end = tag.start + tag.len;
-        let value = &view[tag.start..end];
-        left = put_tag(out, cap, left, value, tag.key, spans, bytes, strings);
+        put_tag(printer, strings, tag.key, &view[tag.start..end]);
         at = end;
     }
-    left
 }
 
-fn put_node(
-    out: &mut [u8],
-    cap: usize,
-    room: Option<usize>,
-    view: &[u8],
-    spans: &[u64],
-    bytes: &[u8],
-    strings: u64,
-) -> Option<usize>
-    ensures { record { out = out.new; room = result }
-        ≡ print cap (tabs (record_fields_at (held_text spans.now bytes.now strings) Node view.now)) (record { out = out.old; room = room }) }
+fn put_node(printer: &mut Printer<'_>, strings: &Strings<'_>, view: &[u8])
+    ensures { Prints (tabs (record_fields_at (text_held (store_seen strings.now)) Node view.now)) printer.old printer.new }
 {
     let node = CompactNode::read(view);
-    let meta = compact::read_meta(view, CompactNode::META_OFF);
-    let room = put_meta(out, cap, room, meta, spans, bytes, strings);
-    let room = print::put_integer32(out, cap, room, node.lat);
-    let room = print::put_integer32(out, cap, room, node.lon);
-    let at = CompactNode::HEADER_LEN;
-    put_tags(
-        out,
-        cap,
-        room,
-        view,
-        at,
-        node.tag_count,
-        spans,
-        bytes,
-        strings,
-    )
+    put_meta(printer, strings, compact::read_meta(view, CompactNode::META_OFF));
+    printer.put(&Integer::from_bits_32(node.lat));
+    printer.put(&Integer::from_bits_32(node.lon));
+    put_tags(printer, strings, view, CompactNode::HEADER_LEN, node.tag_count);
 }
 
-fn put_way(
-    out: &mut [u8],
-    cap: usize,
-    room: Option<usize>,
-    view: &[u8],
-    spans: &[u64],
-    bytes: &[u8],
-    strings: u64,
-) -> Option<usize>
-    ensures { record { out = out.new; room = result }
-        ≡ print cap (tabs (record_fields_at (held_text spans.now bytes.now strings) Way view.now)) (record { out = out.old; room = room }) }
+fn put_way(printer: &mut Printer<'_>, strings: &Strings<'_>, view: &[u8])
+    ensures { Prints (tabs (record_fields_at (text_held (store_seen strings.now)) Way view.now)) printer.old printer.new }
 {
     let way = CompactWay::read(view);
-    let meta = compact::read_meta(view, CompactWay::META_OFF);
-    let room = put_meta(out, cap, room, meta, spans, bytes, strings);
-    let room = put_refs(out, cap, room, view, way.ref_count);
-    let at = way.tags_at();
-    put_tags(
-        out,
-        cap,
-        room,
-        view,
-        at,
-        way.tag_count,
-        spans,
-        bytes,
-        strings,
-    )
+    put_meta(printer, strings, compact::read_meta(view, CompactWay::META_OFF));
+    put_refs(printer, view, way.ref_count);
+    put_tags(printer, strings, view, way.tags_at(), way.tag_count);
 }
 
-fn put_relation(
-    out: &mut [u8],
-    cap: usize,
-    room: Option<usize>,
-    view: &[u8],
-    spans: &[u64],
-    bytes: &[u8],
-    strings: u64,
-) -> Option<usize>
-    ensures { record { out = out.new; room = result }
-        ≡ print cap (tabs (record_fields_at (held_text spans.now bytes.now strings) Relation view.now)) (record { out = out.old; room = room }) }
+fn put_relation(printer: &mut Printer<'_>, strings: &Strings<'_>, view: &[u8])
+    ensures { Prints (tabs (record_fields_at (text_held (store_seen strings.now)) Relation view.now)) printer.old printer.new }
 {
     let relation = CompactRelation::read(view);
-    let meta = compact::read_meta(view, CompactRelation::META_OFF);
-    let room = put_meta(out, cap, room, meta, spans, bytes, strings);
-    let room = put_members(
-        out,
-        cap,
-        room,
-        view,
-        relation.member_count,
-        spans,
-        bytes,
-        strings,
-    );
-    let at = relation.tags_at();
-    put_tags(
-        out,
-        cap,
-        room,
-        view,
-        at,
-        relation.tag_count,
-        spans,
-        bytes,
-        strings,
-    )
+    put_meta(printer, strings, compact::read_meta(view, CompactRelation::META_OFF));
+    put_members(printer, strings, view, relation.member_count);
+    put_tags(printer, strings, view, relation.tags_at(), relation.tag_count);
 }
 
 // The fields of the record at the front of some bytes.
-pub fn put_record(
-    out: &mut [u8],
-    cap: usize,
-    room: Option<usize>,
-    kind: Kind,
-    view: &[u8],
-    spans: &[u64],
-    bytes: &[u8],
-    strings: u64,
-) -> Option<usize>
-    ensures { record { out = out.new; room = result }
-        ≡ print cap (tabs (record_fields_at (held_text spans.now bytes.now strings) kind view.now)) (record { out = out.old; room = room }) }
+pub fn put_record(printer: &mut Printer<'_>, strings: &Strings<'_>, kind: Kind, view: &[u8])
+    ensures { Prints (tabs (record_fields_at (text_held (store_seen strings.now)) kind view.now)) printer.old printer.new }
 {
     match kind {
-        Kind::Node => put_node(out, cap, room, view, spans, bytes, strings),
-        Kind::Way => put_way(out, cap, room, view, spans, bytes, strings),
-        Kind::Relation => put_relation(out, cap, room, view, spans, bytes, strings),
+        Kind::Node => put_node(printer, strings, view),
+        Kind::Way => put_way(printer, strings, view),
+        Kind::Relation => put_relation(printer, strings, view),
     }
 }

@@ -84,6 +84,10 @@ module _ (x : Bytes) where
       let f : None ≡ place_in p.cap p.room (length x) (length p.out.now) = sym e ∙ t.place in
       record { same = s; printed = rw (step_is p.cap p.room x p.out.now, ← f, t.out, t.room) }
 
+pub nothing_printed : (p : Printer) → Prints [] p p
+unfolding print
+nothing_printed p = record { same = record { out = refl; cap = refl }; printed = refl }
+
 pub then_printed : {p q s : Printer} {xs ys : List Bytes} → Prints xs p q → Prints ys q s → Prints (xs ++ ys) p s
 then_printed {p} {q} {s} {xs} {ys} a b =
     record {

@@ -82,12 +82,28 @@ impl Piece for u64 {
 #[derive(Clone, Copy, PartialEq, Eq, Debug)]
 pub struct Integer(pub u64);
 
-// The same integer in 64 bits.
-impl From<u32> for Integer {
-    ghost from_gives = { λ bits integer. to_z w64 integer.0 ≡ to_z w32 bits };
-
-    fn from(bits: u32) -> Integer {
+impl Integer {
+    // An integer of 32 bits, given by its bits.
+    pub fn from_bits_32(bits: u32) -> Integer
+        ensures { to_z w64 result.0 ≡ to_z w32 bits }
+    {
         Integer(decimal::widened(bits))
+    }
+}
+
+impl From<i64> for Integer {
+    ghost from_gives = { λ number integer. to_z w64 integer.0 ≡ number };
+
+    fn from(number: i64) -> Integer {
+        Integer(signed::bits_of_i64(number))
+    }
+}
+
+impl From<i32> for Integer {
+    ghost from_gives = { λ number integer. to_z w64 integer.0 ≡ number };
+
+    fn from(number: i32) -> Integer {
+        Integer::from(i64::from(number))
     }
 }
 
