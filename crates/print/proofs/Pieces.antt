@@ -75,24 +75,25 @@ module _ (x : Bytes) where
   unfolding print
   put_there {p} {m} {q} {o} {at} s t e n c r w =
       let f : Some at ≡ place_in p.cap p.room (length x) (length p.out.now) = sym e ∙ t.place in
-      record { same = record { out = n ∙ s.out; cap = c ∙ s.cap }; printed = rw (step_is p.cap p.room x p.out.now, ← f, w, t.out, r, t.room) }
+      record { out = n ∙ s.out; cap = c ∙ s.cap; printed = rw (step_is p.cap p.room x p.out.now, ← f, w, t.out, r, t.room) }
 
   -- a piece has no place
   pub put_nowhere : {p q : Printer} {o : Option ℕ} → IsSame p q → TakesRoom (length x) p q o → o ≡ None → Prints (x ∷ []) p q
   unfolding print
   put_nowhere {p} {q} {o} s t e =
       let f : None ≡ place_in p.cap p.room (length x) (length p.out.now) = sym e ∙ t.place in
-      record { same = s; printed = rw (step_is p.cap p.room x p.out.now, ← f, t.out, t.room) }
+      record { out = s.out; cap = s.cap; printed = rw (step_is p.cap p.room x p.out.now, ← f, t.out, t.room) }
 
 pub nothing_printed : (p : Printer) → Prints [] p p
 unfolding print
-nothing_printed p = record { same = record { out = refl; cap = refl }; printed = refl }
+nothing_printed p = record { out = refl; cap = refl; printed = refl }
 
 pub then_printed : {p q s : Printer} {xs ys : List Bytes} → Prints xs p q → Prints ys q s → Prints (xs ++ ys) p s
 then_printed {p} {q} {s} {xs} {ys} a b =
     record {
-      same = record { out = b.same.out ∙ a.same.out; cap = b.same.cap ∙ a.same.cap };
-      printed = rw (print_append p.cap xs ys (printed_by p), ← a.printed, ← a.same.cap) b.printed;
+      out = b.out ∙ a.out;
+      cap = b.cap ∙ a.cap;
+      printed = rw (print_append p.cap xs ys (printed_by p), ← a.printed, ← a.cap) b.printed;
     }
 
 -- a writer was lent the rest from a place on

@@ -1,5 +1,5 @@
 -- One piece, as its writer goes about it: the room behind it, its place in the output, the bytes of an escape.
-use Rattle.std.specs.Prelude.{ℕ, ◌+◌, ◌-◌, cond, [], ◌∷◌, leb, None, Option, Some}
+use Rattle.std.specs.Prelude.{ℕ, ◌+◌, ◌-◌, cond, [], ◌∷◌, ◌++◌, leb, length, drop, None, Option, Some}
 use Rattle.base.specs.Bytes.{Bytes}
 use Rattle.base.specs.Chars.{backslash}
 use Rattle.little.specs.Little.{over}
@@ -24,3 +24,12 @@ written_at out None x = out
 abbrev pub escaped_by : ℕ → Option ℕ → Bytes
 escaped_by b None = b ∷ []
 escaped_by b (Some m) = backslash ∷ m ∷ []
+
+-- what is left of an output, and the length of what was written at its start, if it was
+pub record Whole : Type 0 where
+  pub out : Bytes
+  pub length : Option ℕ
+
+-- some bytes at the start of an output, or nothing where they do not fit
+unfoldable pub whole_over : Bytes → Bytes → Whole
+whole_over out x = cond (leb (length x) (length out)) (record { out = x ++ drop (length x) out; length = Some (length x) }) (record { out = out; length = None })

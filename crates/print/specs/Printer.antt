@@ -21,5 +21,6 @@ pub record TakesRoom (n : ℕ) (p q : Printer) (at : Option ℕ) : Type 0 where
 
 -- pieces were printed, one after the other
 pub record Prints (xs : List Bytes) (p q : Printer) : Type 0 where
-  pub same : IsSame p q
+  pub out : q.out.ghost_name ≡ p.out.ghost_name
+  pub cap : q.cap ≡ p.cap
   pub printed : printed_by q ≡ print p.cap xs (printed_by p)

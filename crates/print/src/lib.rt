@@ -1,15 +1,15 @@
 // Printing into lent bytes, piece by piece: numbers, integers and escaped texts, each after a tab.
 #![tactic(auto)]
 
-ghost use Rattle.std.specs.Prelude.{◌≡◌, true, [], ◌∷◌, ◌+◌, ◌≤◌, length, IfSome};
+ghost use Rattle.std.specs.Prelude.{◌≡◌, true, List, [], ◌∷◌, ◌+◌, ◌≤◌, length, IfSome};
 ghost use Rattle.std.specs.Int.{w32, w64};
 ghost use Rattle.std.proofs.Common.{to_z};
 ghost use Rattle.base.specs.Bytes.{Bytes};
 ghost use Rattle.text.specs.Escape.{escaped, escape};
 ghost use Rattle.line.specs.Decimal.{number_text, integer_text};
 ghost use Rattle.little.specs.Little.{over};
-ghost use Rattle.print.specs.Print.{tab};
-ghost use Rattle.print.specs.Piece.{escaped_by};
+ghost use Rattle.print.specs.Print.{joined_pieces, tab};
+ghost use Rattle.print.specs.Piece.{whole_over, escaped_by};
 ghost use Rattle.print.specs.Printer.{IsSame, TakesRoom, Prints};
 
 // Lent bytes, and the room that is left of `cap` bytes, none once a piece did not fit. Lent no bytes, a printer only measures.
@@ -20,12 +20,12 @@ pub struct Printer<'a> {
     pub room: Option<usize>,
 }
 
-// What prints as one piece of a line.
-pub trait Piece {
-    ghost text: { Self → Bytes };
+// What prints as pieces, one after the other.
+pub trait Printable {
+    ghost pieces: { Self → List Bytes };
 
     fn print(&self, printer: &mut Printer<'_>)
-        ensures { Prints (text self.now ∷ []) printer.old printer.new };
+        ensures { Prints (pieces self.now) printer.old printer.new };
 }
 
 impl Printer<'_> {
@@ -56,19 +56,41 @@ impl Printer<'_> {
         }
     }
 
-    // A tab and a piece.
-    pub fn put<P: Piece>(&mut self, piece: &P)
-        ensures { Prints (tab ∷ P.text piece.now ∷ []) self.old self.new }
+    // A tab and a field.
+    pub fn put<F: Printable>(&mut self, field: &F)
+        ensures { Prints (tab ∷ F.pieces field.now) self.old self.new }
     {
         self.put_bytes(b"\t");
-        piece.print(self);
+        field.print(self);
     }
+}
+
+// All of what prints at the start of what is lent, where it fits: its length. It is measured first, by a printer that is lent no bytes, and then written;
+// else nothing is written.
+pub fn print_whole<P: Printable>(page: &P, out: &mut [u8]) -> Option<usize>
+    ensures { record { out = out.new; length = result } ≡ whole_over out.old (joined_pieces (P.pieces page.now)) }
+{
+    let cap = out.len();
+    let mut measure = Printer {
+        out: &mut [],
+        cap,
+        room: Some(cap),
+    };
+    page.print(&mut measure);
+    let left = measure.room?;
+    let mut printer = Printer {
+        out,
+        cap,
+        room: Some(cap),
+    };
+    page.print(&mut printer);
+    Some(cap - left)
 }
 
 // ---- numbers
 
-impl Piece for u64 {
-    ghost text = { number_text };
+impl Printable for u64 {
+    ghost pieces = { λ number. number_text number ∷ [] };
 
     fn print(&self, printer: &mut Printer<'_>) {
         let n = decimal::number_length(*self);
@@ -117,8 +139,8 @@ fn integer_length(bits: u64) -> usize
     1 + decimal::number_length((0xffff_ffff_ffff_ffff - bits) + 1)
 }
 
-impl Piece for Integer {
-    ghost text = { λ integer. integer_text (to_z w64 integer.0) };
+impl Printable for Integer {
+    ghost pieces = { λ integer. integer_text (to_z w64 integer.0) ∷ [] };
 
     fn print(&self, printer: &mut Printer<'_>) {
         if let Some(at) = printer.take_room(integer_length(self.0)) {
@@ -212,8 +234,8 @@ fn put_escape(out: &mut [u8], start: usize, text: &[u8])
     }
 }
 
-impl Piece for Escaped<'_> {
-    ghost text = { λ text. escape text.0.now };
+impl Printable for Escaped<'_> {
+    ghost pieces = { λ text. escape text.0.now ∷ [] };
 
     // A copy of the text where each byte stands for itself.
     fn print(&self, printer: &mut Printer<'_>) {

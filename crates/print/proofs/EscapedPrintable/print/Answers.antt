@@ -3,7 +3,7 @@ use mathlib.Core.Path.{refl}
 use native.Mathlib.Omega.{arith}
 use Rattle.text.specs.Escape.{escape}
 use Rattle.print.proofs.Pieces.{put_there, put_nowhere}
-use Rattle.print.proofs.EscapedPiece.print.Goals as goal
+use Rattle.print.proofs.EscapedPrintable.print.Goals as goal
 
 pub put_escape-requires : goal.put_escape-requires
 put_escape-requires c = omega (arith, c.in-Some.ensures.fits, c.text_longer.ensures.value)

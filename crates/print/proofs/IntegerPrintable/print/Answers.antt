@@ -5,7 +5,7 @@ use mir.Val.{to_z}
 use Rattle.line.specs.Decimal.{integer_text}
 use Rattle.decimal.specs.Put.{Wrote as Put}
 use Rattle.print.proofs.Pieces.{number_over, put_there, put_nowhere}
-use Rattle.print.proofs.IntegerPiece.print.Goals as goal
+use Rattle.print.proofs.IntegerPrintable.print.Goals as goal
 
 pub returns-in-Some : goal.returns-in-Some
 returns-in-Some c =

@@ -2,7 +2,7 @@
 use mathlib.Core.Path.{refl}
 use Rattle.line.specs.Decimal.{number_text}
 use Rattle.print.proofs.Pieces.{number_over, put_there, put_nowhere}
-use Rattle.print.proofs.U64Piece.print.Goals as goal
+use Rattle.print.proofs.U64Printable.print.Goals as goal
 
 pub returns-in-Some : goal.returns-in-Some
 returns-in-Some c =
