@@ -5,16 +5,14 @@ ghost use Rattle.std.specs.Prelude.{◌≡◌, [], ◌∷◌};
 ghost use Rattle.text.specs.Escape.{escape};
 ghost use Rattle.line.specs.Decimal.{number_text};
 ghost use Rattle.interner.specs.Lent.{store_seen};
-ghost use Rattle.kind.specs.declared.Kind.TheVariants.{Node, Way, Relation};
 ghost use Rattle.model.specs.Swap.{swap_meta};
 ghost use Rattle.compact.specs.Held.{meta_of};
-ghost use Rattle.compact.specs.View.{member_at};
 ghost use Rattle.listing_page.specs.Listing.{meta_fields};
 ghost use Rattle.print.specs.Print.{tabs};
 ghost use Rattle.print.specs.Printer.{Prints};
-ghost use Rattle.listing_fields.specs.Fields.{text_held, each_from, ref_fields_at, held_member, tag_fields_from, record_fields_at};
+ghost use Rattle.listing_fields.specs.Fields.{text_held, held_member, tag_fields_from, body_fields_at, record_fields_at};
 
-use compact::{ArenaMeta, CompactMember, CompactNode, CompactRelation, CompactWay};
+use compact::{ArenaMeta, CompactMember, CompactNode, CompactRelation, CompactWay, RecordHead};
 use interner::Strings;
 use kind::Kind;
 use print::{Escaped, Integer, Printer};
@@ -43,16 +41,6 @@ fn put_meta(printer: &mut Printer<'_>, strings: &Strings<'_>, meta: ArenaMeta)
     put_held(printer, strings, meta.user);
 }
 
-// "ref count, refs"
-fn put_refs(printer: &mut Printer<'_>, view: &[u8], n: u32)
-    ensures { Prints (tabs (number_text n ∷ each_from (ref_fields_at view.now) 0 n)) printer.old printer.new }
-{
-    printer.put(&u64::from(n));
-    for i in 0..n {
-        printer.put(&Integer(compact::ref_at(view, i)));
-    }
-}
-
 // "type (0 to 2), ref, role"
 fn put_member(printer: &mut Printer<'_>, strings: &Strings<'_>, member: CompactMember)
     ensures { Prints (tabs (held_member (text_held (store_seen strings.now)) member)) printer.old printer.new }
@@ -60,16 +48,6 @@ fn put_member(printer: &mut Printer<'_>, strings: &Strings<'_>, member: CompactM
     printer.put(&u64::from(member.kind));
     printer.put(&Integer(member.reference));
     put_held(printer, strings, member.role);
-}
-
-// "member count, then type (0 to 2), ref, role each"
-fn put_members(printer: &mut Printer<'_>, strings: &Strings<'_>, view: &[u8], n: u32)
-    ensures { Prints (tabs (number_text n ∷ each_from (λ i. held_member (text_held (store_seen strings.now)) (member_at view.now i)) 0 n)) printer.old printer.new }
-{
-    printer.put(&u64::from(n));
-    for i in 0..n {
-        put_member(printer, strings, compact::member_at(view, i));
-    }
 }
 
 // A key and a value.
@@ -102,32 +80,48 @@ fn put_tags(
     }
 }
 
-fn put_node(printer: &mut Printer<'_>, strings: &Strings<'_>, view: &[u8])
-    ensures { Prints (tabs (record_fields_at (text_held (store_seen strings.now)) Node view.now)) printer.old printer.new }
-{
-    let node = CompactNode::read(view);
-    put_meta(printer, strings, compact::read_meta(view, CompactNode::META_OFF));
-    printer.put(&Integer::from_bits_32(node.lat));
-    printer.put(&Integer::from_bits_32(node.lon));
-    put_tags(printer, strings, view, CompactNode::HEADER_LEN, node.tag_count);
+// What the three kinds of records print between metadata and tags.
+trait Body: RecordHead {
+    fn put_body(self, printer: &mut Printer<'_>, strings: &Strings<'_>, view: &[u8])
+        ensures { Prints (tabs (body_fields_at (text_held (store_seen strings.now)) Self.kind (Self.says self) view.now)) printer.old printer.new };
 }
 
-fn put_way(printer: &mut Printer<'_>, strings: &Strings<'_>, view: &[u8])
-    ensures { Prints (tabs (record_fields_at (text_held (store_seen strings.now)) Way view.now)) printer.old printer.new }
-{
-    let way = CompactWay::read(view);
-    put_meta(printer, strings, compact::read_meta(view, CompactWay::META_OFF));
-    put_refs(printer, view, way.ref_count);
-    put_tags(printer, strings, view, way.tags_at(), way.tag_count);
+impl Body for CompactNode {
+    // "node: lat7, lon7"
+    fn put_body(self, printer: &mut Printer<'_>, strings: &Strings<'_>, view: &[u8]) {
+        printer.put(&Integer::from_bits_32(self.lat));
+        printer.put(&Integer::from_bits_32(self.lon));
+    }
 }
 
-fn put_relation(printer: &mut Printer<'_>, strings: &Strings<'_>, view: &[u8])
-    ensures { Prints (tabs (record_fields_at (text_held (store_seen strings.now)) Relation view.now)) printer.old printer.new }
+impl Body for CompactWay {
+    // "ref count, refs"
+    fn put_body(self, printer: &mut Printer<'_>, strings: &Strings<'_>, view: &[u8]) {
+        printer.put(&u64::from(self.ref_count));
+        for i in 0..self.ref_count {
+            printer.put(&Integer(compact::ref_at(view, i)));
+        }
+    }
+}
+
+impl Body for CompactRelation {
+    // "member count, then type (0 to 2), ref, role each"
+    fn put_body(self, printer: &mut Printer<'_>, strings: &Strings<'_>, view: &[u8]) {
+        printer.put(&u64::from(self.member_count));
+        for i in 0..self.member_count {
+            put_member(printer, strings, compact::member_at(view, i));
+        }
+    }
+}
+
+// The fields of the record at the front of some bytes, of the kind of a head.
+fn put_fields<H: Body>(printer: &mut Printer<'_>, strings: &Strings<'_>, view: &[u8])
+    ensures { Prints (tabs (record_fields_at (text_held (store_seen strings.now)) H.kind view.now)) printer.old printer.new }
 {
-    let relation = CompactRelation::read(view);
-    put_meta(printer, strings, compact::read_meta(view, CompactRelation::META_OFF));
-    put_members(printer, strings, view, relation.member_count);
-    put_tags(printer, strings, view, relation.tags_at(), relation.tag_count);
+    let head = H::read(view);
+    put_meta(printer, strings, compact::read_meta(view, H::LEN));
+    head.put_body(printer, strings, view);
+    put_tags(printer, strings, view, head.tags_at(), head.tag_count());
 }
 
 // The fields of the record at the front of some bytes.
@@ -135,8 +129,8 @@ pub fn put_record(printer: &mut Printer<'_>, strings: &Strings<'_>, kind: Kind, 
     ensures { Prints (tabs (record_fields_at (text_held (store_seen strings.now)) kind view.now)) printer.old printer.new }
 {
     match kind {
-        Kind::Node => put_node(printer, strings, view),
-        Kind::Way => put_way(printer, strings, view),
-        Kind::Relation => put_relation(printer, strings, view),
+        Kind::Node => put_fields::<CompactNode>(printer, strings, view),
+        Kind::Way => put_fields::<CompactWay>(printer, strings, view),
+        Kind::Relation => put_fields::<CompactRelation>(printer, strings, view),
     }
 }
