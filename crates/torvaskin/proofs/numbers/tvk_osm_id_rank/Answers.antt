@@ -4,8 +4,5 @@ use Rattle.signed.proofs.Bits.{bits_back}
 use Rattle.osm_id.specs.Order.{rank}
 use Rattle.torvaskin.proofs.numbers.tvk_osm_id_rank.Goals as goal
 
-pub rank_of_bits-requires : goal.rank_of_bits-requires
-rank_of_bits-requires c = tt
-
 pub returns : goal.returns
 returns c = c.rank_of_bits.ensures ∙ ap rank (bits_back c.ranges.id c.cast_unsigned.ensures)
