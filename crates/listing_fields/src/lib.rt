@@ -59,13 +59,7 @@ fn put_tag(printer: &mut Printer<'_>, strings: &Strings<'_>, key: u32, value: &[
 }
 
 // "the tag count and each key and value", from an offset on
-fn put_tags(
-    printer: &mut Printer<'_>,
-    strings: &Strings<'_>,
-    view: &[u8],
-    offset: usize,
-    n: u32,
-)
+fn put_tags(printer: &mut Printer<'_>, strings: &Strings<'_>, view: &[u8], offset: usize, n: u32)
     ensures { Prints (tabs (number_text n ∷ tag_fields_from (text_held (store_seen strings.now)) view.now offset n)) printer.old printer.new }
 {
     printer.put(&u64::from(n));

@@ -46,13 +46,7 @@ fn put_version(printer: &mut Printer<'_>, version: Option<i32>)
 }
 
 // "kind; id; `+` live or `-` deleted; known version or `?`"
-fn put_key(
-    printer: &mut Printer<'_>,
-    kind: Kind,
-    id: i64,
-    live: bool,
-    version: Option<i32>,
-)
+fn put_key(printer: &mut Printer<'_>, kind: Kind, id: i64, live: bool, version: Option<i32>)
     ensures { Prints (kind_field kind ∷ tabs (integer_text id ∷ sign_of live ∷ version_field version ∷ [])) printer.old printer.new }
 {
     put_kind(printer, kind);
@@ -76,7 +70,13 @@ fn put_line(printer: &mut Printer<'_>, strings: &Strings<'_>, rows: &KindStorage
     ensures { Prints (line_pieces (row_fields_at (text_held (store_seen strings.now)) rows.now.kind rows.now.arena.now row)) printer.old printer.new }
 {
     let id = osm_id::osm_id_of_rank(row.rank);
-    put_key(printer, rows.kind, id, row.place < DELETED, rows.row_version(row));
+    put_key(
+        printer,
+        rows.kind,
+        id,
+        row.place < DELETED,
+        rows.row_version(row),
+    );
     put_last(printer, strings, rows, row.place);
     printer.put_bytes(b"\n");
 }

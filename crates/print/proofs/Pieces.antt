@@ -1,6 +1,6 @@
 -- Pieces, as their printers go: the place in the output, the bytes of an escape, what a printer leaves.
 use Rattle.std.specs.Prelude.{None, Option, Some}
-use Prim.Native.Nat.{ℕ, ◌+◌, ◌-◌, ◌*◌, ◌/◌, ◌≤◌, ◌<◌}
+use Prim.Native.Nat.{ℕ, zero, suc, ◌+◌, ◌-◌, ◌/◌, ◌^◌, ◌≤◌, ◌<◌}
 use mathlib.Core.Path.{◌≡◌, refl, sym, ◌∙◌, ap}
 use mathlib.Core.Bool.{Bool, true, false, ◌&&◌}
 use mathlib.Core.List.{List, [], ◌∷◌, ◌++◌}
@@ -16,7 +16,7 @@ use Rattle.text.specs.Escape.{escaped, escape}
 use Rattle.little.specs.Little.{over}
 use Rattle.little.proofs.Overs.{over_lent_start}
 use Rattle.line.specs.Decimal.{number_text}
-use Rattle.decimal.proofs.Numbers.{length_one, length_two, length_three, length_four, four_less}
+use Rattle.decimal.proofs.Numbers.{length_one, length_more}
 use Rattle.decimal.specs.Put.{Wrote as Put, put_text}
 use Rattle.decimal.proofs.Puts.{put_whole}
 use Rattle.print.specs.Print.{print_step, print}
@@ -106,21 +106,13 @@ number_over out x last at h e =
 
 -- ---- how long a number is
 
-below_four : (n : ℕ) → n < 10000 → length (number_text n) ≤ 4
-below_four n h =
-    by_lt n 100
-    (λ a. by_lt n 10 (λ b. omega (arith, length_one n b)) (λ b. omega (arith, length_two n b a)))
-    (λ a. by_lt n 1000 (λ b. omega (arith, length_three n a b)) (λ b. omega (arith, length_four n b h)))
-
-four_more : (m k : ℕ) → 4 ≤ k → ((n : ℕ) → n < m → length (number_text n) ≤ k) → (n : ℕ) → n < 10000 * m → length (number_text n) ≤ k + 4
-four_more m k g f n h =
-    by_lt n 10000
-    (λ a. omega (arith, below_four n a))
-    (λ a. omega (arith, four_less n a, f (n / 10000) (omega arith)))
-
-pub number_short : (n : ℕ) → n < 100000000000000000000 → length (number_text n) ≤ 20
-number_short n h =
-    four_more 10000000000000000 16 (omega arith) (four_more 1000000000000 12 (omega arith) (four_more 100000000 8 (omega arith) (four_more 10000 4 (omega arith) below_four))) n h
+-- a number below a power of ten has at most so many digits
+pub digits_fit : (k n : ℕ) → n < 10 ^ suc k → length (number_text n) ≤ suc k
+digits_fit zero n h = omega (arith, length_one n (omega arith))
+digits_fit (suc k) n h =
+    by_lt n 10
+    (λ g. omega (arith, length_one n g))
+    (λ g. omega (arith, length_more n g, digits_fit k (n / 10) (omega arith)))
 
 -- ---- escapes
 

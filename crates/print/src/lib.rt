@@ -117,7 +117,7 @@ impl From<i64> for Integer {
     ghost from_gives = { λ number integer. to_z w64 integer.0 ≡ number };
 
     fn from(number: i64) -> Integer {
-        Integer(signed::bits_of_i64(number))
+        Integer(number.cast_unsigned())
     }
 }
 

@@ -15,18 +15,10 @@ use Rattle.refusal.specs.Refusal.{number_of, held_of}
 use Rattle.refusal.specs.declared.Refusal.{Refusal}
 use Rattle.line.specs.Line.{tabbed, line}
 use Rattle.line.specs.Decimal.{number_text, integer_text}
-use Rattle.decimal.proofs.Numbers.{length_one, length_more}
+use Rattle.print.proofs.Pieces.{digits_fit}
 use Rattle.print.specs.Piece.{whole_over}
 use Rattle.report.specs.Report.{held_field, refused_line}
 use Rattle.report.proofs.Refused.{numbered, held_known, held_none}
-
--- a number below a power of ten has at most so many digits
-digits_fit : (k n : ℕ) → n < 10 ^ suc k → length (number_text n) ≤ suc k
-digits_fit zero n h = omega (arith, length_one n (omega arith))
-digits_fit (suc k) n h =
-    by_lt n 10
-    (λ g. omega (arith, length_one n g))
-    (λ g. omega (arith, length_more n g, digits_fit k (n / 10) (omega arith)))
 
 integer_fits : (z : ℤ) → SFits w32 z → length (integer_text z) ≤ 11
 unfolding integer_text

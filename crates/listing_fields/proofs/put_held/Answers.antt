@@ -35,10 +35,10 @@ returns c =
     let r = rw c.from.ensures at c.resolve.ensures in
     let e : c.match-resolve.text.now ≡ text_held s c.args.handle =
     elim c.match-resolve.branch [
-      in-Some w ↦
+      | in-Some w ↦
           let p = w.in-Some.span in
           let d : p.start + p.len - p.start ≡ p.len = omega arith in
           ap (λ (x : Bor Bytes). x.now) w.text-is ∙ (rw (d, c.texts-texts.ensures.bytes) (text_found s c.args.handle p (sym w.in-Some.is ∙ r)))
-    | in-None w ↦ ap (λ (x : Bor Bytes). x.now) w.text-is ∙ text_missing s c.args.handle (sym w.in-None.is ∙ r)
+      | in-None w ↦ ap (λ (x : Bor Bytes). x.now) w.text-is ∙ text_missing s c.args.handle (sym w.in-None.is ∙ r)
     ] in
     rw e at c.put.ensures

@@ -11,8 +11,8 @@ unfolding kind_field
 returns c =
     let e : c.match-kind.put_bytes.now ≡ kind_field c.args.kind =
     elim c.match-kind.branch [
-      in-Node w ↦ ap (λ (x : Bor Bytes). x.now) w.put_bytes-is ∙ rw w.in-Node.is
-    | in-Way w ↦ ap (λ (x : Bor Bytes). x.now) w.put_bytes-is ∙ rw w.in-Way.is
-    | in-Relation w ↦ ap (λ (x : Bor Bytes). x.now) w.put_bytes-is ∙ rw w.in-Relation.is
+      | in-Node w ↦ ap (λ (x : Bor Bytes). x.now) w.put_bytes-is ∙ rw w.in-Node.is
+      | in-Way w ↦ ap (λ (x : Bor Bytes). x.now) w.put_bytes-is ∙ rw w.in-Way.is
+      | in-Relation w ↦ ap (λ (x : Bor Bytes). x.now) w.put_bytes-is ∙ rw w.in-Relation.is
     ] in
     rw e at c.put_bytes.ensures

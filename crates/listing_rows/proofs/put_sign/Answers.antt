@@ -13,7 +13,7 @@ unfolding tabs escape escaped
 returns c =
     let e : escape c.if-live.put.now ≡ sign_of c.args.live =
     elim c.if-live.branch [
-      then-live w ↦ ap (λ (x : Bor Bytes). escape x.now) w.put-is ∙ rw w.if-live.true
-    | else-live w ↦ ap (λ (x : Bor Bytes). escape x.now) w.put-is ∙ rw w.if-live.false
+      | then-live w ↦ ap (λ (x : Bor Bytes). escape x.now) w.put-is ∙ rw w.if-live.true
+      | else-live w ↦ ap (λ (x : Bor Bytes). escape x.now) w.put-is ∙ rw w.if-live.false
     ] in
     rw e at c.put.ensures
