@@ -17,7 +17,7 @@ use kind_store::KindStorage;
 use kind_table::{DELETED, Row};
 use print::{Escaped, Integer, Printer};
 
-// "Kinds n, w, r"
+// "Kinds n, w, r". No method of Kind: nothing but the listing has these letters.
 fn put_kind(printer: &mut Printer<'_>, kind: Kind)
     ensures { Prints (kind_field kind ∷ []) printer.old printer.new }
 {
