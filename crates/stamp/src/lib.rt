@@ -4,7 +4,8 @@
 ghost use Rattle.std.specs.Prelude.{◌≡◌, ◌+◌, ◌-◌, ◌≤◌, length, pos, ◌-ℤ◌, true, option_map};
 ghost use Rattle.std.specs.Int.{w64};
 ghost use Rattle.std.proofs.Common.{of_z};
-ghost use Rattle.stamp.specs.Stamp.{stamp_field, separated, moment, taken_moment, days_of, epoch, seconds_of, accepted_moment, stamp_of};
+ghost use Rattle.integer.specs.Integer.{digits};
+ghost use Rattle.stamp.specs.Stamp.{separated, moment, taken_moment, days_of, epoch, seconds_of, accepted_moment, stamp_of};
 
 // The six numbers of a stamp.
 #[derive(Clone, Copy, PartialEq, Eq, Debug)]
@@ -17,12 +18,12 @@ pub struct Moment {
     pub second: u32,
 }
 
-// A field of a stamp, of at most four bytes.
-fn stamp_field(s: &[u8], from: usize, to: usize) -> Option<u32>
-    requires { (from ≤ to) × ((to ≤ from + 4) × (to ≤ length s.now)) }
-    ensures { result ≡ stamp_field s.now from (to - from) }
+// The number of a field of a stamp, of at most four bytes.
+fn stamp_field(field: &[u8]) -> Option<u32>
+    requires { length field.now ≤ 4 }
+    ensures { result ≡ digits field.now }
 {
-    let n = integer::read_digits(&s[from..to], 9999)?;
+    let n = integer::read_digits(field, 9999)?;
     u32::try_from(n).ok()
 }
 
@@ -40,12 +41,12 @@ fn read_six(s: &[u8]) -> Option<Moment>
     ensures { result ≡ moment s.now }
 {
     Some(Moment {
-        year: stamp_field(s, 0, 4)?,
-        month: stamp_field(s, 5, 7)?,
-        day: stamp_field(s, 8, 10)?,
-        hour: stamp_field(s, 11, 13)?,
-        minute: stamp_field(s, 14, 16)?,
-        second: stamp_field(s, 17, 19)?,
+        year: stamp_field(&s[0..4])?,
+        month: stamp_field(&s[5..7])?,
+        day: stamp_field(&s[8..10])?,
+        hour: stamp_field(&s[11..13])?,
+        minute: stamp_field(&s[14..16])?,
+        second: stamp_field(&s[17..19])?,
     })
 }
 

@@ -14,12 +14,9 @@ fitting (Ok x) f p = ap Some f.1
 fitting (Err e) f p = absurd (f p)
 
 pub returns-in_err-n : goal.returns-in_err-n
-returns-in_err-n c =
-    let a = c.args in
-    rw c.from_residual.ensures (c.in_err-n.ensures ∙ field_read a.s.now a.from _ (omega arith))
+returns-in_err-n c = rw c.from_residual.ensures (c.in_err-n.ensures ∙ field_read c.args.field.now c.requires)
 
 pub returns : goal.returns
 returns c =
-    let a = c.args in
     let n = at_most_lem _ c.in_ok-n.ensures in
-    c.ok.ensures.value ∙ (fitting c.try_from.result c.try_from.ensures (omega arith) ∙ (c.in_ok-n.ensures ∙ field_read a.s.now a.from _ (omega arith)))
+    c.ok.ensures.value ∙ (fitting c.try_from.result c.try_from.ensures (omega arith) ∙ (c.in_ok-n.ensures ∙ field_read c.args.field.now c.requires))
