@@ -65,7 +65,7 @@ impl ArenaMeta {
         ensures { result ≡ claim_of (meta_of self) }
     {
         if self.has_version() {
-            Some(signed::i32_of_bits(self.version))
+            Some(self.version.cast_signed())
         } else {
             None
         }

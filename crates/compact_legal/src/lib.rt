@@ -140,7 +140,7 @@ impl PartBytes<'_> {
 fn within(bits: u32, bound: u32) -> bool
     ensures { result ≡ leb (nat_abs (to_z w32 bits)) bound }
 {
-    signed::i32_of_bits(bits).unsigned_abs() <= bound
+    bits.cast_signed().unsigned_abs() <= bound
 }
 
 // 17, then 3, then 10, then 16.

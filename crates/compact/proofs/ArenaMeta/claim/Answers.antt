@@ -11,7 +11,7 @@ pub returns-then-has_version : goal.returns-then-has_version
 unfolding claim_of meta_of
 returns-then-has_version c =
     let m = c.args.self in
-    rw (c.i32_of_bits.ensures, to_z-of_z (sfits_to_z {w = w32} {n = m.version} (Fits-of_lt (omega arith))), ← c.has_version.ensures, c.if-has_version.true)
+    rw (c.cast_signed.ensures, to_z-of_z (sfits_to_z {w = w32} {n = m.version} (Fits-of_lt (omega arith))), ← c.has_version.ensures, c.if-has_version.true)
 
 pub returns-else-has_version : goal.returns-else-has_version
 unfolding claim_of meta_of
