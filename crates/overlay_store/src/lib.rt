@@ -11,9 +11,9 @@ ghost use Rattle.kind_store.specs.KindStore.{pushed, deleted};
 ghost use Rattle.interner.specs.Strings.{intern};
 ghost use Rattle.interner.specs.Texts.{handle_answered};
 ghost use Rattle.text_index.specs.Index.{IndexGiven};
-ghost use Rattle.text_index.specs.Chained.{StoreChained};
+ghost use Rattle.text_index.specs.Chained.{StoreChained, ChainsServe};
 ghost use Rattle.text_index.specs.Lent.{chains_seen};
-ghost use Rattle.overlay.specs.Lent.{lent, left, overlay_seen, overlay_held, overlay_tabled, IsSameStorage, IsSameTables};
+ghost use Rattle.overlay.specs.Lent.{lent, left, overlay_held, overlay_tabled, IsSameStorage, IsSameTables};
 ghost use Rattle.overlay_store.specs.Lent.{kind_store_lent, kind_store_left, setting_in, strings_at, OthersKept};
 ghost use Rattle.overlay_store.specs.Calls.{bytes_of, store_push, store_delete, handle_in, store_text};
 
@@ -21,7 +21,7 @@ use compact::{ArenaMeta, PushHead, PushRecord};
 use interner::{Interned, StringsMut, Taken};
 use kind::Kind;
 use kind_store::{KindStorageMut, KindStorageTable};
-use overlay::{Storage, StorageMut, StorageTables};
+use overlay::{StorageMut, StorageTables};
 use overlay_blocks::{ARENA, COUNTERS, SETTING, STRING_BYTES, STRINGS, Sizes};
 use refusal::Refusal;
 use text_index::Chains;
@@ -37,8 +37,8 @@ fn intern_in(
     text: &[u8],
 ) -> Option<u64>
     ensures others { OthersKept 6 7 counters.old counters.new }
-    ensures store { StoreChained (chains_seen chains.now) (strings_at spans.old bytes.old counters.old) → strings_at spans.new bytes.new counters.new ≡ (intern (strings_at spans.old bytes.old counters.old) text.now).store }
-    ensures handle { StoreChained (chains_seen chains.now) (strings_at spans.old bytes.old counters.old) → result ≡ handle_answered (intern (strings_at spans.old bytes.old counters.old) text.now).answer }
+    ensures store { ChainsServe (chains_seen chains.now) (strings_at spans.old bytes.old counters.old) → strings_at spans.new bytes.new counters.new ≡ (intern (strings_at spans.old bytes.old counters.old) text.now).store }
+    ensures handle { ChainsServe (chains_seen chains.now) (strings_at spans.old bytes.old counters.old) → result ≡ handle_answered (intern (strings_at spans.old bytes.old counters.old) text.now).answer }
 {
     let mut strings = StringsMut {
         spans,
@@ -61,6 +61,7 @@ pub fn intern(
     ensures same { IsSameStorage storage.new storage.old }
     ensures done { StoreChained (chains_seen chains.now) (overlay_held storage.old).texts
         → record { overlay = overlay_held storage.new; answer = result } ≡ store_text text.now (overlay_held storage.old) }
+    ensures unchained { chains.now.handles ≡ 0 → record { overlay = overlay_held storage.new; answer = result } ≡ store_text text.now (overlay_held storage.old) }
 {
     let t = Sizes::from(&*storage.counters).texts(storage.words.len(), storage.bytes.len());
     let handle = intern_in(
@@ -71,19 +72,6 @@ pub fn intern(
         text,
     );
     handle.ok_or(Refusal::StringsFull)
-}
-
-// What that would answer, with nothing taken in: 13, or the handle that the text has or would get.
-pub fn intern_answer(
-    storage: &Storage<'_>,
-    chains: &Chains<'_>,
-    text: &[u8],
-) -> Result<u64, Refusal>
-    ensures { StoreChained (chains_seen chains.now) (overlay_seen storage.now).texts → result ≡ (store_text text.now (overlay_seen storage.now)).answer }
-{
-    chains
-        .answer(&storage.strings(), text)
-        .ok_or(Refusal::StringsFull)
 }
 
 // ---- an act on one kind
@@ -230,29 +218,7 @@ fn count_taken(counters: &mut [u64], taken: Taken) -> Result<u64, Refusal>
     handle_in(taken.answer)
 }
 
-// Takes a text in: 13, or its handle.
-pub fn store_text(
-    words: &mut [u64],
-    bytes: &mut [u8],
-    counters: &mut [u64; COUNTERS],
-    text: &[u8],
-) -> Result<u64, Refusal>
-    ensures { record { overlay = left words.new bytes.new counters.new; answer = result } ≡ store_text text.now (lent words.old bytes.old counters.old) }
-{
-    let t = overlay_blocks::texts_in(counters, words.len(), bytes.len());
-    let c = t.spans;
-    let f = t.bytes;
-    let taken = interner::intern(
-        &mut words[c..],
-        &mut bytes[f..],
-        counters[STRINGS],
-        counters[STRING_BYTES],
-        text,
-    );
-    count_taken(counters, taken)
-}
-
-// The same with an array of chains for the held texts.
+// Takes a text in, with an array of chains for the held texts: 13, or its handle.
 pub fn store_text_by(
     words: &mut [u64],
     bytes: &mut [u8],
