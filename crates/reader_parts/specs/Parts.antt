@@ -20,7 +20,7 @@ use Rattle.reader.specs.Step.{member_bits}
 use Rattle.reader.specs.Done.{StepResult, worked}
 
 -- what a sound state gives: a handle fits 32 bits, what is staged lies within the lent bytes, and the array of chains is one for the overlay's texts
-pub record ChildGiven (ix : List ℕ) (s : State) : Type 0 where
+pub record StepGiven (ix : List ℕ) (s : State) : Type 0 where
   pub strings : s.overlay.texts.strings < 4294967296
   pub used : s.reader.pending.used ≤ length s.parts
   pub indexed : IndexGiven ix s.overlay.texts

@@ -12,7 +12,7 @@ ghost use Rattle.overlay_store.specs.Calls.{store_text};
 ghost use Rattle.reader.specs.Lent.{state_held, IsSameState};
 ghost use Rattle.reader.specs.State.{middle, values_in, more_parts};
 ghost use Rattle.reader.specs.Done.{Works};
-ghost use Rattle.reader_parts.specs.Parts.{ChildGiven, tag_fits, part_fits, refusal_over, part_staged, with_overlay, child_worked, add_tag};
+ghost use Rattle.reader_parts.specs.Parts.{StepGiven, tag_fits, part_fits, refusal_over, part_staged, with_overlay, child_worked, add_tag};
 
 use compact::{CompactMember, PushHead};
 use event_scan::MAX_LINE;
@@ -127,7 +127,7 @@ fn tag_with(
     value: &[u8],
 ) -> Result<(), Refusal>
     ensures same { IsSameState state.new state.old }
-    ensures worked { ChildGiven ix.now (state_held state.old) → length key.now ≤ 16384
+    ensures worked { StepGiven ix.now (state_held state.old) → length key.now ≤ 16384
         → record { state = state_held state.new; answer = result } ≡ child_worked (state_held state.old)
         (add_tag state.old.reader.place.kind state.old.reader.pending (record { key = value_text key.now; value = value.now }) state.old.parts.now (state_held state.old).overlay) }
 {
@@ -151,7 +151,7 @@ fn tag_resolved(
     value: &[u8],
 ) -> Result<(), Refusal>
     ensures same { IsSameState state.new state.old }
-    ensures worked { ChildGiven ix.now (state_held state.old) → length key.now ≤ 16384 → length value.now ≤ 16384
+    ensures worked { StepGiven ix.now (state_held state.old) → length key.now ≤ 16384 → length value.now ≤ 16384
         → record { state = state_held state.new; answer = result } ≡ child_worked (state_held state.old)
         (add_tag state.old.reader.place.kind state.old.reader.pending (record { key = value_text key.now; value = value_text value.now }) state.old.parts.now (state_held state.old).overlay) }
 {
@@ -168,7 +168,7 @@ pub fn add_tag(
     value: &[u8],
 ) -> Result<(), Refusal>
     ensures same { IsSameState state.new state.old }
-    ensures works { ChildGiven ix.now (state_held state.old) → length key.now ≤ 16384 → length value.now ≤ 16384
+    ensures works { StepGiven ix.now (state_held state.old) → length key.now ≤ 16384 → length value.now ≤ 16384
         → Works (λ p. tags p (record { key = value_text key.now; value = value_text value.now })) (state_held state.old) (record { state = state_held state.new; answer = result }) }
 {
     if event_scan::lacks(value, b'\\') {
@@ -201,7 +201,7 @@ pub fn add_member(
     role: &[u8],
 ) -> Result<(), Refusal>
     ensures same { IsSameState state.new state.old }
-    ensures works { ChildGiven ix.now (state_held state.old) → length role.now ≤ 16384
+    ensures works { StepGiven ix.now (state_held state.old) → length role.now ≤ 16384
         → Works (λ p. joins p (record { ref = to_z w64 reference; type = kind; role = value_text role.now })) (state_held state.old) (record { state = state_held state.new; answer = result }) }
 {
     if part_fits(state.reader.pending, 2000) {
