@@ -38,11 +38,7 @@ fn line_step(state: &mut ReaderState<'_>, ix: &[u16], line: &[u8]) -> Result<(),
 
 // An event of a state that was found sound, whose reader is not stopped: its step. The lines count on, or the reader stops: then only its stop mark changes. The array of chains,
 // or an empty slice, finds held texts.
-pub fn event_going(
-    state: &mut ReaderState<'_>,
-    ix: &[u16],
-    line: &[u8],
-) -> Result<(), RefusedAt>
+pub fn event_going(state: &mut ReaderState<'_>, ix: &[u16], line: &[u8]) -> Result<(), RefusedAt>
     ensures same { IsSameState state.new state.old }
     ensures value { state_sound (state_held state.old) ≡ true → IndexGiven ix.now (state_held state.old).overlay.texts
         → record { state = state_held state.new; answer = result } ≡ stepped (state_held state.old) (step_of (decide line.now state.old.reader.place) (state_held state.old)) }
