@@ -94,14 +94,7 @@ pub fn end_on(state: &ReaderView<'_>) -> Result<(), RefusedAt>
     })
 }
 
-// ---- the same over what is lent one by one
-
-// A reader after an event, and what the event answers.
-#[derive(Clone, Copy)]
-pub struct EventDone {
-    pub reader: EventReader,
-    pub answer: Result<(), RefusedAt>,
-}
+// ---- the same over what is lent one by one, as C lends it
 
 // An event by its line, as `event_on`.
 pub fn event(
@@ -109,24 +102,22 @@ pub fn event(
     bytes: &mut [u8],
     counters: &mut [u64; COUNTERS],
     parts: &mut [u8; STAGED],
-    reader: EventReader,
+    reader: &mut EventReader,
     line: &[u8],
-) -> EventDone
-    ensures { record { state = state_left words.new bytes.new counters.new parts.new result.reader; answer = result.answer }
-        ≡ event_on line.now (state_lent words.old bytes.old counters.old parts.old reader) }
+) -> Result<(), RefusedAt>
+    ensures { record { state = state_left words.new bytes.new counters.new parts.new reader.new; answer = result }
+        ≡ event_on line.now (state_lent words.old bytes.old counters.old parts.old reader.old) }
 {
     let mut state = ReaderState {
         words,
         bytes,
         counters,
         parts,
-        reader,
+        reader: *reader,
     };
     let answer = event_on(&mut state, line);
-    EventDone {
-        reader: state.reader,
-        answer,
-    }
+    *reader = state.reader;
+    answer
 }
 
 // The end of a document, as `end_on`.

@@ -6,7 +6,7 @@ ghost use Rattle.base.specs.Bytes.{all};
 ghost use Rattle.little.specs.Little.{is_byte};
 ghost use Rattle.text_index.specs.Index.{IndexGiven};
 ghost use Rattle.input_lines.specs.Lines.{lines_of};
-ghost use Rattle.reader.specs.Lent.{state_lent, state_seen, state_held, IsSameState};
+ghost use Rattle.reader.specs.Lent.{state_lent, state_left, state_seen, state_held, IsSameState};
 ghost use Rattle.reader.specs.State.{state_sound};
 ghost use Rattle.reader.specs.Given.{StateGiven};
 ghost use Rattle.reader.specs.Event.{event_on};
@@ -176,4 +176,29 @@ pub fn events_on(state: &mut ReaderState<'_>, run: &[u8]) -> EventsDone
         }),
         taken: 0,
     }
+}
+
+// The same over what is lent one by one, as C lends it.
+pub fn events(
+    words: &mut [u64],
+    bytes: &mut [u8],
+    counters: &mut [u64; COUNTERS],
+    parts: &mut [u8; STAGED],
+    reader: &mut EventReader,
+    run: &[u8],
+) -> EventsDone
+    ensures answer_value { record { state = state_left words.new bytes.new counters.new parts.new reader.new; answer = result.answer }
+        ≡ events_on (lines_of run.now) (state_lent words.old bytes.old counters.old parts.old reader.old) }
+    ensures taken_value { result.taken ≡ taken_bytes (lines_of run.now) (state_lent words.old bytes.old counters.old parts.old reader.old) }
+{
+    let mut state = ReaderState {
+        words,
+        bytes,
+        counters,
+        parts,
+        reader: *reader,
+    };
+    let done = events_on(&mut state, run);
+    *reader = state.reader;
+    done
 }

@@ -101,8 +101,10 @@ fn take_last(
     if last.is_empty() {
         return reader;
     }
-    let done = reader_calls::event(words, bytes, counters, ps, reader, last);
-    done.reader
+    let mut reader = reader;
+    // a refusal stands in the reader's stop mark
+    let _ = reader_calls::event(words, bytes, counters, ps, &mut reader, last);
+    reader
 }
 
 // What is printed at the end: how many bytes of the output, and the refusal that they tell, none where they are the listing.
