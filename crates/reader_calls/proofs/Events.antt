@@ -1,14 +1,13 @@
 -- Each answer of an event, place by place: 22, the stop mark, then the step.
 use Rattle.reader.specs.declared.RefusedAt.{RefusedAt}
-use Rattle.std.specs.Prelude.{Ok, Err, Result, Some, None}
+use Rattle.std.specs.Prelude.{Ok, Err, Result, None}
 use Prim.Native.Nat.{ℕ}
 use mathlib.Core.Path.{◌≡◌, refl, sym, ◌∙◌, ap}
-use mathlib.Core.Bool.{true, false}
+use mathlib.Core.Bool.{true}
 use mathlib.Core.List.{List, []}
 use Rattle.base.specs.Bytes.{Bytes}
 use Rattle.base.proofs.Split.{both_left}
 use Rattle.refusal.specs.declared.Refusal.{Refusal}
-use Rattle.refusal.specs.declared.Refusal.TheVariants as R
 use Rattle.event_decision.specs.Decision.{decide, refuses}
 use Rattle.interner.specs.Sound.{texts_of, sound_strings}
 use Rattle.interner.proofs.Interns.{sound_of}

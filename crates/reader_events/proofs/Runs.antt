@@ -13,7 +13,7 @@ use lib.Dec.{ltb}
 use lib.ListN.{length, drop}
 use lib.Seq.{slice}
 use Rattle.base.specs.Bytes.{Bytes, both}
-use Rattle.base.proofs.Split.{both_of, both_left, both_right, both_no_right, by_le}
+use Rattle.base.proofs.Split.{both_of, both_left, both_right, by_le}
 use Rattle.refusal.specs.declared.Refusal.TheVariants as R
 use Rattle.event_scan.proofs.Places.{lent_is}
 use Rattle.input_lines.specs.Lines.{lines_of}

@@ -1,11 +1,8 @@
 -- One line more, by the array that is brought up to date before it.
-use mathlib.Core.Path.{refl, sym, ◌∙◌, ap}
+use mathlib.Core.Path.{refl, ◌∙◌}
 use mathlib.Core.Bool.{true, false}
 use native.Mathlib.Omega.{arith}
-use Rattle.text_index.specs.Index.{IndexGiven}
-use Rattle.overlay.specs.Overlay.{Overlay}
 use Rattle.reader.specs.Lent.{state_held}
-use Rattle.reader.specs.State.{State}
 use Rattle.reader_events.proofs.Runs.{run_start, run_less, run_all, run_by}
 use Rattle.reader_events.proofs.Chains.{by_line_lem, indexed_by}
 use Rattle.reader_events.proofs.events_by.Goals as goal

@@ -1,6 +1,6 @@
 -- 22 where the count of lines is at its largest, the stop mark, then the step.
 use Rattle.std.proofs.lemmas.Result.{err_from_is_err_and}
-use mathlib.Core.Path.{sym, ◌∙◌, ap}
+use mathlib.Core.Path.{sym, ◌∙◌}
 use Rattle.reader.specs.Lent.{state_held}
 use Rattle.reader_calls.proofs.Events.{event_checked, event_goes_by}
 use Rattle.reader_events.proofs.Runs.{counts_sound}
