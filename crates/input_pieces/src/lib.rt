@@ -73,7 +73,7 @@ fn take_front(
 // ---- a piece of the input
 
 // What is left of an input between pieces: the reader, how many bytes of an unfinished line are held, and what the last event answered.
-#[derive(Clone, Copy)]
+#[derive(Clone, Copy, PartialEq, Eq, Debug)]
 pub struct Fed {
     pub reader: EventReader,
     pub held: usize,

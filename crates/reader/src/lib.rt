@@ -15,7 +15,7 @@ use reader_stage::STAGED;
 use refusal::Refusal;
 
 // The element that is being put together: the push that its end will make, and how many of the lent bytes its parts take.
-#[derive(Clone, Copy)]
+#[derive(Clone, Copy, PartialEq, Eq, Debug)]
 pub struct Pending {
     pub head: PushHead,
     pub meta: ArenaMeta,
@@ -60,7 +60,7 @@ pub struct RefusedAt {
 }
 
 // The line count is that of the accepted events. A stopped reader has the refusal that stopped it as its stop mark.
-#[derive(Clone, Copy)]
+#[derive(Clone, Copy, PartialEq, Eq, Debug)]
 pub struct EventReader {
     pub place: Place,
     pub pending: Pending,
