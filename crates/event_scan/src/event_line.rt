@@ -49,7 +49,8 @@ fn new_name<'a>(field: &'a [u8], names: &[&[u8]]) -> Option<&'a [u8]>
     Some(name)
 }
 
-// Whether at most sixteen fields stand as attributes: their names are kept, and each is compared with those before it. Of more nothing is told.
+// Whether at most sixteen fields stand as attributes: their names are kept, and each is compared with those before it. Of more nothing is told. The names
+// lie in an array, since the library has no heap.
 fn few_stand(rest: &Fields<'_>) -> Option<bool>
     ensures { IfSome result (λ stands. stands ≡ stand (attrs_of (fields_left rest.now))) }
 {

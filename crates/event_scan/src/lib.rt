@@ -91,7 +91,7 @@ fn put(out: &mut [u8], at: usize, b: u8)
     }
 }
 
-// The text of a value whose escapes are right.
+// The text of a value whose escapes are right. The loop is no `for`: a piece tells where the next one begins, and what is written is counted past the room too.
 fn write(out: &mut [u8], v: &[u8]) -> usize
     requires { there (unescape v.now) ≡ true }
     ensures { (out.new ≡ over out.old 0 (value_text v.now)) × (result ≡ length (value_text v.now)) }
