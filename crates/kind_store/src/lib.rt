@@ -332,19 +332,6 @@ pub fn row_version(kind: Kind, arena: &[u8], row: Row) -> Option<i32>
     storage.row_version(row)
 }
 
-pub fn known_version(kind: Kind, table: &[u64], ids: u64, arena: &[u8], id: u64) -> Option<i32>
-    ensures { (used : ℕ) → result ≡ known_version kind (kind_store_with table.now ids arena.now used) (to_z w64 id) }
-{
-    let storage = KindStorage {
-        kind,
-        table,
-        ids,
-        arena,
-        used: 0,
-    };
-    storage.known_version(id)
-}
-
 pub fn push(
     kind: Kind,
     setting: u64,

@@ -26,7 +26,7 @@ fn put_rows(held: &KindStorage<'_>, side: Side, ids: &mut [u64], versions: &mut 
     let mut n: usize = 0;
     for i in 0..held.rows_held() {
         let row = held.row_at(i);
-        if kind_reading::is_on(side, row) {
+        if side.has(row) {
             let id = overlay_reading::row_id(row);
             ids[n] = id;
             versions[n] = version_floor::version_word(held.known_version(id));

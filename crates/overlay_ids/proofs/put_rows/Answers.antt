@@ -24,25 +24,25 @@ bounds-ids-n c =
     let a = c.args in
     let h = a.held.now in
     let l = c.loop-i in
-    let on = c.is_on.ensures ∙ ap (is_on a.side) c.row_at-row.ensures in
-    id_fits h.kind a.side (kind_seen h) a.ids.now a.versions.now _ (omega arith) l.invariant (sym on ∙ c.if-is_on.true)
+    let on = c.has.ensures ∙ ap (is_on a.side) c.row_at-row.ensures in
+    id_fits h.kind a.side (kind_seen h) a.ids.now a.versions.now _ (omega arith) l.invariant (sym on ∙ c.if-has.true)
 
 pub bounds-versions-n : goal.bounds-versions-n
 bounds-versions-n c =
     let a = c.args in
     let h = a.held.now in
     let l = c.loop-i in
-    let on = c.is_on.ensures ∙ ap (is_on a.side) c.row_at-row.ensures in
-    version_fits h.kind a.side (kind_seen h) a.ids.now a.versions.now _ (omega arith) l.invariant (sym on ∙ c.if-is_on.true)
+    let on = c.has.ensures ∙ ap (is_on a.side) c.row_at-row.ensures in
+    version_fits h.kind a.side (kind_seen h) a.ids.now a.versions.now _ (omega arith) l.invariant (sym on ∙ c.if-has.true)
 
-pub loop-i-preserved-then-is_on : goal.loop-i-preserved-then-is_on
-loop-i-preserved-then-is_on c =
+pub loop-i-preserved-then-has : goal.loop-i-preserved-then-has
+loop-i-preserved-then-has c =
     let a = c.args in
     let h = a.held.now in
     let l = c.loop-i in
-    let on = c.is_on.ensures ∙ ap (is_on a.side) c.row_at-row.ensures in
+    let on = c.has.ensures ∙ ap (is_on a.side) c.row_at-row.ensures in
     let e = c.row_id-id.ensures ∙ ap row_id c.row_at-row.ensures in
-    puts h.kind a.side (kind_seen h) a.ids.now a.versions.now _ (omega arith) l.invariant (sym on ∙ c.if-is_on.true) _ _ e
+    puts h.kind a.side (kind_seen h) a.ids.now a.versions.now _ (omega arith) l.invariant (sym on ∙ c.if-has.true) _ _ e
     (c.version_word.ensures ∙ ap word_of (c.known_version.ensures ∙ ap (λ x. known_version h.kind (kind_seen h) (to_z w64 x)) e))
 
 pub loop-i-preserved : goal.loop-i-preserved
@@ -50,8 +50,8 @@ loop-i-preserved c =
     let a = c.args in
     let h = a.held.now in
     let l = c.loop-i in
-    let on = c.is_on.ensures ∙ ap (is_on a.side) c.row_at-row.ensures in
-    passes h.kind a.side (kind_seen h) a.ids.now a.versions.now _ (omega arith) l.invariant (sym on ∙ c.if-is_on.false)
+    let on = c.has.ensures ∙ ap (is_on a.side) c.row_at-row.ensures in
+    passes h.kind a.side (kind_seen h) a.ids.now a.versions.now _ (omega arith) l.invariant (sym on ∙ c.if-has.false)
 
 pub returns : goal.returns
 returns c =
