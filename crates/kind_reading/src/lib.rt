@@ -7,7 +7,6 @@ ghost use Rattle.std.proofs.Common.{to_z};
 ghost use Rattle.kind_reading.specs.Listed.{rows_read, is_on, rows_on, nth, row_standing, standing_of, view_at};
 
 use compact_legal::Records;
-use kind::Kind;
 use kind_store::KindStorage;
 use kind_table::Row;
 use little::Span;

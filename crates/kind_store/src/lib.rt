@@ -319,19 +319,6 @@ pub struct Outcome {
     pub used: u64,
 }
 
-pub fn row_version(kind: Kind, arena: &[u8], row: Row) -> Option<i32>
-    ensures { result ≡ known_of kind arena.now row }
-{
-    let storage = KindStorage {
-        kind,
-        table: &[],
-        ids: 0,
-        arena,
-        used: 0,
-    };
-    storage.row_version(row)
-}
-
 pub fn push(
     kind: Kind,
     setting: u64,
