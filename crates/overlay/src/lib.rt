@@ -251,15 +251,3 @@ pub fn is_sound(words: &[u64], bytes: &[u8], counters: &[u64; COUNTERS]) -> bool
     };
     storage.is_sound()
 }
-
-// 22, or nothing.
-pub fn check_sound(words: &[u64], bytes: &[u8], counters: &[u64; COUNTERS]) -> Result<(), Refusal>
-    ensures { result ≡ sound_answer (lent words.now bytes.now counters.now) }
-{
-    let storage = Storage {
-        words,
-        bytes,
-        counters,
-    };
-    storage.check_sound()
-}
