@@ -37,6 +37,7 @@ pub trait FieldWidth {
     ghost ONES: { ℕ };
 
     const MOST: u64;
+
     const ONES: u64;
 
     ghost most: { MOST ≡ 2 ^ hbits width - 1 };
@@ -52,6 +53,7 @@ impl FieldWidth for i64 {
     ghost ONES = { 0xffff_ffff_ffff_ffff };
 
     const MOST: u64 = 0x7fff_ffff_ffff_ffff;
+
     const ONES: u64 = 0xffff_ffff_ffff_ffff;
 
     ghost most = { refl };
@@ -67,6 +69,7 @@ impl FieldWidth for i32 {
     ghost ONES = { 0xffff_ffff };
 
     const MOST: u64 = 0x7fff_ffff;
+
     const ONES: u64 = 0xffff_ffff;
 
     ghost most = { refl };

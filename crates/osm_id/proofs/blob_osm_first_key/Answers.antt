@@ -14,8 +14,8 @@ returns c =
     let hi = to_z-of_z c.ranges.max_id in
     c.osm_id_key.ensures
     ∙ elim c.if-min_id-ge0.branch [
-        | then-min_id-ge0 w ↦ ap osm_key_of (w.first-is ∙ lo) ∙ first_natural a.min_id a.max_id (rw lo at w.if-min_id-ge0.true)
-        | else-min_id-ge0 w ↦
-            let m = to_z-of_z {w = w64} (record { sfits = w.min-first.type_inv }) ∙ rw hi at w.min-first.ensures.value in
-            ap osm_key_of (w.first-is ∙ m) ∙ first_other a.min_id a.max_id (rw lo at w.if-min_id-ge0.false)
-      ]
+      | then-min_id-ge0 w ↦ ap osm_key_of (w.first-is ∙ lo) ∙ first_natural a.min_id a.max_id (rw lo at w.if-min_id-ge0.true)
+      | else-min_id-ge0 w ↦
+          let m = to_z-of_z {w = w64} (record { sfits = w.min-first.type_inv }) ∙ rw hi at w.min-first.ensures.value in
+          ap osm_key_of (w.first-is ∙ m) ∙ first_other a.min_id a.max_id (rw lo at w.if-min_id-ge0.false)
+    ]
