@@ -82,6 +82,7 @@ pub fn begin(
     empty: bool,
 ) -> Result<(), Refusal>
     ensures same { IsSameState state.new state.old }
+    ensures place { state.new.reader.place ≡ state.old.reader.place }
     ensures works { (m : Meta Bytes) (b : Body Bytes) → Means act.now m → ActGiven ix.now (state_held state.old).overlay → kind_of b ≡ act.now.kind → head ≡ head_for (to_z w64 act.now.id) b
         → Works (λ p. begins empty p (to_z w64 act.now.id) m b) (state_held state.old) (record { state = state_held state.new; answer = result }) }
 {
@@ -102,6 +103,7 @@ pub fn begin(
 // An id is deleted.
 pub fn delete(state: &mut ReaderState<'_>, ix: &[u16], act: &Act<'_>) -> Result<(), Refusal>
     ensures same { IsSameState state.new state.old }
+    ensures place { state.new.reader.place ≡ state.old.reader.place }
     ensures works { (m : Meta Bytes) → Means act.now m → ActGiven ix.now (state_held state.old).overlay
         → Works (λ p. deletes act.now.kind p (to_z w64 act.now.id) m) (state_held state.old) (record { state = state_held state.new; answer = result }) }
 {
@@ -113,6 +115,7 @@ pub fn delete(state: &mut ReaderState<'_>, ix: &[u16], act: &Act<'_>) -> Result<
 // The element that stands open ends, and is pushed.
 pub fn end(state: &mut ReaderState<'_>) -> Result<(), Refusal>
     ensures same { IsSameState state.new state.old }
+    ensures place { state.new.reader.place ≡ state.old.reader.place }
     ensures works { Works (λ p. ends p) (state_held state.old) (record { state = state_held state.new; answer = result }) }
 {
     reader_acts::push_staged(state)?;

@@ -80,6 +80,7 @@ fn over_limit(storage: &Storage<'_>, ix: &[u16], text: &[u8]) -> Result<(), Refu
 fn stage_part(state: &mut ReaderState<'_>, head: PushHead, at: usize, numbers: &[u8], value: &[u8])
     requires { (length numbers.now ≤ 13) × (length value.now ≤ 16384) }
     ensures same { IsSameState state.new state.old }
+    ensures place { state.new.reader.place ≡ state.old.reader.place }
     ensures staged { state.old.reader.pending.used ≤ length state.old.parts.now
         → state_held state.new ≡ part_staged head at (numbers.now ++ value.now) (state_held state.old) }
 {
@@ -93,6 +94,7 @@ fn stage_part(state: &mut ReaderState<'_>, head: PushHead, at: usize, numbers: &
 fn stage_middle(state: &mut ReaderState<'_>, part: &[u8])
     requires { (state.old.reader.pending.head.count < 2000) × (length part.now ≤ 13) }
     ensures same { IsSameState state.new state.old }
+    ensures place { state.new.reader.place ≡ state.old.reader.place }
     ensures staged { state.old.reader.pending.used ≤ length state.old.parts.now
         → state_held state.new ≡ part_staged (more_parts state.old.reader.pending.head) (middle state.old.reader.place.kind state.old.reader.pending.head.count) part.now (state_held state.old) }
 {
@@ -127,6 +129,7 @@ fn tag_with(
     value: &[u8],
 ) -> Result<(), Refusal>
     ensures same { IsSameState state.new state.old }
+    ensures place { state.new.reader.place ≡ state.old.reader.place }
     ensures worked { StepGiven ix.now (state_held state.old) → length key.now ≤ 16384
         → record { state = state_held state.new; answer = result } ≡ child_worked (state_held state.old)
         (add_tag state.old.reader.place.kind state.old.reader.pending (record { key = value_text key.now; value = value.now }) state.old.parts.now (state_held state.old).overlay) }
@@ -151,6 +154,7 @@ fn tag_resolved(
     value: &[u8],
 ) -> Result<(), Refusal>
     ensures same { IsSameState state.new state.old }
+    ensures place { state.new.reader.place ≡ state.old.reader.place }
     ensures worked { StepGiven ix.now (state_held state.old) → length key.now ≤ 16384 → length value.now ≤ 16384
         → record { state = state_held state.new; answer = result } ≡ child_worked (state_held state.old)
         (add_tag state.old.reader.place.kind state.old.reader.pending (record { key = value_text key.now; value = value_text value.now }) state.old.parts.now (state_held state.old).overlay) }
@@ -168,6 +172,7 @@ pub fn add_tag(
     value: &[u8],
 ) -> Result<(), Refusal>
     ensures same { IsSameState state.new state.old }
+    ensures place { state.new.reader.place ≡ state.old.reader.place }
     ensures works { StepGiven ix.now (state_held state.old) → length key.now ≤ 16384 → length value.now ≤ 16384
         → Works (λ p. tags p (record { key = value_text key.now; value = value_text value.now })) (state_held state.old) (record { state = state_held state.new; answer = result }) }
 {
@@ -182,6 +187,7 @@ pub fn add_tag(
 // A ref more: 16, or the ref staged. It leaves the overlay as it is.
 pub fn add_ref(state: &mut ReaderState<'_>, reference: u64) -> Result<(), Refusal>
     ensures same { IsSameState state.new state.old }
+    ensures place { state.new.reader.place ≡ state.old.reader.place }
     ensures works { state.old.reader.pending.used ≤ length state.old.parts.now
         → Works (λ p. refers p (to_z w64 reference)) (state_held state.old) (record { state = state_held state.new; answer = result }) }
 {
@@ -201,6 +207,7 @@ pub fn add_member(
     role: &[u8],
 ) -> Result<(), Refusal>
     ensures same { IsSameState state.new state.old }
+    ensures place { state.new.reader.place ≡ state.old.reader.place }
     ensures works { StepGiven ix.now (state_held state.old) → length role.now ≤ 16384
         → Works (λ p. joins p (record { ref = to_z w64 reference; type = kind; role = value_text role.now })) (state_held state.old) (record { state = state_held state.new; answer = result }) }
 {

@@ -1,8 +1,6 @@
 -- The fields of a line are the parts that `split` gives at its tabs.
-use Rattle.std.proofs.Common.{ℕ, ◌≡◌, List, [], ◌∷◌, get_or, eqb, Option, Some, None, refl, Bor}
-use Rattle.std.specs.List.{slice_split, onto_first, slice_get}
-use Rattle.std.specs.Option.{option_map, unwrap_or}
-use Rattle.std.proofs.lemmas.Option.{unwrap_or-slice_get}
+use Rattle.std.proofs.Common.{ℕ, ◌≡◌, List, [], ◌∷◌, eqb, refl}
+use Rattle.std.specs.List.{slice_split, onto_first}
 use Rattle.base.specs.Bytes.{Bytes}
 use Rattle.line.specs.Line.{fields, onto}
 

@@ -70,13 +70,7 @@ fn taken(value: Option<i64>, refusal: Refusal) -> Answer {
     value.map_or(Answer::Refused(refusal), Answer::Taken)
 }
 
-// Whether the bytes that a field writes are text, if it writes bytes.
-fn judged(alloc: Global, digits: &[u8]) -> Result<Option<Answer>, AllocError> {
-    let bytes = fields::bytes_of(alloc, digits)?;
-    Ok(bytes.map(|bytes| Answer::Text(text::is_text(&bytes))))
-}
-
-// The answer to a question; none where its word is not on the list, or where a field that should be an id, or bytes, is none.
+// The answer to a question; none where its word is not on the list, or where a field that should be an id is none.
 pub fn answer_to(alloc: Global, line: &[u8]) -> Result<Option<Answer>, AllocError> {
     let (Some(word), a, b) = (
         fields::field(line, 0),
@@ -100,10 +94,10 @@ pub fn answer_to(alloc: Global, line: &[u8]) -> Result<Option<Answer>, AllocErro
         b"i64" => Some(taken(a.and_then(long), Refusal::NotInteger)),
         b"i32" => Some(taken(a.and_then(short).map(i64::from), Refusal::NotInteger)),
         b"stamp" => Some(taken(a.and_then(stamp), Refusal::NotTimestamp)),
-        b"text" => match a {
-            Some(digits) => judged(alloc, digits)?,
-            None => None,
-        },
+        b"text" => {
+            let bytes = fields::bytes_of(alloc, a.unwrap_or(b""))?;
+            Some(Answer::Text(text::is_text(&bytes)))
+        }
         _ => None,
     };
     Ok(answer)

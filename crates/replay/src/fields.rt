@@ -12,14 +12,24 @@ pub fn field(line: &[u8], n: usize) -> Option<&[u8]>
     line.split(|b| *b == b'\t').nth(n)
 }
 
-// The byte that two hexadecimal digits write.
-fn byte([high, low]: &[u8; 2]) -> Option<u8> {
-    let value = char::from(*high).to_digit(16)? * 16 + char::from(*low).to_digit(16)?;
-    u8::try_from(value).ok()
+// The value of a hexadecimal digit in lower case. The UTF-8 vectors have theirs in upper case, and neither program takes the other's.
+fn digit(b: u8) -> Option<u8>
+    ensures { IfSome result (λ d. d < 16) }
+{
+    match b {
+        b'0'..=b'9' => Some(b - b'0'),
+        b'a'..=b'f' => Some(b - b'a' + 10),
+        _ => None,
+    }
 }
 
-// The bytes that pairs of hexadecimal digits write, if there is nothing else; at most 64 of them.
-pub fn bytes_of(alloc: Global, digits: &[u8]) -> Result<Option<Vec<u8>>, AllocError> {
+// The byte that two hexadecimal digits write; 0 stands for what is no digit.
+fn byte([high, low]: &[u8; 2]) -> u8 {
+    digit(*high).unwrap_or(0) * 16 + digit(*low).unwrap_or(0)
+}
+
+// The bytes that pairs of hexadecimal digits write, at most 64 of them.
+pub fn bytes_of(alloc: Global, digits: &[u8]) -> Result<Vec<u8>, AllocError> {
     let (pairs, _) = digits.as_chunks::<2>();
     pairs.iter().take(64).map(byte).collect(alloc)
 }

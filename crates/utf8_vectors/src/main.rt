@@ -1,7 +1,7 @@
 // Runs published UTF-8 vectors on text::is_text, and counts what it takes of all short sequences.
 #![tactic(auto)]
 
-ghost use Rattle.std.specs.Prelude.{◌≡◌, ◌+◌, ◌<◌, ◌≤◌, length};
+ghost use Rattle.std.specs.Prelude.{◌≡◌, ◌+◌, ◌<◌, ◌≤◌, length, IfSome};
 
 use std::alloc::{AllocError, Global};
 use std::io;
@@ -21,13 +21,23 @@ struct Tally {
     mismatches: u64,
 }
 
+// The value of a hexadecimal digit in upper case. The questions of `replay` have theirs in lower case, and neither program takes the other's.
+fn digit(b: u8) -> Option<u8>
+    ensures { IfSome result (λ d. d < 16) }
+{
+    match b {
+        b'0'..=b'9' => Some(b - b'0'),
+        b'A'..=b'F' => Some(b - b'A' + 10),
+        _ => None,
+    }
+}
+
 // The byte that two hexadecimal digits write.
 fn byte(digits: &[u8]) -> Option<u8> {
     let [high, low] = digits else {
         return None;
     };
-    let value = char::from(*high).to_digit(16)? * 16 + char::from(*low).to_digit(16)?;
-    u8::try_from(value).ok()
+    Some(digit(*high)? * 16 + digit(*low)?)
 }
 
 // The bytes that pairs of hexadecimal digits write, if there is nothing else.
