@@ -17,7 +17,7 @@ use Rattle.nesting.specs.declared.Action.TheVariants as A
 use Rattle.nesting.specs.declared.Level.{Level}
 use Rattle.nesting.specs.declared.Level.TheVariants as L
 use Rattle.nesting.specs.declared.Place.{Place}
-use Rattle.nesting.specs.declared.Opened.{Opened}
+use Rattle.nesting.specs.Opened.{Opened}
 use lib.IntN.{ℤ}
 use Rattle.model.specs.Record.{Meta, Body, kind_of}
 use Rattle.model.specs.Act.{Act, push, delete}

@@ -15,7 +15,7 @@ use Rattle.nesting.specs.declared.Level.TheVariants as L
 use Rattle.nesting.specs.declared.Place.{Place}
 use Rattle.nesting.specs.declared.Child.{Child}
 use Rattle.nesting.specs.declared.Child.TheVariants as C
-use Rattle.nesting.specs.declared.Opened.{Opened}
+use Rattle.nesting.specs.Opened.{Opened}
 use Rattle.model.specs.Record.{Meta, Member, Tag, Body, place, refs, members, kind_of}
 use Rattle.model.specs.Act.{push}
 use Rattle.event.specs.Event.{Attr, starts, closes, others, Reading, reads, refused, event_of}

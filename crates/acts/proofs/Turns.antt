@@ -17,8 +17,8 @@ use Rattle.nesting.specs.Nesting.{opened}
 use Rattle.nesting.specs.declared.Action.TheVariants as A
 use Rattle.nesting.specs.declared.Level.TheVariants as L
 use Rattle.nesting.specs.declared.Place.{Place}
-use Rattle.nesting.specs.declared.Opened.{Opened}
-use Rattle.nesting.specs.declared.Opened.TheVariants as O
+use Rattle.nesting.specs.Opened.{Opened}
+use Rattle.nesting.specs.Opened as O
 use Rattle.model.specs.Record.{Meta, Member, Body, place, refs, members, flagged, claim_of, kind_of}
 use Rattle.model.specs.Act.{Act, push, delete}
 use Rattle.event.specs.Event.{Attr, starts, closes, others, Reading, reads, refused, event_of, value_of, or_empty}

@@ -2,3 +2,4 @@ pub mod Split
 pub mod Table
 pub mod Lists
 pub mod Strict
+pub mod Tests

@@ -1,10 +1,14 @@
--- Laws of tests over lists.
-use mathlib.Core.Path.{◌≡◌, refl}
+-- Laws of tests over lists, and of a part of a list.
+use Prim.Native.Nat.{ℕ, zero, suc, ◌+◌}
+use mathlib.Core.Path.{◌≡◌, refl, sym}
 use mathlib.Core.Bool.{Bool, true}
 use mathlib.Core.List.{List, [], ◌∷◌, ◌++◌}
+use native.Mathlib.Nat.{zero-add, suc-add}
+use lib.ListN.{take, drop}
+use lib.Seq.{slice, take-nil}
 use borrow.Author.Tests.{eqb-true, eq-eqb}
 use Rattle.base.specs.Bytes.{Bytes, all, same}
-use Rattle.base.proofs.Split.{both_left, both_right, both_of, clash}
+use Rattle.base.proofs.Split.{both_left, both_right, both_of, clash, same_test}
 
 pub all_append : {A : Type 0} (p : A → Bool) (xs ys : List A) → all p xs ≡ true → all p ys ≡ true → all p (xs ++ ys) ≡ true
 unfolding all
@@ -49,3 +53,13 @@ pub same_refl : (xs : Bytes) → same xs xs ≡ true
 unfolding same
 same_refl [] = refl
 same_refl (x ∷ xs) = both_of (eq-eqb x x refl) (same_refl xs)
+
+pub same_swap : (xs ys : Bytes) → same xs ys ≡ same ys xs
+same_swap xs ys = same_test _ _ (λ e. rw (same_yes xs ys e) (same_refl ys)) (λ e. rw (same_yes ys xs e) (same_refl xs))
+
+-- ---- a part of a list, by its start and its length
+
+pub slice_take : (from n : ℕ) (s : Bytes) → slice from (from + n) s ≡ take n (drop from s)
+slice_take zero n s = rw zero-add
+slice_take (suc from) n [] = rw suc-add (sym (take-nil n))
+slice_take (suc from) n (b ∷ s) = rw suc-add (slice_take from n s)

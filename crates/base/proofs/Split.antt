@@ -4,11 +4,13 @@ use mathlib.Core.Path.{◌≡◌, refl, sym}
 use mathlib.Core.Bool.{Bool, true, false}
 use native.Mathlib.Omega.{arith}
 use lib.Dec.{ltb, leb, eqb}
+use borrow.Author.Clash as library
 use Rattle.base.specs.Bytes.{both, either}
 use borrow.Author.Tests.{ltb-true, ltb-false, leb-true, leb-false, eqb-true, eqb-false}
 
+-- the library's, with the test left to be found
 pub clash : {C : Type 0} {t : Bool} → t ≡ true → t ≡ false → C
-clash p q = let z : ◌≡◌ {A = ℕ} 0 1 = cc in let n : ⊥ = omega arith in absurd n
+clash {t} p q = library.clash t p q
 
 -- the cases exclude each other
 pub no : {C : Type 0} → ◌≡◌ {A = ℕ} 0 1 → C
@@ -73,6 +75,17 @@ by_either {C} a b e f g = go a refl e
     go : (t : Bool) → a ≡ t → either t b ≡ true → C
     go true p q = f p
     go false p q = g q
+
+-- a test beside one that is known
+pub both_true : (t : Bool) → both t true ≡ t
+unfolding both
+both_true true = refl
+both_true false = refl
+
+pub either_false : (t : Bool) → either t false ≡ t
+unfolding either
+either_false true = refl
+either_false false = refl
 
 -- two tests that follow from each other are the same test
 pub same_test : (a b : Bool) → (a ≡ true → b ≡ true) → (b ≡ true → a ≡ true) → a ≡ b

@@ -13,12 +13,14 @@ use refusal::{Refusal, Reply};
 
 // ---- whether words are a reader's
 
+#[tactic(auto, unfolding(crate::specs::Words::place_coded, base::specs::Bytes::both))]
 fn place_coded(words: &[u64; 19]) -> bool
     ensures { result ≡ place_coded words.now }
 {
     (words[0] <= 6) & ((words[1] <= 2) & (words[2] <= 2))
 }
 
+#[tactic(auto, unfolding(crate::specs::Words::head_coded, base::specs::Bytes::both))]
 fn head_coded(words: &[u64; 19]) -> bool
     ensures { result ≡ head_coded words.now }
 {
@@ -26,6 +28,7 @@ fn head_coded(words: &[u64; 19]) -> bool
         & ((words[5] < 4294967296) & ((words[6] < 4294967296) & (words[7] < 4294967296)))
 }
 
+#[tactic(auto, unfolding(crate::specs::Words::meta_coded, base::specs::Bytes::both))]
 fn meta_coded(words: &[u64; 19]) -> bool
     ensures { result ≡ meta_coded words.now }
 {
@@ -33,6 +36,7 @@ fn meta_coded(words: &[u64; 19]) -> bool
         & ((words[9] < 4294967296) & ((words[12] < 4294967296) & (words[13] < 4294967296)))
 }
 
+#[tactic(auto, unfolding(crate::specs::Words::stop_coded, base::specs::Bytes::both, base::specs::Bytes::either))]
 fn stop_coded(number: u64, line: u64, held: u64) -> bool
     ensures { result ≡ stop_coded number line held }
 {
@@ -86,13 +90,11 @@ fn kind_in(n: u64) -> Kind
     }
 }
 
+// A word in 8 bits; one that does not fit them becomes 0.
 fn narrow_byte(word: u64) -> u8
     ensures { word < 256 → result ≡ word }
 {
-    if word < 256 {
-        return word as u8;
-    }
-    0
+    u8::try_from(word).unwrap_or(0)
 }
 
 fn head_in(words: &[u64; 19]) -> PushHead
@@ -192,63 +194,44 @@ pub fn reader_in(words: &[u64; 19]) -> EventReader
 
 // ---- a reader in words
 
+// The levels and the actions stand in the order of their codes.
 fn level_word(level: Level) -> u64
     ensures { result ≡ level_word level }
 {
-    match level {
-        Level::Doc => 0,
-        Level::Root => 1,
-        Level::Section => 2,
-        Level::Element => 3,
-        Level::Leaf => 4,
-        Level::Other => 5,
-        Level::Done => 6,
-    }
+    level as u64
 }
 
 fn section_word(section: Action) -> u64
     ensures { result ≡ section_word section }
 {
-    match section {
-        Action::Create => 0,
-        Action::Modify => 1,
-        Action::Delete => 2,
-    }
-}
-
-fn kind_word(kind: Kind) -> u64
-    ensures { result ≡ kind_word kind }
-{
-    match kind {
-        Kind::Node => 0,
-        Kind::Way => 1,
-        Kind::Relation => 2,
-    }
+    section as u64
 }
 
 // A stop mark in words.
-#[derive(Clone, Copy)]
+#[derive(Clone, Copy, PartialEq, Eq, Debug)]
 struct MarkWords {
     number: u64,
     line: u64,
     held: u64,
 }
 
-fn mark_words(stop: Option<RefusedAt>) -> MarkWords
-    ensures { result ≡ record { number = mark_number stop; line = mark_line stop; held = mark_held stop } }
-{
-    match stop {
-        None => MarkWords {
-            number: 0,
-            line: 0,
-            held: 0,
-        },
-        Some(at) => {
-            let reply = Reply::from(at.refusal);
-            MarkWords {
-                number: reply.number as u64,
-                line: at.line,
-                held: signed::bits_of_i32(reply.held) as u64,
+impl From<Option<RefusedAt>> for MarkWords {
+    ghost from_gives = { λ stop words. words ≡ record { number = mark_number stop; line = mark_line stop; held = mark_held stop } };
+
+    fn from(stop: Option<RefusedAt>) -> MarkWords {
+        match stop {
+            None => MarkWords {
+                number: 0,
+                line: 0,
+                held: 0,
+            },
+            Some(at) => {
+                let reply = Reply::from(at.refusal);
+                MarkWords {
+                    number: reply.number as u64,
+                    line: at.line,
+                    held: signed::bits_of_i32(reply.held) as u64,
+                }
             }
         }
     }
@@ -265,11 +248,11 @@ pub fn put_reader(words: &mut [u64; 19], reader: EventReader)
     let pending = reader.pending;
     let head = pending.head;
     let meta = pending.meta;
-    let mark = mark_words(reader.stop);
+    let mark = MarkWords::from(reader.stop);
     *words = [
         level_word(level),
         section_word(section),
-        kind_word(kind),
+        u64::from(u8::from(kind)),
         head.id,
         head.lat as u64,
         head.lon as u64,

@@ -1,4 +1,5 @@
-// What the C entries reply: a struct of numbers for each kind of answer, and each answer converted to its struct.
+// What the C entries reply: a struct of numbers for each kind of answer, and each answer converted to its struct. The structs are alike where the header has a name of its own for
+// each field: `Number`, `Text` and `ListingReply` are the C interface's.
 #![tactic(auto)]
 
 ghost use Rattle.std.specs.Prelude.{◌≡◌};
@@ -7,7 +8,7 @@ ghost use Rattle.c_replies.specs.Lookups.{span_places, seek_place, place_word, f
 ghost use Rattle.c_replies.specs.Numbers.{order_number};
 ghost use Rattle.c_replies.specs.Overlays.{kept_reply, handle_text};
 ghost use Rattle.c_replies.specs.Readers.{answer_reply, taken_reply};
-ghost use Rattle.c_replies.specs.Readings.{read_number, no_part, view_part, unknown_kind};
+ghost use Rattle.c_replies.specs.Readings.{read_number, view_part, unknown_kind};
 
 use little::Span;
 use reader::RefusedAt;
@@ -19,7 +20,7 @@ use std::cmp::Ordering;
 
 // A number that was read: 0 with it, or the refusal with 0.
 #[repr(C)]
-#[derive(Clone, Copy)]
+#[derive(Clone, Copy, PartialEq, Eq, Debug)]
 pub struct Number {
     pub number: u32,
     pub value: u64,
@@ -55,7 +56,7 @@ impl From<Result<u64, Refusal>> for Number {
 
 // What `intern` replies: 0 with the text's handle, or the refusal with 0.
 #[repr(C)]
-#[derive(Clone, Copy)]
+#[derive(Clone, Copy, PartialEq, Eq, Debug)]
 pub struct Text {
     pub number: u32,
     pub handle: u64,
@@ -76,12 +77,10 @@ impl From<Result<u64, Refusal>> for Text {
 
     #[tactic(auto, unfolding(refusal::specs::Refusal::reply_of))]
     fn from(answer: Result<u64, Refusal>) -> Text {
-        match answer {
-            Ok(handle) => Text { number: 0, handle },
-            Err(refusal) => Text {
-                number: Reply::from(refusal).number,
-                handle: 0,
-            },
+        let read = Number::from(answer);
+        Text {
+            number: read.number,
+            handle: read.value,
         }
     }
 }
@@ -100,28 +99,30 @@ pub fn unknown_kind(sound: bool) -> Refusal
 
 // 0 for what is accepted, with zeros; else the refusal's number, with the known version for 12 and the event's line.
 #[repr(C)]
-#[derive(Clone, Copy)]
+#[derive(Clone, Copy, PartialEq, Eq, Debug)]
 pub struct EventReply {
     pub number: u32,
     pub held: i32,
     pub line: u64,
 }
 
-pub fn event_reply(answer: Result<(), RefusedAt>) -> EventReply
-    ensures { result ≡ answer_reply answer }
-{
-    match answer {
-        Ok(()) => EventReply {
-            number: 0,
-            held: 0,
-            line: 0,
-        },
-        Err(at) => {
-            let reply = Reply::from(at.refusal);
-            EventReply {
-                number: reply.number,
-                held: reply.held,
-                line: at.line,
+impl From<Result<(), RefusedAt>> for EventReply {
+    ghost from_gives = { λ answer reply. reply ≡ answer_reply answer };
+
+    fn from(answer: Result<(), RefusedAt>) -> EventReply {
+        match answer {
+            Ok(()) => EventReply {
+                number: 0,
+                held: 0,
+                line: 0,
+            },
+            Err(at) => {
+                let reply = Reply::from(at.refusal);
+                EventReply {
+                    number: reply.number,
+                    held: reply.held,
+                    line: at.line,
+                }
             }
         }
     }
@@ -129,7 +130,7 @@ pub fn event_reply(answer: Result<(), RefusedAt>) -> EventReply
 
 // The same for a run, with how many of its bytes were taken.
 #[repr(C)]
-#[derive(Clone, Copy)]
+#[derive(Clone, Copy, PartialEq, Eq, Debug)]
 pub struct EventsReply {
     pub number: u32,
     pub held: i32,
@@ -137,10 +138,11 @@ pub struct EventsReply {
     pub taken: usize,
 }
 
+// A function of two values: a conversion of a pair would be no plainer.
 pub fn events_reply(answer: Result<(), RefusedAt>, taken: usize) -> EventsReply
     ensures { result ≡ taken_reply (answer_reply answer) taken }
 {
-    let reply = event_reply(answer);
+    let reply = EventReply::from(answer);
     EventsReply {
         number: reply.number,
         held: reply.held,
@@ -153,23 +155,12 @@ pub fn events_reply(answer: Result<(), RefusedAt>, taken: usize) -> EventsReply
 
 // Where something lies: 0 and found 1 with its start and length; 0 and found 0 where there is nothing; or the refusal.
 #[repr(C)]
-#[derive(Clone, Copy)]
+#[derive(Clone, Copy, PartialEq, Eq, Debug, Default)]
 pub struct Part {
     pub number: u32,
     pub found: u32,
     pub start: usize,
     pub len: usize,
-}
-
-fn no_part(number: u32) -> Part
-    ensures { result ≡ no_part number }
-{
-    Part {
-        number,
-        found: 0,
-        start: 0,
-        len: 0,
-    }
 }
 
 impl From<Result<Option<Span>, Refusal>> for Part {
@@ -184,8 +175,11 @@ impl From<Result<Option<Span>, Refusal>> for Part {
                 start: at.start,
                 len: at.len,
             },
-            Ok(None) => no_part(0),
-            Err(refusal) => no_part(Reply::from(refusal).number),
+            Ok(None) => Part::default(),
+            Err(refusal) => Part {
+                number: Reply::from(refusal).number,
+                ..Part::default()
+            },
         }
     }
 }
@@ -194,7 +188,7 @@ impl From<Result<Option<Span>, Refusal>> for Part {
 
 // 0 with the first place and one past the last, or 20 with 0 and 0.
 #[repr(C)]
-#[derive(Clone, Copy)]
+#[derive(Clone, Copy, PartialEq, Eq, Debug)]
 pub struct Places {
     pub number: u32,
     pub from: usize,
@@ -203,7 +197,7 @@ pub struct Places {
 
 // 0 or 20; where an id was found; where the cursor stands.
 #[repr(C)]
-#[derive(Clone, Copy)]
+#[derive(Clone, Copy, PartialEq, Eq, Debug)]
 pub struct Cursor {
     pub number: u32,
     pub found: usize,
@@ -233,6 +227,7 @@ impl From<Result<IdRange, Refusal>> for Places {
     }
 }
 
+// The place that a word of C means. No `From`, since both types are the language's own.
 pub fn place_of(word: usize) -> Option<usize>
     ensures { result ≡ seek_place word }
 {
@@ -270,7 +265,7 @@ impl From<Found> for Cursor {
 
 // 0 with the listing's length, or the refusal with 0.
 #[repr(C)]
-#[derive(Clone, Copy)]
+#[derive(Clone, Copy, PartialEq, Eq, Debug)]
 pub struct ListingReply {
     pub number: u32,
     pub length: usize,

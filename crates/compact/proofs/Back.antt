@@ -15,7 +15,8 @@ use mir.Val.{to_z, of_z}
 use borrow.Author.Tests.{ltb-true}
 use Rattle.base.specs.Bytes.{Bytes, both, all}
 use Rattle.base.proofs.Split.{both_left, both_right, both_of, no}
-use Rattle.base.proofs.Lists.{all_head, all_tail, all_nil, all_cons}
+use Rattle.base.proofs.Lists.{all_head, all_tail}
+use Rattle.base.proofs.Tests.{all_both}
 use Rattle.little.specs.Little.{le, value_at}
 use Rattle.little.proofs.Littles.{length_le, value_back}
 use Rattle.text.specs.Check.{is_text}
@@ -226,11 +227,6 @@ module _ (s : Bytes) where
   tags_from_lem : (ts : List (Tag ℕ)) (at : ℕ) (r : Bytes) → at ≤ length s → all (λ t. both (fits_tag t) (is_text t.value)) ts ≡ true → drop at s ≡ joined_bytes tag_bytes ts ++ r → tags_from s at (length ts) ≡ Some ts
   unfolding tags_from tag_step
   tags_from_lem = steps_back s (λ o m. tag_given s (tag_step s o m)) tag_bytes (λ t. both (fits_tag t) (is_text t.value)) (λ at. rw (step_done _ _ _ _ s at 0 refl)) tag_here
-
-all_both : {A : Type 0} (p q : A → Bool) (xs : List A) → all p xs ≡ true → all q xs ≡ true → all (λ x. both (p x) (q x)) xs ≡ true
-all_both p q [] g h = all_nil (λ x. both (p x) (q x))
-all_both p q (x ∷ xs) g h =
-    all_cons (λ x. both (p x) (q x)) x xs (both_of (all_head p x xs g) (all_head q x xs h)) (all_both p q xs (all_tail p x xs g) (all_tail q x xs h))
 
 body_read_lem : (id : ℤ) (b : Body ℕ) (n : ℕ) (s r : Bytes) → fits_body b ≡ true → head_len (kind_of b) + 29 ≤ length s → drop (head_len (kind_of b) + 29) s ≡ body_bytes b ++ r → body_read (kind_of b) (head_of id b n) s ≡ Some b
 unfolding body_read tags_at head_of body_bytes fits_body

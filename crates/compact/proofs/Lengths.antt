@@ -1,5 +1,5 @@
 -- How long each part of a record is, and the record.
-use Prim.Native.Nat.{ℕ, ◌+◌, ◌*◌}
+use Prim.Native.Nat.{ℕ, ◌+◌, ◌*◌, ◌≤◌}
 use mathlib.Core.Path.{◌≡◌, refl}
 use mathlib.Core.List.{List, [], ◌∷◌, ◌++◌}
 use native.Mathlib.Omega.{arith}
@@ -47,6 +47,11 @@ unfolding head_bytes
 length_head Node h = simp (length-append, length_le)
 length_head Way h = simp (length-append, length_le)
 length_head Relation h = simp (length-append, length_le)
+
+pub head_len_small : (k : Kind) → head_len k ≤ 20
+head_len_small Node = omega arith
+head_len_small Way = omega arith
+head_len_small Relation = omega arith
 
 pub length_record : (id : ℤ) (r : Record ℕ) → length (record_bytes id r) ≡ head_len (kind_of r.body) + 29 + length (parts_bytes r)
 unfolding record_bytes

@@ -2,7 +2,7 @@ pub mod Format
 pub mod Cuts
 pub mod Lengths
 pub mod Holds
-pub mod Missing
+pub mod Rests
 pub mod Places
 pub mod Steps
 pub mod Answers

@@ -2,12 +2,13 @@
 use Rattle.refusal.specs.declared.Refusal.TheVariants.{Unsound}
 use Rattle.std.specs.Prelude.{Err, None, Ok, Option, Some}
 use Prim.Native.Nat.{ℕ, ◌+◌, ◌-◌, ◌≤◌, ◌<◌}
-use mathlib.Core.Path.{◌≡◌, sym}
+use mathlib.Core.Path.{◌≡◌, refl, sym}
 use mathlib.Core.Bool.{true, false, cond}
 use native.Mathlib.Omega.{arith}
 use lib.ListN.{length, take, drop, length-drop}
 use lib.Seq.{length-take-le}
 use mir.Syntax.{w64}
+use lib.Dec.{eqb}
 use mir.Val.{to_z}
 use mir.Facts.{of_z-to_z, Fits-of_lt}
 use borrow.Author.Tests.{ne_eqb}
@@ -19,42 +20,52 @@ use Rattle.text.specs.Check.{is_text}
 use Rattle.kind.specs.Kind.{of_number}
 use Rattle.kind.specs.declared.Kind.{Kind}
 use Rattle.kind.specs.declared.Kind.TheVariants.{Node, Way, Relation}
-use Rattle.compact.specs.Cut.{Cut, then_cut, found, cut_member}
-use Rattle.compact.specs.View.{node_at, way_at, relation_at, meta_at, head_at, node_read, way_read, relation_read, meta_read, step_by, ref_step, member_step, cut_text, tag_step}
+use Rattle.compact.specs.Layout.{Head, head_len}
+use Rattle.compact.specs.Cut.{Cut, then_cut, found, cut_i64, cut_member}
+use Rattle.compact.specs.Held.{node_head, way_head, relation_head, node_bits, way_bits, relation_bits}
+use Rattle.compact.specs.View.{node_at, way_at, relation_at, meta_at, head_at, answer_cut, read_as, meta_read, step_by, cut_text, tag_step, there_by, ref_made, member_made, tag_made, ref_there, member_there, tag_there, part_given, part_step}
 use Rattle.compact.proofs.Holds.{MetaHeld, meta_again, NodeHeld, node_again, way_again, relation_again}
 use Rattle.compact.proofs.Places.{sized_none, next_is, i64_sized, member_sized, meta_sized, meta_there, head_whole, head_short, tag_short, tag_long, tag_whole}
 
 -- ---- heads and metadata
 
+pub node_front : (s : Bytes) → node_head (node_at s) ≡ head_at Node s
+unfolding head_at
+node_front s = refl
+
+pub way_front : (s : Bytes) → way_head (way_at s) ≡ head_at Way s
+unfolding head_at
+way_front s = refl
+
+pub relation_front : (s : Bytes) → relation_head (relation_at s) ≡ head_at Relation s
+unfolding head_at
+relation_front s = refl
+
+node_held : (s : Bytes) → all is_byte s ≡ true → NodeHeld (node_at s)
+unfolding node_at
+node_held s small = record { id = value_at_within 8 s 0 small; lat = value_at_within 4 s 8 small; lon = value_at_within 4 s 12 small; tags = value_at_within 4 s 16 small }
+
+pub node_same : (s : Bytes) → all is_byte s ≡ true → node_bits (head_at Node s) ≡ node_at s
+unfolding head_at
+node_same s small = node_again (node_at s) (node_held s small)
+
+pub way_same : (s : Bytes) → all is_byte s ≡ true → way_bits (head_at Way s) ≡ way_at s
+unfolding head_at way_at
+way_same s small = way_again (way_at s) (value_at_within 8 s 0 small)
+
+pub relation_same : (s : Bytes) → all is_byte s ≡ true → relation_bits (head_at Relation s) ≡ relation_at s
+unfolding head_at relation_at
+relation_same s small = relation_again (relation_at s) (value_at_within 8 s 0 small)
+
+-- a head of any kind, read as the bits that say so
+module _ {A : Type 0} (saying : Head → A) (k : Kind) (s : Bytes) where
+  pub head_cut_short : length s < head_len k → Err Unsound ≡ read_as saying k s
+  head_cut_short h = rw (head_short k s h)
+
+  pub head_there : head_len k ≤ length s → Ok (saying (head_at k s)) ≡ read_as saying k s
+  head_there h = rw (head_whole k s h)
+
 module _ (s : Bytes) (small : all is_byte s ≡ true) where
-  node_held : NodeHeld (node_at s)
-  unfolding node_at
-  node_held = record { id = value_at_within 8 s 0 small; lat = value_at_within 4 s 8 small; lon = value_at_within 4 s 12 small; tags = value_at_within 4 s 16 small }
-
-  pub node_short : length s < 20 → (Err Unsound) ≡ node_read s
-  unfolding node_read
-  node_short h = rw (head_short Node s h)
-
-  pub node_whole : 20 ≤ length s → Ok (node_at s) ≡ node_read s
-  unfolding node_read head_at
-  node_whole h = rw (head_whole Node s h, node_again (node_at s) node_held)
-
-  pub way_short : length s < 16 → (Err Unsound) ≡ way_read s
-  unfolding way_read
-  way_short h = rw (head_short Way s h)
-
-  pub way_whole : 16 ≤ length s → Ok (way_at s) ≡ way_read s
-  unfolding way_read head_at way_at
-  way_whole h = rw (head_whole Way s h, way_again (way_at s) (value_at_within 8 s 0 small))
-
-  pub relation_short : length s < 16 → (Err Unsound) ≡ relation_read s
-  unfolding relation_read
-  relation_short h = rw (head_short Relation s h)
-
-  pub relation_whole : 16 ≤ length s → Ok (relation_at s) ≡ relation_read s
-  unfolding relation_read head_at relation_at
-  relation_whole h = rw (head_whole Relation s h, relation_again (relation_at s) (value_at_within 8 s 0 small))
-
   meta_held : (at : ℕ) → MetaHeld (meta_at s at)
   unfolding meta_at
   meta_held at =
@@ -91,73 +102,100 @@ module _ {A B : Type 0} (done unsound : B) (yields : A → ℕ → B) (cut : Byt
     unfolding step_by
     step_some a r e = rw (ne_eqb remaining 0 more, e)
 
+-- ---- what stands at an offset, and the step there
+
+module _ {A B : Type 0} (yields : A → ℕ → B) (cut : Bytes → Option (Cut A)) (s : Bytes) (offset : ℕ) where
+  none_there : cut (drop offset s) ≡ None → None ≡ there_by yields cut s offset
+  unfolding there_by
+  none_there e = rw e
+
+  one_there : (a : A) (r : Bytes) → cut (drop offset s) ≡ found a r → Some (yields a (length s - length r)) ≡ there_by yields cut s offset
+  unfolding there_by
+  one_there a r e = rw e
+
+  -- the step is what stands there, where one remains
+  pub step_there : (remaining : ℕ) → part_step (there_by yields cut) s offset remaining ≡ step_by (Ok None) (Err Unsound) (λ a n. Ok (Some (yields a n))) cut s offset remaining
+  unfolding there_by step_by
+  step_there remaining = go (cut (drop offset s))
+    where
+      go : (o : Option (Cut A)) → cond (eqb remaining 0) (Ok None) (part_given (answer_cut None (λ a r. Some (yields a (length s - length r))) o))
+          ≡ cond (eqb remaining 0) (Ok None) (answer_cut (Err Unsound) (λ a r. Ok (Some (yields a (length s - length r)))) o)
+      go None = refl
+      go (Some c) = refl
+
 -- ---- refs, members and tags
 
-module _ (s : Bytes) (offset remaining : ℕ) where
-  pub ref_done : remaining ≡ 0 → Ok None ≡ ref_step s offset remaining
-  unfolding ref_step
-  ref_done e = sym (step_done _ _ _ _ s offset remaining e)
+module _ (s : Bytes) (offset : ℕ) where
+  pub ref_past : length s < offset + 8 → None ≡ ref_there s offset
+  ref_past h = none_there _ _ s offset (sized_none i64_sized (omega arith) s offset h)
 
-  pub member_done : remaining ≡ 0 → Ok None ≡ member_step s offset remaining
-  unfolding member_step
-  member_done e = sym (step_done _ _ _ _ s offset remaining e)
+  pub ref_whole : all is_byte s ≡ true → offset + 8 ≤ length s → Some (record { value = value_at 8 s offset; next = offset + 8 }) ≡ ref_there s offset
+  ref_whole small h =
+      let w = one_there ref_made cut_i64 s offset _ _ (i64_sized.whole s offset h) in
+      rw (next_is s (offset + 8) h, of_z-to_z {w = w64} (Fits-of_lt (value_at_within 8 s offset small))) at w
 
-  pub tag_done : remaining ≡ 0 → Ok None ≡ tag_step s offset remaining
+  pub member_past : length s < offset + 13 → None ≡ member_there s offset
+  member_past h = none_there _ _ s offset (sized_none member_sized (omega arith) s offset h)
+
+  module _ (room : offset + 13 ≤ length s) where
+    pub member_bad : None ≡ of_number (value_at 1 s (offset + 8)) → None ≡ member_there s offset
+    member_bad e = none_there _ _ s offset (rw (member_sized.whole s offset room, ← e))
+
+    pub member_whole : all is_byte s ≡ true → (k : Kind) → Some k ≡ of_number (value_at 1 s (offset + 8))
+        → Some (record { reference = value_at 8 s offset; kind = k; role = value_at 4 s (offset + 9); next = offset + 13 }) ≡ member_there s offset
+    member_whole small k e =
+        let p : offset + 8 + 1 ≡ offset + 9 = omega arith in
+        let w : cut_member (drop offset s) ≡ found (record { ref = to_z w64 (value_at 8 s offset); type = k; role = value_at 4 s (offset + 9) }) (drop (offset + 13) s) = rw (member_sized.whole s offset room, ← e, p) in
+        let x = one_there member_made cut_member s offset _ _ w in
+        rw (next_is s (offset + 13) room, of_z-to_z {w = w64} (Fits-of_lt (value_at_within 8 s offset small))) at x
+
+  -- fewer than 8 bytes hold no tag, from whatever place on
+  pub tag_lacks : length s < offset + 8 → None ≡ tag_there s offset
+  unfolding cut_text then_cut
+  tag_lacks h = none_there _ _ s offset (rw (tag_short s offset h))
+
+  module _ (room : offset + 8 ≤ length s) (n : ℕ) (e : n ≡ value_at 4 s (offset + 4)) where
+    pub tag_runs_over : length s < offset + 8 + n → None ≡ tag_there s offset
+    unfolding cut_text then_cut
+    tag_runs_over h = none_there _ _ s offset (rw (tag_long s offset room n e h))
+
+    module _ (fit : offset + 8 + n ≤ length s) where
+      abbrev value : Bytes
+      value = take n (drop (offset + 8) s)
+
+      tag_text : is_text value ≡ true → Some (record { key = value_at 4 s offset; start = offset + 8; len = n }) ≡ tag_there s offset
+      unfolding cut_text then_cut
+      tag_text t =
+          let w : cut_text (drop offset s) ≡ found (record { key = value_at 4 s offset; value = value }) (drop (offset + 8 + n) s) = rw (tag_whole s offset room n e fit, t) in
+          let l : length value ≡ n = length-take-le n (drop (offset + 8) s) (omega (arith, length-drop (offset + 8) s)) in
+          let m : offset + 8 + n - n ≡ offset + 8 = omega arith in
+          let x = one_there tag_made cut_text s offset _ _ w in
+          rw (next_is s (offset + 8 + n) fit, l, m) at x
+
+      tag_bad : is_text value ≡ false → None ≡ tag_there s offset
+      unfolding cut_text then_cut
+      tag_bad t = none_there _ _ s offset (rw (tag_whole s offset room n e fit, t))
+
+      pub tag_checked : cond (is_text value) (Some (record { key = value_at 4 s offset; start = offset + 8; len = n })) None ≡ tag_there s offset
+      tag_checked = by_bool (is_text value) (λ t. rw t (tag_text t)) (λ t. rw t (tag_bad t))
+
+-- ---- the same as steps, for a walk over tags
+
+module _ (s : Bytes) (offset remaining : ℕ) (more : remaining ≡ 0 → ⊥) where
+  -- the step is what stands there
+  tag_one : part_given (tag_there s offset) ≡ tag_step s offset remaining
   unfolding tag_step
-  tag_done e = sym (step_done _ _ _ _ s offset remaining e)
+  tag_one = rw (ne_eqb remaining 0 more) at (step_there tag_made cut_text s offset remaining)
 
-  module _ (more : remaining ≡ 0 → ⊥) where
-    pub ref_past : length s < offset + 8 → Err Unsound ≡ ref_step s offset remaining
-    unfolding ref_step
-    ref_past h = sym (step_none _ _ _ _ s offset remaining more (sized_none i64_sized (omega arith) s offset h))
+  pub tag_past : length s < offset + 8 → Err Unsound ≡ tag_step s offset remaining
+  tag_past h = rw (← tag_lacks s offset h) at tag_one
 
-    pub ref_whole : all is_byte s ≡ true → offset + 8 ≤ length s → Ok (Some (record { value = value_at 8 s offset; next = offset + 8 })) ≡ ref_step s offset remaining
-    unfolding ref_step
-    ref_whole small h =
-        rw (step_some _ _ _ _ s offset remaining more _ _ (i64_sized.whole s offset h), next_is s (offset + 8) h, of_z-to_z {w = w64} (Fits-of_lt (value_at_within 8 s offset small)))
+  module _ (room : offset + 8 ≤ length s) (n : ℕ) (e : n ≡ value_at 4 s (offset + 4)) where
+    pub tag_over : length s < offset + 8 + n → Err Unsound ≡ tag_step s offset remaining
+    tag_over h = rw (← tag_runs_over s offset room n e h) at tag_one
 
-    pub member_past : length s < offset + 13 → Err Unsound ≡ member_step s offset remaining
-    unfolding member_step
-    member_past h = sym (step_none _ _ _ _ s offset remaining more (sized_none member_sized (omega arith) s offset h))
-
-    module _ (room : offset + 13 ≤ length s) where
-      pub member_bad : None ≡ of_number (value_at 1 s (offset + 8)) → Err Unsound ≡ member_step s offset remaining
-      unfolding member_step
-      member_bad e = sym (step_none _ _ _ _ s offset remaining more (rw (member_sized.whole s offset room, ← e)))
-
-      pub member_whole : all is_byte s ≡ true → (k : Kind) → Some k ≡ of_number (value_at 1 s (offset + 8))
-          → Ok (Some (record { reference = value_at 8 s offset; kind = k; role = value_at 4 s (offset + 9); next = offset + 13 })) ≡ member_step s offset remaining
-      unfolding member_step
-      member_whole small k e =
-          let p : offset + 8 + 1 ≡ offset + 9 = omega arith in
-          let w : cut_member (drop offset s) ≡ found (record { ref = to_z w64 (value_at 8 s offset); type = k; role = value_at 4 s (offset + 9) }) (drop (offset + 13) s) = rw (member_sized.whole s offset room, ← e, p) in
-          rw (step_some _ _ _ _ s offset remaining more _ _ w, next_is s (offset + 13) room, of_z-to_z {w = w64} (Fits-of_lt (value_at_within 8 s offset small)))
-
-    -- fewer than 8 bytes hold no tag, from whatever place on
-    pub tag_past : length s < offset + 8 → Err Unsound ≡ tag_step s offset remaining
-    unfolding tag_step cut_text then_cut
-    tag_past h = sym (step_none _ _ _ _ s offset remaining more (rw (tag_short s offset h)))
-
-    module _ (room : offset + 8 ≤ length s) (n : ℕ) (e : n ≡ value_at 4 s (offset + 4)) where
-      pub tag_over : length s < offset + 8 + n → Err Unsound ≡ tag_step s offset remaining
-      unfolding tag_step cut_text then_cut
-      tag_over h = sym (step_none _ _ _ _ s offset remaining more (rw (tag_long s offset room n e h)))
-
-      module _ (fit : offset + 8 + n ≤ length s) where
-        abbrev value : Bytes
-        value = take n (drop (offset + 8) s)
-
-        tag_text : is_text value ≡ true → Ok (Some (record { key = value_at 4 s offset; start = offset + 8; len = n })) ≡ tag_step s offset remaining
-        unfolding tag_step cut_text then_cut
-        tag_text t =
-            let w : cut_text (drop offset s) ≡ found (record { key = value_at 4 s offset; value = value }) (drop (offset + 8 + n) s) = rw (tag_whole s offset room n e fit, t) in
-            let l : length value ≡ n = length-take-le n (drop (offset + 8) s) (omega (arith, length-drop (offset + 8) s)) in
-            let m : offset + 8 + n - n ≡ offset + 8 = omega arith in
-            rw (step_some _ _ _ _ s offset remaining more _ _ w, next_is s (offset + 8 + n) fit, l, m)
-
-        tag_bad : is_text value ≡ false → Err Unsound ≡ tag_step s offset remaining
-        unfolding tag_step cut_text then_cut
-        tag_bad t = sym (step_none _ _ _ _ s offset remaining more (rw (tag_whole s offset room n e fit, t)))
-
-        pub tag_judged : cond (is_text value) (Ok (Some (record { key = value_at 4 s offset; start = offset + 8; len = n }))) (Err Unsound) ≡ tag_step s offset remaining
-        tag_judged = by_bool (is_text value) (λ t. rw t (tag_text t)) (λ t. rw t (tag_bad t))
+    pub tag_judged : offset + 8 + n ≤ length s
+        → cond (is_text (take n (drop (offset + 8) s))) (Ok (Some (record { key = value_at 4 s offset; start = offset + 8; len = n }))) (Err Unsound) ≡ tag_step s offset remaining
+    tag_judged fit =
+        let w = rw (← tag_checked s offset room n e fit) at tag_one in
+        by_bool (is_text (take n (drop (offset + 8) s))) (λ t. rw t (rw t at w)) (λ t. rw t (rw t at w))

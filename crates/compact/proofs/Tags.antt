@@ -6,16 +6,18 @@ use mathlib.Core.Bool.{Bool, cond}
 use native.Mathlib.Omega.{arith}
 use lib.ListN.{length, drop, length-drop}
 use Rattle.base.specs.Bytes.{Bytes}
-use Rattle.base.proofs.Split.{by_eq, by_bool, no}
+use Rattle.base.proofs.Split.{by_eq, by_le, by_bool, no}
 use Rattle.text.specs.Check.{is_text}
 use Rattle.kind.specs.declared.Kind.{Kind}
 use Rattle.model.specs.Record.{Tag}
+use Rattle.refusal.specs.declared.Refusal.{Refusal}
 use Rattle.refusal.specs.declared.Refusal.TheVariants.{Unsound}
 use Rattle.compact.specs.declared.TagPart.{TagPart}
+use Rattle.compact.specs.declared.TagPlace.{TagPlace}
 use Rattle.compact.specs.declared.CompactTagIter.{CompactTagIter}
-use Rattle.compact.specs.Layout.{head_len}
+use Rattle.compact.specs.Layout.{Head, head_len}
 use Rattle.compact.specs.Cut.{Cut, found}
-use Rattle.compact.specs.View.{TagStep, head_at, tags_at, cut_text, tag_step}
+use Rattle.compact.specs.View.{TagStep, head_at, tags_at, cut_text, tag_step, read_as}
 use Rattle.compact.specs.Tags.{tag_place, turn_by, tag_turn, tag_next}
 use Rattle.compact.proofs.Format.{first, of_cut}
 use Rattle.compact.proofs.Places.{Off, tag_off, off_length, head_whole, head_short}
@@ -31,6 +33,16 @@ module _ (k : Kind) (s : Bytes) where
   pub place_whole : head_len k ≤ length s → record { offset = tags_at k (head_at k s).count; remaining = (head_at k s).tags } ≡ tag_place k s
   unfolding tag_place
   place_whole h = rw (head_whole k s h)
+
+  -- the same by what a user reads of the head
+  module _ {A : Type 0} (saying : Head → A) where
+    pub place_read : (a : A) (h : Head) → Ok a ≡ read_as saying k s → h ≡ head_at k s → record { offset = tags_at k h.count; remaining = h.tags } ≡ tag_place k s
+    place_read a h e q =
+        by_le (head_len k) (length s) (λ l. rw q (place_whole l)) (λ l. let z : Ok a ≡ Err Unsound = rw (head_short k s l) at e in no cc)
+
+    pub place_refused : (r : Refusal) → Err r ≡ read_as saying k s → record { offset = length s; remaining = 1 } ≡ tag_place k s
+    place_refused r e =
+        by_le (head_len k) (length s) (λ l. let z : Err r ≡ Ok (saying (head_at k s)) = rw (head_whole k s l) at e in no cc) (λ l. place_short l)
 
   -- a head that is cut short: the first step answers 22
   pub short_22 : length s < head_len k → tag_step s (tag_place k s).offset (tag_place k s).remaining ≡ Err Unsound
@@ -70,24 +82,19 @@ module _ (s : Bytes) (offset remaining : ℕ) (t : TagPart) where
 
 -- ---- where a step leaves a walk
 
-module _ (s : Bytes) (offset remaining : ℕ) where
-  pub turn_by_lem : (t : TagStep) → t ≡ tag_step s offset remaining → turn_by t offset remaining ≡ tag_turn s offset remaining
-  unfolding tag_turn
-  turn_by_lem t e = ap (λ (x : TagStep). turn_by x offset remaining) e
-
 -- the step is the one that was taken
-turn_step : (t : TagStep) (offset remaining : ℕ) → (turn_by t offset remaining).step ≡ t
+turn_step : (t : TagStep) (p : TagPlace) → (turn_by t p).step ≡ t
 unfolding turn_by
-turn_step (Ok None) offset remaining = refl
-turn_step (Err r) offset remaining = refl
-turn_step (Ok (Some p)) offset remaining = refl
+turn_step (Ok None) p = refl
+turn_step (Err r) p = refl
+turn_step (Ok (Some t)) p = refl
 
 -- where it yields no tag, the walk stays where it was
-pub turn_stays : (t : TagStep) (offset remaining : ℕ) → ((p : TagPart) → t ≡ Ok (Some p) → ⊥) → turn_by t offset remaining ≡ record { step = t; offset = offset; remaining = remaining }
+pub turn_stays : (t : TagStep) (p : TagPlace) → ((x : TagPart) → t ≡ Ok (Some x) → ⊥) → turn_by t p ≡ record { step = t; place = p }
 unfolding turn_by
-turn_stays (Ok None) offset remaining none_there = refl
-turn_stays (Err r) offset remaining none_there = refl
-turn_stays (Ok (Some p)) offset remaining none_there = absurd (none_there p refl)
+turn_stays (Ok None) p none_there = refl
+turn_stays (Err r) p none_there = refl
+turn_stays (Ok (Some x)) p none_there = absurd (none_there x refl)
 
 module _ (it : CompactTagIter) where
   abbrev taken : TagStep
@@ -96,11 +103,11 @@ module _ (it : CompactTagIter) where
   -- `next` answers the step at its place
   pub next_step : (tag_next it).step ≡ taken
   unfolding tag_next tag_turn
-  next_step = turn_step taken it.offset it.remaining
+  next_step = turn_step taken (record { offset = it.offset; remaining = it.remaining })
 
   next_stays : ((p : TagPart) → taken ≡ Ok (Some p) → ⊥) → (tag_next it).iter ≡ it
   unfolding tag_next tag_turn
-  next_stays none_there = rw (turn_stays taken it.offset it.remaining none_there)
+  next_stays none_there = rw (turn_stays taken (record { offset = it.offset; remaining = it.remaining }) none_there)
 
   -- on 22, and where no tag remains, the iterator is unchanged
   pub next_22 : taken ≡ Err Unsound → (tag_next it).iter ≡ it

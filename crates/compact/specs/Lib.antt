@@ -5,3 +5,4 @@ pub mod Legal
 pub mod Held
 pub mod View
 pub mod Tags
+pub mod Push

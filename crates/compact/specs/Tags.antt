@@ -4,7 +4,6 @@ use Rattle.std.specs.Borrow.{Bor}
 use Rattle.base.specs.Bytes.{Bytes}
 use Rattle.kind.specs.declared.Kind.{Kind}
 use Rattle.compact.specs.declared.TagPlace.{TagPlace}
-use Rattle.compact.specs.declared.TagTurn.{TagTurn}
 use Rattle.compact.specs.declared.CompactTagIter.{CompactTagIter}
 use Rattle.model.specs.Record as model
 use Rattle.compact.specs.Cut.{cut_head}
@@ -14,14 +13,19 @@ use Rattle.compact.specs.View.{TagStep, answer_cut, tags_at, tag_step, tag_given
 unfoldable pub tag_place : Kind → Bytes → TagPlace
 tag_place k s = answer_cut (record { offset = length s; remaining = 1 }) (λ h r. record { offset = tags_at k h.count; remaining = h.tags }) (cut_head k s)
 
--- past the tag that a step yields, with one tag less remaining; where it yields none the walk stays where it was
-unfoldable pub turn_by : TagStep → ℕ → ℕ → TagTurn
-turn_by (Ok None) offset remaining = record { step = Ok None; offset = offset; remaining = remaining }
-turn_by (Err r) offset remaining = record { step = Err r; offset = offset; remaining = remaining }
-turn_by (Ok (Some p)) offset remaining = record { step = Ok (Some p); offset = p.start + p.len; remaining = remaining - 1 }
+-- what a step answers, and the place that it leaves
+pub record TagTurn : Type 0 where
+  pub step : TagStep
+  pub place : TagPlace
 
-unfoldable pub tag_turn : Bytes → ℕ → ℕ → TagTurn
-tag_turn s offset remaining = turn_by (tag_step s offset remaining) offset remaining
+-- past the tag that a step yields, with one tag less remaining; where it yields none the walk stays where it was
+unfoldable pub turn_by : TagStep → TagPlace → TagTurn
+turn_by (Ok None) p = record { step = Ok None; place = p }
+turn_by (Err r) p = record { step = Err r; place = p }
+turn_by (Ok (Some t)) p = record { step = Ok (Some t); place = record { offset = t.start + t.len; remaining = p.remaining - 1 } }
+
+unfoldable pub tag_turn : Bytes → TagPlace → TagTurn
+tag_turn s p = turn_by (tag_step s p.offset p.remaining) p
 
 -- ---- "`CompactTagIter` carries the record's bytes with the offset and the tags remaining; the port keeps that struct, over one thin step"
 
@@ -38,10 +42,10 @@ pub record TagNext : Type 0 where
   pub iter : CompactTagIter
 
 abbrev pub next_by : Bor (List ℕ) → TagTurn → TagNext
-next_by bytes t = record { step = t.step; iter = record { bytes = bytes; offset = t.offset; remaining = t.remaining } }
+next_by bytes t = record { step = t.step; iter = iter_at bytes t.place }
 
 unfoldable pub tag_next : CompactTagIter → TagNext
-tag_next it = next_by it.bytes (tag_turn it.bytes.now it.offset it.remaining)
+tag_next it = next_by it.bytes (tag_turn it.bytes.now (record { offset = it.offset; remaining = it.remaining }))
 
 -- what `next` yields, call after call, until none remain
 unfoldable pub yielded : ℕ → CompactTagIter → Option (List (model.Tag ℕ))

@@ -79,14 +79,18 @@ abbrev pub answer_cut : {A B : Type 0} → B → (A → Bytes → B) → Option 
 answer_cut unsound is None = unsound
 answer_cut unsound is (Some c) = is c.item c.rest
 
+-- a kind's head, as the bits that say so
+abbrev pub read_as : {A : Type 0} → (Head → A) → Kind → Bytes → Result A Refusal
+read_as saying k s = answer_cut (Err Unsound) (λ h r. Ok (saying h)) (cut_head k s)
+
 unfoldable pub node_read : Bytes → Result CompactNode Refusal
-node_read s = answer_cut (Err Unsound) (λ h r. Ok (node_bits h)) (cut_head Node s)
+node_read s = read_as node_bits Node s
 
 unfoldable pub way_read : Bytes → Result CompactWay Refusal
-way_read s = answer_cut (Err Unsound) (λ h r. Ok (way_bits h)) (cut_head Way s)
+way_read s = read_as way_bits Way s
 
 unfoldable pub relation_read : Bytes → Result CompactRelation Refusal
-relation_read s = answer_cut (Err Unsound) (λ h r. Ok (relation_bits h)) (cut_head Relation s)
+relation_read s = read_as relation_bits Relation s
 
 unfoldable pub meta_read : Bytes → ℕ → Result ArenaMeta Refusal
 meta_read s at = answer_cut (Err Unsound) (λ m r. Ok (meta_bits m)) (cut_meta (drop at s))
@@ -123,6 +127,37 @@ cut_text s = then_cut (cut_tag s) (λ t r. cond (is_text t.value) (found t r) No
 unfoldable pub tag_step : Bytes → ℕ → ℕ → TagStep
 tag_step s offset remaining =
     step_by (Ok None) (Err Unsound) (λ t next. Ok (Some (record { key = t.key; start = next - length t.value; len = length t.value }))) cut_text s offset remaining
+
+-- ---- what stands at an offset, whatever remains: a step yields it, or answers 22 where it is none
+
+-- over any element, with the offset of the next one, where the rest begins
+unfoldable pub there_by : {A B : Type 0} → (A → ℕ → B) → (Bytes → Option (Cut A)) → Bytes → ℕ → Option B
+there_by yields cut s offset = answer_cut None (λ a r. Some (yields a (length s - length r))) (cut (drop offset s))
+
+abbrev pub ref_made : ℤ → ℕ → RefPart
+ref_made z next = record { value = of_z w64 z; next = next }
+
+abbrev pub member_made : Member ℕ → ℕ → MemberPart
+member_made m next = record { reference = of_z w64 m.ref; kind = m.type; role = m.role; next = next }
+
+abbrev pub tag_made : Tag ℕ → ℕ → TagPart
+tag_made t next = record { key = t.key; start = next - length t.value; len = length t.value }
+
+abbrev pub ref_there : Bytes → ℕ → Option RefPart
+ref_there s offset = there_by ref_made cut_i64 s offset
+
+abbrev pub member_there : Bytes → ℕ → Option MemberPart
+member_there s offset = there_by member_made cut_member s offset
+
+abbrev pub tag_there : Bytes → ℕ → Option TagPart
+tag_there s offset = there_by tag_made cut_text s offset
+
+abbrev pub part_given : {A : Type 0} → Option A → Result (Option A) Refusal
+part_given None = Err Unsound
+part_given (Some p) = Ok (Some p)
+
+abbrev pub part_step : {A : Type 0} → (Bytes → ℕ → Option A) → Bytes → ℕ → ℕ → Result (Option A) Refusal
+part_step there s offset remaining = cond (eqb remaining 0) (Ok None) (part_given (there s offset))
 
 -- ---- what a user makes of the answers
 

@@ -11,7 +11,7 @@ use borrow.Rule.Slice.PartMut.{mid_of, put_mid}
 use Rattle.base.specs.Bytes.{Bytes}
 use Rattle.little.specs.Little.{le, over}
 use Rattle.little.proofs.Littles.{length_le}
-use Rattle.little.proofs.Overs.{over_nothing, over_over, over_lent_start}
+use Rattle.little.proofs.Overs.{length_over, over_nothing, over_over, over_lent_start}
 use Rattle.compact_append.specs.Append.{ArenaAfter, append}
 
 -- ---- one after another: n bytes t are written over the start of s₀
@@ -30,6 +30,14 @@ next {s₀} {s} {s₂} {t} {n} u k e w q =
 
 pub field : {s₀ s s₂ t : Bytes} {n : ℕ} (k v : ℕ) → Wrote s₀ s t n → s₂ ≡ over s n (le k v) → Wrote s₀ s₂ (t ++ le k v) (n + k)
 field k v w q = next (le k v) k (length_le k v) w q
+
+pub wrote_length : {s₀ s t : Bytes} {n : ℕ} → Wrote s₀ s t n → length s ≡ length s₀
+wrote_length {s₀} {s} {t} w = ap length w.is ∙ length_over s₀ 0 t
+
+-- the next writer is lent the rest from where the last one stopped, and `last` is what it left there
+pub lent : {s₀ s t : Bytes} {n : ℕ} (last u : Bytes) (k m : ℕ) → m ≡ n → length u ≡ k → m ≤ length s → Wrote s₀ s t n → last ≡ over (mid_of m (length s - m) s) 0 u
+    → Wrote s₀ (put_mid m (length s - m) s last) (t ++ u) (n + k)
+lent {s₀} {s} {t} {n} last u k m e l f w q = next u k l w (over_lent_start s last m u f q ∙ ap (λ i. over s i u) e)
 
 -- ---- an append
 

@@ -1,7 +1,7 @@
 -- The code's tests of bits, as the definitions' tests of numbers.
 use Prim.Native.Nat.{ℕ, suc, ◌-◌, ◌^◌, ◌<◌, ◌≤◌}
-use mathlib.Core.Path.{◌≡◌, refl, sym}
-use mathlib.Core.Bool.{Bool, true, false, ◌&&◌, ◌||◌}
+use mathlib.Core.Path.{◌≡◌, sym}
+use mathlib.Core.Bool.{Bool, ◌&&◌, ◌||◌}
 use native.Mathlib.Nat.{one-le-pow}
 use native.Mathlib.Omega.{arith}
 use lib.Dec.{ltb, leb, eqb}
@@ -10,18 +10,9 @@ use mir.Syntax.{Width, w32}
 use mir.Val.{to_z, hbits}
 use borrow.Author.Tests.{lt-ltb, le-ltb, ne_eqb, ltb-true, leb-true, le-leb}
 use Rattle.base.specs.Bytes.{both, either}
+use Rattle.base.proofs.Tests.{and_both, or_either}
 use Rattle.base.proofs.Split.{by_lt, same_test}
 use Rattle.osm_id.specs.Order.{same_id}
-
-pub and_both : (a b : Bool) → (a && b) ≡ both a b
-unfolding both
-and_both true b = refl
-and_both false b = refl
-
-pub or_either : (a b : Bool) → (a || b) ≡ either a b
-unfolding either
-or_either true b = refl
-or_either false b = refl
 
 -- the tests of metadata
 pub meta_tests : (small present none versioned version time change uid named user held : Bool)

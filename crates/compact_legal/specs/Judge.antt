@@ -1,6 +1,6 @@
 -- The check of a record, as an answer: document 01, "17 flags, handle or type byte not as above, or an unflagged field not 0; then 3, 10, 16";
 -- "A direct push whose parts are cut short, or not as many as it counts, is refused 17 too."
-use Rattle.std.specs.Prelude.{ℕ, ◌-◌, Bool, true, false, cond, List, leb, eqb, ℤ, length, drop, Err, None, Ok, Option, Result, Some}
+use Rattle.std.specs.Prelude.{ℕ, ◌-◌, ◌*◌, Bool, true, cond, List, leb, eqb, ℤ, length, drop, Err, None, Ok, Option, Result, Some}
 use Rattle.base.specs.Bytes.{Bytes, both, either, all}
 use Rattle.text.specs.Check.{is_text}
 use Rattle.kind.specs.declared.Kind.{Kind}
@@ -12,6 +12,7 @@ use Rattle.compact.specs.Layout.{Head}
 use Rattle.compact.specs.Cut.{Cut, times, cut_member, cut_tag, cut_body, cut_record}
 use Rattle.compact.specs.Legal.{Limits, limits, handle, body_handles, in_range, fault_of, legal}
 use Rattle.compact_legal.specs.declared.TagRun.{TagRun}
+use Rattle.compact_legal.specs.declared.Walk.{Walk}
 
 abbrev pub fault_answer : Option Refusal → Result Unit Refusal
 fault_answer None = Ok tt
@@ -55,21 +56,30 @@ unfoldable pub tag_end : Bytes → ℕ → Option ℕ
 tag_end s at = end_of (λ t. true) (length s) (cut_tag (drop at s))
 
 -- tags that were cut off bytes of a length: whose keys are held, and whether their values are text
-abbrev pub no_run : TagRun
-no_run = record { end = None; text = false }
-
-unfoldable pub tag_run_of : ℕ → ℕ → Option (Cut (List (Tag ℕ))) → TagRun
-tag_run_of strings len None = no_run
+unfoldable pub tag_run_of : ℕ → ℕ → Option (Cut (List (Tag ℕ))) → Option TagRun
+tag_run_of strings len None = None
 tag_run_of strings len (Some c) =
-    cond (all (λ t. handle strings t.key) c.item) (record { end = Some (len - length c.rest); text = all (λ t. is_text t.value) c.item }) no_run
+    cond (all (λ t. handle strings t.key) c.item) (Some (record { end = len - length c.rest; text = all (λ t. is_text t.value) c.item })) None
 
 -- so many tags at a place
-unfoldable pub tags_end : ℕ → ℕ → Bytes → ℕ → TagRun
+unfoldable pub tags_end : ℕ → ℕ → Bytes → ℕ → Option TagRun
 tags_end strings n s at = tag_run_of strings (length s) (times cut_tag n (drop at s))
 
 -- a body at a place whose handles are held
 unfoldable pub body_end : ℕ → Kind → Head → Bytes → ℕ → Option ℕ
 body_end strings k h s at = end_of (body_handles strings) (length s) (cut_body k h (drop at s))
+
+-- a walk over a body and its tags
+abbrev pub walk_from : ℕ → ℕ → Option TagRun → Option Walk
+walk_from tags t None = None
+walk_from tags t (Some r) = Some (record { end = r.end; values = r.end - t - 8 * tags; text = r.text })
+
+abbrev pub walk_on : (ℕ → Option Walk) → Option ℕ → Option Walk
+walk_on f None = None
+walk_on f (Some t) = f t
+
+unfoldable pub walk_of : ℕ → Kind → Head → Bytes → ℕ → Option Walk
+walk_of strings k h s at = walk_on (λ t. walk_from h.tags t (tags_end strings h.tags s t)) (body_end strings k h s at)
 
 -- a place in range; only a node has one
 unfoldable pub place_in_range : Kind → ℤ → ℤ → Bool

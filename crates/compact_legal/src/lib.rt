@@ -1,44 +1,59 @@
 // Which records are legal, and the one check that decides it: for a direct push, and for the records of an arena.
 #![tactic(auto)]
 
-ghost use Rattle.std.specs.Prelude.{◌≡◌, ◌+◌, ◌<◌, ◌≤◌, leb, nat_abs, length, drop};
+ghost use Rattle.std.specs.Prelude.{◌≡◌, ◌≤◌, ◌+◌, IfSome, leb, nat_abs, length};
 ghost use Rattle.std.specs.Int.{w32};
 ghost use Rattle.std.proofs.Common.{to_z};
-ghost use Rattle.model.specs.Record.{flagged};
-ghost use Rattle.compact.specs.Cut.{cut_parts, pushed_record};
-ghost use Rattle.compact.specs.Held.{meta_of};
-ghost use Rattle.compact.specs.View.{head_at};
-ghost use Rattle.compact.specs.Layout.{head_len};
-ghost use Rattle.compact.specs.Legal.{legal_meta};
-ghost use Rattle.compact_legal.specs.Judge.{fault_for, record_end, verdict_of, member_end, members_end, tag_end, tags_end, body_end, place_in_range, few, chosen};
-ghost use Rattle.compact.specs.Held.{head_in};
+ghost use Rattle.compact.specs.Cut.{pushed_record};
+ghost use Rattle.compact.specs.Held.{meta_of, head_in};
+ghost use Rattle.compact.specs.Push.{record_given};
+ghost use Rattle.compact.specs.Legal.{limits, legal_meta};
+ghost use Rattle.compact_legal.specs.Judge.{fault_for, record_end, member_end, members_end, tag_end, tags_end, body_end, place_in_range, count_within, few, chosen, walk_of};
 
-use compact::{ArenaMeta, PushHead};
+use compact::{
+    ArenaMeta, CompactNode, CompactRelation, CompactWay, PushHead, PushRecord, RecordHead,
+};
 use kind::Kind;
 use refusal::Refusal;
+
+// The records of a kind that bytes hold, and how many strings are held.
+#[derive(Clone, Copy)]
+pub struct Records<'a> {
+    pub kind: Kind,
+    pub bytes: &'a [u8],
+    pub strings: u64,
+}
+
+// Bytes with the parts of a record among them, and how many strings are held: a handle below that number is held.
+#[derive(Clone, Copy)]
+struct PartBytes<'a> {
+    bytes: &'a [u8],
+    strings: u64,
+}
 
 // Where tags end, each whole and of a key that is held; and whether each value is text.
 #[derive(Clone, Copy, PartialEq, Eq, Debug)]
 struct TagRun {
-    end: Option<usize>,
+    end: usize,
+    text: bool,
+}
+
+// Where the parts of a record end whose handles are held, how many bytes the tags' values take, and whether each value is text.
+#[derive(Clone, Copy, PartialEq, Eq, Debug)]
+struct Walk {
+    end: usize,
+    values: usize,
     text: bool,
 }
 
 // ---- metadata
 
-fn flag(flags: u8, bit: u8) -> bool
-    requires { 0 < bit }
-    ensures { result ≡ flagged bit flags }
-{
-    flags / bit % 2 == 1
-}
-
 pub fn legal_meta(m: ArenaMeta, strings: u64) -> bool
     ensures { result ≡ legal_meta strings (meta_of m) }
 {
-    let present = flag(m.flags, 1);
-    let named = flag(m.flags, 4);
-    let versioned = flag(m.flags, 8);
+    let present = m.is_present();
+    let named = m.has_user();
+    let versioned = m.has_version();
     let flags = (m.flags <= 15) & (present | (m.flags == 0));
     let version = versioned | (m.version == 0);
     let fields = present | ((m.timestamp == 0) & ((m.changeset == 0) & (m.uid == 0)));
@@ -47,93 +62,75 @@ pub fn legal_meta(m: ArenaMeta, strings: u64) -> bool
 }
 
 // ---- parts from a place on
+// A place goes along and not the rest of the bytes: each function answers where something ends, and a rest would tell that by its length alone.
 
-// A member of 13 bytes with a type of at most 2 and a role that is held.
-fn member_end(bytes: &[u8], at: usize, strings: u64) -> Option<usize>
-    requires { at ≤ length bytes.now }
-    ensures { result ≡ member_end strings bytes.now at }
-{
-    if bytes.len() - at < 13 {
-        return None;
+impl PartBytes<'_> {
+    // A member of 13 bytes with a type of at most 2 and a role that is held.
+    fn member_end(&self, at: usize) -> Option<usize>
+        requires { at ≤ length self.now.bytes.now }
+        ensures { result ≡ member_end self.now.strings self.now.bytes.now at }
+    {
+        let end = little::end_within(at, CompactRelation::MEMBER_SIZE, self.bytes.len())?;
+        let known = little::get_u8(self.bytes, at + 8) < 3;
+        let held = (little::get_u32(self.bytes, at + 9) as u64) < self.strings;
+        (known & held).then_some(end)
     }
-    let known = little::get_u8(bytes, at + 8) < 3;
-    let held = (little::get_u32(bytes, at + 9) as u64) < strings;
-    (known & held).then_some(at + 13)
-}
 
-// A tag: a key's handle, a length and as many bytes.
-fn tag_end(bytes: &[u8], at: usize) -> Option<usize>
-    requires { at ≤ length bytes.now }
-    ensures { result ≡ tag_end bytes.now at }
-{
-    if bytes.len() - at < 8 {
-        return None;
+    // A tag: a key's handle, a length and as many bytes.
+    fn tag_end(&self, at: usize) -> Option<usize>
+        requires { at ≤ length self.now.bytes.now }
+        ensures ends { result ≡ tag_end self.now.bytes.now at }
+        ensures within { IfSome result (λ e. (at + 8 ≤ e) × (e ≤ length self.now.bytes.now)) }
+    {
+        let value = little::end_within(at, 8, self.bytes.len())?;
+        let n = little::get_u32(self.bytes, at + 4) as usize;
+        little::end_within(value, n, self.bytes.len())
     }
-    let n = little::get_u32(bytes, at + 4) as usize;
-    if bytes.len() - at - 8 < n {
-        return None;
-    }
-    Some(at + 8 + n)
-}
 
-// So many members, one after the other. Each takes bytes, so a count that the bytes cannot hold ends at the last of them.
-fn members_end(bytes: &[u8], at: usize, n: u32, strings: u64) -> Option<usize>
-    requires { at ≤ length bytes.now }
-    ensures { result ≡ members_end strings n bytes.now at }
-{
-    let mut place = at;
-    for _ in 0..n {
-        place = member_end(bytes, place, strings)?;
-    }
-    Some(place)
-}
-
-// The same of tags; each is looked at once.
-fn tags_end(bytes: &[u8], at: usize, n: u32, strings: u64) -> TagRun
-    requires { at ≤ length bytes.now }
-    ensures { result ≡ tags_end strings n bytes.now at }
-{
-    let mut place = at;
-    let mut text = true;
-    for _ in 0..n {
-        let Some(next) = tag_end(bytes, place) else {
-            return TagRun {
-                end: None,
-                text: false,
-            };
-        };
-        if (little::get_u32(bytes, place) as u64) < strings {
-            let from = place + 8;
-            text = text & text::is_text(&bytes[from..next]);
-            place = next;
-        } else {
-            return TagRun {
-                end: None,
-                text: false,
-            };
+    // So many members, one after the other. Each takes bytes, so a count that the bytes cannot hold ends at the last of them.
+    fn members_end(&self, at: usize, n: u32) -> Option<usize>
+        requires { at ≤ length self.now.bytes.now }
+        ensures { result ≡ members_end self.now.strings n self.now.bytes.now at }
+    {
+        let mut place = at;
+        for _ in 0..n {
+            place = self.member_end(place)?;
         }
+        Some(place)
     }
-    TagRun {
-        end: Some(place),
-        text,
-    }
-}
 
-// Refs, members or, for a node, nothing. Refs are 8 bytes each, whatever they say.
-fn body_end(kind: Kind, head: PushHead, bytes: &[u8], at: usize, strings: u64) -> Option<usize>
-    requires { at ≤ length bytes.now }
-    ensures { result ≡ body_end strings kind (head_in kind head) bytes.now at }
-{
-    match kind {
-        Kind::Node => Some(at),
-        Kind::Way => {
-            let refs = 8 * (head.count as usize);
-            if bytes.len() - at < refs {
+    // The same of tags; each is looked at once.
+    fn tags_end(&self, at: usize, n: u32) -> Option<TagRun>
+        requires { at ≤ length self.now.bytes.now }
+        ensures { result ≡ tags_end self.now.strings n self.now.bytes.now at }
+    {
+        let mut place = at;
+        let mut text = true;
+        for _ in 0..n {
+            let next = self.tag_end(place)?;
+            if little::get_u32(self.bytes, place) as u64 >= self.strings {
                 return None;
             }
-            Some(at + refs)
+            let from = place + 8;
+            text = text & text::is_text(&self.bytes[from..next]);
+            place = next;
         }
-        Kind::Relation => members_end(bytes, at, head.count, strings),
+        Some(TagRun { end: place, text })
+    }
+
+    // The parts that begin at a place: refs or members and then tags, of the counts that a head gives.
+    fn walk<H: JudgedHead>(&self, head: H, at: usize) -> Option<Walk>
+        requires { at ≤ length self.now.bytes.now }
+        ensures { result ≡ walk_of self.now.strings H.kind (H.says head) self.now.bytes.now at }
+    {
+        let count = head.tag_count();
+        let tags = head.body_end(self, at)?;
+        let tagged = self.tags_end(tags, count)?;
+        Some(Walk {
+            end: tagged.end,
+            values: tagged.end - tags - 8 * (count as usize),
+            text: tagged.text,
+        })
     }
 }
 
@@ -143,34 +140,8 @@ fn body_end(kind: Kind, head: PushHead, bytes: &[u8], at: usize, strings: u64) -
 fn within(bits: u32, bound: u32) -> bool
     ensures { result ≡ leb (nat_abs (to_z w32 bits)) bound }
 {
-    if bits < 0x8000_0000 {
-        return bits <= bound;
-    }
-    0xffff_ffff - bits < bound
+    bits.cast_signed().unsigned_abs() <= bound
 }
-
-fn in_place(kind: Kind, lat: u32, lon: u32) -> bool
-    ensures { result ≡ place_in_range kind (to_z w32 lat) (to_z w32 lon) }
-{
-    match kind {
-        Kind::Node => within(lat, 900_000_000) & within(lon, 1_800_000_000),
-        Kind::Way => true,
-        Kind::Relation => true,
-    }
-}
-
-fn few_parts(kind: Kind, count: u32, tags: u32, values: usize) -> bool
-    ensures { result ≡ few kind count tags values }
-{
-    let rest = values <= 16384;
-    match kind {
-        Kind::Node => (tags <= 256) & rest,
-        Kind::Way => (tags <= 256) & ((count <= 2000) & rest),
-        Kind::Relation => (tags <= 256) & ((count <= 2000) & rest),
-    }
-}
-
-// ---- the check
 
 // 17, then 3, then 10, then 16.
 #[tactic(auto, unfolding(crate::specs::Judge::chosen))]
@@ -193,34 +164,112 @@ fn choose(held: bool, text: bool, inside: bool, few: bool, e: usize) -> Result<u
     Err(Refusal::BadRecord)
 }
 
-// The check of a record whose parts begin at a place. Where no more may follow, they end where the bytes end.
-fn judge(
-    kind: Kind,
-    head: PushHead,
-    meta: ArenaMeta,
-    bytes: &[u8],
-    at: usize,
-    strings: u64,
-    more: bool,
-) -> Result<usize, Refusal>
-    requires { at ≤ length bytes.now }
-    ensures { result ≡ verdict_of strings more (length bytes.now) (cut_parts kind (head_in kind head) (meta_of meta) (drop at bytes.now)) }
-{
-    let tags = body_end(kind, head, bytes, at, strings).ok_or(Refusal::BadRecord)?;
-    let walked = tags_end(bytes, tags, head.tags, strings);
-    let end = walked.end.ok_or(Refusal::BadRecord)?;
-    let held = legal_meta(meta, strings) & (more | (end == bytes.len()));
-    let inside = in_place(kind, head.lat, head.lon);
-    let few = few_parts(
-        kind,
-        head.count,
-        head.tags,
-        end - tags - 8 * (head.tags as usize),
-    );
-    choose(held, walked.text, inside, few, end)
+// What the heads of the three kinds ask of a record.
+trait JudgedHead: RecordHead {
+    // Where the refs or members end that the head counts.
+    fn body_end(self, parts: &PartBytes, at: usize) -> Option<usize>
+        requires { at ≤ length parts.now.bytes.now }
+        ensures { result ≡ body_end parts.now.strings Self.kind (Self.says self) parts.now.bytes.now at };
+
+    // Whether the place is in range.
+    fn in_place(self) -> bool
+        ensures { result ≡ place_in_range Self.kind (Self.says self).lat (Self.says self).lon };
+
+    // Whether the refs or members are within their limit.
+    fn few_items(self) -> bool
+        ensures { result ≡ count_within limits Self.kind (Self.says self).count };
+
+    final fn few_parts(self, values: usize) -> bool
+        ensures { result ≡ few Self.kind (Self.says self).count (Self.says self).tags values }
+    {
+        (self.tag_count() <= 256) & (self.few_items() & (values <= 16384))
+    }
+
+    final fn verdict(self, walk: Walk, held: bool) -> Result<usize, Refusal>
+        ensures { result ≡ chosen held walk.text (place_in_range Self.kind (Self.says self).lat (Self.says self).lon) (few Self.kind (Self.says self).count (Self.says self).tags walk.values) walk.end }
+    {
+        let inside = self.in_place();
+        let few = self.few_parts(walk.values);
+        choose(held, walk.text, inside, few, walk.end)
+    }
 }
 
-// The direct push's check. The parts are refs or members, then tags, as they lie in a record.
+impl JudgedHead for CompactNode {
+    fn body_end(self, parts: &PartBytes, at: usize) -> Option<usize> {
+        Some(at)
+    }
+
+    fn in_place(self) -> bool {
+        within(self.lat, 900_000_000) & within(self.lon, 1_800_000_000)
+    }
+
+    fn few_items(self) -> bool {
+        true
+    }
+}
+
+impl JudgedHead for CompactWay {
+    // Refs are 8 bytes each, whatever they say.
+    fn body_end(self, parts: &PartBytes, at: usize) -> Option<usize> {
+        let refs = CompactWay::REF_SIZE * (self.ref_count as usize);
+        little::end_within(at, refs, parts.bytes.len())
+    }
+
+    #[tactic(auto, unfolding(crate::specs::Judge::place_in_range))]
+    fn in_place(self) -> bool {
+        true
+    }
+
+    #[tactic(auto, unfolding(compact::specs::Held::way_head, compact::specs::Held::counts_head))]
+    fn few_items(self) -> bool {
+        self.ref_count <= 2000
+    }
+}
+
+impl JudgedHead for CompactRelation {
+    fn body_end(self, parts: &PartBytes, at: usize) -> Option<usize> {
+        parts.members_end(at, self.member_count)
+    }
+
+    #[tactic(auto, unfolding(crate::specs::Judge::place_in_range))]
+    fn in_place(self) -> bool {
+        true
+    }
+
+    #[tactic(auto, unfolding(compact::specs::Held::relation_head, compact::specs::Held::counts_head))]
+    fn few_items(self) -> bool {
+        self.member_count <= 2000
+    }
+}
+
+// ---- a direct push
+
+// The parts end where the bytes end.
+fn parts_fault<H: JudgedHead>(head: H, meta: ArenaMeta, parts: &PartBytes) -> Result<(), Refusal>
+    ensures { result ≡ fault_for parts.now.strings (pushed_record H.kind (H.says head) (meta_of meta) parts.now.bytes.now) }
+{
+    let walk = parts.walk(head, 0).ok_or(Refusal::BadRecord)?;
+    let held = legal_meta(meta, parts.strings) & (walk.end == parts.bytes.len());
+    head.verdict(walk, held)?;
+    Ok(())
+}
+
+// The direct push's check.
+pub fn record_fault(push: &PushRecord, strings: u64) -> Result<(), Refusal>
+    ensures { result ≡ fault_for strings (record_given push.now) }
+{
+    let parts = PartBytes {
+        bytes: push.parts,
+        strings,
+    };
+    match push.kind {
+        Kind::Node => parts_fault(CompactNode::from(push.head), push.meta, &parts),
+        Kind::Way => parts_fault(CompactWay::from(push.head), push.meta, &parts),
+        Kind::Relation => parts_fault(CompactRelation::from(push.head), push.meta, &parts),
+    }
+}
+
+// The same of a push's parts one by one.
 pub fn push_fault(
     kind: Kind,
     head: PushHead,
@@ -230,80 +279,56 @@ pub fn push_fault(
 ) -> Result<(), Refusal>
     ensures { result ≡ fault_for strings (pushed_record kind (head_in kind head) (meta_of meta) parts.now) }
 {
-    judge(kind, head, meta, parts, 0, strings, false)?;
-    Ok(())
+    let push = PushRecord {
+        kind,
+        head,
+        meta,
+        parts,
+    };
+    record_fault(&push, strings)
 }
 
 // ---- records of an arena
 
-// Where a record's parts begin: after its head and its metadata.
-fn parts_at(kind: Kind) -> usize
-    ensures { result ≡ head_len kind + 29 }
-{
-    match kind {
-        Kind::Node => 49,
-        Kind::Way => 45,
-        Kind::Relation => 45,
+impl PartBytes<'_> {
+    // Where the legal record ends that the bytes begin with. More may follow it.
+    fn front_end<H: JudgedHead>(&self) -> Option<usize>
+        ensures { result ≡ record_end self.now.strings H.kind self.now.bytes.now 0 }
+    {
+        let at = H::parts_at();
+        if self.bytes.len() < at {
+            return None;
+        }
+        let head = H::read(self.bytes);
+        let meta = compact::read_meta(self.bytes, H::LEN);
+        let walk = self.walk(head, at)?;
+        head.verdict(walk, legal_meta(meta, self.strings)).ok()
     }
-}
 
-fn read_head(kind: Kind, bytes: &[u8]) -> PushHead
-    ensures { head_in kind result ≡ head_at kind bytes.now }
-{
-    match kind {
-        Kind::Node => {
-            let n = compact::CompactNode::read(bytes);
-            PushHead {
-                id: n.id,
-                lat: n.lat,
-                lon: n.lon,
-                count: 0,
-                tags: n.tag_count,
-            }
-        }
-        Kind::Way => {
-            let w = compact::CompactWay::read(bytes);
-            PushHead {
-                id: w.id,
-                lat: 0,
-                lon: 0,
-                count: w.ref_count,
-                tags: w.tag_count,
-            }
-        }
-        Kind::Relation => {
-            let r = compact::CompactRelation::read(bytes);
-            PushHead {
-                id: r.id,
-                lat: 0,
-                lon: 0,
-                count: r.member_count,
-                tags: r.tag_count,
-            }
+    fn front_end_of(&self, kind: Kind) -> Option<usize>
+        ensures { result ≡ record_end self.now.strings kind self.now.bytes.now 0 }
+    {
+        match kind {
+            Kind::Node => self.front_end::<CompactNode>(),
+            Kind::Way => self.front_end::<CompactWay>(),
+            Kind::Relation => self.front_end::<CompactRelation>(),
         }
     }
 }
 
-// Where the legal record ends that the bytes begin with.
-fn front_end(kind: Kind, bytes: &[u8], strings: u64) -> Option<usize>
-    ensures { result ≡ record_end strings kind bytes.now 0 }
-{
-    let at = parts_at(kind);
-    if bytes.len() < at {
-        return None;
+impl Records<'_> {
+    // Where the legal record ends that starts at a place.
+    pub fn end(&self, at: usize) -> Option<usize>
+        ensures { result ≡ record_end self.now.strings self.now.kind self.now.bytes.now at }
+    {
+        if at < self.bytes.len() {
+            let rest = PartBytes {
+                bytes: &self.bytes[at..],
+                strings: self.strings,
+            };
+            let n = rest.front_end_of(self.kind)?;
+            return Some(at + n);
+        }
+        None
     }
-    let head = read_head(kind, bytes);
-    let meta = compact::read_meta(bytes, at - 29);
-    judge(kind, head, meta, bytes, at, strings, true).ok()
-}
-
-// Where the legal record ends that starts at a place.
-pub fn record_end(kind: Kind, bytes: &[u8], at: usize, strings: u64) -> Option<usize>
-    ensures { result ≡ record_end strings kind bytes.now at }
-{
-    if at < bytes.len() {
-        let n = front_end(kind, &bytes[at..], strings)?;
-        return Some(at + n);
-    }
-    None
 }

@@ -28,8 +28,8 @@ use Rattle.nesting.specs.declared.Action.{Action}
 use Rattle.nesting.specs.declared.Level.{Level}
 use Rattle.nesting.specs.declared.Level.TheVariants as L
 use Rattle.nesting.specs.declared.Place.{Place}
-use Rattle.nesting.specs.declared.Opened.{Opened}
-use Rattle.nesting.specs.declared.Opened.TheVariants as O
+use Rattle.nesting.specs.Opened.{Opened}
+use Rattle.nesting.specs.Opened as O
 use Rattle.nesting.proofs.Documents.{documents}
 use Rattle.model.specs.Record.{Record}
 use Rattle.model.specs.Act.{Act}

@@ -1,22 +1,20 @@
 -- The digits of a number one by one: before the last digit stand those of the number's tenth part.
-use Prim.Native.Nat.{ℕ, zero, suc, ◌+◌, ◌/◌, ◌%◌, ◌<◌, ◌≤◌}
+use Prim.Native.Nat.{ℕ, zero, suc, ◌+◌, ◌*◌, ◌/◌, ◌%◌, ◌^◌, ◌<◌, ◌≤◌}
 use mathlib.Core.Path.{◌≡◌, refl, sym, ◌∙◌, ap}
 use mathlib.Core.List.{[], ◌∷◌, ◌++◌, append_assoc}
+use native.Mathlib.Nat.{pow-suc, one-le-pow}
 use native.Mathlib.Omega.{arith}
 use lib.ListN.{length, length-append}
-use borrow.Author.Tests.{lt-ltb, le-ltb}
+use borrow.Author.Tests.{lt-ltb}
 use Rattle.base.specs.Bytes.{Bytes}
 use Rattle.base.proofs.Split.{by_lt}
 use Rattle.line.specs.Decimal.{digits_before, number_text}
+use Rattle.line.proofs.Decimals.{more_digits}
 
 single : (k n : ℕ) (ds : Bytes) → n < 10 → digits_before k n ds ≡ (48 + n) ∷ ds
 unfolding digits_before
 single zero n ds h = refl
 single (suc k) n ds h = rw (lt-ltb n 10 h, digits_before)
-
-several : (k n : ℕ) (ds : Bytes) → 10 ≤ n → digits_before (suc k) n ds ≡ digits_before k (n / 10) ((48 + n % 10) ∷ ds)
-unfolding digits_before
-several k n ds h = rw (le-ltb n 10 h, digits_before)
 
 -- what follows the digits stays apart, and any bound that is at least the number gives the same digits
 apart : (j k n : ℕ) (ds : Bytes) → n ≤ j → n ≤ k → digits_before k n ds ≡ digits_before j n [] ++ ds
@@ -26,7 +24,7 @@ apart (suc j) (suc k) n ds p q =
     let d = 48 + n % 10 in
     by_lt n 10
     (λ h. rw (single (suc k) n ds h, single (suc j) n [] h))
-    (λ h. rw (several k n ds h, several j n [] h, apart j k (n / 10) (d ∷ ds) (omega arith) (omega arith), apart j j (n / 10) (d ∷ []) (omega arith) (omega arith), append_assoc))
+    (λ h. rw (more_digits k n ds h, more_digits j n [] h, apart j k (n / 10) (d ∷ ds) (omega arith) (omega arith), apart j j (n / 10) (d ∷ []) (omega arith) (omega arith), append_assoc))
 
 pub number_one : (n : ℕ) → n < 10 → number_text n ≡ (48 + n) ∷ []
 unfolding number_text
@@ -38,7 +36,7 @@ number_more n h = go n (omega arith)
   where
     go : (k : ℕ) → n ≤ k → digits_before k n [] ≡ digits_before (n / 10) (n / 10) [] ++ ((48 + n % 10) ∷ [])
     go zero p = absurd (omega arith)
-    go (suc k) p = several k n [] h ∙ apart (n / 10) k (n / 10) ((48 + n % 10) ∷ []) (omega arith) (omega arith)
+    go (suc k) p = more_digits k n [] h ∙ apart (n / 10) k (n / 10) ((48 + n % 10) ∷ []) (omega arith) (omega arith)
 
 -- ---- how many they are
 
@@ -48,43 +46,22 @@ length_one n h = ap length (number_one n h)
 pub length_more : (n : ℕ) → 10 ≤ n → length (number_text n) ≡ length (number_text (n / 10)) + 1
 length_more n h = ap length (number_more n h) ∙ length-append (number_text (n / 10)) ((48 + n % 10) ∷ [])
 
-pub length_two : (n : ℕ) → 10 ≤ n → n < 100 → length (number_text n) ≡ 2
-length_two n h g = omega (arith, length_more n h, length_one (n / 10) (omega arith))
-
-pub length_three : (n : ℕ) → 100 ≤ n → n < 1000 → length (number_text n) ≡ 3
-length_three n h g = omega (arith, length_more n (omega arith), length_two (n / 10) (omega arith) (omega arith))
-
-pub length_four : (n : ℕ) → 1000 ≤ n → n < 10000 → length (number_text n) ≡ 4
-length_four n h g = omega (arith, length_more n (omega arith), length_three (n / 10) (omega arith) (omega arith))
-
--- four digits fewer, and eight
-pub four_less : (n : ℕ) → 10000 ≤ n → length (number_text n) ≡ length (number_text (n / 10000)) + 4
-four_less n h =
-    let e : n / 10 / 10 / 10 / 10 ≡ n / 10000 = omega arith in
-    let a = length_more n (omega arith) in
-    let b = length_more (n / 10) (omega arith) in
-    let c = length_more (n / 10 / 10) (omega arith) in
-    let d = rw e at (length_more (n / 10 / 10 / 10) (omega arith)) in
-    omega (arith, a, b, c, d)
-
-pub eight_less : (n : ℕ) → 100000000 ≤ n → length (number_text n) ≡ length (number_text (n / 100000000)) + 8
-eight_less n h =
-    let e : n / 10000 / 10000 ≡ n / 100000000 = omega arith in
-    let a = four_less n (omega arith) in
-    let b = rw e at (four_less (n / 10000) (omega arith)) in
-    omega (arith, a, b)
+-- as many as the powers of ten up to the number tell
+pub length_power : (k n : ℕ) → 10 ^ k ≤ n → n < 10 * 10 ^ k → length (number_text n) ≡ k + 1
+length_power zero n l h = length_one n (omega arith)
+length_power (suc k) n l h =
+    let e : 10 ^ suc k ≡ 10 ^ k * 10 = pow-suc 10 k in
+    let p : 1 ≤ 10 ^ k = one-le-pow k 10 (omega arith) in
+    omega (arith, e, length_more n (omega arith), length_power k (n / 10) (omega arith) (omega arith))
 
 -- at most so many
-tenth : (n k : ℕ) → length (number_text (n / 10)) ≤ k → length (number_text n) ≤ k + 1
-tenth n k h = by_lt n 10 (λ g. omega (arith, length_one n g)) (λ g. omega (arith, length_more n g))
-
-pub most_four : (n : ℕ) → n < 10000 → length (number_text n) ≤ 4
-most_four n h =
-    tenth n 3 (tenth (n / 10) 2 (tenth (n / 10 / 10) 1 (omega (arith, length_one (n / 10 / 10 / 10) (omega arith)))))
-
-pub most_eight : (n : ℕ) → n < 100000000 → length (number_text n) ≤ 8
-most_eight n h =
-    by_lt n 10000 (λ g. omega (arith, most_four n g)) (λ g. omega (arith, four_less n g, most_four (n / 10000) (omega arith)))
+pub length_most : (k n : ℕ) → n < 10 * 10 ^ k → length (number_text n) ≤ k + 1
+length_most zero n h = omega (arith, length_one n (omega arith))
+length_most (suc k) n h =
+    let e : 10 ^ suc k ≡ 10 ^ k * 10 = pow-suc 10 k in
+    by_lt n 10
+    (λ g. omega (arith, length_one n g))
+    (λ g. omega (arith, e, length_more n g, length_most k (n / 10) (omega arith)))
 
 -- ---- the low digits of a number, as many as are asked for
 

@@ -1,21 +1,23 @@
 -- What a writer leaves: for the writers here, byte by byte; for their callers, by its answer.
 use Rattle.std.specs.Prelude.{None, Some}
 use Prim.Native.Nat.{ℕ, zero, suc, ◌+◌, ◌-◌, ◌/◌, ◌%◌, ◌^◌, ◌<◌, ◌≤◌}
-use mathlib.Core.Path.{◌≡◌, sym, ◌∙◌, ap}
+use mathlib.Core.Path.{◌≡◌, refl, sym, ◌∙◌, ap}
+use mathlib.Core.Bool.{Bool, true, false}
 use mathlib.Core.List.{[], ◌∷◌, ◌++◌}
 use native.Mathlib.Nat.{suc-add, zero-add}
 use native.Mathlib.Omega.{arith}
-use lib.IntN.{negsuc}
+use lib.IntN.{ℤ, pos, negsuc, nat_abs}
+use lib.Signed.{lt_z}
 use lib.ListN.{length, set, length-set}
-use mir.Syntax.{Width, w32, w64}
-use mir.Val.{to_z, bits, hbits}
+use mir.Syntax.{Width}
+use mir.Val.{to_z, bits, hbits, bool_byte}
 use mir.Facts.{to_z_pos}
 use borrow.Author.Tests.{le-leb, lt-leb, le-ltb}
 use Rattle.base.specs.Bytes.{Bytes}
 use Rattle.line.specs.Decimal.{number_text, integer_text}
 use Rattle.little.specs.Little.{over}
 use Rattle.little.proofs.Overs.{over_here, over_later, over_nothing, over_step}
-use Rattle.decimal.specs.Put.{Wrote, put_text}
+use Rattle.decimal.specs.Put.{Wrote, put_text, signed_text}
 use Rattle.decimal.proofs.Numbers.{low_digits, low_none, low_more, length_low}
 
 -- ---- digits from the last to the first
@@ -78,12 +80,27 @@ module _ (w : Width) where
       let m : suc (2 ^ bits w - suc b) ≡ 2 ^ bits w - 1 - b + 1 = omega arith in
       ap integer_text z ∙ ap (λ x. 45 ∷ number_text x) m
 
--- ---- the same integer in more bits
+-- ---- a number with its sign
 
-pub wide_small : (b : ℕ) → b < 2 ^ 31 → to_z w64 b ≡ to_z w32 b
-wide_small b h = to_z_pos w64 (omega arith) ∙ sym (to_z_pos w32 h)
+pub sign_most : (minus : Bool) → bool_byte minus ≤ 1
+sign_most true = omega arith
+sign_most false = omega arith
 
-pub wide_large : (b : ℕ) → 2 ^ 31 ≤ b → b < 2 ^ 32 → to_z w64 (0xffff_ffff_0000_0000 + b) ≡ to_z w32 b
-wide_large b h g =
-    let e : 2 ^ 64 - suc (0xffff_ffff_0000_0000 + b) ≡ 2 ^ 32 - suc b = omega arith in
-    rw (le-ltb b (2 ^ 31) h, le-ltb (0xffff_ffff_0000_0000 + b) (2 ^ 63) (omega arith), e)
+pub signed_length : (minus : Bool) (n : ℕ) → length (signed_text minus n) ≡ bool_byte minus + length (number_text n)
+unfolding signed_text
+signed_length true n = omega arith
+signed_length false n = omega arith
+
+-- the sign is stored, and then the digits
+pub signed_minus : (s : Bytes) (minus : Bool) (n : ℕ) → minus ≡ true → 0 < length s → over (set s 0 45) (bool_byte minus) (number_text n) ≡ over s 0 (signed_text minus n)
+unfolding signed_text
+signed_minus s minus n e h = rw e (sym (over_step s 0 45 (number_text n) h))
+
+pub signed_plain : (s : Bytes) (minus : Bool) (n : ℕ) → minus ≡ false → over s (bool_byte minus) (number_text n) ≡ over s 0 (signed_text minus n)
+unfolding signed_text
+signed_plain s minus n e = rw e
+
+pub signed_integer : (z : ℤ) → signed_text (lt_z z (pos 0)) (nat_abs z) ≡ integer_text z
+unfolding signed_text integer_text
+signed_integer (pos n) = rw (le-ltb n 0 (omega arith))
+signed_integer (negsuc n) = refl

@@ -1,49 +1,25 @@
 // Decimal numbers into lent bytes ("Numbers are decimal"): the digits of a number, and an integer with its minus sign.
 #![tactic(auto)]
 
-ghost use Rattle.std.specs.Prelude.{◌≡◌, ◌∷◌, ◌+◌, ◌<◌, ◌≤◌, length};
+ghost use Rattle.std.specs.Prelude.{◌≡◌, ◌+◌, ◌≤◌, length};
 ghost use Rattle.std.specs.Int.{w32, w64};
 ghost use Rattle.std.proofs.Common.{to_z};
 ghost use Rattle.line.specs.Decimal.{number_text, integer_text};
 ghost use Rattle.little.specs.Little.{over};
-ghost use Rattle.decimal.specs.Put.{put_text};
-
-// How many digits a number of at most four has.
-fn four_length(v: u64) -> usize
-    requires { v < 10000 }
-    ensures { result ≡ length (number_text v) }
-{
-    match v {
-        0..10 => 1,
-        10..100 => 2,
-        100..1000 => 3,
-        _ => 4,
-    }
-}
-
-// How many digits a number of at most eight has.
-fn eight_length(v: u64) -> usize
-    requires { v < 100000000 }
-    ensures { result ≡ length (number_text v) }
-{
-    match v {
-        0..10_000 => four_length(v),
-        _ => 4 + four_length(v / 10_000),
-    }
-}
+ghost use Rattle.decimal.specs.Put.{put_text, signed_text};
 
 // How many digits a number has.
 pub fn number_length(v: u64) -> usize
     ensures { result ≡ length (number_text v) }
 {
-    match v {
-        0..100_000_000 => eight_length(v),
-        100_000_000..10_000_000_000_000_000 => 8 + eight_length(v / 100_000_000),
-        _ => 16 + four_length(v / 10_000_000_000_000_000),
+    match v.checked_ilog10() {
+        Some(power) => power as usize + 1,
+        None => 1,
     }
 }
 
-// The last n digits of a number from a place on, two at a time, the last ones first.
+// The last n digits of a number from a place on, two at a time, the last ones first. It is no `for` over chunks from the end: that they begin at a place, and
+// that one digit may be left over, would be told of each chunk apart.
 fn put_digits(out: &mut [u8], at: usize, n: usize, v: u64)
     requires { at + n ≤ length out.old }
     ensures { n ≡ length (number_text v) → out.new ≡ over out.old at (number_text v) }
@@ -71,50 +47,42 @@ pub fn put_measured(out: &mut [u8], n: usize, v: u64)
     }
 }
 
+// A number, after a minus sign where it is taken negative, at the start of what is lent, where it fits.
+fn put_signed(out: &mut [u8], minus: bool, v: u64) -> Option<usize>
+    ensures { record { bytes = out.new; answer = result } ≡ put_text out.old (signed_text minus v) }
+{
+    let n = number_length(v);
+    let sign = usize::from(minus);
+    if out.len() < sign + n {
+        return None;
+    }
+    if minus {
+        out[0] = b'-';
+    }
+    put_digits(out, sign, n, v);
+    Some(sign + n)
+}
+
 // A number at the start of what is lent, where it fits.
 pub fn put_number(out: &mut [u8], v: u64) -> Option<usize>
     ensures { record { bytes = out.new; answer = result } ≡ put_text out.old (number_text v) }
 {
-    let n = number_length(v);
-    if n <= out.len() {
-        put_digits(out, 0, n, v);
-        return Some(n);
-    }
-    None
-}
-
-// The minus sign, and then a number.
-fn put_minus(out: &mut [u8], v: u64) -> Option<usize>
-    ensures { record { bytes = out.new; answer = result } ≡ put_text out.old (45 ∷ number_text v) }
-{
-    let n = number_length(v);
-    if n < out.len() {
-        out[0] = b'-';
-        put_digits(out, 1, n, v);
-        return Some(n + 1);
-    }
-    None
+    put_signed(out, false, v)
 }
 
 // An integer of 64 bits, given by its bits.
 pub fn put_integer(out: &mut [u8], bits: u64) -> Option<usize>
     ensures { record { bytes = out.new; answer = result } ≡ put_text out.old (integer_text (to_z w64 bits)) }
 {
-    if bits < 0x8000_0000_0000_0000 {
-        return put_number(out, bits);
-    }
-    put_minus(out, (0xffff_ffff_ffff_ffff - bits) + 1)
+    let (minus, size) = signed::sign_and_size(bits);
+    put_signed(out, minus, size)
 }
 
 // The same integer in 64 bits.
 pub fn widened(bits: u32) -> u64
     ensures { to_z w64 result ≡ to_z w32 bits }
 {
-    if bits < 0x8000_0000 {
-        u64::from(bits)
-    } else {
-        0xffff_ffff_0000_0000 + u64::from(bits)
-    }
+    i64::from(bits.cast_signed()).cast_unsigned()
 }
 
 // An integer of 32 bits, given by its bits.

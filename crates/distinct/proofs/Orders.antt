@@ -1,86 +1,32 @@
--- Runs that rise along an order in which each index stands are distinct.
-use Prim.Native.Nat.{ℕ, zero, suc, ◌+◌, ◌-◌, ◌<◌, ◌≤◌}
+-- Runs that rise are distinct, and a permutation of runs is distinct where they are.
+use Rattle.std.specs.Prelude.{Option, Some, None, Bool}
+use Prim.Native.Nat.{ℕ, zero, suc, ◌+◌, ◌-◌, ◌<◌, ◌≤◌, min}
 use mathlib.Core.Path.{◌≡◌, refl, sym, ◌∙◌, ap}
-use mathlib.Core.Bool.{true, false}
-use mathlib.Core.List.{List, [], ◌∷◌, ◌++◌}
-use native.Mathlib.Numerals.{add-one}
+use mathlib.Core.Bool.{true, false, cond}
+use mathlib.Core.List.{List, [], ◌∷◌}
 use native.Mathlib.Omega.{arith}
-use lib.Dec.{ltb, eqb}
+use lib.Dec.{eqb}
 use lib.Pointwise.{pointwise}
 use lib.ListN.{length, get_or, take, drop, length-map}
-use lib.Seq.{take-suc, take_all, take-add, take-append_seam}
-use Rattle.std.proofs.lemmas.List.{drop-drop, drop_at, length-drop, length-append}
-use borrow.Author.Tests.{ltb-true, lt-ltb, le-ltb, eqb-true, eq-eqb}
-use Rattle.base.specs.Bytes.{Bytes, both, either, all, same}
-use Rattle.base.proofs.Split.{by_bool, by_lt, both_left, both_right, both_of, both_no_right, either_left, either_right, by_either, clash}
+use lib.Seq.{take_all}
+use Rattle.std.specs.Ordering.{nat_cmp, ordering_then, ordering_reverse, is_eq}
+use Rattle.std.specs.Cmp.Lexicographic.{slice_cmp}
+use Rattle.std.specs.declared.cmp.Ordering.{Ordering}
+use Rattle.std.specs.declared.cmp.Ordering.TheVariants.{Less, Equal, Greater}
+use Rattle.std.specs.List.{sum_by}
+use Rattle.std.specs.List.Sorted.{IsPermutation}
+use Rattle.std.proofs.lemmas.Cmp.{nat_list_cmp_total}
+use Rattle.std.proofs.lemmas.Map.Text.{is_eq-slice_cmp}
+use Rattle.std.proofs.lemmas.List.{length-drop}
+use Rattle.std.proofs.lemmas.List.Sums.{sum_by-cons}
+use Rattle.std.proofs.lemmas.List.Sorted.{IsPermutation-map, IsPermutation-sym, sum_by-IsPermutation}
+use Rattle.base.specs.Bytes.{Bytes, both, all, same}
+use Rattle.base.proofs.Split.{by_bool, by_le, both_left, both_right, both_of, clash, no, same_test}
 use Rattle.base.proofs.Lists.{same_yes, same_refl, all_nil, all_cons, all_head, all_tail}
-use Rattle.distinct.specs.Distinct.{differs, distinct, run_start, run_length, run_in, runs_in, RightOf}
-use Rattle.distinct.specs.Check.{lex_less, run_less, run_at, ComparedAs, IndexesAs, Placed, Rises, RisesAs}
-use Rattle.distinct.specs.declared.Distinctness.{Distinctness}
-use Rattle.distinct.specs.declared.Distinctness.TheVariants as D
-use Rattle.distinct.specs.declared.Compared.{Compared}
-use Rattle.distinct.specs.declared.Compared.TheVariants as C
+use Rattle.distinct.specs.Distinct.{differs, distinct, run_in, runs_in, RightOf}
+use Rattle.distinct.specs.Check.{run_cmp, run_at, Rises}
 
--- ---- the order of a dictionary is strict
-
-pub lex_irreflexive : (xs : Bytes) → lex_less xs xs ≡ false
-unfolding lex_less either
-lex_irreflexive [] = refl
-lex_irreflexive (x ∷ xs) = rw (le-ltb x x (omega arith)) (both_no_right (eqb x x) (lex_irreflexive xs))
-
-pub lex_transitive : (xs ys zs : Bytes) → lex_less xs ys ≡ true → lex_less ys zs ≡ true → lex_less xs zs ≡ true
-unfolding lex_less
-lex_transitive [] [] zs p q = clash p refl
-lex_transitive [] (y ∷ ys) [] p q = clash q refl
-lex_transitive [] (y ∷ ys) (z ∷ zs) p q = refl
-lex_transitive (x ∷ xs) [] zs p q = clash p refl
-lex_transitive (x ∷ xs) (y ∷ ys) [] p q = clash q refl
-lex_transitive (x ∷ xs) (y ∷ ys) (z ∷ zs) p q =
-    by_either (ltb x y) _ p
-    (λ a. let l = ltb-true x y a in
-    by_either (ltb y z) _ q
-    (λ b. let m = ltb-true y z b in either_left _ _ (lt-ltb x z (omega arith)))
-    (λ b. let m = eqb-true y z (both_left _ _ b) in either_left _ _ (lt-ltb x z (omega arith))))
-    (λ a. let l = eqb-true x y (both_left _ _ a) in
-    by_either (ltb y z) _ q
-    (λ b. let m = ltb-true y z b in either_left _ _ (lt-ltb x z (omega arith)))
-    (λ b. let m = eqb-true y z (both_left _ _ b) in
-    either_right (ltb x z) (both_of (eq-eqb x z (l ∙ m)) (lex_transitive xs ys zs (both_right _ _ a) (both_right _ _ b)))))
-
--- two runs that agree up to a place, where the first has the lesser byte
-pub lex_at : (xs ys : Bytes) (i : ℕ) → i < length xs → i < length ys → take i xs ≡ take i ys → get_or xs i 0 < get_or ys i 0 → lex_less xs ys ≡ true
-unfolding lex_less
-lex_at [] ys i g h e l = absurd (omega arith)
-lex_at (x ∷ xs) [] i g h e l = absurd (omega arith)
-lex_at (x ∷ xs) (y ∷ ys) zero g h e l = either_left _ _ (lt-ltb x y l)
-lex_at (x ∷ xs) (y ∷ ys) (suc i) g h e l =
-    let p : x ≡ y = cc in
-    let q : take i xs ≡ take i ys = cc in
-    either_right (ltb x y) (both_of (eq-eqb x y p) (lex_at xs ys i (omega arith) (omega arith) q l))
-
--- a shorter run is less, and so is one of the same length that comes before in a dictionary
-pub less_short : (a b : Bytes) → length a < length b → run_less a b ≡ true
-unfolding lex_less
-less_short a b h = either_left _ _ (lt-ltb (length a) (length b) h)
-
-pub less_at : (a b : Bytes) (i : ℕ) → length a ≡ length b → i < length a → take i a ≡ take i b → get_or a i 0 < get_or b i 0 → run_less a b ≡ true
-unfolding lex_less
-less_at a b i n h e l =
-    either_right (ltb (length a) (length b)) (both_of (eq-eqb (length a) (length b) n) (lex_at a b i h (omega arith) e l))
-
-pub take_more : (a b : Bytes) (i : ℕ) → length a ≡ length b → i < length a → take i a ≡ take i b → get_or a i 0 ≡ get_or b i 0 → take (i + 1) a ≡ take (i + 1) b
-take_more a b i n h e q = rw (add-one, take-suc a i 0 h, take-suc b i 0 (omega arith), e, q)
-
--- a part that lies at a place: what follows it, and what both come to
-pub part_at : (a : Bytes) (i n : ℕ) (x r : Bytes) → drop i a ≡ x ++ r → length x ≡ n → 0 < n → (r ≡ drop (i + n) a) × ((take (i + n) a ≡ take i a ++ x) × (i + n ≤ length a))
-part_at a i n x r e l h =
-    let d : drop n (drop i a) ≡ r = rw e (drop_at x r n l) in
-    let t : take n (drop i a) ≡ x = rw (e, ← l) (take-append_seam x r) in
-    let m : length a - i ≡ length x + length r = sym (length-drop i a) ∙ (ap length e ∙ length-append x r) in
-    (sym (rw drop-drop at d), (rw (take-add i n a, t) refl, omega arith))
-
-pub take_whole : (a b : Bytes) (i : ℕ) → length a ≡ length b → length a ≤ i → take i a ≡ take i b → a ≡ b
-take_whole a b i n h e = sym (take_all i a h) ∙ (e ∙ take_all i b (omega arith))
+-- ---- the order of runs
 
 pub pointwise_same : (a b : Bytes) → pointwise eqb a b ≡ same a b
 unfolding same both
@@ -89,8 +35,49 @@ pointwise_same [] (y ∷ ys) = refl
 pointwise_same (x ∷ xs) [] = refl
 pointwise_same (x ∷ xs) (y ∷ ys) = by_bool (eqb x y) (λ p. rw p (pointwise_same xs ys)) (λ p. rw p refl)
 
-pub part_run : (bytes : Bytes) (w a n : ℕ) → a ≡ run_start w → n ≡ run_length w → take (a + n - a) (drop a bytes) ≡ run_in bytes w
-part_run bytes w a n p q = let e : a + n - a ≡ n = omega arith in rw (e, p, q)
+run_less_less : (a b c : Bytes) → run_cmp a b ≡ Less → run_cmp b c ≡ Less → run_cmp a c ≡ Less
+run_less_less a b c p q = nat_list_cmp_total.trans (length a ∷ a) (length b ∷ b) (length c ∷ c) p q
+
+not_less : (o : Ordering) → o ≡ ordering_reverse o → o ≡ Less → ⊥
+not_less Less p q = no cc
+not_less Equal p q = no cc
+not_less Greater p q = no cc
+
+less_unlike : (a b : Bytes) → run_cmp a b ≡ Less → same a b ≡ false
+less_unlike a b l =
+    by_bool (same a b)
+    (λ p. absurd (not_less (run_cmp b b) (nat_list_cmp_total.antisymm (length b ∷ b) (length b ∷ b)) (rw (same_yes a b p) at l)))
+    (λ p. p)
+
+then_equal : (o p : Ordering) → ordering_then o p ≡ Equal → p ≡ Equal
+then_equal Less p e = no cc
+then_equal Equal p e = e
+then_equal Greater p e = no cc
+
+pub equal_runs : (a b : Bytes) → run_cmp a b ≡ Equal → a ≡ b
+equal_runs a b e =
+    let q : slice_cmp nat_cmp a b ≡ Equal = then_equal (nat_cmp (length a) (length b)) (slice_cmp nat_cmp a b) e in
+    same_yes a b (sym (is_eq-slice_cmp a b ∙ pointwise_same a b) ∙ ap is_eq q)
+
+nothing_left : (xs : Bytes) → length xs ≡ 0 → xs ≡ []
+nothing_left [] e = refl
+nothing_left (x ∷ xs) e = absurd (omega arith)
+
+-- the part of the bytes where a run lies, as far as it does
+pub clamped : (bytes : Bytes) (s n : ℕ) → take (min (min s (length bytes) + n) (length bytes) - min s (length bytes)) (drop (min s (length bytes)) bytes) ≡ take n (drop s bytes)
+clamped bytes s n =
+    by_le s (length bytes)
+    (λ p.
+    let e : min s (length bytes) ≡ s = omega arith in
+    by_le (s + n) (length bytes)
+    (λ q. let f : min (s + n) (length bytes) - s ≡ n = omega arith in rw (e, f))
+    (λ q.
+    let f : min (s + n) (length bytes) - s ≡ length bytes - s = omega arith in
+    rw (e, f) (take_all (length bytes - s) (drop s bytes) (omega (arith, length-drop s bytes)) ∙ sym (take_all n (drop s bytes) (omega (arith, length-drop s bytes))))))
+    (λ p.
+    let e : min s (length bytes) ≡ length bytes = omega arith in
+    let f : min (length bytes + n) (length bytes) - length bytes ≡ 0 = omega arith in
+    rw (e, f) (sym (take_all n (drop s bytes) (omega (arith, length-drop s bytes)) ∙ nothing_left (drop s bytes) (omega (arith, length-drop s bytes)))))
 
 -- ---- distinct texts, by their places
 
@@ -126,7 +113,7 @@ run_of bytes (w ∷ ws) (suc h) g = run_of bytes ws h (omega arith)
 
 -- ---- two equal runs
 
-equal_two : (bytes : Bytes) (words : List ℕ) (j k : ℕ) → j < k → k < length words → run_at bytes words j ≡ run_at bytes words k → distinct (runs_in bytes words) ≡ false
+pub equal_two : (bytes : Bytes) (words : List ℕ) (j k : ℕ) → j < k → k < length words → run_at bytes words j ≡ run_at bytes words k → distinct (runs_in bytes words) ≡ false
 equal_two bytes words j k g h e =
     by_bool (distinct (runs_in bytes words))
     (λ p.
@@ -134,63 +121,87 @@ equal_two bytes words j k g h e =
     clash (same_refl (run_at bytes words k)) (rw (run_of bytes words j (omega arith), run_of bytes words k h, e) at d))
     (λ p. p)
 
-pub twice : (bytes : Bytes) (words : List ℕ) (j k : ℕ) → (j ≡ k → ⊥) → j < length words → k < length words → run_at bytes words j ≡ run_at bytes words k → distinct (runs_in bytes words) ≡ false
-twice bytes words j k n g h e =
-    by_lt j k
-    (λ l. equal_two bytes words j k l h e)
-    (λ l. by_lt k j (λ m. equal_two bytes words k j m g (sym e)) (λ m. absurd (n (omega arith))))
-
--- what the comparison of two runs tells of their indexes
-pub indexes_as : (r : Compared) (bytes : Bytes) (words : List ℕ) (j k : ℕ) → (j ≡ k → ⊥) → j < length words → k < length words
-    → ComparedAs r (run_at bytes words j) (run_at bytes words k) → IndexesAs r bytes words j k
-indexes_as C.Less bytes words j k n g h e = e
-indexes_as C.Same bytes words j k n g h e = twice bytes words j k n g h e
-indexes_as C.Other bytes words j k n g h e = tt
-
 -- ---- the law
 
-unlike : (a b : Bytes) → run_less a b ≡ true → same a b ≡ false
-unlike a b l = by_bool (same a b) (λ p. clash l (rw (same_yes a b p) (lex_irreflexive (length b ∷ b)))) (λ p. p)
-
-unlike_back : (a b : Bytes) → run_less b a ≡ true → same a b ≡ false
-unlike_back a b l = by_bool (same a b) (λ p. clash l (rw (same_yes a b p) (lex_irreflexive (length b ∷ b)))) (λ p. p)
-
-module _ (bytes : Bytes) (words order place : List ℕ) (stand : Placed order place (length words)) (rise : Rises bytes words order (length words)) where
-  climb : (i d : ℕ) → i + d + 1 < length words → run_less (run_at bytes words (get_or order i 0)) (run_at bytes words (get_or order (i + d + 1) 0)) ≡ true
+module _ (bytes : Bytes) (words : List ℕ) (rise : Rises bytes words (length words)) where
+  climb : (i d : ℕ) → i + d + 1 < length words → run_cmp (run_at bytes words i) (run_at bytes words (i + d + 1)) ≡ Less
   climb i zero h = let e : i + zero + 1 ≡ i + 1 = omega arith in rw e (rise i (omega arith))
   climb i (suc d) h =
       let e : i + suc d + 1 ≡ i + d + 1 + 1 = omega arith in
-      rw e (lex_transitive _ _ _ (climb i d (omega arith)) (rise (i + d + 1) (omega arith)))
+      rw e (run_less_less (run_at bytes words i) (run_at bytes words (i + d + 1)) (run_at bytes words (i + d + 1 + 1)) (climb i d (omega arith)) (rise (i + d + 1) (omega arith)))
 
-  climbs : (i j : ℕ) → i < j → j < length words → run_less (run_at bytes words (get_or order i 0)) (run_at bytes words (get_or order j 0)) ≡ true
+  climbs : (i j : ℕ) → i < j → j < length words → run_cmp (run_at bytes words i) (run_at bytes words j) ≡ Less
   climbs i j g h = let e : i + (j - i - 1) + 1 ≡ j = omega arith in rw e at (climb i (j - i - 1) (omega arith))
 
-  -- indexes whose places differ have runs that differ
-  apart : (j k : ℕ) → j < length words → k < length words → get_or place j 0 < get_or place k 0 → run_less (run_at bytes words j) (run_at bytes words k) ≡ true
-  apart j k g h l = rw ((stand j g).1, (stand k h).1) at (climbs (get_or place j 0) (get_or place k 0) l (stand k h).0)
-
-  differ : (j k : ℕ) → j < k → k < length words → same (run_at bytes words j) (run_at bytes words k) ≡ false
-  differ j k l h =
-      by_lt (get_or place j 0) (get_or place k 0)
-      (λ m. unlike _ _ (apart j k (omega arith) h m))
-      (λ m.
-      by_lt (get_or place k 0) (get_or place j 0)
-      (λ o. unlike_back _ _ (apart k j h (omega arith) o))
-      (λ o.
-      let e : get_or place j 0 ≡ get_or place k 0 = omega arith in
-      let z : j ≡ k = sym (stand j (omega arith)).1 ∙ (ap (λ (x : ℕ). get_or order x 0) e ∙ (stand k h).1) in
-      absurd (omega arith)))
-
-  pub all_differ : distinct (runs_in bytes words) ≡ true
-  all_differ =
+  pub rising_differ : distinct (runs_in bytes words) ≡ true
+  rising_differ =
       distinct_by (runs_in bytes words)
       (λ j k l h.
       let g : k < length words = omega (arith, length-map words (run_in bytes)) in
-      rw (run_of bytes words j (omega arith), run_of bytes words k g) (differ j k l g))
+      rw (run_of bytes words j (omega arith), run_of bytes words k g) (less_unlike (run_at bytes words j) (run_at bytes words k) (climbs j k l g)))
 
--- what neighbours tell of all runs, where each index stands
-pub judged : (r : Distinctness) (bytes : Bytes) (words order place : List ℕ) → Placed order place (length words)
-    → RisesAs r bytes words order → RightOf r (distinct (runs_in bytes words))
-judged D.Distinct bytes words order place p e = all_differ bytes words order place p e
-judged D.Twice bytes words order place p e = e
-judged D.Untold bytes words order place p e = tt
+-- ---- the same runs in another order
+
+-- how often a text stands among others
+hits : Bytes → Bytes → ℕ
+hits t u = cond (same t u) 1 0
+
+hit_more : (t u : Bytes) (us : List Bytes) → sum_by (hits t) (u ∷ us) ≡ hits t u + sum_by (hits t) us
+hit_more t u us = sum_by-cons (hits t) u us
+
+hit_yes : (t u : Bytes) → same t u ≡ true → hits t u ≡ 1
+unfolding hits
+hit_yes t u e = rw e
+
+hit_no : (t u : Bytes) → same t u ≡ false → hits t u ≡ 0
+unfolding hits
+hit_no t u e = rw e
+
+differ_no : (t u : Bytes) → differs t u ≡ true → same t u ≡ false
+unfolding differs
+differ_no t u e = by_bool (same t u) (λ p. clash (rw p at e) refl) (λ p. p)
+
+no_differ : (t u : Bytes) → same t u ≡ false → differs t u ≡ true
+unfolding differs
+no_differ t u e = rw e
+
+none_hit : (t : Bytes) (us : List Bytes) → all (differs t) us ≡ true → sum_by (hits t) us ≡ 0
+none_hit t [] e = refl
+none_hit t (u ∷ us) e = omega (arith, hit_more t u us, hit_no t u (differ_no t u (all_head (differs t) u us e)), none_hit t us (all_tail (differs t) u us e))
+
+hit_none : (t : Bytes) (us : List Bytes) → sum_by (hits t) us ≡ 0 → all (differs t) us ≡ true
+hit_none t [] e = all_nil (differs t)
+hit_none t (u ∷ us) e =
+    by_bool (same t u)
+    (λ p. absurd (omega (arith, hit_more t u us, hit_yes t u p)))
+    (λ p. all_cons (differs t) u us (no_differ t u p) (hit_none t us (omega (arith, hit_more t u us))))
+
+at_most_once : (ts : List Bytes) → distinct ts ≡ true → (t : Bytes) → sum_by (hits t) ts ≤ 1
+unfolding distinct
+at_most_once [] e t = omega arith
+at_most_once (u ∷ us) e t =
+    by_bool (same t u)
+    (λ p. omega (arith, hit_more t u us, hit_yes t u p, none_hit t us (rw (sym (same_yes t u p)) at (both_left _ _ e))))
+    (λ p. omega (arith, hit_more t u us, hit_no t u p, at_most_once us (both_right _ _ e) t))
+
+once_each : (ts : List Bytes) → ((t : Bytes) → sum_by (hits t) ts ≤ 1) → distinct ts ≡ true
+unfolding distinct
+once_each [] f = refl
+once_each (u ∷ us) f =
+    both_of (hit_none u us (omega (arith, f u, hit_more u u us, hit_yes u u (same_refl u))))
+    (once_each us (λ t. omega (arith, f t, hit_more t u us)))
+
+distinct_moved : (xs ys : List Bytes) → IsPermutation xs ys → distinct xs ≡ true → distinct ys ≡ true
+distinct_moved xs ys p e = once_each ys (λ t. omega (arith, sum_by-IsPermutation (hits t) xs ys p, at_most_once xs e t))
+
+pub distinct_sorted : (bytes : Bytes) (words sorted : List ℕ) → IsPermutation words sorted → distinct (runs_in bytes sorted) ≡ distinct (runs_in bytes words)
+distinct_sorted bytes words sorted p =
+    let q : IsPermutation (runs_in bytes words) (runs_in bytes sorted) = IsPermutation-map (run_in bytes) words sorted p in
+    same_test (distinct (runs_in bytes sorted)) (distinct (runs_in bytes words))
+    (distinct_moved (runs_in bytes sorted) (runs_in bytes words) (IsPermutation-sym (runs_in bytes words) (runs_in bytes sorted) q))
+    (distinct_moved (runs_in bytes words) (runs_in bytes sorted) q)
+
+-- what is right of a test is right of one that agrees
+pub right_as : (o : Option Bool) (a b : Bool) → a ≡ b → RightOf o b → RightOf o a
+right_as (Some t) a b e r = e ∙ r
+right_as None a b e r = r

@@ -1,8 +1,6 @@
 -- No two of some runs of bytes are equal; and how a run that lies among other bytes is written in one word.
-use Rattle.std.specs.Prelude.{ℕ, ◌/◌, ◌%◌, ◌≡◌, Bool, true, false, not, List, [], ◌∷◌, map, take, drop}
+use Rattle.std.specs.Prelude.{ℕ, ◌/◌, ◌%◌, ◌≡◌, Bool, true, not, List, [], ◌∷◌, map, take, drop, Option, Some, None}
 use Rattle.base.specs.Bytes.{Bytes, both, all, same}
-use Rattle.distinct.specs.declared.Distinctness.{Distinctness}
-use Rattle.distinct.specs.declared.Distinctness.TheVariants as D
 
 unfoldable pub differs : Bytes → Bytes → Bool
 differs t u = not (same t u)
@@ -28,7 +26,6 @@ abbrev pub runs_in : Bytes → List ℕ → List Bytes
 runs_in bytes words = map (run_in bytes) words
 
 -- an answer is right of a test, where it tells anything
-abbrev pub RightOf : Distinctness → Bool → Type 0
-RightOf D.Distinct b = b ≡ true
-RightOf D.Twice b = b ≡ false
-RightOf D.Untold b = Unit {0}
+abbrev pub RightOf : Option Bool → Bool → Type 0
+RightOf (Some a) b = b ≡ a
+RightOf None b = Unit {0}

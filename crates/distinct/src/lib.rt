@@ -1,27 +1,13 @@
-// Runs of bytes compared: whether two are the same, and whether no two of many are. For many their indexes are sorted, and the order is checked. Nothing is proved of the
-// sort; where the check does not hold, nothing is told.
+// Runs of bytes compared: whether two are the same, and whether no two of many are. Many are sorted, and then neighbours are compared. Of the order of the sort nothing is proved;
+// where the neighbours do not rise, nothing is told.
 #![tactic(auto)]
 
-ghost use Rattle.std.specs.Prelude.{◌≡◌, true, ◌+◌, ◌*◌, ◌<◌, ◌≤◌, length, get_or, take, drop, set};
+ghost use Rattle.std.specs.Prelude.{◌≡◌, Bool, ◌+◌, ◌<◌, ◌≤◌, length, take, drop, set, IsPermutation};
 ghost use Rattle.base.specs.Bytes.{same};
 ghost use Rattle.distinct.specs.Distinct.{distinct, run_start, run_length, run_in, runs_in, RightOf};
-ghost use Rattle.distinct.specs.Check.{ComparedAs, Placed, IndexesAs, RisesAs};
+ghost use Rattle.distinct.specs.Check.{run_cmp, NotesAs};
 
-// Whether no two of some runs are equal, two are, or neither is known.
-#[derive(Clone, Copy)]
-pub enum Distinctness {
-    Distinct,
-    Twice,
-    Untold,
-}
-
-// A run compared with another, shorter runs being less.
-#[derive(Clone, Copy)]
-enum Compared {
-    Less,
-    Same,
-    Other,
-}
+use std::cmp::Ordering;
 
 // Whether two runs of bytes are the same.
 pub fn equal(a: &[u8], b: &[u8]) -> bool
@@ -32,19 +18,9 @@ pub fn equal(a: &[u8], b: &[u8]) -> bool
 
 // ---- a run as one word: its start and its length, and above them a number by which most runs are sorted
 
-// The value at a place, 0 past the end.
-fn value_at<T: Copy + Default>(values: &[T], i: usize) -> T {
-    values.get(i).copied().unwrap_or_default()
-}
-
-// A value at a place, where there is room.
-fn put_value<T: Copy>(values: &mut [T], i: usize, value: T)
-    ensures { values.new ≡ set values.old i value }
-{
-    // Of a slice after `get_mut` a proof knows no element, so it is written by its place.
-    if i < values.len() {
-        values[i] = value;
-    }
+// A byte of a run. Behind a run stand zeros.
+fn byte_at(run: &[u8], i: usize) -> u8 {
+    run.get(i).copied().unwrap_or(0)
 }
 
 // The length of a run up to 63, and its first three bytes: no greater for a run that is less.
@@ -52,12 +28,14 @@ fn sort_key(run: &[u8]) -> u64
     ensures { result < 1073741824 }
 {
     let size = run.len().min(63) as u64;
-    let first = u64::from(value_at(run, 0));
-    let second = u64::from(value_at(run, 1));
-    let third = u64::from(value_at(run, 2));
+    let first = u64::from(byte_at(run, 0));
+    let second = u64::from(byte_at(run, 1));
+    let third = u64::from(byte_at(run, 2));
     size * 16777216 + first * 65536 + second * 256 + third
 }
 
+// A struct of three numbers was tried in place of the word: 640 runs took a third longer to sort.
+#[tactic(auto, unfolding(crate::specs::Distinct::run_start, crate::specs::Distinct::run_length))]
 fn pack(key: u64, start: usize, len: usize) -> u64
     requires { (key < 1073741824) × ((start < 131072) × (len < 131072)) }
     ensures { (run_start result ≡ start) × (run_length result ≡ len) }
@@ -87,301 +65,130 @@ pub fn run_word(bytes: &[u8], start: usize, len: usize) -> u64
 pub fn put_word(words: &mut [u64], i: usize, w: u64)
     ensures { words.new ≡ set words.old i w }
 {
-    put_value(words, i, w);
+    // Of a slice after `get_mut` a proof knows no element, so it is written by its place.
+    if i < words.len() {
+        words[i] = w;
+    }
 }
 
 fn key_of(w: u64) -> u64 {
     w / 17179869184
 }
 
+#[tactic(auto, unfolding(crate::specs::Distinct::run_start))]
 fn start_of(w: u64) -> usize
     ensures { (result ≡ run_start w) × (result < 131072) }
 {
     (w / 131072 % 131072) as usize
 }
 
+#[tactic(auto, unfolding(crate::specs::Distinct::run_length))]
 fn length_of(w: u64) -> usize
     ensures { (result ≡ run_length w) × (result < 131072) }
 {
     (w % 131072) as usize
 }
 
-// ---- two runs compared
-
-// Whether two runs are known to be the same. It goes on to the end, so that many bytes are compared at once.
-fn alike(a: &[u8], b: &[u8]) -> bool
-    requires { length a.now ≡ length b.now }
-    ensures { result ≡ true → a.now ≡ b.now }
+// The run of a word, as far as it lies among the bytes.
+fn run_of(bytes: &[u8], w: u64) -> &[u8]
+    ensures { result.now ≡ run_in bytes.now w }
 {
-    let mut all = true;
-    for (x, y) in a.iter().zip(b) {
-        all = all & (x == y);
-    }
-    all
+    let from = start_of(w).min(bytes.len());
+    let to = (from + length_of(w)).min(bytes.len());
+    &bytes[from..to]
 }
 
-// A place up to which two runs of one length agree: they are passed by 64 bytes at once.
-fn agree(a: &[u8], b: &[u8]) -> usize
-    requires { length a.now ≡ length b.now }
-    ensures { (result ≤ length a.now) × (take result a.now ≡ take result b.now) }
-{
-    let mut agreed = 0;
-    for (x, y) in a.chunks_exact(64).zip(b.chunks_exact(64)) {
-        if !alike(x, y) {
-            return agreed;
-        }
-        agreed += 64;
-    }
-    agreed
-}
+// ---- the sort
 
 // Shorter runs are less, those of one length are compared as in a dictionary.
-fn compare(a: &[u8], b: &[u8]) -> Compared
-    ensures { ComparedAs result a.now b.now }
+fn compare(a: &[u8], b: &[u8]) -> Ordering
+    ensures { result ≡ run_cmp a.now b.now }
 {
-    if a.len() < b.len() {
-        return Compared::Less;
+    match a.len().cmp(&b.len()) {
+        Ordering::Equal => a.cmp(b),
+        other => other,
     }
-    if b.len() < a.len() {
-        return Compared::Other;
-    }
-    let start = agree(a, b);
-    for (x, y) in a[start..].iter().zip(&b[start..]) {
-        if x < y {
-            return Compared::Less;
-        }
-        if y < x {
-            return Compared::Other;
-        }
-    }
-    Compared::Same
 }
 
-// The runs of two words compared, where both lie among the bytes.
-fn compare_words(bytes: &[u8], v: u64, w: u64) -> Compared
-    ensures { ComparedAs result (run_in bytes.now v) (run_in bytes.now w) }
+// Words of one key, sorted by their runs.
+fn sort_part(bytes: &[u8], words: &mut [u64])
+    ensures { IsPermutation words.old words.new }
 {
-    let a = start_of(v);
-    let b = start_of(w);
-    let c = a + length_of(v);
-    let d = b + length_of(w);
-    if bytes.len() < c {
-        return Compared::Other;
-    }
-    if bytes.len() < d {
-        return Compared::Other;
-    }
-    compare(&bytes[a..c], &bytes[b..d])
+    words.sort_unstable_by(|v, w| compare(run_of(bytes, *v), run_of(bytes, *w)));
 }
 
-// ---- the sort: by merging, first runs of one index, then of two, of four and so on
-
-// Whether a word comes no later than another: by their keys, and where these are the same by the runs.
-fn no_later(bytes: &[u8], v: u64, w: u64) -> bool {
-    if key_of(v) == key_of(w) {
-        return match compare_words(bytes, v, w) {
-            Compared::Less => true,
-            Compared::Same => true,
-            Compared::Other => false,
-        };
-    }
-    key_of(v) < key_of(w)
-}
-
-// Whether of two places, of parts that end at mid and at hi, the first is merged next.
-fn first_next(
-    bytes: &[u8],
-    words: &[u64],
-    from: &[u16],
-    i: usize,
-    mid: usize,
-    j: usize,
-    hi: usize,
-) -> bool {
-    if mid <= i {
-        return false;
-    }
-    if hi <= j {
-        return true;
-    }
-    let v = value_at(words, usize::from(value_at(from, i)));
-    let w = value_at(words, usize::from(value_at(from, j)));
-    no_later(bytes, v, w)
-}
-
-// Two parts of an order, from lo to mid and from mid to hi, merged into another order.
-fn merge(
-    bytes: &[u8],
-    words: &[u64],
-    from: &[u16],
-    to: &mut [u16],
-    lo: usize,
-    mid: usize,
-    hi: usize,
-)
-    requires { (lo ≤ hi) × ((mid ≤ 65536) × (hi ≤ 65536)) }
+// Words that stand by their keys, sorted by their runs where their keys are the same.
+fn sort_parts(bytes: &[u8], words: &mut [u64])
+    ensures { IsPermutation words.old words.new }
 {
-    let mut i = lo;
-    let mut j = mid;
-    for k in lo..hi {
-        if first_next(bytes, words, from, i, mid, j, hi) {
-            put_value(to, k, value_at(from, i));
-            i += 1;
-        } else {
-            put_value(to, k, value_at(from, j));
-            j += 1;
+    let mut from = 0;
+    for to in 1..words.len() {
+        if key_of(words[to - 1]) != key_of(words[to]) {
+            sort_part(bytes, &mut words[from..to]);
+            from = to;
         }
     }
+    sort_part(bytes, &mut words[from..]);
 }
 
-// All parts of a width merged in pairs.
-fn merge_all(bytes: &[u8], words: &[u64], from: &[u16], to: &mut [u16], width: usize)
-    requires { (0 < width) × ((width ≤ 65536) × (length words.now ≤ 65536)) }
-{
-    for lo in (0..words.len()).step_by(2 * width) {
-        let mid = (lo + width).min(words.len());
-        let hi = (mid + width).min(words.len());
-        merge(bytes, words, from, to, lo, mid, hi);
-    }
-}
-
-fn merge_sort(bytes: &[u8], words: &[u64], order: &mut [u16], other: &mut [u16])
-    requires { length words.now ≤ 8192 }
-{
-    // The width grows fourfold, so no range or slice counts it.
-    let mut width: usize = 1;
-    while width < words.len() {
-        merge_all(bytes, words, order, other, width);
-        merge_all(bytes, words, other, order, 2 * width);
-        width = 4 * width;
-    }
-}
-
-// The indexes as they come.
-fn count_up(order: &mut [u16], n: usize)
-    requires { n ≤ 8192 }
-{
-    for (h, slot) in (0..n as u16).zip(order) {
-        *slot = h;
-    }
-}
-
-// The place of each index in an order.
-fn note_places(order: &[u16], place: &mut [u16], n: usize)
-    requires { n ≤ 8192 }
-{
-    for (i, h) in (0..n as u16).zip(order) {
-        put_value(place, usize::from(*h), i);
-    }
-}
-
-// ---- the check
-
-// Whether an index stands in an order, at its place.
-fn stands(order: &[u16], place: &[u16], n: usize, h: usize) -> bool
-    ensures { result ≡ true → (get_or place.now h 0 < n) × (get_or order.now (get_or place.now h 0) 0 ≡ h) }
-{
-    let Some(i) = place.get(h) else {
-        return false;
-    };
-    let i = usize::from(*i);
-    let Some(j) = order.get(i) else {
-        return false;
-    };
-    i < n && usize::from(*j) == h
-}
-
-// Whether each index does.
-fn all_stand(order: &[u16], place: &[u16], n: usize) -> bool
-    ensures { result ≡ true → Placed order.now place.now n }
-{
-    (0..n).all(|h| stands(order, place, n, h))
-}
-
-// The runs of two indexes compared, where both have one and they are not one index.
-fn compare_indexes(bytes: &[u8], words: &[u64], j: usize, k: usize) -> Compared
-    ensures { IndexesAs result bytes.now words.now j k }
-{
-    if words.len() <= j {
-        return Compared::Other;
-    }
-    if words.len() <= k {
-        return Compared::Other;
-    }
-    if j == k {
-        return Compared::Other;
-    }
-    compare_words(bytes, words[j], words[k])
-}
-
-// Two neighbours of an order compared.
-fn neighbours(bytes: &[u8], words: &[u64], order: &[u16], i: usize) -> Compared
-    ensures { IndexesAs result bytes.now words.now (get_or order.now i 0) (get_or order.now (i + 1) 0) }
-{
-    if order.len() <= i {
-        return Compared::Other;
-    }
-    let next = i + 1;
-    if order.len() <= next {
-        return Compared::Other;
-    }
-    let j = usize::from(order[i]);
-    let k = usize::from(order[next]);
-    compare_indexes(bytes, words, j, k)
-}
-
-// What all neighbours tell.
-fn rises(bytes: &[u8], words: &[u64], order: &[u16]) -> Distinctness
-    ensures { RisesAs result bytes.now words.now order.now }
+// What neighbours tell.
+fn rises(bytes: &[u8], words: &[u64]) -> Option<bool>
+    ensures { RightOf result (distinct (runs_in bytes.now words.now)) }
 {
     for i in 1..words.len() {
-        match neighbours(bytes, words, order, i - 1) {
-            Compared::Less => {}
-            Compared::Same => {
-                return Distinctness::Twice;
+        match compare(run_of(bytes, words[i - 1]), run_of(bytes, words[i])) {
+            Ordering::Less => {}
+            Ordering::Equal => {
+                return Some(false);
             }
-            Compared::Other => {
-                return Distinctness::Untold;
+            Ordering::Greater => {
+                return None;
             }
         }
     }
-    Distinctness::Distinct
+    Some(true)
 }
 
-// What an order tells, whatever it is.
-fn judge(bytes: &[u8], words: &[u64], order: &[u16], place: &[u16]) -> Distinctness
-    ensures { RightOf result (distinct (runs_in bytes.now words.now)) }
+// Whether no two of the runs of some words are equal, where it is told. The words are sorted: most by their keys alone.
+pub fn runs_differ(bytes: &[u8], words: &mut [u64]) -> Option<bool>
+    ensures { RightOf result (distinct (runs_in bytes.now words.old)) }
 {
-    if all_stand(order, place, words.len()) {
-        rises(bytes, words, order)
-    } else {
-        Distinctness::Untold
-    }
+    words.sort_unstable();
+    sort_parts(bytes, words);
+    rises(bytes, words)
 }
 
-fn sort_and_judge(
+// ---- runs whose words are noted one by one
+
+// How many words there is room for, where many runs are told apart. The library has no heap.
+const ROOM: usize = 5460;
+
+// What `noted_differ` tells, with the words in what is lent.
+fn noted_differ_in<F: FnOnce(&mut [u64]) -> Option<usize>>(
     bytes: &[u8],
-    words: &[u64],
-    order: &mut [u16; 5460],
-    place: &mut [u16; 5460],
-) -> Distinctness
-    requires { length words.now ≤ 8192 }
-    ensures { RightOf result (distinct (runs_in bytes.now words.now)) }
+    words: &mut [u64],
+    note: F,
+) -> Option<bool>
+    requires { F.IsAlwaysCallable note }
+    ensures { (told : Bool) → (length bytes.now < 131072 → NotesAs F.FnOnce note bytes.now told) → RightOf result told }
 {
-    count_up(order, words.len());
-    merge_sort(bytes, words, order, place);
-    note_places(order, place, words.len());
-    judge(bytes, words, order, place)
+    if 131072 <= bytes.len() {
+        return None;
+    }
+    match note(words) {
+        Some(n) if n <= words.len() => runs_differ(bytes, &mut words[..n]),
+        Some(_) => None,
+        None => Some(false),
+    }
 }
 
-// Whether no two of the runs of at most 5,460 words are equal. Of more nothing is told.
-pub fn runs_differ(bytes: &[u8], words: &[u64]) -> Distinctness
-    ensures { RightOf result (distinct (runs_in bytes.now words.now)) }
+// Whether no two of the runs are equal whose words a closure notes, as far as there is room, where it is told. The closure answers how many runs there are, or none where the answer is no
+// already. It is not inlined: where its array lay in a caller's frame, clang's stack probe stood behind the caller's first tests.
+#[inline(never)]
+pub fn noted_differ<F: FnOnce(&mut [u64]) -> Option<usize>>(bytes: &[u8], note: F) -> Option<bool>
+    requires { F.IsAlwaysCallable note }
+    ensures { (told : Bool) → (length bytes.now < 131072 → NotesAs F.FnOnce note bytes.now told) → RightOf result told }
 {
-    if 5460 < words.len() {
-        return Distinctness::Untold;
-    }
-    let mut order = [0u16; 5460];
-    let mut place = [0u16; 5460];
-    sort_and_judge(bytes, words, &mut order, &mut place)
+    let mut words = [0u64; ROOM];
+    noted_differ_in(bytes, &mut words, note)
 }

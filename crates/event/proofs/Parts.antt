@@ -8,7 +8,7 @@ use native.Mathlib.Omega.{arith}
 use lib.Dec.{eqb}
 use borrow.Author.Tests.{ne_eqb}
 use Rattle.base.specs.Bytes.{Bytes, both, either, all}
-use Rattle.base.proofs.Split.{by_eq, no, both_left, both_right, both_of, both_no_right, same_test}
+use Rattle.base.proofs.Split.{by_eq, no, both_left, both_right, both_of, both_no_right, same_test, both_true}
 use Rattle.base.proofs.Lists.{all_append, all_left, all_right, all_nil, all_cons, all_head, all_tail}
 use Rattle.text.specs.Char.{xml_char}
 use Rattle.text.specs.Check.{is_text}
@@ -81,15 +81,10 @@ crossed true false true d = refl
 cuts_both : {p q : Bytes → Bool} → Cuts p → Cuts q → Cuts (λ t. both (p t) (q t))
 cuts_both {p} {q} x y = record { nil = both_of x.nil y.nil; tab = λ f g. rw (x.tab f g, y.tab f g) (crossed (p f) (p g) (q f) (q g)) }
 
-both_true : (t : Bool) → t ≡ both t true
-unfolding both
-both_true true = refl
-both_true false = refl
-
 pub tabbed_test : {p : Bytes → Bool} → Cuts p → (fs : List Bytes) → p (tabbed fs) ≡ all p fs
 unfolding tabbed all
 tabbed_test x [] = x.nil
-tabbed_test {p} x (f ∷ []) = both_true (p f)
+tabbed_test {p} x (f ∷ []) = sym (both_true (p f))
 tabbed_test {p} x (f ∷ g ∷ fs) = x.tab f (tabbed (g ∷ fs)) ∙ ap (both (p f)) (tabbed_test x (g ∷ fs))
 
 -- ---- a line without its line feed

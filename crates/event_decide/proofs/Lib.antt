@@ -1,1 +1,1 @@
-pub mod Decisions
+pub mod Tasked

@@ -18,8 +18,8 @@ use Rattle.nesting.specs.declared.Level.TheVariants as L
 use Rattle.nesting.specs.declared.Place.{Place}
 use Rattle.nesting.specs.declared.Child.{Child}
 use Rattle.nesting.specs.declared.Child.TheVariants as C
-use Rattle.nesting.specs.declared.Opened.{Opened}
-use Rattle.nesting.specs.declared.Opened.TheVariants as O
+use Rattle.nesting.specs.Opened.{Opened}
+use Rattle.nesting.specs.Opened as O
 use Rattle.model.specs.Record.{Meta, Member, Tag, Body}
 use Rattle.event.specs.Event.{Attr, starts, closes, others, Reading, reads, refused, event_of}
 use Rattle.event_fields.specs.Field.{Field, got, bad, id_field, metadata_of, body_for, tag_of, ref_of, member_of}

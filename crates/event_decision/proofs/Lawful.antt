@@ -19,7 +19,7 @@ use Rattle.nesting.specs.declared.Name.{Name}
 use Rattle.nesting.specs.Nesting.{opened}
 use Rattle.nesting.specs.declared.Level.TheVariants as L
 use Rattle.nesting.specs.declared.Place.{Place}
-use Rattle.nesting.specs.declared.Opened.{Opened}
+use Rattle.nesting.specs.Opened.{Opened}
 use Rattle.model.specs.Record.{Meta, Body, place, refs, members, kind_of}
 use Rattle.event.specs.Event.{Attr, Reading, event_of, value_of, or_empty}
 use Rattle.event.proofs.Events.{values_text}

@@ -15,8 +15,8 @@ use Rattle.nesting.specs.declared.Child.TheVariants as C
 use Rattle.nesting.specs.declared.Level.{Level}
 use Rattle.nesting.specs.declared.Level.TheVariants as L
 use Rattle.nesting.specs.declared.Place.{Place}
-use Rattle.nesting.specs.declared.Opened.{Opened}
-use Rattle.nesting.specs.declared.Opened.TheVariants as O
+use Rattle.nesting.specs.Opened.{Opened}
+use Rattle.nesting.specs.Opened as O
 
 -- which children an element of a kind has
 abbrev pub Child_of : Child → Kind → Type 0

@@ -23,8 +23,8 @@ use Rattle.nesting.specs.declared.Action.{Action}
 use Rattle.nesting.specs.declared.Action.TheVariants as A
 use Rattle.nesting.specs.declared.Place.{Place}
 use Rattle.nesting.specs.declared.Child.TheVariants as C
-use Rattle.nesting.specs.declared.Opened.{Opened}
-use Rattle.nesting.specs.declared.Opened.TheVariants as O
+use Rattle.nesting.specs.Opened.{Opened}
+use Rattle.nesting.specs.Opened as O
 use Rattle.event.specs.Event.{Attr, starts, closes, others, Reading, reads, refused, event_of}
 use Rattle.event.proofs.Refusals.{no_other}
 use Rattle.event_decision.specs.Decision.{refuses, decide_event, decide_reading, decide}

@@ -26,8 +26,8 @@ use Rattle.nesting.specs.declared.Action.TheVariants as A
 use Rattle.nesting.specs.declared.Place.{Place}
 use Rattle.nesting.specs.declared.Child.{Child}
 use Rattle.nesting.specs.declared.Child.TheVariants as C
-use Rattle.nesting.specs.declared.Opened.{Opened}
-use Rattle.nesting.specs.declared.Opened.TheVariants as O
+use Rattle.nesting.specs.Opened.{Opened}
+use Rattle.nesting.specs.Opened as O
 use Rattle.model.specs.Record.{Meta}
 use Rattle.event.specs.Event.{Attr, named, value_of, Event, starts, closes, others, reads, body}
 use Rattle.event.proofs.Refusals.{by_line}

@@ -18,8 +18,8 @@ use Rattle.nesting.specs.declared.Action.TheVariants as A
 use Rattle.nesting.specs.declared.Place.{Place}
 use Rattle.nesting.specs.declared.Child.{Child}
 use Rattle.nesting.specs.declared.Child.TheVariants as C
-use Rattle.nesting.specs.declared.Opened.{Opened}
-use Rattle.nesting.specs.declared.Opened.TheVariants as O
+use Rattle.nesting.specs.Opened.{Opened}
+use Rattle.nesting.specs.Opened as O
 use Rattle.event.specs.Event.{Attr, named, value_of, or_empty, starts, closes, others, Reading, reads, refused, unended, body, legal_line, event_in, event_of}
 use Rattle.event_decision.specs.Decision.{Decision, refuses, moves, begins, deletes, tags, refers, joins, ends}
 

@@ -1,1 +1,1 @@
-pub mod Attributes
+pub mod Given

@@ -1,1 +1,1 @@
-pub mod Metadata
+pub mod Values

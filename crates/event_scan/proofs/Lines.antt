@@ -1,13 +1,13 @@
 -- Laws of whole lines: where a line ends, and which event its first words make.
 use Rattle.std.specs.Prelude.{None, Option, Some}
 use Prim.Native.Nat.{ℕ, suc, ◌+◌, ◌-◌, ◌<◌, ◌≤◌}
-use mathlib.Core.Path.{◌≡◌, refl, sym, ◌∙◌, ap, subst}
+use mathlib.Core.Path.{◌≡◌, refl, sym, ◌∙◌, ap}
 use mathlib.Core.Bool.{Bool, true, false, not, cond}
 use mathlib.Core.List.{List, [], ◌∷◌, ◌++◌}
 use native.Mathlib.Omega.{arith}
 use lib.Dec.{eqb}
 use lib.ListN.{length, get_or, take, length-append}
-use lib.Seq.{slice, slice_empty, length-slice, take_all, take-suc, take-length, take-append_seam, get_or-append_seam}
+use lib.Seq.{take-suc, take-length, take-append_seam, get_or-append_seam}
 use borrow.Author.Tests.{ne_eqb}
 use Rattle.base.specs.Ascii.{ascii}
 use Rattle.base.specs.Bytes.{Bytes, all, both, either, same}
@@ -18,13 +18,10 @@ use Rattle.text.proofs.Texts.{all_imp}
 use Rattle.text.proofs.PlainBytes.{plain_text}
 use Rattle.refusal.specs.declared.Refusal.TheVariants.{LongLine, NotText, NotEventLine}
 use Rattle.line.specs.Line.{fields}
-use Rattle.event.specs.Event.{Attr, Reading, reads, refused, starts, unended, body, is_empty, attrs_of, none_twice, starts_with, starts_from, event_from, event_in, event_of, legal_line}
+use Rattle.event.specs.Event.{Reading, refused, unended, body, starts_from, event_from, event_in, event_of, legal_line}
 use Rattle.event.proofs.Parts.{unended_line, unended_some}
 use Rattle.event.proofs.Events.{judged_long, judged_illegal, judged_legal}
-use Rattle.event_scan.specs.declared.Scanned.{Scanned}
-use Rattle.event_scan.specs.Scan.{fields_at, attrs_at, Good, stand, means, InBounds, lone}
-use Rattle.event_scan.proofs.Places.{fields_past, fields_within, tab_at, tab_within, field_here, some_bytes}
-use Rattle.event_scan.proofs.Walks.{good_there, stand_there}
+use Rattle.event_scan.specs.Scan.{lone}
 
 -- ---- where a line ends
 
@@ -70,46 +67,6 @@ judged s = go (unended s) refl
           cut = λ n. rw (b, p);
         }
 
--- ---- an open or an empty element
-
-stand_none : (empty : Bool) (n : Bytes) (o : Option (List Attr)) → stand o ≡ false → starts_with empty n o ≡ refused NotEventLine
-unfolding stand
-stand_none empty n None h = refl
-stand_none empty n (Some attrs) h = rw h
-
-stand_some : (empty : Bool) (n : Bytes) (o : Option (List Attr)) (attrs : List Attr) → o ≡ Some attrs → stand o ≡ true → starts_with empty n o ≡ reads (starts empty n attrs)
-unfolding stand
-stand_some empty n o attrs e h = let k : none_twice attrs ≡ true = rw e at h in rw (e, k)
-
--- nothing follows the first word
-pub starts_alone : (t : Bytes) (empty : Bool) (at : ℕ) → at ≡ length t → starts_from empty (fields_at t (at + 1)) ≡ refused NotEventLine
-starts_alone t empty at e = rw (fields_past t (at + 1) (omega arith))
-
-module _ (t : Bytes) (empty : Bool) (from to : ℕ) (h : from ≤ length t) (e : to ≡ tab_at t from) where
-  pub name_within : (from ≤ to) × (to ≤ length t)
-  name_within = (omega arith, omega (arith, tab_within t from h))
-
-  named_here : starts_from empty (fields_at t from)
-      ≡ cond (is_empty (slice from to t)) (refused NotEventLine) (starts_with empty (slice from to t) (attrs_of (fields_at t (to + 1))))
-  named_here = rw (field_here t from h, e)
-
-  pub starts_nameless : from ≡ to → starts_from empty (fields_at t from) ≡ refused NotEventLine
-  starts_nameless q = named_here ∙ rw (q, slice_empty to t)
-
-  some_name : (from ≡ to → ⊥) → is_empty (slice from to t) ≡ false
-  some_name n =
-      let w = name_within in
-      some_bytes (slice from to t) (omega (arith, length-slice from to t w.1))
-
-  pub starts_bad : (from ≡ to → ⊥) → stand (attrs_of (fields_at t (to + 1))) ≡ false → starts_from empty (fields_at t from) ≡ refused NotEventLine
-  starts_bad n k = named_here ∙ rw (some_name n) (stand_none empty (slice from to t) (attrs_of (fields_at t (to + 1))) k)
-
-  pub starts_good : (from ≡ to → ⊥) → stand (attrs_of (fields_at t (to + 1))) ≡ true
-      → (starts_from empty (fields_at t from) ≡ reads (starts empty (slice from to t) (attrs_at t (to + 1)))) × Good t (to + 1)
-  starts_good n k =
-      let g = good_there t (to + 1) (stand_there (attrs_of (fields_at t (to + 1))) k) in
-      (named_here ∙ rw (some_name n) (stand_some empty (slice from to t) (attrs_of (fields_at t (to + 1))) (attrs_at t (to + 1)) g k), g)
-
 -- ---- the first word
 
 either_way : {r : Reading} (a b : Bool) → cond a r (cond b r r) ≡ r
@@ -117,33 +74,19 @@ either_way true b = refl
 either_way false true = refl
 either_way false false = refl
 
-module _ (t : Bytes) (to : ℕ) (e : to ≡ tab_at t 0) where
-  pub word_within : to ≤ length t
-  word_within = omega (arith, tab_within t 0 (omega arith))
+module _ (s : Bytes) (w : Bytes) (gs : List Bytes) (e : fields s ≡ w ∷ gs) where
+  pub event_opens : same w (ascii "open") ≡ true → starts_from false gs ≡ event_from (fields s)
+  event_opens h = sym (rw (e, h))
 
-  words : fields t ≡ take to t ∷ fields_at t (to + 1)
-  words = sym (fields_within t 0 (omega arith)) ∙ field_here t 0 (omega arith) ∙ rw e
+  pub event_empties : same w (ascii "open") ≡ false → same w (ascii "empty") ≡ true → starts_from true gs ≡ event_from (fields s)
+  event_empties h k = sym (rw (e, h, k))
 
-  pub event_open : same (take to t) (ascii "open") ≡ true → event_from (fields t) ≡ starts_from false (fields_at t (to + 1))
-  event_open h = rw (words, h)
+  pub event_longer : (f : Bytes) (hs : List Bytes) → same w (ascii "open") ≡ false → same w (ascii "empty") ≡ false → gs ≡ f ∷ hs → refused NotEventLine ≡ event_from (fields s)
+  event_longer f hs h k m = sym (rw (e, m, h, k) (either_way (same w (ascii "close")) (same w (ascii "other"))))
 
-  pub event_empty : same (take to t) (ascii "open") ≡ false → same (take to t) (ascii "empty") ≡ true
-      → event_from (fields t) ≡ starts_from true (fields_at t (to + 1))
-  event_empty h k = rw (words, h, k)
-
-  pub event_more : same (take to t) (ascii "open") ≡ false → same (take to t) (ascii "empty") ≡ false → to < length t → event_from (fields t) ≡ refused NotEventLine
-  event_more h k l = rw (words, h, k, field_here t (to + 1) (omega arith)) (either_way (same (take to t) (ascii "close")) (same (take to t) (ascii "other")))
-
-  module _ (h : same (take to t) (ascii "open") ≡ false) (k : same (take to t) (ascii "empty") ≡ false) (l : length t ≤ to) where
-    whole : take to t ≡ t
-    whole = take_all to t l
-
-    one_word : event_from (fields t) ≡ lone (take to t)
-    unfolding lone
-    one_word = rw (words, h, k, fields_past t (to + 1) (omega arith))
-
-    pub event_alone : (r : Scanned) → means (take to t) r ≡ lone (take to t) → InBounds (take to t) r → (means t r ≡ event_from (fields t)) × InBounds t r
-    event_alone r m p = (sym (ap (λ s. means s r) whole) ∙ m ∙ sym one_word, subst (λ s. InBounds s r) whole p)
+  pub event_word : same w (ascii "open") ≡ false → same w (ascii "empty") ≡ false → gs ≡ [] → lone w ≡ event_from (fields s)
+  unfolding lone
+  event_word h k m = sym (rw (e, m, h, k))
 
 -- ---- a line of plain bytes
 
@@ -196,10 +139,5 @@ module _ (s : Bytes) (n : ℕ) (e : n ≡ length (body s)) where
         pub scan_broken : all (λ b. not (eqb b 10)) (take n s) ≡ false → refused NotEventLine ≡ event_of s
         scan_broken f = sym (in_body ∙ rw f)
 
-        pub scan_event : all (λ b. not (eqb b 10)) (take n s) ≡ true → (r : Scanned) → means (take n s) r ≡ event_from (fields (take n s)) → means (body s) r ≡ event_of s
-        scan_event f r m =
-            let z : event_of s ≡ event_from (fields (take n s)) = in_body ∙ rw f in
-            sym (ap (λ t. means t r) judged_part) ∙ m ∙ sym z
-
-  pub scan_lies : (r : Scanned) → InBounds (take n s) r → InBounds (body s) r
-  scan_lies r m = subst (λ t. InBounds t r) judged_part m
+        pub reads_event : all (λ b. not (eqb b 10)) (take n s) ≡ true → event_from (fields (take n s)) ≡ event_of s
+        reads_event f = sym (in_body ∙ rw f)

@@ -1,4 +1,6 @@
 pub mod Scan
 pub mod Piece
 pub mod Names
-pub mod Few
+pub mod Parts
+pub mod Fields
+pub mod Line

@@ -1,1 +1,2 @@
 pub mod Value
+pub mod Values

@@ -103,6 +103,10 @@ pub reads_width : (w : Width) (s : Bytes) → read_bits (2 ^ hbits w - 1) (2 ^ b
 unfolding read_bits read_of integer_of
 reads_width w s = in_width w (integer s)
 
+module _ (w : Width) (s : Bytes) {most ones : ℕ} (m : most ≡ 2 ^ hbits w - 1) (o : ones ≡ 2 ^ bits w - 1) where
+  pub reads : read_bits most ones s ≡ read_of w s
+  reads = rw (m, o) (reads_width w s)
+
 -- ---- what an answer says
 
 -- an integer of its width is an integer, and the width holds it

@@ -1,10 +1,11 @@
 // Integer fields, as Rust's `parse` reads an i64 or an i32: at most one sign, then one or more digits, any number of them.
 #![tactic(auto)]
 
-ghost use Rattle.std.specs.Prelude.{◌≡◌, ◌<◌};
-ghost use Rattle.std.specs.Int.{w32, w64};
+ghost use Rattle.std.specs.Prelude.{◌≡◌, ◌-◌, ◌^◌, ℕ, refl};
+ghost use Rattle.std.specs.Int.{Width, w32, w64};
+ghost use mir.Val.{bits, hbits};
 ghost use Rattle.integer.specs.Integer.{read_of, digits};
-ghost use Rattle.integer.specs.Bounded.{at_most, read_bits};
+ghost use Rattle.integer.specs.Bounded.{at_most};
 
 // The number that the digits write, if there are digits and nothing else, and it is at most `most`.
 fn magnitude(s: &[u8], most: u64) -> Option<u64>
@@ -27,20 +28,67 @@ fn magnitude(s: &[u8], most: u64) -> Option<u64>
     Some(n)
 }
 
-// The integer of a text at the width whose largest number is `most` and whose bits are all set in `ones`.
-fn read_signed(s: &[u8], most: u64, ones: u64) -> Option<u64>
-    requires { most < ones }
-    ensures { result ≡ read_bits most ones s.now }
+// A width that integer fields have: its largest number, and its bits all set.
+pub trait FieldWidth {
+    ghost width: { Width };
+
+    ghost MOST: { ℕ };
+
+    ghost ONES: { ℕ };
+
+    const MOST: u64;
+
+    const ONES: u64;
+
+    ghost most: { MOST ≡ 2 ^ hbits width - 1 };
+
+    ghost ones: { ONES ≡ 2 ^ bits width - 1 };
+}
+
+impl FieldWidth for i64 {
+    ghost width = { w64 };
+
+    ghost MOST = { 0x7fff_ffff_ffff_ffff };
+
+    ghost ONES = { 0xffff_ffff_ffff_ffff };
+
+    const MOST: u64 = 0x7fff_ffff_ffff_ffff;
+
+    const ONES: u64 = 0xffff_ffff_ffff_ffff;
+
+    ghost most = { refl };
+
+    ghost ones = { refl };
+}
+
+impl FieldWidth for i32 {
+    ghost width = { w32 };
+
+    ghost MOST = { 0x7fff_ffff };
+
+    ghost ONES = { 0xffff_ffff };
+
+    const MOST: u64 = 0x7fff_ffff;
+
+    const ONES: u64 = 0xffff_ffff;
+
+    ghost most = { refl };
+
+    ghost ones = { refl };
+}
+
+// The bits of the integer that a text writes, if its width holds it. It is no `FromStr`, since a field is bytes and its integer is held as bits.
+pub fn read<W: FieldWidth>(s: &[u8]) -> Option<u64>
+    ensures { result ≡ read_of W.width s.now }
 {
     match s {
         [] => None,
-        [b'+', rest @ ..] => magnitude(rest, most),
-        [b'-', rest @ ..] => match magnitude(rest, most + 1) {
-            Some(0) => Some(0),
-            Some(n) => Some(ones - (n - 1)),
-            None => None,
+        [b'+', rest @ ..] => magnitude(rest, W::MOST),
+        [b'-', rest @ ..] => match magnitude(rest, W::MOST + 1)? {
+            0 => Some(0),
+            n => Some(W::ONES - (n - 1)),
         },
-        _ => magnitude(s, most),
+        _ => magnitude(s, W::MOST),
     }
 }
 
@@ -54,11 +102,11 @@ pub fn read_digits(text: &[u8], most: u64) -> Option<u64>
 pub fn read_i64(s: &[u8]) -> Option<u64>
     ensures { result ≡ read_of w64 s.now }
 {
-    read_signed(s, 0x7fff_ffff_ffff_ffff, 0xffff_ffff_ffff_ffff)
+    read::<i64>(s)
 }
 
 pub fn read_i32(s: &[u8]) -> Option<u64>
     ensures { result ≡ read_of w32 s.now }
 {
-    read_signed(s, 0x7fff_ffff, 0xffff_ffff)
+    read::<i32>(s)
 }

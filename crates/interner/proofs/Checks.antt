@@ -1,5 +1,6 @@
 -- The check of the strings, handle by handle, decides their soundness.
-use Rattle.std.specs.Prelude.{None, Option, Some}
+use Rattle.std.specs.Prelude.{None, Option, Some, not}
+use Rattle.std.specs.Option.{is_some}
 use Prim.Native.Nat.{ℕ, zero, suc, ◌+◌, ◌-◌, ◌*◌, ◌≤◌, ◌<◌}
 use mathlib.Core.Path.{◌≡◌, refl, sym, ◌∙◌, ap}
 use mathlib.Core.Bool.{Bool, true, false}
@@ -10,19 +11,19 @@ use native.Mathlib.Nat.{zero-add}
 use Rattle.std.specs.Bool.{MatchBool}
 use Rattle.std.specs.List.{AllWithin, HoldsAt, range_with_len}
 use Rattle.std.proofs.lemmas.List.FromFn.{length-range_with_len, get_or-range_with_len}
-use lib.ListN.{length, take, drop, length-take, length-drop, length-map}
+use lib.ListN.{length, drop, length-take, length-drop, length-map}
 use borrow.Author.Tests.{le-leb}
 use Rattle.base.specs.Bytes.{Bytes, both, same}
 use Rattle.base.proofs.Split.{by_bool, by_lt, both_left, both_right, both_of, both_no_left, clash, same_test}
 use Rattle.base.proofs.Lists.{same_yes, same_refl}
 use Rattle.text.specs.Check.{is_text}
 use Rattle.interner.specs.Texts.{handle_of}
-use Rattle.interner.specs.Strings.{start_of, length_of, spanned, bytes_at, span_at, find_in, Store, used_of}
+use Rattle.interner.specs.Strings.{start_of, length_of, spanned, bytes_at, string_at, find_in, Store, used_of}
 use Rattle.distinct.specs.Distinct.{differs, distinct}
 use Rattle.distinct.proofs.Orders.{distinct_by, distinct_at}
 use Rattle.interner.specs.Sound.{handles, texts_in, texts_of, counts_within, span_within, sound_up_to, first_empty, sound_strings}
 use Rattle.interner.specs.Check.{is_not, new_at}
-use Rattle.interner.proofs.Finds.{SpanWithin, lies_not, spanned_bytes}
+use Rattle.interner.proofs.Finds.{found, found_not, spanned_bytes}
 use Rattle.interner.proofs.Handles.{length_handles, all_handles, each_handle, all_made, each_made, made_at}
 use Rattle.interner.proofs.Held.{same_swap, same_not, differs_of, not_held, held_not}
 use Rattle.interner.proofs.Interns.{Sound, sound_parts, length_texts, placed, finds_from}
@@ -30,6 +31,12 @@ use Rattle.interner.proofs.Interns.{Sound, sound_parts, length_texts, placed, fi
 not_placed : (o : Option ℕ) → is_not (placed 0 o) ≡ true → o ≡ None
 not_placed None e = refl
 not_placed (Some k) e = clash e refl
+
+pub none_not : (o : Option ℕ) (r : Bool) → is_some o ≡ not r → r ≡ is_not o
+none_not None true e = refl
+none_not None false e = clash e refl
+none_not (Some k) true e = clash (sym e) refl
+none_not (Some k) false e = refl
 
 module _ (f : ℕ → Bytes) where
   pub distinct_made : (n h : ℕ) → ((j k : ℕ) → h ≤ j → j < k → k < h + n → same (f j) (f k) ≡ false) → distinct (map f (handles n h)) ≡ true
@@ -90,20 +97,13 @@ module _ (spans : List ℕ) (bytes : Bytes) where
 
   -- ---- one handle
 
-  pub new_missing : (h : ℕ) → None ≡ span_at spans bytes h → new_at spans bytes h ≡ false
+  pub new_missing : (h : ℕ) → None ≡ string_at spans bytes h → false ≡ new_at spans bytes h
   unfolding new_at
-  new_missing h e = both_no_left _ _ (lies_not spans bytes h e)
+  new_missing h e = sym (both_no_left _ _ (found_not spans bytes h e))
 
-  -- the part of the bytes from its start to its end
-  pub lies_bytes : (h start len : ℕ) → SpanWithin spans bytes h start len → take (start + len - start) (drop start bytes) ≡ bytes_at spans bytes h
-  lies_bytes h start len l = let n : start + len - start ≡ len = omega arith in rw (n, l.starts, l.long)
-
-  pub new_lies : (h start len : ℕ) (t : Bytes) → SpanWithin spans bytes h start len → t ≡ take (start + len - start) (drop start bytes)
-      → new_at spans bytes h ≡ both (is_text t) (is_not (find_in spans bytes h t))
+  pub new_found : (h : ℕ) (t : Bytes) → Some t ≡ string_at spans bytes h → both (is_text t) (is_not (find_in spans bytes h t)) ≡ new_at spans bytes h
   unfolding new_at both
-  new_lies h start len t l e =
-      let b : bytes_at spans bytes h ≡ t = sym (e ∙ lies_bytes h start len l) in
-      rw (l.within, b)
+  new_found h t e = let f = found spans bytes h t e in rw (f.within, ← f.string)
 
   -- ---- one handle more
 

@@ -1,5 +1,5 @@
 -- What `intern` does by its cases: the text is held, there is room, there is none.
-use Rattle.std.specs.Prelude.{None, Some}
+use Rattle.std.specs.Prelude.{None, Option, Some}
 use Prim.Native.Nat.{ℕ, ◌+◌, ◌*◌, ◌≤◌, min}
 use mathlib.Core.Path.{◌≡◌, sym, ◌∙◌}
 use mathlib.Core.Bool.{true, false}
@@ -25,6 +25,20 @@ module _ (s : Store) (t : Bytes) where
   pub full : find_in s.spans (used_of s) s.strings t ≡ None → text_room s t ≡ false → intern s t ≡ record { store = s; answer = Full }
   unfolding intern taken_as
   full e r = rw (e, r)
+
+  -- the same where it is known whether the text is held
+
+  pub taken_held : (found : Option ℕ) (h : ℕ) → found ≡ Some h → taken_as s t found ≡ record { store = s; answer = Held h }
+  unfolding taken_as
+  taken_held found h e = rw e
+
+  pub taken_new : (found : Option ℕ) → found ≡ None → true ≡ text_room s t → taken_as s t found ≡ text_taken s t
+  unfolding taken_as
+  taken_new found e r = rw (e, ← r)
+
+  pub taken_full : (found : Option ℕ) → found ≡ None → false ≡ text_room s t → taken_as s t found ≡ record { store = s; answer = Full }
+  unfolding taken_as
+  taken_full found e r = rw (e, ← r)
 
   pub room_words : text_room s t ≡ true → 2 * s.strings + 2 ≤ length s.spans
   unfolding text_room

@@ -15,9 +15,9 @@ use Rattle.distinct.specs.Distinct.{distinct, run_in, runs_in}
 use Rattle.interner.specs.Strings.{spanned, bytes_at, span_at}
 use Rattle.interner.specs.Sound.{handles, texts_in, span_within, sound_up_to}
 use Rattle.interner.specs.Check.{legal_at, WordsNoted}
-use Rattle.interner.proofs.Finds.{SpanWithin, lies_not}
+use Rattle.interner.proofs.Finds.{SpanWithin, lies_not, lies_bytes}
 use Rattle.interner.proofs.Handles.{all_handles, all_made}
-use Rattle.interner.proofs.Checks.{lies_bytes, upto_parts}
+use Rattle.interner.proofs.Checks.{upto_parts}
 
 runs_made : (bytes : Bytes) (f : ℕ → Bytes) (words : List ℕ) (n h : ℕ) → n ≤ length words → ((k : ℕ) → k < n → run_in bytes (get_or words k 0) ≡ f (h + k))
     → runs_in bytes (take n words) ≡ map f (handles n h)

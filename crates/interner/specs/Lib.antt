@@ -2,3 +2,4 @@ pub mod Texts
 pub mod Strings
 pub mod Sound
 pub mod Check
+pub mod Lent

@@ -26,7 +26,11 @@ bytes_at spans bytes h = take (length_of spans h) (drop (start_of spans h) bytes
 unfoldable pub span_at : List ℕ → Bytes → ℕ → Option Span
 span_at spans bytes h = cond (spanned spans bytes h) (Some (record { start = start_of spans h; len = length_of spans h })) None
 
--- the same, of the handles that are held
+-- the string of a handle, where it lies within the bytes
+unfoldable pub string_at : List ℕ → Bytes → ℕ → Option Bytes
+string_at spans bytes h = cond (spanned spans bytes h) (Some (bytes_at spans bytes h)) None
+
+-- where the string of a held handle lies
 unfoldable pub span_of : List ℕ → Bytes → ℕ → ℕ → Option Span
 span_of spans bytes count h = cond (ltb h count) (span_at spans bytes h) None
 

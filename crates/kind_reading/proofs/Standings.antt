@@ -1,8 +1,10 @@
 -- What is known of an id: in a sound table, what its rank finds among the rows.
 use Rattle.std.specs.Prelude.{Err, None, Ok, Option, Result, Some}
-use Prim.Native.Nat.{ℕ}
+use Prim.Native.Nat.{ℕ, ◌^◌}
+use lib.Dec.{ltb}
+use Rattle.std.specs.Option.{is_some}
 use mathlib.Core.Path.{◌≡◌, refl, sym, ◌∙◌, ap}
-use mathlib.Core.Bool.{true, false}
+use mathlib.Core.Bool.{Bool, true, false, not}
 use mathlib.Core.Logic.{◌↔◌}
 use mathlib.Core.List.{List}
 use lib.IntN.{ℤ}
@@ -10,7 +12,7 @@ use Rattle.base.proofs.Split.{by_bool, no}
 use Rattle.osm_id.specs.Order.{rank}
 use Rattle.kind_store.specs.KindStore.{is_live}
 use Rattle.kind_table.specs.Rows.{find}
-use Rattle.kind_table.specs.Words.{rows_of, sound_table, lookup}
+use Rattle.kind_table.specs.Words.{record_place, row_at, row_found, rows_of, sound_table, lookup}
 use Rattle.kind_table.specs.declared.Row.{Row}
 use Rattle.kind_table.proofs.Tables.{found_row, found_none}
 use Rattle.kind_reading.specs.declared.Standing.{Standing}
@@ -21,6 +23,22 @@ module _ (table : List ℕ) (ids : ℕ) (id : ℤ) where
   pub standing_at_lem : (f : Result ℕ ℕ) → f ≡ lookup table ids (rank id) → standing_of table ids id ≡ standing_at table f
   unfolding standing_of
   standing_at_lem f e = rw e
+
+  pub standing_there : (row : Row) → Some row ≡ row_found table (lookup table ids (rank id)) → row_standing row ≡ standing_of table ids id
+  unfolding standing_of
+  standing_there row = go (lookup table ids (rank id))
+    where
+      go : (f : Result ℕ ℕ) → Some row ≡ row_found table f → row_standing row ≡ standing_at table f
+      go (Ok i) e = let x : row ≡ row_at table i = cc in ap row_standing x
+      go (Err p) e = no (cc)
+
+  pub standing_nowhere : None ≡ row_found table (lookup table ids (rank id)) → Unknown ≡ standing_of table ids id
+  unfolding standing_of
+  standing_nowhere = go (lookup table ids (rank id))
+    where
+      go : (f : Result ℕ ℕ) → None ≡ row_found table f → Unknown ≡ standing_at table f
+      go (Ok i) e = no (cc)
+      go (Err p) e = refl
 
 -- a live row, and one of a deleted id
 module _ (r : Row) where
@@ -38,6 +56,17 @@ module _ (r : Row) where
       by_bool (is_live r.place)
       (λ t. let z : Live r.place ≡ Unknown = rw t at e in no (cc))
       (λ t. let z : Deleted ≡ Unknown = rw t at e in no (cc))
+
+-- whether a place says that the id is live
+pub place_is : (place : ℕ) → is_some (record_place place) ≡ is_live place
+unfolding is_live
+place_is place = by_bool (ltb place (2 ^ 63)) (λ t. rw t) (λ t. rw t)
+
+pub not_back : (a b : Bool) → a ≡ not b → b ≡ not a
+not_back true true e = cc
+not_back true false e = refl
+not_back false true e = refl
+not_back false false e = cc
 
 -- the standing of what was found
 abbrev pub standing_is : Option Row → Standing

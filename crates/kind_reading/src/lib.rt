@@ -6,19 +6,22 @@ ghost use Rattle.std.specs.Int.{w64};
 ghost use Rattle.std.proofs.Common.{to_z};
 ghost use Rattle.kind_reading.specs.Listed.{rows_read, is_on, rows_on, nth, row_standing, standing_of, view_at};
 
-use kind::Kind;
-use kind_table::{DELETED, Row};
+use compact_legal::Records;
+use kind_store::KindStorage;
+use kind_table::Row;
 use little::Span;
 use refusal::Refusal;
 
-// One of a kind's two lists.
+// One of a kind's two lists. It is a value with a method that tells a row's list, and no predicate that is passed on: so a contract says which rows are
+// meant by `rows_on side`, and asks nothing of a predicate's calls.
 #[derive(Clone, Copy, PartialEq, Eq, Debug)]
 pub enum Side {
     Live,
     Deleted,
 }
 
-// What is known of an id: live with the place of its record, deleted, or nothing.
+// What is known of an id: live with the place of its record, deleted, or nothing. It is an enum: an Option of an Option would not say which of its two
+// `None` is the deleted id.
 #[derive(Clone, Copy, PartialEq, Eq, Debug)]
 pub enum Standing {
     Live(u64),
@@ -26,25 +29,37 @@ pub enum Standing {
     Unknown,
 }
 
-// Whether a row is on a list.
-pub fn is_on(side: Side, row: Row) -> bool
-    ensures { result ≡ is_on side row }
-{
-    let live = row.place < DELETED;
-    match side {
-        Side::Live => live,
-        Side::Deleted => !live,
+impl Side {
+    // Whether a row is on the list.
+    pub fn has(self, row: Row) -> bool
+        ensures { result ≡ is_on self row }
+    {
+        match self {
+            Side::Live => row.record_place().is_some(),
+            Side::Deleted => row.record_place().is_none(),
+        }
+    }
+}
+
+impl From<Row> for Standing {
+    ghost from_gives = { λ row standing. standing ≡ row_standing row };
+
+    fn from(row: Row) -> Self {
+        match row.record_place() {
+            Some(place) => Standing::Live(place),
+            None => Standing::Deleted,
+        }
     }
 }
 
 // How many rows are on a list.
-pub fn count_on(side: Side, table: &[u64], ids: u64) -> u64
-    ensures { result ≡ length (rows_on side (rows_read table.now ids)) }
+pub fn listed_count(storage: &KindStorage<'_>, side: Side) -> u64
+    ensures { result ≡ length (rows_on side (rows_read storage.now.table.now storage.now.ids)) }
 {
-    let n = little::lesser(ids as usize, table.len() / 3);
+    let table = storage.rows();
     let mut count: u64 = 0;
-    for i in 0..n {
-        if is_on(side, kind_table::row_at(table, i)) {
+    for words in table.rows() {
+        if side.has(Row::from(*words)) {
             count += 1;
         }
     }
@@ -52,14 +67,14 @@ pub fn count_on(side: Side, table: &[u64], ids: u64) -> u64
 }
 
 // The row of a number on a list.
-pub fn row_on(side: Side, table: &[u64], ids: u64, n: u64) -> Option<Row>
-    ensures { result ≡ nth (rows_on side (rows_read table.now ids)) n }
+pub fn listed_row(storage: &KindStorage<'_>, side: Side, n: u64) -> Option<Row>
+    ensures { result ≡ nth (rows_on side (rows_read storage.now.table.now storage.now.ids)) n }
 {
-    let end = little::lesser(ids as usize, table.len() / 3);
+    let table = storage.rows();
     let mut left = n;
-    for i in 0..end {
-        let row = kind_table::row_at(table, i);
-        if is_on(side, row) {
+    for words in table.rows() {
+        let row = Row::from(*words);
+        if side.has(row) {
             if left == 0 {
                 return Some(row);
             }
@@ -69,43 +84,34 @@ pub fn row_on(side: Side, table: &[u64], ids: u64, n: u64) -> Option<Row>
     None
 }
 
-fn row_standing(row: Row) -> Standing
-    ensures { result ≡ row_standing row }
-{
-    if row.place < DELETED {
-        return Standing::Live(row.place);
-    }
-    Standing::Deleted
-}
-
 // What is known of an id, which is given in bits.
-pub fn standing_of(table: &[u64], ids: u64, id: u64) -> Standing
-    ensures { result ≡ standing_of table.now ids (to_z w64 id) }
+pub fn known_standing(storage: &KindStorage<'_>, id: u64) -> Standing
+    ensures { result ≡ standing_of storage.now.table.now storage.now.ids (to_z w64 id) }
 {
-    let rank = osm_id::rank_of_bits(id);
-    match kind_table::find_row(table, ids, rank) {
-        Ok(i) => row_standing(kind_table::row_at(table, i)),
-        Err(_) => Standing::Unknown,
+    match storage.rows().find(osm_id::rank_of_bits(id)) {
+        Some(row) => Standing::from(row),
+        None => Standing::Unknown,
     }
 }
 
 // A record's view: from its offset to its end.
-pub fn view_at(
-    kind: Kind,
-    arena: &[u8],
-    used: u64,
+pub fn record_view(
+    storage: &KindStorage<'_>,
     strings: u64,
     at: u64,
 ) -> Result<Option<Span>, Refusal>
-    ensures { result ≡ view_at strings kind arena.now used at }
+    ensures { result ≡ view_at strings storage.now.kind storage.now.arena.now storage.now.used at }
 {
-    let n = little::lesser(used as usize, arena.len());
+    let n = storage.arena.len().min(storage.used as usize);
     let start = at as usize;
-    match compact_legal::record_end(kind, &arena[..n], start, strings) {
-        Some(e) => Ok(Some(Span {
-            start,
-            len: e - start,
-        })),
-        None => Err(Refusal::Unsound),
-    }
+    let records = Records {
+        kind: storage.kind,
+        bytes: &storage.arena[..n],
+        strings,
+    };
+    let e = records.end(start).ok_or(Refusal::Unsound)?;
+    Ok(Some(Span {
+        start,
+        len: e - start,
+    }))
 }

@@ -178,7 +178,7 @@ module _ (strings : ℕ) (k : Kind) (s : Bytes) (cells : List ℕ) where
     noting_bad h t = sym w.whole ∙ walk_stops strings k s at h t
 
     pub noting_last : length s ≤ at → (whole_records strings k s ≡ true) × Noted strings k s cells
-    unfolding Noted both
+    unfolding both
     noting_last h = (
       sym w.whole ∙ rw (drop_of_length-le s {i = at} h) (whole_nil strings k),
       λ place l m. w.noted place m ∙ rw (lt-ltb place at (omega arith)),

@@ -13,5 +13,5 @@ unfoldable pub Empty : List ℕ → Type 0
 Empty cells = (length cells ≡ 23302) × ((i : ℕ) → get_or cells i 0 ≡ 0)
 
 -- of each place in the bytes that has a cell, the cell tells whether a record starts there
-unfoldable pub Noted : ℕ → Kind → Bytes → List ℕ → Type 0
+abbrev pub Noted : ℕ → Kind → Bytes → List ℕ → Type 0
 Noted strings k s cells = (place : ℕ) → place < length s → place / 45 < 23302 → eqb (get_or cells (place / 45) 0) (cell_of place) ≡ comes_to strings k s place place 0

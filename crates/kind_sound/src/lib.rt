@@ -8,13 +8,27 @@ ghost use Rattle.base.specs.Bytes.{both, all};
 ghost use Rattle.little.specs.Little.{value_at};
 ghost use Rattle.osm_id.specs.Order.{rank, id_of};
 ghost use Rattle.compact_legal.specs.Whole.{whole_records};
-ghost use Rattle.kind_table.specs.Words.{rows_of};
-ghost use Rattle.kind_store.specs.KindStore.{kind_store_with};
-ghost use Rattle.kind_sound.specs.Check.{comes_to, row_passes, sound_used, sound_kind_store};
+ghost use Rattle.kind_table.specs.Words.{held, rows_of};
+ghost use Rattle.kind_store.specs.Lent.{kind_seen};
+ghost use Rattle.kind_sound.specs.Check.{comes_to, row_passes, sound_kind_store};
 ghost use Rattle.kind_sound.specs.Cells.{cell_of, Empty, Noted};
 
+use compact_legal::Records;
 use kind::Kind;
-use kind_table::{DELETED, Row};
+use kind_store::KindStorage;
+use kind_table::{Row, Table};
+
+// How many cells of 45 bytes there are: they cover 1 MiB, the largest arena that set-up takes.
+const CELLS: usize = 23302;
+
+// Records with where each of them starts. A record has at least 45 bytes, so no two start in one cell of 45. A cell holds the place in it where a record
+// starts, plus 1, or 0 where none does.
+#[derive(Clone, Copy)]
+struct Starts<'a> {
+    records: Records<'a>,
+    cells: &'a [u8; CELLS],
+    ghost noted: { Noted records.strings records.kind records.bytes.now cells.now },
+}
 
 // The rank of the id that stands at a place.
 fn rank_there(bytes: &[u8], place: usize) -> u64
@@ -24,28 +38,26 @@ fn rank_there(bytes: &[u8], place: usize) -> u64
 }
 
 // ---- where records start
-// A record has at least 45 bytes, so no two start in one cell of 45. A cell holds the place in it where a record starts, plus 1, or 0 where none does.
-// The cells cover 1 MiB, the largest arena that set-up takes.
 
-fn note(cells: &mut [u8; 23302], at: usize)
-    requires { length cells.old ≡ 23302 }
+fn note(cells: &mut [u8; CELLS], at: usize)
     ensures { cells.new ≡ set cells.old (at / 45) (cell_of at) }
 {
     let i = at / 45;
-    if i < 23302 {
+    if i < CELLS {
         cells[i] = (at % 45 + 1) as u8;
     }
 }
 
-// One walk from record to record: whether all are whole and legal, with their starts noted. It is a `while`, here and in `comes_to`: each record
-// tells where the next one starts, so no range or slice has the places to go over.
-fn note_starts(kind: Kind, bytes: &[u8], strings: u64, cells: &mut [u8; 23302]) -> bool
+// One walk from record to record: whether all are whole and legal, with their starts noted. It is a `while`, here and in `comes_to`: each record tells where
+// the next one starts, so no range or slice has the places to go over.
+fn note_starts(records: &Records<'_>, cells: &mut [u8; CELLS]) -> bool
     requires { Empty cells.old }
-    ensures { (result ≡ whole_records strings kind bytes.now) × (result ≡ true → Noted strings kind bytes.now cells.new) }
+    ensures whole { result ≡ whole_records records.now.strings records.now.kind records.now.bytes.now }
+    ensures noted { result ≡ true → Noted records.now.strings records.now.kind records.now.bytes.now cells.new }
 {
     let mut at: usize = 0;
-    while at < bytes.len() {
-        let Some(e) = compact_legal::record_end(kind, bytes, at, strings) else {
+    while at < records.bytes.len() {
+        let Some(e) = records.end(at) else {
             return false;
         };
         note(cells, at);
@@ -55,12 +67,12 @@ fn note_starts(kind: Kind, bytes: &[u8], strings: u64, cells: &mut [u8; 23302]) 
 }
 
 // Whether a walk from record to record comes to a place.
-fn comes_to(kind: Kind, bytes: &[u8], place: usize, strings: u64) -> bool
-    ensures { result ≡ comes_to strings kind bytes.now place place 0 }
+fn comes_to(records: &Records<'_>, place: usize) -> bool
+    ensures { result ≡ comes_to records.now.strings records.now.kind records.now.bytes.now place place 0 }
 {
     let mut at: usize = 0;
     while at < place {
-        let Some(e) = compact_legal::record_end(kind, bytes, at, strings) else {
+        let Some(e) = records.end(at) else {
             return false;
         };
         at = e;
@@ -68,93 +80,74 @@ fn comes_to(kind: Kind, bytes: &[u8], place: usize, strings: u64) -> bool
     at == place
 }
 
-// The same of a place in the bytes, by its cell; past the cells by a walk.
-fn starts_at(kind: Kind, bytes: &[u8], place: usize, strings: u64, cells: &[u8; 23302]) -> bool
-    requires { (place < length bytes.now) × Noted strings kind bytes.now cells.now }
-    ensures { result ≡ comes_to strings kind bytes.now place place 0 }
-{
-    let i = place / 45;
-    if i < 23302 {
-        return cells[i] == (place % 45 + 1) as u8;
-    }
-    comes_to(kind, bytes, place, strings)
-}
-
-// ---- rows
-
-// A row of a deleted id, or one at whose place a record of its id starts.
-fn row_passes(kind: Kind, bytes: &[u8], row: Row, strings: u64, cells: &[u8; 23302]) -> bool
-    requires { Noted strings kind bytes.now cells.now }
-    ensures { result ≡ row_passes strings kind bytes.now row }
-{
-    if row.place < DELETED {
-        let place = row.place as usize;
-        if place < bytes.len() {
-            let same = rank_there(bytes, place) == row.rank;
-            return same & starts_at(kind, bytes, place, strings, cells);
+impl Starts<'_> {
+    // Whether a walk from record to record comes to a place in the bytes, by its cell; past the cells by that walk.
+    fn starts_at(&self, place: usize) -> bool
+        requires { place < length self.now.records.bytes.now }
+        ensures { result ≡ comes_to self.now.records.strings self.now.records.kind self.now.records.bytes.now place place 0 }
+    {
+        let i = place / 45;
+        if i < CELLS {
+            return self.cells[i] == (place % 45 + 1) as u8;
         }
-        return false;
+        comes_to(&self.records, place)
     }
-    true
-}
 
-fn rows_pass(
-    kind: Kind,
-    table: &[u64],
-    ids: u64,
-    bytes: &[u8],
-    strings: u64,
-    cells: &[u8; 23302],
-) -> bool
-    requires { Noted strings kind bytes.now cells.now }
-    ensures { result ≡ all (row_passes strings kind bytes.now) (rows_of table.now ids) }
-{
-    (0..ids as usize).all(|i| row_passes(kind, bytes, kind_table::row_at(table, i), strings, cells))
+    // A row of a deleted id, or one at whose place a record of its id starts.
+    fn row_passes(&self, row: Row) -> bool
+        ensures { result ≡ row_passes self.now.records.strings self.now.records.kind self.now.records.bytes.now row }
+    {
+        let Some(offset) = row.record_place() else {
+            return true;
+        };
+        let place = offset as usize;
+        if place < self.records.bytes.len() {
+            let same = rank_there(self.records.bytes, place) == row.rank;
+            return same & self.starts_at(place);
+        }
+        false
+    }
+
+    fn rows_pass(&self, table: &Table<'_>) -> bool
+        ensures { result ≡ all (row_passes self.now.records.strings self.now.records.kind self.now.records.bytes.now) (rows_of table.now.words.now (held table.now.words.now table.now.count)) }
+    {
+        table
+            .rows()
+            .iter()
+            .all(|words| self.row_passes(Row::from(*words)))
+    }
 }
 
 // The used bytes, then the rows.
-fn cells_pass(
-    kind: Kind,
-    table: &[u64],
-    ids: u64,
-    bytes: &[u8],
-    strings: u64,
-    cells: &mut [u8; 23302],
-) -> bool
+fn cells_pass(records: &Records<'_>, table: &Table<'_>, cells: &mut [u8; CELLS]) -> bool
     requires { Empty cells.old }
-    ensures { result ≡ both (whole_records strings kind bytes.now) (all (row_passes strings kind bytes.now) (rows_of table.now ids)) }
+    ensures { result ≡ both (whole_records records.now.strings records.now.kind records.now.bytes.now) (all (row_passes records.now.strings records.now.kind records.now.bytes.now) (rows_of table.now.words.now (held table.now.words.now table.now.count))) }
 {
-    if note_starts(kind, bytes, strings, cells) {
-        return rows_pass(kind, table, ids, bytes, strings, cells);
+    if note_starts(records, cells) {
+        let starts = Starts {
+            records: *records,
+            cells,
+        };
+        return starts.rows_pass(table);
     }
     false
 }
 
-// The table, then the rest.
-fn used_sound(kind: Kind, table: &[u64], ids: u64, bytes: &[u8], strings: u64) -> bool
-    ensures { result ≡ sound_used strings kind table.now ids bytes.now }
+// Whether what is lent for one kind is sound, given how many strings are held: the used count, the table, the used bytes, the rows.
+pub fn is_sound(storage: &KindStorage<'_>, strings: u64) -> bool
+    ensures { result ≡ sound_kind_store strings storage.now.kind (kind_seen storage.now) }
 {
-    if kind_table::is_rising(table, ids) {
-        let mut cells = [0u8; 23302];
-        return cells_pass(kind, table, ids, bytes, strings, &mut cells);
-    }
-    false
-}
-
-// Whether a kind's id table and arena are sound, given how many strings are held.
-pub fn sound_kind_store(
-    kind: Kind,
-    table: &[u64],
-    ids: u64,
-    arena: &[u8],
-    used: u64,
-    strings: u64,
-) -> bool
-    ensures { result ≡ sound_kind_store strings kind (kind_store_with table.now ids arena.now used) }
-{
-    let n = used as usize;
-    if arena.len() < n {
+    let n = storage.used as usize;
+    let table = storage.rows();
+    if storage.arena.len() < n || !table.is_rising() {
         return false;
     }
-    used_sound(kind, table, ids, &arena[..n], strings)
+    let records = Records {
+        kind: storage.kind,
+        bytes: &storage.arena[..n],
+        strings,
+    };
+    // On the stack: the library has no heap.
+    let mut cells = [0; CELLS];
+    cells_pass(&records, &table, &mut cells)
 }

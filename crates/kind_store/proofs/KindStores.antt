@@ -22,7 +22,7 @@ use Rattle.version_floor.proofs.Versions.{higher_left, higher_right, commutative
 use Rattle.model.specs.Record.{Meta, claim_of}
 use Rattle.compact.specs.Layout.{Head, head_len, head_bytes, meta_bytes}
 use Rattle.compact.specs.Fits.{fits_meta}
-use Rattle.kind_table.specs.declared.Put.TheVariants as answers
+use Rattle.kind_table.specs.Words as answers
 use Rattle.kind_table.specs.declared.Row.{Row}
 use Rattle.kind_table.specs.Rows.{rising, find, put}
 use Rattle.kind_table.specs.Words.{row_at, rows_from, rows_of, lookup, stored, sound_table}

@@ -1,3 +1,5 @@
+pub mod Seats
+pub mod Settings
 pub mod Acts
 pub mod Answers
 pub mod Claims

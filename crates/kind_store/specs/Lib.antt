@@ -1,2 +1,4 @@
 pub mod KindStore
 pub mod WellFormed
+pub mod Lent
+pub mod Seats

@@ -1,23 +1,315 @@
 // One kind's id table and arena (parse.rs): the known version of an id, a push and a delete.
 #![tactic(auto)]
 
-ghost use Rattle.std.specs.Prelude.{◌≡◌, cond, ◌++◌, ℕ};
+ghost use Rattle.std.specs.Prelude.{◌≡◌, ◌++◌, ℕ};
 ghost use Rattle.std.specs.Int.{w64};
 ghost use Rattle.std.proofs.Common.{to_z};
-ghost use Rattle.osm_id.specs.Order.{rank};
 ghost use Rattle.model.specs.Record.{claim_of};
 ghost use Rattle.compact.specs.Layout.{head_len, head_bytes, meta_bytes};
 ghost use Rattle.compact.specs.Held.{meta_of, head_in};
-ghost use Rattle.compact_append.specs.Append.{append};
-ghost use Rattle.refusal.specs.declared.Refusal.TheVariants.{IdsFull};
-ghost use Rattle.kind_table.specs.Words.{lookup, stored, count_after};
-ghost use Rattle.kind_store.specs.KindStore.{kind_store_with, live_version, known_of, known_at, known_version, floor_at, checked, room_at, floor_after, kind_store_refused, record_joined, pushed, deleted_as, deleted};
+ghost use Rattle.compact.specs.Push.{bytes_given};
+ghost use Rattle.kind_table.specs.Words.{held, row_at};
+ghost use Rattle.kind_store.specs.KindStore.{kind_store_with, live_version, known_of, known_version, checked, room_at, floor_after, pushed, deleted};
+ghost use Rattle.kind_store.specs.Lent.{kind_seen, kind_held, kind_rows_held, IsSameKindStorage, IsSameKindStorageTable};
+ghost use Rattle.kind_store.specs.Seats.{regression_in, seat_of, seated};
 
-use compact::{ArenaMeta, CompactNode, CompactRelation, CompactWay, PushHead};
+use compact::{
+    ArenaMeta, CompactNode, CompactRelation, CompactWay, PushHead, PushRecord, RecordHead,
+};
 use kind::Kind;
-use kind_table::{DELETED, Put, Row};
+use kind_table::{DELETED, Row, Table, TableMut};
 use refusal::Refusal;
 use version_floor::VersionFloor;
+
+// The word of a floor that is none.
+const NO_FLOOR: u64 = 0x1_0000_0000;
+
+// Whether a version below the known one is refused, as the setting says: its word is 0, or another.
+#[derive(Clone, Copy, PartialEq, Eq, Debug)]
+pub enum VersionRegression {
+    Refused,
+    Allowed,
+}
+
+// What is lent for one kind, to be read: its id table with the count of its ids, and its arena with the count of its used bytes.
+#[derive(Clone, Copy)]
+pub struct KindStorage<'a> {
+    pub kind: Kind,
+    pub table: &'a [u64],
+    pub ids: u64,
+    pub arena: &'a [u8],
+    pub used: u64,
+}
+
+// What is lent for one kind, to be changed.
+#[derive(Drop)]
+pub struct KindStorageMut<'a> {
+    pub kind: Kind,
+    pub table: &'a mut [u64],
+    pub ids: u64,
+    pub arena: &'a mut [u8],
+    pub used: u64,
+}
+
+// What is lent for one kind, with the id table alone to be changed.
+#[derive(Drop)]
+pub struct KindStorageTable<'a> {
+    pub kind: Kind,
+    pub table: &'a mut [u64],
+    pub ids: u64,
+    pub arena: &'a [u8],
+    pub used: u64,
+}
+
+// Where the row of an act's id stands or belongs, with the id's known version and its floor. The floor is the word that stands in the row: a push that
+// keeps the floor keeps that word, and each word from 2^32 on means none.
+#[derive(Clone, Copy, PartialEq, Eq, Debug)]
+struct Seat {
+    found: Result<usize, usize>,
+    known: Option<i32>,
+    floor: u64,
+}
+
+impl From<u64> for VersionRegression {
+    ghost from_gives = { λ setting regression. regression ≡ regression_in setting };
+
+    fn from(setting: u64) -> Self {
+        if setting == 0 {
+            VersionRegression::Refused
+        } else {
+            VersionRegression::Allowed
+        }
+    }
+}
+
+impl VersionRegression {
+    // 12: where regression is refused, a claim is checked against the known version.
+    pub fn check(self, known: Option<i32>, claim: Option<i32>) -> Result<(), i32>
+        ensures { (setting : ℕ) → self ≡ regression_in setting → result ≡ checked setting known claim }
+    {
+        match self {
+            VersionRegression::Refused => VersionFloor::new(known).admit(claim),
+            VersionRegression::Allowed => Ok(()),
+        }
+    }
+
+    // The floor word that a push leaves: without a version it carries the known one, only while regression is refused.
+    fn floor_after(self, known: Option<i32>, claim: Option<i32>, floor: u64) -> u64
+        ensures { (setting : ℕ) → self ≡ regression_in setting → result ≡ floor_after setting known claim floor }
+    {
+        match (self, claim) {
+            (VersionRegression::Refused, None) => version_floor::version_word(known),
+            _ => floor,
+        }
+    }
+}
+
+// ---- what is known of an id
+
+// Where the metadata of a kind's record stand. It is a match and no method of `Kind`: the lengths are constants of the three heads, which lie in a crate
+// above that of `Kind`.
+fn meta_off(kind: Kind) -> usize
+    ensures { result ≡ head_len kind }
+{
+    match kind {
+        Kind::Node => CompactNode::LEN,
+        Kind::Way => CompactWay::LEN,
+        Kind::Relation => CompactRelation::LEN,
+    }
+}
+
+impl KindStorage<'_> {
+    // The id table.
+    pub fn rows(&self) -> Table<'_>
+        ensures { (result.words.now ≡ self.now.table.now) × (result.count ≡ self.now.ids) }
+    {
+        Table {
+            words: self.table,
+            count: self.ids,
+        }
+    }
+
+    // How many rows are read: those counted, as far as the words go.
+    pub fn rows_held(&self) -> usize
+        ensures { result ≡ held self.now.table.now self.now.ids }
+    {
+        self.rows().rows().len()
+    }
+
+    // The i-th row.
+    pub fn row_at(&self, i: usize) -> Row
+        ensures { result ≡ row_at self.now.table.now i }
+    {
+        kind_table::row_at(self.table, i)
+    }
+
+    // The version that a row's record claims, or none for a deleted id.
+    fn live_version(&self, row: Row) -> Option<i32>
+        ensures { result ≡ live_version self.now.kind self.now.arena.now row }
+    {
+        let place = row.record_place()?;
+        let at = place as usize + meta_off(self.kind);
+        compact::read_meta(self.arena, at).claim()
+    }
+
+    // The known version that a row says: the larger of its record's and its floor, or the one that exists.
+    pub fn row_version(&self, row: Row) -> Option<i32>
+        ensures { result ≡ known_of self.now.kind self.now.arena.now row }
+    {
+        let floor = version_floor::version_of_word(row.floor);
+        version_floor::higher_of(self.live_version(row), floor)
+    }
+
+    // The known version of an id, which is given in bits.
+    pub fn known_version(&self, id: u64) -> Option<i32>
+        ensures { result ≡ known_version self.now.kind (kind_seen self.now) (to_z w64 id) }
+    {
+        let row = self.rows().find(osm_id::rank_of_bits(id))?;
+        self.row_version(row)
+    }
+
+    // ---- the checks of an act
+
+    fn seat(&self, id: u64) -> Seat
+        ensures { result ≡ seat_of self.now.kind (kind_seen self.now) (to_z w64 id) }
+    {
+        let rows = self.rows();
+        let found = rows.find_row(osm_id::rank_of_bits(id));
+        match rows.found_row(found) {
+            Some(row) => Seat {
+                found,
+                known: self.row_version(row),
+                floor: row.floor,
+            },
+            None => Seat {
+                found,
+                known: None,
+                floor: NO_FLOOR,
+            },
+        }
+    }
+
+    // 14: whether a row that was found, or one more, has room.
+    fn has_room(&self, found: Result<usize, usize>) -> bool
+        ensures { result ≡ room_at self.now.table.now self.now.ids found }
+    {
+        found.is_ok() || (self.ids as usize) < self.table.len() / 3
+    }
+
+    // 12, then 14.
+    fn admitted(
+        &self,
+        regression: VersionRegression,
+        id: u64,
+        claim: Option<i32>,
+    ) -> Result<Seat, Refusal>
+        ensures { (setting : ℕ) → regression ≡ regression_in setting → result ≡ seated self.now.kind setting (kind_seen self.now) (to_z w64 id) claim }
+    {
+        let seat = self.seat(id);
+        // The answer is taken apart, and left early where it is no refusal, as version_floor.rs is asked to be used; `?` would turn it round.
+        let Err(held) = regression.check(seat.known, claim) else {
+            if self.has_room(seat.found) {
+                return Ok(seat);
+            }
+            return Err(Refusal::IdsFull);
+        };
+        Err(Refusal::Regression(held))
+    }
+}
+
+// ---- push
+
+impl KindStorageMut<'_> {
+    // The same, to be read.
+    fn storage(&self) -> KindStorage<'_>
+        ensures { (kind_seen result ≡ kind_held self.now) × (result.kind ≡ self.now.kind) }
+    {
+        KindStorage {
+            kind: self.kind,
+            table: self.table,
+            ids: self.ids,
+            arena: self.arena,
+            used: self.used,
+        }
+    }
+
+    // A push whose record is legal: 12, 14, 15, or taken.
+    pub fn push(
+        &mut self,
+        regression: VersionRegression,
+        push: &PushRecord<'_>,
+    ) -> Result<(), Refusal>
+        ensures same { IsSameKindStorage self.new self.old }
+        ensures done { (setting : ℕ) → regression ≡ regression_in setting
+            → record { kind_store = kind_held self.new; answer = result } ≡ pushed self.old.kind setting (kind_held self.old) (to_z w64 push.now.head.id) (claim_of (meta_of push.now.meta)) (bytes_given push.now) }
+    {
+        let id = push.head.id;
+        let claim = push.meta.claim();
+        let seat = self.storage().admitted(regression, id, claim)?;
+        let place = self.used;
+        let end = compact_append::append_record(self.arena, place as usize, push).ok_or(
+            Refusal::ArenaFull,
+        )?;
+        let row = Row {
+            rank: osm_id::rank_of_bits(id),
+            place,
+            floor: regression.floor_after(seat.known, claim, seat.floor),
+        };
+        let mut rows = TableMut {
+            words: self.table,
+            count: self.ids,
+        };
+        rows.put_row(seat.found, row);
+        self.ids = rows.count;
+        self.used = end as u64;
+        Ok(())
+    }
+}
+
+// ---- delete
+
+impl KindStorageTable<'_> {
+    // The same, to be read.
+    fn storage(&self) -> KindStorage<'_>
+        ensures { (kind_seen result ≡ kind_rows_held self.now) × (result.kind ≡ self.now.kind) }
+    {
+        KindStorage {
+            kind: self.kind,
+            table: self.table,
+            ids: self.ids,
+            arena: self.arena,
+            used: self.used,
+        }
+    }
+
+    // A delete whose metadata is legal: 12, 14, or the floor raised and the id deleted.
+    pub fn delete(
+        &mut self,
+        regression: VersionRegression,
+        id: u64,
+        claim: Option<i32>,
+    ) -> Result<(), Refusal>
+        ensures same { IsSameKindStorageTable self.new self.old }
+        ensures done { (setting : ℕ) → regression ≡ regression_in setting
+            → record { kind_store = kind_rows_held self.new; answer = result } ≡ deleted self.old.kind setting (kind_rows_held self.old) (to_z w64 id) claim }
+    {
+        let seat = self.storage().admitted(regression, id, claim)?;
+        let row = Row {
+            rank: osm_id::rank_of_bits(id),
+            place: DELETED,
+            floor: version_floor::version_word(version_floor::higher_of(seat.known, claim)),
+        };
+        let mut rows = TableMut {
+            words: self.table,
+            count: self.ids,
+        };
+        rows.put_row(seat.found, row);
+        self.ids = rows.count;
+        Ok(())
+    }
+}
+
+// ---- the same over parts that are lent one by one
 
 // An act's answer, and the used counts of ids and of arena bytes after it.
 #[derive(Clone, Copy)]
@@ -25,222 +317,6 @@ pub struct Outcome {
     pub answer: Result<(), Refusal>,
     pub ids: u64,
     pub used: u64,
-}
-
-// ---- what is known of an id
-
-fn meta_off(kind: Kind) -> usize
-    ensures { result ≡ head_len kind }
-{
-    match kind {
-        Kind::Node => CompactNode::META_OFF,
-        Kind::Way => CompactWay::META_OFF,
-        Kind::Relation => CompactRelation::META_OFF,
-    }
-}
-
-// The version that a row's record claims; a place from 2^63 on is no record's.
-fn live_version(kind: Kind, arena: &[u8], row: Row) -> Option<i32>
-    ensures { result ≡ live_version kind arena.now row }
-{
-    let place = row.place;
-    if place < DELETED {
-        let at = place as usize + meta_off(kind);
-        return compact::claim(compact::read_meta(arena, at));
-    }
-    None
-}
-
-// The known version that a row says: the larger of its record's and its floor, or the one that exists.
-pub fn row_version(kind: Kind, arena: &[u8], row: Row) -> Option<i32>
-    ensures { result ≡ known_of kind arena.now row }
-{
-    let live = live_version(kind, arena, row);
-    let floor = version_floor::version_of_word(row.floor);
-    version_floor::higher_of(live, floor)
-}
-
-fn version_found(
-    kind: Kind,
-    table: &[u64],
-    arena: &[u8],
-    found: Result<usize, usize>,
-) -> Option<i32>
-    ensures { result ≡ known_at kind table.now arena.now found }
-{
-    match found {
-        Ok(i) => row_version(kind, arena, kind_table::row_at(table, i)),
-        Err(_) => None,
-    }
-}
-
-pub fn known_version(kind: Kind, table: &[u64], ids: u64, arena: &[u8], id: u64) -> Option<i32>
-    ensures { (used : ℕ) → result ≡ known_version kind (kind_store_with table.now ids arena.now used) (to_z w64 id) }
-{
-    let found = kind_table::find_row(table, ids, osm_id::rank_of_bits(id));
-    version_found(kind, table, arena, found)
-}
-
-// ---- the checks of an act
-
-// 12: with regression refused (setting 0) a claim is checked against the known version.
-fn check(setting: u64, known: Option<i32>, claim: Option<i32>) -> Result<(), i32>
-    ensures { result ≡ checked setting known claim }
-{
-    if setting == 0 {
-        return VersionFloor::new(known).admit(claim);
-    }
-    Ok(())
-}
-
-// 14: whether a row that was found, or one more, has room.
-fn has_room(table: &[u64], ids: u64, found: Result<usize, usize>) -> bool
-    ensures { result ≡ room_at table.now ids found }
-{
-    match found {
-        Ok(_) => true,
-        Err(_) => (ids as usize) < table.len() / 3,
-    }
-}
-
-// ---- a row set
-
-// Sets a row where its rank was found, and says how many rows are counted then.
-fn set_row(table: &mut [u64], ids: u64, found: Result<usize, usize>, row: Row) -> u64
-    ensures { found ≡ lookup table.old ids row.rank
-        → (table.new ≡ (stored table.old ids row).words) × (result ≡ count_after (stored table.old ids row).answer ids) }
-{
-    match kind_table::put_row(table, ids, found, row) {
-        Put::Replaced => ids,
-        Put::Inserted => ids + 1,
-        Put::Full => ids,
-    }
-}
-
-// ---- push
-
-fn floor_found(table: &[u64], found: Result<usize, usize>) -> u64
-    ensures { result ≡ floor_at table.now found }
-{
-    match found {
-        Ok(i) => kind_table::row_at(table, i).floor,
-        Err(_) => 0x1_0000_0000,
-    }
-}
-
-// The floor word that a push leaves: without a version it carries the known one, only while regression is refused.
-fn floor_after(setting: u64, known: Option<i32>, claim: Option<i32>, floor: u64) -> u64
-    ensures { result ≡ floor_after setting known claim floor }
-{
-    if claim.is_none() && setting == 0 {
-        return version_floor::version_word(known);
-    }
-    floor
-}
-
-fn append_record(
-    kind: Kind,
-    arena: &mut [u8],
-    used: usize,
-    head: PushHead,
-    meta: ArenaMeta,
-    parts: &[u8],
-) -> Option<usize>
-    ensures { record { arena = arena.new; answer = result } ≡ append arena.old used (head_bytes kind (head_in kind head) ++ meta_bytes (meta_of meta) ++ parts.now) }
-{
-    match kind {
-        Kind::Node => {
-            let node = CompactNode {
-                id: head.id,
-                lat: head.lat,
-                lon: head.lon,
-                tag_count: head.tags,
-            };
-            compact_append::append_node(arena, used, node, meta, parts)
-        }
-        Kind::Way => {
-            let way = CompactWay {
-                id: head.id,
-                ref_count: head.count,
-                tag_count: head.tags,
-            };
-            compact_append::append_way(arena, used, way, meta, parts)
-        }
-        Kind::Relation => {
-            let relation = CompactRelation {
-                id: head.id,
-                member_count: head.count,
-                tag_count: head.tags,
-            };
-            compact_append::append_relation(arena, used, relation, meta, parts)
-        }
-    }
-}
-
-// 15, or the record joined and the row of its id set.
-fn join(
-    kind: Kind,
-    table: &mut [u64],
-    ids: u64,
-    arena: &mut [u8],
-    used: u64,
-    floor: u64,
-    head: PushHead,
-    meta: ArenaMeta,
-    parts: &[u8],
-    found: Result<usize, usize>,
-) -> Outcome
-    ensures { found ≡ lookup table.old ids (rank (to_z w64 head.id))
-        → record { kind_store = kind_store_with table.new result.ids arena.new result.used; answer = result.answer }
-        ≡ record_joined (kind_store_with table.old ids arena.old used) (to_z w64 head.id) floor (head_bytes kind (head_in kind head) ++ meta_bytes (meta_of meta) ++ parts.now) }
-{
-    let Some(end) = append_record(kind, arena, used as usize, head, meta, parts) else {
-        return Outcome {
-            answer: Err(Refusal::ArenaFull),
-            ids,
-            used,
-        };
-    };
-    let row = Row {
-        rank: osm_id::rank_of_bits(head.id),
-        place: used,
-        floor,
-    };
-    Outcome {
-        answer: Ok(()),
-        ids: set_row(table, ids, found, row),
-        used: end as u64,
-    }
-}
-
-// A push that passed 12, with the floor word that it leaves: 14, 15, or taken.
-fn push_admitted(
-    kind: Kind,
-    table: &mut [u64],
-    ids: u64,
-    arena: &mut [u8],
-    used: u64,
-    floor: u64,
-    head: PushHead,
-    meta: ArenaMeta,
-    parts: &[u8],
-    found: Result<usize, usize>,
-) -> Outcome
-    ensures { found ≡ lookup table.old ids (rank (to_z w64 head.id))
-        → record { kind_store = kind_store_with table.new result.ids arena.new result.used; answer = result.answer }
-        ≡ (let s = kind_store_with table.old ids arena.old used in
-        cond (room_at s.table s.ids found) (record_joined s (to_z w64 head.id) floor (head_bytes kind (head_in kind head) ++ meta_bytes (meta_of meta) ++ parts.now)) (kind_store_refused s IdsFull)) }
-{
-    if has_room(table, ids, found) {
-        return join(
-            kind, table, ids, arena, used, floor, head, meta, parts, found,
-        );
-    }
-    Outcome {
-        answer: Err(Refusal::IdsFull),
-        ids,
-        used,
-    }
 }
 
 pub fn push(
@@ -256,56 +332,26 @@ pub fn push(
 ) -> Outcome
     ensures { record { kind_store = kind_store_with table.new result.ids arena.new result.used; answer = result.answer } ≡ pushed kind setting (kind_store_with table.old ids arena.old used) (to_z w64 head.id) (claim_of (meta_of meta)) (head_bytes kind (head_in kind head) ++ meta_bytes (meta_of meta) ++ parts.now) }
 {
-    let found = kind_table::find_row(table, ids, osm_id::rank_of_bits(head.id));
-    let version = version_found(kind, table, arena, found);
-    let claim = compact::claim(meta);
-    let Err(held) = check(setting, version, claim) else {
-        let floor = floor_after(setting, version, claim, floor_found(table, found));
-        return push_admitted(
-            kind, table, ids, arena, used, floor, head, meta, parts, found,
-        );
+    let mut storage = KindStorageMut {
+        kind,
+        table,
+        ids,
+        arena,
+        used,
     };
+    let answer = storage.push(
+        setting.into(),
+        &PushRecord {
+            kind,
+            head,
+            meta,
+            parts,
+        },
+    );
     Outcome {
-        answer: Err(Refusal::Regression(held)),
-        ids,
-        used,
-    }
-}
-
-// ---- delete
-
-// A delete that passed 12: 14, or the floor raised and the id deleted.
-fn delete_admitted(
-    kind: Kind,
-    table: &mut [u64],
-    ids: u64,
-    arena: &[u8],
-    used: u64,
-    id: u64,
-    claim: Option<i32>,
-    found: Result<usize, usize>,
-    version: Option<i32>,
-) -> Outcome
-    requires { (found ≡ lookup table.old ids (rank (to_z w64 id))) × (version ≡ known_version kind (kind_store_with table.old ids arena.now used) (to_z w64 id)) }
-    ensures { record { kind_store = kind_store_with table.new result.ids arena.now result.used; answer = result.answer } ≡ deleted_as kind (kind_store_with table.old ids arena.now used) (to_z w64 id) claim (Ok tt) }
-{
-    if has_room(table, ids, found) {
-        let floor = version_floor::version_word(version_floor::higher_of(version, claim));
-        let row = Row {
-            rank: osm_id::rank_of_bits(id),
-            place: DELETED,
-            floor,
-        };
-        return Outcome {
-            answer: Ok(()),
-            ids: set_row(table, ids, found, row),
-            used,
-        };
-    }
-    Outcome {
-        answer: Err(Refusal::IdsFull),
-        ids,
-        used,
+        answer,
+        ids: storage.ids,
+        used: storage.used,
     }
 }
 
@@ -321,14 +367,17 @@ pub fn delete(
 ) -> Outcome
     ensures { record { kind_store = kind_store_with table.new result.ids arena.now result.used; answer = result.answer } ≡ deleted kind setting (kind_store_with table.old ids arena.now used) (to_z w64 id) claim }
 {
-    let found = kind_table::find_row(table, ids, osm_id::rank_of_bits(id));
-    let version = version_found(kind, table, arena, found);
-    let Err(held) = check(setting, version, claim) else {
-        return delete_admitted(kind, table, ids, arena, used, id, claim, found, version);
-    };
-    Outcome {
-        answer: Err(Refusal::Regression(held)),
+    let mut storage = KindStorageTable {
+        kind,
+        table,
         ids,
+        arena,
         used,
+    };
+    let answer = storage.delete(setting.into(), id, claim);
+    Outcome {
+        answer,
+        ids: storage.ids,
+        used: storage.used,
     }
 }

@@ -1,13 +1,13 @@
--- A gap of three words, opened a word at a time from the end, in a part that is lent; a row stored word by word, and in the gap.
+-- A gap of three words, opened a word at a time from the end, in a part that is lent; a row stored over its words, and in the gap.
 use Prim.Native.Nat.{ℕ, suc, ◌+◌, ◌*◌, ◌-◌, ◌<◌, ◌≤◌}
-use mathlib.Core.Path.{◌≡◌, sym, ◌∙◌}
+use mathlib.Core.Path.{◌≡◌, sym, ◌∙◌, ap}
 use mathlib.Core.List.{List, [], ◌∷◌, ◌++◌, append-nil, append_assoc}
 use native.Mathlib.Omega.{arith}
 use lib.ListN.{length, get_or, take, drop, set, take-append-drop, drop_of_length-le, length-drop, get_or-append}
 use borrow.Rule.Slice.PartMut.{mid_of, post_of, put_mid}
-use lib.Seq.{take_all, take-append-le, take-take, take-add, drop-drop, drop_at, slice, slice_empty, slice-cons, take-suc, append_snoc, set_at, sets-eq, length-take-le, get_or-take}
+use lib.Seq.{take_all, take-append-le, take-take, take-add, drop-drop, drop_at, slice, slice_empty, slice-cons, take-suc, append_snoc, set_at, length-take-le, get_or-take}
 use Rattle.kind_table.specs.declared.Row.{Row}
-use Rattle.kind_table.specs.Words.{words_of, row_over, gap, inserted}
+use Rattle.kind_table.specs.Words.{words_in, words_of, row_over, gap, inserted}
 
 module _ (ws : List ℕ) (used : ℕ) where
   pub gap_closed : gap ws used used ≡ ws
@@ -66,14 +66,10 @@ module _ (ws : List ℕ) (used : ℕ) where
       let q : post_of at (length ws - at) ws ≡ [] = drop_of_length-le (drop at ws) n in
       rw (q, e, m, append-nil) (gap_part at h fits)
 
--- a row stored word by word
-pub row_stored : (ws : List ℕ) (i : ℕ) (row : Row) → 3 * i + 3 ≤ length ws → set (set (set ws (3 * i) row.rank) (3 * i + 1) row.place) (3 * i + 2) row.floor ≡ row_over ws i row
+-- a row stored over its three words, as the borrow checker says it: `last` is what is left of the part
+pub row_lent : (ws last : List ℕ) (i k : ℕ) (row : Row) → k ≡ 3 → last ≡ words_in row → put_mid (3 * i) k ws last ≡ row_over ws i row
 unfolding row_over words_of
-row_stored ws i row h =
-    let x : 3 * i + 1 ≡ suc (3 * i) = omega arith in
-    let y : 3 * i + 2 ≡ suc (suc (3 * i)) = omega arith in
-    let new = row.rank ∷ row.place ∷ row.floor ∷ [] in
-    rw (x, y) (sets-eq new ws (3 * i) h ∙ append_assoc (take (3 * i) ws) new (drop (3 * i + 3) ws))
+row_lent ws last i k row e f = rw (e, f) (ap (λ t. take (3 * i) ws ++ (words_in row ++ t)) (drop-drop 3 (3 * i) ws))
 
 -- a row stored in the gap
 pub gap_filled : (ws : List ℕ) (p n : ℕ) (row : Row) → p ≤ n → 3 * n + 3 ≤ length ws → row_over (gap ws (3 * p) (3 * n)) p row ≡ inserted ws p n row

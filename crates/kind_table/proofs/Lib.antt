@@ -1,5 +1,6 @@
 pub mod Maps
 pub mod Spans
+pub mod Chunks
 pub mod Rises
 pub mod Halves
 pub mod Gaps

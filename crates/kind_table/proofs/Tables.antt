@@ -6,13 +6,11 @@ use mathlib.Core.Bool.{true}
 use mathlib.Core.List.{List, ◌++◌}
 use native.Mathlib.Omega.{arith}
 use lib.ListN.{length, drop, length-append}
-use borrow.Author.Tests.{le-leb, lt-leb, leb-true}
+use borrow.Author.Tests.{le-leb, lt-leb, leb-true, lt-ltb}
 use Rattle.base.proofs.Split.{by_le, both_left, both_right, both_of, no}
 use Rattle.kind_table.specs.declared.Row.{Row}
-use Rattle.kind_table.specs.declared.Put.TheVariants.{Replaced, Inserted, Full}
-use Rattle.kind_table.specs.declared.Put.{Put}
 use Rattle.kind_table.specs.Rows.{rising, find, put, smaller, position_of}
-use Rattle.kind_table.specs.Words.{row_at, rows_from, rows_of, words_of, sound_table, held, lookup, row_over, inserted, Stored, stored_at, stored, count_after}
+use Rattle.kind_table.specs.Words.{row_at, row_by, row_found, rows_from, rows_of, words_of, sound_table, held, lookup, row_over, inserted, Put, Replaced, Inserted, Full, Stored, stored_at, stored, count_after}
 use Rattle.kind_table.proofs.Maps.{smaller_le, find_place, put_known, put_new, length_known, length_new, rising_put}
 use Rattle.kind_table.proofs.Spans.{rows_length, rows_at, rows_words, words_length, words_over, words_inserted, length_over, length_inserted}
 use Rattle.kind_table.proofs.Halves.{searched, lookup_at, lookup_place, position_known, position_new}
@@ -48,6 +46,11 @@ module _ (ws : List ℕ) (count : ℕ) where
 pub sound_empty : (ws : List ℕ) → sound_table ws 0 ≡ true
 unfolding rising rows_of rows_from
 sound_empty ws = sound_of ws 0 (omega arith) refl
+
+-- what a search found is among the rows that are read
+pub row_looked_up : (ws : List ℕ) (count rank : ℕ) (f : Result ℕ ℕ) → f ≡ lookup ws count rank → row_by ws (held ws count) f ≡ row_found ws (lookup ws count rank)
+row_looked_up ws count rank (Ok i) e = rw (← e, lt-ltb i (held ws count) (lookup_at ws rank count i (sym e)))
+row_looked_up ws count rank (Err p) e = rw (← e)
 
 -- ---- what was stored, by what the search found
 

@@ -1,14 +1,16 @@
 // Id tables over lent words: three words a row, in OSM order of the ids.
 #![tactic(auto)]
 
-ghost use Rattle.std.specs.Prelude.{◌≡◌, ℕ, ◌+◌, ◌*◌, ◌≤◌, ◌<◌, length, get_or};
-ghost use Rattle.kind_table.specs.declared.Put.TheVariants as P;
-ghost use Rattle.kind_table.specs.Words.{row_at, sound_table, held, halve, lookup, row_over, gap, inserted, stored};
+ghost use Rattle.std.specs.Prelude.{◌≡◌, ℕ, ◌+◌, ◌*◌, ◌/◌, ◌≤◌, ◌<◌, length, get_or};
+ghost use Rattle.std.specs.Simd.{first_chunks};
+ghost use Rattle.kind_table.specs.Words.{row_at, row_given, row_by, row_found, record_place, words_in, row_of_words, sound_table, held, halve, lookup, row_over, gap, inserted, table_after};
+ghost use Rattle.kind_table.specs.Lent.{IsSameTable};
 
 // The word that stands in place of an offset where the id is deleted, and each above it.
 pub const DELETED: u64 = 0x8000_0000_0000_0000;
 
-// A row: the id's rank in OSM order; where its record starts, or that it is deleted; its floor. Every word means something.
+// A row as its three words stand in the id table: the id's rank in OSM order; where its record starts, or that it is deleted; its floor. Every word
+// means something.
 #[derive(Clone, Copy, PartialEq, Eq, Debug)]
 pub struct Row {
     pub rank: u64,
@@ -16,12 +18,188 @@ pub struct Row {
     pub floor: u64,
 }
 
-// Full: the rank is new and there is no room for one more row.
-#[derive(Clone, Copy, PartialEq, Eq, Debug)]
-pub enum Put {
-    Replaced,
-    Inserted,
-    Full,
+// An id table as it is lent to be read: its words, and how many rows are counted.
+#[derive(Clone, Copy)]
+pub struct Table<'a> {
+    pub words: &'a [u64],
+    pub count: u64,
+}
+
+// An id table as it is lent to be changed. C lends the words, three a row: that is the storage format.
+#[derive(Drop)]
+pub struct TableMut<'a> {
+    pub words: &'a mut [u64],
+    pub count: u64,
+}
+
+impl Row {
+    // Where the record of a live id starts, or none for a deleted id.
+    pub fn record_place(self) -> Option<u64>
+        ensures { result ≡ record_place self.place }
+    {
+        if self.place < DELETED {
+            Some(self.place)
+        } else {
+            None
+        }
+    }
+
+    fn words(self) -> [u64; 3]
+        ensures { result ≡ words_in self }
+    {
+        [self.rank, self.place, self.floor]
+    }
+}
+
+impl From<[u64; 3]> for Row {
+    ghost from_gives = { λ words row. row ≡ row_of_words words };
+
+    fn from(words: [u64; 3]) -> Row {
+        let [rank, place, floor] = words;
+        Row { rank, place, floor }
+    }
+}
+
+impl Table<'_> {
+    // The rows that are read, each in three words: those counted, as far as the words go.
+    pub fn rows(&self) -> &[[u64; 3]]
+        ensures value { result.now ≡ first_chunks 3 (held self.now.words.now self.now.count) self.now.words.now }
+        ensures len { length result.now ≡ held self.now.words.now self.now.count }
+    {
+        let (rows, _) = self.words.as_chunks::<3>();
+        let n = rows.len().min(self.count as usize);
+        &rows[..n]
+    }
+
+    // The i-th row, or none where fewer are read.
+    pub fn row(&self, i: usize) -> Option<Row>
+        ensures { result ≡ row_given self.now.words.now (held self.now.words.now self.now.count) i }
+    {
+        let words = self.rows().get(i)?;
+        Some(Row::from(*words))
+    }
+
+    // Whether the words hold the counted rows and their ranks strictly rise.
+    pub fn is_rising(&self) -> bool
+        ensures { result ≡ sound_table self.now.words.now self.now.count }
+    {
+        let rows = self.rows();
+        if rows.len() < self.count as usize {
+            return false;
+        }
+        for i in 1..rows.len() {
+            if rows[i][0] <= rows[i - 1][0] {
+                return false;
+            }
+        }
+        true
+    }
+
+    // Where a rank belongs among the rows, by halves. It is a loop: `find_row` also promises what this search answers where ranks do not rise, which the
+    // library's `partition_point` and `binary_search_by_key` leave open.
+    fn place_of(&self, rank: u64) -> usize
+        ensures { result ≡ halve (held self.now.words.now self.now.count) self.now.words.now rank 0 (held self.now.words.now self.now.count) }
+    {
+        let rows = self.rows();
+        let mut lo: usize = 0;
+        let mut hi = rows.len();
+        while lo < hi {
+            let mid = (lo + hi) / 2;
+            if rows[mid][0] < rank {
+                lo = mid + 1;
+            } else {
+                hi = mid;
+            }
+        }
+        lo
+    }
+
+    // The row of a rank, or its place behind the rows of smaller ranks.
+    pub fn find_row(&self, rank: u64) -> Result<usize, usize>
+        ensures { result ≡ lookup self.now.words.now self.now.count rank }
+    {
+        let rows = self.rows();
+        let p = self.place_of(rank);
+        if p < rows.len() && rows[p][0] == rank {
+            Ok(p)
+        } else {
+            Err(p)
+        }
+    }
+
+    // The row that a search found, or none.
+    pub fn found_row(&self, found: Result<usize, usize>) -> Option<Row>
+        ensures { result ≡ row_by self.now.words.now (held self.now.words.now self.now.count) found }
+    {
+        let i = found.ok()?;
+        self.row(i)
+    }
+
+    // The row of a rank, or none.
+    pub fn find(&self, rank: u64) -> Option<Row>
+        ensures { result ≡ row_found self.now.words.now (lookup self.now.words.now self.now.count rank) }
+    {
+        self.found_row(self.find_row(rank))
+    }
+}
+
+// Moves the first n words three further on; from place 0 on, so that it is compiled to one block move.
+fn move_up(words: &mut [u64], n: usize)
+    requires { n + 3 ≤ length words.old }
+    ensures { words.new ≡ gap words.old 0 n }
+{
+    words.copy_within(0..n, 3);
+}
+
+// Moves the words from `at` up to `used` three further on.
+fn open_gap(words: &mut [u64], at: usize, used: usize)
+    requires { (at ≤ used) × (used + 3 ≤ length words.old) }
+    ensures { words.new ≡ gap words.old at used }
+{
+    move_up(&mut words[at..], used - at);
+}
+
+// A row over the i-th. Rows are stored over the words: the library says nothing of what the slice ends as after `as_chunks_mut`.
+fn store_row(words: &mut [u64], i: usize, row: Row)
+    requires { 3 * i + 3 ≤ length words.old }
+    ensures { words.new ≡ row_over words.old i row }
+{
+    let at = 3 * i;
+    words[at..at + 3].copy_from_slice(&row.words());
+}
+
+// A row before the p-th of n rows.
+fn insert_row(words: &mut [u64], p: usize, n: usize, row: Row)
+    requires { (p ≤ n) × (3 * n + 3 ≤ length words.old) }
+    ensures { words.new ≡ inserted words.old p n row }
+{
+    open_gap(words, 3 * p, 3 * n);
+    store_row(words, p, row);
+}
+
+impl TableMut<'_> {
+    // Stores a row by where its rank was found: over the row there, or inserted in its place and the later rows moved up by one. Says whether it is
+    // stored: where the rank is new and there is no room for one more row, nothing is.
+    pub fn put_row(&mut self, found: Result<usize, usize>, row: Row) -> bool
+        ensures same { IsSameTable self.new self.old }
+        ensures done { found ≡ lookup self.old.words.now self.old.count row.rank
+            → record { words = self.new.words.now; count = self.new.count; answer = result } ≡ table_after self.old.words.now self.old.count row }
+    {
+        let n = self.count as usize;
+        let most = self.words.len() / 3;
+        match found {
+            Ok(i) if i < most => {
+                store_row(self.words, i, row);
+                true
+            }
+            Err(p) if p <= n && n < most => {
+                insert_row(self.words, p, n, row);
+                self.count += 1;
+                true
+            }
+            _ => false,
+        }
+    }
 }
 
 fn word_at(table: &[u64], j: usize) -> u64
@@ -46,130 +224,6 @@ pub fn row_at(table: &[u64], i: usize) -> Row
             rank: 0,
             place: 0,
             floor: 0,
-        }
-    }
-}
-
-// Whether the words hold the counted rows and their ranks strictly rise.
-pub fn is_rising(table: &[u64], count: u64) -> bool
-    ensures { result ≡ sound_table table.now count }
-{
-    let n = count as usize;
-    if table.len() / 3 < n {
-        return false;
-    }
-    for i in 1..n {
-        let at = 3 * i;
-        if table[at] <= table[at - 3] {
-            return false;
-        }
-    }
-    true
-}
-
-// As many rows as are counted and as the words hold.
-fn rows_held(table: &[u64], count: u64) -> usize
-    ensures { result ≡ held table.now count }
-{
-    let n = count as usize;
-    let most = table.len() / 3;
-    if n < most { n } else { most }
-}
-
-// Where a rank belongs among n rows, by halves. It is a loop: a row is three words, and `find_row` also promises what this search answers where
-// ranks do not rise, which the library's `partition_point` leaves open.
-fn place_of(table: &[u64], n: usize, rank: u64) -> usize
-    requires { 3 * n ≤ length table.now }
-    ensures { result ≡ halve n table.now rank 0 n }
-{
-    let mut lo: usize = 0;
-    let mut hi = n;
-    while lo < hi {
-        let mid = (lo + hi) / 2;
-        if table[3 * mid] < rank {
-            lo = mid + 1;
-        } else {
-            hi = mid;
-        }
-    }
-    lo
-}
-
-// The row of a rank, or its place behind the rows of smaller ranks.
-pub fn find_row(table: &[u64], count: u64, rank: u64) -> Result<usize, usize>
-    ensures { result ≡ lookup table.now count rank }
-{
-    let n = rows_held(table, count);
-    let p = place_of(table, n, rank);
-    if p < n {
-        if table[3 * p] == rank {
-            return Ok(p);
-        }
-    }
-    Err(p)
-}
-
-// Moves the first n words three further on; from place 0 on, so that it is compiled to one block move.
-fn move_up(words: &mut [u64], n: usize)
-    requires { n + 3 ≤ length words.old }
-    ensures { words.new ≡ gap words.old 0 n }
-{
-    words.copy_within(0..n, 3);
-}
-
-// Moves the words from `at` up to `used` three further on.
-fn open_gap(table: &mut [u64], at: usize, used: usize)
-    requires { (at ≤ used) × (used + 3 ≤ length table.old) }
-    ensures { table.new ≡ gap table.old at used }
-{
-    move_up(&mut table[at..], used - at);
-}
-
-// A row over the i-th.
-fn store_row(table: &mut [u64], i: usize, row: Row)
-    requires { 3 * i + 3 ≤ length table.old }
-    ensures { table.new ≡ row_over table.old i row }
-{
-    let at = 3 * i;
-    table[at] = row.rank;
-    table[at + 1] = row.place;
-    table[at + 2] = row.floor;
-}
-
-// A row before the p-th of n rows.
-fn insert_row(table: &mut [u64], p: usize, n: usize, row: Row)
-    requires { (p ≤ n) × (3 * n + 3 ≤ length table.old) }
-    ensures { table.new ≡ inserted table.old p n row }
-{
-    open_gap(table, 3 * p, 3 * n);
-    store_row(table, p, row);
-}
-
-// Stores a row by where its rank was found: over the row there, or inserted in its place and the later rows moved up by one. Where
-// the table has no such row or place, nothing is stored.
-pub fn put_row(table: &mut [u64], count: u64, found: Result<usize, usize>, row: Row) -> Put
-    ensures result_after { found ≡ lookup table.old count row.rank
-        → record { words = table.new; answer = result } ≡ stored table.old count row }
-    ensures count_in_bounds { result ≡ P.Inserted → 3 * count + 3 ≤ length table.old }
-{
-    let n = count as usize;
-    let most = table.len() / 3;
-    match found {
-        Ok(i) => {
-            if i < most {
-                store_row(table, i, row);
-                return Put::Replaced;
-            }
-            Put::Full
-        }
-        Err(p) => {
-            if n < most {
-                if p <= n {
-                    insert_row(table, p, n, row);
-                    return Put::Inserted;
-                }
-            }
-            Put::Full
         }
     }
 }

@@ -30,11 +30,11 @@ written (suc k) n ds =
     (λ h. rw (lt-ltb n 10 h, digits_before) (ap (λ x. decimal x ds) (omega arith)))
     (λ h. rw (le-ltb n 10 h, digits_before) (written k _ _ ∙ ap (λ x. decimal x ds) (omega arith)))
 
-last_digit : (k n : ℕ) (ds : Bytes) → n < 10 → digits_before (suc k) n ds ≡ (48 + n) ∷ ds
+pub last_digit : (k n : ℕ) (ds : Bytes) → n < 10 → digits_before (suc k) n ds ≡ (48 + n) ∷ ds
 unfolding digits_before
 last_digit k n ds h = rw (lt-ltb n 10 h, digits_before)
 
-more_digits : (k n : ℕ) (ds : Bytes) → 10 ≤ n → digits_before (suc k) n ds ≡ digits_before k (n / 10) ((48 + n % 10) ∷ ds)
+pub more_digits : (k n : ℕ) (ds : Bytes) → 10 ≤ n → digits_before (suc k) n ds ≡ digits_before k (n / 10) ((48 + n % 10) ∷ ds)
 unfolding digits_before
 more_digits k n ds h = rw (le-ltb n 10 h, digits_before)
 

@@ -1,4 +1,5 @@
 pub mod Rows
+pub mod EachKind
 pub mod Pages
 pub mod Calls
 pub mod Summaries

@@ -33,7 +33,8 @@ use Rattle.overlay.specs.Sound.{Sound, is_sound}
 use Rattle.overlay.proofs.Decides.{decides}
 use Rattle.listing.specs.Table.{left_at, row_of, kind_table, table_of}
 use Rattle.listing_rows.specs.Lines.{row_fields_at, row_pieces, kind_pieces}
-use Rattle.listing.specs.Pieces.{text_held, pieces_of}
+use Rattle.listing_fields.specs.Fields.{text_held}
+use Rattle.listing.specs.Pieces.{pieces_of}
 use Rattle.listing.specs.Call.{page_of}
 use Rattle.listing.proofs.Rows.{row_starts, record_read, record_found, record_kind, row_version}
 

@@ -3,14 +3,9 @@ use Rattle.std.specs.Prelude.{ℕ, List, ◌++◌}
 use Rattle.base.specs.Bytes.{Bytes}
 use Rattle.kind.specs.declared.Kind.{Kind}
 use Rattle.kind.specs.declared.Kind.TheVariants.{Node, Way, Relation}
-use Rattle.interner.specs.Strings.{Store, used_of}
-use Rattle.listing_fields.specs.Fields.{held_text}
+use Rattle.listing_fields.specs.Fields.{text_held}
 use Rattle.overlay.specs.Overlay.{Overlay, kind_store_of}
 use Rattle.listing_rows.specs.Lines.{kind_pieces}
-
--- the text of a handle
-abbrev pub text_held : Store → ℕ → Bytes
-text_held t = held_text t.spans (used_of t) t.strings
 
 abbrev pub kind_lines : Kind → Overlay → List Bytes
 kind_lines k o = kind_pieces (text_held o.texts) k (kind_store_of k o)

@@ -9,7 +9,7 @@ use Rattle.text.specs.Escape.{escape}
 use Rattle.line.specs.Decimal.{number_text, integer_text}
 use Rattle.kind.specs.declared.Kind.{Kind}
 use Rattle.kind.specs.declared.Kind.TheVariants.{Node, Way, Relation}
-use Rattle.interner.specs.Strings.{span_of}
+use Rattle.interner.specs.Strings.{Store, used_of, span_of}
 use Rattle.little.specs.declared.Span.{Span}
 use Rattle.model.specs.Swap.{swap_meta}
 use Rattle.compact.specs.Layout.{Head, head_len}
@@ -27,6 +27,10 @@ span_text bytes None = []
 -- the text of a handle, by the spans and the used bytes of so many strings
 unfoldable pub held_text : List ℕ → Bytes → ℕ → ℕ → Bytes
 held_text spans bytes strings h = span_text bytes (span_of spans bytes strings h)
+
+-- the text of a handle, in a store
+abbrev pub text_held : Store → ℕ → Bytes
+text_held t = held_text t.spans (used_of t) t.strings
 
 -- ---- elements by number
 

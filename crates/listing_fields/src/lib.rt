@@ -1,279 +1,130 @@
 // The fields of a live line, printed from a record's bytes: metadata, place or refs or members, tags.
 #![tactic(auto)]
 
-ghost use Rattle.std.specs.Prelude.{◌≡◌, [], ◌∷◌, ◌+◌};
+ghost use Rattle.std.specs.Prelude.{◌≡◌, [], ◌∷◌};
 ghost use Rattle.text.specs.Escape.{escape};
 ghost use Rattle.line.specs.Decimal.{number_text};
-ghost use Rattle.kind.specs.declared.Kind.TheVariants.{Node, Way, Relation};
+ghost use Rattle.interner.specs.Lent.{store_seen};
 ghost use Rattle.model.specs.Swap.{swap_meta};
 ghost use Rattle.compact.specs.Held.{meta_of};
-ghost use Rattle.compact.specs.View.{member_at};
 ghost use Rattle.listing_page.specs.Listing.{meta_fields};
-ghost use Rattle.print.specs.Print.{print, tabs};
-ghost use Rattle.listing_fields.specs.Fields.{held_text, each_from, ref_fields_at, held_member, tag_fields_from, record_fields_at};
+ghost use Rattle.print.specs.Print.{tabs};
+ghost use Rattle.print.specs.Printer.{Prints};
+ghost use Rattle.listing_fields.specs.Fields.{text_held, held_member, tag_fields_from, body_fields_at, record_fields_at};
 
-use compact::{ArenaMeta, CompactMember, CompactNode, CompactRelation, CompactWay};
+use compact::{ArenaMeta, CompactMember, CompactNode, CompactRelation, CompactWay, RecordHead};
+use interner::Strings;
 use kind::Kind;
+use print::{Escaped, Integer, Printer};
 
 // The text of a handle.
-fn put_held(
-    out: &mut [u8],
-    cap: usize,
-    room: Option<usize>,
-    spans: &[u64],
-    bytes: &[u8],
-    strings: u64,
-    handle: u32,
-) -> Option<usize>
-    ensures { record { out = out.new; room = result }
-        ≡ print cap (tabs (escape (held_text spans.now bytes.now strings handle) ∷ [])) (record { out = out.old; room = room }) }
+fn put_held(printer: &mut Printer<'_>, strings: &Strings<'_>, handle: u32)
+    ensures { Prints (tabs (escape (text_held (store_seen strings.now) handle) ∷ [])) printer.old printer.new }
 {
-    match interner::resolve(spans, bytes, strings, handle as u64) {
-        Some(p) => {
-            let end = p.start + p.len;
-            print::put_text(out, cap, room, &bytes[p.start..end])
-        }
-        None => print::put_text(out, cap, room, b""),
-    }
+    let texts = strings.texts();
+    let text = match strings.resolve(u64::from(handle)) {
+        Some(span) => &texts.bytes[span.start..span.start + span.len],
+        None => b"",
+    };
+    printer.put(&Escaped(text));
 }
 
 // "flags, version, timestamp, changeset, uid, user"
-fn put_meta(
-    out: &mut [u8],
-    cap: usize,
-    room: Option<usize>,
-    meta: ArenaMeta,
-    spans: &[u64],
-    bytes: &[u8],
-    strings: u64,
-) -> Option<usize>
-    ensures { record { out = out.new; room = result }
-        ≡ print cap (tabs (meta_fields (swap_meta (held_text spans.now bytes.now strings) (meta_of meta)))) (record { out = out.old; room = room }) }
+fn put_meta(printer: &mut Printer<'_>, strings: &Strings<'_>, meta: ArenaMeta)
+    ensures { Prints (tabs (meta_fields (swap_meta (text_held (store_seen strings.now)) (meta_of meta)))) printer.old printer.new }
 {
-    let room = print::put_number(out, cap, room, meta.flags as u64);
-    let room = print::put_integer32(out, cap, room, meta.version);
-    let room = print::put_integer(out, cap, room, meta.timestamp);
-    let room = print::put_integer(out, cap, room, meta.changeset);
-    let room = print::put_integer32(out, cap, room, meta.uid);
-    put_held(out, cap, room, spans, bytes, strings, meta.user)
-}
-
-// "ref count, refs"
-fn put_refs(out: &mut [u8], cap: usize, room: Option<usize>, view: &[u8], n: u32) -> Option<usize>
-    ensures { record { out = out.new; room = result }
-        ≡ print cap (tabs (number_text n ∷ each_from (ref_fields_at view.now) 0 n)) (record { out = out.old; room = room }) }
-{
-    let mut left = print::put_number(out, cap, room, n as u64);
-    for i in 0..n {
-        left = print::put_integer(out, cap, left, compact::ref_at(view, i));
-    }
-    left
+    printer.put(&u64::from(meta.flags));
+    printer.put(&Integer::from_bits_32(meta.version));
+    printer.put(&Integer(meta.timestamp));
+    printer.put(&Integer(meta.changeset));
+    printer.put(&Integer::from_bits_32(meta.uid));
+    put_held(printer, strings, meta.user);
 }
 
 // "type (0 to 2), ref, role"
-fn put_member(
-    out: &mut [u8],
-    cap: usize,
-    room: Option<usize>,
-    member: CompactMember,
-    spans: &[u64],
-    bytes: &[u8],
-    strings: u64,
-) -> Option<usize>
-    ensures { record { out = out.new; room = result }
-        ≡ print cap (tabs (held_member (held_text spans.now bytes.now strings) member)) (record { out = out.old; room = room }) }
+fn put_member(printer: &mut Printer<'_>, strings: &Strings<'_>, member: CompactMember)
+    ensures { Prints (tabs (held_member (text_held (store_seen strings.now)) member)) printer.old printer.new }
 {
-    let room = print::put_number(out, cap, room, member.kind as u64);
-    let room = print::put_integer(out, cap, room, member.reference);
-    put_held(out, cap, room, spans, bytes, strings, member.role)
-}
-
-// "member count, then type (0 to 2), ref, role each"
-fn put_members(
-    out: &mut [u8],
-    cap: usize,
-    room: Option<usize>,
-    view: &[u8],
-    n: u32,
-    spans: &[u64],
-    bytes: &[u8],
-    strings: u64,
-) -> Option<usize>
-    ensures { record { out = out.new; room = result }
-        ≡ print cap (tabs (number_text n ∷ each_from (λ i. held_member (held_text spans.now bytes.now strings) (member_at view.now i)) 0 n)) (record { out = out.old; room = room }) }
-{
-    let mut left = print::put_number(out, cap, room, n as u64);
-    for i in 0..n {
-        let member = compact::member_at(view, i);
-        left = put_member(out, cap, left, member, spans, bytes, strings);
-    }
-    left
+    printer.put(&u64::from(member.kind));
+    printer.put(&Integer(member.reference));
+    put_held(printer, strings, member.role);
 }
 
 // A key and a value.
-fn put_tag(
-    out: &mut [u8],
-    cap: usize,
-    room: Option<usize>,
-    value: &[u8],
-    key: u32,
-    spans: &[u64],
-    bytes: &[u8],
-    strings: u64,
-) -> Option<usize>
-    ensures { record { out = out.new; room = result }
-        ≡ print cap (tabs (escape (held_text spans.now bytes.now strings key) ∷ escape value.now ∷ [])) (record { out = out.old; room = room }) }
+fn put_tag(printer: &mut Printer<'_>, strings: &Strings<'_>, key: u32, value: &[u8])
+    ensures { Prints (tabs (escape (text_held (store_seen strings.now) key) ∷ escape value.now ∷ [])) printer.old printer.new }
 {
-    let room = put_held(out, cap, room, spans, bytes, strings, key);
-    print::put_text(out, cap, room, value)
+    put_held(printer, strings, key);
+    printer.put(&Escaped(value));
 }
 
 // "the tag count and each key and value", from an offset on
-fn put_tags(
-    out: &mut [u8],
-    cap: usize,
-    room: Option<usize>,
-    view: &[u8],
-    offset: usize,
-    n: u32,
-    spans: &[u64],
-    bytes: &[u8],
-    strings: u64,
-) -> Option<usize>
-    ensures { record { out = out.new; room = result }
-        ≡ print cap (tabs (number_text n ∷ tag_fields_from (held_text spans.now bytes.now strings) view.now offset n)) (record { out = out.old; room = room }) }
+fn put_tags(printer: &mut Printer<'_>, strings: &Strings<'_>, view: &[u8], offset: usize, n: u32)
+    ensures { Prints (tabs (number_text n ∷ tag_fields_from (text_held (store_seen strings.now)) view.now offset n)) printer.old printer.new }
 {
-    let mut left = print::put_number(out, cap, room, n as u64);
+    printer.put(&u64::from(n));
     let mut at = offset;
     for i in 0..n {
         let Ok(Some(tag)) = compact::tag_step(view, at, n - i) else {
-            return left;
+            return;
         };
         let end = tag.start + tag.len;
-        let value = &view[tag.start..end];
-        left = put_tag(out, cap, left, value, tag.key, spans, bytes, strings);
+        put_tag(printer, strings, tag.key, &view[tag.start..end]);
         at = end;
     }
-    left
 }
 
-fn put_node(
-    out: &mut [u8],
-    cap: usize,
-    room: Option<usize>,
-    view: &[u8],
-    spans: &[u64],
-    bytes: &[u8],
-    strings: u64,
-) -> Option<usize>
-    ensures { record { out = out.new; room = result }
-        ≡ print cap (tabs (record_fields_at (held_text spans.now bytes.now strings) Node view.now)) (record { out = out.old; room = room }) }
-{
-    let node = CompactNode::read(view);
-    let meta = compact::read_meta(view, CompactNode::META_OFF);
-    let room = put_meta(out, cap, room, meta, spans, bytes, strings);
-    let room = print::put_integer32(out, cap, room, node.lat);
-    let room = print::put_integer32(out, cap, room, node.lon);
-    let at = CompactNode::HEADER_LEN;
-    put_tags(
-        out,
-        cap,
-        room,
-        view,
-        at,
-        node.tag_count,
-        spans,
-        bytes,
-        strings,
-    )
+// What the three kinds of records print between metadata and tags.
+trait Body: RecordHead {
+    fn put_body(self, printer: &mut Printer<'_>, strings: &Strings<'_>, view: &[u8])
+        ensures { Prints (tabs (body_fields_at (text_held (store_seen strings.now)) Self.kind (Self.says self) view.now)) printer.old printer.new };
 }
 
-fn put_way(
-    out: &mut [u8],
-    cap: usize,
-    room: Option<usize>,
-    view: &[u8],
-    spans: &[u64],
-    bytes: &[u8],
-    strings: u64,
-) -> Option<usize>
-    ensures { record { out = out.new; room = result }
-        ≡ print cap (tabs (record_fields_at (held_text spans.now bytes.now strings) Way view.now)) (record { out = out.old; room = room }) }
-{
-    let way = CompactWay::read(view);
-    let meta = compact::read_meta(view, CompactWay::META_OFF);
-    let room = put_meta(out, cap, room, meta, spans, bytes, strings);
-    let room = put_refs(out, cap, room, view, way.ref_count);
-    let at = way.tags_at();
-    put_tags(
-        out,
-        cap,
-        room,
-        view,
-        at,
-        way.tag_count,
-        spans,
-        bytes,
-        strings,
-    )
+impl Body for CompactNode {
+    // "node: lat7, lon7"
+    fn put_body(self, printer: &mut Printer<'_>, strings: &Strings<'_>, view: &[u8]) {
+        printer.put(&Integer::from_bits_32(self.lat));
+        printer.put(&Integer::from_bits_32(self.lon));
+    }
 }
 
-fn put_relation(
-    out: &mut [u8],
-    cap: usize,
-    room: Option<usize>,
-    view: &[u8],
-    spans: &[u64],
-    bytes: &[u8],
-    strings: u64,
-) -> Option<usize>
-    ensures { record { out = out.new; room = result }
-        ≡ print cap (tabs (record_fields_at (held_text spans.now bytes.now strings) Relation view.now)) (record { out = out.old; room = room }) }
+impl Body for CompactWay {
+    // "ref count, refs"
+    fn put_body(self, printer: &mut Printer<'_>, strings: &Strings<'_>, view: &[u8]) {
+        printer.put(&u64::from(self.ref_count));
+        for i in 0..self.ref_count {
+            printer.put(&Integer(compact::ref_at(view, i)));
+        }
+    }
+}
+
+impl Body for CompactRelation {
+    // "member count, then type (0 to 2), ref, role each"
+    fn put_body(self, printer: &mut Printer<'_>, strings: &Strings<'_>, view: &[u8]) {
+        printer.put(&u64::from(self.member_count));
+        for i in 0..self.member_count {
+            put_member(printer, strings, compact::member_at(view, i));
+        }
+    }
+}
+
+// The fields of the record at the front of some bytes, of the kind of a head.
+fn put_fields<H: Body>(printer: &mut Printer<'_>, strings: &Strings<'_>, view: &[u8])
+    ensures { Prints (tabs (record_fields_at (text_held (store_seen strings.now)) H.kind view.now)) printer.old printer.new }
 {
-    let relation = CompactRelation::read(view);
-    let meta = compact::read_meta(view, CompactRelation::META_OFF);
-    let room = put_meta(out, cap, room, meta, spans, bytes, strings);
-    let room = put_members(
-        out,
-        cap,
-        room,
-        view,
-        relation.member_count,
-        spans,
-        bytes,
-        strings,
-    );
-    let at = relation.tags_at();
-    put_tags(
-        out,
-        cap,
-        room,
-        view,
-        at,
-        relation.tag_count,
-        spans,
-        bytes,
-        strings,
-    )
+    let head = H::read(view);
+    put_meta(printer, strings, compact::read_meta(view, H::LEN));
+    head.put_body(printer, strings, view);
+    put_tags(printer, strings, view, head.tags_at(), head.tag_count());
 }
 
 // The fields of the record at the front of some bytes.
-pub fn put_record(
-    out: &mut [u8],
-    cap: usize,
-    room: Option<usize>,
-    kind: Kind,
-    view: &[u8],
-    spans: &[u64],
-    bytes: &[u8],
-    strings: u64,
-) -> Option<usize>
-    ensures { record { out = out.new; room = result }
-        ≡ print cap (tabs (record_fields_at (held_text spans.now bytes.now strings) kind view.now)) (record { out = out.old; room = room }) }
+pub fn put_record(printer: &mut Printer<'_>, strings: &Strings<'_>, kind: Kind, view: &[u8])
+    ensures { Prints (tabs (record_fields_at (text_held (store_seen strings.now)) kind view.now)) printer.old printer.new }
 {
     match kind {
-        Kind::Node => put_node(out, cap, room, view, spans, bytes, strings),
-        Kind::Way => put_way(out, cap, room, view, spans, bytes, strings),
-        Kind::Relation => put_relation(out, cap, room, view, spans, bytes, strings),
+        Kind::Node => put_fields::<CompactNode>(printer, strings, view),
+        Kind::Way => put_fields::<CompactWay>(printer, strings, view),
+        Kind::Relation => put_fields::<CompactRelation>(printer, strings, view),
     }
 }

@@ -2,150 +2,95 @@
 #![tactic(auto)]
 
 ghost use Rattle.std.specs.Prelude.{◌≡◌, [], ◌∷◌};
-ghost use Rattle.std.specs.Int.{w64};
-ghost use Rattle.std.proofs.Common.{to_z};
 ghost use Rattle.line.specs.Decimal.{integer_text};
+ghost use Rattle.interner.specs.Lent.{store_seen};
 ghost use Rattle.listing_page.specs.Listing.{kind_field, version_field};
-ghost use Rattle.print.specs.Print.{print_step, print, tabs, line_pieces};
-ghost use Rattle.kind_table.specs.Words.{rows_of, held};
-ghost use Rattle.listing_fields.specs.Fields.{held_text};
-ghost use Rattle.listing_rows.specs.Lines.{sign_of, last_at, row_fields_at, row_pieces};
+ghost use Rattle.print.specs.Print.{tabs, line_pieces};
+ghost use Rattle.print.specs.Printer.{Prints};
+ghost use Rattle.kind_store.specs.Lent.{kind_seen};
+ghost use Rattle.listing_fields.specs.Fields.{text_held};
+ghost use Rattle.listing_rows.specs.Lines.{sign_of, last_at, row_fields_at, kind_pieces};
 
+use interner::Strings;
 use kind::Kind;
+use kind_store::KindStorage;
 use kind_table::{DELETED, Row};
+use print::{Escaped, Integer, Printer};
 
-// "Kinds n, w, r"
-fn put_kind(out: &mut [u8], cap: usize, room: Option<usize>, kind: Kind) -> Option<usize>
-    ensures { record { out = out.new; room = result } ≡ print_step cap (kind_field kind) (record { out = out.old; room = room }) }
+// "Kinds n, w, r". No method of Kind: nothing but the listing has these letters.
+fn put_kind(printer: &mut Printer<'_>, kind: Kind)
+    ensures { Prints (kind_field kind ∷ []) printer.old printer.new }
 {
-    match kind {
-        Kind::Node => print::put_bytes(out, cap, room, b"n"),
-        Kind::Way => print::put_bytes(out, cap, room, b"w"),
-        Kind::Relation => print::put_bytes(out, cap, room, b"r"),
-    }
+    printer.put_bytes(match kind {
+        Kind::Node => b"n",
+        Kind::Way => b"w",
+        Kind::Relation => b"r",
+    });
 }
 
 // "`+` live or `-` deleted"
-fn put_sign(out: &mut [u8], cap: usize, room: Option<usize>, live: bool) -> Option<usize>
-    ensures { record { out = out.new; room = result } ≡ print cap (tabs (sign_of live ∷ [])) (record { out = out.old; room = room }) }
+fn put_sign(printer: &mut Printer<'_>, live: bool)
+    ensures { Prints (tabs (sign_of live ∷ [])) printer.old printer.new }
 {
-    if live {
-        print::put_text(out, cap, room, b"+")
-    } else {
-        print::put_text(out, cap, room, b"-")
-    }
+    printer.put(&Escaped(if live { b"+" } else { b"-" }));
 }
 
 // "known version or `?`"
-fn put_version(
-    out: &mut [u8],
-    cap: usize,
-    room: Option<usize>,
-    version: Option<i32>,
-) -> Option<usize>
-    ensures { record { out = out.new; room = result } ≡ print cap (tabs (version_field version ∷ [])) (record { out = out.old; room = room }) }
+fn put_version(printer: &mut Printer<'_>, version: Option<i32>)
+    ensures { Prints (tabs (version_field version ∷ [])) printer.old printer.new }
 {
     match version {
-        Some(v) => print::put_integer32(out, cap, room, signed::bits_of_i32(v)),
-        None => print::put_text(out, cap, room, b"?"),
+        Some(version) => printer.put(&Integer::from(version)),
+        None => printer.put(&Escaped(b"?")),
     }
 }
 
 // "kind; id; `+` live or `-` deleted; known version or `?`"
-fn put_key(
-    out: &mut [u8],
-    cap: usize,
-    room: Option<usize>,
-    kind: Kind,
-    id: u64,
-    live: bool,
-    version: Option<i32>,
-) -> Option<usize>
-    ensures { record { out = out.new; room = result }
-        ≡ print cap (kind_field kind ∷ tabs (integer_text (to_z w64 id) ∷ sign_of live ∷ version_field version ∷ [])) (record { out = out.old; room = room }) }
+fn put_key(printer: &mut Printer<'_>, kind: Kind, id: i64, live: bool, version: Option<i32>)
+    ensures { Prints (kind_field kind ∷ tabs (integer_text id ∷ sign_of live ∷ version_field version ∷ [])) printer.old printer.new }
 {
-    let room = put_kind(out, cap, room, kind);
-    let room = print::put_integer(out, cap, room, id);
-    let room = put_sign(out, cap, room, live);
-    put_version(out, cap, room, version)
+    put_kind(printer, kind);
+    printer.put(&Integer::from(id));
+    put_sign(printer, live);
+    put_version(printer, version);
 }
 
 // "A deleted line ends there. A live one goes on"
-fn put_last(
-    out: &mut [u8],
-    cap: usize,
-    room: Option<usize>,
-    kind: Kind,
-    arena: &[u8],
-    place: u64,
-    spans: &[u64],
-    bytes: &[u8],
-    strings: u64,
-) -> Option<usize>
-    ensures { record { out = out.new; room = result }
-        ≡ print cap (tabs (last_at (held_text spans.now bytes.now strings) kind arena.now place)) (record { out = out.old; room = room }) }
+fn put_last(printer: &mut Printer<'_>, strings: &Strings<'_>, rows: &KindStorage<'_>, place: u64)
+    ensures { Prints (tabs (last_at (text_held (store_seen strings.now)) rows.now.kind rows.now.arena.now place)) printer.old printer.new }
 {
     if place < DELETED {
-        let at = little::lesser(place as usize, arena.len());
-        return listing_fields::put_record(
-            out,
-            cap,
-            room,
-            kind,
-            &arena[at..],
-            spans,
-            bytes,
-            strings,
-        );
+        let at = little::lesser(place as usize, rows.arena.len());
+        listing_fields::put_record(printer, strings, rows.kind, &rows.arena[at..]);
     }
-    room
 }
 
 // A row's line.
-fn put_line(
-    out: &mut [u8],
-    cap: usize,
-    room: Option<usize>,
-    kind: Kind,
-    arena: &[u8],
-    spans: &[u64],
-    bytes: &[u8],
-    strings: u64,
-    row: Row,
-) -> Option<usize>
-    ensures { record { out = out.new; room = result }
-        ≡ print cap (line_pieces (row_fields_at (held_text spans.now bytes.now strings) kind arena.now row)) (record { out = out.old; room = room }) }
+fn put_line(printer: &mut Printer<'_>, strings: &Strings<'_>, rows: &KindStorage<'_>, row: Row)
+    ensures { Prints (line_pieces (row_fields_at (text_held (store_seen strings.now)) rows.now.kind rows.now.arena.now row)) printer.old printer.new }
 {
-    let id = signed::bits_of_i64(osm_id::osm_id_of_rank(row.rank));
-    let version = kind_store::row_version(kind, arena, row);
-    let place = row.place;
-    let live = place < DELETED;
-    let room = put_key(out, cap, room, kind, id, live, version);
-    let room = put_last(out, cap, room, kind, arena, place, spans, bytes, strings);
-    print::put_bytes(out, cap, room, b"\n")
+    let id = osm_id::osm_id_of_rank(row.rank);
+    put_key(
+        printer,
+        rows.kind,
+        id,
+        row.place < DELETED,
+        rows.row_version(row),
+    );
+    put_last(printer, strings, rows, row.place);
+    printer.put_bytes(b"\n");
 }
 
-// The lines of a kind's rows: those counted, as far as the words go. Of the kind's arena the used bytes are lent.
-pub fn put_lines(
-    out: &mut [u8],
-    cap: usize,
-    room: Option<usize>,
-    kind: Kind,
-    table: &[u64],
-    ids: u64,
-    arena: &[u8],
-    spans: &[u64],
-    bytes: &[u8],
-    strings: u64,
-) -> Option<usize>
-    ensures { record { out = out.new; room = result }
-        ≡ print cap (row_pieces (held_text spans.now bytes.now strings) kind arena.now (rows_of table.now (held table.now ids))) (record { out = out.old; room = room }) }
+// The lines of a kind's rows: those counted, as far as the words go. Of the kind's arena the used bytes are read.
+pub fn put_lines(printer: &mut Printer<'_>, strings: &Strings<'_>, kind: &KindStorage<'_>)
+    ensures { Prints (kind_pieces (text_held (store_seen strings.now)) kind.now.kind (kind_seen kind.now)) printer.old printer.new }
 {
-    let n = little::lesser(ids as usize, table.len() / 3);
-    let mut left = room;
-    for i in 0..n {
-        let row = kind_table::row_at(table, i);
-        left = put_line(out, cap, left, kind, arena, spans, bytes, strings, row);
+    let used = little::lesser(kind.used as usize, kind.arena.len());
+    let rows = KindStorage {
+        arena: &kind.arena[..used],
+        ..*kind
+    };
+    for i in 0..rows.rows_held() {
+        put_line(printer, strings, &rows, rows.row_at(i));
     }
-    left
 }

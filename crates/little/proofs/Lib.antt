@@ -1,2 +1,3 @@
 pub mod Littles
 pub mod Overs
+pub mod Ends

@@ -1,7 +1,7 @@
 // Little-endian numbers in lent bytes, by one writer and one reader for every width.
 #![tactic(auto)]
 
-ghost use Rattle.std.specs.Prelude.{◌≡◌, ◌≤◌, ◌<◌, ◌^◌, min, length, take, drop};
+ghost use Rattle.std.specs.Prelude.{◌≡◌, ◌≤◌, ◌<◌, ◌+◌, ◌^◌, cond, leb, min, length, take, drop, None, Some};
 ghost use Rattle.little.specs.Little.{le, value, value_at, over};
 
 // Where bytes lie among others.
@@ -16,6 +16,24 @@ pub fn lesser(a: usize, b: usize) -> usize
     ensures { result ≡ min a b }
 {
     a.min(b)
+}
+
+// Whether n more from a place on lie within a length. The place is asked for first, so that no sum passes the largest number.
+pub fn within(at: usize, n: usize, len: usize) -> bool
+    ensures { result ≡ leb (at + n) len }
+{
+    at <= len && n <= len - at
+}
+
+// Where n more from a place on end, or none where they do not lie within a length.
+pub fn end_within(at: usize, n: usize, len: usize) -> Option<usize>
+    ensures { result ≡ cond (leb (at + n) len) (Some (at + n)) None }
+{
+    if within(at, n, len) {
+        Some(at + n)
+    } else {
+        None
+    }
 }
 
 // A word in 32 bits; one that does not fit them becomes 0.
@@ -84,7 +102,8 @@ fn number(s: &[u8]) -> u64
     r
 }
 
-// The number in the n bytes from a place on, of which those past the end are left out.
+// The number in the n bytes from a place on, of which those past the end are left out: whoever reads a number has tested that its bytes are there, and has no
+// arm for an error.
 fn get_le(s: &[u8], at: usize, n: usize) -> u64
     requires { n ≤ 8 }
     ensures value { result ≡ value_at n s.now at }
@@ -93,6 +112,7 @@ fn get_le(s: &[u8], at: usize, n: usize) -> u64
     number(there(s, at, n))
 }
 
+// Each width has a function of its own, since its number is a type of its own: one generic function would want a trait with these three bodies.
 pub fn get_u8(s: &[u8], at: usize) -> u8
     ensures { result ≡ value_at 1 s.now at }
 {

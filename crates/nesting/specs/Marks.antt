@@ -8,8 +8,8 @@ use Rattle.nesting.specs.declared.Action.TheVariants.{Create, Modify, Delete}
 use Rattle.nesting.specs.declared.Level.{Level}
 use Rattle.nesting.specs.declared.Level.TheVariants.{Doc, Root, Section, Element, Leaf, Other, Done}
 use Rattle.nesting.specs.declared.Place.{Place}
-use Rattle.nesting.specs.declared.Opened.{Opened}
-use Rattle.nesting.specs.declared.Opened.TheVariants.{Misplaced, OutsideSection, Goes, Begins, Holds}
+use Rattle.nesting.specs.Opened.{Opened}
+use Rattle.nesting.specs.Opened.{Misplaced, OutsideSection, Goes, Begins, Holds}
 use Rattle.nesting.specs.Nesting.{start, opened, closed}
 
 pub data Mark : Type 0 where

@@ -10,8 +10,8 @@ use Rattle.nesting.specs.declared.Level.{Level}
 use Rattle.nesting.specs.declared.Level.TheVariants.{Doc, Root, Section, Element, Leaf, Other, Done}
 use Rattle.nesting.specs.declared.Place.{Place}
 use Rattle.nesting.specs.declared.Child.TheVariants as C
-use Rattle.nesting.specs.declared.Opened.{Opened}
-use Rattle.nesting.specs.declared.Opened.TheVariants.{Misplaced, OutsideSection, Goes, Begins, Holds}
+use Rattle.nesting.specs.Opened.{Opened}
+use Rattle.nesting.specs.Opened.{Misplaced, OutsideSection, Goes, Begins, Holds}
 
 -- the same place at another level
 abbrev pub at : Level → Place → Place

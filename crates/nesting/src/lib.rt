@@ -1,14 +1,16 @@
 // The nesting machine of an OsmChange document (xml_parse.rs: `handle_open` and `handle_close`, without their sink).
 #![tactic(auto)]
 
-ghost use Rattle.std.specs.Prelude.{◌≡◌, cond, drop};
-ghost use Rattle.base.specs.Bytes.{same};
+ghost use Rattle.std.specs.Prelude.{◌≡◌, drop};
 ghost use Rattle.nesting.specs.Name.{spellings, name_in, name_of};
 ghost use Rattle.nesting.specs.Nesting.{at, unless, section_of, begins_as, in_doc, in_root, in_section, in_element, opened, closed_to, closed};
+ghost use Rattle.nesting.specs.Opening.{opening_of};
 
 use kind::Kind;
+use refusal::Refusal;
 
-// An element's name; `bbox` and `bounds` are one, every name that the document does not give is Unknown.
+// An element's name; `bbox` and `bounds` are one, every name that the document does not give is Unknown. An Option in its place was no plainer: under the root an unknown name is taken as the
+// names of children are.
 #[derive(Clone, Copy, PartialEq, Eq, Debug)]
 pub enum Name {
     OsmChange,
@@ -46,7 +48,7 @@ pub enum Level {
 }
 
 // The level, with the section and the element that are open or were open last.
-#[derive(Clone, Copy)]
+#[derive(Clone, Copy, PartialEq, Eq, Debug)]
 pub struct Place {
     pub level: Level,
     pub section: Action,
@@ -61,13 +63,9 @@ pub enum Child {
     Member,
 }
 
-// What an open or an empty element does at a place.
-#[derive(Clone, Copy)]
-pub enum Opened {
-    // refused 5
-    Misplaced,
-    // refused 6
-    OutsideSection,
+// What an open or an empty element does at a place where it may stand.
+#[derive(Clone, Copy, PartialEq, Eq, Debug)]
+pub enum Opening {
     // only the place changes
     Goes(Place),
     // an element of a kind begins
@@ -76,184 +74,198 @@ pub enum Opened {
     Holds(Child, Place),
 }
 
-// The name `n` if `s` spells it, else the name that the other spellings give.
-fn named(s: &[u8], spelling: &[u8], n: Name, other: Name) -> Name
-    ensures { result ≡ cond (same s.now spelling.now) n other }
-{
-    if s == spelling { n } else { other }
-}
-
-// The names of what an element holds: the spellings from the eighth on.
-fn child_name(s: &[u8]) -> Name
-    ensures { result ≡ name_in (drop 7 spellings) s.now }
-{
-    let n = Name::Unknown;
-    let n = named(s, b"bounds", Name::Bounds, n);
-    let n = named(s, b"bbox", Name::Bounds, n);
-    let n = named(s, b"member", Name::Member, n);
-    let n = named(s, b"nd", Name::Nd, n);
-    named(s, b"tag", Name::Tag, n)
-}
-
-// The names of elements with a kind, then those: the spellings from the fifth on.
-fn object_name(s: &[u8]) -> Name
-    ensures { result ≡ name_in (drop 4 spellings) s.now }
-{
-    let n = child_name(s);
-    let n = named(s, b"relation", Name::Relation, n);
-    let n = named(s, b"way", Name::Way, n);
-    named(s, b"node", Name::Node, n)
-}
-
 // An element's name by its bytes.
 pub fn name_of(s: &[u8]) -> Name
     ensures { result ≡ name_of s.now }
 {
-    let n = object_name(s);
-    let n = named(s, b"delete", Name::Delete, n);
-    let n = named(s, b"modify", Name::Modify, n);
-    let n = named(s, b"create", Name::Create, n);
-    named(s, b"osmChange", Name::OsmChange, n)
-}
-
-// The same place at another level.
-fn at(l: Level, p: Place) -> Place
-    ensures { result ≡ at l p }
-{
-    let section = p.section;
-    let kind = p.kind;
-    Place {
-        level: l,
-        section,
-        kind,
+    if s == b"osmChange".as_slice() {
+        return Name::OsmChange;
     }
-}
-
-// The level moves unless the element is empty.
-fn unless(empty: bool, l: Level, p: Place) -> Place
-    ensures { result ≡ unless empty l p }
-{
-    if empty { p } else { at(l, p) }
-}
-
-// A section opens unless it is empty.
-fn section_of(empty: bool, a: Action, p: Place) -> Opened
-    ensures { result ≡ section_of empty a p }
-{
-    if empty {
-        return Opened::Goes(p);
+    if s == b"create".as_slice() {
+        return Name::Create;
     }
-    let kind = p.kind;
-    Opened::Goes(Place {
-        level: Level::Section,
-        section: a,
-        kind,
-    })
-}
-
-// An element of a kind begins, and stands open unless it is empty.
-fn begins_as(empty: bool, k: Kind, p: Place) -> Opened
-    ensures { result ≡ begins_as empty k p }
-{
-    if empty {
-        return Opened::Begins(k, p);
+    if s == b"modify".as_slice() {
+        return Name::Modify;
     }
-    let section = p.section;
-    let q = Place {
-        level: Level::Element,
-        section,
-        kind: k,
-    };
-    Opened::Begins(k, q)
+    if s == b"delete".as_slice() {
+        return Name::Delete;
+    }
+    object_name(s)
 }
 
-// An open or an empty element before the document.
-fn in_doc(empty: bool, n: Name, p: Place) -> Opened
-    ensures { result ≡ in_doc empty n p }
+// The names of elements with a kind, then those of what they hold.
+fn object_name(s: &[u8]) -> Name
+    ensures { result ≡ name_in (drop 4 spellings) s.now }
 {
-    match n {
-        Name::OsmChange => {
-            if empty {
-                Opened::Goes(at(Level::Done, p))
-            } else {
-                Opened::Goes(at(Level::Root, p))
-            }
+    if s == b"node".as_slice() {
+        return Name::Node;
+    }
+    if s == b"way".as_slice() {
+        return Name::Way;
+    }
+    if s == b"relation".as_slice() {
+        return Name::Relation;
+    }
+    child_name(s)
+}
+
+fn child_name(s: &[u8]) -> Name
+    ensures { result ≡ name_in (drop 7 spellings) s.now }
+{
+    if s == b"tag".as_slice() {
+        return Name::Tag;
+    }
+    if s == b"nd".as_slice() {
+        return Name::Nd;
+    }
+    if s == b"member".as_slice() {
+        return Name::Member;
+    }
+    if s == b"bbox".as_slice() {
+        return Name::Bounds;
+    }
+    if s == b"bounds".as_slice() {
+        return Name::Bounds;
+    }
+    Name::Unknown
+}
+
+impl Level {
+    // The level that a close goes to.
+    #[tactic(auto, unfolding(crate::specs::Nesting::closed_to))]
+    fn closed(self) -> Level
+        ensures { result ≡ closed_to self }
+    {
+        match self {
+            Level::Leaf => Level::Element,
+            Level::Element => Level::Section,
+            Level::Section | Level::Other => Level::Root,
+            Level::Root => Level::Done,
+            Level::Doc | Level::Done => self,
         }
-        _ => Opened::Misplaced,
     }
 }
 
-// One under the root.
-fn in_root(empty: bool, n: Name, p: Place) -> Opened
-    ensures { result ≡ in_root empty n p }
-{
-    match n {
-        Name::Create => section_of(empty, Action::Create, p),
-        Name::Modify => section_of(empty, Action::Modify, p),
-        Name::Delete => section_of(empty, Action::Delete, p),
-        Name::Node | Name::Way | Name::Relation => Opened::OutsideSection,
-        Name::OsmChange => Opened::Misplaced,
-        _ => Opened::Goes(unless(empty, Level::Other, p)),
+impl Place {
+    // The same place at another level.
+    fn at(self, level: Level) -> Place
+        ensures { result ≡ at level self }
+    {
+        Place { level, ..self }
     }
-}
 
-// One in a section.
-fn in_section(empty: bool, n: Name, p: Place) -> Opened
-    ensures { result ≡ in_section empty n p }
-{
-    match n {
-        Name::Node => begins_as(empty, Kind::Node, p),
-        Name::Way => begins_as(empty, Kind::Way, p),
-        Name::Relation => begins_as(empty, Kind::Relation, p),
-        _ => Opened::Misplaced,
+    // The level moves unless the element is empty.
+    fn unless(self, empty: bool, level: Level) -> Place
+        ensures { result ≡ unless empty level self }
+    {
+        if empty { self } else { self.at(level) }
     }
-}
 
-// One in an element.
-fn in_element(empty: bool, n: Name, p: Place) -> Opened
-    ensures { result ≡ in_element empty n p }
-{
-    let q = unless(empty, Level::Leaf, p);
-    match (n, p.kind) {
-        (Name::Tag, _) => Opened::Holds(Child::Tag, q),
-        (Name::Nd, Kind::Way) => Opened::Holds(Child::Nd, q),
-        (Name::Member, Kind::Relation) => Opened::Holds(Child::Member, q),
-        (Name::Bounds, Kind::Way) | (Name::Bounds, Kind::Relation) => Opened::Goes(q),
-        _ => Opened::Misplaced,
+    // A section opens unless it is empty.
+    fn open_section(self, empty: bool, section: Action) -> Result<Opening, Refusal>
+        ensures { result ≡ opening_of (section_of empty section self) }
+    {
+        if empty {
+            return Ok(Opening::Goes(self));
+        }
+        Ok(Opening::Goes(Place {
+            level: Level::Section,
+            section,
+            ..self
+        }))
     }
-}
 
-// What an open or an empty element does at a place.
-pub fn open_at(p: Place, empty: bool, n: Name) -> Opened
-    ensures { result ≡ opened empty n p }
-{
-    let level = p.level;
-    match level {
-        Level::Doc => in_doc(empty, n, p),
-        Level::Root => in_root(empty, n, p),
-        Level::Section => in_section(empty, n, p),
-        Level::Element => in_element(empty, n, p),
-        _ => Opened::Misplaced,
+    // An element of a kind begins, and stands open unless it is empty.
+    fn begin(self, empty: bool, kind: Kind) -> Result<Opening, Refusal>
+        ensures { result ≡ opening_of (begins_as empty kind self) }
+    {
+        if empty {
+            return Ok(Opening::Begins(kind, self));
+        }
+        let place = Place {
+            level: Level::Element,
+            kind,
+            ..self
+        };
+        Ok(Opening::Begins(kind, place))
     }
-}
 
-// The level that a close goes to.
-fn closed_to(l: Level) -> Level
-    ensures { result ≡ closed_to l }
-{
-    match l {
-        Level::Leaf => Level::Element,
-        Level::Element => Level::Section,
-        Level::Section | Level::Other => Level::Root,
-        Level::Root => Level::Done,
-        _ => l,
+    // An open or an empty element before the document.
+    #[tactic(auto, unfolding(crate::specs::Nesting::in_doc))]
+    fn open_in_doc(self, empty: bool, name: Name) -> Result<Opening, Refusal>
+        ensures { result ≡ opening_of (in_doc empty name self) }
+    {
+        match name {
+            Name::OsmChange => {
+                let level = if empty { Level::Done } else { Level::Root };
+                Ok(Opening::Goes(self.at(level)))
+            }
+            _ => Err(Refusal::Misplaced),
+        }
     }
-}
 
-// What a close does at a place.
-pub fn close_at(p: Place) -> Place
-    ensures { result ≡ closed p }
-{
-    let level = p.level;
-    at(closed_to(level), p)
+    // One under the root.
+    #[tactic(auto, unfolding(crate::specs::Nesting::in_root))]
+    fn open_in_root(self, empty: bool, name: Name) -> Result<Opening, Refusal>
+        ensures { result ≡ opening_of (in_root empty name self) }
+    {
+        match name {
+            Name::Create => self.open_section(empty, Action::Create),
+            Name::Modify => self.open_section(empty, Action::Modify),
+            Name::Delete => self.open_section(empty, Action::Delete),
+            Name::Node | Name::Way | Name::Relation => Err(Refusal::OutsideSection),
+            Name::OsmChange => Err(Refusal::Misplaced),
+            _ => Ok(Opening::Goes(self.unless(empty, Level::Other))),
+        }
+    }
+
+    // One in a section.
+    #[tactic(auto, unfolding(crate::specs::Nesting::in_section))]
+    fn open_in_section(self, empty: bool, name: Name) -> Result<Opening, Refusal>
+        ensures { result ≡ opening_of (in_section empty name self) }
+    {
+        match name {
+            Name::Node => self.begin(empty, Kind::Node),
+            Name::Way => self.begin(empty, Kind::Way),
+            Name::Relation => self.begin(empty, Kind::Relation),
+            _ => Err(Refusal::Misplaced),
+        }
+    }
+
+    // One in an element.
+    #[tactic(auto, unfolding(crate::specs::Nesting::in_element))]
+    fn open_in_element(self, empty: bool, name: Name) -> Result<Opening, Refusal>
+        ensures { result ≡ opening_of (in_element empty name self) }
+    {
+        let place = self.unless(empty, Level::Leaf);
+        match (name, self.kind) {
+            (Name::Tag, _) => Ok(Opening::Holds(Child::Tag, place)),
+            (Name::Nd, Kind::Way) => Ok(Opening::Holds(Child::Nd, place)),
+            (Name::Member, Kind::Relation) => Ok(Opening::Holds(Child::Member, place)),
+            (Name::Bounds, Kind::Way) | (Name::Bounds, Kind::Relation) => Ok(Opening::Goes(place)),
+            _ => Err(Refusal::Misplaced),
+        }
+    }
+
+    // What an open or an empty element of a name does here: 5 or 6 where it may not stand.
+    #[tactic(auto, unfolding(crate::specs::Nesting::opened, crate::specs::Nesting::opened_at))]
+    pub fn open(self, empty: bool, name: Name) -> Result<Opening, Refusal>
+        ensures { result ≡ opening_of (opened empty name self) }
+    {
+        match self.level {
+            Level::Doc => self.open_in_doc(empty, name),
+            Level::Root => self.open_in_root(empty, name),
+            Level::Section => self.open_in_section(empty, name),
+            Level::Element => self.open_in_element(empty, name),
+            Level::Leaf | Level::Other | Level::Done => Err(Refusal::Misplaced),
+        }
+    }
+
+    // What a close does here.
+    #[tactic(auto, unfolding(crate::specs::Nesting::closed))]
+    pub fn close(self) -> Place
+        ensures { result ≡ closed self }
+    {
+        self.at(self.level.closed())
+    }
 }

@@ -1,37 +1,83 @@
--- What the steps of the code on bits and ranks say of the ids.
-use Prim.Native.Nat.{ℕ, suc, ◌+◌, ◌-◌, ◌<◌, ◌≤◌, ◌^◌}
-use mathlib.Core.Path.{◌≡◌, sym, ◌∙◌, ap}
+-- What the steps of the code on ids and ranks say: an id by its sign, and the ends of a range.
+use Prim.Native.Nat.{ℕ, zero, suc, ◌+◌, ◌-◌, ◌<◌, ◌≤◌, ◌^◌}
+use mathlib.Core.Path.{◌≡◌, refl, sym, ◌∙◌, ap}
+use mathlib.Core.Bool.{true, false}
 use native.Mathlib.Omega.{arith}
-use lib.IntN.{ℤ, pos, negsuc}
+use lib.IntN.{ℤ, pos, negsuc, nat_abs}
+use lib.Signed.{le_z, ◌<ℤ◌, ◌≤ℤ◌}
 use mir.Syntax.{w64}
-use mir.Val.{Fits, SFits, of_z, to_z}
+use mir.Val.{Fits, of_z, to_z}
 use mir.Facts.{to_z-of_z, to_z_pos, to_z-neg}
-use Rattle.osm_id.specs.Order.{id_of}
+use lib.Dec.{leb-zero, leb-suc-zero}
+use borrow.Author.Tests.{lt-ltb}
+use Rattle.std.proofs.lemmas.Int.{ints}
+use Rattle.std.specs.Int.{int_min}
+use Rattle.osm_id.specs.declared.OsmIdKey.{OsmIdKey}
+use Rattle.osm_id.specs.Order.{osm_key_of, rank, id_of, first_key, last_key}
 use Rattle.osm_id.proofs.Orders.{id_negative, id_positive, id_fits}
-use Rattle.signed.proofs.Bits.{of_low, of_high}
 
--- which id has the bits b. A signed argument reaches the callee by its bits, so z stands in what the call ensures as it is read back from them
-module _ {z : ℤ} (f : SFits w64 z) {b : ℕ} (called : b ≡ of_z w64 (to_z w64 (of_z w64 z))) where
-  bits_are : b ≡ of_z w64 z
-  bits_are = rw (to_z-of_z f) at called
+-- ---- an id by its sign
 
-  natural : b < 2 ^ 63 → z ≡ pos b
-  natural h = of_low w64 f (omega (arith, bits_are)) ∙ ap pos (sym bits_are)
+pub key_zero : (z : ℤ) → z ≡ pos 0 → osm_key_of z ≡ record { class = 0; magnitude = nat_abs z }
+unfolding osm_key_of
+key_zero z e = rw e
 
-  pub is_zero : b ≡ 0 → z ≡ pos 0
-  is_zero h = natural (omega arith) ∙ ap pos h
+pub key_negative : (z : ℤ) → z <ℤ pos 0 → osm_key_of z ≡ record { class = 1; magnitude = nat_abs z }
+unfolding osm_key_of
+key_negative (pos n) h = absurd (omega (arith, ints))
+key_negative (negsuc n) h = refl
 
-  pub is_positive : (b ≡ 0 → ⊥) → b < 2 ^ 63 → z ≡ pos (suc (b - 1))
-  is_positive n h = let d : b ≡ suc (b - 1) = omega arith in natural h ∙ ap pos d
+pub key_positive : (z : ℤ) → pos 0 <ℤ z → osm_key_of z ≡ record { class = 2; magnitude = nat_abs z }
+unfolding osm_key_of
+key_positive (pos zero) h = absurd h.lt
+key_positive (pos (suc n)) h = refl
+key_positive (negsuc n) h = absurd h.lt
 
-  pub is_negative : 2 ^ 63 ≤ b → z ≡ negsuc (2 ^ 64 - suc b)
-  is_negative h = of_high w64 f (omega (arith, bits_are)) ∙ ap (λ n. negsuc (2 ^ 64 - suc n)) (sym bits_are)
+pub rank_low : (z : ℤ) → z ≤ℤ pos 0 → rank z ≡ nat_abs z
+unfolding rank
+rank_low (pos zero) h = refl
+rank_low (pos (suc n)) h = absurd (omega (arith, ints))
+rank_low (negsuc n) h = refl
 
--- the bits that `osm_id_of_rank` hands on are those of the rank's id, and its result is that id, read back
+pub rank_high : (z : ℤ) → pos 0 <ℤ z → rank z ≡ 2 ^ 63 + nat_abs z
+unfolding rank
+rank_high (pos zero) h = absurd h.lt
+rank_high (pos (suc n)) h = refl
+rank_high (negsuc n) h = absurd h.lt
+
+-- ---- the ends of a range
+
+pub first_natural : (lo hi : ℤ) → le_z (pos 0) lo ≡ true → osm_key_of lo ≡ first_key lo hi
+unfolding first_key
+first_natural lo hi t = rw t
+
+pub first_other : (lo hi : ℤ) → le_z (pos 0) lo ≡ false → osm_key_of (int_min hi (pos 0)) ≡ first_key lo hi
+unfolding first_key
+first_other lo (pos zero) t = rw t
+first_other lo (pos (suc n)) t = rw (t, leb-suc-zero n, lt-ltb 0 (suc n) (omega arith))
+first_other lo (negsuc n) t = rw t
+
+pub last_least : (lo hi : ℤ) → lo <ℤ pos 0 → le_z hi (pos 0) ≡ true → osm_key_of lo ≡ last_key lo hi
+unfolding last_key
+last_least (pos n) hi h t = absurd (omega (arith, ints))
+last_least (negsuc n) hi h t = rw t
+
+pub last_natural : (lo hi : ℤ) → pos 0 ≤ℤ lo → osm_key_of hi ≡ last_key lo hi
+unfolding last_key
+last_natural (pos n) hi h = rw (leb-zero n)
+last_natural (negsuc n) hi h = absurd h.le
+
+pub last_positive : (lo hi : ℤ) → le_z hi (pos 0) ≡ false → osm_key_of hi ≡ last_key lo hi
+unfolding last_key
+last_positive (pos n) hi t = rw (leb-zero n)
+last_positive (negsuc n) hi t = rw t
+
+-- ---- the id of a rank, which the code makes by its bits
+
 module _ {r : ℕ} where
-  pub negative_bits : (r ≡ 0 → ⊥) → r ≤ 2 ^ 63 → to_z w64 (2 ^ 64 - 1 - r + 1) ≡ id_of r
+  pub negative_bits : (r ≡ 0 → ⊥) → r ≤ 2 ^ 63 → to_z w64 (2 ^ 64 - 1 - (r - 1)) ≡ id_of r
   negative_bits n h =
-      let d : 2 ^ 64 - 1 - r + 1 ≡ 2 ^ 64 - suc (r - 1) = omega arith in
+      let d : 2 ^ 64 - 1 - (r - 1) ≡ 2 ^ 64 - suc (r - 1) = omega arith in
       ap (to_z w64) d ∙ to_z-neg w64 (r - 1) (omega arith) ∙ sym (id_negative n h)
 
   module _ (f : Fits w64 r) where

@@ -9,6 +9,7 @@ ghost use Rattle.osm_id.specs.Order.{osm_key_of, cmp_of, first_key, last_key, ra
 use std::cmp::Ordering;
 
 // The canonical-order key: class 0 for zero, 1 for a negative id, 2 for a positive one; and the magnitude. Keys compare by class first.
+// The class is a number and no enum, since the key crosses to C as it is, and since keys are ordered by that number.
 #[repr(C)]
 #[derive(Clone, Copy, PartialEq, Eq, PartialOrd, Ord, Debug)]
 pub struct OsmIdKey {
@@ -19,22 +20,13 @@ pub struct OsmIdKey {
 pub fn osm_id_key(id: i64) -> OsmIdKey
     ensures { result ≡ osm_key_of id }
 {
-    let bits = signed::bits_of_i64(id);
-    if bits == 0 {
-        return OsmIdKey {
-            class: 0,
-            magnitude: 0,
-        };
-    }
-    if bits < 0x8000_0000_0000_0000 {
-        return OsmIdKey {
-            class: 2,
-            magnitude: bits,
-        };
-    }
     OsmIdKey {
-        class: 1,
-        magnitude: (0xffff_ffff_ffff_ffff - bits) + 1,
+        class: match id {
+            0 => 0,
+            ..0 => 1,
+            1.. => 2,
+        },
+        magnitude: id.unsigned_abs(),
     }
 }
 
@@ -42,62 +34,46 @@ pub fn osm_id_key(id: i64) -> OsmIdKey
 pub fn rank_of_bits(bits: u64) -> u64
     ensures { result ≡ rank (to_z w64 bits) }
 {
-    if bits == 0 {
-        return 0;
+    let id = bits.cast_signed();
+    match id {
+        ..1 => id.unsigned_abs(),
+        1.. => 0x8000_0000_0000_0000 + id.unsigned_abs(),
     }
-    if bits < 0x8000_0000_0000_0000 {
-        return bits + 0x8000_0000_0000_0000;
-    }
-    (0xffff_ffff_ffff_ffff - bits) + 1
-}
-
-pub fn osm_id_rank(id: i64) -> u64
-    ensures { result ≡ rank id }
-{
-    rank_of_bits(signed::bits_of_i64(id))
 }
 
 // The id of a rank.
 pub fn osm_id_of_rank(r: u64) -> i64
     ensures { result ≡ id_of r }
 {
-    if r == 0 {
-        return 0;
+    match r {
+        0 => 0,
+        1..=0x8000_0000_0000_0000 => (0xffff_ffff_ffff_ffff - (r - 1)).cast_signed(),
+        _ => (r - 0x8000_0000_0000_0000).cast_signed(),
     }
-    if r <= 0x8000_0000_0000_0000 {
-        return signed::i64_of_bits((0xffff_ffff_ffff_ffff - r) + 1);
-    }
-    signed::i64_of_bits(r - 0x8000_0000_0000_0000)
 }
 
 pub fn osm_id_cmp(a: i64, b: i64) -> Ordering
     ensures { result ≡ cmp_of a b }
 {
-    osm_id_rank(a).cmp(&osm_id_rank(b))
+    rank_of_bits(a.cast_unsigned()).cmp(&rank_of_bits(b.cast_unsigned()))
 }
 
 // The least key of the ids from min_id to max_id.
 pub fn blob_osm_first_key(min_id: i64, max_id: i64) -> OsmIdKey
     ensures { result ≡ first_key min_id max_id }
 {
-    if 0 <= min_id {
-        return osm_id_key(min_id);
-    }
-    if max_id <= 0 {
-        return osm_id_key(max_id);
-    }
-    osm_id_key(0)
+    let first = if 0 <= min_id { min_id } else { max_id.min(0) };
+    osm_id_key(first)
 }
 
 // The greatest key of the ids from min_id to max_id.
 pub fn blob_osm_last_key(min_id: i64, max_id: i64) -> OsmIdKey
     ensures { result ≡ last_key min_id max_id }
 {
-    if 0 <= min_id {
-        return osm_id_key(max_id);
-    }
-    if max_id <= 0 {
-        return osm_id_key(min_id);
-    }
-    osm_id_key(max_id)
+    let last = if min_id < 0 && max_id <= 0 {
+        min_id
+    } else {
+        max_id
+    };
+    osm_id_key(last)
 }

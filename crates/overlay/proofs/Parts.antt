@@ -12,29 +12,22 @@ use borrow.Author.Tests.{eqb-false}
 use Rattle.base.specs.Bytes.{Bytes}
 use Rattle.refusal.specs.declared.Refusal.TheVariants as R
 use Rattle.overlay_blocks.specs.declared.Sizes.{Sizes}
-use Rattle.kind.specs.declared.Kind.{Kind}
 use Rattle.kind.specs.declared.Kind.TheVariants.{Node, Way, Relation}
-use Rattle.kind_sound.specs.Check.{sound_kind_store}
 use Rattle.interner.specs.Sound.{fresh_spans}
 use Rattle.little.proofs.Overs.{length_over}
-use Rattle.overlay_blocks.specs.declared.KindPart.{KindPart}
 use Rattle.overlay_blocks.specs.declared.TextPart.{TextPart}
-use Rattle.overlay_blocks.specs.Blocks.{cut, sizes_in, part_in, text_part_in}
+use Rattle.overlay_blocks.specs.Blocks.{cut, sizes_in, text_part_in}
 use Rattle.overlay_blocks.proofs.Cuts.{cut_all}
 use borrow.Rule.Slice.PartMut.{put_mid, mid_len}
 use Rattle.overlay_blocks.specs.Sizes.{largest, fitted}
-use Rattle.overlay.specs.Overlay.{Overlay, sizes_fit, fresh_counters}
-use Rattle.overlay.specs.Lent.{kind_store_in, overlay_for, overlay_in}
-use Rattle.overlay.specs.Sound.{is_sound, sound_of}
+use Rattle.overlay.specs.Overlay.{sizes_fit, fresh_counters}
+use Rattle.overlay.specs.Lent.{overlay_for, overlay_in}
+use Rattle.overlay.specs.Sound.{is_sound}
 use Rattle.overlay.specs.Calls.{overlay_refused, set_up, allow_on}
 use Rattle.overlay.proofs.Tiles.{fits_in}
-use Rattle.overlay.proofs.Puts.{kind_store_in_lem, spans_long, spans_same, table_before}
+use Rattle.overlay.proofs.Puts.{spans_long, spans_same, table_before}
 
 -- ---- the setting
-
-pub allow_unsound : (setting : ℕ) (o : Overlay) → is_sound o ≡ false → overlay_refused o R.Unsound ≡ allow_on setting o
-unfolding allow_on
-allow_unsound setting o s = rw s
 
 pub allow_stored : (setting : ℕ) (words : List ℕ) (bytes : Bytes) (c d : List ℕ) → length c ≡ 17 → is_sound (overlay_in words bytes c) ≡ true → d ≡ set c 8 setting
     → record { overlay = overlay_in words bytes d; answer = (Ok tt) } ≡ allow_on setting (overlay_in words bytes c)
@@ -48,12 +41,6 @@ allow_stored setting words bytes c d long s e =
 -- the test of the sizes among the counters
 pub sizes_in_lem : (words bytes counters : List ℕ) (z : Sizes) → z ≡ sizes_in counters → (t : Bool) → t ≡ fitted largest z (length words) (length bytes) → t ≡ sizes_fit largest (overlay_in words bytes counters)
 sizes_in_lem words bytes counters z p t h = h ∙ rw p (fits_in (sizes_in counters) words bytes counters)
-
--- what is lent of a kind
-pub kind_lent : (k : Kind) (words bytes counters : List ℕ) (p : KindPart) → p ≡ part_in k (sizes_in counters) (length words) (length bytes) → (t : Bool)
-    → t ≡ sound_kind_store (get_or counters 6 0) k (kind_store_in p words bytes counters)
-    → t ≡ sound_of k (overlay_in words bytes counters)
-kind_lent k words bytes counters p q t h = rw (← kind_store_in_lem k words bytes counters p q) h
 
 -- ---- set-up in the blocks
 

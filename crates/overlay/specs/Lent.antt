@@ -1,5 +1,5 @@
 -- The overlay in what is lent: two blocks and the counters.
-use Rattle.std.specs.Prelude.{ℕ, ◌+◌, List, length, drop, get_or}
+use Rattle.std.specs.Prelude.{ℕ, ◌+◌, ◌≡◌, List, length, drop, get_or}
 use Rattle.base.specs.Bytes.{Bytes}
 use Rattle.kind.specs.declared.Kind.{Kind}
 use Rattle.kind.specs.declared.Kind.TheVariants.{Node, Way, Relation}
@@ -10,6 +10,9 @@ use Rattle.overlay_blocks.specs.declared.KindPart.{KindPart}
 use Rattle.overlay_blocks.specs.declared.TextPart.{TextPart}
 use Rattle.overlay_blocks.specs.Blocks.{cut, sizes_in, part_in, text_part_in}
 use Rattle.overlay.specs.Overlay.{Overlay}
+use Rattle.overlay.specs.declared.Storage.{Storage}
+use Rattle.overlay.specs.declared.StorageMut.{StorageMut}
+use Rattle.overlay.specs.declared.StorageTables.{StorageTables}
 
 -- ---- in words, bytes and counters
 
@@ -54,3 +57,33 @@ lent_for z words bytes counters = overlay_for z words bytes counters
 
 abbrev pub left_for : Sizes → List ℕ → Bytes → List ℕ → Overlay
 left_for z words bytes counters = overlay_for z words bytes counters
+
+-- ---- in the structs that hold what is lent
+
+-- the overlay that is read
+abbrev pub overlay_seen : Storage → Overlay
+overlay_seen s = overlay_in s.words.now s.bytes.now s.counters.now
+
+-- the overlay that is written
+abbrev pub overlay_held : StorageMut → Overlay
+overlay_held s = overlay_in s.words.now s.bytes.now s.counters.now
+
+-- the overlay whose words and counters are written
+abbrev pub overlay_tabled : StorageTables → Overlay
+overlay_tabled s = overlay_in s.words.now s.bytes.now s.counters.now
+
+-- by the sizes that set-up is given
+abbrev pub tabled_for : Sizes → StorageTables → Overlay
+tabled_for z s = overlay_for z s.words.now s.bytes.now s.counters.now
+
+-- the same memory: a method leaves its struct with the references that it was given
+pub record IsSameStorage (a b : StorageMut) : Type 0 where
+  pub words : a.words.ghost_name ≡ b.words.ghost_name
+  pub bytes : a.bytes.ghost_name ≡ b.bytes.ghost_name
+  pub counters : a.counters.ghost_name ≡ b.counters.ghost_name
+
+-- and the bytes, which are not written, are as they were
+pub record IsSameTables (a b : StorageTables) : Type 0 where
+  pub words : a.words.ghost_name ≡ b.words.ghost_name
+  pub bytes : a.bytes ≡ b.bytes
+  pub counters : a.counters.ghost_name ≡ b.counters.ghost_name

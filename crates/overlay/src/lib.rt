@@ -1,23 +1,146 @@
 // The overlay (parse.rs) over lent storage: set-up, soundness, and the regression setting. It is lent as two blocks and its counters (crate `overlay_blocks`).
 #![tactic(auto)]
 
-ghost use Rattle.std.specs.Prelude.{◌≡◌, ◌<◌, length, set};
+ghost use Rattle.std.specs.Prelude.{◌≡◌};
 ghost use Rattle.interner.specs.Sound.{sound_strings};
-ghost use Rattle.overlay.specs.Overlay.{fresh_counters};
-ghost use Rattle.overlay.specs.Lent.{lent, left, lent_for, left_for};
+ghost use Rattle.interner.specs.Lent.{store_seen};
+ghost use Rattle.kind_store.specs.Lent.{kind_seen};
+ghost use Rattle.overlay.specs.Overlay.{fresh_counters, kind_store_of};
+ghost use Rattle.overlay.specs.Lent.{lent, left, lent_for, left_for, overlay_seen, overlay_held, overlay_tabled, tabled_for, IsSameTables};
 ghost use Rattle.overlay.specs.Sound.{is_sound, sound_of, kind_stores_sound};
 ghost use Rattle.overlay.specs.Calls.{set_up, sound_answer, allow_on};
 
+use interner::Strings;
 use kind::Kind;
+use kind_store::KindStorage;
 use overlay_blocks::{ARENA, COUNTERS, SETTING, STRING_BYTES, STRINGS, Sizes};
 use refusal::Refusal;
 
+// An overlay that is only read: its words, its bytes and its counters.
+#[derive(Clone, Copy)]
+pub struct Storage<'a> {
+    pub words: &'a [u64],
+    pub bytes: &'a [u8],
+    pub counters: &'a [u64; COUNTERS],
+}
+
+// An overlay that a call writes.
+#[derive(Drop)]
+pub struct StorageMut<'a> {
+    pub words: &'a mut [u64],
+    pub bytes: &'a mut [u8],
+    pub counters: &'a mut [u64; COUNTERS],
+}
+
+// An overlay of which a call writes the words and the counters alone, since C lends it the bytes to be read only.
+#[derive(Drop)]
+pub struct StorageTables<'a> {
+    pub words: &'a mut [u64],
+    pub bytes: &'a [u8],
+    pub counters: &'a mut [u64; COUNTERS],
+}
+
+// ---- what an overlay holds, and whether it is sound
+
+impl<'a> Storage<'a> {
+    // What the blocks have of a kind.
+    pub fn kind_storage(&self, kind: Kind) -> KindStorage<'a>
+        ensures kind { result.kind ≡ kind }
+        ensures seen { kind_seen result ≡ kind_store_of kind (overlay_seen self.now) }
+    {
+        let p = Sizes::from(self.counters).part(kind, self.words.len(), self.bytes.len());
+        KindStorage {
+            kind,
+            table: &self.words[p.from..p.to],
+            ids: self.counters[p.at],
+            arena: &self.bytes[p.first..p.end],
+            used: self.counters[p.at + ARENA],
+        }
+    }
+
+    // What they have of the strings.
+    pub fn strings(&self) -> Strings<'a>
+        ensures { store_seen result ≡ (overlay_seen self.now).texts }
+    {
+        let t = Sizes::from(self.counters).texts(self.words.len(), self.bytes.len());
+        Strings {
+            spans: &self.words[t.spans..],
+            bytes: &self.bytes[t.bytes..],
+            count: self.counters[STRINGS],
+            used: self.counters[STRING_BYTES],
+        }
+    }
+
+    fn is_kind_sound(&self, kind: Kind) -> bool
+        ensures { result ≡ sound_of kind (overlay_seen self.now) }
+    {
+        kind_sound::is_sound(&self.kind_storage(kind), self.counters[STRINGS])
+    }
+
+    #[tactic(auto, unfolding(crate::specs::Sound::kind_stores_sound, base::specs::Bytes::both))]
+    fn are_kinds_sound(&self) -> bool
+        ensures { result ≡ kind_stores_sound (overlay_seen self.now) }
+    {
+        self.is_kind_sound(Kind::Node)
+            && self.is_kind_sound(Kind::Way)
+            && self.is_kind_sound(Kind::Relation)
+    }
+
+    // Not inlined: the interner's array makes a frame whose stack probe, as clang writes it, overwrites a register that a caller with tests before it still holds.
+    #[inline(never)]
+    fn are_strings_sound(&self) -> bool
+        ensures { result ≡ sound_strings (overlay_seen self.now).texts }
+    {
+        self.strings().is_sound()
+    }
+
+    // Whether the overlay is sound: the sizes, the strings, then each kind.
+    #[tactic(auto, using(crate::proofs::Parts::sizes_in_lem), unfolding(crate::specs::Sound::is_sound, base::specs::Bytes::both))]
+    pub fn is_sound(&self) -> bool
+        ensures { result ≡ is_sound (overlay_seen self.now) }
+    {
+        Sizes::from(self.counters).fit(self.words.len(), self.bytes.len())
+            && self.are_strings_sound()
+            && self.are_kinds_sound()
+    }
+
+    // 22, or nothing: what each call tests first.
+    pub fn check_sound(&self) -> Result<(), Refusal>
+        ensures { result ≡ sound_answer (overlay_seen self.now) }
+    {
+        if self.is_sound() {
+            return Ok(());
+        }
+        Err(Refusal::Unsound)
+    }
+}
+
+impl StorageMut<'_> {
+    // The overlay to be read.
+    pub fn storage(&self) -> Storage<'_>
+        ensures { overlay_seen result ≡ overlay_held self.now }
+    {
+        Storage {
+            words: self.words,
+            bytes: self.bytes,
+            counters: self.counters,
+        }
+    }
+
+    // 22, or nothing.
+    pub fn check_sound(&self) -> Result<(), Refusal>
+        ensures { result ≡ sound_answer (overlay_held self.now) }
+    {
+        self.storage().check_sound()
+    }
+}
+
 // ---- set-up
 
-fn reset(counters: &mut [u64; COUNTERS], z: Sizes, setting: u64)
-    ensures { counters.new ≡ fresh_counters setting z }
+fn fresh_counters(z: Sizes, setting: u64) -> [u64; COUNTERS]
+    ensures { result ≡ fresh_counters setting z }
 {
-    *counters = [
+    [
         0,
         0,
         0,
@@ -35,10 +158,71 @@ fn reset(counters: &mut [u64; COUNTERS], z: Sizes, setting: u64)
         z.relations.bytes,
         z.strings,
         z.string_bytes,
-    ];
+    ]
 }
 
-// 1 for a size outside, or sizes that are not those of the blocks; else an empty overlay: the counters and the span of handle 0 are written.
+impl StorageTables<'_> {
+    // The overlay to be read.
+    pub fn storage(&self) -> Storage<'_>
+        ensures { overlay_seen result ≡ overlay_tabled self.now }
+    {
+        Storage {
+            words: self.words,
+            bytes: self.bytes,
+            counters: self.counters,
+        }
+    }
+
+    // 22, or nothing.
+    pub fn check_sound(&self) -> Result<(), Refusal>
+        ensures { result ≡ sound_answer (overlay_tabled self.now) }
+    {
+        self.storage().check_sound()
+    }
+
+    // 1 for a size outside, or sizes that are not those of the blocks; else an empty overlay: the counters and the span of handle 0 are written.
+    // The setting is the word that C gave: it is stored as it is, and 0 alone refuses regression.
+    #[tactic(auto, using(crate::proofs::Parts::setup_refuses, crate::proofs::Parts::setup_makes))]
+    pub fn set_up(&mut self, sizes: Sizes, setting: u64) -> Result<(), Refusal>
+        ensures same { IsSameTables self.new self.old }
+        ensures done { record { overlay = tabled_for sizes self.new; answer = result } ≡ set_up sizes setting (tabled_for sizes self.old) }
+    {
+        if !sizes.fit(self.words.len(), self.bytes.len()) {
+            return Err(Refusal::Size);
+        }
+        *self.counters = fresh_counters(sizes, setting);
+        let t = sizes.texts(self.words.len(), self.bytes.len());
+        interner::empty_strings(&mut self.words[t.spans..]);
+        Ok(())
+    }
+}
+
+// ---- the regression setting
+
+// Sets the regression setting: 0 refuses regression, any other number allows it. 22, or done.
+// The parts are no struct here: C lends the words and the bytes to be read, and the counters alone to be written. The setting is the word that C gave, stored as it is.
+#[tactic(auto, using(crate::proofs::Checked::checked_unsound, crate::proofs::Checked::checked_sound, crate::proofs::Parts::allow_stored), unfolding(crate::specs::Calls::allow_on))]
+pub fn allow_version_regression(
+    words: &[u64],
+    bytes: &[u8],
+    counters: &mut [u64; COUNTERS],
+    setting: u64,
+) -> Result<(), Refusal>
+    ensures { record { overlay = left words.now bytes.now counters.new; answer = result } ≡ allow_on setting (lent words.now bytes.now counters.old) }
+{
+    let storage = Storage {
+        words,
+        bytes,
+        counters: &*counters,
+    };
+    storage.check_sound()?;
+    counters[SETTING] = setting;
+    Ok(())
+}
+
+// ---- the same over the parts
+
+// 1, or an empty overlay.
 pub fn set_up(
     words: &mut [u64],
     bytes: &[u8],
@@ -48,101 +232,22 @@ pub fn set_up(
 ) -> Result<(), Refusal>
     ensures { record { overlay = left_for z words.new bytes.now counters.new; answer = result } ≡ set_up z setting (lent_for z words.old bytes.now counters.old) }
 {
-    if overlay_blocks::sizes_fit(z, words.len(), bytes.len()) {
-        reset(counters, z, setting);
-        let t = overlay_blocks::texts_in(counters, words.len(), bytes.len());
-        let c = t.spans;
-        interner::empty_strings(&mut words[c..]);
-        return Ok(());
-    }
-    Err(Refusal::Size)
+    let mut tables = StorageTables {
+        words,
+        bytes,
+        counters,
+    };
+    tables.set_up(z, setting)
 }
 
-// ---- soundness
-
-fn kind_sound(words: &[u64], bytes: &[u8], counters: &[u64; COUNTERS], kind: Kind) -> bool
-    ensures { result ≡ sound_of kind (lent words.now bytes.now counters.now) }
-{
-    let p = overlay_blocks::part_in(kind, counters, words.len(), bytes.len());
-    let at = p.at;
-    let from = p.from;
-    let to = p.to;
-    let first = p.first;
-    let end = p.end;
-    kind_sound::sound_kind_store(
-        kind,
-        &words[from..to],
-        counters[at],
-        &bytes[first..end],
-        counters[at + ARENA],
-        counters[STRINGS],
-    )
-}
-
-#[tactic(auto, unfolding(crate::specs::Sound::kind_stores_sound, base::specs::Bytes::both))]
-fn kind_stores_sound(words: &[u64], bytes: &[u8], counters: &[u64; COUNTERS]) -> bool
-    ensures { result ≡ kind_stores_sound (lent words.now bytes.now counters.now) }
-{
-    kind_sound(words, bytes, counters, Kind::Node)
-        && kind_sound(words, bytes, counters, Kind::Way)
-        && kind_sound(words, bytes, counters, Kind::Relation)
-}
-
-// Not inlined: the interner's array makes a frame whose stack probe, as clang writes it, overwrites a register that a caller with tests before it still holds.
-#[inline(never)]
-fn strings_sound(words: &[u64], bytes: &[u8], counters: &[u64; COUNTERS]) -> bool
-    ensures { result ≡ sound_strings (lent words.now bytes.now counters.now).texts }
-{
-    let t = overlay_blocks::texts_in(counters, words.len(), bytes.len());
-    let c = t.spans;
-    let f = t.bytes;
-    interner::sound_strings(
-        &words[c..],
-        &bytes[f..],
-        counters[STRINGS],
-        counters[STRING_BYTES],
-    )
-}
-
-// Whether an overlay is sound: the sizes, the strings, then each kind.
-#[tactic(auto, using(crate::proofs::Parts::sizes_in_lem), unfolding(crate::specs::Sound::is_sound, base::specs::Bytes::both))]
+// Whether an overlay is sound.
 pub fn is_sound(words: &[u64], bytes: &[u8], counters: &[u64; COUNTERS]) -> bool
     ensures { result ≡ is_sound (lent words.now bytes.now counters.now) }
 {
-    overlay_blocks::sizes_fit(overlay_blocks::sizes_in(counters), words.len(), bytes.len())
-        && strings_sound(words, bytes, counters)
-        && kind_stores_sound(words, bytes, counters)
-}
-
-// 22, or nothing: what each call tests first.
-pub fn check_sound(words: &[u64], bytes: &[u8], counters: &[u64; COUNTERS]) -> Result<(), Refusal>
-    ensures { result ≡ sound_answer (lent words.now bytes.now counters.now) }
-{
-    if is_sound(words, bytes, counters) {
-        return Ok(());
-    }
-    Err(Refusal::Unsound)
-}
-
-// ---- the regression setting
-
-fn put_setting(counters: &mut [u64], setting: u64)
-    requires { 8 < length counters.old }
-    ensures { counters.new ≡ set counters.old 8 setting }
-{
-    counters[SETTING] = setting;
-}
-
-// Sets the regression setting: 0 refuses regression, any other number allows it. 22, or done.
-pub fn allow_version_regression(
-    words: &[u64],
-    bytes: &[u8],
-    counters: &mut [u64; COUNTERS],
-    setting: u64,
-) -> Result<(), Refusal>
-    ensures { record { overlay = left words.now bytes.now counters.new; answer = result } ≡ allow_on setting (lent words.now bytes.now counters.old) }
-{
-    check_sound(words, bytes, counters)?;
-    put_setting(counters, setting);
-    Ok(())
+    let storage = Storage {
+        words,
+        bytes,
+        counters,
+    };
+    storage.is_sound()
 }

@@ -7,16 +7,13 @@ use Rattle.kind.specs.declared.Kind.TheVariants.{Node, Way, Relation}
 use Rattle.overlay_blocks.specs.declared.Ends.{Ends}
 use Rattle.overlay_blocks.specs.declared.Sizes.{Sizes}
 use Rattle.overlay_blocks.specs.declared.KindPart.{KindPart}
-use Rattle.overlay_blocks.specs.Blocks.{end_of, ends_of, InOrder, word_ends, byte_ends, part_of, part_in, Within, text_part_of, text_part_in}
+use Rattle.overlay_blocks.specs.Blocks.{end_of, ends_of, InOrder, word_ends, byte_ends, part_of, part_in, Within}
 
 -- ---- in order
 
 pub in_order : (nodes ways relations block : ℕ) → InOrder (ends_of nodes ways relations block) block
 unfolding ends_of
 in_order nodes ways relations block = record { nodes = omega arith; ways = omega arith; relations = omega arith }
-
-pub ends_known : (e : Ends) (nodes ways relations block : ℕ) → e ≡ ends_of nodes ways relations block → (e ≡ ends_of nodes ways relations block) × InOrder e block
-ends_known e nodes ways relations block q = (q, rw q (in_order nodes ways relations block))
 
 -- sizes that are cut to the block before
 min_twice : (size block : ℕ) → min (min size block) block ≡ min size block
@@ -78,17 +75,6 @@ pub before_texts : (k : Kind) (w b : Ends) (words bytes : ℕ) → InOrder w wor
 before_texts Node w b words bytes o i = (omega arith, omega arith)
 before_texts Way w b words bytes o i = (omega arith, omega arith)
 before_texts Relation w b words bytes o i = (omega arith, omega arith)
-
--- what is answered of a part, by the ends that were answered
-pub part_known : (k : Kind) (z : Sizes) (words bytes : ℕ) (w b : Ends) (p : KindPart) → p ≡ part_of k w b
-    → w ≡ word_ends z words → b ≡ byte_ends z bytes → (p ≡ part_in k z words bytes) × Within p words bytes
-part_known k z words bytes w b p q d e =
-    let f : p ≡ part_in k z words bytes = q ∙ rw (d, e) in
-    (f, rw f (part_within z words bytes k))
-
-pub texts_known : (z : Sizes) (words bytes : ℕ) (w b : Ends) → (w ≡ word_ends z words) × InOrder w words → (b ≡ byte_ends z bytes) × InOrder b bytes
-    → (text_part_of w b ≡ text_part_in z words bytes) × ((w.relations ≤ words) × (b.relations ≤ bytes))
-texts_known z words bytes w b f g = (rw (f.0, g.0), (f.1.relations, g.1.relations))
 
 -- ---- exact ends
 

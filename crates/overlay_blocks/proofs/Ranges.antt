@@ -1,18 +1,12 @@
 -- The test of the range as facts.
 use Prim.Native.Nat.{◌≤◌}
 use mathlib.Core.Path.{◌≡◌}
-use mathlib.Core.Bool.{Bool, true, ◌&&◌}
+use mathlib.Core.Bool.{true}
 use borrow.Author.Tests.{leb-true}
-use Rattle.base.specs.Bytes.{both}
 use Rattle.base.proofs.Split.{both_left, both_right}
-use Rattle.compact_legal.proofs.Bits.{and_both}
 use Rattle.overlay_blocks.specs.declared.KindSize.{KindSize}
 use Rattle.overlay_blocks.specs.declared.Sizes.{Sizes}
 use Rattle.overlay_blocks.specs.Sizes.{largest, kind_fits, strings_fit, sizes_in_range, SmallKind, Small}
-
--- four tests, each made whatever the others say
-pub all_four : (a b c d : Bool) → (a && (b && (c && d))) ≡ both a (both b (both c d))
-all_four a b c d = simp and_both
 
 small_kind : (z : KindSize) → kind_fits largest z ≡ true → SmallKind z
 unfolding kind_fits

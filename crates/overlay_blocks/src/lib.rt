@@ -40,7 +40,7 @@ const SIZES_STRING_BYTES: usize = 16;
 
 // The lent sizes of a kind: rows of its id table, bytes of its arena.
 #[repr(C)]
-#[derive(Clone, Copy)]
+#[derive(Clone, Copy, PartialEq, Eq, Debug)]
 pub struct KindSize {
     pub ids: u64,
     pub bytes: u64,
@@ -48,7 +48,7 @@ pub struct KindSize {
 
 // The lent sizes, as set-up is given them and the counters hold them.
 #[repr(C)]
-#[derive(Clone, Copy)]
+#[derive(Clone, Copy, PartialEq, Eq, Debug)]
 pub struct Sizes {
     pub nodes: KindSize,
     pub ways: KindSize,
@@ -58,7 +58,7 @@ pub struct Sizes {
 }
 
 // Where the parts of the three kinds end in a block. What lies behind them is the strings'.
-#[derive(Clone, Copy)]
+#[derive(Clone, Copy, PartialEq, Eq, Debug)]
 pub struct Ends {
     pub nodes: usize,
     pub ways: usize,
@@ -66,7 +66,7 @@ pub struct Ends {
 }
 
 // What the blocks have of one kind: words `from` to `to`, bytes `first` to `end`; and the place of its used ids among the counters, its used bytes three behind.
-#[derive(Clone, Copy)]
+#[derive(Clone, Copy, PartialEq, Eq, Debug)]
 pub struct KindPart {
     pub at: usize,
     pub from: usize,
@@ -76,49 +76,13 @@ pub struct KindPart {
 }
 
 // Where the blocks have the strings: their spans and their bytes from there on.
-#[derive(Clone, Copy)]
+#[derive(Clone, Copy, PartialEq, Eq, Debug)]
 pub struct TextPart {
     pub spans: usize,
     pub bytes: usize,
 }
 
-// ---- the ends of the parts
-
-// The sizes behind the counters.
-pub fn sizes_in(counters: &[u64; COUNTERS]) -> Sizes
-    ensures { result ≡ sizes_in counters.now }
-{
-    Sizes {
-        nodes: KindSize {
-            ids: counters[SIZES_NODES],
-            bytes: counters[SIZES_NODE_ARENA],
-        },
-        ways: KindSize {
-            ids: counters[SIZES_WAYS],
-            bytes: counters[SIZES_WAY_ARENA],
-        },
-        relations: KindSize {
-            ids: counters[SIZES_RELATIONS],
-            bytes: counters[SIZES_RELATION_ARENA],
-        },
-        strings: counters[SIZES_STRINGS],
-        string_bytes: counters[SIZES_STRING_BYTES],
-    }
-}
-
-// Where parts of three sizes end in a block: what it does not have is missing at its end.
-fn ends_of(nodes: usize, ways: usize, relations: usize, block: usize) -> Ends
-    ensures { (result ≡ ends_of nodes ways relations block) × InOrder result block }
-{
-    let a = little::lesser(nodes, block);
-    let b = a + little::lesser(ways, block - a);
-    let c = b + little::lesser(relations, block - b);
-    Ends {
-        nodes: a,
-        ways: b,
-        relations: c,
-    }
-}
+// ---- where parts end
 
 // The words of a table of so many rows, as far as there are words.
 fn rows_within(rows: u64, words: usize) -> usize
@@ -130,119 +94,179 @@ fn rows_within(rows: u64, words: usize) -> usize
     words
 }
 
-// Where the id tables end.
-fn word_ends(counters: &[u64; COUNTERS], words: usize) -> Ends
-    ensures { (result ≡ word_ends (sizes_in counters.now) words) × InOrder result words }
-{
-    let nodes = rows_within(counters[SIZES_NODES], words);
-    let ways = rows_within(counters[SIZES_WAYS], words);
-    let relations = rows_within(counters[SIZES_RELATIONS], words);
-    ends_of(nodes, ways, relations, words)
-}
-
-// Where the arenas end.
-fn byte_ends(counters: &[u64; COUNTERS], bytes: usize) -> Ends
-    ensures { (result ≡ byte_ends (sizes_in counters.now) bytes) × InOrder result bytes }
-{
-    ends_of(
-        counters[SIZES_NODE_ARENA] as usize,
-        counters[SIZES_WAY_ARENA] as usize,
-        counters[SIZES_RELATION_ARENA] as usize,
-        bytes,
-    )
-}
-
-// ---- the parts
-
-fn part_at(kind: Kind, words: Ends, bytes: Ends) -> KindPart
-    ensures { result ≡ part_of kind words bytes }
-{
-    match kind {
-        Kind::Node => KindPart {
-            at: 0,
-            from: 0,
-            to: words.nodes,
-            first: 0,
-            end: bytes.nodes,
-        },
-        Kind::Way => KindPart {
-            at: 1,
-            from: words.nodes,
-            to: words.ways,
-            first: bytes.nodes,
-            end: bytes.ways,
-        },
-        Kind::Relation => KindPart {
-            at: 2,
-            from: words.ways,
-            to: words.relations,
-            first: bytes.ways,
-            end: bytes.relations,
-        },
+impl Ends {
+    // Where parts of three sizes end in a block: what it does not have is missing at its end.
+    #[tactic(auto, using(crate::proofs::Orders::in_order), unfolding(crate::specs::Blocks::ends_of))]
+    fn within(nodes: usize, ways: usize, relations: usize, block: usize) -> Ends
+        ensures { (result ≡ ends_of nodes ways relations block) × InOrder result block }
+    {
+        let a = little::lesser(nodes, block);
+        let b = a + little::lesser(ways, block - a);
+        let c = b + little::lesser(relations, block - b);
+        Ends {
+            nodes: a,
+            ways: b,
+            relations: c,
+        }
     }
 }
+
+impl KindPart {
+    // The part of a kind between the ends of the parts.
+    fn between(kind: Kind, words: Ends, bytes: Ends) -> KindPart
+        ensures { result ≡ part_of kind words bytes }
+    {
+        match kind {
+            Kind::Node => KindPart {
+                at: 0,
+                from: 0,
+                to: words.nodes,
+                first: 0,
+                end: bytes.nodes,
+            },
+            Kind::Way => KindPart {
+                at: 1,
+                from: words.nodes,
+                to: words.ways,
+                first: bytes.nodes,
+                end: bytes.ways,
+            },
+            Kind::Relation => KindPart {
+                at: 2,
+                from: words.ways,
+                to: words.relations,
+                first: bytes.ways,
+                end: bytes.relations,
+            },
+        }
+    }
+}
+
+// ---- by the sizes
+
+impl KindSize {
+    #[tactic(auto, unfolding(crate::specs::Sizes::kind_fits, base::specs::Bytes::both))]
+    fn fits(self) -> bool
+        ensures { result ≡ kind_fits largest self }
+    {
+        1 <= self.ids && self.ids <= 4096 && self.bytes <= 1048576
+    }
+}
+
+// The sizes behind the counters.
+impl From<&[u64; COUNTERS]> for Sizes {
+    ghost from_gives = { λ counters sizes. sizes ≡ sizes_in counters.now };
+
+    fn from(counters: &[u64; COUNTERS]) -> Sizes {
+        Sizes {
+            nodes: KindSize {
+                ids: counters[SIZES_NODES],
+                bytes: counters[SIZES_NODE_ARENA],
+            },
+            ways: KindSize {
+                ids: counters[SIZES_WAYS],
+                bytes: counters[SIZES_WAY_ARENA],
+            },
+            relations: KindSize {
+                ids: counters[SIZES_RELATIONS],
+                bytes: counters[SIZES_RELATION_ARENA],
+            },
+            strings: counters[SIZES_STRINGS],
+            string_bytes: counters[SIZES_STRING_BYTES],
+        }
+    }
+}
+
+impl Sizes {
+    // Where the id tables end in a block of so many words.
+    #[tactic(auto, using(crate::proofs::Orders::ends_rows))]
+    fn word_ends(&self, words: usize) -> Ends
+        ensures { (result ≡ word_ends self.now words) × InOrder result words }
+    {
+        let nodes = rows_within(self.nodes.ids, words);
+        let ways = rows_within(self.ways.ids, words);
+        let relations = rows_within(self.relations.ids, words);
+        Ends::within(nodes, ways, relations, words)
+    }
+
+    // Where the arenas end in a block of so many bytes.
+    fn byte_ends(&self, bytes: usize) -> Ends
+        ensures { (result ≡ byte_ends self.now bytes) × InOrder result bytes }
+    {
+        let nodes = self.nodes.bytes as usize;
+        let ways = self.ways.bytes as usize;
+        let relations = self.relations.bytes as usize;
+        Ends::within(nodes, ways, relations, bytes)
+    }
+
+    // The part of a kind in blocks of these lengths.
+    pub fn part(&self, kind: Kind, words: usize, bytes: usize) -> KindPart
+        ensures { (result ≡ part_in kind self.now words bytes) × Within result words bytes }
+    {
+        let w = self.word_ends(words);
+        let b = self.byte_ends(bytes);
+        KindPart::between(kind, w, b)
+    }
+
+    // The strings' part.
+    pub fn texts(&self, words: usize, bytes: usize) -> TextPart
+        ensures { (result ≡ text_part_in self.now words bytes) × ((result.spans ≤ words) × (result.bytes ≤ bytes)) }
+    {
+        let w = self.word_ends(words);
+        let b = self.byte_ends(bytes);
+        TextPart {
+            spans: w.relations,
+            bytes: b.relations,
+        }
+    }
+
+    #[tactic(auto, unfolding(crate::specs::Sizes::strings_fit, base::specs::Bytes::both))]
+    fn strings_fit(&self) -> bool
+        ensures { result ≡ strings_fit largest self.now.strings self.now.string_bytes }
+    {
+        1 <= self.strings && self.strings <= 4096 && self.string_bytes <= 65536
+    }
+
+    // Whether each size is one that set-up takes.
+    #[tactic(auto, unfolding(crate::specs::Sizes::sizes_in_range, base::specs::Bytes::both))]
+    fn in_range(&self) -> bool
+        ensures { result ≡ sizes_in_range largest self.now }
+    {
+        self.nodes.fits() && self.ways.fits() && self.relations.fits() && self.strings_fit()
+    }
+
+    // Whether the parts are all of the blocks.
+    #[tactic(auto, unfolding(crate::specs::Sizes::filled, base::specs::Bytes::both))]
+    fn fill(&self, words: usize, bytes: usize) -> bool
+        requires { Small self.now }
+        ensures { result ≡ filled self.now words bytes }
+    {
+        let w = 3 * (self.nodes.ids + self.ways.ids + self.relations.ids) + 2 * self.strings;
+        let b = self.nodes.bytes + self.ways.bytes + self.relations.bytes + self.string_bytes;
+        w == words as u64 && b == bytes as u64
+    }
+
+    // Whether the sizes are in range and tile the blocks.
+    #[tactic(auto, using(crate::proofs::Ranges::small), unfolding(crate::specs::Sizes::fitted, base::specs::Bytes::both))]
+    pub fn fit(&self, words: usize, bytes: usize) -> bool
+        ensures { result ≡ fitted largest self.now words bytes }
+    {
+        self.in_range() && self.fill(words, bytes)
+    }
+}
+
+// ---- the same over the counters
 
 // The part of a kind in blocks of these lengths.
 pub fn part_in(kind: Kind, counters: &[u64; COUNTERS], words: usize, bytes: usize) -> KindPart
     ensures { (result ≡ part_in kind (sizes_in counters.now) words bytes) × Within result words bytes }
 {
-    let w = word_ends(counters, words);
-    let b = byte_ends(counters, bytes);
-    part_at(kind, w, b)
+    Sizes::from(counters).part(kind, words, bytes)
 }
 
 // The strings' part.
 pub fn texts_in(counters: &[u64; COUNTERS], words: usize, bytes: usize) -> TextPart
     ensures { (result ≡ text_part_in (sizes_in counters.now) words bytes) × ((result.spans ≤ words) × (result.bytes ≤ bytes)) }
 {
-    let w = word_ends(counters, words);
-    let b = byte_ends(counters, bytes);
-    TextPart {
-        spans: w.relations,
-        bytes: b.relations,
-    }
-}
-
-// ---- the sizes
-
-fn kind_fits(size: KindSize) -> bool
-    ensures { result ≡ kind_fits largest size }
-{
-    (1 <= size.ids) & ((size.ids <= 4096) & (size.bytes <= 1048576))
-}
-
-fn strings_fit(strings: u64, bytes: u64) -> bool
-    ensures { result ≡ strings_fit largest strings bytes }
-{
-    (1 <= strings) & ((strings <= 4096) & (bytes <= 65536))
-}
-
-// Whether each size is one that set-up takes.
-fn sizes_in_range(z: Sizes) -> bool
-    ensures { result ≡ sizes_in_range largest z }
-{
-    let n = z.nodes;
-    let w = z.ways;
-    let r = z.relations;
-    kind_fits(n) & (kind_fits(w) & (kind_fits(r) & strings_fit(z.strings, z.string_bytes)))
-}
-
-// Whether the parts are all of the blocks.
-fn fills(z: Sizes, words: usize, bytes: usize) -> bool
-    requires { Small z }
-    ensures { result ≡ filled z words bytes }
-{
-    let w = 3 * (z.nodes.ids + z.ways.ids + z.relations.ids) + 2 * z.strings;
-    let b = z.nodes.bytes + z.ways.bytes + z.relations.bytes + z.string_bytes;
-    (w == words as u64) & (b == bytes as u64)
-}
-
-// Whether the sizes are in range and tile the blocks.
-pub fn sizes_fit(z: Sizes, words: usize, bytes: usize) -> bool
-    ensures { result ≡ fitted largest z words bytes }
-{
-    if sizes_in_range(z) {
-        return fills(z, words, bytes);
-    }
-    false
+    Sizes::from(counters).texts(words, bytes)
 }

@@ -6,62 +6,60 @@ ghost use Rattle.std.specs.Prelude.{◌≡◌};
 ghost use Rattle.std.specs.Int.{w64};
 ghost use Rattle.std.proofs.Common.{to_z};
 ghost use Rattle.compact.specs.Held.{meta_of};
-ghost use Rattle.overlay.specs.Lent.{lent, left};
+ghost use Rattle.overlay.specs.Lent.{overlay_held, overlay_tabled, IsSameStorage, IsSameTables};
 ghost use Rattle.overlay_direct.specs.Calls.{intern_on, push_on, delete_on};
 
 use compact::{ArenaMeta, PushHead};
 use kind::Kind;
-use overlay_blocks::{COUNTERS, STRINGS};
+use overlay::{StorageMut, StorageTables};
+use overlay_blocks::STRINGS;
 use refusal::Refusal;
+use text_index::Chains;
 
 // Takes a text in: 22, 3, 13, or its handle.
-pub fn intern(
-    words: &mut [u64],
-    bytes: &mut [u8],
-    counters: &mut [u64; COUNTERS],
-    text: &[u8],
-) -> Result<u64, Refusal>
-    ensures { record { overlay = left words.new bytes.new counters.new; answer = result } ≡ intern_on text.now (lent words.old bytes.old counters.old) }
+#[tactic(auto, using(overlay::proofs::Checked::checked_unsound, overlay::proofs::Checked::checked_sound), unfolding(crate::specs::Calls::intern_on))]
+pub fn intern(storage: &mut StorageMut<'_>, text: &[u8]) -> Result<u64, Refusal>
+    ensures same { IsSameStorage storage.new storage.old }
+    ensures done { record { overlay = overlay_held storage.new; answer = result } ≡ intern_on text.now (overlay_held storage.old) }
 {
-    overlay::check_sound(words, bytes, counters)?;
+    storage.check_sound()?;
     if text::is_text(text) {
-        return overlay_store::store_text(words, bytes, counters, text);
+        return overlay_store::intern(storage, &Chains::none(), text);
     }
     Err(Refusal::NotText)
 }
 
 // A direct push of a node, way or relation: 22; 17, 3, 10, 16; then 12, 14, 15.
+#[tactic(auto, using(overlay::proofs::Checked::checked_unsound, overlay::proofs::Checked::checked_sound, std::proofs::lemmas::Result::err_from_is_err_and), unfolding(crate::specs::Calls::push_on))]
 pub fn push(
-    words: &mut [u64],
-    bytes: &mut [u8],
-    counters: &mut [u64; COUNTERS],
+    storage: &mut StorageMut<'_>,
     kind: Kind,
     head: PushHead,
     meta: ArenaMeta,
     parts: &[u8],
 ) -> Result<(), Refusal>
-    ensures { record { overlay = left words.new bytes.new counters.new; answer = result } ≡ push_on kind head meta parts.now (lent words.old bytes.old counters.old) }
+    ensures same { IsSameStorage storage.new storage.old }
+    ensures done { record { overlay = overlay_held storage.new; answer = result } ≡ push_on kind head meta parts.now (overlay_held storage.old) }
 {
-    overlay::check_sound(words, bytes, counters)?;
-    compact_legal::push_fault(kind, head, meta, parts, counters[STRINGS])?;
-    overlay_store::store_push(words, bytes, counters, kind, head, meta, parts)
+    storage.check_sound()?;
+    compact_legal::push_fault(kind, head, meta, parts, storage.counters[STRINGS])?;
+    overlay_store::push(storage, kind, head, meta, parts)
 }
 
 // A direct delete: 22; 17 of its metadata; then 12, 14.
+#[tactic(auto, using(overlay::proofs::Checked::checked_unsound, overlay::proofs::Checked::checked_sound), unfolding(crate::specs::Calls::delete_on))]
 pub fn delete(
-    words: &mut [u64],
-    bytes: &[u8],
-    counters: &mut [u64; COUNTERS],
+    tables: &mut StorageTables<'_>,
     kind: Kind,
     id: u64,
     meta: ArenaMeta,
 ) -> Result<(), Refusal>
-    ensures { record { overlay = left words.new bytes.now counters.new; answer = result } ≡ delete_on kind (to_z w64 id) (meta_of meta) (lent words.old bytes.now counters.old) }
+    ensures same { IsSameTables tables.new tables.old }
+    ensures done { record { overlay = overlay_tabled tables.new; answer = result } ≡ delete_on kind (to_z w64 id) (meta_of meta) (overlay_tabled tables.old) }
 {
-    overlay::check_sound(words, bytes, counters)?;
-    if compact_legal::legal_meta(meta, counters[STRINGS]) {
-        let claim = compact::claim(meta);
-        return overlay_store::store_delete(words, bytes, counters, kind, id, claim);
+    tables.check_sound()?;
+    if compact_legal::legal_meta(meta, tables.counters[STRINGS]) {
+        return overlay_store::delete(tables, kind, id, compact::claim(meta));
     }
     Err(Refusal::BadRecord)
 }

@@ -1,4 +1,3 @@
-pub mod Arms
 pub mod Records
 pub mod Numbers
 pub mod Texts

@@ -33,6 +33,15 @@ abbrev pub yes : Bool → Result ℕ Refusal
 yes true = Ok 1
 yes false = Ok 0
 
+-- yes and no as that number, and a version as its word
+abbrev pub in_number : Result Bool Refusal → Result ℕ Refusal
+in_number (Ok b) = yes b
+in_number (Err r) = Err r
+
+abbrev pub in_word : Result (Option ℤ) Refusal → Result ℕ Refusal
+in_word (Ok v) = Ok (word_of v)
+in_word (Err r) = Err r
+
 -- ---- counts
 
 abbrev pub count_in : Side → KindStore → ℕ
@@ -82,6 +91,10 @@ abbrev pub live_view : ℕ → Kind → KindStore → Standing → View
 live_view strings k s (S.Live at) = view_in strings k s at
 live_view strings k s S.Deleted = Ok None
 live_view strings k s S.Unknown = Ok None
+
+-- what is known of an id
+unfoldable pub standing_on : Kind → ℤ → Overlay → Result Standing Refusal
+standing_on k id o = cond (is_sound o) (Ok (standing_in (kind_store_of k o) id)) (Err R.Unsound)
 
 -- the record of an id, if it is live
 unfoldable pub get_on : Kind → ℤ → Overlay → View

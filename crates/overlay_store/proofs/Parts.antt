@@ -12,7 +12,13 @@ use borrow.Rule.Slice.PartMut.{put_mid, put_same}
 use Rattle.base.specs.Bytes.{Bytes}
 use Rattle.kind.specs.declared.Kind.{Kind}
 use Rattle.interner.specs.Strings as Strings
+use Rattle.interner.specs.Texts.{handle_answered}
+use Rattle.interner.specs.declared.Interned.{Interned}
+use Rattle.interner.specs.declared.Interned.TheVariants as I
 use Rattle.interner.specs.declared.Taken.{Taken}
+use Rattle.std.specs.Option.{ok_or}
+use Rattle.refusal.specs.declared.Refusal.TheVariants as R
+use Rattle.overlay_store.specs.Lent.{strings_at}
 use Rattle.kind_store.specs.KindStore as KindStore
 use Rattle.overlay_blocks.specs.declared.KindPart.{KindPart}
 use Rattle.overlay_blocks.specs.declared.TextPart.{TextPart}
@@ -74,6 +80,23 @@ texts_after words bytes c d long e q spans texts m n k r t i f g =
     let u : get_or d 6 0 ≡ k.strings = rw f (first_stored c 17 long 6 7 k.strings k.used (omega arith) (eqb-false 6 7 refl)) in
     let v : get_or d 7 0 ≡ k.used = rw f (second_stored c 17 long 6 7 k.strings k.used (omega arith)) in
     rw (texts_put words bytes c d e q spans texts m n h, u, v, g, ← texts_lent words bytes c e q, ← i)
+
+-- the handle of a text, or 13
+ok_handle : (i : Interned) → ok_or (handle_answered i) R.StringsFull ≡ handle_in i
+ok_handle (I.Held h) = refl
+ok_handle (I.New h) = refl
+ok_handle I.Full = refl
+
+pub interned_after : (words bytes c d : List ℕ) (e : TextPart) → e ≡ text_part_in (sizes_in c) (length words) (length bytes) → (spans texts : List ℕ)
+    → length spans ≡ length (cut e.spans (length words) words) → length texts ≡ length (cut e.bytes (length bytes) bytes) → Others 6 7 c d
+    → (h : Option ℕ) (t : Bytes) → strings_at spans texts d ≡ (Strings.intern (strings_at (cut e.spans (length words) words) (cut e.bytes (length bytes) bytes) c) t).store
+    → h ≡ handle_answered (Strings.intern (strings_at (cut e.spans (length words) words) (cut e.bytes (length bytes) bytes) c) t).answer
+    → (r : Result ℕ Refusal) → r ≡ ok_or h R.StringsFull
+    → record { overlay = overlay_in (put_mid e.spans (length words - e.spans) words spans) (put_mid e.bytes (length bytes - e.bytes) bytes texts) d; answer = r }
+    ≡ store_text t (overlay_in words bytes c)
+interned_after words bytes c d e q spans texts m n o h t f g r a =
+    let s = strings_at (cut e.spans (length words) words) (cut e.bytes (length bytes) bytes) c in
+    rw (texts_put words bytes c d e q spans texts m n o, f, a, g, ok_handle (Strings.intern s t).answer, texts_lent words bytes c e q)
 
 -- ---- a push and a delete
 

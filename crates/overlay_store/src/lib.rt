@@ -8,16 +8,186 @@ ghost use Rattle.std.proofs.Common.{to_z};
 ghost use Rattle.model.specs.Record.{claim_of};
 ghost use Rattle.compact.specs.Held.{meta_of};
 ghost use Rattle.kind_store.specs.KindStore.{pushed, deleted};
+ghost use Rattle.interner.specs.Strings.{intern};
+ghost use Rattle.interner.specs.Texts.{handle_answered};
 ghost use Rattle.text_index.specs.Index.{IndexGiven};
-ghost use Rattle.overlay.specs.Lent.{lent, left};
-ghost use Rattle.overlay_store.specs.Lent.{kind_store_lent, kind_store_left, setting_in, OthersKept};
+ghost use Rattle.text_index.specs.Chained.{StoreChained, ChainsServe};
+ghost use Rattle.text_index.specs.Lent.{chains_seen};
+ghost use Rattle.overlay.specs.Lent.{lent, left, overlay_held, overlay_tabled, IsSameStorage, IsSameTables};
+ghost use Rattle.overlay_store.specs.Lent.{kind_store_lent, kind_store_left, setting_in, strings_at, OthersKept};
 ghost use Rattle.overlay_store.specs.Calls.{bytes_of, store_push, store_delete, handle_in, store_text};
 
-use compact::{ArenaMeta, PushHead};
-use interner::{Interned, Taken};
+use compact::{ArenaMeta, PushHead, PushRecord};
+use interner::{Interned, StringsMut, Taken};
 use kind::Kind;
-use overlay_blocks::{ARENA, COUNTERS, SETTING, STRING_BYTES, STRINGS};
+use kind_store::{KindStorageMut, KindStorageTable};
+use overlay::{StorageMut, StorageTables};
+use overlay_blocks::{ARENA, COUNTERS, SETTING, STRING_BYTES, STRINGS, Sizes};
 use refusal::Refusal;
+use text_index::Chains;
+
+// ---- a text
+
+// Takes a text in among the strings, and counts it. A function of its own, since the check covers no struct of two `&mut` slices of one struct's fields.
+fn intern_in(
+    chains: &Chains<'_>,
+    spans: &mut [u64],
+    bytes: &mut [u8],
+    counters: &mut [u64; COUNTERS],
+    text: &[u8],
+) -> Option<u64>
+    ensures others { OthersKept 6 7 counters.old counters.new }
+    ensures store { ChainsServe (chains_seen chains.now) (strings_at spans.old bytes.old counters.old) → strings_at spans.new bytes.new counters.new ≡ (intern (strings_at spans.old bytes.old counters.old) text.now).store }
+    ensures handle { ChainsServe (chains_seen chains.now) (strings_at spans.old bytes.old counters.old) → result ≡ handle_answered (intern (strings_at spans.old bytes.old counters.old) text.now).answer }
+{
+    let mut strings = StringsMut {
+        spans,
+        bytes,
+        count: counters[STRINGS],
+        used: counters[STRING_BYTES],
+    };
+    let handle = chains.intern(&mut strings, text);
+    counters[STRINGS] = strings.count;
+    counters[STRING_BYTES] = strings.used;
+    handle
+}
+
+// Takes a text in: 13, or its handle. Chains of handles find it among the held ones; where none are kept, empty ones serve.
+pub fn intern(
+    storage: &mut StorageMut<'_>,
+    chains: &Chains<'_>,
+    text: &[u8],
+) -> Result<u64, Refusal>
+    ensures same { IsSameStorage storage.new storage.old }
+    ensures done { StoreChained (chains_seen chains.now) (overlay_held storage.old).texts
+        → record { overlay = overlay_held storage.new; answer = result } ≡ store_text text.now (overlay_held storage.old) }
+    ensures unchained { chains.now.handles ≡ 0 → record { overlay = overlay_held storage.new; answer = result } ≡ store_text text.now (overlay_held storage.old) }
+{
+    let t = Sizes::from(&*storage.counters).texts(storage.words.len(), storage.bytes.len());
+    let handle = intern_in(
+        chains,
+        &mut storage.words[t.spans..],
+        &mut storage.bytes[t.bytes..],
+        storage.counters,
+        text,
+    );
+    handle.ok_or(Refusal::StringsFull)
+}
+
+// ---- an act on one kind
+
+// A push on the kind whose counters stand at `at` and three behind it. A function of its own for the same reason as `intern_in`.
+fn push_in(
+    at: usize,
+    kind: Kind,
+    table: &mut [u64],
+    arena: &mut [u8],
+    counters: &mut [u64; COUNTERS],
+    head: PushHead,
+    meta: ArenaMeta,
+    parts: &[u8],
+) -> Result<(), Refusal>
+    requires { at < 3 }
+    ensures { (record { kind_store = kind_store_left at table.new arena.new counters.new; answer = result }
+        ≡ pushed kind (setting_in counters.old) (kind_store_lent at table.old arena.old counters.old) (to_z w64 head.id) (claim_of (meta_of meta)) (bytes_of kind head meta parts.now))
+        × OthersKept at (at + 3) counters.old counters.new }
+{
+    let setting = counters[SETTING];
+    let mut part = KindStorageMut {
+        kind,
+        table,
+        ids: counters[at],
+        arena,
+        used: counters[at + ARENA],
+    };
+    let record = PushRecord {
+        kind,
+        head,
+        meta,
+        parts,
+    };
+    let answer = part.push(setting.into(), &record);
+    counters[at] = part.ids;
+    counters[at + ARENA] = part.used;
+    answer
+}
+
+// A push whose record is legal: 12, 14, 15, or taken.
+pub fn push(
+    storage: &mut StorageMut<'_>,
+    kind: Kind,
+    head: PushHead,
+    meta: ArenaMeta,
+    parts: &[u8],
+) -> Result<(), Refusal>
+    ensures same { IsSameStorage storage.new storage.old }
+    ensures done { record { overlay = overlay_held storage.new; answer = result } ≡ store_push kind head meta parts.now (overlay_held storage.old) }
+{
+    let p = Sizes::from(&*storage.counters).part(kind, storage.words.len(), storage.bytes.len());
+    push_in(
+        p.at,
+        kind,
+        &mut storage.words[p.from..p.to],
+        &mut storage.bytes[p.first..p.end],
+        storage.counters,
+        head,
+        meta,
+        parts,
+    )
+}
+
+// A delete on the kind whose counters stand at `at` and three behind it. A function of its own for the same reason as `intern_in`.
+fn delete_in(
+    at: usize,
+    kind: Kind,
+    table: &mut [u64],
+    arena: &[u8],
+    counters: &mut [u64; COUNTERS],
+    id: u64,
+    claim: Option<i32>,
+) -> Result<(), Refusal>
+    requires { at < 3 }
+    ensures { (record { kind_store = kind_store_left at table.new arena.now counters.new; answer = result }
+        ≡ deleted kind (setting_in counters.old) (kind_store_lent at table.old arena.now counters.old) (to_z w64 id) claim)
+        × OthersKept at (at + 3) counters.old counters.new }
+{
+    let setting = counters[SETTING];
+    let mut part = KindStorageTable {
+        kind,
+        table,
+        ids: counters[at],
+        arena,
+        used: counters[at + ARENA],
+    };
+    let answer = part.delete(setting.into(), id, claim);
+    counters[at] = part.ids;
+    counters[at + ARENA] = part.used;
+    answer
+}
+
+// A delete whose metadata is legal: 12, 14, or taken.
+pub fn delete(
+    tables: &mut StorageTables<'_>,
+    kind: Kind,
+    id: u64,
+    claim: Option<i32>,
+) -> Result<(), Refusal>
+    ensures same { IsSameTables tables.new tables.old }
+    ensures done { record { overlay = overlay_tabled tables.new; answer = result } ≡ store_delete kind (to_z w64 id) claim (overlay_tabled tables.old) }
+{
+    let p = Sizes::from(&*tables.counters).part(kind, tables.words.len(), tables.bytes.len());
+    delete_in(
+        p.at,
+        kind,
+        &mut tables.words[p.from..p.to],
+        &tables.bytes[p.first..p.end],
+        tables.counters,
+        id,
+        claim,
+    )
+}
+
+// ---- the same over the parts
 
 // Writes two counters.
 fn put_two(used: &mut [u64], i: usize, a: u64, j: usize, b: u64)
@@ -48,29 +218,7 @@ fn count_taken(counters: &mut [u64], taken: Taken) -> Result<u64, Refusal>
     handle_in(taken.answer)
 }
 
-// Takes a text in: 13, or its handle.
-pub fn store_text(
-    words: &mut [u64],
-    bytes: &mut [u8],
-    counters: &mut [u64; COUNTERS],
-    text: &[u8],
-) -> Result<u64, Refusal>
-    ensures { record { overlay = left words.new bytes.new counters.new; answer = result } ≡ store_text text.now (lent words.old bytes.old counters.old) }
-{
-    let t = overlay_blocks::texts_in(counters, words.len(), bytes.len());
-    let c = t.spans;
-    let f = t.bytes;
-    let taken = interner::intern(
-        &mut words[c..],
-        &mut bytes[f..],
-        counters[STRINGS],
-        counters[STRING_BYTES],
-        text,
-    );
-    count_taken(counters, taken)
-}
-
-// The same with an array of chains for the held texts.
+// Takes a text in, with an array of chains for the held texts: 13, or its handle.
 pub fn store_text_by(
     words: &mut [u64],
     bytes: &mut [u8],
@@ -151,7 +299,7 @@ fn push_at(
     requires { at < 3 }
     ensures { (record { kind_store = kind_store_left at table.new arena.new used.new; answer = result }
         ≡ pushed kind (setting_in used.old) (kind_store_lent at table.old arena.old used.old) (to_z w64 head.id) (claim_of (meta_of meta)) (bytes_of kind head meta parts.now))
-        × OthersKept at used.old used.new }
+        × OthersKept at (at + 3) used.old used.new }
 {
     let ids = used[at];
     let end = used[at + ARENA];
@@ -213,7 +361,7 @@ fn delete_at(
 ) -> Result<(), Refusal>
     requires { at < 3 }
     ensures { (record { kind_store = kind_store_left at table.new arena.now used.new; answer = result } ≡ deleted kind (setting_in used.old) (kind_store_lent at table.old arena.now used.old) (to_z w64 id) claim)
-        × OthersKept at used.old used.new }
+        × OthersKept at (at + 3) used.old used.new }
 {
     let ids = used[at];
     let end = used[at + ARENA];

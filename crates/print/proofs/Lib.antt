@@ -1,2 +1,3 @@
 pub mod Prints
 pub mod Pieces
+pub mod Walks

@@ -1,5 +1,5 @@
 -- One piece, as its writer goes about it: the room behind it, its place in the output, the bytes of an escape.
-use Rattle.std.specs.Prelude.{ℕ, zero, suc, ◌+◌, ◌-◌, ◌≡◌, cond, [], ◌∷◌, ◌++◌, leb, None, Option, Some}
+use Rattle.std.specs.Prelude.{ℕ, ◌+◌, ◌-◌, cond, [], ◌∷◌, ◌++◌, leb, length, drop, None, Option, Some}
 use Rattle.base.specs.Bytes.{Bytes}
 use Rattle.base.specs.Chars.{backslash}
 use Rattle.little.specs.Little.{over}
@@ -9,18 +9,27 @@ unfoldable pub behind : Option ℕ → ℕ → Option ℕ
 behind (Some r) n = cond (leb n r) (Some (r - n)) None
 behind None n = None
 
--- where a piece goes in an output of `len` bytes, by the room before and behind it: after the pieces before it where it lies within the output, else to
--- the output's end, where nothing is written
-unfoldable pub output_place : ℕ → Option ℕ → Option ℕ → ℕ → ℕ
-output_place cap (Some r) (Some l) len = cond (leb (cap - r + (r - l)) len) (cap - r) len
-output_place cap (Some r) None len = len
-output_place cap None left len = len
+-- where a piece of n bytes goes in an output of `len` bytes, by the room before it: behind the pieces before it, where there is room for it and it lies within
+-- the output
+unfoldable pub place_in : ℕ → Option ℕ → ℕ → ℕ → Option ℕ
+place_in cap (Some r) n len = cond (leb n r) (cond (leb (cap - r + n) len) (Some (cap - r)) None) None
+place_in cap None n len = None
 
--- a byte as it is escaped by a letter; with 0 for its letter it stands for itself
-abbrev pub escaped_by : ℕ → ℕ → Bytes
-escaped_by b zero = b ∷ []
-escaped_by b (suc m) = backslash ∷ suc m ∷ []
+-- the output with a piece at its place, if it has one
+abbrev pub written_at : Bytes → Option ℕ → Bytes → Bytes
+written_at out (Some at) x = over out at x
+written_at out None x = out
 
--- a writer wrote x from a place of s on, and left s' and the place where the next goes on
-pub record Advance (s : Bytes) (at : ℕ) (x s' : Bytes) (end : ℕ) : Type 0 where
-  pub next : (y : Bytes) → over s' end y ≡ over s at (x ++ y)
+-- a byte as it is escaped by a letter; without a letter it stands for itself
+abbrev pub escaped_by : ℕ → Option ℕ → Bytes
+escaped_by b None = b ∷ []
+escaped_by b (Some m) = backslash ∷ m ∷ []
+
+-- what is left of an output, and the length of what was written at its start, if it was
+pub record Whole : Type 0 where
+  pub out : Bytes
+  pub length : Option ℕ
+
+-- some bytes at the start of an output, or nothing where they do not fit
+unfoldable pub whole_over : Bytes → Bytes → Whole
+whole_over out x = cond (leb (length x) (length out)) (record { out = x ++ drop (length x) out; length = Some (length x) }) (record { out = out; length = None })

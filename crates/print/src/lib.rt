@@ -1,141 +1,170 @@
 // Printing into lent bytes, piece by piece: numbers, integers and escaped texts, each after a tab.
 #![tactic(auto)]
 
-ghost use Rattle.std.specs.Prelude.{◌≡◌, true, [], ◌∷◌, ◌+◌, ◌-◌, ◌≤◌, length, leb};
+ghost use Rattle.std.specs.Prelude.{◌≡◌, true, List, [], ◌∷◌, ◌+◌, ◌≤◌, length, IfSome};
 ghost use Rattle.std.specs.Int.{w32, w64};
 ghost use Rattle.std.proofs.Common.{to_z};
+ghost use Rattle.base.specs.Bytes.{Bytes};
 ghost use Rattle.text.specs.Escape.{escaped, escape};
 ghost use Rattle.line.specs.Decimal.{number_text, integer_text};
 ghost use Rattle.little.specs.Little.{over};
-ghost use Rattle.print.specs.Print.{print_step, print, tab};
-ghost use Rattle.print.specs.Piece.{behind, output_place, escaped_by, Advance};
+ghost use Rattle.print.specs.Print.{joined_pieces, tab};
+ghost use Rattle.print.specs.Piece.{whole_over, escaped_by};
+ghost use Rattle.print.specs.Printer.{IsSame, TakesRoom, Prints};
 
-// The room behind a piece of n bytes.
-fn behind_bytes(room: Option<usize>, n: usize) -> Option<usize>
-    ensures { result ≡ behind room n }
-{
-    let Some(r) = room else {
-        return None;
-    };
-    if n <= r { Some(r - n) } else { None }
+// Lent bytes, and the room that is left of `cap` bytes, none once a piece did not fit. Lent no bytes, a printer only measures.
+#[derive(Drop)]
+pub struct Printer<'a> {
+    pub out: &'a mut [u8],
+    pub cap: usize,
+    pub room: Option<usize>,
 }
 
-// Whether n bytes from a place on lie within so many.
-fn within(at: usize, n: usize, len: usize) -> bool
-    ensures { result ≡ leb (at + n) len }
-{
-    at <= len && n <= len - at
+// What prints as pieces, one after the other.
+pub trait Printable {
+    ghost pieces: { Self → List Bytes };
+
+    fn print(&self, printer: &mut Printer<'_>)
+        ensures { Prints (pieces self.now) printer.old printer.new };
 }
 
-// Where a piece goes, by the room before and behind it: to the output's end where nothing of it is written.
-fn place(cap: usize, room: Option<usize>, left: Option<usize>, len: usize) -> usize
-    ensures { (result ≡ output_place cap room left len) × (result ≤ len) }
-{
-    let Some(r) = room else {
-        return len;
-    };
-    let Some(l) = left else {
-        return len;
-    };
-    let at = cap.saturating_sub(r);
-    if within(at, r.saturating_sub(l), len) {
-        at
-    } else {
-        len
+impl Printer<'_> {
+    // Takes the room of a piece of n bytes. The answer is the piece's place, behind those before it, where it lies within the output.
+    fn take_room(&mut self, n: usize) -> Option<usize>
+        ensures same { IsSame self.old self.new }
+        ensures taken { TakesRoom n self.old self.new result }
+        ensures fits { IfSome result (λ at. at + n ≤ length self.new.out.now) }
+    {
+        let room = self.room?;
+        self.room = room.checked_sub(n);
+        self.room?;
+        let at = self.cap.saturating_sub(room);
+        let end = at.checked_add(n)?;
+        if end <= self.out.len() {
+            Some(at)
+        } else {
+            None
+        }
+    }
+
+    // A piece of bytes.
+    pub fn put_bytes(&mut self, piece: &[u8])
+        ensures { Prints (piece.now ∷ []) self.old self.new }
+    {
+        if let Some(at) = self.take_room(piece.len()) {
+            little::copy_in(&mut self.out[at..], piece);
+        }
+    }
+
+    // A tab and a field.
+    pub fn put<F: Printable>(&mut self, field: &F)
+        ensures { Prints (tab ∷ F.pieces field.now) self.old self.new }
+    {
+        self.put_bytes(b"\t");
+        field.print(self);
     }
 }
 
-// A piece of bytes.
-pub fn put_bytes(out: &mut [u8], cap: usize, room: Option<usize>, piece: &[u8]) -> Option<usize>
-    ensures { record { out = out.new; room = result } ≡ print_step cap piece.now (record { out = out.old; room = room }) }
+// All of what prints at the start of what is lent, where it fits: its length. It is measured first, by a printer that is lent no bytes, and then written;
+// else nothing is written.
+pub fn print_whole<P: Printable>(page: &P, out: &mut [u8]) -> Option<usize>
+    ensures { record { out = out.new; length = result } ≡ whole_over out.old (joined_pieces (P.pieces page.now)) }
 {
-    let left = behind_bytes(room, piece.len());
-    let at = place(cap, room, left, out.len());
-    little::copy_in(&mut out[at..], piece);
-    left
-}
-
-// A tab.
-fn put_tab(out: &mut [u8], cap: usize, room: Option<usize>) -> Option<usize>
-    ensures { record { out = out.new; room = result } ≡ print_step cap tab (record { out = out.old; room = room }) }
-{
-    put_bytes(out, cap, room, b"\t")
+    let cap = out.len();
+    let mut measure = Printer {
+        out: &mut [],
+        cap,
+        room: Some(cap),
+    };
+    page.print(&mut measure);
+    let left = measure.room?;
+    let mut printer = Printer {
+        out,
+        cap,
+        room: Some(cap),
+    };
+    page.print(&mut printer);
+    Some(cap - left)
 }
 
 // ---- numbers
 
-// The digits of a number.
-fn number_piece(out: &mut [u8], cap: usize, room: Option<usize>, v: u64) -> Option<usize>
-    ensures { record { out = out.new; room = result } ≡ print_step cap (number_text v) (record { out = out.old; room = room }) }
-{
-    let n = decimal::number_length(v);
-    let left = behind_bytes(room, n);
-    let at = place(cap, room, left, out.len());
-    decimal::put_measured(&mut out[at..], n, v);
-    left
+impl Printable for u64 {
+    ghost pieces = { λ number. number_text number ∷ [] };
+
+    fn print(&self, printer: &mut Printer<'_>) {
+        let n = decimal::number_length(*self);
+        if let Some(at) = printer.take_room(n) {
+            decimal::put_measured(&mut printer.out[at..], n, *self);
+        }
+    }
 }
 
-// A tab and a number.
-pub fn put_number(out: &mut [u8], cap: usize, room: Option<usize>, v: u64) -> Option<usize>
-    ensures { record { out = out.new; room = result } ≡ print cap (tab ∷ number_text v ∷ []) (record { out = out.old; room = room }) }
-{
-    let room = put_tab(out, cap, room);
-    number_piece(out, cap, room, v)
+// An integer of 64 bits, given by its bits.
+#[derive(Clone, Copy, PartialEq, Eq, Debug)]
+pub struct Integer(pub u64);
+
+impl Integer {
+    // An integer of 32 bits, given by its bits.
+    pub fn from_bits_32(bits: u32) -> Integer
+        ensures { to_z w64 result.0 ≡ to_z w32 bits }
+    {
+        Integer(decimal::widened(bits))
+    }
 }
 
-// The room behind an integer.
-fn behind_integer(room: Option<usize>, bits: u64) -> Option<usize>
-    ensures { result ≡ behind room (length (integer_text (to_z w64 bits))) }
+impl From<i64> for Integer {
+    ghost from_gives = { λ number integer. to_z w64 integer.0 ≡ number };
+
+    fn from(number: i64) -> Integer {
+        Integer(number.cast_unsigned())
+    }
+}
+
+impl From<i32> for Integer {
+    ghost from_gives = { λ number integer. to_z w64 integer.0 ≡ number };
+
+    fn from(number: i32) -> Integer {
+        Integer::from(i64::from(number))
+    }
+}
+
+// How many bytes an integer has, with its minus sign.
+fn integer_length(bits: u64) -> usize
+    ensures { result ≡ length (integer_text (to_z w64 bits)) }
 {
     if bits < 0x8000_0000_0000_0000 {
-        return behind_bytes(room, decimal::number_length(bits));
+        return decimal::number_length(bits);
     }
-    behind_bytes(
-        behind_bytes(room, 1),
-        decimal::number_length((0xffff_ffff_ffff_ffff - bits) + 1),
-    )
+    1 + decimal::number_length((0xffff_ffff_ffff_ffff - bits) + 1)
 }
 
-// An integer with its minus sign.
-fn integer_piece(out: &mut [u8], cap: usize, room: Option<usize>, bits: u64) -> Option<usize>
-    ensures { record { out = out.new; room = result } ≡ print_step cap (integer_text (to_z w64 bits)) (record { out = out.old; room = room }) }
-{
-    if bits < 0x8000_0000_0000_0000 {
-        return number_piece(out, cap, room, bits);
+impl Printable for Integer {
+    ghost pieces = { λ integer. integer_text (to_z w64 integer.0) ∷ [] };
+
+    fn print(&self, printer: &mut Printer<'_>) {
+        if let Some(at) = printer.take_room(integer_length(self.0)) {
+            decimal::put_integer(&mut printer.out[at..], self.0);
+        }
     }
-    let left = behind_integer(room, bits);
-    let at = place(cap, room, left, out.len());
-    decimal::put_integer(&mut out[at..], bits);
-    left
-}
-
-// A tab and an integer of 64 bits, given by its bits.
-pub fn put_integer(out: &mut [u8], cap: usize, room: Option<usize>, bits: u64) -> Option<usize>
-    ensures { record { out = out.new; room = result } ≡ print cap (tab ∷ integer_text (to_z w64 bits) ∷ []) (record { out = out.old; room = room }) }
-{
-    let room = put_tab(out, cap, room);
-    integer_piece(out, cap, room, bits)
-}
-
-// A tab and an integer of 32 bits.
-pub fn put_integer32(out: &mut [u8], cap: usize, room: Option<usize>, bits: u32) -> Option<usize>
-    ensures { record { out = out.new; room = result } ≡ print cap (tab ∷ integer_text (to_z w32 bits) ∷ []) (record { out = out.old; room = room }) }
-{
-    put_integer(out, cap, room, decimal::widened(bits))
 }
 
 // ---- texts
 
-// The letter that stands for a byte after a backslash, 0 for a byte that stands for itself.
-fn letter(b: u8) -> u8
+// A text that prints with its escapes.
+#[derive(Clone, Copy)]
+pub struct Escaped<'a>(pub &'a [u8]);
+
+// The letter that stands for a byte after a backslash, none for a byte that stands for itself.
+fn letter(b: u8) -> Option<u8>
     ensures { escaped b ≡ escaped_by b result }
 {
     match b {
-        b'\t' => b't',
-        b'\n' => b'n',
-        b'\r' => b'r',
-        b'\\' => b'\\',
-        _ => 0,
+        b'\t' => Some(b't'),
+        b'\n' => Some(b'n'),
+        b'\r' => Some(b'r'),
+        b'\\' => Some(b'\\'),
+        _ => None,
     }
 }
 
@@ -143,7 +172,7 @@ fn letter(b: u8) -> u8
 fn longer(b: u8) -> usize
     ensures { (length (escaped b) ≡ 1 + result) × (result ≤ 1) }
 {
-    if letter(b) == 0 { 0 } else { 1 }
+    usize::from(letter(b).is_some())
 }
 
 // Whether a byte surely stands for itself: of the bytes up to 13 none is said to.
@@ -166,7 +195,8 @@ fn all_plain(text: &[u8]) -> bool
 
 // By how many bytes the escape of a text is longer than the text.
 fn text_longer(text: &[u8]) -> usize
-    ensures { length (escape text.now) ≡ length text.now + result }
+    ensures value { length (escape text.now) ≡ length text.now + result }
+    ensures bound { result ≤ length text.now }
 {
     let mut n = 0;
     for b in text {
@@ -175,56 +205,47 @@ fn text_longer(text: &[u8]) -> usize
     n
 }
 
-// A byte at a place of what is lent, where it lies within it. The answer is the place where the next byte goes.
-fn put_byte(out: &mut [u8], at: usize, b: u8) -> usize
-    ensures { Advance out.old at (b ∷ []) out.new result }
-{
-    if at < out.len() {
-        out[at] = b;
-        return at + 1;
-    }
-    at
-}
-
-// The escape of a byte, one or two bytes. The answer is the place where the next one goes.
+// The escape of a byte at a place, one or two bytes. The answer is the place behind it.
 fn put_escaped(out: &mut [u8], at: usize, b: u8) -> usize
-    ensures { Advance out.old at (escaped b) out.new result }
+    requires { at + length (escaped b) ≤ length out.old }
+    ensures { (out.new ≡ over out.old at (escaped b)) × (result ≡ at + length (escaped b)) }
 {
-    let m = letter(b);
-    if m == 0 {
-        return put_byte(out, at, b);
+    match letter(b) {
+        Some(letter) => {
+            out[at] = b'\\';
+            out[at + 1] = letter;
+            at + 2
+        }
+        None => {
+            out[at] = b;
+            at + 1
+        }
     }
-    let next = put_byte(out, at, b'\\');
-    put_byte(out, next, m)
 }
 
-// The escape of a text at the start of what is lent.
-fn put_escape(out: &mut [u8], text: &[u8])
-    ensures { out.new ≡ over out.old 0 (escape text.now) }
+// The escape of a text from a place on.
+fn put_escape(out: &mut [u8], start: usize, text: &[u8])
+    requires { start + length (escape text.now) ≤ length out.old }
+    ensures { out.new ≡ over out.old start (escape text.now) }
 {
-    let mut at = 0;
+    let mut at = start;
     for b in text {
         at = put_escaped(out, at, *b);
     }
 }
 
-// The escape of a text: a copy of it where each byte stands for itself.
-fn text_piece(out: &mut [u8], cap: usize, room: Option<usize>, text: &[u8]) -> Option<usize>
-    ensures { record { out = out.new; room = result } ≡ print_step cap (escape text.now) (record { out = out.old; room = room }) }
-{
-    if all_plain(text) {
-        return put_bytes(out, cap, room, text);
-    }
-    let left = behind_bytes(behind_bytes(room, text.len()), text_longer(text));
-    let at = place(cap, room, left, out.len());
-    put_escape(&mut out[at..], text);
-    left
-}
+impl Printable for Escaped<'_> {
+    ghost pieces = { λ text. escape text.0.now ∷ [] };
 
-// A tab and a text with its escapes.
-pub fn put_text(out: &mut [u8], cap: usize, room: Option<usize>, text: &[u8]) -> Option<usize>
-    ensures { record { out = out.new; room = result } ≡ print cap (tab ∷ escape text.now ∷ []) (record { out = out.old; room = room }) }
-{
-    let room = put_tab(out, cap, room);
-    text_piece(out, cap, room, text)
+    // A copy of the text where each byte stands for itself.
+    fn print(&self, printer: &mut Printer<'_>) {
+        if all_plain(self.0) {
+            printer.put_bytes(self.0);
+            return;
+        }
+        let n = self.0.len() + text_longer(self.0);
+        if let Some(at) = printer.take_room(n) {
+            put_escape(printer.out, at, self.0);
+        }
+    }
 }

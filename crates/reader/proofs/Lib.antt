@@ -11,3 +11,4 @@ pub mod Advances
 pub mod Events
 pub mod Keeps
 pub mod Regressions
+pub mod Works

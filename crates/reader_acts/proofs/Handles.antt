@@ -1,17 +1,13 @@
 -- A handle is at most the number of held strings, whatever is lent; and what the handle of the user's text says.
 use Rattle.refusal.specs.declared.Refusal.{Refusal}
-use Rattle.std.specs.Prelude.{Err, None, Ok, Option, Result, Some}
-use Prim.Native.Nat.{ℕ, zero, suc, ◌+◌, ◌≤◌, ◌<◌}
-use mathlib.Core.Path.{◌≡◌, refl, sym, ◌∙◌, ap}
+use Rattle.std.specs.Prelude.{Err, Ok, Result}
+use Prim.Native.Nat.{ℕ, ◌≤◌, ◌<◌}
+use mathlib.Core.Path.{◌≡◌, ap}
 use mathlib.Core.Bool.{true, false}
 use mathlib.Core.List.{List}
 use native.Mathlib.Omega.{arith}
 use Rattle.base.specs.Bytes.{Bytes}
 use Rattle.base.proofs.Split.{by_bool, no}
-use Rattle.interner.specs.Strings.{Store, is_at, find_from, find_in, used_of, text_room, intern}
-use Rattle.interner.specs.declared.Interned.TheVariants as I
-use Rattle.interner.proofs.Finds.{find_none, find_here, find_on}
-use Rattle.interner.proofs.Takes as Takes
 use Rattle.interner.proofs.Interns.{sound_parts}
 use Rattle.interner.proofs.Checks.{some_held}
 use Rattle.text_index.specs.Index.{IndexGiven}
@@ -19,30 +15,12 @@ use Rattle.refusal.specs.declared.Refusal.TheVariants.{StringsFull}
 use Rattle.model.specs.Record.{Meta, flagged}
 use Rattle.overlay.specs.Overlay.{Overlay}
 use Rattle.overlay_store.specs.Calls.{Interning, store_text}
+use Rattle.reader_texts.proofs.Handles.{by_intern}
 use Rattle.reader_acts.specs.Acts.{with_user, HandleFits, UserIs}
-
-found_below : (spans : List ℕ) (bytes t : Bytes) (n h j : ℕ) → find_from spans bytes t n h ≡ Some j → j < h + n
-found_below spans bytes t zero h j e = let z = sym (find_none spans bytes t h) ∙ e in no (cc)
-found_below spans bytes t (suc n) h j e =
-    by_bool (is_at spans bytes t h)
-    (λ a. let z = sym (find_here spans bytes t n h a) ∙ e in let q : h ≡ j = cc in omega arith)
-    (λ a. let r = found_below spans bytes t n (suc h) j (sym (find_on spans bytes t n h a) ∙ e) in omega arith)
-
--- what `intern` comes to: the text is held, it is taken in, or the strings are full and as they were
-pub by_intern : {C : Type 0} (s : Store) (t : Bytes)
-    → ((h : ℕ) → h < s.strings → intern s t ≡ record { store = s; answer = I.Held h } → C)
-    → ((q : Store) → intern s t ≡ record { store = q; answer = I.New s.strings } → C)
-    → (intern s t ≡ record { store = s; answer = I.Full } → C) → C
-unfolding find_in
-by_intern {C} s t f g h = go (find_in s.spans (used_of s) s.strings t) refl
-  where
-    go : (x : Option ℕ) → find_in s.spans (used_of s) s.strings t ≡ x → C
-    go (Some j) p = f j (let l = found_below s.spans (used_of s) t s.strings 0 j p in omega arith) (Takes.held s t j p)
-    go None p = by_bool (text_room s t) (λ r. g _ (Takes.new s t p r)) (λ r. h (Takes.full s t p r))
 
 pub handle_fits : (t : Bytes) (o : Overlay) → o.texts.strings < 4294967296 → HandleFits (store_text t o).answer
 handle_fits t o l =
-    by_intern o.texts t (λ h b e. rw e (omega arith)) (λ q e. rw e l) (λ e. rw e tt)
+    by_intern o.texts t (λ h b e. rw e (omega arith)) (λ e. rw e l) (λ e. rw e tt)
 
 -- ---- the user that metadata names, by the handle that its text has or will get
 
@@ -54,7 +32,7 @@ module _ (m : Meta Bytes) (o : Overlay) (n : ℕ) (user : UserIs m o n) where
       (λ t. let e = rw t at user in
       by_intern o.texts m.user
       (λ j l i. let q : Ok j ≡ Ok n = rw i at e in let z : j ≡ n = cc in f (omega arith) (rw (t, i)))
-      (λ q i. let p : Ok o.texts.strings ≡ Ok n = rw i at e in g t (cc))
+      (λ i. let p : Ok o.texts.strings ≡ Ok n = rw i at e in g t (cc))
       (λ i. let q : Err StringsFull ≡ Ok n = rw i at e in no (cc)))
       (λ t. let q : Ok 0 ≡ Ok n = rw t at user in h t (cc))
 

@@ -25,7 +25,8 @@ use Rattle.reader.specs.declared.Pending.{Pending}
 use Rattle.reader.specs.State.{State}
 use Rattle.reader.specs.Step.{Step, goes, stops, on_handle, taking_user, bits_with_user, head_for, unless_below, on_kept, on_after, unless_regression, clears_to, step_of}
 use Rattle.reader_acts.specs.Acts.{AfterBegun, begun_by, begin_on, by_begun, admitted, act_kept_as, act_kept, act_on, push_empty_on, delete_element_on, push_staged_on, HandleFits}
-use Rattle.reader_acts.proofs.Handles.{by_intern, handle_fits}
+use Rattle.reader_texts.proofs.Handles.{by_intern}
+use Rattle.reader_acts.proofs.Handles.{handle_fits}
 
 -- ---- the user that metadata names
 
@@ -35,7 +36,7 @@ module _ (m : Meta Bytes) (o : Overlay) where
   unfolding begin_on
   begin_refused r e =
       by_bool (flagged 4 m.flags)
-      (λ t. by_intern o.texts m.user (λ h l i. rw (t, i)) (λ q i. let z : Ok (bits_with_user m o.texts.strings) ≡ Err r = rw (t, i) at e in no (cc)) (λ i. rw (t, i)))
+      (λ t. by_intern o.texts m.user (λ h l i. rw (t, i)) (λ i. let z : Ok (bits_with_user m o.texts.strings) ≡ Err r = rw (t, i) at e in no (cc)) (λ i. rw (t, i)))
       (λ t. rw t)
 
   -- a user that is named, by its handle

@@ -1,5 +1,8 @@
 -- Document 01, the acts of an event: "12 .. 13 .. 14 .. 15 ..", and the first of them is answered. "Nothing lent changes" at a refusal.
-use Rattle.std.specs.Prelude.{ℕ, ◌<◌, ◌≤◌, ◌≡◌, cond, List, [], ℤ, length, take, Err, Ok, Result}
+use Rattle.std.specs.Prelude.{ℕ, ◌<◌, ◌≤◌, ◌≡◌, Bool, true, false, cond, List, [], ℤ, length, take, Err, Ok, Result, Option, None, Some}
+use Rattle.std.specs.Borrow.{Bor}
+use Rattle.std.specs.Int.{w32}
+use Rattle.std.proofs.Common.{SFits}
 use Rattle.base.specs.Bytes.{Bytes}
 use Rattle.refusal.specs.declared.Refusal.{Refusal}
 use Rattle.refusal.specs.declared.Refusal.TheVariants.{Regression}
@@ -11,8 +14,9 @@ use Rattle.kind_store.specs.KindStore.{known_version, checked}
 use Rattle.overlay.specs.Overlay.{Overlay, kind_store_of}
 use Rattle.overlay.specs.Calls.{OverlayAfter, overlay_refused}
 use Rattle.overlay_store.specs.Calls.{store_text, store_push, store_delete}
-use Rattle.event_metadata.specs.Metadata.{MetadataInBounds}
-use Rattle.event_metadata.specs.declared.Metadata.{Metadata}
+use Rattle.act_answer.specs.Answer.{claim_answer}
+use Rattle.event_scan.specs.Piece.{value_text}
+use Rattle.reader_acts.specs.declared.Act.{Act}
 use Rattle.reader.specs.declared.Pending.{Pending}
 use Rattle.reader.specs.Step.{bits_with_user, head_for}
 
@@ -89,12 +93,48 @@ then_user m q (Err r) = overlay_refused q r
 abbrev pub then_user_on : Meta Bytes → OverlayAfter → OverlayAfter
 then_user_on m a = then_user m a.overlay a.answer
 
+-- ---- in the code: a handle is none without a user
+
+abbrev pub or_zero : Option ℕ → ℕ
+or_zero None = 0
+or_zero (Some n) = n
+
+-- the handle that was found, or a refusal
+abbrev pub found : Result (Option ℕ) Refusal → Result ℕ Refusal
+found (Ok u) = Ok (or_zero u)
+found (Err r) = Err r
+
+-- 12 before the refusal of a text
+abbrev pub first_refusal : Result Unit ℤ → Refusal → Refusal
+first_refusal (Ok tt) r = r
+first_refusal (Err v) r = Regression v
+
+abbrev pub before_by : Result Unit ℤ → Result ℕ Refusal → Result ℕ Refusal
+before_by a (Ok n) = Ok n
+before_by a (Err r) = Err (first_refusal a r)
+
+-- what is asked before an act: the handle, or the refusal of an act whose user's text is refused
+abbrev pub before_act : Kind → ℤ → Meta Bytes → Overlay → Result ℕ Refusal
+before_act k id m o = before_by (claim_answer k id (claim_of m) o) (handle_for m o)
+
+-- ---- what an act means
+
+-- a user as it is written, where metadata names one
+abbrev pub UserMeans : Option (Bor (List ℕ)) → Bool → Bytes → Type 0
+UserMeans None named t = named ≡ false
+UserMeans (Some u) named t = (named ≡ true) × ((value_text u.now ≡ t) × (length u.now ≤ 16384))
+
+-- an act by its metadata
+pub record Means (a : Act) (m : Meta Bytes) : Type 0 where
+  pub id : a.id < 18446744073709551616
+  pub bits : a.meta ≡ bits_with_user m 0
+  pub version : SFits w32 m.version
+  pub user : UserMeans a.user (flagged 4 m.flags) m.user
+
 -- ---- what is given
 
--- the user lies in the line, the handles of the overlay fit the metadata's field, and its texts have an array of chains
-pub record ActGiven (ix : List ℕ) (line : Bytes) (m : Metadata) (o : Overlay) : Type 0 where
-  pub lies : MetadataInBounds line m
-  pub short : length line ≤ 16384
+-- the handles of the overlay fit the metadata's field, and its texts have an array of chains
+pub record ActGiven (ix : List ℕ) (o : Overlay) : Type 0 where
   pub few : o.texts.strings < 4294967296
   pub indexed : IndexGiven ix o.texts
 

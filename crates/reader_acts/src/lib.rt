@@ -2,27 +2,34 @@
 // What is refused changes nothing lent: the handle that the user's text has or will get is found first, the act is done with it, and the text is taken in behind an act that was taken.
 #![tactic(auto)]
 
-ghost use Rattle.std.specs.Prelude.{◌≡◌, [], take};
+ghost use Rattle.std.specs.Prelude.{◌≡◌, ◌<◌};
 ghost use Rattle.std.specs.Int.{w64};
 ghost use Rattle.std.proofs.Common.{to_z};
 ghost use Rattle.base.specs.Bytes.{Bytes};
-ghost use Rattle.model.specs.Record.{claim_of};
-ghost use Rattle.overlay.specs.Lent.{lent, left};
-ghost use Rattle.overlay.specs.Calls.{overlay_refused};
-ghost use Rattle.overlay_store.specs.Calls.{store_push};
+ghost use Rattle.model.specs.Record.{Meta, Body, kind_of, claim_of};
+ghost use Rattle.overlay.specs.Lent.{overlay_in, overlay_seen, overlay_held, IsSameStorage};
+ghost use Rattle.overlay_store.specs.Calls.{store_delete};
 ghost use Rattle.act_answer.specs.Answer.{claim_answer};
 ghost use Rattle.event_values.specs.Value.{body_in};
-ghost use Rattle.event_metadata.specs.Metadata.{meta_written};
+ghost use Rattle.reader.specs.Lent.{state_held, IsSameState};
 ghost use Rattle.reader.specs.Step.{bits_with_user, head_for};
-ghost use Rattle.reader_acts.specs.Acts.{begun_by, begin_on, admitted, handle_for, then_user, then_user_on, with_user, push_empty_on, delete_element_on, push_staged_on, ActGiven, HandleFits, UserIs};
+ghost use Rattle.reader_acts.specs.Acts.{begin_on, handle_for, with_user, push_empty_on, delete_element_on, push_staged_on, or_zero, found, first_refusal, before_act, Means, ActGiven, UserIs};
 
 use compact::{ArenaMeta, PushHead};
-use event_metadata::Metadata;
 use kind::Kind;
+use overlay::{Storage, StorageMut};
 use overlay_blocks::{COUNTERS, STRINGS};
-use reader::Pending;
-use reader_stage::STAGED;
+use reader::ReaderState;
 use refusal::Refusal;
+
+// An act on an element: its kind and id, its metadata in bits with no user, and the text of the user that it names, as it is written.
+#[derive(Clone, Copy)]
+pub struct Act<'a> {
+    pub kind: Kind,
+    pub id: u64,
+    pub meta: ArenaMeta,
+    pub user: Option<&'a [u8]>,
+}
 
 // ---- in bits
 
@@ -30,58 +37,29 @@ use refusal::Refusal;
 pub fn head_for(kind: Kind, id: u64, lat: u32, lon: u32) -> PushHead
     ensures { result ≡ head_for (to_z w64 id) (body_in kind lat lon) }
 {
+    let head = PushHead {
+        id,
+        lat: 0,
+        lon: 0,
+        count: 0,
+        tags: 0,
+    };
     match kind {
-        Kind::Node => PushHead {
-            id,
-            lat,
-            lon,
-            count: 0,
-            tags: 0,
-        },
-        Kind::Way => PushHead {
-            id,
-            lat: 0,
-            lon: 0,
-            count: 0,
-            tags: 0,
-        },
-        Kind::Relation => PushHead {
-            id,
-            lat: 0,
-            lon: 0,
-            count: 0,
-            tags: 0,
-        },
+        Kind::Node => PushHead { lat, lon, ..head },
+        Kind::Way | Kind::Relation => head,
     }
 }
 
-// Metadata with its user's handle.
-fn arena_meta(meta: Metadata, user: u32) -> ArenaMeta
-    ensures { (line : Bytes) → result ≡ bits_with_user (meta_written line meta) user }
+// Metadata with its user's handle; without a user it is 0.
+fn with_handle(meta: ArenaMeta, user: Option<u64>) -> ArenaMeta
+    ensures { (m : Meta Bytes) → meta ≡ bits_with_user m 0 → or_zero user < 4294967296 → result ≡ bits_with_user m (or_zero user) }
 {
-    ArenaMeta {
-        flags: meta.flags,
-        version: meta.version,
-        timestamp: meta.timestamp,
-        changeset: meta.changeset,
-        uid: meta.uid,
-        user,
-    }
-}
-
-// The version that metadata claims.
-fn claimed(meta: Metadata) -> Option<i32>
-    ensures { (line : Bytes) → result ≡ claim_of (meta_written line meta) }
-{
-    compact::claim(arena_meta(meta, 0))
-}
-
-fn begun_by(meta: Metadata, handle: Result<u64, Refusal>) -> Result<ArenaMeta, Refusal>
-    ensures { (line : Bytes) → HandleFits handle → result ≡ begun_by (meta_written line meta) handle }
-{
-    match handle {
-        Ok(n) => Ok(arena_meta(meta, little::narrow(n))),
-        Err(r) => Err(r),
+    match user {
+        None => meta,
+        Some(handle) => ArenaMeta {
+            user: little::narrow(handle),
+            ..meta
+        },
     }
 }
 
@@ -89,228 +67,160 @@ fn begun_by(meta: Metadata, handle: Result<u64, Refusal>) -> Result<ArenaMeta, R
 
 // An element begins: 13, or its metadata with its user's handle.
 pub fn begin_element(
-    words: &mut [u64],
-    bytes: &mut [u8],
-    counters: &mut [u64; COUNTERS],
+    storage: &mut StorageMut<'_>,
     ix: &[u16],
-    meta: Metadata,
-    line: &[u8],
+    act: &Act<'_>,
 ) -> Result<ArenaMeta, Refusal>
-    ensures { ActGiven ix.now line.now meta (lent words.old bytes.old counters.old)
-        → record { overlay = left words.new bytes.new counters.new; answer = result }
-        ≡ begin_on (meta_written line.now meta) (lent words.old bytes.old counters.old) }
+    ensures same { IsSameStorage storage.new storage.old }
+    ensures begun { (m : Meta Bytes) → Means act.now m → ActGiven ix.now (overlay_held storage.old)
+        → record { overlay = overlay_held storage.new; answer = result } ≡ begin_on m (overlay_held storage.old) }
 {
-    if meta.flags / 4 % 2 == 1 {
-        let user = meta.user;
-        let handle = reader_texts::take_text(words, bytes, counters, ix, line, user);
-        return begun_by(meta, handle);
-    }
-    Ok(arena_meta(meta, 0))
+    let Some(user) = act.user else {
+        return Ok(act.meta);
+    };
+    let handle = reader_texts::take_text(storage, ix, user)?;
+    Ok(with_handle(act.meta, Some(handle)))
 }
 
 // ---- an element that ends
 
-fn push_first(
-    words: &mut [u64],
-    bytes: &mut [u8],
-    counters: &mut [u64; COUNTERS],
-    parts: &[u8],
-    n: usize,
-    kind: Kind,
-    head: PushHead,
-    meta: ArenaMeta,
-) -> Result<(), Refusal>
-    ensures { record { overlay = left words.new bytes.new counters.new; answer = result }
-        ≡ store_push kind head meta (take n parts.now) (lent words.old bytes.old counters.old) }
-{
-    let end = little::lesser(n, parts.len());
-    overlay_store::store_push(words, bytes, counters, kind, head, meta, &parts[..end])
-}
-
 // Pushes the element whose parts are staged: 12, 14, 15, or taken.
-pub fn push_staged(
-    words: &mut [u64],
-    bytes: &mut [u8],
-    counters: &mut [u64; COUNTERS],
-    parts: &[u8; STAGED],
-    kind: Kind,
-    pending: Pending,
-) -> Result<(), Refusal>
-    ensures { record { overlay = left words.new bytes.new counters.new; answer = result }
-        ≡ push_staged_on kind pending parts.now (lent words.old bytes.old counters.old) }
+pub fn push_staged(state: &mut ReaderState<'_>) -> Result<(), Refusal>
+    ensures same { IsSameState state.new state.old }
+    ensures rest { (state.new.reader ≡ state.old.reader) × (state.new.parts.now ≡ state.old.parts.now) }
+    ensures pushed { record { overlay = (state_held state.new).overlay; answer = result }
+        ≡ push_staged_on state.old.reader.place.kind state.old.reader.pending state.old.parts.now (state_held state.old).overlay }
 {
-    let head = pending.head;
-    let meta = pending.meta;
-    push_first(
-        words,
-        bytes,
-        counters,
-        parts,
-        pending.used,
+    let pending = state.reader.pending;
+    let kind = state.reader.place.kind;
+    let parts = &state.parts[..];
+    let used = pending.used.min(parts.len());
+    overlay_store::store_push(
+        state.words,
+        state.bytes,
+        state.counters,
         kind,
-        head,
-        meta,
+        pending.head,
+        pending.meta,
+        &parts[..used],
     )
 }
 
 // ---- an act and the user that its metadata names
 
-// The handle that the user's text has or will get, or 13; without a user it is 0.
-fn user_handle(
-    words: &[u64],
-    bytes: &[u8],
-    counters: &[u64; COUNTERS],
-    ix: &[u16],
-    meta: Metadata,
-    line: &[u8],
-) -> Result<u64, Refusal>
-    ensures { ActGiven ix.now line.now meta (lent words.now bytes.now counters.now)
-        → result ≡ handle_for (meta_written line.now meta) (lent words.now bytes.now counters.now) }
+// The refusal of an act whose user's text is refused: 12 if its claim is below the known version, else that of the text.
+fn first_refusal(storage: &Storage<'_>, act: &Act<'_>, refusal: Refusal) -> Refusal
+    ensures { (m : Meta Bytes) → Means act.now m → result ≡ first_refusal (claim_answer act.now.kind (to_z w64 act.now.id) (claim_of m) (overlay_seen storage.now)) refusal }
 {
-    if meta.flags / 4 % 2 == 1 {
-        let user = meta.user;
-        return reader_texts::text_handle(words, bytes, counters, ix, line, user);
+    let claim = act.meta.claim();
+    match act_answer::claim_below(
+        storage.words,
+        storage.bytes,
+        storage.counters,
+        act.kind,
+        act.id,
+        claim,
+    ) {
+        Ok(()) => refusal,
+        Err(held) => Refusal::Regression(held),
     }
-    Ok(0)
 }
 
-// An act whose user's text is refused: 12 if its claim is below the known version, else that refusal.
-fn user_refused(
-    words: &[u64],
-    bytes: &[u8],
-    counters: &[u64; COUNTERS],
-    kind: Kind,
-    id: u64,
-    meta: Metadata,
-    refusal: Refusal,
-) -> Result<(), Refusal>
-    ensures { (line : Bytes) → record { overlay = lent words.now bytes.now counters.now; answer = result }
-        ≡ admitted (lent words.now bytes.now counters.now) (claim_answer kind (to_z w64 id) (claim_of (meta_written line meta)) (lent words.now bytes.now counters.now)) (overlay_refused (lent words.now bytes.now counters.now) refusal) }
+// What is asked before an act: the handle that the user's text has or will get, none without a user; or the refusal of the act.
+fn user_before(storage: &Storage<'_>, ix: &[u16], act: &Act<'_>) -> Result<Option<u64>, Refusal>
+    ensures { (m : Meta Bytes) → Means act.now m → ActGiven ix.now (overlay_seen storage.now)
+        → found result ≡ before_act act.now.kind (to_z w64 act.now.id) m (overlay_seen storage.now) }
 {
-    let claim = claimed(meta);
-    let Err(held) = act_answer::claim_below(words, bytes, counters, kind, id, claim) else {
-        return Err(refusal);
+    let Some(user) = act.user else {
+        return Ok(None);
     };
-    Err(Refusal::Regression(held))
+    match reader_texts::text_handle(storage, ix, user) {
+        Ok(handle) => Ok(Some(handle)),
+        Err(refusal) => Err(first_refusal(storage, act, refusal)),
+    }
 }
 
-// The user's text taken in, by its handle: one below the count is held.
-fn take_user(
-    words: &mut [u64],
-    bytes: &mut [u8],
-    counters: &mut [u64; COUNTERS],
-    ix: &[u16],
-    meta: Metadata,
-    line: &[u8],
-    user: u64,
-)
-    ensures { ActGiven ix.now line.now meta (lent words.old bytes.old counters.old)
-        → UserIs (meta_written line.now meta) (lent words.old bytes.old counters.old) user
-        → left words.new bytes.new counters.new ≡ with_user (meta_written line.now meta) (lent words.old bytes.old counters.old) }
+// What follows an act: the user's text is taken in, by its handle: one below the count is held.
+fn take_user(storage: &mut StorageMut<'_>, ix: &[u16], act: &Act<'_>, handle: Option<u64>)
+    ensures same { IsSameStorage storage.new storage.old }
+    ensures taken { (m : Meta Bytes) → Means act.now m → ActGiven ix.now (overlay_held storage.old) → UserIs m (overlay_held storage.old) (or_zero handle)
+        → overlay_held storage.new ≡ with_user m (overlay_held storage.old) }
 {
-    if counters[STRINGS] <= user {
-        let at = meta.user;
+    let Some(user) = act.user else {
+        return;
+    };
+    let Some(handle) = handle else {
+        return;
+    };
+    if storage.counters[STRINGS] <= handle {
         // its answer is known: there is room for it
-        let _ = reader_texts::take_text(words, bytes, counters, ix, line, at);
+        let _ = reader_texts::take_text(storage, ix, user);
     }
 }
 
-// What follows an act: the user's text where it was taken.
-fn then_user(
-    words: &mut [u64],
-    bytes: &mut [u8],
-    counters: &mut [u64; COUNTERS],
-    ix: &[u16],
-    meta: Metadata,
-    line: &[u8],
-    user: u64,
-    kept: Result<(), Refusal>,
-) -> Result<(), Refusal>
-    ensures { ActGiven ix.now line.now meta (lent words.old bytes.old counters.old)
-        → UserIs (meta_written line.now meta) (lent words.old bytes.old counters.old) user
-        → record { overlay = left words.new bytes.new counters.new; answer = result } ≡ then_user (meta_written line.now meta) (lent words.old bytes.old counters.old) kept }
-{
-    match kept {
-        Ok(()) => {
-            take_user(words, bytes, counters, ix, meta, line, user);
-            Ok(())
-        }
-        Err(refusal) => Err(refusal),
-    }
-}
+// ---- an element that begins and ends at once, and a delete
 
-// ---- an element that begins and ends at once
-
-// Pushes it with its user's handle, and takes the text in behind the push.
-fn push_with_user(
-    words: &mut [u64],
-    bytes: &mut [u8],
-    counters: &mut [u64; COUNTERS],
-    ix: &[u16],
-    kind: Kind,
-    head: PushHead,
-    meta: Metadata,
-    line: &[u8],
-    user: u64,
-) -> Result<(), Refusal>
-    ensures { ActGiven ix.now line.now meta (lent words.old bytes.old counters.old)
-        → UserIs (meta_written line.now meta) (lent words.old bytes.old counters.old) user
-        → record { overlay = left words.new bytes.new counters.new; answer = result }
-        ≡ then_user_on (meta_written line.now meta) (store_push kind head (bits_with_user (meta_written line.now meta) user) [] (lent words.old bytes.old counters.old)) }
-{
-    let a = arena_meta(meta, little::narrow(user));
-    let kept = push_first(words, bytes, counters, line, 0, kind, head, a);
-    then_user(words, bytes, counters, ix, meta, line, user, kept)
-}
-
-// Pushes an empty element: 12, 13, 14, 15, or taken.
+// Pushes an empty element by its head: 12, 13, 14, 15, or taken.
 pub fn push_empty(
+    storage: &mut StorageMut<'_>,
+    ix: &[u16],
+    act: &Act<'_>,
+    head: PushHead,
+) -> Result<(), Refusal>
+    ensures same { IsSameStorage storage.new storage.old }
+    ensures pushed { (m : Meta Bytes) (b : Body Bytes) → Means act.now m → ActGiven ix.now (overlay_held storage.old) → kind_of b ≡ act.now.kind → head ≡ head_for (to_z w64 act.now.id) b
+        → record { overlay = overlay_held storage.new; answer = result } ≡ push_empty_on (to_z w64 act.now.id) m b (overlay_held storage.old) }
+{
+    let user = user_before(&storage.storage(), ix, act)?;
+    let meta = with_handle(act.meta, user);
+    let parts: &[u8] = &[];
+    overlay_store::store_push(
+        storage.words,
+        storage.bytes,
+        storage.counters,
+        act.kind,
+        head,
+        meta,
+        parts,
+    )?;
+    take_user(storage, ix, act, user);
+    Ok(())
+}
+
+// The store's delete. Only here are the bytes lent to be read, since beside fields that are lent to be written no field of a struct of references can be.
+fn store_delete(
     words: &mut [u64],
     bytes: &mut [u8],
     counters: &mut [u64; COUNTERS],
-    ix: &[u16],
     kind: Kind,
     id: u64,
-    lat: u32,
-    lon: u32,
-    meta: Metadata,
-    line: &[u8],
+    claim: Option<i32>,
 ) -> Result<(), Refusal>
-    ensures { ActGiven ix.now line.now meta (lent words.old bytes.old counters.old)
-        → record { overlay = left words.new bytes.new counters.new; answer = result }
-        ≡ push_empty_on (to_z w64 id) (meta_written line.now meta) (body_in kind lat lon) (lent words.old bytes.old counters.old) }
+    ensures { record { overlay = overlay_in words.new bytes.new counters.new; answer = result } ≡ store_delete kind (to_z w64 id) claim (overlay_in words.old bytes.old counters.old) }
 {
-    match user_handle(words, bytes, counters, ix, meta, line) {
-        Ok(user) => {
-            let head = head_for(kind, id, lat, lon);
-            push_with_user(words, bytes, counters, ix, kind, head, meta, line, user)
-        }
-        Err(r) => user_refused(words, bytes, counters, kind, id, meta, r),
-    }
+    overlay_store::store_delete(words, bytes, counters, kind, id, claim)
 }
-
-// ---- a delete
 
 // Deletes an id: 12, 13, 14, or taken.
 pub fn delete_element(
-    words: &mut [u64],
-    bytes: &mut [u8],
-    counters: &mut [u64; COUNTERS],
+    storage: &mut StorageMut<'_>,
     ix: &[u16],
-    kind: Kind,
-    id: u64,
-    meta: Metadata,
-    line: &[u8],
+    act: &Act<'_>,
 ) -> Result<(), Refusal>
-    ensures { ActGiven ix.now line.now meta (lent words.old bytes.old counters.old)
-        → record { overlay = left words.new bytes.new counters.new; answer = result }
-        ≡ delete_element_on kind (to_z w64 id) (meta_written line.now meta) (lent words.old bytes.old counters.old) }
+    ensures same { IsSameStorage storage.new storage.old }
+    ensures deleted { (m : Meta Bytes) → Means act.now m → ActGiven ix.now (overlay_held storage.old)
+        → record { overlay = overlay_held storage.new; answer = result } ≡ delete_element_on act.now.kind (to_z w64 act.now.id) m (overlay_held storage.old) }
 {
-    match user_handle(words, bytes, counters, ix, meta, line) {
-        Ok(user) => {
-            let kept = overlay_store::store_delete(words, bytes, counters, kind, id, claimed(meta));
-            then_user(words, bytes, counters, ix, meta, line, user, kept)
-        }
-        Err(r) => user_refused(words, bytes, counters, kind, id, meta, r),
-    }
+    let user = user_before(&storage.storage(), ix, act)?;
+    let claim = act.meta.claim();
+    store_delete(
+        storage.words,
+        storage.bytes,
+        storage.counters,
+        act.kind,
+        act.id,
+        claim,
+    )?;
+    take_user(storage, ix, act, user);
+    Ok(())
 }

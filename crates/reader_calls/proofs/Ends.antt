@@ -1,19 +1,20 @@
 -- Each answer of an end, place by place: 22, the stop mark, then the level.
-use Rattle.std.specs.Prelude.{Ok, Some, None}
-use Prim.Native.Nat.{ℕ}
+use Rattle.reader.specs.declared.RefusedAt.{RefusedAt}
+use Rattle.std.specs.Prelude.{Ok, Err}
+use Prim.Native.Nat.{◌<◌}
 use mathlib.Core.Path.{◌≡◌, refl, sym, ◌∙◌}
 use mathlib.Core.Bool.{true, false}
 use Rattle.base.proofs.Split.{no}
-use Rattle.refusal.specs.declared.Refusal.{Refusal}
 use Rattle.refusal.specs.declared.Refusal.TheVariants as R
 use Rattle.nesting.specs.declared.Level.{Level}
 use Rattle.nesting.specs.declared.Level.TheVariants as L
-use Rattle.reader.specs.State.{State, next_line, state_sound, refusal_at}
+use Rattle.reader.specs.State.{State, next_line, state_sound}
 use Rattle.reader.specs.Event.{refused_at, end_at, end_on}
 use Rattle.reader.specs.Table.{is_done}
 use Rattle.reader.proofs.Answers.{end_22, end_stopped, end_going}
-use Rattle.reader_sound.specs.Mark.{stop_mark}
-use Rattle.reader_sound.proofs.Mark.{unmarked, marked}
+use Rattle.reader_sound.specs.Mark.{going_answer}
+use Rattle.reader_sound.proofs.Mark.{going_on, by_refused}
+use Rattle.reader_sound.proofs.Sound.{sound_lines}
 
 module _ (s : State) where
   done_at : (l : Level) → is_done l ≡ true → record { state = s; answer = Ok tt } ≡ end_at l s
@@ -34,16 +35,19 @@ module _ (s : State) where
   unfinished_at L.Leaf e = refl
   unfinished_at L.Other e = refl
 
-  pub end_unsound : state_sound s ≡ false → refused_at s R.Unsound 0 ≡ end_on s
-  end_unsound e = sym (end_22 s e)
+  pub end_checked : {a : RefusedAt} → going_answer (state_sound s) s.reader.stop ≡ Err a → record { state = s; answer = Err a } ≡ end_on s
+  end_checked {a} e =
+      by_refused (state_sound s) s.reader.stop a e
+      (λ u k. rw k (sym (end_22 s u)))
+      (λ u m t. sym (end_stopped s a.refusal a.line u m t))
 
-  module _ (e : state_sound s ≡ true) where
-    pub end_marked : (r : Refusal) (n : ℕ) → stop_mark s.reader.stop ≡ Some (refusal_at r n) → refused_at s r n ≡ end_on s
-    end_marked r n g = let m = marked s.reader.stop r n g in sym (end_stopped s r n e m.0 m.1)
+  module _ (e : going_answer (state_sound s) s.reader.stop ≡ Ok tt) where
+    pub end_is_done : is_done s.reader.place.level ≡ true → record { state = s; answer = Ok tt } ≡ end_on s
+    end_is_done d = let g = going_on (state_sound s) s.reader.stop e in done_at s.reader.place.level d ∙ sym (end_going s g.0 g.1)
 
-    module _ (g : stop_mark s.reader.stop ≡ None) where
-      pub end_is_done : is_done s.reader.place.level ≡ true → record { state = s; answer = Ok tt } ≡ end_on s
-      end_is_done d = done_at s.reader.place.level d ∙ sym (end_going s e (unmarked s.reader.stop g))
+    pub end_unfinished : is_done s.reader.place.level ≡ false → refused_at s R.Unfinished (next_line s) ≡ end_on s
+    end_unfinished d = let g = going_on (state_sound s) s.reader.stop e in unfinished_at s.reader.place.level d ∙ sym (end_going s g.0 g.1)
 
-      pub end_unfinished : is_done s.reader.place.level ≡ false → refused_at s R.Unfinished (next_line s) ≡ end_on s
-      end_unfinished d = unfinished_at s.reader.place.level d ∙ sym (end_going s e (unmarked s.reader.stop g))
+    -- there is a next line
+    pub end_counts : s.reader.lines < 18446744073709551615
+    end_counts = let g = going_on (state_sound s) s.reader.stop e in sound_lines s g.0

@@ -69,3 +69,7 @@ pub record RunningBy (ix : List ℕ) (run : Bytes) (s₀ : State) (more : Bool) 
 pub by_line_lem : (run : Bytes) (s₀ : State) (at : ℕ) (x : EventResult) → Running run s₀ true at x → (ix : List ℕ) → IndexGiven ix x.state.overlay.texts
     → (y : RunPoint) → y ≡ point_on run at x.state → RunningBy ix run s₀ (ltb at y.taken) y.taken y.result
 by_line_lem run s₀ at x w ix i y e = record { running = run_on run s₀ at x w y e; indexed = point_indexed run at x.state ix w.given i y e }
+
+-- the array brought up to date, by the state as it is read
+pub indexed_by : {s t : State} {ix jx : List ℕ} → t ≡ s → (IndexGiven ix t.overlay.texts → IndexGiven jx t.overlay.texts) → IndexGiven ix s.overlay.texts → IndexGiven jx s.overlay.texts
+indexed_by e f = rw e at f

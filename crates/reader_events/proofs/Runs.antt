@@ -12,8 +12,8 @@ use borrow.Rule.Slice.PartMut.{mid_of}
 use lib.Dec.{ltb}
 use lib.ListN.{length, drop}
 use lib.Seq.{slice}
-use Rattle.base.specs.Bytes.{Bytes}
-use Rattle.base.proofs.Split.{both_of, both_left, both_right, both_no_right, by_le}
+use Rattle.base.specs.Bytes.{Bytes, both}
+use Rattle.base.proofs.Split.{both_of, both_left, both_right, by_le}
 use Rattle.refusal.specs.declared.Refusal.TheVariants as R
 use Rattle.event_scan.proofs.Places.{lent_is}
 use Rattle.input_lines.specs.Lines.{lines_of}
@@ -39,13 +39,10 @@ module _ (s : State) where
   unfolding state_sound reader_sound
   sound_given e g = record { overlay = both_left _ _ e; pending = both_left _ _ (both_right _ _ e); bounds = g }
 
-  pub given_sound : RunGiven s → s.reader.lines < 18446744073709551615 → state_sound s ≡ true
-  unfolding state_sound reader_sound
-  given_sound w n = both_of w.overlay (both_of w.pending (lt-ltb s.reader.lines 18446744073709551615 n))
-
-  pub counted_out : 18446744073709551615 ≤ s.reader.lines → state_sound s ≡ false
-  unfolding state_sound reader_sound
-  counted_out n = both_no_right _ (both_no_right _ (le-ltb s.reader.lines 18446744073709551615 n))
+  -- then only the count of lines is left to be tested
+  pub counts_sound : RunGiven s → ltb s.reader.lines 18446744073709551615 ≡ state_sound s
+  unfolding state_sound reader_sound both
+  counts_sound w = rw (w.overlay, w.pending)
 
   -- the same in two parts
   pub given_of : Fine s.overlay → ReadyIn s → RunGiven s
@@ -205,8 +202,3 @@ run_all run s₀ at x w = (sym w.total, omega (arith, w.taken))
 -- by the tests of a loop
 pub run_by : {run : Bytes} {s₀ : State} {more : Bool} {at : ℕ} {x : EventResult} (b : Bool) → more ≡ b → Running run s₀ more at x → Running run s₀ b at x
 run_by {run} {s₀} {more} {at} {x} b m w = subst (λ (z : Bool). Running run s₀ z at x) m w
-
--- what is lent keeps its sizes
-pub record SameSizes (words₀ bytes₀ words bytes : List ℕ) : Type 0 where
-  pub same_words : length words ≡ length words₀
-  pub same_bytes : length bytes ≡ length bytes₀

@@ -7,7 +7,6 @@ use Rattle.base.specs.Bytes.{Bytes, both}
 use Rattle.refusal.specs.declared.Refusal.{Refusal}
 use Rattle.refusal.specs.declared.Refusal.TheVariants as R
 use Rattle.kind.specs.declared.Kind.{Kind}
-use Rattle.nesting.specs.declared.Place.{Place}
 use Rattle.model.specs.Record.{Member, Tag}
 use Rattle.compact.specs.Legal.{limits}
 use Rattle.compact.specs.declared.PushHead.{PushHead}
@@ -16,15 +15,15 @@ use Rattle.overlay.specs.Overlay.{Overlay}
 use Rattle.text_index.specs.Index.{IndexGiven}
 use Rattle.overlay_store.specs.Calls.{store_text}
 use Rattle.reader.specs.declared.Pending.{Pending}
-use Rattle.reader.specs.State.{middle, values_in, more_tags, more_parts}
-use Rattle.reader.specs.Step.{Step, goes, stops, member_bits}
+use Rattle.reader.specs.State.{State, middle, values_in, more_tags, more_parts}
+use Rattle.reader.specs.Step.{member_bits}
+use Rattle.reader.specs.Done.{StepResult, worked}
 
--- what a sound state and a line that is no longer than it may be give: a handle fits 32 bits, what is staged lies within the lent bytes, and the array of chains is one for the overlay's texts
-pub record ChildGiven (ix : List ℕ) (o : Overlay) (x : Pending) (parts line : Bytes) : Type 0 where
-  pub strings : o.texts.strings < 4294967296
-  pub used : x.used ≤ length parts
-  pub short : length line ≤ 16384
-  pub indexed : IndexGiven ix o.texts
+-- what a sound state gives: a handle fits 32 bits, what is staged lies within the lent bytes, and the array of chains is one for the overlay's texts
+pub record StepGiven (ix : List ℕ) (s : State) : Type 0 where
+  pub strings : s.overlay.texts.strings < 4294967296
+  pub used : s.reader.pending.used ≤ length s.parts
+  pub indexed : IndexGiven ix s.overlay.texts
 
 -- ---- the limits
 
@@ -85,11 +84,21 @@ abbrev pub add_member : Kind → Pending → Member Bytes → Bytes → Overlay 
 add_member k x m parts o =
     add_with (part_fits x limits.members) m.role (more_parts x.head) (middle k x.head.count) (λ role. member_part (member_bits m role)) x parts o
 
--- ---- the step of a reader that it is (proofs/Steps)
+-- ---- the state that a child leaves
 
-abbrev pub step_as : Result Pending Refusal → Place → Bytes → Overlay → Step
-step_as (Ok x) p parts o = goes (record { overlay = o; place = p; pending = x; parts = parts })
-step_as (Err r) p parts o = stops r
+-- the element with a part more, the part staged at its place
+abbrev pub part_staged : PushHead → ℕ → Bytes → State → State
+part_staged h at part s =
+    record {
+      overlay = s.overlay;
+      reader = record { place = s.reader.place; pending = pending_with h part s.reader.pending; lines = s.reader.lines; stop = s.reader.stop };
+      parts = staged s.parts s.reader.pending.used at part;
+    }
 
-abbrev pub child_step : Place → Adding → Step
-child_step p a = step_as a.answer p a.parts a.overlay
+-- another overlay, all else as it was
+abbrev pub with_overlay : Overlay → State → State
+with_overlay o s = record { overlay = o; reader = s.reader; parts = s.parts }
+
+-- the work that a child is (proofs/Steps)
+abbrev pub child_worked : State → Adding → StepResult
+child_worked s a = worked s a.overlay a.parts a.answer

@@ -1,25 +1,24 @@
 // Children of the element that a reader is putting together: one tag, ref or member more. A refused child changes nothing, so the limits are asked before a text is taken in.
 #![tactic(auto)]
 
-ghost use Rattle.std.specs.Prelude.{◌≡◌, ◌+◌, ◌≤◌, ◌<◌, length};
+ghost use Rattle.std.specs.Prelude.{◌≡◌, ◌+◌, ◌++◌, ◌≤◌, ◌<◌, length};
 ghost use Rattle.std.specs.Int.{w64};
 ghost use Rattle.std.proofs.Common.{to_z};
-ghost use Rattle.reader_stage.specs.Stage.{staged, ref_part, member_part, tag_part};
-ghost use Rattle.event_values.specs.Value.{text_at, ExtentInBounds};
+ghost use Rattle.event_scan.specs.Piece.{value_text};
+ghost use Rattle.event_decision.specs.Decision.{tags, refers, joins};
 ghost use Rattle.text_index.specs.Index.{IndexGiven};
-ghost use Rattle.overlay.specs.Overlay.{Overlay};
-ghost use Rattle.overlay.specs.Lent.{lent, left};
+ghost use Rattle.overlay.specs.Lent.{overlay_seen};
 ghost use Rattle.overlay_store.specs.Calls.{store_text};
-ghost use Rattle.reader.specs.State.{middle, values_in, more_tags, more_parts};
-ghost use Rattle.reader_parts.specs.Parts.{ChildGiven, tag_fits, part_fits, refusal_over, pending_with, add_tag, add_ref, add_member};
+ghost use Rattle.reader.specs.Lent.{state_held, IsSameState};
+ghost use Rattle.reader.specs.State.{middle, values_in, more_parts};
+ghost use Rattle.reader.specs.Done.{Works};
+ghost use Rattle.reader_parts.specs.Parts.{StepGiven, tag_fits, part_fits, refusal_over, part_staged, with_overlay, child_worked, add_tag};
 
 use compact::{CompactMember, PushHead};
-use event_decide::{NewMember, NewTag};
-use event_scan::{Extent, MAX_LINE};
+use event_scan::MAX_LINE;
 use kind::Kind;
-use overlay_blocks::COUNTERS;
-use reader::Pending;
-use reader_stage::STAGED;
+use overlay::{Storage, StorageMut};
+use reader::{Pending, ReaderState};
 use refusal::Refusal;
 
 // ---- the limits: 16
@@ -67,214 +66,160 @@ fn part_fits(pending: Pending, limit: u32) -> bool
 }
 
 // What a child with a text is answered that is not within them: 13 if its text would be refused, else 16.
-fn over_limit(
-    words: &[u64],
-    bytes: &[u8],
-    counters: &[u64; COUNTERS],
-    ix: &[u16],
-    line: &[u8],
-    text: Extent,
-) -> Result<Pending, Refusal>
-    ensures { ExtentInBounds line.now text → length line.now ≤ 16384
-        → IndexGiven ix.now (lent words.now bytes.now counters.now).texts
-        → result ≡ Err (refusal_over (store_text (text_at line.now text) (lent words.now bytes.now counters.now)).answer) }
+fn over_limit(storage: &Storage<'_>, ix: &[u16], text: &[u8]) -> Result<(), Refusal>
+    ensures { length text.now ≤ 16384 → IndexGiven ix.now (overlay_seen storage.now).texts
+        → result ≡ Err (refusal_over (store_text (value_text text.now) (overlay_seen storage.now)).answer) }
 {
-    match reader_texts::text_handle(words, bytes, counters, ix, line, text) {
-        Ok(_) => Err(Refusal::TooManyParts),
-        Err(refusal) => Err(refusal),
-    }
+    reader_texts::text_handle(storage, ix, text)?;
+    Err(Refusal::TooManyParts)
 }
 
 // ---- a part staged, and the element with it
 
-fn with_tag(parts: &mut [u8], pending: Pending, key: u64, value: &[u8]) -> Pending
-    requires { (pending.head.tags < 256) × (length value.now ≤ 16384) }
-    ensures { key < 4294967296 → pending.used ≤ length parts.old
-        → (parts.new ≡ staged parts.old pending.used pending.used (tag_part key value.now))
-        × (result ≡ pending_with (more_tags pending.head) (tag_part key value.now) pending) }
+// The element with a part more, by its head then: the part's numbers, and the bytes of a value behind them, put in at a place.
+fn stage_part(state: &mut ReaderState<'_>, head: PushHead, at: usize, numbers: &[u8], value: &[u8])
+    requires { (length numbers.now ≤ 13) × (length value.now ≤ 16384) }
+    ensures same { IsSameState state.new state.old }
+    ensures place { state.new.reader.place ≡ state.old.reader.place }
+    ensures staged { state.old.reader.pending.used ≤ length state.old.parts.now
+        → state_held state.new ≡ part_staged head at (numbers.now ++ value.now) (state_held state.old) }
 {
-    let used = little::lesser(pending.used, parts.len());
-    reader_stage::stage_tag(parts, used, little::narrow(key), value);
-    let mut head = pending.head;
-    head.tags += 1;
-    let meta = pending.meta;
-    Pending {
-        head,
-        meta,
-        used: used + (8 + value.len()),
-    }
+    let used = state.reader.pending.used.min(state.parts.len());
+    reader_stage::stage(&mut state.parts[..], used, at, numbers, value);
+    state.reader.pending.head = head;
+    state.reader.pending.used = used + (numbers.len() + value.len());
 }
 
-// The element with one ref or member more, up to where its parts are used now.
-fn with_part(pending: Pending, used: usize) -> Pending
-    requires { pending.head.count < 2000 }
-    ensures { result ≡ record { head = more_parts pending.head; meta = pending.meta; used = used } }
+// A ref or a member more, by its bytes: they lie behind those before it.
+fn stage_middle(state: &mut ReaderState<'_>, part: &[u8])
+    requires { (state.old.reader.pending.head.count < 2000) × (length part.now ≤ 13) }
+    ensures same { IsSameState state.new state.old }
+    ensures place { state.new.reader.place ≡ state.old.reader.place }
+    ensures staged { state.old.reader.pending.used ≤ length state.old.parts.now
+        → state_held state.new ≡ part_staged (more_parts state.old.reader.pending.head) (middle state.old.reader.place.kind state.old.reader.pending.head.count) part.now (state_held state.old) }
 {
-    let mut head = pending.head;
+    let mut head = state.reader.pending.head;
+    let at = middle_size(state.reader.place.kind, head.count);
     head.count += 1;
-    let meta = pending.meta;
-    Pending { head, meta, used }
+    stage_part(state, head, at, part, &[]);
 }
 
-fn with_ref(parts: &mut [u8], kind: Kind, pending: Pending, reference: u64) -> Pending
-    requires { pending.head.count < 2000 }
-    ensures { pending.used ≤ length parts.old
-        → (parts.new ≡ staged parts.old pending.used (middle kind pending.head.count) (ref_part reference))
-        × (result ≡ pending_with (more_parts pending.head) (ref_part reference) pending) }
+// ---- a child with a text
+
+// Takes its text in: 13, or its handle.
+fn take_text(state: &mut ReaderState<'_>, ix: &[u16], text: &[u8]) -> Result<u64, Refusal>
+    ensures same { IsSameState state.new state.old }
+    ensures rest { state_held state.new ≡ with_overlay (state_held state.new).overlay (state_held state.old) }
+    ensures taken { length text.now ≤ 16384 → IndexGiven ix.now (state_held state.old).overlay.texts
+        → record { overlay = (state_held state.new).overlay; answer = result } ≡ store_text (value_text text.now) (state_held state.old).overlay }
 {
-    let used = little::lesser(pending.used, parts.len());
-    let head = pending.head;
-    reader_stage::stage_ref(parts, used, middle_size(kind, head.count), reference);
-    with_part(pending, used + 8)
+    let mut storage = StorageMut {
+        words: state.words,
+        bytes: state.bytes,
+        counters: state.counters,
+    };
+    reader_texts::take_text(&mut storage, ix, text)
 }
 
-fn with_member(parts: &mut [u8], kind: Kind, pending: Pending, member: CompactMember) -> Pending
-    requires { pending.head.count < 2000 }
-    ensures { pending.used ≤ length parts.old
-        → (parts.new ≡ staged parts.old pending.used (middle kind pending.head.count) (member_part member))
-        × (result ≡ pending_with (more_parts pending.head) (member_part member) pending) }
-{
-    let used = little::lesser(pending.used, parts.len());
-    let head = pending.head;
-    reader_stage::stage_member(parts, used, middle_size(kind, head.count), member);
-    with_part(pending, used + 13)
-}
-
-// ---- a tag
-
-// With its value's text.
+// A tag by its value's text.
 fn tag_with(
-    words: &mut [u64],
-    bytes: &mut [u8],
-    counters: &mut [u64; COUNTERS],
+    state: &mut ReaderState<'_>,
     ix: &[u16],
-    parts: &mut [u8],
-    kind: Kind,
-    pending: Pending,
-    line: &[u8],
-    key: Extent,
+    key: &[u8],
     value: &[u8],
-) -> Result<Pending, Refusal>
-    ensures { ChildGiven ix.now (lent words.old bytes.old counters.old) pending parts.old line.now → ExtentInBounds line.now key
-        → record { overlay = left words.new bytes.new counters.new; parts = parts.new; answer = result }
-        ≡ add_tag kind pending (record { key = text_at line.now key; value = value.now }) parts.old (lent words.old bytes.old counters.old) }
+) -> Result<(), Refusal>
+    ensures same { IsSameState state.new state.old }
+    ensures place { state.new.reader.place ≡ state.old.reader.place }
+    ensures worked { StepGiven ix.now (state_held state.old) → length key.now ≤ 16384
+        → record { state = state_held state.new; answer = result } ≡ child_worked (state_held state.old)
+        (add_tag state.old.reader.place.kind state.old.reader.pending (record { key = value_text key.now; value = value.now }) state.old.parts.now (state_held state.old).overlay) }
 {
-    if tag_fits(kind, pending, value.len()) {
-        return match reader_texts::take_text(words, bytes, counters, ix, line, key) {
-            Ok(handle) => Ok(with_tag(parts, pending, handle, value)),
-            Err(refusal) => Err(refusal),
-        };
+    let pending = state.reader.pending;
+    if tag_fits(state.reader.place.kind, pending, value.len()) {
+        let handle = take_text(state, ix, key)?;
+        let mut head = pending.head;
+        head.tags += 1;
+        let numbers = reader_stage::tag_bytes(little::narrow(handle), value.len());
+        stage_part(state, head, pending.used, &numbers, value);
+        return Ok(());
     }
-    over_limit(words, bytes, counters, ix, line, key)
+    over_limit(&state.view().storage(), ix, key)
 }
 
 // With its value's escapes resolved: an array holds the text.
 fn tag_resolved(
-    words: &mut [u64],
-    bytes: &mut [u8],
-    counters: &mut [u64; COUNTERS],
+    state: &mut ReaderState<'_>,
     ix: &[u16],
-    parts: &mut [u8],
-    kind: Kind,
-    pending: Pending,
-    line: &[u8],
-    tag: NewTag,
-) -> Result<Pending, Refusal>
-    ensures { ChildGiven ix.now (lent words.old bytes.old counters.old) pending parts.old line.now → ExtentInBounds line.now tag.key → ExtentInBounds line.now tag.value
-        → record { overlay = left words.new bytes.new counters.new; parts = parts.new; answer = result }
-        ≡ add_tag kind pending (record { key = text_at line.now tag.key; value = text_at line.now tag.value }) parts.old (lent words.old bytes.old counters.old) }
+    key: &[u8],
+    value: &[u8],
+) -> Result<(), Refusal>
+    ensures same { IsSameState state.new state.old }
+    ensures place { state.new.reader.place ≡ state.old.reader.place }
+    ensures worked { StepGiven ix.now (state_held state.old) → length key.now ≤ 16384 → length value.now ≤ 16384
+        → record { state = state_held state.new; answer = result } ≡ child_worked (state_held state.old)
+        (add_tag state.old.reader.place.kind state.old.reader.pending (record { key = value_text key.now; value = value_text value.now }) state.old.parts.now (state_held state.old).overlay) }
 {
     let mut room = [0u8; MAX_LINE];
-    let n = reader_texts::text_into(&mut room, line, tag.value);
-    let end = little::lesser(n, MAX_LINE);
-    tag_with(
-        words,
-        bytes,
-        counters,
-        ix,
-        parts,
-        kind,
-        pending,
-        line,
-        tag.key,
-        &room[..end],
-    )
+    let text = reader_texts::resolved(&mut room, value);
+    tag_with(state, ix, key, text)
 }
 
-// A tag more: 13 of its key, 16, or the tag staged.
+// A tag more, its key and its value as they are written: 13 of its key, 16, or the tag staged.
 pub fn add_tag(
-    words: &mut [u64],
-    bytes: &mut [u8],
-    counters: &mut [u64; COUNTERS],
+    state: &mut ReaderState<'_>,
     ix: &[u16],
-    parts: &mut [u8; STAGED],
-    kind: Kind,
-    pending: Pending,
-    line: &[u8],
-    tag: NewTag,
-) -> Result<Pending, Refusal>
-    ensures { ChildGiven ix.now (lent words.old bytes.old counters.old) pending parts.old line.now → ExtentInBounds line.now tag.key → ExtentInBounds line.now tag.value
-        → record { overlay = left words.new bytes.new counters.new; parts = parts.new; answer = result }
-        ≡ add_tag kind pending (record { key = text_at line.now tag.key; value = text_at line.now tag.value }) parts.old (lent words.old bytes.old counters.old) }
+    key: &[u8],
+    value: &[u8],
+) -> Result<(), Refusal>
+    ensures same { IsSameState state.new state.old }
+    ensures place { state.new.reader.place ≡ state.old.reader.place }
+    ensures works { StepGiven ix.now (state_held state.old) → length key.now ≤ 16384 → length value.now ≤ 16384
+        → Works (λ p. tags p (record { key = value_text key.now; value = value_text value.now })) (state_held state.old) (record { state = state_held state.new; answer = result }) }
 {
-    let value = tag.value;
-    let to = little::lesser(value.to, line.len());
-    let from = little::lesser(value.from, to);
-    let text = &line[from..to];
-    if event_scan::lacks(text, b'\\') {
-        return tag_with(
-            words, bytes, counters, ix, parts, kind, pending, line, tag.key, text,
-        );
+    if event_scan::lacks(value, b'\\') {
+        return tag_with(state, ix, key, value);
     }
-    tag_resolved(words, bytes, counters, ix, parts, kind, pending, line, tag)
+    tag_resolved(state, ix, key, value)
 }
 
 // ---- a ref and a member
 
-// A ref more: 16, or the ref staged. It leaves an overlay as it is.
-pub fn add_ref(
-    parts: &mut [u8; STAGED],
-    kind: Kind,
-    pending: Pending,
-    reference: u64,
-) -> Result<Pending, Refusal>
-    ensures { (o : Overlay) → pending.used ≤ length parts.old
-        → record { overlay = o; parts = parts.new; answer = result } ≡ add_ref kind pending (to_z w64 reference) parts.old o }
+// A ref more: 16, or the ref staged. It leaves the overlay as it is.
+pub fn add_ref(state: &mut ReaderState<'_>, reference: u64) -> Result<(), Refusal>
+    ensures same { IsSameState state.new state.old }
+    ensures place { state.new.reader.place ≡ state.old.reader.place }
+    ensures works { state.old.reader.pending.used ≤ length state.old.parts.now
+        → Works (λ p. refers p (to_z w64 reference)) (state_held state.old) (record { state = state_held state.new; answer = result }) }
 {
-    if part_fits(pending, 2000) {
-        return Ok(with_ref(parts, kind, pending, reference));
+    if part_fits(state.reader.pending, 2000) {
+        stage_middle(state, &reader_stage::ref_bytes(reference));
+        return Ok(());
     }
     Err(Refusal::TooManyParts)
 }
 
-// A member more: 13 of its role, 16, or the member staged.
+// A member more, its role as it is written: 13 of its role, 16, or the member staged.
 pub fn add_member(
-    words: &mut [u64],
-    bytes: &mut [u8],
-    counters: &mut [u64; COUNTERS],
+    state: &mut ReaderState<'_>,
     ix: &[u16],
-    parts: &mut [u8; STAGED],
+    reference: u64,
     kind: Kind,
-    pending: Pending,
-    line: &[u8],
-    member: NewMember,
-) -> Result<Pending, Refusal>
-    ensures { ChildGiven ix.now (lent words.old bytes.old counters.old) pending parts.old line.now → ExtentInBounds line.now member.role
-        → record { overlay = left words.new bytes.new counters.new; parts = parts.new; answer = result }
-        ≡ add_member kind pending (record { ref = to_z w64 member.reference; type = member.kind; role = text_at line.now member.role }) parts.old (lent words.old bytes.old counters.old) }
+    role: &[u8],
+) -> Result<(), Refusal>
+    ensures same { IsSameState state.new state.old }
+    ensures place { state.new.reader.place ≡ state.old.reader.place }
+    ensures works { StepGiven ix.now (state_held state.old) → length role.now ≤ 16384
+        → Works (λ p. joins p (record { ref = to_z w64 reference; type = kind; role = value_text role.now })) (state_held state.old) (record { state = state_held state.new; answer = result }) }
 {
-    if part_fits(pending, 2000) {
-        return match reader_texts::take_text(words, bytes, counters, ix, line, member.role) {
-            Ok(handle) => {
-                let compact = CompactMember {
-                    reference: member.reference,
-                    kind: u8::from(member.kind),
-                    role: little::narrow(handle),
-                };
-                Ok(with_member(parts, kind, pending, compact))
-            }
-            Err(refusal) => Err(refusal),
+    if part_fits(state.reader.pending, 2000) {
+        let handle = take_text(state, ix, role)?;
+        let member = CompactMember {
+            reference,
+            kind: u8::from(kind),
+            role: little::narrow(handle),
         };
+        stage_middle(state, &reader_stage::member_bytes(member));
+        return Ok(());
     }
-    over_limit(words, bytes, counters, ix, line, member.role)
+    over_limit(&state.view().storage(), ix, role)
 }

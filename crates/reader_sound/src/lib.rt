@@ -2,15 +2,13 @@
 #![tactic(auto)]
 
 ghost use Rattle.std.specs.Prelude.{◌≡◌};
-ghost use Rattle.reader.specs.Lent.{state_lent};
+ghost use Rattle.reader.specs.Lent.{state_seen};
 ghost use Rattle.reader.specs.State.{stops_by, pending_sound, state_sound};
-ghost use Rattle.reader_sound.specs.Mark.{stop_mark};
+ghost use Rattle.reader_sound.specs.Mark.{stop_mark, going_answer};
 
-use compact::{ArenaMeta, PushHead};
 use kind::Kind;
-use overlay_blocks::{COUNTERS, STRINGS};
-use reader::{EventReader, Pending, RefusedAt};
-use reader_stage::STAGED;
+use overlay_blocks::STRINGS;
+use reader::{Pending, ReaderView, RefusedAt};
 use refusal::{Refusal, Reply};
 
 // Whether the staged parts lie within the lent bytes, and the push that they will make passes 17, 3, 10 and 16.
@@ -27,20 +25,14 @@ fn pending_sound(strings: u64, kind: Kind, parts: &[u8], pending: Pending) -> bo
 }
 
 // Whether overlay and reader are sound.
-pub fn state_sound(
-    words: &[u64],
-    bytes: &[u8],
-    counters: &[u64; COUNTERS],
-    parts: &[u8; STAGED],
-    reader: EventReader,
-) -> bool
-    ensures { result ≡ state_sound (state_lent words.now bytes.now counters.now parts.now reader) }
+pub fn state_sound(state: &ReaderView<'_>) -> bool
+    ensures { result ≡ state_sound (state_seen state.now) }
 {
-    if overlay::is_sound(words, bytes, counters) {
-        let place = reader.place;
-        let kind = place.kind;
-        let pending = reader.pending;
-        let staged = pending_sound(counters[STRINGS], kind, parts, pending);
+    if state.storage().is_sound() {
+        let reader = state.reader;
+        let parts = state.parts;
+        let strings = state.counters[STRINGS];
+        let staged = pending_sound(strings, reader.place.kind, parts, reader.pending);
         return staged & (reader.lines < 18446744073709551615);
     }
     false
@@ -55,8 +47,24 @@ fn stops_by(refusal: Refusal) -> bool
 }
 
 // The mark that stops a reader; a mark that no refused event leaves stops nothing.
-pub fn mark_of(stop: Option<RefusedAt>) -> Option<RefusedAt>
+fn mark_of(stop: Option<RefusedAt>) -> Option<RefusedAt>
     ensures { result ≡ stop_mark stop }
 {
     stop.filter(|at| stops_by(at.refusal))
+}
+
+// What an event and an end are answered before their own step: 22, which names no line, where the state is not sound; then the stop mark.
+pub fn check_going(sound: bool, stop: Option<RefusedAt>) -> Result<(), RefusedAt>
+    ensures { result ≡ going_answer sound stop }
+{
+    if !sound {
+        return Err(RefusedAt {
+            refusal: Refusal::Unsound,
+            line: 0,
+        });
+    }
+    if let Some(at) = mark_of(stop) {
+        return Err(at);
+    }
+    Ok(())
 }

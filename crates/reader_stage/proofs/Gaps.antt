@@ -2,18 +2,18 @@
 use Prim.Native.Nat.{ℕ, ◌+◌, ◌-◌, ◌≤◌}
 use mathlib.Core.Path.{◌≡◌, sym, ◌∙◌}
 use mathlib.Core.Bool.{Bool, true, false}
-use mathlib.Core.List.{◌++◌, append_assoc}
+use mathlib.Core.List.{◌++◌, append-nil, append_assoc}
 use native.Mathlib.Nat.{zero-add}
 use native.Mathlib.Omega.{arith}
 use lib.Dec.{leb}
 use lib.ListN.{length, take, drop, length-append}
-use lib.Seq.{take-take, slice, slice_empty, paste, length-slice}
+use lib.Seq.{take-take, drop-length, slice, slice_empty, paste, length-slice}
 use Rattle.std.proofs.lemmas.List.{drop-take}
 use borrow.Author.Tests.{leb-true}
 use Rattle.base.specs.Bytes.{Bytes, both}
 use Rattle.base.proofs.Split.{both_left, both_right}
 use Rattle.little.specs.Little.{over}
-use Rattle.little.proofs.Overs.{over_nothing, over_over, over_before, over_whole, over_fits}
+use Rattle.little.proofs.Overs.{over_nothing, over_over, over_before, over_start, over_whole, over_fits}
 use Rattle.little.proofs.Littles.{length_le}
 use Rattle.compact.specs.declared.CompactMember.{CompactMember}
 use Rattle.reader_stage.specs.Stage.{staged, member_part, tag_part}
@@ -56,6 +56,10 @@ three s a b c =
     let x : over (over s 0 a) (length a) b ≡ over s 0 (a ++ b) = rw zero-add at (over_over s 0 a b) in
     let y : over (over s 0 (a ++ b)) (length a + length b) c ≡ over s 0 (a ++ b ++ c) = rw (zero-add, length-append) at (over_over s 0 (a ++ b) c) in
     rw (x, y, append_assoc)
+
+-- bytes over an array of their length
+pub over_all : (s t : Bytes) → length t ≡ length s → over s 0 t ≡ t
+over_all s t e = rw (over_start s t (omega (arith, e)), e, drop-length, append-nil)
 
 pub length_member_part : (m : CompactMember) → length (member_part m) ≡ 13
 length_member_part m = simp (length-append, length_le)

@@ -21,3 +21,7 @@ member_part m = le 8 m.reference ++ (le 1 m.kind ++ le 4 m.role)
 
 abbrev pub tag_part : ℕ → Bytes → Bytes
 tag_part key value = le 4 key ++ (le 4 (length value) ++ value)
+
+-- the bytes of a tag before its value
+abbrev pub tag_numbers : ℕ → ℕ → Bytes
+tag_numbers key n = le 4 key ++ le 4 n

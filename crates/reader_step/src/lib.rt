@@ -1,119 +1,150 @@
-// What is decided of an event, done in storage: one call a decision.
+// What an event is to do, done in storage: one call a work, and then the reader's place moves on.
 #![tactic(auto)]
 
-ghost use Rattle.std.specs.Prelude.{◌≡◌, List, ℕ};
-ghost use Rattle.base.specs.Bytes.{Bytes};
-ghost use Rattle.event_decide.specs.Decided.{means_decided};
-ghost use Rattle.event_decide.specs.declared.Decided.TheVariants as D;
-ghost use Rattle.overlay.specs.Overlay.{Overlay};
-ghost use Rattle.overlay.specs.Lent.{left};
-ghost use Rattle.reader.specs.Lent.{state_lent};
-ghost use Rattle.reader.specs.Step.{step_of};
-ghost use Rattle.reader_elements.specs.Done.{StepGiven, done_by};
-ghost use Rattle.reader_step.specs.Child.{child_stepped};
+ghost use Rattle.std.specs.Prelude.{◌≡◌, ◌≤◌, cond, is_some};
+ghost use Rattle.std.specs.Int.{w32, w64};
+ghost use Rattle.std.proofs.Common.{SFits, to_z, of_z};
+ghost use Rattle.event_metadata.specs.Values.{flags_of, metadata_means};
+ghost use Rattle.event_decide.specs.Tasks.{work_means, task_means};
+ghost use Rattle.event_decide.specs.declared.tasks.Work.TheVariants as W;
+ghost use Rattle.reader.specs.Lent.{state_held, IsSameState};
+ghost use Rattle.reader.specs.Step.{bits_with_user, step_of};
+ghost use Rattle.reader.specs.Done.{done_by, Works};
+ghost use Rattle.reader_acts.specs.Acts.{Means};
+ghost use Rattle.reader_parts.specs.Parts.{StepGiven};
 
-use event_decide::{Decided, NewMember, NewRef, NewTag};
-use nesting::Place;
-use overlay_blocks::COUNTERS;
-use reader::{EventReader, Pending};
-use reader_elements::{Progress, begin, delete, end};
-use reader_stage::STAGED;
+use compact::ArenaMeta;
+use event_decide::tasks::{NewElement, OldElement, Task, Work};
+use event_metadata::values::MetadataValues;
+use kind::Kind;
+use reader::ReaderState;
+use reader_acts::Act;
 use refusal::Refusal;
 
-// ---- children
+// ---- metadata in bits
 
-fn added(place: Place, answer: Result<Pending, Refusal>) -> Result<Progress, Refusal>
-    ensures { result ≡ child_stepped place answer }
+// A flag that is set or not.
+fn mark(yes: bool, flag: u8) -> u8
+    ensures value { result ≡ cond yes flag 0 }
+    ensures bound { result ≤ flag }
 {
-    let pending = answer?;
-    Ok(Progress { place, pending })
+    if yes { flag } else { 0 }
 }
 
-fn tag(
-    words: &mut [u64],
-    bytes: &mut [u8],
-    counters: &mut [u64; COUNTERS],
-    ix: &[u16],
-    parts: &mut [u8; STAGED],
-    reader: EventReader,
-    line: &[u8],
-    t: NewTag,
-) -> Result<Progress, Refusal>
-    ensures { StepGiven ix.now line.now (D.Tags t) (state_lent words.old bytes.old counters.old parts.old reader)
-        → record { overlay = left words.new bytes.new counters.new; parts = parts.new; answer = result } ≡ done_by (state_lent words.old bytes.old counters.old parts.old reader) (step_of (means_decided line.now (D.Tags t)) (state_lent words.old bytes.old counters.old parts.old reader)) }
+// "Flags: 1 present, 2 hidden, 4 has user, 8 has version"
+fn flags(metadata: &MetadataValues<'_>) -> u8
+    ensures { result ≡ flags_of metadata.now.given metadata.now.hidden (is_some metadata.now.user) (is_some metadata.now.version) }
 {
-    let pending = reader.pending;
-    let at = reader.place;
-    let kind = at.kind;
-    let place = t.place;
-    let answer = reader_parts::add_tag(words, bytes, counters, ix, parts, kind, pending, line, t);
-    added(place, answer)
+    mark(metadata.given, 1)
+        + mark(metadata.hidden, 2)
+        + mark(metadata.user.is_some(), 4)
+        + mark(metadata.version.is_some(), 8)
 }
 
-fn refer(parts: &mut [u8; STAGED], reader: EventReader, to: NewRef) -> Result<Progress, Refusal>
-    ensures { (ix : List ℕ) (line : Bytes) (o : Overlay) → StepGiven ix line (D.Refers to) (record { overlay = o; reader = reader; parts = parts.old })
-        → record { overlay = o; parts = parts.new; answer = result }
-        ≡ done_by (record { overlay = o; reader = reader; parts = parts.old })
-        (step_of (means_decided line (D.Refers to)) (record { overlay = o; reader = reader; parts = parts.old })) }
+// Each number is the bits of the number that it stands for.
+fn meta_of(flags: u8, version: u32, timestamp: u64, changeset: u64, uid: u32) -> ArenaMeta
+    ensures bits { result ≡ record { flags = flags; version = of_z w32 (to_z w32 version); timestamp = of_z w64 (to_z w64 timestamp); changeset = of_z w64 (to_z w64 changeset); uid = of_z w32 (to_z w32 uid); user = 0 } }
+    ensures version { SFits w32 (to_z w32 version) }
 {
-    let pending = reader.pending;
-    let at = reader.place;
-    let kind = at.kind;
-    let place = to.place;
-    let answer = reader_parts::add_ref(parts, kind, pending, to.reference);
-    added(place, answer)
-}
-
-fn join(
-    words: &mut [u64],
-    bytes: &mut [u8],
-    counters: &mut [u64; COUNTERS],
-    ix: &[u16],
-    parts: &mut [u8; STAGED],
-    reader: EventReader,
-    line: &[u8],
-    m: NewMember,
-) -> Result<Progress, Refusal>
-    ensures { StepGiven ix.now line.now (D.Joins m) (state_lent words.old bytes.old counters.old parts.old reader)
-        → record { overlay = left words.new bytes.new counters.new; parts = parts.new; answer = result } ≡ done_by (state_lent words.old bytes.old counters.old parts.old reader) (step_of (means_decided line.now (D.Joins m)) (state_lent words.old bytes.old counters.old parts.old reader)) }
-{
-    let pending = reader.pending;
-    let at = reader.place;
-    let kind = at.kind;
-    let place = m.place;
-    let answer = reader_parts::add_member(
-        words, bytes, counters, ix, parts, kind, pending, line, m,
-    );
-    added(place, answer)
-}
-
-// ---- a decision
-
-// What is decided of an event whose line without its line feed is `line`, done.
-pub fn step(
-    words: &mut [u64],
-    bytes: &mut [u8],
-    counters: &mut [u64; COUNTERS],
-    ix: &[u16],
-    parts: &mut [u8; STAGED],
-    reader: EventReader,
-    line: &[u8],
-    decided: Decided,
-) -> Result<Progress, Refusal>
-    ensures { StepGiven ix.now line.now decided (state_lent words.old bytes.old counters.old parts.old reader)
-        → record { overlay = left words.new bytes.new counters.new; parts = parts.new; answer = result }
-        ≡ done_by (state_lent words.old bytes.old counters.old parts.old reader)
-        (step_of (means_decided line.now decided)
-        (state_lent words.old bytes.old counters.old parts.old reader)) }
-{
-    let pending = reader.pending;
-    match decided {
-        Decided::Moves(place) => Ok(Progress { place, pending }),
-        Decided::Begins(b) => begin(words, bytes, counters, ix, line, b),
-        Decided::Deletes(d) => delete(words, bytes, counters, ix, line, d),
-        Decided::Tags(t) => tag(words, bytes, counters, ix, parts, reader, line, t),
-        Decided::Refers(to) => refer(parts, reader, to),
-        Decided::Joins(m) => join(words, bytes, counters, ix, parts, reader, line, m),
-        Decided::Ends(p) => end(words, bytes, counters, parts, reader, p),
+    ArenaMeta {
+        flags,
+        version,
+        timestamp,
+        changeset,
+        uid,
+        user: 0,
     }
+}
+
+// With no user.
+fn arena_meta(metadata: &MetadataValues<'_>) -> ArenaMeta
+    ensures bits { result ≡ bits_with_user (metadata_means metadata.now) 0 }
+    ensures version { SFits w32 (metadata_means metadata.now).version }
+{
+    let version = metadata.version.unwrap_or(0);
+    meta_of(
+        flags(metadata),
+        version,
+        metadata.timestamp,
+        metadata.changeset,
+        metadata.uid,
+    )
+}
+
+// An act on an element of a kind and id, with its metadata.
+fn act_of<'a>(kind: Kind, id: u64, metadata: &MetadataValues<'a>) -> Act<'a>
+    ensures element { (result.kind ≡ kind) × (result.id ≡ id) }
+    ensures means { Means result (metadata_means metadata.now) }
+{
+    let meta = arena_meta(metadata);
+    match metadata.user {
+        None => Act {
+            kind,
+            id,
+            meta,
+            user: None,
+        },
+        Some(user) => Act {
+            kind,
+            id,
+            meta,
+            user: Some(user.bytes),
+        },
+    }
+}
+
+// ---- work
+
+fn begin(state: &mut ReaderState<'_>, ix: &[u16], element: &NewElement<'_>) -> Result<(), Refusal>
+    ensures same { IsSameState state.new state.old }
+    ensures works { StepGiven ix.now (state_held state.old)
+        → Works (λ p. work_means p (W.Begins element.now)) (state_held state.old) (record { state = state_held state.new; answer = result }) }
+{
+    let act = act_of(element.kind, element.id, &element.metadata);
+    let head = reader_acts::head_for(element.kind, element.id, element.lat, element.lon);
+    reader_elements::begin(state, ix, &act, head, element.empty)
+}
+
+fn delete(state: &mut ReaderState<'_>, ix: &[u16], element: &OldElement<'_>) -> Result<(), Refusal>
+    ensures same { IsSameState state.new state.old }
+    ensures works { StepGiven ix.now (state_held state.old)
+        → Works (λ p. work_means p (W.Deletes element.now)) (state_held state.old) (record { state = state_held state.new; answer = result }) }
+{
+    let act = act_of(element.kind, element.id, &element.metadata);
+    reader_elements::delete(state, ix, &act)
+}
+
+fn work(state: &mut ReaderState<'_>, ix: &[u16], work: &Work<'_>) -> Result<(), Refusal>
+    ensures same { IsSameState state.new state.old }
+    ensures works { StepGiven ix.now (state_held state.old)
+        → Works (λ p. work_means p work.now) (state_held state.old) (record { state = state_held state.new; answer = result }) }
+{
+    match work {
+        Work::Nothing => Ok(()),
+        Work::Begins(element) => begin(state, ix, element),
+        Work::Deletes(element) => delete(state, ix, element),
+        Work::Tags(tag) => reader_parts::add_tag(state, ix, tag.key.bytes, tag.value.bytes),
+        Work::Refers(reference) => reader_parts::add_ref(state, *reference),
+        Work::Joins(member) => reader_parts::add_member(
+            state,
+            ix,
+            member.reference,
+            member.kind,
+            member.role.bytes,
+        ),
+        Work::Ends => reader_elements::end(state),
+    }
+}
+
+// ---- a step
+
+// What an event is to do, done: 12 to 16, or the reader stands at the place after it. An array of chains, or an empty slice, finds held texts.
+pub fn step(state: &mut ReaderState<'_>, ix: &[u16], task: &Task<'_>) -> Result<(), Refusal>
+    ensures same { IsSameState state.new state.old }
+    ensures done { StepGiven ix.now (state_held state.old)
+        → record { state = state_held state.new; answer = result } ≡ done_by (state_held state.old) (step_of (task_means task.now) (state_held state.old)) }
+{
+    work(state, ix, &task.work)?;
+    state.reader.place = task.place;
+    Ok(())
 }

@@ -1,1 +1,2 @@
-pub mod Resolved
+pub mod Handles
+pub mod Held

@@ -5,8 +5,9 @@ use Rattle.std.proofs.Common.{◌≡◌, ℕ, zero, suc, ◌+◌, ◌-◌, ◌*�
 use mathlib.Core.List.{map-map}
 use lib.Dec.{eqb-suc-zero}
 use Rattle.base.specs.Bytes.{Bytes, both, either, all}
-use Rattle.base.proofs.Split.{by_bool, both_left, both_right, both_of, by_either, clash}
-use Rattle.base.proofs.Lists.{all_nil, all_cons, all_head, all_tail}
+use Rattle.base.proofs.Split.{by_bool, both_left, both_right, by_either, clash}
+use Rattle.base.proofs.Lists.{all_head, all_tail}
+use Rattle.base.proofs.Tests.{all_both}
 use Rattle.little.specs.Little.{le}
 use Rattle.little.proofs.Littles.{length_le, value_back}
 use Rattle.text.specs.Check.{is_text}
@@ -103,10 +104,6 @@ module _ {A B : Type 0} (s : Bytes) (next : Iter → Option (Option (Yielded B))
 
 one_more : {B : Type 0} (at n : ℕ) (x : Option (Option (Yielded B))) → Rust.unless_done (record { offset = at; remaining = suc n }) x ≡ x
 one_more at n x = rw eqb-suc-zero
-
-all_both : {A : Type 0} (f g : A → Bool) (xs : List A) → all f xs ≡ true → all g xs ≡ true → all (λ x. both (f x) (g x)) xs ≡ true
-all_both f g [] p q = all_nil (λ x. both (f x) (g x))
-all_both f g (x ∷ xs) p q = all_cons (λ x. both (f x) (g x)) x xs (both_of (all_head f x xs p) (all_head g x xs q)) (all_both f g xs (all_tail f x xs p) (all_tail g x xs q))
 
 -- ---- refs
 

@@ -8,7 +8,7 @@ use std::fmt;
 use version_floor::VersionFloor;
 
 // What the library answers to a question.
-#[derive(Clone, Copy)]
+#[derive(Clone, Copy, PartialEq, Eq, Debug)]
 pub enum Answer {
     Key(OsmIdKey),
     Order(Ordering),
@@ -40,38 +40,22 @@ impl fmt::Display for Answer {
 
 // The integer of 64 bits that a field writes, as an id is.
 fn long(s: &[u8]) -> Option<i64> {
-    match integer::read_i64(s) {
-        Some(bits) => Some(signed::i64_of_bits(bits)),
-        None => None,
-    }
+    integer::read::<i64>(s).map(u64::cast_signed)
 }
 
-// The integer of 32 bits that a field writes.
+// The integer of 32 bits that a field writes, as a version is.
 fn short(s: &[u8]) -> Option<i32> {
-    match integer::read_i32(s) {
-        Some(bits) => Some(signed::i32_of_bits(bits as u32)),
-        None => None,
-    }
+    let bits = u32::try_from(integer::read::<i32>(s)?).ok()?;
+    Some(bits.cast_signed())
 }
 
 // The seconds of the stamp that a field writes.
 fn stamp(s: &[u8]) -> Option<i64> {
-    match stamp::parse_rfc3339_utc(s) {
-        Some(bits) => Some(signed::i64_of_bits(bits)),
-        None => None,
-    }
+    stamp::parse_rfc3339_utc(s).map(u64::cast_signed)
 }
 
-fn two_ids(a: &[u8], b: &[u8]) -> Option<(i64, i64)> {
-    Some((long(a)?, long(b)?))
-}
-
-// A version, or none for a field that is no number.
-fn version(s: &[u8]) -> Option<i32> {
-    match integer::read_i32(s) {
-        Some(bits) => version_floor::version_of_word(bits),
-        None => None,
-    }
+fn two_ids(a: Option<&[u8]>, b: Option<&[u8]>) -> Option<(i64, i64)> {
+    Some((long(a?)?, long(b?)?))
 }
 
 fn admit(floor: Option<i32>, claim: Option<i32>) -> Answer {
@@ -87,23 +71,33 @@ fn taken(value: Option<i64>, refusal: Refusal) -> Answer {
 }
 
 // The answer to a question; none where its word is not on the list, or where a field that should be an id is none.
-pub fn answer_to(
-    alloc: Global,
-    word: &[u8],
-    a: &[u8],
-    b: &[u8],
-) -> Result<Option<Answer>, AllocError> {
+pub fn answer_to(alloc: Global, line: &[u8]) -> Result<Option<Answer>, AllocError> {
+    let (Some(word), a, b) = (
+        fields::field(line, 0),
+        fields::field(line, 1),
+        fields::field(line, 2),
+    ) else {
+        return Ok(None);
+    };
     let answer = match word {
-        b"key" => long(a).map(|id| Answer::Key(osm_id::osm_id_key(id))),
+        b"key" => a
+            .and_then(long)
+            .map(|id| Answer::Key(osm_id::osm_id_key(id))),
         b"cmp" => two_ids(a, b).map(|(a, b)| Answer::Order(osm_id::osm_id_cmp(a, b))),
         b"first" => two_ids(a, b).map(|(a, b)| Answer::Key(osm_id::blob_osm_first_key(a, b))),
         b"last" => two_ids(a, b).map(|(a, b)| Answer::Key(osm_id::blob_osm_last_key(a, b))),
-        b"admit" => Some(admit(version(a), version(b))),
-        b"raise" => Some(Answer::Floor(VersionFloor::new(version(a)).raised(version(b)).0)),
-        b"i64" => Some(taken(long(a), Refusal::NotInteger)),
-        b"i32" => Some(taken(short(a).map(i64::from), Refusal::NotInteger)),
-        b"stamp" => Some(taken(stamp(a), Refusal::NotTimestamp)),
-        b"text" => Some(Answer::Text(text::is_text(&fields::bytes_of(alloc, a)?))),
+        b"admit" => Some(admit(a.and_then(short), b.and_then(short))),
+        b"raise" => {
+            let floor = VersionFloor::new(a.and_then(short));
+            Some(Answer::Floor(floor.raised(b.and_then(short)).0))
+        }
+        b"i64" => Some(taken(a.and_then(long), Refusal::NotInteger)),
+        b"i32" => Some(taken(a.and_then(short).map(i64::from), Refusal::NotInteger)),
+        b"stamp" => Some(taken(a.and_then(stamp), Refusal::NotTimestamp)),
+        b"text" => {
+            let bytes = fields::bytes_of(alloc, a.unwrap_or(b""))?;
+            Some(Answer::Text(text::is_text(&bytes)))
+        }
         _ => None,
     };
     Ok(answer)

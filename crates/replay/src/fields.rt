@@ -1,33 +1,35 @@
 // The fields of a question.
-ghost use Rattle.std.specs.Prelude.{◌≡◌, ◌<◌, get_or, []};
+ghost use Rattle.std.specs.Prelude.{◌≡◌, ◌<◌, IfSome, option_map};
+ghost use Rattle.std.specs.List.{slice_get};
 ghost use Rattle.line.specs.Line.{fields};
 
 use std::alloc::{AllocError, Global};
 
-// The field of a line by its number, from 0 on; no bytes where there is none.
-pub fn field(line: &[u8], n: usize) -> &[u8]
-    ensures { result.now ≡ get_or (fields line.now) n [] }
+// The field of a line by its number, from 0 on, if there is one.
+pub fn field(line: &[u8], n: usize) -> Option<&[u8]>
+    ensures { option_map (λ f. f.now) result ≡ slice_get (fields line.now) n }
 {
-    line.split(|b| *b == b'\t').nth(n).unwrap_or(&[])
+    line.split(|b| *b == b'\t').nth(n)
 }
 
-// The number of a hexadecimal digit; 0 for any other byte.
-fn digit(b: u8) -> u8
-    ensures { result < 16 }
+// The value of a hexadecimal digit in lower case. The UTF-8 vectors have theirs in upper case, and neither program takes the other's.
+fn digit(b: u8) -> Option<u8>
+    ensures { IfSome result (λ d. d < 16) }
 {
     match b {
-        b'0'..=b'9' => b - b'0',
-        b'a'..=b'f' => b - b'a' + 10,
-        _ => 0,
+        b'0'..=b'9' => Some(b - b'0'),
+        b'a'..=b'f' => Some(b - b'a' + 10),
+        _ => None,
     }
+}
+
+// The byte that two hexadecimal digits write; 0 stands for what is no digit.
+fn byte([high, low]: &[u8; 2]) -> u8 {
+    digit(*high).unwrap_or(0) * 16 + digit(*low).unwrap_or(0)
 }
 
 // The bytes that pairs of hexadecimal digits write, at most 64 of them.
 pub fn bytes_of(alloc: Global, digits: &[u8]) -> Result<Vec<u8>, AllocError> {
     let (pairs, _) = digits.as_chunks::<2>();
-    pairs
-        .iter()
-        .take(64)
-        .map(|[high, low]| digit(*high) * 16 + digit(*low))
-        .collect(alloc)
+    pairs.iter().take(64).map(byte).collect(alloc)
 }

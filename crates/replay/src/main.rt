@@ -11,11 +11,8 @@ use std::io::Read;
 
 // A question and its answer; a word that is not on the list gets no answer.
 fn whole_line(rt: &(impl AllocGlobal + Print), line: &[u8]) -> io::Result<()> {
-    let word = fields::field(line, 0);
-    let a = fields::field(line, 1);
-    let b = fields::field(line, 2);
     rt.write_all(line)?;
-    if let Some(answer) = answers::answer_to(rt.alloc(), word, a, b)? {
+    if let Some(answer) = answers::answer_to(rt.alloc(), line)? {
         print!(rt; "\t{answer}")?;
     }
     rt.write_all(b"\n")

@@ -1,9 +1,11 @@
 -- The line is short: 44 bytes hold it, whatever the line's number (u64) and the known version (i32).
+use Rattle.std.specs.Prelude.{Some}
 use Prim.Native.Nat.{ℕ, zero, suc, ◌/◌, ◌^◌, ◌<◌, ◌≤◌}
 use mathlib.Core.Path.{◌≡◌}
 use native.Mathlib.Omega.{arith}
 use lib.IntN.{ℤ, pos, negsuc}
-use lib.ListN.{length, length-append}
+use mathlib.Core.List.{◌++◌}
+use lib.ListN.{length, drop, length-append}
 use mir.Syntax.{w32}
 use mir.Val.{SFits}
 use borrow.Author.Tests.{le-leb}
@@ -13,18 +15,10 @@ use Rattle.refusal.specs.Refusal.{number_of, held_of}
 use Rattle.refusal.specs.declared.Refusal.{Refusal}
 use Rattle.line.specs.Line.{tabbed, line}
 use Rattle.line.specs.Decimal.{number_text, integer_text}
-use Rattle.little.specs.Little.{over}
-use Rattle.decimal.proofs.Numbers.{length_one, length_more}
-use Rattle.report.specs.Report.{held_field, refused_line, report_of}
+use Rattle.print.proofs.Pieces.{digits_fit}
+use Rattle.print.specs.Piece.{whole_over}
+use Rattle.report.specs.Report.{held_field, refused_line}
 use Rattle.report.proofs.Refused.{numbered, held_known, held_none}
-
--- a number below a power of ten has at most so many digits
-digits_fit : (k n : ℕ) → n < 10 ^ suc k → length (number_text n) ≤ suc k
-digits_fit zero n h = omega (arith, length_one n (omega arith))
-digits_fit (suc k) n h =
-    by_lt n 10
-    (λ g. omega (arith, length_one n g))
-    (λ g. omega (arith, length_more n g, digits_fit k (n / 10) (omega arith)))
 
 integer_fits : (z : ℤ) → SFits w32 z → length (integer_text z) ≤ 11
 unfolding integer_text
@@ -47,6 +41,7 @@ module _ (r : Refusal) (n : ℕ) (h : n < 2 ^ 64) (f : SFits w32 (held_of r)) wh
       simp length-append (omega arith)
 
   -- so it is written wherever 44 bytes are lent
-  pub refused_whole : (s : Bytes) → 44 ≤ length s → report_of s (refused_line r n) ≡ record { out = over s 0 (refused_line r n); written = length (refused_line r n) }
-  unfolding report_of
+  pub refused_whole : (s : Bytes) → 44 ≤ length s
+      → whole_over s (refused_line r n) ≡ record { out = refused_line r n ++ drop (length (refused_line r n)) s; length = Some (length (refused_line r n)) }
+  unfolding whole_over
   refused_whole s k = rw (le-leb (length (refused_line r n)) (length s) (omega (arith, refused_fits)))

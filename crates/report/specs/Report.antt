@@ -1,13 +1,12 @@
 -- Document 01, "The listing": "Program `roadlist` reads event lines from standard input and prints the listing, or `refused⇥NUMBER⇥LINE⇥HELD`: line from 1 (for 18 and
 -- 19 one past the last), HELD the known version for 12, else `-`."
-use Rattle.std.specs.Prelude.{ℕ, cond, List, [], ◌∷◌, eqb, leb, length}
+use Rattle.std.specs.Prelude.{ℕ, cond, List, [], ◌∷◌, eqb}
 use Rattle.base.specs.Ascii.{ascii}
 use Rattle.base.specs.Bytes.{Bytes}
 use Rattle.refusal.specs.Refusal.{number_of, held_of}
 use Rattle.refusal.specs.declared.Refusal.{Refusal}
 use Rattle.line.specs.Line.{line}
 use Rattle.line.specs.Decimal.{number_text, integer_text}
-use Rattle.little.specs.Little.{over}
 
 -- "HELD the known version for 12, else `-`"
 unfoldable pub held_field : Refusal → Bytes
@@ -19,12 +18,3 @@ refused_fields r n = ascii "refused" ∷ number_text (number_of r) ∷ number_te
 
 unfoldable pub refused_line : Refusal → ℕ → Bytes
 refused_line r n = line (refused_fields r n)
-
--- what is left of lent bytes, and how many are written
-pub record Report : Type 0 where
-  pub out : Bytes
-  pub written : ℕ
-
--- some bytes at the start of those that are lent, or nothing where they do not fit
-unfoldable pub report_of : Bytes → Bytes → Report
-report_of s x = cond (leb (length x) (length s)) (record { out = over s 0 x; written = length x }) (record { out = s; written = 0 })

@@ -2,48 +2,47 @@
 #![tactic(auto)]
 
 ghost use Rattle.std.specs.Prelude.{◌≡◌, [], ◌∷◌};
-ghost use Rattle.print.specs.Print.{print, tab, line_pieces};
-ghost use Rattle.report.specs.Report.{held_field, refused_fields, refused_line, report_of};
+ghost use Rattle.print.specs.Print.{tab, line_pieces};
+ghost use Rattle.print.specs.Piece.{whole_over};
+ghost use Rattle.print.specs.Printer.{Prints};
+ghost use Rattle.report.specs.Report.{held_field, refused_fields, refused_line};
 
+use print::{Escaped, Integer, Printable, Printer};
 use refusal::{Refusal, Reply};
 
 // A tab and HELD: the known version for 12, else `-`.
-fn put_held(out: &mut [u8], cap: usize, room: Option<usize>, refusal: Refusal) -> Option<usize>
-    ensures { record { out = out.new; room = result } ≡ print cap (tab ∷ held_field refusal ∷ []) (record { out = out.old; room = room }) }
+fn put_held(printer: &mut Printer<'_>, refusal: Refusal)
+    ensures { Prints (tab ∷ held_field refusal ∷ []) printer.old printer.new }
 {
-    if let Refusal::Regression(known) = refusal {
-        return print::put_integer32(out, cap, room, signed::bits_of_i32(known));
+    match refusal {
+        Refusal::Regression(known) => printer.put(&Integer::from(known)),
+        _ => printer.put(&Escaped(b"-")),
     }
-    let room = print::put_bytes(out, cap, room, b"\t");
-    print::put_bytes(out, cap, room, b"-")
 }
 
-// The line, piece by piece.
-fn put_line(
-    out: &mut [u8],
-    cap: usize,
-    room: Option<usize>,
+// The line of a refusal, at so many lines.
+#[derive(Clone, Copy)]
+struct RefusedLine {
     refusal: Refusal,
     line: u64,
-) -> Option<usize>
-    ensures { record { out = out.new; room = result } ≡ print cap (line_pieces (refused_fields refusal line)) (record { out = out.old; room = room }) }
-{
-    let reply = Reply::from(refusal);
-    let room = print::put_bytes(out, cap, room, b"refused");
-    let room = print::put_number(out, cap, room, reply.number as u64);
-    let room = print::put_number(out, cap, room, line);
-    let room = put_held(out, cap, room, refusal);
-    print::put_bytes(out, cap, room, b"\n")
 }
 
-// The line at the start of what is lent, where it fits; else nothing is written. The answer is how many bytes are.
-pub fn put_refused(out: &mut [u8], refusal: Refusal, line: u64) -> usize
-    ensures { record { out = out.new; written = result } ≡ report_of out.old (refused_line refusal line) }
+impl Printable for RefusedLine {
+    ghost pieces = { λ refused. line_pieces (refused_fields refused.refusal refused.line) };
+
+    fn print(&self, printer: &mut Printer<'_>) {
+        let reply = Reply::from(self.refusal);
+        printer.put_bytes(b"refused");
+        printer.put(&u64::from(reply.number));
+        printer.put(&self.line);
+        put_held(printer, self.refusal);
+        printer.put_bytes(b"\n");
+    }
+}
+
+// The line at the start of what is lent, where it fits: its length. Else nothing is written.
+pub fn put_refused(out: &mut [u8], refusal: Refusal, line: u64) -> Option<usize>
+    ensures { record { out = out.new; length = result } ≡ whole_over out.old (refused_line refusal line) }
 {
-    let cap = out.len();
-    let Some(left) = put_line(&mut out[cap..], cap, Some(cap), refusal, line) else {
-        return 0;
-    };
-    put_line(out, cap, Some(cap), refusal, line);
-    cap - left
+    print::print_whole(&RefusedLine { refusal, line }, out)
 }

@@ -1,6 +1,6 @@
 -- The start, a last line, and what is printed: each step of the code by its definition.
 use Rattle.reader.specs.declared.RefusedAt.{RefusedAt}
-use Rattle.std.specs.Prelude.{Err, None, Ok, Result, Some}
+use Rattle.std.specs.Prelude.{Option, Err, None, Ok, Result, Some}
 use Prim.Native.Nat.{ℕ, ◌+◌, ◌^◌, ◌<◌, ◌≤◌}
 use mathlib.Core.Path.{◌≡◌, refl, sym, ◌∙◌, ap, subst}
 use mathlib.Core.Bool.{true, false}
@@ -29,8 +29,10 @@ use Rattle.overlay.proofs.Tiles.{fits_in}
 use Rattle.overlay.proofs.Answers.{by_set_up}
 use Rattle.input_lines.specs.Lines.{last_line}
 use Rattle.listing.specs.Call.{Output, page_of, page_over, listing_on, not_listed}
-use Rattle.report.specs.Report.{Report, refused_line, report_of}
-use Rattle.report.proofs.Fits.{refused_fits, refused_whole}
+use Rattle.std.specs.Option.{unwrap_or}
+use Rattle.print.specs.Piece.{Whole, whole_over}
+use Rattle.report.specs.Report.{refused_line}
+use Rattle.report.proofs.Fits.{refused_whole}
 use Rattle.reader.specs.State.{State, fresh_reader, state_sound, reader_sound, refusal_at}
 use Rattle.reader.specs.declared.EventReader.{EventReader}
 use Rattle.reader.specs.Event.{EventResult, event_on, end_on}
@@ -90,14 +92,13 @@ last_lent f = rw (take-length (kept_line f)) refl
 
 -- the line of a refusal is at the start of the output
 pub refused_put : (out : Bytes) → length out ≡ 65536 → (r : Refusal) (n : ℕ) → n < 2 ^ 64 → (y : Reply) → SFits w32 y.held → y ≡ reply_of r
-    → (q : Bytes) (m : ℕ) → ◌≡◌ {A = Report} (record { out = q; written = m }) (report_of out (refused_line r n))
-    → ◌≡◌ {A = EndOutput} (record { out = q; written = m; refusal = Some r }) (end_output out (refused_ending r n))
+    → (q : Bytes) (m : Option ℕ) → ◌≡◌ {A = Whole} (record { out = q; length = m }) (whole_over out (refused_line r n))
+    → ◌≡◌ {A = EndOutput} (record { out = q; written = unwrap_or m 0; refusal = Some r }) (end_output out (refused_ending r n))
 unfolding reply_of
 refused_put out l r n h y g k q m e =
     let f : SFits w32 (held_of r) = subst (λ (z : Reply). SFits w32 z.held) k g in
     let w = e ∙ refused_whole r n h f out (omega arith) in
-    let o : q ≡ refused_line r n ++ drop (length (refused_line r n)) out = ap (λ (z : Report). z.out) w ∙ over_start out (refused_line r n) (omega (arith, refused_fits r n h f)) in
-    λ i. record { out = o i; written = (w i).written; refusal = Some r }
+    λ i. record { out = (w i).out; written = unwrap_or (w i).length 0; refusal = Some r }
 
 module _ (out : Bytes) (l : length out ≡ 65536) (o : Overlay) (s : is_sound o ≡ true) (lines : ℕ) where
   -- 19 is the only refusal of the listing

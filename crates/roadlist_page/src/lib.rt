@@ -1,8 +1,8 @@
 // What the program `roadlist` prints: the listing or the `refused` line, at the end of its input. Before that pieces are taken in (crate `input_pieces`).
 #![tactic(auto)]
 
-ghost use Rattle.std.specs.Prelude.{◌≡◌, true, ◌≤◌, ◌<◌, min, length};
-ghost use Rattle.overlay.specs.Lent.{overlay_in, lent, left, lent_for};
+ghost use Rattle.std.specs.Prelude.{◌≡◌, true, ◌<◌, min, length};
+ghost use Rattle.overlay.specs.Lent.{left, lent_for, overlay_seen};
 ghost use Rattle.overlay.specs.Sound.{is_sound};
 ghost use Rattle.reader.specs.Lent.{state_lent, state_left};
 ghost use Rattle.reader.specs.State.{fresh_reader};
@@ -15,6 +15,7 @@ use event_scan::MAX_LINE;
 use input_pieces::Fed;
 use kind::Kind;
 use nesting::{Action, Level, Place};
+use overlay::Storage;
 use overlay_blocks::{COUNTERS, KindSize, Sizes};
 use reader::{EventReader, Pending};
 use reader_stage::STAGED;
@@ -100,48 +101,41 @@ fn take_last(
     if last.is_empty() {
         return reader;
     }
-    let done = reader_calls::event(words, bytes, counters, ps, reader, last);
-    done.reader
+    let mut reader = reader;
+    // a refusal stands in the reader's stop mark
+    let _ = reader_calls::event(words, bytes, counters, ps, &mut reader, last);
+    reader
 }
 
 // What is printed at the end: how many bytes of the output, and the refusal that they tell, none where they are the listing.
-#[derive(Clone, Copy)]
+#[derive(Clone, Copy, PartialEq, Eq, Debug)]
 pub struct Ended {
     pub written: usize,
     pub refusal: Option<Refusal>,
 }
 
-// The line of a refusal at the start of the output.
-fn put_refusal(out: &mut [u8], refusal: Refusal, line: u64) -> Ended
-    requires { length out.old ≡ 65536 }
+// The line of a refusal at the start of the output. It is short, so it fits.
+fn put_refusal(out: &mut [u8; 65536], refusal: Refusal, line: u64) -> Ended
     ensures { record { out = out.new; written = result.written; refusal = result.refusal } ≡ end_output out.old (refused_ending refusal line) }
 {
     // read for the proof alone: the version held is an `i32`, so the line fits the output
     let _reply = Reply::from(refusal);
-    let written = report::put_refused(out, refusal, line);
     Ended {
-        written,
+        written: report::put_refused(out, refusal, line).unwrap_or(0),
         refusal: Some(refusal),
     }
 }
 
 // The listing, or 19.
-fn put_page(
-    words: &[u64],
-    bytes: &[u8],
-    counters: &[u64; COUNTERS],
-    out: &mut [u8],
-    lines: u64,
-) -> Ended
-    requires counters_value { is_sound (overlay_in words.now bytes.now counters.now) ≡ true }
+fn put_page(storage: &Storage<'_>, out: &mut [u8; 65536], lines: u64) -> Ended
+    requires counters_value { is_sound (overlay_seen storage.now) ≡ true }
     requires lines_bound { lines < 18446744073709551615 }
-    requires out_len { length out.old ≡ 65536 }
     ensures { record { out = out.new; written = result.written; refusal = result.refusal }
-        ≡ end_output out.old (page_ending (lent words.now bytes.now counters.now) lines) }
+        ≡ end_output out.old (page_ending (overlay_seen storage.now) lines) }
 {
-    match listing::list(words, bytes, counters, out) {
-        Ok(n) => Ended {
-            written: n,
+    match listing::list(storage, out) {
+        Ok(written) => Ended {
+            written,
             refusal: None,
         },
         Err(refusal) => put_refusal(out, refusal, lines + 1),
@@ -150,19 +144,16 @@ fn put_page(
 
 // What the end answers: its refusal, or the page.
 fn put_end(
-    words: &[u64],
-    bytes: &[u8],
-    counters: &[u64; COUNTERS],
+    storage: &Storage<'_>,
     ps: &[u8; STAGED],
     reader: EventReader,
-    out: &mut [u8],
+    out: &mut [u8; 65536],
 ) -> Ended
-    requires { length out.old ≡ 65536 }
     ensures { record { out = out.new; written = result.written; refusal = result.refusal }
-        ≡ end_output out.old (ending_at (state_lent words.now bytes.now counters.now ps.now reader)) }
+        ≡ end_output out.old (ending_at (state_lent storage.now.words.now storage.now.bytes.now storage.now.counters.now ps.now reader)) }
 {
-    match reader_calls::end(words, bytes, counters, ps, reader) {
-        Ok(()) => put_page(words, bytes, counters, out, reader.lines),
+    match reader_calls::end(storage.words, storage.bytes, storage.counters, ps, reader) {
+        Ok(()) => put_page(storage, out, reader.lines),
         Err(at) => put_refusal(out, at.refusal, at.line),
     }
 }
@@ -186,5 +177,10 @@ pub fn finish(
 {
     let held = little::lesser(fed.held, MAX_LINE);
     let reader = take_last(words, bytes, counters, ps, fed.reader, &buffer[..held]);
-    put_end(words, bytes, counters, ps, reader, out)
+    let storage = Storage {
+        words,
+        bytes,
+        counters,
+    };
+    put_end(&storage, ps, reader, out)
 }

@@ -28,7 +28,7 @@ pub struct Found {
 fn key_of(id: u64) -> OsmIdKey
     ensures { result ≡ osm_key_of (to_z w64 id) }
 {
-    osm_id::osm_id_key(signed::i64_of_bits(id))
+    osm_id::osm_id_key(id.cast_signed())
 }
 
 // Whether an id, given in bits, has a key smaller than a key or, with `through`, not larger.

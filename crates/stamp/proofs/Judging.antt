@@ -1,7 +1,7 @@
 -- Laws of the tests on a moment.
 use Prim.Native.Nat.{ℕ, ◌<◌, ◌≤◌}
-use mathlib.Core.Path.{◌≡◌, refl}
-use mathlib.Core.Bool.{Bool, true, false, ◌&&◌}
+use mathlib.Core.Path.{◌≡◌}
+use mathlib.Core.Bool.{true, false}
 use lib.Dec.{leb}
 use borrow.Author.Tests.{le-leb, lt-leb, leb-true}
 use Rattle.base.specs.Bytes.{both}
@@ -9,12 +9,6 @@ use Rattle.base.proofs.Split.{both_left, both_right, both_no_left, both_no_right
 use Rattle.calendar.specs.Calendar.{leap, month_days}
 use Rattle.stamp.specs.Stamp.{taken_moment}
 use Rattle.stamp.specs.declared.Moment.{Moment}
-
--- the code's `&` of two tests
-pub and_both : (a b : Bool) → (a && b) ≡ both a b
-unfolding both
-and_both true b = refl
-and_both false b = refl
 
 module _ (m : Moment) where
   pub before_month : m.month < 1 → taken_moment m ≡ false

@@ -17,21 +17,23 @@ use Rattle.stamp.specs.declared.Moment.{Moment}
 -- ---- a field
 
 -- at most four digits write no number above 9999
-pub field_small : (s : Bytes) (from count : ℕ) {n : ℕ} → count ≤ 4 → stamp_field s from count ≡ Some n → n ≤ 9999
-unfolding stamp_field
-field_small s from count {n} l e =
-    let short : length (take count (drop from s)) ≤ 4 = simp length-take (omega arith) in
-    let few : n < 10 ^ 4 = lt_of_lt_of_le (digits_below (take count (drop from s)) e) (pow-le-pow_right (omega arith) short) in
+few_small : (s : Bytes) {n : ℕ} → length s ≤ 4 → digits s ≡ Some n → n ≤ 9999
+few_small s {n} l e =
+    let few : n < 10 ^ 4 = lt_of_lt_of_le (digits_below s e) (pow-le-pow_right (omega arith) l) in
     omega arith
 
+pub field_small : (s : Bytes) (from count : ℕ) {n : ℕ} → count ≤ 4 → stamp_field s from count ≡ Some n → n ≤ 9999
+unfolding stamp_field
+field_small s from count l e = few_small (take count (drop from s)) (simp length-take (omega arith)) e
+
 -- so the reader of numbers up to 9999 gives the field
-pub field_read : (s : Bytes) (from count : ℕ) → count ≤ 4 → at_most 9999 (digits (take count (drop from s))) ≡ stamp_field s from count
-unfolding stamp_field at_most
-field_read s from count l = go (digits (take count (drop from s))) refl
+pub field_read : (s : Bytes) → length s ≤ 4 → at_most 9999 (digits s) ≡ digits s
+unfolding at_most
+field_read s l = go (digits s) refl
   where
-    go : (o : Option ℕ) → stamp_field s from count ≡ o → at_most 9999 o ≡ o
+    go : (o : Option ℕ) → digits s ≡ o → at_most 9999 o ≡ o
     go None e = refl
-    go (Some n) e = rw (le-leb n 9999 (field_small s from count l e))
+    go (Some n) e = rw (le-leb n 9999 (few_small s l e))
 
 -- ---- the fields in their order: the first that is not digits, or all six
 

@@ -4,10 +4,11 @@
 ghost use Rattle.std.specs.Prelude.{◌≡◌, ◌+◌, ◌-◌, ◌≤◌, length, pos, ◌-ℤ◌, true, option_map};
 ghost use Rattle.std.specs.Int.{w64};
 ghost use Rattle.std.proofs.Common.{of_z};
-ghost use Rattle.stamp.specs.Stamp.{stamp_field, separated, moment, taken_moment, days_of, epoch, seconds_of, accepted_moment, stamp_of};
+ghost use Rattle.integer.specs.Integer.{digits};
+ghost use Rattle.stamp.specs.Stamp.{separated, moment, taken_moment, days_of, epoch, seconds_of, accepted_moment, stamp_of};
 
 // The six numbers of a stamp.
-#[derive(Clone, Copy)]
+#[derive(Clone, Copy, PartialEq, Eq, Debug)]
 pub struct Moment {
     pub year: u32,
     pub month: u32,
@@ -17,13 +18,13 @@ pub struct Moment {
     pub second: u32,
 }
 
-// A field of a stamp, of at most four bytes.
-fn stamp_field(s: &[u8], from: usize, to: usize) -> Option<u32>
-    requires { (from ≤ to) × ((to ≤ from + 4) × (to ≤ length s.now)) }
-    ensures { result ≡ stamp_field s.now from (to - from) }
+// The number of a field of a stamp, of at most four bytes.
+fn stamp_field(field: &[u8]) -> Option<u32>
+    requires { length field.now ≤ 4 }
+    ensures { result ≡ digits field.now }
 {
-    let n = integer::read_digits(&s[from..to], 9999)?;
-    Some(n as u32)
+    let n = integer::read_digits(field, 9999)?;
+    u32::try_from(n).ok()
 }
 
 // The separators of a text of 20 bytes.
@@ -31,8 +32,8 @@ fn separated(s: &[u8]) -> bool
     requires { length s.now ≡ 20 }
     ensures { result ≡ separated s.now }
 {
-    let time = (s[13] == 58) & ((s[16] == 58) & (s[19] == 90));
-    (s[4] == 45) & ((s[7] == 45) & ((s[10] == 84) & time))
+    let time = (s[13] == b':') & ((s[16] == b':') & (s[19] == b'Z'));
+    (s[4] == b'-') & ((s[7] == b'-') & ((s[10] == b'T') & time))
 }
 
 fn read_six(s: &[u8]) -> Option<Moment>
@@ -40,12 +41,12 @@ fn read_six(s: &[u8]) -> Option<Moment>
     ensures { result ≡ moment s.now }
 {
     Some(Moment {
-        year: stamp_field(s, 0, 4)?,
-        month: stamp_field(s, 5, 7)?,
-        day: stamp_field(s, 8, 10)?,
-        hour: stamp_field(s, 11, 13)?,
-        minute: stamp_field(s, 14, 16)?,
-        second: stamp_field(s, 17, 19)?,
+        year: stamp_field(&s[0..4])?,
+        month: stamp_field(&s[5..7])?,
+        day: stamp_field(&s[8..10])?,
+        hour: stamp_field(&s[11..13])?,
+        minute: stamp_field(&s[14..16])?,
+        second: stamp_field(&s[17..19])?,
     })
 }
 
@@ -64,6 +65,7 @@ fn taken(m: Moment) -> bool
 }
 
 // The days from the first day of year 0 to the moment's date.
+#[tactic(auto, using(crate::proofs::Judging::moment_ranges, crate::proofs::Counting::days_high, crate::proofs::Counting::days_are))]
 fn days(m: Moment) -> u64
     requires { taken_moment m ≡ true }
     ensures { result ≡ days_of m }
@@ -78,12 +80,10 @@ const EPOCH: u64 = 62_167_219_200;
 fn since_epoch(total: u64) -> u64
     ensures { result ≡ of_z w64 (pos total -ℤ pos epoch) }
 {
-    if EPOCH <= total {
-        return total - EPOCH;
-    }
-    0xffff_ffff_ffff_ffff - (EPOCH - total - 1)
+    total.wrapping_sub(EPOCH)
 }
 
+#[tactic(auto, using(crate::proofs::Judging::moment_ranges, crate::proofs::Counting::days_high))]
 fn seconds(m: Moment) -> u64
     requires { taken_moment m ≡ true }
     ensures { result ≡ of_z w64 (seconds_of m) }
@@ -102,6 +102,7 @@ fn accepted(s: &[u8]) -> Option<u64>
     None
 }
 
+// The bits of a stamp's seconds, if it is one. It is no `FromStr`: it keeps its published name, and takes bytes.
 pub fn parse_rfc3339_utc(s: &[u8]) -> Option<u64>
     ensures { result ≡ stamp_of s.now }
 {

@@ -8,8 +8,8 @@ ghost use Rattle.tag_walk.specs.Walk.{two_of};
 
 use compact::{CompactTagIter, TagPart};
 use kind::Kind;
-use refusal::Refusal;
-use std::io;
+use refusal::{Refusal, Reply};
+use std::{fmt, io};
 use version_floor::VersionFloor;
 
 // What a floor is once a claim has raised it.
@@ -29,27 +29,39 @@ fn two_steps(kind: Kind, bytes: &[u8]) -> [Result<Option<TagPart>, Refusal>; 2]
     [tags.next(), tags.next()]
 }
 
-fn print_step(rt: &impl Print, step: Result<Option<TagPart>, Refusal>) -> io::Result<()> {
-    match step {
-        Ok(Some(tag)) => println!(rt; "{} at {} length {}", tag.key, tag.start, tag.len),
-        Ok(None) => println!(rt; "none"),
-        Err(_) => println!(rt; "{}", compact::unsound_number()),
+// A step as a line shows it: a tag, none, or the number of its refusal.
+#[derive(Clone, Copy, PartialEq, Eq, Debug)]
+struct Shown(Result<Option<TagPart>, Refusal>);
+
+impl fmt::Display for Shown {
+    fn fmt<W: fmt::Write>(&self, f: &mut fmt::Formatter<W>) -> fmt::Result {
+        match self.0 {
+            Ok(Some(tag)) => write!(f, "{} at {} length {}", tag.key, tag.start, tag.len),
+            Ok(None) => write!(f, "none"),
+            Err(refusal) => write!(f, "{}", Reply::from(refusal).number),
+        }
+    }
+}
+
+// A floor as a line shows it.
+#[derive(Clone, Copy, PartialEq, Eq, Debug)]
+struct Floor(Option<i32>);
+
+impl fmt::Display for Floor {
+    fn fmt<W: fmt::Write>(&self, f: &mut fmt::Formatter<W>) -> fmt::Result {
+        match self.0 {
+            Some(version) => write!(f, "floor {version}"),
+            None => write!(f, "floor none"),
+        }
     }
 }
 
 fn print_steps(rt: &impl Print, name: &str, kind: Kind, bytes: &[u8]) -> io::Result<()> {
     println!(rt; "{name}")?;
     for step in two_steps(kind, bytes) {
-        print_step(rt, step)?;
+        println!(rt; "{}", Shown(step))?;
     }
     Ok(())
-}
-
-fn print_raised(rt: &impl Print, highest: Option<i32>, claim: Option<i32>) -> io::Result<()> {
-    match raised_to(highest, claim) {
-        Some(n) => println!(rt; "floor {n}"),
-        None => println!(rt; "floor none"),
-    }
 }
 
 // A node with two tags, keys 7 and 9.
@@ -105,7 +117,7 @@ fn main(rt: HostRuntime) -> io::Result<()> {
         (Some(5), None),
     ];
     for (highest, claim) in raises {
-        print_raised(&rt, highest, claim)?;
+        println!(&rt; "{}", Floor(raised_to(highest, claim)))?;
     }
     Ok(())
 }

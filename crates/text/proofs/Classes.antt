@@ -4,17 +4,18 @@ use mathlib.Core.Path.{◌≡◌, sym, ◌∙◌, ap}
 use mathlib.Core.Bool.{true, false, cond}
 use mathlib.Core.List.{◌∷◌}
 use native.Mathlib.Omega.{arith}
-use lib.Dec.{eqb}
-use lib.ListN.{length, drop}
-use lib.Seq.{drop-cons, get_or-drop}
+use lib.Dec.{eqb, leb}
+use lib.ListN.{length, drop, get_or-eq_default}
 use native.Mathlib.Nat.{add-zero}
+use lib.Seq.{drop-cons, get_or-drop}
 use borrow.Author.Tests.{lt-ltb, le-ltb}
-use Rattle.base.specs.Bytes.{Bytes}
+use Rattle.std.specs.Prelude.{Some, None}
+use Rattle.base.specs.Bytes.{Bytes, both}
 use Rattle.base.proofs.Split.{by_lt, by_bool, no}
 use Rattle.text.specs.Char.{xml_char, utf8}
-use Rattle.text.specs.Check.{byte_at, joined_bits, decoded, char_len, sized, class_of, Starting}
+use Rattle.text.specs.Check.{byte_at, joined_bits, decoded, char_len, sized, class_of, Starting, Measured}
 use Rattle.text.proofs.Xml.{legal_low, legal_middle, legal_high, legal_top}
-use Rattle.text.proofs.Chars.{utf8_1, utf8_2, utf8_3, utf8_4, by_size, join_most, point_1, point_2, point_3, point_4}
+use Rattle.text.proofs.Chars.{utf8_1, utf8_2, utf8_3, utf8_4, by_size, join_most, join_below, point_1, point_2, point_3, point_4}
 use Rattle.text.proofs.Lengths.{char_len_lem, sized_low, len_illegal, len_2, len_3, len_4, len_beyond}
 
 module _ (b : ℕ) where
@@ -150,39 +151,63 @@ len_none s e =
     (λ l u d. no (omega arith))
     (λ l d. len_beyond s l)
 
--- what the code reads at a place of a run
+-- what the code reads at a place of a run, by the class of the byte there
 there : (s : Bytes) (at i : ℕ) → byte_at (drop at s) i ≡ byte_at s (at + i)
 there s at i = get_or-drop at s i 0
 
-first : {s : Bytes} {at b k : ℕ} → Starting s at b k → byte_at (drop at s) 0 ≡ b
-first {s} {at} h = there s at 0 ∙ rw add-zero (sym h.byte)
+first : (s : Bytes) (at : ℕ) → byte_at (drop at s) 0 ≡ byte_at s at
+first s at = there s at 0 ∙ rw add-zero
 
-pub at_none : {s : Bytes} {at b k : ℕ} → Starting s at b k → k ≡ 0 → char_len (drop at s) ≡ 0
-at_none {s} {at} h e = len_none (drop at s) (rw (first h) (cc h.class))
+module _ {s : Bytes} {at : ℕ} where
+  pub at_none : Starting s at 0 → char_len (drop at s) ≡ 0
+  at_none h = len_none (drop at s) (rw (first s at) (sym h.class))
 
-pub at_1 : {s : Bytes} {at b k : ℕ} → Starting s at b k → k ≡ 1 → char_len (drop at s) ≡ 1
-at_1 {s} {at} h e = rw (drop-cons s at 0 h.inside) (len_one (byte_at s at) (drop (suc at) s) (cc (h.byte, h.class)))
+  pub at_1 : {k : ℕ} → Starting s at k → k ≡ 1 → char_len (drop at s) ≡ 1
+  at_1 h e = rw (drop-cons s at 0 h.inside) (len_one (byte_at s at) (drop (suc at) s) (sym h.class ∙ e))
 
-pub at_2 : {s : Bytes} {at b : ℕ} → Starting s at b 2 → char_len (drop at s) ≡ sized 2 0x80 (joined_bits (b % 32) (byte_at s (at + 1)))
-at_2 {s} {at} {b} h =
-    let r = class_range b 2 h.class (omega arith) in
-    let m : b - 0xc0 ≡ b % 32 = omega arith in
-    let l : 0x80 ≤ byte_at (drop at s) 0 = rw (first h) (omega arith) in
-    let u : byte_at (drop at s) 0 < 0xe0 = rw (first h) (omega arith) in
-    len_2 (drop at s) l u ∙ ap (sized 2 0x80) (point_2 (drop at s) l u ∙ rw (first h, there s at 1, m))
+  pub at_2 : Starting s at 2 → char_len (drop at s) ≡ sized 2 0x80 (joined_bits (byte_at s at % 32) (byte_at s (at + 1)))
+  at_2 h =
+      let r = class_range (byte_at s at) 2 h.class (omega arith) in
+      let m : byte_at s at - 0xc0 ≡ byte_at s at % 32 = omega arith in
+      let l : 0x80 ≤ byte_at (drop at s) 0 = rw (first s at) (omega arith) in
+      let u : byte_at (drop at s) 0 < 0xe0 = rw (first s at) (omega arith) in
+      len_2 (drop at s) l u ∙ ap (sized 2 0x80) (point_2 (drop at s) l u ∙ rw (first s at, there s at 1, m))
 
-pub at_3 : {s : Bytes} {at b : ℕ} → Starting s at b 3 → char_len (drop at s) ≡ sized 3 0x800 (joined_bits (joined_bits (b % 16) (byte_at s (at + 1))) (byte_at s (at + 2)))
-at_3 {s} {at} {b} h =
-    let r = class_range b 3 h.class (omega arith) in
-    let m : b - 0xe0 ≡ b % 16 = omega arith in
-    let l : 0xe0 ≤ byte_at (drop at s) 0 = rw (first h) (omega arith) in
-    let u : byte_at (drop at s) 0 < 0xf0 = rw (first h) (omega arith) in
-    len_3 (drop at s) l u ∙ ap (sized 3 0x800) (point_3 (drop at s) l u ∙ rw (first h, there s at 1, there s at 2, m))
+  pub at_3 : Starting s at 3 → char_len (drop at s) ≡ sized 3 0x800 (joined_bits (joined_bits (byte_at s at % 16) (byte_at s (at + 1))) (byte_at s (at + 2)))
+  at_3 h =
+      let r = class_range (byte_at s at) 3 h.class (omega arith) in
+      let m : byte_at s at - 0xe0 ≡ byte_at s at % 16 = omega arith in
+      let l : 0xe0 ≤ byte_at (drop at s) 0 = rw (first s at) (omega arith) in
+      let u : byte_at (drop at s) 0 < 0xf0 = rw (first s at) (omega arith) in
+      len_3 (drop at s) l u ∙ ap (sized 3 0x800) (point_3 (drop at s) l u ∙ rw (first s at, there s at 1, there s at 2, m))
 
-pub at_4 : {s : Bytes} {at b : ℕ} → Starting s at b 4
-    → char_len (drop at s) ≡ sized 4 0x10000 (joined_bits (joined_bits (joined_bits (b % 8) (byte_at s (at + 1))) (byte_at s (at + 2))) (byte_at s (at + 3)))
-at_4 {s} {at} {b} h =
-    let r = class_range b 4 h.class (omega arith) in
-    let m : b - 0xf0 ≡ b % 8 = omega arith in
-    let l : 0xf0 ≤ byte_at (drop at s) 0 = rw (first h) (omega arith) in
-    len_4 (drop at s) l ∙ ap (sized 4 0x10000) (point_4 (drop at s) l ∙ rw (first h, there s at 1, there s at 2, there s at 3, m))
+  pub at_4 : Starting s at 4
+      → char_len (drop at s) ≡ sized 4 0x10000 (joined_bits (joined_bits (joined_bits (byte_at s at % 8) (byte_at s (at + 1))) (byte_at s (at + 2))) (byte_at s (at + 3)))
+  at_4 h =
+      let r = class_range (byte_at s at) 4 h.class (omega arith) in
+      let m : byte_at s at - 0xf0 ≡ byte_at s at % 8 = omega arith in
+      let l : 0xf0 ≤ byte_at (drop at s) 0 = rw (first s at) (omega arith) in
+      len_4 (drop at s) l ∙ ap (sized 4 0x10000) (point_4 (drop at s) l ∙ rw (first s at, there s at 1, there s at 2, there s at 3, m))
+
+  -- bits that are too few for a character of the class
+  pub stops_2 : Starting s at 2 → joined_bits (byte_at s at % 32) (byte_at s (at + 1)) < 0x80 → char_len (drop at s) ≡ 0
+  stops_2 h l = at_2 h ∙ sized_low 2 0x80 _ l
+
+  pub stops_3 : Starting s at 3 → joined_bits (joined_bits (byte_at s at % 16) (byte_at s (at + 1))) (byte_at s (at + 2)) < 0x800 → char_len (drop at s) ≡ 0
+  stops_3 h l = at_3 h ∙ sized_low 3 0x800 _ l
+
+  pub stops_4 : Starting s at 4
+      → joined_bits (joined_bits (joined_bits (byte_at s at % 8) (byte_at s (at + 1))) (byte_at s (at + 2))) (byte_at s (at + 3)) < 0x10000 → char_len (drop at s) ≡ 0
+  stops_4 h l = at_4 h ∙ sized_low 4 0x10000 _ l
+
+-- what the code answers, as a test of the code point
+pub measured : (s : Bytes) (k least v : ℕ) → 0 < k → char_len s ≡ sized k least v → Measured s (cond (both (leb least v) (xml_char v)) (Some k) None)
+unfolding sized
+measured s k least v l e =
+    by_bool (both (leb least v) (xml_char v))
+    (λ t. rw t (l, let d : char_len s ≡ k = rw t at e in sym d))
+    (λ t. rw t (rw t at e))
+
+-- past the end stands no byte that continues a character
+pub join_past : (v : ℕ) (s : Bytes) (i : ℕ) → length s ≤ i → joined_bits v (byte_at s i) ≡ 0
+join_past v s i h = rw (get_or-eq_default s 0 h) (join_below v 0 (omega arith))

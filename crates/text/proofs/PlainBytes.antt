@@ -2,12 +2,14 @@
 use Prim.Native.Nat.{ℕ, ◌+◌, ◌<◌, ◌≤◌}
 use mathlib.Core.Path.{◌≡◌, refl}
 use mathlib.Core.Bool.{Bool, true, false, ◌&&◌, ◌||◌}
+use mathlib.Core.List.{[], ◌∷◌}
 use native.Mathlib.Numerals.{add-one}
 use native.Mathlib.Omega.{arith}
 use lib.Dec.{leb, eqb}
 use lib.ListN.{length, get_or, drop, drop_of_length-le}
 use lib.Seq.{drop-cons}
 use borrow.Author.Tests.{leb-true, eqb-true}
+use Rattle.std.specs.List.{fold}
 use Rattle.base.specs.Bytes.{Bytes, both, either, all}
 use Rattle.base.proofs.Split.{both_left, both_right, by_either}
 use Rattle.base.proofs.Lists.{all_nil}
@@ -17,7 +19,15 @@ use Rattle.text.proofs.Texts.{all_imp, text_plain, plain_of}
 
 -- ---- a pass over a run
 
--- the bytes before a place passed where ok is true; those from the place on decide the rest
+-- a test taken together with what the bytes before it passed
+pub fold_all : (p : ℕ → Bool) (s : Bytes) (ok : Bool) → fold (λ o b. o && p b) ok s ≡ both ok (all p s)
+unfolding both all
+fold_all p [] true = refl
+fold_all p [] false = refl
+fold_all p (b ∷ s) true = fold_all p s (p b)
+fold_all p (b ∷ s) false = fold_all p s false
+
+-- the same pass in a loop: the bytes before a place passed where ok is true; those from the place on decide the rest
 module _ (p : ℕ → Bool) (s : Bytes) where
   pub pass_on : (ok : Bool) (i : ℕ) → i < length s → both (ok && p (get_or s i 0)) (all p (drop (i + 1) s)) ≡ both ok (all p (drop i s))
   unfolding both all

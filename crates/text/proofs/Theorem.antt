@@ -80,12 +80,12 @@ pub turn_ends : (s : Bytes) (at : ℕ) → length s ≤ at → is_text (drop at 
 turn_ends s at h = rw (drop_of_length-le s h) text_nil
 
 -- a turn of the check at a place of a run
-module _ (s : Bytes) (at n : ℕ) (e : n ≡ char_len (drop at s)) where
-  pub turn_within : at ≤ length s → at + n ≤ length s
-  turn_within h = omega (arith, len_within (drop at s), length-drop at s)
+module _ (s : Bytes) (at : ℕ) where
+  pub turn_within : {n : ℕ} → n ≡ char_len (drop at s) → at ≤ length s → at + n ≤ length s
+  turn_within e h = omega (arith, len_within (drop at s), length-drop at s)
 
-  pub turn_goes : 0 < n → is_text (drop (at + n) s) ≡ is_text (drop at s)
-  turn_goes h = rw (← drop-drop n at s, e) (sym (goes (drop at s) (omega arith)))
+  pub turn_goes : {n : ℕ} → n ≡ char_len (drop at s) → 0 < n → is_text (drop (at + n) s) ≡ is_text (drop at s)
+  turn_goes {n} e h = rw (← drop-drop n at s, e) (sym (goes (drop at s) (omega arith)))
 
-  pub turn_stops : at < length s → n ≡ 0 → is_text (drop at s) ≡ false
-  turn_stops h z = stops (drop at s) (omega (arith, length-drop at s)) (omega arith)
+  pub turn_stops : at < length s → char_len (drop at s) ≡ 0 → is_text (drop at s) ≡ false
+  turn_stops h e = stops (drop at s) (omega (arith, length-drop at s)) e

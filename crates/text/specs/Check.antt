@@ -1,5 +1,5 @@
 -- The text check as a test, and the rule of its table of classes.
-use Rattle.std.specs.Prelude.{ℕ, zero, suc, ◌+◌, ◌-◌, ◌*◌, ◌<◌, ◌≡◌, Bool, true, cond, [], ◌∷◌, ltb, leb, eqb, length, get_or, take}
+use Rattle.std.specs.Prelude.{ℕ, zero, suc, ◌+◌, ◌-◌, ◌*◌, ◌<◌, ◌≡◌, Bool, true, cond, [], ◌∷◌, ltb, leb, eqb, length, get_or, take, Option, Some, None}
 use Rattle.base.specs.Bytes.{Bytes, both, either, same}
 use Rattle.base.specs.Chars.{horizontal_tab}
 use Rattle.text.specs.Char.{from_to, xml_char, utf8}
@@ -63,8 +63,12 @@ is_plain b = either (eqb b horizontal_tab) (from_to 0x20 0x7e b)
 unfoldable pub sized : ℕ → ℕ → ℕ → ℕ
 sized k least v = cond (both (leb least v) (xml_char v)) k 0
 
--- the byte b, of class k, stands at a place
-pub record Starting (s : Bytes) (at b k : ℕ) : Type 0 where
+-- a byte of class k stands at a place
+pub record Starting (s : Bytes) (at k : ℕ) : Type 0 where
   pub inside : at < length s
-  pub byte : b ≡ byte_at s at
-  pub class : k ≡ class_of b
+  pub class : k ≡ class_of (byte_at s at)
+
+-- what is answered of the character that a run begins with: how many bytes it has, or none where the run begins with none
+abbrev pub Measured : Bytes → Option ℕ → Type 0
+Measured s (Some n) = (0 < n) × (n ≡ char_len s)
+Measured s None = char_len s ≡ 0

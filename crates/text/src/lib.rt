@@ -1,10 +1,11 @@
 // Legal text: well-formed UTF-8 of XML 1.0 characters.
 #![tactic(auto)]
 
-ghost use Rattle.std.specs.Prelude.{◌≡◌, ◌+◌, ◌*◌, ◌<◌, ◌≤◌, drop};
-ghost use Rattle.base.specs.Bytes.{all};
+ghost use Rattle.std.specs.Prelude.{◌≡◌, ◌+◌, ◌*◌, ◌<◌, ◌≤◌, cond, leb, drop, Some, None, IfSome};
+ghost use Rattle.std.specs.Option.{unwrap_or};
+ghost use Rattle.base.specs.Bytes.{all, both};
 ghost use Rattle.text.specs.Char.{xml_char};
-ghost use Rattle.text.specs.Check.{class_of, byte_at, joined_bits, char_len, sized, Starting, is_text, is_plain};
+ghost use Rattle.text.specs.Check.{byte_at, joined_bits, Starting, Measured, is_text, is_plain};
 
 // The class of each first byte: how many bytes a legal character has that starts with it, 0 where none does.
 // A row has sixteen first bytes.
@@ -26,21 +27,15 @@ const CLASS: [u8; 256] = *b"\
     \x03\x03\x03\x03\x03\x03\x03\x03\x03\x03\x03\x03\x03\x03\x03\x03\
     \x04\x04\x04\x04\x04\x00\x00\x00\x00\x00\x00\x00\x00\x00\x00\x00";
 
-// The byte at a place, 0 past the end.
-fn byte(s: &[u8], at: usize) -> u8
-    ensures { result ≡ byte_at s.now at }
-{
-    s.get(at).copied().unwrap_or(0)
-}
-
-// The bits of a character so far with the six of a byte that continues it, 0 where it continues none.
-fn join(v: u32, b: u8) -> u32
+// The bits of a character so far with the six of the byte at a place; none where no byte stands there that continues a character.
+fn join(v: u32, s: &[u8], at: usize) -> Option<u32>
     requires { v < 0x10000 }
-    ensures { (result ≡ joined_bits v b) × (result ≤ v * 64 + 63) }
+    ensures joined { unwrap_or result 0 ≡ joined_bits v (byte_at s.now at) }
+    ensures bound { IfSome result (λ r. r ≤ v * 64 + 63) }
 {
-    match b {
-        0x80..=0xbf => v * 64 + u32::from(b - 0x80),
-        _ => 0,
+    match *s.get(at)? {
+        b @ 0x80..=0xbf => Some(v * 64 + u32::from(b - 0x80)),
+        _ => None,
     }
 }
 
@@ -53,49 +48,53 @@ fn legal(v: u32) -> bool
 }
 
 // `k` where the code point is legal and not below the least of `k` bytes.
-fn size(k: usize, least: u32, v: u32) -> usize
+fn size(k: usize, least: u32, v: u32) -> Option<usize>
     requires { 0x20 ≤ least }
-    ensures { result ≡ sized k least v }
+    ensures { result ≡ cond (both (leb least v) (xml_char v)) (Some k) None }
 {
-    if least <= v && legal(v) { k } else { 0 }
+    (least <= v && legal(v)).then_some(k)
 }
 
-// The length of the character that begins at a place with the byte `b` of class `k`, other than 1; 0 where none does.
-fn long(s: &[u8], at: usize, b: u8, k: u8) -> usize
-    requires starting { Starting s.now at b k }
-    requires fact { k ≡ 1 → ⊥ }
-    ensures { result ≡ char_len (drop at s.now) }
+// The length of the character that begins at a place with a byte of class `k`, other than 1; none where none does.
+// It is given the whole and a place, and not the rest from there on: with that the check of mixed text was a third slower.
+fn long(s: &[u8], at: usize, k: u8) -> Option<usize>
+    requires starting { Starting s.now at k }
+    requires not_one { k ≡ 1 → ⊥ }
+    ensures { Measured (drop at s.now) result }
 {
-    let first = u32::from(b);
+    let first = u32::from(s[at]);
     match k {
         2 => {
-            let x = join(first % 32, byte(s, at + 1));
+            let x = join(first % 32, s, at + 1)?;
             size(2, 0x80, x)
         }
         3 => {
-            let x = join(first % 16, byte(s, at + 1));
-            let y = join(x, byte(s, at + 2));
+            let x = join(first % 16, s, at + 1)?;
+            let y = join(x, s, at + 2)?;
             size(3, 0x800, y)
         }
         4 => {
-            let x = join(first % 8, byte(s, at + 1));
-            let y = join(x, byte(s, at + 2));
-            let z = join(y, byte(s, at + 3));
+            let x = join(first % 8, s, at + 1)?;
+            let y = join(x, s, at + 2)?;
+            let z = join(y, s, at + 3)?;
             size(4, 0x10000, z)
         }
-        _ => 0,
+        _ => None,
     }
+}
+
+// Whether a byte is a tab or one from the blank to the tilde.
+fn is_plain(b: u8) -> bool
+    ensures { result ≡ is_plain b }
+{
+    (b == b'\t') | ((b' ' <= b) & (b <= b'~'))
 }
 
 // Whether every byte is a tab or one from the blank to the tilde. It looks at all bytes, so that many are looked at together: no early end, and no branch.
 pub fn plain(s: &[u8]) -> bool
     ensures { result ≡ all is_plain s.now }
 {
-    let mut ok = true;
-    for b in s {
-        ok = ok & ((*b == b'\t') | ((b' ' <= *b) & (*b <= b'~')));
-    }
-    ok
+    s.iter().fold(true, |ok, b| ok & is_plain(*b))
 }
 
 // Whether bytes are legal text, character by character.
@@ -106,16 +105,14 @@ fn walk(s: &[u8]) -> bool
     let class = CLASS;
     let mut at: usize = 0;
     while at < s.len() {
-        let b = s[at];
-        let k = class[b as usize];
+        let k = class[usize::from(s[at])];
         if k == 1 {
             at += 1;
             continue;
         }
-        let n = long(s, at, b, k);
-        if n == 0 {
+        let Some(n) = long(s, at, k) else {
             return false;
-        }
+        };
         at += n;
     }
     true

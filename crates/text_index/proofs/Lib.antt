@@ -1,4 +1,7 @@
 pub mod Index
 pub mod Buckets
-pub mod Chains
+pub mod Chaining
 pub mod Links
+pub mod Search
+pub mod More
+pub mod Laws

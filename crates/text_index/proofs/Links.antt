@@ -13,10 +13,10 @@ use Rattle.interner.specs.Sound.{texts_in, sound_up_to}
 use Rattle.interner.proofs.Checks.{upto_parts}
 use Rattle.text_index.specs.Index.{bucket_of, bucket_at, handles_in, LastBelow, Indexed}
 use Rattle.text_index.specs.Link.{linked}
-use Rattle.text_index.proofs.Chains.{length_in, text_in}
+use Rattle.text_index.proofs.Chaining.{length_in, text_in}
 
 -- one handle more, in another bucket or in this one
-last_other : (f : ℕ → ℕ) (b m c : ℕ) → (f m ≡ b → ⊥) → LastBelow f b m c → LastBelow f b (m + 1) c
+pub last_other : (f : ℕ → ℕ) (b m c : ℕ) → (f m ≡ b → ⊥) → LastBelow f b m c → LastBelow f b (m + 1) c
 last_other f b m c n l =
     record {
       within = omega (arith, l.within);
@@ -24,7 +24,7 @@ last_other f b m c n l =
       none = λ h p q. by_eq h m (λ e. rw e n) (λ e. l.none h p (omega arith));
     }
 
-last_this : (f : ℕ → ℕ) (b m : ℕ) → f m ≡ b → LastBelow f b (m + 1) (m + 1)
+pub last_this : (f : ℕ → ℕ) (b m : ℕ) → f m ≡ b → LastBelow f b (m + 1) (m + 1)
 last_this f b m e =
     let i : m + 1 - 1 ≡ m = omega arith in
     record { within = omega arith; last = λ p. rw i e; none = λ h p q r. omega arith }

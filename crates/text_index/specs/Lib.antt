@@ -1,2 +1,4 @@
 pub mod Index
 pub mod Link
+pub mod Chained
+pub mod Lent

@@ -1,10 +1,13 @@
 -- The C boundary of the overlay: what each entry leaves and replies; a kind goes by its number, and one above 2 is refused 17 where 22 is not.
 use Rattle.kind.specs.declared.Kind.{Kind}
-use Rattle.std.specs.Prelude.{ℕ, ℤ, None, Option, Some}
+use Rattle.std.specs.Prelude.{ℕ, ℤ, Err, None, Ok, Option, Result, Some}
 use Rattle.base.specs.Bytes.{Bytes}
 use Rattle.kind.specs.Kind.{of_number}
 use Rattle.refusal.specs.declared.Reply.{Reply}
+use Rattle.refusal.specs.declared.Refusal.{Refusal}
 use Rattle.refusal.specs.declared.Refusal.TheVariants as R
+use Rattle.overlay.specs.Sound.{is_sound}
+use Rattle.c_replies.specs.Readings.{unknown_kind}
 use Rattle.model.specs.Record.{Meta}
 use Rattle.compact.specs.declared.ArenaMeta.{ArenaMeta}
 use Rattle.compact.specs.declared.PushHead.{PushHead}
@@ -29,6 +32,11 @@ set_up_reply z setting o = replied (set_up z setting o)
 
 unfoldable pub allow_reply : ℕ → Overlay → Replied
 allow_reply setting o = replied (allow_on setting o)
+
+-- the kind that a number means; or 22, else 17
+abbrev pub kind_answer : Option Kind → Overlay → Result Kind Refusal
+kind_answer (Some k) o = Ok k
+kind_answer None o = Err (unknown_kind (is_sound o))
 
 abbrev pub unknown : Overlay → OverlayAfter
 unknown o = if_sound o (overlay_refused o R.BadRecord)

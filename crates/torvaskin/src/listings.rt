@@ -4,6 +4,7 @@ ghost use Rattle.overlay.specs.Lent.{lent};
 ghost use Rattle.torvaskin.specs.Listings.{listing_reply};
 
 use c_replies::ListingReply;
+use overlay::Storage;
 use overlay_blocks::COUNTERS;
 
 // The listing at the start of the output: 22, 19, or its length.
@@ -17,5 +18,10 @@ pub extern "C" fn tvk_listing(
     ensures { record { out = out.new; reply = result }
         ≡ listing_reply out.old (lent words.now bytes.now counters.now) }
 {
-    ListingReply::from(listing::list(words, bytes, counters, out))
+    let storage = Storage {
+        words,
+        bytes,
+        counters,
+    };
+    ListingReply::from(listing::list(&storage, out))
 }

@@ -47,7 +47,7 @@ pub extern "C" fn tvk_blob_osm_last_key(min_id: i64, max_id: i64) -> OsmIdKey
 pub extern "C" fn tvk_osm_id_rank(id: i64) -> u64
     ensures { result ≡ rank id }
 {
-    osm_id::osm_id_rank(id)
+    osm_id::rank_of_bits(id.cast_unsigned())
 }
 
 // Versions cross as words: below 2^32 the bits of the number, else none.

@@ -3,17 +3,21 @@
 ghost use Rattle.std.specs.Prelude.{◌≡◌};
 ghost use Rattle.compact.specs.Held.{meta_of};
 ghost use Rattle.overlay.specs.Lent.{lent, left, lent_for, left_for};
+ghost use Rattle.overlay.specs.Lent.{overlay_seen};
 ghost use Rattle.overlay.specs.Sound.{is_sound};
-ghost use Rattle.c_replies.specs.Overlays.{sound_reply, unknown_reply};
-ghost use Rattle.torvaskin.specs.Overlays.{set_up_reply, allow_reply, intern_reply, push_reply, delete_reply};
+ghost use Rattle.kind.specs.Kind.{of_number};
+ghost use Rattle.c_replies.specs.Overlays.{sound_reply};
+ghost use Rattle.torvaskin.specs.Overlays.{kind_answer, set_up_reply, allow_reply, intern_reply, push_reply, delete_reply};
 
 use c_replies::Text;
 use compact::{ArenaMeta, PushHead};
 use kind::Kind;
+use overlay::{Storage, StorageMut, StorageTables};
 use overlay_blocks::{COUNTERS, Sizes};
 use refusal::{Refusal, Reply};
 
 // 1 for a size outside, or sizes that are not those of the blocks, else an empty overlay. Setting 0 refuses regression, any other allows it.
+#[tactic(auto, using(crate::proofs::OverlayReplies::replied_is), unfolding(crate::specs::Overlays::set_up_reply))]
 #[unsafe(no_mangle)]
 pub extern "C" fn tvk_set_up(
     words: &mut [u64],
@@ -25,7 +29,12 @@ pub extern "C" fn tvk_set_up(
     ensures { record { overlay = left_for sizes words.new bytes.now counters.new; reply = result }
         ≡ set_up_reply sizes setting (lent_for sizes words.old bytes.now counters.old) }
 {
-    c_replies::kept_reply(overlay::set_up(words, bytes, counters, sizes, setting))
+    let mut tables = StorageTables {
+        words,
+        bytes,
+        counters,
+    };
+    c_replies::kept_reply(tables.set_up(sizes, setting))
 }
 
 // 22 for an unsound overlay, else 0.
@@ -33,17 +42,22 @@ pub extern "C" fn tvk_set_up(
 pub extern "C" fn tvk_is_sound(words: &[u64], bytes: &[u8], counters: &[u64; COUNTERS]) -> Reply
     ensures { result ≡ sound_reply (is_sound (lent words.now bytes.now counters.now)) }
 {
-    if overlay::is_sound(words, bytes, counters) {
-        return c_replies::kept_reply(Ok(()));
-    }
-    Reply::from(Refusal::Unsound)
+    let storage = Storage {
+        words,
+        bytes,
+        counters,
+    };
+    c_replies::kept_reply(storage.check_sound())
 }
 
-// The reply where a kind's number means no kind: 22, else 17.
-fn unknown(words: &[u64], bytes: &[u8], counters: &[u64; COUNTERS]) -> Reply
-    ensures { result ≡ unknown_reply (is_sound (lent words.now bytes.now counters.now)) }
+// The kind that a number means; or 22, else 17.
+pub fn named_kind(storage: &Storage<'_>, kind: u8) -> Result<Kind, Refusal>
+    ensures { result ≡ kind_answer (of_number kind) (overlay_seen storage.now) }
 {
-    Reply::from(c_replies::unknown_kind(overlay::is_sound(words, bytes, counters)))
+    match Kind::try_from(kind) {
+        Ok(k) => Ok(k),
+        Err(_) => Err(c_replies::unknown_kind(storage.is_sound())),
+    }
 }
 
 // Sets the regression setting: 0 refuses regression, any other number allows it.
@@ -61,6 +75,7 @@ pub extern "C" fn tvk_allow_version_regression(
 }
 
 // Takes a text in: 22, 3, 13, or its handle.
+#[tactic(auto, using(crate::proofs::OverlayReplies::interned_is), unfolding(crate::specs::Overlays::intern_reply))]
 #[unsafe(no_mangle)]
 pub extern "C" fn tvk_intern(
     words: &mut [u64],
@@ -71,10 +86,16 @@ pub extern "C" fn tvk_intern(
     ensures { record { overlay = left words.new bytes.new counters.new; reply = result }
         ≡ intern_reply text.now (lent words.old bytes.old counters.old) }
 {
-    Text::from(overlay_direct::intern(words, bytes, counters, text))
+    let mut storage = StorageMut {
+        words,
+        bytes,
+        counters,
+    };
+    Text::from(overlay_direct::intern(&mut storage, text))
 }
 
 // A direct push of a node (kind 0), way (1) or relation (2).
+#[tactic(auto, using(crate::proofs::OverlayReplies::replied_is, crate::proofs::OverlayReplies::kind_told, crate::proofs::OverlayReplies::kind_untold, crate::proofs::OverlayReplies::unknown_is), unfolding(crate::specs::Overlays::push_reply))]
 #[unsafe(no_mangle)]
 pub extern "C" fn tvk_push(
     words: &mut [u64],
@@ -88,15 +109,19 @@ pub extern "C" fn tvk_push(
     ensures { record { overlay = left words.new bytes.new counters.new; reply = result }
         ≡ push_reply kind head meta parts.now (lent words.old bytes.old counters.old) }
 {
-    match Kind::try_from(kind) {
-        Ok(k) => c_replies::kept_reply(overlay_direct::push(
-            words, bytes, counters, k, head, meta, parts,
-        )),
-        Err(_) => unknown(words, bytes, counters),
+    let mut storage = StorageMut {
+        words,
+        bytes,
+        counters,
+    };
+    match named_kind(&storage.storage(), kind) {
+        Ok(k) => c_replies::kept_reply(overlay_direct::push(&mut storage, k, head, meta, parts)),
+        Err(refusal) => Reply::from(refusal),
     }
 }
 
 // A direct delete.
+#[tactic(auto, using(crate::proofs::OverlayReplies::replied_is, crate::proofs::OverlayReplies::kind_told, crate::proofs::OverlayReplies::kind_untold, crate::proofs::OverlayReplies::unknown_is, signed::proofs::Bits::bits_back), unfolding(crate::specs::Overlays::delete_reply))]
 #[unsafe(no_mangle)]
 pub extern "C" fn tvk_delete(
     words: &mut [u64],
@@ -109,15 +134,14 @@ pub extern "C" fn tvk_delete(
     ensures { record { overlay = left words.new bytes.now counters.new; reply = result }
         ≡ delete_reply kind id (meta_of meta) (lent words.old bytes.now counters.old) }
 {
-    match Kind::try_from(kind) {
-        Ok(k) => c_replies::kept_reply(overlay_direct::delete(
-            words,
-            bytes,
-            counters,
-            k,
-            signed::bits_of_i64(id),
-            meta,
-        )),
-        Err(_) => unknown(words, bytes, counters),
+    let mut tables = StorageTables {
+        words,
+        bytes,
+        counters,
+    };
+    let bits = signed::bits_of_i64(id);
+    match named_kind(&tables.storage(), kind) {
+        Ok(k) => c_replies::kept_reply(overlay_direct::delete(&mut tables, k, bits, meta)),
+        Err(refusal) => Reply::from(refusal),
     }
 }

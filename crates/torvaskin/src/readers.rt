@@ -29,12 +29,12 @@ pub extern "C" fn tvk_event(
         ≡ event_reply line.now (lent words.old bytes.old counters.old) reader.old parts.old }
 {
     if c_reader::is_reader(reader) {
-        let read = c_reader::reader_in(reader);
-        let done = reader_calls::event(words, bytes, counters, parts, read, line);
-        c_reader::put_reader(reader, done.reader);
-        return c_replies::event_reply(done.answer);
+        let mut read = c_reader::reader_in(reader);
+        let answer = reader_calls::event(words, bytes, counters, parts, &mut read, line);
+        c_reader::put_reader(reader, read);
+        return EventReply::from(answer);
     }
-    c_replies::event_reply(Err(NO_READER))
+    EventReply::from(Err(NO_READER))
 }
 
 // The whole lines of a run as events, up to the first that is refused. What follows the bytes that were taken is the refused line, or the unfinished one, which a caller
@@ -52,9 +52,9 @@ pub extern "C" fn tvk_events(
         ≡ events_reply run.now (lent words.old bytes.old counters.old) reader.old parts.old }
 {
     if c_reader::is_reader(reader) {
-        let read = c_reader::reader_in(reader);
-        let done = reader_events::events(words, bytes, counters, parts, read, run);
-        c_reader::put_reader(reader, done.reader);
+        let mut read = c_reader::reader_in(reader);
+        let done = reader_events::events(words, bytes, counters, parts, &mut read, run);
+        c_reader::put_reader(reader, read);
         return c_replies::events_reply(done.answer, done.taken);
     }
     c_replies::events_reply(Err(NO_READER), 0)
@@ -73,7 +73,7 @@ pub extern "C" fn tvk_end(
 {
     if c_reader::is_reader(reader) {
         let read = c_reader::reader_in(reader);
-        return c_replies::event_reply(reader_calls::end(words, bytes, counters, parts, read));
+        return EventReply::from(reader_calls::end(words, bytes, counters, parts, read));
     }
-    c_replies::event_reply(Err(NO_READER))
+    EventReply::from(Err(NO_READER))
 }

@@ -2,32 +2,52 @@
 ghost use Rattle.std.specs.Prelude.{◌≡◌, ℕ, Result};
 ghost use Rattle.kind.specs.Kind.{of_number};
 ghost use Rattle.kind_reading.specs.declared.Side.TheVariants.{Live, Deleted};
-ghost use Rattle.overlay.specs.Lent.{lent};
-ghost use Rattle.overlay_reading.specs.Reading.{is_empty_on, text_on};
+ghost use Rattle.overlay.specs.Lent.{lent, overlay_seen};
+ghost use Rattle.overlay_reading.specs.Reading.{is_empty_on, text_on, in_number, in_word};
 ghost use Rattle.c_replies.specs.Readings.{read_number, view_part};
 ghost use Rattle.torvaskin.specs.Readings.{reading_for, count_number, id_number, record_part, get_part, has_number, is_deleted_number, known_number, ids_reply};
 
+use crate::overlays::named_kind;
 use c_replies::{Number, Part};
 use kind::Kind;
 use kind_reading::Side;
+use overlay::Storage;
 use overlay_blocks::COUNTERS;
 use refusal::Refusal;
 
 // What a reading answers of the kind that a number means; or 22, else 17.
 fn of_kind<T, F: FnOnce(Kind) -> Result<T, Refusal>>(
-    words: &[u64],
-    bytes: &[u8],
-    counters: &[u64; COUNTERS],
+    storage: &Storage<'_>,
     kind: u8,
     reading: F,
 ) -> Result<T, Refusal>
     requires { F.IsAlwaysCallable reading }
     ensures { (f : Kind → Result T Refusal) → ((k : Kind) (r : Result T Refusal) → F.post reading k r → r ≡ f k)
-        → result ≡ reading_for (of_number kind) f (lent words.now bytes.now counters.now) }
+        → result ≡ reading_for (of_number kind) f (overlay_seen storage.now) }
 {
-    match Kind::try_from(kind) {
+    match named_kind(storage, kind) {
         Ok(k) => reading(k),
-        Err(_) => Err(c_replies::unknown_kind(overlay::is_sound(words, bytes, counters))),
+        Err(refusal) => Err(refusal),
+    }
+}
+
+// C's words for no and yes: 0 and 1.
+fn truth_read(answer: Result<bool, Refusal>) -> Result<u64, Refusal>
+    ensures { result ≡ in_number answer }
+{
+    match answer {
+        Ok(yes) => Ok(u64::from(yes)),
+        Err(refusal) => Err(refusal),
+    }
+}
+
+// C's word for a version: below 2^32 its bits, else none.
+fn version_read(answer: Result<Option<i32>, Refusal>) -> Result<u64, Refusal>
+    ensures { result ≡ in_word answer }
+{
+    match answer {
+        Ok(version) => Ok(version_floor::version_word(version)),
+        Err(refusal) => Err(refusal),
     }
 }
 
@@ -41,8 +61,13 @@ fn side_count(
 ) -> Number
     ensures { result ≡ count_number kind side (lent words.now bytes.now counters.now) }
 {
-    let reading = |k| overlay_reading::count(words, bytes, counters, k, side);
-    Number::from(of_kind(words, bytes, counters, kind, reading))
+    let storage = Storage {
+        words,
+        bytes,
+        counters,
+    };
+    let reading = |k| overlay_reading::count(&storage, k, side);
+    Number::from(of_kind(&storage, kind, reading))
 }
 
 // How many ids of a kind are live.
@@ -76,7 +101,12 @@ pub extern "C" fn tvk_deleted_count(
 pub extern "C" fn tvk_is_empty(words: &[u64], bytes: &[u8], counters: &[u64; COUNTERS]) -> Number
     ensures { result ≡ read_number (is_empty_on (lent words.now bytes.now counters.now)) }
 {
-    Number::from(overlay_reading::is_empty(words, bytes, counters))
+    let storage = Storage {
+        words,
+        bytes,
+        counters,
+    };
+    Number::from(truth_read(overlay_reading::is_empty(&storage)))
 }
 
 // The bits of the n-th live or the n-th deleted id of a kind in OSM order; or 22, 17, 21.
@@ -90,8 +120,13 @@ fn side_id(
 ) -> Number
     ensures { result ≡ id_number kind side n (lent words.now bytes.now counters.now) }
 {
-    let reading = |k| overlay_reading::id_at(words, bytes, counters, k, side, n);
-    Number::from(of_kind(words, bytes, counters, kind, reading))
+    let storage = Storage {
+        words,
+        bytes,
+        counters,
+    };
+    let reading = |k| overlay_reading::id_at(&storage, k, side, n);
+    Number::from(of_kind(&storage, kind, reading))
 }
 
 // The bits of the n-th live id in OSM order, or 21.
@@ -133,8 +168,13 @@ pub extern "C" fn tvk_record(
 ) -> Part
     ensures { result ≡ record_part kind n (lent words.now bytes.now counters.now) }
 {
-    let reading = |k| overlay_reading::record_at(words, bytes, counters, k, n);
-    Part::from(of_kind(words, bytes, counters, kind, reading))
+    let storage = Storage {
+        words,
+        bytes,
+        counters,
+    };
+    let reading = |k| overlay_reading::record_at(&storage, k, n);
+    Part::from(of_kind(&storage, kind, reading))
 }
 
 // Where the record of an id lies, if the id is live.
@@ -148,9 +188,14 @@ pub extern "C" fn tvk_get(
 ) -> Part
     ensures { result ≡ get_part kind id (lent words.now bytes.now counters.now) }
 {
+    let storage = Storage {
+        words,
+        bytes,
+        counters,
+    };
     let bits = signed::bits_of_i64(id);
-    let reading = |k| overlay_reading::get(words, bytes, counters, k, bits);
-    Part::from(of_kind(words, bytes, counters, kind, reading))
+    let reading = |k| overlay_reading::get(&storage, k, bits);
+    Part::from(of_kind(&storage, kind, reading))
 }
 
 // 1 where an id is live, else 0.
@@ -164,9 +209,14 @@ pub extern "C" fn tvk_has(
 ) -> Number
     ensures { result ≡ has_number kind id (lent words.now bytes.now counters.now) }
 {
+    let storage = Storage {
+        words,
+        bytes,
+        counters,
+    };
     let bits = signed::bits_of_i64(id);
-    let reading = |k| overlay_reading::has(words, bytes, counters, k, bits);
-    Number::from(of_kind(words, bytes, counters, kind, reading))
+    let reading = |k| truth_read(overlay_reading::has(&storage, k, bits));
+    Number::from(of_kind(&storage, kind, reading))
 }
 
 // 1 where an id is deleted, else 0.
@@ -180,9 +230,14 @@ pub extern "C" fn tvk_is_deleted(
 ) -> Number
     ensures { result ≡ is_deleted_number kind id (lent words.now bytes.now counters.now) }
 {
+    let storage = Storage {
+        words,
+        bytes,
+        counters,
+    };
     let bits = signed::bits_of_i64(id);
-    let reading = |k| overlay_reading::is_deleted(words, bytes, counters, k, bits);
-    Number::from(of_kind(words, bytes, counters, kind, reading))
+    let reading = |k| truth_read(overlay_reading::is_deleted(&storage, k, bits));
+    Number::from(of_kind(&storage, kind, reading))
 }
 
 // The known version of an id as a word: below 2^32 its bits, else none.
@@ -196,9 +251,14 @@ pub extern "C" fn tvk_known_version(
 ) -> Number
     ensures { result ≡ known_number kind id (lent words.now bytes.now counters.now) }
 {
+    let storage = Storage {
+        words,
+        bytes,
+        counters,
+    };
     let bits = signed::bits_of_i64(id);
-    let reading = |k| overlay_reading::known_version(words, bytes, counters, k, bits);
-    Number::from(of_kind(words, bytes, counters, kind, reading))
+    let reading = |k| version_read(overlay_reading::known_version(&storage, k, bits));
+    Number::from(of_kind(&storage, kind, reading))
 }
 
 // Where the text of a handle lies among the string bytes, or 21.
@@ -211,7 +271,12 @@ pub extern "C" fn tvk_text(
 ) -> Part
     ensures { result ≡ view_part (text_on handle (lent words.now bytes.now counters.now)) }
 {
-    Part::from(overlay_reading::text(words, bytes, counters, handle))
+    let storage = Storage {
+        words,
+        bytes,
+        counters,
+    };
+    Part::from(overlay_reading::text(&storage, handle))
 }
 
 // All live or all deleted ids of a kind in OSM order and the known version of each: 22, 17, 19, or how many they are.
@@ -228,15 +293,14 @@ fn ids_number(
     ensures { record { ids = ids.new; versions = versions.new; reply = result }
         ≡ ids_reply kind side ids.old versions.old (lent words.now bytes.now counters.now) }
 {
-    match Kind::try_from(kind) {
-        Ok(k) => {
-            let read = overlay_ids::all_ids(words, bytes, counters, k, side, ids, versions);
-            Number::from(read)
-        }
-        Err(_) => {
-            let sound = overlay::is_sound(words, bytes, counters);
-            Number::from(Err(c_replies::unknown_kind(sound)))
-        }
+    let storage = Storage {
+        words,
+        bytes,
+        counters,
+    };
+    match named_kind(&storage, kind) {
+        Ok(k) => Number::from(overlay_ids::all_ids(&storage, k, side, ids, versions)),
+        Err(refusal) => Number::from(Err(refusal)),
     }
 }
 

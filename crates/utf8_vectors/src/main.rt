@@ -21,7 +21,7 @@ struct Tally {
     mismatches: u64,
 }
 
-// The value of a hexadecimal digit.
+// The value of a hexadecimal digit in upper case. The questions of `replay` have theirs in lower case, and neither program takes the other's.
 fn digit(b: u8) -> Option<u8>
     ensures { IfSome result (λ d. d < 16) }
 {

@@ -10,6 +10,8 @@ use mir.Syntax.{w32}
 use mir.Val.{SFits, of_z, to_z}
 use mir.Facts.{to_z-of_z, of_z-to_z, Fits-of_z, Fits-of_lt, sfits_to_z}
 use borrow.Author.Tests.{lt-ltb, le-ltb}
+use Rattle.std.specs.Ordering.{int_cmp, ord_max}
+use Rattle.std.specs.Option.{option_cmp}
 use Rattle.base.proofs.Split.{by_bool, by_lt, no}
 use Rattle.base.proofs.Strict.{by_order, asymmetric, not_less, integers}
 use Rattle.version_floor.specs.Version.{higher, admit_of, word_of, of_word}
@@ -32,6 +34,18 @@ pub higher_right : (v : Option ℤ) → higher v None ≡ v
 unfolding higher
 higher_right None = refl
 higher_right (Some x) = refl
+
+-- the code's `max`: no version is below each other one
+pub max_higher : (a b : Option ℤ) → ord_max (option_cmp int_cmp) a b ≡ higher a b
+unfolding higher
+max_higher None None = refl
+max_higher None (Some y) = refl
+max_higher (Some x) None = refl
+max_higher (Some x) (Some y) =
+    by_order integers x y
+    (λ t. rw (asymmetric integers x y t, t))
+    (λ e. rw (e, integers.irreflexive y))
+    (λ t. rw (t, asymmetric integers y x t))
 
 pub idempotent : (v : Option ℤ) → higher v v ≡ v
 idempotent None = higher_left None

@@ -6,20 +6,14 @@ ghost use Rattle.std.specs.Prelude.{◌≡◌};
 ghost use Rattle.version_floor.specs.Version.{higher, admit_of, word_of, of_word};
 
 // The highest version claimed so far for one object, or none.
-#[derive(Clone, Copy)]
+#[derive(Clone, Copy, PartialEq, Eq, Debug)]
 pub struct VersionFloor(pub Option<i32>);
 
 // The larger of two versions, or the one that exists.
 pub fn higher_of(a: Option<i32>, b: Option<i32>) -> Option<i32>
     ensures { result ≡ higher a b }
 {
-    let Some(x) = a else {
-        return b;
-    };
-    let Some(y) = b else {
-        return a;
-    };
-    if x < y { b } else { a }
+    a.max(b)
 }
 
 impl VersionFloor {
@@ -32,22 +26,17 @@ impl VersionFloor {
     pub fn admit(self, claim: Option<i32>) -> Result<(), i32>
         ensures { result ≡ admit_of self.0 claim }
     {
-        let highest = self.0;
-        let Some(floor) = highest else {
-            return Ok(());
-        };
-        let Some(version) = claim else {
-            return Ok(());
-        };
-        if version < floor { Err(floor) } else { Ok(()) }
+        match (self.0, claim) {
+            (Some(floor), Some(version)) if version < floor => Err(floor),
+            _ => Ok(()),
+        }
     }
 
     // The floor after an admitted claim: what `raise` stores.
     pub fn raised(self, claim: Option<i32>) -> Self
         ensures { result.0 ≡ higher self.0 claim }
     {
-        let highest = self.0;
-        VersionFloor(higher_of(highest, claim))
+        VersionFloor(higher_of(self.0, claim))
     }
 
     // The floor that is lent is raised to an admitted claim.
@@ -62,18 +51,17 @@ impl VersionFloor {
 pub fn version_word(v: Option<i32>) -> u64
     ensures { result ≡ word_of v }
 {
-    let Some(n) = v else {
-        return 0x1_0000_0000;
-    };
-    signed::bits_of_i32(n) as u64
+    match v {
+        Some(n) => u64::from(n.cast_unsigned()),
+        None => 0x1_0000_0000,
+    }
 }
 
 pub fn version_of_word(w: u64) -> Option<i32>
     ensures { result ≡ of_word w }
 {
-    if w < 0x1_0000_0000 {
-        Some(signed::i32_of_bits(w as u32))
-    } else {
-        None
+    match u32::try_from(w) {
+        Ok(bits) => Some(bits.cast_signed()),
+        Err(_) => None,
     }
 }

@@ -4,4 +4,4 @@ use Rattle.c_reader.proofs.put_reader.Goals as goal
 
 pub returns : goal.returns
 unfolding words_of_reader
-returns c = rw (c.level_word.ensures, c.section_word.ensures, c.kind_word.ensures, c.mark_words-mark.ensures)
+returns c = rw (c.level_word.ensures, c.section_word.ensures, c.from-2.ensures, c.from.ensures, c.from-mark.ensures)

@@ -1,16 +1,24 @@
--- Metadata is read field by field; past the end each field is 0.
+-- Metadata is read field by field, from the rest of the bytes.
+use Prim.Native.Nat.{◌+◌}
+use mathlib.Core.Path.{◌≡◌, ◌∙◌}
+use native.Mathlib.Omega.{arith}
 use Rattle.compact.specs.View.{meta_at}
-use Rattle.compact.proofs.Missing.{meta_past}
+use Rattle.compact.proofs.Rests.{number_in_rest}
 use Rattle.compact.proofs.read_meta.Goals as goal
 
-pub returns-then-at-bytes : goal.returns-then-at-bytes
+pub returns : goal.returns
 unfolding meta_at
-returns-then-at-bytes c =
-    let c5 = c in
-    let c4 = c5 in
-    let c3 = c4 in
-    let c2 = c3 in
-    rw (← c2.get_u8.ensures, ← c2.get_u32.ensures, ← c3.get_u64.ensures, ← c4.get_u64-then-at-bytes.ensures, ← c5.get_u32-then-at-bytes.ensures, ← c.get_u32-then-at-bytes-2.ensures)
-
-pub returns-else-at-bytes : goal.returns-else-at-bytes
-returns-else-at-bytes c = let a = c.args in meta_past a.bytes.now a.at c.if-at-bytes.false
+returns c =
+    let s = c.args.bytes.now in
+    let at = c.args.at in
+    let m = c.min.ensures in
+    let z : at + 0 ≡ at = omega arith in
+    rw (
+      c.get_u8.ensures ∙ number_in_rest 1 s at _ 0 m,
+      z,
+      c.get_u32.ensures ∙ number_in_rest 4 s at _ 1 m,
+      c.get_u64.ensures ∙ number_in_rest 8 s at _ 5 m,
+      c.get_u64-2.ensures ∙ number_in_rest 8 s at _ 13 m,
+      c.get_u32-2.ensures ∙ number_in_rest 4 s at _ 21 m,
+      c.get_u32-3.ensures ∙ number_in_rest 4 s at _ 25 m,
+    )

@@ -2,10 +2,10 @@
 use Rattle.compact.proofs.tag_place.Goals as goal
 
 pub returns-in-Node : goal.returns-in-Node
-returns-in-Node c = rw (c.tag_place.ensures, ← c.in-Node.is)
+returns-in-Node c = rw (c.first_tag.ensures, ← c.in-Node.is)
 
 pub returns-in-Way : goal.returns-in-Way
-returns-in-Way c = rw (c.tag_place-in-Way.ensures, ← c.in-Way.is)
+returns-in-Way c = rw (c.first_tag-in-Way.ensures, ← c.in-Way.is)
 
 pub returns-in-Relation : goal.returns-in-Relation
-returns-in-Relation c = rw (c.tag_place-in-Relation.ensures, ← c.in-Relation.is)
+returns-in-Relation c = rw (c.first_tag-in-Relation.ensures, ← c.in-Relation.is)

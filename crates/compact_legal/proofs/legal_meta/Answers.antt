@@ -6,6 +6,4 @@ use Rattle.compact_legal.proofs.legal_meta.Goals as goal
 
 pub returns : goal.returns
 unfolding legal_meta meta_of
-returns c =
-    let d = c in
-    rw meta_tests (simp (zero_bits, d.flag-present.ensures, d.flag-named.ensures, d.flag-versioned.ensures))
+returns c = rw meta_tests (simp (zero_bits, c.is_present-present.ensures, c.has_user-named.ensures, c.has_version-versioned.ensures))

@@ -27,9 +27,6 @@ loop-i-preserved c =
       ),
     )
 
-pub bounds-out-at-then-i-eq1 : goal.bounds-out-at-then-i-eq1
-bounds-out-at-then-i-eq1 c = omega arith
-
 pub shape_of-out-then-i-eq1 : goal.shape_of-out-then-i-eq1
 shape_of-out-then-i-eq1 c = simp length-set c.loop-i.invariant.1.0
 
@@ -39,9 +36,6 @@ returns-then-i-eq1 c e =
     let l = c.loop-i in
     let z = c.if-i-eq1.true in
     one_stored l.out a.at l.x (omega arith) ∙ (rw z at l.invariant.1.1 ∙ ap (over a.out.now a.at) (rw e (low_all a.v)))
-
-pub shape_of-out-else-i-eq1 : goal.shape_of-out-else-i-eq1
-shape_of-out-else-i-eq1 c = omega arith
 
 pub returns-else-i-eq1 : goal.returns-else-i-eq1
 returns-else-i-eq1 c e =

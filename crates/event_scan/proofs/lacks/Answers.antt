@@ -1,23 +1,17 @@
-use mathlib.Core.Path.{refl, sym, ◌∙◌}
-use mathlib.Core.Bool.{not}
-use native.Mathlib.Omega.{arith}
+-- `lacks`: a fold over the bytes tells whether each is another one.
+use mathlib.Core.Path.{◌∙◌}
+use mathlib.Core.Bool.{true, not, ◌&&◌}
 use lib.Dec.{eqb}
+use Rattle.std.proofs.Common.{rules}
+use Rattle.std.proofs.lemmas.Iterator.{YieldsList-from_slice}
+use Rattle.std.proofs.lemmas.Iterator.Consumers.{fold_from_yields_List}
 use Rattle.base.specs.Bytes.{both}
-use Rattle.text.proofs.PlainBytes.{pass_on, pass_ends}
+use Rattle.text.proofs.PlainBytes.{fold_all}
 use Rattle.event_scan.proofs.lacks.Goals as goal
 
-pub loop-b-init : goal.loop-b-init
-unfolding both
-loop-b-init c = refl
-
-pub loop-b-preserved : goal.loop-b-preserved
-loop-b-preserved c =
-    let a = c.args in
-    let l = c.loop-b in
-    pass_on (λ b. not (eqb b a.c)) a.t.now l.ok l.b-index (omega arith) ∙ l.invariant
-
 pub returns : goal.returns
+unfolding both
 returns c =
-    let a = c.args in
-    let l = c.loop-b in
-    sym (pass_ends (λ b. not (eqb b a.c)) a.t.now l.ok l.b-index (omega arith)) ∙ l.invariant
+    let s = c.args.t.now in
+    fold_from_yields_List _ (λ o b. o && not (eqb b c.args.c)) true c.fold.result c.fold.ensures.ran (YieldsList-from_slice s cc) (λ a x b q w. search rules)
+    ∙ fold_all (λ b. not (eqb b c.args.c)) s true

@@ -1,31 +1,18 @@
 -- `put_span` writes two words over the start, or as many as there is room for.
-use mathlib.Core.Path.{◌∙◌, sym}
-use mathlib.Core.List.{[], ◌∷◌}
+use Prim.Native.Nat.{ℕ}
+use mathlib.Core.Path.{◌≡◌, refl, sym, ◌∙◌, ap}
+use mathlib.Core.List.{List, [], ◌∷◌}
 use native.Mathlib.Omega.{arith}
-use lib.ListN.{set, length-set}
-use Rattle.little.proofs.Overs.{over_step, over_nothing, over_past}
+use lib.ListN.{length, set}
+use lib.Seq.{take_all}
+use Rattle.little.specs.Little.{over}
 use Rattle.interner.proofs.put_span.Goals as goal
 
-pub returns-then-out-eq0 : goal.returns-then-out-eq0
-returns-then-out-eq0 c =
-    let a = c.args in
-    sym (over_past a.out.now 0 (a.start ∷ a.len ∷ []) (omega arith))
-
-pub returns-then-out-eq1 : goal.returns-then-out-eq1
-returns-then-out-eq1 c =
-    let a = c.args in
-    let s = a.out.now in
-    sym (over_step s 0 a.start (a.len ∷ []) (omega arith) ∙ over_past (set s 0 a.start) 1 (a.len ∷ []) (omega (arith, length-set s 0 a.start)))
-
-pub bounds-out-1 : goal.bounds-out-1
-bounds-out-1 c =
-    let a = c.args in
-    omega (arith, length-set a.out.now 0 a.start)
+two : (xs : List ℕ) (a b : ℕ) → set (set xs 0 a) 1 b ≡ over xs 0 (a ∷ b ∷ [])
+unfolding over
+two [] a b = refl
+two (x ∷ []) a b = refl
+two (x ∷ y ∷ ys) a b = ap (λ (zs : List ℕ). a ∷ b ∷ zs) (sym (take_all (length ys) ys (omega arith)))
 
 pub returns : goal.returns
-returns c =
-    let a = c.args in
-    let s = a.out.now in
-    sym
-    (over_step s 0 a.start (a.len ∷ []) (omega arith)
-    ∙ (over_step (set s 0 a.start) 1 a.len [] (omega (arith, length-set s 0 a.start)) ∙ over_nothing (set (set s 0 a.start) 1 a.len) 2))
+returns c = c.put_word-2.ensures ∙ rw c.put_word.ensures (two c.args.out.now c.args.start c.args.len)

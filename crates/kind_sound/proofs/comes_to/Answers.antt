@@ -5,23 +5,23 @@ use Rattle.kind_sound.proofs.Walks.{arrived, stops, Coming, coming_first, coming
 use Rattle.kind_sound.proofs.comes_to.Goals as goal
 
 pub loop-at-init : goal.loop-at-init
-loop-at-init c = let a = c.args in coming_first a.strings a.kind a.bytes.now a.place
+loop-at-init c = let s = c.args.records.now in coming_first s.strings s.kind s.bytes.now c.args.place
 
 pub returns-in_default : goal.returns-in_default
 returns-in_default c =
-    let a = c.args in
+    let s = c.args.records.now in
     let l = c.loop-at in
-    sym (stops a.strings a.kind a.bytes.now a.place l.invariant.fuel l.at l.invariant.enough c.loop-at-test.true (sym c.in_default.is ∙ c.record_end.ensures))
+    sym (stops s.strings s.kind s.bytes.now c.args.place l.invariant.fuel l.at l.invariant.enough c.loop-at-test.true (sym c.in_default.is ∙ c.end.ensures))
     ∙ l.invariant.same
 
 -- a record more
-turn : (c : goal.In-Some) → let a = c.args in
-    (c.loop-at.at < c.in-Some.e) × Coming a.strings a.kind a.bytes.now a.place c.in-Some.e
+turn : (c : goal.In-Some) → let s = c.args.records.now in
+    (c.loop-at.at < c.in-Some.e) × Coming s.strings s.kind s.bytes.now c.args.place c.in-Some.e
 turn c =
-    let a = c.args in
+    let s = c.args.records.now in
     let l = c.loop-at in
-    coming_next a.strings a.kind a.bytes.now a.place l.at c.in-Some.e l.invariant c.loop-at-test.true
-    (sym c.in-Some.is ∙ c.record_end.ensures)
+    coming_next s.strings s.kind s.bytes.now c.args.place l.at c.in-Some.e l.invariant c.loop-at-test.true
+    (sym c.in-Some.is ∙ c.end.ensures)
 
 pub loop-at-smaller : goal.loop-at-smaller
 loop-at-smaller c = omega (arith, (turn c).0)
@@ -31,6 +31,6 @@ loop-at-preserved c = (turn c).1
 
 pub returns : goal.returns
 returns c =
-    let a = c.args in
+    let s = c.args.records.now in
     let l = c.loop-at in
-    sym (arrived a.strings a.kind a.bytes.now a.place l.invariant.fuel l.at c.loop-at-test.false) ∙ l.invariant.same
+    sym (arrived s.strings s.kind s.bytes.now c.args.place l.invariant.fuel l.at c.loop-at-test.false) ∙ l.invariant.same

@@ -4,7 +4,7 @@ use Rattle.kind_sound.proofs.Walks.{Coming}
 use Rattle.kind_sound.proofs.comes_to.Given as goal
 
 abbrev pub invariant-loop-at : goal.invariant-loop-at
-invariant-loop-at l = Coming l.strings l.kind l.bytes l.place l.at
+invariant-loop-at l = Coming l.records.strings l.records.kind l.records.bytes.now l.place l.at
 
 abbrev pub decreases-loop-at : goal.decreases-loop-at
 decreases-loop-at l = l.place - l.at

@@ -8,27 +8,25 @@ use Rattle.kind_sound.proofs.Walks.{Noting, noting_first, noting_next, noting_ba
 use Rattle.kind_sound.proofs.note_starts.Goals as goal
 
 pub loop-at-init : goal.loop-at-init
-loop-at-init c = let a = c.args in noting_first a.strings a.kind a.bytes.now a.cells.now c.requires
+loop-at-init c = let s = c.args.records.now in noting_first s.strings s.kind s.bytes.now c.args.cells.now c.requires
 
 pub returns-in_default : goal.returns-in_default
 returns-in_default c =
-    let a = c.args in
-    let l = c.loop-at in (
-      sym (noting_bad a.strings a.kind a.bytes.now l.cells l.at l.invariant c.loop-at-test.true (sym c.in_default.is ∙ c.record_end.ensures)),
-      λ z. clash z refl,
-    )
-
-pub note-requires : goal.note-requires
-note-requires c = c.loop-at.invariant.size
+    let s = c.args.records.now in
+    let l = c.loop-at in
+    record {
+      whole = sym (noting_bad s.strings s.kind s.bytes.now l.cells l.at l.invariant c.loop-at-test.true (sym c.in_default.is ∙ c.end.ensures));
+      noted = λ z. clash z refl;
+    }
 
 -- a record more
-turn : (c : goal.After-note) → let a = c.args in
+turn : (c : goal.After-note) → let s = c.args.records.now in
     let l = c.loop-at in
-    (l.at < c.in-Some.e) × Noting a.strings a.kind a.bytes.now (set l.cells (l.at / 45) (cell_of l.at)) c.in-Some.e
+    (l.at < c.in-Some.e) × Noting s.strings s.kind s.bytes.now (set l.cells (l.at / 45) (cell_of l.at)) c.in-Some.e
 turn c =
-    let a = c.args in
+    let s = c.args.records.now in
     let l = c.loop-at in
-    noting_next a.strings a.kind a.bytes.now l.cells l.at l.invariant c.in-Some.e (sym c.in-Some.is ∙ c.record_end.ensures)
+    noting_next s.strings s.kind s.bytes.now l.cells l.at l.invariant c.in-Some.e (sym c.in-Some.is ∙ c.end.ensures)
 
 pub loop-at-smaller : goal.loop-at-smaller
 loop-at-smaller c = omega (arith, (turn c).0, (turn c).1.inside)
@@ -38,7 +36,7 @@ loop-at-preserved c = rw c.note.ensures (turn c).1
 
 pub returns : goal.returns
 returns c =
-    let a = c.args in
+    let s = c.args.records.now in
     let l = c.loop-at in
-    let w = noting_last a.strings a.kind a.bytes.now l.cells l.at l.invariant c.loop-at-test.false in
-    (sym w.0, λ z. w.1)
+    let w = noting_last s.strings s.kind s.bytes.now l.cells l.at l.invariant c.loop-at-test.false in
+    record { whole = sym w.0; noted = λ z. w.1 }

@@ -5,7 +5,7 @@ use Rattle.kind_sound.proofs.Walks.{Noting}
 use Rattle.kind_sound.proofs.note_starts.Given as goal
 
 abbrev pub invariant-loop-at : goal.invariant-loop-at
-invariant-loop-at l = Noting l.strings l.kind l.bytes l.cells l.at
+invariant-loop-at l = Noting l.records.strings l.records.kind l.records.bytes.now l.cells l.at
 
 abbrev pub decreases-loop-at : goal.decreases-loop-at
-decreases-loop-at l = length l.bytes - l.at
+decreases-loop-at l = length l.records.bytes.now - l.at

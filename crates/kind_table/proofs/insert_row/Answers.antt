@@ -7,4 +7,4 @@ pub returns : goal.returns
 returns c =
     let a = c.args in
     rw (c.store_row.ensures, c.open_gap.ensures)
-    (gap_filled a.table.now a.p a.n a.row (omega arith) (omega arith))
+    (gap_filled a.words.now a.p a.n a.row (omega arith) (omega arith))

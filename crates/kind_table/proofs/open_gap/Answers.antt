@@ -6,4 +6,4 @@ use Rattle.kind_table.proofs.open_gap.Goals as goal
 pub returns : goal.returns
 returns c =
     let a = c.args in
-    gap_lent a.table.now a.used _ a.at (omega arith) (omega arith) c.move_up.ensures
+    gap_lent a.words.now a.used _ a.at (omega arith) (omega arith) c.move_up.ensures

@@ -1,9 +1,12 @@
 -- Six fields, one after the other.
-use Rattle.print.specs.Print.{print, tabs}
+use Rattle.print.specs.Print.{tabs}
+use Rattle.print.proofs.Pieces.{then_printed}
 use Rattle.compact.specs.Held.{meta_of}
 use Rattle.listing_fields.proofs.put_meta.Goals as goal
 
 pub returns : goal.returns
-unfolding print tabs meta_of
+unfolding tabs meta_of
 returns c =
-    rw (c.put_held.ensures, c.put_integer32-room-2.ensures, c.put_integer-room-2.ensures, c.put_integer-room.ensures, c.put_integer32-room.ensures, c.put_number-room.ensures)
+    let version = rw c.from_bits_32.ensures at c.put-2.ensures in
+    let uid = rw c.from_bits_32-2.ensures at c.put-5.ensures in
+    then_printed (then_printed (then_printed (then_printed (then_printed (rw c.from.ensures at c.put.ensures) version) c.put-3.ensures) c.put-4.ensures) uid) c.put_held.ensures

@@ -3,11 +3,13 @@ use Prim.Native.Nat.{◌+◌, ◌-◌}
 use mathlib.Core.Path.{◌≡◌, sym, ap, ◌∙◌}
 use borrow.Author.Rules.{rules}
 use native.Mathlib.Omega.{arith}
+use Rattle.interner.specs.Lent.{store_seen}
 use Rattle.compact.specs.View.{TagStep, tag_step}
-use Rattle.line.specs.Decimal.{number_text}
 use Rattle.print.specs.Print.{tabs}
-use Rattle.listing_fields.specs.Fields.{held_text, tag_fields_from}
-use Rattle.listing_fields.proofs.Walks.{counted_printed, tag_within, tags_next, tags_end, tags_done, tags_stop}
+use Rattle.print.proofs.Pieces.{then_printed}
+use Rattle.print.proofs.Walks.{stepped, ended}
+use Rattle.listing_fields.specs.Fields.{text_held}
+use Rattle.listing_fields.proofs.Walks.{tag_within, tags_next, tags_end, tags_done, tags_stop}
 use Rattle.listing_fields.proofs.put_tags.Goals as goal
 
 -- a step that is no tag ends the tags
@@ -16,19 +18,17 @@ unfolding tabs
 returns-in_default c =
     let l = c.loop-i in
     let a = c.args in
-    let f = held_text a.spans.now a.bytes.now a.strings in
     let n : c.in_default.field-0 ≡ None = search rules in
-    sym (tags_done a.cap f a.view.now l.at (a.n - l.i) _ (sym (c.in_default.is ∙ ap Ok n) ∙ c.tag_step.ensures))
-    ∙ (l.invariant ∙ counted_printed a.cap (number_text a.n) (tag_fields_from f a.view.now a.offset a.n) _ _ c.put_number-left.ensures)
+    then_printed (rw c.from.ensures at c.put.ensures)
+    (ended (tags_done (text_held (store_seen a.strings.now)) a.view.now l.at (a.n - l.i) (sym (c.in_default.is ∙ ap Ok n) ∙ c.tag_step.ensures)) l.invariant)
 
 pub returns-in_default-2 : goal.returns-in_default-2
 unfolding tabs
 returns-in_default-2 c =
     let l = c.loop-i in
     let a = c.args in
-    let f = held_text a.spans.now a.bytes.now a.strings in
-    sym (tags_stop a.cap f a.view.now _ l.at (a.n - l.i) _ (sym c.in_default.is ∙ c.tag_step.ensures))
-    ∙ (l.invariant ∙ counted_printed a.cap (number_text a.n) (tag_fields_from f a.view.now a.offset a.n) _ _ c.put_number-left.ensures)
+    then_printed (rw c.from.ensures at c.put.ensures)
+    (ended (tags_stop (text_held (store_seen a.strings.now)) a.view.now _ l.at (a.n - l.i) (sym c.in_default.is ∙ c.tag_step.ensures)) l.invariant)
 
 -- a tag that is yielded
 yielded : (c : goal.After-struct_known-1)
@@ -45,10 +45,10 @@ overflow_add-end c =
     let l = c.loop-i in
     let a = c.args in
     let w = c.well_formed in
-    omega (arith, tag_within a.view.now l.at (a.n - l.i) (omega arith) c.in-Ok-Some.tag (yielded c), w.1.0.1)
+    omega (arith, tag_within a.view.now l.at (a.n - l.i) (omega arith) c.in-Ok-Some.tag (yielded c), w.1.1.0.1)
 
-pub slice_bounds-value-end : goal.slice_bounds-value-end
-slice_bounds-value-end c =
+pub slice_bounds-put_tag-end : goal.slice_bounds-put_tag-end
+slice_bounds-put_tag-end c =
     let l = c.loop-i in
     let a = c.args in
     omega (arith, tag_within a.view.now l.at (a.n - l.i) (omega arith) c.in-Ok-Some.tag (yielded (record { before = search; type_inv = search })))
@@ -61,15 +61,13 @@ loop-i-preserved c =
     let d : t.start + t.len - t.start ≡ t.len = omega arith in
     let r : a.n - (l.i + 1) ≡ a.n - l.i - 1 = omega arith in
     rw r
-    (tags_next a.cap (held_text a.spans.now a.bytes.now a.strings) a.view.now l.at (a.n - l.i) t _ _ (omega arith)
-    (yielded (record { before = search; type_inv = search })) (rw d at c.put_tag-left.ensures) ∙ l.invariant)
+    (stepped (tags_next (text_held (store_seen a.strings.now)) a.view.now l.at (a.n - l.i) t (omega arith) (yielded (record { before = search; type_inv = search }))) l.invariant
+    (rw d at c.put_tag.ensures))
 
 pub returns : goal.returns
 unfolding tabs
 returns c =
-    let a = c.args in
     let l = c.loop-i in
-    let z : a.n - l.i ≡ 0 = omega arith in
-    let f = held_text a.spans.now a.bytes.now a.strings in
-    sym (rw z (tags_end a.cap f a.view.now l.at _))
-    ∙ (l.invariant ∙ counted_printed a.cap (number_text a.n) (tag_fields_from f a.view.now a.offset a.n) _ _ c.put_number-left.ensures)
+    let a = c.args in
+    then_printed (rw c.from.ensures at c.put.ensures)
+    (ended (tags_end (text_held (store_seen a.strings.now)) a.view.now l.at (a.n - l.i) (omega arith)) l.invariant)

@@ -1,8 +1,14 @@
 -- The kind, and three fields.
-use Rattle.print.specs.Print.{print, tabs}
+use borrow.Author.Rules.{rules}
+use mir.Facts.{to_z-of_z}
+use mir.Syntax.{w64}
+use mir.Val.{SFits}
+use Rattle.print.specs.Print.{tabs}
+use Rattle.print.proofs.Pieces.{then_printed}
 use Rattle.listing_rows.proofs.put_key.Goals as goal
 
 pub returns : goal.returns
-unfolding print tabs
+unfolding tabs
 returns c =
-    rw (c.put_version.ensures, c.put_sign-room.ensures, c.put_integer-room.ensures, c.put_kind-room.ensures)
+    let f : SFits w64 c.args.id = search rules in
+    then_printed (then_printed (then_printed c.put_kind.ensures (rw (c.from.ensures, to_z-of_z f) at c.put.ensures)) c.put_sign.ensures) c.put_version.ensures

@@ -1,15 +1,18 @@
 -- The letter of each kind.
+use Rattle.std.proofs.Common.{Bor}
+use mathlib.Core.Path.{◌≡◌, ◌∙◌, ap}
+use Rattle.base.specs.Bytes.{Bytes}
 use Rattle.listing_page.specs.Listing.{kind_field}
+use Rattle.listing_rows.proofs.put_kind.Goals.{in-Node, in-Way, in-Relation}
 use Rattle.listing_rows.proofs.put_kind.Goals as goal
 
-pub returns-in-Node : goal.returns-in-Node
+pub returns : goal.returns
 unfolding kind_field
-returns-in-Node c = rw c.in-Node.is c.put_bytes.ensures
-
-pub returns-in-Way : goal.returns-in-Way
-unfolding kind_field
-returns-in-Way c = rw c.in-Way.is c.put_bytes-in-Way.ensures
-
-pub returns-in-Relation : goal.returns-in-Relation
-unfolding kind_field
-returns-in-Relation c = rw c.in-Relation.is c.put_bytes-in-Relation.ensures
+returns c =
+    let e : c.match-kind.put_bytes.now ≡ kind_field c.args.kind =
+    elim c.match-kind.branch [
+      | in-Node w ↦ ap (λ (x : Bor Bytes). x.now) w.put_bytes-is ∙ rw w.in-Node.is
+      | in-Way w ↦ ap (λ (x : Bor Bytes). x.now) w.put_bytes-is ∙ rw w.in-Way.is
+      | in-Relation w ↦ ap (λ (x : Bor Bytes). x.now) w.put_bytes-is ∙ rw w.in-Relation.is
+    ] in
+    rw e at c.put_bytes.ensures

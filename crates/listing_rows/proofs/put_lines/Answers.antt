@@ -1,26 +1,28 @@
-use mathlib.Core.Path.{sym, ◌∙◌}
 use native.Mathlib.Omega.{arith}
+use lib.ListN.{take}
+use Rattle.interner.specs.Lent.{store_seen}
+use Rattle.interner.proofs.Takes.{take_min}
 use Rattle.kind_table.specs.Words.{held}
-use Rattle.listing_fields.specs.Fields.{held_text}
+use Rattle.print.proofs.Walks.{stepped, ended}
+use Rattle.listing_fields.specs.Fields.{text_held}
 use Rattle.listing_rows.proofs.Walks.{rows_next, rows_start, rows_end}
 use Rattle.listing_rows.proofs.put_lines.Goals as goal
 
 pub loop-i-init : goal.loop-i-init
 loop-i-init c =
-    let a = c.args in
-    rows_start a.cap (held_text a.spans.now a.bytes.now a.strings) a.kind a.arena.now a.table.now c.lesser-n.result _
+    let k = c.args.kind.now in
+    rows_start (text_held (store_seen c.args.strings.now)) k.kind (take c.lesser-used.result k.arena.now) k.table.now c.rows_held-i-end.result _
 
 pub loop-i-preserved : goal.loop-i-preserved
 loop-i-preserved c =
-    let a = c.args in
-    let e = rw c.row_at-row.ensures at c.put_line-left.ensures in
-    rows_next a.cap (held_text a.spans.now a.bytes.now a.strings) a.kind a.arena.now a.table.now c.lesser-n.result c.loop-i.i _ _ (omega arith) e
-    ∙ c.loop-i.invariant
+    let k = c.args.kind.now in
+    let l = c.loop-i in
+    stepped (rows_next (text_held (store_seen c.args.strings.now)) k.kind (take c.lesser-used.result k.arena.now) k.table.now c.rows_held-i-end.result l.i (omega arith)) l.invariant
+    (rw c.row_at.ensures at c.put_line.ensures)
 
 pub returns : goal.returns
-unfolding held
 returns c =
-    let a = c.args in
-    rw (← c.lesser-n.ensures)
-    (sym (rows_end a.cap (held_text a.spans.now a.bytes.now a.strings) a.kind a.arena.now a.table.now c.lesser-n.result c.loop-i.i _ (omega arith))
-    ∙ c.loop-i.invariant)
+    let k = c.args.kind.now in
+    let l = c.loop-i in
+    let e = ended (rows_end (text_held (store_seen c.args.strings.now)) k.kind (take c.lesser-used.result k.arena.now) k.table.now c.rows_held-i-end.result l.i (omega arith)) l.invariant in
+    rw (c.rows_held-i-end.ensures, c.lesser-used.ensures, take_min) at e

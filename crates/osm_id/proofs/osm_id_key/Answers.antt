@@ -1,25 +1,19 @@
--- `osm_id::osm_id_key` meets its contract: the bits say which of the three classes the id is in.
-use Prim.Native.Nat.{suc, ◌+◌, ◌-◌, ◌^◌}
-use mathlib.Core.Path.{◌≡◌}
+-- `osm_id::osm_id_key` meets its contract: an id by its sign.
+use mathlib.Core.Path.{◌≡◌, sym, ◌∙◌, ap}
 use native.Mathlib.Omega.{arith}
-use Rattle.osm_id.specs.Order.{osm_key_of}
-use Rattle.osm_id.proofs.Steps.{is_zero, is_positive, is_negative}
+use lib.IntN.{pos, nat_abs}
+use lib.Signed.{◌<ℤ◌}
+use mir.Facts.{to_z-of_z}
+use Rattle.std.proofs.lemmas.Int.{ints}
+use Rattle.osm_id.proofs.Steps.{key_zero, key_negative, key_positive}
+use Rattle.osm_id.proofs.osm_id_key.Goals.{in-0, in-minus9223372036854775808-to-minus1, in-1-to-9223372036854775807}
 use Rattle.osm_id.proofs.osm_id_key.Goals as goal
 
-pub returns-then-bits-eq0 : goal.returns-then-bits-eq0
-unfolding osm_key_of
-returns-then-bits-eq0 c = rw (is_zero c.ranges.id c.bits_of_i64-bits.ensures c.if-bits-eq0.true)
-
-pub returns-then-bits-lt9223372036854775808 : goal.returns-then-bits-lt9223372036854775808
-unfolding osm_key_of
-returns-then-bits-lt9223372036854775808 c =
-    let b = c.bits_of_i64-bits in
-    let e : suc (b.result - 1) ≡ b.result = omega arith in
-    rw (is_positive c.ranges.id b.ensures c.if-bits-eq0.false (omega arith), e)
-
 pub returns : goal.returns
-unfolding osm_key_of
 returns c =
-    let b = c.bits_of_i64-bits in
-    let e : suc (2 ^ 64 - suc b.result) ≡ 2 ^ 64 - 1 - b.result + 1 = omega arith in
-    rw (is_negative c.ranges.id b.ensures (omega arith), e)
+    let u : c.unsigned_abs.result ≡ nat_abs c.args.id = c.unsigned_abs.ensures.value ∙ ap nat_abs (to_z-of_z c.ranges.id) in
+    elim c.match-id.branch [
+      | in-0 w ↦ let h : c.args.id ≡ pos 0 = omega (arith, ints) in rw (w.result-is, u) (sym (key_zero _ h))
+      | in-minus9223372036854775808-to-minus1 w ↦ let h : c.args.id <ℤ pos 0 = omega (arith, ints) in rw (w.result-is, u) (sym (key_negative _ h))
+      | in-1-to-9223372036854775807 w ↦ let h : pos 0 <ℤ c.args.id = omega (arith, ints) in rw (w.result-is, u) (sym (key_positive _ h))
+    ]

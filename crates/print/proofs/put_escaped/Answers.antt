@@ -1,12 +1,24 @@
 -- `put_escaped` stores the byte, or a backslash and its letter.
-use mathlib.Core.Path.{◌∙◌}
-use Rattle.print.proofs.Pieces.{letter_some, wrote_both}
+use Prim.Native.Nat.{◌+◌, ◌<◌, ◌≤◌}
+use mathlib.Core.Path.{refl}
+use mathlib.Core.List.{[], ◌∷◌}
+use native.Mathlib.Omega.{arith}
+use lib.ListN.{length, set, length-set}
+use Rattle.little.proofs.Overs.{over_step, over_nothing}
 use Rattle.print.proofs.put_escaped.Goals as goal
 
-pub returns-then-m-eq0 : goal.returns-then-m-eq0
-returns-then-m-eq0 c = rw (c.letter-m.ensures, c.if-m-eq0.true) c.put_byte.ensures
+pub returns-in-Some : goal.returns-in-Some
+returns-in-Some c =
+    let a = c.args in
+    let e = c.in-Some.ensures in
+    let m = c.in-Some.letter in
+    let h : a.at + 2 ≤ length a.out.now = rw e at c.requires in
+    let n : a.at + 1 < length (set a.out.now a.at 92) = rw length-set (omega arith) in
+    rw (e, over_step a.out.now a.at 92 (m ∷ []) (omega arith), over_step (set a.out.now a.at 92) (a.at + 1) m [] n, over_nothing) (refl, refl)
 
-pub returns : goal.returns
-returns c =
-    rw (c.letter-m.ensures ∙ letter_some _ _ c.if-m-eq0.false)
-    (wrote_both c.put_byte-next.ensures c.put_byte-2.ensures)
+pub returns-in-None : goal.returns-in-None
+returns-in-None c =
+    let a = c.args in
+    let e = c.in-None.ensures in
+    let h : a.at + 1 ≤ length a.out.now = rw e at c.requires in
+    rw (e, over_step a.out.now a.at a.b [] (omega arith), over_nothing) (refl, refl)

@@ -1,22 +1,44 @@
 -- The handle of the user's text is found first: with one the id is deleted and the text follows, without one it is refused.
-use mathlib.Core.Path.{sym, ◌∙◌}
+use Rattle.std.proofs.lemmas.Result.{err_from_is_err_and}
+use mathlib.Core.Path.{refl, ap}
 use mir.Syntax.{w64}
 use mir.Val.{to_z}
-use Rattle.overlay.specs.Lent.{overlay_in}
-use Rattle.event_metadata.specs.Metadata.{meta_written}
-use Rattle.reader_acts.proofs.Once.{behind, delete_done, delete_not}
+use Rattle.overlay.specs.Lent.{overlay_held}
+use Rattle.reader_acts.specs.Acts.{then_user_on}
+use Rattle.reader_acts.proofs.Bits.{act_claims}
+use Rattle.reader_acts.proofs.Once.{asked, before_ok, before_not, behind, delete_done, delete_not}
 use Rattle.reader_acts.proofs.delete_element.Goals as goal
 
-pub returns-in-Ok : goal.returns-in-Ok
-returns-in-Ok c =
-    let k = c.args in
-    λ g.
-    let is = c.user_handle.ensures g in
-    let w = rw (c.claimed.ensures k.line.now) at c.store_delete-kept.ensures in
-    delete_done k.kind (to_z w64 k.id) (meta_written c.args.line.now c.args.meta) (overlay_in c.args.words.now c.args.bytes.now c.args.counters.now) is c.in-Ok.is
-    (behind k.ix.now k.line.now k.meta (meta_written c.args.line.now c.args.meta) (overlay_in c.args.words.now c.args.bytes.now c.args.counters.now) g _ (sym is ∙ c.in-Ok.is) k.kind _ w c.then_user.ensures)
+pub returns-in_err-user-clause-deleted : goal.returns-in_err-user-clause-deleted
+returns-in_err-user-clause-deleted c =
+    let p = err_from_is_err_and c.from_residual.result c.from_residual.ensures.1 in
+    let o = overlay_held c.args.storage.now in
+    let act = c.args.act.now in
+    let id = to_z w64 act.id in
+    λ m w g.
+    let e = rw c.in_err-user.was at (asked act.kind id m o c.storage.ensures g (c.user_before.ensures m w)) in
+    let n = before_not act.kind id m o e in
+    rw (p.1, p.2) (delete_not act.kind id m o refl n.1.0 n.1.1)
 
-pub returns-in-Err : goal.returns-in-Err
-returns-in-Err c =
-    let k = c.args in
-    λ g. delete_not k.kind (to_z w64 k.id) (meta_written c.args.line.now c.args.meta) (overlay_in c.args.words.now c.args.bytes.now c.args.counters.now) (c.user_handle.ensures g) c.in-Err.is (c.user_refused.ensures k.line.now)
+pub returns-in_err-store_delete-clause-deleted : goal.returns-in_err-store_delete-clause-deleted
+returns-in_err-store_delete-clause-deleted c =
+    let p = err_from_is_err_and c.from_residual-in_err-store_delete.result c.from_residual-in_err-store_delete.ensures.1 in
+    let o = overlay_held c.args.storage.now in
+    let act = c.args.act.now in
+    let id = to_z w64 act.id in
+    λ m w g.
+    let e = rw c.in_ok-user.was at (asked act.kind id m o c.storage.ensures g (c.user_before.ensures m w)) in
+    let user = before_ok act.kind id m o e in
+    let done = rw (act_claims w c.claim-claim.ensures, c.in_err-store_delete.was) at c.store_delete.ensures in
+    rw (p.1, p.2) (delete_done act.kind id m o refl user (ap (then_user_on m) done))
+
+pub returns-clause-deleted : goal.returns-clause-deleted
+returns-clause-deleted c =
+    let o = overlay_held c.args.storage.now in
+    let act = c.args.act.now in
+    let id = to_z w64 act.id in
+    λ m w g.
+    let e = rw c.in_ok-user.was at (asked act.kind id m o c.storage.ensures g (c.user_before.ensures m w)) in
+    let user = before_ok act.kind id m o e in
+    let done = rw (act_claims w c.claim-claim.ensures, c.in_ok-store_delete.was) at c.store_delete.ensures in
+    delete_done act.kind id m o refl user (behind _ m o g _ user act.kind _ done (c.take_user.ensures.taken m w))

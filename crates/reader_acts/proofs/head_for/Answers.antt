@@ -5,9 +5,3 @@ use Rattle.reader_acts.proofs.head_for.Goals as goal
 
 pub returns-in-Node : goal.returns-in-Node
 returns-in-Node c = let f = c.ranges in rw (c.in-Node.is, of_z-to_z {w = w64} f.id, of_z-to_z {w = w32} f.lat, of_z-to_z {w = w32} f.lon)
-
-pub returns-in-Way : goal.returns-in-Way
-returns-in-Way c = rw (c.in-Way.is, of_z-to_z {w = w64} c.ranges.id)
-
-pub returns-in-Relation : goal.returns-in-Relation
-returns-in-Relation c = rw (c.in-Relation.is, of_z-to_z {w = w64} c.ranges.id)

@@ -1,14 +1,17 @@
--- A handle below the count is held; another one's text is taken in.
+-- A handle below the count is held, and so is the empty text's, 0; another one's text is taken in.
 use mathlib.Core.Path.{sym}
-use Rattle.overlay.specs.Lent.{overlay_in}
-use Rattle.event_metadata.specs.Metadata.{meta_written}
-use Rattle.reader_acts.proofs.Handles.{user_held, user_taken}
+use Rattle.overlay.specs.Lent.{overlay_held}
+use Rattle.interner.proofs.Interns.{sound_parts}
+use Rattle.interner.proofs.Checks.{some_held}
+use Rattle.reader_acts.proofs.Handles.{user_held}
 use Rattle.reader_acts.proofs.take_user.Goals as goal
 
-pub returns-then-counters-user : goal.returns-then-counters-user
-returns-then-counters-user c =
-    λ g user. user_taken (meta_written c.args.line.now c.args.meta) (overlay_in c.args.words.now c.args.bytes.now c.args.counters.now) _ user g.indexed c.if-counters-user.true (c.take_text.ensures g.lies.user g.short g.indexed)
+pub returns-in_default-handle-clause-taken : goal.returns-in_default-handle-clause-taken
+returns-in_default-handle-clause-taken c =
+    let o = overlay_held c.args.storage.now in
+    λ m w g user. sym (user_held m o 0 (rw c.in_default-handle.is at user) (some_held o.texts (sound_parts o.texts g.indexed.sound)))
 
-pub returns-else-counters-user : goal.returns-else-counters-user
-returns-else-counters-user c =
-    λ g user. sym (user_held (meta_written c.args.line.now c.args.meta) (overlay_in c.args.words.now c.args.bytes.now c.args.counters.now) _ user c.if-counters-user.false)
+pub returns-else-storage-handle-clause-taken : goal.returns-else-storage-handle-clause-taken
+returns-else-storage-handle-clause-taken c =
+    let o = overlay_held c.args.storage.now in
+    λ m w g user. sym (user_held m o _ (rw c.in-Some-handle.is at user) c.if-storage-handle.false)

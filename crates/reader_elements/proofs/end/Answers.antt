@@ -1,8 +1,16 @@
 -- The answer of the push.
-use Rattle.overlay.specs.Lent.{overlay_in}
-use Rattle.reader_elements.proofs.Elements.{ends_done}
+use Rattle.std.proofs.lemmas.Result.{err_from_is_err_and}
+use Rattle.reader.specs.Lent.{state_held}
+use Rattle.reader_elements.proofs.Elements.{ends_works}
 use Rattle.reader_elements.proofs.end.Goals as goal
 
-pub returns : goal.returns
-returns c =
-    λ line. ends_done (record { overlay = overlay_in c.args.words.now c.args.bytes.now c.args.counters.now; reader = c.args.reader; parts = c.args.parts.now }) c.args.place line c.push_staged-answer.ensures c.cleared.ensures
+pub returns-in_err-push_staged-clause-works : goal.returns-in_err-push_staged-clause-works
+returns-in_err-push_staged-clause-works c =
+    let p = err_from_is_err_and c.from_residual.result c.from_residual.ensures.1 in
+    let r = c.push_staged.ensures.rest in
+    rw (p.1, p.2, r.0, r.1) (ends_works (state_held c.args.state.now) (rw c.in_err-push_staged.was at c.push_staged.ensures.pushed))
+
+pub returns-clause-works : goal.returns-clause-works
+returns-clause-works c =
+    let r = c.push_staged.ensures.rest in
+    rw (c.default-state.ensures, r.0, r.1) (ends_works (state_held c.args.state.now) (rw c.in_ok-push_staged.was at c.push_staged.ensures.pushed))

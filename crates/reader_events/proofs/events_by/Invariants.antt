@@ -2,20 +2,19 @@
 use Prim.Native.Nat.{◌≤◌}
 use lib.ListN.{length}
 use Rattle.text_index.specs.Index.{IndexGiven}
-use Rattle.overlay.specs.Lent.{overlay_in}
-use Rattle.reader.specs.State.{State}
+use Rattle.reader.specs.Lent.{state_held, IsSameState}
 use Rattle.reader_events.specs.Runs.{RunGiven}
-use Rattle.reader_events.proofs.Runs.{SameSizes, to_come}
+use Rattle.reader_events.proofs.Runs.{to_come}
 use Rattle.reader_events.proofs.Chains.{RunningBy}
 use Rattle.reader_events.proofs.events_by.Given as goal
 
 abbrev pub invariant-loop-more : goal.invariant-loop-more
 invariant-loop-more l =
-    let s₀ : State = record { overlay = overlay_in l.initial.words l.initial.bytes l.initial.counters; reader = l.initial.done.reader; parts = l.initial.ps } in
-    SameSizes l.initial.words l.initial.bytes l.words l.bytes
+    let s₀ = state_held l.initial.state in
+    IsSameState l.state l.initial.state
     × ((l.done.taken ≤ length l.run)
     × (RunGiven s₀ → IndexGiven l.initial.ix s₀.overlay.texts
-    → RunningBy l.ix l.run s₀ l.more l.done.taken (record { state = record { overlay = overlay_in l.words l.bytes l.counters; reader = l.done.reader; parts = l.ps }; answer = l.done.answer })))
+    → RunningBy l.ix l.run s₀ l.more l.done.taken (record { state = state_held l.state; answer = l.done.answer })))
 
 abbrev pub decreases-loop-more : goal.decreases-loop-more
 decreases-loop-more l = to_come l.run l.more l.done.taken

@@ -1,52 +1,48 @@
 -- Within the limit the role is taken in first, and its handle staged; else nothing is done.
-use mathlib.Core.Path.{sym, ◌∙◌}
-use native.Mathlib.Omega.{arith}
+use Rattle.std.specs.Prelude.{Ok}
+use Rattle.std.proofs.lemmas.Result.{err_from_is_err_and}
+use mathlib.Core.Path.{◌≡◌, sym, ◌∙◌, ap}
 use mir.Syntax.{w64}
-use mir.Val.{Fits, to_z}
-use mir.Facts.{of_z-to_z, Fits-of_lt}
-use Rattle.event_values.specs.Value.{text_at}
-use Rattle.overlay.specs.Lent.{overlay_in}
-use Rattle.reader_parts.proofs.Adds.{member_child, part_yes, handle_fits, staged_left, refused_left, over_left}
-use Rattle.reader_parts.proofs.add_member.Reads as reads
-use Rattle.reader_parts.proofs.add_member.Lts as lts
-use Rattle.reader_parts.proofs.add_member.Tie as tie
+use mir.Val.{to_z}
+use mir.Facts.{of_z-to_z}
+use Rattle.base.specs.Bytes.{Bytes}
+use Rattle.event_scan.specs.Piece.{value_text}
+use Rattle.model.specs.Record.{Member}
+use Rattle.reader_stage.specs.Stage.{member_part}
+use Rattle.reader.specs.Lent.{state_held}
+use Rattle.reader.specs.State.{State, middle, more_parts}
+use Rattle.reader.specs.Step.{member_bits}
+use Rattle.reader_parts.specs.Parts.{part_staged, with_overlay}
+use Rattle.reader_parts.proofs.Adds.{member_child, handle_fits, staged_left, refused_left, over_left}
+use Rattle.reader_parts.proofs.Steps.{member_works}
 use Rattle.reader_parts.proofs.add_member.Goals as goal
 
-pub with_member-requires : goal.with_member-requires
-with_member-requires c =
-    part_yes c.args.pending 2000 (sym c.part_fits.ensures ∙ c.if-part_fits.true)
+pub returns-in_err-handle-clause-works : goal.returns-in_err-handle-clause-works
+returns-in_err-handle-clause-works c =
+    let s = state_held c.args.state.now in
+    let m : Member Bytes = record { ref = to_z w64 c.args.reference; type = c.args.kind; role = value_text c.args.role.now } in
+    let p = err_from_is_err_and c.from_residual.result c.from_residual.ensures.1 in
+    λ g short. member_works s (record { state = state_held c.take_text.new.state; answer = c.from_residual.result }) m
+    (rw (p.1, p.2) (refused_left s (member_child s m) (c.take_text.ensures.taken short g.indexed) c.in_err-handle.was c.take_text.ensures.rest))
 
-pub returns-in-Ok : goal.returns-in-Ok
-returns-in-Ok c =
-    let m : lts.After-narrow tie.the-claims reads.Pre reads.Post = search in
-    let k : lts.After-part_fits tie.the-claims reads.Pre reads.Post = search in
-    let bits : Fits w64 c.args.member.reference = Fits-of_lt (omega arith) in
-    λ g lies.
-    let stored = c.take_text.ensures lies g.short g.indexed in
-    let f = rw (
-      c.from.ensures,
-      m.narrow.ensures (handle_fits (let k = c.args in
-          let m = k.member in
-          member_child k.kind k.pending (record { ref = to_z w64 m.reference; type = m.kind; role = text_at k.line.now m.role }) k.parts.now
-          (overlay_in k.words.now k.bytes.now k.counters.now)) stored c.in-Ok.is g.strings),
-      ← of_z-to_z bits,
-    ) at (c.with_member.ensures g.used) in
-    staged_left (let k = c.args in
-    let m = k.member in
-    member_child k.kind k.pending (record { ref = to_z w64 m.reference; type = m.kind; role = text_at k.line.now m.role }) k.parts.now
-    (overlay_in k.words.now k.bytes.now k.counters.now)) stored (sym k.part_fits.ensures ∙ c.if-part_fits.true) c.in-Ok.is f
+pub returns-then-part_fits-clause-works : goal.returns-then-part_fits-clause-works
+returns-then-part_fits-clause-works c =
+    let s = state_held c.args.state.now in
+    let m : Member Bytes = record { ref = to_z w64 c.args.reference; type = c.args.kind; role = value_text c.args.role.now } in
+    let y = member_child s m in
+    let x = c.member_bytes.result in
+    λ g short.
+    let stored = c.take_text.ensures.taken short g.indexed in
+    let k = c.narrow.ensures (handle_fits s y stored c.in_ok-handle.was g.strings) in
+    let e : x ≡ member_part (member_bits m c.in_ok-handle.handle) = rw (c.member_bytes.ensures, k, c.from.ensures, of_z-to_z c.ranges.reference) in
+    member_works s (record { state = state_held c.stage_middle.new.state; answer = Ok tt }) m
+    (staged_left s y stored (sym c.part_fits.ensures ∙ c.if-part_fits.true) c.in_ok-handle.was g.used c.take_text.ensures.rest
+    (λ (z : State). part_staged (more_parts z.reader.pending.head) (middle z.reader.place.kind z.reader.pending.head.count) x z) c.stage_middle.ensures.staged
+    (ap (λ (b : Bytes). part_staged y.head y.at b (with_overlay (state_held c.take_text.new.state).overlay s)) e))
 
-pub returns-in-Err : goal.returns-in-Err
-returns-in-Err c =
-    λ g lies. refused_left (let k = c.args in
-    let m = k.member in
-    member_child k.kind k.pending (record { ref = to_z w64 m.reference; type = m.kind; role = text_at k.line.now m.role }) k.parts.now
-    (overlay_in k.words.now k.bytes.now k.counters.now)) (c.take_text.ensures lies g.short g.indexed) c.in-Err.is
-
-pub returns : goal.returns
-returns c =
-    let k : lts.After-part_fits tie.the-claims reads.Pre reads.Post = search in
-    λ g lies. over_left (let k = c.args in
-    let m = k.member in
-    member_child k.kind k.pending (record { ref = to_z w64 m.reference; type = m.kind; role = text_at k.line.now m.role }) k.parts.now
-    (overlay_in k.words.now k.bytes.now k.counters.now)) (sym k.part_fits.ensures ∙ c.if-part_fits.false) (c.over_limit.ensures lies g.short g.indexed)
+pub returns-clause-works : goal.returns-clause-works
+returns-clause-works c =
+    let s = state_held c.args.state.now in
+    let m : Member Bytes = record { ref = to_z w64 c.args.reference; type = c.args.kind; role = value_text c.args.role.now } in
+    let e = c.storage.ensures ∙ ap (λ (z : State). z.overlay) c.view.ensures in
+    λ g short. member_works s (record { state = s; answer = c.over_limit.result }) m (over_left s (member_child s m) (sym c.part_fits.ensures ∙ c.if-part_fits.false) e g.indexed (c.over_limit.ensures short))

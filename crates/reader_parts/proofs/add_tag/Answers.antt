@@ -1,10 +1,22 @@
--- A value without a backslash is what is lent of the line; another is resolved.
+-- A value without a backslash is the text; another is resolved.
 use mathlib.Core.Path.{sym, ◌∙◌}
-use Rattle.reader_texts.proofs.Resolved.{extent_bare}
+use Rattle.base.specs.Bytes.{Bytes}
+use Rattle.event_scan.specs.Piece.{value_text}
+use Rattle.event_scan.proofs.Pieces.{text_bare}
+use Rattle.model.specs.Record.{Tag}
+use Rattle.reader.specs.Lent.{state_held}
+use Rattle.reader_parts.proofs.Steps.{tag_works}
 use Rattle.reader_parts.proofs.add_tag.Goals as goal
 
-pub returns-then-lacks : goal.returns-then-lacks
-returns-then-lacks c =
-    λ g lies there.
-    let e = extent_bare c.args.line.now c.args.tag.value there _ _ c.lesser-to.ensures c.lesser-from.ensures (sym c.lacks.ensures ∙ c.if-lacks.true) in
-    rw e at (c.tag_with.ensures g lies)
+pub returns-then-lacks-clause-works : goal.returns-then-lacks-clause-works
+returns-then-lacks-clause-works c =
+    let s = state_held c.args.state.now in
+    let t : Tag Bytes = record { key = value_text c.args.key.now; value = c.args.value.now } in
+    let e = text_bare c.args.value.now (sym c.lacks.ensures ∙ c.if-lacks.true) in
+    λ g short value. rw e (tag_works s (record { state = state_held c.tag_with.new.state; answer = c.tag_with.result }) t (c.tag_with.ensures.worked g short))
+
+pub returns-clause-works : goal.returns-clause-works
+returns-clause-works c =
+    let s = state_held c.args.state.now in
+    let t : Tag Bytes = record { key = value_text c.args.key.now; value = value_text c.args.value.now } in
+    λ g short value. tag_works s (record { state = state_held c.tag_resolved.new.state; answer = c.tag_resolved.result }) t (c.tag_resolved.ensures.worked g short value)

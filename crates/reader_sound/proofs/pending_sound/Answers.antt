@@ -1,5 +1,5 @@
 -- The parts within the lent bytes, then the push that they will make.
-use mathlib.Core.Path.{sym, ◌∙◌}
+use mathlib.Core.Path.{sym}
 use native.Mathlib.Omega.{arith}
 use lib.Seq.{length-take-le}
 use Rattle.reader_sound.proofs.Sound.{pending_faulted, pending_beyond}

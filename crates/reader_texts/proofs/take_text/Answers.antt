@@ -1,10 +1,8 @@
--- A text without a backslash is what is lent of the line; another is resolved.
+-- A value without a backslash is the text.
 use mathlib.Core.Path.{sym, ◌∙◌}
-use Rattle.reader_texts.proofs.Resolved.{extent_bare}
+use Rattle.event_scan.proofs.Pieces.{text_bare}
 use Rattle.reader_texts.proofs.take_text.Goals as goal
 
-pub returns-then-lacks : goal.returns-then-lacks
-returns-then-lacks c =
-    let a = c.args in
-    λ lies short given.
-    rw (extent_bare a.line.now a.at lies _ _ c.lesser-to.ensures c.lesser-from.ensures (sym c.lacks.ensures ∙ c.if-lacks.true)) at (c.store_text_by.ensures given)
+pub returns-then-lacks-clause-taken : goal.returns-then-lacks-clause-taken
+returns-then-lacks-clause-taken c =
+    λ short given. rw (text_bare c.args.value.now (sym c.lacks.ensures ∙ c.if-lacks.true)) (c.store_text_by.ensures given)

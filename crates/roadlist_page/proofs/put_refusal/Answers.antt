@@ -11,4 +11,5 @@ returns c =
     let a = c.args in
     let y = c.from-reply in
     let f : SFits w32 y.result.held = search rules in
-    refused_put a.out.now c.requires a.refusal a.line (omega arith) y.result f y.ensures _ _ c.put_refused-written.ensures
+    rw c.unwrap_or.ensures
+    (refused_put a.out.now (omega arith) a.refusal a.line (omega arith) y.result f y.ensures _ _ c.put_refused.ensures)

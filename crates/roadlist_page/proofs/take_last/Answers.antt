@@ -28,7 +28,7 @@ returns c =
       state = record { overlay = overlay_in k.words.now k.bytes.now k.counters.now; reader = k.reader; parts = k.ps.now };
       buffer = k.last.now;
       held = length k.last.now;
-    }) n (omega arith) _ (c.event-done.ensures ∙ ap (λ (l : Bytes). event_on l (record {
+    }) n (omega arith) _ (c.event.ensures ∙ ap (λ (l : Bytes). event_on l (record {
       overlay = overlay_in k.words.now k.bytes.now k.counters.now;
       reader = k.reader;
       parts = k.ps.now;

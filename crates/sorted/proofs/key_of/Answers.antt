@@ -3,4 +3,4 @@ use mir.Facts.{sfits_to_z, to_z-of_z}
 use Rattle.sorted.proofs.key_of.Goals as goal
 
 pub returns : goal.returns
-returns c = rw (c.i64_of_bits.ensures, to_z-of_z (sfits_to_z c.ranges.id)) at c.osm_id_key.ensures
+returns c = rw (c.cast_signed.ensures, to_z-of_z (sfits_to_z c.ranges.id)) at c.osm_id_key.ensures

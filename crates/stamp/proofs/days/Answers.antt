@@ -10,18 +10,7 @@ overflow_cast-m c = omega (arith, moment_ranges _ c.requires)
 pub overflow_add-result : goal.overflow_add-result
 overflow_add-result c =
     let m = c.args.m in
-    let sum = days_are m c.is_leap.ensures c.days_before_year.ensures c.days_before_month-months.ensures in
-    omega (arith, sum, days_high m, moment_ranges m c.requires)
+    omega (arith, days_are m c.is_leap.ensures c.days_before_year.ensures c.days_before_month-months.ensures, days_high m, moment_ranges m c.requires)
 
 pub overflow_sub-result : goal.overflow_sub-result
-overflow_sub-result c = omega (arith, moment_ranges _ c.requires)
-
-pub overflow_add-result-2 : goal.overflow_add-result-2
-overflow_add-result-2 c =
-    let m = c.args.m in
-    let sum = days_are m c.is_leap.ensures c.days_before_year.ensures c.days_before_month-months.ensures in
-    omega (arith, sum, days_high m, moment_ranges m c.requires)
-
-pub returns : goal.returns
-returns c =
-    days_are c.args.m c.is_leap.ensures c.days_before_year.ensures c.days_before_month-months.ensures
+overflow_sub-result c = (moment_ranges _ c.requires).day1

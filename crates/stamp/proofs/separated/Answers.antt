@@ -1,6 +1,6 @@
 -- `separated`: the six tests are the definition's.
 use Rattle.stamp.specs.Stamp.{separated}
-use Rattle.stamp.proofs.Judging.{and_both}
+use Rattle.base.proofs.Tests.{and_both}
 use Rattle.stamp.proofs.separated.Goals as goal
 
 pub returns : goal.returns

@@ -2,7 +2,8 @@
 use mathlib.Core.Path.{sym, ◌∙◌, ap}
 use native.Mathlib.Omega.{arith}
 use Rattle.calendar.specs.Calendar.{month_days}
-use Rattle.stamp.proofs.Judging.{and_both, before_month, after_month, of_month}
+use Rattle.base.proofs.Tests.{and_both}
+use Rattle.stamp.proofs.Judging.{before_month, after_month, of_month}
 use Rattle.stamp.proofs.taken.Goals as goal
 
 pub returns-then-m-lt1 : goal.returns-then-m-lt1

@@ -1,20 +1,17 @@
-use mathlib.Core.Path.{refl, sym, ◌∙◌}
-use native.Mathlib.Omega.{arith}
+-- `text::plain` meets its contract: a fold over the bytes tells whether each passes the test.
+use mathlib.Core.Path.{◌∙◌}
+use mathlib.Core.Bool.{true, ◌&&◌}
+use Rattle.std.proofs.Common.{rules}
+use Rattle.std.proofs.lemmas.Iterator.{YieldsList-from_slice}
+use Rattle.std.proofs.lemmas.Iterator.Consumers.{fold_from_yields_List}
 use Rattle.base.specs.Bytes.{both}
 use Rattle.text.specs.Check.{is_plain}
-use Rattle.text.proofs.PlainBytes.{pass_on, pass_ends, plain_test}
+use Rattle.text.proofs.PlainBytes.{fold_all}
 use Rattle.text.proofs.plain.Goals as goal
 
-pub loop-b-init : goal.loop-b-init
-unfolding both
-loop-b-init c = refl
-
-pub loop-b-preserved : goal.loop-b-preserved
-loop-b-preserved c =
-    let l = c.loop-b in
-    rw plain_test (pass_on is_plain c.args.s.now l.ok l.b-index (omega arith) ∙ l.invariant)
-
 pub returns : goal.returns
+unfolding both
 returns c =
-    let l = c.loop-b in
-    sym (pass_ends is_plain c.args.s.now l.ok l.b-index (omega arith)) ∙ l.invariant
+    let s = c.args.s.now in
+    fold_from_yields_List _ (λ o b. o && is_plain b) true c.fold.result c.fold.ensures.ran (YieldsList-from_slice s cc) (λ a x b q w. search rules)
+    ∙ fold_all is_plain s true

@@ -1,15 +1,18 @@
 -- `text::size` meets its contract.
-use mathlib.Core.Path.{sym, ◌∙◌}
-use Rattle.text.proofs.Lengths.{sized_low, sized_is}
+use borrow.Author.Tests.{le-leb, lt-leb}
+use Rattle.base.specs.Bytes.{both}
+use Rattle.base.proofs.Split.{by_bool}
+use Rattle.text.specs.Char.{xml_char}
+use Rattle.text.proofs.size.Goals.{then-least-v, else-least-v}
 use Rattle.text.proofs.size.Goals as goal
-use Rattle.text.proofs.size.Goals.{else-least-v-via-then-least-v+else-legal, else-least-v-via-else-least-v}
 
-pub returns-then-legal : goal.returns-then-legal
-returns-then-legal c = sym (sized_is _ _ _ c.if-least-v.true ∙ rw (← c.legal.ensures, c.if-legal.true))
-
-pub returns-else-least-v : goal.returns-else-least-v
-returns-else-least-v c =
-    elim c.else-least-v.branch [
-      | else-least-v-via-then-least-v+else-legal w ↦ sym (sized_is _ _ _ w.if-least-v.true ∙ rw (← w.legal.ensures, w.if-legal.false))
-      | else-least-v-via-else-least-v w ↦ sym (sized_low _ _ _ w.if-least-v.false)
+pub returns : goal.returns
+unfolding both
+returns c =
+    let a = c.args in
+    elim c.if-least-v.branch [
+      | then-least-v w ↦
+          rw (c.then_some.ensures, w.then_some-is, w.legal.ensures, le-leb a.least a.v w.if-least-v.true)
+          (by_bool (xml_char a.v) (λ t. rw t) (λ t. rw t))
+      | else-least-v w ↦ rw (c.then_some.ensures, w.then_some-is, lt-leb a.least a.v w.if-least-v.false)
     ]

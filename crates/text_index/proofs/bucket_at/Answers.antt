@@ -1,32 +1,14 @@
--- `bucket_at` reads the bytes of the span, where there is one.
-use Prim.Native.Nat.{◌+◌, ◌-◌}
-use mathlib.Core.Path.{◌≡◌, sym, ◌∙◌}
-use native.Mathlib.Omega.{arith}
+-- `bucket_at` hashes the string, where there is one.
 use Rattle.base.proofs.Split.{clash}
-use Rattle.interner.proofs.Finds.{SpanWithin, lies, lies_not, within_bytes}
+use Rattle.interner.proofs.Finds.{found, found_not}
 use Rattle.text_index.proofs.bucket_at.Goals as goal
-use Rattle.text_index.proofs.bucket_at.Goals.{In-Some}
 
-pub returns-in_default : goal.returns-in_default
-returns-in_default c =
-    let a = c.args in
-    record { upper_bound = omega arith; value = λ q. clash q (lies_not a.spans.now a.bytes.now a.h (sym c.in_default.is ∙ c.span_at.ensures)) }
+pub returns-in_err-string_at-clause-value : goal.returns-in_err-string_at-clause-value
+returns-in_err-string_at-clause-value c =
+    let t = c.args.texts.now in
+    λ q. clash q (found_not t.spans.now t.bytes.now c.args.h (rw c.in_err-string_at.was at c.string_at.ensures))
 
--- where the string lies
-lain : (c : In-Some)
-    → let a = c.args in SpanWithin a.spans.now a.bytes.now a.h c.in-Some.p.start c.in-Some.p.len
-lain c =
-    let a = c.args in
-    lies a.spans.now a.bytes.now a.h c.in-Some.p (sym c.in-Some.is ∙ c.span_at.ensures)
-
-pub overflow_add-end : goal.overflow_add-end
-overflow_add-end c = omega (arith, within_bytes _ _ _ _ _ (lain (record { before = search; type_inv = search })))
-
-pub slice_bounds-bucket-end : goal.slice_bounds-bucket-end
-slice_bounds-bucket-end c = omega (arith, within_bytes _ _ _ _ _ (lain (record { before = search; type_inv = search })))
-
-pub returns : goal.returns
-returns c =
-    let l = lain (record { before = search; type_inv = search }) in
-    let n : c.in-Some.p.start + c.in-Some.p.len - c.in-Some.p.start ≡ c.in-Some.p.len = omega arith in
-    record { upper_bound = c.bucket.ensures.1; value = λ q. rw (n, l.starts, l.long) at c.bucket.ensures.0 }
+pub returns-clause-value : goal.returns-clause-value
+returns-clause-value c =
+    let t = c.args.texts.now in
+    λ q. rw (c.bucket.ensures.0, ← (found t.spans.now t.bytes.now c.args.h c.in_ok-string_at.field-0.now c.in_ok-string_at.ensures).string)

@@ -1,7 +1,7 @@
 use native.Mathlib.Omega.{arith}
 use Prim.Native.Nat.{◌+◌}
 use mathlib.Core.Path.{◌≡◌, sym, ◌∙◌}
-use Rattle.text_index.proofs.Chains.{chain_start, chain_next}
+use Rattle.text_index.proofs.Chaining.{chain_start, chain_next}
 use Rattle.text_index.proofs.find_chained.Goals as goal
 
 pub loop-init : goal.loop-init

@@ -3,7 +3,7 @@ use Prim.Native.Nat.{ℕ, ◌≤◌}
 use mathlib.Core.Path.{◌≡◌}
 use Rattle.text_index.specs.Index.{handles_in}
 use Rattle.text_index.specs.Link.{ChainsGiven}
-use Rattle.text_index.proofs.Chains.{ChainLeft}
+use Rattle.text_index.proofs.Chaining.{ChainLeft}
 use Rattle.text_index.proofs.find_chained.Given as goal
 
 abbrev pub invariant-loop : goal.invariant-loop

@@ -4,7 +4,7 @@ use native.Mathlib.Omega.{arith}
 use lib.Seq.{length-take-le}
 use Rattle.interner.specs.Strings.{store_with}
 use Rattle.interner.proofs.Takes.{take_min}
-use Rattle.text_index.proofs.Chains.{given_chains}
+use Rattle.text_index.proofs.Chaining.{given_chains}
 use Rattle.text_index.proofs.index_held.Goals as goal
 
 pub slice_bounds-link_all-end : goal.slice_bounds-link_all-end

@@ -8,7 +8,7 @@ pub loop-h-preserved : goal.loop-h-preserved
 loop-h-preserved c = λ count k m g.
     let a = c.args in
     let l = c.loop-h in
-    let b = c.bucket_at-b in
+    let b = c.bucket_at_by-b in
     let long : 8192 < length l.ix = omega arith in
     let hh : l.h < 4096 = omega arith in
     rw c.link.ensures

@@ -6,4 +6,4 @@ use Rattle.interner.specs.Strings.{is_at}
 use Rattle.text_index.proofs.search_down.Given as goal
 
 abbrev pub invariant-loop-h : goal.invariant-loop-h
-invariant-loop-h l = (j : ℕ) → l.h ≤ j → j < l.n → is_at l.spans l.bytes l.text j ≡ false
+invariant-loop-h l = (j : ℕ) → l.h ≤ j → j < l.n → is_at l.texts.spans.now l.texts.bytes.now l.text j ≡ false

@@ -1,15 +1,20 @@
 -- `version_floor::version_of_word` meets its contract.
+use mathlib.Core.Path.{sym, ◌∙◌, ap}
+use native.Mathlib.Omega.{arith}
+use mir.Syntax.{w32}
+use mir.Val.{to_z}
 use mir.Facts.{to_z-of_z, sfits_to_z, Fits-of_lt}
-use borrow.Author.Tests.{lt-ltb, le-ltb}
+use borrow.Author.Tests.{lt-ltb}
 use Rattle.version_floor.specs.Version.{of_word}
+use Rattle.version_floor.proofs.Versions.{word_absent}
 use Rattle.version_floor.proofs.version_of_word.Goals as goal
 
-pub returns-then-w-lt4294967296 : goal.returns-then-w-lt4294967296
+pub returns-in-Ok : goal.returns-in-Ok
 unfolding of_word
-returns-then-w-lt4294967296 c =
-    let h = c.if-w-lt4294967296.true in
-    rw (c.i32_of_bits.ensures, to_z-of_z (sfits_to_z (Fits-of_lt h)), lt-ltb _ _ h)
+returns-in-Ok c =
+    let e = c.in-Ok.ensures in
+    let f = c.cast_signed.ensures ∙ ap (to_z w32) e.1 in
+    rw (f, to_z-of_z (sfits_to_z (Fits-of_lt e.0)), lt-ltb _ _ e.0)
 
-pub returns-else-w-lt4294967296 : goal.returns-else-w-lt4294967296
-unfolding of_word
-returns-else-w-lt4294967296 c = rw (le-ltb _ _ c.if-w-lt4294967296.false)
+pub returns-in-Err : goal.returns-in-Err
+returns-in-Err c = let e = c.in-Err.ensures in sym (word_absent c.args.w (omega (arith, e)))

@@ -1,16 +1,18 @@
 -- `version_floor::version_word` meets its contract.
 use mathlib.Core.Path.{ap, ◌∙◌}
 use mir.Syntax.{w32}
-use mir.Val.{of_z}
-use Rattle.signed.proofs.Bits.{held}
+use mir.Val.{SFits, of_z}
+use mir.Facts.{to_z-of_z}
+use borrow.Author.Rules.{rules}
 use Rattle.version_floor.specs.Version.{word_of}
 use Rattle.version_floor.proofs.version_word.Goals as goal
 
-pub returns-in_default : goal.returns-in_default
+pub returns-in-Some : goal.returns-in-Some
 unfolding word_of
-returns-in_default c = rw c.in_default.is
+returns-in-Some c =
+    let f : SFits w32 c.in-Some.n = search rules in
+    rw c.in-Some.is (c.from.ensures ∙ (c.cast_unsigned.ensures ∙ ap (of_z w32) (to_z-of_z f)))
 
-pub returns : goal.returns
+pub returns-in-None : goal.returns-in-None
 unfolding word_of
-returns c =
-    rw c.in-Some.is (c.bits_of_i32.ensures ∙ ap (of_z w32) (held w32 c.in-Some.n c.in-Some.known_told-1-own.given.0.1))
+returns-in-None c = rw c.in-None.is

@@ -4,4 +4,4 @@ use Rattle.compact.proofs.CompactTagIter.next.Goals as goal
 
 pub returns : goal.returns
 unfolding tag_next
-returns c = rw (← c.tag_next-turn.ensures)
+returns c = rw (← c.next-step.ensures)

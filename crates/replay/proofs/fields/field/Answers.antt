@@ -2,7 +2,7 @@
 use Rattle.std.proofs.Common.{rules, eqb}
 use Rattle.std.proofs.lemmas.Iterator.Consumers.{nth_from_yields_List}
 use Rattle.std.proofs.lemmas.Iterator.Splits.{YieldsList-from_slice_split}
-use Rattle.replay.proofs.Tabs.{nth_field}
+use Rattle.replay.proofs.Tabs.{fields_split}
 use Rattle.replay.proofs.fields.field.Goals as goal
 
 pub returns : goal.returns
@@ -11,4 +11,4 @@ returns c =
     let e =
     nth_from_yields_List c.nth.result c.nth.new.self c.args.n c.nth.ensures.ran
     (YieldsList-from_slice_split _ (λ b. eqb b 9) c.args.line.now k.rest k.done k.closure (λ x b q r. search rules)) in
-    nth_field c.args.line.now c.args.n c.nth.result _ _ e c.unwrap_or.ensures
+    rw (fields_split c.args.line.now) e

@@ -1,8 +1,5 @@
 use mir.Facts.{to_z-of_z}
 use Rattle.torvaskin.proofs.numbers.tvk_blob_osm_first_key.Goals as goal
 
-pub blob_osm_first_key-requires : goal.blob_osm_first_key-requires
-blob_osm_first_key-requires c = tt
-
 pub returns : goal.returns
 returns c = rw (to_z-of_z c.ranges.min_id, to_z-of_z c.ranges.max_id) at c.blob_osm_first_key.ensures

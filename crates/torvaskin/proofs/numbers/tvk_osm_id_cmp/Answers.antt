@@ -2,11 +2,5 @@
 use mir.Facts.{to_z-of_z}
 use Rattle.torvaskin.proofs.numbers.tvk_osm_id_cmp.Goals as goal
 
-pub osm_id_cmp-requires : goal.osm_id_cmp-requires
-osm_id_cmp-requires c = tt
-
-pub order_number-requires : goal.order_number-requires
-order_number-requires c = tt
-
 pub returns : goal.returns
 returns c = rw (c.order_number.ensures, c.osm_id_cmp.ensures, to_z-of_z c.ranges.a, to_z-of_z c.ranges.b)

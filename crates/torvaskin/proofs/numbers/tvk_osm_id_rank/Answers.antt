@@ -1,8 +1,8 @@
-use mir.Facts.{to_z-of_z}
+-- The rank of the id by its bits.
+use mathlib.Core.Path.{◌∙◌, ap}
+use Rattle.signed.proofs.Bits.{bits_back}
+use Rattle.osm_id.specs.Order.{rank}
 use Rattle.torvaskin.proofs.numbers.tvk_osm_id_rank.Goals as goal
 
-pub osm_id_rank-requires : goal.osm_id_rank-requires
-osm_id_rank-requires c = tt
-
 pub returns : goal.returns
-returns c = rw (to_z-of_z c.ranges.id) at c.osm_id_rank.ensures
+returns c = c.rank_of_bits.ensures ∙ ap rank (bits_back c.ranges.id c.cast_unsigned.ensures)

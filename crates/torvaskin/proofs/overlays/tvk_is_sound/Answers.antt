@@ -1,8 +1,10 @@
 -- 0, or 22.
+use Rattle.overlay.specs.Lent.{lent}
+use Rattle.overlay.specs.Sound.{is_sound}
+use Rattle.torvaskin.proofs.OverlayReplies.{sound_told}
 use Rattle.torvaskin.proofs.overlays.tvk_is_sound.Goals as goal
 
-pub returns-then-is_sound : goal.returns-then-is_sound
-returns-then-is_sound c = rw (c.kept_reply.ensures, ← c.is_sound.ensures, c.if-is_sound.true)
-
 pub returns : goal.returns
-returns c = rw (c.from.ensures, ← c.is_sound.ensures, c.if-is_sound.false)
+returns c =
+    let k = c.args in
+    rw (c.kept_reply.ensures, c.check_sound.ensures) (sound_told (is_sound (lent k.words.now k.bytes.now k.counters.now)))

@@ -3,4 +3,4 @@ use Rattle.torvaskin.proofs.readings.tvk_is_empty.Goals as goal
 
 pub returns : goal.returns
 returns c =
-    rw (c.from.ensures, c.is_empty.ensures)
+    rw (c.from.ensures, c.truth_read.ensures, c.is_empty.ensures)

@@ -2,28 +2,33 @@
 use Rattle.std.specs.Prelude.{Err}
 use mathlib.Core.Path.{ap}
 use mir.Syntax.{w32}
-use Rattle.signed.proofs.Bits.{held, compared}
+use mir.Val.{SFits}
+use mir.Facts.{to_z-of_z}
+use borrow.Author.Rules.{rules}
+use Rattle.signed.proofs.Bits.{compared}
 use Rattle.version_floor.specs.Version.{admit_of}
 use Rattle.version_floor.proofs.VersionFloor.admit.Goals as goal
 
+pub returns-in-Some-Some : goal.returns-in-Some-Some
+unfolding admit_of
+returns-in-Some-Some c =
+    let v = c.in-Some-Some in
+    let x : SFits w32 v.version = search rules in
+    let y : SFits w32 v.floor = search rules in
+    rw (v.is-0, v.is-1, compared w32 v.version v.floor x.sfits y.sfits c.if-version-floor.true) (ap Err (to_z-of_z y))
+
 pub returns-in_default : goal.returns-in_default
 unfolding admit_of
-returns-in_default c = rw c.in_default.is
+returns-in_default c =
+    let v = c.in-Some-Some in
+    let x : SFits w32 v.version = search rules in
+    let y : SFits w32 v.floor = search rules in
+    rw (v.is-0, v.is-1, compared w32 v.version v.floor x.sfits y.sfits c.if-version-floor.false)
 
-pub returns-in_default-claim : goal.returns-in_default-claim
+pub returns-in_default-2 : goal.returns-in_default-2
 unfolding admit_of
-returns-in_default-claim c = rw (c.in-Some.is, c.in_default-claim.is)
+returns-in_default-2 c = rw (c.in_default.is-0, c.in_default.is-1)
 
-pub returns-then-version-floor : goal.returns-then-version-floor
+pub returns-in_default-3 : goal.returns-in_default-3
 unfolding admit_of
-returns-then-version-floor c =
-    let x = c.in-Some.known_told-1-own.given.0.1 in
-    let y = c.in-Some-claim.known_told-in-Some-claim-1-own.given.0.1 in
-    rw (c.in-Some.is, c.in-Some-claim.is, compared w32 c.in-Some-claim.version c.in-Some.floor y x c.if-version-floor.true) (ap Err (held w32 c.in-Some.floor x))
-
-pub returns-else-version-floor : goal.returns-else-version-floor
-unfolding admit_of
-returns-else-version-floor c =
-    let x = c.in-Some.known_told-1-own.given.0.1 in
-    let y = c.in-Some-claim.known_told-in-Some-claim-1-own.given.0.1 in
-    rw (c.in-Some.is, c.in-Some-claim.is, compared w32 c.in-Some-claim.version c.in-Some.floor y x c.if-version-floor.false)
+returns-in_default-3 c = rw (c.in_default.is-0)

@@ -1,0 +1,23 @@
+-- A node's head is read field by field, and where its bytes are there it is what a user reads.
+use native.Mathlib.Omega.{arith}
+use Rattle.little.proofs.Littles.{bytes_of}
+use Rattle.kind.specs.declared.Kind.TheVariants.{Node}
+use Rattle.compact.specs.Held.{node_bits}
+use Rattle.compact.specs.View.{node_at, head_at}
+use Rattle.compact.proofs.Steps.{node_same, head_there}
+use Rattle.compact.proofs.CompactNodeRecordHead.read.Goals as goal
+
+pub returns-clause-front : goal.returns-clause-front
+unfolding node_at
+returns-clause-front c = rw (← c.get_u64.ensures, ← c.get_u32.ensures, ← c.get_u32-2.ensures, ← c.get_u32-3.ensures)
+
+pub returns-clause-says : goal.returns-clause-says
+unfolding head_at node_at
+returns-clause-says c = rw (← c.get_u64.ensures, ← c.get_u32.ensures, ← c.get_u32-2.ensures, ← c.get_u32-3.ensures)
+
+pub returns-clause-same : goal.returns-clause-same
+unfolding node_at
+returns-clause-same c =
+    λ h. let s = c.args.bytes.now in
+    let w = rw (node_same s (bytes_of s (λ i l. (c.type_inv.bytes i).fits))) at (head_there node_bits Node s h) in
+    rw (c.get_u64.ensures, c.get_u32.ensures, c.get_u32-2.ensures, c.get_u32-3.ensures) w

@@ -1,9 +1,0 @@
--- So many members: the loop keeps that the members left from its place on end where all of them end.
-use Prim.Native.Nat.{◌-◌, ◌≤◌}
-use mathlib.Core.Path.{◌≡◌}
-use lib.ListN.{length}
-use Rattle.compact_legal.specs.Judge.{members_end}
-use Rattle.compact_legal.proofs.members_end.Given as goal
-
-abbrev pub invariant-loop : goal.invariant-loop
-invariant-loop l = (l.place ≤ length l.bytes) × (members_end l.strings (l.n - l.counter) l.bytes l.place ≡ members_end l.strings l.n l.bytes l.at)

@@ -1,0 +1,184 @@
+-- Laws of a text parted by the first of a byte: the first place of the byte, and the fields of a line and a field's name and value by it.
+use Rattle.std.specs.Prelude.{None, Option, Some, option_map, is_some}
+use Rattle.std.specs.Borrow.{Bor}
+use Prim.Native.Nat.{ℕ, zero, suc, ◌+◌, ◌<◌, ◌≤◌}
+use mathlib.Core.Path.{◌≡◌, refl, sym, ◌∙◌, ap}
+use mathlib.Core.Bool.{true, false, cond}
+use mathlib.Core.List.{List, [], ◌∷◌}
+use native.Mathlib.Omega.{arith}
+use lib.Dec.{eqb}
+use lib.ListN.{length, get_or, take, drop}
+use borrow.Author.Tests.{eq-eqb, ne_eqb}
+use Rattle.base.specs.Bytes.{Bytes, both, same}
+use Rattle.base.proofs.Split.{by_bool, by_eq, no, clash}
+use Rattle.line.specs.Line.{onto, fields}
+use Rattle.text.specs.Escape.{unescape}
+use Rattle.event.specs.Event.{Attr, Parted, onto_left, parted, is_empty, attr_with, attr_from, attr_of, or_empty, named, none_twice, value_of}
+use Rattle.event_scan.specs.Piece.{there, value_text}
+use Rattle.event_scan.specs.Parts.{parted_by, size_left, attribute_onto, attributes_in}
+use Rattle.event_scan.specs.Fields.{fields_in}
+
+module _ (c : ℕ) where
+  pub parted_here : (s : Bytes) (i : ℕ) → i < length s → get_or s i 0 ≡ c → ((k : ℕ) → k < i → get_or s k 0 ≡ c → ⊥)
+      → parted_by c s ≡ Some (record { left = take i s; right = drop (suc i) s })
+  unfolding parted_by
+  parted_here [] i h e n = no (omega arith)
+  parted_here (b ∷ s) zero h e n = rw (eq-eqb b c e)
+  parted_here (b ∷ s) (suc i) h e n =
+      rw (ne_eqb b c (n 0 (omega arith)), parted_here s i (omega arith) e (λ k l. n (suc k) (omega arith)))
+
+  pub parted_nowhere : (s : Bytes) → ((k : ℕ) → k < length s → get_or s k 0 ≡ c → ⊥) → parted_by c s ≡ None
+  unfolding parted_by
+  parted_nowhere [] n = refl
+  parted_nowhere (b ∷ s) n =
+      rw (ne_eqb b c (n 0 (omega arith)), parted_nowhere s (λ k l. n (suc k) (omega arith)))
+
+-- a field's name and value
+pub parted_is : (f : Bytes) → parted_by 61 f ≡ parted f
+unfolding parted_by parted
+parted_is [] = refl
+parted_is (b ∷ f) = rw (parted_is f)
+
+-- the first field and those behind it
+abbrev pub fields_by : Bytes → Option Parted → List Bytes
+fields_by s None = s ∷ []
+fields_by s (Some p) = p.left ∷ fields p.right
+
+fields_onto : (b : ℕ) (s : Bytes) (o : Option Parted) → onto b (fields_by s o) ≡ fields_by (b ∷ s) (onto_left b o)
+unfolding onto
+fields_onto b s None = refl
+fields_onto b s (Some p) = refl
+
+pub fields_are : (s : Bytes) → fields s ≡ fields_by s (parted_by 9 s)
+unfolding fields parted_by
+fields_are [] = refl
+fields_are (b ∷ s) =
+    by_eq b 9
+    (λ e. rw (eq-eqb b 9 e))
+    (λ n. rw (ne_eqb b 9 n, fields_are s) (fields_onto b s (parted_by 9 s)))
+
+-- ---- a field as an attribute
+
+pub empty_is : (s : Bytes) → is_empty s ≡ eqb (length s) 0
+empty_is [] = refl
+empty_is (b ∷ s) = sym (ne_eqb (length (b ∷ s)) 0 (λ e. omega arith))
+
+pub attr_nowhere : (f : Bytes) → None ≡ parted_by 61 f → attr_of f ≡ None
+unfolding attr_of
+attr_nowhere f e = ap attr_from (sym (parted_is f) ∙ sym e)
+
+module _ (f : Bytes) {n v : Bytes} (e : Some (record { left = n; right = v }) ≡ parted_by 61 f) where
+  attr_parted : attr_of f ≡ cond (is_empty n) None (attr_with n (unescape v))
+  unfolding attr_of
+  attr_parted = ap attr_from (sym (parted_is f) ∙ sym e)
+
+  pub attr_nameless : eqb (length n) 0 ≡ true → attr_of f ≡ None
+  attr_nameless h = attr_parted ∙ rw (empty_is n, h)
+
+  pub attr_wrong : eqb (length n) 0 ≡ false → there (unescape v) ≡ false → attr_of f ≡ None
+  unfolding there
+  attr_wrong h w = attr_parted ∙ rw (empty_is n, h) (by_text (unescape v) w)
+    where
+      by_text : (o : Option Bytes) → there o ≡ false → attr_with n o ≡ None
+      by_text None w = refl
+      by_text (Some x) w = clash refl w
+
+  pub attr_right : eqb (length n) 0 ≡ false → there (unescape v) ≡ true → attr_of f ≡ Some (record { name = n; value = value_text v })
+  unfolding there value_text
+  attr_right h w = attr_parted ∙ rw (empty_is n, h) (by_text (unescape v) w)
+    where
+      by_text : (o : Option Bytes) → there o ≡ true → attr_with n o ≡ Some (record { name = n; value = or_empty o })
+      by_text None w = clash w refl
+      by_text (Some x) w = refl
+
+-- ---- the attributes among fields
+
+pub attributes_none : (fs : List Bytes) → fs ≡ [] → attributes_in fs ≡ []
+unfolding attributes_in
+attributes_none fs e = rw e
+
+module _ (fs : List Bytes) (f : Bytes) (gs : List Bytes) (e : fs ≡ f ∷ gs) where
+  attributes_first : attributes_in fs ≡ attribute_onto (parted_by 61 f) (attributes_in gs)
+  unfolding attributes_in
+  attributes_first = ap attributes_in e ∙ ap (λ o. attribute_onto o (attributes_in gs)) (sym (parted_is f))
+
+  pub attributes_passed : None ≡ parted_by 61 f → attributes_in fs ≡ attributes_in gs
+  attributes_passed p = attributes_first ∙ ap (λ o. attribute_onto o (attributes_in gs)) (sym p)
+
+  pub attributes_more : {n v : Bytes} → Some (record { left = n; right = v }) ≡ parted_by 61 f
+      → attributes_in fs ≡ record { name = n; value = value_text v } ∷ attributes_in gs
+  attributes_more p = attributes_first ∙ ap (λ o. attribute_onto o (attributes_in gs)) (sym p)
+
+-- ---- how long the parts are
+
+record Sizes (s : Bytes) (p : Parted) : Type 0 where
+  pub whole : length s ≡ length p.left + (1 + length p.right)
+
+sizes_onto : (b : ℕ) (s : Bytes) (o : Option Parted) (p : Parted) → ((q : Parted) → o ≡ Some q → Sizes s q) → onto_left b o ≡ Some p → Sizes (b ∷ s) p
+sizes_onto b s None p ih e = no (cc)
+sizes_onto b s (Some q) p ih e =
+    let w = (ih q refl).whole in
+    let l : p.left ≡ b ∷ q.left = cc in
+    let r : p.right ≡ q.right = cc in
+    rw (l, r) (record { whole = omega arith })
+
+sizes : (c : ℕ) (s : Bytes) (p : Parted) → parted_by c s ≡ Some p → Sizes s p
+unfolding parted_by
+sizes c [] p e = no (cc)
+sizes c (b ∷ s) p e =
+    by_eq b c
+    (λ q. let z : Some (record { left = []; right = s }) ≡ Some p = rw (eq-eqb b c q) at e in
+    let l : p.left ≡ [] = cc in
+    let r : p.right ≡ s = cc in
+    rw (l, r) (record { whole = omega arith }))
+    (λ n. sizes_onto b s (parted_by c s) p (sizes c s) (rw (ne_eqb b c n) at e))
+
+pub behind_short : (c : ℕ) (s : Bytes) {n v : Bytes} → Some (record { left = n; right = v }) ≡ parted_by c s → length v ≤ length s
+behind_short c s e = let w = (sizes c s _ (sym e)).whole in omega arith
+
+field_in_text : (s f : Bytes) (fs : List Bytes) (o : Option Parted) → parted_by 9 s ≡ o → fields_by s o ≡ f ∷ fs → length f ≤ length s
+field_in_text s f fs None q e = let z : s ≡ f = cc in rw z (omega arith)
+field_in_text s f fs (Some p) q e = let z : p.left ≡ f = cc in let w = (sizes 9 s p q).whole in rw (← z) (omega arith)
+
+pub field_short : (o : Option (Bor Bytes)) (f : Bytes) (fs : List Bytes) → fields_in o ≡ f ∷ fs → length f ≤ size_left o
+field_short None f fs e = no (cc)
+field_short (Some s) f fs e = field_in_text s.now f fs (parted_by 9 s.now) refl (sym (fields_are s.now) ∙ e)
+
+-- ---- the value of a name, and no name twice
+
+pub value_nowhere : (n : Bytes) (attrs : List Attr) → attrs ≡ [] → value_of n attrs ≡ None
+unfolding value_of
+value_nowhere n attrs e = rw e
+
+pub once_ends : (attrs : List Attr) → attrs ≡ [] → none_twice attrs ≡ true
+unfolding none_twice
+once_ends attrs e = rw e
+
+module _ (attrs : List Attr) (a : Attr) (bs : List Attr) (e : attrs ≡ a ∷ bs) where
+  pub value_here : (n : Bytes) → same n a.name ≡ true → Some a.value ≡ value_of n attrs
+  unfolding value_of
+  value_here n h = rw (e, h)
+
+  pub value_behind : (n : Bytes) → same n a.name ≡ false → value_of n bs ≡ value_of n attrs
+  unfolding value_of
+  value_behind n h = rw (e, h)
+
+  pub once_stops : named a.name bs ≡ true → false ≡ none_twice attrs
+  unfolding none_twice both
+  once_stops h = rw (e, h)
+
+  pub once_on : named a.name bs ≡ false → none_twice bs ≡ none_twice attrs
+  unfolding none_twice both
+  once_on h = rw (e, h)
+
+named_is : (n : Bytes) (attrs : List Attr) → is_some (value_of n attrs) ≡ named n attrs
+unfolding value_of named
+named_is n [] = refl
+named_is n (a ∷ attrs) = by_bool (same n a.name) (λ e. rw e) (λ e. rw e (named_is n attrs))
+
+is_some_map : {A B : Type 0} (f : A → B) (o : Option A) → is_some (option_map f o) ≡ is_some o
+is_some_map f None = refl
+is_some_map f (Some x) = refl
+
+pub named_found : {A : Type 0} (f : A → Bytes) (o : Option A) (n : Bytes) (attrs : List Attr) → option_map f o ≡ value_of n attrs → is_some o ≡ named n attrs
+named_found f o n attrs e = sym (is_some_map f o) ∙ ap is_some e ∙ named_is n attrs

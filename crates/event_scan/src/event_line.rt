@@ -1,0 +1,224 @@
+// An event's line: what it is, with its name and its attributes as they are written.
+
+ghost use Rattle.std.specs.Prelude.{◌≡◌, ◌≤◌, ◌<◌, true, not, map, option_map, length, take, IfSome};
+ghost use Rattle.std.specs.Borrow.{Bor};
+ghost use Rattle.base.specs.Bytes.{Bytes, both};
+ghost use Rattle.line.specs.Line.{fields};
+ghost use Rattle.event.specs.Event.{body, event_of, event_from, starts_from, attr_of, attrs_of, none_twice};
+ghost use Rattle.distinct.specs.Distinct.{runs_in};
+ghost use Rattle.distinct.specs.Check.{NotedAs};
+ghost use Rattle.event_scan.specs.Names.{names_of, among, new_name, texts_of};
+ghost use Rattle.event_scan.specs.Piece.{there};
+ghost use Rattle.event_scan.specs.Parts.{name_seen, text_left, attributes_in};
+ghost use Rattle.event_scan.specs.Fields.{fields_left};
+ghost use Rattle.event_scan.specs.Scan.{stand, lone};
+ghost use Rattle.event_scan.specs.Line.{line_means};
+
+use crate::fields::{Attributes, Fields, attribute_name, split_once};
+use crate::{MAX_LINE, body_length, lacks, legal_line};
+use refusal::Refusal;
+
+// ---- whether attributes stand: each field is one, and no name is there twice
+
+fn all_right(rest: &Fields<'_>) -> bool
+    ensures { result ≡ there (attrs_of (fields_left rest.now)) }
+{
+    for field in *rest {
+        if attribute_name(field).is_none() {
+            return false;
+        }
+    }
+    true
+}
+
+// Whether a name is one of some.
+fn seen(name: &[u8], names: &[&[u8]]) -> bool
+    ensures { result ≡ among name.now (texts_of names.now) }
+{
+    names.iter().any(|known| *known == name)
+}
+
+// The name of the attribute that a field is, if it is none of some names.
+fn new_name<'a>(field: &'a [u8], names: &[&[u8]]) -> Option<&'a [u8]>
+    ensures { name_seen result ≡ new_name (attr_of field.now) (texts_of names.now) }
+{
+    let name = attribute_name(field)?;
+    if seen(name, names) {
+        return None;
+    }
+    Some(name)
+}
+
+// Whether at most sixteen fields stand as attributes: their names are kept, and each is compared with those before it. Of more nothing is told. The names
+// lie in an array, since the library has no heap.
+fn few_stand(rest: &Fields<'_>) -> Option<bool>
+    ensures { IfSome result (λ stands. stands ≡ stand (attrs_of (fields_left rest.now))) }
+{
+    let mut names = [b"".as_slice(); 16];
+    let mut n: usize = 0;
+    for field in *rest {
+        if n == 16 {
+            return None;
+        }
+        let Some(name) = new_name(field, &names[..n]) else {
+            return Some(false);
+        };
+        names[n] = name;
+        n += 1;
+    }
+    Some(true)
+}
+
+// ---- many attributes
+
+// The words of the names of the attributes that fields are, as far as there is room. How many names there are is answered.
+fn note_names(rest: &Fields<'_>, words: &mut [u64]) -> usize
+    ensures { result ≤ length words.new → names_of (attributes_in (fields_left rest.now)) ≡ runs_in (text_left rest.now.rest) (take result words.new) }
+{
+    let Some(text) = rest.rest else {
+        return 0;
+    };
+    let mut n: usize = 0;
+    let mut at: usize = 0;
+    for field in *rest {
+        if let Some((name, _)) = split_once(field, b'=') {
+            distinct::put_word(words, n, distinct::run_word(text, at, name.len()));
+            n += 1;
+        }
+        at += field.len() + 1;
+    }
+    n
+}
+
+// Whether no two attributes have one name. In a short line they are compared in pairs, in a long one by the words of the names, where these tell it.
+fn once(rest: &Fields<'_>) -> bool
+    ensures { result ≡ none_twice (attributes_in (fields_left rest.now)) }
+{
+    let attributes = Attributes { fields: *rest };
+    let Some(text) = rest.rest else {
+        return attributes.once_in_pairs();
+    };
+    if text.len() < 256 {
+        return attributes.once_in_pairs();
+    }
+    let note = |words: &mut [u64]| -> Option<usize>
+        ensures { NotedAs (text_left rest.entry.now.rest) words.new result (none_twice (attributes_in (fields_left rest.entry.now))) }
+    { Some(note_names(rest, words)) };
+    match distinct::noted_differ(text, note) {
+        Some(told) => told,
+        None => attributes.once_in_pairs(),
+    }
+}
+
+fn many_stand(rest: &Fields<'_>) -> bool
+    ensures { result ≡ stand (attrs_of (fields_left rest.now)) }
+{
+    all_right(rest) && once(rest)
+}
+
+// Whether fields stand as attributes, however many they are.
+fn attributes_stand(rest: &Fields<'_>) -> bool
+    ensures { result ≡ stand (attrs_of (fields_left rest.now)) }
+{
+    match few_stand(rest) {
+        Some(stands) => stands,
+        None => many_stand(rest),
+    }
+}
+
+// ---- a line
+
+// A line: an open or, where `empty` is true, an empty element, with its attributes; a close; anything else.
+#[derive(Clone, Copy, Debug)]
+pub enum EventLine<'a> {
+    Starts {
+        empty: bool,
+        name: &'a [u8],
+        attributes: Attributes<'a>,
+    },
+    Closes,
+    Others,
+}
+
+// An open or an empty element, by the fields behind its first word.
+fn starts<'a>(empty: bool, fields: &Fields<'a>) -> Result<EventLine<'a>, Refusal>
+    ensures { line_means result ≡ starts_from empty (fields_left fields.now) }
+{
+    let mut rest = *fields;
+    let Some(name) = rest.next() else {
+        return Err(Refusal::NotEventLine);
+    };
+    if name.is_empty() {
+        return Err(Refusal::NotEventLine);
+    }
+    if attributes_stand(&rest) {
+        let attributes = Attributes { fields: rest };
+        return Ok(EventLine::Starts {
+            empty,
+            name,
+            attributes,
+        });
+    }
+    Err(Refusal::NotEventLine)
+}
+
+// A line that is one word, which starts no element.
+fn alone(word: &[u8]) -> Result<EventLine<'_>, Refusal>
+    ensures { line_means result ≡ lone word.now }
+{
+    if word == b"close".as_slice() {
+        return Ok(EventLine::Closes);
+    }
+    if word == b"other".as_slice() {
+        return Ok(EventLine::Others);
+    }
+    Err(Refusal::NotEventLine)
+}
+
+// The event of a text's fields.
+fn event(text: &[u8]) -> Result<EventLine<'_>, Refusal>
+    requires { length text.now ≤ 16384 }
+    ensures { line_means result ≡ event_from (fields text.now) }
+{
+    let mut rest = Fields::new(text);
+    let Some(word) = rest.next() else {
+        return Err(Refusal::NotEventLine);
+    };
+    if word == b"open".as_slice() {
+        return starts(false, &rest);
+    }
+    if word == b"empty".as_slice() {
+        return starts(true, &rest);
+    }
+    match rest.next() {
+        Some(_) => Err(Refusal::NotEventLine),
+        None => alone(word),
+    }
+}
+
+// What a line with its line feed is, or its refusal. Plain bytes are legal, and none of them is a line feed.
+pub fn read(line: &[u8]) -> Result<EventLine<'_>, Refusal>
+    ensures { line_means result ≡ event_of line.now }
+{
+    let n = body_length(line);
+    if MAX_LINE < n {
+        return Err(Refusal::LongLine);
+    }
+    let text = &line[..n];
+    if text::plain(text) {
+        if n == line.len() {
+            return Err(Refusal::NotEventLine);
+        }
+        return event(text);
+    }
+    if legal_line(text) {
+        if n == line.len() {
+            return Err(Refusal::NotEventLine);
+        }
+        if lacks(text, b'\n') {
+            return event(text);
+        }
+        return Err(Refusal::NotEventLine);
+    }
+    Err(Refusal::NotText)
+}

@@ -1,0 +1,16 @@
+-- `tag_of`: k, then v.
+use Rattle.event_fields.specs.Field.{tag_of}
+use Rattle.event_values.proofs.Values.{handed_on}
+use Rattle.event_values.proofs.tag_of.Goals as goal
+
+pub returns-in_err-key : goal.returns-in_err-key
+unfolding tag_of
+returns-in_err-key c = rw (handed_on c.from_residual.ensures, ← c.in_err-key.ensures)
+
+pub returns-in_err-value : goal.returns-in_err-value
+unfolding tag_of
+returns-in_err-value c = rw (handed_on c.from_residual-in_err-value.ensures, ← c.in_ok-key.ensures, ← c.in_err-value.ensures)
+
+pub returns : goal.returns
+unfolding tag_of
+returns c = rw (← c.in_ok-key.ensures, ← c.in_ok-value.ensures)

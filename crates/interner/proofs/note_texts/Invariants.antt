@@ -1,7 +1,0 @@
--- `note_texts` tries the handles in order. The invariant: those passed are legal, and their words are noted.
-use Rattle.interner.specs.Check.{WordsNoted}
-use Rattle.interner.proofs.Words.{LegalUpTo}
-use Rattle.interner.proofs.note_texts.Given as goal
-
-abbrev pub invariant-loop-h : goal.invariant-loop-h
-invariant-loop-h l = LegalUpTo l.spans l.bytes l.h × WordsNoted l.spans l.bytes l.words l.h

@@ -1,0 +1,12 @@
+-- A row with a place for its record is live, any other says that the id is deleted.
+use mathlib.Core.Path.{◌∙◌, ap}
+use mathlib.Core.Bool.{not}
+use Rattle.kind_reading.proofs.Standings.{place_is, not_back}
+use Rattle.kind_reading.proofs.Side.has.Goals as goal
+
+pub returns-in-Live : goal.returns-in-Live
+returns-in-Live c = rw c.in-Live.is (c.is_some.ensures ∙ rw c.record_place.ensures (place_is c.args.row.place))
+
+pub returns-in-Deleted : goal.returns-in-Deleted
+returns-in-Deleted c =
+    rw c.in-Deleted.is (not_back _ _ c.is_none.ensures ∙ ap not (rw c.record_place-in-Deleted.ensures (place_is c.args.row.place)))

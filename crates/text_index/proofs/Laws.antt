@@ -1,0 +1,43 @@
+-- Laws of chains that their users need.
+use Prim.Native.Nat.{ℕ, ◌<◌}
+use mathlib.Core.Path.{◌≡◌, refl}
+use mathlib.Core.List.{List, [], ◌++◌}
+use native.Mathlib.Omega.{arith}
+use lib.ListN.{length-append, get_or, replicate, get_or-append}
+use Rattle.base.specs.Bytes.{Bytes}
+use Rattle.text_index.specs.Index.{bucket_at}
+use Rattle.text_index.specs.Chained.{HandleChains, none_chained, Chained}
+use Rattle.text_index.proofs.Index.{last_same, zeros_read}
+
+-- chains whose buckets are empty
+chained_empty : (c : HandleChains) (texts : List Bytes) → c.handles ≡ 0 → ((b : ℕ) → get_or c.lasts b 0 ≡ 0) → Chained c texts
+chained_empty c texts e z =
+    record {
+      few = omega (arith, e);
+      heads = λ b p.
+          record {
+            within = omega (arith, e, z b);
+            last = λ q. absurd (omega (arith, z b));
+            none = λ h q r s. omega (arith, e);
+          };
+      befores = λ h p. absurd (omega (arith, e));
+    }
+
+-- the chains that are made of `[0u16; BUCKETS]`
+pub chained_fresh : (befores : List ℕ) (texts : List Bytes) → Chained (record { lasts = replicate 4096 0; befores = befores; handles = 0 }) texts
+chained_fresh befores texts = chained_empty (record { lasts = replicate 4096 0; befores = befores; handles = 0 }) texts refl (zeros_read 4096)
+
+-- no chains at all
+pub chained_none : (texts : List Bytes) → Chained none_chained texts
+chained_none texts = chained_empty none_chained texts refl (λ b. refl)
+
+-- more texts
+pub chained_more : (c : HandleChains) (texts more : List Bytes) → Chained c texts → Chained c (texts ++ more)
+chained_more c texts more i =
+    let s : (h : ℕ) → h < c.handles → bucket_at (texts ++ more) h ≡ bucket_at texts h =
+    λ h p. rw (get_or-append texts more [] h (omega (arith, i.few))) in
+    record {
+      few = omega (arith, length-append texts more, i.few);
+      heads = λ b p. last_same (bucket_at texts) (bucket_at (texts ++ more)) b _ _ s (i.heads b p);
+      befores = λ h p. rw (s h p) (last_same (bucket_at texts) (bucket_at (texts ++ more)) (bucket_at texts h) h _ (λ k q. s k (omega arith)) (i.befores h p));
+    }
