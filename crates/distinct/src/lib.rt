@@ -150,7 +150,7 @@ fn rises(bytes: &[u8], words: &[u64]) -> Option<bool>
 }
 
 // Whether no two of the runs of some words are equal, where it is told. The words are sorted: most by their keys alone.
-pub fn runs_differ(bytes: &[u8], words: &mut [u64]) -> Option<bool>
+fn runs_differ(bytes: &[u8], words: &mut [u64]) -> Option<bool>
     ensures { RightOf result (distinct (runs_in bytes.now words.old)) }
 {
     words.sort_unstable();

@@ -190,7 +190,7 @@ right_field f attrs h = by_parts (parted f) h
     by_parts (Some p) h = by_name p.left p.right (is_empty p.left) h
 
 -- fields that are attributes alone
-attributes_right : (fs : List Bytes) → there (attrs_of fs) ≡ true → attrs_of fs ≡ Some (attributes_in fs)
+pub attributes_right : (fs : List Bytes) → there (attrs_of fs) ≡ true → attrs_of fs ≡ Some (attributes_in fs)
 unfolding attrs_of attributes_in
 attributes_right [] h = refl
 attributes_right (f ∷ fs) h =

@@ -182,6 +182,7 @@ impl TableMut<'_> {
     // stored: where the rank is new and there is no room for one more row, nothing is.
     pub fn put_row(&mut self, found: Result<usize, usize>, row: Row) -> bool
         ensures same { IsSameTable self.new self.old }
+        ensures count_in_bounds { self.old.count < self.new.count → 3 * self.old.count + 3 ≤ length self.old.words.now }
         ensures done { found ≡ lookup self.old.words.now self.old.count row.rank
             → record { words = self.new.words.now; count = self.new.count; answer = result } ≡ table_after self.old.words.now self.old.count row }
     {
