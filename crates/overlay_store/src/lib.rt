@@ -12,8 +12,8 @@ ghost use Rattle.interner.specs.Strings.{intern};
 ghost use Rattle.interner.specs.Texts.{handle_answered};
 ghost use Rattle.text_index.specs.Index.{IndexGiven};
 ghost use Rattle.text_index.specs.Chained.{StoreChained, ChainsServe};
-ghost use Rattle.text_index.specs.Lent.{chains_seen};
-ghost use Rattle.overlay.specs.Lent.{lent, left, overlay_held, overlay_tabled, IsSameStorage, IsSameTables};
+ghost use Rattle.text_index.specs.Lent.{chains_seen, chains_held, IsSameChains};
+ghost use Rattle.overlay.specs.Lent.{lent, left, overlay_seen, overlay_held, overlay_tabled, IsSameStorage, IsSameTables};
 ghost use Rattle.overlay_store.specs.Lent.{kind_store_lent, kind_store_left, setting_in, strings_at, OthersKept};
 ghost use Rattle.overlay_store.specs.Calls.{bytes_of, store_push, store_delete, handle_in, store_text};
 
@@ -21,10 +21,10 @@ use compact::{ArenaMeta, PushHead, PushRecord};
 use interner::{Interned, StringsMut, Taken};
 use kind::Kind;
 use kind_store::{KindStorageMut, KindStorageTable};
-use overlay::{StorageMut, StorageTables};
+use overlay::{Storage, StorageMut, StorageTables};
 use overlay_blocks::{ARENA, COUNTERS, SETTING, STRING_BYTES, STRINGS, Sizes};
 use refusal::Refusal;
-use text_index::Chains;
+use text_index::{Chains, ChainsMut};
 
 // ---- a text
 
@@ -59,9 +59,8 @@ pub fn intern(
     text: &[u8],
 ) -> Result<u64, Refusal>
     ensures same { IsSameStorage storage.new storage.old }
-    ensures done { StoreChained (chains_seen chains.now) (overlay_held storage.old).texts
+    ensures done { ChainsServe (chains_seen chains.now) (overlay_held storage.old).texts
         → record { overlay = overlay_held storage.new; answer = result } ≡ store_text text.now (overlay_held storage.old) }
-    ensures unchained { chains.now.handles ≡ 0 → record { overlay = overlay_held storage.new; answer = result } ≡ store_text text.now (overlay_held storage.old) }
 {
     let t = Sizes::from(&*storage.counters).texts(storage.words.len(), storage.bytes.len());
     let handle = intern_in(
@@ -74,65 +73,68 @@ pub fn intern(
     handle.ok_or(Refusal::StringsFull)
 }
 
+// What that would answer, with nothing taken in: 13, or the handle that the text has or would get.
+pub fn handle(storage: &Storage<'_>, chains: &Chains<'_>, text: &[u8]) -> Result<u64, Refusal>
+    ensures { ChainsServe (chains_seen chains.now) (overlay_seen storage.now).texts → result ≡ (store_text text.now (overlay_seen storage.now)).answer }
+{
+    chains
+        .answer(&storage.strings(), text)
+        .ok_or(Refusal::StringsFull)
+}
+
+// Brings chains up to date with the held texts.
+pub fn chain_texts(chains: &mut ChainsMut<'_>, storage: &Storage<'_>)
+    ensures same { IsSameChains chains.new chains.old }
+    ensures chains { StoreChained (chains_held chains.old) (overlay_seen storage.now).texts → StoreChained (chains_held chains.new) (overlay_seen storage.now).texts }
+{
+    chains.index(&storage.strings());
+}
+
 // ---- an act on one kind
 
 // A push on the kind whose counters stand at `at` and three behind it. A function of its own for the same reason as `intern_in`.
 fn push_in(
     at: usize,
-    kind: Kind,
     table: &mut [u64],
     arena: &mut [u8],
     counters: &mut [u64; COUNTERS],
-    head: PushHead,
-    meta: ArenaMeta,
-    parts: &[u8],
+    record: &PushRecord<'_>,
 ) -> Result<(), Refusal>
     requires { at < 3 }
     ensures { (record { kind_store = kind_store_left at table.new arena.new counters.new; answer = result }
-        ≡ pushed kind (setting_in counters.old) (kind_store_lent at table.old arena.old counters.old) (to_z w64 head.id) (claim_of (meta_of meta)) (bytes_of kind head meta parts.now))
+        ≡ pushed record.now.kind (setting_in counters.old) (kind_store_lent at table.old arena.old counters.old) (to_z w64 record.now.head.id) (claim_of (meta_of record.now.meta)) (bytes_of record.now.kind record.now.head record.now.meta record.now.parts.now))
         × OthersKept at (at + 3) counters.old counters.new }
 {
     let setting = counters[SETTING];
     let mut part = KindStorageMut {
-        kind,
+        kind: record.kind,
         table,
         ids: counters[at],
         arena,
         used: counters[at + ARENA],
     };
-    let record = PushRecord {
-        kind,
-        head,
-        meta,
-        parts,
-    };
-    let answer = part.push(setting.into(), &record);
+    let answer = part.push(setting.into(), record);
     counters[at] = part.ids;
     counters[at + ARENA] = part.used;
     answer
 }
 
 // A push whose record is legal: 12, 14, 15, or taken.
-pub fn push(
-    storage: &mut StorageMut<'_>,
-    kind: Kind,
-    head: PushHead,
-    meta: ArenaMeta,
-    parts: &[u8],
-) -> Result<(), Refusal>
+pub fn push(storage: &mut StorageMut<'_>, record: &PushRecord<'_>) -> Result<(), Refusal>
     ensures same { IsSameStorage storage.new storage.old }
-    ensures done { record { overlay = overlay_held storage.new; answer = result } ≡ store_push kind head meta parts.now (overlay_held storage.old) }
+    ensures done { record { overlay = overlay_held storage.new; answer = result } ≡ store_push record.now.kind record.now.head record.now.meta record.now.parts.now (overlay_held storage.old) }
 {
-    let p = Sizes::from(&*storage.counters).part(kind, storage.words.len(), storage.bytes.len());
+    let p = Sizes::from(&*storage.counters).part(
+        record.kind,
+        storage.words.len(),
+        storage.bytes.len(),
+    );
     push_in(
         p.at,
-        kind,
         &mut storage.words[p.from..p.to],
         &mut storage.bytes[p.first..p.end],
         storage.counters,
-        head,
-        meta,
-        parts,
+        record,
     )
 }
 
