@@ -98,34 +98,34 @@ fn push_in(
     table: &mut [u64],
     arena: &mut [u8],
     counters: &mut [u64; COUNTERS],
-    record: &PushRecord<'_>,
+    push: &PushRecord<'_>,
 ) -> Result<(), Refusal>
     requires { at < 3 }
     ensures { (record { kind_store = kind_store_left at table.new arena.new counters.new; answer = result }
-        ≡ pushed record.now.kind (setting_in counters.old) (kind_store_lent at table.old arena.old counters.old) (to_z w64 record.now.head.id) (claim_of (meta_of record.now.meta)) (bytes_of record.now.kind record.now.head record.now.meta record.now.parts.now))
+        ≡ pushed push.now.kind (setting_in counters.old) (kind_store_lent at table.old arena.old counters.old) (to_z w64 push.now.head.id) (claim_of (meta_of push.now.meta)) (bytes_of push.now.kind push.now.head push.now.meta push.now.parts.now))
         × OthersKept at (at + 3) counters.old counters.new }
 {
     let setting = counters[SETTING];
     let mut part = KindStorageMut {
-        kind: record.kind,
+        kind: push.kind,
         table,
         ids: counters[at],
         arena,
         used: counters[at + ARENA],
     };
-    let answer = part.push(setting.into(), record);
+    let answer = part.push(setting.into(), push);
     counters[at] = part.ids;
     counters[at + ARENA] = part.used;
     answer
 }
 
 // A push whose record is legal: 12, 14, 15, or taken.
-pub fn push(storage: &mut StorageMut<'_>, record: &PushRecord<'_>) -> Result<(), Refusal>
+pub fn push(storage: &mut StorageMut<'_>, push: &PushRecord<'_>) -> Result<(), Refusal>
     ensures same { IsSameStorage storage.new storage.old }
-    ensures done { record { overlay = overlay_held storage.new; answer = result } ≡ store_push record.now.kind record.now.head record.now.meta record.now.parts.now (overlay_held storage.old) }
+    ensures done { record { overlay = overlay_held storage.new; answer = result } ≡ store_push push.now.kind push.now.head push.now.meta push.now.parts.now (overlay_held storage.old) }
 {
     let p = Sizes::from(&*storage.counters).part(
-        record.kind,
+        push.kind,
         storage.words.len(),
         storage.bytes.len(),
     );
@@ -134,7 +134,7 @@ pub fn push(storage: &mut StorageMut<'_>, record: &PushRecord<'_>) -> Result<(),
         &mut storage.words[p.from..p.to],
         &mut storage.bytes[p.first..p.end],
         storage.counters,
-        record,
+        push,
     )
 }
 
