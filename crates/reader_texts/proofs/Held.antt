@@ -1,22 +1,19 @@
 -- The text of an extent: no longer than its line, so an array of a line's largest length holds it whole.
 use Rattle.std.specs.Prelude.{None, Option, Some}
-use Prim.Native.Nat.{ℕ, suc, ◌-◌, ◌≤◌, min}
-use mathlib.Core.Path.{◌≡◌, sym, ◌∙◌}
-use mathlib.Core.Bool.{Bool, true, false, not}
+use Prim.Native.Nat.{ℕ, suc, ◌≤◌, min}
+use mathlib.Core.Path.{◌≡◌}
+use mathlib.Core.Bool.{Bool, true, false}
 use mathlib.Core.List.{[], ◌∷◌}
 use native.Mathlib.Omega.{arith}
 use lib.ListN.{length, take}
 use lib.Dec.{eqb}
-use lib.Seq.{slice, length-slice}
-use Rattle.base.specs.Bytes.{Bytes, all}
+use Rattle.base.specs.Bytes.{Bytes}
 use Rattle.base.proofs.Split.{by_bool}
 use Rattle.little.specs.Little.{over}
 use Rattle.little.proofs.Overs.{read_back}
 use Rattle.text.specs.Escape.{byte_before, meaning, unescape_from}
 use Rattle.event.specs.Event.{or_empty}
 use Rattle.event_scan.specs.Piece.{value_text}
-use Rattle.event_scan.proofs.Places.{lent_is}
-use Rattle.event_scan.proofs.Pieces.{text_bare}
 
 -- ---- a text is no longer than the value that writes it
 
