@@ -10,7 +10,7 @@ ghost use Rattle.c_replies.specs.Overlays.{sound_reply};
 ghost use Rattle.torvaskin.specs.Overlays.{kind_answer, set_up_reply, allow_reply, intern_reply, push_reply, delete_reply};
 
 use c_replies::Text;
-use compact::{ArenaMeta, PushHead};
+use compact::{ArenaMeta, PushHead, PushRecord};
 use kind::Kind;
 use overlay::{Storage, StorageMut, StorageTables};
 use overlay_blocks::{COUNTERS, Sizes};
@@ -115,7 +115,15 @@ pub extern "C" fn tvk_push(
         counters,
     };
     match named_kind(&storage.storage(), kind) {
-        Ok(k) => c_replies::kept_reply(overlay_direct::push(&mut storage, k, head, meta, parts)),
+        Ok(kind) => {
+            let push = PushRecord {
+                kind,
+                head,
+                meta,
+                parts,
+            };
+            c_replies::kept_reply(overlay_direct::push(&mut storage, &push))
+        }
         Err(refusal) => Reply::from(refusal),
     }
 }
