@@ -1,6 +1,5 @@
 -- Document 01, the acts of an event: "12 .. 13 .. 14 .. 15 ..", and the first of them is answered. "Nothing lent changes" at a refusal.
-use Rattle.std.specs.Prelude.{ℕ, ◌<◌, ◌≤◌, ◌≡◌, Bool, true, false, cond, List, [], ℤ, length, take, Err, Ok, Result, Option, None, Some}
-use Rattle.std.specs.Borrow.{Bor}
+use Rattle.std.specs.Prelude.{ℕ, ◌<◌, ◌≡◌, Bool, true, false, cond, [], ℤ, take, Err, Ok, Result, Option, None, Some}
 use Rattle.std.specs.Int.{w32}
 use Rattle.std.proofs.Common.{SFits}
 use Rattle.base.specs.Bytes.{Bytes}
@@ -9,13 +8,14 @@ use Rattle.refusal.specs.declared.Refusal.TheVariants.{Regression}
 use Rattle.kind.specs.declared.Kind.{Kind}
 use Rattle.model.specs.Record.{Meta, Body, kind_of, flagged, claim_of}
 use Rattle.compact.specs.declared.ArenaMeta.{ArenaMeta}
-use Rattle.text_index.specs.Index.{IndexGiven}
+use Rattle.text_index.specs.Chained.{HandleChains, ChainsServe}
 use Rattle.kind_store.specs.KindStore.{known_version, checked}
 use Rattle.overlay.specs.Overlay.{Overlay, kind_store_of}
 use Rattle.overlay.specs.Calls.{OverlayAfter, overlay_refused}
 use Rattle.overlay_store.specs.Calls.{store_text, store_push, store_delete}
 use Rattle.act_answer.specs.Answer.{claim_answer}
-use Rattle.event_scan.specs.Piece.{value_text}
+use Rattle.event_scan.specs.declared.fields.Value.{Value}
+use Rattle.event_scan.specs.Fields.{text_written}
 use Rattle.reader_acts.specs.declared.Act.{Act}
 use Rattle.reader.specs.declared.Pending.{Pending}
 use Rattle.reader.specs.Step.{bits_with_user, head_for}
@@ -120,9 +120,9 @@ before_act k id m o = before_by (claim_answer k id (claim_of m) o) (handle_for m
 -- ---- what an act means
 
 -- a user as it is written, where metadata names one
-abbrev pub UserMeans : Option (Bor (List ℕ)) → Bool → Bytes → Type 0
+abbrev pub UserMeans : Option Value → Bool → Bytes → Type 0
 UserMeans None named t = named ≡ false
-UserMeans (Some u) named t = (named ≡ true) × ((value_text u.now ≡ t) × (length u.now ≤ 16384))
+UserMeans (Some u) named t = (named ≡ true) × (text_written u ≡ t)
 
 -- an act by its metadata
 pub record Means (a : Act) (m : Meta Bytes) : Type 0 where
@@ -133,10 +133,10 @@ pub record Means (a : Act) (m : Meta Bytes) : Type 0 where
 
 -- ---- what is given
 
--- the handles of the overlay fit the metadata's field, and its texts have an array of chains
-pub record ActGiven (ix : List ℕ) (o : Overlay) : Type 0 where
+-- the handles of the overlay fit the metadata's field, and the chains serve its texts
+pub record ActGiven (chains : HandleChains) (o : Overlay) : Type 0 where
   pub few : o.texts.strings < 4294967296
-  pub indexed : IndexGiven ix o.texts
+  pub serve : ChainsServe chains o.texts
 
 -- the user's text has or will get that handle
 abbrev pub UserIs : Meta Bytes → Overlay → ℕ → Type 0

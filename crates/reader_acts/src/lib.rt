@@ -8,19 +8,22 @@ ghost use Rattle.std.proofs.Common.{to_z};
 ghost use Rattle.base.specs.Bytes.{Bytes};
 ghost use Rattle.model.specs.Record.{Meta, Body, kind_of, claim_of};
 ghost use Rattle.overlay.specs.Lent.{overlay_in, overlay_seen, overlay_held, IsSameStorage};
+ghost use Rattle.text_index.specs.Lent.{chains_seen};
 ghost use Rattle.overlay_store.specs.Calls.{store_delete};
 ghost use Rattle.act_answer.specs.Answer.{claim_answer};
 ghost use Rattle.event_values.specs.Value.{body_in};
-ghost use Rattle.reader.specs.Lent.{state_held, IsSameState};
 ghost use Rattle.reader.specs.Step.{bits_with_user, head_for};
 ghost use Rattle.reader_acts.specs.Acts.{begin_on, handle_for, with_user, push_empty_on, delete_element_on, push_staged_on, or_zero, found, first_refusal, before_act, Means, ActGiven, UserIs};
 
-use compact::{ArenaMeta, PushHead};
+use compact::{ArenaMeta, PushHead, PushRecord};
+use event_scan::fields::Value;
 use kind::Kind;
-use overlay::{Storage, StorageMut};
+use overlay::{Storage, StorageMut, StorageTables};
 use overlay_blocks::{COUNTERS, STRINGS};
-use reader::ReaderState;
+use reader::Pending;
+use reader_stage::STAGED;
 use refusal::Refusal;
+use text_index::Chains;
 
 // An act on an element: its kind and id, its metadata in bits with no user, and the text of the user that it names, as it is written.
 #[derive(Clone, Copy)]
@@ -28,7 +31,7 @@ pub struct Act<'a> {
     pub kind: Kind,
     pub id: u64,
     pub meta: ArenaMeta,
-    pub user: Option<&'a [u8]>,
+    pub user: Option<Value<'a>>,
 }
 
 // ---- in bits
@@ -68,42 +71,40 @@ fn with_handle(meta: ArenaMeta, user: Option<u64>) -> ArenaMeta
 // An element begins: 13, or its metadata with its user's handle.
 pub fn begin_element(
     storage: &mut StorageMut<'_>,
-    ix: &[u16],
+    chains: &Chains<'_>,
     act: &Act<'_>,
 ) -> Result<ArenaMeta, Refusal>
     ensures same { IsSameStorage storage.new storage.old }
-    ensures begun { (m : Meta Bytes) → Means act.now m → ActGiven ix.now (overlay_held storage.old)
+    ensures begun { (m : Meta Bytes) → Means act.now m → ActGiven (chains_seen chains.now) (overlay_held storage.old)
         → record { overlay = overlay_held storage.new; answer = result } ≡ begin_on m (overlay_held storage.old) }
 {
     let Some(user) = act.user else {
         return Ok(act.meta);
     };
-    let handle = reader_texts::take_text(storage, ix, user)?;
+    let handle = reader_texts::take_text(storage, chains, &user)?;
     Ok(with_handle(act.meta, Some(handle)))
 }
 
 // ---- an element that ends
 
 // Pushes the element whose parts are staged: 12, 14, 15, or taken.
-pub fn push_staged(state: &mut ReaderState<'_>) -> Result<(), Refusal>
-    ensures same { IsSameState state.new state.old }
-    ensures rest { (state.new.reader ≡ state.old.reader) × (state.new.parts.now ≡ state.old.parts.now) }
-    ensures pushed { record { overlay = (state_held state.new).overlay; answer = result }
-        ≡ push_staged_on state.old.reader.place.kind state.old.reader.pending state.old.parts.now (state_held state.old).overlay }
+pub fn push_staged(
+    storage: &mut StorageMut<'_>,
+    kind: Kind,
+    pending: Pending,
+    parts: &[u8; STAGED],
+) -> Result<(), Refusal>
+    ensures same { IsSameStorage storage.new storage.old }
+    ensures pushed { record { overlay = overlay_held storage.new; answer = result } ≡ push_staged_on kind pending parts.now (overlay_held storage.old) }
 {
-    let pending = state.reader.pending;
-    let kind = state.reader.place.kind;
-    let parts = &state.parts[..];
     let used = pending.used.min(parts.len());
-    overlay_store::store_push(
-        state.words,
-        state.bytes,
-        state.counters,
+    let record = PushRecord {
         kind,
-        pending.head,
-        pending.meta,
-        &parts[..used],
-    )
+        head: pending.head,
+        meta: pending.meta,
+        parts: &parts[..used],
+    };
+    overlay_store::push(storage, &record)
 }
 
 // ---- an act and the user that its metadata names
@@ -113,48 +114,45 @@ fn first_refusal(storage: &Storage<'_>, act: &Act<'_>, refusal: Refusal) -> Refu
     ensures { (m : Meta Bytes) → Means act.now m → result ≡ first_refusal (claim_answer act.now.kind (to_z w64 act.now.id) (claim_of m) (overlay_seen storage.now)) refusal }
 {
     let claim = act.meta.claim();
-    match act_answer::claim_below(
-        storage.words,
-        storage.bytes,
-        storage.counters,
-        act.kind,
-        act.id,
-        claim,
-    ) {
+    match act_answer::check_claim(storage, act.kind, act.id, claim) {
         Ok(()) => refusal,
         Err(held) => Refusal::Regression(held),
     }
 }
 
 // What is asked before an act: the handle that the user's text has or will get, none without a user; or the refusal of the act.
-fn user_before(storage: &Storage<'_>, ix: &[u16], act: &Act<'_>) -> Result<Option<u64>, Refusal>
-    ensures { (m : Meta Bytes) → Means act.now m → ActGiven ix.now (overlay_seen storage.now)
+fn user_before(
+    storage: &Storage<'_>,
+    chains: &Chains<'_>,
+    act: &Act<'_>,
+) -> Result<Option<u64>, Refusal>
+    ensures { (m : Meta Bytes) → Means act.now m → ActGiven (chains_seen chains.now) (overlay_seen storage.now)
         → found result ≡ before_act act.now.kind (to_z w64 act.now.id) m (overlay_seen storage.now) }
 {
     let Some(user) = act.user else {
         return Ok(None);
     };
-    match reader_texts::text_handle(storage, ix, user) {
+    match reader_texts::text_handle(storage, chains, &user) {
         Ok(handle) => Ok(Some(handle)),
         Err(refusal) => Err(first_refusal(storage, act, refusal)),
     }
 }
 
-// What follows an act: the user's text is taken in, by its handle: one below the count is held.
-fn take_user(storage: &mut StorageMut<'_>, ix: &[u16], act: &Act<'_>, handle: Option<u64>)
+// What follows an act: the user's text is taken in, unless its handle is below the count: then it is held.
+fn take_user(storage: &mut StorageMut<'_>, chains: &Chains<'_>, act: &Act<'_>, handle: Option<u64>)
     ensures same { IsSameStorage storage.new storage.old }
-    ensures taken { (m : Meta Bytes) → Means act.now m → ActGiven ix.now (overlay_held storage.old) → UserIs m (overlay_held storage.old) (or_zero handle)
+    ensures taken { (m : Meta Bytes) → Means act.now m → ActGiven (chains_seen chains.now) (overlay_held storage.old) → UserIs m (overlay_held storage.old) (or_zero handle)
         → overlay_held storage.new ≡ with_user m (overlay_held storage.old) }
 {
     let Some(user) = act.user else {
         return;
     };
-    let Some(handle) = handle else {
-        return;
-    };
-    if storage.counters[STRINGS] <= handle {
-        // its answer is known: there is room for it
-        let _ = reader_texts::take_text(storage, ix, user);
+    match handle {
+        Some(handle) if handle < storage.counters[STRINGS] => {}
+        _ => {
+            // its answer is known: there is room for it
+            let _ = reader_texts::take_text(storage, chains, &user);
+        }
     }
 }
 
@@ -163,27 +161,24 @@ fn take_user(storage: &mut StorageMut<'_>, ix: &[u16], act: &Act<'_>, handle: Op
 // Pushes an empty element by its head: 12, 13, 14, 15, or taken.
 pub fn push_empty(
     storage: &mut StorageMut<'_>,
-    ix: &[u16],
+    chains: &Chains<'_>,
     act: &Act<'_>,
     head: PushHead,
 ) -> Result<(), Refusal>
     ensures same { IsSameStorage storage.new storage.old }
-    ensures pushed { (m : Meta Bytes) (b : Body Bytes) → Means act.now m → ActGiven ix.now (overlay_held storage.old) → kind_of b ≡ act.now.kind → head ≡ head_for (to_z w64 act.now.id) b
+    ensures pushed { (m : Meta Bytes) (b : Body Bytes) → Means act.now m → ActGiven (chains_seen chains.now) (overlay_held storage.old) → kind_of b ≡ act.now.kind → head ≡ head_for (to_z w64 act.now.id) b
         → record { overlay = overlay_held storage.new; answer = result } ≡ push_empty_on (to_z w64 act.now.id) m b (overlay_held storage.old) }
 {
-    let user = user_before(&storage.storage(), ix, act)?;
+    let user = user_before(&storage.storage(), chains, act)?;
     let meta = with_handle(act.meta, user);
-    let parts: &[u8] = &[];
-    overlay_store::store_push(
-        storage.words,
-        storage.bytes,
-        storage.counters,
-        act.kind,
+    let record = PushRecord {
+        kind: act.kind,
         head,
         meta,
-        parts,
-    )?;
-    take_user(storage, ix, act, user);
+        parts: &[],
+    };
+    overlay_store::push(storage, &record)?;
+    take_user(storage, chains, act, user);
     Ok(())
 }
 
@@ -198,20 +193,25 @@ fn store_delete(
 ) -> Result<(), Refusal>
     ensures { record { overlay = overlay_in words.new bytes.new counters.new; answer = result } ≡ store_delete kind (to_z w64 id) claim (overlay_in words.old bytes.old counters.old) }
 {
-    overlay_store::store_delete(words, bytes, counters, kind, id, claim)
+    let mut tables = StorageTables {
+        words,
+        bytes,
+        counters,
+    };
+    overlay_store::delete(&mut tables, kind, id, claim)
 }
 
 // Deletes an id: 12, 13, 14, or taken.
 pub fn delete_element(
     storage: &mut StorageMut<'_>,
-    ix: &[u16],
+    chains: &Chains<'_>,
     act: &Act<'_>,
 ) -> Result<(), Refusal>
     ensures same { IsSameStorage storage.new storage.old }
-    ensures deleted { (m : Meta Bytes) → Means act.now m → ActGiven ix.now (overlay_held storage.old)
+    ensures deleted { (m : Meta Bytes) → Means act.now m → ActGiven (chains_seen chains.now) (overlay_held storage.old)
         → record { overlay = overlay_held storage.new; answer = result } ≡ delete_element_on act.now.kind (to_z w64 act.now.id) m (overlay_held storage.old) }
 {
-    let user = user_before(&storage.storage(), ix, act)?;
+    let user = user_before(&storage.storage(), chains, act)?;
     let claim = act.meta.claim();
     store_delete(
         storage.words,
@@ -221,6 +221,6 @@ pub fn delete_element(
         act.id,
         claim,
     )?;
-    take_user(storage, ix, act, user);
+    take_user(storage, chains, act, user);
     Ok(())
 }

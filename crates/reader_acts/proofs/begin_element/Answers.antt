@@ -15,12 +15,12 @@ returns-in_err-handle-clause-begun c =
     let p = err_from_is_err_and c.from_residual.result c.from_residual.ensures.1 in
     λ m w g.
     let u = rw c.in-Some.is at w.user in
-    let stored = rw u.1.0 at (c.take_text.ensures.taken u.1.1 g.indexed) in
+    let stored = rw u.1 at (c.take_text.ensures.taken g.serve) in
     begin_named m (overlay_held c.args.storage.now) u.0 g.few stored (λ k. rw (p.1, p.2, c.in_err-handle.was))
 
 pub returns-clause-begun : goal.returns-clause-begun
 returns-clause-begun c =
     λ m w g.
     let u = rw c.in-Some.is at w.user in
-    let stored = rw u.1.0 at (c.take_text.ensures.taken u.1.1 g.indexed) in
+    let stored = rw u.1 at (c.take_text.ensures.taken g.serve) in
     begin_named m (overlay_held c.args.storage.now) u.0 g.few stored (λ k. rw c.in_ok-handle.was (ap Ok (c.with_handle.ensures m w.bits (rw c.in_ok-handle.was at k))))

@@ -9,10 +9,10 @@ pub returns-in-Ok : goal.returns-in-Ok
 returns-in-Ok c =
     λ m w g.
     let u = rw c.in-Some.is at w.user in
-    rw (u.0, ← (rw u.1.0 at (c.text_handle.ensures u.1.1 g.indexed)), c.in-Ok.is)
+    rw (u.0, ← (rw u.1 at (c.text_handle.ensures g.serve)), c.in-Ok.is)
 
 pub returns-in-Err : goal.returns-in-Err
 returns-in-Err c =
     λ m w g.
     let u = rw c.in-Some.is at w.user in
-    rw (u.0, ← (rw u.1.0 at (c.text_handle.ensures u.1.1 g.indexed)), c.in-Err.is, c.first_refusal.ensures m w)
+    rw (u.0, ← (rw u.1 at (c.text_handle.ensures g.serve)), c.in-Err.is, c.first_refusal.ensures m w)
