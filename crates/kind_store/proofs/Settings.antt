@@ -5,6 +5,7 @@ use mathlib.Core.Bool.{true, false}
 use native.Mathlib.Omega.{arith}
 use lib.Dec.{ltb, eqb}
 use borrow.Author.Tests.{ltb-true}
+use Rattle.std.specs.Option.{is_some}
 use Rattle.std.specs.Prelude.{Err, None, Ok, Result, Some, ℤ}
 use Rattle.base.proofs.Split.{by_bool, no}
 use Rattle.kind.specs.declared.Kind.{Kind}
@@ -41,6 +42,11 @@ no_place place e =
     by_bool (ltb place (2 ^ 63))
     (λ t. let y : None ≡ Some place = rw t at e in no (cc))
     (λ t. t)
+
+-- whether a place says that the id is live
+pub place_is : (place : ℕ) → is_some (record_place place) ≡ is_live place
+unfolding is_live
+place_is place = by_bool (ltb place (2 ^ 63)) (λ t. rw t) (λ t. rw t)
 
 -- what is known of an id, by its row
 module _ (k : Kind) (s : KindStore) (id : ℤ) where

@@ -8,7 +8,6 @@ ghost use Rattle.model.specs.Record.{claim_of};
 ghost use Rattle.compact.specs.Layout.{head_len, head_bytes, meta_bytes};
 ghost use Rattle.compact.specs.Held.{meta_of, head_in};
 ghost use Rattle.compact.specs.Push.{bytes_given};
-ghost use Rattle.kind_table.specs.Words.{held, row_at};
 ghost use Rattle.kind_store.specs.KindStore.{kind_store_with, live_version, known_of, known_version, checked, room_at, floor_after, pushed, deleted};
 ghost use Rattle.kind_store.specs.Lent.{kind_seen, kind_held, kind_rows_held, IsSameKindStorage, IsSameKindStorageTable};
 ghost use Rattle.kind_store.specs.Seats.{regression_in, seat_of, seated};
@@ -127,20 +126,6 @@ impl KindStorage<'_> {
             words: self.table,
             count: self.ids,
         }
-    }
-
-    // How many rows are read: those counted, as far as the words go.
-    pub fn rows_held(&self) -> usize
-        ensures { result ≡ held self.now.table.now self.now.ids }
-    {
-        self.rows().rows().len()
-    }
-
-    // The i-th row.
-    pub fn row_at(&self, i: usize) -> Row
-        ensures { result ≡ row_at self.now.table.now i }
-    {
-        kind_table::row_at(self.table, i)
     }
 
     // The version that a row's record claims, or none for a deleted id.

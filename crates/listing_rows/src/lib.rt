@@ -14,7 +14,7 @@ ghost use Rattle.listing_rows.specs.Lines.{sign_of, last_at, row_fields_at, kind
 use interner::Strings;
 use kind::Kind;
 use kind_store::KindStorage;
-use kind_table::{DELETED, Row};
+use kind_table::Row;
 use print::{Escaped, Integer, Printer};
 
 // "Kinds n, w, r". No method of Kind: nothing but the listing has these letters.
@@ -56,28 +56,27 @@ fn put_key(printer: &mut Printer<'_>, kind: Kind, id: i64, live: bool, version: 
 }
 
 // "A deleted line ends there. A live one goes on"
-fn put_last(printer: &mut Printer<'_>, strings: &Strings<'_>, rows: &KindStorage<'_>, place: u64)
-    ensures { Prints (tabs (last_at (text_held (store_seen strings.now)) rows.now.kind rows.now.arena.now place)) printer.old printer.new }
+fn put_last(printer: &mut Printer<'_>, strings: &Strings<'_>, storage: &KindStorage<'_>, row: Row)
+    ensures { Prints (tabs (last_at (text_held (store_seen strings.now)) storage.now.kind storage.now.arena.now row.place)) printer.old printer.new }
 {
-    if place < DELETED {
-        let at = little::lesser(place as usize, rows.arena.len());
-        listing_fields::put_record(printer, strings, rows.kind, &rows.arena[at..]);
+    if let Some(place) = row.record_place() {
+        let at = little::lesser(place as usize, storage.arena.len());
+        listing_fields::put_record(printer, strings, storage.kind, &storage.arena[at..]);
     }
 }
 
 // A row's line.
-fn put_line(printer: &mut Printer<'_>, strings: &Strings<'_>, rows: &KindStorage<'_>, row: Row)
-    ensures { Prints (line_pieces (row_fields_at (text_held (store_seen strings.now)) rows.now.kind rows.now.arena.now row)) printer.old printer.new }
+fn put_line(printer: &mut Printer<'_>, strings: &Strings<'_>, storage: &KindStorage<'_>, row: Row)
+    ensures { Prints (line_pieces (row_fields_at (text_held (store_seen strings.now)) storage.now.kind storage.now.arena.now row)) printer.old printer.new }
 {
-    let id = osm_id::osm_id_of_rank(row.rank);
     put_key(
         printer,
-        rows.kind,
-        id,
-        row.place < DELETED,
-        rows.row_version(row),
+        storage.kind,
+        osm_id::osm_id_of_rank(row.rank),
+        row.record_place().is_some(),
+        storage.row_version(row),
     );
-    put_last(printer, strings, rows, row.place);
+    put_last(printer, strings, storage, row);
     printer.put_bytes(b"\n");
 }
 
@@ -86,11 +85,12 @@ pub fn put_lines(printer: &mut Printer<'_>, strings: &Strings<'_>, kind: &KindSt
     ensures { Prints (kind_pieces (text_held (store_seen strings.now)) kind.now.kind (kind_seen kind.now)) printer.old printer.new }
 {
     let used = little::lesser(kind.used as usize, kind.arena.len());
-    let rows = KindStorage {
+    let storage = KindStorage {
         arena: &kind.arena[..used],
         ..*kind
     };
-    for i in 0..rows.rows_held() {
-        put_line(printer, strings, &rows, rows.row_at(i));
+    let table = storage.rows();
+    for words in table.rows() {
+        put_line(printer, strings, &storage, Row::from(*words));
     }
 }

@@ -13,6 +13,7 @@ ghost use Rattle.overlay_ids.specs.Rows.{row_id, row_version, kind_ids};
 use kind::Kind;
 use kind_reading::Side;
 use kind_store::KindStorage;
+use kind_table::Row;
 use overlay::Storage;
 use refusal::Refusal;
 
@@ -23,9 +24,10 @@ fn put_rows(held: &KindStorage<'_>, side: Side, ids: &mut [u64], versions: &mut 
     ensures { (ids.new ≡ over ids.old 0 (map row_id (rows_on side (rows_read held.now.table.now held.now.ids))))
         × (versions.new ≡ over versions.old 0 (map (row_version held.now.kind (kind_seen held.now)) (rows_on side (rows_read held.now.table.now held.now.ids)))) }
 {
+    let table = held.rows();
     let mut n: usize = 0;
-    for i in 0..held.rows_held() {
-        let row = held.row_at(i);
+    for words in table.rows() {
+        let row = Row::from(*words);
         if side.has(row) {
             let id = overlay_reading::row_id(row);
             ids[n] = id;

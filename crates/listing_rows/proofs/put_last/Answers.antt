@@ -1,17 +1,17 @@
 -- The record from its place on, or nothing.
-use borrow.Author.Tests.{lt-ltb, le-ltb}
-use Rattle.kind_store.specs.KindStore.{is_live}
+use mathlib.Core.Path.{sym, ◌∙◌}
+use Rattle.kind_store.proofs.Settings.{live_place, no_place}
 use Rattle.print.specs.Print.{tabs}
 use Rattle.print.proofs.Pieces.{nothing_printed}
 use Rattle.listing_rows.proofs.Walks.{view_from}
 use Rattle.listing_rows.proofs.put_last.Goals as goal
 
-pub returns-then-place-lt-DELETED : goal.returns-then-place-lt-DELETED
-unfolding is_live
-returns-then-place-lt-DELETED c =
-    rw (lt-ltb _ _ c.if-place-lt-DELETED.true, ← view_from c.args.rows.now.arena.now c.args.place c.lesser-at.result c.lesser-at.ensures)
+pub returns-in-Some : goal.returns-in-Some
+returns-in-Some c =
+    let l = live_place c.args.row.place c.in-Some.place c.in-Some.ensures in
+    rw (l.1, ← l.0, ← view_from c.args.storage.now.arena.now c.in-Some.place c.lesser-at.result c.lesser-at.ensures)
     c.put_record.ensures
 
-pub returns-else-place-lt-DELETED : goal.returns-else-place-lt-DELETED
-unfolding is_live tabs
-returns-else-place-lt-DELETED c = rw (le-ltb _ _ c.if-place-lt-DELETED.false) (nothing_printed _)
+pub returns-in_default : goal.returns-in_default
+unfolding tabs
+returns-in_default c = rw (no_place c.args.row.place (sym c.in_default.is ∙ c.record_place.ensures)) (nothing_printed _)
