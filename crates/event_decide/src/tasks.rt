@@ -15,7 +15,7 @@ use event_scan::event_line::EventLine;
 use event_scan::fields::Attributes;
 use event_values::{Coordinates, MemberValues, TagValues};
 use kind::Kind;
-use nesting::{Action, Child, Level, Opening, Place};
+use nesting::{Action, Child, Level, Name, Opening, Place};
 use refusal::Refusal;
 
 // An element that is to be pushed, and ends too where it is empty; a node's place in bits, 0 for another kind.
@@ -122,7 +122,7 @@ fn opens<'a>(
 ) -> Result<Task<'a>, Refusal>
     ensures { task_answer result ≡ decide_opened (opened empty (name_of name.now) before) empty before.section (attributes_left attributes.now) }
 {
-    match before.open(empty, nesting::name_of(name))? {
+    match before.open(empty, Name::from(name))? {
         Opening::Goes(place) => Ok(Task {
             place,
             work: Work::Nothing,

@@ -77,7 +77,7 @@ impl<'a> MetadataValues<'a> {
                 Ok(MetadataValues { timestamp, ..with })
             }
             MetadataName::Changeset => {
-                let changeset = integer::read_i64(value.bytes).ok_or(Refusal::NotInteger)?;
+                let changeset = integer::read::<i64>(value.bytes).ok_or(Refusal::NotInteger)?;
                 Ok(MetadataValues { changeset, ..with })
             }
             MetadataName::Uid => {

@@ -7,9 +7,9 @@ ghost use Rattle.std.specs.Int.{w32, w64};
 ghost use Rattle.kind.specs.declared.Kind.TheVariants as kinds;
 ghost use Rattle.integer.specs.Integer.{integer_of};
 ghost use Rattle.event_scan.specs.Piece.{value_text};
-ghost use Rattle.event_fields.specs.Field.{integer_field, coordinate, body_for, tag_of, type_named, member_of};
+ghost use Rattle.event_fields.specs.Field.{integer_field, coordinate, body_for, tag_of, member_of};
 ghost use Rattle.event_fields.specs.Field as F;
-ghost use Rattle.event_values.specs.Value.{narrow_in, wide_field, narrow_field, body_field, type_field};
+ghost use Rattle.event_values.specs.Value.{narrow_in, wide_field, narrow_field, body_field};
 ghost use Rattle.event_scan.specs.Fields.{attributes_left};
 ghost use Rattle.event_values.specs.Values.{value_field, tag_answered, member_answered};
 
@@ -23,7 +23,7 @@ use refusal::Refusal;
 pub fn integer_32(v: &[u8]) -> Option<u32>
     ensures { narrow_in result ≡ integer_of w32 (value_text v.now) }
 {
-    let b = integer::read_i32(v)?;
+    let b = integer::read::<i32>(v)?;
     Some(b as u32)
 }
 
@@ -39,7 +39,7 @@ pub fn integer_field(attributes: &Attributes<'_>, name: &[u8]) -> Result<u64, Re
     ensures { wide_field result ≡ integer_field w64 name.now (attributes_left attributes.now) }
 {
     let value = required(attributes, name)?;
-    integer::read_i64(value.bytes).ok_or(Refusal::NotInteger)
+    integer::read::<i64>(value.bytes).ok_or(Refusal::NotInteger)
 }
 
 // A coordinate, at most a limit either side of 0.
@@ -48,7 +48,7 @@ fn coordinate_field(attributes: &Attributes<'_>, name: &[u8], limit: u32) -> Res
 {
     let value = required(attributes, name)?;
     let bits = integer_32(value.bytes).ok_or(Refusal::NotInteger)?;
-    if signed::i32_of_bits(bits).unsigned_abs() > limit {
+    if bits.cast_signed().unsigned_abs() > limit {
         return Err(Refusal::CoordinateRange);
     }
     Ok(bits)
@@ -95,17 +95,6 @@ pub fn tag_of<'a>(attributes: &Attributes<'a>) -> Result<TagValues<'a>, Refusal>
     Ok(TagValues { key, value })
 }
 
-fn type_named(n: Name) -> Option<Kind>
-    ensures { type_field result ≡ type_named n }
-{
-    match n {
-        Name::Node => Some(Kind::Node),
-        Name::Way => Some(Kind::Way),
-        Name::Relation => Some(Kind::Relation),
-        _ => None,
-    }
-}
-
 // A member, its role as it is written: empty where it is missing.
 #[derive(Clone, Copy, Debug)]
 pub struct MemberValues<'a> {
@@ -119,7 +108,7 @@ pub fn member_of<'a>(attributes: &Attributes<'a>) -> Result<MemberValues<'a>, Re
     ensures { member_answered result ≡ member_of (attributes_left attributes.now) }
 {
     let named = required(attributes, b"type")?;
-    let kind = type_named(nesting::name_of(named.bytes)).ok_or(Refusal::MemberType)?;
+    let kind = Name::from(named.bytes).kind().ok_or(Refusal::MemberType)?;
     let reference = integer_field(attributes, b"ref")?;
     let empty = Value {
         bytes: b"".as_slice(),

@@ -21,11 +21,11 @@ returns-then-unsigned_abs-limit c =
     let a = c.args in
     let e = integer_read a.name.now (attributes_left a.attributes.now) w32 _ c.in_ok-value.ensures c.integer_32.ensures c.in_ok-bits.ensures.value in
     let b = c.in_ok-bits.bits in
-    rw (← e) (beyond (to_z w32 b) (size_is b c.unsigned_abs.ensures.value c.i32_of_bits.type_inv c.i32_of_bits.ensures) c.if-unsigned_abs-limit.true)
+    rw (← e) (beyond (to_z w32 b) (size_is b c.unsigned_abs.ensures.value c.cast_signed.type_inv c.cast_signed.ensures) c.if-unsigned_abs-limit.true)
 
 pub returns : goal.returns
 returns c =
     let a = c.args in
     let e = integer_read a.name.now (attributes_left a.attributes.now) w32 _ c.in_ok-value.ensures c.integer_32.ensures c.in_ok-bits.ensures.value in
     let b = c.in_ok-bits.bits in
-    rw (← e) (within (to_z w32 b) (size_is b c.unsigned_abs.ensures.value c.i32_of_bits.type_inv c.i32_of_bits.ensures) c.if-unsigned_abs-limit.false)
+    rw (← e) (within (to_z w32 b) (size_is b c.unsigned_abs.ensures.value c.cast_signed.type_inv c.cast_signed.ensures) c.if-unsigned_abs-limit.false)

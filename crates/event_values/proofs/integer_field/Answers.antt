@@ -7,4 +7,4 @@ pub returns-in_err-value : goal.returns-in_err-value
 returns-in_err-value c = rw (handed_on c.from_residual.ensures) (integer_missing c.args.name.now _ w64 c.in_err-value.ensures)
 
 pub returns : goal.returns
-returns c = integer_read c.args.name.now _ w64 _ c.in_ok-value.ensures (number_text w64 _ c.read_i64.ensures) c.ok_or.ensures.value
+returns c = integer_read c.args.name.now _ w64 _ c.in_ok-value.ensures (number_text w64 _ c.read.ensures) c.ok_or.ensures.value

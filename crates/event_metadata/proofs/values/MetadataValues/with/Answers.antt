@@ -28,12 +28,12 @@ returns-in_ok-timestamp-in-Timestamp c =
 
 pub returns-in_err-changeset-in-Changeset : goal.returns-in_err-changeset-in-Changeset
 returns-in_err-changeset-in-Changeset c =
-    let e = wide_value _ _ c.in_err-changeset-in-Changeset.ensures.value c.read_i64.ensures in
+    let e = wide_value _ _ c.in_err-changeset-in-Changeset.ensures.value c.read.ensures in
     rw (c.in-Changeset.is, handed_on c.from_residual-in_err-changeset-in-Changeset.ensures, ← e)
 
 pub returns-in_ok-changeset-in-Changeset : goal.returns-in_ok-changeset-in-Changeset
 returns-in_ok-changeset-in-Changeset c =
-    let e = wide_value _ _ c.in_ok-changeset-in-Changeset.ensures.value c.read_i64.ensures in
+    let e = wide_value _ _ c.in_ok-changeset-in-Changeset.ensures.value c.read.ensures in
     let m = c.args.self.now in
     rw (c.in-Changeset.is, ← e, given_marked m.given m.hidden (is_some m.user) (is_some m.version))
 

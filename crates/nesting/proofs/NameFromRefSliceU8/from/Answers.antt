@@ -1,10 +1,10 @@
--- `name_of`: the spellings in their order.
+-- The spellings in their order.
 use Rattle.std.proofs.Common.{◌∙◌}
 use Rattle.std.proofs.lemmas.Bool.Decides.{Decides-eqb}
 use Rattle.std.proofs.lemmas.Slice.Eq.{slice_eq-Decides}
 use Rattle.nesting.specs.Name.{spellings, name_in, name_of}
 use Rattle.nesting.proofs.Same.{same_known}
-use Rattle.nesting.proofs.name_of.Goals as goal
+use Rattle.nesting.proofs.NameFromRefSliceU8.from.Goals as goal
 
 pub returns-then-eq : goal.returns-then-eq
 unfolding name_of name_in spellings
