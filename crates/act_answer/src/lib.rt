@@ -13,6 +13,7 @@ use overlay::Storage;
 use overlay_blocks::{COUNTERS, SETTING};
 
 // 12: where regression is refused, a claim is checked against the known version of its id.
+#[tactic(auto, using(kind_store::proofs::Settings::checked_by))]
 pub fn check_claim(
     storage: &Storage<'_>,
     kind: Kind,

@@ -10,7 +10,7 @@ ghost use Rattle.compact.specs.Held.{meta_of, head_in};
 ghost use Rattle.compact.specs.Push.{bytes_given};
 ghost use Rattle.kind_store.specs.KindStore.{kind_store_with, live_version, known_of, known_version, checked, room_at, floor_after, pushed, deleted};
 ghost use Rattle.kind_store.specs.Lent.{kind_seen, kind_held, kind_rows_held, IsSameKindStorage, IsSameKindStorageTable};
-ghost use Rattle.kind_store.specs.Seats.{regression_in, seat_of, seated};
+ghost use Rattle.kind_store.specs.Seats.{regression_in, setting_of, seat_of, seated};
 
 use compact::{
     ArenaMeta, CompactNode, CompactRelation, CompactWay, PushHead, PushRecord, RecordHead,
@@ -50,7 +50,8 @@ pub struct KindStorageMut<'a> {
     pub used: u64,
 }
 
-// What is lent for one kind, with the id table alone to be changed.
+// What is lent for one kind, with the id table alone to be changed. It is a type of its own, with its own `storage`: C lends the arena of a delete as const, so
+// no `&mut` of it can be made, and a trait over both types would want that one expression from each.
 #[derive(Drop)]
 pub struct KindStorageTable<'a> {
     pub kind: Kind,
@@ -84,7 +85,7 @@ impl From<u64> for VersionRegression {
 impl VersionRegression {
     // 12: where regression is refused, a claim is checked against the known version.
     pub fn check(self, known: Option<i32>, claim: Option<i32>) -> Result<(), i32>
-        ensures { (setting : ℕ) → self ≡ regression_in setting → result ≡ checked setting known claim }
+        ensures { result ≡ checked (setting_of self) known claim }
     {
         match self {
             VersionRegression::Refused => VersionFloor::new(known).admit(claim),
@@ -94,7 +95,7 @@ impl VersionRegression {
 
     // The floor word that a push leaves: without a version it carries the known one, only while regression is refused.
     fn floor_after(self, known: Option<i32>, claim: Option<i32>, floor: u64) -> u64
-        ensures { (setting : ℕ) → self ≡ regression_in setting → result ≡ floor_after setting known claim floor }
+        ensures { result ≡ floor_after (setting_of self) known claim floor }
     {
         match (self, claim) {
             (VersionRegression::Refused, None) => version_floor::version_word(known),
@@ -188,7 +189,7 @@ impl KindStorage<'_> {
         id: u64,
         claim: Option<i32>,
     ) -> Result<Seat, Refusal>
-        ensures { (setting : ℕ) → regression ≡ regression_in setting → result ≡ seated self.now.kind setting (kind_seen self.now) (to_z w64 id) claim }
+        ensures { result ≡ seated self.now.kind (setting_of regression) (kind_seen self.now) (to_z w64 id) claim }
     {
         let seat = self.seat(id);
         // The answer is taken apart, and left early where it is no refusal, as version_floor.rs is asked to be used; `?` would turn it round.
@@ -225,8 +226,7 @@ impl KindStorageMut<'_> {
         push: &PushRecord<'_>,
     ) -> Result<(), Refusal>
         ensures same { IsSameKindStorage self.new self.old }
-        ensures done { (setting : ℕ) → regression ≡ regression_in setting
-            → record { kind_store = kind_held self.new; answer = result } ≡ pushed self.old.kind setting (kind_held self.old) (to_z w64 push.now.head.id) (claim_of (meta_of push.now.meta)) (bytes_given push.now) }
+        ensures done { record { kind_store = kind_held self.new; answer = result } ≡ pushed self.old.kind (setting_of regression) (kind_held self.old) (to_z w64 push.now.head.id) (claim_of (meta_of push.now.meta)) (bytes_given push.now) }
     {
         let id = push.head.id;
         let claim = push.meta.claim();
@@ -275,8 +275,7 @@ impl KindStorageTable<'_> {
         claim: Option<i32>,
     ) -> Result<(), Refusal>
         ensures same { IsSameKindStorageTable self.new self.old }
-        ensures done { (setting : ℕ) → regression ≡ regression_in setting
-            → record { kind_store = kind_rows_held self.new; answer = result } ≡ deleted self.old.kind setting (kind_rows_held self.old) (to_z w64 id) claim }
+        ensures done { record { kind_store = kind_rows_held self.new; answer = result } ≡ deleted self.old.kind (setting_of regression) (kind_rows_held self.old) (to_z w64 id) claim }
     {
         let seat = self.storage().admitted(regression, id, claim)?;
         let row = Row {
@@ -304,6 +303,7 @@ pub struct Outcome {
     pub used: u64,
 }
 
+#[tactic(auto, using(crate::proofs::Settings::pushed_by))]
 pub fn push(
     kind: Kind,
     setting: u64,
@@ -340,6 +340,7 @@ pub fn push(
     }
 }
 
+#[tactic(auto, using(crate::proofs::Settings::deleted_by))]
 pub fn delete(
     kind: Kind,
     setting: u64,
