@@ -89,7 +89,7 @@ pub struct CompactWay {
     pub tag_count: u32,
 }
 
-// The head of a relation's record.
+// The head of a relation's record. Its fields stand where those of a `CompactWay` stand, but what it counts is another thing and of another size, so the two are two types, each with its `read`.
 #[derive(Clone, Copy, PartialEq, Eq, Debug)]
 pub struct CompactRelation {
     pub id: u64,
@@ -149,7 +149,7 @@ pub struct TagPart {
     pub len: usize,
 }
 
-// Where a record's tags begin or go on, and how many remain there.
+// Where a record's tags begin or go on, and how many remain there: of a caller that holds the record's bytes apart. `CompactTagIter` holds them too.
 #[derive(Clone, Copy, PartialEq, Eq, Debug)]
 pub struct TagPlace {
     pub offset: usize,

@@ -43,7 +43,8 @@ fn pack(key: u64, start: usize, len: usize) -> u64
     key * 17179869184 + start as u64 * 131072 + len as u64
 }
 
-// The word of a run that lies among fewer than 131,072 bytes.
+// The word of a run that lies among fewer than 131,072 bytes. It is made of the place and not of the run alone, since the word holds where the run starts. For any other run it is 0: each
+// caller has found its run among the bytes, and has no arm for none.
 pub fn run_word(bytes: &[u8], start: usize, len: usize) -> u64
     ensures { start + len ≤ length bytes.now → length bytes.now < 131072 → run_in bytes.now result ≡ take len (drop start bytes.now) }
 {

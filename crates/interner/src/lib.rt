@@ -28,16 +28,14 @@ impl Texts<'_> {
     pub fn span_at(&self, h: usize) -> Option<Span>
         ensures { result ≡ span_at self.now.spans.now self.now.bytes.now h }
     {
-        if self.spans.len() / 2 <= h {
-            return None;
-        }
-        let start = self.spans[2 * h] as usize;
-        let len = self.spans[2 * h + 1] as usize;
-        if self.bytes.len() < len {
-            return None;
-        }
-        if start <= self.bytes.len() - len {
-            Some(Span { start, len })
+        let (pairs, _) = self.spans.as_chunks::<2>();
+        let [start, len] = *pairs.get(h)?;
+        let span = Span {
+            start: start as usize,
+            len: len as usize,
+        };
+        if little::within(span.start, span.len, self.bytes.len()) {
+            Some(span)
         } else {
             None
         }
@@ -192,10 +190,7 @@ impl Strings<'_> {
         if (self.spans.len() / 2) as u64 <= self.count {
             return false;
         }
-        if self.bytes.len() < text.len() {
-            return false;
-        }
-        self.used <= (self.bytes.len() - text.len()) as u64
+        little::within(self.used as usize, text.len(), self.bytes.len())
     }
 
     // Whether the strings are sound.
@@ -230,7 +225,7 @@ pub struct StringsMut<'a> {
     pub used: u64,
 }
 
-// A span at the start of what is lent, as far as there is room.
+// A span at the start of what is lent, as far as there is room. The two words are stored one by one: the library says nothing of what a slice ends as after `as_chunks_mut`.
 fn put_span(out: &mut [u64], start: u64, len: u64)
     ensures { out.new ≡ over out.old 0 (start ∷ len ∷ []) }
 {
@@ -273,6 +268,7 @@ impl StringsMut<'_> {
     }
 
     // Takes a text in of which it is known whether it is held: its handle, else the next one, or none where there is no room. The handle is new where the count has grown.
+    #[tactic(auto, using(crate::proofs::Takes::taken_held, crate::proofs::Takes::taken_new, crate::proofs::Takes::taken_full))]
     pub fn intern_found(&mut self, text: &[u8], found: Option<u64>) -> Option<u64>
         ensures same { IsSameStrings self.new self.old }
         ensures store { store_held self.new ≡ (taken_as (store_held self.old) text.now found).store }

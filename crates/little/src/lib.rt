@@ -36,7 +36,7 @@ pub fn end_within(at: usize, n: usize, len: usize) -> Option<usize>
     }
 }
 
-// A word in 32 bits; one that does not fit them becomes 0.
+// A word in 32 bits; one that does not fit them becomes 0: a caller knows that its word fits, and has no arm for one that does not.
 pub fn narrow(word: u64) -> u32
     ensures { word < 4294967296 → result ≡ word }
 {

@@ -66,6 +66,7 @@ pub struct Ends {
 }
 
 // What the blocks have of one kind: words `from` to `to`, bytes `first` to `end`; and the place of its used ids among the counters, its used bytes three behind.
+// They are places and no slices: one part serves blocks that are read and blocks that are written, and a method that cut them would ask that it lies within them.
 #[derive(Clone, Copy, PartialEq, Eq, Debug)]
 pub struct KindPart {
     pub at: usize,
@@ -220,6 +221,7 @@ impl Sizes {
         }
     }
 
+    // No `KindSize`: the strings have a least and a largest number of their own.
     #[tactic(auto, unfolding(crate::specs::Sizes::strings_fit, base::specs::Bytes::both))]
     fn strings_fit(&self) -> bool
         ensures { result ≡ strings_fit largest self.now.strings self.now.string_bytes }

@@ -92,7 +92,8 @@ pub fn chain_texts(chains: &mut ChainsMut<'_>, storage: &Storage<'_>)
 
 // ---- an act on one kind
 
-// A push on the kind whose counters stand at `at` and three behind it. A function of its own for the same reason as `intern_in`.
+// A push on the kind whose counters stand at `at` and three behind it: two words of the one array that C lends, so that no slice has just these. A function of its own for the same reason as
+// `intern_in`.
 fn push_in(
     at: usize,
     table: &mut [u64],
@@ -138,7 +139,7 @@ pub fn push(storage: &mut StorageMut<'_>, push: &PushRecord<'_>) -> Result<(), R
     )
 }
 
-// A delete on the kind whose counters stand at `at` and three behind it. A function of its own for the same reason as `intern_in`.
+// A delete on the kind whose counters stand at `at` and three behind it. The place and a function of its own for the same reasons as in `push_in`.
 fn delete_in(
     at: usize,
     kind: Kind,

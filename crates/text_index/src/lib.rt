@@ -128,15 +128,8 @@ impl Chains<'_> {
     pub fn answer(&self, strings: &Strings<'_>, text: &[u8]) -> Option<u64>
         ensures { ChainsServe (chains_seen self.now) (store_seen strings.now) → result ≡ handle_answered (intern (store_seen strings.now) text.now).answer }
     {
-        match self.find(strings, text) {
-            Some(h) => Some(h),
-            None => {
-                if strings.has_room(text) {
-                    return Some(strings.count);
-                }
-                None
-            }
-        }
+        let next = strings.has_room(text).then_some(strings.count);
+        self.find(strings, text).or(next)
     }
 }
 
