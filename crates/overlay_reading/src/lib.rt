@@ -42,7 +42,7 @@ pub fn is_empty(storage: &Storage<'_>) -> Result<bool, Refusal>
 pub fn row_id(row: Row) -> u64
     ensures { result ≡ of_z w64 (id_of row.rank) }
 {
-    signed::bits_of_i64(osm_id::osm_id_of_rank(row.rank))
+    osm_id::osm_id_of_rank(row.rank).cast_unsigned()
 }
 
 // The bits of the n-th live or deleted id of a kind in OSM order, or 21.

@@ -147,7 +147,7 @@ pub extern "C" fn tvk_delete(
         bytes,
         counters,
     };
-    let bits = signed::bits_of_i64(id);
+    let bits = id.cast_unsigned();
     match named_kind(&tables.storage(), kind) {
         Ok(k) => c_replies::kept_reply(overlay_direct::delete(&mut tables, k, bits, meta)),
         Err(refusal) => Reply::from(refusal),

@@ -193,7 +193,7 @@ pub extern "C" fn tvk_get(
         bytes,
         counters,
     };
-    let bits = signed::bits_of_i64(id);
+    let bits = id.cast_unsigned();
     let reading = |k| overlay_reading::get(&storage, k, bits);
     Part::from(of_kind(&storage, kind, reading))
 }
@@ -214,7 +214,7 @@ pub extern "C" fn tvk_has(
         bytes,
         counters,
     };
-    let bits = signed::bits_of_i64(id);
+    let bits = id.cast_unsigned();
     let reading = |k| truth_read(overlay_reading::has(&storage, k, bits));
     Number::from(of_kind(&storage, kind, reading))
 }
@@ -235,7 +235,7 @@ pub extern "C" fn tvk_is_deleted(
         bytes,
         counters,
     };
-    let bits = signed::bits_of_i64(id);
+    let bits = id.cast_unsigned();
     let reading = |k| truth_read(overlay_reading::is_deleted(&storage, k, bits));
     Number::from(of_kind(&storage, kind, reading))
 }
@@ -256,7 +256,7 @@ pub extern "C" fn tvk_known_version(
         bytes,
         counters,
     };
-    let bits = signed::bits_of_i64(id);
+    let bits = id.cast_unsigned();
     let reading = |k| version_read(overlay_reading::known_version(&storage, k, bits));
     Number::from(of_kind(&storage, kind, reading))
 }
