@@ -8,12 +8,12 @@ use Rattle.kind_table.specs.Words.{rows_from, rows_of, held}
 use Rattle.print.proofs.Walks.{Walk}
 use Rattle.listing_fields.specs.Fields.{text_held}
 use Rattle.listing_rows.specs.Lines.{row_pieces}
-use Rattle.listing_rows.proofs.put_lines.Given as goal
+use Rattle.listing_rows.proofs.KindLinesPrintable.print.Given as goal
 
 abbrev pub invariant-loop-words : goal.invariant-loop-words
 invariant-loop-words l =
-    let f = text_held (store_seen l.strings) in
-    let k = l.kind in
+    let f = text_held (store_seen l.self.strings) in
+    let k = l.self.storage in
     let arena = take l.used k.arena.now in
     let ws = k.table.now in
     let m = held ws k.ids in

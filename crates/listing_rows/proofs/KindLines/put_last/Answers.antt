@@ -4,13 +4,13 @@ use Rattle.kind_store.proofs.Settings.{live_place, no_place}
 use Rattle.print.specs.Print.{tabs}
 use Rattle.print.proofs.Pieces.{nothing_printed}
 use Rattle.listing_rows.proofs.Walks.{view_from}
-use Rattle.listing_rows.proofs.put_last.Goals as goal
+use Rattle.listing_rows.proofs.KindLines.put_last.Goals as goal
 
 pub returns-in-Some : goal.returns-in-Some
 returns-in-Some c =
     let l = live_place c.args.row.place c.in-Some.place c.in-Some.ensures in
-    rw (l.1, ← l.0, ← view_from c.args.storage.now.arena.now c.in-Some.place c.lesser-at.result c.lesser-at.ensures)
-    c.put_record.ensures
+    rw (l.1, ← l.0, ← view_from c.args.self.now.storage.arena.now c.in-Some.place c.lesser-at.result c.lesser-at.ensures)
+    c.print.ensures
 
 pub returns-in_default : goal.returns-in_default
 unfolding tabs
