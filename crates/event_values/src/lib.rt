@@ -29,13 +29,13 @@ pub fn integer_32(v: &[u8]) -> Option<u32>
 
 // ---- the fields of attributes, by their names
 
-fn required<'a>(attributes: &Attributes<'a>, name: &[u8]) -> Result<Value<'a>, Refusal>
+fn required<'a, const N: usize>(attributes: &Attributes<'a, N>, name: &[u8]) -> Result<Value<'a, N>, Refusal>
     ensures { value_field result ≡ F.text_field name.now (attributes_left attributes.now) }
 {
     attributes.value_of(name).ok_or(Refusal::Missing)
 }
 
-pub fn integer_field(attributes: &Attributes<'_>, name: &[u8]) -> Result<u64, Refusal>
+pub fn integer_field<const N: usize>(attributes: &Attributes<'_, N>, name: &[u8]) -> Result<u64, Refusal>
     ensures { wide_field result ≡ integer_field w64 name.now (attributes_left attributes.now) }
 {
     let value = required(attributes, name)?;
@@ -43,7 +43,7 @@ pub fn integer_field(attributes: &Attributes<'_>, name: &[u8]) -> Result<u64, Re
 }
 
 // A coordinate, at most a limit either side of 0.
-fn coordinate_field(attributes: &Attributes<'_>, name: &[u8], limit: u32) -> Result<u32, Refusal>
+fn coordinate_field<const N: usize>(attributes: &Attributes<'_, N>, name: &[u8], limit: u32) -> Result<u32, Refusal>
     ensures { narrow_field result ≡ coordinate name.now limit (attributes_left attributes.now) }
 {
     let value = required(attributes, name)?;
@@ -61,7 +61,7 @@ pub struct Coordinates {
     pub lon: u32,
 }
 
-fn node_coordinates(attributes: &Attributes<'_>) -> Result<Coordinates, Refusal>
+fn node_coordinates<const N: usize>(attributes: &Attributes<'_, N>) -> Result<Coordinates, Refusal>
     ensures { body_field kinds.Node result ≡ body_for kinds.Node (attributes_left attributes.now) }
 {
     let lat = coordinate_field(attributes, b"lat7", 900_000_000)?;
@@ -70,7 +70,7 @@ fn node_coordinates(attributes: &Attributes<'_>) -> Result<Coordinates, Refusal>
 }
 
 // What an element of a kind holds at first.
-pub fn body_of(attributes: &Attributes<'_>, kind: Kind) -> Result<Coordinates, Refusal>
+pub fn body_of<const N: usize>(attributes: &Attributes<'_, N>, kind: Kind) -> Result<Coordinates, Refusal>
     ensures { body_field kind result ≡ body_for kind (attributes_left attributes.now) }
 {
     match kind {
@@ -81,13 +81,13 @@ pub fn body_of(attributes: &Attributes<'_>, kind: Kind) -> Result<Coordinates, R
 
 // A tag as it is written.
 #[derive(Clone, Copy, Debug)]
-pub struct TagValues<'a> {
-    pub key: Value<'a>,
-    pub value: Value<'a>,
+pub struct TagValues<'a, const N: usize> {
+    pub key: Value<'a, N>,
+    pub value: Value<'a, N>,
 }
 
 // A tag, or the refusal of its key or its value.
-pub fn tag_of<'a>(attributes: &Attributes<'a>) -> Result<TagValues<'a>, Refusal>
+pub fn tag_of<'a, const N: usize>(attributes: &Attributes<'a, N>) -> Result<TagValues<'a, N>, Refusal>
     ensures { tag_answered result ≡ tag_of (attributes_left attributes.now) }
 {
     let key = required(attributes, b"k")?;
@@ -97,14 +97,14 @@ pub fn tag_of<'a>(attributes: &Attributes<'a>) -> Result<TagValues<'a>, Refusal>
 
 // A member, its role as it is written: empty where it is missing.
 #[derive(Clone, Copy, Debug)]
-pub struct MemberValues<'a> {
+pub struct MemberValues<'a, const N: usize> {
     pub reference: u64,
     pub kind: Kind,
-    pub role: Value<'a>,
+    pub role: Value<'a, N>,
 }
 
 // A member, or the refusal of its type or its ref.
-pub fn member_of<'a>(attributes: &Attributes<'a>) -> Result<MemberValues<'a>, Refusal>
+pub fn member_of<'a, const N: usize>(attributes: &Attributes<'a, N>) -> Result<MemberValues<'a, N>, Refusal>
     ensures { member_answered result ≡ member_of (attributes_left attributes.now) }
 {
     let named = required(attributes, b"type")?;
