@@ -69,13 +69,13 @@ pub handed_on : {A E : Type 0} {r : Result A E} {e : E} → IsErr r × IsErrAnd 
 handed_on {r = r} h = let p = err_from_is_err_and r h.1 in p.1 ∙ ap Err p.2
 
 -- the value of a name, or 7 where it has none
-pub field_written : (n : Bytes) (attrs : List Attr) (o : Option Value) (r : Result Value Refusal) → option_map text_written o ≡ value_of n attrs → r ≡ ok_or o Missing → value_field r ≡ text_field n attrs
+pub field_written : {N : ℕ} (n : Bytes) (attrs : List Attr) (o : Option (Value N)) (r : Result (Value N) Refusal) → option_map text_written o ≡ value_of n attrs → r ≡ ok_or o Missing → value_field r ≡ text_field n attrs
 unfolding text_field
 field_written n attrs None r e q = rw (q, ← e)
 field_written n attrs (Some v) r e q = rw (q, ← e)
 
 -- the value of a name, or else the empty one
-pub or_empty_written : (d : Value) (o : Option Value) (x : Option Bytes) → d.bytes.now ≡ [] → option_map text_written o ≡ x → text_written (unwrap_or o d) ≡ or_empty x
+pub or_empty_written : {N : ℕ} (d : Value N) (o : Option (Value N)) (x : Option Bytes) → d.bytes.now ≡ [] → option_map text_written o ≡ x → text_written (unwrap_or o d) ≡ or_empty x
 unfolding value_text unescape_from
 or_empty_written d None x e q = rw (e, ← q)
 or_empty_written d (Some v) x e q = rw (← q)
