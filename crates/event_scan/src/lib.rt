@@ -1,7 +1,7 @@
 // Event lines: the escapes of a value, what of a line is judged, and in `fields` and `event_line` its attributes and what it is.
 #![tactic(auto)]
 
-ghost use Rattle.std.specs.Prelude.{◌≡◌, not, true, eqb, length, set};
+ghost use Rattle.std.specs.Prelude.{◌≡◌, not, true, eqb, length, set, option_map};
 ghost use Rattle.base.specs.Bytes.{all};
 ghost use Rattle.event.specs.Event.{body, legal_line};
 ghost use Rattle.little.specs.Little.{over};
@@ -15,6 +15,7 @@ pub mod fields;
 pub const MAX_LINE: usize = 16384;
 
 // Whether a byte is nowhere in a run. It looks at all bytes, so that many are looked at together.
+// It and `text::plain` differ by the test: one function of both would take a closure, and so have a `requires`, which no public function has.
 pub fn lacks(t: &[u8], c: u8) -> bool
     ensures { result ≡ all (λ b. not (eqb b c)) t.now }
 {
@@ -82,7 +83,7 @@ fn escapes_right(v: &[u8]) -> bool
     pieces_right(v)
 }
 
-// A byte at a place, where there is room.
+// A byte at a place, where there is room. `get_mut` was tried: what it leaves of the slice is not known behind it.
 fn put(out: &mut [u8], at: usize, b: u8)
     ensures { out.new ≡ set out.old at b }
 {
@@ -106,14 +107,14 @@ fn write(out: &mut [u8], v: &[u8]) -> usize
     n
 }
 
-// The text of a value at the start of what is lent, as far as there is room; its whole length is answered. A value with another escape has none.
-pub fn unescape_into(out: &mut [u8], value: &[u8]) -> usize
-    ensures { (out.new ≡ over out.old 0 (value_text value.now)) × (result ≡ length (value_text value.now)) }
+// The text of a value at the start of what is lent, as far as there is room; its whole length is answered. A value with another escape has no text.
+pub fn unescape_into(out: &mut [u8], value: &[u8]) -> Option<usize>
+    ensures { (out.new ≡ over out.old 0 (value_text value.now)) × (result ≡ option_map length (unescape value.now)) }
 {
     if escapes_right(value) {
-        return write(out, value);
+        return Some(write(out, value));
     }
-    0
+    None
 }
 
 // ---- lines

@@ -1,5 +1,4 @@
 -- The name goes to the first `=`, or to the end.
-use Rattle.std.proofs.Common.{◌∙◌}
 use Rattle.event_scan.proofs.Parts.{name_found, name_whole}
 use Rattle.event_scan.proofs.fields.name_length.Goals as goal
 
