@@ -120,7 +120,7 @@ before_act k id m o = before_by (claim_answer k id (claim_of m) o) (handle_for m
 -- ---- what an act means
 
 -- a user as it is written, where metadata names one
-abbrev pub UserMeans : Option Value → Bool → Bytes → Type 0
+abbrev pub UserMeans : Option (Value 16384) → Bool → Bytes → Type 0
 UserMeans None named t = named ≡ false
 UserMeans (Some u) named t = (named ≡ true) × (text_written u ≡ t)
 

@@ -16,6 +16,7 @@ ghost use Rattle.reader.specs.Step.{bits_with_user, head_for};
 ghost use Rattle.reader_acts.specs.Acts.{begin_on, handle_for, with_user, push_empty_on, delete_element_on, push_staged_on, or_zero, found, first_refusal, before_act, Means, ActGiven, UserIs};
 
 use compact::{ArenaMeta, PushHead, PushRecord};
+use event_scan::MAX_LINE;
 use event_scan::fields::Value;
 use kind::Kind;
 use overlay::{Storage, StorageMut, StorageTables};
@@ -31,7 +32,7 @@ pub struct Act<'a> {
     pub kind: Kind,
     pub id: u64,
     pub meta: ArenaMeta,
-    pub user: Option<Value<'a>>,
+    pub user: Option<Value<'a, MAX_LINE>>,
 }
 
 // ---- in bits

@@ -72,7 +72,11 @@ fn part_fits(pending: Pending, limit: u32) -> bool
 }
 
 // What a child with a text is answered that is not within them: 13 if its text would be refused, else 16.
-fn over_limit(storage: &Storage<'_>, chains: &Chains<'_>, text: &Value<'_>) -> Result<(), Refusal>
+fn over_limit(
+    storage: &Storage<'_>,
+    chains: &Chains<'_>,
+    text: &Value<'_, MAX_LINE>,
+) -> Result<(), Refusal>
     ensures { ChainsServe (chains_seen chains.now) (overlay_seen storage.now).texts
         → result ≡ Err (refusal_over (store_text (text_written text.now) (overlay_seen storage.now)).answer) }
 {
@@ -127,7 +131,7 @@ fn stage_middle(parts: &mut [u8; STAGED], kind: Kind, pending: Pending, part: &[
 fn take_text(
     state: &mut ReaderState<'_>,
     chains: &Chains<'_>,
-    text: &Value<'_>,
+    text: &Value<'_, MAX_LINE>,
 ) -> Result<u64, Refusal>
     ensures same { IsSameState state.new state.old }
     ensures rest { state_held state.new ≡ with_overlay (state_held state.new).overlay (state_held state.old) }
@@ -146,7 +150,7 @@ fn take_text(
 fn take_handle(
     state: &mut ReaderState<'_>,
     chains: &Chains<'_>,
-    text: &Value<'_>,
+    text: &Value<'_, MAX_LINE>,
 ) -> Result<u32, Refusal>
     ensures same { IsSameState state.new state.old }
     ensures rest { state_held state.new ≡ with_overlay (state_held state.new).overlay (state_held state.old) }
@@ -161,7 +165,7 @@ fn take_handle(
 fn tag_with(
     state: &mut ReaderState<'_>,
     chains: &Chains<'_>,
-    key: &Value<'_>,
+    key: &Value<'_, MAX_LINE>,
     value: &[u8],
 ) -> Result<(), Refusal>
     ensures same { IsSameState state.new state.old }
@@ -195,8 +199,8 @@ fn tag_with(
 fn tag_resolved(
     state: &mut ReaderState<'_>,
     chains: &Chains<'_>,
-    key: &Value<'_>,
-    value: &Value<'_>,
+    key: &Value<'_, MAX_LINE>,
+    value: &Value<'_, MAX_LINE>,
 ) -> Result<(), Refusal>
     ensures same { IsSameState state.new state.old }
     ensures place { state.new.reader.place ≡ state.old.reader.place }
@@ -213,8 +217,8 @@ fn tag_resolved(
 pub fn add_tag(
     state: &mut ReaderState<'_>,
     chains: &Chains<'_>,
-    key: &Value<'_>,
-    value: &Value<'_>,
+    key: &Value<'_, MAX_LINE>,
+    value: &Value<'_, MAX_LINE>,
 ) -> Result<(), Refusal>
     ensures same { IsSameState state.new state.old }
     ensures place { state.new.reader.place ≡ state.old.reader.place }
@@ -251,7 +255,7 @@ pub fn add_member(
     chains: &Chains<'_>,
     reference: u64,
     kind: Kind,
-    role: &Value<'_>,
+    role: &Value<'_, MAX_LINE>,
 ) -> Result<(), Refusal>
     ensures same { IsSameState state.new state.old }
     ensures place { state.new.reader.place ≡ state.old.reader.place }

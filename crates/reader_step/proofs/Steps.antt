@@ -46,7 +46,7 @@ user_flagged true true true false = refl
 user_flagged true true true true = refl
 
 -- the user that metadata names, as its act has it
-pub user_meant : (given hidden : Bool) (version : Option ℕ) (u : Option Value)
+pub user_meant : (given hidden : Bool) (version : Option ℕ) (u : Option (Value 16384))
     → UserMeans u (flagged 4 (flags_of given hidden (is_some u) (is_some version))) (or_empty (option_map text_written u))
 user_meant given hidden version None = user_flagged given hidden false (is_some version)
 user_meant given hidden version (Some v) = (user_flagged given hidden true (is_some version), refl)

@@ -17,6 +17,7 @@ ghost use Rattle.reader_parts.specs.Parts.{StepGiven};
 use compact::ArenaMeta;
 use event_decide::tasks::{NewElement, OldElement, Task, Work};
 use event_metadata::values::MetadataValues;
+use event_scan::MAX_LINE;
 use kind::Kind;
 use overlay::StorageMut;
 use reader::ReaderState;
@@ -35,7 +36,7 @@ fn mark(yes: bool, flag: u8) -> u8
 }
 
 // "Flags: 1 present, 2 hidden, 4 has user, 8 has version"
-fn flags(metadata: &MetadataValues<'_>) -> u8
+fn flags(metadata: &MetadataValues<'_, MAX_LINE>) -> u8
     ensures { result ≡ flags_of metadata.now.given metadata.now.hidden (is_some metadata.now.user) (is_some metadata.now.version) }
 {
     mark(metadata.given, 1)
@@ -60,7 +61,7 @@ fn meta_of(flags: u8, version: u32, timestamp: u64, changeset: u64, uid: u32) ->
 }
 
 // With no user. It is no From: both types are other crates'.
-fn arena_meta(metadata: &MetadataValues<'_>) -> ArenaMeta
+fn arena_meta(metadata: &MetadataValues<'_, MAX_LINE>) -> ArenaMeta
     ensures bits { result ≡ bits_with_user (metadata_means metadata.now) 0 }
     ensures version { SFits w32 (metadata_means metadata.now).version }
 {
@@ -75,7 +76,7 @@ fn arena_meta(metadata: &MetadataValues<'_>) -> ArenaMeta
 }
 
 // An act on an element of a kind and id, with its metadata.
-fn act_of<'a>(kind: Kind, id: u64, metadata: &MetadataValues<'a>) -> Act<'a>
+fn act_of<'a>(kind: Kind, id: u64, metadata: &MetadataValues<'a, MAX_LINE>) -> Act<'a>
     ensures element { (result.kind ≡ kind) × (result.id ≡ id) }
     ensures means { Means result (metadata_means metadata.now) }
 {

@@ -15,11 +15,11 @@ use overlay::{Storage, StorageMut};
 use refusal::Refusal;
 use text_index::Chains;
 
-// The text that a value writes, its escapes resolved, in an array that holds it. The library has no heap.
-pub fn resolved<'a>(room: &'a mut [u8; MAX_LINE], value: &Value<'_>) -> &'a [u8]
+// The text that a value writes, its escapes resolved, in an array that holds it: empty where it has another escape. The library has no heap.
+pub fn resolved<'a>(room: &'a mut [u8; MAX_LINE], value: &Value<'_, MAX_LINE>) -> &'a [u8]
     ensures { result.now ≡ text_written value.now }
 {
-    let n = event_scan::unescape_into(room, value.bytes);
+    let n = event_scan::unescape_into(room, value.bytes).unwrap_or(0);
     let end = n.min(MAX_LINE);
     &room[..end]
 }
@@ -30,7 +30,7 @@ pub fn resolved<'a>(room: &'a mut [u8; MAX_LINE], value: &Value<'_>) -> &'a [u8]
 fn take_resolved(
     storage: &mut StorageMut<'_>,
     chains: &Chains<'_>,
-    value: &Value<'_>,
+    value: &Value<'_, MAX_LINE>,
 ) -> Result<u64, Refusal>
     ensures same { IsSameStorage storage.new storage.old }
     ensures taken { ChainsServe (chains_seen chains.now) (overlay_held storage.old).texts
@@ -45,7 +45,7 @@ fn take_resolved(
 pub fn take_text(
     storage: &mut StorageMut<'_>,
     chains: &Chains<'_>,
-    value: &Value<'_>,
+    value: &Value<'_, MAX_LINE>,
 ) -> Result<u64, Refusal>
     ensures same { IsSameStorage storage.new storage.old }
     ensures taken { ChainsServe (chains_seen chains.now) (overlay_held storage.old).texts
@@ -63,7 +63,7 @@ pub fn take_text(
 fn handle_resolved(
     storage: &Storage<'_>,
     chains: &Chains<'_>,
-    value: &Value<'_>,
+    value: &Value<'_, MAX_LINE>,
 ) -> Result<u64, Refusal>
     ensures { ChainsServe (chains_seen chains.now) (overlay_seen storage.now).texts
         → result ≡ (store_text (text_written value.now) (overlay_seen storage.now)).answer }
@@ -77,7 +77,7 @@ fn handle_resolved(
 pub fn text_handle(
     storage: &Storage<'_>,
     chains: &Chains<'_>,
-    value: &Value<'_>,
+    value: &Value<'_, MAX_LINE>,
 ) -> Result<u64, Refusal>
     ensures { ChainsServe (chains_seen chains.now) (overlay_seen storage.now).texts
         → result ≡ (store_text (text_written value.now) (overlay_seen storage.now)).answer }
