@@ -48,18 +48,10 @@ fn pack(key: u64, start: usize, len: usize) -> u64
 pub fn run_word(bytes: &[u8], start: usize, len: usize) -> u64
     ensures { start + len ≤ length bytes.now → length bytes.now < 131072 → run_in bytes.now result ≡ take len (drop start bytes.now) }
 {
-    if 131072 <= bytes.len() {
-        return 0;
+    match bytes.get(start..start.saturating_add(len)) {
+        Some(run) if bytes.len() < 131072 => pack(sort_key(run), start, len),
+        _ => 0,
     }
-    if bytes.len() < start {
-        return 0;
-    }
-    if bytes.len() - start < len {
-        return 0;
-    }
-    let end = start + len;
-    let key = sort_key(&bytes[start..end]);
-    pack(key, start, len)
 }
 
 // A word at a place, where there is room.
