@@ -1,10 +1,10 @@
 -- The array of chains over a run: an event's texts are those before it and perhaps one more, so an array for the texts before it is one for those after it.
-use Prim.Native.Nat.{ℕ}
+use Rattle.std.specs.Result.{is_err}
+use Prim.Native.Nat.{ℕ, ◌+◌}
 use mathlib.Core.Path.{◌≡◌, refl, sym, ◌∙◌, ap}
-use mathlib.Core.Bool.{Bool, true}
-use mathlib.Core.List.{List, [], ◌++◌, append-nil}
-use lib.Dec.{ltb}
-use lib.ListN.{replicate}
+use mathlib.Core.Bool.{false}
+use mathlib.Core.List.{List, [], ◌∷◌, ◌++◌, append-nil}
+use lib.ListN.{length, replicate}
 use Rattle.base.specs.Bytes.{Bytes}
 use Rattle.interner.specs.Sound.{texts_of}
 use Rattle.interner.proofs.Held.{grown_all}
@@ -16,8 +16,8 @@ use Rattle.reader.specs.Event.{EventResult, event_on}
 use Rattle.reader.proofs.Answers.{by_answer}
 use Rattle.reader.proofs.Events.{event_accepted, by_refused}
 use Rattle.reader_calls.proofs.Events.{texts_sound}
-use Rattle.reader_events.specs.Runs.{RunGiven, RunPoint, point_on}
-use Rattle.reader_events.proofs.Runs.{Running, given_on, by_line, point_line, point_none, run_on}
+use Rattle.reader_events.specs.Runs.{RunGiven}
+use Rattle.reader_events.proofs.Runs.{Running, given_on, run_start, run_on}
 
 -- ---- an array of zeros
 
@@ -50,25 +50,20 @@ module _ (line : Bytes) (s : State) where
         chains = rw t.1 (indexed_more ix (texts_of s.overlay.texts) t.0 i.chains);
       }
 
--- the next line, if there is one
-pub point_indexed : (run : Bytes) (at : ℕ) (s : State) (ix : List ℕ) → RunGiven s → IndexGiven ix s.overlay.texts
-    → (y : RunPoint) → y ≡ point_on run at s → IndexGiven ix y.result.state.overlay.texts
-point_indexed run at s ix w i y e =
-    rw e (by_line run at s
-    (λ to f. rw (← point_line run at s to f _ refl _ refl) (event_indexed _ s ix w i))
-    (λ f. rw (← point_none run at s f) i))
-
 -- ---- all lines
 
--- the run so far, and an array for its texts
-pub record RunningBy (ix : List ℕ) (run : Bytes) (s₀ : State) (more : Bool) (at : ℕ) (x : EventResult) : Type 0 where
-  pub running : Running run s₀ more at x
-  pub indexed : IndexGiven ix x.state.overlay.texts
+-- the lines that are left, and an array for the texts before them
+pub record RunningBy (ix : List ℕ) (ls : List Bytes) (s₀ : State) (left : List Bytes) (taken : ℕ) (s : State) : Type 0 where
+  pub running : Running ls s₀ left taken s
+  pub indexed : IndexGiven ix s.overlay.texts
 
--- one line more, by the array that is brought up to date before it
-pub by_line_lem : (run : Bytes) (s₀ : State) (at : ℕ) (x : EventResult) → Running run s₀ true at x → (ix : List ℕ) → IndexGiven ix x.state.overlay.texts
-    → (y : RunPoint) → y ≡ point_on run at x.state → RunningBy ix run s₀ (ltb at y.taken) y.taken y.result
-by_line_lem run s₀ at x w ix i y e = record { running = run_on run s₀ at x w y e; indexed = point_indexed run at x.state ix w.given i y e }
+pub by_start : (ix : List ℕ) (ls : List Bytes) (s : State) → RunGiven s → IndexGiven ix s.overlay.texts → RunningBy ix ls s ls 0 s
+by_start ix ls s g i = record { running = run_start ls s g; indexed = i }
+
+-- a line more, by the array that is brought up to date before it
+pub by_line : {ls : List Bytes} {s₀ : State} {left : List Bytes} {taken : ℕ} {s : State} → Running ls s₀ left taken s → (ix : List ℕ) → IndexGiven ix s.overlay.texts
+    → {l : Bytes} {more : List Bytes} → left ≡ l ∷ more → (x : EventResult) → x ≡ event_on l s → is_err x.answer ≡ false → RunningBy ix ls s₀ more (taken + length l) x.state
+by_line {s = s} w ix i {l} e x f k = record { running = run_on w e x f k; indexed = rw f (event_indexed l s ix w.given i) }
 
 -- the array brought up to date, by the state as it is read
 pub indexed_by : {s t : State} {ix jx : List ℕ} → t ≡ s → (IndexGiven ix t.overlay.texts → IndexGiven jx t.overlay.texts) → IndexGiven ix s.overlay.texts → IndexGiven jx s.overlay.texts
