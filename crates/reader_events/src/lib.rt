@@ -4,7 +4,8 @@
 ghost use Rattle.std.specs.Prelude.{◌≡◌, true, ◌≤◌, length};
 ghost use Rattle.base.specs.Bytes.{all};
 ghost use Rattle.little.specs.Little.{is_byte};
-ghost use Rattle.text_index.specs.Index.{IndexGiven};
+ghost use Rattle.text_index.specs.Chained.{StoreChained, ChainsServe};
+ghost use Rattle.text_index.specs.Lent.{chains_seen, chains_held, IsSameChains};
 ghost use Rattle.input_lines.specs.Lines.{lines_of};
 ghost use Rattle.overlay.specs.Given.{head_fits, meta_fits};
 ghost use Rattle.reader.specs.Lent.{state_lent, state_left, state_seen, state_held, IsSameState};
@@ -18,6 +19,7 @@ use input_lines::RunLines;
 use overlay_blocks::COUNTERS;
 use reader::{EventReader, Pending, ReaderState, ReaderView, RefusedAt};
 use reader_stage::STAGED;
+use text_index::{BUCKETS, Chains, ChainsMut, HANDLES};
 
 // What the last event of a run answered, and how many bytes of the run were taken.
 #[derive(Clone, Copy, PartialEq, Eq, Debug)]
@@ -29,38 +31,36 @@ pub struct EventsDone {
 // ---- one line
 
 // A line as an event of a state that is sound but for its count of lines: 22 where that is at its largest, the stop mark, or its step.
-fn line_event(state: &mut ReaderState<'_>, ix: &[u16], line: &[u8]) -> Result<(), RefusedAt>
+fn line_event(
+    state: &mut ReaderState<'_>,
+    chains: &Chains<'_>,
+    line: &[u8],
+) -> Result<(), RefusedAt>
     ensures same { IsSameState state.new state.old }
-    ensures value { RunGiven (state_held state.old) → IndexGiven ix.now (state_held state.old).overlay.texts
+    ensures value { RunGiven (state_held state.old) → ChainsServe (chains_seen chains.now) (state_held state.old).overlay.texts
         → record { state = state_held state.new; answer = result } ≡ event_on line.now (state_held state.old) }
 {
     let counts = state.reader.lines < 18446744073709551615;
     reader_sound::check_going(counts, state.reader.stop)?;
-    reader_calls::event_going(state, ix, line)
+    reader_calls::event_going(state, chains, line)
 }
 
 // ---- all lines
 
-// Brings an array of chains up to date with the held texts.
-fn index_texts(ix: &mut [u16; 8193], state: &ReaderView<'_>)
-    ensures { IndexGiven ix.old (state_seen state.now).overlay.texts → IndexGiven ix.new (state_seen state.now).overlay.texts }
-{
-    overlay_store::index_texts(ix, state.words, state.bytes, state.counters);
-}
-
-// All lines, by an array of chains that is brought up to date before each.
-fn events_by(state: &mut ReaderState<'_>, ix: &mut [u16; 8193], run: &[u8]) -> EventsDone
+// All lines, by chains of handles that are brought up to date before each.
+fn events_by(state: &mut ReaderState<'_>, chains: &mut ChainsMut<'_>, run: &[u8]) -> EventsDone
     ensures same { IsSameState state.new state.old }
-    ensures answer_value { RunGiven (state_held state.old) → IndexGiven ix.old (state_held state.old).overlay.texts
+    ensures same_chains { IsSameChains chains.new chains.old }
+    ensures answer_value { RunGiven (state_held state.old) → StoreChained (chains_held chains.old) (state_held state.old).overlay.texts
         → record { state = state_held state.new; answer = result.answer } ≡ events_on (lines_of run.now) (state_held state.old) }
-    ensures taken_value { RunGiven (state_held state.old) → IndexGiven ix.old (state_held state.old).overlay.texts
+    ensures taken_value { RunGiven (state_held state.old) → StoreChained (chains_held chains.old) (state_held state.old).overlay.texts
         → result.taken ≡ taken_bytes (lines_of run.now) (state_held state.old) }
     ensures taken_in_bounds { result.taken ≤ length run.now }
 {
     let mut taken: usize = 0;
     for line in (RunLines { rest: run }) {
-        index_texts(ix, &state.view());
-        let answer = line_event(state, ix, line);
+        overlay_store::chain_texts(chains, &state.view().storage());
+        let answer = line_event(state, &chains.chains(), line);
         if answer.is_err() {
             return EventsDone { answer, taken };
         }
@@ -81,8 +81,14 @@ pub fn events_untested(state: &mut ReaderState<'_>, run: &[u8]) -> EventsDone
     ensures taken_in_bounds { result.taken ≤ length run.now }
 {
     // the library has no heap
-    let mut ix = [0u16; 8193];
-    events_by(state, &mut ix, run)
+    let mut lasts = [0u16; BUCKETS];
+    let mut befores = [0u16; HANDLES];
+    let mut chains = ChainsMut {
+        lasts: &mut lasts,
+        befores: &mut befores,
+        handles: 0,
+    };
+    events_by(state, &mut chains, run)
 }
 
 // ---- what is tested once

@@ -1,5 +1,5 @@
 -- Nothing where there is no line; 22 or the stop mark, or all lines.
-use mathlib.Core.Path.{◌≡◌, sym, ◌∙◌, ap, subst}
+use mathlib.Core.Path.{sym, ◌∙◌, ap, subst}
 use mathlib.Core.Bool.{Bool}
 use Rattle.reader.specs.Lent.{state_held}
 use Rattle.reader.specs.Given.{StateGiven}
