@@ -1,5 +1,6 @@
 // All ids of a kind that are live, or all that are deleted, each with its known version, into two lent lists in one call. It first tests that the
 // overlay is sound (22).
+// The ids and the versions are two lists and no pairs, since C lends two.
 #![tactic(auto)]
 
 ghost use Rattle.std.specs.Prelude.{◌≡◌, map, ◌≤◌, length};

@@ -1,4 +1,4 @@
-// A reader: an event, a run of events, and the end of its document.
+// A reader: an event, a run of events, and the end of its document. The three differ in what they call and in what they answer; the words are read by one function.
 ghost use Rattle.std.specs.Prelude.{◌≡◌};
 ghost use Rattle.overlay.specs.Lent.{lent, left};
 ghost use Rattle.torvaskin.specs.Readers.{event_reply, events_reply, end_reply};

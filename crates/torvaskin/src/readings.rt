@@ -280,7 +280,7 @@ pub extern "C" fn tvk_text(
 }
 
 // All live or all deleted ids of a kind in OSM order and the known version of each: 22, 17, 19, or how many they are.
-// `of_kind` is for readings that change nothing: its contract says nothing of the lists that a reading fills.
+// The ids and the versions are two lists, as C lends them, here and in the two entries below. `of_kind` is for readings that change nothing: its contract says nothing of the lists that a reading fills.
 fn ids_number(
     words: &[u64],
     bytes: &[u8],
