@@ -97,7 +97,7 @@ fn once(rest: &Fields<'_, MAX_LINE>) -> bool
     let Some(text) = rest.rest else {
         return attributes.once_in_pairs();
     };
-    if text.len() < 256 {
+    if text.len() < 96 {
         return attributes.once_in_pairs();
     }
     let note = |words: &mut [u64]| -> Option<usize>
