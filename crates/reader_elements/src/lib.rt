@@ -4,17 +4,16 @@
 ghost use Rattle.std.specs.Prelude.{◌≡◌};
 ghost use Rattle.std.specs.Int.{w64};
 ghost use Rattle.std.proofs.Common.{to_z};
-ghost use Rattle.base.specs.Bytes.{Bytes};
-ghost use Rattle.model.specs.Record.{Meta, Body, kind_of};
+ghost use Rattle.event_values.specs.Value.{body_in};
 ghost use Rattle.event_decision.specs.Decision.{begins, deletes, ends};
+ghost use Rattle.text_index.specs.Chained.{ChainsServe};
 ghost use Rattle.text_index.specs.Lent.{chains_seen};
 ghost use Rattle.overlay.specs.Lent.{overlay_held, IsSameStorage};
 ghost use Rattle.reader.specs.State.{State};
-ghost use Rattle.reader.specs.Step.{head_for};
 ghost use Rattle.reader.specs.Done.{worked, Works};
-ghost use Rattle.reader_acts.specs.Acts.{Means, ActGiven};
+ghost use Rattle.reader_acts.specs.Acts.{act_means, ActGiven};
 
-use compact::PushHead;
+use event_values::Coordinates;
 use kind::Kind;
 use overlay::StorageMut;
 use reader::Pending;
@@ -23,24 +22,24 @@ use reader_stage::STAGED;
 use refusal::Refusal;
 use text_index::Chains;
 
-// An element begins, by its head; one that is empty ends too, and is pushed.
+// An element begins, a node at its place; one that is empty ends too, and is pushed.
 pub fn begin(
     storage: &mut StorageMut<'_>,
     chains: &Chains<'_>,
     act: &Act<'_>,
-    head: PushHead,
+    place: Coordinates,
     empty: bool,
 ) -> Result<Pending, Refusal>
     ensures same { IsSameStorage storage.new storage.old }
-    ensures works { (s : State) (m : Meta Bytes) (b : Body Bytes) → s.overlay ≡ overlay_held storage.old → Means act.now m → ActGiven (chains_seen chains.now) s.overlay
-        → kind_of b ≡ act.now.kind → head ≡ head_for (to_z w64 act.now.id) b
-        → Works (λ p. begins empty p (to_z w64 act.now.id) m b) s (worked s (overlay_held storage.new) s.parts result) }
+    ensures works { (s : State) → s.overlay ≡ overlay_held storage.old → ActGiven (chains_seen chains.now) s.overlay
+        → Works (λ p. begins empty p (to_z w64 act.now.id) (act_means act.now) (body_in act.now.kind place.lat place.lon)) s (worked s (overlay_held storage.new) s.parts result) }
 {
     if empty {
-        reader_acts::push_empty(storage, chains, act, head)?;
+        reader_acts::push_empty(storage, chains, act, place)?;
         return Ok(Pending::default());
     }
     let meta = reader_acts::begin_element(storage, chains, act)?;
+    let head = reader_acts::head_for(act.kind, act.id, place.lat, place.lon);
     Ok(Pending {
         head,
         meta,
@@ -55,8 +54,8 @@ pub fn delete(
     act: &Act<'_>,
 ) -> Result<Pending, Refusal>
     ensures same { IsSameStorage storage.new storage.old }
-    ensures works { (s : State) (m : Meta Bytes) → s.overlay ≡ overlay_held storage.old → Means act.now m → ActGiven (chains_seen chains.now) s.overlay
-        → Works (λ p. deletes act.now.kind p (to_z w64 act.now.id) m) s (worked s (overlay_held storage.new) s.parts result) }
+    ensures works { (s : State) → s.overlay ≡ overlay_held storage.old → ChainsServe (chains_seen chains.now) s.overlay.texts
+        → Works (λ p. deletes act.now.kind p (to_z w64 act.now.id) (act_means act.now)) s (worked s (overlay_held storage.new) s.parts result) }
 {
     reader_acts::delete_element(storage, chains, act)?;
     Ok(Pending::default())

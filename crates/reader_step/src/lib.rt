@@ -9,15 +9,16 @@ ghost use Rattle.event_decide.specs.Tasks.{work_means, task_means};
 ghost use Rattle.event_decide.specs.declared.tasks.Work.TheVariants as W;
 ghost use Rattle.text_index.specs.Lent.{chains_seen};
 ghost use Rattle.reader.specs.Lent.{state_held, IsSameState};
-ghost use Rattle.reader.specs.Step.{bits_with_user, step_of};
+ghost use Rattle.reader.specs.Step.{step_of};
 ghost use Rattle.reader.specs.Done.{done_by, Works};
-ghost use Rattle.reader_acts.specs.Acts.{Means};
+ghost use Rattle.reader_acts.specs.Acts.{act_means};
 ghost use Rattle.reader_parts.specs.Parts.{StepGiven};
 
 use compact::ArenaMeta;
 use event_decide::tasks::{NewElement, OldElement, Task, Work};
 use event_metadata::values::MetadataValues;
 use event_scan::MAX_LINE;
+use event_values::Coordinates;
 use kind::Kind;
 use overlay::StorageMut;
 use reader::ReaderState;
@@ -45,45 +46,23 @@ fn flags(metadata: &MetadataValues<'_, MAX_LINE>) -> u8
         + mark(metadata.version.is_some(), 8)
 }
 
-// Each number is the bits of the number that it stands for. They come one by one: that a number fits its type is known of a parameter, and of no field of the metadata (tried, there and by value).
-fn meta_of(flags: u8, version: u32, timestamp: u64, changeset: u64, uid: u32) -> ArenaMeta
-    ensures bits { result ≡ record { flags = flags; version = of_z w32 (to_z w32 version); timestamp = of_z w64 (to_z w64 timestamp); changeset = of_z w64 (to_z w64 changeset); uid = of_z w32 (to_z w32 uid); user = 0 } }
-    ensures version { SFits w32 (to_z w32 version) }
-{
-    ArenaMeta {
-        flags,
-        version,
-        timestamp,
-        changeset,
-        uid,
-        user: 0,
-    }
-}
-
-// With no user. It is no From: both types are other crates'.
-fn arena_meta(metadata: &MetadataValues<'_, MAX_LINE>) -> ArenaMeta
-    ensures bits { result ≡ bits_with_user (metadata_means metadata.now) 0 }
-    ensures version { SFits w32 (metadata_means metadata.now).version }
-{
-    let version = metadata.version.unwrap_or(0);
-    meta_of(
-        flags(metadata),
-        version,
-        metadata.timestamp,
-        metadata.changeset,
-        metadata.uid,
-    )
-}
-
 // An act on an element of a kind and id, with its metadata.
 fn act_of<'a>(kind: Kind, id: u64, metadata: &MetadataValues<'a, MAX_LINE>) -> Act<'a>
     ensures element { (result.kind ≡ kind) × (result.id ≡ id) }
-    ensures means { Means result (metadata_means metadata.now) }
+    ensures means { act_means result ≡ metadata_means metadata.now }
 {
+    let meta = ArenaMeta {
+        flags: flags(metadata),
+        version: metadata.version.unwrap_or(0),
+        timestamp: metadata.timestamp,
+        changeset: metadata.changeset,
+        uid: metadata.uid,
+        user: 0,
+    };
     Act {
         kind,
         id,
-        meta: arena_meta(metadata),
+        meta,
         user: metadata.user,
     }
 }
@@ -100,13 +79,22 @@ fn begin(
         → Works (λ p. work_means p (W.Begins element.now)) (state_held state.old) (record { state = state_held state.new; answer = result }) }
 {
     let act = act_of(element.kind, element.id, &element.metadata);
-    let head = reader_acts::head_for(element.kind, element.id, element.lat, element.lon);
+    let place = Coordinates {
+        lat: element.lat,
+        lon: element.lon,
+    };
     let mut storage = StorageMut {
         words: state.words,
         bytes: state.bytes,
         counters: state.counters,
     };
-    state.reader.pending = reader_elements::begin(&mut storage, chains, &act, head, element.empty)?;
+    state.reader.pending = reader_elements::begin(
+        &mut storage,
+        chains,
+        &act,
+        place,
+        element.empty,
+    )?;
     Ok(())
 }
 
