@@ -2,7 +2,8 @@
 use mathlib.Core.Path.{◌∙◌}
 use Rattle.std.proofs.Common.{rules}
 use mir.Syntax.{w32}
-use Rattle.signed.proofs.Bits.{held}
+use mir.Val.{SFits}
+use mir.Facts.{to_z-of_z}
 use Rattle.reader_acts.proofs.Bits.{act_claims}
 use Rattle.reader_acts.proofs.first_refusal.Goals as goal
 
@@ -13,4 +14,5 @@ returns-in-Ok c =
 pub returns-in-Err : goal.returns-in-Err
 returns-in-Err c =
     let e = c.claim-claim.ensures ∙ act_claims c.args.act.now in
-    rw (held w32 c.in-Err.held (search rules), ← e, ← c.check_claim.ensures, c.in-Err.is)
+    let told : SFits w32 c.in-Err.held = search rules in
+    rw (to_z-of_z told, ← e, ← c.check_claim.ensures, c.in-Err.is)
