@@ -1,11 +1,11 @@
 -- A row stored over its words in a part that is lent, and in the gap of three words that a block move leaves.
 use Prim.Native.Nat.{ℕ, ◌+◌, ◌*◌, ◌-◌, ◌≤◌}
 use mathlib.Core.Path.{◌≡◌, ◌∙◌, ap}
-use mathlib.Core.List.{List, ◌++◌, append_assoc}
+use mathlib.Core.List.{List, [], ◌++◌, append-nil, append_assoc}
 use native.Mathlib.Omega.{arith}
-use lib.ListN.{length, take, drop}
-use borrow.Rule.Slice.PartMut.{put_mid}
-use lib.Seq.{take-append-le, take-take, take-add, drop-drop, drop_at, slice, length-take-le}
+use lib.ListN.{length, take, drop, length-drop, drop_of_length-le}
+use borrow.Rule.Slice.PartMut.{mid_of, post_of, put_mid}
+use lib.Seq.{take_all, take-append-le, take-take, take-add, drop-drop, drop_at, slice, length-take-le}
 use Rattle.std.specs.List.{copy_within}
 use Rattle.kind_table.specs.declared.Row.{Row}
 use Rattle.kind_table.specs.Words.{words_in, words_of, row_over, inserted}
@@ -20,6 +20,32 @@ block : (ws : List ℕ) (at used : ℕ) → at ≤ used → used ≤ length ws �
 block ws at used h fits =
     let x : at + (used - at) ≡ used = omega arith in
     rw (rw x at (take-add at (used - at) ws)) (drop_at (take at ws) (take (used - at) (drop at ws)) at (length-take-le at ws (omega arith)))
+
+-- a block of the rest moved by three words, as the borrow checker says it: `last` is what is left of the rest
+pub block_lent : (ws last : List ℕ) (at used : ℕ) → at ≤ used → used + 3 ≤ length ws → last ≡ copy_within (mid_of at (length ws - at) ws) 0 (used - at) 3
+    → put_mid at (length ws - at) ws last ≡ copy_within ws at used (at + 3)
+block_lent ws last at used h fits e =
+    let part = drop at ws in
+    let n : length part ≤ length ws - at = simp length-drop (omega arith) in
+    let m : mid_of at (length ws - at) ws ≡ part = take_all (length ws - at) part n in
+    let q : post_of at (length ws - at) ws ≡ [] = drop_of_length-le part n in
+    let z : used - at - 0 ≡ used - at = omega arith in
+    let i : at + (3 + (used - at)) ≡ at + 3 + (used - at) = omega arith in
+    let y : drop (3 + (used - at)) part ≡ drop (at + 3 + (used - at)) ws = rw i at (drop-drop (3 + (used - at)) at ws) in
+    let rest = drop (at + 3 + (used - at)) ws in
+    let moved = take (used - at) part in
+    rw (
+      q,
+      e,
+      m,
+      append-nil,
+      z,
+      y,
+      take-add at 3 ws,
+      append_assoc (take 3 part) moved rest,
+      append_assoc (take at ws ++ take 3 part) moved rest,
+      append_assoc (take at ws) (take 3 part) (moved ++ rest),
+    )
 
 -- a row stored in the gap that the block move leaves
 pub gap_filled : (ws : List ℕ) (p n : ℕ) (row : Row) → p ≤ n → 3 * n + 3 ≤ length ws → row_over (copy_within ws (3 * p) (3 * n) (3 * p + 3)) p row ≡ inserted ws p n row
