@@ -10,10 +10,9 @@ ghost use Rattle.event_decision.specs.Decision.{unless_delete, element_begins, c
 ghost use Rattle.event_decide.specs.Tasks.{work_means, work_answer, task_means, task_answer};
 
 use event_metadata::values::MetadataValues;
-use event_scan::MAX_LINE;
-use event_scan::event_line;
 use event_scan::event_line::EventLine;
 use event_scan::fields::Attributes;
+use event_scan::{MAX_LINE, event_line};
 use event_values::{Coordinates, MemberValues, TagValues};
 use kind::Kind;
 use nesting::{Action, Child, Level, Name, Opening, Place};
@@ -101,7 +100,11 @@ fn unless_deleted<'a>(action: Action, work: &Work<'a>) -> Work<'a>
     }
 }
 
-fn child<'a>(action: Action, child: Child, attributes: &Attributes<'a, MAX_LINE>) -> Result<Work<'a>, Refusal>
+fn child<'a>(
+    action: Action,
+    child: Child,
+    attributes: &Attributes<'a, MAX_LINE>,
+) -> Result<Work<'a>, Refusal>
     ensures { (p : ReaderPlace) → work_answer p result ≡ child_of child action p (attributes_left attributes.now) }
 {
     let work = match child {

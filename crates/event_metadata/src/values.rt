@@ -57,7 +57,11 @@ fn metadata_name(s: &[u8]) -> Option<MetadataName>
 
 impl<'a, const N: usize> MetadataValues<'a, N> {
     // With one value more. Only `false` exactly hides.
-    fn with(&self, name: MetadataName, value: &Value<'a, N>) -> Result<MetadataValues<'a, N>, Refusal>
+    fn with(
+        &self,
+        name: MetadataName,
+        value: &Value<'a, N>,
+    ) -> Result<MetadataValues<'a, N>, Refusal>
         ensures { metadata_answered result ≡ metadata_as name (metadata_means self.now) (text_written value.now) }
     {
         let with = MetadataValues {
@@ -98,7 +102,9 @@ impl<'a, const N: usize> MetadataValues<'a, N> {
 }
 
 // The metadata of attributes, in their order; other names are passed over.
-pub fn metadata_of<'a, const N: usize>(attributes: &Attributes<'a, N>) -> Result<MetadataValues<'a, N>, Refusal>
+pub fn metadata_of<'a, const N: usize>(
+    attributes: &Attributes<'a, N>,
+) -> Result<MetadataValues<'a, N>, Refusal>
     ensures { metadata_answered result ≡ metadata_of (attributes_left attributes.now) }
 {
     let mut metadata = MetadataValues {

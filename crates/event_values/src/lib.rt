@@ -29,13 +29,19 @@ pub fn integer_32(v: &[u8]) -> Option<u32>
 
 // ---- the fields of attributes, by their names
 
-fn required<'a, const N: usize>(attributes: &Attributes<'a, N>, name: &[u8]) -> Result<Value<'a, N>, Refusal>
+fn required<'a, const N: usize>(
+    attributes: &Attributes<'a, N>,
+    name: &[u8],
+) -> Result<Value<'a, N>, Refusal>
     ensures { value_field result ≡ F.text_field name.now (attributes_left attributes.now) }
 {
     attributes.value_of(name).ok_or(Refusal::Missing)
 }
 
-pub fn integer_field<const N: usize>(attributes: &Attributes<'_, N>, name: &[u8]) -> Result<u64, Refusal>
+pub fn integer_field<const N: usize>(
+    attributes: &Attributes<'_, N>,
+    name: &[u8],
+) -> Result<u64, Refusal>
     ensures { wide_field result ≡ integer_field w64 name.now (attributes_left attributes.now) }
 {
     let value = required(attributes, name)?;
@@ -43,7 +49,11 @@ pub fn integer_field<const N: usize>(attributes: &Attributes<'_, N>, name: &[u8]
 }
 
 // A coordinate, at most a limit either side of 0.
-fn coordinate_field<const N: usize>(attributes: &Attributes<'_, N>, name: &[u8], limit: u32) -> Result<u32, Refusal>
+fn coordinate_field<const N: usize>(
+    attributes: &Attributes<'_, N>,
+    name: &[u8],
+    limit: u32,
+) -> Result<u32, Refusal>
     ensures { narrow_field result ≡ coordinate name.now limit (attributes_left attributes.now) }
 {
     let value = required(attributes, name)?;
@@ -70,7 +80,10 @@ fn node_coordinates<const N: usize>(attributes: &Attributes<'_, N>) -> Result<Co
 }
 
 // What an element of a kind holds at first.
-pub fn body_of<const N: usize>(attributes: &Attributes<'_, N>, kind: Kind) -> Result<Coordinates, Refusal>
+pub fn body_of<const N: usize>(
+    attributes: &Attributes<'_, N>,
+    kind: Kind,
+) -> Result<Coordinates, Refusal>
     ensures { body_field kind result ≡ body_for kind (attributes_left attributes.now) }
 {
     match kind {
@@ -87,7 +100,9 @@ pub struct TagValues<'a, const N: usize> {
 }
 
 // A tag, or the refusal of its key or its value.
-pub fn tag_of<'a, const N: usize>(attributes: &Attributes<'a, N>) -> Result<TagValues<'a, N>, Refusal>
+pub fn tag_of<'a, const N: usize>(
+    attributes: &Attributes<'a, N>,
+) -> Result<TagValues<'a, N>, Refusal>
     ensures { tag_answered result ≡ tag_of (attributes_left attributes.now) }
 {
     let key = required(attributes, b"k")?;
@@ -104,7 +119,9 @@ pub struct MemberValues<'a, const N: usize> {
 }
 
 // A member, or the refusal of its type or its ref.
-pub fn member_of<'a, const N: usize>(attributes: &Attributes<'a, N>) -> Result<MemberValues<'a, N>, Refusal>
+pub fn member_of<'a, const N: usize>(
+    attributes: &Attributes<'a, N>,
+) -> Result<MemberValues<'a, N>, Refusal>
     ensures { member_answered result ≡ member_of (attributes_left attributes.now) }
 {
     let named = required(attributes, b"type")?;

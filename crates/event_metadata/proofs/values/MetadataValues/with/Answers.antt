@@ -1,9 +1,7 @@
 -- `with` goes by the name: a refusal, or the value with its flags.
 use Rattle.std.proofs.Common.{sym, ◌∙◌}
 use Rattle.std.specs.Prelude.{is_some}
-use Rattle.std.proofs.lemmas.Bool.Decides.{Decides-eqb}
-use Rattle.std.proofs.lemmas.Slice.Eq.{slice_eq-Decides}
-use Rattle.event_scan.proofs.Equal.{same_known}
+use Rattle.event_scan.proofs.Equal.{known}
 use Rattle.event_values.proofs.Raws.{false_raw}
 use Rattle.event_values.proofs.Values.{handed_on}
 use Rattle.event_metadata.proofs.Given.{given_marked, given_hidden, given_user, given_version, narrow_value, wide_value, moment_value}
@@ -51,11 +49,11 @@ returns-in-User g c =
 pub returns-in-Visible : goal.returns-in-Visible
 returns-in-Visible g c =
     let m = c.args.self.now in
-    let e = sym (same_known _ _ _ _ c.as_slice.ensures (slice_eq-Decides Decides-eqb _ _ _ c.eq.ensures) ∙ false_raw c.args.value.now.bytes.now) ∙ c.if-eq.true in
+    let e = sym (known _ _ c.as_slice.ensures c.eq.ensures ∙ false_raw c.args.value.now.bytes.now) ∙ c.if-eq.true in
     rw (c.in-Visible.is, e, given_hidden m.given m.hidden (is_some m.user) (is_some m.version))
 
 pub returns-in-Visible-2 : goal.returns-in-Visible-2
 returns-in-Visible-2 g c =
     let m = c.args.self.now in
-    let e = sym (same_known _ _ _ _ c.as_slice.ensures (slice_eq-Decides Decides-eqb _ _ _ c.eq.ensures) ∙ false_raw c.args.value.now.bytes.now) ∙ c.if-eq.false in
+    let e = sym (known _ _ c.as_slice.ensures c.eq.ensures ∙ false_raw c.args.value.now.bytes.now) ∙ c.if-eq.false in
     rw (c.in-Visible-2.is, e, given_marked m.given m.hidden (is_some m.user) (is_some m.version))
