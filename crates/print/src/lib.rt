@@ -182,7 +182,8 @@ fn is_plain(b: u8) -> bool
     (b'\r' < b) & (b != b'\\')
 }
 
-// Whether each byte of a text surely stands for itself. It looks at all bytes, so that many are looked at together: no early end.
+// Whether each byte of a text surely stands for itself. It looks at all bytes, so that many are looked at together: no early end. The function with a predicate
+// is the library's fold, as in `text::plain`; another one above it would say no more.
 fn all_plain(text: &[u8]) -> bool
     ensures { result ≡ all is_plain text.now }
 {
