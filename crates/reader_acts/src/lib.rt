@@ -40,7 +40,7 @@ pub struct Act<'a> {
 
 // ---- in bits
 
-// The head of an element that begins; only a node has a place.
+// The head of an element that begins; only a node has a place. It is no method of `Act`: that a number fits its type is known of a parameter, and of no field behind a reference (tried).
 pub fn head_for(kind: Kind, id: u64, lat: u32, lon: u32) -> PushHead
     ensures id { result.id ≡ id }
     ensures bits { result ≡ head_for (to_z w64 id) (body_in kind lat lon) }
@@ -58,7 +58,7 @@ pub fn head_for(kind: Kind, id: u64, lat: u32, lon: u32) -> PushHead
     }
 }
 
-// Metadata with the handle of the user that it names, and the flag 4, "has user"; without a user both are 0.
+// Metadata with the handle of the user that it names, and the flag 4, "has user"; without a user both are 0. A handle of more than 32 bits is stored as 0.
 fn with_user(meta: ArenaMeta, named: bool, handle: Option<u64>) -> ArenaMeta
     ensures claim { claim_of (meta_of result) ≡ claim_of (meta_of meta) }
     ensures bits { (user : Bytes) → unwrap_or handle 0 < 4294967296 → result ≡ bits_with_user (meta_named meta named user) (unwrap_or handle 0) }
