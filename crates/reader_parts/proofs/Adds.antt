@@ -150,9 +150,6 @@ module _ (k : Kind) (x : Pending) (n : ℕ) where
   pub fits_no_tags : 256 ≤ x.head.tags → tag_fits k x n ≡ false
   fits_no_tags q = both_no_left _ _ (lt-leb (x.head.tags + 1) 256 (omega arith))
 
-pub part_yes : (x : Pending) (limit : ℕ) → part_fits x limit ≡ true → x.head.count < limit
-part_yes x limit e = let p = leb-true (x.head.count + 1) limit e in omega arith
-
 -- a ref takes 8 bytes, a member 13
 pub middle_most : (k : Kind) (n : ℕ) → middle k n ≤ 13 * n
 middle_most K.Node n = omega arith

@@ -19,7 +19,7 @@ use Rattle.little.proofs.Overs.{over_over, over_start, over_whole, over_fits}
 use borrow.Rule.Slice.PartMut.{mid_of, put_mid}
 use Rattle.little.proofs.Littles.{length_le}
 use Rattle.compact.specs.declared.CompactMember.{CompactMember}
-use Rattle.reader_stage.specs.Stage.{staged, member_part, tag_part}
+use Rattle.reader_stage.specs.Stage.{staged, member_part}
 
 -- ---- a part before the bytes of a room, which were moved up to its end
 
@@ -95,6 +95,3 @@ over_all s t e = rw (over_start s t (omega (arith, e)), e, drop-length, append-n
 
 pub length_member_part : (m : CompactMember) → length (member_part m) ≡ 13
 length_member_part m = simp (length-append, length_le)
-
-pub length_tag_part : (key : ℕ) (value : Bytes) → length (tag_part key value) ≡ 8 + length value
-length_tag_part key value = simp (length-append, length_le) (omega arith)
