@@ -1,7 +1,7 @@
 -- sorted.rs, `KindTable::build`: of a kind that is the same it is our rows, in order.
 use Rattle.std.proofs.lemmas.Option.{none-some}
 use Rattle.std.specs.Prelude.{None, Option, Some, option_map}
-use Rattle.std.proofs.Common.{◌≡◌, ℕ, ◌^◌, ◌≤◌, Bool, true, false, cond, not, eqb, ltb, List, [], ◌∷◌, map, take, ℤ, sym, refl, ap, ◌∙◌, arith, w64, SFits, ltb-true, le-ltb, lt-ltb, eq-eqb, ne_eqb}
+use Rattle.std.proofs.Common.{◌≡◌, ℕ, ◌^◌, ◌≤◌, Bool, true, cond, not, eqb, ltb, List, [], ◌∷◌, map, take, ℤ, sym, refl, ap, ◌∙◌, arith, w64, SFits, ltb-true, le-ltb, lt-ltb, eq-eqb, ne_eqb}
 use mathlib.Core.List.{map-map}
 use mir.Facts.{Fits-of_lt}
 use borrow.Author.Tests.{not-true}

@@ -1,7 +1,7 @@
 -- Condition 2, equality with the Rust, over lists: a call in the domain tells the same on both sides and leaves the same; one outside leaves the library as it was, and is not given to
 -- the Rust.
 use Rattle.std.specs.Prelude.{Option, Result, Ok, Err}
-use Rattle.std.proofs.Common.{◌≡◌, ℕ, ◌≤◌, Bool, true, false, not, eqb, ltb, List, [], ◌∷◌, ℤ, sym, refl, ap, ◌∙◌, subst, arith, w64, to_z, ltb-true, eq-eqb, ne_eqb, leb-true}
+use Rattle.std.proofs.Common.{◌≡◌, ℕ, ◌≤◌, true, false, not, eqb, ltb, List, [], ◌∷◌, ℤ, sym, refl, ap, ◌∙◌, subst, arith, w64, to_z, ltb-true, eq-eqb, ne_eqb, leb-true}
 use borrow.Author.Tests.{not-true}
 use Rattle.base.specs.Bytes.{Bytes, both, either, all}
 use Rattle.base.proofs.Split.{by_bool, by_eq, either_right, either_false, both_left, both_right, both_of, clash, no}
