@@ -2,7 +2,6 @@
 use Prim.Native.Nat.{ℕ, ◌+◌, ◌*◌, ◌/◌, ◌%◌}
 use mathlib.Core.Path.{◌≡◌, refl, sym, ◌∙◌, ap}
 use Rattle.std.specs.Prelude.{None, Option, Some, is_some, option_map}
-use borrow.Author.Tests.{eqb-true, eqb-false}
 use mathlib.Core.Bool.{Bool, true, false}
 use native.Mathlib.Omega.{arith}
 use Rattle.base.specs.Bytes.{Bytes}
@@ -20,16 +19,10 @@ use Rattle.reader_acts.specs.Acts.{user_flagged, act_means}
 
 -- ---- the flag of the user
 
-pub user_flag : (f : ℕ) (user : Bool) → flagged 4 (user_flagged f user) ≡ user
+user_flag : (f : ℕ) (user : Bool) → flagged 4 (user_flagged f user) ≡ user
 unfolding flagged
 user_flag f true = let e : (f / 8 * 8 + 4 + f % 4) / 4 % 2 ≡ 1 = omega arith in rw e refl
 user_flag f false = let e : (f / 8 * 8 + 0 + f % 4) / 4 % 2 ≡ 0 = omega arith in rw e refl
-
--- set where it is set, the flags stay as they are
-pub user_flag_kept : (f : ℕ) (user : Bool) → flagged 4 f ≡ user → user_flagged f user ≡ f
-unfolding flagged
-user_flag_kept f true e = let h = eqb-true (f / 4 % 2) 1 e in omega (arith, h)
-user_flag_kept f false e = let h = eqb-false (f / 4 % 2) 1 e in omega (arith, h)
 
 pub version_flag : (f : ℕ) (user : Bool) → flagged 8 (user_flagged f user) ≡ flagged 8 f
 unfolding flagged
