@@ -3,9 +3,9 @@
 #![tactic(auto)]
 
 ghost use Rattle.std.specs.Prelude.{◌≡◌, Bool, ◌+◌, ◌<◌, ◌≤◌, length, take, drop, set, IsPermutation};
-ghost use Rattle.base.specs.Bytes.{same};
+ghost use Rattle.base.specs.Bytes.{Bytes, same};
 ghost use Rattle.distinct.specs.Distinct.{distinct, run_start, run_length, run_in, runs_in, RightOf};
-ghost use Rattle.distinct.specs.Check.{run_cmp, NotesAs};
+ghost use Rattle.distinct.specs.Check.{run_cmp, NotedAs};
 
 use std::cmp::Ordering;
 
@@ -156,32 +156,41 @@ fn runs_differ(bytes: &[u8], words: &mut [u64]) -> Option<bool>
 // How many words there is room for, where many runs are told apart. The library has no heap.
 const ROOM: usize = 5460;
 
+// Runs of some bytes that can note their words: the bytes, and what is asked of the runs, which is no where nothing is noted and else whether no two are equal.
+pub trait NotedRuns {
+    ghost within: { Self → Bytes };
+
+    ghost asked: { Self → Bool };
+
+    fn bytes(&self) -> &[u8]
+        ensures { result.now ≡ within self.now };
+
+    // Notes the words of all runs, as far as there is room. The answer is how many there are, or none where what is asked is no already.
+    fn note(&self, words: &mut [u64]) -> Option<usize>
+        ensures { length (within self.now) < 131072 → NotedAs (within self.now) words.new result (asked self.now) };
+}
+
 // What `noted_differ` tells, with the words in what is lent.
-fn noted_differ_in<F: FnOnce(&mut [u64]) -> Option<usize>>(
-    bytes: &[u8],
-    words: &mut [u64],
-    note: F,
-) -> Option<bool>
-    requires { F.IsAlwaysCallable note }
-    ensures { (told : Bool) → (length bytes.now < 131072 → NotesAs F.FnOnce note bytes.now told) → RightOf result told }
+fn noted_differ_in<R: NotedRuns>(runs: &R, words: &mut [u64]) -> Option<bool>
+    ensures { RightOf result (R.asked runs.now) }
 {
+    let bytes = runs.bytes();
     if 131072 <= bytes.len() {
         return None;
     }
-    match note(words) {
+    match runs.note(words) {
         Some(n) if n <= words.len() => runs_differ(bytes, &mut words[..n]),
         Some(_) => None,
         None => Some(false),
     }
 }
 
-// Whether no two of the runs are equal whose words a closure notes, as far as there is room, where it is told. The closure answers how many runs there are, or none where the answer is no
-// already. It is not inlined: where its array lay in a caller's frame, clang's stack probe stood behind the caller's first tests.
+// What is asked of runs, as far as there is room for their words, where it is told. It is not inlined: where its array lay in a caller's frame, clang's stack probe stood behind the caller's
+// first tests.
 #[inline(never)]
-pub fn noted_differ<F: FnOnce(&mut [u64]) -> Option<usize>>(bytes: &[u8], note: F) -> Option<bool>
-    requires { F.IsAlwaysCallable note }
-    ensures { (told : Bool) → (length bytes.now < 131072 → NotesAs F.FnOnce note bytes.now told) → RightOf result told }
+pub fn noted_differ<R: NotedRuns>(runs: &R) -> Option<bool>
+    ensures { RightOf result (R.asked runs.now) }
 {
     let mut words = [0u64; ROOM];
-    noted_differ_in(bytes, &mut words, note)
+    noted_differ_in(runs, &mut words)
 }

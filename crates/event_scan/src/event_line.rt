@@ -6,16 +6,16 @@ ghost use Rattle.base.specs.Bytes.{Bytes, both};
 ghost use Rattle.line.specs.Line.{fields};
 ghost use Rattle.event.specs.Event.{body, event_of, event_from, starts_from, attr_of, attrs_of, none_twice};
 ghost use Rattle.distinct.specs.Distinct.{runs_in};
-ghost use Rattle.distinct.specs.Check.{NotedAs};
 ghost use Rattle.event_scan.specs.Names.{names_of, among, new_name, texts_of};
 ghost use Rattle.event_scan.specs.Piece.{there};
 ghost use Rattle.event_scan.specs.Parts.{name_seen, text_left, attributes_in};
-ghost use Rattle.event_scan.specs.Fields.{fields_left};
+ghost use Rattle.event_scan.specs.Fields.{fields_left, attributes_left};
 ghost use Rattle.event_scan.specs.Scan.{stand, lone};
 ghost use Rattle.event_scan.specs.Line.{line_means};
 
 use crate::fields::{Attributes, Fields, attribute_name, name_length};
 use crate::{MAX_LINE, body_length, lacks, legal_line};
+use distinct::NotedRuns;
 use refusal::Refusal;
 
 // ---- whether attributes stand: each field is one, and no name is there twice
@@ -88,22 +88,34 @@ fn note_names(rest: &Fields<'_, MAX_LINE>, words: &mut [u64]) -> usize
     n
 }
 
+// The names of attributes, to be told apart by their words.
+impl NotedRuns for Attributes<'_, MAX_LINE> {
+    ghost within = { λ attributes. text_left attributes.fields.rest };
+
+    ghost asked = { λ attributes. none_twice (attributes_left attributes) };
+
+    fn bytes(&self) -> &[u8] {
+        match self.fields.rest {
+            Some(text) => text,
+            None => &[],
+        }
+    }
+
+    fn note(&self, words: &mut [u64]) -> Option<usize> {
+        Some(note_names(&self.fields, words))
+    }
+}
+
 // Whether no two attributes have one name. In a short line they are compared in pairs, in a long one by the words of the names, where these tell it.
 // A closure for `unwrap_or_else` would want a contract of its own, which is longer than the match.
 fn once(rest: &Fields<'_, MAX_LINE>) -> bool
     ensures { result ≡ none_twice (attributes_in (fields_left rest.now)) }
 {
     let attributes = Attributes { fields: *rest };
-    let Some(text) = rest.rest else {
-        return attributes.once_in_pairs();
-    };
-    if text.len() < 96 {
+    if attributes.bytes().len() < 96 {
         return attributes.once_in_pairs();
     }
-    let note = |words: &mut [u64]| -> Option<usize>
-        ensures { NotedAs (text_left rest.entry.now.rest) words.new result (none_twice (attributes_in (fields_left rest.entry.now))) }
-    { Some(note_names(rest, words)) };
-    match distinct::noted_differ(text, note) {
+    match distinct::noted_differ(&attributes) {
         Some(told) => told,
         None => attributes.once_in_pairs(),
     }

@@ -12,6 +12,7 @@ ghost use Rattle.interner.specs.Check.{new_at, legal_at, WordsNoted};
 ghost use Rattle.interner.specs.Texts.{handle_answered};
 ghost use Rattle.interner.specs.Lent.{store_seen, store_held, IsSameStrings, span_held, find_held};
 
+use distinct::NotedRuns;
 use little::Span;
 
 // ---- the texts that are in use
@@ -131,13 +132,35 @@ impl Texts<'_> {
             return self.sound_in_pairs(n);
         }
         // `unwrap_or_else` was tried, and its proof did not close: a proof learns nothing of what the closure answers.
-        let note = |words: &mut [u64]| -> Option<usize>
-            ensures { length self.entry.now.bytes.now < 131072 → NotedAs self.entry.now.bytes.now words.new result (sound_up_to self.entry.now.spans.now self.entry.now.bytes.now n) }
-        { self.note_texts(words, n) };
-        match distinct::noted_differ(self.bytes, note) {
+        let texts = FirstTexts {
+            texts: *self,
+            count: n,
+        };
+        match distinct::noted_differ(&texts) {
             Some(told) => told,
             None => self.sound_in_pairs(n),
         }
+    }
+}
+
+// The texts of the first handles, to be told apart by their words.
+#[derive(Clone, Copy)]
+struct FirstTexts<'a> {
+    texts: Texts<'a>,
+    count: usize,
+}
+
+impl NotedRuns for FirstTexts<'_> {
+    ghost within = { λ first. first.texts.bytes.now };
+
+    ghost asked = { λ first. sound_up_to first.texts.spans.now first.texts.bytes.now first.count };
+
+    fn bytes(&self) -> &[u8] {
+        self.texts.bytes
+    }
+
+    fn note(&self, words: &mut [u64]) -> Option<usize> {
+        self.texts.note_texts(words, self.count)
     }
 }
 

@@ -2,7 +2,7 @@
 use Rattle.std.proofs.Common.{◌∙◌, ap}
 use Rattle.distinct.specs.Distinct.{distinct}
 use Rattle.event_scan.proofs.Names.{names_distinct}
-use Rattle.event_scan.proofs.event_line.fn.once.note.Goals as goal
+use Rattle.event_scan.proofs.event_line.AttributesMAX_LINENotedRuns.note.Goals as goal
 
 pub returns : goal.returns
-returns c = λ h. names_distinct _ ∙ ap distinct (c.note_names.ensures h)
+returns c = λ small h. names_distinct _ ∙ ap distinct (c.note_names.ensures h)
