@@ -6,7 +6,7 @@ ghost use Rattle.std.specs.Option.{option_copied};
 ghost use Rattle.base.specs.Bytes.{both};
 ghost use Rattle.little.specs.Little.{over};
 ghost use Rattle.distinct.specs.Check.{NotedAs};
-ghost use Rattle.interner.specs.Strings.{span_at, string_at, span_of, is_at, find_from, find_in, used_of, added, text_room, store_with, store_after, text_taken, taken_as, intern};
+ghost use Rattle.interner.specs.Strings.{span_at, string_at, span_of, is_at, find_from, find_in, used_of, added, text_room, taken_as, intern};
 ghost use Rattle.interner.specs.Sound.{sound_up_to, sound_strings, fresh_spans};
 ghost use Rattle.interner.specs.Check.{new_at, legal_at, WordsNoted};
 ghost use Rattle.interner.specs.Texts.{handle_answered};
@@ -318,105 +318,4 @@ impl StringsMut<'_> {
         let found = self.strings().find(text);
         self.intern_found(text, found)
     }
-}
-
-// ---- the same over parts that are lent one by one, for callers that do not lend `Strings` yet
-
-// What `intern` answers: the handle of a text that was held, of a new one, or that there is no room (13).
-#[derive(Clone, Copy)]
-pub enum Interned {
-    Held(u64),
-    New(u64),
-    Full,
-}
-
-// The answer of `intern`, with the counts of strings and of used bytes after it.
-#[derive(Clone, Copy)]
-pub struct Taken {
-    pub answer: Interned,
-    pub strings: u64,
-    pub used: u64,
-}
-
-// Where the text of a held handle lies.
-pub fn resolve(spans: &[u64], bytes: &[u8], count: u64, handle: u64) -> Option<Span>
-    ensures { result ≡ span_of spans.now bytes.now count handle }
-{
-    if handle < count {
-        Texts { spans, bytes }.span_at(handle as usize)
-    } else {
-        None
-    }
-}
-
-// Whether one more string of a length fits what is lent.
-pub fn fits(words: usize, size: usize, strings: u64, used: u64, len: usize) -> bool
-    ensures { result ≡ both (leb (2 * strings + 2) words) (leb (used + len) size) }
-{
-    if (words / 2) as u64 <= strings {
-        return false;
-    }
-    if size < len {
-        return false;
-    }
-    used <= (size - len) as u64
-}
-
-// Adds a text for which there is room: its span behind those of the held strings, its bytes behind the used ones.
-fn add(spans: &mut [u64], bytes: &mut [u8], strings: u64, used: u64, text: &[u8]) -> Taken
-    requires { (2 * strings + 2 ≤ length spans.old) × (used + length text.now ≤ length bytes.old) }
-    ensures { store_after spans.new bytes.new result ≡ text_taken (store_with spans.old bytes.old strings used) text.now }
-{
-    let next = 2 * strings as usize;
-    let at = used as usize;
-    put_span(&mut spans[next..], used, text.len() as u64);
-    little::copy_in(&mut bytes[at..], text);
-    Taken {
-        answer: Interned::New(strings),
-        strings: strings + 1,
-        used: used + text.len() as u64,
-    }
-}
-
-// Takes a text in of which it is known whether it is held: its handle, else the next one, if there is room.
-pub fn intern_found(
-    spans: &mut [u64],
-    bytes: &mut [u8],
-    strings: u64,
-    used: u64,
-    text: &[u8],
-    found: Option<u64>,
-) -> Taken
-    ensures { store_after spans.new bytes.new result ≡ taken_as (store_with spans.old bytes.old strings used) text.now found }
-{
-    if let Some(h) = found {
-        return Taken {
-            answer: Interned::Held(h),
-            strings,
-            used,
-        };
-    }
-    if fits(spans.len(), bytes.len(), strings, used, text.len()) {
-        add(spans, bytes, strings, used, text)
-    } else {
-        Taken {
-            answer: Interned::Full,
-            strings,
-            used,
-        }
-    }
-}
-
-// Takes a text in: the handle of an equal one that is held, else the next handle, if there is room.
-pub fn intern(spans: &mut [u64], bytes: &mut [u8], strings: u64, used: u64, text: &[u8]) -> Taken
-    ensures { store_after spans.new bytes.new result ≡ intern (store_with spans.old bytes.old strings used) text.now }
-{
-    let found = Strings {
-        spans,
-        bytes,
-        count: strings,
-        used,
-    }
-    .find(text);
-    intern_found(spans, bytes, strings, used, text, found)
 }

@@ -256,19 +256,3 @@ impl Sizes {
         self.in_range() && self.fill(words, bytes)
     }
 }
-
-// ---- the same over the counters
-
-// The part of a kind in blocks of these lengths.
-pub fn part_in(kind: Kind, counters: &[u64; COUNTERS], words: usize, bytes: usize) -> KindPart
-    ensures { (result ≡ part_in kind (sizes_in counters.now) words bytes) × Within result words bytes }
-{
-    Sizes::from(counters).part(kind, words, bytes)
-}
-
-// The strings' part.
-pub fn texts_in(counters: &[u64; COUNTERS], words: usize, bytes: usize) -> TextPart
-    ensures { (result ≡ text_part_in (sizes_in counters.now) words bytes) × ((result.spans ≤ words) × (result.bytes ≤ bytes)) }
-{
-    Sizes::from(counters).texts(words, bytes)
-}
