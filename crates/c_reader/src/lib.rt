@@ -125,7 +125,7 @@ fn refusal_of(number: u64, held: u32) -> Option<Refusal>
     }
 }
 
-// The stop mark of three words, none while the reader goes on; or these are no mark's words.
+// The stop mark of three words: `Some(None)` while the reader goes on, and none where they are no mark's.
 fn stop_of(number: u64, line: u64, held: u64) -> Option<Option<RefusedAt>>
     ensures { result ≡ if_coded (stop_coded number line held) (stop_in number line held) }
 {
