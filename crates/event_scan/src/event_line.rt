@@ -50,7 +50,7 @@ fn new_name<'a>(field: &'a [u8], names: &[&[u8]]) -> Option<&'a [u8]>
 }
 
 // Whether at most sixteen fields stand as attributes: their names are kept, and each is compared with those before it. Of more nothing is told. The names
-// lie in an array, since the library has no heap.
+// lie in an array, since the library has no heap; how many they are is counted, since a name is compared with those that are there.
 fn few_stand(rest: &Fields<'_, MAX_LINE>) -> Option<bool>
     ensures { IfSome result (λ stands. stands ≡ stand (attrs_of (fields_left rest.now))) }
 {
@@ -71,7 +71,7 @@ fn few_stand(rest: &Fields<'_, MAX_LINE>) -> Option<bool>
 
 // ---- many attributes
 
-// The words of the names of fields as attributes, as far as there is room. How many names there are is answered.
+// The words of the names of fields as attributes, as far as there is room. How many names there are is answered: both counts stand still where the fields end, and no iterator gives the place.
 fn note_names(rest: &Fields<'_, MAX_LINE>, words: &mut [u64]) -> usize
     ensures { result ≤ length words.new → names_of (attributes_in (fields_left rest.now)) ≡ runs_in (text_left rest.now.rest) (take result words.new) }
 {

@@ -172,6 +172,7 @@ impl<'a> Attributes<'a, ANY_LENGTH> {
     ghost use Rattle.event_scan.specs.Fields.{written_left};
 
     // The fields of a text from a place on as attributes: none past the end.
+    // No slice has a place past its end, so the place stands beside the text.
     pub fn of(text: &'a [u8], at: usize) -> Attributes<'a, ANY_LENGTH>
         ensures { written_left result ≡ written_in (fields_at text.now at) }
     {

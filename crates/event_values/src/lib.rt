@@ -23,6 +23,7 @@ use refusal::Refusal;
 pub fn integer_32(v: &[u8]) -> Option<u32>
     ensures { narrow_in result ≡ integer_of w32 (value_text v.now) }
 {
+    // the bits of 32 are below 2^32
     let b = integer::read::<i32>(v)?;
     Some(b as u32)
 }
