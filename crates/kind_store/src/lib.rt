@@ -1,20 +1,18 @@
 // One kind's id table and arena (parse.rs): the known version of an id, a push and a delete.
 #![tactic(auto)]
 
-ghost use Rattle.std.specs.Prelude.{◌≡◌, ◌++◌, ℕ};
+ghost use Rattle.std.specs.Prelude.{◌≡◌};
 ghost use Rattle.std.specs.Int.{w64};
 ghost use Rattle.std.proofs.Common.{to_z};
 ghost use Rattle.model.specs.Record.{claim_of};
-ghost use Rattle.compact.specs.Layout.{head_len, head_bytes, meta_bytes};
-ghost use Rattle.compact.specs.Held.{meta_of, head_in};
+ghost use Rattle.compact.specs.Layout.{head_len};
+ghost use Rattle.compact.specs.Held.{meta_of};
 ghost use Rattle.compact.specs.Push.{bytes_given};
-ghost use Rattle.kind_store.specs.KindStore.{kind_store_with, live_version, known_of, known_version, checked, room_at, floor_after, pushed, deleted};
+ghost use Rattle.kind_store.specs.KindStore.{live_version, known_of, known_version, checked, room_at, floor_after, pushed, deleted};
 ghost use Rattle.kind_store.specs.Lent.{kind_seen, kind_held, kind_rows_held, IsSameKindStorage, IsSameKindStorageTable};
 ghost use Rattle.kind_store.specs.Seats.{regression_in, setting_of, seat_of, seated};
 
-use compact::{
-    ArenaMeta, CompactNode, CompactRelation, CompactWay, PushHead, PushRecord, RecordHead,
-};
+use compact::{CompactNode, CompactRelation, CompactWay, PushRecord, RecordHead};
 use kind::Kind;
 use kind_table::{DELETED, Row, Table, TableMut};
 use refusal::Refusal;
@@ -290,80 +288,5 @@ impl KindStorageTable<'_> {
         rows.put_row(seat.found, row);
         self.ids = rows.count;
         Ok(())
-    }
-}
-
-// ---- the same over parts that are lent one by one
-
-// An act's answer, and the used counts of ids and of arena bytes after it.
-#[derive(Clone, Copy)]
-pub struct Outcome {
-    pub answer: Result<(), Refusal>,
-    pub ids: u64,
-    pub used: u64,
-}
-
-#[tactic(auto, using(crate::proofs::Settings::pushed_by))]
-pub fn push(
-    kind: Kind,
-    setting: u64,
-    table: &mut [u64],
-    ids: u64,
-    arena: &mut [u8],
-    used: u64,
-    head: PushHead,
-    meta: ArenaMeta,
-    parts: &[u8],
-) -> Outcome
-    ensures { record { kind_store = kind_store_with table.new result.ids arena.new result.used; answer = result.answer } ≡ pushed kind setting (kind_store_with table.old ids arena.old used) (to_z w64 head.id) (claim_of (meta_of meta)) (head_bytes kind (head_in kind head) ++ meta_bytes (meta_of meta) ++ parts.now) }
-{
-    let mut storage = KindStorageMut {
-        kind,
-        table,
-        ids,
-        arena,
-        used,
-    };
-    let answer = storage.push(
-        setting.into(),
-        &PushRecord {
-            kind,
-            head,
-            meta,
-            parts,
-        },
-    );
-    Outcome {
-        answer,
-        ids: storage.ids,
-        used: storage.used,
-    }
-}
-
-#[tactic(auto, using(crate::proofs::Settings::deleted_by))]
-pub fn delete(
-    kind: Kind,
-    setting: u64,
-    table: &mut [u64],
-    ids: u64,
-    arena: &[u8],
-    used: u64,
-    id: u64,
-    claim: Option<i32>,
-) -> Outcome
-    ensures { record { kind_store = kind_store_with table.new result.ids arena.now result.used; answer = result.answer } ≡ deleted kind setting (kind_store_with table.old ids arena.now used) (to_z w64 id) claim }
-{
-    let mut storage = KindStorageTable {
-        kind,
-        table,
-        ids,
-        arena,
-        used,
-    };
-    let answer = storage.delete(setting.into(), id, claim);
-    Outcome {
-        answer,
-        ids: storage.ids,
-        used: storage.used,
     }
 }
