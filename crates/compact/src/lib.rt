@@ -164,13 +164,6 @@ pub struct CompactTagIter<'a> {
     pub remaining: u32,
 }
 
-// The version that metadata claims, or none.
-pub fn claim(meta: ArenaMeta) -> Option<i32>
-    ensures { result ≡ claim_of (meta_of meta) }
-{
-    meta.claim()
-}
-
 // ---- a record's fields at their places, and a user's readers of heads
 // `read`, `read_meta`, `ref_at` and `member_at` are for the library's own code, on bytes that it has checked: bytes that are missing read as 0.
 // A user of a record's view has `try_read`, `try_read_meta`, `ref_step`, `member_step` and `tag_step`, which answer 22 there.

@@ -36,13 +36,6 @@ pub fn end_within(at: usize, n: usize, len: usize) -> Option<usize>
     }
 }
 
-// A word in 32 bits; one that does not fit them becomes 0: a caller knows that its word fits, and has no arm for one that does not.
-pub fn narrow(word: u64) -> u32
-    ensures { word < 4294967296 → result ≡ word }
-{
-    u32::try_from(word).unwrap_or(0)
-}
-
 // The low n bytes of a number over the start of what is lent, as far as there is room.
 pub fn put_le(out: &mut [u8], n: usize, v: u64)
     ensures { out.new ≡ over out.old 0 (le n v) }

@@ -53,7 +53,7 @@ pub fn delete(
 {
     tables.check_sound()?;
     if compact_legal::legal_meta(meta, tables.counters[STRINGS]) {
-        return overlay_store::delete(tables, kind, id, compact::claim(meta));
+        return overlay_store::delete(tables, kind, id, meta.claim());
     }
     Err(Refusal::BadRecord)
 }
