@@ -60,7 +60,8 @@ pub fn legal_meta(m: ArenaMeta, strings: u64) -> bool
 }
 
 // ---- parts from a place on
-// A place goes along and not the rest of the bytes: each function answers where something ends, and a rest would tell that by its length alone.
+// A place goes along and not the rest of the bytes: each function answers where something ends, and a rest would tell that by its length alone. That it lies within the bytes
+// is asked of each.
 
 impl PartBytes<'_> {
     // A member of 13 bytes with a type of at most 2 and a role that is held.

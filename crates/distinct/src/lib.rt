@@ -165,7 +165,8 @@ pub trait NotedRuns {
     fn bytes(&self) -> &[u8]
         ensures { result.now ≡ within self.now };
 
-    // Notes the words of all runs, as far as there is room. The answer is how many there are, or none where what is asked is no already.
+    // Notes the words of all runs, as far as there is room. The answer is how many there are, or none where what is asked is no already. A word has 17 bits for a place, so the bytes are below 131,072: a
+    // premise, since it is asked when the words are noted and not when the runs are made.
     fn note(&self, words: &mut [u64]) -> Option<usize>
         ensures { length (within self.now) < 131072 → NotedAs (within self.now) words.new result (asked self.now) };
 }

@@ -61,7 +61,7 @@ impl Texts<'_> {
         }
     }
 
-    // The first handle from one on, of a count, whose string is the text. Handles past the spans have none.
+    // The first handle from one on, of a count, whose string is the text. Handles past the spans have none, so the count is no slice's.
     pub fn find_from(&self, from: usize, count: u64, text: &[u8]) -> Option<u64>
         ensures { result ≡ find_from self.now.spans.now self.now.bytes.now text.now (count - from) from }
     {

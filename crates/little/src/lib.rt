@@ -36,7 +36,7 @@ pub fn end_within(at: usize, n: usize, len: usize) -> Option<usize>
     }
 }
 
-// The low n bytes of a number over the start of what is lent, as far as there is room.
+// The low n bytes of a number over the start of what is lent, as far as there is room. One writer for each size: `to_le_bytes` gives an array whose size is its type's.
 pub fn put_le(out: &mut [u8], n: usize, v: u64)
     ensures { out.new ≡ over out.old 0 (le n v) }
 {
@@ -75,7 +75,7 @@ pub fn copy_at(out: &mut [u8], at: usize, s: &[u8])
     }
 }
 
-// The n bytes from a place on, of which those past the end are left out.
+// The n bytes from a place on, of which those past the end are left out. A place goes along here and below, since each place of a record is a constant behind where it starts.
 fn there(s: &[u8], at: usize, n: usize) -> &[u8]
     ensures { result.now ≡ take n (drop at s.now) }
 {

@@ -167,7 +167,7 @@ fn delete_in(
     answer
 }
 
-// A delete whose metadata is legal: 12, 14, or taken.
+// A delete whose metadata is legal: 12, 14, or taken. Kind, id and claim go one by one, as C gives them.
 pub fn delete(
     tables: &mut StorageTables<'_>,
     kind: Kind,

@@ -58,7 +58,8 @@ pub fn head_for(kind: Kind, id: u64, lat: u32, lon: u32) -> PushHead
     }
 }
 
-// Metadata with the handle of the user that it names, and the flag 4, "has user"; without a user both are 0. A handle of more than 32 bits is stored as 0.
+// Metadata with the handle of the user that it names, and the flag 4, "has user"; without a user both are 0. A handle of more than 32 bits is stored as 0: a sound overlay has none.
+// `named` stands beside the handle, since a contract tells the handle that an act gets, and not whether there is one.
 fn with_user(meta: ArenaMeta, named: bool, handle: Option<u64>) -> ArenaMeta
     ensures claim { claim_of (meta_of result) ≡ claim_of (meta_of meta) }
     ensures bits { (user : Bytes) → unwrap_or handle 0 < 4294967296 → result ≡ bits_with_user (meta_named meta named user) (unwrap_or handle 0) }
@@ -138,6 +139,7 @@ fn user_before(
     let Some(user) = act.user else {
         return Ok(None);
     };
+    // `map_err` would want a closure with a contract, which is longer than the match
     match reader_texts::text_handle(storage, chains, &user) {
         Ok(handle) => Ok(Some(handle)),
         Err(refusal) => Err(first_refusal(storage, act, refusal)),

@@ -86,7 +86,7 @@ fn over_limit(
 
 // ---- a part staged
 
-// The element with a part more, by its head then: the part's numbers, and the bytes of a value behind them, put in at a place.
+// The element with a part more, by its head then: the part's numbers, and the bytes of a value behind them, put in at a place as `Vec::insert` does.
 fn stage_part(
     parts: &mut [u8; STAGED],
     pending: Pending,

@@ -21,7 +21,7 @@ pub const BUCKETS: usize = 4096;
 pub const HANDLES: usize = 4096;
 
 // Chains of handles, to be read. Of each bucket `lasts` has the last handle, of each handle `befores` has the one before it in its bucket; an entry is the handle and one, 0 for none, so that
-// two bytes hold it. `handles` is how many handles they hold.
+// two bytes hold it. `handles` is how many handles they hold. That they serve is a premise of each contract that needs it (`ChainsServe`) and no field of theirs, since it speaks of the strings too, which C lends.
 #[derive(Clone, Copy)]
 pub struct Chains<'a> {
     pub lasts: &'a [u16],
