@@ -22,7 +22,7 @@ pub fn month_length(leap_year: bool, month: u8) -> u8
     }
 }
 
-// The days of the year before a month.
+// The days of the year before a month. It adds in a loop: that the sum fits is its invariant, which a fold's closure would have to promise.
 pub fn days_before_month(leap_year: bool, month: u8) -> u64
     ensures { result ≡ months_days leap_year (month - 1) }
 {

@@ -110,7 +110,8 @@ fn sort_part(bytes: &[u8], words: &mut [u64])
     words.sort_unstable_by(|v, w| compare(run_of(bytes, *v), run_of(bytes, *w)));
 }
 
-// Words that stand by their keys, sorted by their runs where their keys are the same.
+// Words that stand by their keys, sorted by their runs where their keys are the same. Neighbours are compared by their places here and below: the place is where a part begins, and `windows` would
+// lend each pair as a slice whose two words are looked up all the same.
 fn sort_parts(bytes: &[u8], words: &mut [u64])
     ensures { IsPermutation words.old words.new }
 {

@@ -190,7 +190,7 @@ fn all_plain(text: &[u8]) -> bool
     text.iter().fold(true, |ok, b| ok & is_plain(*b))
 }
 
-// By how many bytes the escape of a text is longer than the text.
+// By how many bytes the escape of a text is longer than the text. It adds in a loop: that the number stays below the text's length is its invariant, which a fold's closure would have to promise.
 fn text_longer(text: &[u8]) -> usize
     ensures value { length (escape text.now) ≡ length text.now + result }
     ensures bound { result ≤ length text.now }

@@ -114,11 +114,7 @@ fn put_end(state: &ReaderView<'_>, out: &mut [u8; 65536]) -> Ended
 }
 
 // The end of the input: a last line, the end of the document, then the listing or the `refused` line at the start of the output. Of the bytes held at most 16,384 count.
-pub fn finish(
-    state: &mut ReaderState<'_>,
-    input: &InputBuffer<'_>,
-    out: &mut [u8; 65536],
-) -> Ended
+pub fn finish(state: &mut ReaderState<'_>, input: &InputBuffer<'_>, out: &mut [u8; 65536]) -> Ended
     ensures same { IsSameState state.new state.old }
     ensures value { record {
       overlay = (state_held state.new).overlay;

@@ -7,7 +7,7 @@ ghost use Rattle.std.proofs.Common.{of_z};
 ghost use Rattle.integer.specs.Integer.{digits};
 ghost use Rattle.stamp.specs.Stamp.{separated, moment, taken_moment, days_of, epoch, seconds_of, accepted_moment, stamp_of};
 
-// The six numbers of a stamp.
+// The six numbers of a stamp, each under its own name.
 #[derive(Clone, Copy, PartialEq, Eq, Debug)]
 pub struct Moment {
     pub year: u32,
