@@ -17,6 +17,7 @@ pub struct OsmIdKey {
     pub magnitude: u64,
 }
 
+// The key of an id. It is a function and no `From`: the port publishes it under this name.
 pub fn osm_id_key(id: i64) -> OsmIdKey
     ensures { result ≡ osm_key_of id }
 {

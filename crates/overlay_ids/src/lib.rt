@@ -18,7 +18,7 @@ use kind_table::Row;
 use overlay::Storage;
 use refusal::Refusal;
 
-// The ids of a list's rows and their known versions over the first words of two lists.
+// The ids of a list's rows and their known versions over the first words of two lists. It counts what it wrote: `enumerate` over a filter takes a closure for the one test, and makes each row of its words twice.
 fn put_rows(held: &KindStorage<'_>, side: Side, ids: &mut [u64], versions: &mut [u64])
     requires { (length (rows_on side (rows_read held.now.table.now held.now.ids)) ≤ length ids.old)
         × (length (rows_on side (rows_read held.now.table.now held.now.ids)) ≤ length versions.old) }
@@ -34,7 +34,6 @@ fn put_rows(held: &KindStorage<'_>, side: Side, ids: &mut [u64], versions: &mut 
             ids[n] = id;
             versions[n] = version_floor::version_word(held.known_version(id));
             n += 1;
-            continue;
         }
     }
 }

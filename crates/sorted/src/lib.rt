@@ -26,15 +26,14 @@ fn key_of(id: u64) -> OsmIdKey
     osm_id::osm_id_key(id.cast_signed())
 }
 
-// Whether ids stand strictly in OSM order.
+// Whether ids stand strictly in OSM order. It is a loop: `is_sorted_by` takes a closure for the one test, and promises a fact for each place where `in_order` goes down the list.
 fn in_order(ids: &[u64]) -> bool
     ensures { result ≡ in_order (ids_of ids.now) }
 {
     for i in 1..ids.len() {
-        if key_of(ids[i - 1]) < key_of(ids[i]) {
-            continue;
+        if key_of(ids[i]) <= key_of(ids[i - 1]) {
+            return false;
         }
-        return false;
     }
     true
 }
@@ -59,7 +58,7 @@ impl<'a> SortedIds<'a> {
         Err(Refusal::NotInOrder)
     }
 
-    // How many ids have a key smaller than a key.
+    // How many ids have a key smaller than a key. The next function differs in `<=` alone, and stands apart: the comparison as a parameter would be a flag.
     #[tactic(auto, using(osm_id::proofs::Orders::key_lt), unfolding(crate::specs::Lookup::under))]
     fn count_below(&self, key: OsmIdKey) -> usize
         ensures { result ≡ count (under false key) (ids_of self.now.ids.now) }

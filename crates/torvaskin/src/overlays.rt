@@ -50,7 +50,7 @@ pub extern "C" fn tvk_is_sound(words: &[u64], bytes: &[u8], counters: &[u64; COU
     c_replies::kept_reply(storage.check_sound())
 }
 
-// The kind that a number means; or 22, else 17.
+// The kind that a number means; or 22, else 17. It is a match: `map_err` takes a closure for the one arm, and is no shorter.
 pub fn named_kind(storage: &Storage<'_>, kind: u8) -> Result<Kind, Refusal>
     ensures { result ≡ kind_answer (of_number kind) (overlay_seen storage.now) }
 {

@@ -15,7 +15,7 @@ use overlay::Storage;
 use overlay_blocks::COUNTERS;
 use refusal::Refusal;
 
-// What a reading answers of the kind that a number means; or 22, else 17.
+// What a reading answers of the kind that a number means; or 22, else 17. It is a match, whose arms are the two cases of `reading_for`.
 fn of_kind<T, F: FnOnce(Kind) -> Result<T, Refusal>>(
     storage: &Storage<'_>,
     kind: u8,
@@ -31,7 +31,7 @@ fn of_kind<T, F: FnOnce(Kind) -> Result<T, Refusal>>(
     }
 }
 
-// C's words for no and yes: 0 and 1.
+// C's words for no and yes: 0 and 1. It and the next are a match, whose arms are the two cases of `in_number` and `in_word`.
 fn truth_read(answer: Result<bool, Refusal>) -> Result<u64, Refusal>
     ensures { result ≡ in_number answer }
 {

@@ -13,7 +13,7 @@ use Rattle.kind_store.specs.Lent.{kind_seen}
 use Rattle.kind_reading.specs.Listed.{is_on}
 use Rattle.overlay_ids.specs.Rows.{row_id}
 use Rattle.overlay_ids.proofs.Writes.{onward_all, starts, id_fits, version_fits, puts, passes, ends}
-use Rattle.overlay_ids.proofs.put_rows.Goals.{After-from-row}
+use Rattle.overlay_ids.proofs.put_rows.Goals.{After-from-row, then-has, else-has}
 use Rattle.overlay_ids.proofs.put_rows.Goals as goal
 
 pub loop-words-init : goal.loop-words-init
@@ -55,25 +55,22 @@ bounds-versions-n c =
     let on = c.has.ensures ∙ ap (is_on a.side) r.1 in
     version_fits h.kind a.side (kind_seen h) a.ids.now a.versions.now _ r.0 c.loop-words.invariant.1 (sym on ∙ c.if-has.true)
 
-pub loop-words-preserved-then-has : goal.loop-words-preserved-then-has
-loop-words-preserved-then-has c =
-    let a = c.args in
-    let h = a.held.now in
-    let r = row_here search in
-    let on = c.has.ensures ∙ ap (is_on a.side) r.1 in
-    let e = c.row_id-id.ensures ∙ ap row_id r.1 in (
-      c.loop-words.invariant.0,
-      puts h.kind a.side (kind_seen h) a.ids.now a.versions.now _ r.0 c.loop-words.invariant.1 (sym on ∙ c.if-has.true) _ _ e
-          (c.version_word.ensures ∙ ap word_of (c.known_version.ensures ∙ ap (λ x. known_version h.kind (kind_seen h) (to_z w64 x)) e)),
-    )
-
 pub loop-words-preserved : goal.loop-words-preserved
 loop-words-preserved c =
     let a = c.args in
     let h = a.held.now in
     let r = row_here search in
     let on = c.has.ensures ∙ ap (is_on a.side) r.1 in
-    (c.loop-words.invariant.0, passes h.kind a.side (kind_seen h) a.ids.now a.versions.now _ r.0 c.loop-words.invariant.1 (sym on ∙ c.if-has.false))
+    elim c.if-has.branch [
+      | then-has w ↦
+          let e = w.row_id-id.ensures ∙ ap row_id r.1 in (
+            c.loop-words.invariant.0,
+            rw (w.ids-is, w.versions-is, w.n-is)
+                (puts h.kind a.side (kind_seen h) a.ids.now a.versions.now _ r.0 c.loop-words.invariant.1 (sym on ∙ w.if-has.true) _ _ e
+                (w.version_word.ensures ∙ ap word_of (w.known_version.ensures ∙ ap (λ x. known_version h.kind (kind_seen h) (to_z w64 x)) e))),
+          )
+      | else-has w ↦ (c.loop-words.invariant.0, rw (w.ids-is, w.versions-is, w.n-is) (passes h.kind a.side (kind_seen h) a.ids.now a.versions.now _ r.0 c.loop-words.invariant.1 (sym on ∙ w.if-has.false)))
+    ]
 
 pub returns : goal.returns
 returns c =
