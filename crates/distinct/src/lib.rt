@@ -110,8 +110,7 @@ fn sort_part(bytes: &[u8], words: &mut [u64])
     words.sort_unstable_by(|v, w| compare(run_of(bytes, *v), run_of(bytes, *w)));
 }
 
-// Words that stand by their keys, sorted by their runs where their keys are the same. Neighbours are compared by their places here and below: the place is where a part begins, and `windows` would
-// lend each pair as a slice whose two words are looked up all the same.
+// Words that stand by their keys, sorted by their runs where their keys are the same. Neighbours are compared by their places: the second one's is where a part begins.
 fn sort_parts(bytes: &[u8], words: &mut [u64])
     ensures { IsPermutation words.old words.new }
 {
@@ -157,7 +156,7 @@ fn runs_differ(bytes: &[u8], words: &mut [u64]) -> Option<bool>
 // How many words there is room for, where many runs are told apart. The library has no heap.
 const ROOM: usize = 5460;
 
-// Runs of some bytes that can note their words: the bytes, and what is asked of the runs, which is no where nothing is noted and else whether no two are equal.
+// Runs of some bytes that can note their words: the bytes, and what is asked of the runs, which is whether all are noted and no two are equal.
 pub trait NotedRuns {
     ghost within: { Self → Bytes };
 

@@ -165,14 +165,14 @@ impl<'a, const N: usize> Attributes<'a, N> {
     }
 }
 
-// No slice is longer.
+// The largest length that a type can name: no slice is longer.
 pub const ANY_LENGTH: usize = 18446744073709551615;
 
 impl<'a> Attributes<'a, ANY_LENGTH> {
     ghost use Rattle.event_scan.specs.Fields.{written_left};
 
-    // The fields of a text from a place on as attributes: none past the end.
-    // No slice has a place past its end, so the place stands beside the text.
+    // The fields of any text from any place on as attributes, none past the end: for a caller of the readings whose text is no event's line. No slice has a place past its end, so the place stands
+    // beside the text.
     pub fn of(text: &'a [u8], at: usize) -> Attributes<'a, ANY_LENGTH>
         ensures { written_left result ≡ written_in (fields_at text.now at) }
     {

@@ -15,7 +15,7 @@ pub mod fields;
 pub const MAX_LINE: usize = 16384;
 
 // Whether a byte is nowhere in a run. It looks at all bytes, so that many are looked at together.
-// It, `text::plain` and `print::all_plain` differ by the test: the library's fold is the function with a test, and one of ours would take a closure, and so have a `requires`, which no public function has.
+// It, `text::plain` and `print::all_plain` differ by the test: the library's fold is the function with a test.
 pub fn lacks(t: &[u8], c: u8) -> bool
     ensures { result ≡ all (λ b. not (eqb b c)) t.now }
 {

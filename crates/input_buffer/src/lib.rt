@@ -15,7 +15,7 @@ pub fn is_over(answer: Result<(), RefusedAt>, rest: usize) -> bool
     answer.is_ok() && MAX_LINE < rest
 }
 
-// A piece behind the bytes that are held, as far as there is room. The answer is how many there are then. How many are held goes beside the buffer, since it outlives what lends it.
+// A piece behind the bytes that are held, as far as there is room. The answer is how many there are then. How many are held goes beside the buffer, whose rest is room.
 pub fn join_piece(buffer: &mut [u8], held: usize, piece: &[u8]) -> usize
     ensures buffer_after { buffer.new ≡ over buffer.old held piece.now }
     ensures value { result ≡ min (held + length piece.now) (length buffer.old) }

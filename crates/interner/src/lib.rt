@@ -131,7 +131,7 @@ impl Texts<'_> {
         if n <= 32 {
             return self.sound_in_pairs(n);
         }
-        // `unwrap_or_else` was tried, and its proof did not close: a proof learns nothing of what the closure answers.
+        // The closure of an `unwrap_or_else` would want a contract of its own, which is longer than the match.
         let texts = FirstTexts {
             texts: *self,
             count: n,

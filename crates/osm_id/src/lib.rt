@@ -17,7 +17,7 @@ pub struct OsmIdKey {
     pub magnitude: u64,
 }
 
-// The key of an id. It is a function and no `From`: the port publishes it under this name.
+// The key of an id. It is a function and no `From`: it has the Rust's name.
 pub fn osm_id_key(id: i64) -> OsmIdKey
     ensures { result ≡ osm_key_of id }
 {
