@@ -62,7 +62,7 @@ pub struct Text {
     pub handle: u64,
 }
 
-// A function, since both types are of the crate refusal, which alone may convert one to the other.
+// A function, since both types are of the crate refusal: there a conversion would want the definitions of answers to C, which are of this crate.
 pub fn kept_reply(answer: Result<(), Refusal>) -> Reply
     ensures { result ≡ kept_reply answer }
 {

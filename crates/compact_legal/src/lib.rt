@@ -61,7 +61,7 @@ pub fn legal_meta(m: ArenaMeta, strings: u64) -> bool
 
 // ---- parts from a place on
 // A place goes along and not the rest of the bytes: each function answers where something ends, and a rest would tell that by its length alone. That it lies within the bytes
-// is asked of each.
+// is a premise of each: a type of such places would hold the bytes too, which are in `self`.
 
 impl PartBytes<'_> {
     // A member of 13 bytes with a type of at most 2 and a role that is held.

@@ -20,8 +20,8 @@ pub fn number_length(v: u64) -> usize
 
 // The functions below write digits into a slice, and no type has a Display: the printer takes the room of a number, whose length it knows, before it is written.
 
-// The last digits of a number over all of what is lent, two at a time, the last ones first. It is no `for` over chunks from the end:
-// one digit that is left over at the front is no chunk.
+// The last digits of a number over all of what is lent, two at a time, the last ones first. It is no `for` over
+// `rchunks_mut`: the library says nothing of what the slice ends as.
 fn put_digits(out: &mut [u8], v: u64)
     ensures { length out.old ≡ length (number_text v) → out.new ≡ number_text v }
 {

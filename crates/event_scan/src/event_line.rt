@@ -107,7 +107,6 @@ impl NotedRuns for Attributes<'_, MAX_LINE> {
 }
 
 // Whether no two attributes have one name. In a short line they are compared in pairs, in a long one by the words of the names, where these tell it.
-// A closure for `unwrap_or_else` would want a contract of its own, which is longer than the match.
 fn once(rest: &Fields<'_, MAX_LINE>) -> bool
     ensures { result ≡ none_twice (attributes_in (fields_left rest.now)) }
 {
@@ -127,7 +126,7 @@ fn many_stand(rest: &Fields<'_, MAX_LINE>) -> bool
     all_right(rest) && once(rest)
 }
 
-// Whether fields stand as attributes, however many they are. A closure for `unwrap_or_else` would want a contract of its own, which is longer than the match.
+// Whether fields stand as attributes, however many they are.
 fn attributes_stand(rest: &Fields<'_, MAX_LINE>) -> bool
     ensures { result ≡ stand (attrs_of (fields_left rest.now)) }
 {

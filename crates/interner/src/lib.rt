@@ -113,6 +113,7 @@ impl Texts<'_> {
     }
 
     // Notes the words of the strings of the first n handles. None where one of them does not lie within the bytes or is no legal text, else how many they are.
+    // It is a loop: of what a closure of `all` writes into the words a proof knows nothing.
     fn note_texts(&self, words: &mut [u64], n: usize) -> Option<usize>
         ensures { length self.now.bytes.now < 131072 → NotedAs self.now.bytes.now words.new result (sound_up_to self.now.spans.now self.now.bytes.now n) }
     {
@@ -131,7 +132,6 @@ impl Texts<'_> {
         if n <= 32 {
             return self.sound_in_pairs(n);
         }
-        // The closure of an `unwrap_or_else` would want a contract of its own, which is longer than the match.
         let texts = FirstTexts {
             texts: *self,
             count: n,

@@ -190,7 +190,7 @@ impl KindStorage<'_> {
         ensures { result ≡ seated self.now.kind (setting_of regression) (kind_seen self.now) (to_z w64 id) claim }
     {
         let seat = self.seat(id);
-        // The answer is taken apart, and left early where it is no refusal, as version_floor.rs is asked to be used; `?` would turn it round.
+        // The answer is taken apart by `let Err(..) = .. else`, as document 01's table asks (DECISIONS, "Forms"), and not by `?`.
         let Err(held) = regression.check(seat.known, claim) else {
             if self.has_room(seat.found) {
                 return Ok(seat);

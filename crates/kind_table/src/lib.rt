@@ -79,7 +79,7 @@ impl Table<'_> {
         Some(Row::from(*words))
     }
 
-    // Whether the words hold the counted rows and their ranks strictly rise. It is a loop: the closure of `is_sorted_by` would want a contract of its own.
+    // Whether the words hold the counted rows and their ranks strictly rise.
     pub fn is_rising(&self) -> bool
         ensures { result ≡ sound_table self.now.words.now self.now.count }
     {

@@ -57,7 +57,7 @@ pub fn copy_in(out: &mut [u8], s: &[u8])
     out[..end].copy_from_slice(&s[..end]);
 }
 
-// The low n bytes of a number from a place on: the writer is lent the rest from there.
+// The low n bytes of a number from a place on: the writer is lent the rest from there. A place goes along here and below, since each place of a record is a constant behind where it starts.
 pub fn put_at(out: &mut [u8], at: usize, n: usize, v: u64)
     ensures { out.new ≡ over out.old at (le n v) }
 {
@@ -75,7 +75,7 @@ pub fn copy_at(out: &mut [u8], at: usize, s: &[u8])
     }
 }
 
-// The n bytes from a place on, of which those past the end are left out. A place goes along here and below, since each place of a record is a constant behind where it starts.
+// The n bytes from a place on, of which those past the end are left out.
 fn there(s: &[u8], at: usize, n: usize) -> &[u8]
     ensures { result.now ≡ take n (drop at s.now) }
 {
@@ -95,8 +95,8 @@ fn number(s: &[u8]) -> u64
     r
 }
 
-// The number in the n bytes from a place on, of which those past the end are left out: whoever reads a number has tested that its bytes are there, and has no
-// arm for an error.
+// The number in the n bytes from a place on, of which those past the end are left out: the push and the listing promise of any bytes what that gives, and no
+// reader has an arm for an error.
 fn get_le(s: &[u8], at: usize, n: usize) -> u64
     requires { n ≤ 8 }
     ensures value { result ≡ value_at n s.now at }

@@ -162,8 +162,8 @@ fn fresh_counters(z: Sizes, setting: u64) -> [u64; COUNTERS]
 }
 
 impl StorageTables<'_> {
-    // The overlay to be read. This and `check_sound` stand in `StorageMut` too: the structs are two since C lends the bytes of these calls to be read only, and a trait over both would have
-    // the same two bodies.
+    // The overlay to be read. This and `check_sound` stand in `StorageMut` too: the structs are two since C lends the bytes of these calls to be read only, and a trait over both would
+    // want `storage` from each, and save the one line of `check_sound`.
     pub fn storage(&self) -> Storage<'_>
         ensures { overlay_seen result ≡ overlay_tabled self.now }
     {

@@ -221,7 +221,7 @@ impl Sizes {
         }
     }
 
-    // No `KindSize`: the strings have a least and a largest number of their own.
+    // No `KindSize`: the largest number of bytes is another.
     #[tactic(auto, unfolding(crate::specs::Sizes::strings_fit, base::specs::Bytes::both))]
     fn strings_fit(&self) -> bool
         ensures { result ≡ strings_fit largest self.now.strings self.now.string_bytes }

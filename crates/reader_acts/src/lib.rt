@@ -139,7 +139,6 @@ fn user_before(
     let Some(user) = act.user else {
         return Ok(None);
     };
-    // `map_err` would want a closure with a contract, which is longer than the match
     match reader_texts::text_handle(storage, chains, &user) {
         Ok(handle) => Ok(Some(handle)),
         Err(refusal) => Err(first_refusal(storage, act, refusal)),

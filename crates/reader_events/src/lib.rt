@@ -93,7 +93,7 @@ pub fn events_untested(state: &mut ReaderState<'_>, run: &[u8]) -> EventsDone
 
 // ---- what is tested once
 
-// The bytes of a lent slice are bytes. It is called for the proof alone, as listing's is: no crate below both has anything to do with it.
+// The bytes of a lent slice are bytes. It is called for the proof alone, as listing's is: one public function that does nothing would be no plainer.
 fn known_bytes(bytes: &[u8]) -> usize
     ensures { all is_byte bytes.now ≡ true }
 {

@@ -22,6 +22,7 @@ pub const HANDLES: usize = 4096;
 
 // Chains of handles, to be read. Of each bucket `lasts` has the last handle, of each handle `befores` has the one before it in its bucket; an entry is the handle and one, 0 for none, so that
 // two bytes hold it. `handles` is how many handles they hold. That they serve is a premise of each contract that needs it (`ChainsServe`) and no field of theirs, since it speaks of the strings too, which C lends.
+// They go beside the storage, the state or the act: C lends no chains, and a call that keeps none passes `none()`.
 #[derive(Clone, Copy)]
 pub struct Chains<'a> {
     pub lasts: &'a [u16],
