@@ -1,6 +1,6 @@
 -- An act goes by the bits of its metadata, by the version that this claims and by the user that it names: what holds for `act_means` holds for all metadata that the act means.
 use Rattle.std.specs.Prelude.{None, Ok, Err, Option, Some, Result, is_some}
-use Prim.Native.Nat.{ℕ, ◌+◌, ◌*◌, ◌/◌, ◌%◌}
+use Prim.Native.Nat.{ℕ, ◌/◌, ◌%◌}
 use mathlib.Core.Path.{◌≡◌, refl, sym, ◌∙◌, ap}
 use mathlib.Core.Bool.{Bool, true, false}
 use native.Mathlib.Omega.{arith}

@@ -131,7 +131,7 @@ meta_named m named user =
       user = user;
     }
 
--- the metadata of an act
+-- the metadata of an act; what holds for it holds for all metadata that the act means (proofs/Meant)
 abbrev pub act_means : Act → Meta Bytes
 act_means a = meta_named a.meta (is_some a.user) (or_empty (option_map text_written a.user))
 
