@@ -131,14 +131,13 @@ meta_named m named user =
       user = user;
     }
 
--- the metadata of an act
+-- the metadata of an act; what holds for it holds for all metadata that the act means (proofs/Meant)
 abbrev pub act_means : Act → Meta Bytes
 act_means a = meta_named a.meta (is_some a.user) (or_empty (option_map text_written a.user))
 
 -- ---- what is given
 
--- the handles of the overlay fit the metadata's field, and the chains serve its texts; a premise of the clauses, since as a ghost field of the storage it would have to hold for
--- whatever a call leaves there, which was tried and did not prove
+-- the handles of the overlay fit the metadata's field, and the chains serve its texts; a premise of the clauses for the reason that stands at `StepGiven` (reader_parts)
 pub record ActGiven (chains : HandleChains) (o : Overlay) : Type 0 where
   pub few : o.texts.strings < 4294967296
   pub serve : ChainsServe chains o.texts

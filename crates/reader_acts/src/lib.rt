@@ -2,7 +2,7 @@
 // What is refused changes nothing lent: the handle that the user's text has or will get is found first, the act is done with it, and the text is taken in behind an act that was taken.
 #![tactic(auto)]
 
-ghost use Rattle.std.specs.Prelude.{◌≡◌, ◌<◌, unwrap_or};
+ghost use Rattle.std.specs.Prelude.{◌≡◌, ◌<◌, ℕ, Option, is_some, unwrap_or, IfOk};
 ghost use Rattle.std.specs.Int.{w64};
 ghost use Rattle.std.proofs.Common.{to_z};
 ghost use Rattle.base.specs.Bytes.{Bytes};
@@ -59,12 +59,11 @@ pub fn head_for(kind: Kind, id: u64, lat: u32, lon: u32) -> PushHead
 }
 
 // Metadata with the handle of the user that it names, and the flag 4, "has user"; without a user both are 0. A handle of more than 32 bits is stored as 0: a sound overlay has none.
-// `named` stands beside the handle, since a contract tells the handle that an act gets, and not whether there is one.
-fn with_user(meta: ArenaMeta, named: bool, handle: Option<u64>) -> ArenaMeta
+fn with_user(meta: ArenaMeta, handle: Option<u64>) -> ArenaMeta
     ensures claim { claim_of (meta_of result) ≡ claim_of (meta_of meta) }
-    ensures bits { (user : Bytes) → unwrap_or handle 0 < 4294967296 → result ≡ bits_with_user (meta_named meta named user) (unwrap_or handle 0) }
+    ensures bits { (user : Bytes) → unwrap_or handle 0 < 4294967296 → result ≡ bits_with_user (meta_named meta (is_some handle) user) (unwrap_or handle 0) }
 {
-    let user_flag = if named { 4 } else { 0 };
+    let user_flag = if handle.is_some() { 4 } else { 0 };
     let handle = handle.unwrap_or(0);
     ArenaMeta {
         flags: meta.flags / 8 * 8 + user_flag + meta.flags % 4,
@@ -86,10 +85,10 @@ pub fn begin_element(
         → record { overlay = overlay_held storage.new; answer = result } ≡ begin_on (act_means act.now) (overlay_held storage.old) }
 {
     let Some(user) = act.user else {
-        return Ok(with_user(act.meta, false, None));
+        return Ok(with_user(act.meta, None));
     };
     let handle = reader_texts::take_text(storage, chains, &user)?;
-    Ok(with_user(act.meta, true, Some(handle)))
+    Ok(with_user(act.meta, Some(handle)))
 }
 
 // ---- an element that ends
@@ -133,7 +132,8 @@ fn user_before(
     chains: &Chains<'_>,
     act: &Act<'_>,
 ) -> Result<Option<u64>, Refusal>
-    ensures { ChainsServe (chains_seen chains.now) (overlay_seen storage.now).texts
+    ensures named { IfOk result (λ (h : Option ℕ). is_some h ≡ is_some act.now.user) }
+    ensures asked { ChainsServe (chains_seen chains.now) (overlay_seen storage.now).texts
         → found result ≡ before_act act.now.kind (to_z w64 act.now.id) (act_means act.now) (overlay_seen storage.now) }
 {
     let Some(user) = act.user else {
@@ -180,7 +180,7 @@ pub fn push_empty(
     let record = PushRecord {
         kind: act.kind,
         head: head_for(act.kind, act.id, place.lat, place.lon),
-        meta: with_user(act.meta, act.user.is_some(), user),
+        meta: with_user(act.meta, user),
         parts: &[],
     };
     overlay_store::push(storage, &record)?;

@@ -20,7 +20,7 @@ use Rattle.reader.specs.Step.{member_bits}
 use Rattle.reader.specs.Done.{StepResult, worked}
 
 -- what a sound state gives: a handle fits 32 bits, what is staged lies within the lent bytes, and the chains serve the overlay's texts. It is a premise in the clauses:
--- as a ghost field of the state it would be asked for whatever a `StorageMut` of the state's references leaves, which was tried and did not close
+-- as a ghost field of the state it would be asked for whatever a `StorageMut` of the state's references leaves, which was tried with a struct of the same shape
 pub record StepGiven (chains : HandleChains) (s : State) : Type 0 where
   pub strings : s.overlay.texts.strings < 4294967296
   pub used : s.reader.pending.used ≤ length s.parts

@@ -17,7 +17,7 @@ returns-in_err-user-clause-deleted c =
     let id = to_z w64 act.id in
     let m = act_means act in
     λ serve.
-    let e = rw c.in_err-user.was at (asked act.kind id m o c.storage.ensures serve c.user_before.ensures) in
+    let e = rw c.in_err-user.was at (asked act.kind id m o c.storage.ensures serve c.user_before.ensures.asked) in
     let n = before_not act.kind id m o e in
     rw (p.1, p.2) (delete_not act.kind id m o n.1.0 n.1.1)
 
@@ -29,7 +29,7 @@ returns-in_err-store_delete-clause-deleted c =
     let id = to_z w64 act.id in
     let m = act_means act in
     λ serve.
-    let e = rw c.in_ok-user.was at (asked act.kind id m o c.storage.ensures serve c.user_before.ensures) in
+    let e = rw c.in_ok-user.was at (asked act.kind id m o c.storage.ensures serve c.user_before.ensures.asked) in
     let user = before_ok act.kind id m o e in
     let done = rw (c.claim-claim.ensures ∙ act_claims act, c.in_err-store_delete.was) at c.store_delete.ensures in
     rw (p.1, p.2) (delete_done act.kind id m o user (ap (then_user_on m) done))
@@ -41,7 +41,7 @@ returns-clause-deleted c =
     let id = to_z w64 act.id in
     let m = act_means act in
     λ serve.
-    let e = rw c.in_ok-user.was at (asked act.kind id m o c.storage.ensures serve c.user_before.ensures) in
+    let e = rw c.in_ok-user.was at (asked act.kind id m o c.storage.ensures serve c.user_before.ensures.asked) in
     let user = before_ok act.kind id m o e in
     let done = rw (c.claim-claim.ensures ∙ act_claims act, c.in_ok-store_delete.was) at c.store_delete.ensures in
     delete_done act.kind id m o user (behind _ m o serve _ user act.kind _ done c.take_user.ensures.taken)

@@ -20,7 +20,7 @@ returns-in_err-user-clause-pushed c =
     let id = to_z w64 act.id in
     let m = act_means act in
     λ g.
-    let e = rw c.in_err-user.was at (asked act.kind id m o c.storage.ensures g.serve c.user_before.ensures) in
+    let e = rw c.in_err-user.was at (asked act.kind id m o c.storage.ensures g.serve c.user_before.ensures.asked) in
     let n = before_not act.kind id m o e in
     rw (p.1, p.2) (empty_not act.kind id m o _ (kind_read act.kind c.args.place.lat c.args.place.lon) n.1.0 n.1.1)
 
@@ -34,9 +34,9 @@ returns-in_err-push-clause-pushed c =
     let h = c.head_for.ensures in
     let same = ap (λ (z : PushHead). to_z w64 z.id) (sym h.bits) ∙ ap (λ (n : ℕ). to_z w64 n) h.id in
     λ g.
-    let e = rw c.in_ok-user.was at (asked act.kind id m o c.storage.ensures g.serve c.user_before.ensures) in
+    let e = rw c.in_ok-user.was at (asked act.kind id m o c.storage.ensures g.serve c.user_before.ensures.asked) in
     let user = before_ok act.kind id m o e in
-    let meta = rw c.is_some.ensures at (c.with_user.ensures.bits m.user (user_fits m o _ user g.few)) in
+    let meta = rw (rw c.in_ok-user.was at c.user_before.ensures.named) at (c.with_user.ensures.bits m.user (user_fits m o _ user g.few)) in
     let claims = rw meta at (c.with_user.ensures.claim ∙ act_claims act) in
     let done = rw (meta, c.in_err-push.was) at c.push.ensures.done in
     rw (p.1, p.2) (empty_done act.kind id m o _ same _ claims (kind_read act.kind c.args.place.lat c.args.place.lon) h.bits user (ap (then_user_on m) done))
@@ -50,9 +50,9 @@ returns-clause-pushed c =
     let h = c.head_for.ensures in
     let same = ap (λ (z : PushHead). to_z w64 z.id) (sym h.bits) ∙ ap (λ (n : ℕ). to_z w64 n) h.id in
     λ g.
-    let e = rw c.in_ok-user.was at (asked act.kind id m o c.storage.ensures g.serve c.user_before.ensures) in
+    let e = rw c.in_ok-user.was at (asked act.kind id m o c.storage.ensures g.serve c.user_before.ensures.asked) in
     let user = before_ok act.kind id m o e in
-    let meta = rw c.is_some.ensures at (c.with_user.ensures.bits m.user (user_fits m o _ user g.few)) in
+    let meta = rw (rw c.in_ok-user.was at c.user_before.ensures.named) at (c.with_user.ensures.bits m.user (user_fits m o _ user g.few)) in
     let claims = rw meta at (c.with_user.ensures.claim ∙ act_claims act) in
     let done = rw (meta, c.in_ok-push.was) at c.push.ensures.done in
     empty_done act.kind id m o _ same _ claims (kind_read act.kind c.args.place.lat c.args.place.lon) h.bits user (behind _ m o g.serve _ user act.kind _ done c.take_user.ensures.taken)
