@@ -107,6 +107,10 @@ pub record NumbersFit (a : ArenaMeta) : Type 0 where
   pub changeset : Fits w64 a.changeset
   pub uid : Fits w32 a.uid
 
+-- and as in the bits of numbers that fit
+pub bits_fit : {a : ArenaMeta} (m : Meta Bytes) → a ≡ bits_with_user m 0 → SFits w64 m.timestamp → SFits w64 m.changeset → SFits w32 m.uid → NumbersFit a
+bits_fit m e t c u = rw e (record { timestamp = Fits-of_z t; changeset = Fits-of_z c; uid = Fits-of_z u })
+
 flag_back : (f : ℕ) (named : Bool) → flagged 4 f ≡ named → user_flagged f named ≡ f
 unfolding flagged
 flag_back f true e = let q = eqb-true (f / 4 % 2) 1 e in omega arith
