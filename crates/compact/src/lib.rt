@@ -89,7 +89,8 @@ pub struct CompactWay {
     pub tag_count: u32,
 }
 
-// The head of a relation's record. Its fields stand where those of a `CompactWay` stand, but what it counts is another thing and of another size, so the two are two types, each with its `read`.
+// The head of a relation's record. Its fields stand where those of a `CompactWay` stand, but what it counts is another thing and of another size, so the two are two types, each with its
+// `read`, `tags_at` and `from`.
 #[derive(Clone, Copy, PartialEq, Eq, Debug)]
 pub struct CompactRelation {
     pub id: u64,
@@ -141,7 +142,7 @@ pub struct MemberPart {
     pub next: usize,
 }
 
-// A tag that a step yields: its key's handle, and where its value lies. The next tag stands at the value's end.
+// A tag that a step yields: its key's handle, and where its value lies. The next tag stands at the value's end, so that is told by numbers.
 #[derive(Clone, Copy, PartialEq, Eq, Debug)]
 pub struct TagPart {
     pub key: u32,
@@ -387,7 +388,7 @@ impl From<PushHead> for CompactRelation {
     }
 }
 
-// The metadata from a place on.
+// The metadata from a place on. A place goes along: metadata stand a constant behind where the record starts.
 pub fn read_meta(bytes: &[u8], at: usize) -> ArenaMeta
     ensures { result ≡ meta_at bytes.now at }
 {

@@ -18,7 +18,7 @@ pub fn equal(a: &[u8], b: &[u8]) -> bool
 
 // ---- a run as one word: its start and its length, and above them a number by which most runs are sorted
 
-// A byte of a run. Behind a run stand zeros.
+// A byte of a run. Behind a run stand zeros: they fill its sort key, and mean no missing byte.
 fn byte_at(run: &[u8], i: usize) -> u8 {
     run.get(i).copied().unwrap_or(0)
 }

@@ -137,6 +137,7 @@ impl StorageMut<'_> {
 
 // ---- set-up
 
+// The counters of an empty overlay. The setting is C's word, stored as it is.
 fn fresh_counters(z: Sizes, setting: u64) -> [u64; COUNTERS]
     ensures { result ≡ fresh_counters setting z }
 {

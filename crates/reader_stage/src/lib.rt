@@ -11,7 +11,7 @@ pub const STAGED: usize = 44432;
 
 // ---- the numbers of a part
 
-// The bytes of a ref.
+// The bytes of a ref. No `to_le_bytes`: the contracts speak of a record's bytes by little's `le`, as those of the two below do.
 pub fn ref_bytes(reference: u64) -> [u8; 8]
     ensures { result ≡ ref_part reference }
 {
