@@ -148,14 +148,6 @@ pub text_none : (v : Bytes) → there (unescape v) ≡ false → value_text v �
 unfolding value_text
 text_none v h = ap or_empty (no_text v h)
 
-pub text_some : (v : Bytes) → there (unescape v) ≡ true → unescape v ≡ Some (value_text v)
-unfolding value_text there
-text_some v h = go (unescape v) h
-  where
-    go : (o : Option Bytes) → there o ≡ true → o ≡ Some (or_empty o)
-    go None q = clash q refl
-    go (Some t) q = refl
-
 -- a byte stored, or left out where there is no room
 pub put_on : {s₀ t : Bytes} (s : Bytes) (i b : ℕ) {rest more : Bytes} → rest ≡ b ∷ more → Writing s₀ t s i rest → Writing s₀ t (set s i b) (i + 1) more
 put_on s i b {rest} {more} e w =

@@ -1,7 +1,7 @@
 // Event lines: the escapes of a value, what of a line is judged, and in `fields` and `event_line` its attributes and what it is.
 #![tactic(auto)]
 
-ghost use Rattle.std.specs.Prelude.{◌≡◌, not, true, eqb, length, set, option_map};
+ghost use Rattle.std.specs.Prelude.{◌≡◌, not, true, eqb, length, set};
 ghost use Rattle.base.specs.Bytes.{all};
 ghost use Rattle.event.specs.Event.{body, legal_line};
 ghost use Rattle.little.specs.Little.{over};
@@ -107,14 +107,14 @@ fn write(out: &mut [u8], v: &[u8]) -> usize
     n
 }
 
-// The text of a value at the start of what is lent, as far as there is room; its whole length is answered. A value with another escape has no text.
-pub fn unescape_into(out: &mut [u8], value: &[u8]) -> Option<usize>
-    ensures { (out.new ≡ over out.old 0 (value_text value.now)) × (result ≡ option_map length (unescape value.now)) }
+// The text of a value at the start of what is lent, as far as there is room; its whole length is answered. A value with another escape stands for an empty text, whose length is 0.
+pub fn unescape_into(out: &mut [u8], value: &[u8]) -> usize
+    ensures { (out.new ≡ over out.old 0 (value_text value.now)) × (result ≡ length (value_text value.now)) }
 {
     if escapes_right(value) {
-        return Some(write(out, value));
+        return write(out, value);
     }
-    None
+    0
 }
 
 // ---- lines

@@ -1,19 +1,22 @@
 -- The text of an extent: no longer than its line, so an array of a line's largest length holds it whole.
-use Rattle.std.specs.Prelude.{None, Option, Some, option_map, unwrap_or}
-use Prim.Native.Nat.{ℕ, suc, ◌≤◌, min}
-use mathlib.Core.Path.{◌≡◌, refl}
-use mathlib.Core.Bool.{Bool, true, false}
+use Rattle.std.specs.Prelude.{None, Option, Some}
+use Prim.Native.Nat.{ℕ, suc, ◌-◌, ◌≤◌, min}
+use mathlib.Core.Path.{◌≡◌, sym, ◌∙◌}
+use mathlib.Core.Bool.{Bool, true, false, not}
 use mathlib.Core.List.{[], ◌∷◌}
 use native.Mathlib.Omega.{arith}
 use lib.ListN.{length, take}
 use lib.Dec.{eqb}
-use Rattle.base.specs.Bytes.{Bytes}
+use lib.Seq.{slice, length-slice}
+use Rattle.base.specs.Bytes.{Bytes, all}
 use Rattle.base.proofs.Split.{by_bool}
 use Rattle.little.specs.Little.{over}
 use Rattle.little.proofs.Overs.{read_back}
-use Rattle.text.specs.Escape.{byte_before, meaning, unescape, unescape_from}
+use Rattle.text.specs.Escape.{byte_before, meaning, unescape_from}
 use Rattle.event.specs.Event.{or_empty}
 use Rattle.event_scan.specs.Piece.{value_text}
+use Rattle.event_scan.proofs.Places.{lent_is}
+use Rattle.event_scan.proofs.Pieces.{text_bare}
 
 -- ---- a text is no longer than the value that writes it
 
@@ -36,15 +39,6 @@ shorter (b ∷ v) false =
 pub text_shorter : (v : Bytes) → length (value_text v) ≤ length v
 unfolding value_text
 text_shorter v = shorter v false
-
--- how long the text is, or 0 where there is none
-pub length_or : (v : Bytes) {o : Option ℕ} {n : ℕ} → o ≡ option_map length (unescape v) → n ≡ unwrap_or o 0 → n ≡ length (value_text v)
-unfolding value_text
-length_or v {o} {n} e q = rw (q, e) (by_text (unescape v))
-  where
-    by_text : (x : Option Bytes) → unwrap_or (option_map length x) 0 ≡ length (or_empty x)
-    by_text None = refl
-    by_text (Some t) = refl
 
 -- so as many bytes as an array of a line's largest length has hold the text of a value of a line whole
 pub held_whole : (s last v : Bytes) (n end : ℕ) → length s ≡ 16384 → length v ≤ 16384 → (last ≡ over s 0 (value_text v)) × (n ≡ length (value_text v))

@@ -19,7 +19,7 @@ use text_index::Chains;
 pub fn resolved<'a>(room: &'a mut [u8; MAX_LINE], value: &Value<'_, MAX_LINE>) -> &'a [u8]
     ensures { result.now ≡ text_written value.now }
 {
-    let n = event_scan::unescape_into(room, value.bytes).unwrap_or(0);
+    let n = event_scan::unescape_into(room, value.bytes);
     let end = n.min(MAX_LINE);
     &room[..end]
 }

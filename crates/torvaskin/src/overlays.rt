@@ -50,14 +50,12 @@ pub extern "C" fn tvk_is_sound(words: &[u64], bytes: &[u8], counters: &[u64; COU
     c_replies::kept_reply(storage.check_sound())
 }
 
-// The kind that a number means; or 22, else 17. It is a match: `map_err` takes a closure for the one arm, and is no shorter.
+// The kind that a number means; or 22, else 17.
 pub fn named_kind(storage: &Storage<'_>, kind: u8) -> Result<Kind, Refusal>
     ensures { result ≡ kind_answer (of_number kind) (overlay_seen storage.now) }
 {
-    match Kind::try_from(kind) {
-        Ok(k) => Ok(k),
-        Err(_) => Err(c_replies::unknown_kind(storage.is_sound())),
-    }
+    let refusal = |_| c_replies::unknown_kind(storage.is_sound());
+    Kind::try_from(kind).map_err(refusal)
 }
 
 // Sets the regression setting: 0 refuses regression, any other number allows it.

@@ -15,7 +15,7 @@ use overlay::Storage;
 use overlay_blocks::COUNTERS;
 use refusal::Refusal;
 
-// What a reading answers of the kind that a number means; or 22, else 17. It is a match, whose arms are the two cases of `reading_for`.
+// What a reading answers of the kind that a number means; or 22, else 17.
 fn of_kind<T, F: FnOnce(Kind) -> Result<T, Refusal>>(
     storage: &Storage<'_>,
     kind: u8,
@@ -25,30 +25,21 @@ fn of_kind<T, F: FnOnce(Kind) -> Result<T, Refusal>>(
     ensures { (f : Kind → Result T Refusal) → ((k : Kind) (r : Result T Refusal) → F.post reading k r → r ≡ f k)
         → result ≡ reading_for (of_number kind) f (overlay_seen storage.now) }
 {
-    match named_kind(storage, kind) {
-        Ok(k) => reading(k),
-        Err(refusal) => Err(refusal),
-    }
+    reading(named_kind(storage, kind)?)
 }
 
-// C's words for no and yes: 0 and 1. It and the next are a match, whose arms are the two cases of `in_number` and `in_word`.
+// C's words for no and yes: 0 and 1.
 fn truth_read(answer: Result<bool, Refusal>) -> Result<u64, Refusal>
     ensures { result ≡ in_number answer }
 {
-    match answer {
-        Ok(yes) => Ok(u64::from(yes)),
-        Err(refusal) => Err(refusal),
-    }
+    answer.map(u64::from)
 }
 
 // C's word for a version: below 2^32 its bits, else none.
 fn version_read(answer: Result<Option<i32>, Refusal>) -> Result<u64, Refusal>
     ensures { result ≡ in_word answer }
 {
-    match answer {
-        Ok(version) => Ok(version_floor::version_word(version)),
-        Err(refusal) => Err(refusal),
-    }
+    answer.map(version_floor::version_word)
 }
 
 // How many ids of a kind are live, or how many are deleted; or 22, else 17.
