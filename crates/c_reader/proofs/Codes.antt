@@ -1,40 +1,26 @@
--- Codes read back: a number past the last code is the last.
-use Prim.Native.Nat.{ℕ, ◌+◌, ◌≤◌, ◌<◌, ◌^◌}
-use mathlib.Core.Path.{◌≡◌, sym, ◌∙◌, ap}
-use native.Mathlib.Omega.{arith}
+-- Codes read back, and the words of a mark.
+use Prim.Native.Nat.{ℕ, ◌≤◌, ◌<◌, ◌^◌}
+use mathlib.Core.Path.{◌≡◌, ◌∙◌, ap}
+use mathlib.Core.Bool.{false}
+use lib.Dec.{ltb, leb}
 use lib.IntN.{ℤ}
 use lib.Signed.{mag}
 use mir.Syntax.{w32}
 use mir.Val.{to_z, of_z, Fits, hbits}
 use mir.Facts.{of_z-to_z}
+use borrow.Author.Tests.{lt-ltb, le-ltb, lt-leb}
+use Rattle.base.specs.Bytes.{both}
+use Rattle.base.proofs.Split.{by_lt}
 use Rattle.signed.proofs.Bits.{held}
-use lib.ListN.{get_or-eq_default}
-use Rattle.kind.specs.declared.Kind.TheVariants.{Relation}
-use Rattle.nesting.specs.declared.Action.TheVariants.{Delete}
-use Rattle.nesting.specs.declared.Level.TheVariants.{Done}
 use Rattle.refusal.specs.Refusal.{number_of, held_of, reply_of}
 use Rattle.refusal.specs.declared.Reply.{Reply}
 use Rattle.refusal.specs.declared.Refusal.{Refusal}
-use Rattle.refusal.specs.declared.Refusal.TheVariants.{Regression, Unsound}
+use Rattle.refusal.specs.declared.Refusal.TheVariants.{Regression}
 use Rattle.c_reader.specs.declared.MarkWords.{MarkWords}
-use Rattle.c_reader.specs.Words.{level_codes, section_codes, kind_codes, refusal_codes, level_in, section_in, kind_in, refusal_numbered}
 
--- a number that is at least k, and not k
-pub next : {n k : ℕ} → k ≤ n → (n ≡ k → ⊥) → k + 1 ≤ n
-next h g = omega arith
-
-pub level_past : (n : ℕ) → 6 ≤ n → Done ≡ level_in n
-level_past n h = sym (get_or-eq_default level_codes _ {n = n} h)
-
-pub section_past : (n : ℕ) → 2 ≤ n → Delete ≡ section_in n
-section_past n h = sym (get_or-eq_default section_codes _ {n = n} h)
-
-pub kind_past : (n : ℕ) → 2 ≤ n → Relation ≡ kind_in n
-kind_past n h = sym (get_or-eq_default kind_codes _ {n = n} h)
-
-pub refusal_past : (n held : ℕ) → 22 ≤ n → Unsound ≡ refusal_numbered n held
-unfolding refusal_numbered
-refusal_past n held h = sym (get_or-eq_default (refusal_codes held) _ {n = n} h)
+pub refusal_none : (n : ℕ) → (1 ≤ n → 23 ≤ n) → both (ltb 0 n) (leb n 22) ≡ false
+unfolding both
+refusal_none n h = by_lt 0 n (λ l. rw (lt-ltb 0 n l, lt-leb n 22 (h l))) (λ l. rw (le-ltb 0 n l))
 
 -- HELD read back from its bits
 pub held_back : {z : ℤ} {n : ℕ} → Fits w32 n → z ≡ to_z w32 n → Regression (to_z w32 (of_z w32 z)) ≡ Regression (to_z w32 n)

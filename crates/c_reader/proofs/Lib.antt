@@ -1,3 +1,4 @@
 pub mod Codes
 pub mod Fits
 pub mod Words
+pub mod Coded

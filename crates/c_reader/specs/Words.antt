@@ -59,6 +59,10 @@ words_of_reader r =
 
 -- ---- words read back
 
+-- what words stand for, where they are codes
+abbrev pub if_coded : {A : Type 0} → Bool → A → Option A
+if_coded t x = cond t (Some x) None
+
 abbrev pub word_at : List ℕ → ℕ → ℕ
 word_at w i = get_or w i 0
 

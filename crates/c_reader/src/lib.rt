@@ -1,9 +1,10 @@
-// A reader as C holds it: 19 words. Words that are no reader's are told apart first.
+// A reader as C holds it: 19 words.
 #![tactic(auto)]
 
-ghost use Rattle.std.specs.Prelude.{◌≡◌, true, ◌<◌};
+ghost use Rattle.std.specs.Prelude.{◌≡◌, leb, ltb};
+ghost use Rattle.base.specs.Bytes.{both};
 ghost use Rattle.kind.specs.Kind.{kind_number as kind_word};
-ghost use Rattle.c_reader.specs.Words.{level_word, section_word, mark_number, mark_line, mark_held, words_of_reader, level_in, section_in, kind_in, head_words, meta_words, refusal_numbered, stop_in, reader_in, place_coded, head_coded, meta_coded, stop_coded, is_reader};
+ghost use Rattle.c_reader.specs.Words.{level_word, section_word, mark_number, mark_line, mark_held, words_of_reader, if_coded, level_in, section_in, kind_in, place_words, head_words, meta_words, refusal_numbered, stop_in, place_coded, head_coded, meta_coded, stop_coded, reader_of_words};
 
 use compact::{ArenaMeta, PushHead};
 use kind::Kind;
@@ -11,185 +12,150 @@ use nesting::{Action, Level, Place};
 use reader::{EventReader, Pending, RefusedAt};
 use refusal::{Refusal, Reply};
 
-// ---- whether words are a reader's
-
-#[tactic(auto, unfolding(crate::specs::Words::place_coded, base::specs::Bytes::both))]
-fn place_coded(words: &[u64; 19]) -> bool
-    ensures { result ≡ place_coded words.now }
-{
-    (words[0] <= 6) & ((words[1] <= 2) & (words[2] <= 2))
-}
-
-#[tactic(auto, unfolding(crate::specs::Words::head_coded, base::specs::Bytes::both))]
-fn head_coded(words: &[u64; 19]) -> bool
-    ensures { result ≡ head_coded words.now }
-{
-    (words[4] < 4294967296)
-        & ((words[5] < 4294967296) & ((words[6] < 4294967296) & (words[7] < 4294967296)))
-}
-
-#[tactic(auto, unfolding(crate::specs::Words::meta_coded, base::specs::Bytes::both))]
-fn meta_coded(words: &[u64; 19]) -> bool
-    ensures { result ≡ meta_coded words.now }
-{
-    (words[8] < 256)
-        & ((words[9] < 4294967296) & ((words[12] < 4294967296) & (words[13] < 4294967296)))
-}
-
-#[tactic(auto, unfolding(crate::specs::Words::stop_coded, base::specs::Bytes::both, base::specs::Bytes::either))]
-fn stop_coded(number: u64, line: u64, held: u64) -> bool
-    ensures { result ≡ stop_coded number line held }
-{
-    (number <= 22)
-        & (((0 < number) | (line == 0)) & ((held < 4294967296) & ((number == 12) | (held == 0))))
-}
-
-// Whether words are a reader's: each a code, or within its field.
-pub fn is_reader(words: &[u64; 19]) -> bool
-    ensures { result ≡ is_reader words.now }
-{
-    let place = place_coded(words);
-    let head = head_coded(words);
-    let meta = meta_coded(words);
-    place & (head & (meta & stop_coded(words[16], words[17], words[18])))
-}
-
 // ---- words read back
 
-fn level_in(n: u64) -> Level
-    ensures { result ≡ level_in n }
+// The level of a code. No `TryFrom`, here and for the actions: the enums are nesting's.
+fn level_of(word: u64) -> Option<Level>
+    ensures { result ≡ if_coded (leb word 6) (level_in word) }
 {
-    match n {
-        0 => Level::Doc,
-        1 => Level::Root,
-        2 => Level::Section,
-        3 => Level::Element,
-        4 => Level::Leaf,
-        5 => Level::Other,
-        _ => Level::Done,
+    match word {
+        0 => Some(Level::Doc),
+        1 => Some(Level::Root),
+        2 => Some(Level::Section),
+        3 => Some(Level::Element),
+        4 => Some(Level::Leaf),
+        5 => Some(Level::Other),
+        6 => Some(Level::Done),
+        _ => None,
     }
 }
 
-fn section_in(n: u64) -> Action
-    ensures { result ≡ section_in n }
+fn section_of(word: u64) -> Option<Action>
+    ensures { result ≡ if_coded (leb word 2) (section_in word) }
 {
-    match n {
-        0 => Action::Create,
-        1 => Action::Modify,
-        _ => Action::Delete,
+    match word {
+        0 => Some(Action::Create),
+        1 => Some(Action::Modify),
+        2 => Some(Action::Delete),
+        _ => None,
     }
 }
 
-fn kind_in(n: u64) -> Kind
-    ensures { result ≡ kind_in n }
+fn kind_of(word: u64) -> Option<Kind>
+    ensures { result ≡ if_coded (leb word 2) (kind_in word) }
 {
-    match n {
-        0 => Kind::Node,
-        1 => Kind::Way,
-        _ => Kind::Relation,
-    }
+    Kind::try_from(u8::try_from(word).ok()?).ok()
 }
 
-// A word in 8 bits; one that does not fit them becomes 0.
-fn narrow_byte(word: u64) -> u8
-    ensures { word < 256 → result ≡ word }
+fn place_of(words: &[u64; 19]) -> Option<Place>
+    ensures { result ≡ if_coded (place_coded words.now) (place_words words.now) }
 {
-    u8::try_from(word).unwrap_or(0)
-}
-
-fn head_in(words: &[u64; 19]) -> PushHead
-    ensures { head_coded words.now ≡ true → result ≡ head_words words.now }
-{
-    PushHead {
-        id: words[3],
-        lat: little::narrow(words[4]),
-        lon: little::narrow(words[5]),
-        count: little::narrow(words[6]),
-        tags: little::narrow(words[7]),
-    }
-}
-
-fn meta_in(words: &[u64; 19]) -> ArenaMeta
-    ensures { meta_coded words.now ≡ true → result ≡ meta_words words.now }
-{
-    ArenaMeta {
-        flags: narrow_byte(words[8]),
-        version: little::narrow(words[9]),
-        timestamp: words[10],
-        changeset: words[11],
-        uid: little::narrow(words[12]),
-        user: little::narrow(words[13]),
-    }
-}
-
-fn refusal_in(number: u64, held: u32) -> Refusal
-    ensures { result ≡ refusal_numbered number held }
-{
-    match number {
-        1 => Refusal::Size,
-        2 => Refusal::LongLine,
-        3 => Refusal::NotText,
-        4 => Refusal::NotEventLine,
-        5 => Refusal::Misplaced,
-        6 => Refusal::OutsideSection,
-        7 => Refusal::Missing,
-        8 => Refusal::NotInteger,
-        9 => Refusal::NotTimestamp,
-        10 => Refusal::CoordinateRange,
-        11 => Refusal::MemberType,
-        12 => Refusal::Regression(signed::i32_of_bits(held)),
-        13 => Refusal::StringsFull,
-        14 => Refusal::IdsFull,
-        15 => Refusal::ArenaFull,
-        16 => Refusal::TooManyParts,
-        17 => Refusal::BadRecord,
-        18 => Refusal::Unfinished,
-        19 => Refusal::ShortOutput,
-        20 => Refusal::NotInOrder,
-        21 => Refusal::NoSuchNumber,
-        _ => Refusal::Unsound,
-    }
-}
-
-fn stop_in(number: u64, line: u64, held: u64) -> Option<RefusedAt>
-    ensures { held < 4294967296 → result ≡ stop_in number line held }
-{
-    if number == 0 {
-        return None;
-    }
-    let refusal = refusal_in(number, little::narrow(held));
-    Some(RefusedAt { refusal, line })
-}
-
-fn place_in(level: u64, section: u64, kind: u64) -> Place
-    ensures { result ≡ record { level = level_in level; section = section_in section; kind = kind_in kind } }
-{
-    let level = level_in(level);
-    let section = section_in(section);
-    let kind = kind_in(kind);
-    Place {
+    let level = level_of(words[0])?;
+    let section = section_of(words[1])?;
+    let kind = kind_of(words[2])?;
+    Some(Place {
         level,
         section,
         kind,
+    })
+}
+
+fn head_of(words: &[u64; 19]) -> Option<PushHead>
+    ensures { result ≡ if_coded (head_coded words.now) (head_words words.now) }
+{
+    let lat = u32::try_from(words[4]).ok()?;
+    let lon = u32::try_from(words[5]).ok()?;
+    let count = u32::try_from(words[6]).ok()?;
+    let tags = u32::try_from(words[7]).ok()?;
+    Some(PushHead {
+        id: words[3],
+        lat,
+        lon,
+        count,
+        tags,
+    })
+}
+
+fn meta_of(words: &[u64; 19]) -> Option<ArenaMeta>
+    ensures { result ≡ if_coded (meta_coded words.now) (meta_words words.now) }
+{
+    let flags = u8::try_from(words[8]).ok()?;
+    let version = u32::try_from(words[9]).ok()?;
+    let uid = u32::try_from(words[12]).ok()?;
+    let user = u32::try_from(words[13]).ok()?;
+    Some(ArenaMeta {
+        flags,
+        version,
+        timestamp: words[10],
+        changeset: words[11],
+        uid,
+        user,
+    })
+}
+
+// The refusal of a number, with the bits of the known version for 12.
+#[tactic(auto, using(crate::proofs::Codes::held_back, crate::proofs::Codes::refusal_none), unfolding(crate::specs::Words::refusal_numbered, base::specs::Bytes::both))]
+fn refusal_of(number: u64, held: u32) -> Option<Refusal>
+    ensures { result ≡ if_coded (both (ltb 0 number) (leb number 22)) (refusal_numbered number held) }
+{
+    match number {
+        1 => Some(Refusal::Size),
+        2 => Some(Refusal::LongLine),
+        3 => Some(Refusal::NotText),
+        4 => Some(Refusal::NotEventLine),
+        5 => Some(Refusal::Misplaced),
+        6 => Some(Refusal::OutsideSection),
+        7 => Some(Refusal::Missing),
+        8 => Some(Refusal::NotInteger),
+        9 => Some(Refusal::NotTimestamp),
+        10 => Some(Refusal::CoordinateRange),
+        11 => Some(Refusal::MemberType),
+        12 => Some(Refusal::Regression(held.cast_signed())),
+        13 => Some(Refusal::StringsFull),
+        14 => Some(Refusal::IdsFull),
+        15 => Some(Refusal::ArenaFull),
+        16 => Some(Refusal::TooManyParts),
+        17 => Some(Refusal::BadRecord),
+        18 => Some(Refusal::Unfinished),
+        19 => Some(Refusal::ShortOutput),
+        20 => Some(Refusal::NotInOrder),
+        21 => Some(Refusal::NoSuchNumber),
+        22 => Some(Refusal::Unsound),
+        _ => None,
     }
 }
 
-// The reader of words that are a reader's.
-pub fn reader_in(words: &[u64; 19]) -> EventReader
-    ensures { is_reader words.now ≡ true → result ≡ reader_in words.now }
+// The stop mark of three words: `Some(None)` while the reader goes on, and none where they are no mark's.
+fn stop_of(number: u64, line: u64, held: u64) -> Option<Option<RefusedAt>>
+    ensures { result ≡ if_coded (stop_coded number line held) (stop_in number line held) }
 {
-    let place = place_in(words[0], words[1], words[2]);
-    let head = head_in(words);
-    let meta = meta_in(words);
-    let stop = stop_in(words[16], words[17], words[18]);
+    if number == 0 {
+        return (line == 0 && held == 0).then_some(None);
+    }
+    let bits = u32::try_from(held).ok()?;
+    if number == 12 || bits == 0 {
+        let refusal = refusal_of(number, bits)?;
+        return Some(Some(RefusedAt { refusal, line }));
+    }
+    None
+}
+
+// The reader of words, if each is a code, or within its field.
+pub fn reader_of(words: &[u64; 19]) -> Option<EventReader>
+    ensures { result ≡ reader_of_words words.now }
+{
+    let place = place_of(words)?;
+    let head = head_of(words)?;
+    let meta = meta_of(words)?;
+    let stop = stop_of(words[16], words[17], words[18])?;
     let used = words[14] as usize;
     let pending = Pending { head, meta, used };
-    EventReader {
+    Some(EventReader {
         place,
         pending,
         lines: words[15],
         stop,
-    }
+    })
 }
 
 // ---- a reader in words
@@ -230,7 +196,7 @@ impl From<Option<RefusedAt>> for MarkWords {
                 MarkWords {
                     number: reply.number as u64,
                     line: at.line,
-                    held: signed::bits_of_i32(reply.held) as u64,
+                    held: u64::from(reply.held.cast_unsigned()),
                 }
             }
         }
@@ -241,14 +207,17 @@ impl From<Option<RefusedAt>> for MarkWords {
 pub fn put_reader(words: &mut [u64; 19], reader: EventReader)
     ensures { words.new ≡ words_of_reader reader }
 {
-    let place = reader.place;
-    let level = place.level;
-    let section = place.section;
-    let kind = place.kind;
-    let pending = reader.pending;
-    let head = pending.head;
-    let meta = pending.meta;
-    let mark = MarkWords::from(reader.stop);
+    let EventReader {
+        place: Place {
+            level,
+            section,
+            kind,
+        },
+        pending: Pending { head, meta, used },
+        lines,
+        stop,
+    } = reader;
+    let mark = MarkWords::from(stop);
     *words = [
         level_word(level),
         section_word(section),
@@ -264,8 +233,8 @@ pub fn put_reader(words: &mut [u64; 19], reader: EventReader)
         meta.changeset,
         meta.uid as u64,
         meta.user as u64,
-        pending.used as u64,
-        reader.lines,
+        used as u64,
+        lines,
         mark.number,
         mark.line,
         mark.held,

@@ -4,7 +4,7 @@ use Rattle.std.specs.Bool.{then_some}
 use Rattle.refusal.specs.Refusal.{number_of}
 use Rattle.refusal.specs.declared.Refusal.{Refusal}
 use Rattle.sorted.specs.declared.IdRange.{IdRange}
-use Rattle.sorted.specs.declared.Found.{Found}
+use Rattle.sorted.specs.Lookup.{Found}
 use Rattle.c_replies.specs.Numbers.{truth}
 use Rattle.c_replies.specs.Readings.{read_number}
 use Rattle.c_replies.specs.declared.Number.{Number}

@@ -4,7 +4,7 @@
 
 ghost use Rattle.std.specs.Prelude.{◌≡◌};
 ghost use Rattle.c_replies.specs.Listings.{listed_reply};
-ghost use Rattle.c_replies.specs.Lookups.{span_places, seek_place, place_word, found_cursor};
+ghost use Rattle.c_replies.specs.Lookups.{span_places, seek_place, place_word, sought_cursor};
 ghost use Rattle.c_replies.specs.Numbers.{order_number};
 ghost use Rattle.c_replies.specs.Overlays.{kept_reply, handle_text};
 ghost use Rattle.c_replies.specs.Readers.{answer_reply, taken_reply};
@@ -13,7 +13,7 @@ ghost use Rattle.c_replies.specs.Readings.{read_number, view_part, unknown_kind}
 use little::Span;
 use reader::RefusedAt;
 use refusal::{Refusal, Reply};
-use sorted::{Found, IdRange};
+use sorted::IdRange;
 use std::cmp::Ordering;
 
 // ---- ids, versions, integer and timestamp fields, and text
@@ -62,7 +62,7 @@ pub struct Text {
     pub handle: u64,
 }
 
-// A function, since both types are of the crate refusal, which alone may convert one to the other.
+// A function, since both types are of the crate refusal: there a conversion would want the definitions of answers to C, which are of this crate.
 pub fn kept_reply(answer: Result<(), Refusal>) -> Reply
     ensures { result ≡ kept_reply answer }
 {
@@ -240,24 +240,23 @@ fn place_word(place: Option<usize>) -> usize
     place.unwrap_or(NO_PLACE)
 }
 
-impl From<Found> for Cursor {
-    ghost from_gives = { λ found cursor. cursor ≡ found_cursor found };
-
-    #[tactic(auto, unfolding(refusal::specs::Refusal::reply_of))]
-    fn from(found: Found) -> Cursor {
-        let place = place_word(found.place);
-        match found.answer {
-            Ok(at) => Cursor {
-                number: 0,
-                found: place_word(at),
-                place,
-            },
-            Err(refusal) => Cursor {
-                number: Reply::from(refusal).number,
-                found: NO_PLACE,
-                place,
-            },
-        }
+// A function of two values, as `events_reply` is.
+#[tactic(auto, unfolding(refusal::specs::Refusal::reply_of))]
+pub fn cursor_reply(answer: Result<Option<usize>, Refusal>, place: Option<usize>) -> Cursor
+    ensures { result ≡ sought_cursor answer (place_word place) }
+{
+    let place = place_word(place);
+    match answer {
+        Ok(at) => Cursor {
+            number: 0,
+            found: place_word(at),
+            place,
+        },
+        Err(refusal) => Cursor {
+            number: Reply::from(refusal).number,
+            found: NO_PLACE,
+            place,
+        },
     }
 }
 

@@ -10,7 +10,7 @@ pub fn is_leap(year: u32) -> bool
     year % 4 == 0 && (year % 100 != 0 || year % 400 == 0)
 }
 
-// The length of a month, 1 to 12; 31 for any other number. But for February, 31 and 30 days come in turn from January, and anew from August, the 8th month.
+// The length of a month, 1 to 12; 31 for any other number, of which nobody asks: a caller has tested the month. But for February, 31 and 30 days come in turn from January, and anew from August, the 8th month.
 pub fn month_length(leap_year: bool, month: u8) -> u8
     ensures { result ≡ month_days leap_year month }
 {
@@ -22,7 +22,7 @@ pub fn month_length(leap_year: bool, month: u8) -> u8
     }
 }
 
-// The days of the year before a month.
+// The days of the year before a month. It adds in a loop: that the sum fits is its invariant, which a fold's closure would have to promise.
 pub fn days_before_month(leap_year: bool, month: u8) -> u64
     ensures { result ≡ months_days leap_year (month - 1) }
 {

@@ -36,7 +36,8 @@ use Rattle.kind_store.specs.WellFormed.{rows_in, WellFormed}
 use Rattle.kind_store.proofs.KindStores.{Laid, push_laid, push_fits, push_used, push_arena, delete_laid, delete_arena, delete_used}
 use Rattle.kind_sound.specs.Sound.{SoundKindStore}
 use Rattle.listing.specs.Known.{record_in, live_record, last_in}
-use Rattle.calls.proofs.Rows.{whole_read, live_starts, record_read, record_legal}
+use Rattle.listing.proofs.Rows.{whole_read}
+use Rattle.calls.proofs.Rows.{live_starts, record_read, record_legal}
 use Rattle.reader.proofs.Texts.{legal_agree}
 
 -- what the last act on an id left

@@ -28,8 +28,8 @@ use Rattle.compact.specs.declared.PushHead.{PushHead}
 use Rattle.interner.specs.Texts.{intern_accepted, take_all_of}
 use Rattle.interner.specs.Strings.{intern}
 use Rattle.interner.specs.Sound.{texts_of}
-use Rattle.interner.specs.declared.Interned.{Interned}
-use Rattle.interner.specs.declared.Interned.TheVariants as I
+use Rattle.interner.specs.Interned.{Interned}
+use Rattle.interner.specs.Interned as I
 use Rattle.kind_store.proofs.Claims.{given_claim}
 use Rattle.event_fields.specs.Field.{Field, got}
 use Rattle.acts.specs.Turn.{Turn, turn}

@@ -28,15 +28,8 @@ use Rattle.kind_table.proofs.Maps.{find_passes}
 use Rattle.kind_store.specs.KindStore.{KindStore, is_live}
 use Rattle.kind_store.specs.WellFormed.{rows_in, WellFormed}
 use Rattle.kind_sound.specs.Sound.{SoundKindStore, sound_row}
-use Rattle.listing.specs.Known.{held_in, record_in}
-
--- what is read at a start of whole records is its record
-pub whole_read : (strings : ℕ) (k : Kind) (s : Bytes) (w : Whole strings k s) (at : ℕ) (x : KeptRecord) → record_at at w.kept ≡ Some x → held_in (cut_record k (drop at s)) ≡ Some x.held
-whole_read strings k s w at x h = rw (w.same, (record_there k at w.kept x w.fits h).1)
-
-pub kept_kind : (k : Kind) (x : KeptRecord) → fits_kept k x ≡ true → kind_of x.held.body ≡ k
-unfolding fits_kept
-kept_kind k x h = Numbers.same_yes (kind_of x.held.body) k (both_left _ _ h)
+use Rattle.listing.specs.Known.{record_in}
+use Rattle.listing.proofs.Rows.{kept_kind, whole_read}
 
 module _ (strings : ℕ) (k : Kind) (s : KindStore) (w : SoundKindStore strings k s) where
   -- at the place of a live row a record starts

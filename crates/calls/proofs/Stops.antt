@@ -1,14 +1,14 @@
 -- After a list of calls a reader is stopped exactly where one of its events was refused, while its count of lines is below its largest.
 use Rattle.std.specs.Prelude.{Ok}
 use Prim.Native.Nat.{ℕ, ◌+◌, ◌<◌}
-use mathlib.Core.Path.{◌≡◌, refl, ◌∙◌, ap}
+use mathlib.Core.Path.{◌≡◌, refl, sym, ◌∙◌, ap}
 use mathlib.Core.Bool.{Bool, true, false, not}
 use mathlib.Core.List.{List, [], ◌∷◌, ◌++◌}
 use native.Mathlib.Omega.{arith}
 use lib.ListN.{length}
 use borrow.Author.Tests.{eq-eqb, ne_eqb}
 use Rattle.base.specs.Bytes.{Bytes, both, either, all}
-use Rattle.base.proofs.Split.{by_eq, no, clash}
+use Rattle.base.proofs.Split.{by_eq, either_right, either_false, no, clash}
 use Rattle.base.proofs.Lists.{all_head, all_tail}
 use Rattle.model.specs.Act.{Act}
 use Rattle.acts.specs.Call.{World, world_after, acts_from, lines_read}
@@ -19,16 +19,6 @@ use Rattle.reader.proofs.Events.{by_refused}
 use Rattle.reader.proofs.Keeps.{ready_sound}
 use Rattle.calls.specs.Ask.{Ask, interns, pushes, deletes, reads, ends, allows, call_of, Storage, state_of, event_taken, leaves, accepts, after, answered, ask_fits, is_event_of, stopped_in}
 use Rattle.calls.proofs.Lists.{Agrees, agrees_fine, answer_of, agrees_call, call_lines}
-
-either_false : (a : Bool) → a ≡ either a false
-unfolding either
-either_false true = refl
-either_false false = refl
-
-either_true : (a : Bool) → true ≡ either a true
-unfolding either
-either_true true = refl
-either_true false = refl
 
 either_assoc : (a b c : Bool) → either (either a b) c ≡ either a (either b c)
 unfolding either
@@ -46,28 +36,28 @@ unfolding either both
 event_stopped line s e =
     by_answer (event_on line s).answer
     (λ a. rw (a, going_before line s a, (event_counts line s a).1))
-    (λ r m a. by_refused line s r m a (λ u k j w. clash e u) (λ u t w. rw (a, w, t) (either_true (is_stopped s.reader.stop))))
+    (λ r m a. by_refused line s r m a (λ u k j w. clash e u) (λ u t w. rw (a, w, t) (sym (either_right (is_stopped s.reader.stop) refl))))
 
 module _ (n : ℕ) where
   call_stopped : (c : Ask) (l : Storage) → state_sound (state_of n l) ≡ true
       → is_stopped ((leaves c l).readers n).stop ≡ either (is_stopped (l.readers n).stop) (both (is_event_of n (call_of c)) (not (accepts c l)))
   unfolding both
-  call_stopped (interns t) l e = either_false _
-  call_stopped (pushes k h m parts) l e = either_false _
-  call_stopped (deletes k id m) l e = either_false _
+  call_stopped (interns t) l e = sym (either_false _)
+  call_stopped (pushes k h m parts) l e = sym (either_false _)
+  call_stopped (deletes k id m) l e = sym (either_false _)
   call_stopped (reads m line) l e =
       by_eq n m
       (λ q. rw (eq-eqb n m q, q) (event_stopped line (state_of m l) (rw q at e)))
-      (λ q. rw (ne_eqb n m q) (either_false _))
-  call_stopped (ends m) l e = by_eq n m (λ q. rw (eq-eqb n m q, end_keeps (state_of m l), q) (either_false _)) (λ q. rw (ne_eqb n m q) (either_false _))
-  call_stopped (allows setting) l e = either_false _
+      (λ q. rw (ne_eqb n m q) (sym (either_false _)))
+  call_stopped (ends m) l e = by_eq n m (λ q. rw (eq-eqb n m q, end_keeps (state_of m l), q) (sym (either_false _))) (λ q. rw (ne_eqb n m q) (sym (either_false _)))
+  call_stopped (allows setting) l e = sym (either_false _)
 
   -- whatever the settings
   pub stopped_calls : (cs : List Ask) (l : Storage) (w : World) (acts : List (Act Bytes)) → all ask_fits cs ≡ true → Agrees false l w acts
       → (l.readers n).lines + length (lines_read n (answered l cs)) < 18446744073709551615
       → is_stopped ((after l cs).readers n).stop ≡ either (is_stopped (l.readers n).stop) (stopped_in n (answered l cs))
   unfolding after answered stopped_in
-  stopped_calls [] l w acts f g h = either_false _
+  stopped_calls [] l w acts f g h = sym (either_false _)
   stopped_calls (c ∷ cs) l w acts f g h =
       let a = answer_of c l in
       let e = ready_sound (state_of n l) (agrees_fine g) (g.ready n) (omega arith) in

@@ -40,7 +40,7 @@ use Rattle.kind_store.proofs.Claims.{Narrow}
 use Rattle.kind_store.proofs.KindStores.{known_none, push_used, push_raises, push_other, delete_used, delete_raises, delete_other}
 use Rattle.kind_sound.specs.Sound.{SoundKindStore}
 use Rattle.calls.specs.Known.{record_length, pushed_by, pushed_bytes}
-use Rattle.calls.proofs.Rows.{kept_kind}
+use Rattle.listing.proofs.Rows.{kept_kind}
 use Rattle.calls.proofs.Lengths.{record_length_lem, pushed_more}
 use Rattle.calls.proofs.KindStores.{last_of, last_agrees, push_last, push_last_other, delete_last, delete_last_other}
 

@@ -89,7 +89,8 @@ pub struct CompactWay {
     pub tag_count: u32,
 }
 
-// The head of a relation's record.
+// The head of a relation's record. Its fields stand where those of a `CompactWay` stand, but what it counts is another thing and of another size, so the two are two types, each with its
+// `read`, `tags_at` and `from`.
 #[derive(Clone, Copy, PartialEq, Eq, Debug)]
 pub struct CompactRelation {
     pub id: u64,
@@ -141,7 +142,7 @@ pub struct MemberPart {
     pub next: usize,
 }
 
-// A tag that a step yields: its key's handle, and where its value lies. The next tag stands at the value's end.
+// A tag that a step yields: its key's handle, and where its value lies. The next tag stands at the value's end, so that is told by numbers.
 #[derive(Clone, Copy, PartialEq, Eq, Debug)]
 pub struct TagPart {
     pub key: u32,
@@ -149,7 +150,7 @@ pub struct TagPart {
     pub len: usize,
 }
 
-// Where a record's tags begin or go on, and how many remain there.
+// Where a record's tags begin or go on, and how many remain there: of a caller that holds the record's bytes apart. `CompactTagIter` holds them too.
 #[derive(Clone, Copy, PartialEq, Eq, Debug)]
 pub struct TagPlace {
     pub offset: usize,
@@ -162,13 +163,6 @@ pub struct CompactTagIter<'a> {
     pub bytes: &'a [u8],
     pub offset: usize,
     pub remaining: u32,
-}
-
-// The version that metadata claims, or none.
-pub fn claim(meta: ArenaMeta) -> Option<i32>
-    ensures { result ≡ claim_of (meta_of meta) }
-{
-    meta.claim()
 }
 
 // ---- a record's fields at their places, and a user's readers of heads
@@ -394,7 +388,7 @@ impl From<PushHead> for CompactRelation {
     }
 }
 
-// The metadata from a place on.
+// The metadata from a place on. A place goes along: metadata stand a constant behind where the record starts.
 pub fn read_meta(bytes: &[u8], at: usize) -> ArenaMeta
     ensures { result ≡ meta_at bytes.now at }
 {

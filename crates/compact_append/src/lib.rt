@@ -74,8 +74,8 @@ fn put_record<H: WrittenHead>(out: &mut [u8], head: H, meta: ArenaMeta, parts: &
 
 // ---- appends: the parts are refs or members and then tags, laid out as in a record
 
-// Where the record ends that was appended, or none where it has no room. The arena and its used count come apart: kind_store's struct
-// holds them with its table, and a struct of `&mut`s inside a struct of `&mut`s is not proved where it is made.
+// Where the record ends that was appended, or none where it has no room. The arena and its used count come apart: the one caller would
+// make a struct of both for this call, and take the count back.
 pub fn append<H: WrittenHead>(
     arena: &mut [u8],
     used: usize,

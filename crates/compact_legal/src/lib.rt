@@ -5,14 +5,12 @@ ghost use Rattle.std.specs.Prelude.{◌≡◌, ◌≤◌, ◌+◌, IfSome, leb, 
 ghost use Rattle.std.specs.Int.{w32};
 ghost use Rattle.std.proofs.Common.{to_z};
 ghost use Rattle.compact.specs.Cut.{pushed_record};
-ghost use Rattle.compact.specs.Held.{meta_of, head_in};
+ghost use Rattle.compact.specs.Held.{meta_of};
 ghost use Rattle.compact.specs.Push.{record_given};
 ghost use Rattle.compact.specs.Legal.{limits, legal_meta};
 ghost use Rattle.compact_legal.specs.Judge.{fault_for, record_end, member_end, members_end, tag_end, tags_end, body_end, place_in_range, count_within, few, chosen, walk_of};
 
-use compact::{
-    ArenaMeta, CompactNode, CompactRelation, CompactWay, PushHead, PushRecord, RecordHead,
-};
+use compact::{ArenaMeta, CompactNode, CompactRelation, CompactWay, PushRecord, RecordHead};
 use kind::Kind;
 use refusal::Refusal;
 
@@ -62,7 +60,8 @@ pub fn legal_meta(m: ArenaMeta, strings: u64) -> bool
 }
 
 // ---- parts from a place on
-// A place goes along and not the rest of the bytes: each function answers where something ends, and a rest would tell that by its length alone.
+// A place goes along and not the rest of the bytes: each function answers where something ends, and a rest would tell that by its length alone. That it lies within the bytes
+// is a premise of each: a type of such places would hold the bytes too, which are in `self`.
 
 impl PartBytes<'_> {
     // A member of 13 bytes with a type of at most 2 and a role that is held.
@@ -267,25 +266,6 @@ pub fn record_fault(push: &PushRecord, strings: u64) -> Result<(), Refusal>
         Kind::Way => parts_fault(CompactWay::from(push.head), push.meta, &parts),
         Kind::Relation => parts_fault(CompactRelation::from(push.head), push.meta, &parts),
     }
-}
-
-// The same of a push's parts one by one.
-pub fn push_fault(
-    kind: Kind,
-    head: PushHead,
-    meta: ArenaMeta,
-    parts: &[u8],
-    strings: u64,
-) -> Result<(), Refusal>
-    ensures { result ≡ fault_for strings (pushed_record kind (head_in kind head) (meta_of meta) parts.now) }
-{
-    let push = PushRecord {
-        kind,
-        head,
-        meta,
-        parts,
-    };
-    record_fault(&push, strings)
 }
 
 // ---- records of an arena

@@ -3,12 +3,14 @@ use Rattle.std.specs.Prelude.{None, Some}
 use Prim.Native.Nat.{ℕ, zero, suc, ◌+◌, ◌-◌, ◌/◌, ◌%◌, ◌^◌, ◌<◌, ◌≤◌}
 use mathlib.Core.Path.{◌≡◌, refl, sym, ◌∙◌, ap}
 use mathlib.Core.Bool.{Bool, true, false}
-use mathlib.Core.List.{[], ◌∷◌, ◌++◌}
+use mathlib.Core.List.{[], ◌∷◌, ◌++◌, append-nil}
 use native.Mathlib.Nat.{suc-add, zero-add}
 use native.Mathlib.Omega.{arith}
 use lib.IntN.{ℤ, pos, negsuc, nat_abs}
 use lib.Signed.{lt_z}
-use lib.ListN.{length, set, length-set}
+use lib.ListN.{length, set, length-set, drop_of_length-le}
+use lib.Seq.{drop-drop}
+use borrow.Rule.Slice.PartMut.{put_mid}
 use mir.Syntax.{Width}
 use mir.Val.{to_z, bits, hbits, bool_byte}
 use mir.Facts.{to_z_pos}
@@ -16,9 +18,9 @@ use borrow.Author.Tests.{le-leb, lt-leb, le-ltb}
 use Rattle.base.specs.Bytes.{Bytes}
 use Rattle.line.specs.Decimal.{number_text, integer_text}
 use Rattle.little.specs.Little.{over}
-use Rattle.little.proofs.Overs.{over_here, over_later, over_nothing, over_step}
+use Rattle.little.proofs.Overs.{over_here, over_later, over_nothing, over_step, over_start, over_fits}
 use Rattle.decimal.specs.Put.{Wrote, put_text, signed_text}
-use Rattle.decimal.proofs.Numbers.{low_digits, low_none, low_more, length_low}
+use Rattle.decimal.proofs.Numbers.{low_digits, low_none, low_more, low_all, length_low}
 
 -- ---- digits from the last to the first
 
@@ -49,6 +51,17 @@ two_stored s at k n d p q h e i j =
     let b : d % 10 ≡ n % 10 = omega arith in
     rw (c, a, b, i, j)
     (digit_stored (set s (at + suc k) (48 + n % 10)) at k (n / 10) (simp length-set (omega arith)) ∙ digit_stored s at (suc k) n (omega arith))
+
+-- over all of the bytes
+pub over_all : (s t : Bytes) → length s ≡ length t → over s 0 t ≡ t
+over_all s t e = over_start s t (omega arith) ∙ (ap (t ++◌) (drop_of_length-le s (omega arith)) ∙ append-nil t)
+
+pub all_digits : (s : Bytes) (n : ℕ) → length s ≡ length (number_text n) → over s 0 (low_digits (length s) n) ≡ number_text n
+all_digits s n e = ap (over s 0) (rw e (low_all n)) ∙ over_all s (number_text n) e
+
+-- digits written over a part that is lent, as the borrow checker says it: `last` is what is left of the part
+pub lent_part : (s last t : Bytes) (at k : ℕ) → at + k ≤ length s → k ≡ length t → last ≡ t → put_mid at k s last ≡ over s at t
+lent_part s last t at k h e f = rw (f, drop-drop k at s, e) (sym (over_fits s at t (omega arith)))
 
 -- ---- what is written, whole or not at all
 

@@ -18,23 +18,24 @@ pub fn number_length(v: u64) -> usize
     }
 }
 
-// The last n digits of a number from a place on, two at a time, the last ones first. It is no `for` over chunks from the end: that they begin at a place, and
-// that one digit may be left over, would be told of each chunk apart.
-fn put_digits(out: &mut [u8], at: usize, n: usize, v: u64)
-    requires { at + n ≤ length out.old }
-    ensures { n ≡ length (number_text v) → out.new ≡ over out.old at (number_text v) }
+// The functions below write digits into a slice, and no type has a Display: the printer takes the room of a number, whose length it knows, before it is written.
+
+// The last digits of a number over all of what is lent, two at a time, the last ones first. It is no `for` over
+// `rchunks_mut`: the library says nothing of what the slice ends as.
+fn put_digits(out: &mut [u8], v: u64)
+    ensures { length out.old ≡ length (number_text v) → out.new ≡ number_text v }
 {
     let mut x = v;
-    let mut i = n;
+    let mut i = out.len();
     while 1 < i {
         let d = x % 100;
-        out[at + (i - 1)] = b'0' + (d % 10) as u8;
-        out[at + (i - 2)] = b'0' + (d / 10) as u8;
+        out[i - 1] = b'0' + (d % 10) as u8;
+        out[i - 2] = b'0' + (d / 10) as u8;
         x /= 100;
         i -= 2;
     }
     if i == 1 {
-        out[at] = b'0' + (x % 10) as u8;
+        out[0] = b'0' + (x % 10) as u8;
     }
 }
 
@@ -43,7 +44,7 @@ pub fn put_measured(out: &mut [u8], n: usize, v: u64)
     ensures { n ≡ length (number_text v) → out.new ≡ (put_text out.old (number_text v)).bytes }
 {
     if n <= out.len() {
-        put_digits(out, 0, n, v);
+        put_digits(&mut out[..n], v);
     }
 }
 
@@ -59,15 +60,8 @@ fn put_signed(out: &mut [u8], minus: bool, v: u64) -> Option<usize>
     if minus {
         out[0] = b'-';
     }
-    put_digits(out, sign, n, v);
+    put_digits(&mut out[sign..sign + n], v);
     Some(sign + n)
-}
-
-// A number at the start of what is lent, where it fits.
-pub fn put_number(out: &mut [u8], v: u64) -> Option<usize>
-    ensures { record { bytes = out.new; answer = result } ≡ put_text out.old (number_text v) }
-{
-    put_signed(out, false, v)
 }
 
 // An integer of 64 bits, given by its bits.
@@ -83,11 +77,4 @@ pub fn widened(bits: u32) -> u64
     ensures { to_z w64 result ≡ to_z w32 bits }
 {
     i64::from(bits.cast_signed()).cast_unsigned()
-}
-
-// An integer of 32 bits, given by its bits.
-pub fn put_integer32(out: &mut [u8], bits: u32) -> Option<usize>
-    ensures { record { bytes = out.new; answer = result } ≡ put_text out.old (integer_text (to_z w32 bits)) }
-{
-    put_integer(out, widened(bits))
 }

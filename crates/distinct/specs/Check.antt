@@ -1,8 +1,5 @@
 -- What the check of sorted runs goes by.
 use Rattle.std.specs.Prelude.{ℕ, ◌+◌, ◌<◌, ◌≤◌, ◌≡◌, Bool, false, List, length, get_or, take, Option, Some, None}
-use Rattle.std.specs.Fn.{FnOnceReturnsAtMut}
-use denote.Param.Members.{Once}
-use denote.MutBor.{MutBor}
 use Rattle.std.specs.Ordering.{nat_cmp, ordering_then}
 use Rattle.std.specs.Cmp.Lexicographic.{slice_cmp}
 use Rattle.std.specs.declared.cmp.Ordering.{Ordering}
@@ -26,7 +23,3 @@ Rises bytes words n = (i : ℕ) → i + 1 < n → run_cmp (run_at bytes words i)
 abbrev pub NotedAs : Bytes → List ℕ → Option ℕ → Bool → Type 0
 NotedAs bytes words (Some n) told = n ≤ length words → told ≡ distinct (runs_in bytes (take n words))
 NotedAs bytes words None told = told ≡ false
-
--- a closure that notes runs is right of a test, whatever words it is given
-abbrev pub NotesAs : {F : Type 0} → Once F (MutBor (List ℕ) × Unit {0}) (Option ℕ × (MutBor (List ℕ) × Unit {0})) → F → Bytes → Bool → Type 0
-NotesAs g f bytes told = (words noted : List ℕ) (r : Option ℕ) → FnOnceReturnsAtMut g f words r noted → NotedAs bytes noted r told

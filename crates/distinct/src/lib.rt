@@ -3,9 +3,9 @@
 #![tactic(auto)]
 
 ghost use Rattle.std.specs.Prelude.{◌≡◌, Bool, ◌+◌, ◌<◌, ◌≤◌, length, take, drop, set, IsPermutation};
-ghost use Rattle.base.specs.Bytes.{same};
+ghost use Rattle.base.specs.Bytes.{Bytes, same};
 ghost use Rattle.distinct.specs.Distinct.{distinct, run_start, run_length, run_in, runs_in, RightOf};
-ghost use Rattle.distinct.specs.Check.{run_cmp, NotesAs};
+ghost use Rattle.distinct.specs.Check.{run_cmp, NotedAs};
 
 use std::cmp::Ordering;
 
@@ -18,7 +18,7 @@ pub fn equal(a: &[u8], b: &[u8]) -> bool
 
 // ---- a run as one word: its start and its length, and above them a number by which most runs are sorted
 
-// A byte of a run. Behind a run stand zeros.
+// A byte of a run. Behind a run stand zeros: they fill its sort key, and mean no missing byte.
 fn byte_at(run: &[u8], i: usize) -> u8 {
     run.get(i).copied().unwrap_or(0)
 }
@@ -43,22 +43,15 @@ fn pack(key: u64, start: usize, len: usize) -> u64
     key * 17179869184 + start as u64 * 131072 + len as u64
 }
 
-// The word of a run that lies among fewer than 131,072 bytes.
+// The word of a run that lies among fewer than 131,072 bytes. It is made of the place and not of the run alone, since the word holds where the run starts. For any other run it is 0: each
+// caller has found its run among the bytes, and has no arm for none.
 pub fn run_word(bytes: &[u8], start: usize, len: usize) -> u64
     ensures { start + len ≤ length bytes.now → length bytes.now < 131072 → run_in bytes.now result ≡ take len (drop start bytes.now) }
 {
-    if 131072 <= bytes.len() {
-        return 0;
+    match bytes.get(start..start.saturating_add(len)) {
+        Some(run) if bytes.len() < 131072 => pack(sort_key(run), start, len),
+        _ => 0,
     }
-    if bytes.len() < start {
-        return 0;
-    }
-    if bytes.len() - start < len {
-        return 0;
-    }
-    let end = start + len;
-    let key = sort_key(&bytes[start..end]);
-    pack(key, start, len)
 }
 
 // A word at a place, where there is room.
@@ -117,7 +110,7 @@ fn sort_part(bytes: &[u8], words: &mut [u64])
     words.sort_unstable_by(|v, w| compare(run_of(bytes, *v), run_of(bytes, *w)));
 }
 
-// Words that stand by their keys, sorted by their runs where their keys are the same.
+// Words that stand by their keys, sorted by their runs where their keys are the same. Neighbours are compared by their places: the second one's is where a part begins.
 fn sort_parts(bytes: &[u8], words: &mut [u64])
     ensures { IsPermutation words.old words.new }
 {
@@ -163,32 +156,42 @@ fn runs_differ(bytes: &[u8], words: &mut [u64]) -> Option<bool>
 // How many words there is room for, where many runs are told apart. The library has no heap.
 const ROOM: usize = 5460;
 
+// Runs of some bytes that can note their words: the bytes, and what is asked of the runs, which is whether all are noted and no two are equal.
+pub trait NotedRuns {
+    ghost within: { Self → Bytes };
+
+    ghost asked: { Self → Bool };
+
+    fn bytes(&self) -> &[u8]
+        ensures { result.now ≡ within self.now };
+
+    // Notes the words of all runs, as far as there is room. The answer is how many there are, or none where what is asked is no already. A word has 17 bits for a place, so the bytes are below 131,072: a
+    // premise, since it is asked when the words are noted and not when the runs are made.
+    fn note(&self, words: &mut [u64]) -> Option<usize>
+        ensures { length (within self.now) < 131072 → NotedAs (within self.now) words.new result (asked self.now) };
+}
+
 // What `noted_differ` tells, with the words in what is lent.
-fn noted_differ_in<F: FnOnce(&mut [u64]) -> Option<usize>>(
-    bytes: &[u8],
-    words: &mut [u64],
-    note: F,
-) -> Option<bool>
-    requires { F.IsAlwaysCallable note }
-    ensures { (told : Bool) → (length bytes.now < 131072 → NotesAs F.FnOnce note bytes.now told) → RightOf result told }
+fn noted_differ_in<R: NotedRuns>(runs: &R, words: &mut [u64]) -> Option<bool>
+    ensures { RightOf result (R.asked runs.now) }
 {
+    let bytes = runs.bytes();
     if 131072 <= bytes.len() {
         return None;
     }
-    match note(words) {
+    match runs.note(words) {
         Some(n) if n <= words.len() => runs_differ(bytes, &mut words[..n]),
         Some(_) => None,
         None => Some(false),
     }
 }
 
-// Whether no two of the runs are equal whose words a closure notes, as far as there is room, where it is told. The closure answers how many runs there are, or none where the answer is no
-// already. It is not inlined: where its array lay in a caller's frame, clang's stack probe stood behind the caller's first tests.
+// What is asked of runs, as far as there is room for their words, where it is told. It is not inlined: where its array lay in a caller's frame, clang's stack probe stood behind the caller's
+// first tests.
 #[inline(never)]
-pub fn noted_differ<F: FnOnce(&mut [u64]) -> Option<usize>>(bytes: &[u8], note: F) -> Option<bool>
-    requires { F.IsAlwaysCallable note }
-    ensures { (told : Bool) → (length bytes.now < 131072 → NotesAs F.FnOnce note bytes.now told) → RightOf result told }
+pub fn noted_differ<R: NotedRuns>(runs: &R) -> Option<bool>
+    ensures { RightOf result (R.asked runs.now) }
 {
     let mut words = [0u64; ROOM];
-    noted_differ_in(bytes, &mut words, note)
+    noted_differ_in(runs, &mut words)
 }

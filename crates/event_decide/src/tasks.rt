@@ -10,12 +10,12 @@ ghost use Rattle.event_decision.specs.Decision.{unless_delete, element_begins, c
 ghost use Rattle.event_decide.specs.Tasks.{work_means, work_answer, task_means, task_answer};
 
 use event_metadata::values::MetadataValues;
-use event_scan::event_line;
 use event_scan::event_line::EventLine;
 use event_scan::fields::Attributes;
+use event_scan::{MAX_LINE, event_line};
 use event_values::{Coordinates, MemberValues, TagValues};
 use kind::Kind;
-use nesting::{Action, Child, Level, Opening, Place};
+use nesting::{Action, Child, Level, Name, Opening, Place};
 use refusal::Refusal;
 
 // An element that is to be pushed, and ends too where it is empty; a node's place in bits, 0 for another kind.
@@ -26,7 +26,7 @@ pub struct NewElement<'a> {
     pub id: u64,
     pub lat: u32,
     pub lon: u32,
-    pub metadata: MetadataValues<'a>,
+    pub metadata: MetadataValues<'a, MAX_LINE>,
 }
 
 // An id of a kind that is to be deleted.
@@ -34,7 +34,7 @@ pub struct NewElement<'a> {
 pub struct OldElement<'a> {
     pub kind: Kind,
     pub id: u64,
-    pub metadata: MetadataValues<'a>,
+    pub metadata: MetadataValues<'a, MAX_LINE>,
 }
 
 // What an event is to do.
@@ -45,9 +45,9 @@ pub enum Work<'a> {
     Begins(NewElement<'a>),
     Deletes(OldElement<'a>),
     // a tag, a ref, a member of the element that stands open
-    Tags(TagValues<'a>),
+    Tags(TagValues<'a, MAX_LINE>),
     Refers(u64),
-    Joins(MemberValues<'a>),
+    Joins(MemberValues<'a, MAX_LINE>),
     // the element that stands open ends, and is to be pushed
     Ends,
 }
@@ -66,7 +66,7 @@ fn begins<'a>(
     action: Action,
     empty: bool,
     kind: Kind,
-    attributes: &Attributes<'a>,
+    attributes: &Attributes<'a, MAX_LINE>,
 ) -> Result<Work<'a>, Refusal>
     ensures { (p : ReaderPlace) → work_answer p result ≡ element_begins action empty kind p (attributes_left attributes.now) }
 {
@@ -100,7 +100,11 @@ fn unless_deleted<'a>(action: Action, work: &Work<'a>) -> Work<'a>
     }
 }
 
-fn child<'a>(action: Action, child: Child, attributes: &Attributes<'a>) -> Result<Work<'a>, Refusal>
+fn child<'a>(
+    action: Action,
+    child: Child,
+    attributes: &Attributes<'a, MAX_LINE>,
+) -> Result<Work<'a>, Refusal>
     ensures { (p : ReaderPlace) → work_answer p result ≡ child_of child action p (attributes_left attributes.now) }
 {
     let work = match child {
@@ -118,11 +122,11 @@ fn opens<'a>(
     before: Place,
     empty: bool,
     name: &[u8],
-    attributes: &Attributes<'a>,
+    attributes: &Attributes<'a, MAX_LINE>,
 ) -> Result<Task<'a>, Refusal>
     ensures { task_answer result ≡ decide_opened (opened empty (name_of name.now) before) empty before.section (attributes_left attributes.now) }
 {
-    match before.open(empty, nesting::name_of(name))? {
+    match before.open(empty, Name::from(name))? {
         Opening::Goes(place) => Ok(Task {
             place,
             work: Work::Nothing,

@@ -15,8 +15,8 @@ use mir.Val.{SFits}
 use borrow.Author.Tests.{leb-true}
 use Rattle.base.specs.Ascii.{ascii}
 use Rattle.base.specs.Bytes.{Bytes, both, either, all, same}
-use Rattle.base.proofs.Split.{by_bool, clash, no, both_left, both_right, either_right, same_test}
-use Rattle.base.proofs.Lists.{same_yes, same_refl, all_head, all_tail}
+use Rattle.base.proofs.Split.{by_bool, clash, no, both_left, both_right, either_right, either_false}
+use Rattle.base.proofs.Lists.{same_yes, same_swap, all_head, all_tail}
 use Rattle.base.proofs.Table.{rule}
 use Rattle.refusal.specs.declared.Refusal.{Refusal}
 use Rattle.refusal.specs.declared.Refusal.TheVariants.{NotInteger, NotTimestamp}
@@ -373,11 +373,6 @@ either_swap true false z = refl
 either_swap false true z = refl
 either_swap false false z = refl
 
-either_none : (x : Bool) → either x false ≡ x
-unfolding either
-either_none true = refl
-either_none false = refl
-
 from_flags : (m : Meta Bytes) (attrs : List Attr) {n : Meta Bytes} → m.flags ≤ 15 → meta_from m attrs ≡ got n
     → (b : Flag) → flagged (bit_of b) n.flags ≡ either (any (sets b) attrs) (flagged (bit_of b) m.flags)
 unfolding meta_from any either
@@ -390,16 +385,13 @@ from_flags m (a ∷ attrs) h e b =
 -- a flag is set exactly when an attribute sets it
 pub meta_flags : (attrs : List Attr) {m : Meta Bytes} → metadata_of attrs ≡ got m → (b : Flag) → flagged (bit_of b) m.flags ≡ any (sets b) attrs
 unfolding metadata_of flagged
-meta_flags attrs e b = from_flags no_meta attrs (omega arith) e b ∙ ap (either (any (sets b) attrs)) (none_set b) ∙ either_none (any (sets b) attrs)
+meta_flags attrs e b = from_flags no_meta attrs (omega arith) e b ∙ ap (either (any (sets b) attrs)) (none_set b) ∙ either_false (any (sets b) attrs)
   where
     none_set : (b : Flag) → flagged (bit_of b) 0 ≡ false
     none_set present = refl
     none_set hidden = refl
     none_set has_user = refl
     none_set has_version = refl
-
-same_swap : (xs ys : Bytes) → same xs ys ≡ same ys xs
-same_swap xs ys = same_test _ _ (λ e. rw (same_yes xs ys e) (same_refl ys)) (λ e. rw (same_yes ys xs e) (same_refl xs))
 
 pub any_named : (n : Bytes) (attrs : List Attr) → any (λ a. same a.name n) attrs ≡ named n attrs
 unfolding any named either

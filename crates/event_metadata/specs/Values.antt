@@ -20,7 +20,7 @@ use Rattle.event_metadata.specs.declared.values.MetadataName.TheVariants as M
 unfoldable pub flags_of : Bool → Bool → Bool → Bool → ℕ
 flags_of given hidden user version = cond given 1 0 + cond hidden 2 0 + cond user 4 0 + cond version 8 0
 
-abbrev pub metadata_means : MetadataValues → Meta Bytes
+abbrev pub metadata_means : {N : ℕ} → MetadataValues N → Meta Bytes
 metadata_means m =
     record {
       flags = flags_of m.given m.hidden (is_some m.user) (is_some m.version);
@@ -31,7 +31,7 @@ metadata_means m =
       user = or_empty (option_map text_written m.user);
     }
 
-abbrev pub metadata_answered : Result MetadataValues Refusal → Field (Meta Bytes)
+abbrev pub metadata_answered : {N : ℕ} → Result (MetadataValues N) Refusal → Field (Meta Bytes)
 metadata_answered r = field_in metadata_means r
 
 -- ---- one attribute, by its name

@@ -10,14 +10,14 @@ use refusal::Refusal;
 
 // Metadata as it is written: whether there is any, whether it hides, and its values. A number that is not given is 0.
 #[derive(Clone, Copy, Debug)]
-pub struct MetadataValues<'a> {
+pub struct MetadataValues<'a, const N: usize> {
     pub given: bool,
     pub hidden: bool,
     pub version: Option<u32>,
     pub timestamp: u64,
     pub changeset: u64,
     pub uid: u32,
-    pub user: Option<Value<'a>>,
+    pub user: Option<Value<'a, N>>,
 }
 
 #[derive(Clone, Copy, PartialEq, Eq, Debug)]
@@ -55,9 +55,13 @@ fn metadata_name(s: &[u8]) -> Option<MetadataName>
     None
 }
 
-impl<'a> MetadataValues<'a> {
+impl<'a, const N: usize> MetadataValues<'a, N> {
     // With one value more. Only `false` exactly hides.
-    fn with(&self, name: MetadataName, value: &Value<'a>) -> Result<MetadataValues<'a>, Refusal>
+    fn with(
+        &self,
+        name: MetadataName,
+        value: &Value<'a, N>,
+    ) -> Result<MetadataValues<'a, N>, Refusal>
         ensures { metadata_answered result ≡ metadata_as name (metadata_means self.now) (text_written value.now) }
     {
         let with = MetadataValues {
@@ -77,7 +81,7 @@ impl<'a> MetadataValues<'a> {
                 Ok(MetadataValues { timestamp, ..with })
             }
             MetadataName::Changeset => {
-                let changeset = integer::read_i64(value.bytes).ok_or(Refusal::NotInteger)?;
+                let changeset = integer::read::<i64>(value.bytes).ok_or(Refusal::NotInteger)?;
                 Ok(MetadataValues { changeset, ..with })
             }
             MetadataName::Uid => {
@@ -98,7 +102,9 @@ impl<'a> MetadataValues<'a> {
 }
 
 // The metadata of attributes, in their order; other names are passed over.
-pub fn metadata_of<'a>(attributes: &Attributes<'a>) -> Result<MetadataValues<'a>, Refusal>
+pub fn metadata_of<'a, const N: usize>(
+    attributes: &Attributes<'a, N>,
+) -> Result<MetadataValues<'a, N>, Refusal>
     ensures { metadata_answered result ≡ metadata_of (attributes_left attributes.now) }
 {
     let mut metadata = MetadataValues {

@@ -4,19 +4,27 @@ use Rattle.std.specs.Borrow.{Bor}
 use Prim.Native.Nat.{ℕ, zero, suc, ◌+◌, ◌<◌, ◌≤◌}
 use mathlib.Core.Path.{◌≡◌, refl, sym, ◌∙◌, ap}
 use mathlib.Core.Bool.{true, false, cond}
-use mathlib.Core.List.{List, [], ◌∷◌}
+use mathlib.Core.List.{List, [], ◌∷◌, map, append-nil}
+use mathlib.Core.Logic.{◌⊎◌, inl, inr}
 use native.Mathlib.Omega.{arith}
 use lib.Dec.{eqb}
 use lib.ListN.{length, get_or, take, drop}
+use lib.Seq.{take-length, length-take-le, drop-length}
 use borrow.Author.Tests.{eq-eqb, ne_eqb}
+use Rattle.std.specs.List.{slice_range}
+use Rattle.std.specs.Option.{MatchOption}
+use Rattle.std.proofs.lemmas.List.{drop_all}
+use Rattle.std.proofs.lemmas.List.Folds.{drop_split}
 use Rattle.base.specs.Bytes.{Bytes, both, same}
 use Rattle.base.proofs.Split.{by_bool, by_eq, no, clash}
 use Rattle.line.specs.Line.{onto, fields}
 use Rattle.text.specs.Escape.{unescape}
 use Rattle.event.specs.Event.{Attr, Parted, onto_left, parted, is_empty, attr_with, attr_from, attr_of, or_empty, named, none_twice, value_of}
 use Rattle.event_scan.specs.Piece.{there, value_text}
-use Rattle.event_scan.specs.Parts.{parted_by, size_left, attribute_onto, attributes_in}
+use Rattle.event_scan.specs.Parts.{parted_by, size_left, with_text, written_as, written_in}
+use Rattle.event_scan.specs.Scan.{UpTo, fields_at}
 use Rattle.event_scan.specs.Fields.{fields_in}
+use Rattle.event_scan.proofs.Places.{up_nil, up_cons_here, up_cons, up_within, fields_past, fields_within}
 
 module _ (c : ℕ) where
   pub parted_here : (s : Bytes) (i : ℕ) → i < length s → get_or s i 0 ≡ c → ((k : ℕ) → k < i → get_or s k 0 ≡ c → ⊥)
@@ -91,23 +99,62 @@ module _ (f : Bytes) {n v : Bytes} (e : Some (record { left = n; right = v }) �
       by_text None w = clash w refl
       by_text (Some x) w = refl
 
--- ---- the attributes among fields
+-- ---- fields as attributes
 
-pub attributes_none : (fs : List Bytes) → fs ≡ [] → attributes_in fs ≡ []
-unfolding attributes_in
-attributes_none fs e = rw e
+-- how far the byte is tells what stands before it and behind it
+record Cut (c : ℕ) (s : Bytes) (p : Parted) : Type 0 where
+  pub before : p.left ≡ take (UpTo c s) s
+  pub behind : p.right ≡ drop (suc (UpTo c s)) s
+
+cut_onto : (c b : ℕ) (s : Bytes) (o : Option Parted) (p : Parted) → (b ≡ c → ⊥) → ((q : Parted) → o ≡ Some q → Cut c s q) → onto_left b o ≡ Some p → Cut c (b ∷ s) p
+cut_onto c b s None p n ih e = no (cc)
+cut_onto c b s (Some q) p n ih e =
+    let w = ih q refl in
+    let l : p.left ≡ b ∷ q.left = cc in
+    let r : p.right ≡ q.right = cc in
+    record { before = rw (up_cons c b s n) (l ∙ ap (b ∷◌) w.before); behind = rw (up_cons c b s n) (r ∙ w.behind) }
+
+cut : (c : ℕ) (s : Bytes) (p : Parted) → parted_by c s ≡ Some p → Cut c s p
+unfolding parted_by
+cut c [] p e = no (cc)
+cut c (b ∷ s) p e =
+    by_eq b c
+    (λ q. let z : Some (record { left = []; right = s }) ≡ Some p = rw (eq-eqb b c q) at e in
+    let l : p.left ≡ [] = cc in
+    let r : p.right ≡ s = cc in
+    record { before = rw (up_cons_here c b s q) l; behind = rw (up_cons_here c b s q) r })
+    (λ n. cut_onto c b s (parted_by c s) p n (cut c s) (rw (ne_eqb b c n) at e))
+
+onto_none : (b : ℕ) (o : Option Parted) → onto_left b o ≡ None → o ≡ None
+onto_none b None e = refl
+onto_none b (Some p) e = no (cc)
+
+uncut : (c : ℕ) (s : Bytes) → parted_by c s ≡ None → UpTo c s ≡ length s
+unfolding parted_by
+uncut c [] e = up_nil c
+uncut c (b ∷ s) e =
+    by_eq b c
+    (λ q. let z : Some (record { left = []; right = s }) ≡ None = rw (eq-eqb b c q) at e in no (cc))
+    (λ n. rw (up_cons c b s n) (ap suc (uncut c s (onto_none b (parted_by c s) (rw (ne_eqb b c n) at e)))))
+
+pub written_by : (f : Bytes) (p : Parted) → parted f ≡ Some p → written_as f ≡ record { name = p.left; value = p.right }
+written_by f p e = let w = cut 61 f p (parted_is f ∙ e) in rw (← w.before, ← w.behind) refl
+
+pub name_found : (f : Bytes) {n v : Bytes} → Some (record { left = n; right = v }) ≡ parted_by 61 f → length n ≡ UpTo 61 f
+name_found f h = let w = cut 61 f _ (sym h) in ap length w.before ∙ length-take-le (UpTo 61 f) f (up_within 61 f)
+
+pub name_whole : (f : Bytes) → None ≡ parted_by 61 f → length f ≡ UpTo 61 f
+name_whole f h = sym (uncut 61 f (sym h))
 
 module _ (fs : List Bytes) (f : Bytes) (gs : List Bytes) (e : fs ≡ f ∷ gs) where
-  attributes_first : attributes_in fs ≡ attribute_onto (parted_by 61 f) (attributes_in gs)
-  unfolding attributes_in
-  attributes_first = ap attributes_in e ∙ ap (λ o. attribute_onto o (attributes_in gs)) (sym (parted_is f))
+  pub written_found : {n v : Bytes} → Some (record { left = n; right = v }) ≡ parted_by 61 f → written_in fs ≡ record { name = n; value = v } ∷ written_in gs
+  written_found h = rw (e, written_by f _ (sym (parted_is f) ∙ sym h)) refl
 
-  pub attributes_passed : None ≡ parted_by 61 f → attributes_in fs ≡ attributes_in gs
-  attributes_passed p = attributes_first ∙ ap (λ o. attribute_onto o (attributes_in gs)) (sym p)
-
-  pub attributes_more : {n v : Bytes} → Some (record { left = n; right = v }) ≡ parted_by 61 f
-      → attributes_in fs ≡ record { name = n; value = value_text v } ∷ attributes_in gs
-  attributes_more p = attributes_first ∙ ap (λ o. attribute_onto o (attributes_in gs)) (sym p)
+  pub written_whole : (v : Bytes) → v ≡ [] → None ≡ parted_by 61 f → written_in fs ≡ record { name = f; value = v } ∷ written_in gs
+  written_whole v q h =
+      let u = uncut 61 f (sym h) in
+      let d : drop (suc (length f)) f ≡ [] = drop_all (suc (length f)) f (omega arith) in
+      rw (e, q, u, take-length f, d) refl
 
 -- ---- how long the parts are
 
@@ -144,7 +191,23 @@ pub field_short : (o : Option (Bor Bytes)) (f : Bytes) (fs : List Bytes) → fie
 field_short None f fs e = no (cc)
 field_short (Some s) f fs e = field_in_text s.now f fs (parted_by 9 s.now) refl (sym (fields_are s.now) ∙ e)
 
+-- the fields behind a place, if it lies in the text
+pub left_behind : (t : Bytes) (at : ℕ) (o : Option (Bor Bytes))
+    → MatchOption o ((length t < at) ⊎ (length t < length t)) (λ x. (at ≤ length t) × (length t ≤ length t) × (x.now ≡ slice_range t at (length t)) × (length x.now + at ≡ length t))
+    → fields_in o ≡ fields_at t at
+left_behind t at None (inl h) = sym (fields_past t at h)
+left_behind t at None (inr h) = no (omega arith)
+left_behind t at (Some x) (h, _, e, _) =
+    let d : drop at t ≡ slice_range t at (length t) = drop_split t at (length t) h ∙ rw (drop-length t) (append-nil (slice_range t at (length t))) in
+    ap fields (e ∙ sym d) ∙ sym (fields_within t at h)
+
 -- ---- the value of a name, and no name twice
+
+-- by the attributes as they are written
+pub value_text_of : (n : Bytes) (attrs : List Attr) → value_of n (map with_text attrs) ≡ option_map value_text (value_of n attrs)
+unfolding value_of
+value_text_of n [] = refl
+value_text_of n (a ∷ attrs) = by_bool (same n a.name) (λ e. rw e) (λ e. rw e (value_text_of n attrs))
 
 pub value_nowhere : (n : Bytes) (attrs : List Attr) → attrs ≡ [] → value_of n attrs ≡ None
 unfolding value_of

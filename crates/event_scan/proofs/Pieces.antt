@@ -1,7 +1,7 @@
 -- Laws of the pieces of a value: a text is read piece by piece.
 use Rattle.std.specs.Prelude.{None, Option, Some}
 use Prim.Native.Nat.{ℕ, ◌+◌, ◌-◌, ◌<◌, ◌≤◌}
-use mathlib.Core.Path.{◌≡◌, refl, sym, ◌∙◌}
+use mathlib.Core.Path.{◌≡◌, refl, sym, ◌∙◌, ap}
 use mathlib.Core.Bool.{Bool, true, false, not}
 use mathlib.Core.List.{[], ◌∷◌}
 use native.Mathlib.Omega.{arith}
@@ -136,13 +136,17 @@ unfolding value_text unescape_from
 text_ends [] e = refl
 text_ends (b ∷ s) e = rw (piece_not (b ∷ s) (omega arith) e)
 
-pub text_none : (v : Bytes) → there (unescape v) ≡ false → value_text v ≡ []
-unfolding value_text there
-text_none v h = go (unescape v) h
+pub no_text : (v : Bytes) → there (unescape v) ≡ false → unescape v ≡ None
+unfolding there
+no_text v h = go (unescape v) h
   where
-    go : (o : Option Bytes) → there o ≡ false → or_empty o ≡ []
+    go : (o : Option Bytes) → there o ≡ false → o ≡ None
     go None q = refl
     go (Some t) q = clash refl q
+
+pub text_none : (v : Bytes) → there (unescape v) ≡ false → value_text v ≡ []
+unfolding value_text
+text_none v h = ap or_empty (no_text v h)
 
 -- a byte stored, or left out where there is no room
 pub put_on : {s₀ t : Bytes} (s : Bytes) (i b : ℕ) {rest more : Bytes} → rest ≡ b ∷ more → Writing s₀ t s i rest → Writing s₀ t (set s i b) (i + 1) more

@@ -17,19 +17,19 @@ use Rattle.event_scan.specs.Scan.{fields_at, UpTo}
 -- ---- the first of a byte
 
 module _ (c : ℕ) where
-  up_nil : UpTo c [] ≡ 0
+  pub up_nil : UpTo c [] ≡ 0
   unfolding UpTo
   up_nil = refl
 
-  up_cons_here : (b : ℕ) (s : Bytes) → b ≡ c → UpTo c (b ∷ s) ≡ 0
+  pub up_cons_here : (b : ℕ) (s : Bytes) → b ≡ c → UpTo c (b ∷ s) ≡ 0
   unfolding UpTo
   up_cons_here b s e = rw (eq-eqb b c e)
 
-  up_cons : (b : ℕ) (s : Bytes) → (b ≡ c → ⊥) → UpTo c (b ∷ s) ≡ suc (UpTo c s)
+  pub up_cons : (b : ℕ) (s : Bytes) → (b ≡ c → ⊥) → UpTo c (b ∷ s) ≡ suc (UpTo c s)
   unfolding UpTo
   up_cons b s n = rw (ne_eqb b c n)
 
-  up_within : (s : Bytes) → UpTo c s ≤ length s
+  pub up_within : (s : Bytes) → UpTo c s ≤ length s
   up_within [] = rw up_nil (omega arith)
   up_within (b ∷ s) =
       by_eq b c

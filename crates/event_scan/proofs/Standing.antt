@@ -17,9 +17,9 @@ use Rattle.text.specs.Escape.{unescape}
 use Rattle.event.specs.Event.{Attr, Parted, parted, is_empty, or_empty, attr_with, attr_from, attr_of, beside, attrs_of, named, none_twice, reads, refused, starts, starts_with, starts_from}
 use Rattle.event_scan.specs.Names.{among, new_name, texts_of}
 use Rattle.event_scan.specs.Piece.{there, value_text}
-use Rattle.event_scan.specs.Parts.{name_seen, attribute_onto, attributes_in}
+use Rattle.event_scan.specs.Parts.{name_seen, written_as, with_text, attributes_in}
 use Rattle.event_scan.specs.Scan.{stand}
-use Rattle.event_scan.proofs.Parts.{empty_is}
+use Rattle.event_scan.proofs.Parts.{empty_is, written_by}
 
 -- ---- each field is an attribute
 
@@ -173,9 +173,9 @@ names_more names n k h = rw (add-one, take-suc-set names n k h) (texts_last (tak
 -- ---- both tests
 
 -- a field that is an attribute
-right_field : (f : Bytes) (attrs : List Attr) → there (attr_of f) ≡ true → beside (attr_of f) (Some attrs) ≡ Some (attribute_onto (parted f) attrs)
+right_field : (f : Bytes) (attrs : List Attr) → there (attr_of f) ≡ true → beside (attr_of f) (Some attrs) ≡ Some (with_text (written_as f) ∷ attrs)
 unfolding attr_of there value_text
-right_field f attrs h = by_parts (parted f) h
+right_field f attrs h = by_parts (parted f) refl h
   where
     by_text : (n v : Bytes) (o : Option Bytes) → there (attr_with n o) ≡ true → beside (attr_with n o) (Some attrs) ≡ Some (record { name = n; value = or_empty o } ∷ attrs)
     by_text n v None h = clash h refl
@@ -185,13 +185,13 @@ right_field f attrs h = by_parts (parted f) h
     by_name n v true h = clash h refl
     by_name n v false h = by_text n v (unescape v) h
 
-    by_parts : (o : Option Parted) → there (attr_from o) ≡ true → beside (attr_from o) (Some attrs) ≡ Some (attribute_onto o attrs)
-    by_parts None h = clash h refl
-    by_parts (Some p) h = by_name p.left p.right (is_empty p.left) h
+    by_parts : (o : Option Parted) → parted f ≡ o → there (attr_from o) ≡ true → beside (attr_from o) (Some attrs) ≡ Some (with_text (written_as f) ∷ attrs)
+    by_parts None q h = clash h refl
+    by_parts (Some p) q h = by_name p.left p.right (is_empty p.left) h ∙ ap (λ a. Some (with_text a ∷ attrs)) (sym (written_by f p q))
 
 -- fields that are attributes alone
 pub attributes_right : (fs : List Bytes) → there (attrs_of fs) ≡ true → attrs_of fs ≡ Some (attributes_in fs)
-unfolding attrs_of attributes_in
+unfolding attrs_of
 attributes_right [] h = refl
 attributes_right (f ∷ fs) h =
     let k : both (there (attr_of f)) (there (attrs_of fs)) ≡ true = sym (there_beside (attr_of f) (attrs_of fs)) ∙ h in

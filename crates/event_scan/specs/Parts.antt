@@ -1,9 +1,11 @@
 -- A text parted by the first of a byte, and the attributes that fields are.
-use Rattle.std.specs.Prelude.{ℕ, cond, List, [], ◌∷◌, eqb, length, None, Option, Some, option_map}
+use Rattle.std.specs.Prelude.{ℕ, suc, cond, List, [], ◌∷◌, eqb, length, take, drop, map, None, Option, Some, option_map}
 use Rattle.std.specs.Borrow.{Bor}
 use Rattle.base.specs.Bytes.{Bytes}
-use Rattle.event.specs.Event.{Attr, Parted, onto_left, parted}
+use Rattle.base.specs.Chars.{equals_sign}
+use Rattle.event.specs.Event.{Attr, Parted, onto_left}
 use Rattle.event_scan.specs.Piece.{value_text}
+use Rattle.event_scan.specs.Scan.{UpTo}
 
 -- what stands before the first c and behind it
 unfoldable pub parted_by : ℕ → Bytes → Option Parted
@@ -26,11 +28,19 @@ abbrev pub size_left : Option (Bor Bytes) → ℕ
 size_left None = 0
 size_left (Some s) = length s.now
 
-abbrev pub attribute_onto : Option Parted → List Attr → List Attr
-attribute_onto None attrs = attrs
-attribute_onto (Some p) attrs = record { name = p.left; value = value_text p.right } ∷ attrs
+-- ---- fields as attributes
 
--- the attributes among fields: a field without `=` is none
-unfoldable pub attributes_in : List Bytes → List Attr
-attributes_in [] = []
-attributes_in (f ∷ fs) = attribute_onto (parted f) (attributes_in fs)
+-- a field as an attribute, as it is written: its name goes to the first `=`, and its value stands behind it. Where there is no `=`, the whole field is the name
+abbrev pub written_as : Bytes → Attr
+written_as f = record { name = take (UpTo equals_sign f) f; value = drop (suc (UpTo equals_sign f)) f }
+
+abbrev pub written_in : List Bytes → List Attr
+written_in fs = map written_as fs
+
+-- an attribute whose value is as it is written, with the text that the value stands for: nothing where it has another escape
+abbrev pub with_text : Attr → Attr
+with_text a = record { name = a.name; value = value_text a.value }
+
+-- the attributes that fields are
+abbrev pub attributes_in : List Bytes → List Attr
+attributes_in fs = map with_text (written_in fs)

@@ -6,21 +6,21 @@ ghost use Rattle.base.specs.Bytes.{Bytes, both};
 ghost use Rattle.line.specs.Line.{fields};
 ghost use Rattle.event.specs.Event.{body, event_of, event_from, starts_from, attr_of, attrs_of, none_twice};
 ghost use Rattle.distinct.specs.Distinct.{runs_in};
-ghost use Rattle.distinct.specs.Check.{NotedAs};
 ghost use Rattle.event_scan.specs.Names.{names_of, among, new_name, texts_of};
 ghost use Rattle.event_scan.specs.Piece.{there};
 ghost use Rattle.event_scan.specs.Parts.{name_seen, text_left, attributes_in};
-ghost use Rattle.event_scan.specs.Fields.{fields_left};
+ghost use Rattle.event_scan.specs.Fields.{fields_left, attributes_left};
 ghost use Rattle.event_scan.specs.Scan.{stand, lone};
 ghost use Rattle.event_scan.specs.Line.{line_means};
 
-use crate::fields::{Attributes, Fields, attribute_name, split_once};
+use crate::fields::{Attributes, Fields, attribute_name, name_length};
 use crate::{MAX_LINE, body_length, lacks, legal_line};
+use distinct::NotedRuns;
 use refusal::Refusal;
 
 // ---- whether attributes stand: each field is one, and no name is there twice
 
-fn all_right(rest: &Fields<'_>) -> bool
+fn all_right(rest: &Fields<'_, MAX_LINE>) -> bool
     ensures { result ≡ there (attrs_of (fields_left rest.now)) }
 {
     for field in *rest {
@@ -50,8 +50,8 @@ fn new_name<'a>(field: &'a [u8], names: &[&[u8]]) -> Option<&'a [u8]>
 }
 
 // Whether at most sixteen fields stand as attributes: their names are kept, and each is compared with those before it. Of more nothing is told. The names
-// lie in an array, since the library has no heap.
-fn few_stand(rest: &Fields<'_>) -> Option<bool>
+// lie in an array, since the library has no heap; how many they are is counted, since a name is compared with those that are there.
+fn few_stand(rest: &Fields<'_, MAX_LINE>) -> Option<bool>
     ensures { IfSome result (λ stands. stands ≡ stand (attrs_of (fields_left rest.now))) }
 {
     let mut names = [b"".as_slice(); 16];
@@ -71,8 +71,8 @@ fn few_stand(rest: &Fields<'_>) -> Option<bool>
 
 // ---- many attributes
 
-// The words of the names of the attributes that fields are, as far as there is room. How many names there are is answered.
-fn note_names(rest: &Fields<'_>, words: &mut [u64]) -> usize
+// The words of the names of fields as attributes, as far as there is room. How many names there are is answered: both counts stand still where the fields end, and no iterator gives the place.
+fn note_names(rest: &Fields<'_, MAX_LINE>, words: &mut [u64]) -> usize
     ensures { result ≤ length words.new → names_of (attributes_in (fields_left rest.now)) ≡ runs_in (text_left rest.now.rest) (take result words.new) }
 {
     let Some(text) = rest.rest else {
@@ -81,43 +81,53 @@ fn note_names(rest: &Fields<'_>, words: &mut [u64]) -> usize
     let mut n: usize = 0;
     let mut at: usize = 0;
     for field in *rest {
-        if let Some((name, _)) = split_once(field, b'=') {
-            distinct::put_word(words, n, distinct::run_word(text, at, name.len()));
-            n += 1;
-        }
+        distinct::put_word(words, n, distinct::run_word(text, at, name_length(field)));
+        n += 1;
         at += field.len() + 1;
     }
     n
 }
 
+// The names of attributes, to be told apart by their words.
+impl NotedRuns for Attributes<'_, MAX_LINE> {
+    ghost within = { λ attributes. text_left attributes.fields.rest };
+
+    ghost asked = { λ attributes. none_twice (attributes_left attributes) };
+
+    fn bytes(&self) -> &[u8] {
+        match self.fields.rest {
+            Some(text) => text,
+            None => &[],
+        }
+    }
+
+    fn note(&self, words: &mut [u64]) -> Option<usize> {
+        Some(note_names(&self.fields, words))
+    }
+}
+
 // Whether no two attributes have one name. In a short line they are compared in pairs, in a long one by the words of the names, where these tell it.
-fn once(rest: &Fields<'_>) -> bool
+fn once(rest: &Fields<'_, MAX_LINE>) -> bool
     ensures { result ≡ none_twice (attributes_in (fields_left rest.now)) }
 {
     let attributes = Attributes { fields: *rest };
-    let Some(text) = rest.rest else {
-        return attributes.once_in_pairs();
-    };
-    if text.len() < 256 {
+    if attributes.bytes().len() < 96 {
         return attributes.once_in_pairs();
     }
-    let note = |words: &mut [u64]| -> Option<usize>
-        ensures { NotedAs (text_left rest.entry.now.rest) words.new result (none_twice (attributes_in (fields_left rest.entry.now))) }
-    { Some(note_names(rest, words)) };
-    match distinct::noted_differ(text, note) {
+    match distinct::noted_differ(&attributes) {
         Some(told) => told,
         None => attributes.once_in_pairs(),
     }
 }
 
-fn many_stand(rest: &Fields<'_>) -> bool
+fn many_stand(rest: &Fields<'_, MAX_LINE>) -> bool
     ensures { result ≡ stand (attrs_of (fields_left rest.now)) }
 {
     all_right(rest) && once(rest)
 }
 
 // Whether fields stand as attributes, however many they are.
-fn attributes_stand(rest: &Fields<'_>) -> bool
+fn attributes_stand(rest: &Fields<'_, MAX_LINE>) -> bool
     ensures { result ≡ stand (attrs_of (fields_left rest.now)) }
 {
     match few_stand(rest) {
@@ -134,14 +144,14 @@ pub enum EventLine<'a> {
     Starts {
         empty: bool,
         name: &'a [u8],
-        attributes: Attributes<'a>,
+        attributes: Attributes<'a, MAX_LINE>,
     },
     Closes,
     Others,
 }
 
 // An open or an empty element, by the fields behind its first word.
-fn starts<'a>(empty: bool, fields: &Fields<'a>) -> Result<EventLine<'a>, Refusal>
+fn starts<'a>(empty: bool, fields: &Fields<'a, MAX_LINE>) -> Result<EventLine<'a>, Refusal>
     ensures { line_means result ≡ starts_from empty (fields_left fields.now) }
 {
     let mut rest = *fields;

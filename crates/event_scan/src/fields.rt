@@ -1,8 +1,10 @@
 // The fields of an event's line, from one on, and the attributes that they are.
 
 ghost use Rattle.std.specs.Prelude.{◌≡◌, ◌≤◌, length, option_map};
+ghost use Rattle.base.specs.Chars.{equals_sign};
 ghost use Rattle.event.specs.Event.{Attr, attr_of, value_of, none_twice};
-ghost use Rattle.event_scan.specs.Parts.{parts_seen, parted_by, size_left, name_seen};
+ghost use Rattle.event_scan.specs.Parts.{parts_seen, parted_by, size_left, name_seen, written_in};
+ghost use Rattle.event_scan.specs.Scan.{UpTo, fields_at};
 
 use crate::escapes_right;
 
@@ -28,27 +30,27 @@ pub(crate) fn attribute_name(field: &[u8]) -> Option<&[u8]>
     None
 }
 
-// The fields that tabs part, from one on; none where the line has ended. A line has at most 16,384 bytes.
+// The fields of a text of at most N bytes, from one on: tabs part them. None are left where the text has ended.
 #[derive(Clone, Copy, Debug)]
-pub struct Fields<'a> {
+pub struct Fields<'a, const N: usize> {
     pub(crate) rest: Option<&'a [u8]>,
-    ghost short: { size_left rest ≤ 16384 },
+    ghost short: { size_left rest ≤ N },
 }
 
-impl<'a> Fields<'a> {
+impl<'a, const N: usize> Fields<'a, N> {
     ghost use Rattle.line.specs.Line.{fields};
     ghost use Rattle.event_scan.specs.Fields.{fields_left};
 
     // All fields of a text.
-    pub(crate) fn new(text: &'a [u8]) -> Fields<'a>
-        requires { length text.now ≤ 16384 }
+    pub(crate) fn new(text: &'a [u8]) -> Fields<'a, N>
+        requires { length text.now ≤ N }
         ensures { fields_left result ≡ fields text.now }
     {
         Fields { rest: Some(text) }
     }
 }
 
-impl<'a> Iterator for Fields<'a> {
+impl<'a, const N: usize> Iterator for Fields<'a, N> {
     ghost use Rattle.std.specs.Iterator.{YieldsFirstRef, item_count};
     ghost use Rattle.event_scan.specs.Fields.{fields_left};
 
@@ -75,53 +77,70 @@ impl<'a> Iterator for Fields<'a> {
 
 // ---- attributes
 
-// An attribute's value as it is written, with its escapes. It has at most 16,384 bytes, as its line has.
+// An attribute's value as it is written, with its escapes: at most N bytes.
 #[derive(Clone, Copy, Debug)]
-pub struct Value<'a> {
+pub struct Value<'a, const N: usize> {
     pub bytes: &'a [u8],
-    ghost short: { length bytes.now ≤ 16384 },
+    ghost short: { length bytes.now ≤ N },
 }
 
 // An attribute as it is written.
 #[derive(Clone, Copy, Debug)]
-pub struct Attribute<'a> {
+pub struct Attribute<'a, const N: usize> {
     pub name: &'a [u8],
-    pub value: Value<'a>,
+    pub value: Value<'a, N>,
 }
 
-// The attributes among fields: a field without `=` is passed over.
-#[derive(Clone, Copy, Debug)]
-pub struct Attributes<'a> {
-    pub(crate) fields: Fields<'a>,
-}
-
-impl<'a> Iterator for Attributes<'a> {
-    ghost use Rattle.std.specs.Iterator.{YieldsFirstBy, item_count};
-    ghost use Rattle.event_scan.specs.Fields.{attribute_seen, attributes_left};
-
-    type Item = Attribute<'a>;
-
-    ghost next_gives = { YieldsFirstBy attribute_seen attributes_left };
-
-    ghost remaining = { item_count attributes_left };
-
-    fn next(&mut self) -> Option<Attribute<'a>> {
-        while let Some(field) = self.fields.next() {
-            if let Some((name, bytes)) = split_once(field, b'=') {
-                let value = Value { bytes };
-                return Some(Attribute { name, value });
-            }
-        }
-        None
+// How long the name of a field is: it goes to the first `=`, or it is the whole field.
+pub(crate) fn name_length(field: &[u8]) -> usize
+    ensures { result ≡ UpTo equals_sign field.now }
+{
+    match split_once(field, b'=') {
+        Some((name, _)) => name.len(),
+        None => field.len(),
     }
 }
 
-impl<'a> Attributes<'a> {
-    ghost use Rattle.event_scan.specs.Fields.{attributes_left, text_written};
+// The fields of a text of at most N bytes as attributes: a field without `=` has an empty value.
+#[derive(Clone, Copy, Debug)]
+pub struct Attributes<'a, const N: usize> {
+    pub(crate) fields: Fields<'a, N>,
+}
+
+impl<'a, const N: usize> Iterator for Attributes<'a, N> {
+    ghost use Rattle.std.specs.Iterator.{YieldsFirstBy, item_count};
+    ghost use Rattle.event_scan.specs.Fields.{attribute_seen, written_left};
+
+    type Item = Attribute<'a, N>;
+
+    ghost next_gives = { YieldsFirstBy attribute_seen written_left };
+
+    ghost remaining = { item_count written_left };
+
+    fn next(&mut self) -> Option<Attribute<'a, N>> {
+        let field = self.fields.next()?;
+        match split_once(field, b'=') {
+            Some((name, bytes)) => {
+                let value = Value { bytes };
+                Some(Attribute { name, value })
+            }
+            None => {
+                let value = Value {
+                    bytes: b"".as_slice(),
+                };
+                Some(Attribute { name: field, value })
+            }
+        }
+    }
+}
+
+impl<'a, const N: usize> Attributes<'a, N> {
+    ghost use Rattle.event_scan.specs.Fields.{written_left, attributes_left, text_written};
 
     // The value of a name, that of the first attribute that has the name.
-    pub fn value_of(&self, name: &[u8]) -> Option<Value<'a>>
-        ensures { option_map text_written result ≡ value_of name.now (attributes_left self.now) }
+    pub fn value_of(&self, name: &[u8]) -> Option<Value<'a, N>>
+        ensures written { option_map (λ v. v.bytes.now) result ≡ value_of name.now (written_left self.now) }
+        ensures text { option_map text_written result ≡ value_of name.now (attributes_left self.now) }
     {
         let mut rest = *self;
         while let Some(attribute) = rest.next() {
@@ -143,5 +162,23 @@ impl<'a> Attributes<'a> {
             }
         }
         true
+    }
+}
+
+// The largest length that a type can name: no slice is longer.
+pub const ANY_LENGTH: usize = 18446744073709551615;
+
+impl<'a> Attributes<'a, ANY_LENGTH> {
+    ghost use Rattle.event_scan.specs.Fields.{written_left};
+
+    // The fields of any text from any place on as attributes, none past the end: for a caller of the readings whose text is no event's line. No slice has a place past its end, so the place stands
+    // beside the text.
+    pub fn of(text: &'a [u8], at: usize) -> Attributes<'a, ANY_LENGTH>
+        ensures { written_left result ≡ written_in (fields_at text.now at) }
+    {
+        let rest = text.get(at..);
+        Attributes {
+            fields: Fields { rest },
+        }
     }
 }

@@ -15,6 +15,7 @@ pub mod fields;
 pub const MAX_LINE: usize = 16384;
 
 // Whether a byte is nowhere in a run. It looks at all bytes, so that many are looked at together.
+// It, `text::plain` and `print::all_plain` differ by the test: the library's fold is the function with a test.
 pub fn lacks(t: &[u8], c: u8) -> bool
     ensures { result ≡ all (λ b. not (eqb b c)) t.now }
 {
@@ -82,7 +83,7 @@ fn escapes_right(v: &[u8]) -> bool
     pieces_right(v)
 }
 
-// A byte at a place, where there is room.
+// A byte at a place, where there is room. `get_mut` was tried: what it leaves of the slice is not known behind it.
 fn put(out: &mut [u8], at: usize, b: u8)
     ensures { out.new ≡ set out.old at b }
 {
@@ -106,7 +107,7 @@ fn write(out: &mut [u8], v: &[u8]) -> usize
     n
 }
 
-// The text of a value at the start of what is lent, as far as there is room; its whole length is answered. A value with another escape has none.
+// The text of a value at the start of what is lent, as far as there is room; its whole length is answered. A value with another escape stands for an empty text, whose length is 0.
 pub fn unescape_into(out: &mut [u8], value: &[u8]) -> usize
     ensures { (out.new ≡ over out.old 0 (value_text value.now)) × (result ≡ length (value_text value.now)) }
 {

@@ -15,6 +15,9 @@ use Rattle.base.specs.Bytes.{Bytes}
 use Rattle.refusal.specs.declared.Refusal.{Refusal}
 use Rattle.refusal.specs.declared.Refusal.TheVariants.{Missing, NotInteger, CoordinateRange, MemberType}
 use Rattle.kind.specs.declared.Kind.{Kind}
+use Rattle.nesting.specs.Name.{kind_named}
+use Rattle.nesting.specs.declared.Name.{Name}
+use Rattle.nesting.specs.declared.Name.TheVariants.{OsmChange, Create, Modify, Delete, Node, Way, Relation, Tag, Nd, Member, Bounds, Unknown}
 use Rattle.text.specs.Escape.{unescape_from}
 use Rattle.integer.specs.Integer.{integer_of, read_of}
 use Rattle.integer.proofs.Integers.{integer_of_is, read_is}
@@ -22,11 +25,11 @@ use Rattle.stamp.specs.Stamp as S
 use Rattle.stamp.proofs.Bounds.{stamp_fits}
 use Rattle.event.specs.Event.{Attr, value_of, or_empty}
 use Rattle.event_scan.specs.Piece.{value_text}
-use Rattle.event_fields.specs.Field.{got, bad, or_else, coordinate_within, text_field, integer_field}
+use Rattle.event_fields.specs.Field.{got, bad, or_else, coordinate_within, text_field, integer_field, type_named}
 use Rattle.event_scan.specs.declared.fields.Value.{Value}
 use Rattle.event_scan.specs.Fields.{text_written}
 use Rattle.event_values.specs.Values.{value_field}
-use Rattle.event_values.specs.Value.{integer_in, stamp_in, field_in, type_field}
+use Rattle.event_values.specs.Value.{integer_in, stamp_in, field_in}
 use Rattle.event_values.proofs.Raws.{integer_raw, stamp_raw}
 
 -- ---- answers in bits
@@ -66,13 +69,13 @@ pub handed_on : {A E : Type 0} {r : Result A E} {e : E} → IsErr r × IsErrAnd 
 handed_on {r = r} h = let p = err_from_is_err_and r h.1 in p.1 ∙ ap Err p.2
 
 -- the value of a name, or 7 where it has none
-pub field_written : (n : Bytes) (attrs : List Attr) (o : Option Value) (r : Result Value Refusal) → option_map text_written o ≡ value_of n attrs → r ≡ ok_or o Missing → value_field r ≡ text_field n attrs
+pub field_written : {N : ℕ} (n : Bytes) (attrs : List Attr) (o : Option (Value N)) (r : Result (Value N) Refusal) → option_map text_written o ≡ value_of n attrs → r ≡ ok_or o Missing → value_field r ≡ text_field n attrs
 unfolding text_field
 field_written n attrs None r e q = rw (q, ← e)
 field_written n attrs (Some v) r e q = rw (q, ← e)
 
 -- the value of a name, or else the empty one
-pub or_empty_written : (d : Value) (o : Option Value) (x : Option Bytes) → d.bytes.now ≡ [] → option_map text_written o ≡ x → text_written (unwrap_or o d) ≡ or_empty x
+pub or_empty_written : {N : ℕ} (d : Value N) (o : Option (Value N)) (x : Option Bytes) → d.bytes.now ≡ [] → option_map text_written o ≡ x → text_written (unwrap_or o d) ≡ or_empty x
 unfolding value_text unescape_from
 or_empty_written d None x e q = rw (e, ← q)
 or_empty_written d (Some v) x e q = rw (← q)
@@ -82,9 +85,20 @@ pub field_read : {A B : Type 0} (f : A → B) (r : Refusal) (o : Option A) → f
 field_read f r None = refl
 field_read f r (Some x) = refl
 
-pub type_read : (o : Option Kind) → field_in (λ k. k) (ok_or o MemberType) ≡ type_field o
-type_read None = refl
-type_read (Some k) = refl
+-- the kind of a member's type, or else 11
+pub type_read : (n : Name) {o : Option Kind} → o ≡ kind_named n → field_in (λ k. k) (ok_or o MemberType) ≡ type_named n
+type_read OsmChange e = rw e
+type_read Create e = rw e
+type_read Modify e = rw e
+type_read Delete e = rw e
+type_read Node e = rw e
+type_read Way e = rw e
+type_read Relation e = rw e
+type_read Tag e = rw e
+type_read Nd e = rw e
+type_read Member e = rw e
+type_read Bounds e = rw e
+type_read Unknown e = rw e
 
 module _ (n : Bytes) (attrs : List Attr) (w : Width) where
   pub integer_missing : {r : Refusal} → bad r ≡ text_field n attrs → bad r ≡ integer_field w n attrs

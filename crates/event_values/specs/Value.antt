@@ -4,11 +4,10 @@ use Rattle.std.specs.Prelude.{ℕ, [], ℤ, Err, Ok, Option, Result, option_map}
 use Rattle.std.specs.Int.{Width, w32, w64}
 use Rattle.std.proofs.Common.{to_z}
 use Rattle.base.specs.Bytes.{Bytes}
-use Rattle.refusal.specs.declared.Refusal.TheVariants.{MemberType}
 use Rattle.kind.specs.declared.Kind.{Kind}
 use Rattle.kind.specs.declared.Kind.TheVariants as K
 use Rattle.model.specs.Record.{Body, place, refs, members}
-use Rattle.event_fields.specs.Field.{Field, got, bad, or_else}
+use Rattle.event_fields.specs.Field.{Field, got, bad}
 use Rattle.event_values.specs.declared.Coordinates.{Coordinates}
 
 -- ---- numbers
@@ -42,6 +41,3 @@ body_in K.Relation lat lon = members []
 
 abbrev pub body_field : Kind → Result Coordinates Refusal → Field (Body Bytes)
 body_field k r = field_in (λ c. body_in k c.lat c.lon) r
-
-abbrev pub type_field : Option Kind → Field Kind
-type_field o = or_else MemberType o

@@ -1,5 +1,5 @@
 -- What the code holds of an event's fields: a number as its bits, a text as a value of the line, with its escapes. Each answer stands for a field of crate event_fields, or for its refusal.
-use Rattle.std.specs.Prelude.{Result}
+use Rattle.std.specs.Prelude.{ℕ, Result}
 use Rattle.std.specs.Int.{w64}
 use Rattle.std.proofs.Common.{to_z}
 use Rattle.base.specs.Bytes.{Bytes}
@@ -12,17 +12,17 @@ use Rattle.event_values.specs.Value.{field_in}
 use Rattle.event_values.specs.declared.TagValues.{TagValues}
 use Rattle.event_values.specs.declared.MemberValues.{MemberValues}
 
-abbrev pub value_field : Result Value Refusal → Field Bytes
+abbrev pub value_field : {N : ℕ} → Result (Value N) Refusal → Field Bytes
 value_field r = field_in text_written r
 
-abbrev pub tag_means : TagValues → Tag Bytes
+abbrev pub tag_means : {N : ℕ} → TagValues N → Tag Bytes
 tag_means x = record { key = text_written x.key; value = text_written x.value }
 
-abbrev pub tag_answered : Result TagValues Refusal → Field (Tag Bytes)
+abbrev pub tag_answered : {N : ℕ} → Result (TagValues N) Refusal → Field (Tag Bytes)
 tag_answered r = field_in tag_means r
 
-abbrev pub member_means : MemberValues → Member Bytes
+abbrev pub member_means : {N : ℕ} → MemberValues N → Member Bytes
 member_means x = record { ref = to_z w64 x.reference; type = x.kind; role = text_written x.role }
 
-abbrev pub member_answered : Result MemberValues Refusal → Field (Member Bytes)
+abbrev pub member_answered : {N : ℕ} → Result (MemberValues N) Refusal → Field (Member Bytes)
 member_answered r = field_in member_means r

@@ -7,9 +7,9 @@ ghost use Rattle.std.specs.Int.{w32, w64};
 ghost use Rattle.kind.specs.declared.Kind.TheVariants as kinds;
 ghost use Rattle.integer.specs.Integer.{integer_of};
 ghost use Rattle.event_scan.specs.Piece.{value_text};
-ghost use Rattle.event_fields.specs.Field.{integer_field, coordinate, body_for, tag_of, type_named, member_of};
+ghost use Rattle.event_fields.specs.Field.{integer_field, coordinate, body_for, tag_of, member_of};
 ghost use Rattle.event_fields.specs.Field as F;
-ghost use Rattle.event_values.specs.Value.{narrow_in, wide_field, narrow_field, body_field, type_field};
+ghost use Rattle.event_values.specs.Value.{narrow_in, wide_field, narrow_field, body_field};
 ghost use Rattle.event_scan.specs.Fields.{attributes_left};
 ghost use Rattle.event_values.specs.Values.{value_field, tag_answered, member_answered};
 
@@ -23,32 +23,43 @@ use refusal::Refusal;
 pub fn integer_32(v: &[u8]) -> Option<u32>
     ensures { narrow_in result ≡ integer_of w32 (value_text v.now) }
 {
-    let b = integer::read_i32(v)?;
+    // the bits of 32 are below 2^32
+    let b = integer::read::<i32>(v)?;
     Some(b as u32)
 }
 
 // ---- the fields of attributes, by their names
 
-fn required<'a>(attributes: &Attributes<'a>, name: &[u8]) -> Result<Value<'a>, Refusal>
+fn required<'a, const N: usize>(
+    attributes: &Attributes<'a, N>,
+    name: &[u8],
+) -> Result<Value<'a, N>, Refusal>
     ensures { value_field result ≡ F.text_field name.now (attributes_left attributes.now) }
 {
     attributes.value_of(name).ok_or(Refusal::Missing)
 }
 
-pub fn integer_field(attributes: &Attributes<'_>, name: &[u8]) -> Result<u64, Refusal>
+pub fn integer_field<const N: usize>(
+    attributes: &Attributes<'_, N>,
+    name: &[u8],
+) -> Result<u64, Refusal>
     ensures { wide_field result ≡ integer_field w64 name.now (attributes_left attributes.now) }
 {
     let value = required(attributes, name)?;
-    integer::read_i64(value.bytes).ok_or(Refusal::NotInteger)
+    integer::read::<i64>(value.bytes).ok_or(Refusal::NotInteger)
 }
 
 // A coordinate, at most a limit either side of 0.
-fn coordinate_field(attributes: &Attributes<'_>, name: &[u8], limit: u32) -> Result<u32, Refusal>
+fn coordinate_field<const N: usize>(
+    attributes: &Attributes<'_, N>,
+    name: &[u8],
+    limit: u32,
+) -> Result<u32, Refusal>
     ensures { narrow_field result ≡ coordinate name.now limit (attributes_left attributes.now) }
 {
     let value = required(attributes, name)?;
     let bits = integer_32(value.bytes).ok_or(Refusal::NotInteger)?;
-    if signed::i32_of_bits(bits).unsigned_abs() > limit {
+    if bits.cast_signed().unsigned_abs() > limit {
         return Err(Refusal::CoordinateRange);
     }
     Ok(bits)
@@ -61,7 +72,7 @@ pub struct Coordinates {
     pub lon: u32,
 }
 
-fn node_coordinates(attributes: &Attributes<'_>) -> Result<Coordinates, Refusal>
+fn node_coordinates<const N: usize>(attributes: &Attributes<'_, N>) -> Result<Coordinates, Refusal>
     ensures { body_field kinds.Node result ≡ body_for kinds.Node (attributes_left attributes.now) }
 {
     let lat = coordinate_field(attributes, b"lat7", 900_000_000)?;
@@ -70,7 +81,10 @@ fn node_coordinates(attributes: &Attributes<'_>) -> Result<Coordinates, Refusal>
 }
 
 // What an element of a kind holds at first.
-pub fn body_of(attributes: &Attributes<'_>, kind: Kind) -> Result<Coordinates, Refusal>
+pub fn body_of<const N: usize>(
+    attributes: &Attributes<'_, N>,
+    kind: Kind,
+) -> Result<Coordinates, Refusal>
     ensures { body_field kind result ≡ body_for kind (attributes_left attributes.now) }
 {
     match kind {
@@ -81,13 +95,15 @@ pub fn body_of(attributes: &Attributes<'_>, kind: Kind) -> Result<Coordinates, R
 
 // A tag as it is written.
 #[derive(Clone, Copy, Debug)]
-pub struct TagValues<'a> {
-    pub key: Value<'a>,
-    pub value: Value<'a>,
+pub struct TagValues<'a, const N: usize> {
+    pub key: Value<'a, N>,
+    pub value: Value<'a, N>,
 }
 
 // A tag, or the refusal of its key or its value.
-pub fn tag_of<'a>(attributes: &Attributes<'a>) -> Result<TagValues<'a>, Refusal>
+pub fn tag_of<'a, const N: usize>(
+    attributes: &Attributes<'a, N>,
+) -> Result<TagValues<'a, N>, Refusal>
     ensures { tag_answered result ≡ tag_of (attributes_left attributes.now) }
 {
     let key = required(attributes, b"k")?;
@@ -95,31 +111,22 @@ pub fn tag_of<'a>(attributes: &Attributes<'a>) -> Result<TagValues<'a>, Refusal>
     Ok(TagValues { key, value })
 }
 
-fn type_named(n: Name) -> Option<Kind>
-    ensures { type_field result ≡ type_named n }
-{
-    match n {
-        Name::Node => Some(Kind::Node),
-        Name::Way => Some(Kind::Way),
-        Name::Relation => Some(Kind::Relation),
-        _ => None,
-    }
-}
-
 // A member, its role as it is written: empty where it is missing.
 #[derive(Clone, Copy, Debug)]
-pub struct MemberValues<'a> {
+pub struct MemberValues<'a, const N: usize> {
     pub reference: u64,
     pub kind: Kind,
-    pub role: Value<'a>,
+    pub role: Value<'a, N>,
 }
 
 // A member, or the refusal of its type or its ref.
-pub fn member_of<'a>(attributes: &Attributes<'a>) -> Result<MemberValues<'a>, Refusal>
+pub fn member_of<'a, const N: usize>(
+    attributes: &Attributes<'a, N>,
+) -> Result<MemberValues<'a, N>, Refusal>
     ensures { member_answered result ≡ member_of (attributes_left attributes.now) }
 {
     let named = required(attributes, b"type")?;
-    let kind = type_named(nesting::name_of(named.bytes)).ok_or(Refusal::MemberType)?;
+    let kind = Name::from(named.bytes).kind().ok_or(Refusal::MemberType)?;
     let reference = integer_field(attributes, b"ref")?;
     let empty = Value {
         bytes: b"".as_slice(),

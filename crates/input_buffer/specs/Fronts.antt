@@ -9,7 +9,7 @@ abbrev pub is_over : Result Unit RefusedAt → ℕ → Bool
 is_over (Ok tt) rest = ltb 16384 rest
 is_over (Err a) rest = false
 
--- after an answer, the bytes from one place up to another at the front, or nothing
-abbrev pub kept_front : Result Unit RefusedAt → Bytes → ℕ → ℕ → Front
-kept_front (Ok tt) buffer from to = keep_rest buffer from to
-kept_front (Err a) buffer from to = record { buffer = buffer; kept = 0 }
+-- after an answer, the bytes from a place on at the front, or nothing
+abbrev pub kept_front : Result Unit RefusedAt → Bytes → ℕ → Front
+kept_front (Ok tt) buffer from = keep_rest buffer from
+kept_front (Err a) buffer from = record { buffer = buffer; kept = 0 }

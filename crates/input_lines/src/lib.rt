@@ -2,28 +2,40 @@
 #![tactic(auto)]
 
 ghost use Rattle.std.specs.Prelude.{◌≡◌};
-ghost use Rattle.input_lines.specs.Place.{line_end, keep_rest};
+ghost use Rattle.input_lines.specs.Place.{keep_rest};
 
-// The place behind the first line feed from a place on.
-pub fn line_end(bytes: &[u8], at: usize) -> Option<usize>
-    ensures { result ≡ line_end bytes.now at }
-{
-    for i in at..bytes.len() {
-        if bytes[i] == b'\n' {
-            return Some(i + 1);
-        }
-    }
-    None
+// The whole lines of a run, each with its line feed. What follows the last of them is no line.
+#[derive(Clone, Copy, Debug)]
+pub struct RunLines<'a> {
+    pub rest: &'a [u8],
 }
 
-// The bytes from one place up to another moved to the front of their buffer. The answer is how many they are.
-pub fn keep_rest(buffer: &mut [u8], from: usize, to: usize) -> usize
-    ensures { record { buffer = buffer.new; kept = result } ≡ keep_rest buffer.old from to }
+impl<'a> Iterator for RunLines<'a> {
+    ghost use Rattle.std.specs.Iterator.{YieldsFirstRef, item_count};
+    ghost use Rattle.input_lines.specs.Place.{lines_left};
+
+    type Item = &'a [u8];
+
+    ghost next_gives = { YieldsFirstRef lines_left };
+
+    ghost remaining = { item_count lines_left };
+
+    fn next(&mut self) -> Option<&'a [u8]> {
+        let i = self.rest.iter().position(|b| *b == b'\n')?;
+        let line = &self.rest[..i + 1];
+        self.rest = &self.rest[i + 1..];
+        Some(line)
+    }
+}
+
+// The bytes from a place on moved to the front of their buffer. The answer is how many they are. The place stays: the rest of a buffer cannot be lent beside the buffer.
+pub fn keep_rest(buffer: &mut [u8], from: usize) -> usize
+    ensures { record { buffer = buffer.new; kept = result } ≡ keep_rest buffer.old from }
 {
-    let end = little::lesser(to, buffer.len());
+    let end = buffer.len();
     if end <= from {
         return 0;
     }
-    buffer.copy_within(from..end, 0);
+    buffer.copy_within(from.., 0);
     end - from
 }

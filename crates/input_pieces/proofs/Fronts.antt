@@ -1,17 +1,19 @@
 -- The lines of lent bytes and what is left of them; a piece in its buffer.
 use Rattle.std.specs.Prelude.{Ok, Err}
-use Prim.Native.Nat.{ℕ, ◌+◌, ◌-◌, ◌<◌, ◌≤◌}
+use Prim.Native.Nat.{ℕ, ◌+◌, ◌<◌, ◌≤◌}
 use mathlib.Core.Path.{◌≡◌, sym, ◌∙◌, ap}
 use mathlib.Core.Bool.{true, false}
-use mathlib.Core.List.{List, [], ◌∷◌, ◌++◌}
+use mathlib.Core.List.{List, [], ◌∷◌, ◌++◌, append_assoc}
 use native.Mathlib.Omega.{arith}
 use borrow.Author.Tests.{ltb-true, ltb-false}
-use lib.ListN.{length, take, drop, length-drop}
+use lib.ListN.{length, take, drop, length-drop, length-take, take-append-drop}
+use lib.Seq.{length-take-le}
+use Rattle.std.proofs.lemmas.List.{drop-append-le}
 use Rattle.base.specs.Bytes.{Bytes}
 use Rattle.base.proofs.Split.{no}
 use Rattle.input_lines.specs.Lines.{lines_of, rest_of}
 use Rattle.little.specs.Little.{over}
-use Rattle.little.proofs.Overs.{used_over}
+use Rattle.little.proofs.Overs.{length_over, over_start, used_over}
 use Rattle.input_lines.specs.Place.{Front, keep_rest}
 use Rattle.input_lines.proofs.Lines.{rest_lacks}
 use Rattle.reader.specs.State.{State, refusal_at}
@@ -35,26 +37,23 @@ module _ (s : Bytes) (t : State) where
     rest_is : x.answer ≡ Ok tt → drop at s ≡ rest_of s
     rest_is a = rw k (run_rest s t (ap (λ (z : EventResult). z.answer) (sym e) ∙ a))
 
-    rest_length : x.answer ≡ Ok tt → length (rest_of s) ≡ length s - at
-    rest_length a = ap length (sym (rest_is a)) ∙ length-drop at s
-
     -- it is short, or a line was refused
-    pub took_lines : is_over x.answer (length s - at) ≡ false → Took x at
+    pub took_lines : is_over x.answer (length (drop at s)) ≡ false → Took x at
     took_lines f = (
       by_answer x.answer
-          (λ a. let h : length s - at ≤ 16384 = ltb-false 16384 (length s - at) (rw a at f) in
-          e ∙ ap (λ (ls : List Bytes). events_on ls t) (sym (lines_short s (omega (arith, h, rest_length a)))))
+          (λ a. let h : length (drop at s) ≤ 16384 = ltb-false 16384 (length (drop at s)) (rw a at f) in
+          e ∙ ap (λ (ls : List Bytes). events_on ls t) (sym (lines_short s (omega (arith, h, ap length (rest_is a))))))
           (λ r n a. e ∙ sym (lines_enough s t r n (ap (λ (z : EventResult). z.answer) (sym e) ∙ a))),
       rest_is,
     )
 
     -- it is too long, and refused
-    pub took_rest : is_over x.answer (length s - at) ≡ true → (y : EventResult) → y ≡ event_on (drop at s) x.state → (m : ℕ) → Took y m
+    pub took_rest : is_over x.answer (length (drop at s)) ≡ true → (y : EventResult) → y ≡ event_on (drop at s) x.state → (m : ℕ) → Took y m
     took_rest f y g m =
         by_answer x.answer
         (λ a.
-        let h : 16384 < length s - at = ltb-true 16384 (length s - at) (rw a at f) in
-        let l : 16384 < length (rest_of s) = omega (arith, h, rest_length a) in
+        let h : 16384 < length (drop at s) = ltb-true 16384 (length (drop at s)) (rw a at f) in
+        let l : 16384 < length (rest_of s) = omega (arith, h, ap length (rest_is a)) in
         let b : (events_on (lines_of s) t).answer ≡ Ok tt = ap (λ (z : EventResult). z.answer) (sym e) ∙ a in
         let z : y ≡ event_on (rest_of s) (events_on (lines_of s) t).state = g ∙ (λ i. event_on (rest_is a i) (e i).state) in
         long_refused (rest_of s) l (rest_lacks s) (events_on (lines_of s) t).state (λ r n w.
@@ -67,6 +66,13 @@ module _ (s : Bytes) (t : State) where
 
 -- ---- a piece in its buffer
 
+-- bytes over the front of a part are over that of the whole
+over_part : (s t : Bytes) (n : ℕ) → length t ≤ n → n ≤ length s → over (take n s) 0 t ++ drop n s ≡ over s 0 t
+over_part s t n h k =
+    let l = length-take-le n s k in
+    let e : drop (length t) (take n s) ++ drop n s ≡ drop (length t) s = sym (drop-append-le (length t) (take n s) (drop n s) (omega (arith, l))) ∙ ap (drop (length t)) (take-append-drop n s) in
+    rw (over_start (take n s) t (omega (arith, l)), over_start s t (omega arith), append_assoc, e)
+
 -- the buffer after a piece is copied into it, and how many of its bytes count
 module _ (t : State) (b p : Bytes) (held : ℕ) (room : held + length p ≤ length b) (joined : Bytes) (filled : ℕ) (is : joined ≡ over b held p) (are : filled ≡ held + length p) where
   abbrev intake : Intake
@@ -75,19 +81,32 @@ module _ (t : State) (b p : Bytes) (held : ℕ) (room : held + length p ≤ leng
   front : take filled joined ≡ take held b ++ p
   front = rw (is, are) (used_over b held p room)
 
+  within : filled ≤ length joined
+  within = omega (arith, room, are, ap length is, length_over b held p)
+
   fed_as : (x : EventResult) → x ≡ events_on (piece_lines (take filled joined)) t → feed_on p intake ≡ kept_after joined (take filled joined) x.answer x.state
   unfolding feed_on
   fed_as x e = rw (e, front, is)
 
+  -- what is left of a front is kept, or nothing
   pub fed_by : (x : EventResult) (at : ℕ) → x ≡ events_on (piece_lines (take filled joined)) t → (x.answer ≡ Ok tt → drop at (take filled joined) ≡ rest_of (take filled joined))
-      → (q : Bytes) (n : ℕ) → ◌≡◌ {A = Front} (record { buffer = q; kept = n }) (kept_front x.answer joined at filled)
-      → ◌≡◌ {A = IntakeResult} (record { intake = record { state = x.state; buffer = q; held = n }; answer = x.answer }) (feed_on p intake)
+      → (q : Bytes) (n : ℕ) → ◌≡◌ {A = Front} (record { buffer = q; kept = n }) (kept_front x.answer (take filled joined) at)
+      → ◌≡◌ {A = IntakeResult} (record { intake = record { state = x.state; buffer = q ++ drop filled joined; held = n }; answer = x.answer }) (feed_on p intake)
   unfolding keep_rest
   fed_by x at e g q n k =
       sym (fed_as x e ∙ by_answer x.answer
-      (λ a. let l = sym (g a) in
-      let j : ◌≡◌ {A = Front} (record { buffer = q; kept = n }) (keep_rest joined at filled) = rw a at k in
-      rw (a, l) (λ i. record { intake = record { state = x.state; buffer = (sym j i).buffer; held = (sym j i).kept }; answer = Ok tt }))
+      (λ a. let u = take filled joined in
+      let r : drop at u ≡ rest_of u = g a in
+      let j : ◌≡◌ {A = Front} (record { buffer = q; kept = n }) (record { buffer = over u 0 (rest_of u); kept = length (rest_of u) }) = rw (a, r) at k in
+      let m : q ++ drop filled joined ≡ over joined 0 (rest_of u) =
+      ap (λ (z : Front). z.buffer ++ drop filled joined) j ∙ over_part joined (rest_of u) filled (omega (arith, ap length r, length-drop at u, length-take filled joined)) within in
+      rw a (λ i. record { intake = record { state = x.state; buffer = sym m i; held = (sym j i).kept }; answer = Ok tt }))
       (λ r m a.
-      let j : ◌≡◌ {A = Front} (record { buffer = q; kept = n }) (record { buffer = joined; kept = 0 }) = rw a at k in
-      rw a (λ i. record { intake = record { state = x.state; buffer = (sym j i).buffer; held = (sym j i).kept }; answer = Err (refusal_at r m) })))
+      let j : ◌≡◌ {A = Front} (record { buffer = q; kept = n }) (record { buffer = take filled joined; kept = 0 }) = rw a at k in
+      let v : q ++ drop filled joined ≡ joined = ap (λ (z : Front). z.buffer ++ drop filled joined) j ∙ take-append-drop filled joined in
+      rw a (λ i. record { intake = record { state = x.state; buffer = sym v i; held = (sym j i).kept }; answer = Err (refusal_at r m) })))
+
+-- by the bytes of a piece that count, and by those held that do
+pub fed_from : (t : State) (b : Bytes) {p q : Bytes} {n m : ℕ} → p ≡ q → n ≡ m
+    → feed_on p (record { state = t; buffer = b; held = n }) ≡ feed_on q (record { state = t; buffer = b; held = m })
+fed_from t b e h = λ i. feed_on (e i) (record { state = t; buffer = b; held = h i })

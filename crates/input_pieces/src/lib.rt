@@ -1,31 +1,19 @@
 // An input in pieces: the whole lines of a piece are events, up to the first that is refused, and the unfinished line is held for the next piece.
 #![tactic(auto)]
 
-ghost use Rattle.std.specs.Prelude.{◌≡◌, ◌≤◌, min, length, take, drop, Ok};
+ghost use Rattle.std.specs.Prelude.{◌≡◌, ◌+◌, ◌≤◌, length, take, drop, Ok};
 ghost use Rattle.input_lines.specs.Lines.{rest_of};
-ghost use Rattle.reader.specs.Lent.{state_lent, state_left, state_held, IsSameState};
-ghost use Rattle.reader.specs.Event.{event_on};
+ghost use Rattle.reader.specs.Lent.{state_held, IsSameState};
 ghost use Rattle.reader_events.specs.Events.{events_on};
 ghost use Rattle.reader_events.specs.Runs.{RunGiven};
 ghost use Rattle.input_pieces.specs.Feed.{piece_lines, feed_on};
+ghost use Rattle.input_pieces.specs.Lent.{intake_lent, intake_left};
 
 use event_scan::MAX_LINE;
-use overlay_blocks::COUNTERS;
-use reader::{EventReader, ReaderState, RefusedAt};
+use reader::{ReaderState, RefusedAt};
 use reader_events::EventsDone;
-use reader_stage::STAGED;
 
 // ---- the lines of lent bytes
-
-// What is left from a place on as an event. It is not taken.
-fn rest_event(state: &mut ReaderState<'_>, run: &[u8], at: usize) -> EventsDone
-    requires { at ≤ length run.now }
-    ensures same { IsSameState state.new state.old }
-    ensures value { record { state = state_held state.new; answer = result.answer } ≡ event_on (drop at run.now) (state_held state.old) }
-{
-    let answer = reader_calls::event_on(state, &run[at..]);
-    EventsDone { answer, taken: at }
-}
 
 // The whole lines as events, up to the first that is refused, and then what is left where it is already too long. Where nothing is refused, what is left is the unfinished line.
 fn take_lines(state: &mut ReaderState<'_>, run: &[u8]) -> EventsDone
@@ -35,75 +23,58 @@ fn take_lines(state: &mut ReaderState<'_>, run: &[u8]) -> EventsDone
     ensures run_value { RunGiven (state_held state.old) → result.answer ≡ Ok tt → drop result.taken run.now ≡ rest_of run.now }
 {
     let done = reader_events::events_untested(state, run);
-    if input_buffer::is_over(done.answer, run.len() - done.taken) {
-        return rest_event(state, run, done.taken);
+    let rest = &run[done.taken..];
+    if input_buffer::is_over(done.answer, rest.len()) {
+        let answer = reader_calls::event_on(state, rest);
+        return EventsDone { answer, ..done };
     }
-    done
-}
-
-// Of a buffer only the first bytes, as many as there are, over what is lent one by one.
-fn take_front(
-    words: &mut [u64],
-    bytes: &mut [u8],
-    counters: &mut [u64; COUNTERS],
-    parts: &mut [u8; STAGED],
-    reader: &mut EventReader,
-    buffer: &[u8],
-    n: usize,
-) -> EventsDone
-    requires { n ≤ length buffer.now }
-    ensures answer_value { RunGiven (state_lent words.old bytes.old counters.old parts.old reader.old)
-        → record { state = state_left words.new bytes.new counters.new parts.new reader.new; answer = result.answer }
-        ≡ events_on (piece_lines (take n buffer.now)) (state_lent words.old bytes.old counters.old parts.old reader.old) }
-    ensures buffer_value { RunGiven (state_lent words.old bytes.old counters.old parts.old reader.old)
-        → result.answer ≡ Ok tt → drop result.taken (take n buffer.now) ≡ rest_of (take n buffer.now) }
-{
-    let mut state = ReaderState {
-        words,
-        bytes,
-        counters,
-        parts,
-        reader: *reader,
-    };
-    let done = take_lines(&mut state, &buffer[..n]);
-    *reader = state.reader;
     done
 }
 
 // ---- a piece of the input
 
-// What is left of an input between pieces: the reader, how many bytes of an unfinished line are held, and what the last event answered.
-#[derive(Clone, Copy, PartialEq, Eq, Debug)]
-pub struct Fed {
-    pub reader: EventReader,
-    pub held: usize,
-    pub answer: Result<(), RefusedAt>,
+// A piece behind the bytes that are held, its lines as events, and the unfinished line at the front of the buffer: the answer, and how many bytes that line has. The buffer is a slice with a
+// count: of an array that a struct lends a proof learns nothing after a part of it was written.
+fn take_piece(
+    state: &mut ReaderState<'_>,
+    buffer: &mut [u8],
+    held: usize,
+    piece: &[u8],
+) -> (Result<(), RefusedAt>, usize)
+    requires { held + length piece.now ≤ length buffer.old }
+    ensures same { IsSameState state.new state.old }
+    ensures value { RunGiven (state_held state.old)
+        → record { intake = record { state = state_held state.new; buffer = buffer.new; held = result.1 }; answer = result.0 }
+        ≡ feed_on piece.now (record { state = state_held state.old; buffer = buffer.old; held = held }) }
+{
+    let n = input_buffer::join_piece(buffer, held, piece);
+    let done = take_lines(state, &buffer[..n]);
+    let held = input_buffer::keep_front(&mut buffer[..n], done.answer, done.taken);
+    (done.answer, held)
 }
 
-// A piece of the input, of which so many bytes were read: its whole lines are events, up to the first that is refused, and the unfinished line is held at the front
+// What is held of an input between two pieces: its unfinished line, at the front of a buffer that has room for a piece behind it.
+#[derive(Drop)]
+pub struct InputBuffer<'a> {
+    pub bytes: &'a mut [u8; 81920],
+    pub held: usize,
+}
+
+// A piece of the input, of which at most 65,536 bytes count: its whole lines are events, up to the first that is refused, and the unfinished line is held at the front
 // of the buffer. Of the bytes held so far at most 16,384 count. Soundness is not tested: for a caller who knows that the state is sound but for its count of lines.
 pub fn feed(
-    words: &mut [u64],
-    bytes: &mut [u8],
-    counters: &mut [u64; COUNTERS],
-    ps: &mut [u8; STAGED],
-    fed: Fed,
-    buffer: &mut [u8; 81920],
-    piece: &[u8; 65536],
-    got: usize,
-) -> Fed
-    ensures { RunGiven (state_lent words.old bytes.old counters.old ps.old fed.reader)
-        → record { intake = record { state = state_left words.new bytes.new counters.new ps.new result.reader; buffer = buffer.new; held = result.held }; answer = result.answer }
-        ≡ feed_on (take got piece.now) (record { state = state_lent words.old bytes.old counters.old ps.old fed.reader; buffer = buffer.old; held = min fed.held 16384 }) }
+    state: &mut ReaderState<'_>,
+    input: &mut InputBuffer<'_>,
+    piece: &[u8],
+) -> Result<(), RefusedAt>
+    ensures same { IsSameState state.new state.old }
+    ensures same_bytes { input.new.bytes.ghost_name ≡ input.old.bytes.ghost_name }
+    ensures value { RunGiven (state_held state.old)
+        → record { intake = intake_left state.new input.new; answer = result } ≡ feed_on (take 65536 piece.now) (intake_lent state.old input.old) }
 {
-    let held = little::lesser(fed.held, MAX_LINE);
-    let n = input_buffer::join_piece(buffer, held, piece, got);
-    let mut reader = fed.reader;
-    let done = take_front(words, bytes, counters, ps, &mut reader, buffer, n);
-    let held = input_buffer::keep_front(buffer, done.answer, done.taken, n);
-    Fed {
-        reader,
-        held,
-        answer: done.answer,
-    }
+    let held = little::lesser(input.held, MAX_LINE);
+    let piece = &piece[..little::lesser(65536, piece.len())];
+    let (answer, held) = take_piece(state, input.bytes, held, piece);
+    input.held = held;
+    answer
 }

@@ -98,15 +98,3 @@ pub fn read_digits(text: &[u8], most: u64) -> Option<u64>
 {
     magnitude(text, most)
 }
-
-pub fn read_i64(s: &[u8]) -> Option<u64>
-    ensures { result ≡ read_of w64 s.now }
-{
-    read::<i64>(s)
-}
-
-pub fn read_i32(s: &[u8]) -> Option<u64>
-    ensures { result ≡ read_of w32 s.now }
-{
-    read::<i32>(s)
-}

@@ -15,7 +15,7 @@ use lib.ListN.{length, drop, length-take, length-drop, length-map}
 use borrow.Author.Tests.{le-leb}
 use Rattle.base.specs.Bytes.{Bytes, both, same}
 use Rattle.base.proofs.Split.{by_bool, by_lt, both_left, both_right, both_of, both_no_left, clash, same_test}
-use Rattle.base.proofs.Lists.{same_yes, same_refl}
+use Rattle.base.proofs.Lists.{same_yes, same_refl, same_swap}
 use Rattle.text.specs.Check.{is_text}
 use Rattle.interner.specs.Texts.{handle_of}
 use Rattle.interner.specs.Strings.{start_of, length_of, spanned, bytes_at, string_at, find_in, Store, used_of}
@@ -25,7 +25,7 @@ use Rattle.interner.specs.Sound.{handles, texts_in, texts_of, counts_within, spa
 use Rattle.interner.specs.Check.{is_not, new_at}
 use Rattle.interner.proofs.Finds.{found, found_not, spanned_bytes}
 use Rattle.interner.proofs.Handles.{length_handles, all_handles, each_handle, all_made, each_made, made_at}
-use Rattle.interner.proofs.Held.{same_swap, same_not, differs_of, not_held, held_not}
+use Rattle.interner.proofs.Held.{same_not, differs_of, not_held, held_not}
 use Rattle.interner.proofs.Interns.{Sound, sound_parts, length_texts, placed, finds_from}
 
 not_placed : (o : Option ℕ) → is_not (placed 0 o) ≡ true → o ≡ None

@@ -7,8 +7,8 @@ use mathlib.Core.List.{List, [], ◌∷◌, ◌++◌, append_assoc, append-nil}
 use native.Mathlib.Omega.{arith}
 use lib.ListN.{length, get_or-append}
 use Rattle.base.specs.Bytes.{Bytes, all, same}
-use Rattle.base.proofs.Split.{by_bool, both_of, both_left, both_right, clash, no, same_test}
-use Rattle.base.proofs.Lists.{same_yes, same_refl, all_nil, all_cons, all_head, all_tail, all_append}
+use Rattle.base.proofs.Split.{by_bool, both_of, both_left, both_right, clash, no}
+use Rattle.base.proofs.Lists.{same_yes, same_refl, same_swap, all_nil, all_cons, all_head, all_tail, all_append}
 use Rattle.interner.specs.Texts.{handle_of, take_in, take_all_of, text_of}
 use Rattle.distinct.specs.Distinct.{differs, distinct}
 use Rattle.interner.specs.Sound.{first_empty}
@@ -51,9 +51,6 @@ holds t (s ∷ ss) h e =
     rw (← r.1.1) (record { below = omega (arith, i.below); text = i.text }))
 
 -- a text is not held exactly where it differs from each
-pub same_swap : (s t : Bytes) → same s t ≡ same t s
-same_swap s t = same_test (same s t) (same t s) (λ e. rw (same_yes s t e) (same_refl t)) (λ e. rw (same_yes t s e) (same_refl s))
-
 pub differs_of : (s t : Bytes) → same s t ≡ false → differs s t ≡ true
 unfolding differs
 differs_of s t e = rw e

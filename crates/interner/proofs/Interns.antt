@@ -17,7 +17,7 @@ use Rattle.text.specs.Check.{is_text}
 use Rattle.text.proofs.Theorem.{text_nil}
 use Rattle.little.specs.Little.{over}
 use Rattle.little.proofs.Overs.{length_over, used_over, get_d_before, get_d_over}
-use Rattle.interner.specs.declared.Interned.TheVariants.{Held, Full}
+use Rattle.interner.specs.Interned.{Held, Full}
 use Rattle.interner.specs.Texts.{handle_of, take_in, take_all_of, no_texts, answer_as, intern_accepted, handle_answered, text_of}
 use Rattle.interner.specs.Strings.{start_of, length_of, spanned, bytes_at, is_at, find_from, find_in, Store, used_of, text_room, added, text_taken, intern, intern_all, accepted_of, span_of}
 use Rattle.distinct.specs.Distinct.{differs, distinct}

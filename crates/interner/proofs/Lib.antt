@@ -1,3 +1,4 @@
+pub mod Pairs
 pub mod Finds
 pub mod Takes
 pub mod Handles

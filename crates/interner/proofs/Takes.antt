@@ -10,7 +10,7 @@ use lib.Seq.{take_all}
 use borrow.Author.Tests.{leb-true}
 use Rattle.base.specs.Bytes.{Bytes}
 use Rattle.base.proofs.Split.{by_le, both_left, both_right}
-use Rattle.interner.specs.declared.Interned.TheVariants.{Held, Full}
+use Rattle.interner.specs.Interned.{Held, Full}
 use Rattle.interner.specs.Strings.{find_in, Store, used_of, text_room, text_taken, taken_as, intern}
 
 module _ (s : Store) (t : Bytes) where

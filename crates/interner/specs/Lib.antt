@@ -1,3 +1,4 @@
+pub mod Interned
 pub mod Texts
 pub mod Strings
 pub mod Sound

@@ -4,9 +4,7 @@ use Rattle.base.specs.Bytes.{Bytes, both, same}
 use Rattle.little.specs.Little.{over}
 use Rattle.little.specs.declared.Span.{Span}
 use Rattle.interner.specs.Texts.{intern_accepted}
-use Rattle.interner.specs.declared.Taken.{Taken}
-use Rattle.interner.specs.declared.Interned.{Interned}
-use Rattle.interner.specs.declared.Interned.TheVariants.{Held, New, Full}
+use Rattle.interner.specs.Interned.{Interned, Held, New, Full}
 
 abbrev pub start_of : List ℕ → ℕ → ℕ
 start_of spans h = get_or spans (2 * h) 0
@@ -65,10 +63,6 @@ used_of s = take s.used s.bytes
 pub record StoreAfter : Type 0 where
   pub store : Store
   pub answer : Interned
-
--- what is lent as a call leaves it, with its answer and counts
-abbrev pub store_after : List ℕ → Bytes → Taken → StoreAfter
-store_after spans bytes r = record { store = store_with spans bytes r.strings r.used; answer = r.answer }
 
 -- "13 strings or string bytes full"
 unfoldable pub text_room : Store → Bytes → Bool

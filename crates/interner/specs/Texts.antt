@@ -2,8 +2,7 @@
 -- so n stands for the n-th new text taken in." Here the held texts are a list; how they are stored is Strings.
 use Rattle.std.specs.Prelude.{ℕ, suc, Bool, true, false, cond, List, [], ◌∷◌, ◌++◌, length, get_or, None, Option, Some, option_map}
 use Rattle.base.specs.Bytes.{Bytes, same}
-use Rattle.interner.specs.declared.Interned.{Interned}
-use Rattle.interner.specs.declared.Interned.TheVariants.{Held, New, Full}
+use Rattle.interner.specs.Interned.{Interned, Held, New, Full}
 
 -- the handle of an equal text, if one is held
 unfoldable pub handle_of : Bytes → List Bytes → Option ℕ

@@ -6,12 +6,13 @@ ghost use Rattle.std.specs.Option.{option_copied};
 ghost use Rattle.base.specs.Bytes.{both};
 ghost use Rattle.little.specs.Little.{over};
 ghost use Rattle.distinct.specs.Check.{NotedAs};
-ghost use Rattle.interner.specs.Strings.{span_at, string_at, span_of, is_at, find_from, find_in, used_of, added, text_room, store_with, store_after, text_taken, taken_as, intern};
+ghost use Rattle.interner.specs.Strings.{span_at, string_at, span_of, is_at, find_from, find_in, used_of, added, text_room, taken_as, intern};
 ghost use Rattle.interner.specs.Sound.{sound_up_to, sound_strings, fresh_spans};
 ghost use Rattle.interner.specs.Check.{new_at, legal_at, WordsNoted};
 ghost use Rattle.interner.specs.Texts.{handle_answered};
 ghost use Rattle.interner.specs.Lent.{store_seen, store_held, IsSameStrings, span_held, find_held};
 
+use distinct::NotedRuns;
 use little::Span;
 
 // ---- the texts that are in use
@@ -28,16 +29,14 @@ impl Texts<'_> {
     pub fn span_at(&self, h: usize) -> Option<Span>
         ensures { result ≡ span_at self.now.spans.now self.now.bytes.now h }
     {
-        if self.spans.len() / 2 <= h {
-            return None;
-        }
-        let start = self.spans[2 * h] as usize;
-        let len = self.spans[2 * h + 1] as usize;
-        if self.bytes.len() < len {
-            return None;
-        }
-        if start <= self.bytes.len() - len {
-            Some(Span { start, len })
+        let (pairs, _) = self.spans.as_chunks::<2>();
+        let [start, len] = *pairs.get(h)?;
+        let span = Span {
+            start: start as usize,
+            len: len as usize,
+        };
+        if little::within(span.start, span.len, self.bytes.len()) {
+            Some(span)
         } else {
             None
         }
@@ -62,7 +61,7 @@ impl Texts<'_> {
         }
     }
 
-    // The first handle from one on, of a count, whose string is the text. Handles past the spans have none.
+    // The first handle from one on, of a count, whose string is the text. Handles past the spans have none, so the count is no slice's.
     pub fn find_from(&self, from: usize, count: u64, text: &[u8]) -> Option<u64>
         ensures { result ≡ find_from self.now.spans.now self.now.bytes.now text.now (count - from) from }
     {
@@ -114,6 +113,7 @@ impl Texts<'_> {
     }
 
     // Notes the words of the strings of the first n handles. None where one of them does not lie within the bytes or is no legal text, else how many they are.
+    // It is a loop: of what a closure of `all` writes into the words a proof knows nothing.
     fn note_texts(&self, words: &mut [u64], n: usize) -> Option<usize>
         ensures { length self.now.bytes.now < 131072 → NotedAs self.now.bytes.now words.new result (sound_up_to self.now.spans.now self.now.bytes.now n) }
     {
@@ -132,14 +132,35 @@ impl Texts<'_> {
         if n <= 32 {
             return self.sound_in_pairs(n);
         }
-        // `unwrap_or_else` was tried, and its proof did not close: a proof learns nothing of what the closure answers.
-        let note = |words: &mut [u64]| -> Option<usize>
-            ensures { length self.entry.now.bytes.now < 131072 → NotedAs self.entry.now.bytes.now words.new result (sound_up_to self.entry.now.spans.now self.entry.now.bytes.now n) }
-        { self.note_texts(words, n) };
-        match distinct::noted_differ(self.bytes, note) {
+        let texts = FirstTexts {
+            texts: *self,
+            count: n,
+        };
+        match distinct::noted_differ(&texts) {
             Some(told) => told,
             None => self.sound_in_pairs(n),
         }
+    }
+}
+
+// The texts of the first handles, to be told apart by their words.
+#[derive(Clone, Copy)]
+struct FirstTexts<'a> {
+    texts: Texts<'a>,
+    count: usize,
+}
+
+impl NotedRuns for FirstTexts<'_> {
+    ghost within = { λ first. first.texts.bytes.now };
+
+    ghost asked = { λ first. sound_up_to first.texts.spans.now first.texts.bytes.now first.count };
+
+    fn bytes(&self) -> &[u8] {
+        self.texts.bytes
+    }
+
+    fn note(&self, words: &mut [u64]) -> Option<usize> {
+        self.texts.note_texts(words, self.count)
     }
 }
 
@@ -192,10 +213,7 @@ impl Strings<'_> {
         if (self.spans.len() / 2) as u64 <= self.count {
             return false;
         }
-        if self.bytes.len() < text.len() {
-            return false;
-        }
-        self.used <= (self.bytes.len() - text.len()) as u64
+        little::within(self.used as usize, text.len(), self.bytes.len())
     }
 
     // Whether the strings are sound.
@@ -230,7 +248,7 @@ pub struct StringsMut<'a> {
     pub used: u64,
 }
 
-// A span at the start of what is lent, as far as there is room.
+// A span at the start of what is lent, as far as there is room. The two words are stored one by one: the library says nothing of what a slice ends as after `as_chunks_mut`.
 fn put_span(out: &mut [u64], start: u64, len: u64)
     ensures { out.new ≡ over out.old 0 (start ∷ len ∷ []) }
 {
@@ -273,6 +291,7 @@ impl StringsMut<'_> {
     }
 
     // Takes a text in of which it is known whether it is held: its handle, else the next one, or none where there is no room. The handle is new where the count has grown.
+    #[tactic(auto, using(crate::proofs::Takes::taken_held, crate::proofs::Takes::taken_new, crate::proofs::Takes::taken_full))]
     pub fn intern_found(&mut self, text: &[u8], found: Option<u64>) -> Option<u64>
         ensures same { IsSameStrings self.new self.old }
         ensures store { store_held self.new ≡ (taken_as (store_held self.old) text.now found).store }
@@ -299,105 +318,4 @@ impl StringsMut<'_> {
         let found = self.strings().find(text);
         self.intern_found(text, found)
     }
-}
-
-// ---- the same over parts that are lent one by one, for callers that do not lend `Strings` yet
-
-// What `intern` answers: the handle of a text that was held, of a new one, or that there is no room (13).
-#[derive(Clone, Copy)]
-pub enum Interned {
-    Held(u64),
-    New(u64),
-    Full,
-}
-
-// The answer of `intern`, with the counts of strings and of used bytes after it.
-#[derive(Clone, Copy)]
-pub struct Taken {
-    pub answer: Interned,
-    pub strings: u64,
-    pub used: u64,
-}
-
-// Where the text of a held handle lies.
-pub fn resolve(spans: &[u64], bytes: &[u8], count: u64, handle: u64) -> Option<Span>
-    ensures { result ≡ span_of spans.now bytes.now count handle }
-{
-    if handle < count {
-        Texts { spans, bytes }.span_at(handle as usize)
-    } else {
-        None
-    }
-}
-
-// Whether one more string of a length fits what is lent.
-pub fn fits(words: usize, size: usize, strings: u64, used: u64, len: usize) -> bool
-    ensures { result ≡ both (leb (2 * strings + 2) words) (leb (used + len) size) }
-{
-    if (words / 2) as u64 <= strings {
-        return false;
-    }
-    if size < len {
-        return false;
-    }
-    used <= (size - len) as u64
-}
-
-// Adds a text for which there is room: its span behind those of the held strings, its bytes behind the used ones.
-fn add(spans: &mut [u64], bytes: &mut [u8], strings: u64, used: u64, text: &[u8]) -> Taken
-    requires { (2 * strings + 2 ≤ length spans.old) × (used + length text.now ≤ length bytes.old) }
-    ensures { store_after spans.new bytes.new result ≡ text_taken (store_with spans.old bytes.old strings used) text.now }
-{
-    let next = 2 * strings as usize;
-    let at = used as usize;
-    put_span(&mut spans[next..], used, text.len() as u64);
-    little::copy_in(&mut bytes[at..], text);
-    Taken {
-        answer: Interned::New(strings),
-        strings: strings + 1,
-        used: used + text.len() as u64,
-    }
-}
-
-// Takes a text in of which it is known whether it is held: its handle, else the next one, if there is room.
-pub fn intern_found(
-    spans: &mut [u64],
-    bytes: &mut [u8],
-    strings: u64,
-    used: u64,
-    text: &[u8],
-    found: Option<u64>,
-) -> Taken
-    ensures { store_after spans.new bytes.new result ≡ taken_as (store_with spans.old bytes.old strings used) text.now found }
-{
-    if let Some(h) = found {
-        return Taken {
-            answer: Interned::Held(h),
-            strings,
-            used,
-        };
-    }
-    if fits(spans.len(), bytes.len(), strings, used, text.len()) {
-        add(spans, bytes, strings, used, text)
-    } else {
-        Taken {
-            answer: Interned::Full,
-            strings,
-            used,
-        }
-    }
-}
-
-// Takes a text in: the handle of an equal one that is held, else the next handle, if there is room.
-pub fn intern(spans: &mut [u64], bytes: &mut [u8], strings: u64, used: u64, text: &[u8]) -> Taken
-    ensures { store_after spans.new bytes.new result ≡ intern (store_with spans.old bytes.old strings used) text.now }
-{
-    let found = Strings {
-        spans,
-        bytes,
-        count: strings,
-        used,
-    }
-    .find(text);
-    intern_found(spans, bytes, strings, used, text, found)
 }

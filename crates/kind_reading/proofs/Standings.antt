@@ -1,8 +1,6 @@
 -- What is known of an id: in a sound table, what its rank finds among the rows.
 use Rattle.std.specs.Prelude.{Err, None, Ok, Option, Result, Some}
-use Prim.Native.Nat.{ℕ, ◌^◌}
-use lib.Dec.{ltb}
-use Rattle.std.specs.Option.{is_some}
+use Prim.Native.Nat.{ℕ}
 use mathlib.Core.Path.{◌≡◌, refl, sym, ◌∙◌, ap}
 use mathlib.Core.Bool.{Bool, true, false, not}
 use mathlib.Core.Logic.{◌↔◌}
@@ -12,7 +10,7 @@ use Rattle.base.proofs.Split.{by_bool, no}
 use Rattle.osm_id.specs.Order.{rank}
 use Rattle.kind_store.specs.KindStore.{is_live}
 use Rattle.kind_table.specs.Rows.{find}
-use Rattle.kind_table.specs.Words.{record_place, row_at, row_found, rows_of, sound_table, lookup}
+use Rattle.kind_table.specs.Words.{row_at, row_found, rows_of, sound_table, lookup}
 use Rattle.kind_table.specs.declared.Row.{Row}
 use Rattle.kind_table.proofs.Tables.{found_row, found_none}
 use Rattle.kind_reading.specs.declared.Standing.{Standing}
@@ -56,11 +54,6 @@ module _ (r : Row) where
       by_bool (is_live r.place)
       (λ t. let z : Live r.place ≡ Unknown = rw t at e in no (cc))
       (λ t. let z : Deleted ≡ Unknown = rw t at e in no (cc))
-
--- whether a place says that the id is live
-pub place_is : (place : ℕ) → is_some (record_place place) ≡ is_live place
-unfolding is_live
-place_is place = by_bool (ltb place (2 ^ 63)) (λ t. rw t) (λ t. rw t)
 
 pub not_back : (a b : Bool) → a ≡ not b → b ≡ not a
 not_back true true e = cc

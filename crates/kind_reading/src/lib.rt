@@ -52,7 +52,7 @@ impl From<Row> for Standing {
     }
 }
 
-// How many rows are on a list.
+// How many rows are on a list. It counts in a loop: for `filter(..).count()`, with a closure that promises `is_on`, the search did not close the return.
 pub fn listed_count(storage: &KindStorage<'_>, side: Side) -> u64
     ensures { result ≡ length (rows_on side (rows_read storage.now.table.now storage.now.ids)) }
 {
@@ -66,7 +66,7 @@ pub fn listed_count(storage: &KindStorage<'_>, side: Side) -> u64
     count
 }
 
-// The row of a number on a list.
+// The row of a number on a list. It counts in a loop: `filter(..).nth(n)` gives a row's words, made a row once more, and takes a `usize` where `n` is a word of C's.
 pub fn listed_row(storage: &KindStorage<'_>, side: Side, n: u64) -> Option<Row>
     ensures { result ≡ nth (rows_on side (rows_read storage.now.table.now storage.now.ids)) n }
 {

@@ -39,6 +39,7 @@ fn rank_there(bytes: &[u8], place: usize) -> u64
 
 // ---- where records start
 
+// It takes the cells and a place, and no part of them: which cell a place has and what the cell holds are told by the place, and a part would tell neither.
 fn note(cells: &mut [u8; CELLS], at: usize)
     ensures { cells.new ≡ set cells.old (at / 45) (cell_of at) }
 {

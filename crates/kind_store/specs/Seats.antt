@@ -14,6 +14,11 @@ use Rattle.kind_store.specs.declared.Seat.{Seat}
 abbrev pub regression_in : ℕ → VersionRegression
 regression_in setting = cond (eqb setting 0) Refused Allowed
 
+-- a setting that says so
+abbrev pub setting_of : VersionRegression → ℕ
+setting_of Refused = 0
+setting_of Allowed = 1
+
 -- the place of an id's row, with what is known of the id
 abbrev pub seat_of : Kind → KindStore → ℤ → Seat
 seat_of k s id = record { found = lookup s.table s.ids (rank id); known = known_version k s id; floor = floor_of s id }

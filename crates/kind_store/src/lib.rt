@@ -1,21 +1,18 @@
 // One kind's id table and arena (parse.rs): the known version of an id, a push and a delete.
 #![tactic(auto)]
 
-ghost use Rattle.std.specs.Prelude.{◌≡◌, ◌++◌, ℕ};
+ghost use Rattle.std.specs.Prelude.{◌≡◌};
 ghost use Rattle.std.specs.Int.{w64};
 ghost use Rattle.std.proofs.Common.{to_z};
 ghost use Rattle.model.specs.Record.{claim_of};
-ghost use Rattle.compact.specs.Layout.{head_len, head_bytes, meta_bytes};
-ghost use Rattle.compact.specs.Held.{meta_of, head_in};
+ghost use Rattle.compact.specs.Layout.{head_len};
+ghost use Rattle.compact.specs.Held.{meta_of};
 ghost use Rattle.compact.specs.Push.{bytes_given};
-ghost use Rattle.kind_table.specs.Words.{held, row_at};
-ghost use Rattle.kind_store.specs.KindStore.{kind_store_with, live_version, known_of, known_version, checked, room_at, floor_after, pushed, deleted};
+ghost use Rattle.kind_store.specs.KindStore.{live_version, known_of, known_version, checked, room_at, floor_after, pushed, deleted};
 ghost use Rattle.kind_store.specs.Lent.{kind_seen, kind_held, kind_rows_held, IsSameKindStorage, IsSameKindStorageTable};
-ghost use Rattle.kind_store.specs.Seats.{regression_in, seat_of, seated};
+ghost use Rattle.kind_store.specs.Seats.{regression_in, setting_of, seat_of, seated};
 
-use compact::{
-    ArenaMeta, CompactNode, CompactRelation, CompactWay, PushHead, PushRecord, RecordHead,
-};
+use compact::{CompactNode, CompactRelation, CompactWay, PushRecord, RecordHead};
 use kind::Kind;
 use kind_table::{DELETED, Row, Table, TableMut};
 use refusal::Refusal;
@@ -51,7 +48,8 @@ pub struct KindStorageMut<'a> {
     pub used: u64,
 }
 
-// What is lent for one kind, with the id table alone to be changed.
+// What is lent for one kind, with the id table alone to be changed. It is a type of its own, with its own `storage`: C lends the arena of a delete as const, so
+// no `&mut` of it can be made, and a trait over both types would want that one expression from each.
 #[derive(Drop)]
 pub struct KindStorageTable<'a> {
     pub kind: Kind,
@@ -85,7 +83,7 @@ impl From<u64> for VersionRegression {
 impl VersionRegression {
     // 12: where regression is refused, a claim is checked against the known version.
     pub fn check(self, known: Option<i32>, claim: Option<i32>) -> Result<(), i32>
-        ensures { (setting : ℕ) → self ≡ regression_in setting → result ≡ checked setting known claim }
+        ensures { result ≡ checked (setting_of self) known claim }
     {
         match self {
             VersionRegression::Refused => VersionFloor::new(known).admit(claim),
@@ -95,7 +93,7 @@ impl VersionRegression {
 
     // The floor word that a push leaves: without a version it carries the known one, only while regression is refused.
     fn floor_after(self, known: Option<i32>, claim: Option<i32>, floor: u64) -> u64
-        ensures { (setting : ℕ) → self ≡ regression_in setting → result ≡ floor_after setting known claim floor }
+        ensures { result ≡ floor_after (setting_of self) known claim floor }
     {
         match (self, claim) {
             (VersionRegression::Refused, None) => version_floor::version_word(known),
@@ -127,20 +125,6 @@ impl KindStorage<'_> {
             words: self.table,
             count: self.ids,
         }
-    }
-
-    // How many rows are read: those counted, as far as the words go.
-    pub fn rows_held(&self) -> usize
-        ensures { result ≡ held self.now.table.now self.now.ids }
-    {
-        self.rows().rows().len()
-    }
-
-    // The i-th row.
-    pub fn row_at(&self, i: usize) -> Row
-        ensures { result ≡ row_at self.now.table.now i }
-    {
-        kind_table::row_at(self.table, i)
     }
 
     // The version that a row's record claims, or none for a deleted id.
@@ -203,10 +187,10 @@ impl KindStorage<'_> {
         id: u64,
         claim: Option<i32>,
     ) -> Result<Seat, Refusal>
-        ensures { (setting : ℕ) → regression ≡ regression_in setting → result ≡ seated self.now.kind setting (kind_seen self.now) (to_z w64 id) claim }
+        ensures { result ≡ seated self.now.kind (setting_of regression) (kind_seen self.now) (to_z w64 id) claim }
     {
         let seat = self.seat(id);
-        // The answer is taken apart, and left early where it is no refusal, as version_floor.rs is asked to be used; `?` would turn it round.
+        // The answer is taken apart by `let Err(..) = .. else`, as document 01's table asks (DECISIONS, "Forms"), and not by `?`.
         let Err(held) = regression.check(seat.known, claim) else {
             if self.has_room(seat.found) {
                 return Ok(seat);
@@ -240,8 +224,7 @@ impl KindStorageMut<'_> {
         push: &PushRecord<'_>,
     ) -> Result<(), Refusal>
         ensures same { IsSameKindStorage self.new self.old }
-        ensures done { (setting : ℕ) → regression ≡ regression_in setting
-            → record { kind_store = kind_held self.new; answer = result } ≡ pushed self.old.kind setting (kind_held self.old) (to_z w64 push.now.head.id) (claim_of (meta_of push.now.meta)) (bytes_given push.now) }
+        ensures done { record { kind_store = kind_held self.new; answer = result } ≡ pushed self.old.kind (setting_of regression) (kind_held self.old) (to_z w64 push.now.head.id) (claim_of (meta_of push.now.meta)) (bytes_given push.now) }
     {
         let id = push.head.id;
         let claim = push.meta.claim();
@@ -290,8 +273,7 @@ impl KindStorageTable<'_> {
         claim: Option<i32>,
     ) -> Result<(), Refusal>
         ensures same { IsSameKindStorageTable self.new self.old }
-        ensures done { (setting : ℕ) → regression ≡ regression_in setting
-            → record { kind_store = kind_rows_held self.new; answer = result } ≡ deleted self.old.kind setting (kind_rows_held self.old) (to_z w64 id) claim }
+        ensures done { record { kind_store = kind_rows_held self.new; answer = result } ≡ deleted self.old.kind (setting_of regression) (kind_rows_held self.old) (to_z w64 id) claim }
     {
         let seat = self.storage().admitted(regression, id, claim)?;
         let row = Row {
@@ -306,78 +288,5 @@ impl KindStorageTable<'_> {
         rows.put_row(seat.found, row);
         self.ids = rows.count;
         Ok(())
-    }
-}
-
-// ---- the same over parts that are lent one by one
-
-// An act's answer, and the used counts of ids and of arena bytes after it.
-#[derive(Clone, Copy)]
-pub struct Outcome {
-    pub answer: Result<(), Refusal>,
-    pub ids: u64,
-    pub used: u64,
-}
-
-pub fn push(
-    kind: Kind,
-    setting: u64,
-    table: &mut [u64],
-    ids: u64,
-    arena: &mut [u8],
-    used: u64,
-    head: PushHead,
-    meta: ArenaMeta,
-    parts: &[u8],
-) -> Outcome
-    ensures { record { kind_store = kind_store_with table.new result.ids arena.new result.used; answer = result.answer } ≡ pushed kind setting (kind_store_with table.old ids arena.old used) (to_z w64 head.id) (claim_of (meta_of meta)) (head_bytes kind (head_in kind head) ++ meta_bytes (meta_of meta) ++ parts.now) }
-{
-    let mut storage = KindStorageMut {
-        kind,
-        table,
-        ids,
-        arena,
-        used,
-    };
-    let answer = storage.push(
-        setting.into(),
-        &PushRecord {
-            kind,
-            head,
-            meta,
-            parts,
-        },
-    );
-    Outcome {
-        answer,
-        ids: storage.ids,
-        used: storage.used,
-    }
-}
-
-pub fn delete(
-    kind: Kind,
-    setting: u64,
-    table: &mut [u64],
-    ids: u64,
-    arena: &[u8],
-    used: u64,
-    id: u64,
-    claim: Option<i32>,
-) -> Outcome
-    ensures { record { kind_store = kind_store_with table.new result.ids arena.now result.used; answer = result.answer } ≡ deleted kind setting (kind_store_with table.old ids arena.now used) (to_z w64 id) claim }
-{
-    let mut storage = KindStorageTable {
-        kind,
-        table,
-        ids,
-        arena,
-        used,
-    };
-    let answer = storage.delete(setting.into(), id, claim);
-    Outcome {
-        answer,
-        ids: storage.ids,
-        used: storage.used,
     }
 }

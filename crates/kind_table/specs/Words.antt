@@ -82,10 +82,6 @@ row_found ws (Err p) = None
 unfoldable pub row_over : List ℕ → ℕ → Row → List ℕ
 row_over ws i row = take (3 * i) ws ++ (words_of (row ∷ []) ++ drop (3 * i + 3) ws)
 
--- what stands from the word `at` up to the word `used`, three words further on
-unfoldable pub gap : List ℕ → ℕ → ℕ → List ℕ
-gap ws at used = take (at + 3) ws ++ (slice at used ws ++ drop (used + 3) ws)
-
 -- a row before the p-th of n rows: the rows before, the row, the rows after, the rest
 unfoldable pub inserted : List ℕ → ℕ → ℕ → Row → List ℕ
 inserted ws p n row = take (3 * p) ws ++ (words_of (row ∷ []) ++ (slice (3 * p) (3 * n) ws ++ drop (3 * n + 3) ws))

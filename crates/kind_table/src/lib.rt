@@ -1,9 +1,9 @@
 // Id tables over lent words: three words a row, in OSM order of the ids.
 #![tactic(auto)]
 
-ghost use Rattle.std.specs.Prelude.{◌≡◌, ℕ, ◌+◌, ◌*◌, ◌/◌, ◌≤◌, ◌<◌, length, get_or};
+ghost use Rattle.std.specs.Prelude.{◌≡◌, ℕ, ◌+◌, ◌*◌, ◌≤◌, ◌<◌, length};
 ghost use Rattle.std.specs.Simd.{first_chunks};
-ghost use Rattle.kind_table.specs.Words.{row_at, row_given, row_by, row_found, record_place, words_in, row_of_words, sound_table, held, halve, lookup, row_over, gap, inserted, table_after};
+ghost use Rattle.kind_table.specs.Words.{row_given, row_by, row_found, record_place, words_in, row_of_words, sound_table, held, halve, lookup, row_over, inserted, table_after};
 ghost use Rattle.kind_table.specs.Lent.{IsSameTable};
 
 // The word that stands in place of an offset where the id is deleted, and each above it.
@@ -143,41 +143,33 @@ impl Table<'_> {
     }
 }
 
-// Moves the first n words three further on; from place 0 on, so that it is compiled to one block move.
-fn move_up(words: &mut [u64], n: usize)
-    requires { n + 3 ≤ length words.old }
-    ensures { words.new ≡ gap words.old 0 n }
-{
-    words.copy_within(0..n, 3);
-}
-
-// Moves the words from `at` up to `used` three further on.
-fn open_gap(words: &mut [u64], at: usize, used: usize)
-    requires { (at ≤ used) × (used + 3 ≤ length words.old) }
-    ensures { words.new ≡ gap words.old at used }
-{
-    move_up(&mut words[at..], used - at);
-}
-
-// A row over the i-th. Rows are stored over the words: the library says nothing of what the slice ends as after `as_chunks_mut`.
-fn store_row(words: &mut [u64], i: usize, row: Row)
-    requires { 3 * i + 3 ≤ length words.old }
-    ensures { words.new ≡ row_over words.old i row }
-{
-    let at = 3 * i;
-    words[at..at + 3].copy_from_slice(&row.words());
-}
-
-// A row before the p-th of n rows.
-fn insert_row(words: &mut [u64], p: usize, n: usize, row: Row)
-    requires { (p ≤ n) × (3 * n + 3 ≤ length words.old) }
-    ensures { words.new ≡ inserted words.old p n row }
-{
-    open_gap(words, 3 * p, 3 * n);
-    store_row(words, p, row);
-}
-
 impl TableMut<'_> {
+    // A row over the i-th. Rows are stored over the words: the library says nothing of what the slice ends as after `as_chunks_mut`.
+    fn store_row(&mut self, i: usize, row: Row)
+        requires { 3 * i + 3 ≤ length self.old.words.now }
+        ensures same { IsSameTable self.new self.old }
+        ensures count { self.new.count ≡ self.old.count }
+        ensures stored { self.new.words.now ≡ row_over self.old.words.now i row }
+    {
+        let at = 3 * i;
+        self.words[at..at + 3].copy_from_slice(&row.words());
+    }
+
+    // A row before the p-th of the counted rows, which then are one more.
+    fn insert_row(&mut self, p: usize, row: Row)
+        requires { (p ≤ self.old.count) × (3 * self.old.count + 3 ≤ length self.old.words.now) }
+        ensures same { IsSameTable self.new self.old }
+        ensures count { self.new.count ≡ self.old.count + 1 }
+        ensures inserted { self.new.words.now ≡ inserted self.old.words.now p self.old.count row }
+    {
+        let used = 3 * self.count as usize;
+        let at = 3 * p;
+        // From place 0 of the rest on, so that it is compiled to one block move.
+        self.words[at..].copy_within(0..used - at, 3);
+        self.store_row(p, row);
+        self.count += 1;
+    }
+
     // Stores a row by where its rank was found: over the row there, or inserted in its place and the later rows moved up by one. Says whether it is
     // stored: where the rank is new and there is no room for one more row, nothing is.
     pub fn put_row(&mut self, found: Result<usize, usize>, row: Row) -> bool
@@ -190,41 +182,14 @@ impl TableMut<'_> {
         let most = self.words.len() / 3;
         match found {
             Ok(i) if i < most => {
-                store_row(self.words, i, row);
+                self.store_row(i, row);
                 true
             }
             Err(p) if p <= n && n < most => {
-                insert_row(self.words, p, n, row);
-                self.count += 1;
+                self.insert_row(p, row);
                 true
             }
             _ => false,
-        }
-    }
-}
-
-fn word_at(table: &[u64], j: usize) -> u64
-    ensures { result ≡ get_or table.now j 0 }
-{
-    if j < table.len() { table[j] } else { 0 }
-}
-
-// The i-th row; a word past the end is 0.
-pub fn row_at(table: &[u64], i: usize) -> Row
-    ensures { result ≡ row_at table.now i }
-{
-    if i <= table.len() / 3 {
-        let at = 3 * i;
-        Row {
-            rank: word_at(table, at),
-            place: word_at(table, at + 1),
-            floor: word_at(table, at + 2),
-        }
-    } else {
-        Row {
-            rank: 0,
-            place: 0,
-            floor: 0,
         }
     }
 }

@@ -1,36 +1,21 @@
 -- The call: measured first, lent the output's end; then written, where it fits.
-use Rattle.std.specs.Prelude.{Err, None, Ok, Option, Some}
-use Prim.Native.Nat.{ℕ, ◌+◌, ◌-◌, ◌<◌, ◌≤◌, min}
-use mathlib.Core.Path.{◌≡◌, refl, sym, ◌∙◌, ap}
+use Rattle.std.specs.Prelude.{None, Ok, Option, Some}
+use Prim.Native.Nat.{ℕ, ◌<◌, ◌≤◌}
+use mathlib.Core.Path.{◌≡◌, ◌∙◌, ap}
 use mathlib.Core.Bool.{true, false}
-use mathlib.Core.List.{List, [], ◌∷◌, ◌++◌}
-use native.Mathlib.Omega.{arith}
-use lib.ListN.{length, get_or, take, drop, length-take}
-use lib.Seq.{take_all, take-take}
+use mathlib.Core.List.{◌++◌}
+use lib.ListN.{length, drop}
 use borrow.Author.Tests.{le-leb, lt-leb}
-use borrow.Rule.Slice.PartMut.{mid_of, put_mid, put_same}
 use Rattle.base.specs.Bytes.{Bytes}
-use Rattle.base.proofs.Split.{by_le, no}
-use Rattle.little.proofs.Overs.{over_start}
-use Rattle.kind.specs.declared.Kind.{Kind}
+use Rattle.base.proofs.Split.{by_le}
 use Rattle.refusal.specs.declared.Refusal.TheVariants as R
 use Rattle.std.specs.Option.{ok_or}
 use Rattle.print.specs.Print.{joined_pieces}
 use Rattle.print.specs.Piece.{Whole, whole_over}
-use Rattle.listing_fields.specs.Fields.{held_text}
-use Rattle.kind_table.specs.Words.{rows_of, held}
-use Rattle.listing_rows.specs.Lines.{row_pieces, kind_pieces}
-use Rattle.kind_store.specs.KindStore.{KindStore}
-use Rattle.overlay_blocks.specs.declared.KindPart.{KindPart}
-use Rattle.overlay_blocks.specs.declared.TextPart.{TextPart}
-use Rattle.overlay_blocks.specs.Blocks.{cut, sizes_in, part_in, text_part_in}
-use Rattle.overlay_blocks.proofs.Cuts.{cut_all}
-use Rattle.overlay.specs.Overlay.{Overlay, kind_store_of}
-use Rattle.overlay.specs.Lent.{overlay_in}
-use Rattle.overlay.proofs.Puts.{kind_store_in_lem}
+use Rattle.overlay.specs.Overlay.{Overlay}
 use Rattle.overlay.specs.Given.{InBytes}
 use Rattle.overlay.specs.Sound.{is_sound}
-use Rattle.listing.specs.Pieces.{kind_lines, pieces_of}
+use Rattle.listing.specs.Pieces.{pieces_of}
 use Rattle.listing.specs.Call.{Output, not_listed, page_of, page_over, listing_on}
 use Rattle.listing.proofs.Pages.{page_pieces}
 

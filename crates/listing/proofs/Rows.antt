@@ -1,6 +1,6 @@
 -- A sound kind store, row by row: at the place of each live row the readers find a legal record of its kind, and the known version of a row's id is the one that the row says.
 use Rattle.std.specs.Prelude.{None, Some}
-use Prim.Native.Nat.{ℕ, zero, suc, ◌+◌, ◌-◌, ◌^◌, ◌≤◌}
+use Prim.Native.Nat.{ℕ, ◌+◌, ◌≤◌}
 use mathlib.Core.Path.{◌≡◌, refl, sym, ◌∙◌, ap, subst}
 use mathlib.Core.Bool.{true, not}
 use mathlib.Core.List.{List, ◌++◌}
@@ -11,8 +11,7 @@ use Rattle.base.specs.Bytes.{Bytes}
 use Rattle.base.proofs.Split.{by_le, by_either, both_left, both_right, clash, no}
 use Rattle.kind.specs.declared.Kind.{Kind}
 use Rattle.kind.proofs.Numbers as Numbers
-use Rattle.osm_id.specs.Order.{rank, id_of}
-use Rattle.osm_id.proofs.Orders.{id_negative, id_positive}
+use Rattle.osm_id.specs.Order.{id_of}
 use Rattle.model.specs.Record.{kind_of}
 use Rattle.compact.specs.Layout.{head_len}
 use Rattle.compact.specs.Cut.{KeptRecord, cut_record}
@@ -27,6 +26,7 @@ use Rattle.kind_table.specs.Rows.{find}
 use Rattle.kind_store.specs.KindStore.{KindStore, is_live, known_of, known_version}
 use Rattle.kind_store.specs.WellFormed.{rows_in}
 use Rattle.kind_store.proofs.KindStores.{known_row, known_kept}
+use Rattle.kind_sound.proofs.Ids.{rank_back}
 use Rattle.kind_sound.specs.Sound.{SoundKindStore, sound_row}
 use Rattle.listing.specs.Known.{held_in, record_in}
 
@@ -77,15 +77,6 @@ module _ (strings : ℕ) (k : Kind) (s : KindStore) (w : SoundKindStore strings 
   record_kind = kept_kind k x (record_passes (fits_kept k) at w.whole.kept x w.whole.fits h)
 
 -- ---- the known version of a row's id
-
--- any number is the rank of its id
-rank_back : (n : ℕ) → rank (id_of n) ≡ n
-unfolding rank id_of
-rank_back zero = refl
-rank_back (suc n) =
-    by_le (suc n) (2 ^ 63)
-    (λ l. rw (id_negative {r = suc n} (λ e. omega arith) l) (omega arith))
-    (λ l. let e : suc n - 2 ^ 63 ≡ suc (n - 2 ^ 63) = omega arith in rw (id_positive l, e) (omega arith))
 
 -- the search finds the row itself, and its record's version stands within the used bytes
 pub row_version : (strings : ℕ) (k : Kind) (s : KindStore) (w : SoundKindStore strings k s) (r : Row) → find r.rank (rows_in s) ≡ Some r → sound_row w.whole.kept r ≡ true

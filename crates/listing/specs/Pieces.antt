@@ -1,5 +1,5 @@
 -- The pieces that the walk prints, in any words and bytes: the lines of each kind. In sound storage they are together the listing of the overlay's table (proofs/Pages).
-use Rattle.std.specs.Prelude.{ℕ, List, ◌++◌}
+use Rattle.std.specs.Prelude.{List, ◌++◌}
 use Rattle.base.specs.Bytes.{Bytes}
 use Rattle.kind.specs.declared.Kind.{Kind}
 use Rattle.kind.specs.declared.Kind.TheVariants.{Node, Way, Relation}

@@ -9,6 +9,7 @@ ghost use Rattle.listing.specs.Pieces.{pieces_of};
 ghost use Rattle.listing.specs.Call.{listing_on};
 
 use kind::Kind;
+use listing_rows::KindLines;
 use overlay::Storage;
 use print::{Printable, Printer};
 use refusal::Refusal;
@@ -26,7 +27,11 @@ impl Printable for Page<'_> {
     fn print(&self, printer: &mut Printer<'_>) {
         let strings = self.storage.strings();
         for kind in [Kind::Node, Kind::Way, Kind::Relation] {
-            listing_rows::put_lines(printer, &strings, &self.storage.kind_storage(kind));
+            let lines = KindLines {
+                strings,
+                storage: self.storage.kind_storage(kind),
+            };
+            lines.print(printer);
         }
     }
 }

@@ -1,18 +1,15 @@
 -- The walks over a record's parts: fields printed one after the other, element by element and tag by tag.
 use Rattle.std.specs.Prelude.{Err, None, Ok, Some}
 use Prim.Native.Nat.{ℕ, zero, suc, ◌+◌, ◌-◌, ◌<◌, ◌≤◌}
-use mathlib.Core.Path.{◌≡◌, refl, ◌∙◌}
+use mathlib.Core.Path.{◌≡◌, refl, sym, ◌∙◌, ap}
 use mathlib.Core.List.{List, [], ◌∷◌, ◌++◌}
 use native.Mathlib.Omega.{arith}
 use lib.Dec.{ltb}
-use lib.IntN.{ℤ}
-use lib.ListN.{length, take, drop}
+use lib.ListN.{length, take, drop, length-take, length-drop}
+use lib.Seq.{take_all}
 use Rattle.base.specs.Bytes.{Bytes}
-use Rattle.base.proofs.Split.{by_bool, by_le, no}
-use Rattle.little.specs.Little.{value_at}
-use Rattle.text.specs.Check.{is_text}
+use Rattle.base.proofs.Split.{by_bool, no}
 use Rattle.text.specs.Escape.{escape}
-use Rattle.line.specs.Decimal.{integer_text}
 use Rattle.kind.specs.declared.Kind.{Kind}
 use Rattle.refusal.specs.declared.Refusal.{Refusal}
 use Rattle.interner.specs.Strings.{Store, used_of, span_of}
@@ -22,10 +19,12 @@ use Rattle.interner.proofs.Finds.{lies, within_bytes}
 use Rattle.model.specs.Swap.{swap_meta}
 use Rattle.compact.specs.Layout.{head_len}
 use Rattle.compact.specs.Held.{meta_of}
-use Rattle.compact.specs.View.{meta_at, head_at, member_at, tag_step}
+use Rattle.compact.specs.View.{TagStep, meta_at, head_at, member_at, tag_step}
 use Rattle.compact.specs.declared.ArenaMeta.{ArenaMeta}
 use Rattle.compact.specs.declared.TagPart.{TagPart}
-use Rattle.compact.proofs.Steps.{tag_past, tag_over, tag_judged}
+use Rattle.compact.specs.Tags.{TagTurn, turn_by, tag_turn}
+use Rattle.compact.specs.declared.TagPlace.{TagPlace}
+use Rattle.compact.proofs.Tags.{tag_left}
 use Rattle.listing_page.specs.Listing.{meta_fields}
 use Rattle.print.specs.Print.{tabs}
 use Rattle.print.specs.Printer.{Prints}
@@ -57,6 +56,13 @@ pub text_missing : (s : Store) (h : ℕ) → None ≡ span_held s h → [] ≡ t
 unfolding held_text
 text_missing s h e = rw (← e)
 
+-- a part as it is cut, from its start on and then to its end
+pub cut_part : (s : Bytes) (start len : ℕ) → take len (take (length s - start) (drop start s)) ≡ take len (drop start s)
+cut_part s start len = ap (take len) (take_all (length s - start) (drop start s) (omega (arith, length-drop start s)))
+
+pub cut_length : (s : Bytes) (start len : ℕ) → start + len ≤ length s → len ≡ length (take len (take (length s - start) (drop start s)))
+cut_length s start len h = rw (cut_part s start len) (omega (arith, length-take len (drop start s), length-drop start s))
+
 -- ---- element by element
 
 module _ (g : ℕ → List Bytes) (n : ℕ) where
@@ -78,31 +84,42 @@ fields_of s view i = held_member (text_held s) (member_at view i)
 
 -- ---- tag by tag
 
-module _ (s : Bytes) (at n : ℕ) (more : 0 < n) where
-  -- a tag lies within the bytes
-  pub tag_within : (t : TagPart) → Ok (Some t) ≡ tag_step s at n → t.start + t.len ≤ length s
-  tag_within t e =
-      let m : n ≡ 0 → ⊥ = λ z. omega arith in
-      let v = value_at 4 s (at + 4) in
-      by_le (at + 8) (length s)
-      (λ r. by_le (at + 8 + v) (length s)
-      (λ h. let w = tag_judged s at n m r v refl h in
-      by_bool (is_text (take v (drop (at + 8) s)))
-      (λ q. let x = rw q at w in let a : t.start ≡ at + 8 = cc in let b : t.len ≡ v = cc in omega arith)
-      (λ q. let x = rw q at w in no (cc)))
-      (λ h. let w = tag_over s at n m r v refl h in no (cc)))
-      (λ h. let w = tag_past s at n m h in no (cc))
+-- what a turn of the walk yields is a step's answer, and it goes on behind the tag that it yields
+turn_step : (y : TagStep) (p : TagPlace) → (turn_by y p).step ≡ y
+unfolding turn_by
+turn_step (Ok None) p = refl
+turn_step (Ok (Some t)) p = refl
+turn_step (Err r) p = refl
+
+turn_place : (y : TagStep) (p : TagPlace) (t : TagPart) → y ≡ Ok (Some t) → (turn_by y p).place ≡ record { offset = t.start + t.len; remaining = p.remaining - 1 }
+unfolding turn_by
+turn_place y p t e = rw e
+
+module _ (s : Bytes) (p q : TagPlace) (x : TagStep) (turn : record { step = x; place = q } ≡ tag_turn s p) where
+  pub turn_answers : x ≡ tag_step s p.offset p.remaining
+  unfolding tag_turn
+  turn_answers = ap (λ (t : TagTurn). t.step) turn ∙ turn_step (tag_step s p.offset p.remaining) p
+
+  module _ (t : TagPart) (e : x ≡ Ok (Some t)) where
+    pub tag_there : tag_step s p.offset p.remaining ≡ Ok (Some t)
+    tag_there = sym turn_answers ∙ e
+
+    pub tag_fits : t.start + t.len ≤ length s
+    tag_fits = (tag_left s p.offset p.remaining t tag_there).fits
+
+    pub tag_more : 0 < p.remaining
+    tag_more = omega (arith, (tag_left s p.offset p.remaining t tag_there).more)
+
+    pub turn_on : q ≡ record { offset = t.start + t.len; remaining = p.remaining - 1 }
+    unfolding tag_turn
+    turn_on = ap (λ (t : TagTurn). t.place) turn ∙ turn_place (tag_step s p.offset p.remaining) p t tag_there
 
 module _ (f : ℕ → Bytes) (s : Bytes) where
-  pub tags_next : (at n : ℕ) (t : TagPart) → 0 < n → Ok (Some t) ≡ tag_step s at n
+  pub tags_next : (at n : ℕ) (t : TagPart) → 0 < n → tag_step s at n ≡ Ok (Some t)
       → tabs (tag_fields_from f s at n) ≡ tabs (escape (f t.key) ∷ escape (take t.len (drop t.start s)) ∷ []) ++ tabs (tag_fields_from f s (t.start + t.len) (n - 1))
   unfolding tag_fields_from tabs
   tags_next at zero t h w = absurd (omega arith)
-  tags_next at (suc n) t h w = let d : suc n - 1 ≡ n = omega arith in rw (d, ← w)
-
-  pub tags_end : (at n : ℕ) → n ≡ 0 → tabs (tag_fields_from f s at n) ≡ []
-  unfolding tag_fields_from tabs
-  tags_end at n e = rw e
+  tags_next at (suc n) t h w = let d : suc n - 1 ≡ n = omega arith in rw (d, w)
 
   pub tags_done : (at n : ℕ) → Ok None ≡ tag_step s at n → tabs (tag_fields_from f s at n) ≡ []
   unfolding tag_fields_from tabs

@@ -12,77 +12,90 @@ ghost use Rattle.print.specs.Print.{tabs};
 ghost use Rattle.print.specs.Printer.{Prints};
 ghost use Rattle.listing_fields.specs.Fields.{text_held, held_member, tag_fields_from, body_fields_at, record_fields_at};
 
-use compact::{ArenaMeta, CompactMember, CompactNode, CompactRelation, CompactWay, RecordHead};
+use compact::{
+    ArenaMeta, CompactMember, CompactNode, CompactRelation, CompactWay, RecordHead, TagPlace,
+};
 use interner::Strings;
 use kind::Kind;
-use print::{Escaped, Integer, Printer};
+use print::{Escaped, Integer, Printable, Printer};
 
-// The text of a handle.
-fn put_held(printer: &mut Printer<'_>, strings: &Strings<'_>, handle: u32)
-    ensures { Prints (tabs (escape (text_held (store_seen strings.now) handle) ∷ [])) printer.old printer.new }
-{
-    let texts = strings.texts();
-    let text = match strings.resolve(u64::from(handle)) {
-        Some(span) => &texts.bytes[span.start..span.start + span.len],
-        None => b"",
-    };
-    printer.put(&Escaped(text));
-}
-
-// "flags, version, timestamp, changeset, uid, user"
-fn put_meta(printer: &mut Printer<'_>, strings: &Strings<'_>, meta: ArenaMeta)
-    ensures { Prints (tabs (meta_fields (swap_meta (text_held (store_seen strings.now)) (meta_of meta)))) printer.old printer.new }
-{
-    printer.put(&u64::from(meta.flags));
-    printer.put(&Integer::from_bits_32(meta.version));
-    printer.put(&Integer(meta.timestamp));
-    printer.put(&Integer(meta.changeset));
-    printer.put(&Integer::from_bits_32(meta.uid));
-    put_held(printer, strings, meta.user);
-}
-
-// "type (0 to 2), ref, role"
-fn put_member(printer: &mut Printer<'_>, strings: &Strings<'_>, member: CompactMember)
-    ensures { Prints (tabs (held_member (text_held (store_seen strings.now)) member)) printer.old printer.new }
-{
-    printer.put(&u64::from(member.kind));
-    printer.put(&Integer(member.reference));
-    put_held(printer, strings, member.role);
-}
-
-// A key and a value.
-fn put_tag(printer: &mut Printer<'_>, strings: &Strings<'_>, key: u32, value: &[u8])
-    ensures { Prints (tabs (escape (text_held (store_seen strings.now) key) ∷ escape value.now ∷ [])) printer.old printer.new }
-{
-    put_held(printer, strings, key);
-    printer.put(&Escaped(value));
-}
-
-// "the tag count and each key and value", from an offset on
-fn put_tags(printer: &mut Printer<'_>, strings: &Strings<'_>, view: &[u8], offset: usize, n: u32)
-    ensures { Prints (tabs (number_text n ∷ tag_fields_from (text_held (store_seen strings.now)) view.now offset n)) printer.old printer.new }
-{
-    printer.put(&u64::from(n));
-    let mut at = offset;
-    for i in 0..n {
-        let Ok(Some(tag)) = compact::tag_step(view, at, n - i) else {
-            return;
-        };
-        let end = tag.start + tag.len;
-        put_tag(printer, strings, tag.key, &view[tag.start..end]);
-        at = end;
-    }
+// A record at the front of some bytes, with the strings that its handles name. It prints each of its fields after a tab.
+#[derive(Clone, Copy)]
+pub struct HeldRecord<'a> {
+    pub strings: Strings<'a>,
+    pub kind: Kind,
+    pub bytes: &'a [u8],
 }
 
 // What the three kinds of records print between metadata and tags.
 trait Body: RecordHead {
-    fn put_body(self, printer: &mut Printer<'_>, strings: &Strings<'_>, view: &[u8])
-        ensures { Prints (tabs (body_fields_at (text_held (store_seen strings.now)) Self.kind (Self.says self) view.now)) printer.old printer.new };
+    fn put_body(self, held: &HeldRecord<'_>, printer: &mut Printer<'_>)
+        ensures { Prints (tabs (body_fields_at (text_held (store_seen held.now.strings)) Self.kind (Self.says self) held.now.bytes.now)) printer.old printer.new };
+}
+
+impl HeldRecord<'_> {
+    // The text of a handle; of one that is not held the empty text.
+    fn text(&self, handle: u32) -> Escaped<'_>
+        ensures { result.0.now ≡ text_held (store_seen self.now.strings) handle }
+    {
+        let texts = self.strings.texts();
+        match self.strings.resolve(u64::from(handle)) {
+            Some(span) => Escaped(&texts.bytes[span.start..][..span.len]),
+            None => Escaped(b""),
+        }
+    }
+
+    // "flags, version, timestamp, changeset, uid, user"
+    fn put_meta(&self, printer: &mut Printer<'_>, meta: ArenaMeta)
+        ensures { Prints (tabs (meta_fields (swap_meta (text_held (store_seen self.now.strings)) (meta_of meta)))) printer.old printer.new }
+    {
+        printer.put(&u64::from(meta.flags));
+        printer.put(&Integer::from_bits_32(meta.version));
+        printer.put(&Integer(meta.timestamp));
+        printer.put(&Integer(meta.changeset));
+        printer.put(&Integer::from_bits_32(meta.uid));
+        printer.put(&self.text(meta.user));
+    }
+
+    // "type (0 to 2), ref, role"
+    fn put_member(&self, printer: &mut Printer<'_>, member: CompactMember)
+        ensures { Prints (tabs (held_member (text_held (store_seen self.now.strings)) member)) printer.old printer.new }
+    {
+        printer.put(&u64::from(member.kind));
+        printer.put(&Integer(member.reference));
+        printer.put(&self.text(member.role));
+    }
+
+    // "the tag count and each key and value", from a place on
+    fn put_tags(&self, printer: &mut Printer<'_>, first: TagPlace)
+        ensures { Prints (tabs (number_text first.remaining ∷ tag_fields_from (text_held (store_seen self.now.strings)) self.now.bytes.now first.offset first.remaining)) printer.old printer.new }
+    {
+        printer.put(&u64::from(first.remaining));
+        let mut place = first;
+        while let Ok(Some(tag)) = place.next(self.bytes) {
+            printer.put(&self.text(tag.key));
+            printer.put(&Escaped(&self.bytes[tag.start..][..tag.len]));
+        }
+    }
+
+    // The fields, of the kind of a head.
+    fn put_fields<H: Body>(&self, printer: &mut Printer<'_>)
+        ensures { Prints (tabs (record_fields_at (text_held (store_seen self.now.strings)) H.kind self.now.bytes.now)) printer.old printer.new }
+    {
+        let head = H::read(self.bytes);
+        self.put_meta(printer, compact::read_meta(self.bytes, H::LEN));
+        head.put_body(self, printer);
+        let first = TagPlace {
+            offset: head.tags_at(),
+            remaining: head.tag_count(),
+        };
+        self.put_tags(printer, first);
+    }
 }
 
 impl Body for CompactNode {
     // "node: lat7, lon7"
-    fn put_body(self, printer: &mut Printer<'_>, strings: &Strings<'_>, view: &[u8]) {
+    fn put_body(self, held: &HeldRecord<'_>, printer: &mut Printer<'_>) {
         printer.put(&Integer::from_bits_32(self.lat));
         printer.put(&Integer::from_bits_32(self.lon));
     }
@@ -90,41 +103,32 @@ impl Body for CompactNode {
 
 impl Body for CompactWay {
     // "ref count, refs"
-    fn put_body(self, printer: &mut Printer<'_>, strings: &Strings<'_>, view: &[u8]) {
+    fn put_body(self, held: &HeldRecord<'_>, printer: &mut Printer<'_>) {
         printer.put(&u64::from(self.ref_count));
         for i in 0..self.ref_count {
-            printer.put(&Integer(compact::ref_at(view, i)));
+            printer.put(&Integer(compact::ref_at(held.bytes, i)));
         }
     }
 }
 
 impl Body for CompactRelation {
     // "member count, then type (0 to 2), ref, role each"
-    fn put_body(self, printer: &mut Printer<'_>, strings: &Strings<'_>, view: &[u8]) {
+    fn put_body(self, held: &HeldRecord<'_>, printer: &mut Printer<'_>) {
         printer.put(&u64::from(self.member_count));
         for i in 0..self.member_count {
-            put_member(printer, strings, compact::member_at(view, i));
+            held.put_member(printer, compact::member_at(held.bytes, i));
         }
     }
 }
 
-// The fields of the record at the front of some bytes, of the kind of a head.
-fn put_fields<H: Body>(printer: &mut Printer<'_>, strings: &Strings<'_>, view: &[u8])
-    ensures { Prints (tabs (record_fields_at (text_held (store_seen strings.now)) H.kind view.now)) printer.old printer.new }
-{
-    let head = H::read(view);
-    put_meta(printer, strings, compact::read_meta(view, H::LEN));
-    head.put_body(printer, strings, view);
-    put_tags(printer, strings, view, head.tags_at(), head.tag_count());
-}
+impl Printable for HeldRecord<'_> {
+    ghost pieces = { λ held. tabs (record_fields_at (text_held (store_seen held.strings)) held.kind held.bytes.now) };
 
-// The fields of the record at the front of some bytes.
-pub fn put_record(printer: &mut Printer<'_>, strings: &Strings<'_>, kind: Kind, view: &[u8])
-    ensures { Prints (tabs (record_fields_at (text_held (store_seen strings.now)) kind view.now)) printer.old printer.new }
-{
-    match kind {
-        Kind::Node => put_fields::<CompactNode>(printer, strings, view),
-        Kind::Way => put_fields::<CompactWay>(printer, strings, view),
-        Kind::Relation => put_fields::<CompactRelation>(printer, strings, view),
+    fn print(&self, printer: &mut Printer<'_>) {
+        match self.kind {
+            Kind::Node => self.put_fields::<CompactNode>(printer),
+            Kind::Way => self.put_fields::<CompactWay>(printer),
+            Kind::Relation => self.put_fields::<CompactRelation>(printer),
+        }
     }
 }

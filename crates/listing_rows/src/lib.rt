@@ -14,8 +14,9 @@ ghost use Rattle.listing_rows.specs.Lines.{sign_of, last_at, row_fields_at, kind
 use interner::Strings;
 use kind::Kind;
 use kind_store::KindStorage;
-use kind_table::{DELETED, Row};
-use print::{Escaped, Integer, Printer};
+use kind_table::Row;
+use listing_fields::HeldRecord;
+use print::{Escaped, Integer, Printable, Printer};
 
 // "Kinds n, w, r". No method of Kind: nothing but the listing has these letters.
 fn put_kind(printer: &mut Printer<'_>, kind: Kind)
@@ -55,42 +56,60 @@ fn put_key(printer: &mut Printer<'_>, kind: Kind, id: i64, live: bool, version: 
     put_version(printer, version);
 }
 
-// "A deleted line ends there. A live one goes on"
-fn put_last(printer: &mut Printer<'_>, strings: &Strings<'_>, rows: &KindStorage<'_>, place: u64)
-    ensures { Prints (tabs (last_at (text_held (store_seen strings.now)) rows.now.kind rows.now.arena.now place)) printer.old printer.new }
-{
-    if place < DELETED {
-        let at = little::lesser(place as usize, rows.arena.len());
-        listing_fields::put_record(printer, strings, rows.kind, &rows.arena[at..]);
+// The lines of one kind's rows: those counted, as far as the words go. Of the kind's arena the used bytes are read.
+#[derive(Clone, Copy)]
+pub struct KindLines<'a> {
+    pub strings: Strings<'a>,
+    pub storage: KindStorage<'a>,
+}
+
+impl KindLines<'_> {
+    // "A deleted line ends there. A live one goes on"
+    fn put_last(&self, printer: &mut Printer<'_>, row: Row)
+        ensures { Prints (tabs (last_at (text_held (store_seen self.now.strings)) self.now.storage.kind self.now.storage.arena.now row.place)) printer.old printer.new }
+    {
+        if let Some(place) = row.record_place() {
+            let at = little::lesser(place as usize, self.storage.arena.len());
+            let record = HeldRecord {
+                strings: self.strings,
+                kind: self.storage.kind,
+                bytes: &self.storage.arena[at..],
+            };
+            record.print(printer);
+        }
+    }
+
+    // A row's line.
+    fn put_line(&self, printer: &mut Printer<'_>, row: Row)
+        ensures { Prints (line_pieces (row_fields_at (text_held (store_seen self.now.strings)) self.now.storage.kind self.now.storage.arena.now row)) printer.old printer.new }
+    {
+        put_key(
+            printer,
+            self.storage.kind,
+            osm_id::osm_id_of_rank(row.rank),
+            row.record_place().is_some(),
+            self.storage.row_version(row),
+        );
+        self.put_last(printer, row);
+        printer.put_bytes(b"\n");
     }
 }
 
-// A row's line.
-fn put_line(printer: &mut Printer<'_>, strings: &Strings<'_>, rows: &KindStorage<'_>, row: Row)
-    ensures { Prints (line_pieces (row_fields_at (text_held (store_seen strings.now)) rows.now.kind rows.now.arena.now row)) printer.old printer.new }
-{
-    let id = osm_id::osm_id_of_rank(row.rank);
-    put_key(
-        printer,
-        rows.kind,
-        id,
-        row.place < DELETED,
-        rows.row_version(row),
-    );
-    put_last(printer, strings, rows, row.place);
-    printer.put_bytes(b"\n");
-}
+impl Printable for KindLines<'_> {
+    ghost pieces = { λ lines. kind_pieces (text_held (store_seen lines.strings)) lines.storage.kind (kind_seen lines.storage) };
 
-// The lines of a kind's rows: those counted, as far as the words go. Of the kind's arena the used bytes are read.
-pub fn put_lines(printer: &mut Printer<'_>, strings: &Strings<'_>, kind: &KindStorage<'_>)
-    ensures { Prints (kind_pieces (text_held (store_seen strings.now)) kind.now.kind (kind_seen kind.now)) printer.old printer.new }
-{
-    let used = little::lesser(kind.used as usize, kind.arena.len());
-    let rows = KindStorage {
-        arena: &kind.arena[..used],
-        ..*kind
-    };
-    for i in 0..rows.rows_held() {
-        put_line(printer, strings, &rows, rows.row_at(i));
+    fn print(&self, printer: &mut Printer<'_>) {
+        let used = little::lesser(self.storage.used as usize, self.storage.arena.len());
+        let lines = KindLines {
+            strings: self.strings,
+            storage: KindStorage {
+                arena: &self.storage.arena[..used],
+                ..self.storage
+            },
+        };
+        let table = self.storage.rows();
+        for words in table.rows() {
+            lines.put_line(printer, Row::from(*words));
+        }
     }
 }

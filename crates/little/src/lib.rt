@@ -36,14 +36,7 @@ pub fn end_within(at: usize, n: usize, len: usize) -> Option<usize>
     }
 }
 
-// A word in 32 bits; one that does not fit them becomes 0.
-pub fn narrow(word: u64) -> u32
-    ensures { word < 4294967296 → result ≡ word }
-{
-    u32::try_from(word).unwrap_or(0)
-}
-
-// The low n bytes of a number over the start of what is lent, as far as there is room.
+// The low n bytes of a number over the start of what is lent, as far as there is room. One writer for each size: `to_le_bytes` gives an array whose size is its type's.
 pub fn put_le(out: &mut [u8], n: usize, v: u64)
     ensures { out.new ≡ over out.old 0 (le n v) }
 {
@@ -64,7 +57,7 @@ pub fn copy_in(out: &mut [u8], s: &[u8])
     out[..end].copy_from_slice(&s[..end]);
 }
 
-// The low n bytes of a number from a place on: the writer is lent the rest from there.
+// The low n bytes of a number from a place on: the writer is lent the rest from there. A place goes along here and below, since each place of a record is a constant behind where it starts.
 pub fn put_at(out: &mut [u8], at: usize, n: usize, v: u64)
     ensures { out.new ≡ over out.old at (le n v) }
 {
@@ -102,8 +95,8 @@ fn number(s: &[u8]) -> u64
     r
 }
 
-// The number in the n bytes from a place on, of which those past the end are left out: whoever reads a number has tested that its bytes are there, and has no
-// arm for an error.
+// The number in the n bytes from a place on, of which those past the end are left out: the push and the listing promise of any bytes what that gives, and no
+// reader has an arm for an error.
 fn get_le(s: &[u8], at: usize, n: usize) -> u64
     requires { n ≤ 8 }
     ensures value { result ≡ value_at n s.now at }

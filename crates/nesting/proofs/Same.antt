@@ -1,14 +1,16 @@
 -- `==` tells whether two runs of bytes are the same, as `same` does.
+use lib.Dec.{eqb}
 use mathlib.Core.Path.{◌≡◌, ◌∙◌, ap}
 use mathlib.Core.Bool.{Bool}
-use Rattle.std.specs.Bool.{Decides}
-use Rattle.std.proofs.lemmas.Bool.Decides.{same_from_decides}
+use Rattle.std.specs.Cmp.Lexicographic.{pointwise}
+use Rattle.std.proofs.lemmas.Bool.Decides.{Decides-eqb, same_from_decides}
+use Rattle.std.proofs.lemmas.Slice.Eq.{slice_eq-Decides}
 use Rattle.base.specs.Bytes.{Bytes, same}
 use Rattle.base.proofs.Lists.{same_yes, same_refl}
 
-pub same_decided : (s t : Bytes) (r : Bool) → Decides r (s ≡ t) → r ≡ same s t
-same_decided s t r h = same_from_decides r (same s t) h (same_yes s t, λ (e : s ≡ t). rw e (same_refl t))
+pub equal : (s t : Bytes) {r : Bool} → r ≡ pointwise eqb s t → r ≡ same s t
+equal s t {r} h = same_from_decides r (same s t) (slice_eq-Decides Decides-eqb s t r h) (same_yes s t, λ (e : s ≡ t). rw e (same_refl t))
 
 -- the same of a run that is known
-pub same_known : (s t known : Bytes) (r : Bool) → t ≡ known → Decides r (s ≡ t) → r ≡ same s known
-same_known s t known r e h = same_decided s t r h ∙ ap (λ (x : Bytes). same s x) e
+pub known : (s t : Bytes) {k : Bytes} {r : Bool} → t ≡ k → r ≡ pointwise eqb s t → r ≡ same s k
+known s t e h = equal s t h ∙ ap (same s) e

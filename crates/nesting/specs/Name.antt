@@ -1,7 +1,9 @@
 -- The names that document 01 gives to elements. Names compare as raw bytes.
-use Rattle.std.specs.Prelude.{cond, List, [], ◌∷◌}
+use Rattle.std.specs.Prelude.{cond, List, [], ◌∷◌, None, Option, Some}
 use Rattle.base.specs.Ascii.{ascii}
 use Rattle.base.specs.Bytes.{Bytes, same}
+use Rattle.kind.specs.declared.Kind.{Kind}
+use Rattle.kind.specs.declared.Kind.TheVariants as K
 use Rattle.nesting.specs.declared.Name.{Name}
 use Rattle.nesting.specs.declared.Name.TheVariants.{OsmChange, Create, Modify, Delete, Node, Way, Relation, Tag, Nd, Member, Bounds, Unknown}
 
@@ -32,3 +34,18 @@ name_in (p ∷ ps) s = cond (same s p.bytes) p.name (name_in ps s)
 
 unfoldable pub name_of : Bytes → Name
 name_of s = name_in spellings s
+
+-- the kind whose elements have a name
+abbrev pub kind_named : Name → Option Kind
+kind_named Node = Some K.Node
+kind_named Way = Some K.Way
+kind_named Relation = Some K.Relation
+kind_named OsmChange = None
+kind_named Create = None
+kind_named Modify = None
+kind_named Delete = None
+kind_named Tag = None
+kind_named Nd = None
+kind_named Member = None
+kind_named Bounds = None
+kind_named Unknown = None

@@ -2,7 +2,7 @@
 #![tactic(auto)]
 
 ghost use Rattle.std.specs.Prelude.{◌≡◌, drop};
-ghost use Rattle.nesting.specs.Name.{spellings, name_in, name_of};
+ghost use Rattle.nesting.specs.Name.{spellings, name_in, name_of, kind_named};
 ghost use Rattle.nesting.specs.Nesting.{at, unless, section_of, begins_as, in_doc, in_root, in_section, in_element, opened, closed_to, closed};
 ghost use Rattle.nesting.specs.Opening.{opening_of};
 
@@ -75,22 +75,24 @@ pub enum Opening {
 }
 
 // An element's name by its bytes.
-pub fn name_of(s: &[u8]) -> Name
-    ensures { result ≡ name_of s.now }
-{
-    if s == b"osmChange".as_slice() {
-        return Name::OsmChange;
+impl From<&[u8]> for Name {
+    ghost from_gives = { λ s name. name ≡ name_of s.now };
+
+    fn from(s: &[u8]) -> Name {
+        if s == b"osmChange".as_slice() {
+            return Name::OsmChange;
+        }
+        if s == b"create".as_slice() {
+            return Name::Create;
+        }
+        if s == b"modify".as_slice() {
+            return Name::Modify;
+        }
+        if s == b"delete".as_slice() {
+            return Name::Delete;
+        }
+        object_name(s)
     }
-    if s == b"create".as_slice() {
-        return Name::Create;
-    }
-    if s == b"modify".as_slice() {
-        return Name::Modify;
-    }
-    if s == b"delete".as_slice() {
-        return Name::Delete;
-    }
-    object_name(s)
 }
 
 // The names of elements with a kind, then those of what they hold.
@@ -128,6 +130,20 @@ fn child_name(s: &[u8]) -> Name
         return Name::Bounds;
     }
     Name::Unknown
+}
+
+impl Name {
+    // The kind whose elements have the name.
+    pub fn kind(self) -> Option<Kind>
+        ensures { result ≡ kind_named self }
+    {
+        match self {
+            Name::Node => Some(Kind::Node),
+            Name::Way => Some(Kind::Way),
+            Name::Relation => Some(Kind::Relation),
+            _ => None,
+        }
+    }
 }
 
 impl Level {

@@ -12,7 +12,6 @@ use lib.Dec.{leb-zero, leb-suc-zero}
 use borrow.Author.Tests.{lt-ltb}
 use Rattle.std.proofs.lemmas.Int.{ints}
 use Rattle.std.specs.Int.{int_min}
-use Rattle.osm_id.specs.declared.OsmIdKey.{OsmIdKey}
 use Rattle.osm_id.specs.Order.{osm_key_of, rank, id_of, first_key, last_key}
 use Rattle.osm_id.proofs.Orders.{id_negative, id_positive, id_fits}
 

@@ -17,6 +17,7 @@ pub struct OsmIdKey {
     pub magnitude: u64,
 }
 
+// The key of an id. It is a function and no `From`: it has the Rust's name.
 pub fn osm_id_key(id: i64) -> OsmIdKey
     ensures { result ≡ osm_key_of id }
 {
@@ -58,6 +59,7 @@ pub fn osm_id_cmp(a: i64, b: i64) -> Ordering
     rank_of_bits(a.cast_unsigned()).cmp(&rank_of_bits(b.cast_unsigned()))
 }
 
+// Here and below the two numbers stand apart, as C lends them: a struct of both would be made and taken apart at once.
 // The least key of the ids from min_id to max_id.
 pub fn blob_osm_first_key(min_id: i64, max_id: i64) -> OsmIdKey
     ensures { result ≡ first_key min_id max_id }

@@ -6,7 +6,7 @@ ghost use Rattle.interner.specs.Sound.{sound_strings};
 ghost use Rattle.interner.specs.Lent.{store_seen};
 ghost use Rattle.kind_store.specs.Lent.{kind_seen};
 ghost use Rattle.overlay.specs.Overlay.{fresh_counters, kind_store_of};
-ghost use Rattle.overlay.specs.Lent.{lent, left, lent_for, left_for, overlay_seen, overlay_held, overlay_tabled, tabled_for, IsSameTables};
+ghost use Rattle.overlay.specs.Lent.{lent, left, overlay_seen, overlay_held, overlay_tabled, tabled_for, IsSameTables};
 ghost use Rattle.overlay.specs.Sound.{is_sound, sound_of, kind_stores_sound};
 ghost use Rattle.overlay.specs.Calls.{set_up, sound_answer, allow_on};
 
@@ -137,6 +137,7 @@ impl StorageMut<'_> {
 
 // ---- set-up
 
+// The counters of an empty overlay. The setting is C's word, stored as it is.
 fn fresh_counters(z: Sizes, setting: u64) -> [u64; COUNTERS]
     ensures { result ≡ fresh_counters setting z }
 {
@@ -162,7 +163,8 @@ fn fresh_counters(z: Sizes, setting: u64) -> [u64; COUNTERS]
 }
 
 impl StorageTables<'_> {
-    // The overlay to be read.
+    // The overlay to be read. This and `check_sound` stand in `StorageMut` too: the structs are two since C lends the bytes of these calls to be read only, and a trait over both would
+    // want `storage` from each, and save the one line of `check_sound`.
     pub fn storage(&self) -> Storage<'_>
         ensures { overlay_seen result ≡ overlay_tabled self.now }
     {
@@ -218,36 +220,4 @@ pub fn allow_version_regression(
     storage.check_sound()?;
     counters[SETTING] = setting;
     Ok(())
-}
-
-// ---- the same over the parts
-
-// 1, or an empty overlay.
-pub fn set_up(
-    words: &mut [u64],
-    bytes: &[u8],
-    counters: &mut [u64; COUNTERS],
-    z: Sizes,
-    setting: u64,
-) -> Result<(), Refusal>
-    ensures { record { overlay = left_for z words.new bytes.now counters.new; answer = result } ≡ set_up z setting (lent_for z words.old bytes.now counters.old) }
-{
-    let mut tables = StorageTables {
-        words,
-        bytes,
-        counters,
-    };
-    tables.set_up(z, setting)
-}
-
-// Whether an overlay is sound.
-pub fn is_sound(words: &[u64], bytes: &[u8], counters: &[u64; COUNTERS]) -> bool
-    ensures { result ≡ is_sound (lent words.now bytes.now counters.now) }
-{
-    let storage = Storage {
-        words,
-        bytes,
-        counters,
-    };
-    storage.is_sound()
 }

@@ -66,6 +66,7 @@ pub struct Ends {
 }
 
 // What the blocks have of one kind: words `from` to `to`, bytes `first` to `end`; and the place of its used ids among the counters, its used bytes three behind.
+// They are places and no slices: one part serves blocks that are read and blocks that are written, and a method that cut them would ask that it lies within them.
 #[derive(Clone, Copy, PartialEq, Eq, Debug)]
 pub struct KindPart {
     pub at: usize,
@@ -220,6 +221,7 @@ impl Sizes {
         }
     }
 
+    // No `KindSize`: the largest number of bytes is another.
     #[tactic(auto, unfolding(crate::specs::Sizes::strings_fit, base::specs::Bytes::both))]
     fn strings_fit(&self) -> bool
         ensures { result ≡ strings_fit largest self.now.strings self.now.string_bytes }
@@ -253,20 +255,4 @@ impl Sizes {
     {
         self.in_range() && self.fill(words, bytes)
     }
-}
-
-// ---- the same over the counters
-
-// The part of a kind in blocks of these lengths.
-pub fn part_in(kind: Kind, counters: &[u64; COUNTERS], words: usize, bytes: usize) -> KindPart
-    ensures { (result ≡ part_in kind (sizes_in counters.now) words bytes) × Within result words bytes }
-{
-    Sizes::from(counters).part(kind, words, bytes)
-}
-
-// The strings' part.
-pub fn texts_in(counters: &[u64; COUNTERS], words: usize, bytes: usize) -> TextPart
-    ensures { (result ≡ text_part_in (sizes_in counters.now) words bytes) × ((result.spans ≤ words) × (result.bytes ≤ bytes)) }
-{
-    Sizes::from(counters).texts(words, bytes)
 }

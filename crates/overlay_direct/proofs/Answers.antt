@@ -20,7 +20,7 @@ use Rattle.compact.specs.declared.ArenaMeta.{ArenaMeta}
 use Rattle.compact.specs.declared.PushHead.{PushHead}
 use Rattle.compact_legal.specs.Judge.{fault_for}
 use Rattle.interner.specs.Strings as Strings
-use Rattle.interner.specs.declared.Interned.TheVariants as I
+use Rattle.interner.specs.Interned as I
 use Rattle.kind_store.specs.KindStore.{KindStore}
 use Rattle.kind_store.specs.KindStore as KindStore
 use Rattle.kind_store.specs.KindStore.{taken_in}

@@ -25,8 +25,8 @@ use Rattle.interner.specs.Strings.{Store, intern, added}
 use Rattle.interner.specs.Texts.{handle_of, take_in, text_of}
 use Rattle.interner.specs.Texts as Texts
 use Rattle.interner.specs.Sound.{texts_of}
-use Rattle.interner.specs.declared.Interned.{Interned}
-use Rattle.interner.specs.declared.Interned.TheVariants as I
+use Rattle.interner.specs.Interned.{Interned}
+use Rattle.interner.specs.Interned as I
 use Rattle.interner.proofs.Interns as Interns
 use Rattle.kind_store.specs.KindStore.{KindStore, taken_in}
 use Rattle.kind_store.specs.KindStore as KindStore

@@ -1,30 +1,16 @@
 -- What `intern` goes by: a text that is stored, and the chains that it takes.
-use Rattle.std.specs.Prelude.{Result}
-use Rattle.refusal.specs.declared.Refusal.{Refusal}
-use Prim.Native.Nat.{ℕ}
 use mathlib.Core.Path.{◌≡◌}
-use mathlib.Core.Bool.{true, false}
-use lib.IntN.{ℤ}
+use mathlib.Core.Bool.{true}
 use Rattle.base.specs.Bytes.{Bytes}
 use Rattle.base.proofs.Split.{both_left, both_right}
 use Rattle.interner.specs.Sound.{texts_of}
 use Rattle.text_index.specs.Chained.{HandleChains, none_chained, StoreChained}
 use Rattle.text_index.proofs.Laws.{chained_none}
 use Rattle.text.specs.Check.{is_text}
-use Rattle.kind.specs.declared.Kind.{Kind}
-use Rattle.refusal.specs.declared.Refusal.TheVariants as R
-use Rattle.model.specs.Record.{Meta, claim_of}
-use Rattle.compact.specs.Cut.{pushed_record}
-use Rattle.compact.specs.Held.{meta_of, head_in}
-use Rattle.compact.specs.Legal.{legal_meta}
-use Rattle.compact.specs.declared.ArenaMeta.{ArenaMeta}
-use Rattle.compact.specs.declared.PushHead.{PushHead}
-use Rattle.compact_legal.specs.Judge.{fault_for}
 use Rattle.overlay.specs.Overlay.{Overlay}
 use Rattle.overlay.specs.Sound.{is_sound}
-use Rattle.overlay.specs.Calls.{OverlayAfter, overlay_refused}
-use Rattle.overlay_store.specs.Calls.{store_delete, Interning, store_text}
-use Rattle.overlay_direct.specs.Calls.{push_as, push_on, delete_on, not_interned, intern_on}
+use Rattle.overlay_store.specs.Calls.{Interning, store_text}
+use Rattle.overlay_direct.specs.Calls.{intern_on}
 
 -- a text that is stored
 pub intern_text : (o : Overlay) (t : Bytes) → is_sound o ≡ true → is_text t ≡ true → (x : Interning) → x ≡ store_text t o → x ≡ intern_on t o

@@ -9,7 +9,7 @@ ghost use Rattle.compact.specs.Held.{meta_of};
 ghost use Rattle.overlay.specs.Lent.{overlay_held, overlay_tabled, IsSameStorage, IsSameTables};
 ghost use Rattle.overlay_direct.specs.Calls.{intern_on, push_on, delete_on};
 
-use compact::{ArenaMeta, PushHead};
+use compact::{ArenaMeta, PushRecord};
 use kind::Kind;
 use overlay::{StorageMut, StorageTables};
 use overlay_blocks::STRINGS;
@@ -31,19 +31,13 @@ pub fn intern(storage: &mut StorageMut<'_>, text: &[u8]) -> Result<u64, Refusal>
 
 // A direct push of a node, way or relation: 22; 17, 3, 10, 16; then 12, 14, 15.
 #[tactic(auto, using(overlay::proofs::Checked::checked_unsound, overlay::proofs::Checked::checked_sound, std::proofs::lemmas::Result::err_from_is_err_and), unfolding(crate::specs::Calls::push_on))]
-pub fn push(
-    storage: &mut StorageMut<'_>,
-    kind: Kind,
-    head: PushHead,
-    meta: ArenaMeta,
-    parts: &[u8],
-) -> Result<(), Refusal>
+pub fn push(storage: &mut StorageMut<'_>, push: &PushRecord<'_>) -> Result<(), Refusal>
     ensures same { IsSameStorage storage.new storage.old }
-    ensures done { record { overlay = overlay_held storage.new; answer = result } ≡ push_on kind head meta parts.now (overlay_held storage.old) }
+    ensures done { record { overlay = overlay_held storage.new; answer = result } ≡ push_on push.now.kind push.now.head push.now.meta push.now.parts.now (overlay_held storage.old) }
 {
     storage.check_sound()?;
-    compact_legal::push_fault(kind, head, meta, parts, storage.counters[STRINGS])?;
-    overlay_store::push(storage, kind, head, meta, parts)
+    compact_legal::record_fault(push, storage.counters[STRINGS])?;
+    overlay_store::push(storage, push)
 }
 
 // A direct delete: 22; 17 of its metadata; then 12, 14.
@@ -59,7 +53,7 @@ pub fn delete(
 {
     tables.check_sound()?;
     if compact_legal::legal_meta(meta, tables.counters[STRINGS]) {
-        return overlay_store::delete(tables, kind, id, compact::claim(meta));
+        return overlay_store::delete(tables, kind, id, meta.claim());
     }
     Err(Refusal::BadRecord)
 }

@@ -1,5 +1,6 @@
 // All ids of a kind that are live, or all that are deleted, each with its known version, into two lent lists in one call. It first tests that the
 // overlay is sound (22).
+// The ids and the versions are two lists and no pairs, since C lends two.
 #![tactic(auto)]
 
 ghost use Rattle.std.specs.Prelude.{◌≡◌, map, ◌≤◌, length};
@@ -13,25 +14,26 @@ ghost use Rattle.overlay_ids.specs.Rows.{row_id, row_version, kind_ids};
 use kind::Kind;
 use kind_reading::Side;
 use kind_store::KindStorage;
+use kind_table::Row;
 use overlay::Storage;
 use refusal::Refusal;
 
-// The ids of a list's rows and their known versions over the first words of two lists.
+// The ids of a list's rows and their known versions over the first words of two lists. It counts what it wrote: `enumerate` over a filter takes a closure for the one test, and makes each row of its words twice.
 fn put_rows(held: &KindStorage<'_>, side: Side, ids: &mut [u64], versions: &mut [u64])
     requires { (length (rows_on side (rows_read held.now.table.now held.now.ids)) ≤ length ids.old)
         × (length (rows_on side (rows_read held.now.table.now held.now.ids)) ≤ length versions.old) }
     ensures { (ids.new ≡ over ids.old 0 (map row_id (rows_on side (rows_read held.now.table.now held.now.ids))))
         × (versions.new ≡ over versions.old 0 (map (row_version held.now.kind (kind_seen held.now)) (rows_on side (rows_read held.now.table.now held.now.ids)))) }
 {
+    let table = held.rows();
     let mut n: usize = 0;
-    for i in 0..held.rows_held() {
-        let row = held.row_at(i);
+    for words in table.rows() {
+        let row = Row::from(*words);
         if side.has(row) {
             let id = overlay_reading::row_id(row);
             ids[n] = id;
             versions[n] = version_floor::version_word(held.known_version(id));
             n += 1;
-            continue;
         }
     }
 }

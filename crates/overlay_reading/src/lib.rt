@@ -1,5 +1,6 @@
 // What is read of an overlay: counts, ids and records by number, what is known of an id, and texts by handle. Each reading first tests that
 // the overlay is sound (22).
+// A kind and an id, and a kind and a side, are taken as two: a struct of both would be made at each entry of C and taken apart here, where only the id is handed on.
 #![tactic(auto, using(overlay::proofs::Checked::checked_unsound, overlay::proofs::Checked::checked_sound), unfolding(crate::specs::Reading::count_on, crate::specs::Reading::is_empty_on, crate::specs::Reading::no_ids, crate::specs::Reading::id_on, crate::specs::Reading::record_on, crate::specs::Reading::get_on, crate::specs::Reading::has_on, crate::specs::Reading::is_deleted_on, crate::specs::Reading::known_on, crate::specs::Reading::text_on, crate::specs::Reading::standing_on, base::specs::Bytes::both))]
 
 ghost use Rattle.std.specs.Prelude.{◌≡◌};
@@ -42,7 +43,7 @@ pub fn is_empty(storage: &Storage<'_>) -> Result<bool, Refusal>
 pub fn row_id(row: Row) -> u64
     ensures { result ≡ of_z w64 (id_of row.rank) }
 {
-    signed::bits_of_i64(osm_id::osm_id_of_rank(row.rank))
+    osm_id::osm_id_of_rank(row.rank).cast_unsigned()
 }
 
 // The bits of the n-th live or deleted id of a kind in OSM order, or 21.

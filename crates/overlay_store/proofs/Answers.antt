@@ -15,8 +15,8 @@ use Rattle.compact.specs.Held.{meta_of}
 use Rattle.compact.specs.declared.ArenaMeta.{ArenaMeta}
 use Rattle.compact.specs.declared.PushHead.{PushHead}
 use Rattle.interner.specs.Strings.{intern}
-use Rattle.interner.specs.declared.Interned.{Interned}
-use Rattle.interner.specs.declared.Interned.TheVariants as I
+use Rattle.interner.specs.Interned.{Interned}
+use Rattle.interner.specs.Interned as I
 use Rattle.interner.proofs.Interns as Interns
 use Rattle.kind_store.specs.KindStore.{KindStore}
 use Rattle.kind_store.specs.KindStore as KindStore

@@ -1,21 +1,17 @@
 -- Laws of an overlay by its parts, as the functions are lent them.
 use Rattle.refusal.specs.declared.Refusal.{Refusal}
 use Rattle.std.specs.Prelude.{Option, Result}
-use Prim.Native.Nat.{ℕ, ◌+◌, ◌-◌, ◌<◌}
-use mathlib.Core.Path.{◌≡◌, refl, ◌∙◌}
+use Prim.Native.Nat.{ℕ, ◌+◌, ◌-◌}
+use mathlib.Core.Path.{◌≡◌, refl}
 use mathlib.Core.List.{List}
-use native.Mathlib.Omega.{arith}
-use lib.ListN.{length, get_or, set, length-set}
-use lib.Seq.{get_or-set_same, get_or-set_other}
-use borrow.Author.Tests.{eqb-false}
+use lib.ListN.{length, get_or}
 use borrow.Rule.Slice.PartMut.{put_mid, put_same}
 use Rattle.base.specs.Bytes.{Bytes}
 use Rattle.kind.specs.declared.Kind.{Kind}
 use Rattle.interner.specs.Strings as Strings
 use Rattle.interner.specs.Texts.{handle_answered}
-use Rattle.interner.specs.declared.Interned.{Interned}
-use Rattle.interner.specs.declared.Interned.TheVariants as I
-use Rattle.interner.specs.declared.Taken.{Taken}
+use Rattle.interner.specs.Interned.{Interned}
+use Rattle.interner.specs.Interned as I
 use Rattle.std.specs.Option.{ok_or}
 use Rattle.refusal.specs.declared.Refusal.TheVariants as R
 use Rattle.overlay_store.specs.Lent.{strings_at}
@@ -35,26 +31,6 @@ use lib.IntN.{ℤ}
 use mir.Syntax.{w64}
 use mir.Val.{to_z}
 
--- ---- two counters written
-
-module _ (c : List ℕ) (n : ℕ) (long : length c ≡ n) (i j a b : ℕ) where
-  pub first_stored : i < n → (i ≡ j → ⊥) → get_or (set (set c i a) j b) i 0 ≡ a
-  first_stored h d = get_or-set_other (set c i a) j i b 0 d ∙ get_or-set_same c i a 0 (rw long h)
-
-  pub second_stored : j < n → get_or (set (set c i a) j b) j 0 ≡ b
-  second_stored h = get_or-set_same (set c i a) j b 0 (rw (length-set, long) h)
-
-  pub others_stored : Others i j c (set (set c i a) j b)
-  others_stored k p q = get_or-set_other (set c i a) j k b 0 q ∙ get_or-set_other c i k a 0 p
-
--- a kind's counters hold what its kind store counts
-pub counted_at : (c : List ℕ) → length c ≡ 17 → (at : ℕ) → at < 3 → (d : List ℕ) (ids used : ℕ) → d ≡ set (set c at ids) (at + 3) used
-    → (table : List ℕ) (arena : Bytes) (r : Result Unit Refusal) (x : KindStore.KindStoreAfter) → record { kind_store = KindStore.kind_store_with table ids arena used; answer = r } ≡ x
-    → (record { kind_store = KindStore.kind_store_with table (get_or d at 0) arena (get_or d (at + 3) 0); answer = r } ≡ x) × Others at (at + 3) c d
-counted_at c long at h d ids used e table arena r x f =
-    rw (e, first_stored c 17 long at (at + 3) ids used (omega arith) (λ q. omega (arith, q)), second_stored c 17 long at (at + 3) ids used (omega arith))
-    (f, others_stored c 17 long at (at + 3) ids used)
-
 -- ---- one kind changed
 
 -- what is lent of a kind comes to the overlay
@@ -68,18 +44,6 @@ kind_after k words bytes c d p q table arena m n r f h =
     rw (kind_put k words bytes c d p q table arena m n h.1, ← kind_store_in_lem k words bytes c p q, ← h.0)
 
 -- ---- the strings changed
-
-pub texts_after : (words bytes c d : List ℕ) → length c ≡ 17 → (e : TextPart) → e ≡ text_part_in (sizes_in c) (length words) (length bytes) → (spans texts : List ℕ)
-    → length spans ≡ length (cut e.spans (length words) words) → length texts ≡ length (cut e.bytes (length bytes) bytes) → (k : Taken) (r : Result ℕ Refusal) (t : Bytes)
-    → Strings.store_after spans texts k ≡ Strings.intern (Strings.store_with (cut e.spans (length words) words) (cut e.bytes (length bytes) bytes) (get_or c 6 0) (get_or c 7 0)) t
-    → d ≡ set (set c 6 k.strings) 7 k.used → r ≡ handle_in k.answer
-    → record { overlay = overlay_in (put_mid e.spans (length words - e.spans) words spans) (put_mid e.bytes (length bytes - e.bytes) bytes texts) d; answer = r }
-    ≡ store_text t (overlay_in words bytes c)
-texts_after words bytes c d long e q spans texts m n k r t i f g =
-    let h : Others 6 7 c d = rw f (others_stored c 17 long 6 7 k.strings k.used) in
-    let u : get_or d 6 0 ≡ k.strings = rw f (first_stored c 17 long 6 7 k.strings k.used (omega arith) (eqb-false 6 7 refl)) in
-    let v : get_or d 7 0 ≡ k.used = rw f (second_stored c 17 long 6 7 k.strings k.used (omega arith)) in
-    rw (texts_put words bytes c d e q spans texts m n h, u, v, g, ← texts_lent words bytes c e q, ← i)
 
 -- the handle of a text, or 13
 ok_handle : (i : Interned) → ok_or (handle_answered i) R.StringsFull ≡ handle_in i

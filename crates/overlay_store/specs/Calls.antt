@@ -12,8 +12,8 @@ use Rattle.compact.specs.Held.{meta_of, head_in}
 use Rattle.compact.specs.declared.ArenaMeta.{ArenaMeta}
 use Rattle.compact.specs.declared.PushHead.{PushHead}
 use Rattle.interner.specs.Strings as Strings
-use Rattle.interner.specs.declared.Interned.{Interned}
-use Rattle.interner.specs.declared.Interned.TheVariants as I
+use Rattle.interner.specs.Interned.{Interned}
+use Rattle.interner.specs.Interned as I
 use Rattle.kind_store.specs.KindStore as KindStore
 use Rattle.overlay.specs.Overlay.{Overlay, kind_store_of, with_kind_store, with_texts}
 use Rattle.overlay.specs.Calls.{OverlayAfter}

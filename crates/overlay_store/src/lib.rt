@@ -2,7 +2,7 @@
 // A caller makes the tests of the rows before it first.
 #![tactic(auto)]
 
-ghost use Rattle.std.specs.Prelude.{◌≡◌, ◌+◌, ◌<◌, length, set};
+ghost use Rattle.std.specs.Prelude.{◌≡◌, ◌+◌, ◌<◌};
 ghost use Rattle.std.specs.Int.{w64};
 ghost use Rattle.std.proofs.Common.{to_z};
 ghost use Rattle.model.specs.Record.{claim_of};
@@ -10,21 +10,20 @@ ghost use Rattle.compact.specs.Held.{meta_of};
 ghost use Rattle.kind_store.specs.KindStore.{pushed, deleted};
 ghost use Rattle.interner.specs.Strings.{intern};
 ghost use Rattle.interner.specs.Texts.{handle_answered};
-ghost use Rattle.text_index.specs.Index.{IndexGiven};
 ghost use Rattle.text_index.specs.Chained.{StoreChained, ChainsServe};
-ghost use Rattle.text_index.specs.Lent.{chains_seen};
-ghost use Rattle.overlay.specs.Lent.{lent, left, overlay_held, overlay_tabled, IsSameStorage, IsSameTables};
+ghost use Rattle.text_index.specs.Lent.{chains_seen, chains_held, IsSameChains};
+ghost use Rattle.overlay.specs.Lent.{overlay_seen, overlay_held, overlay_tabled, IsSameStorage, IsSameTables};
 ghost use Rattle.overlay_store.specs.Lent.{kind_store_lent, kind_store_left, setting_in, strings_at, OthersKept};
-ghost use Rattle.overlay_store.specs.Calls.{bytes_of, store_push, store_delete, handle_in, store_text};
+ghost use Rattle.overlay_store.specs.Calls.{bytes_of, store_push, store_delete, store_text};
 
-use compact::{ArenaMeta, PushHead, PushRecord};
-use interner::{Interned, StringsMut, Taken};
+use compact::PushRecord;
+use interner::StringsMut;
 use kind::Kind;
 use kind_store::{KindStorageMut, KindStorageTable};
-use overlay::{StorageMut, StorageTables};
+use overlay::{Storage, StorageMut, StorageTables};
 use overlay_blocks::{ARENA, COUNTERS, SETTING, STRING_BYTES, STRINGS, Sizes};
 use refusal::Refusal;
-use text_index::Chains;
+use text_index::{Chains, ChainsMut};
 
 // ---- a text
 
@@ -59,9 +58,8 @@ pub fn intern(
     text: &[u8],
 ) -> Result<u64, Refusal>
     ensures same { IsSameStorage storage.new storage.old }
-    ensures done { StoreChained (chains_seen chains.now) (overlay_held storage.old).texts
+    ensures done { ChainsServe (chains_seen chains.now) (overlay_held storage.old).texts
         → record { overlay = overlay_held storage.new; answer = result } ≡ store_text text.now (overlay_held storage.old) }
-    ensures unchained { chains.now.handles ≡ 0 → record { overlay = overlay_held storage.new; answer = result } ≡ store_text text.now (overlay_held storage.old) }
 {
     let t = Sizes::from(&*storage.counters).texts(storage.words.len(), storage.bytes.len());
     let handle = intern_in(
@@ -74,69 +72,73 @@ pub fn intern(
     handle.ok_or(Refusal::StringsFull)
 }
 
+// What that would answer, with nothing taken in: 13, or the handle that the text has or would get.
+pub fn handle(storage: &Storage<'_>, chains: &Chains<'_>, text: &[u8]) -> Result<u64, Refusal>
+    ensures { ChainsServe (chains_seen chains.now) (overlay_seen storage.now).texts → result ≡ (store_text text.now (overlay_seen storage.now)).answer }
+{
+    chains
+        .answer(&storage.strings(), text)
+        .ok_or(Refusal::StringsFull)
+}
+
+// Brings chains up to date with the held texts.
+pub fn chain_texts(chains: &mut ChainsMut<'_>, storage: &Storage<'_>)
+    ensures same { IsSameChains chains.new chains.old }
+    ensures chains { StoreChained (chains_held chains.old) (overlay_seen storage.now).texts → StoreChained (chains_held chains.new) (overlay_seen storage.now).texts }
+{
+    chains.index(&storage.strings());
+}
+
 // ---- an act on one kind
 
-// A push on the kind whose counters stand at `at` and three behind it. A function of its own for the same reason as `intern_in`.
+// A push on the kind whose counters stand at `at` and three behind it: two words of the one array that C lends, so that no slice has just these. A function of its own for the same reason as
+// `intern_in`.
 fn push_in(
     at: usize,
-    kind: Kind,
     table: &mut [u64],
     arena: &mut [u8],
     counters: &mut [u64; COUNTERS],
-    head: PushHead,
-    meta: ArenaMeta,
-    parts: &[u8],
+    push: &PushRecord<'_>,
 ) -> Result<(), Refusal>
     requires { at < 3 }
     ensures { (record { kind_store = kind_store_left at table.new arena.new counters.new; answer = result }
-        ≡ pushed kind (setting_in counters.old) (kind_store_lent at table.old arena.old counters.old) (to_z w64 head.id) (claim_of (meta_of meta)) (bytes_of kind head meta parts.now))
+        ≡ pushed push.now.kind (setting_in counters.old) (kind_store_lent at table.old arena.old counters.old) (to_z w64 push.now.head.id) (claim_of (meta_of push.now.meta)) (bytes_of push.now.kind push.now.head push.now.meta push.now.parts.now))
         × OthersKept at (at + 3) counters.old counters.new }
 {
     let setting = counters[SETTING];
     let mut part = KindStorageMut {
-        kind,
+        kind: push.kind,
         table,
         ids: counters[at],
         arena,
         used: counters[at + ARENA],
     };
-    let record = PushRecord {
-        kind,
-        head,
-        meta,
-        parts,
-    };
-    let answer = part.push(setting.into(), &record);
+    let answer = part.push(setting.into(), push);
     counters[at] = part.ids;
     counters[at + ARENA] = part.used;
     answer
 }
 
 // A push whose record is legal: 12, 14, 15, or taken.
-pub fn push(
-    storage: &mut StorageMut<'_>,
-    kind: Kind,
-    head: PushHead,
-    meta: ArenaMeta,
-    parts: &[u8],
-) -> Result<(), Refusal>
+pub fn push(storage: &mut StorageMut<'_>, push: &PushRecord<'_>) -> Result<(), Refusal>
     ensures same { IsSameStorage storage.new storage.old }
-    ensures done { record { overlay = overlay_held storage.new; answer = result } ≡ store_push kind head meta parts.now (overlay_held storage.old) }
+    ensures done { record { overlay = overlay_held storage.new; answer = result } ≡ store_push push.now.kind push.now.head push.now.meta push.now.parts.now (overlay_held storage.old) }
 {
-    let p = Sizes::from(&*storage.counters).part(kind, storage.words.len(), storage.bytes.len());
+    let p = Sizes::from(&*storage.counters).part(
+        push.kind,
+        storage.words.len(),
+        storage.bytes.len(),
+    );
     push_in(
         p.at,
-        kind,
         &mut storage.words[p.from..p.to],
         &mut storage.bytes[p.first..p.end],
         storage.counters,
-        head,
-        meta,
-        parts,
+        push,
     )
 }
 
-// A delete on the kind whose counters stand at `at` and three behind it. A function of its own for the same reason as `intern_in`.
+// A delete on the kind whose counters stand at `at` and three behind it. The place and a function of its own for the same reasons as in `push_in`.
 fn delete_in(
     at: usize,
     kind: Kind,
@@ -165,7 +167,7 @@ fn delete_in(
     answer
 }
 
-// A delete whose metadata is legal: 12, 14, or taken.
+// A delete whose metadata is legal: 12, 14, or taken. Kind, id and claim go one by one, as C gives them.
 pub fn delete(
     tables: &mut StorageTables<'_>,
     kind: Kind,
@@ -182,216 +184,6 @@ pub fn delete(
         &mut tables.words[p.from..p.to],
         &tables.bytes[p.first..p.end],
         tables.counters,
-        id,
-        claim,
-    )
-}
-
-// ---- the same over the parts
-
-// Writes two counters.
-fn put_two(used: &mut [u64], i: usize, a: u64, j: usize, b: u64)
-    requires { (i < length used.old) × (j < length used.old) }
-    ensures { used.new ≡ set (set used.old i a) j b }
-{
-    used[i] = a;
-    used[j] = b;
-}
-
-// ---- a text
-
-fn handle_in(answer: Interned) -> Result<u64, Refusal>
-    ensures { result ≡ handle_in answer }
-{
-    match answer {
-        Interned::Held(h) | Interned::New(h) => Ok(h),
-        Interned::Full => Err(Refusal::StringsFull),
-    }
-}
-
-// Counts a text as taken in: 13, or its handle.
-fn count_taken(counters: &mut [u64], taken: Taken) -> Result<u64, Refusal>
-    requires { 7 < length counters.old }
-    ensures { (counters.new ≡ set (set counters.old 6 taken.strings) 7 taken.used) × (result ≡ handle_in taken.answer) }
-{
-    put_two(counters, STRINGS, taken.strings, STRING_BYTES, taken.used);
-    handle_in(taken.answer)
-}
-
-// Takes a text in, with an array of chains for the held texts: 13, or its handle.
-pub fn store_text_by(
-    words: &mut [u64],
-    bytes: &mut [u8],
-    counters: &mut [u64; COUNTERS],
-    ix: &[u16],
-    text: &[u8],
-) -> Result<u64, Refusal>
-    ensures { IndexGiven ix.now (lent words.old bytes.old counters.old).texts
-        → record { overlay = left words.new bytes.new counters.new; answer = result } ≡ store_text text.now (lent words.old bytes.old counters.old) }
-{
-    let t = overlay_blocks::texts_in(counters, words.len(), bytes.len());
-    let c = t.spans;
-    let f = t.bytes;
-    let taken = text_index::intern_by(
-        ix,
-        &mut words[c..],
-        &mut bytes[f..],
-        counters[STRINGS],
-        counters[STRING_BYTES],
-        text,
-    );
-    count_taken(counters, taken)
-}
-
-// What that would answer, with nothing taken in: 13, or the handle that the text has or would get.
-pub fn handle_by(
-    words: &[u64],
-    bytes: &[u8],
-    counters: &[u64; COUNTERS],
-    ix: &[u16],
-    text: &[u8],
-) -> Result<u64, Refusal>
-    ensures { IndexGiven ix.now (lent words.now bytes.now counters.now).texts → result ≡ (store_text text.now (lent words.now bytes.now counters.now)).answer }
-{
-    let t = overlay_blocks::texts_in(counters, words.len(), bytes.len());
-    let c = t.spans;
-    let f = t.bytes;
-    let answer = text_index::answer_by(
-        ix,
-        &words[c..],
-        &bytes[f..],
-        counters[STRINGS],
-        counters[STRING_BYTES],
-        text,
-    );
-    handle_in(answer)
-}
-
-// Brings an array of chains up to date with the held texts.
-pub fn index_texts(ix: &mut [u16], words: &[u64], bytes: &[u8], counters: &[u64; COUNTERS])
-    ensures { IndexGiven ix.old (lent words.now bytes.now counters.now).texts → IndexGiven ix.new (lent words.now bytes.now counters.now).texts }
-{
-    let t = overlay_blocks::texts_in(counters, words.len(), bytes.len());
-    let c = t.spans;
-    let f = t.bytes;
-    text_index::index_held(
-        ix,
-        &words[c..],
-        &bytes[f..],
-        counters[STRINGS],
-        counters[STRING_BYTES],
-    );
-}
-
-// ---- a push
-
-// On the kind whose counters stand at `at` and three behind it: 12, 14, 15, or taken.
-fn push_at(
-    at: usize,
-    kind: Kind,
-    table: &mut [u64],
-    arena: &mut [u8],
-    used: &mut [u64; COUNTERS],
-    head: PushHead,
-    meta: ArenaMeta,
-    parts: &[u8],
-) -> Result<(), Refusal>
-    requires { at < 3 }
-    ensures { (record { kind_store = kind_store_left at table.new arena.new used.new; answer = result }
-        ≡ pushed kind (setting_in used.old) (kind_store_lent at table.old arena.old used.old) (to_z w64 head.id) (claim_of (meta_of meta)) (bytes_of kind head meta parts.now))
-        × OthersKept at (at + 3) used.old used.new }
-{
-    let ids = used[at];
-    let end = used[at + ARENA];
-    let o = kind_store::push(
-        kind,
-        used[SETTING],
-        table,
-        ids,
-        arena,
-        end,
-        head,
-        meta,
-        parts,
-    );
-    put_two(used, at, o.ids, at + 3, o.used);
-    o.answer
-}
-
-// A push whose record is legal: 12, 14, 15, or taken.
-pub fn store_push(
-    words: &mut [u64],
-    bytes: &mut [u8],
-    counters: &mut [u64; COUNTERS],
-    kind: Kind,
-    head: PushHead,
-    meta: ArenaMeta,
-    parts: &[u8],
-) -> Result<(), Refusal>
-    ensures { record { overlay = left words.new bytes.new counters.new; answer = result } ≡ store_push kind head meta parts.now (lent words.old bytes.old counters.old) }
-{
-    let p = overlay_blocks::part_in(kind, counters, words.len(), bytes.len());
-    let from = p.from;
-    let to = p.to;
-    let first = p.first;
-    let end = p.end;
-    push_at(
-        p.at,
-        kind,
-        &mut words[from..to],
-        &mut bytes[first..end],
-        counters,
-        head,
-        meta,
-        parts,
-    )
-}
-
-// ---- a delete
-
-// On the kind whose counters stand at `at` and three behind it: 12, 14, or taken.
-fn delete_at(
-    at: usize,
-    kind: Kind,
-    table: &mut [u64],
-    arena: &[u8],
-    used: &mut [u64; COUNTERS],
-    id: u64,
-    claim: Option<i32>,
-) -> Result<(), Refusal>
-    requires { at < 3 }
-    ensures { (record { kind_store = kind_store_left at table.new arena.now used.new; answer = result } ≡ deleted kind (setting_in used.old) (kind_store_lent at table.old arena.now used.old) (to_z w64 id) claim)
-        × OthersKept at (at + 3) used.old used.new }
-{
-    let ids = used[at];
-    let end = used[at + ARENA];
-    let o = kind_store::delete(kind, used[SETTING], table, ids, arena, end, id, claim);
-    put_two(used, at, o.ids, at + 3, o.used);
-    o.answer
-}
-
-// A delete whose metadata is legal: 12, 14, or taken.
-pub fn store_delete(
-    words: &mut [u64],
-    bytes: &[u8],
-    counters: &mut [u64; COUNTERS],
-    kind: Kind,
-    id: u64,
-    claim: Option<i32>,
-) -> Result<(), Refusal>
-    ensures { record { overlay = left words.new bytes.now counters.new; answer = result } ≡ store_delete kind (to_z w64 id) claim (lent words.old bytes.now counters.old) }
-{
-    let p = overlay_blocks::part_in(kind, counters, words.len(), bytes.len());
-    let from = p.from;
-    let to = p.to;
-    let first = p.first;
-    let end = p.end;
-    delete_at(
-        p.at,
-        kind,
-        &mut words[from..to],
-        &bytes[first..end],
-        counters,
         id,
         claim,
     )

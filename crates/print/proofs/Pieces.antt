@@ -2,16 +2,18 @@
 use Rattle.std.specs.Prelude.{None, Option, Some}
 use Prim.Native.Nat.{ℕ, zero, suc, ◌+◌, ◌-◌, ◌/◌, ◌^◌, ◌≤◌, ◌<◌}
 use mathlib.Core.Path.{◌≡◌, refl, sym, ◌∙◌, ap}
-use mathlib.Core.Bool.{Bool, true, false, ◌&&◌}
+use mathlib.Core.Bool.{true}
 use mathlib.Core.List.{List, [], ◌∷◌, ◌++◌}
 use native.Mathlib.Numerals.{add-one}
 use native.Mathlib.Omega.{arith}
+use lib.Dec.{eqb}
 use lib.ListN.{length, get_or, drop, length-take, length-drop, drop_of_length-le}
 use lib.Seq.{drop-cons}
-use borrow.Author.Tests.{le-leb, lt-leb, ne_eqb}
+use borrow.Author.Tests.{le-leb, lt-leb, ne_eqb, ltb-true, eqb-false, not-true}
 use borrow.Rule.Slice.PartMut.{mid_of, put_mid}
-use Rattle.base.specs.Bytes.{Bytes}
-use Rattle.base.proofs.Split.{by_le, by_lt, clash, no}
+use Rattle.base.specs.Bytes.{Bytes, all}
+use Rattle.base.proofs.Split.{by_le, by_lt, both_left, both_right, no}
+use Rattle.base.proofs.Lists.{all_head, all_tail}
 use Rattle.text.specs.Escape.{escaped, escape}
 use Rattle.little.specs.Little.{over}
 use Rattle.little.proofs.Overs.{over_lent_start}
@@ -20,7 +22,7 @@ use Rattle.decimal.proofs.Numbers.{length_one, length_more}
 use Rattle.decimal.specs.Put.{Wrote as Put, put_text}
 use Rattle.decimal.proofs.Puts.{put_whole}
 use Rattle.print.specs.Print.{print_step, print}
-use Rattle.print.specs.Piece.{behind, place_in, written_at}
+use Rattle.print.specs.Piece.{behind, place_in, written_at, is_plain}
 use Rattle.print.specs.Printer.{printed_by, IsSame, TakesRoom, Prints}
 use Rattle.print.specs.declared.Printer.{Printer}
 use Rattle.print.proofs.Prints.{behind_fits, behind_past, behind_full, placed_within, placed_past, step_fits, step_past, step_full, print_append}
@@ -124,25 +126,19 @@ pub escape_at : (t : Bytes) (i : ℕ) → i < length t → escape (drop i t) ≡
 unfolding escape
 escape_at t i h = rw (add-one, drop-cons t i 0 h)
 
-pub and_left : (a b : Bool) → a && b ≡ true → a ≡ true
-and_left true b e = refl
-and_left false b e = e
-
-pub and_right : (a b : Bool) → a && b ≡ true → b ≡ true
-and_right true b e = e
-and_right false b e = clash e refl
-
 -- a byte above 13 that is no backslash
 pub plain_byte : (b : ℕ) → 13 < b → (b ≡ 92 → ⊥) → escaped b ≡ b ∷ []
 unfolding escaped
 plain_byte b h n =
     rw (ne_eqb b 9 (λ e. absurd (omega arith)), ne_eqb b 10 (λ e. absurd (omega arith)), ne_eqb b 13 (λ e. absurd (omega arith)), ne_eqb b 92 n)
 
--- the rest of a text from a byte that stands for itself, and the empty rest
-pub plain_at : (t : Bytes) (i : ℕ) → i < length t → escaped (get_or t i 0) ≡ get_or t i 0 ∷ [] → escape (drop (i + 1) t) ≡ drop (i + 1) t → escape (drop i t) ≡ drop i t
-plain_at t i h e f =
-    let d : drop i t ≡ get_or t i 0 ∷ drop (i + 1) t = rw add-one (drop-cons t i 0 h) in
-    escape_at t i h ∙ (rw (e, f) (sym d))
-
-pub plain_end : (t : Bytes) (i : ℕ) → length t ≤ i → escape (drop i t) ≡ drop i t
-plain_end t i h = escape_end t i h ∙ sym (drop_of_length-le t h)
+-- a text of bytes that stand for themselves is its own escape
+pub plain_text : (t : Bytes) → all is_plain t ≡ true → escape t ≡ t
+unfolding escape
+plain_text [] e = refl
+plain_text (b ∷ t) e =
+    let h = all_head is_plain b t e in
+    rw (
+      plain_byte b (ltb-true 13 b (both_left _ _ h)) (eqb-false b 92 (not-true (eqb b 92) (both_right _ _ h))),
+      plain_text t (all_tail is_plain b t e),
+    )

@@ -1,6 +1,6 @@
 -- One piece, as its writer goes about it: the room behind it, its place in the output, the bytes of an escape.
-use Rattle.std.specs.Prelude.{ℕ, ◌+◌, ◌-◌, cond, [], ◌∷◌, ◌++◌, leb, length, drop, None, Option, Some}
-use Rattle.base.specs.Bytes.{Bytes}
+use Rattle.std.specs.Prelude.{ℕ, ◌+◌, ◌-◌, Bool, not, cond, [], ◌∷◌, ◌++◌, leb, ltb, eqb, length, drop, None, Option, Some}
+use Rattle.base.specs.Bytes.{Bytes, both}
 use Rattle.base.specs.Chars.{backslash}
 use Rattle.little.specs.Little.{over}
 
@@ -24,6 +24,10 @@ written_at out None x = out
 abbrev pub escaped_by : ℕ → Option ℕ → Bytes
 escaped_by b None = b ∷ []
 escaped_by b (Some m) = backslash ∷ m ∷ []
+
+-- a byte that surely stands for itself: of the bytes up to 13 none is said to
+abbrev pub is_plain : ℕ → Bool
+is_plain b = both (ltb 13 b) (not (eqb b backslash))
 
 -- what is left of an output, and the length of what was written at its start, if it was
 pub record Whole : Type 0 where

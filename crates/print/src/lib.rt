@@ -4,12 +4,12 @@
 ghost use Rattle.std.specs.Prelude.{◌≡◌, true, List, [], ◌∷◌, ◌+◌, ◌≤◌, length, IfSome};
 ghost use Rattle.std.specs.Int.{w32, w64};
 ghost use Rattle.std.proofs.Common.{to_z};
-ghost use Rattle.base.specs.Bytes.{Bytes};
+ghost use Rattle.base.specs.Bytes.{Bytes, all};
 ghost use Rattle.text.specs.Escape.{escaped, escape};
 ghost use Rattle.line.specs.Decimal.{number_text, integer_text};
 ghost use Rattle.little.specs.Little.{over};
 ghost use Rattle.print.specs.Print.{joined_pieces, tab};
-ghost use Rattle.print.specs.Piece.{whole_over, escaped_by};
+ghost use Rattle.print.specs.Piece.{whole_over, escaped_by, is_plain};
 ghost use Rattle.print.specs.Printer.{IsSame, TakesRoom, Prints};
 
 // Lent bytes, and the room that is left of `cap` bytes, none once a piece did not fit. Lent no bytes, a printer only measures.
@@ -177,23 +177,20 @@ fn longer(b: u8) -> usize
 
 // Whether a byte surely stands for itself: of the bytes up to 13 none is said to.
 fn is_plain(b: u8) -> bool
-    ensures { result ≡ true → escaped b ≡ b ∷ [] }
+    ensures { result ≡ is_plain b }
 {
     (b'\r' < b) & (b != b'\\')
 }
 
-// Whether each byte of a text surely stands for itself. It looks at all bytes, so that many are looked at together: no early end.
+// Whether each byte of a text surely stands for itself. It looks at all bytes, so that many are looked at together: no early end. The function with a predicate
+// is the library's fold, as in `text::plain`; another one above it would say no more.
 fn all_plain(text: &[u8]) -> bool
-    ensures { result ≡ true → escape text.now ≡ text.now }
+    ensures { result ≡ all is_plain text.now }
 {
-    let mut ok = true;
-    for b in text {
-        ok = ok & is_plain(*b);
-    }
-    ok
+    text.iter().fold(true, |ok, b| ok & is_plain(*b))
 }
 
-// By how many bytes the escape of a text is longer than the text.
+// By how many bytes the escape of a text is longer than the text. It adds in a loop: that the number stays below the text's length is its invariant, which a fold's closure would have to promise.
 fn text_longer(text: &[u8]) -> usize
     ensures value { length (escape text.now) ≡ length text.now + result }
     ensures bound { result ≤ length text.now }
@@ -205,32 +202,32 @@ fn text_longer(text: &[u8]) -> usize
     n
 }
 
-// The escape of a byte at a place, one or two bytes. The answer is the place behind it.
-fn put_escaped(out: &mut [u8], at: usize, b: u8) -> usize
-    requires { at + length (escaped b) ≤ length out.old }
-    ensures { (out.new ≡ over out.old at (escaped b)) × (result ≡ at + length (escaped b)) }
+// The escape of a byte, one or two bytes, at the start of what is lent: how many they are.
+fn put_escaped(out: &mut [u8], b: u8) -> usize
+    requires { length (escaped b) ≤ length out.old }
+    ensures { (out.new ≡ over out.old 0 (escaped b)) × (result ≡ length (escaped b)) }
 {
     match letter(b) {
         Some(letter) => {
-            out[at] = b'\\';
-            out[at + 1] = letter;
-            at + 2
+            out[0] = b'\\';
+            out[1] = letter;
+            2
         }
         None => {
-            out[at] = b;
-            at + 1
+            out[0] = b;
+            1
         }
     }
 }
 
-// The escape of a text from a place on.
-fn put_escape(out: &mut [u8], start: usize, text: &[u8])
-    requires { start + length (escape text.now) ≤ length out.old }
-    ensures { out.new ≡ over out.old start (escape text.now) }
+// The escape of a text at the start of what is lent.
+fn put_escape(out: &mut [u8], text: &[u8])
+    requires { length (escape text.now) ≤ length out.old }
+    ensures { out.new ≡ over out.old 0 (escape text.now) }
 {
-    let mut at = start;
+    let mut at = 0;
     for b in text {
-        at = put_escaped(out, at, *b);
+        at += put_escaped(&mut out[at..], *b);
     }
 }
 
@@ -245,7 +242,7 @@ impl Printable for Escaped<'_> {
         }
         let n = self.0.len() + text_longer(self.0);
         if let Some(at) = printer.take_room(n) {
-            put_escape(printer.out, at, self.0);
+            put_escape(&mut printer.out[at..], self.0);
         }
     }
 }

@@ -2,7 +2,7 @@
 use Rattle.std.specs.Prelude.{None, Option, Some}
 use Prim.Native.Nat.{ℕ, ◌+◌, ◌*◌, ◌≤◌}
 use mathlib.Core.Path.{◌≡◌, refl, sym, ◌∙◌, ap}
-use mathlib.Core.Bool.{Bool, true, false}
+use mathlib.Core.Bool.{true}
 use mathlib.Core.List.{List, [], ◌∷◌, ◌++◌, append-nil}
 use native.Mathlib.Omega.{arith}
 use lib.Dec.{leb}
@@ -13,7 +13,7 @@ use mir.Syntax.{Width, w64}
 use mir.Val.{SFits, to_z, of_z}
 use borrow.Author.Tests.{lt-ltb}
 use Rattle.base.specs.Bytes.{Bytes, both, all}
-use Rattle.base.proofs.Split.{both_left, both_right, both_of, no}
+use Rattle.base.proofs.Split.{both_left, both_right, both_of, no, both_true}
 use Rattle.base.proofs.Lists.{all_append, all_cons, all_nil}
 use Rattle.little.specs.Little.{is_byte}
 use Rattle.kind.specs.declared.Kind.{Kind}
@@ -178,11 +178,6 @@ unfolding value_bytes
 values_last [] t = omega arith
 values_last (y ∷ ts) t = omega (arith, values_last ts t)
 
-only : (b : Bool) → b ≡ both b true
-unfolding both
-only true = refl
-only false = refl
-
 module _ (k : Kind) (h : PushHead) (m : ArenaMeta) (parts : Bytes) (used : ℕ) (r : Record ℕ) (w : Stages k h m (take used parts) r) (u : used ≤ length parts)
     (f : within_limits limits r ≡ true) where
   few : (leb (length r.tags) limits.tags ≡ true) × ((body_within limits r.body ≡ true) × (leb (value_bytes r.tags) limits.value_bytes ≡ true))
@@ -202,13 +197,13 @@ module _ (k : Kind) (h : PushHead) (m : ArenaMeta) (parts : Bytes) (used : ℕ) 
   unfolding within_limits both
   ref_limit rs z e b =
       let c : length (rs ++ (z ∷ [])) ≡ h.count + 1 = rw length-append (ap (λ (i : ℕ). i + 1) (refs_counted k h m (take used parts) r w rs e b)) in
-      rw (c, few.0, few.1.1) (only (leb (h.count + 1) 2000))
+      rw (c, few.0, few.1.1) (sym (both_true (leb (h.count + 1) 2000)))
 
   pub member_limit : (ms : List (Member ℕ)) (x : Member ℕ) → k ≡ Relation → r.body ≡ members ms → leb (h.count + 1) limits.members ≡ within_limits limits (with_member r ms x)
   unfolding within_limits both
   member_limit ms x e b =
       let c : length (ms ++ (x ∷ [])) ≡ h.count + 1 = rw length-append (ap (λ (i : ℕ). i + 1) (members_counted k h m (take used parts) r w ms e b)) in
-      rw (c, few.0, few.1.1) (only (leb (h.count + 1) 2000))
+      rw (c, few.0, few.1.1) (sym (both_true (leb (h.count + 1) 2000)))
 
   -- ---- and then the element is staged for that record
 

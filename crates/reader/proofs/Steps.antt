@@ -14,8 +14,8 @@ use Rattle.compact.specs.declared.ArenaMeta.{ArenaMeta}
 use Rattle.interner.specs.Strings as Strings
 use Rattle.interner.specs.Texts.{text_of}
 use Rattle.interner.specs.Sound.{texts_of}
-use Rattle.interner.specs.declared.Interned.{Interned}
-use Rattle.interner.specs.declared.Interned.TheVariants as I
+use Rattle.interner.specs.Interned.{Interned}
+use Rattle.interner.specs.Interned as I
 use Rattle.interner.proofs.Interns.{length_texts}
 use Rattle.interner.proofs.Held as Texts
 use Rattle.overlay.specs.Overlay.{Overlay, with_texts}

@@ -1,6 +1,6 @@
 -- A reader in storage, with the overlay that it reads into and the bytes that are lent for the parts of its element.
 use Rattle.reader.specs.declared.RefusedAt.{RefusedAt}
-use Rattle.std.specs.Prelude.{ℕ, ◌+◌, ◌*◌, ◌-◌, Bool, true, false, leb, ltb, length, take, is_ok, Option, Result, Some, None}
+use Rattle.std.specs.Prelude.{ℕ, ◌+◌, ◌*◌, ◌-◌, Bool, false, leb, ltb, length, take, is_ok, Option, Some, None}
 use Rattle.base.specs.Bytes.{Bytes, both}
 use Rattle.refusal.specs.Refusal.{number_of}
 use Rattle.refusal.specs.declared.Refusal.{Refusal}

@@ -15,8 +15,8 @@ use Rattle.compact.specs.declared.PushHead.{PushHead}
 use Rattle.compact.specs.declared.CompactMember.{CompactMember}
 use Rattle.reader_stage.specs.Stage.{staged, ref_part, member_part, tag_part}
 use Rattle.interner.specs.Strings as Strings
-use Rattle.interner.specs.declared.Interned.{Interned}
-use Rattle.interner.specs.declared.Interned.TheVariants as I
+use Rattle.interner.specs.Interned.{Interned}
+use Rattle.interner.specs.Interned as I
 use Rattle.kind_store.specs.KindStore.{known_version, checked}
 use Rattle.overlay.specs.Overlay.{Overlay, kind_store_of, with_texts}
 use Rattle.overlay.specs.Calls.{OverlayAfter}

@@ -14,7 +14,7 @@ use overlay_blocks::COUNTERS;
 use reader_stage::STAGED;
 use refusal::Refusal;
 
-// The element that is being put together: the push that its end will make, and how many of the lent bytes its parts take.
+// The element that is being put together: the push that its end will make, and how many of the lent bytes its parts take. Its kind is the place's, and its parts are lent, so both go beside it.
 #[derive(Clone, Copy, PartialEq, Eq, Debug)]
 pub struct Pending {
     pub head: PushHead,
@@ -102,6 +102,7 @@ pub struct ReaderView<'a> {
 }
 
 // A reader that a call takes on, with the overlay that it reads into and the bytes that are lent for the parts of its element.
+// No method lends a `StorageMut` of its first three fields: it was tried, and the borrow checker's part of the proof does not cover references that a method lends on, so each caller makes one.
 #[derive(Drop)]
 pub struct ReaderState<'a> {
     pub words: &'a mut [u64],

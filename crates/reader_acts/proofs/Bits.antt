@@ -1,31 +1,56 @@
--- Metadata in bits claims the version that it claims in numbers; the kind of a body as it is read.
-use Prim.Native.Nat.{ℕ}
-use Rattle.std.specs.Prelude.{Option}
-use mathlib.Core.Path.{◌≡◌, refl, ◌∙◌, ap}
-use lib.IntN.{ℤ}
-use Rattle.compact.specs.declared.ArenaMeta.{ArenaMeta}
-use Rattle.reader_acts.specs.declared.Act.{Act}
-use Rattle.reader_acts.specs.Acts.{Means}
-use mir.Syntax.{w32}
-use mir.Val.{SFits}
-use mir.Facts.{to_z-of_z}
+-- The flags of an act, and the version that its metadata claims.
+use Prim.Native.Nat.{ℕ, ◌+◌, ◌*◌, ◌/◌, ◌%◌}
+use mathlib.Core.Path.{◌≡◌, refl, sym, ◌∙◌, ap}
+use Rattle.std.specs.Prelude.{None, Option, Some, is_some, option_map}
+use mathlib.Core.Bool.{Bool, true, false}
+use native.Mathlib.Omega.{arith}
 use Rattle.base.specs.Bytes.{Bytes}
+use Rattle.model.specs.Record.{Meta, kind_of, flagged, claim_of}
 use Rattle.kind.specs.declared.Kind.{Kind}
 use Rattle.kind.specs.declared.Kind.TheVariants.{Node, Way, Relation}
-use Rattle.model.specs.Record.{Meta, kind_of, claim_of}
-use Rattle.compact.specs.Held.{meta_of}
 use Rattle.event_values.specs.Value.{body_in}
+use Rattle.compact.specs.Held.{meta_of}
 use Rattle.reader.specs.Step.{bits_with_user}
+use Rattle.event.specs.Event.{or_empty}
+use Rattle.event_scan.specs.Fields.{text_written}
+use Rattle.event_scan.specs.declared.fields.Value.{Value}
+use Rattle.reader_acts.specs.declared.Act.{Act}
+use Rattle.reader_acts.specs.Acts.{user_flagged, act_means}
 
-pub claim_bits : (m : Meta Bytes) (user : ℕ) → SFits w32 m.version → claim_of (meta_of (bits_with_user m user)) ≡ claim_of m
+-- ---- the flag of the user
+
+user_flag : (f : ℕ) (user : Bool) → flagged 4 (user_flagged f user) ≡ user
+unfolding flagged
+user_flag f true = let e : (f / 8 * 8 + 4 + f % 4) / 4 % 2 ≡ 1 = omega arith in rw e refl
+user_flag f false = let e : (f / 8 * 8 + 0 + f % 4) / 4 % 2 ≡ 0 = omega arith in rw e refl
+
+pub version_flag : (f : ℕ) (user : Bool) → flagged 8 (user_flagged f user) ≡ flagged 8 f
+unfolding flagged
+version_flag f true = let e : (f / 8 * 8 + 4 + f % 4) / 8 ≡ f / 8 = omega arith in rw e refl
+version_flag f false = let e : (f / 8 * 8 + 0 + f % 4) / 8 ≡ f / 8 = omega arith in rw e refl
+
+-- ---- an act by the user that it names
+
+pub act_named : (a : Act) {u : Value 16384} → a.user ≡ Some u → (flagged 4 (act_means a).flags ≡ true) × (text_written u ≡ (act_means a).user)
+act_named a e = (user_flag a.meta.flags (is_some a.user) ∙ ap (λ (x : Option (Value 16384)). is_some x) e, sym (ap (λ (x : Option (Value 16384)). or_empty (option_map text_written x)) e))
+
+pub act_unnamed : (a : Act) → a.user ≡ None → flagged 4 (act_means a).flags ≡ false
+act_unnamed a e = user_flag a.meta.flags (is_some a.user) ∙ ap (λ (x : Option (Value 16384)). is_some x) e
+
+-- ---- the version that is claimed
+
+pub act_claims : (a : Act) → claim_of (meta_of a.meta) ≡ claim_of (act_means a)
 unfolding claim_of meta_of
-claim_bits m user f = rw (to_z-of_z f)
+act_claims a = rw (version_flag a.meta.flags (is_some a.user)) refl
+
+-- whatever handle its bits have
+pub claim_bits : (m : Meta Bytes) (n h : ℕ) → claim_of (meta_of (bits_with_user m n)) ≡ claim_of m → claim_of (meta_of (bits_with_user m h)) ≡ claim_of m
+unfolding claim_of meta_of
+claim_bits m n h e = e
+
+-- ---- the kind of a body as it is read
 
 pub kind_read : (k : Kind) (lat lon : ℕ) → kind_of (body_in k lat lon) ≡ k
 kind_read Node lat lon = refl
 kind_read Way lat lon = refl
 kind_read Relation lat lon = refl
-
--- the claim of an act is that of its bits
-pub act_claims : {a : Act} {m : Meta Bytes} → Means a m → {x : Option ℤ} → x ≡ claim_of (meta_of a.meta) → x ≡ claim_of m
-act_claims {a} {m} w e = e ∙ ap (λ (b : ArenaMeta). claim_of (meta_of b)) w.bits ∙ claim_bits m 0 w.version

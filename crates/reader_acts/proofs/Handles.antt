@@ -1,20 +1,15 @@
 -- A handle is at most the number of held strings, whatever is lent; and what the handle of the user's text says.
-use Rattle.refusal.specs.declared.Refusal.{Refusal}
-use Rattle.std.specs.Prelude.{Err, Ok, Result}
-use Prim.Native.Nat.{ℕ, ◌≤◌, ◌<◌}
-use mathlib.Core.Path.{◌≡◌, ap}
+use Rattle.std.specs.Prelude.{Err, Ok}
+use Prim.Native.Nat.{ℕ, ◌<◌}
+use mathlib.Core.Path.{◌≡◌}
 use mathlib.Core.Bool.{true, false}
-use mathlib.Core.List.{List}
 use native.Mathlib.Omega.{arith}
 use Rattle.base.specs.Bytes.{Bytes}
 use Rattle.base.proofs.Split.{by_bool, no}
-use Rattle.interner.proofs.Interns.{sound_parts}
-use Rattle.interner.proofs.Checks.{some_held}
-use Rattle.text_index.specs.Index.{IndexGiven}
 use Rattle.refusal.specs.declared.Refusal.TheVariants.{StringsFull}
 use Rattle.model.specs.Record.{Meta, flagged}
 use Rattle.overlay.specs.Overlay.{Overlay}
-use Rattle.overlay_store.specs.Calls.{Interning, store_text}
+use Rattle.overlay_store.specs.Calls.{store_text}
 use Rattle.reader_texts.proofs.Handles.{by_intern}
 use Rattle.reader_acts.specs.Acts.{with_user, HandleFits, UserIs}
 
@@ -42,8 +37,3 @@ module _ (m : Meta Bytes) (o : Overlay) (n : ℕ) (user : UserIs m o n) where
   -- a handle below the count is held, or there is no user; another one's text is taken in
   pub user_held : n < o.texts.strings → with_user m o ≡ o
   user_held l = by_user (λ b e. e) (λ t e. absurd (omega arith)) (λ t e. rw t)
-
-  pub user_taken : {ix : List ℕ} → IndexGiven ix o.texts → o.texts.strings ≤ n → {q : Overlay} {h : Result ℕ Refusal} → record { overlay = q; answer = h } ≡ store_text m.user o → q ≡ with_user m o
-  user_taken g l w =
-      by_user (λ b e. absurd (omega arith)) (λ t e. rw t (ap (λ (z : Interning). z.overlay) w))
-      (λ t e. absurd (omega (arith, some_held o.texts (sound_parts o.texts g.sound))))

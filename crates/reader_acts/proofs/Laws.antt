@@ -13,8 +13,8 @@ use Rattle.nesting.specs.declared.Place.{Place}
 use Rattle.model.specs.Record.{Meta, Body, kind_of, flagged, claim_of}
 use Rattle.compact.specs.declared.ArenaMeta.{ArenaMeta}
 use Rattle.interner.specs.Strings.{intern}
-use Rattle.interner.specs.declared.Interned.{Interned}
-use Rattle.interner.specs.declared.Interned.TheVariants as I
+use Rattle.interner.specs.Interned.{Interned}
+use Rattle.interner.specs.Interned as I
 use Rattle.kind_store.specs.KindStore.{known_version, checked}
 use Rattle.overlay.specs.Overlay.{Overlay, kind_store_of}
 use Rattle.overlay.specs.Calls.{OverlayAfter, overlay_refused}

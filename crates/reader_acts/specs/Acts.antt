@@ -1,21 +1,21 @@
 -- Document 01, the acts of an event: "12 .. 13 .. 14 .. 15 ..", and the first of them is answered. "Nothing lent changes" at a refusal.
-use Rattle.std.specs.Prelude.{ℕ, ◌<◌, ◌≤◌, ◌≡◌, Bool, true, false, cond, List, [], ℤ, length, take, Err, Ok, Result, Option, None, Some}
-use Rattle.std.specs.Borrow.{Bor}
-use Rattle.std.specs.Int.{w32}
-use Rattle.std.proofs.Common.{SFits}
+use Rattle.std.specs.Prelude.{ℕ, ◌+◌, ◌*◌, ◌/◌, ◌%◌, ◌<◌, ◌≡◌, Bool, cond, [], ℤ, take, Err, Ok, Result, Option, option_map, is_some, unwrap_or}
+use Rattle.std.specs.Int.{w32, w64}
+use Rattle.std.proofs.Common.{to_z}
 use Rattle.base.specs.Bytes.{Bytes}
 use Rattle.refusal.specs.declared.Refusal.{Refusal}
 use Rattle.refusal.specs.declared.Refusal.TheVariants.{Regression}
 use Rattle.kind.specs.declared.Kind.{Kind}
 use Rattle.model.specs.Record.{Meta, Body, kind_of, flagged, claim_of}
 use Rattle.compact.specs.declared.ArenaMeta.{ArenaMeta}
-use Rattle.text_index.specs.Index.{IndexGiven}
+use Rattle.text_index.specs.Chained.{HandleChains, ChainsServe}
 use Rattle.kind_store.specs.KindStore.{known_version, checked}
 use Rattle.overlay.specs.Overlay.{Overlay, kind_store_of}
 use Rattle.overlay.specs.Calls.{OverlayAfter, overlay_refused}
 use Rattle.overlay_store.specs.Calls.{store_text, store_push, store_delete}
 use Rattle.act_answer.specs.Answer.{claim_answer}
-use Rattle.event_scan.specs.Piece.{value_text}
+use Rattle.event.specs.Event.{or_empty}
+use Rattle.event_scan.specs.Fields.{text_written}
 use Rattle.reader_acts.specs.declared.Act.{Act}
 use Rattle.reader.specs.declared.Pending.{Pending}
 use Rattle.reader.specs.Step.{bits_with_user, head_for}
@@ -95,13 +95,9 @@ then_user_on m a = then_user m a.overlay a.answer
 
 -- ---- in the code: a handle is none without a user
 
-abbrev pub or_zero : Option ℕ → ℕ
-or_zero None = 0
-or_zero (Some n) = n
-
 -- the handle that was found, or a refusal
 abbrev pub found : Result (Option ℕ) Refusal → Result ℕ Refusal
-found (Ok u) = Ok (or_zero u)
+found (Ok u) = Ok (unwrap_or u 0)
 found (Err r) = Err r
 
 -- 12 before the refusal of a text
@@ -119,24 +115,32 @@ before_act k id m o = before_by (claim_answer k id (claim_of m) o) (handle_for m
 
 -- ---- what an act means
 
--- a user as it is written, where metadata names one
-abbrev pub UserMeans : Option (Bor (List ℕ)) → Bool → Bytes → Type 0
-UserMeans None named t = named ≡ false
-UserMeans (Some u) named t = (named ≡ true) × ((value_text u.now ≡ t) × (length u.now ≤ 16384))
+-- flags with the flag 4, "has user", set or not
+abbrev pub user_flagged : ℕ → Bool → ℕ
+user_flagged flags user = flags / 8 * 8 + cond user 4 0 + flags % 4
 
--- an act by its metadata
-pub record Means (a : Act) (m : Meta Bytes) : Type 0 where
-  pub id : a.id < 18446744073709551616
-  pub bits : a.meta ≡ bits_with_user m 0
-  pub version : SFits w32 m.version
-  pub user : UserMeans a.user (flagged 4 m.flags) m.user
+-- metadata in bits, but for its user, with the user that it names
+abbrev pub meta_named : ArenaMeta → Bool → Bytes → Meta Bytes
+meta_named m named user =
+    record {
+      flags = user_flagged m.flags named;
+      version = to_z w32 m.version;
+      timestamp = to_z w64 m.timestamp;
+      changeset = to_z w64 m.changeset;
+      uid = to_z w32 m.uid;
+      user = user;
+    }
+
+-- the metadata of an act; what holds for it holds for all metadata that the act means (proofs/Meant)
+abbrev pub act_means : Act → Meta Bytes
+act_means a = meta_named a.meta (is_some a.user) (or_empty (option_map text_written a.user))
 
 -- ---- what is given
 
--- the handles of the overlay fit the metadata's field, and its texts have an array of chains
-pub record ActGiven (ix : List ℕ) (o : Overlay) : Type 0 where
+-- the handles of the overlay fit the metadata's field, and the chains serve its texts; a premise of the clauses for the reason that stands at `StepGiven` (reader_parts)
+pub record ActGiven (chains : HandleChains) (o : Overlay) : Type 0 where
   pub few : o.texts.strings < 4294967296
-  pub indexed : IndexGiven ix o.texts
+  pub serve : ChainsServe chains o.texts
 
 -- the user's text has or will get that handle
 abbrev pub UserIs : Meta Bytes → Overlay → ℕ → Type 0

@@ -2,40 +2,48 @@
 // What is refused changes nothing lent: the handle that the user's text has or will get is found first, the act is done with it, and the text is taken in behind an act that was taken.
 #![tactic(auto)]
 
-ghost use Rattle.std.specs.Prelude.{◌≡◌, ◌<◌};
+ghost use Rattle.std.specs.Prelude.{◌≡◌, ◌<◌, ℕ, Option, is_some, unwrap_or, IfOk};
 ghost use Rattle.std.specs.Int.{w64};
 ghost use Rattle.std.proofs.Common.{to_z};
 ghost use Rattle.base.specs.Bytes.{Bytes};
-ghost use Rattle.model.specs.Record.{Meta, Body, kind_of, claim_of};
+ghost use Rattle.model.specs.Record.{claim_of};
+ghost use Rattle.compact.specs.Held.{meta_of};
 ghost use Rattle.overlay.specs.Lent.{overlay_in, overlay_seen, overlay_held, IsSameStorage};
+ghost use Rattle.text_index.specs.Chained.{ChainsServe};
+ghost use Rattle.text_index.specs.Lent.{chains_seen};
 ghost use Rattle.overlay_store.specs.Calls.{store_delete};
 ghost use Rattle.act_answer.specs.Answer.{claim_answer};
 ghost use Rattle.event_values.specs.Value.{body_in};
-ghost use Rattle.reader.specs.Lent.{state_held, IsSameState};
 ghost use Rattle.reader.specs.Step.{bits_with_user, head_for};
-ghost use Rattle.reader_acts.specs.Acts.{begin_on, handle_for, with_user, push_empty_on, delete_element_on, push_staged_on, or_zero, found, first_refusal, before_act, Means, ActGiven, UserIs};
+ghost use Rattle.reader_acts.specs.Acts.{begin_on, handle_for, with_user, push_empty_on, delete_element_on, push_staged_on, found, first_refusal, before_act, meta_named, act_means, ActGiven, UserIs};
 
-use compact::{ArenaMeta, PushHead};
+use compact::{ArenaMeta, PushHead, PushRecord};
+use event_scan::MAX_LINE;
+use event_scan::fields::Value;
+use event_values::Coordinates;
 use kind::Kind;
-use overlay::{Storage, StorageMut};
+use overlay::{Storage, StorageMut, StorageTables};
 use overlay_blocks::{COUNTERS, STRINGS};
-use reader::ReaderState;
+use reader::Pending;
+use reader_stage::STAGED;
 use refusal::Refusal;
+use text_index::Chains;
 
-// An act on an element: its kind and id, its metadata in bits with no user, and the text of the user that it names, as it is written.
+// An act on an element: its kind and id, its metadata in bits, but for its user, and the text of the user that it names, as it is written.
 #[derive(Clone, Copy)]
 pub struct Act<'a> {
     pub kind: Kind,
     pub id: u64,
     pub meta: ArenaMeta,
-    pub user: Option<&'a [u8]>,
+    pub user: Option<Value<'a, MAX_LINE>>,
 }
 
 // ---- in bits
 
-// The head of an element that begins; only a node has a place.
+// The head of an element that begins; only a node has a place. It is no method of `Act`: that a number fits its type is known of a parameter, and of no field behind a reference (tried).
 pub fn head_for(kind: Kind, id: u64, lat: u32, lon: u32) -> PushHead
-    ensures { result ≡ head_for (to_z w64 id) (body_in kind lat lon) }
+    ensures id { result.id ≡ id }
+    ensures bits { result ≡ head_for (to_z w64 id) (body_in kind lat lon) }
 {
     let head = PushHead {
         id,
@@ -50,16 +58,17 @@ pub fn head_for(kind: Kind, id: u64, lat: u32, lon: u32) -> PushHead
     }
 }
 
-// Metadata with its user's handle; without a user it is 0.
-fn with_handle(meta: ArenaMeta, user: Option<u64>) -> ArenaMeta
-    ensures { (m : Meta Bytes) → meta ≡ bits_with_user m 0 → or_zero user < 4294967296 → result ≡ bits_with_user m (or_zero user) }
+// Metadata with the handle of the user that it names, and the flag 4, "has user"; without a user both are 0. A handle of more than 32 bits is stored as 0: a sound overlay has none.
+fn with_user(meta: ArenaMeta, handle: Option<u64>) -> ArenaMeta
+    ensures claim { claim_of (meta_of result) ≡ claim_of (meta_of meta) }
+    ensures bits { (user : Bytes) → unwrap_or handle 0 < 4294967296 → result ≡ bits_with_user (meta_named meta (is_some handle) user) (unwrap_or handle 0) }
 {
-    match user {
-        None => meta,
-        Some(handle) => ArenaMeta {
-            user: little::narrow(handle),
-            ..meta
-        },
+    let user_flag = if handle.is_some() { 4 } else { 0 };
+    let handle = handle.unwrap_or(0);
+    ArenaMeta {
+        flags: meta.flags / 8 * 8 + user_flag + meta.flags % 4,
+        user: u32::try_from(handle).unwrap_or(0),
+        ..meta
     }
 }
 
@@ -68,122 +77,114 @@ fn with_handle(meta: ArenaMeta, user: Option<u64>) -> ArenaMeta
 // An element begins: 13, or its metadata with its user's handle.
 pub fn begin_element(
     storage: &mut StorageMut<'_>,
-    ix: &[u16],
+    chains: &Chains<'_>,
     act: &Act<'_>,
 ) -> Result<ArenaMeta, Refusal>
     ensures same { IsSameStorage storage.new storage.old }
-    ensures begun { (m : Meta Bytes) → Means act.now m → ActGiven ix.now (overlay_held storage.old)
-        → record { overlay = overlay_held storage.new; answer = result } ≡ begin_on m (overlay_held storage.old) }
+    ensures begun { ActGiven (chains_seen chains.now) (overlay_held storage.old)
+        → record { overlay = overlay_held storage.new; answer = result } ≡ begin_on (act_means act.now) (overlay_held storage.old) }
 {
     let Some(user) = act.user else {
-        return Ok(act.meta);
+        return Ok(with_user(act.meta, None));
     };
-    let handle = reader_texts::take_text(storage, ix, user)?;
-    Ok(with_handle(act.meta, Some(handle)))
+    let handle = reader_texts::take_text(storage, chains, &user)?;
+    Ok(with_user(act.meta, Some(handle)))
 }
 
 // ---- an element that ends
 
 // Pushes the element whose parts are staged: 12, 14, 15, or taken.
-pub fn push_staged(state: &mut ReaderState<'_>) -> Result<(), Refusal>
-    ensures same { IsSameState state.new state.old }
-    ensures rest { (state.new.reader ≡ state.old.reader) × (state.new.parts.now ≡ state.old.parts.now) }
-    ensures pushed { record { overlay = (state_held state.new).overlay; answer = result }
-        ≡ push_staged_on state.old.reader.place.kind state.old.reader.pending state.old.parts.now (state_held state.old).overlay }
+pub fn push_staged(
+    storage: &mut StorageMut<'_>,
+    kind: Kind,
+    pending: Pending,
+    parts: &[u8; STAGED],
+) -> Result<(), Refusal>
+    ensures same { IsSameStorage storage.new storage.old }
+    ensures pushed { record { overlay = overlay_held storage.new; answer = result } ≡ push_staged_on kind pending parts.now (overlay_held storage.old) }
 {
-    let pending = state.reader.pending;
-    let kind = state.reader.place.kind;
-    let parts = &state.parts[..];
     let used = pending.used.min(parts.len());
-    overlay_store::store_push(
-        state.words,
-        state.bytes,
-        state.counters,
+    let record = PushRecord {
         kind,
-        pending.head,
-        pending.meta,
-        &parts[..used],
-    )
+        head: pending.head,
+        meta: pending.meta,
+        parts: &parts[..used],
+    };
+    overlay_store::push(storage, &record)
 }
 
 // ---- an act and the user that its metadata names
 
 // The refusal of an act whose user's text is refused: 12 if its claim is below the known version, else that of the text.
 fn first_refusal(storage: &Storage<'_>, act: &Act<'_>, refusal: Refusal) -> Refusal
-    ensures { (m : Meta Bytes) → Means act.now m → result ≡ first_refusal (claim_answer act.now.kind (to_z w64 act.now.id) (claim_of m) (overlay_seen storage.now)) refusal }
+    ensures { result ≡ first_refusal (claim_answer act.now.kind (to_z w64 act.now.id) (claim_of (act_means act.now)) (overlay_seen storage.now)) refusal }
 {
     let claim = act.meta.claim();
-    match act_answer::claim_below(
-        storage.words,
-        storage.bytes,
-        storage.counters,
-        act.kind,
-        act.id,
-        claim,
-    ) {
+    match act_answer::check_claim(storage, act.kind, act.id, claim) {
         Ok(()) => refusal,
         Err(held) => Refusal::Regression(held),
     }
 }
 
 // What is asked before an act: the handle that the user's text has or will get, none without a user; or the refusal of the act.
-fn user_before(storage: &Storage<'_>, ix: &[u16], act: &Act<'_>) -> Result<Option<u64>, Refusal>
-    ensures { (m : Meta Bytes) → Means act.now m → ActGiven ix.now (overlay_seen storage.now)
-        → found result ≡ before_act act.now.kind (to_z w64 act.now.id) m (overlay_seen storage.now) }
+fn user_before(
+    storage: &Storage<'_>,
+    chains: &Chains<'_>,
+    act: &Act<'_>,
+) -> Result<Option<u64>, Refusal>
+    ensures named { IfOk result (λ (h : Option ℕ). is_some h ≡ is_some act.now.user) }
+    ensures asked { ChainsServe (chains_seen chains.now) (overlay_seen storage.now).texts
+        → found result ≡ before_act act.now.kind (to_z w64 act.now.id) (act_means act.now) (overlay_seen storage.now) }
 {
     let Some(user) = act.user else {
         return Ok(None);
     };
-    match reader_texts::text_handle(storage, ix, user) {
+    match reader_texts::text_handle(storage, chains, &user) {
         Ok(handle) => Ok(Some(handle)),
         Err(refusal) => Err(first_refusal(storage, act, refusal)),
     }
 }
 
-// What follows an act: the user's text is taken in, by its handle: one below the count is held.
-fn take_user(storage: &mut StorageMut<'_>, ix: &[u16], act: &Act<'_>, handle: Option<u64>)
+// What follows an act: the user's text is taken in, unless its handle is below the count: then it is held.
+fn take_user(storage: &mut StorageMut<'_>, chains: &Chains<'_>, act: &Act<'_>, handle: Option<u64>)
     ensures same { IsSameStorage storage.new storage.old }
-    ensures taken { (m : Meta Bytes) → Means act.now m → ActGiven ix.now (overlay_held storage.old) → UserIs m (overlay_held storage.old) (or_zero handle)
-        → overlay_held storage.new ≡ with_user m (overlay_held storage.old) }
+    ensures taken { ChainsServe (chains_seen chains.now) (overlay_held storage.old).texts → UserIs (act_means act.now) (overlay_held storage.old) (unwrap_or handle 0)
+        → overlay_held storage.new ≡ with_user (act_means act.now) (overlay_held storage.old) }
 {
     let Some(user) = act.user else {
         return;
     };
-    let Some(handle) = handle else {
-        return;
-    };
-    if storage.counters[STRINGS] <= handle {
-        // its answer is known: there is room for it
-        let _ = reader_texts::take_text(storage, ix, user);
+    match handle {
+        Some(handle) if handle < storage.counters[STRINGS] => {}
+        _ => {
+            // its answer is known: there is room for it
+            let _ = reader_texts::take_text(storage, chains, &user);
+        }
     }
 }
 
 // ---- an element that begins and ends at once, and a delete
 
-// Pushes an empty element by its head: 12, 13, 14, 15, or taken.
+// Pushes an empty element, a node by its place: 12, 13, 14, 15, or taken.
 pub fn push_empty(
     storage: &mut StorageMut<'_>,
-    ix: &[u16],
+    chains: &Chains<'_>,
     act: &Act<'_>,
-    head: PushHead,
+    place: Coordinates,
 ) -> Result<(), Refusal>
     ensures same { IsSameStorage storage.new storage.old }
-    ensures pushed { (m : Meta Bytes) (b : Body Bytes) → Means act.now m → ActGiven ix.now (overlay_held storage.old) → kind_of b ≡ act.now.kind → head ≡ head_for (to_z w64 act.now.id) b
-        → record { overlay = overlay_held storage.new; answer = result } ≡ push_empty_on (to_z w64 act.now.id) m b (overlay_held storage.old) }
+    ensures pushed { ActGiven (chains_seen chains.now) (overlay_held storage.old)
+        → record { overlay = overlay_held storage.new; answer = result } ≡ push_empty_on (to_z w64 act.now.id) (act_means act.now) (body_in act.now.kind place.lat place.lon) (overlay_held storage.old) }
 {
-    let user = user_before(&storage.storage(), ix, act)?;
-    let meta = with_handle(act.meta, user);
-    let parts: &[u8] = &[];
-    overlay_store::store_push(
-        storage.words,
-        storage.bytes,
-        storage.counters,
-        act.kind,
-        head,
-        meta,
-        parts,
-    )?;
-    take_user(storage, ix, act, user);
+    let user = user_before(&storage.storage(), chains, act)?;
+    let record = PushRecord {
+        kind: act.kind,
+        head: head_for(act.kind, act.id, place.lat, place.lon),
+        meta: with_user(act.meta, user),
+        parts: &[],
+    };
+    overlay_store::push(storage, &record)?;
+    take_user(storage, chains, act, user);
     Ok(())
 }
 
@@ -198,20 +199,25 @@ fn store_delete(
 ) -> Result<(), Refusal>
     ensures { record { overlay = overlay_in words.new bytes.new counters.new; answer = result } ≡ store_delete kind (to_z w64 id) claim (overlay_in words.old bytes.old counters.old) }
 {
-    overlay_store::store_delete(words, bytes, counters, kind, id, claim)
+    let mut tables = StorageTables {
+        words,
+        bytes,
+        counters,
+    };
+    overlay_store::delete(&mut tables, kind, id, claim)
 }
 
 // Deletes an id: 12, 13, 14, or taken.
 pub fn delete_element(
     storage: &mut StorageMut<'_>,
-    ix: &[u16],
+    chains: &Chains<'_>,
     act: &Act<'_>,
 ) -> Result<(), Refusal>
     ensures same { IsSameStorage storage.new storage.old }
-    ensures deleted { (m : Meta Bytes) → Means act.now m → ActGiven ix.now (overlay_held storage.old)
-        → record { overlay = overlay_held storage.new; answer = result } ≡ delete_element_on act.now.kind (to_z w64 act.now.id) m (overlay_held storage.old) }
+    ensures deleted { ChainsServe (chains_seen chains.now) (overlay_held storage.old).texts
+        → record { overlay = overlay_held storage.new; answer = result } ≡ delete_element_on act.now.kind (to_z w64 act.now.id) (act_means act.now) (overlay_held storage.old) }
 {
-    let user = user_before(&storage.storage(), ix, act)?;
+    let user = user_before(&storage.storage(), chains, act)?;
     let claim = act.meta.claim();
     store_delete(
         storage.words,
@@ -221,6 +227,6 @@ pub fn delete_element(
         act.id,
         claim,
     )?;
-    take_user(storage, ix, act, user);
+    take_user(storage, chains, act, user);
     Ok(())
 }

@@ -4,15 +4,13 @@ use Rattle.std.specs.Prelude.{Ok, Err, Result, None}
 use Prim.Native.Nat.{ℕ}
 use mathlib.Core.Path.{◌≡◌, refl, sym, ◌∙◌, ap}
 use mathlib.Core.Bool.{true}
-use mathlib.Core.List.{List, []}
+use native.Mathlib.Omega.{arith}
 use Rattle.base.specs.Bytes.{Bytes}
-use Rattle.base.proofs.Split.{both_left}
 use Rattle.refusal.specs.declared.Refusal.{Refusal}
 use Rattle.event_decision.specs.Decision.{decide, refuses}
-use Rattle.interner.specs.Sound.{texts_of, sound_strings}
+use Rattle.interner.specs.Sound.{sound_strings}
 use Rattle.interner.proofs.Interns.{sound_of}
-use Rattle.text_index.specs.Index.{IndexGiven}
-use Rattle.text_index.proofs.Index.{indexed_none}
+use Rattle.text_index.specs.Chained.{HandleChains, none_chained, ChainsServe}
 use Rattle.overlay.specs.Overlay.{Overlay}
 use Rattle.overlay.specs.Sound.{is_sound}
 use Rattle.overlay.proofs.Answers.{strings_sound}
@@ -26,22 +24,21 @@ use Rattle.reader_sound.proofs.Mark.{going_on, by_refused}
 use Rattle.reader_sound.proofs.Sound.{sound_used, sound_strings_lem}
 use Rattle.reader_parts.specs.Parts.{StepGiven}
 
--- ---- an array of chains
+-- ---- chains of handles
 
 pub texts_sound : (o : Overlay) → is_sound o ≡ true → sound_strings o.texts ≡ true
 texts_sound o e = sound_of o.texts (strings_sound o e)
 
--- no array serves every sound state
-pub no_chains : (s : State) → state_sound s ≡ true → IndexGiven [] s.overlay.texts
-unfolding state_sound
-no_chains s e = record { sound = texts_sound s.overlay (both_left _ _ e); chains = indexed_none (texts_of s.overlay.texts) }
+-- none serve any strings
+pub none_serve : (s : State) (k : HandleChains) → k ≡ none_chained → ChainsServe k s.overlay.texts
+none_serve s k e h = absurd (omega (arith, ap (λ (c : HandleChains). c.handles) e))
 
 module _ (line : Bytes) (s : State) where
   -- ---- a step
 
   -- what is given to it
-  pub step_given : state_sound s ≡ true → {ix : List ℕ} → IndexGiven ix s.overlay.texts → StepGiven ix s
-  step_given e i = record { strings = sound_strings_lem s e; used = sound_used s e; indexed = i }
+  pub step_given : state_sound s ≡ true → {chains : HandleChains} → ChainsServe chains s.overlay.texts → StepGiven chains s
+  step_given e i = record { strings = sound_strings_lem s e; used = sound_used s e; serve = i }
 
   -- a refusal of the line
   pub step_refused : {r : Refusal} → refuses r ≡ decide line s.reader.place → record { state = s; answer = Err r } ≡ done_by s (step_of (decide line s.reader.place) s)
@@ -72,11 +69,6 @@ module _ (line : Bytes) (s : State) where
       (λ u k. rw k (sym (event_22 line s u)))
       (λ u m t. sym (event_stopped line s a.refusal a.line u m t))
 
-  pub event_goes_by : going_answer (state_sound s) s.reader.stop ≡ Ok tt → {ix : List ℕ} → IndexGiven ix s.overlay.texts → {x : EventResult}
-      → (state_sound s ≡ true → IndexGiven ix s.overlay.texts → x ≡ stepped s (step_of (decide line s.reader.place) s)) → x ≡ event_on line s
+  pub event_goes_by : going_answer (state_sound s) s.reader.stop ≡ Ok tt → {chains : HandleChains} → ChainsServe chains s.overlay.texts → {x : EventResult}
+      → (state_sound s ≡ true → ChainsServe chains s.overlay.texts → x ≡ stepped s (step_of (decide line s.reader.place) s)) → x ≡ event_on line s
   event_goes_by e i f = let g = going_on (state_sound s) s.reader.stop e in f g.0 i ∙ sym (event_going line s g.0 g.1)
-
-  -- with no chains
-  pub event_goes_on : going_answer (state_sound s) s.reader.stop ≡ Ok tt → {x : EventResult}
-      → (state_sound s ≡ true → IndexGiven [] s.overlay.texts → x ≡ stepped s (step_of (decide line s.reader.place) s)) → x ≡ event_on line s
-  event_goes_on e = event_goes_by e (no_chains s (going_on (state_sound s) s.reader.stop e).0)

@@ -3,7 +3,8 @@
 
 ghost use Rattle.std.specs.Prelude.{◌≡◌, true, ◌+◌, ◌<◌};
 ghost use Rattle.event_decision.specs.Decision.{decide};
-ghost use Rattle.text_index.specs.Index.{IndexGiven};
+ghost use Rattle.text_index.specs.Chained.{ChainsServe};
+ghost use Rattle.text_index.specs.Lent.{chains_seen};
 ghost use Rattle.reader.specs.Lent.{state_lent, state_left, state_seen, state_held, IsSameState};
 ghost use Rattle.reader.specs.State.{state_sound};
 ghost use Rattle.reader.specs.Step.{step_of};
@@ -16,6 +17,7 @@ use overlay_blocks::COUNTERS;
 use reader::{EventReader, ReaderState, ReaderView, RefusedAt};
 use reader_stage::STAGED;
 use refusal::Refusal;
+use text_index::Chains;
 
 // ---- an event
 
@@ -27,24 +29,28 @@ fn next_line(lines: u64) -> u64
 }
 
 // The step of an event of a state that was found sound: what is decided of its line, done, or the refusal.
-fn line_step(state: &mut ReaderState<'_>, ix: &[u16], line: &[u8]) -> Result<(), Refusal>
+fn line_step(state: &mut ReaderState<'_>, chains: &Chains<'_>, line: &[u8]) -> Result<(), Refusal>
     ensures same { IsSameState state.new state.old }
-    ensures done { state_sound (state_held state.old) ≡ true → IndexGiven ix.now (state_held state.old).overlay.texts
+    ensures done { state_sound (state_held state.old) ≡ true → ChainsServe (chains_seen chains.now) (state_held state.old).overlay.texts
         → record { state = state_held state.new; answer = result } ≡ done_by (state_held state.old) (step_of (decide line.now state.old.reader.place) (state_held state.old)) }
 {
     let task = event_decide::tasks::task_of(line, state.reader.place)?;
-    reader_step::step(state, ix, &task)
+    reader_step::step(state, chains, &task)
 }
 
-// An event of a state that was found sound, whose reader is not stopped: its step. The lines count on, or the reader stops: then only its stop mark changes. The array of chains,
-// or an empty slice, finds held texts.
-pub fn event_going(state: &mut ReaderState<'_>, ix: &[u16], line: &[u8]) -> Result<(), RefusedAt>
+// An event of a state that was found sound, whose reader is not stopped: its step. The lines count on, or the reader stops: then only its stop mark changes. Chains of
+// handles find held texts; where none are kept, empty ones serve.
+pub fn event_going(
+    state: &mut ReaderState<'_>,
+    chains: &Chains<'_>,
+    line: &[u8],
+) -> Result<(), RefusedAt>
     ensures same { IsSameState state.new state.old }
-    ensures value { state_sound (state_held state.old) ≡ true → IndexGiven ix.now (state_held state.old).overlay.texts
+    ensures value { state_sound (state_held state.old) ≡ true → ChainsServe (chains_seen chains.now) (state_held state.old).overlay.texts
         → record { state = state_held state.new; answer = result } ≡ stepped (state_held state.old) (step_of (decide line.now state.old.reader.place) (state_held state.old)) }
 {
     let number = next_line(state.reader.lines);
-    match line_step(state, ix, line) {
+    match line_step(state, chains, line) {
         Ok(()) => {
             state.reader.lines = number;
             state.reader.stop = None;
@@ -68,7 +74,7 @@ pub fn event_on(state: &mut ReaderState<'_>, line: &[u8]) -> Result<(), RefusedA
 {
     let sound = reader_sound::state_sound(&state.view());
     reader_sound::check_going(sound, state.reader.stop)?;
-    event_going(state, &[], line)
+    event_going(state, &Chains::none(), line)
 }
 
 // ---- the end

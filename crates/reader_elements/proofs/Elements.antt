@@ -72,6 +72,7 @@ module _ (s : State) where
       → record { overlay = q; answer = x } ≡ delete_element_on k id m s.overlay → Works (λ p. deletes k p id m) s (worked s q s.parts (acted x))
   deletes_works k id m = act_works (λ p. deletes k p id m) (λ p. deletes_step s p k id m) (λ x. deletes_refused s.overlay x k id m)
 
-  pub ends_works : {q : Overlay} {x : Result Unit Refusal}
-      → record { overlay = q; answer = x } ≡ push_staged_on s.reader.place.kind s.reader.pending s.parts s.overlay → Works (λ p. ends p) s (worked s q s.parts (acted x))
-  ends_works = act_works (λ p. ends p) (λ p. ends_step s p) (λ x. staged_refused s.overlay x s.reader.place.kind s.reader.pending s.parts)
+  pub ends_works : {o : Overlay} {k : Kind} {p : Pending} {parts : Bytes} → s.overlay ≡ o → s.reader.place.kind ≡ k → s.reader.pending ≡ p → s.parts ≡ parts
+      → {q : Overlay} {x : Result Unit Refusal} → record { overlay = q; answer = x } ≡ push_staged_on k p parts o → Works (λ p. ends p) s (worked s q s.parts (acted x))
+  ends_works on kinds pendings staged e =
+      act_works (λ p. ends p) (λ p. ends_step s p) (λ x. staged_refused s.overlay x s.reader.place.kind s.reader.pending s.parts) (rw (← on, ← kinds, ← pendings, ← staged) at e)

@@ -1,124 +1,77 @@
-// What is decided of an element, done in storage: it begins, is deleted, or ends and is pushed.
+// What is decided of an element, done in storage: it begins, is deleted, or ends and is pushed. Each answers the element that the reader is putting together then, or the refusal.
 #![tactic(auto)]
 
 ghost use Rattle.std.specs.Prelude.{◌≡◌};
 ghost use Rattle.std.specs.Int.{w64};
 ghost use Rattle.std.proofs.Common.{to_z};
-ghost use Rattle.base.specs.Bytes.{Bytes};
-ghost use Rattle.model.specs.Record.{Meta, Body, kind_of};
+ghost use Rattle.event_values.specs.Value.{body_in};
 ghost use Rattle.event_decision.specs.Decision.{begins, deletes, ends};
-ghost use Rattle.reader.specs.Lent.{state_held, IsSameState};
-ghost use Rattle.reader.specs.Step.{head_for};
-ghost use Rattle.reader.specs.Done.{Works};
-ghost use Rattle.reader_acts.specs.Acts.{begin_on, push_empty_on, delete_element_on, Means, ActGiven};
+ghost use Rattle.text_index.specs.Chained.{ChainsServe};
+ghost use Rattle.text_index.specs.Lent.{chains_seen};
+ghost use Rattle.overlay.specs.Lent.{overlay_held, IsSameStorage};
+ghost use Rattle.reader.specs.State.{State};
+ghost use Rattle.reader.specs.Done.{worked, Works};
+ghost use Rattle.reader_acts.specs.Acts.{act_means, ActGiven};
 
-use compact::{ArenaMeta, PushHead};
+use event_values::Coordinates;
+use kind::Kind;
 use overlay::StorageMut;
-use reader::{Pending, ReaderState};
+use reader::Pending;
 use reader_acts::Act;
+use reader_stage::STAGED;
 use refusal::Refusal;
+use text_index::Chains;
 
-// ---- the acts, on the overlay of a reader
-
-fn push_empty(
-    state: &mut ReaderState<'_>,
-    ix: &[u16],
-    act: &Act<'_>,
-    head: PushHead,
-) -> Result<(), Refusal>
-    ensures same { IsSameState state.new state.old }
-    ensures rest { (state.new.reader ≡ state.old.reader) × (state.new.parts.now ≡ state.old.parts.now) }
-    ensures pushed { (m : Meta Bytes) (b : Body Bytes) → Means act.now m → ActGiven ix.now (state_held state.old).overlay → kind_of b ≡ act.now.kind → head ≡ head_for (to_z w64 act.now.id) b
-        → record { overlay = (state_held state.new).overlay; answer = result } ≡ push_empty_on (to_z w64 act.now.id) m b (state_held state.old).overlay }
-{
-    let mut storage = StorageMut {
-        words: state.words,
-        bytes: state.bytes,
-        counters: state.counters,
-    };
-    reader_acts::push_empty(&mut storage, ix, act, head)
-}
-
-fn begin_element(
-    state: &mut ReaderState<'_>,
-    ix: &[u16],
-    act: &Act<'_>,
-) -> Result<ArenaMeta, Refusal>
-    ensures same { IsSameState state.new state.old }
-    ensures rest { (state.new.reader ≡ state.old.reader) × (state.new.parts.now ≡ state.old.parts.now) }
-    ensures begun { (m : Meta Bytes) → Means act.now m → ActGiven ix.now (state_held state.old).overlay
-        → record { overlay = (state_held state.new).overlay; answer = result } ≡ begin_on m (state_held state.old).overlay }
-{
-    let mut storage = StorageMut {
-        words: state.words,
-        bytes: state.bytes,
-        counters: state.counters,
-    };
-    reader_acts::begin_element(&mut storage, ix, act)
-}
-
-fn delete_element(state: &mut ReaderState<'_>, ix: &[u16], act: &Act<'_>) -> Result<(), Refusal>
-    ensures same { IsSameState state.new state.old }
-    ensures rest { (state.new.reader ≡ state.old.reader) × (state.new.parts.now ≡ state.old.parts.now) }
-    ensures deleted { (m : Meta Bytes) → Means act.now m → ActGiven ix.now (state_held state.old).overlay
-        → record { overlay = (state_held state.new).overlay; answer = result } ≡ delete_element_on act.now.kind (to_z w64 act.now.id) m (state_held state.old).overlay }
-{
-    let mut storage = StorageMut {
-        words: state.words,
-        bytes: state.bytes,
-        counters: state.counters,
-    };
-    reader_acts::delete_element(&mut storage, ix, act)
-}
-
-// ---- what is decided
-
-// An element begins, by its head; one that is empty ends too, and is pushed.
+// An element begins, a node at its place; one that is empty ends too, and is pushed.
 pub fn begin(
-    state: &mut ReaderState<'_>,
-    ix: &[u16],
+    storage: &mut StorageMut<'_>,
+    chains: &Chains<'_>,
     act: &Act<'_>,
-    head: PushHead,
+    place: Coordinates,
     empty: bool,
-) -> Result<(), Refusal>
-    ensures same { IsSameState state.new state.old }
-    ensures place { state.new.reader.place ≡ state.old.reader.place }
-    ensures works { (m : Meta Bytes) (b : Body Bytes) → Means act.now m → ActGiven ix.now (state_held state.old).overlay → kind_of b ≡ act.now.kind → head ≡ head_for (to_z w64 act.now.id) b
-        → Works (λ p. begins empty p (to_z w64 act.now.id) m b) (state_held state.old) (record { state = state_held state.new; answer = result }) }
+) -> Result<Pending, Refusal>
+    ensures same { IsSameStorage storage.new storage.old }
+    ensures works { (s : State) → s.overlay ≡ overlay_held storage.old → ActGiven (chains_seen chains.now) s.overlay
+        → Works (λ p. begins empty p (to_z w64 act.now.id) (act_means act.now) (body_in act.now.kind place.lat place.lon)) s (worked s (overlay_held storage.new) s.parts result) }
 {
     if empty {
-        push_empty(state, ix, act, head)?;
-        state.reader.pending = Pending::default();
-        return Ok(());
+        reader_acts::push_empty(storage, chains, act, place)?;
+        return Ok(Pending::default());
     }
-    let meta = begin_element(state, ix, act)?;
-    state.reader.pending = Pending {
+    let meta = reader_acts::begin_element(storage, chains, act)?;
+    let head = reader_acts::head_for(act.kind, act.id, place.lat, place.lon);
+    Ok(Pending {
         head,
         meta,
         used: 0,
-    };
-    Ok(())
+    })
 }
 
 // An id is deleted.
-pub fn delete(state: &mut ReaderState<'_>, ix: &[u16], act: &Act<'_>) -> Result<(), Refusal>
-    ensures same { IsSameState state.new state.old }
-    ensures place { state.new.reader.place ≡ state.old.reader.place }
-    ensures works { (m : Meta Bytes) → Means act.now m → ActGiven ix.now (state_held state.old).overlay
-        → Works (λ p. deletes act.now.kind p (to_z w64 act.now.id) m) (state_held state.old) (record { state = state_held state.new; answer = result }) }
+pub fn delete(
+    storage: &mut StorageMut<'_>,
+    chains: &Chains<'_>,
+    act: &Act<'_>,
+) -> Result<Pending, Refusal>
+    ensures same { IsSameStorage storage.new storage.old }
+    ensures works { (s : State) → s.overlay ≡ overlay_held storage.old → ChainsServe (chains_seen chains.now) s.overlay.texts
+        → Works (λ p. deletes act.now.kind p (to_z w64 act.now.id) (act_means act.now)) s (worked s (overlay_held storage.new) s.parts result) }
 {
-    delete_element(state, ix, act)?;
-    state.reader.pending = Pending::default();
-    Ok(())
+    reader_acts::delete_element(storage, chains, act)?;
+    Ok(Pending::default())
 }
 
 // The element that stands open ends, and is pushed.
-pub fn end(state: &mut ReaderState<'_>) -> Result<(), Refusal>
-    ensures same { IsSameState state.new state.old }
-    ensures place { state.new.reader.place ≡ state.old.reader.place }
-    ensures works { Works (λ p. ends p) (state_held state.old) (record { state = state_held state.new; answer = result }) }
+pub fn end(
+    storage: &mut StorageMut<'_>,
+    kind: Kind,
+    pending: Pending,
+    parts: &[u8; STAGED],
+) -> Result<Pending, Refusal>
+    ensures same { IsSameStorage storage.new storage.old }
+    ensures works { (s : State) → s.overlay ≡ overlay_held storage.old → s.reader.place.kind ≡ kind → s.reader.pending ≡ pending → s.parts ≡ parts.now
+        → Works (λ p. ends p) s (worked s (overlay_held storage.new) s.parts result) }
 {
-    reader_acts::push_staged(state)?;
-    state.reader.pending = Pending::default();
-    Ok(())
+    reader_acts::push_staged(storage, kind, pending, parts)?;
+    Ok(Pending::default())
 }

@@ -3,7 +3,6 @@ use Rattle.std.specs.Prelude.{Err, Ok, Result}
 use Prim.Native.Nat.{ℕ, ◌+◌, ◌-◌, ◌*◌, ◌≤◌, ◌<◌}
 use mathlib.Core.Path.{◌≡◌, sym, ◌∙◌, ap}
 use mathlib.Core.Bool.{Bool, true, false}
-use mathlib.Core.List.{List}
 use native.Mathlib.Omega.{arith}
 use lib.Dec.{leb, ltb}
 use lib.ListN.{length}
@@ -16,16 +15,16 @@ use Rattle.kind.specs.declared.Kind.TheVariants as K
 use Rattle.model.specs.Record.{Member, Tag}
 use Rattle.compact.specs.Legal.{limits}
 use Rattle.compact.specs.declared.PushHead.{PushHead}
-use Rattle.reader_stage.specs.Stage.{member_part, tag_part}
-use Rattle.text_index.specs.Index.{IndexGiven}
+use Rattle.reader_stage.specs.Stage.{staged, member_part, tag_part}
+use Rattle.text_index.specs.Chained.{HandleChains, ChainsServe}
 use Rattle.overlay.specs.Overlay.{Overlay}
 use Rattle.overlay_store.specs.Calls.{Interning, store_text}
 use Rattle.overlay_store.proofs.Answers.{by_handle}
-use Rattle.reader_texts.proofs.Handles.{handle_few, text_kept}
+use Rattle.reader_texts.proofs.Handles.{text_kept}
 use Rattle.reader.specs.declared.Pending.{Pending}
 use Rattle.reader.specs.State.{State, middle, values_in, more_tags, more_parts}
 use Rattle.reader.specs.Step.{member_bits}
-use Rattle.reader_parts.specs.Parts.{Adding, tag_fits, part_fits, refusal_over, pending_with, part_staged, with_overlay, child_worked, add_part, add_with}
+use Rattle.reader_parts.specs.Parts.{Adding, tag_fits, part_fits, refusal_over, pending_with, with_overlay, child_worked, add_part, add_with}
 
 -- ---- a child with a text
 
@@ -60,6 +59,11 @@ member_child s m =
 abbrev pub text_added : State → TextChild → Adding
 text_added s y = add_with y.within y.text y.head y.at y.part s.reader.pending s.parts s.overlay
 
+-- a state with another element and other lent bytes
+abbrev pub with_part : State → Pending → Bytes → State
+with_part s x parts =
+    record { overlay = s.overlay; reader = record { place = s.reader.place; pending = x; lines = s.reader.lines; stop = s.reader.stop }; parts = parts }
+
 module _ (s : State) (y : TextChild) where
   -- what the calls left is what is to be left: its text taken in
   module _ {q : Overlay} {a : Result ℕ Refusal} (stored : record { overlay = q; answer = a } ≡ store_text y.text s.overlay) where
@@ -69,18 +73,12 @@ module _ (s : State) (y : TextChild) where
     after : (store_text y.text s.overlay).overlay ≡ q
     after = sym (ap (λ (i : Interning). i.overlay) stored)
 
-    -- the handle fits 32 bits
-    pub handle_fits : {n : ℕ} → a ≡ Ok n → s.overlay.texts.strings < 4294967296 → n < 4294967296
-    handle_fits {n} e h = let f = handle_few y.text s.overlay n (answered ∙ e) in omega arith
-
-    -- and the part is staged
-    pub staged_left : {n : ℕ} → y.within ≡ true → a ≡ Ok n → s.reader.pending.used ≤ length s.parts → {m t : State} → m ≡ with_overlay q s
-        → (f : State → State) → (m.reader.pending.used ≤ length m.parts → t ≡ f m) → f (with_overlay q s) ≡ part_staged y.head y.at (y.part n) (with_overlay q s)
-        → record { state = t; answer = Ok tt } ≡ child_worked s (text_added s y)
+    -- the part is staged
+    pub staged_left : {n : ℕ} → y.within ≡ true → a ≡ Ok n → {m : State} → m ≡ with_overlay q s → (x : Bytes) → x ≡ y.part n → {parts : Bytes} {p : Pending}
+        → parts ≡ staged m.parts s.reader.pending.used y.at x → p ≡ pending_with y.head x s.reader.pending
+        → record { state = with_part m p parts; answer = Ok tt } ≡ child_worked s (text_added s y)
     unfolding add_with
-    staged_left w e u k f g h =
-        let z = (rw k at g) u in
-        rw (z, h, answered ∙ e, w, after)
+    staged_left w e k x f g h = rw (g, h, k, f, answered ∙ e, w, after)
 
     -- its text refused
     pub refused_left : {r : Refusal} → a ≡ Err r → {m : State} → m ≡ with_overlay q s → record { state = m; answer = Err r } ≡ child_worked s (text_added s y)
@@ -90,8 +88,8 @@ module _ (s : State) (y : TextChild) where
         rw (k, answered ∙ e, z)
 
   -- over the limits: 13 where the text would be refused, else 16
-  pub over_left : {r : Result Unit Refusal} → y.within ≡ false → {o : Overlay} → o ≡ s.overlay → {ix : List ℕ} → IndexGiven ix s.overlay.texts
-      → (IndexGiven ix o.texts → r ≡ Err (refusal_over (store_text y.text o).answer)) → record { state = s; answer = r } ≡ child_worked s (text_added s y)
+  pub over_left : {r : Result Unit Refusal} → y.within ≡ false → {o : Overlay} → o ≡ s.overlay → {chains : HandleChains} → ChainsServe chains s.overlay.texts
+      → (ChainsServe chains o.texts → r ≡ Err (refusal_over (store_text y.text o).answer)) → record { state = s; answer = r } ≡ child_worked s (text_added s y)
   unfolding add_with
   over_left w q i h =
       let e = (rw q at h) i in
@@ -151,9 +149,6 @@ module _ (k : Kind) (x : Pending) (n : ℕ) where
 
   pub fits_no_tags : 256 ≤ x.head.tags → tag_fits k x n ≡ false
   fits_no_tags q = both_no_left _ _ (lt-leb (x.head.tags + 1) 256 (omega arith))
-
-pub part_yes : (x : Pending) (limit : ℕ) → part_fits x limit ≡ true → x.head.count < limit
-part_yes x limit e = let p = leb-true (x.head.count + 1) limit e in omega arith
 
 -- a ref takes 8 bytes, a member 13
 pub middle_most : (k : Kind) (n : ℕ) → middle k n ≤ 13 * n

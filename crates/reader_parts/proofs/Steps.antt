@@ -13,8 +13,8 @@ use Rattle.model.specs.Record.{Member, Tag}
 use Rattle.compact.specs.Legal.{limits}
 use Rattle.compact.specs.declared.PushHead.{PushHead}
 use Rattle.reader_stage.specs.Stage.{ref_part}
-use Rattle.interner.specs.declared.Interned.{Interned}
-use Rattle.interner.specs.declared.Interned.TheVariants as I
+use Rattle.interner.specs.Interned.{Interned}
+use Rattle.interner.specs.Interned as I
 use Rattle.interner.specs.Strings.{intern}
 use Rattle.overlay.specs.Overlay.{Overlay}
 use Rattle.overlay_store.specs.Calls.{handle_in, store_text}

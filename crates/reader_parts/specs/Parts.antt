@@ -1,6 +1,6 @@
 -- Document 01: a child of the element that a reader is putting together, one tag, ref or member more: 13 of its text, then "A reader gives 16 at the child that passes the
 -- limit". A refused child changes nothing.
-use Rattle.std.specs.Prelude.{ℕ, ◌+◌, ◌≤◌, ◌<◌, Bool, cond, List, leb, ℤ, length, Err, Ok, Result}
+use Rattle.std.specs.Prelude.{ℕ, ◌+◌, ◌≤◌, ◌<◌, Bool, cond, leb, ℤ, length, Err, Ok, Result}
 use Rattle.std.specs.Int.{w64}
 use Rattle.std.proofs.Common.{of_z}
 use Rattle.base.specs.Bytes.{Bytes, both}
@@ -12,18 +12,19 @@ use Rattle.compact.specs.Legal.{limits}
 use Rattle.compact.specs.declared.PushHead.{PushHead}
 use Rattle.reader_stage.specs.Stage.{staged, ref_part, member_part, tag_part}
 use Rattle.overlay.specs.Overlay.{Overlay}
-use Rattle.text_index.specs.Index.{IndexGiven}
+use Rattle.text_index.specs.Chained.{HandleChains, ChainsServe}
 use Rattle.overlay_store.specs.Calls.{store_text}
 use Rattle.reader.specs.declared.Pending.{Pending}
 use Rattle.reader.specs.State.{State, middle, values_in, more_tags, more_parts}
 use Rattle.reader.specs.Step.{member_bits}
 use Rattle.reader.specs.Done.{StepResult, worked}
 
--- what a sound state gives: a handle fits 32 bits, what is staged lies within the lent bytes, and the array of chains is one for the overlay's texts
-pub record StepGiven (ix : List ℕ) (s : State) : Type 0 where
+-- what a sound state gives: a handle fits 32 bits, what is staged lies within the lent bytes, and the chains serve the overlay's texts. It is a premise in the clauses:
+-- as a ghost field of the state it would be asked for whatever a `StorageMut` of the state's references leaves, which was tried with a struct of the same shape
+pub record StepGiven (chains : HandleChains) (s : State) : Type 0 where
   pub strings : s.overlay.texts.strings < 4294967296
   pub used : s.reader.pending.used ≤ length s.parts
-  pub indexed : IndexGiven ix s.overlay.texts
+  pub serve : ChainsServe chains s.overlay.texts
 
 -- ---- the limits
 
@@ -85,15 +86,6 @@ add_member k x m parts o =
     add_with (part_fits x limits.members) m.role (more_parts x.head) (middle k x.head.count) (λ role. member_part (member_bits m role)) x parts o
 
 -- ---- the state that a child leaves
-
--- the element with a part more, the part staged at its place
-abbrev pub part_staged : PushHead → ℕ → Bytes → State → State
-part_staged h at part s =
-    record {
-      overlay = s.overlay;
-      reader = record { place = s.reader.place; pending = pending_with h part s.reader.pending; lines = s.reader.lines; stop = s.reader.stop };
-      parts = staged s.parts s.reader.pending.used at part;
-    }
 
 -- another overlay, all else as it was
 abbrev pub with_overlay : Overlay → State → State

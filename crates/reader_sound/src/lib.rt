@@ -6,6 +6,7 @@ ghost use Rattle.reader.specs.Lent.{state_seen};
 ghost use Rattle.reader.specs.State.{stops_by, pending_sound, state_sound};
 ghost use Rattle.reader_sound.specs.Mark.{stop_mark, going_answer};
 
+use compact::PushRecord;
 use kind::Kind;
 use overlay_blocks::STRINGS;
 use reader::{Pending, ReaderView, RefusedAt};
@@ -15,38 +16,45 @@ use refusal::{Refusal, Reply};
 fn pending_sound(strings: u64, kind: Kind, parts: &[u8], pending: Pending) -> bool
     ensures { result ≡ pending_sound strings kind parts.now pending }
 {
-    let used = pending.used;
-    if used <= parts.len() {
-        let head = pending.head;
-        let meta = pending.meta;
-        return compact_legal::push_fault(kind, head, meta, &parts[..used], strings).is_ok();
-    }
-    false
+    let Pending { head, meta, used } = pending;
+    let Some(parts) = parts.get(..used) else {
+        return false;
+    };
+    let push = PushRecord {
+        kind,
+        head,
+        meta,
+        parts,
+    };
+    compact_legal::record_fault(&push, strings).is_ok()
 }
 
 // Whether overlay and reader are sound.
+#[tactic(auto, unfolding(reader::specs::State::state_sound, reader::specs::State::reader_sound, base::specs::Bytes::both))]
 pub fn state_sound(state: &ReaderView<'_>) -> bool
     ensures { result ≡ state_sound (state_seen state.now) }
 {
-    if state.storage().is_sound() {
-        let reader = state.reader;
-        let parts = state.parts;
-        let strings = state.counters[STRINGS];
-        let staged = pending_sound(strings, reader.place.kind, parts, reader.pending);
-        return staged & (reader.lines < 18446744073709551615);
-    }
-    false
+    let ReaderView {
+        counters,
+        parts,
+        reader,
+        ..
+    } = *state;
+    state.storage().is_sound()
+        && pending_sound(counters[STRINGS], reader.place.kind, parts, reader.pending)
+        && reader.lines < u64::MAX
 }
 
 // Whether a refusal stops the reader of its event: 2 to 16.
+#[tactic(auto, unfolding(reader::specs::State::stops_by, refusal::specs::Refusal::reply_of, base::specs::Bytes::both))]
 fn stops_by(refusal: Refusal) -> bool
     ensures { result ≡ stops_by refusal }
 {
-    let reply = Reply::from(refusal);
-    (2 <= reply.number) & (reply.number <= 16)
+    (2..=16).contains(&Reply::from(refusal).number)
 }
 
 // The mark that stops a reader; a mark that no refused event leaves stops nothing.
+#[tactic(auto, unfolding(crate::specs::Mark::stop_mark))]
 fn mark_of(stop: Option<RefusedAt>) -> Option<RefusedAt>
     ensures { result ≡ stop_mark stop }
 {
@@ -54,6 +62,7 @@ fn mark_of(stop: Option<RefusedAt>) -> Option<RefusedAt>
 }
 
 // What an event and an end are answered before their own step: 22, which names no line, where the state is not sound; then the stop mark.
+#[tactic(auto, unfolding(crate::specs::Mark::going_answer))]
 pub fn check_going(sound: bool, stop: Option<RefusedAt>) -> Result<(), RefusedAt>
     ensures { result ≡ going_answer sound stop }
 {

@@ -1,53 +1,85 @@
 -- Bytes moved up in one block, and a part written where they stood.
-use Prim.Native.Nat.{ℕ, ◌+◌, ◌-◌, ◌≤◌}
+use Prim.Native.Nat.{ℕ, ◌+◌, ◌-◌, ◌≤◌, ◌<◌}
 use mathlib.Core.Path.{◌≡◌, sym, ◌∙◌}
-use mathlib.Core.Bool.{Bool, true, false}
-use mathlib.Core.List.{◌++◌, append-nil, append_assoc}
+use mathlib.Core.Bool.{cond}
+use Rattle.std.specs.Prelude.{Option, Some, None}
+use mathlib.Core.List.{[], ◌++◌, append-nil, append_assoc}
 use native.Mathlib.Nat.{zero-add}
 use native.Mathlib.Omega.{arith}
 use lib.Dec.{leb}
-use lib.ListN.{length, take, drop, length-append}
-use lib.Seq.{take-take, drop-length, slice, slice_empty, paste, length-slice}
+use lib.ListN.{length, take, drop, length-append, length-drop}
+use lib.Seq.{take-take, drop-length, drop-drop, drop_at, length-take-le}
+use Rattle.std.specs.List.{copy_within}
 use Rattle.std.proofs.lemmas.List.{drop-take}
-use borrow.Author.Tests.{leb-true}
-use Rattle.base.specs.Bytes.{Bytes, both}
-use Rattle.base.proofs.Split.{both_left, both_right}
+use borrow.Author.Tests.{le-leb, lt-leb}
+use Rattle.base.specs.Bytes.{Bytes}
+use Rattle.base.proofs.Split.{by_le, no, both_of, both_no_left, both_no_right}
 use Rattle.little.specs.Little.{over}
-use Rattle.little.proofs.Overs.{over_nothing, over_over, over_before, over_start, over_whole, over_fits}
+use Rattle.little.proofs.Overs.{over_over, over_start, over_whole, over_fits}
+use borrow.Rule.Slice.PartMut.{mid_of, put_mid}
 use Rattle.little.proofs.Littles.{length_le}
 use Rattle.compact.specs.declared.CompactMember.{CompactMember}
-use Rattle.reader_stage.specs.Stage.{staged, member_part, tag_part}
+use Rattle.reader_stage.specs.Stage.{staged, member_part}
 
--- ---- the bytes from a place up to `used` stand n further on
+-- ---- a part before the bytes of a room, which were moved up to its end
 
-module _ (s : Bytes) (used n : ℕ) where
-  pub gap_closed : over s (used + n) (slice used used s) ≡ s
-  gap_closed = rw slice_empty (over_nothing s (used + n))
+pub put_before_lem : (room moved x : Bytes) (n : ℕ) → length x ≡ n → n ≤ length room → moved ≡ copy_within room 0 (length room - n) n
+    → over moved 0 x ≡ x ++ take (length room - n) room
+put_before_lem room moved x n l h e =
+    let kept = length room - n in
+    let z : kept - 0 ≡ kept = omega arith in
+    let k : n + kept ≡ length room = omega arith in
+    let a : drop (length room) room ≡ [] = drop-length room in
+    let m : moved ≡ take n room ++ take kept room = e ∙ rw (z, k, a, append-nil) in
+    let f : length (take n room) ≡ n = length-take-le n room h in
+    let g : length moved ≡ length room = rw (m, length-append, f, length-take-le kept room (omega arith)) (omega arith) in
+    let rest : drop n moved ≡ take kept room = rw m (drop_at (take n room) (take kept room) n f) in
+    rw (← rest, ← l) (over_start moved x (omega arith))
 
-  -- the bytes from `at` on, copied in one block
-  pub moved : (at : ℕ) → at ≤ used → used + n ≤ length s → paste s (at + n) (drop at s) (used - at) ≡ over s (at + n) (slice at used s)
-  moved at h fits =
-      let e : at + (used - at) ≡ used = omega arith in
-      let part : slice at used s ≡ take (used - at) (drop at s) = rw e at (drop-take at (used - at) s) in
-      let long : length (slice at used s) ≡ used - at = length-slice at used s (omega arith) in
-      rw (over_fits s (at + n) (slice at used s) (omega arith), long, part, append_assoc)
+-- ---- a part of n bytes among the used bytes of s
 
--- ---- a part of n bytes, where the test told whether there is room
-
-module _ {told : Bool} (at used n len : ℕ) (e : told ≡ both (leb at used) (leb (used + n) len)) where
-  pub room : told ≡ true → (at ≤ used) × (used + n ≤ len)
-  room t = (leb-true at used (both_left _ _ (sym e ∙ t)), leb-true (used + n) len (both_right _ _ (sym e ∙ t)))
-
-module _ {told : Bool} (s : Bytes) (used at n : ℕ) (x : Bytes) (l : length x ≡ n) (e : told ≡ both (leb at used) (leb (used + n) (length s))) where
-  pub unchanged : told ≡ false → s ≡ staged s used at x
+module _ (s : Bytes) (used at n : ℕ) (x : Bytes) (l : length x ≡ n) where
+  -- it is put before the bytes from its place on
+  pub put_in : {last : Bytes} → at ≤ used → used + n ≤ length s → last ≡ x ++ take (length (mid_of at (used + n - at) s) - n) (mid_of at (used + n - at) s)
+      → put_mid at (used + n - at) s last ≡ staged s used at x
   unfolding staged
-  unchanged t = rw (l, ← e, t)
+  put_in {last} h fits e =
+      let k = used + n - at in
+      let kept = used - at in
+      let d = drop at (take used s) in
+      let long : length (mid_of at k s) ≡ k = length-take-le k (drop at s) (omega (arith, length-drop at s)) in
+      let up : at + kept ≡ used = omega arith in
+      let m : k - n ≡ kept = omega arith in
+      let cut : d ≡ take kept (drop at s) = rw up at (drop-take at kept s) in
+      let rest : take (length (mid_of at k s) - n) (mid_of at k s) ≡ d = rw (long, m, cut) (take-take kept k (drop at s) (omega arith)) in
+      let few : length d ≡ kept = rw cut (length-take-le kept (drop at s) (omega (arith, length-drop at s))) in
+      let all : length (x ++ d) ≡ k = length-append x d ∙ omega (arith, few) in
+      let whole : put_mid at k s (x ++ d) ≡ over s at (x ++ d) = sym (rw (all, ← drop-drop k at s) at (over_fits s at (x ++ d) (omega (arith, all)))) in
+      rw (l, both_of (le-leb at used h) (le-leb (used + n) (length s) fits), take-take at used s h, e, rest) (whole ∙ over_whole s at (x ++ d) (omega arith))
 
-  pub filled : told ≡ true → over (over s (at + n) (slice at used s)) at x ≡ staged s used at x
+  -- there is no such place, or no room
+  pub no_place : used < at → s ≡ staged s used at x
   unfolding staged
-  filled t =
-      let h = room at used n (length s) e t in
-      rw (l, ← e, t, take-take at used s h.0) (rw l at (over_before s at x (slice at used s)) ∙ over_whole s at (x ++ slice at used s) (omega arith))
+  no_place h = rw (l, both_no_left _ _ (lt-leb at used h))
+
+  pub no_room : length s < used + n → s ≡ staged s used at x
+  unfolding staged
+  no_room h = rw (l, both_no_right (leb at used) (lt-leb (used + n) (length s) h))
+
+-- ---- where n more from a place on end
+
+module _ (end len : ℕ) (result : Option ℕ) (told : result ≡ cond (leb end len) (Some end) None) where
+  pub end_told : {e : ℕ} → result ≡ Some e → (e ≡ end) × (end ≤ len)
+  end_told {e} is =
+      by_le end len
+      (λ h. let q : Some e ≡ Some end = sym is ∙ told ∙ rw (le-leb end len h) in (cc, h))
+      (λ h. let q : Some e ≡ None = sym is ∙ told ∙ rw (lt-leb end len h) in no (cc))
+
+  pub none_told : result ≡ None → len < end
+  none_told is =
+      by_le end len
+      (λ h. let q : None ≡ Some end = sym is ∙ told ∙ rw (le-leb end len h) in no (cc))
+      (λ h. h)
 
 -- ---- three fields, one after another
 
@@ -63,6 +95,3 @@ over_all s t e = rw (over_start s t (omega (arith, e)), e, drop-length, append-n
 
 pub length_member_part : (m : CompactMember) → length (member_part m) ≡ 13
 length_member_part m = simp (length-append, length_le)
-
-pub length_tag_part : (key : ℕ) (value : Bytes) → length (tag_part key value) ≡ 8 + length value
-length_tag_part key value = simp (length-append, length_le) (omega arith)

@@ -1,10 +1,7 @@
 // The parts of an element that a reader is putting together, in lent bytes: refs or members first, then tags.
 #![tactic(auto)]
 
-ghost use Rattle.std.specs.Prelude.{◌≡◌, ◌+◌, ◌≤◌, ◌++◌, leb, length};
-ghost use Rattle.std.proofs.Math.Seq.{slice};
-ghost use Rattle.base.specs.Bytes.{both};
-ghost use Rattle.little.specs.Little.{over};
+ghost use Rattle.std.specs.Prelude.{◌≡◌, ◌+◌, ◌-◌, ◌≤◌, ◌++◌, length, take, min};
 ghost use Rattle.reader_stage.specs.Stage.{staged, ref_part, member_part, tag_numbers};
 
 use compact::CompactMember;
@@ -12,25 +9,9 @@ use compact::CompactMember;
 // The bytes that are lent for an element so far: the most that the parts of a push take.
 pub const STAGED: usize = 44432;
 
-// Whether there is such a place among the used bytes, and room for n more.
-#[tactic(auto, unfolding(base::specs::Bytes::both))]
-fn has_room(len: usize, used: usize, at: usize, n: usize) -> bool
-    ensures { result ≡ both (leb at used) (leb (used + n) len) }
-{
-    at <= used && used <= len && n <= len - used
-}
-
-// Moves the bytes from `at` up to `used` n further on.
-fn open_gap(parts: &mut [u8], at: usize, used: usize, n: usize)
-    requires { (at ≤ used) × (used + n ≤ length parts.old) }
-    ensures { parts.new ≡ over parts.old (at + n) (slice at used parts.old) }
-{
-    parts.copy_within(at..used, at + n);
-}
-
 // ---- the numbers of a part
 
-// The bytes of a ref.
+// The bytes of a ref. No `to_le_bytes`: the contracts speak of a record's bytes by little's `le`, as those of the two below do.
 pub fn ref_bytes(reference: u64) -> [u8; 8]
     ensures { result ≡ ref_part reference }
 {
@@ -62,15 +43,40 @@ pub fn tag_bytes(key: u32, value: usize) -> [u8; 8]
 
 // ---- a part more
 
-// A part put in at a place among the used bytes: its numbers, and the bytes of a value behind them. What stands behind the place moves up. Where there is no such place or no
-// room, nothing changes.
-pub fn stage(parts: &mut [u8], used: usize, at: usize, numbers: &[u8], value: &[u8])
-    ensures { parts.new ≡ staged parts.old used at (numbers.now ++ value.now) }
+// A part put before the bytes of a room, which move up to its end: its numbers, and the bytes of a value behind them.
+fn put_before(room: &mut [u8], numbers: &[u8], value: &[u8])
+    requires { length numbers.now + length value.now ≤ length room.old }
+    ensures { room.new ≡ (numbers.now ++ value.now) ++ take (length room.old - (length numbers.now + length value.now)) room.old }
 {
     let n = numbers.len() + value.len();
-    if has_room(parts.len(), used, at, n) {
-        open_gap(parts, at, used, n);
-        little::copy_at(parts, at, numbers);
-        little::copy_at(parts, at + numbers.len(), value);
+    let kept = room.len() - n;
+    room.copy_within(..kept, n);
+    little::copy_in(room, numbers);
+    little::copy_in(&mut room[numbers.len()..], value);
+}
+
+// The bytes that are lent for the parts of an element, and how many of them the parts take so far.
+#[derive(Drop)]
+pub struct Staged<'a> {
+    pub parts: &'a mut [u8],
+    pub used: usize,
+}
+
+impl Staged<'_> {
+    // A part more, at a place among those before it: its numbers, and the bytes of a value behind them. What stands behind the place moves up. Where there is no such place or
+    // no room, the part is counted and no byte changes.
+    pub fn insert(&mut self, at: usize, numbers: &[u8], value: &[u8])
+        ensures same { self.new.parts.ghost_name ≡ self.old.parts.ghost_name }
+        ensures used { self.new.used ≡ min (self.old.used + length (numbers.now ++ value.now)) 18446744073709551615 }
+        ensures staged { self.new.parts.now ≡ staged self.old.parts.now self.old.used at (numbers.now ++ value.now) }
+    {
+        let n = numbers.len() + value.len();
+        let used = self.used;
+        self.used = used.saturating_add(n);
+        if at <= used {
+            if let Some(end) = little::end_within(used, n, self.parts.len()) {
+                put_before(&mut self.parts[at..end], numbers, value);
+            }
+        }
     }
 }

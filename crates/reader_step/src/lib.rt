@@ -1,25 +1,30 @@
 // What an event is to do, done in storage: one call a work, and then the reader's place moves on.
 #![tactic(auto)]
 
-ghost use Rattle.std.specs.Prelude.{◌≡◌, ◌≤◌, cond, is_some};
+ghost use Rattle.std.specs.Prelude.{◌≡◌, ◌≤◌, cond, is_some, length};
 ghost use Rattle.std.specs.Int.{w32, w64};
 ghost use Rattle.std.proofs.Common.{SFits, to_z, of_z};
 ghost use Rattle.event_metadata.specs.Values.{flags_of, metadata_means};
 ghost use Rattle.event_decide.specs.Tasks.{work_means, task_means};
 ghost use Rattle.event_decide.specs.declared.tasks.Work.TheVariants as W;
+ghost use Rattle.text_index.specs.Lent.{chains_seen};
 ghost use Rattle.reader.specs.Lent.{state_held, IsSameState};
-ghost use Rattle.reader.specs.Step.{bits_with_user, step_of};
+ghost use Rattle.reader.specs.Step.{step_of};
 ghost use Rattle.reader.specs.Done.{done_by, Works};
-ghost use Rattle.reader_acts.specs.Acts.{Means};
+ghost use Rattle.reader_acts.specs.Acts.{act_means};
 ghost use Rattle.reader_parts.specs.Parts.{StepGiven};
 
 use compact::ArenaMeta;
 use event_decide::tasks::{NewElement, OldElement, Task, Work};
 use event_metadata::values::MetadataValues;
+use event_scan::MAX_LINE;
+use event_values::Coordinates;
 use kind::Kind;
+use overlay::StorageMut;
 use reader::ReaderState;
 use reader_acts::Act;
 use refusal::Refusal;
+use text_index::Chains;
 
 // ---- metadata in bits
 
@@ -32,7 +37,7 @@ fn mark(yes: bool, flag: u8) -> u8
 }
 
 // "Flags: 1 present, 2 hidden, 4 has user, 8 has version"
-fn flags(metadata: &MetadataValues<'_>) -> u8
+fn flags(metadata: &MetadataValues<'_, MAX_LINE>) -> u8
     ensures { result ≡ flags_of metadata.now.given metadata.now.hidden (is_some metadata.now.user) (is_some metadata.now.version) }
 {
     mark(metadata.given, 1)
@@ -41,110 +46,148 @@ fn flags(metadata: &MetadataValues<'_>) -> u8
         + mark(metadata.version.is_some(), 8)
 }
 
-// Each number is the bits of the number that it stands for.
-fn meta_of(flags: u8, version: u32, timestamp: u64, changeset: u64, uid: u32) -> ArenaMeta
-    ensures bits { result ≡ record { flags = flags; version = of_z w32 (to_z w32 version); timestamp = of_z w64 (to_z w64 timestamp); changeset = of_z w64 (to_z w64 changeset); uid = of_z w32 (to_z w32 uid); user = 0 } }
-    ensures version { SFits w32 (to_z w32 version) }
-{
-    ArenaMeta {
-        flags,
-        version,
-        timestamp,
-        changeset,
-        uid,
-        user: 0,
-    }
-}
-
-// With no user.
-fn arena_meta(metadata: &MetadataValues<'_>) -> ArenaMeta
-    ensures bits { result ≡ bits_with_user (metadata_means metadata.now) 0 }
-    ensures version { SFits w32 (metadata_means metadata.now).version }
-{
-    let version = metadata.version.unwrap_or(0);
-    meta_of(
-        flags(metadata),
-        version,
-        metadata.timestamp,
-        metadata.changeset,
-        metadata.uid,
-    )
-}
-
 // An act on an element of a kind and id, with its metadata.
-fn act_of<'a>(kind: Kind, id: u64, metadata: &MetadataValues<'a>) -> Act<'a>
+fn act_of<'a>(kind: Kind, id: u64, metadata: &MetadataValues<'a, MAX_LINE>) -> Act<'a>
     ensures element { (result.kind ≡ kind) × (result.id ≡ id) }
-    ensures means { Means result (metadata_means metadata.now) }
+    ensures means { act_means result ≡ metadata_means metadata.now }
 {
-    let meta = arena_meta(metadata);
-    match metadata.user {
-        None => Act {
-            kind,
-            id,
-            meta,
-            user: None,
-        },
-        Some(user) => Act {
-            kind,
-            id,
-            meta,
-            user: Some(user.bytes),
-        },
+    let meta = ArenaMeta {
+        flags: flags(metadata),
+        version: metadata.version.unwrap_or(0),
+        timestamp: metadata.timestamp,
+        changeset: metadata.changeset,
+        uid: metadata.uid,
+        user: 0,
+    };
+    Act {
+        kind,
+        id,
+        meta,
+        user: metadata.user,
     }
 }
 
 // ---- work
 
-fn begin(state: &mut ReaderState<'_>, ix: &[u16], element: &NewElement<'_>) -> Result<(), Refusal>
+fn begin(
+    state: &mut ReaderState<'_>,
+    chains: &Chains<'_>,
+    element: &NewElement<'_>,
+) -> Result<(), Refusal>
     ensures same { IsSameState state.new state.old }
-    ensures works { StepGiven ix.now (state_held state.old)
+    ensures works { StepGiven (chains_seen chains.now) (state_held state.old)
         → Works (λ p. work_means p (W.Begins element.now)) (state_held state.old) (record { state = state_held state.new; answer = result }) }
 {
     let act = act_of(element.kind, element.id, &element.metadata);
-    let head = reader_acts::head_for(element.kind, element.id, element.lat, element.lon);
-    reader_elements::begin(state, ix, &act, head, element.empty)
+    let place = Coordinates {
+        lat: element.lat,
+        lon: element.lon,
+    };
+    let mut storage = StorageMut {
+        words: state.words,
+        bytes: state.bytes,
+        counters: state.counters,
+    };
+    state.reader.pending = reader_elements::begin(
+        &mut storage,
+        chains,
+        &act,
+        place,
+        element.empty,
+    )?;
+    Ok(())
 }
 
-fn delete(state: &mut ReaderState<'_>, ix: &[u16], element: &OldElement<'_>) -> Result<(), Refusal>
+fn delete(
+    state: &mut ReaderState<'_>,
+    chains: &Chains<'_>,
+    element: &OldElement<'_>,
+) -> Result<(), Refusal>
     ensures same { IsSameState state.new state.old }
-    ensures works { StepGiven ix.now (state_held state.old)
+    ensures works { StepGiven (chains_seen chains.now) (state_held state.old)
         → Works (λ p. work_means p (W.Deletes element.now)) (state_held state.old) (record { state = state_held state.new; answer = result }) }
 {
     let act = act_of(element.kind, element.id, &element.metadata);
-    reader_elements::delete(state, ix, &act)
+    let mut storage = StorageMut {
+        words: state.words,
+        bytes: state.bytes,
+        counters: state.counters,
+    };
+    state.reader.pending = reader_elements::delete(&mut storage, chains, &act)?;
+    Ok(())
 }
 
-fn work(state: &mut ReaderState<'_>, ix: &[u16], work: &Work<'_>) -> Result<(), Refusal>
+// The element that stands open ends.
+fn end(state: &mut ReaderState<'_>) -> Result<(), Refusal>
     ensures same { IsSameState state.new state.old }
-    ensures works { StepGiven ix.now (state_held state.old)
+    ensures works { Works (λ p. work_means p W.Ends) (state_held state.old) (record { state = state_held state.new; answer = result }) }
+{
+    let mut storage = StorageMut {
+        words: state.words,
+        bytes: state.bytes,
+        counters: state.counters,
+    };
+    let reader = state.reader;
+    state.reader.pending = reader_elements::end(
+        &mut storage,
+        reader.place.kind,
+        reader.pending,
+        state.parts,
+    )?;
+    Ok(())
+}
+
+// A ref more.
+fn add_ref(state: &mut ReaderState<'_>, reference: u64) -> Result<(), Refusal>
+    ensures same { IsSameState state.new state.old }
+    ensures works { state.old.reader.pending.used ≤ length state.old.parts.now
+        → Works (λ p. work_means p (W.Refers reference)) (state_held state.old) (record { state = state_held state.new; answer = result }) }
+{
+    let reader = state.reader;
+    state.reader.pending = reader_parts::add_ref(
+        state.parts,
+        reader.place.kind,
+        reader.pending,
+        reference,
+    )?;
+    Ok(())
+}
+
+fn work(state: &mut ReaderState<'_>, chains: &Chains<'_>, work: &Work<'_>) -> Result<(), Refusal>
+    ensures same { IsSameState state.new state.old }
+    ensures works { StepGiven (chains_seen chains.now) (state_held state.old)
         → Works (λ p. work_means p work.now) (state_held state.old) (record { state = state_held state.new; answer = result }) }
 {
     match work {
         Work::Nothing => Ok(()),
-        Work::Begins(element) => begin(state, ix, element),
-        Work::Deletes(element) => delete(state, ix, element),
-        Work::Tags(tag) => reader_parts::add_tag(state, ix, tag.key.bytes, tag.value.bytes),
-        Work::Refers(reference) => reader_parts::add_ref(state, *reference),
+        Work::Begins(element) => begin(state, chains, element),
+        Work::Deletes(element) => delete(state, chains, element),
+        Work::Tags(tag) => reader_parts::add_tag(state, chains, &tag.key, &tag.value),
+        Work::Refers(reference) => add_ref(state, *reference),
         Work::Joins(member) => reader_parts::add_member(
             state,
-            ix,
+            chains,
             member.reference,
             member.kind,
-            member.role.bytes,
+            &member.role,
         ),
-        Work::Ends => reader_elements::end(state),
+        Work::Ends => end(state),
     }
 }
 
 // ---- a step
 
-// What an event is to do, done: 12 to 16, or the reader stands at the place after it. An array of chains, or an empty slice, finds held texts.
-pub fn step(state: &mut ReaderState<'_>, ix: &[u16], task: &Task<'_>) -> Result<(), Refusal>
+// What an event is to do, done: 12 to 16, or the reader stands at the place after it. Chains of handles find held texts; where none are kept, empty ones serve.
+pub fn step(
+    state: &mut ReaderState<'_>,
+    chains: &Chains<'_>,
+    task: &Task<'_>,
+) -> Result<(), Refusal>
     ensures same { IsSameState state.new state.old }
-    ensures done { StepGiven ix.now (state_held state.old)
+    ensures done { StepGiven (chains_seen chains.now) (state_held state.old)
         → record { state = state_held state.new; answer = result } ≡ done_by (state_held state.old) (step_of (task_means task.now) (state_held state.old)) }
 {
-    work(state, ix, &task.work)?;
+    work(state, chains, &task.work)?;
     state.reader.place = task.place;
     Ok(())
 }

@@ -8,7 +8,7 @@ use Rattle.base.specs.Bytes.{Bytes}
 use Rattle.base.proofs.Split.{by_bool, no}
 use Rattle.refusal.specs.declared.Refusal.{Refusal}
 use Rattle.refusal.specs.declared.Refusal.TheVariants as R
-use Rattle.interner.specs.declared.Interned.TheVariants as I
+use Rattle.interner.specs.Interned as I
 use Rattle.interner.specs.Strings.{Store, used_of, is_at, find_from, find_in, text_room, text_taken, intern}
 use Rattle.interner.proofs.Finds.{find_none, find_here, find_on}
 use Rattle.interner.proofs.Takes.{held, new, full}

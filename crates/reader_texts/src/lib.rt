@@ -2,21 +2,24 @@
 // line has at most 16,384 bytes.
 #![tactic(auto)]
 
-ghost use Rattle.std.specs.Prelude.{◌≡◌, ◌≤◌, length};
-ghost use Rattle.event_scan.specs.Piece.{value_text};
-ghost use Rattle.text_index.specs.Index.{IndexGiven};
+ghost use Rattle.std.specs.Prelude.{◌≡◌};
+ghost use Rattle.event_scan.specs.Fields.{text_written};
+ghost use Rattle.text_index.specs.Chained.{ChainsServe};
+ghost use Rattle.text_index.specs.Lent.{chains_seen};
 ghost use Rattle.overlay.specs.Lent.{overlay_seen, overlay_held, IsSameStorage};
 ghost use Rattle.overlay_store.specs.Calls.{store_text};
 
 use event_scan::MAX_LINE;
+use event_scan::fields::Value;
 use overlay::{Storage, StorageMut};
 use refusal::Refusal;
+use text_index::Chains;
 
-// The text that a value writes, its escapes resolved, in an array that holds it. The library has no heap.
-pub fn resolved<'a>(room: &'a mut [u8; MAX_LINE], value: &[u8]) -> &'a [u8]
-    ensures { length value.now ≤ 16384 → result.now ≡ value_text value.now }
+// The text that a value writes, its escapes resolved, in an array that holds it: empty where it has another escape. The library has no heap.
+pub fn resolved<'a>(room: &'a mut [u8; MAX_LINE], value: &Value<'_, MAX_LINE>) -> &'a [u8]
+    ensures { result.now ≡ text_written value.now }
 {
-    let n = event_scan::unescape_into(room, value);
+    let n = event_scan::unescape_into(room, value.bytes);
     let end = n.min(MAX_LINE);
     &room[..end]
 }
@@ -24,53 +27,63 @@ pub fn resolved<'a>(room: &'a mut [u8; MAX_LINE], value: &[u8]) -> &'a [u8]
 // ---- a text taken in
 
 // One with an escape. It and `handle_resolved` differ by what is done with the text: a closure was tried, and what it leaves of the storage that it captures is not known behind it.
-fn take_resolved(storage: &mut StorageMut<'_>, ix: &[u16], value: &[u8]) -> Result<u64, Refusal>
+fn take_resolved(
+    storage: &mut StorageMut<'_>,
+    chains: &Chains<'_>,
+    value: &Value<'_, MAX_LINE>,
+) -> Result<u64, Refusal>
     ensures same { IsSameStorage storage.new storage.old }
-    ensures taken { length value.now ≤ 16384 → IndexGiven ix.now (overlay_held storage.old).texts
-        → record { overlay = overlay_held storage.new; answer = result } ≡ store_text (value_text value.now) (overlay_held storage.old) }
+    ensures taken { ChainsServe (chains_seen chains.now) (overlay_held storage.old).texts
+        → record { overlay = overlay_held storage.new; answer = result } ≡ store_text (text_written value.now) (overlay_held storage.old) }
 {
     let mut room = [0u8; MAX_LINE];
     let text = resolved(&mut room, value);
-    overlay_store::store_text_by(storage.words, storage.bytes, storage.counters, ix, text)
+    overlay_store::intern(storage, chains, text)
 }
 
-// Takes the text of a value in: 13, or its handle. An array of chains, or an empty slice, finds held texts.
-pub fn take_text(storage: &mut StorageMut<'_>, ix: &[u16], value: &[u8]) -> Result<u64, Refusal>
+// Takes the text of a value in: 13, or its handle. Chains of handles find it among the held texts; where none are kept, empty ones serve.
+pub fn take_text(
+    storage: &mut StorageMut<'_>,
+    chains: &Chains<'_>,
+    value: &Value<'_, MAX_LINE>,
+) -> Result<u64, Refusal>
     ensures same { IsSameStorage storage.new storage.old }
-    ensures taken { length value.now ≤ 16384 → IndexGiven ix.now (overlay_held storage.old).texts
-        → record { overlay = overlay_held storage.new; answer = result } ≡ store_text (value_text value.now) (overlay_held storage.old) }
+    ensures taken { ChainsServe (chains_seen chains.now) (overlay_held storage.old).texts
+        → record { overlay = overlay_held storage.new; answer = result } ≡ store_text (text_written value.now) (overlay_held storage.old) }
 {
-    if event_scan::lacks(value, b'\\') {
-        return overlay_store::store_text_by(
-            storage.words,
-            storage.bytes,
-            storage.counters,
-            ix,
-            value,
-        );
+    if event_scan::lacks(value.bytes, b'\\') {
+        return overlay_store::intern(storage, chains, value.bytes);
     }
-    take_resolved(storage, ix, value)
+    take_resolved(storage, chains, value)
 }
 
 // ---- a text only asked for
 
 // One with an escape.
-fn handle_resolved(storage: &Storage<'_>, ix: &[u16], value: &[u8]) -> Result<u64, Refusal>
-    ensures { length value.now ≤ 16384 → IndexGiven ix.now (overlay_seen storage.now).texts
-        → result ≡ (store_text (value_text value.now) (overlay_seen storage.now)).answer }
+fn handle_resolved(
+    storage: &Storage<'_>,
+    chains: &Chains<'_>,
+    value: &Value<'_, MAX_LINE>,
+) -> Result<u64, Refusal>
+    ensures { ChainsServe (chains_seen chains.now) (overlay_seen storage.now).texts
+        → result ≡ (store_text (text_written value.now) (overlay_seen storage.now)).answer }
 {
     let mut room = [0u8; MAX_LINE];
     let text = resolved(&mut room, value);
-    overlay_store::handle_by(storage.words, storage.bytes, storage.counters, ix, text)
+    overlay_store::handle(storage, chains, text)
 }
 
 // What the text of a value would be answered, with nothing taken in: 13, or the handle that it has or would get.
-pub fn text_handle(storage: &Storage<'_>, ix: &[u16], value: &[u8]) -> Result<u64, Refusal>
-    ensures { length value.now ≤ 16384 → IndexGiven ix.now (overlay_seen storage.now).texts
-        → result ≡ (store_text (value_text value.now) (overlay_seen storage.now)).answer }
+pub fn text_handle(
+    storage: &Storage<'_>,
+    chains: &Chains<'_>,
+    value: &Value<'_, MAX_LINE>,
+) -> Result<u64, Refusal>
+    ensures { ChainsServe (chains_seen chains.now) (overlay_seen storage.now).texts
+        → result ≡ (store_text (text_written value.now) (overlay_seen storage.now)).answer }
 {
-    if event_scan::lacks(value, b'\\') {
-        return overlay_store::handle_by(storage.words, storage.bytes, storage.counters, ix, value);
+    if event_scan::lacks(value.bytes, b'\\') {
+        return overlay_store::handle(storage, chains, value.bytes);
     }
-    handle_resolved(storage, ix, value)
+    handle_resolved(storage, chains, value)
 }

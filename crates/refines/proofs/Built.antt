@@ -1,9 +1,10 @@
 -- sorted.rs, `KindTable::build`: of a kind that is the same it is our rows, in order.
 use Rattle.std.proofs.lemmas.Option.{none-some}
 use Rattle.std.specs.Prelude.{None, Option, Some, option_map}
-use Rattle.std.proofs.Common.{◌≡◌, ℕ, ◌^◌, ◌≤◌, Bool, true, false, cond, not, eqb, ltb, List, [], ◌∷◌, map, take, ℤ, sym, refl, ap, ◌∙◌, arith, w64, SFits, ltb-true, le-ltb, lt-ltb, eq-eqb, ne_eqb}
+use Rattle.std.proofs.Common.{◌≡◌, ℕ, ◌^◌, ◌≤◌, Bool, true, cond, not, eqb, ltb, List, [], ◌∷◌, map, take, ℤ, sym, refl, ap, ◌∙◌, arith, w64, SFits, ltb-true, le-ltb, lt-ltb, eq-eqb, ne_eqb}
 use mathlib.Core.List.{map-map}
 use mir.Facts.{Fits-of_lt}
+use borrow.Author.Tests.{not-true}
 use Rattle.base.specs.Bytes.{all}
 use Rattle.base.proofs.Split.{by_bool, by_lt, by_eq, clash, both_left, both_right}
 use Rattle.base.proofs.Lists.{all_cons, all_head, all_tail}
@@ -20,6 +21,7 @@ use Rattle.kind_reading.specs.declared.Side.TheVariants.{Live, Deleted}
 use Rattle.kind_reading.specs.Listed.{rows_on}
 use Rattle.kind_reading.proofs.Lists.{on_rising, if_on, find_on}
 use Rattle.listing.specs.Table.{is_rank}
+use Rattle.calls.proofs.Tells.{signed_fits}
 use Rattle.published.specs.Std.{is_lt, Entry, HashMap, get, HashSet, contains}
 use Rattle.published.specs.OsmId.{osm_id_cmp}
 use Rattle.published.specs.Parse.{KindFields, is_some}
@@ -27,7 +29,6 @@ use Rattle.published.specs.Sorted.{put_sorted, sort_by_id, build, kind_sorted}
 use Rattle.refines.specs.OneKind.{offset_in, deleted_in, keyed, once, SameFields}
 use Rattle.refines.proofs.Lookups.{lt_id}
 use Rattle.refines.proofs.Maps.{eq_self, eq_no, by_id}
-use Rattle.refines.proofs.Keyed.{tested_fits}
 
 -- ---- osm_id_cmp(a, b).is_lt()
 
@@ -56,7 +57,7 @@ module _ {A : Type 0} (id : A → ℤ) (row : A → Row) (ranked : (x : A) → (
   put_rows x [] f h n = sym (put_nil (row x))
   put_rows x (y ∷ ys) f h n =
       let u : before (id x) (id y) ≡ ltb (row x).rank (row y).rank =
-      sym (rank_before (tested_fits (id x) f) (tested_fits (id y) (all_head fits y ys h))) ∙ rw (ranked x, ranked y) in
+      sym (rank_before (signed_fits (id x) f) (signed_fits (id y) (all_head fits y ys h))) ∙ rw (ranked x, ranked y) in
       by_eq (row x).rank (row y).rank
       (λ e. absurd (none-some (row y) (sym n ∙ rw e (find_same (row y) (map row ys)))))
       (λ d. by_lt (row x).rank (row y).rank
@@ -87,13 +88,13 @@ module _ {A : Type 0} (id : A → ℤ) (row : A → Row) (ranked : (x : A) → (
   unfolding find
   past j l [] h = refl
   past j l (x ∷ xs) h =
-      let f = rank_fits (tested_fits (id x) (all_head fits x xs h)) in
+      let f = rank_fits (signed_fits (id x) (all_head fits x xs h)) in
       find_other j (row x) (map row xs) (λ e. omega (arith, ranked x)) ∙ past j l xs (all_tail fits x xs h)
 
   ids_back : (xs : List A) → all fits xs ≡ true → map (λ (q : Row). id_of q.rank) (map row xs) ≡ map id xs
   ids_back [] h = refl
   ids_back (x ∷ xs) h =
-      let e : id_of (row x).rank ≡ id x = ap id_of (ranked x) ∙ id_rank (tested_fits (id x) (all_head fits x xs h)) in
+      let e : id_of (row x).rank ≡ id x = ap id_of (ranked x) ∙ id_rank (signed_fits (id x) (all_head fits x xs h)) in
       cc (e, ids_back xs (all_tail fits x xs h))
 
   -- rows that rise, of ranks of 64 bits, and that each id finds as it finds the elements, are the elements sorted
@@ -125,7 +126,7 @@ entry_found [] h k f = refl
 entry_found (e ∷ m) h k f =
     by_id e.key k
     (λ q. rw (q, eq-eqb (rank k) (rank k) refl, eq_self k))
-    (λ n. rw (ne_eqb (rank k) (rank e.key) (λ q. n (rank_injective (tested_fits e.key (all_head _ e m h)) f (sym q))), eq_no e.key k n)
+    (λ n. rw (ne_eqb (rank k) (rank e.key) (λ q. n (rank_injective (signed_fits e.key (all_head _ e m h)) f (sym q))), eq_no e.key k n)
     (entry_found m (all_tail _ e m h) k f))
 
 is_none : {B : Type 0} (x : Option B) → not (is_some x) ≡ true → x ≡ None
@@ -139,7 +140,7 @@ keyed_distinct (e ∷ m) h =
     let f = both_left _ _ h in
     let rest = both_right _ _ h in
     let d = keyed_distinct m (both_right _ _ rest) in
-    (f, entry_found m (distinct_fits key_of entry_row (λ x. refl) m d) e.key (tested_fits e.key f) ∙ rw (is_none (get m e.key) (both_left _ _ rest)), d)
+    (f, entry_found m (distinct_fits key_of entry_row (λ x. refl) m d) e.key (signed_fits e.key f) ∙ rw (is_none (get m e.key) (both_left _ _ rest)), d)
 
 -- ---- HashSet<i64>: an id as a row
 
@@ -159,11 +160,7 @@ id_found [] h k f = refl
 id_found (x ∷ s) h k f =
     by_id x k
     (λ q. rw (q, eq-eqb (rank k) (rank k) refl, eq_self k))
-    (λ n. rw (ne_eqb (rank k) (rank x) (λ q. n (rank_injective (tested_fits x (all_head _ x s h)) f (sym q))), eq_no x k n) (id_found s (all_tail _ x s h) k f))
-
-is_no : (b : Bool) → not b ≡ true → b ≡ false
-is_no true h = clash h refl
-is_no false h = refl
+    (λ n. rw (ne_eqb (rank k) (rank x) (λ q. n (rank_injective (signed_fits x (all_head _ x s h)) f (sym q))), eq_no x k n) (id_found s (all_tail _ x s h) k f))
 
 once_distinct : (s : HashSet) → once s ≡ true → Distinct self id_row (λ x. refl) s
 unfolding once
@@ -172,7 +169,7 @@ once_distinct (x ∷ s) h =
     let f = both_left _ _ h in
     let rest = both_right _ _ h in
     let d = once_distinct s (both_right _ _ rest) in
-    (f, id_found s (distinct_fits self id_row (λ y. refl) s d) x (tested_fits x f) ∙ rw (is_no (contains s x) (both_left _ _ rest)), d)
+    (f, id_found s (distinct_fits self id_row (λ y. refl) s d) x (signed_fits x f) ∙ rw (not-true (contains s x) (both_left _ _ rest)), d)
 
 -- ---- our rows, of which the other side knows less
 

@@ -1,5 +1,5 @@
 -- A key stands once in a map and in a set, also after one was put in or taken out.
-use Rattle.std.proofs.Common.{◌≡◌, true, false, [], ◌∷◌, ℤ, w64, SFits, ltb-true, lt-ltb}
+use Rattle.std.proofs.Common.{◌≡◌, true, false, [], ◌∷◌, ℤ, w64, SFits, lt-ltb}
 use Rattle.base.proofs.Split.{by_bool, clash, both_of, both_left, both_right}
 use Rattle.compact.specs.Fits.{fits_signed}
 use Rattle.published.specs.Std.{eq_z, HashMap, insert, remove, HashSet, insert_into, remove_from}
@@ -10,10 +10,6 @@ use Rattle.refines.proofs.Maps.{eq_self, get_removed, get_kept, contains_removed
 pub fits_tested : {id : ℤ} → SFits w64 id → fits_signed w64 id ≡ true
 unfolding fits_signed
 fits_tested f = lt-ltb _ _ f.sfits
-
-pub tested_fits : (id : ℤ) → fits_signed w64 id ≡ true → SFits w64 id
-unfolding fits_signed
-tested_fits id t = record { sfits = ltb-true _ _ t }
 
 differ : (a k : ℤ) → eq_z a k ≡ false → a ≡ k → ⊥
 differ a k t e = clash (rw e (eq_self k)) t

@@ -1,9 +1,10 @@
 -- Condition 2, equality with the Rust, over lists: a call in the domain tells the same on both sides and leaves the same; one outside leaves the library as it was, and is not given to
 -- the Rust.
 use Rattle.std.specs.Prelude.{Option, Result, Ok, Err}
-use Rattle.std.proofs.Common.{◌≡◌, ℕ, ◌≤◌, Bool, true, false, not, eqb, ltb, List, [], ◌∷◌, ℤ, sym, refl, ap, ◌∙◌, subst, arith, w64, to_z, ltb-true, eq-eqb, ne_eqb, leb-true}
+use Rattle.std.proofs.Common.{◌≡◌, ℕ, ◌≤◌, true, false, not, eqb, ltb, List, [], ◌∷◌, ℤ, sym, refl, ap, ◌∙◌, subst, arith, w64, to_z, ltb-true, eq-eqb, ne_eqb, leb-true}
+use borrow.Author.Tests.{not-true}
 use Rattle.base.specs.Bytes.{Bytes, both, either, all}
-use Rattle.base.proofs.Split.{by_bool, by_eq, both_left, both_right, both_of, clash, no}
+use Rattle.base.proofs.Split.{by_bool, by_eq, either_right, either_false, both_left, both_right, both_of, clash, no}
 use Rattle.base.proofs.Lists.{all_head, all_tail}
 use Rattle.kind.specs.declared.Kind.{Kind}
 use Rattle.kind.specs.declared.Kind.TheVariants as K
@@ -166,16 +167,6 @@ stops_number : (r : Refusal) → stops_by r ≡ true → eqb (number_of r) 22 �
 unfolding stops_by
 stops_number r t = ne_eqb (number_of r) 22 (λ e. let l = leb-true (number_of r) 16 (both_right _ _ t) in omega arith)
 
-either_false : (b : Bool) → either b false ≡ b
-unfolding either
-either_false true = refl
-either_false false = refl
-
-either_true : (b : Bool) → either b true ≡ true
-unfolding either
-either_true true = refl
-either_true false = refl
-
 -- an event of one reader tells nothing of another
 past_other : (n m : ℕ) → (m ≡ n → ⊥) → (t : Told) (p : Past) → ((event_past n t p).stopped m ≡ p.stopped m) × ((event_past n t p).lines m ≡ p.lines m)
 past_other n m e (handle x) p = (refl, refl)
@@ -269,10 +260,10 @@ module _ (l : Storage) (w : RustHeld) (h : Alike l w) (n : ℕ) (line : Bytes) w
   own_known p v =
       by_event line s
       (λ u a. rw (a, eq-eqb n n refl) ((v n).0 ∙ sym (either_false (p.stopped n)), (v n).1))
-      (λ r m u q t a. rw (a, eq-eqb n n refl, stops_number r t) ((ap is_stopped q ∙ t) ∙ sym (either_true (p.stopped n)), (v n).1))
+      (λ r m u q t a. rw (a, eq-eqb n n refl, stops_number r t) ((ap is_stopped q ∙ t) ∙ sym (either_right (p.stopped n) refl), (v n).1))
       (λ r u q f a.
       let y : stops_by r ≡ true = (rw (a, q) at (event_stopped line s u)) in
-      rw (a, eq-eqb n n refl, stops_number r y) (y ∙ sym (either_true (p.stopped n)), (v n).1))
+      rw (a, eq-eqb n n refl, stops_number r y) (y ∙ sym (either_right (p.stopped n) refl), (v n).1))
       (λ x u q f a. rw (a, eq-eqb n n refl) (sym q ∙ (v n).0, omega (arith, (v n).1)))
 
   event_known : (p : Past) → Known p l → Known (event_past n (told (reads n line) l) p) (leaves (reads n line) l)
@@ -292,10 +283,6 @@ end_level L.Leaf d e s = rw e
 end_level L.Other d e s = rw e
 end_level L.Done d e s = rw e
 
-not_true : (b : Bool) → not b ≡ true → b ≡ false
-not_true true e = sym e
-not_true false e = refl
-
 module _ (l : Storage) (w : RustHeld) (h : Alike l w) (n : ℕ) where
   end_same : Alike (leaves (ends n) l) w
   end_same =
@@ -307,7 +294,7 @@ module _ (l : Storage) (w : RustHeld) (h : Alike l w) (n : ℕ) where
   end_inside p v c =
       let s = state_of n l in
       let u = sound_below l w h n [] p v (both_right _ _ c) in
-      let q : is_stopped s.reader.stop ≡ false = (v n).0 ∙ not_true (p.stopped n) (both_left _ _ c) in
+      let q : is_stopped s.reader.stop ≡ false = (v n).0 ∙ not-true (p.stopped n) (both_left _ _ c) in
       (rw (end_going s u q) (end_level s.reader.place.level (w.states n).level (ap (λ (d : DriveState). d.level) (h.readers n).state) s), end_same)
 
 -- ---- a direct call

@@ -5,9 +5,9 @@ use mir.Syntax.{Width}
 use mir.Val.{hbits}
 use Rattle.base.specs.Ascii.{ascii}
 use Rattle.base.specs.Bytes.{Bytes, same, both, all, is_digit}
+use Rattle.base.proofs.Lists.{same_swap}
 use Rattle.base.proofs.Split.{by_bool}
 use Rattle.integer.specs.Integer.{decimal, digits, integer, holds, of_width, integer_of}
-use Rattle.interner.proofs.Held.{same_swap}
 use Rattle.model.specs.Record.{flagged}
 use Rattle.stamp.specs.Stamp.{stamp}
 use Rattle.event.specs.Event.{Attr, value_of}

@@ -13,8 +13,8 @@ use Rattle.model.specs.Record.{Meta, Body, Record, kind_of, flagged, claim_of}
 use Rattle.compact.specs.Held.{meta_of}
 use Rattle.compact.specs.declared.ArenaMeta.{ArenaMeta}
 use Rattle.interner.specs.Strings as Strings
-use Rattle.interner.specs.declared.Interned.{Interned}
-use Rattle.interner.specs.declared.Interned.TheVariants as I
+use Rattle.interner.specs.Interned.{Interned}
+use Rattle.interner.specs.Interned as I
 use Rattle.kind_store.specs.KindStore.{known_version, checked}
 use Rattle.kind_store.specs.WellFormed.{WellFormed}
 use Rattle.kind_store.proofs.Answers.{push_12, delete_12}

@@ -6,9 +6,9 @@ use lib.Seq.{drop-append-le, drop-append_seam, take-append-le, take-length, get_
 use borrow.Author.Tests.{lt-leb}
 use Rattle.base.specs.Bytes.{Bytes, same}
 use Rattle.base.proofs.Split.{by_bool, by_lt, by_le, no}
-use Rattle.base.proofs.Lists.{same_yes}
+use Rattle.base.proofs.Lists.{same_yes, same_swap}
 use Rattle.interner.specs.Texts.{handle_of, take_in, with_new, text_of, no_texts}
-use Rattle.interner.proofs.Held.{same_swap, handle_new, handle_here, handle_on, unraised}
+use Rattle.interner.proofs.Held.{handle_new, handle_here, handle_on, unraised}
 use Rattle.published.specs.Std.{slice}
 use Rattle.published.specs.Interner.{StringInterner, Span, get_text, resolve, intern}
 use Rattle.published.specs.Interner as Interner

@@ -34,8 +34,8 @@ use Rattle.reader_stage.proofs.Parts.{with_tag, with_ref, with_member}
 use Rattle.interner.specs.Strings as Strings
 use Rattle.interner.specs.Texts.{handle_of, take_in}
 use Rattle.interner.specs.Sound.{texts_of}
-use Rattle.interner.specs.declared.Interned.{Interned}
-use Rattle.interner.specs.declared.Interned.TheVariants as I
+use Rattle.interner.specs.Interned.{Interned}
+use Rattle.interner.specs.Interned as I
 use Rattle.interner.proofs.Interns.{length_texts}
 use Rattle.interner.proofs.Held.{holds}
 use Rattle.event.specs.Event.{Attr, Event, starts, closes, others}

@@ -1,9 +1,8 @@
 -- sorted.rs, lookups in lists of ids in order: `range_overlaps`, `upsert_range` ("takes an id for its last key") and `Seek::find`, up to what their callers get.
 use Rattle.std.specs.Prelude.{◌≡◌, ℕ, List, ℤ, Ok, Option, Result}
-use Rattle.sorted.specs.Lookup.{overlap_of, places_from, range_of, found_of}
+use Rattle.sorted.specs.Lookup.{overlap_of, places_from, range_of, Found, found_of}
 use Rattle.refusal.specs.declared.Refusal.{Refusal}
 use Rattle.sorted.specs.declared.IdRange.{IdRange}
-use Rattle.sorted.specs.declared.Found.{Found}
 use Rattle.published.specs.OsmId.{osm_id_key}
 use Rattle.published.specs.Sorted.{Range, range_overlaps, upsert_range, find}
 use Rattle.published.specs.Sorted as Rust

@@ -1,6 +1,6 @@
 -- The line is short: 44 bytes hold it, whatever the line's number (u64) and the known version (i32).
 use Rattle.std.specs.Prelude.{Some}
-use Prim.Native.Nat.{ℕ, zero, suc, ◌/◌, ◌^◌, ◌<◌, ◌≤◌}
+use Prim.Native.Nat.{ℕ, suc, ◌^◌, ◌<◌, ◌≤◌}
 use mathlib.Core.Path.{◌≡◌}
 use native.Mathlib.Omega.{arith}
 use lib.IntN.{ℤ, pos, negsuc}
@@ -10,11 +10,11 @@ use mir.Syntax.{w32}
 use mir.Val.{SFits}
 use borrow.Author.Tests.{le-leb}
 use Rattle.base.specs.Bytes.{Bytes}
-use Rattle.base.proofs.Split.{by_lt, by_eq}
+use Rattle.base.proofs.Split.{by_eq}
 use Rattle.refusal.specs.Refusal.{number_of, held_of}
 use Rattle.refusal.specs.declared.Refusal.{Refusal}
 use Rattle.line.specs.Line.{tabbed, line}
-use Rattle.line.specs.Decimal.{number_text, integer_text}
+use Rattle.line.specs.Decimal.{integer_text}
 use Rattle.print.proofs.Pieces.{digits_fit}
 use Rattle.print.specs.Piece.{whole_over}
 use Rattle.report.specs.Report.{held_field, refused_line}

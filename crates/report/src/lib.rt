@@ -21,7 +21,7 @@ fn put_held(printer: &mut Printer<'_>, refusal: Refusal)
 }
 
 // The line of a refusal, at so many lines.
-#[derive(Clone, Copy)]
+#[derive(Clone, Copy, PartialEq, Eq, Debug)]
 struct RefusedLine {
     refusal: Refusal,
     line: u64,

@@ -2,8 +2,8 @@
 // it lends, and what it reads and writes.
 #![tactic(auto)]
 
-use input_pieces::Fed;
-use overlay_blocks::COUNTERS;
+use input_pieces::InputBuffer;
+use reader::ReaderState;
 use reader_stage::STAGED;
 use roadlist_page::Ended;
 use std::io;
@@ -18,26 +18,20 @@ fn fail(rt: &impl Eprint, what: &str, why: io::Error) {
 // counts up to a number that no run reaches (a read takes time).
 fn read_all(
     input: &mut impl Read,
-    words: &mut [u64; 5632],
-    bytes: &mut [u8; 32768],
-    counters: &mut [u64; COUNTERS],
-    ps: &mut [u8; STAGED],
-    buf: &mut [u8; 81920],
+    state: &mut ReaderState<'_>,
+    buffer: &mut InputBuffer<'_>,
     piece: &mut [u8; 65536],
-    start: Fed,
-) -> Result<Fed, io::Error> {
-    let mut fed = start;
+) -> Result<(), io::Error> {
     for _ in 0..u64::MAX {
         let n = input.read(piece)?;
         if n == 0 {
             break;
         }
-        fed = input_pieces::feed(words, bytes, counters, ps, fed, buf, piece, n);
-        if fed.answer.is_err() {
+        if input_pieces::feed(state, buffer, &piece[..n]).is_err() {
             break;
         }
     }
-    Ok(fed)
+    Ok(())
 }
 
 // What is to be printed, and a word on standard error where it is not the listing.
@@ -54,50 +48,47 @@ fn write_out(rt: &(impl Print + Eprint), out: &[u8], ended: Ended) {
     }
 }
 
-// The overlay is set up empty and the reader is fresh, so what each piece needs holds from the start on (roadlist_page, proofs/Printed).
 fn read_and_print(
     rt: &(impl Print + Eprint),
     input: &mut impl Read,
-    words: &mut [u64; 5632],
-    bytes: &mut [u8; 32768],
-    counters: &mut [u64; COUNTERS],
-    ps: &mut [u8; STAGED],
-    buf: &mut [u8; 81920],
+    state: &mut ReaderState<'_>,
+    buffer: &mut InputBuffer<'_>,
     piece: &mut [u8; 65536],
     out: &mut [u8; 65536],
 ) {
-    let reader = roadlist_page::start(words, bytes, counters, ps);
-    let fed = Fed {
-        reader,
-        held: 0,
-        answer: Ok(()),
-    };
-    let fed = match read_all(input, words, bytes, counters, ps, buf, piece, fed) {
-        Ok(fed) => fed,
-        Err(why) => {
-            fail(rt, "standard input", why);
-            return;
-        }
-    };
-    let ended = roadlist_page::finish(words, bytes, counters, ps, fed, buf, out);
+    if let Err(why) = read_all(input, state, buffer, piece) {
+        fail(rt, "standard input", why);
+        return;
+    }
+    let ended = roadlist_page::finish(state, buffer, out);
     write_out(rt, out, ended);
 }
 
+// The overlay is set up empty and the reader is fresh, so what each piece needs holds from the start on (roadlist_page, proofs/Printed).
 fn main(rt: HostRuntime) {
     let mut words = [0u64; 5632];
     let mut bytes = [0u8; 32768];
     let mut counters = [0u64; 17];
     let mut parts = [0u8; STAGED];
-    let mut buffer = [0u8; 81920];
+    let mut unfinished = [0u8; 81920];
     let mut piece = [0u8; 65536];
     let mut out = [0u8; 65536];
+    let reader = roadlist_page::start(&mut words, &bytes, &mut counters, &parts);
+    let mut state = ReaderState {
+        words: &mut words,
+        bytes: &mut bytes,
+        counters: &mut counters,
+        parts: &mut parts,
+        reader,
+    };
+    let mut buffer = InputBuffer {
+        bytes: &mut unfinished,
+        held: 0,
+    };
     read_and_print(
         &rt,
         &mut rt.stdin(),
-        &mut words,
-        &mut bytes,
-        &mut counters,
-        &mut parts,
+        &mut state,
         &mut buffer,
         &mut piece,
         &mut out,

@@ -4,3 +4,4 @@ pub mod Steps
 pub mod Lookups
 pub mod Seeks
 pub mod Examples
+pub mod Sorted

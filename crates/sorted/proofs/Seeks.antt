@@ -1,7 +1,7 @@
 -- The forward cursor: it stands at the farther of its place and the id's, answers every id that is asked for in order, and none behind its place.
 use Rattle.std.specs.Prelude.{None, Option, Some, Ok}
 use Rattle.std.specs.Bool.{then_some}
-use Prim.Native.Nat.{ℕ, zero, suc, ◌+◌, ◌-◌, ◌<◌, ◌≤◌}
+use Prim.Native.Nat.{ℕ, zero, suc, ◌+◌, ◌-◌, ◌<◌, ◌≤◌, max}
 use mathlib.Core.Path.{◌≡◌, refl, sym, ◌∙◌, ap}
 use mathlib.Core.Bool.{true}
 use mathlib.Core.List.{List, [], ◌∷◌, map}
@@ -21,7 +21,7 @@ use Rattle.sorted.proofs.Lookups.{smaller_le, at_smaller, at_is, stands, member,
 module _ (ids : List ℤ) (o : in_order ids ≡ true) (id : ℤ) where
   -- ---- where the cursor stands
 
-  pub stays : (p : ℕ) → ids_before id ids ≤ p → reached (Some p) id ids ≡ p
+  stays : (p : ℕ) → ids_before id ids ≤ p → reached (Some p) id ids ≡ p
   unfolding advance
   stays p g =
       by_lt p (length ids)
@@ -36,15 +36,18 @@ module _ (ids : List ℤ) (o : in_order ids ≡ true) (id : ℤ) where
       let h : p < length ids = omega (arith, smaller_le id ids) in
       rw (drop-cons ids p (pos 0) h, at_smaller id ids o p h, lt-ltb p (ids_before id ids) l) (moves n (suc p) (omega arith))
 
-  pub goes : (p : ℕ) → p ≤ ids_before id ids → reached (Some p) id ids ≡ ids_before id ids
+  goes : (p : ℕ) → p ≤ ids_before id ids → reached (Some p) id ids ≡ ids_before id ids
   goes p h = moves (ids_before id ids - p) p (omega arith)
 
   pub starts : reached None id ids ≡ ids_before id ids
   starts = stays (ids_before id ids) (omega arith)
 
+  pub farther : (p : ℕ) → max p (ids_before id ids) ≡ reached (Some p) id ids
+  farther p = by_lt p (ids_before id ids) (λ l. omega (arith, goes p (omega arith))) (λ l. omega (arith, stays p l))
+
   reaches : (p : Option ℕ) → ids_before id ids ≤ reached p id ids
   reaches None = omega (arith, starts)
-  reaches (Some p) = by_lt p (ids_before id ids) (λ l. omega (arith, goes p (omega arith))) (λ l. omega (arith, stays p l))
+  reaches (Some p) = omega (arith, farther p)
 
   -- ---- what it answers
 

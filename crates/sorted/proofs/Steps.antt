@@ -1,7 +1,7 @@
 -- What the steps of the code on words say of their ids.
 use Prim.Native.Nat.{ℕ, suc, ◌+◌, ◌-◌, ◌<◌, ◌≤◌}
 use mathlib.Core.Path.{◌≡◌, refl, sym, ◌∙◌, ap}
-use mathlib.Core.Bool.{Bool, true, false}
+use mathlib.Core.Bool.{Bool, true, false, not}
 use mathlib.Core.List.{List, [], ◌∷◌}
 use native.Mathlib.Omega.{arith}
 use native.Mathlib.Numerals.{add-one}
@@ -16,7 +16,7 @@ use borrow.Author.Tests.{lt-ltb, le-ltb, ltb-true}
 use Rattle.std.specs.List.Sorted.{IsPartitionedBy, IsPartitionPoint}
 use Rattle.std.proofs.lemmas.Grind.{get_or_default_zero}
 use Rattle.base.specs.Bytes.{both}
-use Rattle.base.proofs.Split.{by_lt, clash, both_no_left}
+use Rattle.base.proofs.Split.{by_bool, by_lt, clash, both_no_left}
 use Rattle.osm_id.specs.Order.{before, osm_key_of, id_key_before}
 use Rattle.osm_id.specs.declared.OsmIdKey.{OsmIdKey}
 use Rattle.osm_id.proofs.Orders.{key_before}
@@ -51,16 +51,19 @@ module _ (ids : List ℤ) (i : ℕ) (h : i < length ids) where
   step = rw (drop-cons ids i (pos 0) h)
 
   -- the test of two neighbours, as the code makes it on their keys
-  module _ {x y : OsmIdKey} {t : Bool} (p : x ≡ osm_key_of (id_at ids (i - 1))) (q : y ≡ osm_key_of (id_at ids i)) (r : t ≡ id_key_before x y) where
-    neighbours : t ≡ before (id_at ids (i - 1)) (id_at ids i)
-    neighbours = rw (r, p, q) (key_before _ _)
+  module _ {x y : OsmIdKey} {t : Bool} (p : x ≡ osm_key_of (id_at ids (i - 1))) (q : y ≡ osm_key_of (id_at ids i)) (r : t ≡ not (id_key_before x y)) where
+    neighbours : t ≡ not (before (id_at ids (i - 1)) (id_at ids i))
+    neighbours = rw (r, p, q) (ap not (key_before _ _))
 
-    pub rises_more : t ≡ true → rest_rises ids (i + 1) ≡ rest_rises ids i
+    pub rises_more : t ≡ false → rest_rises ids (i + 1) ≡ rest_rises ids i
     unfolding both
-    rises_more e = let d : i + 1 - 1 ≡ i = omega arith in rw (step, ← neighbours, e, d, add-one)
+    rises_more e =
+        let d : i + 1 - 1 ≡ i = omega arith in
+        let b : before (id_at ids (i - 1)) (id_at ids i) ≡ true = by_bool _ (λ s. s) (λ s. clash (neighbours ∙ ap not s) e) in
+        rw (step, b, d, add-one)
 
-    pub rises_no : t ≡ false → rest_rises ids i ≡ false
-    rises_no e = step ∙ both_no_left _ _ (sym neighbours ∙ e)
+    pub rises_no : t ≡ true → rest_rises ids i ≡ false
+    rises_no e = step ∙ both_no_left _ _ (by_bool _ (λ s. clash e (neighbours ∙ ap not s)) (λ s. s))
 
 -- ---- the library's search in words: those that pass stand before those that do not
 

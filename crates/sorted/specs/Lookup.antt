@@ -10,7 +10,6 @@ use Rattle.osm_id.specs.declared.OsmIdKey.{OsmIdKey}
 use Rattle.refusal.specs.declared.Refusal.{Refusal}
 use Rattle.refusal.specs.declared.Refusal.TheVariants.{NotInOrder}
 use Rattle.sorted.specs.declared.IdRange.{IdRange}
-use Rattle.sorted.specs.declared.Found.{Found}
 
 -- the ids of a list of words
 abbrev pub ids_of : List ℕ → List ℤ
@@ -100,6 +99,11 @@ reached p id ids = advance id (standing p id ids) (drop (standing p id ids) ids)
 -- the id stands at a place
 unfoldable pub stands_at : ℤ → ℕ → List ℤ → Bool
 stands_at id p ids = both (ltb p (length ids)) (same_id id (id_at ids p))
+
+-- where the cursor stands then, and the answer
+pub record Found : Type 0 where
+  pub place : Option ℕ
+  pub answer : Result (Option ℕ) Refusal
 
 unfoldable pub found_of : Option ℕ → List ℤ → ℤ → Found
 found_of p ids id =

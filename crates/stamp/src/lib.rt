@@ -7,7 +7,7 @@ ghost use Rattle.std.proofs.Common.{of_z};
 ghost use Rattle.integer.specs.Integer.{digits};
 ghost use Rattle.stamp.specs.Stamp.{separated, moment, taken_moment, days_of, epoch, seconds_of, accepted_moment, stamp_of};
 
-// The six numbers of a stamp.
+// The six numbers of a stamp, each under its own name.
 #[derive(Clone, Copy, PartialEq, Eq, Debug)]
 pub struct Moment {
     pub year: u32,
@@ -28,16 +28,14 @@ fn stamp_field(field: &[u8]) -> Option<u32>
 }
 
 // The separators of a text of 20 bytes.
-fn separated(s: &[u8]) -> bool
-    requires { length s.now ≡ 20 }
+fn separated(s: &[u8; 20]) -> bool
     ensures { result ≡ separated s.now }
 {
     let time = (s[13] == b':') & ((s[16] == b':') & (s[19] == b'Z'));
     (s[4] == b'-') & ((s[7] == b'-') & ((s[10] == b'T') & time))
 }
 
-fn read_six(s: &[u8]) -> Option<Moment>
-    requires { length s.now ≡ 20 }
+fn read_six(s: &[u8; 20]) -> Option<Moment>
     ensures { result ≡ moment s.now }
 {
     Some(Moment {
@@ -91,8 +89,7 @@ fn seconds(m: Moment) -> u64
     since_epoch(days(m) * 86400 + m.hour as u64 * 3600 + m.minute as u64 * 60 + m.second as u64)
 }
 
-fn accepted(s: &[u8]) -> Option<u64>
-    requires { length s.now ≡ 20 }
+fn accepted(s: &[u8; 20]) -> Option<u64>
     ensures { result ≡ option_map (of_z w64) (accepted_moment (moment s.now)) }
 {
     let m = read_six(s)?;
@@ -106,8 +103,9 @@ fn accepted(s: &[u8]) -> Option<u64>
 pub fn parse_rfc3339_utc(s: &[u8]) -> Option<u64>
     ensures { result ≡ stamp_of s.now }
 {
-    if s.len() == 20 && separated(s) {
-        return accepted(s);
+    let text = s.as_array::<20>()?;
+    if separated(text) {
+        return accepted(text);
     }
     None
 }

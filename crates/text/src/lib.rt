@@ -27,7 +27,8 @@ const CLASS: [u8; 256] = *b"\
     \x03\x03\x03\x03\x03\x03\x03\x03\x03\x03\x03\x03\x03\x03\x03\x03\
     \x04\x04\x04\x04\x04\x00\x00\x00\x00\x00\x00\x00\x00\x00\x00\x00";
 
-// The bits of a character so far with the six of the byte at a place; none where no byte stands there that continues a character.
+// The bits of a character so far with the six of the byte at a place; none where no byte stands there that continues a character. It is given the whole and a
+// place, as `long` is.
 fn join(v: u32, s: &[u8], at: usize) -> Option<u32>
     requires { v < 0x10000 }
     ensures joined { unwrap_or result 0 ≡ joined_bits v (byte_at s.now at) }

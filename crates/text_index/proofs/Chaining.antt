@@ -1,23 +1,23 @@
 -- A search by a chain: the handles that it has passed do not have the text.
 use Prim.Native.Nat.{ℕ, zero, suc, ◌+◌, ◌-◌, ◌≤◌, ◌<◌}
-use mathlib.Core.Path.{◌≡◌, sym, ◌∙◌, ap}
+use mathlib.Core.Path.{◌≡◌, ◌∙◌, ap}
 use mathlib.Core.Bool.{true, false}
 use mathlib.Core.List.{List, []}
 use native.Mathlib.Nat.{zero-add}
 use native.Mathlib.Omega.{arith}
-use lib.ListN.{length, get_or, length-map}
+use lib.ListN.{length, length-map}
 use Rattle.std.specs.Prelude.{Some, None}
 use Rattle.base.specs.Bytes.{Bytes}
-use Rattle.base.proofs.Split.{by_bool, by_lt, by_eq, both_left, both_right, clash}
+use Rattle.base.proofs.Split.{by_bool, by_eq, both_right, clash}
 use Rattle.base.proofs.Lists.{same_yes}
 use Rattle.interner.specs.Texts.{text_of}
-use Rattle.interner.specs.Strings.{bytes_at, is_at, find_from, find_in, Store, used_of}
-use Rattle.interner.specs.Sound.{handles, texts_in, counts_within, sound_up_to, sound_strings}
+use Rattle.interner.specs.Strings.{bytes_at, is_at, find_from, find_in}
+use Rattle.interner.specs.Sound.{handles, texts_in, sound_up_to}
 use Rattle.interner.proofs.Finds.{find_here, find_on}
 use Rattle.interner.proofs.Handles.{length_handles, made_at}
 use Rattle.interner.proofs.Checks.{upto_parts}
-use Rattle.text_index.specs.Index.{bucket_of, bucket_at, handles_in, LastBelow, IndexGiven}
-use Rattle.text_index.specs.Link.{ChainsGiven, FoundBelow}
+use Rattle.text_index.specs.Index.{bucket_of}
+use Rattle.text_index.specs.Chained.{FoundBelow}
 
 module _ (spans : List ℕ) (bytes : Bytes) where
   pub length_in : (n : ℕ) → length (texts_in spans bytes n) ≡ n
@@ -72,47 +72,3 @@ module _ (spans : List ℕ) (bytes : Bytes) where
 pub record ChainLeft (spans : List ℕ) (bytes t : Bytes) (n c : ℕ) : Type 0 where
   pub passed : (h : ℕ) → c ≤ h → h < n → is_at spans bytes t h ≡ false
   pub bucket : 0 < c → bucket_of (bytes_at spans bytes (c - 1)) ≡ bucket_of t
-
-module _ (ix spans : List ℕ) (bytes t : Bytes) (count n : ℕ) (g : ChainsGiven ix spans bytes count) (e : n ≡ handles_in ix) where
-  pub held_few : n ≤ count
-  held_few = omega (arith, e, g.chains.few, length_in spans bytes count)
-
-  bucket_in : (h : ℕ) → h < n → bucket_at (texts_in spans bytes count) h ≡ bucket_of (bytes_at spans bytes h)
-  bucket_in h p = rw (text_in spans bytes count h (omega (arith, held_few)))
-
-  -- no handle of a part of the chain that is passed has the text
-  not_in : (b m c : ℕ) → m ≤ n → b ≡ bucket_of t → LastBelow (bucket_at (texts_in spans bytes count)) b m c → (h : ℕ) → c ≤ h → h < m → is_at spans bytes t h ≡ false
-  not_in b m c p q l h r s =
-      at_not spans bytes t h (λ z. l.none h r s (bucket_in h (omega arith) ∙ (ap bucket_of (sym z) ∙ sym q)))
-
-  pub chain_start : (b c : ℕ) → b ≡ bucket_of t → b < 4096 → (get_or ix b 0 ≤ n → c ≡ get_or ix b 0) → ChainLeft spans bytes t n c
-  chain_start b c q p f =
-      let l = rw (← e) at (g.chains.heads b p) in
-      let s : c ≡ get_or ix b 0 = f l.within in
-      rw s
-      (record {
-        passed = not_in b n (get_or ix b 0) (omega arith) q l;
-        bucket = λ z. sym (bucket_in (get_or ix b 0 - 1) (omega (arith, l.within))) ∙ (l.last z ∙ q);
-      })
-
-  pub chain_next : (h d : ℕ) → h < n → ChainLeft spans bytes t n (h + 1) → is_at spans bytes t h ≡ false → (get_or ix (4096 + h) 0 ≤ h → d ≡ get_or ix (4096 + h) 0)
-      → ChainLeft spans bytes t n d
-  chain_next h d p w a f =
-      let l = g.chains.befores h (omega (arith, e)) in
-      let s : d ≡ get_or ix (4096 + h) 0 = f l.within in
-      let i : h + 1 - 1 ≡ h = omega arith in
-      let k : bucket_at (texts_in spans bytes count) h ≡ bucket_of t = bucket_in h p ∙ rw i at (w.bucket (omega arith)) in
-      rw s
-      (record {
-        passed = λ j x y.
-            by_lt j h
-            (not_in (bucket_at (texts_in spans bytes count) h) h (get_or ix (4096 + h) 0) (omega arith) k l j x)
-            (λ z. by_eq j h (λ v. rw v a) (λ v. w.passed j (omega arith) y));
-        bucket = λ z. sym (bucket_in (get_or ix (4096 + h) 0 - 1) (omega (arith, l.within))) ∙ (l.last z ∙ k);
-      })
-
--- ---- the strings in use
-
-pub given_chains : (ix : List ℕ) (s : Store) → IndexGiven ix s → ChainsGiven ix s.spans (used_of s) s.strings
-unfolding sound_strings
-given_chains ix s g = record { sound = both_left (sound_up_to s.spans (used_of s) s.strings) _ (both_right (counts_within s) _ g.sound); chains = g.chains }

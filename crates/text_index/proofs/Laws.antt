@@ -1,13 +1,26 @@
 -- Laws of chains that their users need.
-use Prim.Native.Nat.{ℕ, ◌<◌}
-use mathlib.Core.Path.{◌≡◌, refl}
+use Prim.Native.Nat.{ℕ, ◌-◌, ◌<◌}
+use mathlib.Core.Path.{◌≡◌, refl, sym, ◌∙◌}
 use mathlib.Core.List.{List, [], ◌++◌}
 use native.Mathlib.Omega.{arith}
-use lib.ListN.{length-append, get_or, replicate, get_or-append}
+use lib.ListN.{length-append, get_or, replicate, get_or-replicate, length-replicate, get_or-append, get_or-eq_default}
 use Rattle.base.specs.Bytes.{Bytes}
-use Rattle.text_index.specs.Index.{bucket_at}
+use Rattle.base.proofs.Split.{by_lt}
+use Rattle.text_index.specs.Index.{bucket_at, LastBelow}
 use Rattle.text_index.specs.Chained.{HandleChains, none_chained, Chained}
-use Rattle.text_index.proofs.Index.{last_same, zeros_read}
+
+-- the same buckets below m
+pub last_same : (f g : ℕ → ℕ) (b m c : ℕ) → ((h : ℕ) → h < m → g h ≡ f h) → LastBelow f b m c → LastBelow g b m c
+last_same f g b m c e l =
+    record {
+      within = l.within;
+      last = λ p. e (c - 1) (omega (arith, l.within)) ∙ l.last p;
+      none = λ h p q r. l.none h p q (sym (e h q) ∙ r);
+    }
+
+zeros_read : (n i : ℕ) → ◌≡◌ {A = ℕ} (get_or (replicate n 0) i 0) 0
+zeros_read n i =
+    by_lt i n (get_or-replicate n i 0 0) (λ h. get_or-eq_default (replicate n 0) 0 (omega (arith, length-replicate {A = ℕ} n 0)))
 
 -- chains whose buckets are empty
 chained_empty : (c : HandleChains) (texts : List Bytes) → c.handles ≡ 0 → ((b : ℕ) → get_or c.lasts b 0 ≡ 0) → Chained c texts

@@ -1,5 +1,5 @@
 -- Chains with one handle more.
-use Prim.Native.Nat.{ℕ, ◌+◌, ◌≤◌, ◌<◌}
+use Prim.Native.Nat.{ℕ, ◌+◌, ◌-◌, ◌≤◌, ◌<◌}
 use mathlib.Core.Path.{◌≡◌, sym, ◌∙◌, ap}
 use mathlib.Core.Bool.{true}
 use Rattle.std.specs.Prelude.{Some}
@@ -15,7 +15,20 @@ use Rattle.interner.proofs.Checks.{upto_parts}
 use Rattle.text_index.proofs.Chaining.{length_in, text_in}
 use Rattle.text_index.specs.Index.{bucket_of, bucket_at, LastBelow}
 use Rattle.text_index.specs.Chained.{HandleChains, chain_linked, Chained}
-use Rattle.text_index.proofs.Links.{last_other, last_this}
+
+-- one handle more, in another bucket or in this one
+last_other : (f : ℕ → ℕ) (b m c : ℕ) → (f m ≡ b → ⊥) → LastBelow f b m c → LastBelow f b (m + 1) c
+last_other f b m c n l =
+    record {
+      within = omega (arith, l.within);
+      last = l.last;
+      none = λ h p q. by_eq h m (λ e. rw e n) (λ e. l.none h p (omega arith));
+    }
+
+last_this : (f : ℕ → ℕ) (b m : ℕ) → f m ≡ b → LastBelow f b (m + 1) (m + 1)
+last_this f b m e =
+    let i : m + 1 - 1 ≡ m = omega arith in
+    record { within = omega arith; last = λ p. rw i e; none = λ h p q r. omega arith }
 
 module _ (c : HandleChains) (b h : ℕ) (bb : b < length c.lasts) (hh : h < length c.befores) where
   module _ (texts : List Bytes) (i : Chained c texts) (n : c.handles ≡ h) (few : h < length texts) (b_few : b < 4096) (k : b ≡ bucket_at texts h) where

@@ -1,7 +1,7 @@
 -- What chains of handles say of a list of texts: of each bucket the last handle, of each handle the one before it in its bucket, each as the handle and one, 0 for none.
-use Rattle.std.specs.Prelude.{ℕ, zero, suc, ◌+◌, ◌≤◌, ◌<◌, ◌≡◌, true, List, [], length, get_or, set, Option, Some, None}
+use Rattle.std.specs.Prelude.{ℕ, zero, suc, ◌+◌, ◌≤◌, ◌<◌, ◌≡◌, true, false, List, [], length, get_or, set, Option, Some, None}
 use Rattle.base.specs.Bytes.{Bytes}
-use Rattle.interner.specs.Strings.{Store}
+use Rattle.interner.specs.Strings.{is_at, Store}
 use Rattle.interner.specs.Sound.{texts_in, texts_of, sound_up_to, sound_strings}
 use Rattle.text_index.specs.Index.{bucket_at, LastBelow}
 
@@ -41,3 +41,8 @@ ChainsServe c s = 0 < c.handles → StoreChained c s
 -- the chains with handle h in bucket b
 abbrev pub chain_linked : HandleChains → ℕ → ℕ → HandleChains
 chain_linked c b h = record { lasts = set c.lasts b (h + 1); befores = set c.befores h (get_or c.lasts b 0); handles = h + 1 }
+
+-- the handle of the text among the first n, or none where none of them has it
+abbrev pub FoundBelow : List ℕ → Bytes → Bytes → ℕ → Option ℕ → Type 0
+FoundBelow spans bytes t n (Some h) = (h < n) × (is_at spans bytes t h ≡ true)
+FoundBelow spans bytes t n None = (h : ℕ) → h < n → is_at spans bytes t h ≡ false

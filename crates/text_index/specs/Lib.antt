@@ -1,4 +1,3 @@
 pub mod Index
-pub mod Link
 pub mod Chained
 pub mod Lent

@@ -4,16 +4,14 @@
 
 ghost use Rattle.std.specs.Prelude.{◌≡◌, true, ℕ, Some, ◌≤◌, ◌<◌, length, get_or, take, IfSome};
 ghost use Rattle.base.specs.Bytes.{Bytes};
-ghost use Rattle.interner.specs.Strings.{spanned, bytes_at, find_in, store_with, store_after, intern};
-ghost use Rattle.interner.specs.Sound.{texts_in};
+ghost use Rattle.interner.specs.Strings.{spanned, bytes_at, intern};
 ghost use Rattle.interner.specs.Texts.{handle_answered};
 ghost use Rattle.interner.specs.Lent.{store_seen, store_held, IsSameStrings, find_held};
-ghost use Rattle.text_index.specs.Index.{bucket_of, handles_in, Indexed, IndexGiven};
-ghost use Rattle.text_index.specs.Link.{linked, ChainsGiven, FoundBelow};
-ghost use Rattle.text_index.specs.Chained.{handle_coded, none_chained, chain_linked, Chained, TextsChained, StoreChained, ChainsServe};
+ghost use Rattle.text_index.specs.Index.{bucket_of};
+ghost use Rattle.text_index.specs.Chained.{handle_coded, none_chained, chain_linked, TextsChained, StoreChained, ChainsServe, FoundBelow};
 ghost use Rattle.text_index.specs.Lent.{chains_seen, chains_held, IsSameChains};
 
-use interner::{Interned, Strings, StringsMut, Taken, Texts};
+use interner::{Strings, StringsMut, Texts};
 
 // ---- the chains
 
@@ -23,7 +21,8 @@ pub const BUCKETS: usize = 4096;
 pub const HANDLES: usize = 4096;
 
 // Chains of handles, to be read. Of each bucket `lasts` has the last handle, of each handle `befores` has the one before it in its bucket; an entry is the handle and one, 0 for none, so that
-// two bytes hold it. `handles` is how many handles they hold.
+// two bytes hold it. `handles` is how many handles they hold. That they serve is a premise of each contract that needs it (`ChainsServe`) and no field of theirs, since it speaks of the strings too, which C lends.
+// They go beside the storage, the state or the act: C lends no chains, and a call that keeps none passes `none()`.
 #[derive(Clone, Copy)]
 pub struct Chains<'a> {
     pub lasts: &'a [u16],
@@ -128,15 +127,8 @@ impl Chains<'_> {
     pub fn answer(&self, strings: &Strings<'_>, text: &[u8]) -> Option<u64>
         ensures { ChainsServe (chains_seen self.now) (store_seen strings.now) → result ≡ handle_answered (intern (store_seen strings.now) text.now).answer }
     {
-        match self.find(strings, text) {
-            Some(h) => Some(h),
-            None => {
-                if strings.has_room(text) {
-                    return Some(strings.count);
-                }
-                None
-            }
-        }
+        let next = strings.has_room(text).then_some(strings.count);
+        self.find(strings, text).or(next)
     }
 }
 
@@ -189,170 +181,5 @@ impl ChainsMut<'_> {
             };
             self.link(b, h);
         }
-    }
-}
-
-// ---- the same over one array and strings that are lent part by part, for callers that do not lend `Chains` yet
-
-// An entry of the array, 0 past its end or where it is more than it may be.
-fn entry(ix: &[u16], i: usize, most: usize) -> usize
-    ensures upper_bound { result ≤ most }
-    ensures value { get_or ix.now i 0 ≤ most → result ≡ get_or ix.now i 0 }
-{
-    match ix.get(i) {
-        Some(e) if usize::from(*e) <= most => usize::from(*e),
-        _ => 0,
-    }
-}
-
-// The last handle of a text among the first n, one by one.
-fn search_down_by(spans: &[u64], bytes: &[u8], n: usize, text: &[u8]) -> Option<usize>
-    ensures { FoundBelow spans.now bytes.now text.now n result }
-{
-    // `(0..n).rev().find(..)` was tried, and its proof did not close: the library's lemma of `find` over a range goes from the start.
-    for h in (0..n).rev() {
-        if (Texts { spans, bytes }).is_at(text, h) {
-            return Some(h);
-        }
-    }
-    None
-}
-
-// The same by the chain of its bucket, where the array holds n handles. A chain of more than 32 handles is left: so nobody's texts make it slower than a search one by one.
-fn find_chained(ix: &[u16], spans: &[u64], bytes: &[u8], n: usize, text: &[u8]) -> Option<usize>
-    requires { n ≤ 4096 }
-    ensures { (count : ℕ) → ChainsGiven ix.now spans.now bytes.now count → n ≡ handles_in ix.now
-        → FoundBelow spans.now bytes.now text.now n result }
-{
-    let b = bucket(text);
-    let mut c = entry(ix, b, n);
-    for _ in 0..32 {
-        let h = c.checked_sub(1)?;
-        if (Texts { spans, bytes }).is_at(text, h) {
-            return Some(h);
-        }
-        c = entry(ix, 4096 + h, h);
-    }
-    search_down_by(spans, bytes, c, text)
-}
-
-// The handle of a text: by the chains among the handles that the array holds, then one by one. Few handles are searched one by one at once.
-fn find_by(ix: &[u16], spans: &[u64], bytes: &[u8], count: u64, text: &[u8]) -> Option<u64>
-    ensures { ChainsGiven ix.now spans.now bytes.now count → result ≡ find_in spans.now bytes.now count text.now }
-{
-    let n = entry(ix, 8192, 4096);
-    if n < 16 {
-        return Texts { spans, bytes }.find_from(0, count, text);
-    }
-    match find_chained(ix, spans, bytes, n, text) {
-        Some(h) => Some(h as u64),
-        None => Texts { spans, bytes }.find_from(n, count, text),
-    }
-}
-
-// The same among all held handles, over the bytes in use.
-fn find_held(
-    ix: &[u16],
-    spans: &[u64],
-    bytes: &[u8],
-    strings: u64,
-    used: u64,
-    text: &[u8],
-) -> Option<u64>
-    ensures { IndexGiven ix.now (store_with spans.now bytes.now strings used)
-        → result ≡ find_in spans.now (take used bytes.now) strings text.now }
-{
-    let seen = little::lesser(used as usize, bytes.len());
-    find_by(ix, spans, &bytes[..seen], strings, text)
-}
-
-// Takes a text in as `interner::intern` does.
-pub fn intern_by(
-    ix: &[u16],
-    spans: &mut [u64],
-    bytes: &mut [u8],
-    strings: u64,
-    used: u64,
-    text: &[u8],
-) -> Taken
-    ensures { IndexGiven ix.now (store_with spans.old bytes.old strings used)
-        → store_after spans.new bytes.new result ≡ intern (store_with spans.old bytes.old strings used) text.now }
-{
-    let found = find_held(ix, spans, bytes, strings, used, text);
-    interner::intern_found(spans, bytes, strings, used, text, found)
-}
-
-// What that would answer, with nothing taken in.
-pub fn answer_by(
-    ix: &[u16],
-    spans: &[u64],
-    bytes: &[u8],
-    strings: u64,
-    used: u64,
-    text: &[u8],
-) -> Interned
-    ensures { IndexGiven ix.now (store_with spans.now bytes.now strings used)
-        → result ≡ (intern (store_with spans.now bytes.now strings used) text.now).answer }
-{
-    match find_held(ix, spans, bytes, strings, used, text) {
-        Some(h) => Interned::Held(h),
-        None => {
-            if interner::fits(spans.len(), bytes.len(), strings, used, text.len()) {
-                return Interned::New(strings);
-            }
-            Interned::Full
-        }
-    }
-}
-
-// ---- more handles
-
-// The bucket of a handle's text.
-fn bucket_at_by(spans: &[u64], bytes: &[u8], h: usize) -> usize
-    ensures upper_bound { result < 4096 }
-    ensures value { spanned spans.now bytes.now h ≡ true → result ≡ bucket_of (bytes_at spans.now bytes.now h) }
-{
-    let Some(p) = Texts { spans, bytes }.span_at(h) else {
-        return 0;
-    };
-    let end = p.start + p.len;
-    bucket(&bytes[p.start..end])
-}
-
-// The array with one handle more.
-fn link(ix: &mut [u16], b: usize, h: usize)
-    requires { (8192 < length ix.old) × ((b < 4096) × (h < 4096)) }
-    ensures { ix.new ≡ linked ix.old b h }
-{
-    ix[4096 + h] = ix[b];
-    ix[b] = (h + 1) as u16;
-    ix[8192] = (h + 1) as u16;
-}
-
-// The array with the handles from n to the end.
-fn link_all(ix: &mut [u16], spans: &[u64], bytes: &[u8], n: usize, end: usize)
-    requires { (8192 < length ix.old) × ((n ≤ end) × (end ≤ 4096)) }
-    ensures { (count : ℕ) → end ≤ count → n ≡ handles_in ix.old → ChainsGiven ix.old spans.now bytes.now count
-        → Indexed ix.new (texts_in spans.now bytes.now count) }
-{
-    for h in n..end {
-        let b = bucket_at_by(spans, bytes, h);
-        link(ix, b, h);
-    }
-}
-
-// The array with the handles that it lacks, as far as there is room.
-pub fn index_held(ix: &mut [u16], spans: &[u64], bytes: &[u8], strings: u64, used: u64)
-    ensures { IndexGiven ix.old (store_with spans.now bytes.now strings used)
-        → IndexGiven ix.new (store_with spans.now bytes.now strings used) }
-{
-    if ix.len() <= 8192 {
-        return;
-    }
-    let n = entry(ix, 8192, 4096);
-    let end = little::lesser(strings as usize, 4096);
-    if n < end {
-        let seen = little::lesser(used as usize, bytes.len());
-        link_all(ix, spans, &bytes[..seen], n, end);
     }
 }

@@ -1,6 +1,6 @@
 -- What an entry leaves and replies, from what an event and an end leave and answer; and where words are no reader's.
 use Rattle.reader.specs.declared.RefusedAt.{RefusedAt}
-use Rattle.std.specs.Prelude.{Result}
+use Rattle.std.specs.Prelude.{Result, Some, None}
 use Prim.Native.Nat.{ℕ}
 use mathlib.Core.Path.{◌≡◌}
 use mathlib.Core.Bool.{true, false}
@@ -13,10 +13,20 @@ use Rattle.input_lines.specs.Lines.{lines_of}
 use Rattle.reader_events.specs.Events.{events_on, taken_bytes}
 use Rattle.reader.specs.declared.EventReader.{EventReader}
 use Rattle.c_reader.specs.Words.{words_of_reader, reader_in, is_reader, reader_of_words}
+use Rattle.c_reader.proofs.Coded.{coded, not_coded}
 use Rattle.c_replies.specs.Readers.{answer_reply, no_reader, taken_reply}
 use Rattle.c_replies.specs.declared.EventReply.{EventReply}
 use Rattle.c_replies.specs.declared.EventsReply.{EventsReply}
 use Rattle.torvaskin.specs.Readers.{event_reply, events_reply, end_reply}
+
+-- the reader that words are, or none
+pub read_some : (w : List ℕ) {x : EventReader} → Some x ≡ reader_of_words w → (is_reader w ≡ true) × (x ≡ reader_in w)
+unfolding reader_of_words
+read_some w e = coded e
+
+pub read_none : (w : List ℕ) → None ≡ reader_of_words w → is_reader w ≡ false
+unfolding reader_of_words
+read_none w e = not_coded (reader_in w) e
 
 module _ (o : Overlay) (w : List ℕ) (parts : Bytes) where
   module _ (i : is_reader w ≡ true) {x : EventReader} (e : x ≡ reader_in w) where

@@ -25,8 +25,9 @@ pub extern "C" fn tvk_upsert_range(ids: &[u64], first: i64, last: i64) -> Places
 pub extern "C" fn tvk_seek_find(ids: &[u64], place: usize, id: i64) -> Cursor
     ensures { result ≡ found_cursor (found_of (seek_place place) (ids_of ids.now) id) }
 {
-    let seek = Seek {
+    let mut seek = Seek {
         place: c_replies::place_of(place),
     };
-    Cursor::from(seek.find(ids, id))
+    let answer = seek.find(ids, id);
+    c_replies::cursor_reply(answer, seek.place)
 }

@@ -73,14 +73,14 @@ pub extern "C" fn tvk_version_raise(floor: u64, claim: u64) -> u64
 pub extern "C" fn tvk_read_i64(s: &[u8]) -> Number
     ensures { result ≡ integer_number (read_of w64 s.now) }
 {
-    Number::from(integer::read_i64(s).ok_or(Refusal::NotInteger))
+    Number::from(integer::read::<i64>(s).ok_or(Refusal::NotInteger))
 }
 
 #[unsafe(no_mangle)]
 pub extern "C" fn tvk_read_i32(s: &[u8]) -> Number
     ensures { result ≡ integer_number (read_of w32 s.now) }
 {
-    Number::from(integer::read_i32(s).ok_or(Refusal::NotInteger))
+    Number::from(integer::read::<i32>(s).ok_or(Refusal::NotInteger))
 }
 
 #[unsafe(no_mangle)]

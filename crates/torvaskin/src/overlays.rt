@@ -10,7 +10,7 @@ ghost use Rattle.c_replies.specs.Overlays.{sound_reply};
 ghost use Rattle.torvaskin.specs.Overlays.{kind_answer, set_up_reply, allow_reply, intern_reply, push_reply, delete_reply};
 
 use c_replies::Text;
-use compact::{ArenaMeta, PushHead};
+use compact::{ArenaMeta, PushHead, PushRecord};
 use kind::Kind;
 use overlay::{Storage, StorageMut, StorageTables};
 use overlay_blocks::{COUNTERS, Sizes};
@@ -54,10 +54,8 @@ pub extern "C" fn tvk_is_sound(words: &[u64], bytes: &[u8], counters: &[u64; COU
 pub fn named_kind(storage: &Storage<'_>, kind: u8) -> Result<Kind, Refusal>
     ensures { result ≡ kind_answer (of_number kind) (overlay_seen storage.now) }
 {
-    match Kind::try_from(kind) {
-        Ok(k) => Ok(k),
-        Err(_) => Err(c_replies::unknown_kind(storage.is_sound())),
-    }
+    let refusal = |_| c_replies::unknown_kind(storage.is_sound());
+    Kind::try_from(kind).map_err(refusal)
 }
 
 // Sets the regression setting: 0 refuses regression, any other number allows it.
@@ -115,7 +113,15 @@ pub extern "C" fn tvk_push(
         counters,
     };
     match named_kind(&storage.storage(), kind) {
-        Ok(k) => c_replies::kept_reply(overlay_direct::push(&mut storage, k, head, meta, parts)),
+        Ok(kind) => {
+            let push = PushRecord {
+                kind,
+                head,
+                meta,
+                parts,
+            };
+            c_replies::kept_reply(overlay_direct::push(&mut storage, &push))
+        }
         Err(refusal) => Reply::from(refusal),
     }
 }
@@ -139,7 +145,7 @@ pub extern "C" fn tvk_delete(
         bytes,
         counters,
     };
-    let bits = signed::bits_of_i64(id);
+    let bits = id.cast_unsigned();
     match named_kind(&tables.storage(), kind) {
         Ok(k) => c_replies::kept_reply(overlay_direct::delete(&mut tables, k, bits, meta)),
         Err(refusal) => Reply::from(refusal),

@@ -1,4 +1,4 @@
-// A reader: an event, a run of events, and the end of its document.
+// A reader: an event, a run of events, and the end of its document. The three differ in what they call and in what they answer; the words are read by one function.
 ghost use Rattle.std.specs.Prelude.{◌≡◌};
 ghost use Rattle.overlay.specs.Lent.{lent, left};
 ghost use Rattle.torvaskin.specs.Readers.{event_reply, events_reply, end_reply};
@@ -28,13 +28,14 @@ pub extern "C" fn tvk_event(
     ensures { record { overlay = left words.new bytes.new counters.new; words = reader.new; parts = parts.new; reply = result }
         ≡ event_reply line.now (lent words.old bytes.old counters.old) reader.old parts.old }
 {
-    if c_reader::is_reader(reader) {
-        let mut read = c_reader::reader_in(reader);
-        let answer = reader_calls::event(words, bytes, counters, parts, &mut read, line);
-        c_reader::put_reader(reader, read);
-        return EventReply::from(answer);
+    match c_reader::reader_of(reader) {
+        Some(mut read) => {
+            let answer = reader_calls::event(words, bytes, counters, parts, &mut read, line);
+            c_reader::put_reader(reader, read);
+            EventReply::from(answer)
+        }
+        None => EventReply::from(Err(NO_READER)),
     }
-    EventReply::from(Err(NO_READER))
 }
 
 // The whole lines of a run as events, up to the first that is refused. What follows the bytes that were taken is the refused line, or the unfinished one, which a caller
@@ -51,13 +52,14 @@ pub extern "C" fn tvk_events(
     ensures { record { overlay = left words.new bytes.new counters.new; words = reader.new; parts = parts.new; reply = result }
         ≡ events_reply run.now (lent words.old bytes.old counters.old) reader.old parts.old }
 {
-    if c_reader::is_reader(reader) {
-        let mut read = c_reader::reader_in(reader);
-        let done = reader_events::events(words, bytes, counters, parts, &mut read, run);
-        c_reader::put_reader(reader, read);
-        return c_replies::events_reply(done.answer, done.taken);
+    match c_reader::reader_of(reader) {
+        Some(mut read) => {
+            let done = reader_events::events(words, bytes, counters, parts, &mut read, run);
+            c_reader::put_reader(reader, read);
+            c_replies::events_reply(done.answer, done.taken)
+        }
+        None => c_replies::events_reply(Err(NO_READER), 0),
     }
-    c_replies::events_reply(Err(NO_READER), 0)
 }
 
 // The end of a document. It changes nothing.
@@ -71,9 +73,8 @@ pub extern "C" fn tvk_end(
 ) -> EventReply
     ensures { result ≡ end_reply (lent words.now bytes.now counters.now) reader.now parts.now }
 {
-    if c_reader::is_reader(reader) {
-        let read = c_reader::reader_in(reader);
-        return EventReply::from(reader_calls::end(words, bytes, counters, parts, read));
+    match c_reader::reader_of(reader) {
+        Some(read) => EventReply::from(reader_calls::end(words, bytes, counters, parts, read)),
+        None => EventReply::from(Err(NO_READER)),
     }
-    EventReply::from(Err(NO_READER))
 }

@@ -25,30 +25,21 @@ fn of_kind<T, F: FnOnce(Kind) -> Result<T, Refusal>>(
     ensures { (f : Kind → Result T Refusal) → ((k : Kind) (r : Result T Refusal) → F.post reading k r → r ≡ f k)
         → result ≡ reading_for (of_number kind) f (overlay_seen storage.now) }
 {
-    match named_kind(storage, kind) {
-        Ok(k) => reading(k),
-        Err(refusal) => Err(refusal),
-    }
+    reading(named_kind(storage, kind)?)
 }
 
 // C's words for no and yes: 0 and 1.
 fn truth_read(answer: Result<bool, Refusal>) -> Result<u64, Refusal>
     ensures { result ≡ in_number answer }
 {
-    match answer {
-        Ok(yes) => Ok(u64::from(yes)),
-        Err(refusal) => Err(refusal),
-    }
+    answer.map(u64::from)
 }
 
 // C's word for a version: below 2^32 its bits, else none.
 fn version_read(answer: Result<Option<i32>, Refusal>) -> Result<u64, Refusal>
     ensures { result ≡ in_word answer }
 {
-    match answer {
-        Ok(version) => Ok(version_floor::version_word(version)),
-        Err(refusal) => Err(refusal),
-    }
+    answer.map(version_floor::version_word)
 }
 
 // How many ids of a kind are live, or how many are deleted; or 22, else 17.
@@ -193,7 +184,7 @@ pub extern "C" fn tvk_get(
         bytes,
         counters,
     };
-    let bits = signed::bits_of_i64(id);
+    let bits = id.cast_unsigned();
     let reading = |k| overlay_reading::get(&storage, k, bits);
     Part::from(of_kind(&storage, kind, reading))
 }
@@ -214,7 +205,7 @@ pub extern "C" fn tvk_has(
         bytes,
         counters,
     };
-    let bits = signed::bits_of_i64(id);
+    let bits = id.cast_unsigned();
     let reading = |k| truth_read(overlay_reading::has(&storage, k, bits));
     Number::from(of_kind(&storage, kind, reading))
 }
@@ -235,7 +226,7 @@ pub extern "C" fn tvk_is_deleted(
         bytes,
         counters,
     };
-    let bits = signed::bits_of_i64(id);
+    let bits = id.cast_unsigned();
     let reading = |k| truth_read(overlay_reading::is_deleted(&storage, k, bits));
     Number::from(of_kind(&storage, kind, reading))
 }
@@ -256,7 +247,7 @@ pub extern "C" fn tvk_known_version(
         bytes,
         counters,
     };
-    let bits = signed::bits_of_i64(id);
+    let bits = id.cast_unsigned();
     let reading = |k| version_read(overlay_reading::known_version(&storage, k, bits));
     Number::from(of_kind(&storage, kind, reading))
 }
@@ -280,7 +271,7 @@ pub extern "C" fn tvk_text(
 }
 
 // All live or all deleted ids of a kind in OSM order and the known version of each: 22, 17, 19, or how many they are.
-// `of_kind` is for readings that change nothing: its contract says nothing of the lists that a reading fills.
+// The ids and the versions are two lists, as C lends them, here and in the two entries below. `of_kind` is for readings that change nothing: its contract says nothing of the lists that a reading fills.
 fn ids_number(
     words: &[u64],
     bytes: &[u8],

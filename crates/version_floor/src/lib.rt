@@ -57,6 +57,7 @@ pub fn version_word(v: Option<i32>) -> u64
     }
 }
 
+// The version that a word holds. It is a function and no `From`, since both types are the language's own; with `ok()?` in place of the match the search did not close its two returns.
 pub fn version_of_word(w: u64) -> Option<i32>
     ensures { result ≡ of_word w }
 {

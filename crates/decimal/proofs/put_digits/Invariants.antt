@@ -8,7 +8,7 @@ use Rattle.decimal.proofs.Numbers.{low_digits}
 use Rattle.decimal.proofs.put_digits.Given as goal
 
 abbrev pub invariant-loop-i : goal.invariant-loop-i
-invariant-loop-i l = (l.i ≤ l.n) × ((length l.out ≡ length l.initial.out) × (over l.out l.at (low_digits l.i l.x) ≡ over l.initial.out l.at (low_digits l.n l.v)))
+invariant-loop-i l = (l.i ≤ length l.initial.out) × ((length l.out ≡ length l.initial.out) × (over l.out 0 (low_digits l.i l.x) ≡ over l.initial.out 0 (low_digits (length l.initial.out) l.v)))
 
 abbrev pub decreases-loop-i : goal.decreases-loop-i
 decreases-loop-i l = l.i

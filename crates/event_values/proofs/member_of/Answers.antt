@@ -9,23 +9,23 @@ use Rattle.event_values.proofs.member_of.Goals as goal
 
 pub returns-in_err-named : goal.returns-in_err-named
 unfolding member_of
-returns-in_err-named c = rw (handed_on c.from_residual.ensures, ← c.in_err-named.ensures)
+returns-in_err-named g c = rw (handed_on c.from_residual.ensures, ← c.in_err-named.ensures)
 
 pub returns-in_err-kind : goal.returns-in_err-kind
 unfolding member_of
-returns-in_err-kind c =
-    let k = ap (field_in (λ k. k)) c.in_err-kind.ensures.value ∙ type_read _ ∙ c.type_named.ensures ∙ ap type_named (c.name_of.ensures ∙ name_raw _) in
+returns-in_err-kind g c =
+    let k = ap (field_in (λ k. k)) c.in_err-kind.ensures.value ∙ type_read _ c.kind.ensures ∙ ap type_named (c.from.ensures ∙ name_raw _) in
     rw (handed_on c.from_residual-in_err-kind.ensures, ← c.in_ok-named.ensures, ← k)
 
 pub returns-in_err-reference : goal.returns-in_err-reference
 unfolding member_of
-returns-in_err-reference c =
-    let k = ap (field_in (λ k. k)) c.in_ok-kind.ensures.value ∙ type_read _ ∙ c.type_named.ensures ∙ ap type_named (c.name_of.ensures ∙ name_raw _) in
+returns-in_err-reference g c =
+    let k = ap (field_in (λ k. k)) c.in_ok-kind.ensures.value ∙ type_read _ c.kind.ensures ∙ ap type_named (c.from.ensures ∙ name_raw _) in
     rw (handed_on c.from_residual-in_err-reference.ensures, ← c.in_ok-named.ensures, ← k, ← c.in_err-reference.ensures)
 
 pub returns : goal.returns
 unfolding member_of
-returns c =
-    let k = ap (field_in (λ k. k)) c.in_ok-kind.ensures.value ∙ type_read _ ∙ c.type_named.ensures ∙ ap type_named (c.name_of.ensures ∙ name_raw _) in
-    let r = ap text_written c.unwrap_or-role.ensures ∙ or_empty_written _ c.value_of.result _ c.as_slice.ensures c.value_of.ensures in
+returns g c =
+    let k = ap (field_in (λ k. k)) c.in_ok-kind.ensures.value ∙ type_read _ c.kind.ensures ∙ ap type_named (c.from.ensures ∙ name_raw _) in
+    let r = ap text_written c.unwrap_or-role.ensures ∙ or_empty_written _ c.value_of.result _ c.as_slice.ensures c.value_of.ensures.text in
     rw (← c.in_ok-named.ensures, ← k, ← c.in_ok-reference.ensures, r)

@@ -5,12 +5,12 @@ use Rattle.event_values.proofs.tag_of.Goals as goal
 
 pub returns-in_err-key : goal.returns-in_err-key
 unfolding tag_of
-returns-in_err-key c = rw (handed_on c.from_residual.ensures, ← c.in_err-key.ensures)
+returns-in_err-key g c = rw (handed_on c.from_residual.ensures, ← c.in_err-key.ensures)
 
 pub returns-in_err-value : goal.returns-in_err-value
 unfolding tag_of
-returns-in_err-value c = rw (handed_on c.from_residual-in_err-value.ensures, ← c.in_ok-key.ensures, ← c.in_err-value.ensures)
+returns-in_err-value g c = rw (handed_on c.from_residual-in_err-value.ensures, ← c.in_ok-key.ensures, ← c.in_err-value.ensures)
 
 pub returns : goal.returns
 unfolding tag_of
-returns c = rw (← c.in_ok-key.ensures, ← c.in_ok-value.ensures)
+returns g c = rw (← c.in_ok-key.ensures, ← c.in_ok-value.ensures)

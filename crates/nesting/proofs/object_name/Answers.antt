@@ -1,23 +1,21 @@
 -- `object_name`: the spellings in their order.
 use Rattle.std.proofs.Common.{◌∙◌}
-use Rattle.std.proofs.lemmas.Bool.Decides.{Decides-eqb}
-use Rattle.std.proofs.lemmas.Slice.Eq.{slice_eq-Decides}
 use Rattle.nesting.specs.Name.{spellings, name_in, name_of}
-use Rattle.nesting.proofs.Same.{same_known}
+use Rattle.nesting.proofs.Same.{known}
 use Rattle.nesting.proofs.object_name.Goals as goal
 
 pub returns-then-eq : goal.returns-then-eq
 unfolding name_of name_in spellings
-returns-then-eq c = rw (← same_known _ _ _ _ c.as_slice.ensures (slice_eq-Decides Decides-eqb _ _ _ c.eq.ensures), c.if-eq.true)
+returns-then-eq c = rw (← known _ _ c.as_slice.ensures c.eq.ensures, c.if-eq.true)
 
 pub returns-then-eq-2 : goal.returns-then-eq-2
 unfolding name_of name_in spellings
-returns-then-eq-2 c = rw (← same_known _ _ _ _ c.as_slice.ensures (slice_eq-Decides Decides-eqb _ _ _ c.eq.ensures), c.if-eq.false, ← same_known _ _ _ _ c.as_slice-2.ensures (slice_eq-Decides Decides-eqb _ _ _ c.eq-2.ensures), c.if-eq-2.true)
+returns-then-eq-2 c = rw (← known _ _ c.as_slice.ensures c.eq.ensures, c.if-eq.false, ← known _ _ c.as_slice-2.ensures c.eq-2.ensures, c.if-eq-2.true)
 
 pub returns-then-eq-3 : goal.returns-then-eq-3
 unfolding name_of name_in spellings
-returns-then-eq-3 c = rw (← same_known _ _ _ _ c.as_slice.ensures (slice_eq-Decides Decides-eqb _ _ _ c.eq.ensures), c.if-eq.false, ← same_known _ _ _ _ c.as_slice-2.ensures (slice_eq-Decides Decides-eqb _ _ _ c.eq-2.ensures), c.if-eq-2.false, ← same_known _ _ _ _ c.as_slice-3.ensures (slice_eq-Decides Decides-eqb _ _ _ c.eq-3.ensures), c.if-eq-3.true)
+returns-then-eq-3 c = rw (← known _ _ c.as_slice.ensures c.eq.ensures, c.if-eq.false, ← known _ _ c.as_slice-2.ensures c.eq-2.ensures, c.if-eq-2.false, ← known _ _ c.as_slice-3.ensures c.eq-3.ensures, c.if-eq-3.true)
 
 pub returns : goal.returns
 unfolding name_of name_in spellings
-returns c = c.child_name.ensures ∙ rw (← same_known _ _ _ _ c.as_slice.ensures (slice_eq-Decides Decides-eqb _ _ _ c.eq.ensures), c.if-eq.false, ← same_known _ _ _ _ c.as_slice-2.ensures (slice_eq-Decides Decides-eqb _ _ _ c.eq-2.ensures), c.if-eq-2.false, ← same_known _ _ _ _ c.as_slice-3.ensures (slice_eq-Decides Decides-eqb _ _ _ c.eq-3.ensures), c.if-eq-3.false)
+returns c = c.child_name.ensures ∙ rw (← known _ _ c.as_slice.ensures c.eq.ensures, c.if-eq.false, ← known _ _ c.as_slice-2.ensures c.eq-2.ensures, c.if-eq-2.false, ← known _ _ c.as_slice-3.ensures c.eq-3.ensures, c.if-eq-3.false)

@@ -9,4 +9,4 @@ pub returns-then-is_text-clause-done : goal.returns-then-is_text-clause-done
 returns-then-is_text-clause-done c =
     let o = overlay_held c.args.storage.now in
     let s = checked_sound o c.in_ok-check_sound.ensures in
-    intern_text o c.args.text.now s (sym c.is_text.ensures ∙ c.if-is_text.true) _ (c.intern.ensures.done (no_chains_given _ c.none.ensures o s))
+    intern_text o c.args.text.now s (sym c.is_text.ensures ∙ c.if-is_text.true) _ (c.intern.ensures.done (λ some. no_chains_given _ c.none.ensures o s))

@@ -6,4 +6,5 @@ pub returns-clause-done : goal.returns-clause-done
 returns-clause-done c =
     let k = c.args in
     let s = k.storage.now in
-    push_after k.kind s.words.now s.bytes.now s.counters.now c.push_in.new.counters _ (rw c.from.ensures at c.part-p.ensures.0) _ _ _ c.push_in.auto.table c.push_in.auto.arena k.head k.meta k.parts.now c.push_in.ensures
+    let r = k.push.now in
+    push_after r.kind s.words.now s.bytes.now s.counters.now c.push_in.new.counters _ (rw c.from.ensures at c.part-p.ensures.0) _ _ _ c.push_in.auto.table c.push_in.auto.arena r.head r.meta r.parts.now c.push_in.ensures

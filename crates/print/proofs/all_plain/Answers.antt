@@ -1,15 +1,17 @@
-use native.Mathlib.Omega.{arith}
-use Rattle.print.proofs.Pieces.{and_left, and_right, plain_at, plain_end}
+-- A fold over the bytes tells whether each surely stands for itself.
+use mathlib.Core.Path.{◌∙◌}
+use mathlib.Core.Bool.{true, ◌&&◌}
+use Rattle.std.proofs.Common.{rules}
+use Rattle.std.proofs.lemmas.Iterator.{YieldsList-from_slice}
+use Rattle.std.proofs.lemmas.Iterator.Consumers.{fold_from_yields_List}
+use Rattle.base.specs.Bytes.{both}
+use Rattle.text.proofs.PlainBytes.{fold_all}
+use Rattle.print.specs.Piece.{is_plain}
 use Rattle.print.proofs.all_plain.Goals as goal
 
-pub loop-b-init : goal.loop-b-init
-loop-b-init c e h = h
-
-pub loop-b-preserved : goal.loop-b-preserved
-loop-b-preserved c e h =
-    let l = c.loop-b in
-    let p = c.is_plain-ok in
-    l.invariant (and_left l.ok p.result e) (plain_at c.args.text.now l.b-index (omega arith) (p.ensures (and_right l.ok p.result e)) h)
-
 pub returns : goal.returns
-returns c e = c.loop-b.invariant e (plain_end c.args.text.now c.loop-b.b-index (omega arith))
+unfolding both
+returns c =
+    let s = c.args.text.now in
+    fold_from_yields_List _ (λ o b. o && is_plain b) true c.fold.result c.fold.ensures.ran (YieldsList-from_slice s cc) (λ a x b q w. search rules)
+    ∙ fold_all is_plain s true

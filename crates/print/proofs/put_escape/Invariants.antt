@@ -8,5 +8,5 @@ use Rattle.print.proofs.put_escape.Given as goal
 
 abbrev pub invariant-loop-b : goal.invariant-loop-b
 invariant-loop-b l =
-    (over l.out l.at (escape (drop l.b-index l.text)) ≡ over l.initial.out l.start (escape l.text))
+    (over l.out l.at (escape (drop l.b-index l.text)) ≡ over l.initial.out 0 (escape l.text))
     × (l.at + length (escape (drop l.b-index l.text)) ≤ length l.out)

@@ -1,5 +1,5 @@
 -- `put_escaped` stores the byte, or a backslash and its letter.
-use Prim.Native.Nat.{◌+◌, ◌<◌, ◌≤◌}
+use Prim.Native.Nat.{◌<◌, ◌≤◌}
 use mathlib.Core.Path.{refl}
 use mathlib.Core.List.{[], ◌∷◌}
 use native.Mathlib.Omega.{arith}
@@ -12,13 +12,13 @@ returns-in-Some c =
     let a = c.args in
     let e = c.in-Some.ensures in
     let m = c.in-Some.letter in
-    let h : a.at + 2 ≤ length a.out.now = rw e at c.requires in
-    let n : a.at + 1 < length (set a.out.now a.at 92) = rw length-set (omega arith) in
-    rw (e, over_step a.out.now a.at 92 (m ∷ []) (omega arith), over_step (set a.out.now a.at 92) (a.at + 1) m [] n, over_nothing) (refl, refl)
+    let h : 2 ≤ length a.out.now = rw e at c.requires in
+    let n : 1 < length (set a.out.now 0 92) = rw length-set (omega arith) in
+    rw (e, over_step a.out.now 0 92 (m ∷ []) (omega arith), over_step (set a.out.now 0 92) 1 m [] n, over_nothing) (refl, refl)
 
 pub returns-in-None : goal.returns-in-None
 returns-in-None c =
     let a = c.args in
     let e = c.in-None.ensures in
-    let h : a.at + 1 ≤ length a.out.now = rw e at c.requires in
-    rw (e, over_step a.out.now a.at a.b [] (omega arith), over_nothing) (refl, refl)
+    let h : 1 ≤ length a.out.now = rw e at c.requires in
+    rw (e, over_step a.out.now 0 a.b [] (omega arith), over_nothing) (refl, refl)

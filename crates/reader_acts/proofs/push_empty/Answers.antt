@@ -1,11 +1,13 @@
 -- The handle of the user's text is found first: with one the element is pushed and the text follows, without one it is refused.
 use Rattle.std.proofs.lemmas.Result.{err_from_is_err_and}
-use mathlib.Core.Path.{refl, ap}
+use mathlib.Core.Path.{sym, ap, ◌∙◌}
+use Prim.Native.Nat.{ℕ}
 use mir.Syntax.{w64}
 use mir.Val.{to_z}
-use mir.Facts.{sfits_to_z, Fits-of_lt}
 use Rattle.overlay.specs.Lent.{overlay_held}
-use Rattle.reader_acts.specs.Acts.{then_user_on}
+use Rattle.compact.specs.declared.PushHead.{PushHead}
+use Rattle.reader_acts.specs.Acts.{act_means, then_user_on}
+use Rattle.reader_acts.proofs.Bits.{act_claims, kind_read}
 use Rattle.reader_acts.proofs.Handles.{user_fits}
 use Rattle.reader_acts.proofs.Once.{asked, before_ok, before_not, behind, empty_done, empty_not}
 use Rattle.reader_acts.proofs.push_empty.Goals as goal
@@ -16,32 +18,41 @@ returns-in_err-user-clause-pushed c =
     let o = overlay_held c.args.storage.now in
     let act = c.args.act.now in
     let id = to_z w64 act.id in
-    λ m b w g k h.
-    let e = rw c.in_err-user.was at (asked act.kind id m o c.storage.ensures g (c.user_before.ensures m w)) in
+    let m = act_means act in
+    λ g.
+    let e = rw c.in_err-user.was at (asked act.kind id m o c.storage.ensures g.serve c.user_before.ensures.asked) in
     let n = before_not act.kind id m o e in
-    rw (p.1, p.2) (empty_not act.kind id m o b (sfits_to_z {w = w64} (Fits-of_lt w.id)) w.version k refl n.1.0 n.1.1)
+    rw (p.1, p.2) (empty_not act.kind id m o _ (kind_read act.kind c.args.place.lat c.args.place.lon) n.1.0 n.1.1)
 
-pub returns-in_err-store_push-clause-pushed : goal.returns-in_err-store_push-clause-pushed
-returns-in_err-store_push-clause-pushed c =
-    let p = err_from_is_err_and c.from_residual-in_err-store_push.result c.from_residual-in_err-store_push.ensures.1 in
+pub returns-in_err-push-clause-pushed : goal.returns-in_err-push-clause-pushed
+returns-in_err-push-clause-pushed c =
+    let p = err_from_is_err_and c.from_residual-in_err-push.result c.from_residual-in_err-push.ensures.1 in
     let o = overlay_held c.args.storage.now in
     let act = c.args.act.now in
     let id = to_z w64 act.id in
-    λ m b w g k h.
-    let e = rw c.in_ok-user.was at (asked act.kind id m o c.storage.ensures g (c.user_before.ensures m w)) in
+    let m = act_means act in
+    let h = c.head_for.ensures in
+    let same = ap (λ (z : PushHead). to_z w64 z.id) (sym h.bits) ∙ ap (λ (n : ℕ). to_z w64 n) h.id in
+    λ g.
+    let e = rw c.in_ok-user.was at (asked act.kind id m o c.storage.ensures g.serve c.user_before.ensures.asked) in
     let user = before_ok act.kind id m o e in
-    let meta = c.with_handle-meta.ensures m w.bits (user_fits m o _ user g.few) in
-    let done = rw (meta, c.in_err-store_push.was) at c.store_push.ensures in
-    rw (p.1, p.2) (empty_done act.kind id m o b (sfits_to_z {w = w64} (Fits-of_lt w.id)) w.version k h refl user (ap (then_user_on m) done))
+    let meta = rw (rw c.in_ok-user.was at c.user_before.ensures.named) at (c.with_user.ensures.bits m.user (user_fits m o _ user g.few)) in
+    let claims = rw meta at (c.with_user.ensures.claim ∙ act_claims act) in
+    let done = rw (meta, c.in_err-push.was) at c.push.ensures.done in
+    rw (p.1, p.2) (empty_done act.kind id m o _ same _ claims (kind_read act.kind c.args.place.lat c.args.place.lon) h.bits user (ap (then_user_on m) done))
 
 pub returns-clause-pushed : goal.returns-clause-pushed
 returns-clause-pushed c =
     let o = overlay_held c.args.storage.now in
     let act = c.args.act.now in
     let id = to_z w64 act.id in
-    λ m b w g k h.
-    let e = rw c.in_ok-user.was at (asked act.kind id m o c.storage.ensures g (c.user_before.ensures m w)) in
+    let m = act_means act in
+    let h = c.head_for.ensures in
+    let same = ap (λ (z : PushHead). to_z w64 z.id) (sym h.bits) ∙ ap (λ (n : ℕ). to_z w64 n) h.id in
+    λ g.
+    let e = rw c.in_ok-user.was at (asked act.kind id m o c.storage.ensures g.serve c.user_before.ensures.asked) in
     let user = before_ok act.kind id m o e in
-    let meta = c.with_handle-meta.ensures m w.bits (user_fits m o _ user g.few) in
-    let done = rw (meta, c.in_ok-store_push.was) at c.store_push.ensures in
-    empty_done act.kind id m o b (sfits_to_z {w = w64} (Fits-of_lt w.id)) w.version k h refl user (behind _ m o g _ user act.kind _ done (c.take_user.ensures.taken m w))
+    let meta = rw (rw c.in_ok-user.was at c.user_before.ensures.named) at (c.with_user.ensures.bits m.user (user_fits m o _ user g.few)) in
+    let claims = rw meta at (c.with_user.ensures.claim ∙ act_claims act) in
+    let done = rw (meta, c.in_ok-push.was) at c.push.ensures.done in
+    empty_done act.kind id m o _ same _ claims (kind_read act.kind c.args.place.lat c.args.place.lon) h.bits user (behind _ m o g.serve _ user act.kind _ done c.take_user.ensures.taken)

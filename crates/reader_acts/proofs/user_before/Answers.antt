@@ -1,18 +1,14 @@
 -- Only a user that is named is asked for.
+use Rattle.reader_acts.proofs.Bits.{act_named, act_unnamed}
 use Rattle.reader_acts.proofs.user_before.Goals as goal
 
-pub returns-in_default : goal.returns-in_default
-returns-in_default c =
-    λ m w g. let f = rw c.in_default.is at w.user in rw f
+pub returns-in_default-clause-asked : goal.returns-in_default-clause-asked
+returns-in_default-clause-asked c = λ g. let f = act_unnamed c.args.act.now c.in_default.is in rw f
 
-pub returns-in-Ok : goal.returns-in-Ok
-returns-in-Ok c =
-    λ m w g.
-    let u = rw c.in-Some.is at w.user in
-    rw (u.0, ← (rw u.1.0 at (c.text_handle.ensures u.1.1 g.indexed)), c.in-Ok.is)
+pub returns-in-Ok-clause-asked : goal.returns-in-Ok-clause-asked
+returns-in-Ok-clause-asked c =
+    λ g. let u = act_named c.args.act.now c.in-Some.is in rw (u.0, ← (rw u.1 at (c.text_handle.ensures g)), c.in-Ok.is)
 
-pub returns-in-Err : goal.returns-in-Err
-returns-in-Err c =
-    λ m w g.
-    let u = rw c.in-Some.is at w.user in
-    rw (u.0, ← (rw u.1.0 at (c.text_handle.ensures u.1.1 g.indexed)), c.in-Err.is, c.first_refusal.ensures m w)
+pub returns-in-Err-clause-asked : goal.returns-in-Err-clause-asked
+returns-in-Err-clause-asked c =
+    λ g. let u = act_named c.args.act.now c.in-Some.is in rw (u.0, ← (rw u.1 at (c.text_handle.ensures g)), c.in-Err.is, c.first_refusal.ensures)

@@ -2,21 +2,18 @@
 use Rattle.std.proofs.lemmas.Result.{err_from_is_err_and}
 use mir.Syntax.{w64}
 use mir.Val.{to_z}
-use Rattle.reader.specs.Lent.{state_held}
 use Rattle.reader_elements.proofs.Elements.{deletes_works}
 use Rattle.reader_elements.proofs.delete.Goals as goal
 
 pub returns-in_err-delete_element-clause-works : goal.returns-in_err-delete_element-clause-works
 returns-in_err-delete_element-clause-works c =
     let p = err_from_is_err_and c.from_residual.result c.from_residual.ensures.1 in
-    let r = c.delete_element.ensures.rest in
-    λ m w g.
-    rw (p.1, p.2, r.0, r.1)
-    (deletes_works (state_held c.args.state.now) c.args.act.now.kind (to_z w64 c.args.act.now.id) m (rw c.in_err-delete_element.was at (c.delete_element.ensures.deleted m w g)))
+    λ s o g.
+    rw (p.1, p.2)
+    (deletes_works s c.args.act.now.kind (to_z w64 c.args.act.now.id) _ (rw (c.in_err-delete_element.was, ← o) at (c.delete_element.ensures.deleted (rw o at g))))
 
 pub returns-clause-works : goal.returns-clause-works
 returns-clause-works c =
-    let r = c.delete_element.ensures.rest in
-    λ m w g.
-    rw (c.default-state.ensures, r.0, r.1)
-    (deletes_works (state_held c.args.state.now) c.args.act.now.kind (to_z w64 c.args.act.now.id) m (rw c.in_ok-delete_element.was at (c.delete_element.ensures.deleted m w g)))
+    λ s o g.
+    rw c.default.ensures
+    (deletes_works s c.args.act.now.kind (to_z w64 c.args.act.now.id) _ (rw (c.in_ok-delete_element.was, ← o) at (c.delete_element.ensures.deleted (rw o at g))))

@@ -1,46 +1,75 @@
--- One line more, by the array that is brought up to date before it.
-use mathlib.Core.Path.{refl, ◌∙◌}
-use mathlib.Core.Bool.{true, false}
+-- A line more, by the chains that are brought up to date before it; or it is refused.
+use mathlib.Core.Path.{refl, sym, ◌∙◌, ap}
 use native.Mathlib.Omega.{arith}
+use Rattle.reader.specs.State.{State}
 use Rattle.reader.specs.Lent.{state_held}
-use Rattle.reader_events.proofs.Runs.{run_start, run_less, run_all, run_by}
-use Rattle.reader_events.proofs.Chains.{by_line_lem, indexed_by}
+use Rattle.reader_events.proofs.Runs.{run_off, run_all, within_start, within_line}
+use Rattle.reader_events.proofs.Chains.{by_start, by_line, chained_by, served_by}
 use Rattle.reader_events.proofs.events_by.Goals as goal
 
-pub loop-more-init : goal.loop-more-init
-loop-more-init c = (
-  record { words = refl; bytes = refl; counters = refl; parts = refl },
-  (omega arith, λ g i. record { running = run_start c.args.run.now (state_held c.args.state.now) g; indexed = i }),
-)
-
-pub next_event-done-requires : goal.next_event-done-requires
-next_event-done-requires c =
-    c.loop-more.invariant.1.0
-
-pub loop-more-smaller : goal.loop-more-smaller
-loop-more-smaller c =
-    rw c.loop-more-test.true (run_less c.args.run.now c.loop-more.done.taken _ c.loop-more.invariant.1.0 c.next_event-done.ensures.taken_in_bounds)
-
-pub loop-more-preserved : goal.loop-more-preserved
-loop-more-preserved c =
-    let same = c.loop-more.invariant.0 in
-    let now = c.next_event-done.ensures.same in (
-      record { words = now.words ∙ same.words; bytes = now.bytes ∙ same.bytes; counters = now.counters ∙ same.counters; parts = now.parts ∙ same.parts },
-      (
-        c.next_event-done.ensures.taken_in_bounds,
-        λ g i.
-            let v = c.loop-more.invariant.1.1 g i in
-            let w = run_by true c.loop-more-test.true v.running in
-            let j = indexed_by c.view.ensures c.index_texts.ensures v.indexed in
-            by_line_lem c.args.run.now (state_held c.args.state.now) c.loop-more.done.taken _ w _ j _ (c.next_event-done.ensures.fact w.given j),
-      ),
+pub loop-line-init : goal.loop-line-init
+loop-line-init c =
+    let e = c.into_iter-line-iterator.ensures.into_iter_gives in (
+      record { words = refl; bytes = refl; counters = refl; parts = refl },
+      record { lasts = refl; befores = refl },
+      rw e (within_start c.args.run.now),
+      λ g i. rw e (by_start _ _ (state_held c.args.state.now) g i),
     )
 
-pub returns : goal.returns
-returns c =
-    let i = c.loop-more.invariant.1 in record {
-      same = c.loop-more.invariant.0;
-      answer_value = λ g x. (run_all c.args.run.now (state_held c.args.state.now) _ _ (run_by false c.loop-more-test.false (i.1 g x).running)).0;
-      taken_value = λ g x. (run_all c.args.run.now (state_held c.args.state.now) _ _ (run_by false c.loop-more-test.false (i.1 g x).running)).1;
-      taken_in_bounds = i.0;
-    }
+pub returns-then-is_err-clause-same : goal.returns-then-is_err-clause-same
+returns-then-is_err-clause-same c =
+    let same = c.loop-line.invariant.0 in
+    let now = c.line_event-answer.ensures.same in
+    record { words = now.words ∙ same.words; bytes = now.bytes ∙ same.bytes; counters = now.counters ∙ same.counters; parts = now.parts ∙ same.parts }
+
+pub returns-then-is_err-clause-same_chains : goal.returns-then-is_err-clause-same_chains
+returns-then-is_err-clause-same_chains c =
+    let old = c.loop-line.invariant.1 in
+    let new = c.chain_texts.ensures.same in
+    record { lasts = new.lasts ∙ old.lasts; befores = new.befores ∙ old.befores }
+
+pub returns-then-is_err-clause-answer_value : goal.returns-then-is_err-clause-answer_value
+returns-then-is_err-clause-answer_value c =
+    λ g i.
+    let w = c.loop-line.invariant.3 g i in
+    let j = chained_by (c.storage.ensures ∙ ap (λ (z : State). z.overlay) c.view.ensures) c.chain_texts.ensures.chains w.chained in
+    let k = served_by c.chains.ensures j in
+    (run_off w.running c.in-Some.ensures.steps _ (c.line_event-answer.ensures.value w.running.given k) (sym c.is_err.ensures.value ∙ c.if-is_err.true)).0
+
+pub returns-then-is_err-clause-taken_value : goal.returns-then-is_err-clause-taken_value
+returns-then-is_err-clause-taken_value c =
+    λ g i.
+    let w = c.loop-line.invariant.3 g i in
+    let j = chained_by (c.storage.ensures ∙ ap (λ (z : State). z.overlay) c.view.ensures) c.chain_texts.ensures.chains w.chained in
+    let k = served_by c.chains.ensures j in
+    (run_off w.running c.in-Some.ensures.steps _ (c.line_event-answer.ensures.value w.running.given k) (sym c.is_err.ensures.value ∙ c.if-is_err.true)).1
+
+pub returns-then-is_err-clause-taken_in_bounds : goal.returns-then-is_err-clause-taken_in_bounds
+returns-then-is_err-clause-taken_in_bounds c = omega (arith, c.loop-line.invariant.2)
+
+pub overflow_add-taken : goal.overflow_add-taken
+overflow_add-taken c =
+    let w = within_line _ _ c.loop-line.invariant.2 c.in-Some.ensures.steps in
+    omega (arith, w)
+
+pub loop-line-preserved : goal.loop-line-preserved
+loop-line-preserved c =
+    let same = c.loop-line.invariant.0 in
+    let now = c.line_event-answer.ensures.same in (
+      record { words = now.words ∙ same.words; bytes = now.bytes ∙ same.bytes; counters = now.counters ∙ same.counters; parts = now.parts ∙ same.parts },
+      (let old = c.loop-line.invariant.1 in
+          let new = c.chain_texts.ensures.same in
+          record { lasts = new.lasts ∙ old.lasts; befores = new.befores ∙ old.befores }),
+      within_line _ _ c.loop-line.invariant.2 c.in-Some.ensures.steps,
+      λ g i.
+          let w = c.loop-line.invariant.3 g i in
+          let j = chained_by (c.storage.ensures ∙ ap (λ (z : State). z.overlay) c.view.ensures) c.chain_texts.ensures.chains w.chained in
+          let k = served_by c.chains.ensures j in
+          by_line w.running _ j c.in-Some.ensures.steps _ (c.line_event-answer.ensures.value w.running.given k) (sym c.is_err.ensures.value ∙ c.if-is_err.false),
+    )
+
+pub returns-clause-answer_value : goal.returns-clause-answer_value
+returns-clause-answer_value c = λ g i. (run_all (c.loop-line.invariant.3 g i).running c.in-None.ensures.steps.0).0
+
+pub returns-clause-taken_value : goal.returns-clause-taken_value
+returns-clause-taken_value c = λ g i. (run_all (c.loop-line.invariant.3 g i).running c.in-None.ensures.steps.0).1

@@ -1,33 +1,39 @@
--- Nothing where there is no line; 22, or all lines.
+-- Nothing where there is no line; 22 or the stop mark, or all lines.
 use mathlib.Core.Path.{sym, ◌∙◌, ap, subst}
+use mathlib.Core.Bool.{Bool}
 use Rattle.reader.specs.Lent.{state_held}
 use Rattle.reader.specs.Given.{StateGiven}
 use Rattle.reader.specs.State.{state_sound}
-use Rattle.reader_events.proofs.Runs.{sound_given, came_none, came_22}
+use Rattle.reader_sound.specs.Mark.{going_answer}
+use Rattle.reader_sound.proofs.Mark.{going_on}
+use Rattle.reader_events.proofs.Runs.{came_first, came_refused, sound_given, accepted}
 use Rattle.reader_events.proofs.events_on.Goals as goal
 
 pub returns-in_default-clause-answer_value : goal.returns-in_default-clause-answer_value
-returns-in_default-clause-answer_value c = (came_none c.args.run.now (state_held c.args.state.now) (sym c.line_end.ensures ∙ c.in_default.is)).0
+returns-in_default-clause-answer_value c = (came_first (state_held c.args.state.now) c.in_default.ensures.steps.0).0
 
 pub returns-in_default-clause-taken_value : goal.returns-in_default-clause-taken_value
-returns-in_default-clause-taken_value c = (came_none c.args.run.now (state_held c.args.state.now) (sym c.line_end.ensures ∙ c.in_default.is)).1
+returns-in_default-clause-taken_value c = (came_first (state_held c.args.state.now) c.in_default.ensures.steps.0).1
 
-pub returns-then-state_tested-clause-answer_value : goal.returns-then-state_tested-clause-answer_value
-returns-then-state_tested-clause-answer_value c =
-    let sound = sym (c.state_tested.ensures.value ∙ ap state_sound c.view-view.ensures) ∙ c.if-state_tested.true in
-    c.events_untested.ensures.answer_value (sound_given (state_held c.args.state.now) sound (subst StateGiven c.view-view.ensures c.state_tested.ensures.state_given))
+pub returns-then-is_err-clause-answer_value : goal.returns-then-is_err-clause-answer_value
+returns-then-is_err-clause-answer_value c =
+    let s = state_held c.args.state.now in
+    let e = c.state_tested-sound.ensures.value ∙ ap state_sound c.view.ensures in
+    let a = c.check_going-answer.ensures ∙ ap (λ (b : Bool). going_answer b s.reader.stop) e in
+    (came_refused s c.in-Some.ensures.steps _ (sym c.is_err.ensures.value ∙ c.if-is_err.true) a).0
 
-pub returns-then-state_tested-clause-taken_value : goal.returns-then-state_tested-clause-taken_value
-returns-then-state_tested-clause-taken_value c =
-    let sound = sym (c.state_tested.ensures.value ∙ ap state_sound c.view-view.ensures) ∙ c.if-state_tested.true in
-    c.events_untested.ensures.taken_value (sound_given (state_held c.args.state.now) sound (subst StateGiven c.view-view.ensures c.state_tested.ensures.state_given))
+pub returns-then-is_err-clause-taken_value : goal.returns-then-is_err-clause-taken_value
+returns-then-is_err-clause-taken_value c =
+    let s = state_held c.args.state.now in
+    let e = c.state_tested-sound.ensures.value ∙ ap state_sound c.view.ensures in
+    let a = c.check_going-answer.ensures ∙ ap (λ (b : Bool). going_answer b s.reader.stop) e in
+    (came_refused s c.in-Some.ensures.steps _ (sym c.is_err.ensures.value ∙ c.if-is_err.true) a).1
 
-pub returns-clause-answer_value : goal.returns-clause-answer_value
-returns-clause-answer_value c =
-    let sound = sym (c.state_tested.ensures.value ∙ ap state_sound c.view-view.ensures) ∙ c.if-state_tested.false in
-    (came_22 c.args.run.now (state_held c.args.state.now) _ (sym c.line_end.ensures ∙ c.in-Some.is) sound).0
-
-pub returns-clause-taken_value : goal.returns-clause-taken_value
-returns-clause-taken_value c =
-    let sound = sym (c.state_tested.ensures.value ∙ ap state_sound c.view-view.ensures) ∙ c.if-state_tested.false in
-    (came_22 c.args.run.now (state_held c.args.state.now) _ (sym c.line_end.ensures ∙ c.in-Some.is) sound).1
+pub returns : goal.returns
+returns c =
+    let s = state_held c.args.state.now in
+    let e = c.state_tested-sound.ensures.value ∙ ap state_sound c.view.ensures in
+    let a = sym (c.check_going-answer.ensures ∙ ap (λ (b : Bool). going_answer b s.reader.stop) e) ∙ accepted _ (sym c.is_err.ensures.value ∙ c.if-is_err.false) in
+    let g = sound_given s (going_on (state_sound s) s.reader.stop a).0 (subst StateGiven c.view.ensures c.state_tested-sound.ensures.state_given) in
+    let d = c.events_untested.ensures in
+    record { same = d.same; answer_value = d.answer_value g; taken_value = d.taken_value g }

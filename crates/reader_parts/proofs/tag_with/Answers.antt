@@ -6,13 +6,12 @@ use native.Mathlib.Omega.{arith}
 use mir.Facts.{Fits-of_lt}
 use lib.ListN.{length}
 use Rattle.base.specs.Bytes.{Bytes}
-use Rattle.event_scan.specs.Piece.{value_text}
+use Rattle.event_scan.specs.Fields.{text_written}
 use Rattle.model.specs.Record.{Tag}
 use Rattle.reader_stage.specs.Stage.{tag_part}
 use Rattle.reader.specs.Lent.{state_held}
-use Rattle.reader.specs.State.{State, more_tags}
-use Rattle.reader_parts.specs.Parts.{part_staged, with_overlay}
-use Rattle.reader_parts.proofs.Adds.{tag_child, fits_yes, handle_fits, staged_left, refused_left, over_left}
+use Rattle.reader.specs.State.{State}
+use Rattle.reader_parts.proofs.Adds.{tag_child, fits_yes, staged_left, refused_left, over_left}
 use Rattle.reader_parts.proofs.tag_with.Goals as goal
 
 pub overflow_add-head : goal.overflow_add-head
@@ -21,8 +20,8 @@ overflow_add-head c =
     let f = fits_yes s.reader.place.kind s.reader.pending (length c.args.value.now) (sym c.tag_fits.ensures ∙ c.if-tag_fits.true) in
     Fits-of_lt (omega arith)
 
-pub stage_part-requires : goal.stage_part-requires
-stage_part-requires c =
+pub stage_part-state-requires : goal.stage_part-state-requires
+stage_part-state-requires c =
     let s = state_held c.args.state.now in
     let f = fits_yes s.reader.place.kind s.reader.pending (length c.args.value.now) (sym c.tag_fits.ensures ∙ c.if-tag_fits.true) in
     (omega arith, f.1)
@@ -30,9 +29,9 @@ stage_part-requires c =
 pub returns-in_err-handle-clause-worked : goal.returns-in_err-handle-clause-worked
 returns-in_err-handle-clause-worked c =
     let s = state_held c.args.state.now in
-    let t : Tag Bytes = record { key = value_text c.args.key.now; value = c.args.value.now } in
+    let t : Tag Bytes = record { key = text_written c.args.key.now; value = c.args.value.now } in
     let p = err_from_is_err_and c.from_residual.result c.from_residual.ensures.1 in
-    λ g short. rw (p.1, p.2) (refused_left s (tag_child s t) (c.take_text.ensures.taken short g.indexed) c.in_err-handle.was c.take_text.ensures.rest)
+    λ g. rw (p.1, p.2) (refused_left s (tag_child s t) (c.take_handle.ensures.taken g) c.in_err-handle.was c.take_handle.ensures.rest)
 
 pub returns-then-tag_fits-clause-worked : goal.returns-then-tag_fits-clause-worked
 returns-then-tag_fits-clause-worked c =
@@ -40,18 +39,14 @@ returns-then-tag_fits-clause-worked c =
     let v = c.args.value.now in
     let n = c.in_ok-handle.handle in
     let x = c.tag_bytes-numbers.result ++ v in
-    let t : Tag Bytes = record { key = value_text c.args.key.now; value = v } in
-    λ g short.
-    let stored = c.take_text.ensures.taken short g.indexed in
-    let k = c.narrow.ensures (handle_fits s (tag_child s t) stored c.in_ok-handle.was g.strings) in
-    let e : x ≡ tag_part n v = rw (c.tag_bytes-numbers.ensures, k, append_assoc) in
-    staged_left s (tag_child s t) stored (sym c.tag_fits.ensures ∙ c.if-tag_fits.true) c.in_ok-handle.was g.used c.take_text.ensures.rest
-    (λ (m : State). part_staged (more_tags s.reader.pending.head) s.reader.pending.used x m) c.stage_part.ensures.staged
-    (ap (λ (y : Bytes). part_staged (more_tags s.reader.pending.head) s.reader.pending.used y (with_overlay (state_held c.take_text.new.state).overlay s)) e)
+    let t : Tag Bytes = record { key = text_written c.args.key.now; value = v } in
+    let e : x ≡ tag_part n v = rw (c.tag_bytes-numbers.ensures, append_assoc) in
+    λ g. staged_left s (tag_child s t) (c.take_handle.ensures.taken g) (sym c.tag_fits.ensures ∙ c.if-tag_fits.true) c.in_ok-handle.was c.take_handle.ensures.rest x e c.stage_part-state.ensures.parts
+    (c.stage_part-state.ensures.pending (rw (ap (λ (z : State). z.parts) c.take_handle.ensures.rest) g.used))
 
 pub returns-clause-worked : goal.returns-clause-worked
 returns-clause-worked c =
     let s = state_held c.args.state.now in
-    let t : Tag Bytes = record { key = value_text c.args.key.now; value = c.args.value.now } in
+    let t : Tag Bytes = record { key = text_written c.args.key.now; value = c.args.value.now } in
     let e = c.storage.ensures ∙ ap (λ (z : State). z.overlay) c.view.ensures in
-    λ g short. over_left s (tag_child s t) (sym c.tag_fits.ensures ∙ c.if-tag_fits.false) e g.indexed (c.over_limit.ensures short)
+    λ g. over_left s (tag_child s t) (sym c.tag_fits.ensures ∙ c.if-tag_fits.false) e g.serve c.over_limit.ensures

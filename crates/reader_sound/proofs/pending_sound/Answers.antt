@@ -1,15 +1,16 @@
 -- The parts within the lent bytes, then the push that they will make.
-use mathlib.Core.Path.{sym}
+use mathlib.Core.Path.{◌≡◌}
+use Prim.Native.Nat.{◌-◌}
 use native.Mathlib.Omega.{arith}
-use lib.Seq.{length-take-le}
 use Rattle.reader_sound.proofs.Sound.{pending_faulted, pending_beyond}
 use Rattle.reader_sound.proofs.pending_sound.Goals as goal
 
-pub slice_bounds-push_fault-end : goal.slice_bounds-push_fault-end
-slice_bounds-push_fault-end c = let a = c.args in sym (length-take-le a.pending.used a.parts.now (omega arith))
-
-pub returns-then-used-parts : goal.returns-then-used-parts
-returns-then-used-parts c = let a = c.args in rw (c.is_ok.ensures.value, c.push_fault.ensures) (pending_faulted a.strings a.kind a.parts.now a.pending (omega arith))
+pub returns-in_default : goal.returns-in_default
+returns-in_default c = let a = c.args in pending_beyond a.strings a.kind a.parts.now a.pending (omega (arith, c.in_default.ensures.lookup))
 
 pub returns : goal.returns
-returns c = let a = c.args in pending_beyond a.strings a.kind a.parts.now a.pending (omega arith)
+returns c =
+    let a = c.args in
+    let l = c.in-Some.ensures.lookup.0 in
+    let z : a.pending.used - 0 ≡ a.pending.used = omega arith in
+    rw (c.is_ok.ensures.value, c.record_fault.ensures, l.2, z) (pending_faulted a.strings a.kind a.parts.now a.pending l.1)

@@ -5,4 +5,5 @@ use Rattle.reader_texts.proofs.resolved.Goals as goal
 
 pub returns : goal.returns
 returns c =
-    λ short. held_whole c.args.room.now _ c.args.value.now _ _ (omega arith) short c.unescape_into-n.ensures c.min-end.ensures
+    let v = c.args.value.now in
+    held_whole c.args.room.now _ v.bytes.now _ _ (omega arith) v.short c.unescape_into-n.ensures c.min-end.ensures

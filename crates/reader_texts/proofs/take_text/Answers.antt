@@ -5,4 +5,4 @@ use Rattle.reader_texts.proofs.take_text.Goals as goal
 
 pub returns-then-lacks-clause-taken : goal.returns-then-lacks-clause-taken
 returns-then-lacks-clause-taken c =
-    λ short given. rw (text_bare c.args.value.now (sym c.lacks.ensures ∙ c.if-lacks.true)) (c.store_text_by.ensures given)
+    λ serve. rw (text_bare c.args.value.now.bytes.now (sym c.lacks.ensures ∙ c.if-lacks.true)) (c.intern.ensures.done serve)

@@ -5,4 +5,4 @@ use Rattle.reader_texts.proofs.text_handle.Goals as goal
 
 pub returns-then-lacks : goal.returns-then-lacks
 returns-then-lacks c =
-    λ short given. rw (text_bare c.args.value.now (sym c.lacks.ensures ∙ c.if-lacks.true)) (c.handle_by.ensures given)
+    λ serve. rw (text_bare c.args.value.now.bytes.now (sym c.lacks.ensures ∙ c.if-lacks.true)) (c.handle.ensures serve)

@@ -1,9 +1,18 @@
 -- The overlay is set up, and the reader is fresh.
-use native.Mathlib.Omega.{arith}
+use borrow.Author.Rules.{rules}
+use mathlib.Core.Path.{◌≡◌, ap}
+use lib.ListN.{length}
+use denote.Bor.{Bor}
+use Rattle.base.specs.Bytes.{Bytes}
 use Rattle.roadlist_page.proofs.Ends.{started_by}
 use Rattle.roadlist_page.proofs.start.Goals as goal
 
 pub returns : goal.returns
 returns c =
     let k = c.args in
-    started_by k.words.now k.bytes.now k.counters.now k.ps.now (omega (arith, c.set_up-arg-1.given)) (omega (arith, c.set_up-arg-2-1.given)) _ c.program_sizes.ensures c.set_up.new.words c.set_up.new.counters _ c.set_up.ensures _ c.fresh_reader.ensures
+    let w : length k.words.now ≡ 5632 = search rules in
+    let b : length k.bytes.now ≡ 32768 = search rules in
+    let t = c.set_up.new.self in
+    let same : t.bytes.now ≡ k.bytes.now = ap (λ (x : Bor Bytes). x.now) c.set_up.ensures.same.bytes in
+    let z : c.counters-1.given.0 ≡ t.counters.now = search rules in
+    rw z (started_by k.words.now k.bytes.now k.counters.now k.ps.now w b c.program_sizes.result c.program_sizes.ensures t.words.now t.counters.now c.set_up.result (rw same at c.set_up.ensures.done) _ c.default.ensures)

@@ -1,23 +1,39 @@
 -- `sorted::range_overlaps` meets its contract.
-use mathlib.Core.Path.{sym, ◌∙◌}
 use mir.Facts.{to_z-of_z}
-use Rattle.base.specs.Bytes.{both}
-use Rattle.sorted.specs.Lookup.{overlap_of}
+use Rattle.base.specs.Bytes.{both, either}
+use Rattle.sorted.specs.Lookup.{overlaps, overlap_of}
+use Rattle.sorted.proofs.Sorted.{made, not_made}
 use Rattle.sorted.proofs.range_overlaps.Goals as goal
-use Rattle.sorted.proofs.range_overlaps.Goals.{else-in_order-via-then-in_order+else-in_order-2, else-in_order-via-else-in_order}
 
-pub overlap_in-requires : goal.overlap_in-requires
-overlap_in-requires c = (sym c.in_order.ensures ∙ c.if-in_order.true, sym c.in_order-then-in_order.ensures ∙ c.if-in_order-2.true)
-
-pub returns-then-in_order-2 : goal.returns-then-in_order-2
+pub returns-in_err-live : goal.returns-in_err-live
 unfolding overlap_of both
-returns-then-in_order-2 c =
+returns-in_err-live c =
+    let n = not_made _ c.in_err-live.ensures c.from_residual.ensures in
+    rw (n.0, n.1)
+
+pub returns-in_err-deleted : goal.returns-in_err-deleted
+unfolding overlap_of both
+returns-in_err-deleted c =
+    let m = made _ c.in_ok-live.ensures in
+    let n = not_made _ c.in_err-deleted.ensures c.from_residual-in_err-deleted.ensures in
+    rw (m.1, n.0, n.1)
+
+pub returns-then-any_in : goal.returns-then-any_in
+unfolding overlap_of overlaps both either
+returns-then-any_in c =
     let k = c.ranges in
-    rw (← c.in_order.ensures, c.if-in_order.true, ← c.in_order-then-in_order.ensures, c.if-in_order-2.true, ← rw (to_z-of_z k.min_id, to_z-of_z k.max_id) at c.overlap_in.ensures)
+    let m = made _ c.in_ok-live.ensures in
+    let n = made _ c.in_ok-deleted.ensures in
+    let lo = to_z-of_z k.min_id in
+    let hi = to_z-of_z k.max_id in
+    rw (m.1, n.1, ← rw (lo, hi) at c.blob_osm_first_key-first.ensures, ← rw (lo, hi) at c.blob_osm_last_key-last.ensures, ← rw m.0 at c.any_in.ensures, c.if-any_in.true)
 
-pub returns : goal.returns
-unfolding overlap_of both
-returns c = elim c.else-in_order.branch [
-  | else-in_order-via-then-in_order+else-in_order-2 w ↦ rw (← c.in_order.ensures, w.if-in_order.true, ← w.in_order-then-in_order.ensures, w.if-in_order-2.false)
-  | else-in_order-via-else-in_order w ↦ rw (← c.in_order.ensures, w.if-in_order.false)
-]
+pub returns-else-any_in : goal.returns-else-any_in
+unfolding overlap_of overlaps both either
+returns-else-any_in c =
+    let k = c.ranges in
+    let m = made _ c.in_ok-live.ensures in
+    let n = made _ c.in_ok-deleted.ensures in
+    let lo = to_z-of_z k.min_id in
+    let hi = to_z-of_z k.max_id in
+    rw (m.1, n.1, ← rw (lo, hi) at c.blob_osm_first_key-first.ensures, ← rw (lo, hi) at c.blob_osm_last_key-last.ensures, ← rw m.0 at c.any_in.ensures, c.if-any_in.false, rw n.0 at c.any_in-else-any_in.ensures)

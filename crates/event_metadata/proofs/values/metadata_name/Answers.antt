@@ -1,34 +1,32 @@
 -- `metadata_name`: the names in their order.
-use Rattle.std.proofs.lemmas.Bool.Decides.{Decides-eqb}
-use Rattle.std.proofs.lemmas.Slice.Eq.{slice_eq-Decides}
-use Rattle.event_scan.proofs.Equal.{same_known}
+use Rattle.event_scan.proofs.Equal.{known}
 use Rattle.event_metadata.specs.Values.{metadata_name}
 use Rattle.event_metadata.proofs.values.metadata_name.Goals as goal
 
 pub returns-then-eq : goal.returns-then-eq
 unfolding metadata_name
-returns-then-eq c = rw (← same_known _ _ _ _ c.as_slice.ensures (slice_eq-Decides Decides-eqb _ _ _ c.eq.ensures), c.if-eq.true)
+returns-then-eq c = rw (← known _ _ c.as_slice.ensures c.eq.ensures, c.if-eq.true)
 
 pub returns-then-eq-2 : goal.returns-then-eq-2
 unfolding metadata_name
-returns-then-eq-2 c = rw (← same_known _ _ _ _ c.as_slice.ensures (slice_eq-Decides Decides-eqb _ _ _ c.eq.ensures), c.if-eq.false, ← same_known _ _ _ _ c.as_slice-2.ensures (slice_eq-Decides Decides-eqb _ _ _ c.eq-2.ensures), c.if-eq-2.true)
+returns-then-eq-2 c = rw (← known _ _ c.as_slice.ensures c.eq.ensures, c.if-eq.false, ← known _ _ c.as_slice-2.ensures c.eq-2.ensures, c.if-eq-2.true)
 
 pub returns-then-eq-3 : goal.returns-then-eq-3
 unfolding metadata_name
-returns-then-eq-3 c = rw (← same_known _ _ _ _ c.as_slice.ensures (slice_eq-Decides Decides-eqb _ _ _ c.eq.ensures), c.if-eq.false, ← same_known _ _ _ _ c.as_slice-2.ensures (slice_eq-Decides Decides-eqb _ _ _ c.eq-2.ensures), c.if-eq-2.false, ← same_known _ _ _ _ c.as_slice-3.ensures (slice_eq-Decides Decides-eqb _ _ _ c.eq-3.ensures), c.if-eq-3.true)
+returns-then-eq-3 c = rw (← known _ _ c.as_slice.ensures c.eq.ensures, c.if-eq.false, ← known _ _ c.as_slice-2.ensures c.eq-2.ensures, c.if-eq-2.false, ← known _ _ c.as_slice-3.ensures c.eq-3.ensures, c.if-eq-3.true)
 
 pub returns-then-eq-4 : goal.returns-then-eq-4
 unfolding metadata_name
-returns-then-eq-4 c = rw (← same_known _ _ _ _ c.as_slice.ensures (slice_eq-Decides Decides-eqb _ _ _ c.eq.ensures), c.if-eq.false, ← same_known _ _ _ _ c.as_slice-2.ensures (slice_eq-Decides Decides-eqb _ _ _ c.eq-2.ensures), c.if-eq-2.false, ← same_known _ _ _ _ c.as_slice-3.ensures (slice_eq-Decides Decides-eqb _ _ _ c.eq-3.ensures), c.if-eq-3.false, ← same_known _ _ _ _ c.as_slice-4.ensures (slice_eq-Decides Decides-eqb _ _ _ c.eq-4.ensures), c.if-eq-4.true)
+returns-then-eq-4 c = rw (← known _ _ c.as_slice.ensures c.eq.ensures, c.if-eq.false, ← known _ _ c.as_slice-2.ensures c.eq-2.ensures, c.if-eq-2.false, ← known _ _ c.as_slice-3.ensures c.eq-3.ensures, c.if-eq-3.false, ← known _ _ c.as_slice-4.ensures c.eq-4.ensures, c.if-eq-4.true)
 
 pub returns-then-eq-5 : goal.returns-then-eq-5
 unfolding metadata_name
-returns-then-eq-5 c = rw (← same_known _ _ _ _ c.as_slice.ensures (slice_eq-Decides Decides-eqb _ _ _ c.eq.ensures), c.if-eq.false, ← same_known _ _ _ _ c.as_slice-2.ensures (slice_eq-Decides Decides-eqb _ _ _ c.eq-2.ensures), c.if-eq-2.false, ← same_known _ _ _ _ c.as_slice-3.ensures (slice_eq-Decides Decides-eqb _ _ _ c.eq-3.ensures), c.if-eq-3.false, ← same_known _ _ _ _ c.as_slice-4.ensures (slice_eq-Decides Decides-eqb _ _ _ c.eq-4.ensures), c.if-eq-4.false, ← same_known _ _ _ _ c.as_slice-5.ensures (slice_eq-Decides Decides-eqb _ _ _ c.eq-5.ensures), c.if-eq-5.true)
+returns-then-eq-5 c = rw (← known _ _ c.as_slice.ensures c.eq.ensures, c.if-eq.false, ← known _ _ c.as_slice-2.ensures c.eq-2.ensures, c.if-eq-2.false, ← known _ _ c.as_slice-3.ensures c.eq-3.ensures, c.if-eq-3.false, ← known _ _ c.as_slice-4.ensures c.eq-4.ensures, c.if-eq-4.false, ← known _ _ c.as_slice-5.ensures c.eq-5.ensures, c.if-eq-5.true)
 
 pub returns-then-eq-6 : goal.returns-then-eq-6
 unfolding metadata_name
-returns-then-eq-6 c = rw (← same_known _ _ _ _ c.as_slice.ensures (slice_eq-Decides Decides-eqb _ _ _ c.eq.ensures), c.if-eq.false, ← same_known _ _ _ _ c.as_slice-2.ensures (slice_eq-Decides Decides-eqb _ _ _ c.eq-2.ensures), c.if-eq-2.false, ← same_known _ _ _ _ c.as_slice-3.ensures (slice_eq-Decides Decides-eqb _ _ _ c.eq-3.ensures), c.if-eq-3.false, ← same_known _ _ _ _ c.as_slice-4.ensures (slice_eq-Decides Decides-eqb _ _ _ c.eq-4.ensures), c.if-eq-4.false, ← same_known _ _ _ _ c.as_slice-5.ensures (slice_eq-Decides Decides-eqb _ _ _ c.eq-5.ensures), c.if-eq-5.false, ← same_known _ _ _ _ c.as_slice-6.ensures (slice_eq-Decides Decides-eqb _ _ _ c.eq-6.ensures), c.if-eq-6.true)
+returns-then-eq-6 c = rw (← known _ _ c.as_slice.ensures c.eq.ensures, c.if-eq.false, ← known _ _ c.as_slice-2.ensures c.eq-2.ensures, c.if-eq-2.false, ← known _ _ c.as_slice-3.ensures c.eq-3.ensures, c.if-eq-3.false, ← known _ _ c.as_slice-4.ensures c.eq-4.ensures, c.if-eq-4.false, ← known _ _ c.as_slice-5.ensures c.eq-5.ensures, c.if-eq-5.false, ← known _ _ c.as_slice-6.ensures c.eq-6.ensures, c.if-eq-6.true)
 
 pub returns : goal.returns
 unfolding metadata_name
-returns c = rw (← same_known _ _ _ _ c.as_slice.ensures (slice_eq-Decides Decides-eqb _ _ _ c.eq.ensures), c.if-eq.false, ← same_known _ _ _ _ c.as_slice-2.ensures (slice_eq-Decides Decides-eqb _ _ _ c.eq-2.ensures), c.if-eq-2.false, ← same_known _ _ _ _ c.as_slice-3.ensures (slice_eq-Decides Decides-eqb _ _ _ c.eq-3.ensures), c.if-eq-3.false, ← same_known _ _ _ _ c.as_slice-4.ensures (slice_eq-Decides Decides-eqb _ _ _ c.eq-4.ensures), c.if-eq-4.false, ← same_known _ _ _ _ c.as_slice-5.ensures (slice_eq-Decides Decides-eqb _ _ _ c.eq-5.ensures), c.if-eq-5.false, ← same_known _ _ _ _ c.as_slice-6.ensures (slice_eq-Decides Decides-eqb _ _ _ c.eq-6.ensures), c.if-eq-6.false)
+returns c = rw (← known _ _ c.as_slice.ensures c.eq.ensures, c.if-eq.false, ← known _ _ c.as_slice-2.ensures c.eq-2.ensures, c.if-eq-2.false, ← known _ _ c.as_slice-3.ensures c.eq-3.ensures, c.if-eq-3.false, ← known _ _ c.as_slice-4.ensures c.eq-4.ensures, c.if-eq-4.false, ← known _ _ c.as_slice-5.ensures c.eq-5.ensures, c.if-eq-5.false, ← known _ _ c.as_slice-6.ensures c.eq-6.ensures, c.if-eq-6.false)

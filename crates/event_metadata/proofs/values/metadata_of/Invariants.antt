@@ -6,4 +6,4 @@ use Rattle.event_metadata.specs.Values.{metadata_means}
 use Rattle.event_metadata.proofs.values.metadata_of.Given as goal
 
 abbrev pub invariant-loop-attribute : goal.invariant-loop-attribute
-invariant-loop-attribute l = meta_from (metadata_means l.metadata) (attributes_left l.attribute-iterator) ≡ metadata_of (attributes_left l.attributes)
+invariant-loop-attribute g l = meta_from (metadata_means l.metadata) (attributes_left l.attribute-iterator) ≡ metadata_of (attributes_left l.attributes)

@@ -1,20 +1,17 @@
--- `note_names`: a field's name is noted by its place, or the field has none.
-use Rattle.std.proofs.Common.{◌<◌, length, refl, arith, sym, ap, ◌∙◌}
-use Rattle.event_scan.specs.Fields.{fields_in, fields_left}
-use Rattle.event_scan.proofs.Parts.{attributes_none}
-use Rattle.event_scan.specs.Parts.{text_left, size_left}
-use Rattle.event_scan.specs.Names.{names_of}
-use Rattle.event_scan.specs.Parts.{attributes_in}
-use lib.ListN.{take}
+-- `note_names`: a field's name is noted by its place.
+use Rattle.std.proofs.Common.{◌≡◌, ◌<◌, length, refl, arith, sym, ap, ◌∙◌, take}
+use lib.ListN.{length-set}
 use Rattle.distinct.specs.Distinct.{runs_in}
-use Rattle.event_scan.proofs.Places.{fields_within}
-use Rattle.event_scan.proofs.Noted.{placed, name_short, name_placed, noted_end, noted_passed, noted_more}
-use Rattle.event_scan.proofs.event_line.note_names.Goals.{in-Some-split_once, in_default-split_once}
+use Rattle.event_scan.specs.Fields.{fields_in, fields_left}
+use Rattle.event_scan.specs.Names.{names_of}
+use Rattle.event_scan.specs.Parts.{text_left, size_left, attributes_in}
+use Rattle.event_scan.proofs.Places.{up_within, fields_within}
+use Rattle.event_scan.proofs.Noted.{placed, name_placed, noted_end, noted_more}
 use Rattle.event_scan.proofs.event_line.note_names.Goals as goal
 
 pub returns-in_default : goal.returns-in_default
 unfolding names_of
-returns-in_default c = λ h. rw (attributes_none _ (ap fields_in c.in_default.is)) refl
+returns-in_default c = λ h. rw (ap fields_in c.in_default.is) refl
 
 pub loop-field-init : goal.loop-field-init
 loop-field-init c =
@@ -24,32 +21,21 @@ loop-field-init c =
 pub loop-field-preserved : goal.loop-field-preserved
 loop-field-preserved c =
     let l = c.loop-field in
+    let f = c.in-Some-field.field.now in
     let steps = c.in-Some-field.ensures.steps in
-    let p = placed c.in-Some.text.now l.at c.in-Some-field.field.now _ (sym l.invariant.0 ∙ steps) in
+    let p = placed c.in-Some.text.now l.at f _ (sym l.invariant.0 ∙ steps) in
     let bounds = l.invariant in
-    let long = c.match-split_once.auto.words in
-    elim c.match-split_once.branch [
-      | in-Some-split_once w ↦
-          let e = w.in-Some-split_once.ensures in
-          let short = name_short _ _ _ _ p _ _ e in
-          let run = w.run_word.ensures (omega (arith, p.within)) (omega (arith, c.args.rest.now.short, ap size_left c.in-Some.is)) ∙ name_placed _ _ _ _ p _ _ e in (
-            p.rest,
-            omega (arith, w.n-is, bounds.1),
-            omega (arith, p.within),
-            long ∙ bounds.3,
-            λ h.
-                let lt : l.n < length l.words = omega (arith, w.n-is) in
-                rw (w.words-is ∙ w.put_word.ensures, w.n-is) (noted_more _ _ _ _ _ _ _ steps (bounds.4 (omega arith)) _ _ _ e lt run),
-          )
-      | in_default-split_once w ↦ (
-        p.rest,
-        omega (arith, w.n-is, bounds.1),
-        omega (arith, p.within),
-        long ∙ bounds.3,
-        λ h.
-            rw (w.words-is, w.n-is) (noted_passed _ _ _ _ _ _ _ steps (bounds.4 (omega (arith, w.n-is))) w.in_default-split_once.ensures),
-      )
-    ]
+    let within = up_within 61 f in
+    let run = c.run_word.ensures (omega (arith, p.within, c.name_length.ensures)) (omega (arith, c.args.rest.now.short, ap size_left c.in-Some.is)) in
+    let long : length c.put_word.new.words ≡ length l.words = ap length c.put_word.ensures ∙ length-set l.words l.n _ in (
+      p.rest,
+      omega (arith, bounds.1),
+      omega (arith, p.within),
+      long ∙ bounds.3,
+      λ h.
+          let lt : l.n < length l.words = omega (arith, long) in
+          rw c.put_word.ensures (noted_more _ _ _ _ _ _ _ steps (bounds.4 (omega arith)) _ lt (run ∙ rw c.name_length.ensures (name_placed _ _ _ _ p))),
+    )
 
 pub returns : goal.returns
 returns c =

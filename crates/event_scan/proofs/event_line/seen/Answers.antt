@@ -3,14 +3,12 @@ use Rattle.std.proofs.Common.{rules, ◌∙◌}
 use Rattle.std.specs.Borrow.{Bor}
 use Rattle.std.proofs.lemmas.Iterator.{YieldsList-from_slice}
 use Rattle.std.proofs.lemmas.Iterator.Search.{any_from_yields_List}
-use Rattle.std.proofs.lemmas.Bool.Decides.{Decides-eqb}
-use Rattle.std.proofs.lemmas.Slice.Eq.{slice_eq-Decides}
 use Rattle.base.specs.Bytes.{Bytes, same}
-use Rattle.event_scan.proofs.Equal.{same_decided}
+use Rattle.event_scan.proofs.Equal.{equal}
 use Rattle.event_scan.proofs.Standing.{among_any}
 use Rattle.event_scan.proofs.event_line.seen.Goals as goal
 
 pub returns : goal.returns
 returns c =
-    any_from_yields_List (λ (k : Bor Bytes). same k.now c.args.name.now) _ _ _ c.any.ensures.ran (YieldsList-from_slice c.args.names.now cc) (λ x b q k. (search rules, same_decided _ _ _ (slice_eq-Decides Decides-eqb _ _ _ (search rules))))
+    any_from_yields_List (λ (k : Bor Bytes). same k.now c.args.name.now) _ _ _ c.any.ensures.ran (YieldsList-from_slice c.args.names.now cc) (λ x b q k. (search rules, equal _ _ (search rules)))
     ∙ among_any c.args.name.now c.args.names.now

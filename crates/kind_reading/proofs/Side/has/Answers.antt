@@ -1,7 +1,8 @@
 -- A row with a place for its record is live, any other says that the id is deleted.
 use mathlib.Core.Path.{◌∙◌, ap}
 use mathlib.Core.Bool.{not}
-use Rattle.kind_reading.proofs.Standings.{place_is, not_back}
+use Rattle.kind_store.proofs.Settings.{place_is}
+use Rattle.kind_reading.proofs.Standings.{not_back}
 use Rattle.kind_reading.proofs.Side.has.Goals as goal
 
 pub returns-in-Live : goal.returns-in-Live

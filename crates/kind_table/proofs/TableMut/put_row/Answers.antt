@@ -12,14 +12,14 @@ unfolding table_after count_after
 returns-in-Ok-clause-done c =
     let a = c.args in
     let s = a.self.now in
-    λ e. rw (c.store_row.ensures, stored_known s.words.now s.count a.row c.in-Ok.i (sym e ∙ c.in-Ok.is))
+    λ e. rw (c.store_row.ensures.stored, c.store_row.ensures.count, stored_known s.words.now s.count a.row c.in-Ok.i (sym e ∙ c.in-Ok.is))
 
 pub returns-in-Err-clause-done : goal.returns-in-Err-clause-done
 unfolding table_after count_after
 returns-in-Err-clause-done c =
     let a = c.args in
     let s = a.self.now in
-    λ e. rw (c.insert_row.ensures, add-one, stored_new s.words.now s.count a.row c.in-Err.p (sym e ∙ c.in-Err.is) (omega arith))
+    λ e. rw (c.insert_row.ensures.inserted, c.insert_row.ensures.count, add-one, stored_new s.words.now s.count a.row c.in-Err.p (sym e ∙ c.in-Err.is) (omega arith))
 
 pub returns-in_default-clause-done : goal.returns-in_default-clause-done
 returns-in_default-clause-done c =

@@ -13,7 +13,7 @@ loop-kind-preserved c =
     let o = overlay_seen c.args.self.now.storage in
     let k = c.kind_storage.ensures in
     stepped (next_lines o kinds c.loop-kind.kind-index Node (omega arith)) c.loop-kind.invariant
-    (kind_printed o _ _ _ c.strings-strings.ensures k.seen (rw k.kind at c.put_lines.ensures))
+    (kind_printed o _ _ _ c.strings-strings.ensures k.seen (rw k.kind at c.print.ensures))
 
 pub returns : goal.returns
 returns c = ended (last_lines (overlay_seen c.args.self.now.storage) kinds c.loop-kind.kind-index (omega arith)) c.loop-kind.invariant

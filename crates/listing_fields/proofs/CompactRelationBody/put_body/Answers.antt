@@ -10,11 +10,11 @@ use Rattle.listing_fields.proofs.CompactRelationBody.put_body.Goals as goal
 
 pub loop-i-preserved : goal.loop-i-preserved
 loop-i-preserved c =
-    let g = fields_of (store_seen c.args.strings.now) c.args.view.now in
+    let g = fields_of (store_seen c.args.held.now.strings) c.args.held.now.bytes.now in
     stepped (each_next g c.args.self.member_count c.loop-i.i (omega arith)) c.loop-i.invariant (rw c.member_at.ensures at c.put_member.ensures)
 
 pub returns : goal.returns
 unfolding tabs body_fields_at relation_head counts_head
 returns c =
-    let g = fields_of (store_seen c.args.strings.now) c.args.view.now in
+    let g = fields_of (store_seen c.args.held.now.strings) c.args.held.now.bytes.now in
     then_printed (rw c.from.ensures at c.put.ensures) (ended (each_ends g c.args.self.member_count c.loop-i.i (omega arith)) c.loop-i.invariant)

@@ -9,5 +9,5 @@ use Rattle.listing_fields.proofs.CompactRelationBody.put_body.Given as goal
 
 abbrev pub invariant-loop-i : goal.invariant-loop-i
 invariant-loop-i l =
-    let g = fields_of (store_seen l.strings) l.view in
+    let g = fields_of (store_seen l.held.strings) l.held.bytes.now in
     Walk (tabs (each_from g 0 l.i-end)) (tabs (each_from g l.i (l.i-end - l.i))) l.initial.printer l.printer

@@ -6,4 +6,4 @@ use Rattle.listing_fields.specs.Fields.{each_from, ref_fields_at}
 use Rattle.listing_fields.proofs.CompactWayBody.put_body.Given as goal
 
 abbrev pub invariant-loop-i : goal.invariant-loop-i
-invariant-loop-i l = Walk (tabs (each_from (ref_fields_at l.view) 0 l.i-end)) (tabs (each_from (ref_fields_at l.view) l.i (l.i-end - l.i))) l.initial.printer l.printer
+invariant-loop-i l = Walk (tabs (each_from (ref_fields_at l.held.bytes.now) 0 l.i-end)) (tabs (each_from (ref_fields_at l.held.bytes.now) l.i (l.i-end - l.i))) l.initial.printer l.printer

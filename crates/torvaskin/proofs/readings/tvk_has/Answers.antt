@@ -14,5 +14,5 @@ unfolding has_number
 returns c =
     let o = lent c.args.words.now c.args.bytes.now c.args.counters.now in
     let f : Kind → Result ℕ Refusal = λ k. has_on k c.args.id o in
-    let d = bits_back c.ranges.id c.bits_of_i64-bits.ensures in
+    let d = bits_back c.ranges.id c.cast_unsigned-bits.ensures in
     rw (c.from.ensures, c.of_kind.ensures f (λ k r p. search rules))

@@ -1,20 +1,22 @@
--- `value_of`: the first attribute of the name decides.
-use Rattle.std.proofs.Common.{sym, ◌∙◌}
-use Rattle.std.proofs.lemmas.Bool.Decides.{Decides-eqb}
-use Rattle.std.proofs.lemmas.Slice.Eq.{slice_eq-Decides}
-use Rattle.event_scan.proofs.Equal.{same_decided}
-use Rattle.event_scan.proofs.Parts.{value_nowhere, value_here, value_behind}
+-- `value_of`: the first attribute of the name decides; the text of its value is that of the name.
+use Rattle.std.proofs.Common.{sym, ap, ◌∙◌}
+use Rattle.std.specs.Prelude.{option_map}
+use Rattle.event_scan.specs.Piece.{value_text}
+use Rattle.event_scan.proofs.Equal.{equal}
+use Rattle.event_scan.proofs.Parts.{value_nowhere, value_here, value_behind, value_text_of}
 use Rattle.event_scan.proofs.fields.Attributes.value_of.Goals as goal
 
 pub returns-then-eq : goal.returns-then-eq
-returns-then-eq c =
-    value_here _ _ _ c.in-Some.ensures.steps c.args.name.now (sym (same_decided _ _ _ (slice_eq-Decides Decides-eqb _ _ _ c.eq.ensures)) ∙ c.if-eq.true)
-    ∙ c.loop-attribute.invariant
+returns-then-eq g c =
+    let found = value_here _ _ _ c.in-Some.ensures.steps c.args.name.now (sym (equal _ _ c.eq.ensures) ∙ c.if-eq.true) ∙ c.loop-attribute.invariant in
+    record { written = found; text = ap (option_map value_text) found ∙ sym (value_text_of _ _) }
 
 pub loop-attribute-preserved : goal.loop-attribute-preserved
-loop-attribute-preserved c =
-    value_behind _ _ _ c.in-Some.ensures.steps c.args.name.now (sym (same_decided _ _ _ (slice_eq-Decides Decides-eqb _ _ _ c.eq.ensures)) ∙ c.if-eq.false)
+loop-attribute-preserved g c =
+    value_behind _ _ _ c.in-Some.ensures.steps c.args.name.now (sym (equal _ _ c.eq.ensures) ∙ c.if-eq.false)
     ∙ c.loop-attribute.invariant
 
 pub returns : goal.returns
-returns c = sym (value_nowhere c.args.name.now _ c.in_default.ensures.steps.0) ∙ c.loop-attribute.invariant
+returns g c =
+    let found = sym (value_nowhere c.args.name.now _ c.in_default.ensures.steps.0) ∙ c.loop-attribute.invariant in
+    record { written = found; text = ap (option_map value_text) found ∙ sym (value_text_of _ _) }

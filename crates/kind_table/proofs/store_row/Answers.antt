@@ -1,8 +1,0 @@
--- `kind_table::store_row` meets its contract.
-use native.Mathlib.Omega.{arith}
-use mathlib.Core.Path.{◌∙◌}
-use Rattle.kind_table.proofs.Gaps.{row_lent}
-use Rattle.kind_table.proofs.store_row.Goals as goal
-
-pub returns : goal.returns
-returns c = row_lent c.args.words.now _ c.args.i _ c.args.row (omega arith) (c.copy_from_slice.ensures.after ∙ c.words.ensures)
