@@ -12,6 +12,7 @@ ghost use Rattle.compact_legal.specs.Judge.{fault_for, record_end, member_end, m
 
 use compact::{ArenaMeta, CompactNode, CompactRelation, CompactWay, PushRecord, RecordHead};
 use kind::Kind;
+use model::{MAX_LAT7, MAX_LON7, MAX_MEMBERS, MAX_REFS, MAX_TAG_VALUE_BYTES, MAX_TAGS};
 use refusal::Refusal;
 
 // The records of a kind that bytes hold, and how many strings are held.
@@ -181,11 +182,12 @@ trait JudgedHead: RecordHead {
     final fn few_parts(self, values: usize) -> bool
         ensures { result ≡ few Self.kind (Self.says self).count (Self.says self).tags values }
     {
-        (self.tag_count() <= 256) & (self.few_items() & (values <= 16384))
+        (self.tag_count() <= MAX_TAGS) & (self.few_items() & (values <= MAX_TAG_VALUE_BYTES))
     }
 
     final fn verdict(self, walk: Walk, held: bool) -> Result<usize, Refusal>
-        ensures { result ≡ chosen held walk.text (place_in_range Self.kind (Self.says self).lat (Self.says self).lon) (few Self.kind (Self.says self).count (Self.says self).tags walk.values) walk.end }
+        ensures { result
+            ≡ chosen held walk.text (place_in_range Self.kind (Self.says self).lat (Self.says self).lon) (few Self.kind (Self.says self).count (Self.says self).tags walk.values) walk.end }
     {
         let inside = self.in_place();
         let few = self.few_parts(walk.values);
@@ -199,7 +201,7 @@ impl JudgedHead for CompactNode {
     }
 
     fn in_place(self) -> bool {
-        within(self.lat, 900_000_000) & within(self.lon, 1_800_000_000)
+        within(self.lat, MAX_LAT7) & within(self.lon, MAX_LON7)
     }
 
     fn few_items(self) -> bool {
@@ -221,7 +223,7 @@ impl JudgedHead for CompactWay {
 
     #[tactic(auto, unfolding(compact::specs::Held::way_head, compact::specs::Held::counts_head))]
     fn few_items(self) -> bool {
-        self.ref_count <= 2000
+        self.ref_count <= MAX_REFS
     }
 }
 
@@ -237,7 +239,7 @@ impl JudgedHead for CompactRelation {
 
     #[tactic(auto, unfolding(compact::specs::Held::relation_head, compact::specs::Held::counts_head))]
     fn few_items(self) -> bool {
-        self.member_count <= 2000
+        self.member_count <= MAX_MEMBERS
     }
 }
 
