@@ -139,10 +139,9 @@ fn user_before(
     let Some(user) = act.user else {
         return Ok(None);
     };
-    match reader_texts::text_handle(storage, chains, &user) {
-        Ok(handle) => Ok(Some(handle)),
-        Err(refusal) => Err(first_refusal(storage, act, refusal)),
-    }
+    let refusal = |r: Refusal| first_refusal(storage, act, r);
+    let handle = reader_texts::text_handle(storage, chains, &user).map_err(refusal)?;
+    Ok(Some(handle))
 }
 
 // What follows an act: the user's text is taken in, unless its handle is below the count: then it is held.
