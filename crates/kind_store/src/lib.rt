@@ -18,9 +18,6 @@ use kind_table::{DELETED, Row, Table, TableMut};
 use refusal::Refusal;
 use version_floor::VersionFloor;
 
-// The word of a floor that is none.
-const NO_FLOOR: u64 = 0x1_0000_0000;
-
 // Whether a version below the known one is refused, as the setting says: its word is 0, or another.
 #[derive(Clone, Copy, PartialEq, Eq, Debug)]
 pub enum VersionRegression {
@@ -168,7 +165,7 @@ impl KindStorage<'_> {
             None => Seat {
                 found,
                 known: None,
-                floor: NO_FLOOR,
+                floor: version_floor::NO_VERSION,
             },
         }
     }
