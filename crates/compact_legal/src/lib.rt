@@ -148,20 +148,19 @@ fn within(bits: u32, bound: u32) -> bool
 fn choose(held: bool, text: bool, inside: bool, few: bool, e: usize) -> Result<usize, Refusal>
     ensures { result ≡ chosen held text inside few e }
 {
-    // Nested: with positive tests a flat form tests `held` four times over.
-    if held {
-        if text {
-            if inside {
-                if few {
-                    return Ok(e);
-                }
-                return Err(Refusal::TooManyParts);
-            }
-            return Err(Refusal::CoordinateRange);
-        }
+    if !held {
+        return Err(Refusal::BadRecord);
+    }
+    if !text {
         return Err(Refusal::NotText);
     }
-    Err(Refusal::BadRecord)
+    if !inside {
+        return Err(Refusal::CoordinateRange);
+    }
+    if !few {
+        return Err(Refusal::TooManyParts);
+    }
+    Ok(e)
 }
 
 // What the heads of the three kinds ask of a record.
