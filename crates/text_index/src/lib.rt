@@ -46,6 +46,7 @@ fn bucket(text: &[u8]) -> usize
         0u32,
         |k, b| k.wrapping_mul(16777619).wrapping_add(u32::from(*b)),
     );
+    // the first 12 of 32 bits: there are 2^12 buckets
     (hash.wrapping_mul(2654435761) / 1048576) as usize
 }
 
