@@ -4,3 +4,4 @@ pub mod Lists
 pub mod Equal
 pub mod Strict
 pub mod Tests
+pub mod Neighbours

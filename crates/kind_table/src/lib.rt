@@ -87,12 +87,7 @@ impl Table<'_> {
         if rows.len() < self.count as usize {
             return false;
         }
-        for i in 1..rows.len() {
-            if rows[i][0] <= rows[i - 1][0] {
-                return false;
-            }
-        }
-        true
+        rows.is_sorted_by(|a, b| a[0] < b[0])
     }
 
     // Where a rank belongs among the rows, by halves. It is a loop: `find_row` also promises what this search answers where ranks do not rise, which the
