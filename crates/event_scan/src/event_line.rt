@@ -185,7 +185,7 @@ fn alone(word: &[u8]) -> Result<EventLine<'_>, Refusal>
 
 // The event of a text's fields.
 fn event(text: &[u8]) -> Result<EventLine<'_>, Refusal>
-    requires { length text.now ≤ 16384 }
+    requires { length text.now ≤ MAX_LINE }
     ensures { line_means result ≡ event_from (fields text.now) }
 {
     let mut rest = Fields::new(text);
