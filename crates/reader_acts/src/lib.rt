@@ -61,7 +61,8 @@ pub fn head_for(kind: Kind, id: u64, lat: u32, lon: u32) -> PushHead
 // Metadata with the handle of the user that it names, and the flag 4, "has user"; without a user both are 0. A handle of more than 32 bits is stored as 0: a sound overlay has none.
 fn with_user(meta: ArenaMeta, handle: Option<u64>) -> ArenaMeta
     ensures claim { claim_of (meta_of result) ≡ claim_of (meta_of meta) }
-    ensures bits { (user : Bytes) → unwrap_or handle 0 < 4294967296 → result ≡ bits_with_user (meta_named meta (is_some handle) user) (unwrap_or handle 0) }
+    ensures bits { (user : Bytes) → unwrap_or handle 0 < 4294967296 → result
+        ≡ bits_with_user (meta_named meta (is_some handle) user) (unwrap_or handle 0) }
 {
     let user_flag = if handle.is_some() { 4 } else { 0 };
     let handle = handle.unwrap_or(0);
@@ -173,7 +174,8 @@ pub fn push_empty(
 ) -> Result<(), Refusal>
     ensures same { IsSameStorage storage.new storage.old }
     ensures pushed { ActGiven (chains_seen chains.now) (overlay_held storage.old)
-        → record { overlay = overlay_held storage.new; answer = result } ≡ push_empty_on (to_z w64 act.now.id) (act_means act.now) (body_in act.now.kind place.lat place.lon) (overlay_held storage.old) }
+        → record { overlay = overlay_held storage.new; answer = result }
+        ≡ push_empty_on (to_z w64 act.now.id) (act_means act.now) (body_in act.now.kind place.lat place.lon) (overlay_held storage.old) }
 {
     let user = user_before(&storage.storage(), chains, act)?;
     let record = PushRecord {
@@ -196,7 +198,8 @@ fn store_delete(
     id: u64,
     claim: Option<i32>,
 ) -> Result<(), Refusal>
-    ensures { record { overlay = overlay_in words.new bytes.new counters.new; answer = result } ≡ store_delete kind (to_z w64 id) claim (overlay_in words.old bytes.old counters.old) }
+    ensures { record { overlay = overlay_in words.new bytes.new counters.new; answer = result }
+        ≡ store_delete kind (to_z w64 id) claim (overlay_in words.old bytes.old counters.old) }
 {
     let mut tables = StorageTables {
         words,
@@ -214,7 +217,8 @@ pub fn delete_element(
 ) -> Result<(), Refusal>
     ensures same { IsSameStorage storage.new storage.old }
     ensures deleted { ChainsServe (chains_seen chains.now) (overlay_held storage.old).texts
-        → record { overlay = overlay_held storage.new; answer = result } ≡ delete_element_on act.now.kind (to_z w64 act.now.id) (act_means act.now) (overlay_held storage.old) }
+        → record { overlay = overlay_held storage.new; answer = result }
+        ≡ delete_element_on act.now.kind (to_z w64 act.now.id) (act_means act.now) (overlay_held storage.old) }
 {
     let user = user_before(&storage.storage(), chains, act)?;
     let claim = act.meta.claim();
