@@ -60,9 +60,9 @@ pub fn legal_meta(m: ArenaMeta, strings: u64) -> bool
     flags & (version & (fields & user))
 }
 
-// ---- parts from a place on
-// A place goes along and not the rest of the bytes: each function answers where something ends, and a rest would tell that by its length alone. That it lies within the bytes
-// is a premise of each: a type of such places would hold the bytes too, which are in `self`.
+// ---- parts from an offset on
+// An offset goes along and not the rest of the bytes: each function answers where something ends, and a rest would tell that by its length alone. That it lies within the bytes
+// is a premise of each: a type of such offsets would hold the bytes too, which are in `self`.
 
 impl PartBytes<'_> {
     // A member of 13 bytes with a type of at most 2 and a role that is held.
@@ -92,11 +92,11 @@ impl PartBytes<'_> {
         requires { at ≤ length self.now.bytes.now }
         ensures { result ≡ members_end self.now.strings n self.now.bytes.now at }
     {
-        let mut place = at;
+        let mut offset = at;
         for _ in 0..n {
-            place = self.member_end(place)?;
+            offset = self.member_end(offset)?;
         }
-        Some(place)
+        Some(offset)
     }
 
     // The same of tags; each is looked at once.
@@ -104,21 +104,21 @@ impl PartBytes<'_> {
         requires { at ≤ length self.now.bytes.now }
         ensures { result ≡ tags_end self.now.strings n self.now.bytes.now at }
     {
-        let mut place = at;
+        let mut offset = at;
         let mut text = true;
         for _ in 0..n {
-            let next = self.tag_end(place)?;
-            if little::get_u32(self.bytes, place) as u64 >= self.strings {
+            let next = self.tag_end(offset)?;
+            if little::get_u32(self.bytes, offset) as u64 >= self.strings {
                 return None;
             }
-            let from = place + 8;
+            let from = offset + 8;
             text = text & text::is_text(&self.bytes[from..next]);
-            place = next;
+            offset = next;
         }
-        Some(TagRun { end: place, text })
+        Some(TagRun { end: offset, text })
     }
 
-    // The parts that begin at a place: refs or members and then tags, of the counts that a head gives.
+    // The parts that begin at an offset: refs or members and then tags, of the counts that a head gives.
     fn walk<H: JudgedHead>(&self, head: H, at: usize) -> Option<Walk>
         requires { at ≤ length self.now.bytes.now }
         ensures { result ≡ walk_of self.now.strings H.kind (H.says head) self.now.bytes.now at }
@@ -298,7 +298,7 @@ impl PartBytes<'_> {
 }
 
 impl Records<'_> {
-    // Where the legal record ends that starts at a place.
+    // Where the legal record ends that starts at an offset.
     pub fn end(&self, at: usize) -> Option<usize>
         ensures { result ≡ record_end self.now.strings self.now.kind self.now.bytes.now at }
     {

@@ -128,8 +128,8 @@ impl KindStorage<'_> {
     fn live_version(&self, row: Row) -> Option<i32>
         ensures { result ≡ live_version self.now.kind self.now.arena.now row }
     {
-        let place = row.record_place()?;
-        let at = place as usize + meta_off(self.kind);
+        let offset = row.record_offset()?;
+        let at = offset as usize + meta_off(self.kind);
         compact::read_meta(self.arena, at).claim()
     }
 
@@ -221,18 +221,19 @@ impl KindStorageMut<'_> {
         push: &PushRecord<'_>,
     ) -> Result<(), Refusal>
         ensures same { IsSameKindStorage self.new self.old }
-        ensures done { record { kind_store = kind_held self.new; answer = result } ≡ pushed self.old.kind (setting_of regression) (kind_held self.old) (to_z w64 push.now.head.id) (claim_of (meta_of push.now.meta)) (bytes_given push.now) }
+        ensures done { record { kind_store = kind_held self.new; answer = result }
+            ≡ pushed self.old.kind (setting_of regression) (kind_held self.old) (to_z w64 push.now.head.id) (claim_of (meta_of push.now.meta)) (bytes_given push.now) }
     {
         let id = push.head.id;
         let claim = push.meta.claim();
         let seat = self.storage().admitted(regression, id, claim)?;
-        let place = self.used;
-        let end = compact_append::append_record(self.arena, place as usize, push).ok_or(
+        let offset = self.used;
+        let end = compact_append::append_record(self.arena, offset as usize, push).ok_or(
             Refusal::ArenaFull,
         )?;
         let row = Row {
             rank: osm_id::rank_of_bits(id),
-            place,
+            offset,
             floor: regression.floor_after(seat.known, claim, seat.floor),
         };
         let mut rows = TableMut {
@@ -270,12 +271,13 @@ impl KindStorageTable<'_> {
         claim: Option<i32>,
     ) -> Result<(), Refusal>
         ensures same { IsSameKindStorageTable self.new self.old }
-        ensures done { record { kind_store = kind_rows_held self.new; answer = result } ≡ deleted self.old.kind (setting_of regression) (kind_rows_held self.old) (to_z w64 id) claim }
+        ensures done { record { kind_store = kind_rows_held self.new; answer = result }
+            ≡ deleted self.old.kind (setting_of regression) (kind_rows_held self.old) (to_z w64 id) claim }
     {
         let seat = self.storage().admitted(regression, id, claim)?;
         let row = Row {
             rank: osm_id::rank_of_bits(id),
-            place: DELETED,
+            offset: DELETED,
             floor: version_floor::version_word(version_floor::higher_of(seat.known, claim)),
         };
         let mut rows = TableMut {

@@ -15,7 +15,7 @@ ghost use Rattle.overlay_store.specs.Calls.{store_delete};
 ghost use Rattle.act_answer.specs.Answer.{claim_answer};
 ghost use Rattle.event_values.specs.Value.{body_in};
 ghost use Rattle.reader.specs.Step.{bits_with_user, head_for};
-ghost use Rattle.reader_acts.specs.Acts.{begin_on, handle_for, with_user, push_empty_on, delete_element_on, push_staged_on, found, first_refusal, before_act, meta_named, act_means, ActGiven, UserIs};
+ghost use Rattle.reader_acts.specs.Acts.{begin_on, handle_for, with_user, push_empty_on, delete_element_on, push_staged_on, handle_or_zero, first_refusal, before_act, meta_named, act_means, ActGiven, UserIs};
 
 use compact::{ArenaMeta, PushHead, PushRecord};
 use event_scan::MAX_LINE;
@@ -40,7 +40,7 @@ pub struct Act<'a> {
 
 // ---- in bits
 
-// The head of an element that begins; only a node has a place. It is no method of `Act`: that a number fits its type is known of a parameter, and of no field behind a reference (tried).
+// The head of an element that begins; only a node has coordinates. It is no method of `Act`: that a number fits its type is known of a parameter, and of no field behind a reference (tried).
 pub fn head_for(kind: Kind, id: u64, lat: u32, lon: u32) -> PushHead
     ensures id { result.id ≡ id }
     ensures bits { result ≡ head_for (to_z w64 id) (body_in kind lat lon) }
@@ -135,7 +135,7 @@ fn user_before(
 ) -> Result<Option<u64>, Refusal>
     ensures named { IfOk result (λ (h : Option ℕ). is_some h ≡ is_some act.now.user) }
     ensures asked { ChainsServe (chains_seen chains.now) (overlay_seen storage.now).texts
-        → found result ≡ before_act act.now.kind (to_z w64 act.now.id) (act_means act.now) (overlay_seen storage.now) }
+        → handle_or_zero result ≡ before_act act.now.kind (to_z w64 act.now.id) (act_means act.now) (overlay_seen storage.now) }
 {
     let Some(user) = act.user else {
         return Ok(None);
@@ -165,22 +165,22 @@ fn take_user(storage: &mut StorageMut<'_>, chains: &Chains<'_>, act: &Act<'_>, h
 
 // ---- an element that begins and ends at once, and a delete
 
-// Pushes an empty element, a node by its place: 12, 13, 14, 15, or taken.
+// Pushes an empty element, a node with its coordinates: 12, 13, 14, 15, or taken.
 pub fn push_empty(
     storage: &mut StorageMut<'_>,
     chains: &Chains<'_>,
     act: &Act<'_>,
-    place: Coordinates,
+    coordinates: Coordinates,
 ) -> Result<(), Refusal>
     ensures same { IsSameStorage storage.new storage.old }
     ensures pushed { ActGiven (chains_seen chains.now) (overlay_held storage.old)
         → record { overlay = overlay_held storage.new; answer = result }
-        ≡ push_empty_on (to_z w64 act.now.id) (act_means act.now) (body_in act.now.kind place.lat place.lon) (overlay_held storage.old) }
+        ≡ push_empty_on (to_z w64 act.now.id) (act_means act.now) (body_in act.now.kind coordinates.lat coordinates.lon) (overlay_held storage.old) }
 {
     let user = user_before(&storage.storage(), chains, act)?;
     let record = PushRecord {
         kind: act.kind,
-        head: head_for(act.kind, act.id, place.lat, place.lon),
+        head: head_for(act.kind, act.id, coordinates.lat, coordinates.lon),
         meta: with_user(act.meta, user),
         parts: &[],
     };
