@@ -115,6 +115,15 @@ const TEXTS: [&str; 16] = [
     "\u{fdd0}\u{85}\u{7f}",
 ];
 
+/// Sixty texts that fall into one of the 4,096 buckets of crate text_index: its search goes from one to the next.
+static ONE_BUCKET: std::sync::LazyLock<Vec<String>> = std::sync::LazyLock::new(|| {
+    let bucket = |text: &str| {
+        let sum = text.bytes().fold(0u32, |k, b| k.wrapping_mul(16_777_619).wrapping_add(u32::from(b)));
+        sum.wrapping_mul(2_654_435_761) >> 20
+    };
+    (0..).map(|n: u32| format!("b{n}")).filter(|text| bucket(text) == 0).take(60).collect()
+});
+
 /// How documents are made.
 #[derive(Clone, Copy, Debug)]
 pub struct Style {
@@ -126,11 +135,19 @@ pub struct Style {
     pub objects: usize,
     /// Ids are from -ids to ids, at times further.
     pub ids: i64,
+    /// Children of an element, at most.
+    pub children: usize,
+    /// Attributes without a meaning in a line, at most, beside those that it has.
+    pub attributes: usize,
+    /// Texts beside the sixteen.
+    pub texts: usize,
 }
 
 impl Style {
-    pub const VALID: Self = Self { damage: 0, sections: 5, objects: 6, ids: 4 };
+    pub const VALID: Self = Self { damage: 0, sections: 5, objects: 6, ids: 4, children: 4, attributes: 0, texts: 0 };
     pub const DAMAGED: Self = Self { damage: 30, ..Self::VALID };
+    /// Lines of many attributes, elements of many children, many texts.
+    pub const WIDE: Self = Self { damage: 0, objects: 2, children: 300, attributes: 40, texts: 150, ..Self::VALID };
 }
 
 /// Documents at random. It remembers the versions that it gave, so that most acts are accepted.
@@ -211,7 +228,7 @@ impl Documents {
         if empty {
             return;
         }
-        for _ in 0..self.random.below(5) {
+        for _ in 0..self.random.below(self.style.children + 1) {
             self.noise(out);
             let child = self.child(kind);
             if self.random.once_in(4) {
@@ -234,9 +251,17 @@ impl Documents {
         }
     }
 
+    /// One of the sixteen; or of the others, of which a third falls into one bucket of the library's index, and a third is long and full of escapes.
     fn text(&mut self) -> String {
-        let text = *self.random.pick(&TEXTS);
-        escape(text)
+        let at = self.random.below(TEXTS.len() + self.style.texts);
+        let Some(n) = at.checked_sub(TEXTS.len()) else {
+            return escape(TEXTS[at]);
+        };
+        match n % 3 {
+            0 => ONE_BUCKET[n / 3 % ONE_BUCKET.len()].clone(),
+            1 => escape(&"\\\tStraße\n🚚 ".repeat(1 + n % 9)),
+            _ => format!("text {n}"),
+        }
     }
 
     /// An integer as text, at times with a sign or zeros that mean nothing.
@@ -316,7 +341,18 @@ impl Documents {
             let odd = ["lat=x", "lon=1e3", "Id=2", "a\\b=c", "v==", "ref=x", "é=", "k=\\\\"];
             list.push((*self.random.pick(&odd)).to_owned());
         }
+        self.others(&mut list);
         self.shuffled(list)
+    }
+
+    /// Attributes without a meaning.
+    fn others(&mut self, list: &mut Vec<String>) {
+        if self.style.attributes == 0 {
+            return;
+        }
+        for n in 0..self.random.below(self.style.attributes + 1) {
+            list.push(format!("x{n}={}", self.text()));
+        }
     }
 
     fn child(&mut self, kind: &str) -> String {
@@ -345,6 +381,7 @@ impl Documents {
                 "tag"
             }
         };
+        self.others(&mut list);
         format!("{name}{}", self.shuffled(list))
     }
 

@@ -46,10 +46,41 @@ fn damaged_documents_meet_every_number() {
     }
 }
 
+/// What wide documents are for: lines of more than sixteen attributes, long values with escapes, many texts, elements of many children with refs behind tags.
+#[test]
+fn wide_documents_are_wide() {
+    let (mut attributes, mut escapes, mut texts, mut children, mut behind) = (0, 0, 0, 0, 0);
+    each_document(Style::WIDE, 60, |input, _| {
+        let (mut held, mut here, mut tag) = (std::collections::BTreeSet::new(), 0, false);
+        for line in input.split(|&b| b == b'\n') {
+            let fields: Vec<&[u8]> = line.split(|&b| b == b'\t').collect();
+            attributes += usize::from(fields.len() > 2 + 17);
+            for value in fields.iter().filter(|f| f.starts_with(b"k=") || f.starts_with(b"v=")) {
+                escapes += usize::from(value.len() > 40 && value.contains(&b'\\'));
+                held.insert(value[2..].to_vec());
+            }
+            match fields.get(1) {
+                Some(&b"node" | &b"way" | &b"relation") => (here, tag) = (0, false),
+                Some(&b"tag") => (here, tag) = (here + 1, true),
+                Some(&b"nd") => {
+                    here += 1;
+                    behind += usize::from(tag);
+                }
+                _ => {}
+            }
+            children += usize::from(here == 200);
+        }
+        texts = texts.max(held.len());
+    });
+    for (n, least) in [(attributes, 1_000), (escapes, 1_000), (texts, 100), (children, 20), (behind, 1_000)] {
+        assert!(n >= least, "{:?}", (attributes, escapes, texts, children, behind));
+    }
+}
+
 #[test]
 fn steps_are_the_driver() {
-    for style in [Style::VALID, Style::DAMAGED] {
-        each_document(style, 1_000, |input, allow| {
+    for (style, count) in [(Style::VALID, 1_000), (Style::DAMAGED, 1_000), (Style::WIDE, 60)] {
+        each_document(style, count, |input, allow| {
             let (outcome, driven) = run(&input, allow);
             // One event at a time, the overlay left as the Rust leaves it.
             let mut overlay = Overlay::new();

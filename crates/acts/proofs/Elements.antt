@@ -174,7 +174,7 @@ start_begins : (p : Place) (e : Bool) (n : Name) (attrs : List Attr) (o : Opened
     → (is_inside q.level ≡ true) × Pushing q
 start_begins p e n attrs o l (D.begin s i j b) = rw l.leads_to (refl, s)
 
-line_begins : (p : Place) (x : Reading) {q : Place} {id : ℤ} {m : Meta Bytes} {b : Body Bytes} → Decides p x (begins false q id m b) → (is_inside q.level ≡ true) × Pushing q
+pub line_begins : (p : Place) (x : Reading) {q : Place} {id : ℤ} {m : Meta Bytes} {b : Body Bytes} → Decides p x (begins false q id m b) → (is_inside q.level ≡ true) × Pushing q
 line_begins p x (D.start {e = e} {n = n} {attrs = attrs} s) = start_begins p e (name_of n) attrs (opened e (name_of n) p) (leads e (name_of n) p) s
 
 -- the opening of an element that is to be pushed (where exactly, decision.proofs.Decided says), the lines inside it, and its close: the push of its record

@@ -2,3 +2,4 @@ pub mod Turns
 pub mod Elements
 pub mod Changes
 pub mod Calls
+pub mod Given

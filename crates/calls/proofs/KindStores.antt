@@ -45,7 +45,7 @@ abbrev pub last_of : Kind → KindStore → (ℕ → Bytes) → ℤ → Option (
 last_of k s f id = last_in k s f (find (rank id) (rows_in s))
 
 abbrev row_of : ℤ → ℕ → ℕ → Row
-row_of id place floor = record { rank = rank id; place = place; floor = floor }
+row_of id offset floor = record { rank = rank id; offset = offset; floor = floor }
 
 module _ (strings : ℕ) (k : Kind) (s : KindStore) (w : SoundKindStore strings k s) where
   -- a row tells the same of another kind store where the records that it may point at are read as here
@@ -53,8 +53,8 @@ module _ (strings : ℕ) (k : Kind) (s : KindStore) (w : SoundKindStore strings 
       → (n : ℕ) (o : Option Row) → find n (rows_in s) ≡ o → last_in k t f o ≡ last_in k s f o
   last_stays t f h n None e = refl
   last_stays t f h n (Some r) e =
-      by_bool (is_live r.place)
-      (λ l. let y = live_starts strings k s w n r e l in rw (l, h r.place y.0 y.1, record_read strings k s w r.place y.0 y.1))
+      by_bool (is_live r.offset)
+      (λ l. let y = live_starts strings k s w n r e l in rw (l, h r.offset y.0 y.1, record_read strings k s w r.offset y.0 y.1))
       (λ l. rw l)
 
   -- and where its texts are the same
@@ -64,19 +64,19 @@ module _ (strings : ℕ) (k : Kind) (s : KindStore) (w : SoundKindStore strings 
       go : (o : Option Row) → find (rank id) (rows_in s) ≡ o → last_in k s f o ≡ last_in k s g o
       go None e = refl
       go (Some r) e =
-          by_bool (is_live r.place)
+          by_bool (is_live r.offset)
           (λ l. let y = live_starts strings k s w (rank id) r e l in
-          rw (l, record_read strings k s w r.place y.0 y.1, legal_agree strings f g a y.0.held (record_legal strings k s w r.place y.0 y.1)))
+          rw (l, record_read strings k s w r.offset y.0 y.1, legal_agree strings f g a y.0.held (record_legal strings k s w r.offset y.0 y.1)))
           (λ l. rw l)
 
-  module _ (t : KindStore) (id : ℤ) (place floor : ℕ) (laid : Laid s id place floor t)
+  module _ (t : KindStore) (id : ℤ) (offset floor : ℕ) (laid : Laid s id offset floor t)
       (h : (at : ℕ) (y : KeptRecord) → record_at at w.whole.kept ≡ Some y → record_in k t at ≡ Some y.held) (f : ℕ → Bytes) where
     last_other : (other : ℤ) → (rank other ≡ rank id → ⊥) → last_of k t f other ≡ last_of k s f other
     last_other other n =
-        rw (laid.rows, find_put_other (rank other) (row_of id place floor) (rows_in s) n) (last_stays t f h (rank other) (find (rank other) (rows_in s)) refl)
+        rw (laid.rows, find_put_other (rank other) (row_of id offset floor) (rows_in s) n) (last_stays t f h (rank other) (find (rank other) (rows_in s)) refl)
 
-    last_own : last_of k t f id ≡ cond (is_live place) (live_record f (record_in k t place)) (Some gone)
-    last_own = rw (laid.rows, find_put_same (row_of id place floor) (rows_in s))
+    last_own : last_of k t f id ≡ cond (is_live offset) (live_record f (record_in k t offset)) (Some gone)
+    last_own = rw (laid.rows, find_put_same (row_of id offset floor) (rows_in s))
 
 -- ---- an accepted push of a legal record under its own id
 

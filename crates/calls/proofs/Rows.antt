@@ -1,4 +1,4 @@
--- A sound kind store: it is fair, and at the place of each live row a legal record is read, whatever is appended behind it.
+-- A sound kind store: it is fair, and at the offset of each live row a legal record is read, whatever is appended behind it.
 use Rattle.std.specs.Prelude.{Some}
 use Prim.Native.Nat.{ℕ, ◌+◌, ◌^◌, ◌<◌, ◌≤◌}
 use mathlib.Core.Path.{◌≡◌, refl, sym, ◌∙◌, ap}
@@ -32,13 +32,13 @@ use Rattle.listing.specs.Known.{record_in}
 use Rattle.listing.proofs.Rows.{kept_kind, whole_read}
 
 module _ (strings : ℕ) (k : Kind) (s : KindStore) (w : SoundKindStore strings k s) where
-  -- at the place of a live row a record starts
-  pub live_starts : (n : ℕ) (r : Row) → find n (rows_in s) ≡ Some r → is_live r.place ≡ true → (x : KeptRecord) × (record_at r.place w.whole.kept ≡ Some x)
+  -- at the offset of a live row a record starts
+  pub live_starts : (n : ℕ) (r : Row) → find n (rows_in s) ≡ Some r → is_live r.offset ≡ true → (x : KeptRecord) × (record_at r.offset w.whole.kept ≡ Some x)
   unfolding sound_row
   live_starts n r e l =
-      by_either (not (is_live r.place)) (starts_at (id_of r.rank) r.place w.whole.kept) (find_passes (sound_row w.whole.kept) n (rows_in s) r w.rows e)
+      by_either (not (is_live r.offset)) (starts_at (id_of r.rank) r.offset w.whole.kept) (find_passes (sound_row w.whole.kept) n (rows_in s) r w.rows e)
       (λ t. clash (sym (ap not l) ∙ t) refl)
-      (λ t. let y = start_is (id_of r.rank) r.place w.whole.kept t in (y.0, y.1.0))
+      (λ t. let y = start_is (id_of r.rank) r.offset w.whole.kept t in (y.0, y.1.0))
 
   pub record_read : (at : ℕ) (x : KeptRecord) → record_at at w.whole.kept ≡ Some x → record_in k s at ≡ Some x.held
   unfolding record_in
@@ -64,5 +64,5 @@ module _ (strings : ℕ) (k : Kind) (s : KindStore) (w : SoundKindStore strings 
           bytes = b;
           short = l;
           sound = w.order;
-          places = λ n r e t. let x = live_starts n r e t in ends_within r.place x.0 x.1;
+          offsets = λ n r e t. let x = live_starts n r e t in ends_within r.offset x.0 x.1;
         }

@@ -1,4 +1,4 @@
--- Where parts end: one part at a place, and so many of them.
+-- Where parts end: one part at an offset, and so many of them.
 use Rattle.std.specs.Prelude.{None, Option, Some}
 use Prim.Native.Nat.{ℕ, zero, suc, ◌+◌, ◌-◌, ◌<◌, ◌≤◌}
 use mathlib.Core.Path.{◌≡◌, refl, sym, ◌∙◌, ap}

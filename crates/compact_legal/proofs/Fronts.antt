@@ -26,7 +26,7 @@ use Rattle.compact.proofs.Places.{Off, off_then, off_end, off_length, total, tim
 use Rattle.compact_legal.proofs.Ends.{end_none}
 use Rattle.compact_legal.proofs.Bodies.{body_long, body_cut}
 
--- the part from a place on, as the code lends it
+-- the part from an offset on, as the code lends it
 pub rest_of : (s : Bytes) (at : ℕ) → take (length s - at) (drop at s) ≡ drop at s
 rest_of s at = take_all (length s - at) (drop at s) (omega (arith, length-drop at s))
 
@@ -108,7 +108,7 @@ module _ (strings : ℕ) (k : Kind) where
       go None = none_end strings (length s) (λ r. record { id = (head_at k s).id; held = r })
       go (Some c) = some_end strings (length s) (head_at k s).id c
 
-  -- ---- from a place on
+  -- ---- from an offset on
 
   module _ (s : Bytes) (at : ℕ) where
     -- what an end tells

@@ -125,7 +125,7 @@ module _ (k : Kind) where
   parts_meta h m s c e =
       first (λ b r. Unit {0}) (λ x t. tt) e (λ b s1 u e1. first (λ ts r. Unit {0}) (λ x t. tt) e1 (λ ts q v e2. of_cut (λ (r : Record ℕ) q. r.meta ≡ m) e2 refl))
 
-  -- the metadata that is read at the place of a record is the record's
+  -- the metadata that is read at the offset of a record is the record's
   pub meta_there : (s : Bytes) (c : Cut KeptRecord) → cut_record k s ≡ Some c → meta_of (meta_at s (head_len k)) ≡ c.item.held.meta
   meta_there s c e =
       by_le (head_len k + 29) (length s)

@@ -28,7 +28,7 @@ unfoldable pub end_of : {A : Type 0} → (A → Bool) → ℕ → Option (Cut A)
 end_of p len None = None
 end_of p len (Some c) = cond (p c.item) (Some (len - length c.rest)) None
 
--- where the legal record ends that starts at a place
+-- where the legal record ends that starts at an offset
 unfoldable pub record_end : ℕ → Kind → Bytes → ℕ → Option ℕ
 record_end strings k s at = end_of (λ x. legal strings x.held) (length s) (cut_record k (drop at s))
 
@@ -44,14 +44,14 @@ verdict_of strings more len None = Err BadRecord
 verdict_of strings more len (Some c) =
     cond (either more (eqb (length c.rest) 0)) (judged (len - length c.rest) (fault_of strings c.item)) (Err BadRecord)
 
--- a member at a place whose role is held, and so many of them
+-- a member at an offset whose role is held, and so many of them
 unfoldable pub member_end : ℕ → Bytes → ℕ → Option ℕ
 member_end strings s at = end_of (λ m. handle strings m.role) (length s) (cut_member (drop at s))
 
 unfoldable pub members_end : ℕ → ℕ → Bytes → ℕ → Option ℕ
 members_end strings n s at = end_of (all (λ m. handle strings m.role)) (length s) (times cut_member n (drop at s))
 
--- a tag at a place, whatever its key and value
+-- a tag at an offset, whatever its key and value
 unfoldable pub tag_end : Bytes → ℕ → Option ℕ
 tag_end s at = end_of (λ t. true) (length s) (cut_tag (drop at s))
 
@@ -61,11 +61,11 @@ tag_run_of strings len None = None
 tag_run_of strings len (Some c) =
     cond (all (λ t. handle strings t.key) c.item) (Some (record { end = len - length c.rest; text = all (λ t. is_text t.value) c.item })) None
 
--- so many tags at a place
+-- so many tags at an offset
 unfoldable pub tags_end : ℕ → ℕ → Bytes → ℕ → Option TagRun
 tags_end strings n s at = tag_run_of strings (length s) (times cut_tag n (drop at s))
 
--- a body at a place whose handles are held
+-- a body at an offset whose handles are held
 unfoldable pub body_end : ℕ → Kind → Head → Bytes → ℕ → Option ℕ
 body_end strings k h s at = end_of (body_handles strings) (length s) (cut_body k h (drop at s))
 

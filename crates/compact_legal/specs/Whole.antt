@@ -42,7 +42,7 @@ whole_by strings k (suc fuel) s = whole_step strings k (whole_by strings k fuel)
 unfoldable pub whole_records : ℕ → Kind → Bytes → Bool
 whole_records strings k s = whole_by strings k (length s) s
 
--- the record that starts at a place
+-- the record that starts at an offset
 unfoldable pub record_at : ℕ → List KeptRecord → Option KeptRecord
 record_at at [] = None
 record_at at (x ∷ xs) = cond (eqb at 0) (Some x) (cond (ltb at (length (kept_bytes x))) None (record_at (at - length (kept_bytes x)) xs))
@@ -51,6 +51,6 @@ abbrev pub has_id : ℤ → Option KeptRecord → Bool
 has_id id None = false
 has_id id (Some x) = same_id x.id id
 
--- a record of that id starts at that place
+-- a record of that id starts at that offset
 unfoldable pub starts_at : ℤ → ℕ → List KeptRecord → Bool
 starts_at id at xs = has_id id (record_at at xs)

@@ -12,6 +12,7 @@ ghost use Rattle.compact_legal.specs.Judge.{fault_for, record_end, member_end, m
 
 use compact::{ArenaMeta, CompactNode, CompactRelation, CompactWay, PushRecord, RecordHead};
 use kind::Kind;
+use model::{MAX_LAT7, MAX_LON7, MAX_MEMBERS, MAX_REFS, MAX_TAG_VALUE_BYTES, MAX_TAGS};
 use refusal::Refusal;
 
 // The records of a kind that bytes hold, and how many strings are held.
@@ -59,9 +60,9 @@ pub fn legal_meta(m: ArenaMeta, strings: u64) -> bool
     flags & (version & (fields & user))
 }
 
-// ---- parts from a place on
-// A place goes along and not the rest of the bytes: each function answers where something ends, and a rest would tell that by its length alone. That it lies within the bytes
-// is a premise of each: a type of such places would hold the bytes too, which are in `self`.
+// ---- parts from an offset on
+// An offset goes along and not the rest of the bytes: each function answers where something ends, and a rest would tell that by its length alone. That it lies within the bytes
+// is a premise of each: a type of such offsets would hold the bytes too, which are in `self`.
 
 impl PartBytes<'_> {
     // A member of 13 bytes with a type of at most 2 and a role that is held.
@@ -91,11 +92,11 @@ impl PartBytes<'_> {
         requires { at ≤ length self.now.bytes.now }
         ensures { result ≡ members_end self.now.strings n self.now.bytes.now at }
     {
-        let mut place = at;
+        let mut offset = at;
         for _ in 0..n {
-            place = self.member_end(place)?;
+            offset = self.member_end(offset)?;
         }
-        Some(place)
+        Some(offset)
     }
 
     // The same of tags; each is looked at once.
@@ -103,21 +104,21 @@ impl PartBytes<'_> {
         requires { at ≤ length self.now.bytes.now }
         ensures { result ≡ tags_end self.now.strings n self.now.bytes.now at }
     {
-        let mut place = at;
+        let mut offset = at;
         let mut text = true;
         for _ in 0..n {
-            let next = self.tag_end(place)?;
-            if little::get_u32(self.bytes, place) as u64 >= self.strings {
+            let next = self.tag_end(offset)?;
+            if little::get_u32(self.bytes, offset) as u64 >= self.strings {
                 return None;
             }
-            let from = place + 8;
+            let from = offset + 8;
             text = text & text::is_text(&self.bytes[from..next]);
-            place = next;
+            offset = next;
         }
-        Some(TagRun { end: place, text })
+        Some(TagRun { end: offset, text })
     }
 
-    // The parts that begin at a place: refs or members and then tags, of the counts that a head gives.
+    // The parts that begin at an offset: refs or members and then tags, of the counts that a head gives.
     fn walk<H: JudgedHead>(&self, head: H, at: usize) -> Option<Walk>
         requires { at ≤ length self.now.bytes.now }
         ensures { result ≡ walk_of self.now.strings H.kind (H.says head) self.now.bytes.now at }
@@ -147,20 +148,19 @@ fn within(bits: u32, bound: u32) -> bool
 fn choose(held: bool, text: bool, inside: bool, few: bool, e: usize) -> Result<usize, Refusal>
     ensures { result ≡ chosen held text inside few e }
 {
-    // Nested: with positive tests a flat form tests `held` four times over.
-    if held {
-        if text {
-            if inside {
-                if few {
-                    return Ok(e);
-                }
-                return Err(Refusal::TooManyParts);
-            }
-            return Err(Refusal::CoordinateRange);
-        }
+    if !held {
+        return Err(Refusal::BadRecord);
+    }
+    if !text {
         return Err(Refusal::NotText);
     }
-    Err(Refusal::BadRecord)
+    if !inside {
+        return Err(Refusal::CoordinateRange);
+    }
+    if !few {
+        return Err(Refusal::TooManyParts);
+    }
+    Ok(e)
 }
 
 // What the heads of the three kinds ask of a record.
@@ -181,11 +181,12 @@ trait JudgedHead: RecordHead {
     final fn few_parts(self, values: usize) -> bool
         ensures { result ≡ few Self.kind (Self.says self).count (Self.says self).tags values }
     {
-        (self.tag_count() <= 256) & (self.few_items() & (values <= 16384))
+        (self.tag_count() <= MAX_TAGS) & (self.few_items() & (values <= MAX_TAG_VALUE_BYTES))
     }
 
     final fn verdict(self, walk: Walk, held: bool) -> Result<usize, Refusal>
-        ensures { result ≡ chosen held walk.text (place_in_range Self.kind (Self.says self).lat (Self.says self).lon) (few Self.kind (Self.says self).count (Self.says self).tags walk.values) walk.end }
+        ensures { result
+            ≡ chosen held walk.text (place_in_range Self.kind (Self.says self).lat (Self.says self).lon) (few Self.kind (Self.says self).count (Self.says self).tags walk.values) walk.end }
     {
         let inside = self.in_place();
         let few = self.few_parts(walk.values);
@@ -199,7 +200,7 @@ impl JudgedHead for CompactNode {
     }
 
     fn in_place(self) -> bool {
-        within(self.lat, 900_000_000) & within(self.lon, 1_800_000_000)
+        within(self.lat, MAX_LAT7) & within(self.lon, MAX_LON7)
     }
 
     fn few_items(self) -> bool {
@@ -221,7 +222,7 @@ impl JudgedHead for CompactWay {
 
     #[tactic(auto, unfolding(compact::specs::Held::way_head, compact::specs::Held::counts_head))]
     fn few_items(self) -> bool {
-        self.ref_count <= 2000
+        self.ref_count <= MAX_REFS
     }
 }
 
@@ -237,7 +238,7 @@ impl JudgedHead for CompactRelation {
 
     #[tactic(auto, unfolding(compact::specs::Held::relation_head, compact::specs::Held::counts_head))]
     fn few_items(self) -> bool {
-        self.member_count <= 2000
+        self.member_count <= MAX_MEMBERS
     }
 }
 
@@ -297,7 +298,7 @@ impl PartBytes<'_> {
 }
 
 impl Records<'_> {
-    // Where the legal record ends that starts at a place.
+    // Where the legal record ends that starts at an offset.
     pub fn end(&self, at: usize) -> Option<usize>
         ensures { result ≡ record_end self.now.strings self.now.kind self.now.bytes.now at }
     {

@@ -63,7 +63,7 @@ module _ (refused : Bool) (o : Overlay) (held : List Bytes) (acts : List (Act By
   text_seen_lem h l = rw (text_is o w.bytes w.sound h l) (sym (text_bytes o w.bytes w.sound h l))
 
   module _ (k : Kind) where
-    -- the view of a place at which a record starts
+    -- the view of an offset at which a record starts
     pub view_seen : (at : ℕ) (x : KeptRecord) → record_at at (w.sound.kind_stores k).whole.kept ≡ Some x
         → seen_in o k (view_in o.texts.strings k (kind_store_of k o) at) ≡ seen x.id (swap_record (text_of held) x.held)
     view_seen at x h =
@@ -89,14 +89,14 @@ module _ (refused : Bool) (o : Overlay) (held : List Bytes) (acts : List (Act By
             let x = unknown_reads o w.bytes w.sound k id f e in
             record { get = ap (seen_in o k) x.1.1; has = x.0; deleted = x.1.0 }
         go (Some r) e =
-            by_bool (is_live r.place)
+            by_bool (is_live r.offset)
             (λ t.
             let sw = w.sound.kind_stores k in
             let x = row_starts sw.whole.kept r (find_passes (sound_row sw.whole.kept) (rank id) (rows_in (kind_store_of k o)) r sw.rows e) t in
             let i : x.0.id ≡ id = x.1.1 ∙ (ap id_of (find_rank (rank id) (rows_in (kind_store_of k o)) r e) ∙ id_rank f) in
             let y = live_reads o w.bytes w.sound k id f r e t in
-            rw (t, record_read o.texts.strings k (kind_store_of k o) sw r.place x.0 x.1.0) (record {
-              get = rw (live_view_lem o w.bytes w.sound k id f r e t, view_seen r.place x.0 x.1.0, i);
+            rw (t, record_read o.texts.strings k (kind_store_of k o) sw r.offset x.0 x.1.0) (record {
+              get = rw (live_view_lem o w.bytes w.sound k id f r e t, view_seen r.offset x.0 x.1.0, i);
               has = y.0;
               deleted = y.1.0;
             }))

@@ -5,8 +5,6 @@ use mathlib.Core.Path.{◌≡◌, refl, sym, ◌∙◌, ap}
 use mathlib.Core.Bool.{true, false, cond}
 use mathlib.Core.List.{List, [], ◌∷◌}
 use native.Mathlib.Omega.{arith}
-use lib.Dec.{eqb}
-use lib.Pointwise.{pointwise}
 use lib.ListN.{length, get_or, take, drop, length-map}
 use lib.Seq.{take_all}
 use Rattle.std.specs.Ordering.{nat_cmp, ordering_then, ordering_reverse, is_eq}
@@ -23,17 +21,11 @@ use Rattle.std.proofs.lemmas.List.Sorted.{IsPermutation-map, IsPermutation-sym, 
 use Rattle.base.specs.Bytes.{Bytes, both, all, same}
 use Rattle.base.proofs.Split.{by_bool, by_le, both_left, both_right, both_of, clash, no, same_test}
 use Rattle.base.proofs.Lists.{same_yes, same_refl, all_nil, all_cons, all_head, all_tail}
+use Rattle.base.proofs.Equal.{equal}
 use Rattle.distinct.specs.Distinct.{differs, distinct, run_in, runs_in, RightOf}
 use Rattle.distinct.specs.Check.{run_cmp, run_at, Rises}
 
 -- ---- the order of runs
-
-pub pointwise_same : (a b : Bytes) → pointwise eqb a b ≡ same a b
-unfolding same both
-pointwise_same [] [] = refl
-pointwise_same [] (y ∷ ys) = refl
-pointwise_same (x ∷ xs) [] = refl
-pointwise_same (x ∷ xs) (y ∷ ys) = by_bool (eqb x y) (λ p. rw p (pointwise_same xs ys)) (λ p. rw p refl)
 
 run_less_less : (a b c : Bytes) → run_cmp a b ≡ Less → run_cmp b c ≡ Less → run_cmp a c ≡ Less
 run_less_less a b c p q = nat_list_cmp_total.trans (length a ∷ a) (length b ∷ b) (length c ∷ c) p q
@@ -57,7 +49,7 @@ then_equal Greater p e = no cc
 pub equal_runs : (a b : Bytes) → run_cmp a b ≡ Equal → a ≡ b
 equal_runs a b e =
     let q : slice_cmp nat_cmp a b ≡ Equal = then_equal (nat_cmp (length a) (length b)) (slice_cmp nat_cmp a b) e in
-    same_yes a b (sym (is_eq-slice_cmp a b ∙ pointwise_same a b) ∙ ap is_eq q)
+    same_yes a b (sym (equal a b (is_eq-slice_cmp a b)) ∙ ap is_eq q)
 
 nothing_left : (xs : Bytes) → length xs ≡ 0 → xs ≡ []
 nothing_left [] e = refl

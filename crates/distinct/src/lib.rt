@@ -128,8 +128,8 @@ fn sort_parts(bytes: &[u8], words: &mut [u64])
 fn rises(bytes: &[u8], words: &[u64]) -> Option<bool>
     ensures { RightOf result (distinct (runs_in bytes.now words.now)) }
 {
-    for i in 1..words.len() {
-        match compare(run_of(bytes, words[i - 1]), run_of(bytes, words[i])) {
+    for [v, w] in words.array_windows::<2>() {
+        match compare(run_of(bytes, *v), run_of(bytes, *w)) {
             Ordering::Less => {}
             Ordering::Equal => {
                 return Some(false);

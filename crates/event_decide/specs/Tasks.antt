@@ -14,7 +14,7 @@ use Rattle.event_decide.specs.declared.tasks.Task.{Task}
 
 abbrev pub work_means : Place → Work → Decision
 work_means p W.Nothing = moves p
-work_means p (W.Begins e) = begins e.empty p (to_z w64 e.id) (metadata_means e.metadata) (body_in e.kind e.lat e.lon)
+work_means p (W.Begins e) = begins e.empty p (to_z w64 e.id) (metadata_means e.metadata) (body_in e.kind e.coordinates.lat e.coordinates.lon)
 work_means p (W.Deletes e) = deletes e.kind p (to_z w64 e.id) (metadata_means e.metadata)
 work_means p (W.Tags t) = tags p (tag_means t)
 work_means p (W.Refers r) = refers p (to_z w64 r)

@@ -18,14 +18,13 @@ use kind::Kind;
 use nesting::{Action, Child, Level, Name, Opening, Place};
 use refusal::Refusal;
 
-// An element that is to be pushed, and ends too where it is empty; a node's place in bits, 0 for another kind.
+// An element that is to be pushed, and ends too where it is empty; a node's coordinates, 0 for another kind.
 #[derive(Clone, Copy, Debug)]
 pub struct NewElement<'a> {
     pub empty: bool,
     pub kind: Kind,
     pub id: u64,
-    pub lat: u32,
-    pub lon: u32,
+    pub coordinates: Coordinates,
     pub metadata: MetadataValues<'a, MAX_LINE>,
 }
 
@@ -75,13 +74,12 @@ fn begins<'a>(
     match action {
         Action::Delete => Ok(Work::Deletes(OldElement { kind, id, metadata })),
         Action::Create | Action::Modify => {
-            let Coordinates { lat, lon } = event_values::body_of(attributes, kind)?;
+            let coordinates = event_values::body_of(attributes, kind)?;
             Ok(Work::Begins(NewElement {
                 empty,
                 kind,
                 id,
-                lat,
-                lon,
+                coordinates,
                 metadata,
             }))
         }

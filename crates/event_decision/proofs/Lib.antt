@@ -3,3 +3,4 @@ pub mod Decided
 pub mod Lawful
 pub mod Table
 pub mod Refusals
+pub mod Given

@@ -5,6 +5,7 @@ use mathlib.Core.Bool.{Bool, true, false, cond}
 use Rattle.base.proofs.Split.{clash}
 use Rattle.kind.specs.declared.Kind.{Kind}
 use Rattle.kind.specs.declared.Kind.TheVariants as K
+use Rattle.nesting.specs.Grammar.{kind_name}
 use Rattle.nesting.specs.Nesting.{unless, section_of, in_doc, in_root, in_section, in_way, in_relation, not_in_node, in_element, opened_at, opened, closed}
 use Rattle.nesting.specs.declared.Name.{Name}
 use Rattle.nesting.specs.declared.Name.TheVariants as N
@@ -54,8 +55,9 @@ pub record Going (n : Name) (p q : Place) : Type 0 where
   pub kind : q.kind ≡ p.kind
   pub inside : is_inside p.level ≡ true → (q.section ≡ p.section) × (child_named n ≡ None)
 
--- an element begins outside elements, and stands open unless it is empty
-pub record Beginning (e : Bool) (k : Kind) (p q : Place) : Type 0 where
+-- an element begins outside elements, has the name of its kind, and stands open unless it is empty
+pub record Beginning (e : Bool) (n : Name) (k : Kind) (p q : Place) : Type 0 where
+  pub kind : n ≡ kind_name k
   pub outside : is_inside p.level ≡ false
   pub leads_to : q ≡ cond e p (record { level = L.Element; section = p.section; kind = k })
 
@@ -70,7 +72,7 @@ abbrev pub Leads : Bool → Name → Place → Opened → Type 0
 Leads e n p O.Misplaced = Unit {0}
 Leads e n p O.OutsideSection = Unit {0}
 Leads e n p (O.Goes q) = Going n p q
-Leads e n p (O.Begins k q) = Beginning e k p q
+Leads e n p (O.Begins k q) = Beginning e n k p q
 Leads e n p (O.Holds c q) = Holding n c p q
 
 unless_kind : (e : Bool) (l : Level) (p : Place) → (unless e l p).kind ≡ p.kind
@@ -128,9 +130,9 @@ module _ (e : Bool) (p : Place) (outside : is_inside p.level ≡ false) where
   in_section_leads N.Create = tt
   in_section_leads N.Modify = tt
   in_section_leads N.Delete = tt
-  in_section_leads N.Node = record { outside = outside; leads_to = refl }
-  in_section_leads N.Way = record { outside = outside; leads_to = refl }
-  in_section_leads N.Relation = record { outside = outside; leads_to = refl }
+  in_section_leads N.Node = record { kind = refl; outside = outside; leads_to = refl }
+  in_section_leads N.Way = record { kind = refl; outside = outside; leads_to = refl }
+  in_section_leads N.Relation = record { kind = refl; outside = outside; leads_to = refl }
   in_section_leads N.Tag = tt
   in_section_leads N.Nd = tt
   in_section_leads N.Member = tt

@@ -1,2 +1,3 @@
 pub mod Fields
 pub mod Metadata
+pub mod Given

@@ -1,4 +1,3 @@
-pub mod Equal
 pub mod Places
 pub mod Pieces
 pub mod Lines

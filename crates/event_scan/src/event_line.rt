@@ -114,10 +114,9 @@ fn once(rest: &Fields<'_, MAX_LINE>) -> bool
     if attributes.bytes().len() < 96 {
         return attributes.once_in_pairs();
     }
-    match distinct::noted_differ(&attributes) {
-        Some(told) => told,
-        None => attributes.once_in_pairs(),
-    }
+    // Bound before the call: of a closure written inside this call the check infers nothing of its answer.
+    let pairs = || attributes.once_in_pairs();
+    distinct::noted_differ(&attributes).unwrap_or_else(pairs)
 }
 
 fn many_stand(rest: &Fields<'_, MAX_LINE>) -> bool
@@ -130,10 +129,9 @@ fn many_stand(rest: &Fields<'_, MAX_LINE>) -> bool
 fn attributes_stand(rest: &Fields<'_, MAX_LINE>) -> bool
     ensures { result ≡ stand (attrs_of (fields_left rest.now)) }
 {
-    match few_stand(rest) {
-        Some(stands) => stands,
-        None => many_stand(rest),
-    }
+    // Bound before the call, as in `once`.
+    let many = || many_stand(rest);
+    few_stand(rest).unwrap_or_else(many)
 }
 
 // ---- a line
@@ -187,7 +185,7 @@ fn alone(word: &[u8]) -> Result<EventLine<'_>, Refusal>
 
 // The event of a text's fields.
 fn event(text: &[u8]) -> Result<EventLine<'_>, Refusal>
-    requires { length text.now ≤ 16384 }
+    requires { length text.now ≤ MAX_LINE }
     ensures { line_means result ≡ event_from (fields text.now) }
 {
     let mut rest = Fields::new(text);

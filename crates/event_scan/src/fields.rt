@@ -166,7 +166,7 @@ impl<'a, const N: usize> Attributes<'a, N> {
 }
 
 // The largest length that a type can name: no slice is longer.
-pub const ANY_LENGTH: usize = 18446744073709551615;
+pub const ANY_LENGTH: usize = usize::MAX;
 
 impl<'a> Attributes<'a, ANY_LENGTH> {
     ghost use Rattle.event_scan.specs.Fields.{written_left};

@@ -15,6 +15,7 @@ ghost use Rattle.event_values.specs.Values.{value_field, tag_answered, member_an
 
 use event_scan::fields::{Attributes, Value};
 use kind::Kind;
+use model::{MAX_LAT7, MAX_LON7};
 use nesting::Name;
 use refusal::Refusal;
 
@@ -75,8 +76,8 @@ pub struct Coordinates {
 fn node_coordinates<const N: usize>(attributes: &Attributes<'_, N>) -> Result<Coordinates, Refusal>
     ensures { body_field kinds.Node result ≡ body_for kinds.Node (attributes_left attributes.now) }
 {
-    let lat = coordinate_field(attributes, b"lat7", 900_000_000)?;
-    let lon = coordinate_field(attributes, b"lon7", 1_800_000_000)?;
+    let lat = coordinate_field(attributes, b"lat7", MAX_LAT7)?;
+    let lon = coordinate_field(attributes, b"lon7", MAX_LON7)?;
     Ok(Coordinates { lat, lon })
 }
 

@@ -136,10 +136,9 @@ impl Texts<'_> {
             texts: *self,
             count: n,
         };
-        match distinct::noted_differ(&texts) {
-            Some(told) => told,
-            None => self.sound_in_pairs(n),
-        }
+        // Bound before the call: of a closure written inside this call the check infers nothing of its answer.
+        let pairs = || self.sound_in_pairs(n);
+        distinct::noted_differ(&texts).unwrap_or_else(pairs)
     }
 }
 

@@ -56,7 +56,7 @@ unfolding rows_on
 lists_all [] = refl
 lists_all (r ∷ rs) =
     let n = lists_all rs in
-    by_bool (is_live r.place)
+    by_bool (is_live r.offset)
     (λ t. rw (on_more Live r rs t, on_other Deleted r rs (ap not t)) (omega arith))
     (λ t. rw (on_other Live r rs t, on_more Deleted r rs (ap not t)) (omega arith))
 
@@ -92,10 +92,10 @@ module _ (k : ℕ) (rs : List Row) (h : rising rs ≡ true) where
           (λ t. let x : None ≡ Some r = rw t at g in no cc)
 
   -- a live row is on the live list and not on the deleted one, any other on the deleted list and not on the live one
-  pub find_live : (r : Row) → find k rs ≡ Some r → is_live r.place ≡ true → (find k (rows_on Live rs) ≡ Some r) × (find k (rows_on Deleted rs) ≡ None)
+  pub find_live : (r : Row) → find k rs ≡ Some r → is_live r.offset ≡ true → (find k (rows_on Live rs) ≡ Some r) × (find k (rows_on Deleted rs) ≡ None)
   find_live r e t = (find_on Live k rs h ∙ rw (e, t), find_on Deleted k rs h ∙ rw (e, t))
 
-  pub find_deleted : (r : Row) → find k rs ≡ Some r → is_live r.place ≡ false → (find k (rows_on Live rs) ≡ None) × (find k (rows_on Deleted rs) ≡ Some r)
+  pub find_deleted : (r : Row) → find k rs ≡ Some r → is_live r.offset ≡ false → (find k (rows_on Live rs) ≡ None) × (find k (rows_on Deleted rs) ≡ Some r)
   find_deleted r e t = (find_on Live k rs h ∙ rw (e, t), find_on Deleted k rs h ∙ rw (e, t))
 
   -- an id that is not known is on neither
@@ -119,6 +119,6 @@ nth_past (r ∷ rs) (suc n) l = nth_past rs n (omega arith)
 -- "21 number not below its list's count"
 pub missing_is : (rs : List Row) (n : ℕ) → (nth rs n ≡ None) ↔ (length rs ≤ n)
 missing_is rs n = (
-  λ e. by_lt n (length rs) (λ l. let d : Row = record { rank = 0; place = 0; floor = 0 } in let z : Some (get_or rs n d) ≡ None = sym (nth_at rs n d l) ∙ e in no (cc)) (λ l. l),
+  λ e. by_lt n (length rs) (λ l. let d : Row = record { rank = 0; offset = 0; floor = 0 } in let z : Some (get_or rs n d) ≡ None = sym (nth_at rs n d l) ∙ e in no (cc)) (λ l. l),
   nth_past rs n,
 )

@@ -40,19 +40,19 @@ module _ (table : List ℕ) (ids : ℕ) (id : ℤ) where
 
 -- a live row, and one of a deleted id
 module _ (r : Row) where
-  pub row_live : is_live r.place ≡ true → row_standing r ≡ Live r.place
+  pub row_live : is_live r.offset ≡ true → row_standing r ≡ Live r.offset
   unfolding row_standing
   row_live t = rw t
 
-  pub row_deleted : is_live r.place ≡ false → row_standing r ≡ Deleted
+  pub row_deleted : is_live r.offset ≡ false → row_standing r ≡ Deleted
   unfolding row_standing
   row_deleted t = rw t
 
   pub row_known : row_standing r ≡ Unknown → ⊥
   unfolding row_standing
   row_known e =
-      by_bool (is_live r.place)
-      (λ t. let z : Live r.place ≡ Unknown = rw t at e in no (cc))
+      by_bool (is_live r.offset)
+      (λ t. let z : Live r.offset ≡ Unknown = rw t at e in no (cc))
       (λ t. let z : Deleted ≡ Unknown = rw t at e in no (cc))
 
 pub not_back : (a b : Bool) → a ≡ not b → b ≡ not a

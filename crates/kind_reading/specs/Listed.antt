@@ -24,8 +24,8 @@ rows_read table ids = rows_of table (held table ids)
 
 -- a row is on the live list or on the deleted list
 abbrev pub is_on : Side → Row → Bool
-is_on Live r = is_live r.place
-is_on Deleted r = not (is_live r.place)
+is_on Live r = is_live r.offset
+is_on Deleted r = not (is_live r.offset)
 
 -- the live rows, or the deleted rows, in the table's order, which is OSM order
 unfoldable pub rows_on : Side → List Row → List Row
@@ -40,9 +40,9 @@ nth (r ∷ rs) (suc n) = nth rs n
 
 -- ---- by id
 
--- live with the place of its record, or deleted, or not known
+-- live with the offset of its record, or deleted, or not known
 unfoldable pub row_standing : Row → Standing
-row_standing r = cond (is_live r.place) (S.Live r.place) S.Deleted
+row_standing r = cond (is_live r.offset) (S.Live r.offset) S.Deleted
 
 abbrev pub standing_at : List ℕ → Result ℕ ℕ → Standing
 standing_at table (Ok i) = row_standing (row_at table i)

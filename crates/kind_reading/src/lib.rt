@@ -20,7 +20,7 @@ pub enum Side {
     Deleted,
 }
 
-// What is known of an id: live with the place of its record, deleted, or nothing. It is an enum: an Option of an Option would not say which of its two
+// What is known of an id: live with the offset of its record, deleted, or nothing. It is an enum: an Option of an Option would not say which of its two
 // `None` is the deleted id.
 #[derive(Clone, Copy, PartialEq, Eq, Debug)]
 pub enum Standing {
@@ -35,8 +35,8 @@ impl Side {
         ensures { result ≡ is_on self row }
     {
         match self {
-            Side::Live => row.record_place().is_some(),
-            Side::Deleted => row.record_place().is_none(),
+            Side::Live => row.record_offset().is_some(),
+            Side::Deleted => row.record_offset().is_none(),
         }
     }
 }
@@ -45,8 +45,8 @@ impl From<Row> for Standing {
     ghost from_gives = { λ row standing. standing ≡ row_standing row };
 
     fn from(row: Row) -> Self {
-        match row.record_place() {
-            Some(place) => Standing::Live(place),
+        match row.record_offset() {
+            Some(offset) => Standing::Live(offset),
             None => Standing::Deleted,
         }
     }

@@ -60,7 +60,7 @@ cut_id k s c e =
     (λ l. let z : None ≡ Some c = sym (record_short k s l) ∙ e in no cc)
 
 module _ (strings : ℕ) (k : Kind) (s : Bytes) where
-  -- a record at a place, with the records after it
+  -- a record at an offset, with the records after it
   there : (at : ℕ) (x : KeptRecord) (xs : List KeptRecord) → fits_kept k x ≡ true → drop at s ≡ kept_bytes x ++ joined_bytes kept_bytes xs → cut_record k (drop at s) ≡ found x (joined_bytes kept_bytes xs)
   there at x xs f e = rw e ((record_format k).back x (joined_bytes kept_bytes xs) f)
 
@@ -86,30 +86,30 @@ module _ (strings : ℕ) (k : Kind) (s : Bytes) where
 
   -- ---- the walk comes to the starts, and to nothing else
 
-  module _ (id place : ℕ) where
-    walk : (xs : List KeptRecord) (f at : ℕ) → all (fits_kept k) xs ≡ true → all (λ (x : KeptRecord). legal strings x.held) xs ≡ true → drop at s ≡ joined_bytes kept_bytes xs → at ≤ length s → at ≤ place → place ≤ at + f
-        → both (id_there s id place) (comes_to strings k s place f at) ≡ starts_at (id_of id) (place - at) xs
+  module _ (id offset : ℕ) where
+    walk : (xs : List KeptRecord) (f at : ℕ) → all (fits_kept k) xs ≡ true → all (λ (x : KeptRecord). legal strings x.held) xs ≡ true → drop at s ≡ joined_bytes kept_bytes xs → at ≤ length s → at ≤ offset → offset ≤ at + f
+        → both (id_there s id offset) (comes_to strings k s offset f at) ≡ starts_at (id_of id) (offset - at) xs
     unfolding joined_bytes starts_at record_at id_there
     walk [] f at p q e h a b =
         let n : length s ≤ at = omega (arith, sym (length-drop at s) ∙ ap length e) in
-        both_no_left _ _ (both_no_left _ _ (le-ltb place (length s) (omega arith)))
+        both_no_left _ _ (both_no_left _ _ (le-ltb offset (length s) (omega arith)))
     walk (x ∷ xs) f at p q e h a b =
         let fx = all_head (fits_kept k) x xs p in
         let lx = all_head (λ (x : KeptRecord). legal strings x.held) x xs q in
         let n = kept_long x in
         let g = long at x xs e in
         let t : record_end strings k s at ≡ Some (at + length (kept_bytes x)) = end_is at x xs fx lx e in
-        by_eq at place
-        (λ i. let z : place - at ≡ 0 = omega arith in
-        let c : comes_to strings k s place f at ≡ true = arrived strings k s place f at (omega arith) ∙ eq-eqb at place i in
+        by_eq at offset
+        (λ i. let z : offset - at ≡ 0 = omega arith in
+        let c : comes_to strings k s offset f at ≡ true = arrived strings k s offset f at (omega arith) ∙ eq-eqb at offset i in
         rw (z, c, ← i, lt-ltb at (length s) (omega arith), id_at at x xs fx e) (both_true _))
-        (λ i. let y = steps strings k s place f at (at + length (kept_bytes x)) b (omega arith) (sym t) (omega arith) in
-        rw (← y.1.1, ne_eqb (place - at) 0 (λ z. i (omega arith)))
-        (by_lt (place - at) (length (kept_bytes x))
-        (λ l. rw (lt-ltb (place - at) (length (kept_bytes x)) l)
-        (both_no_right _ (arrived strings k s place y.0 (at + length (kept_bytes x)) (omega arith) ∙ ne_eqb (at + length (kept_bytes x)) place (λ z. omega arith))))
-        (λ l. let m : place - at - length (kept_bytes x) ≡ place - (at + length (kept_bytes x)) = omega arith in
-        rw (le-ltb (place - at) (length (kept_bytes x)) l, m)
+        (λ i. let y = steps strings k s offset f at (at + length (kept_bytes x)) b (omega arith) (sym t) (omega arith) in
+        rw (← y.1.1, ne_eqb (offset - at) 0 (λ z. i (omega arith)))
+        (by_lt (offset - at) (length (kept_bytes x))
+        (λ l. rw (lt-ltb (offset - at) (length (kept_bytes x)) l)
+        (both_no_right _ (arrived strings k s offset y.0 (at + length (kept_bytes x)) (omega arith) ∙ ne_eqb (at + length (kept_bytes x)) offset (λ z. omega arith))))
+        (λ l. let m : offset - at - length (kept_bytes x) ≡ offset - (at + length (kept_bytes x)) = omega arith in
+        rw (le-ltb (offset - at) (length (kept_bytes x)) l, m)
         (walk xs y.0 (at + length (kept_bytes x)) (all_tail (fits_kept k) x xs p) (all_tail (λ (x : KeptRecord). legal strings x.held) x xs q) (after at x xs e) (omega arith) (omega arith) y.1.0))))
 
 -- ---- the rows
@@ -121,15 +121,15 @@ all_same p q h (x ∷ xs) = rw (h x, all_same p q h xs)
 
 module _ (strings : ℕ) (k : Kind) (s : Bytes) (w : Whole strings k s) where
   -- of whole records: the walk comes to a record of the id exactly where one starts
-  pub there_is : (id place : ℕ) → record_there strings k s id place ≡ starts_at (id_of id) place w.kept
+  pub there_is : (id offset : ℕ) → record_there strings k s id offset ≡ starts_at (id_of id) offset w.kept
   unfolding record_there
-  there_is id place =
-      let z : place - 0 ≡ place = omega arith in
-      rw z at (walk strings k s id place w.kept place 0 w.fits w.legals w.same (omega arith) (omega arith) (omega arith))
+  there_is id offset =
+      let z : offset - 0 ≡ offset = omega arith in
+      rw z at (walk strings k s id offset w.kept offset 0 w.fits w.legals w.same (omega arith) (omega arith) (omega arith))
 
   pub passes_is : (r : Row) → row_passes strings k s r ≡ sound_row w.kept r
   unfolding row_passes sound_row
-  passes_is r = rw (there_is r.rank r.place)
+  passes_is r = rw (there_is r.rank r.offset)
 
   pub rows_are : (rs : List Row) → all (row_passes strings k s) rs ≡ all (sound_row w.kept) rs
   rows_are rs = all_same (row_passes strings k s) (sound_row w.kept) passes_is rs

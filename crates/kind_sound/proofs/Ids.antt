@@ -1,4 +1,4 @@
--- The id that stands at a place, by its rank.
+-- The id that stands at an offset, by its rank.
 use Prim.Native.Nat.{ℕ, zero, suc, ◌-◌, ◌^◌}
 use mathlib.Core.Path.{◌≡◌, refl, sym, ◌∙◌, ap}
 use native.Mathlib.Omega.{arith}

@@ -55,24 +55,24 @@ all_put p n (r ∷ rs) h g =
 row_stays : (xs ys : List KeptRecord) (r : Row) → sound_row xs r ≡ true → sound_row (xs ++ ys) r ≡ true
 unfolding sound_row
 row_stays xs ys r h =
-    by_either (not (is_live r.place)) (starts_at (id_of r.rank) r.place xs) h
+    by_either (not (is_live r.offset)) (starts_at (id_of r.rank) r.offset xs) h
     (λ t. either_left _ _ t)
-    (λ t. either_right _ (starts_stays (id_of r.rank) r.place xs ys t))
+    (λ t. either_right _ (starts_stays (id_of r.rank) r.offset xs ys t))
 
 rows_stay : (xs ys : List KeptRecord) (rs : List Row) → all (sound_row xs) rs ≡ true → all (sound_row (xs ++ ys)) rs ≡ true
 rows_stay xs ys [] h = all_nil (sound_row (xs ++ ys))
 rows_stay xs ys (r ∷ rs) h = all_cons (sound_row (xs ++ ys)) r rs (row_stays xs ys r (all_head (sound_row xs) r rs h)) (rows_stay xs ys rs (all_tail (sound_row xs) r rs h))
 
 -- what a push or a delete lays down keeps a kind store sound, where its row passes and the records are those before and more behind them
-pub laid_sound : (strings : ℕ) (k : Kind) (s t : KindStore) (id : ℤ) (place floor : ℕ) (ys : List KeptRecord) → Laid s id place floor t → (w : SoundKindStore strings k s)
+pub laid_sound : (strings : ℕ) (k : Kind) (s t : KindStore) (id : ℤ) (offset floor : ℕ) (ys : List KeptRecord) → Laid s id offset floor t → (w : SoundKindStore strings k s)
     → t.used ≤ length t.arena → (v : Whole strings k (take t.used t.arena)) → v.kept ≡ w.whole.kept ++ ys
-    → sound_row v.kept (record { rank = rank id; place = place; floor = floor }) ≡ true → SoundKindStore strings k t
-laid_sound strings k s t id place floor ys l w f v e h =
+    → sound_row v.kept (record { rank = rank id; offset = offset; floor = floor }) ≡ true → SoundKindStore strings k t
+laid_sound strings k s t id offset floor ys l w f v e h =
     record {
       fits = f;
       whole = v;
       order = l.sound;
-      rows = rw l.rows (all_put (sound_row v.kept) (record { rank = rank id; place = place; floor = floor }) (rows_of s.table s.ids) h (rw e (rows_stay w.whole.kept ys (rows_of s.table s.ids) w.rows)));
+      rows = rw l.rows (all_put (sound_row v.kept) (record { rank = rank id; offset = offset; floor = floor }) (rows_of s.table s.ids) h (rw e (rows_stay w.whole.kept ys (rows_of s.table s.ids) w.rows)));
     }
 
 module _ (strings : ℕ) (k : Kind) (setting : ℕ) (s : KindStore) (id : ℤ) (claim : Option ℤ) (w : SoundKindStore strings k s) where
@@ -83,7 +83,7 @@ module _ (strings : ℕ) (k : Kind) (setting : ℕ) (s : KindStore) (id : ℤ) (
       (λ v c w. let z = answered w e in no (cc)) (λ c r w. let z = answered w e in no (cc))
       (λ c r w. rw w (refl, refl))
 
-  gone_sound : (xs : List KeptRecord) (n floor : ℕ) → sound_row xs (record { rank = n; place = gone; floor = floor }) ≡ true
+  gone_sound : (xs : List KeptRecord) (n floor : ℕ) → sound_row xs (record { rank = n; offset = gone; floor = floor }) ≡ true
   unfolding sound_row is_live
   gone_sound xs n floor = either_left _ _ refl
 
@@ -105,7 +105,7 @@ module _ (strings : ℕ) (k : Kind) (setting : ℕ) (s : KindStore) (claim : Opt
       rw (push_used k setting s x.id claim (kept_bytes x) taken, push_arena k setting s x.id claim (kept_bytes x) taken)
       (appended s.arena s.used (kept_bytes x) (over s.arena s.used (kept_bytes x)) (s.used + length (kept_bytes x)) (fits_is s.arena s.used (kept_bytes x) l)).used_bytes
 
-  new_row : (floor : ℕ) → sound_row (w.whole.kept ++ x ∷ []) (record { rank = rank x.id; place = s.used; floor = floor }) ≡ true
+  new_row : (floor : ℕ) → sound_row (w.whole.kept ++ x ∷ []) (record { rank = rank x.id; offset = s.used; floor = floor }) ≡ true
   unfolding sound_row
   new_row floor =
       let n : length (joined_bytes kept_bytes w.whole.kept) ≡ s.used = sym (ap length w.whole.same) ∙ length-take-le s.used s.arena w.fits in

@@ -27,16 +27,16 @@ use Rattle.kind_sound.specs.Check.{comes_to, id_there, record_there, row_passes,
 use Rattle.kind_sound.specs.Cells.{Empty}
 
 module _ (strings : ℕ) (k : Kind) (s : Bytes) (r : Row) where
-  pub passes_there : is_live r.place ≡ true → r.place < length s → (t u : Bool)
-      → t ≡ same_id (to_z w64 (value_at 8 s r.place)) (id_of r.rank) → u ≡ comes_to strings k s r.place r.place 0 → (t && u) ≡ row_passes strings k s r
+  pub passes_there : is_live r.offset ≡ true → r.offset < length s → (t u : Bool)
+      → t ≡ same_id (to_z w64 (value_at 8 s r.offset)) (id_of r.rank) → u ≡ comes_to strings k s r.offset r.offset 0 → (t && u) ≡ row_passes strings k s r
   unfolding row_passes record_there id_there both either
-  passes_there l m t u p q = rw (l, lt-ltb r.place (length s) m, ← p, ← q) (and_both t u)
+  passes_there l m t u p q = rw (l, lt-ltb r.offset (length s) m, ← p, ← q) (and_both t u)
 
-  pub passes_past : is_live r.place ≡ true → length s ≤ r.place → false ≡ row_passes strings k s r
+  pub passes_past : is_live r.offset ≡ true → length s ≤ r.offset → false ≡ row_passes strings k s r
   unfolding row_passes record_there id_there both either
-  passes_past l m = rw (l, le-ltb r.place (length s) m)
+  passes_past l m = rw (l, le-ltb r.offset (length s) m)
 
-  pub passes_deleted : is_live r.place ≡ false → true ≡ row_passes strings k s r
+  pub passes_deleted : is_live r.offset ≡ false → true ≡ row_passes strings k s r
   unfolding row_passes either
   passes_deleted l = rw l
 

@@ -1,4 +1,4 @@
--- A walk from record to record to a place, step by step; and the cells that tell on its way where records start.
+-- A walk from record to record to an offset, step by step; and the cells that tell on its way where records start.
 use Rattle.std.specs.Prelude.{None, Some}
 use Prim.Native.Nat.{ℕ, zero, suc, ◌+◌, ◌/◌, ◌<◌, ◌≤◌}
 use mathlib.Core.Path.{◌≡◌, refl, sym, ◌∙◌, ap}
@@ -20,64 +20,64 @@ use Rattle.compact.proofs.Places.{off_end}
 use Rattle.kind_sound.specs.Check.{comes_to}
 use Rattle.kind_sound.specs.Cells.{cell_of, Empty, Noted}
 
-module _ (strings : ℕ) (k : Kind) (s : Bytes) (place : ℕ) where
-  pub arrived : (f at : ℕ) → place ≤ at → comes_to strings k s place f at ≡ eqb at place
+module _ (strings : ℕ) (k : Kind) (s : Bytes) (offset : ℕ) where
+  pub arrived : (f at : ℕ) → offset ≤ at → comes_to strings k s offset f at ≡ eqb at offset
   unfolding comes_to
   arrived zero at h = refl
-  arrived (suc f) at h = rw (le-ltb at place h)
+  arrived (suc f) at h = rw (le-ltb at offset h)
 
-  pub steps : (f at e : ℕ) → place ≤ at + f → at < place → Some e ≡ record_end strings k s at → at < e → (g : ℕ) × ((place ≤ e + g) × (comes_to strings k s place g e ≡ comes_to strings k s place f at))
+  pub steps : (f at e : ℕ) → offset ≤ at + f → at < offset → Some e ≡ record_end strings k s at → at < e → (g : ℕ) × ((offset ≤ e + g) × (comes_to strings k s offset g e ≡ comes_to strings k s offset f at))
   unfolding comes_to
   steps zero at e l h t n = absurd (omega arith)
-  steps (suc f) at e l h t n = (f, (omega arith, rw (lt-ltb at place h, ← t)))
+  steps (suc f) at e l h t n = (f, (omega arith, rw (lt-ltb at offset h, ← t)))
 
-  pub stops : (f at : ℕ) → place ≤ at + f → at < place → None ≡ record_end strings k s at → comes_to strings k s place f at ≡ false
+  pub stops : (f at : ℕ) → offset ≤ at + f → at < offset → None ≡ record_end strings k s at → comes_to strings k s offset f at ≡ false
   unfolding comes_to
   stops zero at l h t = absurd (omega arith)
-  stops (suc f) at l h t = rw (lt-ltb at place h, ← t)
+  stops (suc f) at l h t = rw (lt-ltb at offset h, ← t)
 
-  -- a walk to one place: what is left of it from `at` on
+  -- a walk to one offset: what is left of it from `at` on
   pub record Coming (at : ℕ) : Type 0 where
     pub inside : at ≤ length s
     pub fuel : ℕ
-    pub enough : place ≤ at + fuel
-    pub same : comes_to strings k s place fuel at ≡ comes_to strings k s place place 0
+    pub enough : offset ≤ at + fuel
+    pub same : comes_to strings k s offset fuel at ≡ comes_to strings k s offset offset 0
 
   pub coming_first : Coming 0
-  coming_first = record { inside = omega arith; fuel = place; enough = omega arith; same = refl }
+  coming_first = record { inside = omega arith; fuel = offset; enough = omega arith; same = refl }
 
-  pub coming_next : (at e : ℕ) → Coming at → at < place → Some e ≡ record_end strings k s at → (at < e) × Coming e
+  pub coming_next : (at e : ℕ) → Coming at → at < offset → Some e ≡ record_end strings k s at → (at < e) × Coming e
   coming_next at e w h t =
       let o = walk_on strings k s at e w.inside t in
       let g = steps w.fuel at e w.enough h t o.1.0 in
       (o.1.0, record { inside = o.1.1; fuel = g.0; enough = g.1.0; same = g.1.1 ∙ w.same })
 
--- the walk comes to `at`: to any place from there on, it goes as the whole walk does
+-- the walk comes to `at`: to any offset from there on, it goes as the whole walk does
 pub Reached : ℕ → Kind → Bytes → ℕ → Type 0
-Reached strings k s at = (place : ℕ) → at ≤ place → (f : ℕ) × ((place ≤ at + f) × (comes_to strings k s place f at ≡ comes_to strings k s place place 0))
+Reached strings k s at = (offset : ℕ) → at ≤ offset → (f : ℕ) × ((offset ≤ at + f) × (comes_to strings k s offset f at ≡ comes_to strings k s offset offset 0))
 
 module _ (strings : ℕ) (k : Kind) (s : Bytes) where
   pub reached_first : Reached strings k s 0
   unfolding Reached
-  reached_first place h = (place, (omega arith, refl))
+  reached_first offset h = (offset, (omega arith, refl))
 
   module _ (at e : ℕ) (reached : Reached strings k s at) (t : Some e ≡ record_end strings k s at) (h : at < e) where
     pub reached_next : Reached strings k s e
     unfolding Reached
-    reached_next place l =
-        let f = reached place (omega arith) in
-        let g = steps strings k s place f.0 at e f.1.0 (omega arith) t h in
+    reached_next offset l =
+        let f = reached offset (omega arith) in
+        let g = steps strings k s offset f.0 at e f.1.0 (omega arith) t h in
         (g.0, (g.1.0, g.1.1 ∙ f.1.1))
 
     -- no record starts inside another
-    start_only : (place : ℕ) → at ≤ place → place < e → comes_to strings k s place place 0 ≡ eqb at place
+    start_only : (offset : ℕ) → at ≤ offset → offset < e → comes_to strings k s offset offset 0 ≡ eqb at offset
     unfolding Reached
-    start_only place l m =
-        let f = reached place l in
-        by_eq at place
-        (λ i. sym f.1.1 ∙ arrived strings k s place f.0 at (omega arith))
-        (λ i. let g = steps strings k s place f.0 at e f.1.0 (omega arith) t h in
-        sym f.1.1 ∙ (sym g.1.1 ∙ (arrived strings k s place g.0 e (omega arith) ∙ (ne_eqb e place (λ z. omega arith) ∙ sym (ne_eqb at place i)))))
+    start_only offset l m =
+        let f = reached offset l in
+        by_eq at offset
+        (λ i. sym f.1.1 ∙ arrived strings k s offset f.0 at (omega arith))
+        (λ i. let g = steps strings k s offset f.0 at e f.1.0 (omega arith) t h in
+        sym f.1.1 ∙ (sym g.1.1 ∙ (arrived strings k s offset g.0 e (omega arith) ∙ (ne_eqb e offset (λ z. omega arith) ∙ sym (ne_eqb at offset i)))))
 
     -- a record has at least 45 bytes
     pub long : at ≤ length s → at + 45 ≤ e
@@ -97,9 +97,9 @@ pub record Noting (strings : ℕ) (k : Kind) (s : Bytes) (cells : List ℕ) (at 
   pub inside : at ≤ length s
   pub whole : whole_records strings k (drop at s) ≡ whole_records strings k s
   pub reached : Reached strings k s at
-  pub apart : (place : ℕ) → place < at → comes_to strings k s place place 0 ≡ true → place + 45 ≤ at
+  pub apart : (offset : ℕ) → offset < at → comes_to strings k s offset offset 0 ≡ true → offset + 45 ≤ at
   pub size : length cells ≡ 23302
-  pub noted : (place : ℕ) → place / 45 < 23302 → eqb (get_or cells (place / 45) 0) (cell_of place) ≡ both (ltb place at) (comes_to strings k s place place 0)
+  pub noted : (offset : ℕ) → offset / 45 < 23302 → eqb (get_or cells (offset / 45) 0) (cell_of offset) ≡ both (ltb offset at) (comes_to strings k s offset offset 0)
 
 module _ (strings : ℕ) (k : Kind) (s : Bytes) (cells : List ℕ) where
   pub noting_first : Empty cells → Noting strings k s cells 0
@@ -109,9 +109,9 @@ module _ (strings : ℕ) (k : Kind) (s : Bytes) (cells : List ℕ) where
         inside = omega arith;
         whole = refl;
         reached = reached_first strings k s;
-        apart = λ place m t. absurd (omega arith);
+        apart = λ offset m t. absurd (omega arith);
         size = h.0;
-        noted = λ place m. rw (h.1 (place / 45)) (ne_eqb 0 (cell_of place) (λ z. omega arith) ∙ sym (both_no_left _ _ (le-ltb place 0 (omega arith))));
+        noted = λ offset m. rw (h.1 (offset / 45)) (ne_eqb 0 (cell_of offset) (λ z. omega arith) ∙ sym (both_no_left _ _ (le-ltb offset 0 (omega arith))));
       }
 
   module _ (at : ℕ) (w : Noting strings k s cells at) where
@@ -120,45 +120,45 @@ module _ (strings : ℕ) (k : Kind) (s : Bytes) (cells : List ℕ) where
       forth : at < e
       forth = (walk_on strings k s at e w.inside t).1.0
 
-      start : (place : ℕ) → at ≤ place → place < e → comes_to strings k s place place 0 ≡ eqb at place
+      start : (offset : ℕ) → at ≤ offset → offset < e → comes_to strings k s offset offset 0 ≡ eqb at offset
       start = start_only strings k s at e w.reached t forth
 
-      apart_next : (place : ℕ) → place < e → comes_to strings k s place place 0 ≡ true → place + 45 ≤ e
-      apart_next place h y =
+      apart_next : (offset : ℕ) → offset < e → comes_to strings k s offset offset 0 ≡ true → offset + 45 ≤ e
+      apart_next offset h y =
           let l = long strings k s at e w.reached t forth w.inside in
-          by_lt place at
-          (λ m. omega (arith, w.apart place m y))
-          (λ m. by_eq at place
+          by_lt offset at
+          (λ m. omega (arith, w.apart offset m y))
+          (λ m. by_eq at offset
           (λ i. omega arith)
-          (λ i. clash y (start place m h ∙ ne_eqb at place i)))
+          (λ i. clash y (start offset m h ∙ ne_eqb at offset i)))
 
-      -- a place in another cell than `at`
-      other : (place : ℕ) → (at ≡ place → ⊥) → both (ltb place at) (comes_to strings k s place place 0) ≡ both (ltb place e) (comes_to strings k s place place 0)
+      -- an offset in another cell than `at`
+      other : (offset : ℕ) → (at ≡ offset → ⊥) → both (ltb offset at) (comes_to strings k s offset offset 0) ≡ both (ltb offset e) (comes_to strings k s offset offset 0)
       unfolding both
-      other place i =
-          by_lt place at
-          (λ m. rw (lt-ltb place at m, lt-ltb place e (omega (arith, forth))))
-          (λ m. by_lt place e
-          (λ n. rw (le-ltb place at m, lt-ltb place e n) (sym (start place m n ∙ ne_eqb at place i)))
-          (λ n. rw (le-ltb place at m, le-ltb place e n)))
+      other offset i =
+          by_lt offset at
+          (λ m. rw (lt-ltb offset at m, lt-ltb offset e (omega (arith, forth))))
+          (λ m. by_lt offset e
+          (λ n. rw (le-ltb offset at m, lt-ltb offset e n) (sym (start offset m n ∙ ne_eqb at offset i)))
+          (λ n. rw (le-ltb offset at m, le-ltb offset e n)))
 
       -- in one cell only one record starts
-      same_cell : (place : ℕ) → place / 45 ≡ at / 45 → eqb (cell_of at) (cell_of place) ≡ both (ltb place e) (comes_to strings k s place place 0)
+      same_cell : (offset : ℕ) → offset / 45 ≡ at / 45 → eqb (cell_of at) (cell_of offset) ≡ both (ltb offset e) (comes_to strings k s offset offset 0)
       unfolding both
-      same_cell place i =
+      same_cell offset i =
           let l = long strings k s at e w.reached t forth w.inside in
-          by_eq at place
+          by_eq at offset
           (λ j. rw (← j, eq-eqb (cell_of at) (cell_of at) refl, lt-ltb at e forth) (sym (start at (omega arith) forth ∙ eq-eqb at at refl)))
-          (λ j. rw (ne_eqb (cell_of at) (cell_of place) (λ z. j (omega arith)))
-          (by_lt place at
-          (λ m. sym (both_no_right (ltb place e) (by_bool (comes_to strings k s place place 0) (λ y. absurd (omega (arith, w.apart place m y))) (λ y. y))))
-          (λ m. sym (both_no_right (ltb place e) (start place m (omega arith) ∙ ne_eqb at place j)))))
+          (λ j. rw (ne_eqb (cell_of at) (cell_of offset) (λ z. j (omega arith)))
+          (by_lt offset at
+          (λ m. sym (both_no_right (ltb offset e) (by_bool (comes_to strings k s offset offset 0) (λ y. absurd (omega (arith, w.apart offset m y))) (λ y. y))))
+          (λ m. sym (both_no_right (ltb offset e) (start offset m (omega arith) ∙ ne_eqb at offset j)))))
 
-      noted_next : (place : ℕ) → place / 45 < 23302 → eqb (get_or (set cells (at / 45) (cell_of at)) (place / 45) 0) (cell_of place) ≡ both (ltb place e) (comes_to strings k s place place 0)
-      noted_next place h =
-          by_eq (place / 45) (at / 45)
-          (λ i. rw (i, get_or-set_same cells (at / 45) (cell_of at) 0 (omega (arith, w.size))) (same_cell place i))
-          (λ i. rw (get_or-set_other cells (at / 45) (place / 45) (cell_of at) 0 i) (w.noted place h ∙ other place (λ z. i (ap (λ (n : ℕ). n / 45) (sym z)))))
+      noted_next : (offset : ℕ) → offset / 45 < 23302 → eqb (get_or (set cells (at / 45) (cell_of at)) (offset / 45) 0) (cell_of offset) ≡ both (ltb offset e) (comes_to strings k s offset offset 0)
+      noted_next offset h =
+          by_eq (offset / 45) (at / 45)
+          (λ i. rw (i, get_or-set_same cells (at / 45) (cell_of at) 0 (omega (arith, w.size))) (same_cell offset i))
+          (λ i. rw (get_or-set_other cells (at / 45) (offset / 45) (cell_of at) 0 i) (w.noted offset h ∙ other offset (λ z. i (ap (λ (n : ℕ). n / 45) (sym z)))))
 
       pub noting_next : (at < e) × Noting strings k s (set cells (at / 45) (cell_of at)) e
       noting_next =
@@ -181,5 +181,5 @@ module _ (strings : ℕ) (k : Kind) (s : Bytes) (cells : List ℕ) where
     unfolding both
     noting_last h = (
       sym w.whole ∙ rw (drop_of_length-le s {i = at} h) (whole_nil strings k),
-      λ place l m. w.noted place m ∙ rw (lt-ltb place at (omega arith)),
+      λ offset l m. w.noted offset m ∙ rw (lt-ltb offset at (omega arith)),
     )

@@ -16,22 +16,22 @@ abbrev pub further : Option ℕ → (ℕ → Bool) → Bool
 further (Some e) f = f e
 further None f = false
 
--- a walk from record to record, from `at` on, comes to the place; each record takes a byte, so the way to the place is fuel enough
+-- a walk from record to record, from `at` on, comes to the offset; each record takes a byte, so the way to the offset is fuel enough
 unfoldable pub comes_to : ℕ → Kind → Bytes → ℕ → ℕ → ℕ → Bool
-comes_to strings k s place zero at = eqb at place
-comes_to strings k s place (suc fuel) at = cond (ltb at place) (further (record_end strings k s at) (comes_to strings k s place fuel)) (eqb at place)
+comes_to strings k s offset zero at = eqb at offset
+comes_to strings k s offset (suc fuel) at = cond (ltb at offset) (further (record_end strings k s at) (comes_to strings k s offset fuel)) (eqb at offset)
 
--- the id of a rank stands at the place
+-- the id of a rank stands at the offset
 unfoldable pub id_there : Bytes → ℕ → ℕ → Bool
-id_there s rank place = both (ltb place (length s)) (same_id (to_z w64 (value_at 8 s place)) (id_of rank))
+id_there s rank offset = both (ltb offset (length s)) (same_id (to_z w64 (value_at 8 s offset)) (id_of rank))
 
 -- "where a record of that id starts"
 unfoldable pub record_there : ℕ → Kind → Bytes → ℕ → ℕ → Bool
-record_there strings k s rank place = both (id_there s rank place) (comes_to strings k s place place 0)
+record_there strings k s rank offset = both (id_there s rank offset) (comes_to strings k s offset offset 0)
 
 -- "live with an offset where a record of that id starts, or deleted"
 unfoldable pub row_passes : ℕ → Kind → Bytes → Row → Bool
-row_passes strings k s r = either (not (is_live r.place)) (record_there strings k s r.rank r.place)
+row_passes strings k s r = either (not (is_live r.offset)) (record_there strings k s r.rank r.offset)
 
 -- "used bytes whole records ..; known ids strictly in OSM order, each .."
 unfoldable pub sound_used : ℕ → Kind → List ℕ → ℕ → Bytes → Bool

@@ -12,7 +12,7 @@ use Rattle.kind_store.specs.KindStore.{KindStore, is_live}
 
 -- a known id is "live with an offset where a record of that id starts, or deleted"
 unfoldable pub sound_row : List KeptRecord → Row → Bool
-sound_row kept r = either (not (is_live r.place)) (starts_at (id_of r.rank) r.place kept)
+sound_row kept r = either (not (is_live r.offset)) (starts_at (id_of r.rank) r.offset kept)
 
 -- what is lent for one kind is sound, given how many strings are held
 pub record SoundKindStore (strings : ℕ) (k : Kind) (s : KindStore) : Type 0 where

@@ -18,11 +18,13 @@ use kind::Kind;
 use kind_store::KindStorage;
 use kind_table::{Row, Table};
 
-// How many cells of 45 bytes there are: they cover 1 MiB, the largest arena that set-up takes.
+// The bytes of a cell, the least that a record has: no two records start in one cell.
+const CELL_BYTES: usize = 45;
+
+// How many cells there are: they cover 1 MiB, the largest arena that set-up takes.
 const CELLS: usize = 23302;
 
-// Records with where each of them starts. A record has at least 45 bytes, so no two start in one cell of 45. A cell holds the place in it where a record
-// starts, plus 1, or 0 where none does.
+// Records with where each of them starts. A cell says by how many bytes behind its first a record starts, plus 1, or 0 where none does.
 #[derive(Clone, Copy)]
 struct Starts<'a> {
     records: Records<'a>,
@@ -30,27 +32,27 @@ struct Starts<'a> {
     ghost noted: { Noted records.strings records.kind records.bytes.now cells.now },
 }
 
-// The rank of the id that stands at a place.
-fn rank_there(bytes: &[u8], place: usize) -> u64
-    ensures { (result ≡ rank (to_z w64 (value_at 8 bytes.now place))) × (id_of result ≡ to_z w64 (value_at 8 bytes.now place)) }
+// The rank of the id that stands at an offset.
+fn rank_there(bytes: &[u8], offset: usize) -> u64
+    ensures { (result ≡ rank (to_z w64 (value_at 8 bytes.now offset))) × (id_of result ≡ to_z w64 (value_at 8 bytes.now offset)) }
 {
-    osm_id::rank_of_bits(little::get_u64(bytes, place))
+    osm_id::rank_of_bits(little::get_u64(bytes, offset))
 }
 
 // ---- where records start
 
-// It takes the cells and a place, and no part of them: which cell a place has and what the cell holds are told by the place, and a part would tell neither.
+// It takes the cells and an offset, and no part of them: which cell an offset has and what the cell holds are told by the offset, and a part would tell neither.
 fn note(cells: &mut [u8; CELLS], at: usize)
     ensures { cells.new ≡ set cells.old (at / 45) (cell_of at) }
 {
-    let i = at / 45;
+    let i = at / CELL_BYTES;
     if i < CELLS {
-        cells[i] = (at % 45 + 1) as u8;
+        cells[i] = (at % CELL_BYTES + 1) as u8;
     }
 }
 
 // One walk from record to record: whether all are whole and legal, with their starts noted. It is a `while`, here and in `comes_to`: each record tells where
-// the next one starts, so no range or slice has the places to go over.
+// the next one starts, so no range or slice has the offsets to go over.
 fn note_starts(records: &Records<'_>, cells: &mut [u8; CELLS]) -> bool
     requires { Empty cells.old }
     ensures whole { result ≡ whole_records records.now.strings records.now.kind records.now.bytes.now }
@@ -67,50 +69,51 @@ fn note_starts(records: &Records<'_>, cells: &mut [u8; CELLS]) -> bool
     true
 }
 
-// Whether a walk from record to record comes to a place.
-fn comes_to(records: &Records<'_>, place: usize) -> bool
-    ensures { result ≡ comes_to records.now.strings records.now.kind records.now.bytes.now place place 0 }
+// Whether a walk from record to record comes to an offset.
+fn comes_to(records: &Records<'_>, offset: usize) -> bool
+    ensures { result ≡ comes_to records.now.strings records.now.kind records.now.bytes.now offset offset 0 }
 {
     let mut at: usize = 0;
-    while at < place {
+    while at < offset {
         let Some(e) = records.end(at) else {
             return false;
         };
         at = e;
     }
-    at == place
+    at == offset
 }
 
 impl Starts<'_> {
-    // Whether a walk from record to record comes to a place in the bytes, by its cell; past the cells by that walk.
-    fn starts_at(&self, place: usize) -> bool
-        requires { place < length self.now.records.bytes.now }
-        ensures { result ≡ comes_to self.now.records.strings self.now.records.kind self.now.records.bytes.now place place 0 }
+    // Whether a walk from record to record comes to an offset in the bytes, by its cell; past the cells by that walk.
+    fn starts_at(&self, offset: usize) -> bool
+        requires { offset < length self.now.records.bytes.now }
+        ensures { result ≡ comes_to self.now.records.strings self.now.records.kind self.now.records.bytes.now offset offset 0 }
     {
-        let i = place / 45;
+        let i = offset / CELL_BYTES;
         if i < CELLS {
-            return self.cells[i] == (place % 45 + 1) as u8;
+            return self.cells[i] == (offset % CELL_BYTES + 1) as u8;
         }
-        comes_to(&self.records, place)
+        comes_to(&self.records, offset)
     }
 
-    // A row of a deleted id, or one at whose place a record of its id starts.
+    // A row of a deleted id, or one at whose offset a record of its id starts.
     fn row_passes(&self, row: Row) -> bool
         ensures { result ≡ row_passes self.now.records.strings self.now.records.kind self.now.records.bytes.now row }
     {
-        let Some(offset) = row.record_place() else {
+        let Some(offset) = row.record_offset() else {
             return true;
         };
-        let place = offset as usize;
-        if place < self.records.bytes.len() {
-            let same = rank_there(self.records.bytes, place) == row.rank;
-            return same & self.starts_at(place);
+        let at = offset as usize;
+        if at < self.records.bytes.len() {
+            let same = rank_there(self.records.bytes, at) == row.rank;
+            return same & self.starts_at(at);
         }
         false
     }
 
     fn rows_pass(&self, table: &Table<'_>) -> bool
-        ensures { result ≡ all (row_passes self.now.records.strings self.now.records.kind self.now.records.bytes.now) (rows_of table.now.words.now (held table.now.words.now table.now.count)) }
+        ensures { result
+            ≡ all (row_passes self.now.records.strings self.now.records.kind self.now.records.bytes.now) (rows_of table.now.words.now (held table.now.words.now table.now.count)) }
     {
         table
             .rows()
@@ -122,7 +125,8 @@ impl Starts<'_> {
 // The used bytes, then the rows.
 fn cells_pass(records: &Records<'_>, table: &Table<'_>, cells: &mut [u8; CELLS]) -> bool
     requires { Empty cells.old }
-    ensures { result ≡ both (whole_records records.now.strings records.now.kind records.now.bytes.now) (all (row_passes records.now.strings records.now.kind records.now.bytes.now) (rows_of table.now.words.now (held table.now.words.now table.now.count))) }
+    ensures { result
+        ≡ both (whole_records records.now.strings records.now.kind records.now.bytes.now) (all (row_passes records.now.strings records.now.kind records.now.bytes.now) (rows_of table.now.words.now (held table.now.words.now table.now.count))) }
 {
     if note_starts(records, cells) {
         let starts = Starts {

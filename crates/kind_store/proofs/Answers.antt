@@ -28,7 +28,7 @@ module _ (k : Kind) (setting : ℕ) (s : KindStore) (id : ℤ) (claim : Option �
       go (Ok tt) e = g e
       go (Err v) e = f v e
 
-  -- what an accepted delete leaves: the row of its id at no place, with the floor raised
+  -- what an accepted delete leaves: the row of its id at no offset, with the floor raised
   abbrev pub dropped : KindStore
   dropped = rowed s id gone (word_of (higher (known_version k s id) claim))
 

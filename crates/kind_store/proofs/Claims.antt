@@ -39,12 +39,12 @@ value_same n a b used at h e =
     let part : (l : Bytes) → take n (drop at l) ≡ drop (length (take at l)) (take (at + n) l) = λ l. rw (take-add at n l) (sym (drop-append_seam (take at l) (take n (drop at l)))) in
     ap value (part a ∙ rw (cut at (omega arith), cut (at + n) h) (sym (part b)))
 
-pub version_same : (k : Kind) (a b : Bytes) (used place : ℕ) → place + (head_len k + 29) ≤ used → take used a ≡ take used b → version_at k a place ≡ version_at k b place
+pub version_same : (k : Kind) (a b : Bytes) (used offset : ℕ) → offset + (head_len k + 29) ≤ used → take used a ≡ take used b → version_at k a offset ≡ version_at k b offset
 unfolding version_at claim_of meta_of meta_at
-version_same k a b used place h e =
-    rw (value_same 1 a b used (place + head_len k) (omega arith) e, value_same 4 a b used (place + head_len k + 1) (omega arith) e)
+version_same k a b used offset h e =
+    rw (value_same 1 a b used (offset + head_len k) (omega arith) e, value_same 4 a b used (offset + head_len k + 1) (omega arith) e)
 
--- the version of metadata that stands at a place
+-- the version of metadata that stands at an offset
 claim_there : (s : Bytes) (at : ℕ) (m : Meta ℕ) (r : Bytes) → fits_meta m ≡ true → drop at s ≡ meta_bytes m ++ r → claim_of (meta_of (meta_at s at)) ≡ claim_of m
 unfolding claim_of meta_of meta_at meta_bytes fits_meta fits_number value_at
 claim_there s at m r h e =
@@ -88,11 +88,11 @@ given_claim m h x e =
     (λ t. let q : m.version ≡ x = cc (rw t at e) in rw (← q) (record { sfits = ltb-true _ _ (both_left _ _ (both_right _ _ h)) }))
     (λ t. no (cc (rw t at e)))
 
-pub narrow_at : (k : Kind) (arena : Bytes) (place : ℕ) → all is_byte arena ≡ true → Narrow (version_at k arena place)
+pub narrow_at : (k : Kind) (arena : Bytes) (offset : ℕ) → all is_byte arena ≡ true → Narrow (version_at k arena offset)
 unfolding version_at claim_of meta_of meta_at
-narrow_at k arena place h x e =
-    let n = value_at 4 arena (place + head_len k + 1) in
-    let l : n < 2 ^ 32 = value_at_within 4 arena (place + head_len k + 1) h in
-    by_bool (flagged 8 (value_at 1 arena (place + head_len k)))
+narrow_at k arena offset h x e =
+    let n = value_at 4 arena (offset + head_len k + 1) in
+    let l : n < 2 ^ 32 = value_at_within 4 arena (offset + head_len k + 1) h in
+    by_bool (flagged 8 (value_at 1 arena (offset + head_len k)))
     (λ t. let d : to_z w32 n ≡ x = cc (rw t at e) in rw d at (sfits_to_z {w = w32} (Fits-of_lt l)))
     (λ t. no (cc (rw t at e)))

@@ -63,22 +63,22 @@ module _ (k : Kind) (s : KindStore) (sound : sound_table s.table s.ids ≡ true)
 -- ---- the row of an id set
 
 -- t is s with a row of the id set, and perhaps more used bytes
-pub record Laid (s : KindStore) (id : ℤ) (place floor : ℕ) (t : KindStore) : Type 0 where
+pub record Laid (s : KindStore) (id : ℤ) (offset floor : ℕ) (t : KindStore) : Type 0 where
   pub sound : sound_table t.table t.ids ≡ true
-  pub rows : rows_in t ≡ put (record { rank = rank id; place = place; floor = floor }) (rows_in s)
+  pub rows : rows_in t ≡ put (record { rank = rank id; offset = offset; floor = floor }) (rows_in s)
   pub words : length t.table ≡ length s.table
   pub size : length t.arena ≡ length s.arena
   pub grown : s.used ≤ t.used
   pub before : take s.used t.arena ≡ take s.used s.arena
 
 -- where there is room, the row is stored
-module _ (s : KindStore) (id : ℤ) (place floor : ℕ) (sound : sound_table s.table s.ids ≡ true) (roomy : id_room s id ≡ true) where
-  not_full : (stored s.table s.ids (record { rank = rank id; place = place; floor = floor })).answer ≡ answers.Full → ⊥
+module _ (s : KindStore) (id : ℤ) (offset floor : ℕ) (sound : sound_table s.table s.ids ≡ true) (roomy : id_room s id ≡ true) where
+  not_full : (stored s.table s.ids (record { rank = rank id; offset = offset; floor = floor })).answer ≡ answers.Full → ⊥
   unfolding id_room
   not_full e = go (lookup s.table s.ids (rank id)) refl
     where
       row : Row
-      row = record { rank = rank id; place = place; floor = floor }
+      row = record { rank = rank id; offset = offset; floor = floor }
 
       go : (o : Result ℕ ℕ) → lookup s.table s.ids (rank id) ≡ o → ⊥
       go (Ok i) l = let x = ap (λ z. z.answer) (stored_known s.table s.ids row i l) in no (cc)
@@ -87,10 +87,10 @@ module _ (s : KindStore) (id : ℤ) (place floor : ℕ) (sound : sound_table s.t
           let x = ap (λ z. z.answer) (stored_new s.table s.ids row p l (leb-true (3 * suc s.ids) (length s.table) r)) in no (cc)
 
   pub rowed_laid : (arena : Bytes) (used : ℕ) → length arena ≡ length s.arena → s.used ≤ used → take s.used arena ≡ take s.used s.arena
-      → Laid s id place floor (rowed (kind_store_with s.table s.ids arena used) id place floor)
+      → Laid s id offset floor (rowed (kind_store_with s.table s.ids arena used) id offset floor)
   unfolding rowed
   rowed_laid arena used e l b =
-      let row : Row = record { rank = rank id; place = place; floor = floor } in
+      let row : Row = record { rank = rank id; offset = offset; floor = floor } in
       record {
         sound = sound_stored s.table s.ids row sound;
         rows = rows_stored s.table s.ids row sound not_full;
@@ -123,8 +123,8 @@ module _ (k : Kind) (setting : ℕ) (s : KindStore) (id : ℤ) (claim : Option �
 narrow_row : (k : Kind) (arena : Bytes) (r : Row) → all is_byte arena ≡ true → Narrow (known_of k arena r)
 unfolding known_of live_version
 narrow_row k arena r h =
-    by_bool (is_live r.place)
-    (λ t. rw t (narrow_higher (version_at k arena r.place) (of_word r.floor) (narrow_at k arena r.place h) (word_fits r.floor)))
+    by_bool (is_live r.offset)
+    (λ t. rw t (narrow_higher (version_at k arena r.offset) (of_word r.floor) (narrow_at k arena r.offset h) (word_fits r.floor)))
     (λ t. rw t (narrow_higher None (of_word r.floor) narrow_none (word_fits r.floor)))
 
 pub known_narrow : (k : Kind) (s : KindStore) (id : ℤ) → WellFormed k s → Narrow (known_version k s id)
@@ -136,45 +136,45 @@ known_narrow k s id well_formed = go (find (rank id) (rows_in s)) refl
 
 -- ---- after an accepted act
 
-pub known_kept : (k : Kind) (a b : Bytes) (used : ℕ) (r : Row) → (is_live r.place ≡ true → r.place + (head_len k + 29) ≤ used) → take used a ≡ take used b → known_of k a r ≡ known_of k b r
+pub known_kept : (k : Kind) (a b : Bytes) (used : ℕ) (r : Row) → (is_live r.offset ≡ true → r.offset + (head_len k + 29) ≤ used) → take used a ≡ take used b → known_of k a r ≡ known_of k b r
 unfolding known_of live_version
-known_kept k a b used r h e = by_bool (is_live r.place) (λ t. rw (t, version_same k a b used r.place (h t) e)) (λ t. rw t)
+known_kept k a b used r h e = by_bool (is_live r.offset) (λ t. rw (t, version_same k a b used r.offset (h t) e)) (λ t. rw t)
 
-module _ (k : Kind) (s t : KindStore) (id : ℤ) (place floor : ℕ) (well_formed : WellFormed k s) (laid : Laid s id place floor t) where
+module _ (k : Kind) (s t : KindStore) (id : ℤ) (offset floor : ℕ) (well_formed : WellFormed k s) (laid : Laid s id offset floor t) where
   -- what is known of another id stays
   pub other_known : (other : ℤ) → (rank other ≡ rank id → ⊥) → known_version k t other ≡ known_version k s other
   other_known other n = go (find (rank other) (rows_in s)) refl
     where
       same : find (rank other) (rows_in t) ≡ find (rank other) (rows_in s)
-      same = rw laid.rows (find_put_other (rank other) (record { rank = rank id; place = place; floor = floor }) (rows_in s) n)
+      same = rw laid.rows (find_put_other (rank other) (record { rank = rank id; offset = offset; floor = floor }) (rows_in s) n)
 
       go : (o : Option Row) → find (rank other) (rows_in s) ≡ o → known_version k t other ≡ known_version k s other
       go (Some r) e =
           known_row k t laid.sound other r (same ∙ e)
-          ∙ known_kept k t.arena s.arena s.used r (well_formed.places (rank other) r e) laid.before
+          ∙ known_kept k t.arena s.arena s.used r (well_formed.offsets (rank other) r e) laid.before
           ∙ sym (known_row k s well_formed.sound other r e)
       go None e = known_none k t laid.sound other (same ∙ e) ∙ sym (known_none k s well_formed.sound other e)
 
   -- and of the id itself it is what its new row says
-  pub own_known : known_version k t id ≡ known_of k t.arena (record { rank = rank id; place = place; floor = floor })
-  own_known = known_row k t laid.sound id _ (rw laid.rows (find_put_same (record { rank = rank id; place = place; floor = floor }) (rows_in s)))
+  pub own_known : known_version k t id ≡ known_of k t.arena (record { rank = rank id; offset = offset; floor = floor })
+  own_known = known_row k t laid.sound id _ (rw laid.rows (find_put_same (record { rank = rank id; offset = offset; floor = floor }) (rows_in s)))
 
   -- the kind store stays fair
-  pub well_formed_laid : all is_byte t.arena ≡ true → (is_live place ≡ true → place + (head_len k + 29) ≤ t.used) → WellFormed k t
+  pub well_formed_laid : all is_byte t.arena ≡ true → (is_live offset ≡ true → offset + (head_len k + 29) ≤ t.used) → WellFormed k t
   well_formed_laid b p =
       record {
         bytes = b;
         short = omega (arith, laid.size, well_formed.short);
         sound = laid.sound;
-        places = λ n r e l.
+        offsets = λ n r e l.
             by_eq n (rank id)
-            (λ q. let row : Row = record { rank = rank id; place = place; floor = floor } in
+            (λ q. let row : Row = record { rank = rank id; offset = offset; floor = floor } in
             let x : find (rank id) (rows_in t) ≡ Some row = rw laid.rows (find_put_same row (rows_in s)) in
             let y : row ≡ r = cc (rw q at e) in
-            let z : place ≡ r.place = ap (λ (w : Row). w.place) y in
+            let z : offset ≡ r.offset = ap (λ (w : Row). w.offset) y in
             rw (← z) (p (rw z l)))
-            (λ q. let x : find n (rows_in s) ≡ Some r = sym (find_put_other n (record { rank = rank id; place = place; floor = floor }) (rows_in s) q) ∙ rw laid.rows at e in
-            omega (arith, well_formed.places n r x l, laid.grown));
+            (λ q. let x : find n (rows_in s) ≡ Some r = sym (find_put_other n (record { rank = rank id; offset = offset; floor = floor }) (rows_in s) q) ∙ rw laid.rows at e in
+            omega (arith, well_formed.offsets n r x l, laid.grown));
       }
 
 -- ---- an accepted delete
@@ -296,4 +296,4 @@ module _ (k : Kind) (setting : ℕ) (s : KindStore) (id : ℤ) (h : Head) (m : M
 
 pub well_formed_empty : (k : Kind) (table : List ℕ) (arena : Bytes) → all is_byte arena ≡ true → length arena < 2 ^ 63 → WellFormed k (kind_store_with table 0 arena 0)
 unfolding rows_of rows_from rising find
-well_formed_empty k table arena b l = record { bytes = b; short = l; sound = sound_of table 0 (omega arith) refl; places = λ n r e h. no (cc) }
+well_formed_empty k table arena b l = record { bytes = b; short = l; sound = sound_of table 0 (omega arith) refl; offsets = λ n r e h. no (cc) }

@@ -19,11 +19,11 @@ use Rattle.kind_store.specs.Seats.{seat_of, seat_by, seated}
 use Rattle.kind_store.proofs.Acts.{pushed_as_lem, push_room, push_full, deleted_as_lem, delete_full, join_full}
 
 -- the row of an id set in a table
-pub row_set : (s : KindStore) (id : ℤ) (place floor : ℕ) {t : List ℕ} {n : ℕ} {b : Bool}
-    → record { words = t; count = n; answer = b } ≡ table_after s.table s.ids (record { rank = rank id; place = place; floor = floor })
-    → kind_store_with t n s.arena s.used ≡ rowed s id place floor
+pub row_set : (s : KindStore) (id : ℤ) (offset floor : ℕ) {t : List ℕ} {n : ℕ} {b : Bool}
+    → record { words = t; count = n; answer = b } ≡ table_after s.table s.ids (record { rank = rank id; offset = offset; floor = floor })
+    → kind_store_with t n s.arena s.used ≡ rowed s id offset floor
 unfolding table_after rowed
-row_set s id place floor e = rw (ap (λ x. x.words) e, ap (λ x. x.count) e)
+row_set s id offset floor e = rw (ap (λ x. x.words) e, ap (λ x. x.count) e)
 
 -- a record joined, and its row set
 pub joined_row : (s : KindStore) (id : ℤ) (floor : ℕ) (bytes : Bytes) {a : Bytes} {e : ℕ} → record { arena = a; answer = Some e } ≡ append s.arena s.used bytes
@@ -95,7 +95,7 @@ module _ (k : Kind) (s : KindStore) (id : ℤ) (setting : ℕ) (claim : Option �
     delete_rows = rw passed.0 (sym (deleted_as_lem k s id setting claim (Ok tt) passed.1.0 ∙ rw passed.1.1))
 
     pub delete_done : {t w : List ℕ} {n r f : ℕ} {b : Bool} {v : Option ℤ} → t ≡ w → r ≡ rank id → v ≡ higher seat.known claim → f ≡ word_of v
-        → (seat.found ≡ lookup s.table s.ids r → record { words = w; count = n; answer = b } ≡ table_after s.table s.ids (record { rank = r; place = gone; floor = f }))
+        → (seat.found ≡ lookup s.table s.ids r → record { words = w; count = n; answer = b } ≡ table_after s.table s.ids (record { rank = r; offset = gone; floor = f }))
         → record { kind_store = kind_store_with t n s.arena s.used; answer = Ok tt } ≡ deleted k setting s id claim
     delete_done {f = f} l p q g h =
         let found : seat.found ≡ lookup s.table s.ids (rank id) = ap (λ x. x.found) passed.0 in
@@ -108,7 +108,7 @@ module _ (k : Kind) (s : KindStore) (id : ℤ) (setting : ℕ) (claim : Option �
 
       pub push_done : {t w : List ℕ} {n r f o : ℕ} {b : Bool} → t ≡ w → record { arena = a; answer = Some o } ≡ append s.arena s.used bytes
           → r ≡ rank id → f ≡ floor_after setting seat.known claim seat.floor
-          → (seat.found ≡ lookup s.table s.ids r → record { words = w; count = n; answer = b } ≡ table_after s.table s.ids (record { rank = r; place = s.used; floor = f }))
+          → (seat.found ≡ lookup s.table s.ids r → record { words = w; count = n; answer = b } ≡ table_after s.table s.ids (record { rank = r; offset = s.used; floor = f }))
           → record { kind_store = kind_store_with t n a o; answer = Ok tt } ≡ pushed k setting s id claim bytes
       push_done {f = f} {o = o} l w p g h =
           let found : seat.found ≡ lookup s.table s.ids (rank id) = ap (λ x. x.found) passed.0 in

@@ -1,4 +1,4 @@
--- What the setting's word and a row's place say.
+-- What the setting's word and a row's offset say.
 use Prim.Native.Nat.{ℕ, ◌^◌, ◌<◌}
 use mathlib.Core.Path.{◌≡◌, refl, ◌∙◌, ap}
 use mathlib.Core.Bool.{true, false}
@@ -12,7 +12,7 @@ use Rattle.base.proofs.Split.{by_bool, no}
 use Rattle.kind.specs.declared.Kind.{Kind}
 use Rattle.osm_id.specs.Order.{rank}
 use Rattle.kind_table.specs.declared.Row.{Row}
-use Rattle.kind_table.specs.Words.{record_place, row_at, row_found, lookup}
+use Rattle.kind_table.specs.Words.{record_offset, row_at, row_found, lookup}
 use Rattle.kind_store.specs.KindStore.{KindStore, KindStoreAfter, checked, floor_after, pushed_as, pushed, deleted_as, deleted, is_live, no_floor, known_of, known_at, known_version, floor_at, floor_of}
 use Rattle.kind_store.specs.Seats.{regression_in, setting_of}
 use Rattle.kind_store.specs.declared.VersionRegression.{VersionRegression}
@@ -46,31 +46,31 @@ module _ (r : VersionRegression) (setting : ℕ) (e : r ≡ regression_in settin
   unfolding deleted
   deleted_by k s id claim w = w ∙ ap (deleted_as k s id claim) (checked_same (known_version k s id) claim)
 
--- a place says where a live id's record starts
-pub live_place : (place x : ℕ) → Some x ≡ record_place place → (x ≡ place) × (is_live place ≡ true)
+-- an offset says where a live id's record starts
+pub live_offset : (offset x : ℕ) → Some x ≡ record_offset offset → (x ≡ offset) × (is_live offset ≡ true)
 unfolding is_live
-live_place place x e =
-    by_bool (ltb place (2 ^ 63))
-    (λ t. let y : Some x ≡ Some place = rw t at e in (cc, t))
+live_offset offset x e =
+    by_bool (ltb offset (2 ^ 63))
+    (λ t. let y : Some x ≡ Some offset = rw t at e in (cc, t))
     (λ t. let y : Some x ≡ None = rw t at e in no (cc))
 
-pub place_short : (place x : ℕ) → Some x ≡ record_place place → x < 2 ^ 63
-place_short place x e =
-    by_bool (ltb place (2 ^ 63))
-    (λ t. let y : Some x ≡ Some place = rw t at e in let z : x ≡ place = cc in omega (arith, ltb-true place (2 ^ 63) t))
+pub offset_short : (offset x : ℕ) → Some x ≡ record_offset offset → x < 2 ^ 63
+offset_short offset x e =
+    by_bool (ltb offset (2 ^ 63))
+    (λ t. let y : Some x ≡ Some offset = rw t at e in let z : x ≡ offset = cc in omega (arith, ltb-true offset (2 ^ 63) t))
     (λ t. let y : Some x ≡ None = rw t at e in no (cc))
 
-pub no_place : (place : ℕ) → None ≡ record_place place → is_live place ≡ false
+pub no_offset : (offset : ℕ) → None ≡ record_offset offset → is_live offset ≡ false
 unfolding is_live
-no_place place e =
-    by_bool (ltb place (2 ^ 63))
-    (λ t. let y : None ≡ Some place = rw t at e in no (cc))
+no_offset offset e =
+    by_bool (ltb offset (2 ^ 63))
+    (λ t. let y : None ≡ Some offset = rw t at e in no (cc))
     (λ t. t)
 
--- whether a place says that the id is live
-pub place_is : (place : ℕ) → is_some (record_place place) ≡ is_live place
+-- whether an offset says that the id is live
+pub offset_is : (offset : ℕ) → is_some (record_offset offset) ≡ is_live offset
 unfolding is_live
-place_is place = by_bool (ltb place (2 ^ 63)) (λ t. rw t) (λ t. rw t)
+offset_is offset = by_bool (ltb offset (2 ^ 63)) (λ t. rw t) (λ t. rw t)
 
 -- what is known of an id, by its row
 module _ (k : Kind) (s : KindStore) (id : ℤ) where

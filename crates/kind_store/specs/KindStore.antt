@@ -27,9 +27,9 @@ kind_store_with table ids arena used = record { table = table; ids = ids; arena 
 
 -- ---- what is known of an id
 
--- a row's place: below 2^63 where its record starts, else the id is deleted
+-- a row's offset: below 2^63 where its record starts, else the id is deleted
 unfoldable pub is_live : ℕ → Bool
-is_live place = ltb place (2 ^ 63)
+is_live offset = ltb offset (2 ^ 63)
 
 abbrev pub gone : ℕ
 gone = 2 ^ 63
@@ -38,12 +38,12 @@ gone = 2 ^ 63
 abbrev pub no_floor : ℕ
 no_floor = 2 ^ 32
 
--- the version that the record at a place claims
+-- the version that the record at an offset claims
 unfoldable pub version_at : Kind → Bytes → ℕ → Option ℤ
-version_at k arena place = claim_of (meta_of (meta_at arena (place + head_len k)))
+version_at k arena offset = claim_of (meta_of (meta_at arena (offset + head_len k)))
 
 unfoldable pub live_version : Kind → Bytes → Row → Option ℤ
-live_version k arena r = cond (is_live r.place) (version_at k arena r.place) None
+live_version k arena r = cond (is_live r.offset) (version_at k arena r.offset) None
 
 -- "Known version: the larger of the live record's version and the floor, or the one that exists."
 unfoldable pub known_of : Kind → Bytes → Row → Option ℤ
@@ -98,7 +98,7 @@ with_row s t = kind_store_with t.words (count_after t.answer s.ids) s.arena s.us
 
 -- the row of an id set
 unfoldable pub rowed : KindStore → ℤ → ℕ → ℕ → KindStore
-rowed s id place floor = with_row s (stored s.table s.ids (record { rank = rank id; place = place; floor = floor }))
+rowed s id offset floor = with_row s (stored s.table s.ids (record { rank = rank id; offset = offset; floor = floor }))
 
 -- "A push without one carries the known version into the floor, only while regression is refused."
 abbrev pub floor_after : ℕ → Option ℤ → Option ℤ → ℕ → ℕ

@@ -13,10 +13,10 @@ abbrev pub rows_in : KindStore → List Row
 rows_in s = rows_of s.table s.ids
 
 pub record WellFormed (k : Kind) (s : KindStore) : Type 0 where
-  -- the arena is bytes, and shorter than the first place that means "deleted"
+  -- the arena is bytes, and shorter than the first offset that means "deleted"
   pub bytes : all is_byte s.arena ≡ true
   pub short : length s.arena < 2 ^ 63
   -- "known ids strictly in OSM order"
   pub sound : sound_table s.table s.ids ≡ true
   -- the head and the metadata of each live record lie within the used bytes
-  pub places : (n : ℕ) (r : Row) → find n (rows_in s) ≡ Some r → is_live r.place ≡ true → r.place + (head_len k + 29) ≤ s.used
+  pub offsets : (n : ℕ) (r : Row) → find n (rows_in s) ≡ Some r → is_live r.offset ≡ true → r.offset + (head_len k + 29) ≤ s.used

@@ -18,9 +18,6 @@ use kind_table::{DELETED, Row, Table, TableMut};
 use refusal::Refusal;
 use version_floor::VersionFloor;
 
-// The word of a floor that is none.
-const NO_FLOOR: u64 = 0x1_0000_0000;
-
 // Whether a version below the known one is refused, as the setting says: its word is 0, or another.
 #[derive(Clone, Copy, PartialEq, Eq, Debug)]
 pub enum VersionRegression {
@@ -131,8 +128,8 @@ impl KindStorage<'_> {
     fn live_version(&self, row: Row) -> Option<i32>
         ensures { result ≡ live_version self.now.kind self.now.arena.now row }
     {
-        let place = row.record_place()?;
-        let at = place as usize + meta_off(self.kind);
+        let offset = row.record_offset()?;
+        let at = offset as usize + meta_off(self.kind);
         compact::read_meta(self.arena, at).claim()
     }
 
@@ -168,7 +165,7 @@ impl KindStorage<'_> {
             None => Seat {
                 found,
                 known: None,
-                floor: NO_FLOOR,
+                floor: version_floor::NO_VERSION,
             },
         }
     }
@@ -224,18 +221,19 @@ impl KindStorageMut<'_> {
         push: &PushRecord<'_>,
     ) -> Result<(), Refusal>
         ensures same { IsSameKindStorage self.new self.old }
-        ensures done { record { kind_store = kind_held self.new; answer = result } ≡ pushed self.old.kind (setting_of regression) (kind_held self.old) (to_z w64 push.now.head.id) (claim_of (meta_of push.now.meta)) (bytes_given push.now) }
+        ensures done { record { kind_store = kind_held self.new; answer = result }
+            ≡ pushed self.old.kind (setting_of regression) (kind_held self.old) (to_z w64 push.now.head.id) (claim_of (meta_of push.now.meta)) (bytes_given push.now) }
     {
         let id = push.head.id;
         let claim = push.meta.claim();
         let seat = self.storage().admitted(regression, id, claim)?;
-        let place = self.used;
-        let end = compact_append::append_record(self.arena, place as usize, push).ok_or(
+        let offset = self.used;
+        let end = compact_append::append_record(self.arena, offset as usize, push).ok_or(
             Refusal::ArenaFull,
         )?;
         let row = Row {
             rank: osm_id::rank_of_bits(id),
-            place,
+            offset,
             floor: regression.floor_after(seat.known, claim, seat.floor),
         };
         let mut rows = TableMut {
@@ -273,12 +271,13 @@ impl KindStorageTable<'_> {
         claim: Option<i32>,
     ) -> Result<(), Refusal>
         ensures same { IsSameKindStorageTable self.new self.old }
-        ensures done { record { kind_store = kind_rows_held self.new; answer = result } ≡ deleted self.old.kind (setting_of regression) (kind_rows_held self.old) (to_z w64 id) claim }
+        ensures done { record { kind_store = kind_rows_held self.new; answer = result }
+            ≡ deleted self.old.kind (setting_of regression) (kind_rows_held self.old) (to_z w64 id) claim }
     {
         let seat = self.storage().admitted(regression, id, claim)?;
         let row = Row {
             rank: osm_id::rank_of_bits(id),
-            place: DELETED,
+            offset: DELETED,
             floor: version_floor::version_word(version_floor::higher_of(seat.known, claim)),
         };
         let mut rows = TableMut {

@@ -5,10 +5,11 @@ use mathlib.Core.List.{List, [], ◌∷◌}
 use native.Mathlib.Omega.{arith}
 use lib.ListN.{length, get_or, take, drop}
 use lib.Seq.{get_or-take}
+use Rattle.std.specs.Prelude.{map}
 use Rattle.std.specs.Simd.{first_chunks}
 use Rattle.std.proofs.lemmas.List.{get_or-drop, drop-drop}
 use Rattle.kind_table.specs.declared.Row.{Row}
-use Rattle.kind_table.specs.Words.{row_at, row_of_words}
+use Rattle.kind_table.specs.Words.{row_at, row_of_words, rows_from, rows_of}
 
 -- the first m of k rows
 pub chunks_taken : (m k : ℕ) (ws : List ℕ) → m ≤ k → take m (first_chunks 3 k ws) ≡ first_chunks 3 m ws
@@ -43,3 +44,17 @@ row_of_chunk k i ws d r h e = e ∙ chunk_row k i ws d h
 -- a row's rank
 pub rank_of_chunk : (n i : ℕ) (ws : List ℕ) {rows : List (List ℕ)} → rows ≡ first_chunks 3 n ws → i < n → get_or (get_or rows i []) 0 0 ≡ get_or ws (3 * i) 0
 rank_of_chunk n i ws e h = let o : 3 * i + 0 ≡ 3 * i = omega arith in rw e (rw o at (word_at n i 0 ws [] h (omega arith)))
+
+-- the rows are the cut rows, each of its three words
+from_chunks : (n i : ℕ) (ws : List ℕ) → rows_from ws i n ≡ map row_of_words (first_chunks 3 n (drop (3 * i) ws))
+unfolding rows_from
+from_chunks zero i ws = refl
+from_chunks (suc n) i ws =
+    let e : 3 * i + 3 ≡ 3 * suc i = omega arith in
+    let l : i < suc i = omega arith in
+    let h : row_of_words (take 3 (drop (3 * i) ws)) ≡ row_at ws i = rw (chunk_at (suc i) i ws [] l) at (chunk_row (suc i) i ws [] l) in
+    rw (drop-drop 3 (3 * i) ws, e, h) (ap (λ t. row_at ws i ∷ t) (from_chunks n (suc i) ws))
+
+pub rows_of_chunks : (n : ℕ) (ws : List ℕ) → rows_of ws n ≡ map row_of_words (first_chunks 3 n ws)
+unfolding rows_of
+rows_of_chunks n ws = from_chunks n 0 ws

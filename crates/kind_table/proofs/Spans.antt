@@ -39,9 +39,9 @@ from_shift a b c ws i (suc n) =
     let z : 3 * suc i + 2 ≡ suc (suc (suc (3 * i + 2))) = omega arith in
     rw (y, z, x) (ap (λ t. row_at ws i ∷ t) (from_shift a b c ws (suc i) n))
 
-pub rows_cons : (r : Row) (ws : List ℕ) (n : ℕ) → rows_of (r.rank ∷ r.place ∷ r.floor ∷ ws) (suc n) ≡ r ∷ rows_of ws n
+pub rows_cons : (r : Row) (ws : List ℕ) (n : ℕ) → rows_of (r.rank ∷ r.offset ∷ r.floor ∷ ws) (suc n) ≡ r ∷ rows_of ws n
 unfolding rows_of rows_from
-rows_cons r ws n = ap (λ t. r ∷ t) (from_shift r.rank r.place r.floor ws 0 n)
+rows_cons r ws n = ap (λ t. r ∷ t) (from_shift r.rank r.offset r.floor ws 0 n)
 
 rows_back : (rs : List Row) (ws : List ℕ) → rows_of (words_of rs ++ ws) (length rs) ≡ rs
 unfolding words_of rows_of rows_from
@@ -67,7 +67,7 @@ words_rows (a ∷ b ∷ c ∷ ws) (suc n) h =
 pub words_append : (rs ss : List Row) → words_of (rs ++ ss) ≡ words_of rs ++ words_of ss
 unfolding words_of
 words_append [] ss = refl
-words_append (r ∷ rs) ss = ap (λ t. r.rank ∷ r.place ∷ r.floor ∷ t) (words_append rs ss)
+words_append (r ∷ rs) ss = ap (λ t. r.rank ∷ r.offset ∷ r.floor ∷ t) (words_append rs ss)
 
 pub words_length : (rs : List Row) → length (words_of rs) ≡ 3 * length rs
 unfolding words_of
@@ -80,7 +80,7 @@ words_take zero rs = refl
 words_take (suc p) [] = sym (take-nil (3 * suc p))
 words_take (suc p) (r ∷ rs) =
     let e : 3 * suc p ≡ suc (suc (suc (3 * p))) = omega arith in
-    rw e (ap (λ t. r.rank ∷ r.place ∷ r.floor ∷ t) (words_take p rs))
+    rw e (ap (λ t. r.rank ∷ r.offset ∷ r.floor ∷ t) (words_take p rs))
 
 pub words_drop : (p : ℕ) (rs : List Row) → words_of (drop p rs) ≡ drop (3 * p) (words_of rs)
 unfolding words_of

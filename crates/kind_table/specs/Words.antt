@@ -10,19 +10,19 @@ rank_at ws i = get_or ws (3 * i) 0
 
 -- the i-th row; a word past the end is 0
 abbrev pub row_at : List ℕ → ℕ → Row
-row_at ws i = record { rank = rank_at ws i; place = get_or ws (3 * i + 1) 0; floor = get_or ws (3 * i + 2) 0 }
+row_at ws i = record { rank = rank_at ws i; offset = get_or ws (3 * i + 1) 0; floor = get_or ws (3 * i + 2) 0 }
 
 -- the three words of a row
 abbrev pub words_in : Row → List ℕ
-words_in r = r.rank ∷ r.place ∷ r.floor ∷ []
+words_in r = r.rank ∷ r.offset ∷ r.floor ∷ []
 
 -- the row of three words
 abbrev pub row_of_words : List ℕ → Row
-row_of_words w = record { rank = get_or w 0 0; place = get_or w 1 0; floor = get_or w 2 0 }
+row_of_words w = record { rank = get_or w 0 0; offset = get_or w 1 0; floor = get_or w 2 0 }
 
--- a row's place: below 2^63 where its record starts, else the id is deleted
-abbrev pub record_place : ℕ → Option ℕ
-record_place place = cond (ltb place (2 ^ 63)) (Some place) None
+-- a row's offset: below 2^63 where its record starts, else the id is deleted
+abbrev pub record_offset : ℕ → Option ℕ
+record_offset offset = cond (ltb offset (2 ^ 63)) (Some offset) None
 
 -- n rows from the i-th on
 unfoldable pub rows_from : List ℕ → ℕ → ℕ → List Row
@@ -34,7 +34,7 @@ rows_of ws count = rows_from ws 0 count
 
 unfoldable pub words_of : List Row → List ℕ
 words_of [] = []
-words_of (r ∷ rs) = r.rank ∷ r.place ∷ r.floor ∷ words_of rs
+words_of (r ∷ rs) = r.rank ∷ r.offset ∷ r.floor ∷ words_of rs
 
 -- "counts within lent sizes", "known ids strictly in OSM order"
 unfoldable pub sound_table : List ℕ → ℕ → Bool

@@ -3,7 +3,7 @@
 
 ghost use Rattle.std.specs.Prelude.{◌≡◌, ℕ, ◌+◌, ◌*◌, ◌≤◌, ◌<◌, length};
 ghost use Rattle.std.specs.Simd.{first_chunks};
-ghost use Rattle.kind_table.specs.Words.{row_given, row_by, row_found, record_place, words_in, row_of_words, sound_table, held, halve, lookup, row_over, inserted, table_after};
+ghost use Rattle.kind_table.specs.Words.{row_given, row_by, row_found, record_offset, words_in, row_of_words, sound_table, held, halve, lookup, row_over, inserted, table_after};
 ghost use Rattle.kind_table.specs.Lent.{IsSameTable};
 
 // The word that stands in place of an offset where the id is deleted, and each above it.
@@ -14,7 +14,7 @@ pub const DELETED: u64 = 0x8000_0000_0000_0000;
 #[derive(Clone, Copy, PartialEq, Eq, Debug)]
 pub struct Row {
     pub rank: u64,
-    pub place: u64,
+    pub offset: u64,
     pub floor: u64,
 }
 
@@ -34,11 +34,11 @@ pub struct TableMut<'a> {
 
 impl Row {
     // Where the record of a live id starts, or none for a deleted id.
-    pub fn record_place(self) -> Option<u64>
-        ensures { result ≡ record_place self.place }
+    pub fn record_offset(self) -> Option<u64>
+        ensures { result ≡ record_offset self.offset }
     {
-        if self.place < DELETED {
-            Some(self.place)
+        if self.offset < DELETED {
+            Some(self.offset)
         } else {
             None
         }
@@ -47,7 +47,7 @@ impl Row {
     fn words(self) -> [u64; 3]
         ensures { result ≡ words_in self }
     {
-        [self.rank, self.place, self.floor]
+        [self.rank, self.offset, self.floor]
     }
 }
 
@@ -55,8 +55,12 @@ impl From<[u64; 3]> for Row {
     ghost from_gives = { λ words row. row ≡ row_of_words words };
 
     fn from(words: [u64; 3]) -> Row {
-        let [rank, place, floor] = words;
-        Row { rank, place, floor }
+        let [rank, offset, floor] = words;
+        Row {
+            rank,
+            offset,
+            floor,
+        }
     }
 }
 
@@ -87,12 +91,7 @@ impl Table<'_> {
         if rows.len() < self.count as usize {
             return false;
         }
-        for i in 1..rows.len() {
-            if rows[i][0] <= rows[i - 1][0] {
-                return false;
-            }
-        }
-        true
+        rows.is_sorted_by(|a, b| a[0] < b[0])
     }
 
     // Where a rank belongs among the rows, by halves. It is a loop: `find_row` also promises what this search answers where ranks do not rise, which the

@@ -46,7 +46,7 @@ node =
     (7 ∷ replicate 7 0) ++ (10 ∷ 0 ∷ 0 ∷ 0 ∷ 236 ∷ 255 ∷ 255 ∷ 255 ∷ 1 ∷ 0 ∷ 0 ∷ 0 ∷ 9 ∷ 3 ∷ 0 ∷ 0 ∷ 0 ∷ []) ++ replicate 24 0
     ++ (1 ∷ 0 ∷ 0 ∷ 0 ∷ 1 ∷ 0 ∷ 0 ∷ 0 ∷ 65 ∷ [])
 
--- the node is live at place 0 and has no floor; way -4 is deleted, with floor 2; there is room for one relation; the texts are the empty one and `name`
+-- the node is live at offset 0 and has no floor; way -4 is deleted, with floor 2; there is room for one relation; the texts are the empty one and `name`
 abbrev stored_a : Overlay
 stored_a =
     overlay_in ((2 ^ 63 + 7) ∷ 0 ∷ (2 ^ 32) ∷ 4 ∷ (2 ^ 63) ∷ 2 ∷ 0 ∷ 0 ∷ 0 ∷ 0 ∷ 0 ∷ 0 ∷ 4 ∷ []) (node ++ (110 ∷ 97 ∷ 109 ∷ 101 ∷ []))

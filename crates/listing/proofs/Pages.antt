@@ -54,10 +54,10 @@ module _ (strings : ℕ) (k : Kind) (s : KindStore) (w : SoundKindStore strings 
   row_fields_lem r e =
       let h = find_passes (sound_row w.whole.kept) r.rank (rows_in s) r w.rows e in
       rw (row_version strings k s w r e h)
-      (by_bool (is_live r.place)
+      (by_bool (is_live r.offset)
       (λ l. let x = row_starts w.whole.kept r h l in
-      let q = fields_are f x.0.id x.0.held (drop r.place used) (record_found strings k s w r.place x.0 x.1.0) in
-      rw (l, record_read strings k s w r.place x.0 x.1.0, rw (record_kind strings k s w r.place x.0 x.1.0) at q))
+      let q = fields_are f x.0.id x.0.held (drop r.offset used) (record_found strings k s w r.offset x.0 x.1.0) in
+      rw (l, record_read strings k s w r.offset x.0 x.1.0, rw (record_kind strings k s w r.offset x.0 x.1.0) at q))
       (λ l. rw l))
 
   -- its line

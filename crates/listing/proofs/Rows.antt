@@ -1,4 +1,4 @@
--- A sound kind store, row by row: at the place of each live row the readers find a legal record of its kind, and the known version of a row's id is the one that the row says.
+-- A sound kind store, row by row: at the offset of each live row the readers find a legal record of its kind, and the known version of a row's id is the one that the row says.
 use Rattle.std.specs.Prelude.{None, Some}
 use Prim.Native.Nat.{ℕ, ◌+◌, ◌≤◌}
 use mathlib.Core.Path.{◌≡◌, refl, sym, ◌∙◌, ap, subst}
@@ -49,12 +49,12 @@ whole_found strings k s w at x h =
     subst (Found x.id x.held) (sym e) (read_record_lem x.id x.held b.0 (both_right _ _ f) (both_left _ _ (both_right _ _ l)))
 
 -- a live row that is sound points at the start of a record of its id
-pub row_starts : (kept : List KeptRecord) (r : Row) → sound_row kept r ≡ true → is_live r.place ≡ true → (x : KeptRecord) × ((record_at r.place kept ≡ Some x) × (x.id ≡ id_of r.rank))
+pub row_starts : (kept : List KeptRecord) (r : Row) → sound_row kept r ≡ true → is_live r.offset ≡ true → (x : KeptRecord) × ((record_at r.offset kept ≡ Some x) × (x.id ≡ id_of r.rank))
 unfolding sound_row
 row_starts kept r h l =
-    by_either (not (is_live r.place)) (starts_at (id_of r.rank) r.place kept) h
+    by_either (not (is_live r.offset)) (starts_at (id_of r.rank) r.offset kept) h
     (λ t. clash (sym (ap not l) ∙ t) refl)
-    (λ t. start_is (id_of r.rank) r.place kept t)
+    (λ t. start_is (id_of r.rank) r.offset kept t)
 
 module _ (strings : ℕ) (k : Kind) (s : KindStore) (w : SoundKindStore strings k s) (at : ℕ) (x : KeptRecord) (h : record_at at w.whole.kept ≡ Some x) where
   pub record_read : record_in k s at ≡ Some x.held
@@ -83,6 +83,6 @@ pub row_version : (strings : ℕ) (k : Kind) (s : KindStore) (w : SoundKindStore
     → known_of k (take s.used s.arena) r ≡ known_version k s (id_of r.rank)
 row_version strings k s w r e h =
     known_kept k (take s.used s.arena) s.arena s.used r
-    (λ l. let x = row_starts w.whole.kept r h l in record_within strings k s w r.place x.0 x.1.0)
+    (λ l. let x = row_starts w.whole.kept r h l in record_within strings k s w r.offset x.0 x.1.0)
     (take-take s.used s.used s.arena (omega arith))
     ∙ sym (known_row k s w.order (id_of r.rank) r (ap (λ n. find n (rows_in s)) (rank_back r.rank) ∙ e))

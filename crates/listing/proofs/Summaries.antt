@@ -184,9 +184,9 @@ module _ (o : Overlay) (w : Sound o) (n : Ranked o) where
       let k = key.kind in
       let s = kind_store_of k o in
       let i : id_of r.rank ≡ key.id = ap id_of (Maps.find_rank (rank key.id) (rows_in s) r e) ∙ id_rank g in
-      by_bool (is_live r.place)
+      by_bool (is_live r.offset)
       (λ l. let x = row_starts (w.kind_stores k).whole.kept r (Maps.find_passes (sound_row (w.kind_stores k).whole.kept) (rank key.id) (rows_in s) r (w.kind_stores k).rows e) l in
-      rw (i, l, record_read o.texts.strings k s (w.kind_stores k) r.place x.0 x.1.0))
+      rw (i, l, record_read o.texts.strings k s (w.kind_stores k) r.offset x.0 x.1.0))
       (λ l. rw (i, l))
 
   -- a key finds what the overlay knows of it
@@ -236,9 +236,9 @@ all_put p n (r ∷ rs) h g =
     (λ u. rw (t, u) (all_cons p r (Rows.put n rs) (all_head p r rs g) (all_put p n rs h (all_tail p r rs g)))))
 
 -- and the row of an id of 64 bits keeps it so
-pub ranked_put : (id : ℤ) (place floor : ℕ) → SFits w64 id → (rs : List table.Row) → all is_rank rs ≡ true → all is_rank (Rows.put (record { rank = rank id; place = place; floor = floor }) rs) ≡ true
+pub ranked_put : (id : ℤ) (offset floor : ℕ) → SFits w64 id → (rs : List table.Row) → all is_rank rs ≡ true → all is_rank (Rows.put (record { rank = rank id; offset = offset; floor = floor }) rs) ≡ true
 unfolding is_rank
-ranked_put id place floor g rs h = all_put is_rank (record { rank = rank id; place = place; floor = floor }) rs (lt-ltb _ _ (rank_fits g)) h
+ranked_put id offset floor g rs h = all_put is_rank (record { rank = rank id; offset = offset; floor = floor }) rs (lt-ltb _ _ (rank_fits g)) h
 
 pub ranked_kind_store : (k : Kind) (s : KindStore) (o : Overlay) → all is_rank (rows_in s) ≡ true → Ranked o → Ranked (with_kind_store k s o)
 ranked_kind_store k s o h n = record { rows = each_kind_store (λ j t. all is_rank (rows_in t) ≡ true) k s o h n.rows }

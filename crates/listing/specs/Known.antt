@@ -16,7 +16,7 @@ use Rattle.kind_store.specs.WellFormed.{rows_in}
 use Rattle.overlay.specs.Overlay.{Overlay, kind_store_of}
 use Rattle.listing_page.specs.Summary.{Known}
 
--- the record that stands at a place of a kind store's used bytes
+-- the record that stands at an offset of a kind store's used bytes
 abbrev pub held_in : Option (Cut KeptRecord) → Option (Record ℕ)
 held_in None = None
 held_in (Some c) = Some c.item.held
@@ -31,7 +31,7 @@ live_record f (Some r) = Some (live (swap_record f r))
 
 abbrev pub last_in : Kind → KindStore → (ℕ → Bytes) → Option Row → Option (Left Bytes)
 last_in k s f None = None
-last_in k s f (Some r) = cond (is_live r.place) (live_record f (record_in k s r.place)) (Some gone)
+last_in k s f (Some r) = cond (is_live r.offset) (live_record f (record_in k s r.offset)) (Some gone)
 
 unfoldable pub known_in : Overlay → Key → Known
 known_in o key =

@@ -16,14 +16,14 @@ use Rattle.overlay.specs.Overlay.{Overlay, kind_store_of}
 use Rattle.listing_page.specs.Summary.{PageRow, Table}
 use Rattle.listing.specs.Known.{record_in}
 
--- live with a record, its texts as texts; a place at which no record starts is unsound
+-- live with a record, its texts as texts; an offset at which no record starts is unsound
 abbrev pub left_with : (ℕ → Bytes) → Option (Record ℕ) → Left Bytes
 left_with f None = gone
 left_with f (Some r) = live (swap_record f r)
 
--- "`+` live or `-` deleted": the record that starts at the row's place, or none
+-- "`+` live or `-` deleted": the record that starts at the row's offset, or none
 unfoldable pub left_at : Kind → KindStore → (ℕ → Bytes) → table.Row → Left Bytes
-left_at k s f r = cond (is_live r.place) (left_with f (record_in k s r.place)) gone
+left_at k s f r = cond (is_live r.offset) (left_with f (record_in k s r.offset)) gone
 
 -- "kind; id; `+` live or `-` deleted; known version or `?`"
 abbrev pub row_of : Kind → KindStore → (ℕ → Bytes) → table.Row → PageRow

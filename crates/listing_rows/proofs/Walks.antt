@@ -18,13 +18,13 @@ use Rattle.listing_rows.specs.Lines.{row_fields_at, row_pieces}
 
 -- ---- what is lent of an arena
 
--- the bytes from a place on, or none
-pub view_from : (arena : Bytes) (place at : ℕ) → at ≡ min place (length arena) → take (length arena - at) (drop at arena) ≡ drop place arena
-view_from arena place at e =
+-- the bytes from an offset on, or none
+pub view_from : (arena : Bytes) (offset at : ℕ) → at ≡ min offset (length arena) → take (length arena - at) (drop at arena) ≡ drop offset arena
+view_from arena offset at e =
     take_all (length arena - at) (drop at arena) (omega (arith, length-drop at arena))
-    ∙ by_le place (length arena)
-    (λ l. let f : at ≡ place = omega arith in rw f)
-    (λ l. rw (drop_of_length-le arena {i = at} (omega arith), drop_of_length-le arena {i = place} (omega arith)))
+    ∙ by_le offset (length arena)
+    (λ l. let f : at ≡ offset = omega arith in rw f)
+    (λ l. rw (drop_of_length-le arena {i = at} (omega arith), drop_of_length-le arena {i = offset} (omega arith)))
 
 -- ---- a line
 

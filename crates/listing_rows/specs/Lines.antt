@@ -17,14 +17,14 @@ abbrev pub sign_of : Bool → Bytes
 sign_of true = ascii "+"
 sign_of false = ascii "-"
 
--- "A deleted line ends there. A live one goes on": the record at its place in the arena's used bytes
+-- "A deleted line ends there. A live one goes on": the record at its offset in the arena's used bytes
 abbrev pub last_at : (ℕ → Bytes) → Kind → Bytes → ℕ → List Bytes
-last_at f k arena place = cond (is_live place) (record_fields_at f k (drop place arena)) []
+last_at f k arena offset = cond (is_live offset) (record_fields_at f k (drop offset arena)) []
 
 -- a row's line; its known version is the one that the row itself says
 unfoldable pub row_fields_at : (ℕ → Bytes) → Kind → Bytes → Row → List Bytes
 row_fields_at f k arena r =
-    kind_field k ∷ integer_text (id_of r.rank) ∷ sign_of (is_live r.place) ∷ version_field (known_of k arena r) ∷ last_at f k arena r.place
+    kind_field k ∷ integer_text (id_of r.rank) ∷ sign_of (is_live r.offset) ∷ version_field (known_of k arena r) ∷ last_at f k arena r.offset
 
 unfoldable pub row_pieces : (ℕ → Bytes) → Kind → Bytes → List Row → List Bytes
 row_pieces f k arena [] = []

@@ -66,10 +66,10 @@ pub struct KindLines<'a> {
 impl KindLines<'_> {
     // "A deleted line ends there. A live one goes on"
     fn put_last(&self, printer: &mut Printer<'_>, row: Row)
-        ensures { Prints (tabs (last_at (text_held (store_seen self.now.strings)) self.now.storage.kind self.now.storage.arena.now row.place)) printer.old printer.new }
+        ensures { Prints (tabs (last_at (text_held (store_seen self.now.strings)) self.now.storage.kind self.now.storage.arena.now row.offset)) printer.old printer.new }
     {
-        if let Some(place) = row.record_place() {
-            let at = little::lesser(place as usize, self.storage.arena.len());
+        if let Some(offset) = row.record_offset() {
+            let at = little::lesser(offset as usize, self.storage.arena.len());
             let record = HeldRecord {
                 strings: self.strings,
                 kind: self.storage.kind,
@@ -87,7 +87,7 @@ impl KindLines<'_> {
             printer,
             self.storage.kind,
             osm_id::osm_id_of_rank(row.rank),
-            row.record_place().is_some(),
+            row.record_offset().is_some(),
             self.storage.row_version(row),
         );
         self.put_last(printer, row);

@@ -1,5 +1,5 @@
-pub mod Same
 pub mod Reading
 pub mod Taken
 pub mod Parsed
 pub mod Documents
+pub mod Names

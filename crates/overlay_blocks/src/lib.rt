@@ -11,7 +11,23 @@ ghost use Rattle.overlay_blocks.specs.Sizes.{largest, kind_fits, strings_fit, si
 
 use kind::Kind;
 
+// The largest lent sizes: ids and arena bytes of a kind, strings, string bytes. `largest` (specs/Sizes) says them for the proofs.
+pub const MAX_IDS: u64 = 4096;
+
+pub const MAX_ARENA: u64 = 1048576;
+
+pub const MAX_STRINGS: u64 = 4096;
+
+pub const MAX_STRING_BYTES: u64 = 65536;
+
 pub const COUNTERS: usize = 17;
+
+// The places of the counters: first the used ids of each kind.
+const NODES: usize = 0;
+
+const WAYS: usize = 1;
+
+const RELATIONS: usize = 2;
 
 // A kind's used arena bytes stand so far behind its used ids.
 pub const ARENA: usize = 3;
@@ -119,21 +135,21 @@ impl KindPart {
     {
         match kind {
             Kind::Node => KindPart {
-                at: 0,
+                at: NODES,
                 from: 0,
                 to: words.nodes,
                 first: 0,
                 end: bytes.nodes,
             },
             Kind::Way => KindPart {
-                at: 1,
+                at: WAYS,
                 from: words.nodes,
                 to: words.ways,
                 first: bytes.nodes,
                 end: bytes.ways,
             },
             Kind::Relation => KindPart {
-                at: 2,
+                at: RELATIONS,
                 from: words.ways,
                 to: words.relations,
                 first: bytes.ways,
@@ -150,7 +166,7 @@ impl KindSize {
     fn fits(self) -> bool
         ensures { result ≡ kind_fits largest self }
     {
-        1 <= self.ids && self.ids <= 4096 && self.bytes <= 1048576
+        1 <= self.ids && self.ids <= MAX_IDS && self.bytes <= MAX_ARENA
     }
 }
 
@@ -226,7 +242,7 @@ impl Sizes {
     fn strings_fit(&self) -> bool
         ensures { result ≡ strings_fit largest self.now.strings self.now.string_bytes }
     {
-        1 <= self.strings && self.strings <= 4096 && self.string_bytes <= 65536
+        1 <= self.strings && self.strings <= MAX_STRINGS && self.string_bytes <= MAX_STRING_BYTES
     }
 
     // Whether each size is one that set-up takes.

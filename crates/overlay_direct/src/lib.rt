@@ -33,7 +33,8 @@ pub fn intern(storage: &mut StorageMut<'_>, text: &[u8]) -> Result<u64, Refusal>
 #[tactic(auto, using(overlay::proofs::Checked::checked_unsound, overlay::proofs::Checked::checked_sound, std::proofs::lemmas::Result::err_from_is_err_and), unfolding(crate::specs::Calls::push_on))]
 pub fn push(storage: &mut StorageMut<'_>, push: &PushRecord<'_>) -> Result<(), Refusal>
     ensures same { IsSameStorage storage.new storage.old }
-    ensures done { record { overlay = overlay_held storage.new; answer = result } ≡ push_on push.now.kind push.now.head push.now.meta push.now.parts.now (overlay_held storage.old) }
+    ensures done { record { overlay = overlay_held storage.new; answer = result }
+        ≡ push_on push.now.kind push.now.head push.now.meta push.now.parts.now (overlay_held storage.old) }
 {
     storage.check_sound()?;
     compact_legal::record_fault(push, storage.counters[STRINGS])?;

@@ -23,7 +23,7 @@ use Rattle.overlay_ids.specs.Bulk.{AllIds, each_number, id_of_number, version_of
 use Rattle.overlay_ids.specs.Rows.{row_id, row_version, rows_listed, kind_ids}
 
 abbrev blank : Row
-blank = record { rank = 0; place = 0; floor = 0 }
+blank = record { rank = 0; offset = 0; floor = 0 }
 
 pub length_map : (g : Row → ℕ) (rs : List Row) → length (map g rs) ≡ length rs
 length_map g [] = refl

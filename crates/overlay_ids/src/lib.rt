@@ -23,7 +23,8 @@ fn put_rows(held: &KindStorage<'_>, side: Side, ids: &mut [u64], versions: &mut 
     requires { (length (rows_on side (rows_read held.now.table.now held.now.ids)) ≤ length ids.old)
         × (length (rows_on side (rows_read held.now.table.now held.now.ids)) ≤ length versions.old) }
     ensures { (ids.new ≡ over ids.old 0 (map row_id (rows_on side (rows_read held.now.table.now held.now.ids))))
-        × (versions.new ≡ over versions.old 0 (map (row_version held.now.kind (kind_seen held.now)) (rows_on side (rows_read held.now.table.now held.now.ids)))) }
+        × (versions.new
+        ≡ over versions.old 0 (map (row_version held.now.kind (kind_seen held.now)) (rows_on side (rows_read held.now.table.now held.now.ids)))) }
 {
     let table = held.rows();
     let mut n: usize = 0;

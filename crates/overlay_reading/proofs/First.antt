@@ -79,7 +79,7 @@ module _ (o : Overlay) where
       let list = rows_on side (rows_read (kind_store_of k o).table (kind_store_of k o).ids) in
       by_bool (is_sound o)
       (λ s. by_lt n (length list)
-      (λ l. rw (s, nth_at list n (record { rank = 0; place = 0; floor = 0 }) l, lt-ltb n (length list) l))
+      (λ l. rw (s, nth_at list n (record { rank = 0; offset = 0; floor = 0 }) l, lt-ltb n (length list) l))
       (λ l. rw (s, (missing_is list n).1 l, le-ltb n (length list) l)))
       (λ s. rw s)
 
@@ -110,7 +110,7 @@ module _ (o : Overlay) (b : InBytes o) (k : Kind) (n : ℕ) where
       by_bool (is_sound o)
       (λ s. let w = (decides o b).0 s in
       by_lt n live
-      (λ l. let x = record_row o b w k n (record { rank = 0; place = 0; floor = 0 }) (rw (counted o b w k Live live (live_is s)) l) in
+      (λ l. let x = record_row o b w k n (record { rank = 0; offset = 0; floor = 0 }) (rw (counted o b w k Live live (live_is s)) l) in
       ap view_refusal x.is ∙ rw (s, lt-ltb n live l))
       (λ l. ap view_refusal ((record_missing o b w k live n (live_is s)).1 l) ∙ rw (s, le-ltb n live l)))
       record_unsound

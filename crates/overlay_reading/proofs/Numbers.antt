@@ -94,7 +94,7 @@ module _ (o : Overlay) (b : InBytes o) (w : Sound o) (k : Kind) (side : Side) wh
   pub id_missing : (m n : ℕ) → count_on k side o ≡ Ok m → (id_on k side n o ≡ Err R.NoSuchNumber) ↔ (m ≤ n)
   id_missing m n e = (
     λ h. by_lt n m
-        (λ l. let d : Row = record { rank = 0; place = 0; floor = 0 } in
+        (λ l. let d : Row = record { rank = 0; offset = 0; floor = 0 } in
         let x : Ok (of_z w64 (id_of (get_or list n d).rank)) ≡ Err R.NoSuchNumber = sym (id_at n d (omega (arith, counted m e))) ∙ h in no cc)
         (λ l. l),
     λ l. id_past n (omega (arith, counted m e)),
@@ -112,12 +112,12 @@ module _ (o : Overlay) (b : InBytes o) (w : Sound o) (k : Kind) (side : Side) wh
         ap (to_z w64) (sym y) ∙ to_z-of_z (id_fits (rank_fits_lem n d l))
 
     pub id_signed : (n a : ℕ) → id_on k side n o ≡ Ok a → SFits w64 (to_z w64 a)
-    id_signed n a e = let d : Row = record { rank = 0; place = 0; floor = 0 } in rw (id_is n a d e) (id_fits (rank_fits_lem n d (id_given n a e)))
+    id_signed n a e = let d : Row = record { rank = 0; offset = 0; floor = 0 } in rw (id_is n a d e) (id_fits (rank_fits_lem n d (id_given n a e)))
 
     -- a later number has a later id
     pub ids_rise : (m n a c : ℕ) → m < n → id_on k side m o ≡ Ok a → id_on k side n o ≡ Ok c → before (to_z w64 a) (to_z w64 c) ≡ true
     ids_rise m n a c l e f =
-        let d : Row = record { rank = 0; place = 0; floor = 0 } in
+        let d : Row = record { rank = 0; offset = 0; floor = 0 } in
         let p = rank_fits_lem m d (id_given m a e) in
         let q = rank_fits_lem n d (id_given n c f) in
         rw (id_is m a d e, id_is n c d f)
@@ -157,7 +157,7 @@ module _ (o : Overlay) (b : InBytes o) (w : Sound o) (k : Kind) where
   pub record_get : all rank_fits (rows o b w k Live) ≡ true → (n a : ℕ) → id_on k Live n o ≡ Ok a → record_on k n o ≡ get_on k (to_z w64 a) o
   unfolding record_on
   record_get u n a e =
-      let d : Row = record { rank = 0; place = 0; floor = 0 } in
+      let d : Row = record { rank = 0; offset = 0; floor = 0 } in
       let l = id_given o b w k Live n a e in
       let r = at_row o b w k Live n d l in
       let q : rank (to_z w64 a) ≡ (get_or (list o b w k Live) n d).rank = ap rank (id_is o b w k Live u n a d e) ∙ rank_id (rank_fits_lem o b w k Live u n d l) in
@@ -168,16 +168,16 @@ module _ (o : Overlay) (b : InBytes o) (w : Sound o) (k : Kind) where
   -- and one of that id
   pub record_shows : all rank_fits (rows o b w k Live) ≡ true → (n a : ℕ) → id_on k Live n o ≡ Ok a → Shows (kind_store_of k o) (w.kind_stores k).whole.kept (to_z w64 a) (record_on k n o)
   record_shows u n a e =
-      let d : Row = record { rank = 0; place = 0; floor = 0 } in
+      let d : Row = record { rank = 0; offset = 0; floor = 0 } in
       rw (id_is o b w k Live u n a d e) (record_row n d (id_given o b w k Live n a e))
 
   pub record_missing : (m n : ℕ) → count_on k Live o ≡ Ok m → (record_on k n o ≡ Err R.NoSuchNumber) ↔ (m ≤ n)
   record_missing m n e =
       let c = counted o b w k Live m e in (
         λ h. by_lt n m
-            (λ l. let d : Row = record { rank = 0; place = 0; floor = 0 } in
+            (λ l. let d : Row = record { rank = 0; offset = 0; floor = 0 } in
             let x = record_row n d (omega arith) in
-            let y : ◌≡◌ {A = View} (Ok (Some (record { start = x.place; len = length (kept_bytes x.held) }))) (Err R.NoSuchNumber) = sym x.is ∙ h in no cc)
+            let y : ◌≡◌ {A = View} (Ok (Some (record { start = x.offset; len = length (kept_bytes x.held) }))) (Err R.NoSuchNumber) = sym x.is ∙ h in no cc)
             (λ l. l),
         λ l. record_past n (omega arith),
       )

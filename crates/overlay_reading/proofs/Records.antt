@@ -33,29 +33,29 @@ use Rattle.overlay_reading.specs.Reading.{view_in, standing_in, get_on, has_on, 
 
 -- a view shows a record of an id that starts in the arena: where it starts, as long as it is, and byte for byte
 pub record Shows (s : KindStore) (kept : List KeptRecord) (id : ℤ) (v : View) : Type 0 where
-  pub place : ℕ
+  pub offset : ℕ
   pub held : KeptRecord
-  pub starts : record_at place kept ≡ Some held
+  pub starts : record_at offset kept ≡ Some held
   pub same : held.id ≡ id
-  pub is : v ≡ Ok (Some (record { start = place; len = length (kept_bytes held) }))
-  pub bytes : take (length (kept_bytes held)) (drop place s.arena) ≡ kept_bytes held
+  pub is : v ≡ Ok (Some (record { start = offset; len = length (kept_bytes held) }))
+  pub bytes : take (length (kept_bytes held)) (drop offset s.arena) ≡ kept_bytes held
 
 -- the row of a live id points at a record of that id
-pub row_shows : (strings : ℕ) (k : Kind) (s : KindStore) (w : SoundKindStore strings k s) (n : ℕ) (r : Row) → find n (rows_of s.table s.ids) ≡ Some r → is_live r.place ≡ true
-    → Shows s w.whole.kept (id_of n) (view_in strings k s r.place)
+pub row_shows : (strings : ℕ) (k : Kind) (s : KindStore) (w : SoundKindStore strings k s) (n : ℕ) (r : Row) → find n (rows_of s.table s.ids) ≡ Some r → is_live r.offset ≡ true
+    → Shows s w.whole.kept (id_of n) (view_in strings k s r.offset)
 unfolding sound_row
 row_shows strings k s w n r e t =
-    by_either (not (is_live r.place)) (starts_at (id_of r.rank) r.place w.whole.kept) (find_passes (sound_row w.whole.kept) n (rows_of s.table s.ids) r w.rows e)
+    by_either (not (is_live r.offset)) (starts_at (id_of r.rank) r.offset w.whole.kept) (find_passes (sound_row w.whole.kept) n (rows_of s.table s.ids) r w.rows e)
     (λ u. clash (sym (ap not t) ∙ u) refl)
     (λ u.
-    let x = start_is (id_of r.rank) r.place w.whole.kept u in
+    let x = start_is (id_of r.rank) r.offset w.whole.kept u in
     record {
-      place = r.place;
+      offset = r.offset;
       held = x.0;
       starts = x.1.0;
       same = x.1.1 ∙ ap id_of (find_rank n (rows_of s.table s.ids) r e);
-      is = view_is strings k s.arena s.used w.whole r.place x.0 x.1.0;
-      bytes = view_bytes strings k s.arena s.used w.whole r.place x.0 x.1.0;
+      is = view_is strings k s.arena s.used w.whole r.offset x.0 x.1.0;
+      bytes = view_bytes strings k s.arena s.used w.whole r.offset x.0 x.1.0;
     })
 
 module _ (o : Overlay) (b : InBytes o) (w : Sound o) (k : Kind) (id : ℤ) (f : SFits w64 id) where
@@ -68,13 +68,13 @@ module _ (o : Overlay) (b : InBytes o) (w : Sound o) (k : Kind) (id : ℤ) (f : 
   known : (r : Row) → find (rank id) rows ≡ Some r → standing_in (kind_store_of k o) id ≡ row_standing r
   known r e = standing_is_lem (kind_store_of k o).table (kind_store_of k o).ids (w.kind_stores k).order id ∙ rw e
 
-  -- the view of a live id is that of its row's place
-  pub live_view_lem : (r : Row) → find (rank id) rows ≡ Some r → is_live r.place ≡ true → get_on k id o ≡ view_in o.texts.strings k (kind_store_of k o) r.place
+  -- the view of a live id is that of its row's offset
+  pub live_view_lem : (r : Row) → find (rank id) rows ≡ Some r → is_live r.offset ≡ true → get_on k id o ≡ view_in o.texts.strings k (kind_store_of k o) r.offset
   unfolding get_on
   live_view_lem r e t = rw (tested, known r e, row_live r t)
 
   -- T6: a live id has its record
-  pub live_reads : (r : Row) → find (rank id) rows ≡ Some r → is_live r.place ≡ true
+  pub live_reads : (r : Row) → find (rank id) rows ≡ Some r → is_live r.offset ≡ true
       → (has_on k id o ≡ Ok 1) × ((is_deleted_on k id o ≡ Ok 0) × Shows (kind_store_of k o) (w.kind_stores k).whole.kept id (get_on k id o))
   unfolding has_on is_deleted_on get_on
   live_reads r e t =
@@ -82,7 +82,7 @@ module _ (o : Overlay) (b : InBytes o) (w : Sound o) (k : Kind) (id : ℤ) (f : 
       (refl, (refl, rw (id_rank f) at (row_shows o.texts.strings k (kind_store_of k o) (w.kind_stores k) (rank id) r e t)))
 
   -- a deleted id and one that is not known have none
-  pub deleted_reads : (r : Row) → find (rank id) rows ≡ Some r → is_live r.place ≡ false → (has_on k id o ≡ Ok 0) × ((is_deleted_on k id o ≡ Ok 1) × (get_on k id o ≡ Ok None))
+  pub deleted_reads : (r : Row) → find (rank id) rows ≡ Some r → is_live r.offset ≡ false → (has_on k id o ≡ Ok 0) × ((is_deleted_on k id o ≡ Ok 1) × (get_on k id o ≡ Ok None))
   unfolding has_on is_deleted_on get_on
   deleted_reads r e t = rw (tested, known r e, row_deleted r t) (refl, (refl, refl))
 
@@ -96,14 +96,14 @@ module _ (o : Overlay) (b : InBytes o) (w : Sound o) (k : Kind) (id : ℤ) (f : 
     where
       go : (x : Option Row) → find (rank id) rows ≡ x → Shows (kind_store_of k o) (w.kind_stores k).whole.kept id (get_on k id o)
       go None e = let y : ◌≡◌ {A = Result ℕ Refusal} (Ok 0) (Ok 1) = sym (unknown_reads e).0 ∙ h in no cc
-      go (Some r) e = by_bool (is_live r.place) (λ t. (live_reads r e t).1.1) (λ t. let y : ◌≡◌ {A = Result ℕ Refusal} (Ok 0) (Ok 1) = sym (deleted_reads r e t).0 ∙ h in no cc)
+      go (Some r) e = by_bool (is_live r.offset) (λ t. (live_reads r e t).1.1) (λ t. let y : ◌≡◌ {A = Result ℕ Refusal} (Ok 0) (Ok 1) = sym (deleted_reads r e t).0 ∙ h in no cc)
 
   pub has_not : has_on k id o ≡ Ok 0 → get_on k id o ≡ Ok None
   has_not h = go (find (rank id) rows) refl
     where
       go : (x : Option Row) → find (rank id) rows ≡ x → get_on k id o ≡ Ok None
       go None e = (unknown_reads e).1.1
-      go (Some r) e = by_bool (is_live r.place) (λ t. let y : ◌≡◌ {A = Result ℕ Refusal} (Ok 0) (Ok 1) = sym h ∙ (live_reads r e t).0 in no cc) (λ t. (deleted_reads r e t).1.1)
+      go (Some r) e = by_bool (is_live r.offset) (λ t. let y : ◌≡◌ {A = Result ℕ Refusal} (Ok 0) (Ok 1) = sym h ∙ (live_reads r e t).0 in no cc) (λ t. (deleted_reads r e t).1.1)
 
   -- nothing of a sound overlay is refused
   pub get_given : (x : Refusal) → get_on k id o ≡ Err x → ⊥
@@ -115,6 +115,6 @@ module _ (o : Overlay) (b : InBytes o) (w : Sound o) (k : Kind) (id : ℤ) (f : 
       go : (q : Option Row) → find (rank id) rows ≡ q → ⊥
       go None e = none_given (unknown_reads e).1.1
       go (Some r) e =
-          by_bool (is_live r.place)
-          (λ t. let y = (live_reads r e t).1.1 in let z : ◌≡◌ {A = View} (Ok (Some (record { start = y.place; len = length (kept_bytes y.held) }))) (Err x) = sym y.is ∙ h in no cc)
+          by_bool (is_live r.offset)
+          (λ t. let y = (live_reads r e t).1.1 in let z : ◌≡◌ {A = View} (Ok (Some (record { start = y.offset; len = length (kept_bytes y.held) }))) (Err x) = sym y.is ∙ h in no cc)
           (λ t. none_given (deleted_reads r e t).1.1)

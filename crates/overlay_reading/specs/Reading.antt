@@ -75,7 +75,7 @@ abbrev pub view_in : ℕ → Kind → KindStore → ℕ → View
 view_in strings k s at = view_at strings k s.arena s.used at
 
 abbrev pub nth_view : ℕ → Kind → KindStore → Option Row → View
-nth_view strings k s (Some r) = view_in strings k s r.place
+nth_view strings k s (Some r) = view_in strings k s r.offset
 nth_view strings k s None = Err R.NoSuchNumber
 
 -- the record of the n-th live id

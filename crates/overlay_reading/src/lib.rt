@@ -62,7 +62,7 @@ pub fn record_at(storage: &Storage<'_>, kind: Kind, n: u64) -> Result<Option<Spa
     storage.check_sound()?;
     let held = storage.kind_storage(kind);
     let row = kind_reading::listed_row(&held, Side::Live, n).ok_or(Refusal::NoSuchNumber)?;
-    kind_reading::record_view(&held, storage.counters[STRINGS], row.place)
+    kind_reading::record_view(&held, storage.counters[STRINGS], row.offset)
 }
 
 // ---- by id, which is given in bits

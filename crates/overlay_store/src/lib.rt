@@ -35,9 +35,11 @@ fn intern_in(
     counters: &mut [u64; COUNTERS],
     text: &[u8],
 ) -> Option<u64>
-    ensures others { OthersKept 6 7 counters.old counters.new }
-    ensures store { ChainsServe (chains_seen chains.now) (strings_at spans.old bytes.old counters.old) → strings_at spans.new bytes.new counters.new ≡ (intern (strings_at spans.old bytes.old counters.old) text.now).store }
-    ensures handle { ChainsServe (chains_seen chains.now) (strings_at spans.old bytes.old counters.old) → result ≡ handle_answered (intern (strings_at spans.old bytes.old counters.old) text.now).answer }
+    ensures others { OthersKept STRINGS STRING_BYTES counters.old counters.new }
+    ensures store { ChainsServe (chains_seen chains.now) (strings_at spans.old bytes.old counters.old) → strings_at spans.new bytes.new counters.new
+        ≡ (intern (strings_at spans.old bytes.old counters.old) text.now).store }
+    ensures handle { ChainsServe (chains_seen chains.now) (strings_at spans.old bytes.old counters.old) → result
+        ≡ handle_answered (intern (strings_at spans.old bytes.old counters.old) text.now).answer }
 {
     let mut strings = StringsMut {
         spans,
@@ -103,7 +105,7 @@ fn push_in(
     requires { at < 3 }
     ensures { (record { kind_store = kind_store_left at table.new arena.new counters.new; answer = result }
         ≡ pushed push.now.kind (setting_in counters.old) (kind_store_lent at table.old arena.old counters.old) (to_z w64 push.now.head.id) (claim_of (meta_of push.now.meta)) (bytes_of push.now.kind push.now.head push.now.meta push.now.parts.now))
-        × OthersKept at (at + 3) counters.old counters.new }
+        × OthersKept at (at + ARENA) counters.old counters.new }
 {
     let setting = counters[SETTING];
     let mut part = KindStorageMut {
@@ -122,7 +124,8 @@ fn push_in(
 // A push whose record is legal: 12, 14, 15, or taken.
 pub fn push(storage: &mut StorageMut<'_>, push: &PushRecord<'_>) -> Result<(), Refusal>
     ensures same { IsSameStorage storage.new storage.old }
-    ensures done { record { overlay = overlay_held storage.new; answer = result } ≡ store_push push.now.kind push.now.head push.now.meta push.now.parts.now (overlay_held storage.old) }
+    ensures done { record { overlay = overlay_held storage.new; answer = result }
+        ≡ store_push push.now.kind push.now.head push.now.meta push.now.parts.now (overlay_held storage.old) }
 {
     let p = Sizes::from(&*storage.counters).part(
         push.kind,
@@ -151,7 +154,7 @@ fn delete_in(
     requires { at < 3 }
     ensures { (record { kind_store = kind_store_left at table.new arena.now counters.new; answer = result }
         ≡ deleted kind (setting_in counters.old) (kind_store_lent at table.old arena.now counters.old) (to_z w64 id) claim)
-        × OthersKept at (at + 3) counters.old counters.new }
+        × OthersKept at (at + ARENA) counters.old counters.new }
 {
     let setting = counters[SETTING];
     let mut part = KindStorageTable {

@@ -95,10 +95,10 @@ then_user_on m a = then_user m a.overlay a.answer
 
 -- ---- in the code: a handle is none without a user
 
--- the handle that was found, or a refusal
-abbrev pub found : Result (Option ℕ) Refusal → Result ℕ Refusal
-found (Ok u) = Ok (unwrap_or u 0)
-found (Err r) = Err r
+-- the handle, 0 without a user, or a refusal
+abbrev pub handle_or_zero : Result (Option ℕ) Refusal → Result ℕ Refusal
+handle_or_zero (Ok u) = Ok (unwrap_or u 0)
+handle_or_zero (Err r) = Err r
 
 -- 12 before the refusal of a text
 abbrev pub first_refusal : Result Unit ℤ → Refusal → Refusal

@@ -15,7 +15,7 @@ ghost use Rattle.overlay_store.specs.Calls.{store_delete};
 ghost use Rattle.act_answer.specs.Answer.{claim_answer};
 ghost use Rattle.event_values.specs.Value.{body_in};
 ghost use Rattle.reader.specs.Step.{bits_with_user, head_for};
-ghost use Rattle.reader_acts.specs.Acts.{begin_on, handle_for, with_user, push_empty_on, delete_element_on, push_staged_on, found, first_refusal, before_act, meta_named, act_means, ActGiven, UserIs};
+ghost use Rattle.reader_acts.specs.Acts.{begin_on, handle_for, with_user, push_empty_on, delete_element_on, push_staged_on, handle_or_zero, first_refusal, before_act, meta_named, act_means, ActGiven, UserIs};
 
 use compact::{ArenaMeta, PushHead, PushRecord};
 use event_scan::MAX_LINE;
@@ -40,7 +40,7 @@ pub struct Act<'a> {
 
 // ---- in bits
 
-// The head of an element that begins; only a node has a place. It is no method of `Act`: that a number fits its type is known of a parameter, and of no field behind a reference (tried).
+// The head of an element that begins; only a node has coordinates. It is no method of `Act`: that a number fits its type is known of a parameter, and of no field behind a reference (tried).
 pub fn head_for(kind: Kind, id: u64, lat: u32, lon: u32) -> PushHead
     ensures id { result.id ≡ id }
     ensures bits { result ≡ head_for (to_z w64 id) (body_in kind lat lon) }
@@ -61,7 +61,8 @@ pub fn head_for(kind: Kind, id: u64, lat: u32, lon: u32) -> PushHead
 // Metadata with the handle of the user that it names, and the flag 4, "has user"; without a user both are 0. A handle of more than 32 bits is stored as 0: a sound overlay has none.
 fn with_user(meta: ArenaMeta, handle: Option<u64>) -> ArenaMeta
     ensures claim { claim_of (meta_of result) ≡ claim_of (meta_of meta) }
-    ensures bits { (user : Bytes) → unwrap_or handle 0 < 4294967296 → result ≡ bits_with_user (meta_named meta (is_some handle) user) (unwrap_or handle 0) }
+    ensures bits { (user : Bytes) → unwrap_or handle 0 < 4294967296 → result
+        ≡ bits_with_user (meta_named meta (is_some handle) user) (unwrap_or handle 0) }
 {
     let user_flag = if handle.is_some() { 4 } else { 0 };
     let handle = handle.unwrap_or(0);
@@ -134,15 +135,14 @@ fn user_before(
 ) -> Result<Option<u64>, Refusal>
     ensures named { IfOk result (λ (h : Option ℕ). is_some h ≡ is_some act.now.user) }
     ensures asked { ChainsServe (chains_seen chains.now) (overlay_seen storage.now).texts
-        → found result ≡ before_act act.now.kind (to_z w64 act.now.id) (act_means act.now) (overlay_seen storage.now) }
+        → handle_or_zero result ≡ before_act act.now.kind (to_z w64 act.now.id) (act_means act.now) (overlay_seen storage.now) }
 {
     let Some(user) = act.user else {
         return Ok(None);
     };
-    match reader_texts::text_handle(storage, chains, &user) {
-        Ok(handle) => Ok(Some(handle)),
-        Err(refusal) => Err(first_refusal(storage, act, refusal)),
-    }
+    let refusal = |r: Refusal| first_refusal(storage, act, r);
+    let handle = reader_texts::text_handle(storage, chains, &user).map_err(refusal)?;
+    Ok(Some(handle))
 }
 
 // What follows an act: the user's text is taken in, unless its handle is below the count: then it is held.
@@ -165,21 +165,22 @@ fn take_user(storage: &mut StorageMut<'_>, chains: &Chains<'_>, act: &Act<'_>, h
 
 // ---- an element that begins and ends at once, and a delete
 
-// Pushes an empty element, a node by its place: 12, 13, 14, 15, or taken.
+// Pushes an empty element, a node with its coordinates: 12, 13, 14, 15, or taken.
 pub fn push_empty(
     storage: &mut StorageMut<'_>,
     chains: &Chains<'_>,
     act: &Act<'_>,
-    place: Coordinates,
+    coordinates: Coordinates,
 ) -> Result<(), Refusal>
     ensures same { IsSameStorage storage.new storage.old }
     ensures pushed { ActGiven (chains_seen chains.now) (overlay_held storage.old)
-        → record { overlay = overlay_held storage.new; answer = result } ≡ push_empty_on (to_z w64 act.now.id) (act_means act.now) (body_in act.now.kind place.lat place.lon) (overlay_held storage.old) }
+        → record { overlay = overlay_held storage.new; answer = result }
+        ≡ push_empty_on (to_z w64 act.now.id) (act_means act.now) (body_in act.now.kind coordinates.lat coordinates.lon) (overlay_held storage.old) }
 {
     let user = user_before(&storage.storage(), chains, act)?;
     let record = PushRecord {
         kind: act.kind,
-        head: head_for(act.kind, act.id, place.lat, place.lon),
+        head: head_for(act.kind, act.id, coordinates.lat, coordinates.lon),
         meta: with_user(act.meta, user),
         parts: &[],
     };
@@ -197,7 +198,8 @@ fn store_delete(
     id: u64,
     claim: Option<i32>,
 ) -> Result<(), Refusal>
-    ensures { record { overlay = overlay_in words.new bytes.new counters.new; answer = result } ≡ store_delete kind (to_z w64 id) claim (overlay_in words.old bytes.old counters.old) }
+    ensures { record { overlay = overlay_in words.new bytes.new counters.new; answer = result }
+        ≡ store_delete kind (to_z w64 id) claim (overlay_in words.old bytes.old counters.old) }
 {
     let mut tables = StorageTables {
         words,
@@ -215,7 +217,8 @@ pub fn delete_element(
 ) -> Result<(), Refusal>
     ensures same { IsSameStorage storage.new storage.old }
     ensures deleted { ChainsServe (chains_seen chains.now) (overlay_held storage.old).texts
-        → record { overlay = overlay_held storage.new; answer = result } ≡ delete_element_on act.now.kind (to_z w64 act.now.id) (act_means act.now) (overlay_held storage.old) }
+        → record { overlay = overlay_held storage.new; answer = result }
+        ≡ delete_element_on act.now.kind (to_z w64 act.now.id) (act_means act.now) (overlay_held storage.old) }
 {
     let user = user_before(&storage.storage(), chains, act)?;
     let claim = act.meta.claim();

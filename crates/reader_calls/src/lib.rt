@@ -23,7 +23,7 @@ use text_index::Chains;
 
 // The number of the next line, where there is one.
 fn next_line(lines: u64) -> u64
-    ensures { lines < 18446744073709551615 → result ≡ lines + 1 }
+    ensures { lines < u64.MAX → result ≡ lines + 1 }
 {
     lines.saturating_add(1)
 }
@@ -32,7 +32,8 @@ fn next_line(lines: u64) -> u64
 fn line_step(state: &mut ReaderState<'_>, chains: &Chains<'_>, line: &[u8]) -> Result<(), Refusal>
     ensures same { IsSameState state.new state.old }
     ensures done { state_sound (state_held state.old) ≡ true → ChainsServe (chains_seen chains.now) (state_held state.old).overlay.texts
-        → record { state = state_held state.new; answer = result } ≡ done_by (state_held state.old) (step_of (decide line.now state.old.reader.place) (state_held state.old)) }
+        → record { state = state_held state.new; answer = result }
+        ≡ done_by (state_held state.old) (step_of (decide line.now state.old.reader.place) (state_held state.old)) }
 {
     let task = event_decide::tasks::task_of(line, state.reader.place)?;
     reader_step::step(state, chains, &task)
@@ -47,7 +48,8 @@ pub fn event_going(
 ) -> Result<(), RefusedAt>
     ensures same { IsSameState state.new state.old }
     ensures value { state_sound (state_held state.old) ≡ true → ChainsServe (chains_seen chains.now) (state_held state.old).overlay.texts
-        → record { state = state_held state.new; answer = result } ≡ stepped (state_held state.old) (step_of (decide line.now state.old.reader.place) (state_held state.old)) }
+        → record { state = state_held state.new; answer = result }
+        ≡ stepped (state_held state.old) (step_of (decide line.now state.old.reader.place) (state_held state.old)) }
 {
     let number = next_line(state.reader.lines);
     match line_step(state, chains, line) {

@@ -22,24 +22,24 @@ use reader_stage::STAGED;
 use refusal::Refusal;
 use text_index::Chains;
 
-// An element begins, a node at its place; one that is empty ends too, and is pushed.
+// An element begins, a node with its coordinates; one that is empty ends too, and is pushed.
 pub fn begin(
     storage: &mut StorageMut<'_>,
     chains: &Chains<'_>,
     act: &Act<'_>,
-    place: Coordinates,
+    coordinates: Coordinates,
     empty: bool,
 ) -> Result<Pending, Refusal>
     ensures same { IsSameStorage storage.new storage.old }
     ensures works { (s : State) → s.overlay ≡ overlay_held storage.old → ActGiven (chains_seen chains.now) s.overlay
-        → Works (λ p. begins empty p (to_z w64 act.now.id) (act_means act.now) (body_in act.now.kind place.lat place.lon)) s (worked s (overlay_held storage.new) s.parts result) }
+        → Works (λ p. begins empty p (to_z w64 act.now.id) (act_means act.now) (body_in act.now.kind coordinates.lat coordinates.lon)) s (worked s (overlay_held storage.new) s.parts result) }
 {
     if empty {
-        reader_acts::push_empty(storage, chains, act, place)?;
+        reader_acts::push_empty(storage, chains, act, coordinates)?;
         return Ok(Pending::default());
     }
     let meta = reader_acts::begin_element(storage, chains, act)?;
-    let head = reader_acts::head_for(act.kind, act.id, place.lat, place.lon);
+    let head = reader_acts::head_for(act.kind, act.id, coordinates.lat, coordinates.lon);
     Ok(Pending {
         head,
         meta,

@@ -40,7 +40,7 @@ fn line_event(
     ensures value { RunGiven (state_held state.old) → ChainsServe (chains_seen chains.now) (state_held state.old).overlay.texts
         → record { state = state_held state.new; answer = result } ≡ event_on line.now (state_held state.old) }
 {
-    let counts = state.reader.lines < 18446744073709551615;
+    let counts = state.reader.lines < u64::MAX;
     reader_sound::check_going(counts, state.reader.stop)?;
     reader_calls::event_going(state, chains, line)
 }

@@ -1,7 +1,7 @@
 // Children of the element that a reader is putting together: one tag, ref or member more. A refused child changes nothing, so the limits are asked before a text is taken in.
 #![tactic(auto)]
 
-ghost use Rattle.std.specs.Prelude.{◌≡◌, ◌+◌, ◌++◌, ◌≤◌, ◌<◌, length};
+ghost use Rattle.std.specs.Prelude.{◌≡◌, ◌+◌, ◌++◌, ◌≤◌, ◌<◌, length, max};
 ghost use Rattle.std.specs.Int.{w64};
 ghost use Rattle.std.proofs.Common.{to_z};
 ghost use Rattle.event_scan.specs.Fields.{text_written};
@@ -21,6 +21,7 @@ use compact::{CompactMember, CompactRelation, CompactWay, PushHead};
 use event_scan::MAX_LINE;
 use event_scan::fields::Value;
 use kind::Kind;
+use model::{MAX_MEMBERS, MAX_REFS, MAX_TAG_VALUE_BYTES, MAX_TAGS};
 use overlay::{Storage, StorageMut};
 use reader::{Pending, ReaderState};
 use reader_stage::{STAGED, Staged};
@@ -53,10 +54,10 @@ fn tag_fits(kind: Kind, pending: Pending, len: usize) -> bool
     ensures { result ≡ tag_fits kind pending len }
 {
     let head = pending.head;
-    if head.tags < 256 {
+    if head.tags < MAX_TAGS {
         let held = values_size(kind, head, pending.used);
-        if held <= 16384 {
-            return len <= 16384 - held;
+        if held <= MAX_TAG_VALUE_BYTES {
+            return len <= MAX_TAG_VALUE_BYTES - held;
         }
         return false;
     }
@@ -95,7 +96,7 @@ fn stage_part(
     numbers: &[u8],
     value: &[u8],
 ) -> Pending
-    requires { (length numbers.now ≤ 13) × (length value.now ≤ 16384) }
+    requires { (length numbers.now ≤ 13) × (length value.now ≤ MAX_TAG_VALUE_BYTES) }
     ensures parts { parts.new ≡ staged parts.old pending.used at (numbers.now ++ value.now) }
     ensures pending { pending.used ≤ length parts.old → result ≡ pending_with head (numbers.now ++ value.now) pending }
 {
@@ -113,7 +114,7 @@ fn stage_part(
 
 // A ref or a member more, by its bytes: they lie behind those before it.
 fn stage_middle(parts: &mut [u8; STAGED], kind: Kind, pending: Pending, part: &[u8]) -> Pending
-    requires { (pending.head.count < 2000) × (length part.now ≤ 13) }
+    requires { (pending.head.count < max MAX_REFS MAX_MEMBERS) × (length part.now ≤ 13) }
     ensures parts { parts.new ≡ staged parts.old pending.used (middle kind pending.head.count) part.now }
     ensures pending { pending.used ≤ length parts.old → result ≡ pending_with (more_parts pending.head) part.now pending }
 {
@@ -243,7 +244,7 @@ pub fn add_ref(
     ensures { (o : Overlay) → pending.used ≤ length parts.old
         → record { overlay = o; parts = parts.new; answer = result } ≡ add_ref kind pending (to_z w64 reference) parts.old o }
 {
-    if part_fits(pending, 2000) {
+    if part_fits(pending, MAX_REFS) {
         return Ok(stage_middle(parts, kind, pending, &reader_stage::ref_bytes(reference)));
     }
     Err(Refusal::TooManyParts)
@@ -263,7 +264,7 @@ pub fn add_member(
         → Works (λ p. joins p (record { ref = to_z w64 reference; type = kind; role = text_written role.now })) (state_held state.old) (record { state = state_held state.new; answer = result }) }
 {
     let reader = state.reader;
-    if part_fits(reader.pending, 2000) {
+    if part_fits(reader.pending, MAX_MEMBERS) {
         let role = take_handle(state, chains, role)?;
         let member = CompactMember {
             reference,

@@ -67,7 +67,7 @@ impl Staged<'_> {
     // no room, the part is counted and no byte changes.
     pub fn insert(&mut self, at: usize, numbers: &[u8], value: &[u8])
         ensures same { self.new.parts.ghost_name ≡ self.old.parts.ghost_name }
-        ensures used { self.new.used ≡ min (self.old.used + length (numbers.now ++ value.now)) 18446744073709551615 }
+        ensures used { self.new.used ≡ min (self.old.used + length (numbers.now ++ value.now)) usize.MAX }
         ensures staged { self.new.parts.now ≡ staged self.old.parts.now self.old.used at (numbers.now ++ value.now) }
     {
         let n = numbers.len() + value.len();

@@ -18,7 +18,6 @@ use compact::ArenaMeta;
 use event_decide::tasks::{NewElement, OldElement, Task, Work};
 use event_metadata::values::MetadataValues;
 use event_scan::MAX_LINE;
-use event_values::Coordinates;
 use kind::Kind;
 use overlay::StorageMut;
 use reader::ReaderState;
@@ -79,10 +78,6 @@ fn begin(
         → Works (λ p. work_means p (W.Begins element.now)) (state_held state.old) (record { state = state_held state.new; answer = result }) }
 {
     let act = act_of(element.kind, element.id, &element.metadata);
-    let place = Coordinates {
-        lat: element.lat,
-        lon: element.lon,
-    };
     let mut storage = StorageMut {
         words: state.words,
         bytes: state.bytes,
@@ -92,7 +87,7 @@ fn begin(
         &mut storage,
         chains,
         &act,
-        place,
+        element.coordinates,
         element.empty,
     )?;
     Ok(())

@@ -61,7 +61,7 @@ off_head Node = refl
 off_head Way = refl
 off_head Relation = refl
 
--- the bytes of a place inside are there
+-- the bytes of an offset inside are there
 index_in : (s : Bytes) (i : ℕ) → i < length s → index s i ≡ Some (get_or s i 0)
 index_in [] i h = absurd (omega arith)
 index_in (b ∷ s) zero h = refl
@@ -71,15 +71,15 @@ slice_in : (s : Bytes) (i n : ℕ) → i + n ≤ length s → slice s i n ≡ So
 unfolding slice
 slice_in s i n h = rw (le-leb _ _ h)
 
-plain_version : (k : Kind) (s : Bytes) (place : ℕ) → place + (head_len k + 29) ≤ length s → version (C.version_at s place (meta_off k)) ≡ version_at k s place
+plain_version : (k : Kind) (s : Bytes) (offset : ℕ) → offset + (head_len k + 29) ≤ length s → version (C.version_at s offset (meta_off k)) ≡ version_at k s offset
 unfolding C.version_at bind version_at claim_of meta_of meta_at value_at
-plain_version k s place h =
-    rw (off_head k, index_in s (place + head_len k) (omega arith), slice_in s (place + head_len k + 1) 4 (omega arith), from_value, ← one_byte s (place + head_len k), clear_flag)
-    (by_bool (flagged 8 (value (take 1 (drop (place + head_len k) s)))) (λ t. rw t) (λ t. rw t))
+plain_version k s offset h =
+    rw (off_head k, index_in s (offset + head_len k) (omega arith), slice_in s (offset + head_len k + 1) 4 (omega arith), from_value, ← one_byte s (offset + head_len k), clear_flag)
+    (by_bool (flagged 8 (value (take 1 (drop (offset + head_len k) s)))) (λ t. rw t) (λ t. rw t))
 
-version_used : (k : Kind) (arena : Bytes) (used place : ℕ) → used ≤ length arena → place + (head_len k + 29) ≤ used → version (C.version_at (take used arena) place (meta_off k)) ≡ version_at k arena place
-version_used k arena used place u h =
-    plain_version k (take used arena) place (omega (arith, h, length-take-le used arena u)) ∙ version_same k (take used arena) arena used place h (take-take used used arena (omega arith))
+version_used : (k : Kind) (arena : Bytes) (used offset : ℕ) → used ≤ length arena → offset + (head_len k + 29) ≤ used → version (C.version_at (take used arena) offset (meta_off k)) ≡ version_at k arena offset
+version_used k arena used offset u h =
+    plain_version k (take used arena) offset (omega (arith, h, length-take-le used arena u)) ∙ version_same k (take used arena) arena used offset h (take-take used used arena (omega arith))
 
 same_max_or : (a b : Option ℤ) → version (P.max_or a b) ≡ higher (version a) (version b)
 unfolding P.max_or
@@ -98,8 +98,8 @@ module _ (k : Kind) (s : KindStore) (r : KindFields) (well : WellFormed k s) (sa
       go : (o : Option Row) → row_of s id ≡ o → higher (version (P.live_version (meta_off k) r.arena (get r.index id))) (version (get r.floors id)) ≡ known_version k s id
       go None e = rw (same.offsets id fits, same.floors id fits, e, known_none k s well.sound id e) (higher_left None)
       go (Some row) e =
-          by_bool (is_live row.place)
-          (λ t. rw (same.offsets id fits, same.floors id fits, e, known_row k s well.sound id row e, t, same.arena, version_used k s.arena s.used row.place same.within (well.places (rank id) row e t)))
+          by_bool (is_live row.offset)
+          (λ t. rw (same.offsets id fits, same.floors id fits, e, known_row k s well.sound id row e, t, same.arena, version_used k s.arena s.used row.offset same.within (well.offsets (rank id) row e t)))
           (λ t. rw (same.offsets id fits, same.floors id fits, e, known_row k s well.sound id row e, t))
 
   same_floor : of_word (floor_of s id) ≡ floor_in (row_of s id)
@@ -109,7 +109,7 @@ module _ (k : Kind) (s : KindStore) (r : KindFields) (well : WellFormed k s) (sa
       go None e = rw (e, floor_none k s well.sound id e) (word_absent (2 ^ 32) (omega arith))
       go (Some row) e = rw (e, floor_row k s well.sound id row e)
 
-  -- the place of a live record's metadata lies inside the arena: `version_at` does not panic
+  -- the offset of a live record's metadata lies inside the arena: `version_at` does not panic
   pub version_inside : (at : ℕ) → get r.index id ≡ Some at → at + (meta_off k + 29) ≤ length r.arena
   version_inside at e =
       let l = length-take-le s.used s.arena same.within in
@@ -118,10 +118,10 @@ module _ (k : Kind) (s : KindStore) (r : KindFields) (well : WellFormed k s) (sa
       go : (o : Option Row) → row_of s id ≡ o → length r.arena ≡ s.used → at + (meta_off k + 29) ≤ length r.arena
       go None q l = let z : None ≡ Some at = rw (same.offsets id fits, q) at e in no cc
       go (Some row) q l =
-          by_bool (is_live row.place)
-          (λ t. let z : Some row.place ≡ Some at = rw (same.offsets id fits, q, t) at e in
-          let p : row.place ≡ at = cc in
-          omega (arith, well.places (rank id) row q t, off_head k, p, l))
+          by_bool (is_live row.offset)
+          (λ t. let z : Some row.offset ≡ Some at = rw (same.offsets id fits, q, t) at e in
+          let p : row.offset ≡ at = cc in
+          omega (arith, well.offsets (rank id) row q t, off_head k, p, l))
           (λ t. let z : None ≡ Some at = rw (same.offsets id fits, q, t) at e in no cc)
 
 -- ---- the check
@@ -161,16 +161,16 @@ raised_own floors id (Some a) (Some b) h =
 
 -- ---- the row of an id set on one side, its entries on the other
 
-module _ (s t : KindStore) (r q : KindFields) (id : ℤ) (place floor : ℕ) (fits : SFits w64 id) (laid : Laid s id place floor t) (same : SameFields s r) where
-  row_own : row_of t id ≡ Some (record { rank = rank id; place = place; floor = floor })
-  row_own = rw laid.rows (find_put_same (record { rank = rank id; place = place; floor = floor }) (rows_in s))
+module _ (s t : KindStore) (r q : KindFields) (id : ℤ) (offset floor : ℕ) (fits : SFits w64 id) (laid : Laid s id offset floor t) (same : SameFields s r) where
+  row_own : row_of t id ≡ Some (record { rank = rank id; offset = offset; floor = floor })
+  row_own = rw laid.rows (find_put_same (record { rank = rank id; offset = offset; floor = floor }) (rows_in s))
 
   row_other : (j : ℤ) → SFits w64 j → (j ≡ id → ⊥) → row_of t j ≡ row_of s j
-  row_other j f n = rw laid.rows (find_put_other (rank j) (record { rank = rank id; place = place; floor = floor }) (rows_in s) (λ e. n (rank_injective f fits e)))
+  row_other j f n = rw laid.rows (find_put_other (rank j) (record { rank = rank id; offset = offset; floor = floor }) (rows_in s) (λ e. n (rank_injective f fits e)))
 
   same_laid : q.arena ≡ take t.used t.arena → t.used ≤ length t.arena
-      → get q.index id ≡ cond (is_live place) (Some place) None → ((j : ℤ) → (j ≡ id → ⊥) → get q.index j ≡ get r.index j)
-      → contains q.deleted id ≡ cond (is_live place) false true → ((j : ℤ) → (j ≡ id → ⊥) → contains q.deleted j ≡ contains r.deleted j)
+      → get q.index id ≡ cond (is_live offset) (Some offset) None → ((j : ℤ) → (j ≡ id → ⊥) → get q.index j ≡ get r.index j)
+      → contains q.deleted id ≡ cond (is_live offset) false true → ((j : ℤ) → (j ≡ id → ⊥) → contains q.deleted j ≡ contains r.deleted j)
       → version (get q.floors id) ≡ of_word floor → ((j : ℤ) → (j ≡ id → ⊥) → get q.floors j ≡ get r.floors j)
       → keyed q.index ≡ true → once q.deleted ≡ true → SameFields t q
   same_laid a l o os d ds f fs x y =

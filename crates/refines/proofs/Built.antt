@@ -117,10 +117,10 @@ abbrev key_of : Entry ℕ → ℤ
 key_of e = e.key
 
 abbrev entry_row : Entry ℕ → Row
-entry_row e = record { rank = rank e.key; place = e.value; floor = 0 }
+entry_row e = record { rank = rank e.key; offset = e.value; floor = 0 }
 
 entry_found : (m : HashMap ℕ) → all (fits key_of entry_row (λ e. refl)) m ≡ true → (k : ℤ) → SFits w64 k
-    → find (rank k) (map entry_row m) ≡ option_map (λ v. record { rank = rank k; place = v; floor = 0 }) (get m k)
+    → find (rank k) (map entry_row m) ≡ option_map (λ v. record { rank = rank k; offset = v; floor = 0 }) (get m k)
 unfolding find get
 entry_found [] h k f = refl
 entry_found (e ∷ m) h k f =
@@ -145,7 +145,7 @@ keyed_distinct (e ∷ m) h =
 -- ---- HashSet<i64>: an id as a row
 
 abbrev id_row : ℤ → Row
-id_row k = record { rank = rank k; place = 0; floor = 0 }
+id_row k = record { rank = rank k; offset = 0; floor = 0 }
 
 abbrev self : ℤ → ℤ
 self k = k
@@ -191,12 +191,12 @@ module _ (f : Row → Row) (keeps : (q : Row) → (f q).rank ≡ q.rank) where
   rising_map [] = refl
   rising_map (q ∷ rs) = rw (keeps q) (from_map q.rank rs)
 
--- the rank and the place; the rank alone
+-- the rank and the offset; the rank alone
 abbrev placed : Row → Row
-placed q = record { rank = q.rank; place = q.place; floor = 0 }
+placed q = record { rank = q.rank; offset = q.offset; floor = 0 }
 
 abbrev named : Row → Row
-named q = record { rank = q.rank; place = 0; floor = 0 }
+named q = record { rank = q.rank; offset = 0; floor = 0 }
 
 module _ (s : KindStore) (r : KindFields) (same : SameFields s r) (rises : rising (rows_in s) ≡ true) (ranks : all is_rank (rows_in s) ≡ true) where
   rows_past : (j : ℕ) → 2 ^ 64 ≤ j → find j (rows_in s) ≡ None
@@ -224,9 +224,9 @@ module _ (s : KindStore) (r : KindFields) (same : SameFields s r) (rises : risin
       entry_found r.index (distinct_fits key_of entry_row (λ e. refl) r.index (keyed_distinct r.index same.index_keyed)) k f
       ∙ rw (same.offsets k f) (go (find (rank k) (rows_in s)) refl ∙ sym (found_on placed (λ q. refl) Live (rank k)))
     where
-      go : (x : Option Row) → find (rank k) (rows_in s) ≡ x → option_map (λ v. record { rank = rank k; place = v; floor = 0 }) (offset_in x) ≡ option_map placed (if_on Live (find (rank k) (rows_in s)))
+      go : (x : Option Row) → find (rank k) (rows_in s) ≡ x → option_map (λ v. record { rank = rank k; offset = v; floor = 0 }) (offset_in x) ≡ option_map placed (if_on Live (find (rank k) (rows_in s)))
       go None e = rw e
-      go (Some q) e = rw e (by_bool (is_live q.place) (λ t. rw (t, find_rank (rank k) (rows_in s) q e)) (λ t. rw t))
+      go (Some q) e = rw e (by_bool (is_live q.offset) (λ t. rw (t, find_rank (rank k) (rows_in s) q e)) (λ t. rw t))
 
   deleted_found : (k : ℤ) → SFits w64 k → find (rank k) (map id_row r.deleted) ≡ find (rank k) (map named (rows_on Deleted (rows_in s)))
   deleted_found k f =
@@ -235,7 +235,7 @@ module _ (s : KindStore) (r : KindFields) (same : SameFields s r) (rises : risin
     where
       go : (x : Option Row) → find (rank k) (rows_in s) ≡ x → cond (deleted_in x) (Some (id_row k)) None ≡ option_map named (if_on Deleted (find (rank k) (rows_in s)))
       go None e = rw e
-      go (Some q) e = rw e (by_bool (is_live q.place) (λ t. rw t) (λ t. rw (t, find_rank (rank k) (rows_in s) q e)))
+      go (Some q) e = rw e (by_bool (is_live q.offset) (λ t. rw t) (λ t. rw (t, find_rank (rank k) (rows_in s) q e)))
 
   pub built_ids : (kind_sorted r).ids ≡ map (λ (q : Row). id_of q.rank) (rows_on Live (rows_in s))
   unfolding build
@@ -244,13 +244,13 @@ module _ (s : KindStore) (r : KindFields) (same : SameFields s r) (rises : risin
       (list_rises placed (λ q. refl) Live) live_found (none_past placed (λ q. refl) Live)
       ∙ map-map (λ (q : Row). id_of q.rank) placed (rows_on Live (rows_in s))
 
-  pub built_offsets : (kind_sorted r).offsets ≡ map (λ (q : Row). q.place) (rows_on Live (rows_in s))
+  pub built_offsets : (kind_sorted r).offsets ≡ map (λ (q : Row). q.offset) (rows_on Live (rows_in s))
   unfolding build
   built_offsets =
-      sym (map-map (λ (q : Row). q.place) entry_row (sort_by_id key_of r.index))
-      ∙ ap (map (λ (q : Row). q.place)) (sorted_rows key_of entry_row (λ e. refl) r.index (keyed_distinct r.index same.index_keyed) (map placed (rows_on Live (rows_in s)))
+      sym (map-map (λ (q : Row). q.offset) entry_row (sort_by_id key_of r.index))
+      ∙ ap (map (λ (q : Row). q.offset)) (sorted_rows key_of entry_row (λ e. refl) r.index (keyed_distinct r.index same.index_keyed) (map placed (rows_on Live (rows_in s)))
       (list_rises placed (λ q. refl) Live) live_found (none_past placed (λ q. refl) Live))
-      ∙ map-map (λ (q : Row). q.place) placed (rows_on Live (rows_in s))
+      ∙ map-map (λ (q : Row). q.offset) placed (rows_on Live (rows_in s))
 
   pub built_deleted : (kind_sorted r).deleted ≡ map (λ (q : Row). id_of q.rank) (rows_on Deleted (rows_in s))
   unfolding build

@@ -58,11 +58,11 @@ use Rattle.refines.proofs.Lists.{Alike, lists_agree, started_alike}
 
 module _ (from_utf8 : Bytes → Bool) (texts : (t : Bytes) → is_text t ≡ true → from_utf8 t ≡ true) (refused : Bool) (o : Overlay) (acts : List (Act Bytes)) (held : List Bytes)
     (w : Reflects refused o held acts) (r : CompactDiffOverlay) (same : SameOverlay o r) (k : Kind) where
-  -- the record at a place at which one starts
-  place_read : (at : ℕ) (x : KeptRecord) → record_at at (w.sound.kind_stores k).whole.kept ≡ Some x
+  -- the record at an offset at which one starts
+  offset_read : (at : ℕ) (x : KeptRecord) → record_at at (w.sound.kind_stores k).whole.kept ≡ Some x
       → RecordAs k from_utf8 r.interner.strings (rust_view (kind_store_of k o) (view_in o.texts.strings k (kind_store_of k o) at)) (seen_in o k (view_in o.texts.strings k (kind_store_of k o) at))
   unfolding fits_kept
-  place_read at x h =
+  offset_read at x h =
       let s = kind_store_of k o in
       let v = (w.sound.kind_stores k).whole in
       let n = o.texts.strings in
@@ -75,12 +75,12 @@ module _ (from_utf8 : Bytes → Bool) (texts : (t : Bytes) → is_text t ≡ tru
       )
 
   -- the record of a live row
-  row_read : (id : ℤ) (q : Row) → find (rank id) (rows_in (kind_store_of k o)) ≡ Some q → is_live q.place ≡ true
-      → RecordAs k from_utf8 r.interner.strings (rust_view (kind_store_of k o) (view_in o.texts.strings k (kind_store_of k o) q.place)) (seen_in o k (view_in o.texts.strings k (kind_store_of k o) q.place))
+  row_read : (id : ℤ) (q : Row) → find (rank id) (rows_in (kind_store_of k o)) ≡ Some q → is_live q.offset ≡ true
+      → RecordAs k from_utf8 r.interner.strings (rust_view (kind_store_of k o) (view_in o.texts.strings k (kind_store_of k o) q.offset)) (seen_in o k (view_in o.texts.strings k (kind_store_of k o) q.offset))
   row_read id q e t =
       let s = w.sound.kind_stores k in
       let x = row_starts s.whole.kept q (find_passes (sound_row s.whole.kept) (rank id) (rows_in (kind_store_of k o)) q s.rows e) t in
-      place_read q.place x.0 x.1.0
+      offset_read q.offset x.0 x.1.0
 
   id_read : (id : ℤ) → SFits w64 id → RecordAs k from_utf8 r.interner.strings (rust_view (kind_store_of k o) (get_on k id o)) (seen_in o k (get_on k id o))
   id_read id f =

@@ -54,10 +54,10 @@ id_numbered [] n = refl
 id_numbered (q ∷ rs) zero = refl
 id_numbered (q ∷ rs) (suc n) = id_numbered rs n
 
-place_at : (rs : List Row) (n : ℕ) (d : Row) → n < length rs → slice_get (map (λ (q : Row). q.place) rs) n ≡ Some (get_or rs n d).place
-place_at [] n d l = absurd (omega arith)
-place_at (q ∷ rs) zero d l = refl
-place_at (q ∷ rs) (suc n) d l = place_at rs n d (omega arith)
+offset_at : (rs : List Row) (n : ℕ) (d : Row) → n < length rs → slice_get (map (λ (q : Row). q.offset) rs) n ≡ Some (get_or rs n d).offset
+offset_at [] n d l = absurd (omega arith)
+offset_at (q ∷ rs) zero d l = refl
+offset_at (q ∷ rs) (suc n) d l = offset_at rs n d (omega arith)
 
 -- ---- the view of a live row
 
@@ -65,22 +65,22 @@ place_at (q ∷ rs) (suc n) d l = place_at rs n d (omega arith)
 runs_on : (at len : ℕ) (s : KindStore) → at + len ≤ s.used → to_arena_end s at len ≡ drop at (take s.used s.arena)
 runs_on at len s l = rw (← part_used at len s.used s.arena l, ← drop-drop len at (take s.used s.arena)) (take-append-drop len (drop at (take s.used s.arena)))
 
-view_place : (at p n : ℕ) (e : Option ℕ) → view_to at e ≡ Ok (Some (record { start = p; len = n })) → at ≡ p
-view_place at p n (Some e) h =
+view_offset : (at p n : ℕ) (e : Option ℕ) → view_to at e ≡ Ok (Some (record { start = p; len = n })) → at ≡ p
+view_offset at p n (Some e) h =
     let w : ◌≡◌ {A = Span} (record { start = at; len = e - at }) (record { start = p; len = n }) = cc in
     ap (λ (x : Span). x.start) w
-view_place at p n None h = no cc
+view_offset at p n None h = no cc
 
-row_viewed : (strings : ℕ) (k : Kind) (s : KindStore) (w : SoundKindStore strings k s) (n : ℕ) (q : Row) → find n (rows_in s) ≡ Some q → is_live q.place ≡ true
-    → slice_from (take s.used s.arena) q.place ≡ rust_view s (view_in strings k s q.place)
+row_viewed : (strings : ℕ) (k : Kind) (s : KindStore) (w : SoundKindStore strings k s) (n : ℕ) (q : Row) → find n (rows_in s) ≡ Some q → is_live q.offset ≡ true
+    → slice_from (take s.used s.arena) q.offset ≡ rust_view s (view_in strings k s q.offset)
 unfolding view_at
 row_viewed strings k s w n q e t =
     let x = row_shows strings k s w n q e t in
-    let p = view_place q.place x.place (length (kept_bytes x.held)) (record_end strings k (take s.used s.arena) q.place) x.is in
-    let l = view_within strings k s.arena s.used w.whole x.place x.held x.starts in
+    let p = view_offset q.offset x.offset (length (kept_bytes x.held)) (record_end strings k (take s.used s.arena) q.offset) x.is in
+    let l = view_within strings k s.arena s.used w.whole x.offset x.held x.starts in
     let m = length-take s.used s.arena in
     ap (slice_from (take s.used s.arena)) p
-    ∙ rw (le-leb x.place (length (take s.used s.arena)) (omega arith)) (ap Some (sym (runs_on x.place (length (kept_bytes x.held)) s (omega arith))))
+    ∙ rw (le-leb x.offset (length (take s.used s.arena)) (omega arith)) (ap Some (sym (runs_on x.offset (length (kept_bytes x.held)) s (omega arith))))
     ∙ sym (ap (rust_view s) x.is)
 
 module _ (o : Overlay) (b : InBytes o) (w : Sound o) (ranks : Ranked o) (r : CompactDiffOverlay) (k : Kind) (same : SameFields (kind_store_of k o) (fields_of k r)) where
@@ -110,7 +110,7 @@ module _ (o : Overlay) (b : InBytes o) (w : Sound o) (ranks : Ranked o) (r : Com
   abbrev live : List Row
   live = rows_on Live (rows_in (kind_store_of k o))
 
-  table_is : (n : ℕ) → table_record (sorted_kind k r) n ≡ bind (slice_get (map (λ (q : Row). q.place) live) n) (slice_from (take (kind_store_of k o).used (kind_store_of k o).arena))
+  table_is : (n : ℕ) → table_record (sorted_kind k r) n ≡ bind (slice_get (map (λ (q : Row). q.offset) live) n) (slice_from (take (kind_store_of k o).used (kind_store_of k o).arena))
   unfolding table_record
   table_is n =
       rw (kind_is k r, built_offsets (kind_store_of k o) (fields_of k r) same rises (ranks.rows k), built_arena (kind_store_of k o) (fields_of k r) same rises (ranks.rows k))
@@ -119,12 +119,12 @@ module _ (o : Overlay) (b : InBytes o) (w : Sound o) (ranks : Ranked o) (r : Com
   pub record_by_number : (n : ℕ) → table_record (sorted_kind k r) n ≡ rust_view (kind_store_of k o) (record_on k n o)
   unfolding record_on bind
   record_by_number n =
-      let d : Row = record { rank = 0; place = 0; floor = 0 } in
+      let d : Row = record { rank = 0; offset = 0; floor = 0 } in
       table_is n ∙ rw (tested, all_rows) (by_lt n (length live)
       (λ l.
       let q = on_found (get_or live n d).rank (rows_in (kind_store_of k o)) rises Live (get_or live n d) (find_row live (on_rising Live (rows_in (kind_store_of k o)) rises) n d l) in
-      rw (place_at live n d l, nth_at live n d l) (row_viewed o.texts.strings k (kind_store_of k o) (w.kind_stores k) (get_or live n d).rank (get_or live n d) q.0 q.1))
-      (λ l. rw (elem_past (map (λ (q : Row). q.place) live) n (rw (length-map live (λ (q : Row). q.place)) l), (missing_is live n).1 l)))
+      rw (offset_at live n d l, nth_at live n d l) (row_viewed o.texts.strings k (kind_store_of k o) (w.kind_stores k) (get_or live n d).rank (get_or live n d) q.0 q.1))
+      (λ l. rw (elem_past (map (λ (q : Row). q.offset) live) n (rw (length-map live (λ (q : Row). q.offset)) l), (missing_is live n).1 l)))
 
   -- ours and the used bytes behind it
   pub record_runs_on : (n at len : ℕ) → record_on k n o ≡ Ok (Some (record { start = at; len = len }))
@@ -136,9 +136,9 @@ module _ (o : Overlay) (b : InBytes o) (w : Sound o) (ranks : Ranked o) (r : Com
   record_absent n = (
     λ e. record_by_number n ∙ ap (rust_view (kind_store_of k o)) e,
     λ e. by_lt n (length live)
-        (λ l. let d : Row = record { rank = 0; place = 0; floor = 0 } in
+        (λ l. let d : Row = record { rank = 0; offset = 0; floor = 0 } in
         let v = record_row o b w k n d l in
-        let x : Some (to_arena_end (kind_store_of k o) v.place (length (kept_bytes v.held))) ≡ None = sym (record_runs_on n v.place (length (kept_bytes v.held)) v.is) ∙ e in
+        let x : Some (to_arena_end (kind_store_of k o) v.offset (length (kept_bytes v.held))) ≡ None = sym (record_runs_on n v.offset (length (kept_bytes v.held)) v.is) ∙ e in
         no cc)
         (λ l. (record_missing o b w k (length live) n (count_is o b w k Live)).1 l),
   )
@@ -147,13 +147,13 @@ module _ (o : Overlay) (b : InBytes o) (w : Sound o) (ranks : Ranked o) (r : Com
 
 module _ (o : Overlay) (b : InBytes o) (w : Sound o) (r : CompactDiffOverlay) (k : Kind) (same : SameFields (kind_store_of k o) (fields_of k r)) (id : ℤ) (f : SFits w64 id) where
   -- an id is live, or deleted, or not known
-  pub by_row : {C : Type 0} → ((q : Row) → find (rank id) (rows_in (kind_store_of k o)) ≡ Some q → is_live q.place ≡ true → C)
-      → ((q : Row) → find (rank id) (rows_in (kind_store_of k o)) ≡ Some q → is_live q.place ≡ false → C) → (find (rank id) (rows_in (kind_store_of k o)) ≡ None → C) → C
+  pub by_row : {C : Type 0} → ((q : Row) → find (rank id) (rows_in (kind_store_of k o)) ≡ Some q → is_live q.offset ≡ true → C)
+      → ((q : Row) → find (rank id) (rows_in (kind_store_of k o)) ≡ Some q → is_live q.offset ≡ false → C) → (find (rank id) (rows_in (kind_store_of k o)) ≡ None → C) → C
   by_row {C} live deleted unknown = go (find (rank id) (rows_in (kind_store_of k o))) refl
     where
       go : (x : Option Row) → find (rank id) (rows_in (kind_store_of k o)) ≡ x → C
       go None e = unknown e
-      go (Some q) e = by_bool (is_live q.place) (live q e) (deleted q e)
+      go (Some q) e = by_bool (is_live q.offset) (live q e) (deleted q e)
 
   -- get_node, get_way, get_relation
   pub data_by_id : get_data (fields_of k r) id ≡ rust_view (kind_store_of k o) (get_on k id o)

@@ -22,11 +22,11 @@ row_of s id = find (rank id) (rows_in s)
 
 abbrev pub offset_in : Option Row → Option ℕ
 offset_in None = None
-offset_in (Some r) = cond (is_live r.place) (Some r.place) None
+offset_in (Some r) = cond (is_live r.offset) (Some r.offset) None
 
 abbrev pub deleted_in : Option Row → Bool
 deleted_in None = false
-deleted_in (Some r) = cond (is_live r.place) false true
+deleted_in (Some r) = cond (is_live r.offset) false true
 
 abbrev pub floor_in : Option Row → Option ℤ
 floor_in None = None

@@ -66,7 +66,7 @@ fn admit(floor: Option<i32>, claim: Option<i32>) -> Answer {
 }
 
 // What a field writes, or the refusal of a field that writes none.
-fn taken(value: Option<i64>, refusal: Refusal) -> Answer {
+fn field_answer(value: Option<i64>, refusal: Refusal) -> Answer {
     value.map_or(Answer::Refused(refusal), Answer::Taken)
 }
 
@@ -91,9 +91,9 @@ pub fn answer_to(alloc: Global, line: &[u8]) -> Result<Option<Answer>, AllocErro
             let floor = VersionFloor::new(a.and_then(short));
             Some(Answer::Floor(floor.raised(b.and_then(short)).0))
         }
-        b"i64" => Some(taken(a.and_then(long), Refusal::NotInteger)),
-        b"i32" => Some(taken(a.and_then(short).map(i64::from), Refusal::NotInteger)),
-        b"stamp" => Some(taken(a.and_then(stamp), Refusal::NotTimestamp)),
+        b"i64" => Some(field_answer(a.and_then(long), Refusal::NotInteger)),
+        b"i32" => Some(field_answer(a.and_then(short).map(i64::from), Refusal::NotInteger)),
+        b"stamp" => Some(field_answer(a.and_then(stamp), Refusal::NotTimestamp)),
         b"text" => {
             let bytes = fields::bytes_of(alloc, a.unwrap_or(b""))?;
             Some(Answer::Text(text::is_text(&bytes)))

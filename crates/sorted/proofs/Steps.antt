@@ -1,14 +1,12 @@
 -- What the steps of the code on words say of their ids.
-use Prim.Native.Nat.{ℕ, suc, ◌+◌, ◌-◌, ◌<◌, ◌≤◌}
+use Prim.Native.Nat.{ℕ, ◌<◌, ◌≤◌}
 use mathlib.Core.Path.{◌≡◌, refl, sym, ◌∙◌, ap}
-use mathlib.Core.Bool.{Bool, true, false, not}
+use mathlib.Core.Bool.{Bool, true, false}
 use mathlib.Core.List.{List, [], ◌∷◌}
 use native.Mathlib.Omega.{arith}
-use native.Mathlib.Numerals.{add-one}
 use lib.Dec.{ltb}
-use lib.IntN.{ℤ, pos}
-use lib.ListN.{length, drop, get_or, length-map, get_or-map, drop_of_length-le}
-use lib.Seq.{drop-cons}
+use lib.IntN.{ℤ}
+use lib.ListN.{length, get_or, length-map, get_or-map}
 use mir.Syntax.{w64}
 use mir.Val.{SFits, to_z, of_z}
 use mir.Facts.{to_z-of_z}
@@ -16,10 +14,10 @@ use borrow.Author.Tests.{lt-ltb, le-ltb, ltb-true}
 use Rattle.std.specs.List.Sorted.{IsPartitionedBy, IsPartitionPoint}
 use Rattle.std.proofs.lemmas.Grind.{get_or_default_zero}
 use Rattle.base.specs.Bytes.{both}
-use Rattle.base.proofs.Split.{by_bool, by_lt, clash, both_no_left}
-use Rattle.osm_id.specs.Order.{before, osm_key_of, id_key_before}
+use Rattle.base.proofs.Neighbours.{pass_after, neighbours_pass}
+use Rattle.base.proofs.Split.{by_lt, clash}
+use Rattle.osm_id.specs.Order.{before, osm_key_of}
 use Rattle.osm_id.specs.declared.OsmIdKey.{OsmIdKey}
-use Rattle.osm_id.proofs.Orders.{key_before}
 use Rattle.sorted.specs.Lookup.{ids_of, id_at, count, ids_rising_from, in_order, under, ids_before, ids_up_to}
 use Rattle.sorted.proofs.Keys.{under_closed}
 use Rattle.sorted.proofs.Counts.{count_le, splits}
@@ -31,39 +29,20 @@ lengths ws = length-map ws (to_z w64)
 pub word_id : (ws : List ℕ) (i : ℕ) → id_at (ids_of ws) i ≡ to_z w64 (get_or ws i 0)
 word_id ws i = get_or-map (to_z w64) ws i 0
 
--- ---- the order check: the ids from i on rise from the one before them
+-- ---- the order check: the ids of words rise where each word's id comes before the next word's
 
-abbrev pub rest_rises : List ℤ → ℕ → Bool
-rest_rises ids i = ids_rising_from (id_at ids (i - 1)) (drop i ids)
+abbrev pub word_before : ℕ → ℕ → Bool
+word_before v w = before (to_z w64 v) (to_z w64 w)
 
-pub rises_start : (ids : List ℤ) → rest_rises ids 1 ≡ in_order ids
-unfolding ids_rising_from in_order
-rises_start [] = refl
-rises_start (a ∷ ids) = refl
+rises_after : (v : ℕ) (ws : List ℕ) → ids_rising_from (to_z w64 v) (ids_of ws) ≡ pass_after word_before v ws
+unfolding ids_rising_from pass_after
+rises_after v [] = refl
+rises_after v (w ∷ ws) = ap (both (word_before v w)) (rises_after w ws)
 
-pub rises_end : (ids : List ℤ) (i : ℕ) → length ids ≤ i → rest_rises ids i ≡ true
-unfolding ids_rising_from
-rises_end ids i h = rw (drop_of_length-le ids h)
-
-module _ (ids : List ℤ) (i : ℕ) (h : i < length ids) where
-  step : rest_rises ids i ≡ both (before (id_at ids (i - 1)) (id_at ids i)) (ids_rising_from (id_at ids i) (drop (suc i) ids))
-  unfolding ids_rising_from
-  step = rw (drop-cons ids i (pos 0) h)
-
-  -- the test of two neighbours, as the code makes it on their keys
-  module _ {x y : OsmIdKey} {t : Bool} (p : x ≡ osm_key_of (id_at ids (i - 1))) (q : y ≡ osm_key_of (id_at ids i)) (r : t ≡ not (id_key_before x y)) where
-    neighbours : t ≡ not (before (id_at ids (i - 1)) (id_at ids i))
-    neighbours = rw (r, p, q) (ap not (key_before _ _))
-
-    pub rises_more : t ≡ false → rest_rises ids (i + 1) ≡ rest_rises ids i
-    unfolding both
-    rises_more e =
-        let d : i + 1 - 1 ≡ i = omega arith in
-        let b : before (id_at ids (i - 1)) (id_at ids i) ≡ true = by_bool _ (λ s. s) (λ s. clash (neighbours ∙ ap not s) e) in
-        rw (step, b, d, add-one)
-
-    pub rises_no : t ≡ true → rest_rises ids i ≡ false
-    rises_no e = step ∙ both_no_left _ _ (by_bool _ (λ s. clash e (neighbours ∙ ap not s)) (λ s. s))
+pub rises : (ws : List ℕ) → in_order (ids_of ws) ≡ neighbours_pass word_before ws
+unfolding in_order neighbours_pass
+rises [] = refl
+rises (v ∷ ws) = rises_after v ws
 
 -- ---- the library's search in words: those that pass stand before those that do not
 

@@ -4,7 +4,7 @@
 ghost use Rattle.std.specs.Prelude.{◌≡◌, true, false};
 ghost use Rattle.std.specs.Int.{w64};
 ghost use Rattle.std.proofs.Common.{to_z};
-ghost use Rattle.osm_id.specs.Order.{osm_key_of};
+ghost use Rattle.osm_id.specs.Order.{before, osm_key_of};
 ghost use Rattle.sorted.specs.Lookup.{ids_of, count, in_order, any_within, overlap_of, under, range_of, reached, found_of};
 
 use osm_id::OsmIdKey;
@@ -26,16 +26,16 @@ fn key_of(id: u64) -> OsmIdKey
     osm_id::osm_id_key(id.cast_signed())
 }
 
-// Whether ids stand strictly in OSM order. It is a loop: `is_sorted_by` takes a closure for the one test, and promises a fact for each place where `in_order` goes down the list.
+// Whether ids stand strictly in OSM order.
+#[tactic(auto, using(osm_id::proofs::Orders::key_lt, osm_id::proofs::Orders::key_before))]
 fn in_order(ids: &[u64]) -> bool
     ensures { result ≡ in_order (ids_of ids.now) }
 {
-    for i in 1..ids.len() {
-        if key_of(ids[i]) <= key_of(ids[i - 1]) {
-            return false;
-        }
-    }
-    true
+    ids.is_sorted_by(
+        |a, b|
+            ensures { result ≡ before (to_z w64 a.now) (to_z w64 b.now) }
+        { key_of(*a) < key_of(*b) },
+    )
 }
 
 // Ids that stand strictly in OSM order, given in bits.

@@ -40,12 +40,13 @@ pub struct ChainsMut<'a> {
 
 // The bucket of a text.
 fn bucket(text: &[u8]) -> usize
-    ensures { (result ≡ bucket_of text.now) × (result < 4096) }
+    ensures { (result ≡ bucket_of text.now) × (result < BUCKETS) }
 {
     let hash = text.iter().fold(
         0u32,
         |k, b| k.wrapping_mul(16777619).wrapping_add(u32::from(*b)),
     );
+    // the first 12 of 32 bits: there are 2^12 buckets
     (hash.wrapping_mul(2654435761) / 1048576) as usize
 }
 
@@ -116,8 +117,10 @@ impl Chains<'_> {
     // Takes a text in as `StringsMut::intern` does.
     pub fn intern(&self, strings: &mut StringsMut<'_>, text: &[u8]) -> Option<u64>
         ensures same { IsSameStrings strings.new strings.old }
-        ensures store { ChainsServe (chains_seen self.now) (store_held strings.old) → store_held strings.new ≡ (intern (store_held strings.old) text.now).store }
-        ensures handle { ChainsServe (chains_seen self.now) (store_held strings.old) → result ≡ handle_answered (intern (store_held strings.old) text.now).answer }
+        ensures store { ChainsServe (chains_seen self.now) (store_held strings.old) → store_held strings.new
+            ≡ (intern (store_held strings.old) text.now).store }
+        ensures handle { ChainsServe (chains_seen self.now) (store_held strings.old) → result
+            ≡ handle_answered (intern (store_held strings.old) text.now).answer }
     {
         let found = self.find(&strings.strings(), text);
         strings.intern_found(text, found)
@@ -136,8 +139,9 @@ impl Chains<'_> {
 
 // The bucket of a handle's text, if it has one.
 fn bucket_at(texts: &Texts<'_>, h: usize) -> Option<usize>
-    ensures below { IfSome result (λ b. b < 4096) }
-    ensures value { spanned texts.now.spans.now texts.now.bytes.now h ≡ true → result ≡ Some (bucket_of (bytes_at texts.now.spans.now texts.now.bytes.now h)) }
+    ensures below { IfSome result (λ b. b < BUCKETS) }
+    ensures value { spanned texts.now.spans.now texts.now.bytes.now h ≡ true → result
+        ≡ Some (bucket_of (bytes_at texts.now.spans.now texts.now.bytes.now h)) }
 {
     Some(bucket(texts.string_at(h)?))
 }
@@ -156,7 +160,7 @@ impl ChainsMut<'_> {
 
     // One handle more.
     fn link(&mut self, b: usize, h: usize)
-        requires { (b < length self.old.lasts.now) × ((h < length self.old.befores.now) × (h < 4096)) }
+        requires { (b < length self.old.lasts.now) × ((h < length self.old.befores.now) × (h < HANDLES)) }
         ensures same { IsSameChains self.new self.old }
         ensures chains { chains_held self.new ≡ chain_linked (chains_held self.old) b h }
     {

@@ -47,13 +47,16 @@ impl VersionFloor {
     }
 }
 
+// The word of no version: one more than the bits of any.
+pub const NO_VERSION: u64 = 0x1_0000_0000;
+
 // A version as one word, as the id tables and the C entries hold it: below 2^32 the bits of the number, else none.
 pub fn version_word(v: Option<i32>) -> u64
     ensures { result ≡ word_of v }
 {
     match v {
         Some(n) => u64::from(n.cast_unsigned()),
-        None => 0x1_0000_0000,
+        None => NO_VERSION,
     }
 }
 

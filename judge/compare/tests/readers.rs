@@ -31,6 +31,22 @@ fn documents() {
 }
 
 #[test]
+fn wide_documents() {
+    let (seed, rounds) = seed_and_rounds();
+    same(overlay::wide_documents(LIBRARY, seed, rounds).map(|(_, answers)| answers));
+}
+
+#[test]
+fn large_document() {
+    let (seed, _) = seed_and_rounds();
+    let compared = overlay::large_document(LIBRARY, seed);
+    if let Ok((bytes, _)) = compared {
+        assert!(bytes > 200_000, "{bytes} bytes taken");
+    }
+    same(compared.map(|(_, answers)| answers));
+}
+
+#[test]
 fn several_readers() {
     let (seed, rounds) = seed_and_rounds();
     same(overlay::readers(LIBRARY, seed, rounds));

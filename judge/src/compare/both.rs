@@ -46,9 +46,25 @@ impl<'a> Both<'a> {
     /// The Rust's answer. What is lent then holds the Rust's state after an accepted call and is otherwise as before, a setting that was given
     /// as it was given; after a refused one it is as before but for the stop mark. A run is its lines in turn.
     fn told(&mut self, call: &Call) -> Answer {
-        if let Call::Events(n, run) = call {
-            return in_turn(run, |line| self.told(&Call::Event(*n, line.into())));
+        let mut changed = false;
+        let answer = match call {
+            Call::Events(n, run) => in_turn(run, |line| self.answered(&Call::Event(*n, line.into()), &mut changed)),
+            call => self.answered(call, &mut changed),
+        };
+        if changed {
+            self.expected.hold(&self.rust.overlay.state());
         }
+        match call {
+            Call::SetUp(_, setting) | Call::Allow(setting) if answer.number() == 0 => {
+                self.expected.counters[8] = *setting
+            }
+            _ => {}
+        }
+        answer
+    }
+
+    /// The answer to what is no run, what a set-up gives, and what an event leaves of its reader. Whether the overlay may have changed is noted.
+    fn answered(&mut self, call: &Call, changed: &mut bool) -> Answer {
         let answer = match call {
             Call::SetUp(sizes, setting) => {
                 self.rust.set_up(sizes, self.lent.words.len(), self.lent.bytes.len(), *setting)
@@ -56,14 +72,9 @@ impl<'a> Both<'a> {
             call => self.rust.call(&self.lent.sizes(), call),
         };
         let number = answer.number();
-        if let (Call::SetUp(sizes, _), 0) = (call, number) {
-            self.expected.give(sizes);
-        }
-        if number == 0 && call.is_change() {
-            self.expected.hold(&self.rust.overlay.state());
-        }
+        *changed |= number == 0 && call.is_change();
         match call {
-            Call::SetUp(_, setting) | Call::Allow(setting) if number == 0 => self.expected.counters[8] = *setting,
+            Call::SetUp(sizes, _) if number == 0 => self.expected.give(sizes),
             Call::Event(n, _) => self.rust.hold_reader(*n, &mut self.expected.readers[*n]),
             _ => {}
         }

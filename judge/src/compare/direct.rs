@@ -21,6 +21,10 @@ pub type After = fn(&mut Both<'_>) -> Result<(), String>;
 pub const ROOMY: Sizes =
     Sizes { ids: [64, 72, 80], arenas: [60_000, 64_000, 68_000], strings: 256, string_bytes: 16_384, output: 0 };
 
+/// The largest that document 01 lets lend.
+pub const LARGEST: Sizes =
+    Sizes { ids: [4_096; 3], arenas: [1 << 20; 3], strings: 4_096, string_bytes: 1 << 16, output: 0 };
+
 /// Ids and arenas of the three kinds, strings, string bytes.
 fn sizes_of(numbers: [usize; 8]) -> Sizes {
     let [node, way, relation, nodes, ways, relations, strings, string_bytes] = numbers;

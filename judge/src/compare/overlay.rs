@@ -4,7 +4,7 @@
 use super::Compared;
 use super::both::Both;
 use super::call::{Call, Port};
-use super::direct::{random_call, some_sizes};
+use super::direct::{LARGEST, random_call, some_sizes};
 use super::reads::everything;
 use crate::answer::Sizes;
 use crate::produce::{Bytes, Documents, Style, close_names, events, levels};
@@ -71,13 +71,24 @@ pub fn names(port: &dyn Port, seed: u64, rounds: u64) -> Compared {
     both.tally.done()
 }
 
-/// Whole documents at random, valid and damaged, in both settings, several into one overlay, in
-/// large and in small sizes. How many were read comes with the answers.
+/// Whole documents at random, valid and damaged.
 pub fn documents(port: &dyn Port, seed: u64, rounds: u64) -> Result<(u64, u64), String> {
+    let sources = [Documents::new(seed, Style::VALID), Documents::new(seed + 1, Style::DAMAGED)];
+    documents_of(port, sources, 200 * rounds)
+}
+
+/// The same of lines with many attributes, elements with many children, and many texts.
+pub fn wide_documents(port: &dyn Port, seed: u64, rounds: u64) -> Result<(u64, u64), String> {
+    let damaged = Style { damage: 2_000, ..Style::WIDE };
+    documents_of(port, [Documents::new(seed, Style::WIDE), Documents::new(seed + 1, damaged)], 20 * rounds)
+}
+
+/// Documents of two sources in turn, in both settings, several into one overlay, in large and in small
+/// sizes. How many were read comes with the answers.
+fn documents_of(port: &dyn Port, mut sources: [Documents; 2], count: u64) -> Result<(u64, u64), String> {
     let mut both = Both::new(port);
-    let mut sources = [Documents::new(seed, Style::VALID), Documents::new(seed + 1, Style::DAMAGED)];
     let mut read = 0;
-    for n in 0..200 * rounds {
+    for n in 0..count {
         let source = &mut sources[(n % 2) as usize];
         source.forget();
         let sizes = some_sizes(&mut source.random, n / 2);
@@ -116,6 +127,28 @@ pub fn documents(port: &dyn Port, seed: u64, rounds: u64) -> Result<(u64, u64), 
         }
     }
     Ok((read, both.tally.done()?))
+}
+
+/// A document of hundreds of elements of each kind into the largest sizes, in runs cut anywhere. How many bytes were taken comes with the answers.
+pub fn large_document(port: &dyn Port, seed: u64) -> Result<(usize, u64), String> {
+    let mut both = Both::new(port);
+    let style = Style { sections: 120, objects: 60, ids: 1_500, children: 12, texts: 150, ..Style::VALID };
+    let mut source = Documents::new(seed, style);
+    both.set_up(&LARGEST, 0)?;
+    both.fresh(0);
+    let document = source.document().concat();
+    let mut at = 0;
+    while at < document.len() {
+        let end = (at + 1 + source.random.below(40_000)).min(document.len());
+        if both.call(&Call::Events(0, document[at..end].to_vec()))? != 0 {
+            break;
+        }
+        at += document[at..end].iter().rposition(|byte| *byte == b'\n').map_or(0, |last| last + 1);
+    }
+    both.call(&Call::End(0))?;
+    both.listing()?;
+    everything(&mut both)?;
+    Ok((at, both.tally.done()?))
 }
 
 /// Several readers on one overlay, turn by turn, with direct calls between their lines.

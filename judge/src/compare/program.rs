@@ -89,6 +89,12 @@ pub fn edge_inputs() -> Vec<Vec<u8>> {
     // Many short lines: more than a program's buffer holds.
     inputs.push([b"other\n".repeat(50_000), b"empty\tosmChange\n".to_vec()].concat());
     inputs.push(b"other\n".repeat(50_000));
+    // Some megabytes of elements, whose children a delete drops.
+    let children = "empty\ttag\tk=maxweight\tv=7.5\\tt\nempty\tnd\tref=-17\nopen\ttag\tv=x\tk=y\nclose\n".repeat(4);
+    let deletes =
+        |n: i64| (0..n).map(|id| format!("open\tway\tid={}\n{children}close\n", id % 512)).collect::<String>();
+    inputs.push(in_section("delete", &deletes(9_000)));
+    inputs.push(in_section("delete", &(deletes(9_000) + "empty\tway\tid=-1\n")));
     // Ids: 512 are taken, the next is 14, a known one is not.
     let ids = |n: i64| (0..n).map(|id| format!("empty\tway\tid={}\n", 7 * id - 900)).collect::<String>();
     inputs.push(in_section("delete", &ids(512)));

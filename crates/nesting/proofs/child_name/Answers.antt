@@ -1,6 +1,6 @@
 -- `child_name`: the spellings in their order.
 use Rattle.nesting.specs.Name.{spellings, name_in, name_of}
-use Rattle.nesting.proofs.Same.{known}
+use Rattle.base.proofs.Equal.{known}
 use Rattle.nesting.proofs.child_name.Goals as goal
 
 pub returns-then-eq : goal.returns-then-eq

@@ -22,7 +22,7 @@ returns-in_err-user-clause-pushed c =
     λ g.
     let e = rw c.in_err-user.was at (asked act.kind id m o c.storage.ensures g.serve c.user_before.ensures.asked) in
     let n = before_not act.kind id m o e in
-    rw (p.1, p.2) (empty_not act.kind id m o _ (kind_read act.kind c.args.place.lat c.args.place.lon) n.1.0 n.1.1)
+    rw (p.1, p.2) (empty_not act.kind id m o _ (kind_read act.kind c.args.coordinates.lat c.args.coordinates.lon) n.1.0 n.1.1)
 
 pub returns-in_err-push-clause-pushed : goal.returns-in_err-push-clause-pushed
 returns-in_err-push-clause-pushed c =
@@ -39,7 +39,7 @@ returns-in_err-push-clause-pushed c =
     let meta = rw (rw c.in_ok-user.was at c.user_before.ensures.named) at (c.with_user.ensures.bits m.user (user_fits m o _ user g.few)) in
     let claims = rw meta at (c.with_user.ensures.claim ∙ act_claims act) in
     let done = rw (meta, c.in_err-push.was) at c.push.ensures.done in
-    rw (p.1, p.2) (empty_done act.kind id m o _ same _ claims (kind_read act.kind c.args.place.lat c.args.place.lon) h.bits user (ap (then_user_on m) done))
+    rw (p.1, p.2) (empty_done act.kind id m o _ same _ claims (kind_read act.kind c.args.coordinates.lat c.args.coordinates.lon) h.bits user (ap (then_user_on m) done))
 
 pub returns-clause-pushed : goal.returns-clause-pushed
 returns-clause-pushed c =
@@ -55,4 +55,4 @@ returns-clause-pushed c =
     let meta = rw (rw c.in_ok-user.was at c.user_before.ensures.named) at (c.with_user.ensures.bits m.user (user_fits m o _ user g.few)) in
     let claims = rw meta at (c.with_user.ensures.claim ∙ act_claims act) in
     let done = rw (meta, c.in_ok-push.was) at c.push.ensures.done in
-    empty_done act.kind id m o _ same _ claims (kind_read act.kind c.args.place.lat c.args.place.lon) h.bits user (behind _ m o g.serve _ user act.kind _ done c.take_user.ensures.taken)
+    empty_done act.kind id m o _ same _ claims (kind_read act.kind c.args.coordinates.lat c.args.coordinates.lon) h.bits user (behind _ m o g.serve _ user act.kind _ done c.take_user.ensures.taken)

@@ -16,7 +16,7 @@ const PAIRS: usize = 100;
 
 pub(super) fn page() -> Page {
     let mut page = Page::new("Documents");
-    let style = Style { damage: 0, sections: 5, objects: 5, ids: 1 };
+    let style = Style { objects: 5, ids: 1, ..Style::VALID };
     let source = |(seed, damage)| Documents::new(seed, Style { damage, ..style });
     let mut sources = [(1, 0), (2, 0), (3, 20)].map(source);
     let (mut driven, mut sorted, mut numbers) = (Vec::new(), Vec::new(), BTreeSet::new());

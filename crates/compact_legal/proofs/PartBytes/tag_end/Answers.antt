@@ -1,4 +1,4 @@
--- A tag at a place: its key, its length, and as many bytes.
+-- A tag at an offset: its key, its length, and as many bytes.
 use Rattle.std.specs.Prelude.{None, Option, Some, IfSome, cond}
 use mathlib.Core.Path.{◌≡◌}
 use lib.Dec.{leb}

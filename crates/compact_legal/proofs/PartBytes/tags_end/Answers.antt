@@ -22,7 +22,7 @@ returns-in_err-next c =
     let a = c.args in
     let p = a.self.now in
     let l = c.loop in
-    let x = tags_short p.strings p.bytes.now l.place l.invariant.0 (a.n - l.counter) (omega arith) c.in_err-next.ensures.ends in
+    let x = tags_short p.strings p.bytes.now l.offset l.invariant.0 (a.n - l.counter) (omega arith) c.in_err-next.ensures.ends in
     rw c.from_residual.ensures (rw x at l.invariant.1)
 
 pub returns-then-get_u32-self : goal.returns-then-get_u32-self
@@ -30,8 +30,8 @@ returns-then-get_u32-self c =
     let a = c.args in
     let p = a.self.now in
     let l = c.loop in
-    let k : ltb (value_at 4 p.bytes.now l.place) p.strings ≡ false = rw (← c.get_u32.ensures) (le-ltb _ _ c.if-get_u32-self.true) in
-    let x = tags_unheld p.strings p.bytes.now l.place l.invariant.0 c.in_ok-next.next c.in_ok-next.ensures.ends (a.n - l.counter) (omega arith) k in
+    let k : ltb (value_at 4 p.bytes.now l.offset) p.strings ≡ false = rw (← c.get_u32.ensures) (le-ltb _ _ c.if-get_u32-self.true) in
+    let x = tags_unheld p.strings p.bytes.now l.offset l.invariant.0 c.in_ok-next.next c.in_ok-next.ensures.ends (a.n - l.counter) (omega arith) k in
     rw x at l.invariant.1
 
 pub loop-preserved : goal.loop-preserved
@@ -39,9 +39,9 @@ loop-preserved c =
     let a = c.args in
     let p = a.self.now in
     let l = c.loop in
-    let r = tag_room p.strings p.bytes.now l.place l.invariant.0 c.in_ok-next.next c.in_ok-next.ensures.ends in
-    let k : ltb (value_at 4 p.bytes.now l.place) p.strings ≡ true = rw (← c.get_u32.ensures) (lt-ltb _ _ c.if-get_u32-self.false) in
-    let x = tags_next p.strings p.bytes.now l.place l.invariant.0 c.in_ok-next.next c.in_ok-next.ensures.ends (a.n - l.counter) (omega arith) k in
+    let r = tag_room p.strings p.bytes.now l.offset l.invariant.0 c.in_ok-next.next c.in_ok-next.ensures.ends in
+    let k : ltb (value_at 4 p.bytes.now l.offset) p.strings ≡ true = rw (← c.get_u32.ensures) (lt-ltb _ _ c.if-get_u32-self.false) in
+    let x = tags_next p.strings p.bytes.now l.offset l.invariant.0 c.in_ok-next.next c.in_ok-next.ensures.ends (a.n - l.counter) (omega arith) k in
     let fewer : a.n - l.counter - 1 ≡ a.n - (l.counter + 1) = omega arith in
     (r.1, rw c.is_text-text.ensures (after_after l.text _ _ ∙ (ap (after l.text) (rw fewer at (sym x)) ∙ l.invariant.1)))
 
@@ -51,4 +51,4 @@ returns c =
     let p = a.self.now in
     let l = c.loop in
     let z : 0 ≡ (a.n - l.counter) = omega arith in
-    sym (after_all l.text l.place) ∙ (ap (after l.text) (sym (tags_none p.strings p.bytes.now l.place l.invariant.0)) ∙ (ap (λ n. after l.text (tags_end p.strings n p.bytes.now l.place)) z ∙ l.invariant.1))
+    sym (after_all l.text l.offset) ∙ (ap (after l.text) (sym (tags_none p.strings p.bytes.now l.offset l.invariant.0)) ∙ (ap (λ n. after l.text (tags_end p.strings n p.bytes.now l.offset)) z ∙ l.invariant.1))

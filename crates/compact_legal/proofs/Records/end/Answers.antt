@@ -1,4 +1,4 @@
--- A record from a place on is one at the front of the rest.
+-- A record from an offset on is one at the front of the rest.
 use native.Mathlib.Omega.{arith}
 use Rattle.compact_legal.proofs.Fronts.{rest_of, end_at, end_bad, end_past}
 use Rattle.compact_legal.proofs.Records.end.Goals as goal

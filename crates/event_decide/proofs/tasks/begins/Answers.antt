@@ -1,4 +1,4 @@
--- `begins`: id, then metadata, then a node's place.
+-- `begins`: id, then metadata, then a node's coordinates.
 use Rattle.std.proofs.Common.{sym, ◌∙◌}
 use Rattle.event_fields.specs.Field.{id_field}
 use Rattle.event_values.proofs.Values.{handed_on}
@@ -12,16 +12,16 @@ pub returns-in_err-metadata : goal.returns-in_err-metadata
 returns-in_err-metadata c =
     λ p. rw (handed_on c.from_residual-in_err-metadata.ensures) (begins_metadata _ _ _ p c.args.action c.in_ok-id.ensures c.in_err-metadata.ensures)
 
-pub returns-in_err-lat-in-Create : goal.returns-in_err-lat-in-Create
+pub returns-in_err-coordinates-in-Create : goal.returns-in_err-coordinates-in-Create
 unfolding id_field
-returns-in_err-lat-in-Create c =
-    λ p. sym (sym (begins_kept _ _ _ _ p c.in-Create.is) ∙ rw (handed_on c.from_residual-in_err-lat-in-Create.ensures, ← c.in_ok-id.ensures, ← c.in_ok-metadata.ensures, ← c.in_err-lat-in-Create.ensures))
+returns-in_err-coordinates-in-Create c =
+    λ p. sym (sym (begins_kept _ _ _ _ p c.in-Create.is) ∙ rw (handed_on c.from_residual-in_err-coordinates-in-Create.ensures, ← c.in_ok-id.ensures, ← c.in_ok-metadata.ensures, ← c.in_err-coordinates-in-Create.ensures))
 
 pub returns-in-Delete : goal.returns-in-Delete
 unfolding id_field
 returns-in-Delete c = λ p. rw (c.in-Delete.is, ← c.in_ok-id.ensures, ← c.in_ok-metadata.ensures)
 
-pub returns-in_ok-lat-in-Create : goal.returns-in_ok-lat-in-Create
+pub returns-in_ok-coordinates-in-Create : goal.returns-in_ok-coordinates-in-Create
 unfolding id_field
-returns-in_ok-lat-in-Create c =
-    λ p. sym (sym (begins_kept _ _ _ _ p c.in-Create.is) ∙ rw (← c.in_ok-id.ensures, ← c.in_ok-metadata.ensures, ← c.in_ok-lat-in-Create.ensures))
+returns-in_ok-coordinates-in-Create c =
+    λ p. sym (sym (begins_kept _ _ _ _ p c.in-Create.is) ∙ rw (← c.in_ok-id.ensures, ← c.in_ok-metadata.ensures, ← c.in_ok-coordinates-in-Create.ensures))

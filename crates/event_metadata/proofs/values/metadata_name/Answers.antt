@@ -1,5 +1,5 @@
 -- `metadata_name`: the names in their order.
-use Rattle.event_scan.proofs.Equal.{known}
+use Rattle.base.proofs.Equal.{known}
 use Rattle.event_metadata.specs.Values.{metadata_name}
 use Rattle.event_metadata.proofs.values.metadata_name.Goals as goal
 

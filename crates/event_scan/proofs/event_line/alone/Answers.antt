@@ -1,5 +1,5 @@
 -- `alone`: `close`, `other`, or no event.
-use Rattle.event_scan.proofs.Equal.{known}
+use Rattle.base.proofs.Equal.{known}
 use Rattle.event_scan.specs.Scan.{lone}
 use Rattle.event_scan.proofs.event_line.alone.Goals as goal
 

@@ -1,6 +1,6 @@
 -- `event`: by the first word.
 use Rattle.std.proofs.Common.{sym, ◌∙◌}
-use Rattle.event_scan.proofs.Equal.{known}
+use Rattle.base.proofs.Equal.{known}
 use Rattle.event_scan.proofs.Lines.{event_opens, event_empties, event_longer, event_word}
 use Rattle.event_scan.proofs.event_line.event.Goals as goal
 

@@ -4,7 +4,7 @@ use Rattle.std.specs.Borrow.{Bor}
 use Rattle.std.proofs.lemmas.Iterator.{YieldsList-from_slice}
 use Rattle.std.proofs.lemmas.Iterator.Search.{any_from_yields_List}
 use Rattle.base.specs.Bytes.{Bytes, same}
-use Rattle.event_scan.proofs.Equal.{equal}
+use Rattle.base.proofs.Equal.{equal}
 use Rattle.event_scan.proofs.Standing.{among_any}
 use Rattle.event_scan.proofs.event_line.seen.Goals as goal
 

@@ -1,7 +1,7 @@
 -- The spellings in their order.
 use Rattle.std.proofs.Common.{◌∙◌}
 use Rattle.nesting.specs.Name.{spellings, name_in, name_of}
-use Rattle.nesting.proofs.Same.{known}
+use Rattle.base.proofs.Equal.{known}
 use Rattle.nesting.proofs.NameFromRefSliceU8.from.Goals as goal
 
 pub returns-then-eq : goal.returns-then-eq

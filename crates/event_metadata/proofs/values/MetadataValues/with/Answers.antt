@@ -1,7 +1,7 @@
 -- `with` goes by the name: a refusal, or the value with its flags.
 use Rattle.std.proofs.Common.{sym, ◌∙◌}
 use Rattle.std.specs.Prelude.{is_some}
-use Rattle.event_scan.proofs.Equal.{known}
+use Rattle.base.proofs.Equal.{known}
 use Rattle.event_values.proofs.Raws.{false_raw}
 use Rattle.event_values.proofs.Values.{handed_on}
 use Rattle.event_metadata.proofs.Given.{given_marked, given_hidden, given_user, given_version, narrow_value, wide_value, moment_value}

@@ -2,7 +2,7 @@
 use Rattle.std.proofs.Common.{sym, ap, ◌∙◌}
 use Rattle.std.specs.Prelude.{option_map}
 use Rattle.event_scan.specs.Piece.{value_text}
-use Rattle.event_scan.proofs.Equal.{equal}
+use Rattle.base.proofs.Equal.{equal}
 use Rattle.event_scan.proofs.Parts.{value_nowhere, value_here, value_behind, value_text_of}
 use Rattle.event_scan.proofs.fields.Attributes.value_of.Goals as goal
 

@@ -1,4 +1,4 @@
--- `==` tells whether two runs of bytes are the same, as `same` does.
+-- The language's `==` tells whether two runs of bytes are the same, as `same` does.
 use lib.Dec.{eqb}
 use mathlib.Core.Path.{◌≡◌, ◌∙◌, ap}
 use mathlib.Core.Bool.{Bool}
@@ -11,6 +11,6 @@ use Rattle.base.proofs.Lists.{same_yes, same_refl}
 pub equal : (s t : Bytes) {r : Bool} → r ≡ pointwise eqb s t → r ≡ same s t
 equal s t {r} h = same_from_decides r (same s t) (slice_eq-Decides Decides-eqb s t r h) (same_yes s t, λ (e : s ≡ t). rw e (same_refl t))
 
--- the same of a run that is known
+-- the same where the second run is known, as that of a literal is
 pub known : (s t : Bytes) {k : Bytes} {r : Bool} → t ≡ k → r ≡ pointwise eqb s t → r ≡ same s k
 known s t e h = equal s t h ∙ ap (same s) e
