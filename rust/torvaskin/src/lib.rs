@@ -13,9 +13,8 @@
 //! let mut reader = Reader::new();
 //! let input = "open\tosmChange\nopen\tcreate\nopen\tway\tid=5\tversion=4\n\
 //!              empty\ttag\tk=maxweight\tv=7.5\nclose\nclose\nclose\n";
-//! for line in input.split_inclusive('\n') {
-//!     reader.event(&mut overlay, line)?;
-//! }
+//! // all whole lines in one call; a rest without its line feed would be handed to `event`
+//! assert_eq!(reader.events(&mut overlay, input)?, input.len());
 //! reader.end(&overlay)?;
 //! let bridge = overlay.get(ElementKind::Way, 5)?.expect("it was created");
 //! assert_eq!(bridge.tags, [("maxweight", "7.5")]);
@@ -56,3 +55,10 @@ pub use overlay::{Name, Overlay};
 pub use reader::{Reader, STAGED};
 pub use record::{Body, ElementKind, Handle, Member, Metadata, Record};
 pub use refusal::{Reason, Refusal};
+
+/// The version of this crate and of the library: that of the header for C. CHANGELOG.md says what each version changed.
+pub const VERSION: &str = env!("CARGO_PKG_VERSION");
+
+/// What the words, bytes and counters of an overlay and the words and staged bytes of a reader mean. It changes when they do: who saves them
+/// writes it beside them, as examples/saved.rs does.
+pub const STORED_FORM: u32 = 1;
