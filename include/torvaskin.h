@@ -1,4 +1,6 @@
-/* Torvaskin for C99 and C++11 and later, on x86-64 Linux with 64-bit pointers. `./library` writes this file and libtorvaskin.a into one folder; link the archive behind the program's own files.
+/* Torvaskin for C99 and C++11 and later. `./library` writes this file and libtorvaskin.a into one folder; link the archive behind the program's own files.
+
+   It runs on x86-64 Linux with 64-bit pointers, on processors of the level x86-64-v2 (those since about 2009: SSE4.1 is used), and needs memcpy, memmove and memset of a C library.
 
    The entries (first half) are what the archive exports; each is proved to do what is said here, on any words and bytes that it is lent. The wrappers (second half)
    are inline C: each hands a struct's fields on to its entry in order, and nothing proves it; c/all.c calls every one. tvk_GROUP_NAME is the wrapper of tvk_NAME.

@@ -6,6 +6,9 @@
 //! storage neither, panics or is undefined. What is refused has a number, which docs/REFUSALS.md explains: [`Refusal`]. A thread that calls it
 //! needs 128 KiB of stack.
 //!
+//! It runs on x86-64 Linux with 64-bit pointers. It needs `alloc` and not `std`: where storage and output are lent, nothing is allocated but by
+//! the calls that hand out or take in a [`Record`], a `Vec` or a `String`. rust/bare in the repository is a program without `std` and without a heap.
+//!
 //! ```
 //! use torvaskin::{ElementKind, Overlay, Reader, Sizes};
 //!
@@ -35,7 +38,10 @@
 //! | `into_sorted()`: `upserts(kind)`, `way(n)`, `range_overlaps`, `Seek` | [`Overlay::live_ids`], [`Overlay::record`], [`lists`] |
 //! | an error, a panic | a [`Refusal`] |
 
+#![no_std]
 #![deny(missing_docs, unsafe_code, unsafe_op_in_unsafe_fn)]
+
+extern crate alloc;
 
 mod blocks;
 #[doc(hidden)]

@@ -1,6 +1,7 @@
 //! Readers of event lines.
 
-use std::ops::DerefMut;
+use alloc::boxed::Box;
+use core::ops::DerefMut;
 
 use crate::entry::{self, EventReply};
 use crate::{Overlay, Refusal, Storage};

@@ -1,6 +1,6 @@
 //! What is refused, and why.
 
-use std::fmt;
+use core::fmt;
 
 /// The refusals: number, what happened, what helps.
 macro_rules! reasons {
@@ -149,4 +149,4 @@ impl fmt::Display for Refusal {
     }
 }
 
-impl std::error::Error for Refusal {}
+impl core::error::Error for Refusal {}
