@@ -177,7 +177,7 @@ struct tvk_handle {
 };
 
 /* 0 and found 1 with where something lies, in bytes; 0 and found 0 where there is nothing; or the refusal. Of a record the start counts in its kind's arena, of a text in the
-   string bytes. It holds until the next call that writes. */
+   string bytes. It holds until the next call that writes the overlay. */
 struct tvk_view {
     uint32_t number;
     uint32_t found;
@@ -629,12 +629,12 @@ static inline const char *tvk_refusal_sentence(uint32_t number)
         "There is no room left for further ids of that kind.",
         "There is no room left for records of that kind.",
         "One element has more than 256 tags, 2,000 refs, 2,000 members or 16,384 bytes of tag values.",
-        "A program handed in a record that is not well formed: flags, a field that no flag covers, a handle that is not held, a type byte above 2, parts that are not as many as counted; or a kind's number that is none of 0, 1 and 2, in a reading too.",
-        "The input ended before its last element was closed.",
+        "The terminal's program handed in a record that contradicts itself, or asked for a kind that does not exist.",
+        "The input ended before its last element was closed, or nothing was handed in.",
         "The listing does not fit its output, or the ids of a kind do not fit the lists that are to hold them.",
         "A program handed in a list of ids that is not strictly in order.",
         "A program asked for an id or a record by a number that its list does not have, or for a text by a handle that is not held.",
-        "The stored data is damaged, or it was lent in blocks of other lengths than at set-up; of a record's reader, its bytes are cut short.",
+        "What the terminal has stored is damaged, or was handed over cut short.",
     };
     return number < sizeof sentences / sizeof sentences[0] ? sentences[number] : "This is no refusal's number.";
 }
