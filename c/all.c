@@ -119,6 +119,11 @@ static void numbers(void)
     SAME(tvk_field_is_text("\xc3\xa4", 2), 1);
     SAME(tvk_field_is_text("\xc3\xa4", 1), 0);
     SAME(tvk_field_is_text(NULL, 0), 1);
+
+    const char *sentence = tvk_refusal_sentence(TVK_COORDINATE_RANGE);
+    BYTES(sentence, strlen(sentence), "A coordinate lies outside the globe.");
+    sentence = tvk_refusal_sentence(TVK_UNSOUND + 1);
+    BYTES(sentence, strlen(sentence), "This is no refusal's number.");
 }
 
 static void lists(void)
@@ -638,17 +643,30 @@ static void readers(void)
     SAME(reader.words[0], 7);
 }
 
+/* ---- the least that may be lent, by the macro: no bytes at all */
+
+TVK_STATIC_OVERLAY(least, 1, 0, 1, 0);
+
+static void no_bytes(void)
+{
+    SAME(least.words_len, 11);
+    SAME(least.bytes_len, 0);
+    SAME(tvk_overlay_set_up(&least, least_sizes, 0).number, 0);
+    SAME(tvk_overlay_delete(&least, TVK_WAY, 7, version(1)).number, 0);
+    SAME(tvk_overlay_push(&least, TVK_NODE, head_of(1), version(1), NULL, 0).number, TVK_ARENA_FULL);
+    SAME(tvk_overlay_is_sound(&least).number, 0);
+}
+
 /* ---- a block that is empty by NULL: an overlay of one id a kind, no arenas and the empty text alone */
 
 static void empty_block(void)
 {
-    static const struct tvk_sizes least = {{1, 0}, {1, 0}, {1, 0}, 1, 0};
     uint64_t small_words[TVK_WORDS(1, 1, 1, 1)];
     struct tvk_overlay small = {TVK_LEND(small_words), NULL, 0, {0}};
     char page[16];
 
     SAME(small.words_len, 11);
-    SAME(tvk_overlay_set_up(&small, least, 0).number, 0);
+    SAME(tvk_overlay_set_up(&small, least_sizes, 0).number, 0);
     SAME(tvk_overlay_push(&small, TVK_NODE, head_of(1), version(1), NULL, 0).number, TVK_ARENA_FULL);
     SAME(tvk_overlay_delete(&small, TVK_RELATION, 1, version(2)).number, 0);
     SAME(tvk_overlay_intern(&small, "a", 1).number, TVK_STRINGS_FULL);
@@ -658,7 +676,7 @@ static void empty_block(void)
     SAME(tvk_overlay_string_bytes(&small).len, 0);
     small.words = NULL;
     SAME(tvk_overlay_is_sound(&small).number, TVK_UNSOUND);
-    SAME(tvk_overlay_set_up(&small, least, 0).number, TVK_SIZE);
+    SAME(tvk_overlay_set_up(&small, least_sizes, 0).number, TVK_SIZE);
 }
 
 static void guards(void)
@@ -686,6 +704,7 @@ int main(void)
     other_blocks();
     readers();
     guards();
+    no_bytes();
     empty_block();
     printf("%lu answers are as they must be, %lu are not\n", right, wrong);
     return wrong == 0 ? 0 : 1;

@@ -1,4 +1,5 @@
-/* An overlay, a reader fed with a batch of event lines, a direct push with refs and tags, and the listing. Prints the listing, or why something was refused. */
+/* An overlay, a reader that is handed a run of event lines, a direct push with refs and tags, and the listing. Prints the listing, or what was refused and why: then it ends with 1, and
+   with 2 where the listing cannot be written. */
 #include "torvaskin.h"
 
 #include <stdio.h>
@@ -18,7 +19,13 @@ static const char lines[] = "open\tosmChange\n"
                             "close\n"
                             "close\n";
 
-/* Way 5 at version 1 over two nodes, with a name and a weight limit. */
+static int refused(const char *what, uint32_t number, uint64_t line)
+{
+    fprintf(stderr, "%s is refused %u, line %llu: %s\n", what, (unsigned)number, (unsigned long long)line, tvk_refusal_sentence(number));
+    return 1;
+}
+
+/* Way 5 at version 1 over two nodes, with a name and a weight limit. A buffer of TVK_STAGED_BYTES holds the parts of any push; where one does not fit, the push is refused 17. */
 static struct tvk_reply push_road(void)
 {
     uint8_t buffer[256];
@@ -27,9 +34,9 @@ static struct tvk_reply push_road(void)
     struct tvk_meta meta = tvk_no_meta();
     struct tvk_handle name = tvk_overlay_intern(&overlay, "name", 4);
     struct tvk_handle weight = tvk_overlay_intern(&overlay, "maxweight", 9);
-    if (name.number != 0 || weight.number != 0) {
-        struct tvk_reply full = {TVK_STRINGS_FULL, 0};
-        return full;
+    if (name.number != TVK_ACCEPTED || weight.number != TVK_ACCEPTED) {
+        struct tvk_reply not_held = {name.number != TVK_ACCEPTED ? name.number : weight.number, 0};
+        return not_held;
     }
     meta.flags = TVK_PRESENT | TVK_HAS_VERSION;
     meta.version = 1;
@@ -42,31 +49,33 @@ static struct tvk_reply push_road(void)
 
 int main(void)
 {
+    struct tvk_reply empty, pushed;
     struct tvk_events_reply events;
     struct tvk_event_reply end;
-    struct tvk_reply pushed;
     struct tvk_listing_reply listing;
 
-    if (tvk_overlay_set_up(&overlay, overlay_sizes, 0).number != 0)
-        return 1;
+    empty = tvk_overlay_set_up(&overlay, overlay_sizes, 0);
+    if (empty.number != TVK_ACCEPTED)
+        return refused("the set-up", empty.number, 0);
     events = tvk_reader_events(&reader, &overlay, lines, sizeof lines - 1);
-    if (events.number != 0) {
-        fprintf(stderr, "line %llu is refused %u\n", (unsigned long long)events.line, (unsigned)events.number);
+    if (events.number != TVK_ACCEPTED)
+        return refused("an event", events.number, events.line);
+    if (events.taken != sizeof lines - 1) {
+        fputs("the last line has no line feed\n", stderr);
         return 1;
     }
     end = tvk_reader_end(&reader, &overlay);
-    if (end.number != 0) {
-        fprintf(stderr, "the document's end is refused %u\n", (unsigned)end.number);
-        return 1;
-    }
+    if (end.number != TVK_ACCEPTED)
+        return refused("the document's end", end.number, end.line);
     pushed = push_road();
-    if (pushed.number != 0) {
-        fprintf(stderr, "the road is refused %u\n", (unsigned)pushed.number);
-        return 1;
-    }
+    if (pushed.number != TVK_ACCEPTED)
+        return refused("the road", pushed.number, 0);
     listing = tvk_overlay_listing(&overlay, page, sizeof page);
-    if (listing.number != 0)
-        return 1;
-    fwrite(page, 1, listing.length, stdout);
+    if (listing.number != TVK_ACCEPTED)
+        return refused("the listing", listing.number, 0);
+    if (fwrite(page, 1, listing.length, stdout) != listing.length || fflush(stdout) != 0) {
+        perror("standard output");
+        return 2;
+    }
     return 0;
 }

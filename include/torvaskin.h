@@ -1,5 +1,7 @@
 /* Torvaskin for C99 and C++11 and later. `./library` writes this file and libtorvaskin.a into one folder; link the archive behind the program's own files.
 
+   It runs on x86-64 Linux with 64-bit pointers, on processors of the level x86-64-v2 (those since about 2009: SSE4.1 is used), and needs memcpy, memmove and memset of a C library.
+
    The entries (first half) are what the archive exports; each is proved to do what is said here, on any words and bytes that it is lent. The wrappers (second half)
    are inline C: each hands a struct's fields on to its entry in order, and nothing proves it; c/all.c calls every one. tvk_GROUP_NAME is the wrapper of tvk_NAME.
 
@@ -32,6 +34,10 @@
 #ifndef TORVASKIN_H
 #define TORVASKIN_H
 
+#if !defined(__x86_64__) || !defined(__linux__) || !defined(__LP64__)
+#error "Torvaskin is built for x86-64 Linux with 64-bit pointers alone."
+#endif
+
 #include <stddef.h>
 #include <stdint.h>
 #include <string.h>
@@ -39,6 +45,14 @@
 #ifdef __cplusplus
 extern "C" {
 #endif
+
+/* ---- version */
+
+/* Of this header and its library. CHANGELOG.md says what each version changed. */
+#define TVK_VERSION "0.3.0"
+
+/* What the words, bytes and counters of an overlay and the words and staged bytes of a reader mean. It changes when they do: who saves them writes it beside them. */
+#define TVK_STORED_FORM 1
 
 /* ---- kinds, flags, sizes, limits */
 
@@ -163,7 +177,7 @@ struct tvk_handle {
 };
 
 /* 0 and found 1 with where something lies, in bytes; 0 and found 0 where there is nothing; or the refusal. Of a record the start counts in its kind's arena, of a text in the
-   string bytes. It holds until the next call that writes. */
+   string bytes. It holds until the next call that writes the overlay. */
 struct tvk_view {
     uint32_t number;
     uint32_t found;
@@ -376,12 +390,12 @@ struct tvk_reader {
 #define TVK_LEND(array) (array), sizeof(array) / sizeof((array)[0])
 
 /* Static storage for so many ids and arena bytes a kind, strings and string bytes, an overlay of that name over it, and its sizes as NAME_sizes. It is still to be set up:
-   tvk_overlay_set_up(&NAME, NAME_sizes, setting). */
+   tvk_overlay_set_up(&NAME, NAME_sizes, setting). No array of C is empty: where all bytes are 0, one lies there that is not lent. */
 #define TVK_STATIC_OVERLAY(name, ids, arena, strings, string_bytes)                                                                \
     static const struct tvk_sizes name##_sizes = {{(ids), (arena)}, {(ids), (arena)}, {(ids), (arena)}, (strings), (string_bytes)}; \
     static uint64_t name##_words[TVK_WORDS(ids, ids, ids, strings)];                                                               \
-    static uint8_t name##_bytes[TVK_BYTES(arena, arena, arena, string_bytes)];                                                     \
-    static struct tvk_overlay name = {TVK_LEND(name##_words), TVK_LEND(name##_bytes), {0}}
+    static uint8_t name##_bytes[TVK_BYTES(arena, arena, arena, string_bytes) + (TVK_BYTES(arena, arena, arena, string_bytes) == 0)]; \
+    static struct tvk_overlay name = {TVK_LEND(name##_words), name##_bytes, TVK_BYTES(arena, arena, arena, string_bytes), {0}}
 
 /* where an empty slice lies: somewhere that is not NULL, which no call reads or writes */
 static inline uint64_t *tvk_words_at(uint64_t *words)
@@ -590,6 +604,39 @@ static inline struct tvk_cursor tvk_ids_seek_find(const int64_t *ids, size_t len
 static inline void tvk_reader_clear(struct tvk_reader *r)
 {
     memset(r->words, 0, sizeof r->words);
+}
+
+/* ---- refusals */
+
+/* What happened, by a reply's number, for the person who reads it: the sentence of docs/REFUSALS.md. */
+static inline const char *tvk_refusal_sentence(uint32_t number)
+{
+    static const char *const sentences[] = {
+        "Nothing was refused.",
+        "The overlay was set up with too little or too much storage.",
+        "A line of the input is longer than 16,384 bytes.",
+        "A line, or a text handed in by a program, is not proper text: damaged characters, or a carriage return in a line.",
+        "A line is not an event line, names an attribute twice, or the file ends in the middle of a line.",
+        "An element stands where it does not belong, as a road inside another road.",
+        "A node, way or relation stands outside `create`, `modify` and `delete`.",
+        "A field that is needed is missing, as an id or a coordinate.",
+        "A field should be a whole number of its size and is not.",
+        "A timestamp is not of the form 2024-01-31T12:00:00Z, has a sign in a number, or names a day or hour that does not exist.",
+        "A coordinate lies outside the globe.",
+        "A member of a relation is neither a node, a way nor a relation.",
+        "A change is older than what is held for that element. The version shown is the one held.",
+        "There is no room left for names (keys, roles, users).",
+        "There is no room left for further ids of that kind.",
+        "There is no room left for records of that kind.",
+        "One element has more than 256 tags, 2,000 refs, 2,000 members or 16,384 bytes of tag values.",
+        "The terminal's program handed in a record that contradicts itself, or asked for a kind that does not exist.",
+        "The input ended before its last element was closed, or nothing was handed in.",
+        "The listing does not fit its output, or the ids of a kind do not fit the lists that are to hold them.",
+        "A program handed in a list of ids that is not strictly in order.",
+        "A program asked for an id or a record by a number that its list does not have, or for a text by a handle that is not held.",
+        "What the terminal has stored is damaged, or was handed over cut short.",
+    };
+    return number < sizeof sentences / sizeof sentences[0] ? sentences[number] : "This is no refusal's number.";
 }
 
 /* ---- sizes, and the parts of the bytes */

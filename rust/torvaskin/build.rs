@@ -3,6 +3,15 @@
 use std::path::PathBuf;
 
 fn main() {
+    let target = ["ARCH", "OS", "POINTER_WIDTH"]
+        .map(|what| std::env::var(format!("CARGO_CFG_TARGET_{what}")).unwrap_or_default());
+    if target != ["x86_64", "linux", "64"] {
+        println!(
+            "cargo::error=the library is built for x86-64 Linux with 64-bit pointers alone, and not for {}",
+            target.join(" ")
+        );
+        return;
+    }
     let out = PathBuf::from(std::env::var_os("OUT_DIR").expect("cargo sets it"));
     println!("cargo::rustc-link-search=native={}", out.display());
     println!("cargo::rerun-if-env-changed=TORVASKIN_LIB");

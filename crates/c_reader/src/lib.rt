@@ -1,4 +1,4 @@
-// A reader as C holds it: 19 words.
+// A reader as C holds it, in words.
 #![tactic(auto)]
 
 ghost use Rattle.std.specs.Prelude.{◌≡◌, leb, ltb};
@@ -11,6 +11,9 @@ use kind::Kind;
 use nesting::{Action, Level, Place};
 use reader::{EventReader, Pending, RefusedAt};
 use refusal::{Refusal, Reply};
+
+// How many words a reader takes.
+pub const READER_WORDS: usize = 19;
 
 // ---- words read back
 
@@ -47,7 +50,7 @@ fn kind_of(word: u64) -> Option<Kind>
     Kind::try_from(u8::try_from(word).ok()?).ok()
 }
 
-fn place_of(words: &[u64; 19]) -> Option<Place>
+fn place_of(words: &[u64; READER_WORDS]) -> Option<Place>
     ensures { result ≡ if_coded (place_coded words.now) (place_words words.now) }
 {
     let level = level_of(words[0])?;
@@ -60,7 +63,7 @@ fn place_of(words: &[u64; 19]) -> Option<Place>
     })
 }
 
-fn head_of(words: &[u64; 19]) -> Option<PushHead>
+fn head_of(words: &[u64; READER_WORDS]) -> Option<PushHead>
     ensures { result ≡ if_coded (head_coded words.now) (head_words words.now) }
 {
     let lat = u32::try_from(words[4]).ok()?;
@@ -76,7 +79,7 @@ fn head_of(words: &[u64; 19]) -> Option<PushHead>
     })
 }
 
-fn meta_of(words: &[u64; 19]) -> Option<ArenaMeta>
+fn meta_of(words: &[u64; READER_WORDS]) -> Option<ArenaMeta>
     ensures { result ≡ if_coded (meta_coded words.now) (meta_words words.now) }
 {
     let flags = u8::try_from(words[8]).ok()?;
@@ -141,7 +144,7 @@ fn stop_of(number: u64, line: u64, held: u64) -> Option<Option<RefusedAt>>
 }
 
 // The reader of words, if each is a code, or within its field.
-pub fn reader_of(words: &[u64; 19]) -> Option<EventReader>
+pub fn reader_of(words: &[u64; READER_WORDS]) -> Option<EventReader>
     ensures { result ≡ reader_of_words words.now }
 {
     let place = place_of(words)?;
@@ -204,7 +207,7 @@ impl From<Option<RefusedAt>> for MarkWords {
 }
 
 // Writes a reader's words.
-pub fn put_reader(words: &mut [u64; 19], reader: EventReader)
+pub fn put_reader(words: &mut [u64; READER_WORDS], reader: EventReader)
     ensures { words.new ≡ words_of_reader reader }
 {
     let EventReader {

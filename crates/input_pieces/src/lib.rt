@@ -13,6 +13,12 @@ use event_scan::MAX_LINE;
 use reader::{ReaderState, RefusedAt};
 use reader_events::EventsDone;
 
+// How many bytes of a piece count.
+pub const MAX_PIECE: usize = 65536;
+
+// The bytes of a buffer: the longest unfinished line, and a piece behind it.
+pub const BUFFER: usize = MAX_LINE + MAX_PIECE;
+
 // ---- the lines of lent bytes
 
 // The whole lines as events, up to the first that is refused, and then what is left where it is already too long. Where nothing is refused, what is left is the unfinished line.
@@ -56,12 +62,12 @@ fn take_piece(
 // What is held of an input between two pieces: its unfinished line, at the front of a buffer that has room for a piece behind it.
 #[derive(Drop)]
 pub struct InputBuffer<'a> {
-    pub bytes: &'a mut [u8; 81920],
+    pub bytes: &'a mut [u8; BUFFER],
     pub held: usize,
 }
 
-// A piece of the input, of which at most 65,536 bytes count: its whole lines are events, up to the first that is refused, and the unfinished line is held at the front
-// of the buffer. Of the bytes held so far at most 16,384 count. Soundness is not tested: for a caller who knows that the state is sound but for its count of lines.
+// A piece of the input, of which at most `MAX_PIECE` bytes count: its whole lines are events, up to the first that is refused, and the unfinished line is held at the front
+// of the buffer. Of the bytes held so far at most `MAX_LINE` count. Soundness is not tested: for a caller who knows that the state is sound but for its count of lines.
 pub fn feed(
     state: &mut ReaderState<'_>,
     input: &mut InputBuffer<'_>,
@@ -70,10 +76,10 @@ pub fn feed(
     ensures same { IsSameState state.new state.old }
     ensures same_bytes { input.new.bytes.ghost_name ≡ input.old.bytes.ghost_name }
     ensures value { RunGiven (state_held state.old)
-        → record { intake = intake_left state.new input.new; answer = result } ≡ feed_on (take 65536 piece.now) (intake_lent state.old input.old) }
+        → record { intake = intake_left state.new input.new; answer = result } ≡ feed_on (take MAX_PIECE piece.now) (intake_lent state.old input.old) }
 {
     let held = little::lesser(input.held, MAX_LINE);
-    let piece = &piece[..little::lesser(65536, piece.len())];
+    let piece = &piece[..little::lesser(MAX_PIECE, piece.len())];
     let (answer, held) = take_piece(state, input.bytes, held, piece);
     input.held = held;
     answer

@@ -2,10 +2,11 @@
 // it lends, and what it reads and writes.
 #![tactic(auto)]
 
-use input_pieces::InputBuffer;
+use input_pieces::{BUFFER, InputBuffer, MAX_PIECE};
+use overlay_blocks::COUNTERS;
 use reader::ReaderState;
 use reader_stage::STAGED;
-use roadlist_page::Ended;
+use roadlist_page::{BYTES, Ended, MAX_OUTPUT, WORDS};
 use std::io;
 use std::io::Read;
 
@@ -20,7 +21,7 @@ fn read_all(
     input: &mut impl Read,
     state: &mut ReaderState<'_>,
     buffer: &mut InputBuffer<'_>,
-    piece: &mut [u8; 65536],
+    piece: &mut [u8; MAX_PIECE],
 ) -> Result<(), io::Error> {
     for _ in 0..u64::MAX {
         let n = input.read(piece)?;
@@ -53,8 +54,8 @@ fn read_and_print(
     input: &mut impl Read,
     state: &mut ReaderState<'_>,
     buffer: &mut InputBuffer<'_>,
-    piece: &mut [u8; 65536],
-    out: &mut [u8; 65536],
+    piece: &mut [u8; MAX_PIECE],
+    out: &mut [u8; MAX_OUTPUT],
 ) {
     if let Err(why) = read_all(input, state, buffer, piece) {
         fail(rt, "standard input", why);
@@ -66,13 +67,13 @@ fn read_and_print(
 
 // The overlay is set up empty and the reader is fresh, so what each piece needs holds from the start on (roadlist_page, proofs/Printed).
 fn main(rt: HostRuntime) {
-    let mut words = [0u64; 5632];
-    let mut bytes = [0u8; 32768];
-    let mut counters = [0u64; 17];
+    let mut words = [0u64; WORDS];
+    let mut bytes = [0u8; BYTES];
+    let mut counters = [0u64; COUNTERS];
     let mut parts = [0u8; STAGED];
-    let mut unfinished = [0u8; 81920];
-    let mut piece = [0u8; 65536];
-    let mut out = [0u8; 65536];
+    let mut unfinished = [0u8; BUFFER];
+    let mut piece = [0u8; MAX_PIECE];
+    let mut out = [0u8; MAX_OUTPUT];
     let reader = roadlist_page::start(&mut words, &bytes, &mut counters, &parts);
     let mut state = ReaderState {
         words: &mut words,

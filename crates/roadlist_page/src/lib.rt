@@ -18,6 +18,14 @@ use reader::{EventReader, ReaderState, ReaderView};
 use reader_stage::STAGED;
 use refusal::{Refusal, Reply};
 
+// The words and bytes of the program's overlay, as its sizes ask: 512 ids of each of three kinds, three words an id, and 512 strings, two words a string; four parts of 8,192 bytes.
+pub const WORDS: usize = 5632;
+
+pub const BYTES: usize = 32768;
+
+// How many bytes the program prints at most.
+pub const MAX_OUTPUT: usize = 65536;
+
 // "512 ids and 8,192 arena bytes a kind, 512 strings, 8,192 string bytes"
 fn program_sizes() -> Sizes
     ensures { result ≡ program_sizes }
@@ -37,8 +45,8 @@ fn program_sizes() -> Sizes
 
 // An empty overlay, regression refused, and a fresh reader. The arrays are lent one by one: their types say that the sizes are theirs.
 pub fn start(
-    words: &mut [u64; 5632],
-    bytes: &[u8; 32768],
+    words: &mut [u64; WORDS],
+    bytes: &[u8; BYTES],
     counters: &mut [u64; COUNTERS],
     ps: &[u8; STAGED],
 ) -> EventReader
@@ -76,7 +84,7 @@ pub struct Ended {
 }
 
 // The line of a refusal at the start of the output. It is short, so it fits.
-fn put_refusal(out: &mut [u8; 65536], refusal: Refusal, line: u64) -> Ended
+fn put_refusal(out: &mut [u8; MAX_OUTPUT], refusal: Refusal, line: u64) -> Ended
     ensures { record { out = out.new; written = result.written; refusal = result.refusal } ≡ end_output out.old (refused_ending refusal line) }
 {
     // read for the proof alone: the version held is an `i32`, so the line fits the output
@@ -88,9 +96,9 @@ fn put_refusal(out: &mut [u8; 65536], refusal: Refusal, line: u64) -> Ended
 }
 
 // The listing, or 19.
-fn put_page(storage: &Storage<'_>, out: &mut [u8; 65536], lines: u64) -> Ended
+fn put_page(storage: &Storage<'_>, out: &mut [u8; MAX_OUTPUT], lines: u64) -> Ended
     requires counters_value { is_sound (overlay_seen storage.now) ≡ true }
-    requires lines_bound { lines < 18446744073709551615 }
+    requires lines_bound { lines < u64.MAX }
     ensures { record { out = out.new; written = result.written; refusal = result.refusal }
         ≡ end_output out.old (page_ending (overlay_seen storage.now) lines) }
 {
@@ -104,7 +112,7 @@ fn put_page(storage: &Storage<'_>, out: &mut [u8; 65536], lines: u64) -> Ended
 }
 
 // What the end answers: its refusal, or the page.
-fn put_end(state: &ReaderView<'_>, out: &mut [u8; 65536]) -> Ended
+fn put_end(state: &ReaderView<'_>, out: &mut [u8; MAX_OUTPUT]) -> Ended
     ensures { record { out = out.new; written = result.written; refusal = result.refusal } ≡ end_output out.old (ending_at (state_seen state.now)) }
 {
     match reader_calls::end_on(state) {
@@ -113,8 +121,12 @@ fn put_end(state: &ReaderView<'_>, out: &mut [u8; 65536]) -> Ended
     }
 }
 
-// The end of the input: a last line, the end of the document, then the listing or the `refused` line at the start of the output. Of the bytes held at most 16,384 count.
-pub fn finish(state: &mut ReaderState<'_>, input: &InputBuffer<'_>, out: &mut [u8; 65536]) -> Ended
+// The end of the input: a last line, the end of the document, then the listing or the `refused` line at the start of the output. Of the bytes held at most `MAX_LINE` count.
+pub fn finish(
+    state: &mut ReaderState<'_>,
+    input: &InputBuffer<'_>,
+    out: &mut [u8; MAX_OUTPUT],
+) -> Ended
     ensures same { IsSameState state.new state.old }
     ensures value { record {
       overlay = (state_held state.new).overlay;

@@ -3,6 +3,7 @@ ghost use Rattle.std.specs.Prelude.{◌≡◌};
 ghost use Rattle.overlay.specs.Lent.{lent, left};
 ghost use Rattle.torvaskin.specs.Readers.{event_reply, events_reply, end_reply};
 
+use c_reader::READER_WORDS;
 use c_replies::{EventReply, EventsReply};
 use overlay_blocks::COUNTERS;
 use reader::RefusedAt;
@@ -21,7 +22,7 @@ pub extern "C" fn tvk_event(
     words: &mut [u64],
     bytes: &mut [u8],
     counters: &mut [u64; COUNTERS],
-    reader: &mut [u64; 19],
+    reader: &mut [u64; READER_WORDS],
     parts: &mut [u8; STAGED],
     line: &[u8],
 ) -> EventReply
@@ -45,7 +46,7 @@ pub extern "C" fn tvk_events(
     words: &mut [u64],
     bytes: &mut [u8],
     counters: &mut [u64; COUNTERS],
-    reader: &mut [u64; 19],
+    reader: &mut [u64; READER_WORDS],
     parts: &mut [u8; STAGED],
     run: &[u8],
 ) -> EventsReply
@@ -68,7 +69,7 @@ pub extern "C" fn tvk_end(
     words: &[u64],
     bytes: &[u8],
     counters: &[u64; COUNTERS],
-    reader: &[u64; 19],
+    reader: &[u64; READER_WORDS],
     parts: &[u8; STAGED],
 ) -> EventReply
     ensures { result ≡ end_reply (lent words.now bytes.now counters.now) reader.now parts.now }

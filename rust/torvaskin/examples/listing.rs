@@ -1,13 +1,30 @@
-use std::io::{Read, stdin};
-use torvaskin::{Overlay, Reader, Sizes};
+use std::error::Error;
+use std::io::{Read, Write, stderr, stdin, stdout};
+use std::process::ExitCode;
+use torvaskin::{Overlay, Reader, Refusal, Sizes};
 
-fn main() -> Result<(), Box<dyn std::error::Error>> {
-    let (mut input, mut overlay, mut reader) = (Vec::new(), Overlay::new(&Sizes::ROADLIST)?, Reader::new());
-    stdin().read_to_end(&mut input)?;
-    for line in input.split_inclusive(|byte| *byte == b'\n') {
-        reader.event(&mut overlay, line)?;
+fn listing(input: &[u8]) -> Result<String, Refusal> {
+    let (mut overlay, mut reader) = (Overlay::new(&Sizes::ROADLIST)?, Reader::new());
+    let taken = reader.events(&mut overlay, input)?;
+    if taken < input.len() {
+        // the rest is a line without its line feed, which is refused
+        reader.event(&mut overlay, &input[taken..])?;
     }
     reader.end(&overlay)?;
-    print!("{}", overlay.listing(65_536)?);
-    Ok(())
+    overlay.listing(65_536)
+}
+
+fn run() -> Result<(), Box<dyn Error>> {
+    let mut input = Vec::new();
+    stdin().read_to_end(&mut input)?;
+    let mut output = stdout();
+    output.write_all(listing(&input)?.as_bytes())?;
+    Ok(output.flush()?)
+}
+
+fn main() -> ExitCode {
+    let Err(why) = run() else { return ExitCode::SUCCESS };
+    // where standard error cannot be written either, the status still says it
+    let _ = writeln!(stderr(), "{why}");
+    ExitCode::from(if why.is::<Refusal>() { 1 } else { 2 })
 }

@@ -1,7 +1,8 @@
 //! A terminal in small: event lines on standard input, or from the files that are named; the listing or the `refused` line on standard output,
-//! as the program `roadlist` prints them, and on standard error what a refusal means.
+//! as the program `roadlist` prints them, and on standard error what a refusal means. Ends with 0, 1 or 2 as `roadlist` does.
 
-use std::io::Read;
+use std::io::{self, Read, Write, stderr, stdin, stdout};
+use std::process::ExitCode;
 
 use torvaskin::{Overlay, Reader, Refusal, Sizes};
 
@@ -29,21 +30,41 @@ pub fn refused((refusal, line): (Refusal, u64)) -> String {
     format!("refused\t{}\t{line}\t{held}\n", refusal.number())
 }
 
-pub fn main() -> std::io::Result<()> {
+/// What is read, or what could not be read and why.
+fn input() -> Result<Vec<u8>, (String, io::Error)> {
     let mut input = Vec::new();
-    for file in std::env::args().skip(1) {
-        input.extend(std::fs::read(file)?);
+    for file in std::env::args_os().skip(1) {
+        input.extend(std::fs::read(&file).map_err(|why| (file.to_string_lossy().into_owned(), why))?);
     }
-    if std::env::args().len() == 1 {
-        std::io::stdin().read_to_end(&mut input)?;
+    if std::env::args_os().len() == 1 {
+        stdin().read_to_end(&mut input).map_err(|why| ("standard input".into(), why))?;
     }
-    match page(&input) {
-        Ok(listing) => print!("{listing}"),
+    Ok(input)
+}
+
+fn print(text: &str) -> Result<(), (String, io::Error)> {
+    let mut output = stdout();
+    output.write_all(text.as_bytes()).and_then(|()| output.flush()).map_err(|why| ("standard output".into(), why))
+}
+
+/// Whether the input was taken.
+fn run() -> Result<bool, (String, io::Error)> {
+    match page(&input()?) {
+        Ok(listing) => print(&listing).map(|()| true),
         Err(refusal) => {
-            eprintln!("{}\n{}", refusal.0, refusal.0.reason().help());
-            print!("{}", refused(refusal));
-            std::process::exit(1);
+            let _ = writeln!(stderr(), "{}\n{}", refusal.0, refusal.0.reason().help());
+            print(&refused(refusal)).map(|()| false)
         }
     }
-    Ok(())
+}
+
+pub fn main() -> ExitCode {
+    match run() {
+        Ok(taken) => ExitCode::from(u8::from(!taken)),
+        Err((what, why)) => {
+            // where standard error cannot be written either, the status still says it
+            let _ = writeln!(stderr(), "{what}: {why}");
+            ExitCode::from(2)
+        }
+    }
 }

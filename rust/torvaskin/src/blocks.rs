@@ -1,6 +1,9 @@
 //! What is lent for an overlay, and how much.
 
-use std::ops::DerefMut;
+use alloc::boxed::Box;
+use alloc::vec;
+use alloc::vec::Vec;
+use core::ops::DerefMut;
 
 use crate::entry::{self, KindSize};
 use crate::{ElementKind, Reason, Refusal};
@@ -115,6 +118,23 @@ impl<'a> Shared<'a> {
         let [.., bytes] = cut(self.bytes, sizes.arenas);
         TextPart { spans: spans.as_chunks().0, bytes }
     }
+}
+
+impl Lent<'_> {
+    /// As much of the strings' part as so many new texts of so many bytes together may take: the words of their spans, and their bytes.
+    pub(crate) fn unused_texts(&mut self, texts: usize, text_bytes: usize) -> (&mut [u64], &mut [u8]) {
+        let sizes = self.shared().sizes();
+        let used = |place: usize| usize::try_from(self.counters[place]).unwrap_or(usize::MAX);
+        let before = Sizes { strings: used(6), string_bytes: used(7), ..sizes };
+        (unused(self.words, before.words(), texts.saturating_mul(2)), unused(self.bytes, before.bytes(), text_bytes))
+    }
+}
+
+/// From a place on so many of a block, or as many as there are.
+fn unused<T>(block: &mut [T], from: usize, most: usize) -> &mut [T] {
+    let rest = block.get_mut(from..).unwrap_or_default();
+    let len = rest.len();
+    &mut rest[..len.min(most)]
 }
 
 /// A block's parts of these sizes, and what lies behind them; what the block does not have is missing at its end.

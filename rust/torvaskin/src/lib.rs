@@ -6,6 +6,9 @@
 //! storage neither, panics or is undefined. What is refused has a number, which docs/REFUSALS.md explains: [`Refusal`]. A thread that calls it
 //! needs 128 KiB of stack.
 //!
+//! It runs on x86-64 Linux with 64-bit pointers. It needs `alloc` and not `std`: where storage and output are lent, nothing is allocated but by
+//! the calls that hand out or take in a [`Record`], a `Vec` or a `String`. rust/bare in the repository is a program without `std` and without a heap.
+//!
 //! ```
 //! use torvaskin::{ElementKind, Overlay, Reader, Sizes};
 //!
@@ -13,9 +16,8 @@
 //! let mut reader = Reader::new();
 //! let input = "open\tosmChange\nopen\tcreate\nopen\tway\tid=5\tversion=4\n\
 //!              empty\ttag\tk=maxweight\tv=7.5\nclose\nclose\nclose\n";
-//! for line in input.split_inclusive('\n') {
-//!     reader.event(&mut overlay, line)?;
-//! }
+//! // all whole lines in one call; a rest without its line feed would be handed to `event`
+//! assert_eq!(reader.events(&mut overlay, input)?, input.len());
 //! reader.end(&overlay)?;
 //! let bridge = overlay.get(ElementKind::Way, 5)?.expect("it was created");
 //! assert_eq!(bridge.tags, [("maxweight", "7.5")]);
@@ -36,7 +38,10 @@
 //! | `into_sorted()`: `upserts(kind)`, `way(n)`, `range_overlaps`, `Seek` | [`Overlay::live_ids`], [`Overlay::record`], [`lists`] |
 //! | an error, a panic | a [`Refusal`] |
 
+#![no_std]
 #![deny(missing_docs, unsafe_code, unsafe_op_in_unsafe_fn)]
+
+extern crate alloc;
 
 mod blocks;
 #[doc(hidden)]
@@ -56,3 +61,10 @@ pub use overlay::{Name, Overlay};
 pub use reader::{Reader, STAGED};
 pub use record::{Body, ElementKind, Handle, Member, Metadata, Record};
 pub use refusal::{Reason, Refusal};
+
+/// The version of this crate and of the library: that of the header for C. CHANGELOG.md says what each version changed.
+pub const VERSION: &str = env!("CARGO_PKG_VERSION");
+
+/// What the words, bytes and counters of an overlay and the words and staged bytes of a reader mean. It changes when they do: who saves them
+/// writes it beside them, as examples/saved.rs does.
+pub const STORED_FORM: u32 = 1;

@@ -1,7 +1,7 @@
 //! Ids in OSM order, and lookups in lists of them.
 
-use std::cmp::Ordering;
-use std::ops::Range;
+use core::cmp::Ordering;
+use core::ops::Range;
 
 pub use crate::entry::OsmIdKey;
 use crate::{Refusal, entry};

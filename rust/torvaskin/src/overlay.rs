@@ -1,5 +1,9 @@
 //! The overlay.
 
+use alloc::string::String;
+use alloc::vec;
+use alloc::vec::Vec;
+
 use crate::entry::{self, ArenaMeta, Number, Part, PushHead};
 use crate::record::{HAS_USER, HAS_VERSION, HIDDEN, PRESENT, cut};
 use crate::{Body, ElementKind, Handle, Metadata, Owned, Reason, Record, Refusal, Shared, Sizes, Storage};
@@ -29,6 +33,10 @@ pub struct Overlay<S = Owned> {
 pub trait Name: Copy + Sealed {
     /// Its handle.
     fn handle<S: Storage>(self, overlay: &mut Overlay<S>) -> Result<Handle, Refusal>;
+
+    /// Of a text its length.
+    #[doc(hidden)]
+    fn text_len(self) -> Option<usize>;
 }
 
 /// Names are these two: a name that made calls of its own could not be given back.
@@ -42,11 +50,19 @@ impl Name for Handle {
     fn handle<S: Storage>(self, _: &mut Overlay<S>) -> Result<Handle, Refusal> {
         Ok(self)
     }
+
+    fn text_len(self) -> Option<usize> {
+        None
+    }
 }
 
 impl Name for &str {
     fn handle<S: Storage>(self, overlay: &mut Overlay<S>) -> Result<Handle, Refusal> {
         overlay.intern(self)
+    }
+
+    fn text_len(self) -> Option<usize> {
+        Some(self.len())
     }
 }
 
@@ -171,7 +187,10 @@ impl<S: Storage> Overlay<S> {
     }
 
     /// Creates or replaces an element. Its names are taken in first (refused 3 or 13), then it is pushed (refused 17, 3, 10, 16, 12, 14 or
-    /// 15). Where it is refused, the names that were new are given back.
+    /// 15). Where it is refused, the names that were new are given back, and every lent byte is as it was.
+    ///
+    /// Each name that is a text is a call of its own, and each call tests the whole overlay first: a push with five of them tests it six
+    /// times. Names that are pushed often are taken in once, by [`Overlay::intern`], and pushed by their handles.
     ///
     /// A text that was read from an overlay cannot be pushed into the same one, which it would overlap:
     ///
@@ -182,10 +201,23 @@ impl<S: Storage> Overlay<S> {
     /// # Ok::<(), torvaskin::Refusal>(())
     /// ```
     pub fn push<N: Name>(&mut self, record: &Record<'_, N>) -> Result<(), Refusal> {
-        let counters = *self.storage.shared().counters;
+        let user = record.metadata.and_then(|metadata| metadata.user);
+        let roles = record.members().iter().map(|member| member.role);
+        let names = record.tags.iter().map(|tag| tag.0).chain(roles).chain(user).filter_map(Name::text_len);
+        let (texts, text_bytes) =
+            names.fold((0, 0_usize), |(texts, bytes), len| (texts + 1, bytes.saturating_add(len)));
+        // what new texts may write, and how much was in use
+        let mut lent = self.storage.lent();
+        let counters = *lent.counters;
+        let (words, bytes) = lent.unused_texts(texts, text_bytes);
+        let (words, bytes) = (words.to_vec(), bytes.to_vec());
         let pushed = self.push_parts(record);
         if pushed.is_err() {
-            *self.storage.lent().counters = counters;
+            let mut lent = self.storage.lent();
+            *lent.counters = counters;
+            let (unused_words, unused_bytes) = lent.unused_texts(texts, text_bytes);
+            unused_words.iter_mut().zip(words).for_each(|(word, before)| *word = before);
+            unused_bytes.iter_mut().zip(bytes).for_each(|(byte, before)| *byte = before);
         }
         pushed
     }
@@ -317,7 +349,7 @@ impl<S: Storage> Overlay<S> {
         let blocks = self.storage.shared();
         let part = entry::text(blocks, handle.0.into());
         Refusal::unless_taken(part.number, 0, 0)?;
-        let text = cut(blocks.texts().bytes, part.start, part.len).and_then(|text| std::str::from_utf8(text).ok());
+        let text = cut(blocks.texts().bytes, part.start, part.len).and_then(|text| core::str::from_utf8(text).ok());
         text.ok_or(Refusal::UNSOUND)
     }
 
@@ -443,7 +475,7 @@ impl<S: Storage> Overlay<S> {
     pub fn listing_into<'o>(&self, out: &'o mut [u8]) -> Result<&'o str, Refusal> {
         let listed = entry::listing(self.storage.shared(), out);
         Refusal::unless_taken(listed.number, 0, 0)?;
-        let listing = out.get(..listed.length).and_then(|listing| std::str::from_utf8(listing).ok());
+        let listing = out.get(..listed.length).and_then(|listing| core::str::from_utf8(listing).ok());
         listing.ok_or(Refusal::UNSOUND)
     }
 }

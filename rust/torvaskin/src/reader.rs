@@ -1,6 +1,7 @@
 //! Readers of event lines.
 
-use std::ops::DerefMut;
+use alloc::boxed::Box;
+use core::ops::DerefMut;
 
 use crate::entry::{self, EventReply};
 use crate::{Overlay, Refusal, Storage};
@@ -17,9 +18,7 @@ pub const STAGED: usize = 44_432;
 ///
 /// let mut overlay = Overlay::new(&Sizes::ROADLIST)?;
 /// let mut reader = Reader::new();
-/// for line in ["open\tosmChange\n", "open\tdelete\n", "empty\tway\tid=-4\tversion=2\n", "close\n", "close\n"] {
-///     reader.event(&mut overlay, line)?;
-/// }
+/// reader.events(&mut overlay, "open\tosmChange\nopen\tdelete\nempty\tway\tid=-4\tversion=2\nclose\nclose\n")?;
 /// reader.end(&overlay)?;
 /// assert_eq!(overlay.listing(100)?, "w\t-4\t-\t2\n");
 /// # Ok::<(), torvaskin::Refusal>(())

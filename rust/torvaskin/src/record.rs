@@ -1,5 +1,7 @@
 //! Elements: what is pushed, and what is read.
 
+use alloc::vec::Vec;
+
 use crate::blocks::TextPart;
 
 /// A node, a way or a relation.
@@ -242,13 +244,13 @@ fn read_tag<'a>(data: &mut &'a [u8], texts: TextPart<'a>) -> Option<(&'a str, &'
     let len = u32::from_le_bytes(take(data)?) as usize;
     let (value, rest) = data.split_at_checked(len)?;
     *data = rest;
-    Some((key, std::str::from_utf8(value).ok()?))
+    Some((key, core::str::from_utf8(value).ok()?))
 }
 
 /// The text of a handle.
 fn text<'a>(texts: TextPart<'a>, handle: [u8; 4]) -> Option<&'a str> {
     let [start, len] = *texts.spans.get(u32::from_le_bytes(handle) as usize)?;
-    std::str::from_utf8(cut(texts.bytes, start.try_into().ok()?, len.try_into().ok()?)?).ok()
+    core::str::from_utf8(cut(texts.bytes, start.try_into().ok()?, len.try_into().ok()?)?).ok()
 }
 
 /// So many bytes from a place on.

@@ -1,6 +1,6 @@
 //! What is refused, and why.
 
-use std::fmt;
+use core::fmt;
 
 /// The refusals: number, what happened, what helps.
 macro_rules! reasons {
@@ -64,17 +64,17 @@ reasons! {
         "In `roadlist`: the file is too large; ask for one with fewer roads or a shorter time. In a terminal: start with an empty overlay; its maker can lend a larger arena.";
     TooManyParts = 16, "One element has more than 256 tags, 2,000 refs, 2,000 members or 16,384 bytes of tag values.",
         "The element is larger than anything that is taken. Ask the supplier whether it can be divided.";
-    BadRecord = 17, "A program handed in a record that is not well formed: flags, a field that no flag covers, a handle that is not held, a type byte above 2, parts that are not as many as counted; or a kind's number that is none of 0, 1 and 2, in a reading too.",
-        "A fault of the calling program.";
-    Unfinished = 18, "The input ended before its last element was closed.",
-        "The file was cut off. Fetch it again.";
+    BadRecord = 17, "The terminal's program handed in a record that contradicts itself, or asked for a kind that does not exist.",
+        "A fault of that program: report it to its maker.";
+    Unfinished = 18, "The input ended before its last element was closed, or nothing was handed in.",
+        "The file was cut off, or it is empty. Fetch it again.";
     ShortOutput = 19, "The listing does not fit its output, or the ids of a kind do not fit the lists that are to hold them.",
         "In `roadlist`: the file is too large; ask for one with fewer roads or a shorter time. In a terminal: its maker can lend more output.";
     NotInOrder = 20, "A program handed in a list of ids that is not strictly in order.",
         "A fault of the calling program.";
     NoSuchNumber = 21, "A program asked for an id or a record by a number that its list does not have, or for a text by a handle that is not held.",
         "A fault of the calling program.";
-    Unsound = 22, "The stored data is damaged, or it was lent in blocks of other lengths than at set-up; of a record's reader, its bytes are cut short.",
+    Unsound = 22, "What the terminal has stored is damaged, or was handed over cut short.",
         "Do not use the listing. Start with an empty overlay, lent as at set-up, and read the files again.";
 }
 
@@ -149,4 +149,4 @@ impl fmt::Display for Refusal {
     }
 }
 
-impl std::error::Error for Refusal {}
+impl core::error::Error for Refusal {}

@@ -1,12 +1,18 @@
 //! The crate beside the repository's pages and samples.
 
+use std::fs::File;
 use std::path::{Path, PathBuf};
+use std::process::{Command, Stdio};
 
-use torvaskin::Reason;
+use torvaskin::{Reason, STORED_FORM, VERSION};
 
 #[allow(dead_code)]
 #[path = "../examples/terminal.rs"]
 mod terminal;
+
+#[allow(dead_code)]
+#[path = "../examples/saved.rs"]
+mod saved;
 
 fn repository() -> PathBuf {
     Path::new(env!("CARGO_MANIFEST_DIR")).join("../..")
@@ -53,4 +59,76 @@ fn samples() {
 fn readme() {
     let (page, example) = (text(&repository().join("README.md")), include_str!("../examples/listing.rs"));
     assert!(page.contains(&format!("```rust\n{example}```\n")));
+}
+
+/// The crate's version and stored form are those of the header, and CHANGELOG.md begins with the version.
+#[test]
+fn version() {
+    let header = text(&repository().join("include/torvaskin.h"));
+    assert!(header.contains(&format!("\n#define TVK_VERSION \"{VERSION}\"\n")));
+    assert!(header.contains(&format!("\n#define TVK_STORED_FORM {STORED_FORM}\n")));
+    let changes = text(&repository().join("CHANGELOG.md"));
+    assert_eq!(changes.lines().find_map(|line| line.strip_prefix("## ")), Some(VERSION));
+}
+
+/// An overlay that was saved is loaded, and is saved as it was; a file that is cut off or has a changed bit is not loaded.
+#[test]
+fn saved_overlay() {
+    let file = std::fs::read(repository().join(format!("c/saved.{STORED_FORM}"))).expect("a saved overlay");
+    let overlay = saved::loaded(&file).expect("it is whole");
+    let listing = overlay.listing(65_536).expect("it fits");
+    assert_eq!(listing, text(&repository().join("crates/roadlist/stdout")));
+    assert_eq!(saved::saved(&overlay).expect("sound"), file);
+    for len in 0..file.len() {
+        assert!(saved::loaded(&file[..len]).is_err());
+    }
+    for at in 0..8 * file.len() {
+        let mut changed = file.clone();
+        changed[at / 8] ^= 1 << (at % 8);
+        assert!(saved::loaded(&changed).is_err(), "bit {at}");
+    }
+    assert!(saved::loaded(&[&file[..], b"\n"].concat()).is_err());
+}
+
+/// What an example does with an input and an output: its status, what it prints and what it says.
+fn ran(example: &str, arguments: &[&str], input: &Path, output: Stdio) -> (Option<i32>, String, String) {
+    // beside the tests, where `cargo test` builds the examples
+    let tests = std::env::current_exe().expect("a path");
+    let program = tests.ancestors().nth(2).expect("a folder").join("examples").join(example);
+    let input = File::open(input).expect("an input");
+    let ran = Command::new(&program).args(arguments).stdin(input).stdout(output).stderr(Stdio::piped()).spawn();
+    let ran = ran.unwrap_or_else(|e| panic!("{}: {e}", program.display())).wait_with_output().expect("it ends");
+    let said = |bytes| String::from_utf8(bytes).expect("text");
+    (ran.status.code(), said(ran.stdout), said(ran.stderr))
+}
+
+/// Each example prints the listing; a refusal and an error of the operating system are a status and a sentence, and never a panic.
+#[test]
+fn faults() {
+    let (page, input) = (text(&repository().join("samples/example.out")), repository().join("samples/example.events"));
+    let kept = std::env::temp_dir().join(format!("torvaskin-saved-{}", std::process::id()));
+    let file = kept.to_str().expect("text");
+    assert_eq!(ran("saved", &[file], &input, Stdio::piped()), (Some(0), String::new(), String::new()));
+    for (example, arguments) in [("listing", &[][..]), ("terminal", &[]), ("saved", &["--list", file])] {
+        assert_eq!(ran(example, arguments, &input, Stdio::piped()), (Some(0), page.clone(), String::new()));
+        let full = File::options().write(true).open("/dev/full").expect("a full disk");
+        let (status, _, said) = ran(example, arguments, &input, full.into());
+        assert!(status == Some(2) && said.contains("No space left"), "{example}: {status:?} {said}");
+    }
+    let older = repository().join("samples/older_version.events");
+    for (example, arguments, printed) in
+        [("listing", &[][..], ""), ("terminal", &[], "refused\t12\t6\t4\n"), ("saved", &[file], "")]
+    {
+        let (status, output, said) = ran(example, arguments, &older, Stdio::piped());
+        assert_eq!((status, &output[..]), (Some(1), printed), "{example}");
+        assert!(said.starts_with("refused 12, line 6, version held 4: A change is older than"), "{example}: {said}");
+        let (status, output, said) = ran(example, arguments, &repository(), Stdio::piped());
+        assert_eq!((status, &output[..]), (Some(2), ""), "{example}");
+        assert!(said.contains("directory"), "{example}: {said}");
+    }
+    std::fs::remove_file(&kept).expect("it was kept");
+    let (status, _, said) = ran("terminal", &["none"], &input, Stdio::piped());
+    assert!(status == Some(2) && said.starts_with("none: "), "{said}");
+    let (status, _, said) = ran("saved", &["--list", "none"], &input, Stdio::piped());
+    assert!(status == Some(2) && said.starts_with("none: "), "{said}");
 }

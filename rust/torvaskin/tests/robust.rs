@@ -530,6 +530,48 @@ fn by_number(overlay: &Overlay, kind: ElementKind) {
     assert_eq!(read().expect("sound"), all().expect("sound"));
 }
 
+/// A push that is refused after its names were taken in leaves every lent byte, used or not, as it was.
+#[test]
+fn refused_pushes() {
+    let mut tally = Tally::default();
+    let full = Sizes { ids: [1; 3], arenas: [150; 3], strings: 7, string_bytes: 30 };
+    let user = Metadata { user: Some("a user"), ..Metadata::default() };
+    let way = |id| Record::way(id, [1]).metadata(user).tag("first", "v").tag("second", "w");
+    let long = "v".repeat(200);
+    for (fill, number) in
+        [(0x5a, 0), (0x5a, 3), (0xff, 10), (0, 12), (0x5a, 13), (7, 13), (0xff, 14), (0x11, 15), (0x5a, 17)]
+    {
+        let storage = full.allocate().expect("within limits");
+        let mut overlay = Overlay::set_up(storage, &full).expect("an empty overlay");
+        overlay.push(&Record::way(5, []).version(4).tag("held", "")).expect("room");
+        let mut storage = overlay.into_storage();
+        // whatever lies behind what is in use
+        storage.words[9 + 4..].fill(u64::from_le_bytes([fill; 8]));
+        storage.bytes[150 + 57..300].fill(fill);
+        storage.bytes[450 + 4..].fill(fill);
+        let mut overlay = Overlay::kept(storage.clone());
+        let pushed = match number {
+            3 => overlay.push(&way(5).version(5).tag("\u{1}", "")),
+            10 => overlay.push(&Record::node(1, 1_000_000_000, 0).metadata(user).tag("first", "")),
+            12 => overlay.push(&way(5).version(3)),
+            13 if fill == 7 => overlay.push(&way(5).version(5).tag("one that is longer than there is room", "")),
+            13 => overlay.push(&way(5).version(5).tag("a", "").tag("b", "").tag("c", "").tag("d", "")),
+            14 => overlay.push(&way(6)),
+            15 => overlay.push(&way(5).version(5).tag("a", &long)),
+            17 => overlay.push(&Record {
+                id: 1,
+                body: Body::Way { refs: vec![] },
+                metadata: None,
+                tags: vec![(Handle(9), "v")],
+            }),
+            _ => overlay.push(&way(5).version(5)),
+        };
+        assert_eq!(tally.count(&pushed), number);
+        assert!((overlay.into_storage() == storage) == (number != 0), "{number}");
+    }
+    tally.print("refused pushes");
+}
+
 /// Outputs of every length up to past the listing's.
 #[test]
 fn outputs() {
