@@ -1,6 +1,6 @@
 -- The pieces of the line one after the other.
-use Rattle.report.proofs.Reports.{line_printed}
-use Rattle.report.proofs.RefusedLinePrintable.print.Goals as goal
+use Rattle.roadlist_report.proofs.Reports.{line_printed}
+use Rattle.roadlist_report.proofs.RefusedLinePrintable.print.Goals as goal
 
 pub returns : goal.returns
 returns c =

@@ -4,8 +4,8 @@ use mir.Facts.{to_z-of_z}
 use mir.Syntax.{w32}
 use mir.Val.{SFits}
 use Rattle.text.specs.Escape.{escape, escaped}
-use Rattle.report.proofs.Reports.{known_printed, none_printed}
-use Rattle.report.proofs.put_held.Goals as goal
+use Rattle.roadlist_report.proofs.Reports.{known_printed, none_printed}
+use Rattle.roadlist_report.proofs.put_held.Goals as goal
 
 pub returns-in-Regression : goal.returns-in-Regression
 returns-in-Regression c =

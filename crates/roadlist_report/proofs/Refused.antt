@@ -24,7 +24,7 @@ use Rattle.kind.specs.declared.Kind.{Kind}
 use Rattle.kind.specs.declared.Kind.TheVariants.{Node, Way, Relation}
 use Rattle.listing_page.specs.Summary.{PageRow, Table}
 use Rattle.listing_page.specs.Listing.{kind_field, row_fields, listing}
-use Rattle.report.specs.Report.{held_field, refused_fields, refused_line}
+use Rattle.roadlist_report.specs.Report.{held_field, refused_fields, refused_line}
 
 -- ---- numbers
 

@@ -5,7 +5,7 @@ ghost use Rattle.std.specs.Prelude.{◌≡◌, [], ◌∷◌};
 ghost use Rattle.print.specs.Print.{tab, line_pieces};
 ghost use Rattle.print.specs.Piece.{whole_over};
 ghost use Rattle.print.specs.Printer.{Prints};
-ghost use Rattle.report.specs.Report.{held_field, refused_fields, refused_line};
+ghost use Rattle.roadlist_report.specs.Report.{held_field, refused_fields, refused_line};
 
 use print::{Escaped, Integer, Printable, Printer};
 use refusal::{Refusal, Reply};

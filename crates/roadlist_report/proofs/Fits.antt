@@ -17,8 +17,8 @@ use Rattle.line.specs.Line.{tabbed, line}
 use Rattle.line.specs.Decimal.{integer_text}
 use Rattle.print.proofs.Pieces.{digits_fit}
 use Rattle.print.specs.Piece.{whole_over}
-use Rattle.report.specs.Report.{held_field, refused_line}
-use Rattle.report.proofs.Refused.{numbered, held_known, held_none}
+use Rattle.roadlist_report.specs.Report.{held_field, refused_line}
+use Rattle.roadlist_report.proofs.Refused.{numbered, held_known, held_none}
 
 integer_fits : (z : ℤ) → SFits w32 z → length (integer_text z) ≤ 11
 unfolding integer_text

@@ -14,8 +14,8 @@ use Rattle.print.specs.Printer.{Prints}
 use Rattle.print.specs.declared.Printer.{Printer}
 use Rattle.print.proofs.Pieces.{then_printed}
 use Rattle.print.proofs.Prints.{line_pieces_lem}
-use Rattle.report.proofs.Refused.{held_known, held_none, not_12}
-use Rattle.report.specs.Report.{held_field, refused_fields, refused_line}
+use Rattle.roadlist_report.proofs.Refused.{held_known, held_none, not_12}
+use Rattle.roadlist_report.specs.Report.{held_field, refused_fields, refused_line}
 
 -- ---- HELD
 
