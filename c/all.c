@@ -440,6 +440,8 @@ static void readings(void)
                                   "r\t20\t+\t1\t9\t1\t0\t0\t0\t\t1\t1\t-20\tfrom\t0\nr\t21\t+\t1\t9\t1\t0\t0\t0\t\t2\t1\t-20\tfrom\t2\t21\t\t1\tname\tT\n"
                                   "r\t22\t+\t1\t9\t1\t0\t0\t0\t\t0\t1\tname\t123456\n";
     memset(page, 'x', sizeof page);
+    SAME(tvk_overlay_listing_length(&o).number, 0);
+    SAME(tvk_overlay_listing_length(&o).length, sizeof listing - 1);
     SAME(tvk_overlay_listing(&o, page, sizeof listing - 2).number, TVK_SHORT_OUTPUT);
     SAME(page[0], 'x');
     SAME(tvk_overlay_listing(&o, NULL, 512).number, TVK_SHORT_OUTPUT);
@@ -542,6 +544,8 @@ static void refused(void)
         SAME(tvk_overlay_deleted_ids(&o, k, ids, versions, 8).number, TVK_UNSOUND);
     }
     SAME(tvk_overlay_listing(&o, page, sizeof page).number, TVK_UNSOUND);
+    SAME(tvk_overlay_listing_length(&o).number, TVK_UNSOUND);
+    SAME(tvk_overlay_listing_length(&o).length, 0);
     SAME(tvk_reader_event(&second, &o, document, 15).number, TVK_UNSOUND);
     SAME(tvk_reader_events(&second, &o, document, sizeof document - 1).number, TVK_UNSOUND);
     SAME(tvk_reader_end(&second, &o).number, TVK_UNSOUND);

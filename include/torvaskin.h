@@ -369,6 +369,10 @@ struct tvk_cursor tvk_seek_find(const uint64_t *ids, size_t ids_len, size_t plac
 struct tvk_listing_reply tvk_listing(const uint64_t *words, size_t words_len, const uint8_t *bytes, size_t bytes_len, const uint64_t counters[TVK_COUNTERS], uint8_t *out,
                                      size_t out_len);
 
+/* How long the listing is, so that enough can be lent: 22, or 0 with its length. `tvk_listing` writes it into an output of that many bytes or more, and refuses a shorter one 19. It writes
+   nothing. 19 where the listing has more than 2^64 - 1 bytes, for which no output is long enough. */
+struct tvk_listing_reply tvk_listing_length(const uint64_t *words, size_t words_len, const uint8_t *bytes, size_t bytes_len, const uint64_t counters[TVK_COUNTERS]);
+
 /* ==== wrappers: what is lent, in a struct */
 
 /* An overlay: its two blocks, which lie somewhere else, and its counters. A block whose pointer is NULL counts as empty. */
@@ -534,6 +538,11 @@ static inline struct tvk_number tvk_overlay_deleted_ids(const struct tvk_overlay
 static inline struct tvk_listing_reply tvk_overlay_listing(const struct tvk_overlay *o, void *out, size_t len)
 {
     return tvk_listing(TVK_LENT(o), TVK_SOME_BYTES((uint8_t *)out, len));
+}
+
+static inline struct tvk_listing_reply tvk_overlay_listing_length(const struct tvk_overlay *o)
+{
+    return tvk_listing_length(TVK_LENT(o));
 }
 
 /* ---- a reader */

@@ -89,7 +89,7 @@ fn digits_for_signs(line: &[u8]) -> Vec<u8> {
 }
 
 /// Each fault, with the comparisons that must find it, by their numbers above.
-const FAULTS: [(&str, Fault, &[usize]); 34] = [
+const FAULTS: [(&str, Fault, &[usize]); 35] = [
     (
         "refuses all",
         |_, before, lent, answer| {
@@ -265,6 +265,15 @@ const FAULTS: [(&str, Fault, &[usize]); 34] = [
                 && let Some(byte) = output.get_mut(*len)
             {
                 *byte = 0;
+            }
+        },
+        &[1, 2, 3, 6, 8, 9],
+    ),
+    (
+        "a listing's length of one byte more",
+        |call, _, _, answer| {
+            if let (Call::ListingLength, Answer::Number { number: 0, value }) = (call, answer) {
+                *value += 1;
             }
         },
         &[1, 2, 3, 6, 8, 9],

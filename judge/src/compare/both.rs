@@ -156,8 +156,9 @@ impl<'a> Both<'a> {
         Ok(number)
     }
 
-    /// The listing in outputs that are longer, exactly long enough, and one byte short.
+    /// How long the listing is, and the listing in outputs that are longer, exactly long enough, and one byte short.
     pub(super) fn listing(&mut self) -> Result<(), String> {
+        self.read(&Call::ListingLength)?;
         let len = self.rust.overlay.listing().len();
         for size in [Some(len), Some(len + 9), len.checked_sub(1)] {
             if let Some(size) = size {

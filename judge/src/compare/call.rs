@@ -364,6 +364,7 @@ pub enum Call {
     End(usize),
     /// Into so many bytes.
     Listing(usize),
+    ListingLength,
 }
 
 impl Call {
@@ -394,7 +395,7 @@ pub enum Answer {
         number: u32,
         held: i32,
     },
-    /// A handle, a count, the bits of an id, a version or 2^32 for none, 1 or 0.
+    /// A handle, a count, a length, the bits of an id, a version or 2^32 for none, 1 or 0.
     Number {
         number: u32,
         value: u64,

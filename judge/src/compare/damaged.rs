@@ -607,6 +607,7 @@ fn groups() -> Vec<Vec<Call>> {
     groups.extend(bad_acts());
     groups.extend(KINDS.into_iter().flat_map(good_acts));
     groups.push([0, 300, 700, 100_000].map(Call::Listing).into());
+    groups.push(vec![Call::ListingLength]);
     groups
 }
 

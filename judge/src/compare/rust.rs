@@ -161,6 +161,7 @@ impl Rust {
             Call::Events(..) => panic!("its lines are given one by one"),
             Call::End(reader) => stopped(self.readers[*reader].end()),
             Call::Listing(size) => Answer::listing(*size, Ok(overlay.listing())),
+            Call::ListingLength => Answer::value(Ok(overlay.listing().len() as u64)),
         }
     }
 
