@@ -302,9 +302,9 @@ struct tvk_reply tvk_delete(uint64_t *words, size_t words_len, const uint8_t *by
 struct tvk_event_reply tvk_event(uint64_t *words, size_t words_len, uint8_t *bytes, size_t bytes_len, uint64_t counters[TVK_COUNTERS], uint64_t reader[TVK_READER_WORDS],
                                  uint8_t parts[TVK_STAGED_BYTES], const uint8_t *line, size_t line_len);
 
-/* The whole lines of a run as events one after another, up to the first that is refused: what tvk_event would leave and reply, with one test for 22. What follows the bytes
-   taken is the refused line, or where nothing is refused the unfinished one: hand it over again with what comes after it. A run without a line feed is 0, with nothing
-   taken and nothing changed, but for words that are no reader's: 22. */
+/* A run of lines. 22, or what stopped the reader, whatever the run holds. Then its whole lines as events one after another, up to the first that is refused: what tvk_event would
+   leave and reply, with one test for 22; a run that is refused has taken in the lines before. What follows the bytes taken is the refused line, or where nothing is refused the
+   unfinished one: hand it over again with what comes after it. An unfinished line of more than TVK_MAX_LINE bytes is refused 2 at once. */
 struct tvk_events_reply tvk_events(uint64_t *words, size_t words_len, uint8_t *bytes, size_t bytes_len, uint64_t counters[TVK_COUNTERS], uint64_t reader[TVK_READER_WORDS],
                                    uint8_t parts[TVK_STAGED_BYTES], const uint8_t *run, size_t run_len);
 

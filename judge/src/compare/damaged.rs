@@ -6,6 +6,7 @@ use super::call::{Call, DELETED, Given, Head, Lines, NO_FLOOR, Port, Push, Stora
 use super::words::{Words, is_sound, rank, record_bytes};
 use super::{Compared, Tally};
 use crate::answer::{KINDS, Kind, Meta};
+use crate::lines::LINE_MAX;
 use crate::random::Random;
 
 /// Which values a byte is changed to.
@@ -644,7 +645,8 @@ fn reader_calls() -> Vec<Vec<Call>> {
     ];
     let event = |line: &str| vec![Call::Event(0, line.as_bytes().to_vec())];
     let mut calls: Vec<Vec<Call>> = lines.into_iter().map(event).collect();
-    let runs = ["", "close", "close\nother\nclose", "other\nbad\nclose\n"];
+    let long = format!("other\n{}", "x".repeat(LINE_MAX + 1));
+    let runs = ["", "close", "close\nother\nclose", "other\nbad\nclose\n", &long[..], &long[6..]];
     calls.push(runs.map(|run| Call::Events(0, run.into())).into());
     calls.push(vec![Call::End(0)]);
     calls

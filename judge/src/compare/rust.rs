@@ -116,6 +116,11 @@ impl Rust {
         stopped(reader.line(&mut self.overlay, body, ended, Change::None, Some(sizes)))
     }
 
+    /// What a reader that is stopped repeats; 0 where it goes on.
+    pub fn mark(&self, reader: usize) -> Answer {
+        stopped(self.readers[reader].stop().map_or(Ok(()), Err))
+    }
+
     /// In blocks of so many words and bytes.
     pub fn set_up(&mut self, sizes: &Given, words: usize, bytes: usize, setting: u64) -> Answer {
         if !sizes_fit(sizes, words, bytes) {

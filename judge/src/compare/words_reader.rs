@@ -157,12 +157,10 @@ pub(super) fn event(words: &Words, lent: &mut Storage, n: usize, line: &[u8]) ->
     }
 }
 
-/// Words that are no reader's are told first: a run without a whole line tests nothing else.
+/// A run: "each call .., first", so 22 and the stop mark are told whatever it holds.
 pub(super) fn events(words: &Words, lent: &mut Storage, n: usize, run: &[u8]) -> Answer {
-    if Reading::of(&lent.readers[n].words).is_none() {
-        return Answer::Events { number: 22, held: 0, line: 0, taken: 0 };
-    }
-    in_turn(run, |line| event(words, lent, n, line))
+    let first = going(words, lent, n).err().unwrap_or_else(|| answer((0, 0, 0)));
+    in_turn(run, first, |line| event(words, lent, n, line))
 }
 
 /// "18 level is not Done". It stops nothing and changes nothing.
