@@ -548,6 +548,8 @@ static void refused(void)
     SAME(tvk_overlay_listing_length(&o).length, 0);
     SAME(tvk_reader_event(&second, &o, document, 15).number, TVK_UNSOUND);
     SAME(tvk_reader_events(&second, &o, document, sizeof document - 1).number, TVK_UNSOUND);
+    SAME(tvk_reader_events(&second, &o, document, 5).number, TVK_UNSOUND);
+    SAME(tvk_reader_events(&second, &o, NULL, 0).number, TVK_UNSOUND);
     SAME(tvk_reader_end(&second, &o).number, TVK_UNSOUND);
     SAME(second.words[0] + second.words[15] + second.words[16], 0);
     SAME(kept(), 1);
@@ -595,6 +597,7 @@ static void other_blocks(void)
 
 static void readers(void)
 {
+    static char line[6 + TVK_MAX_LINE + 1];
     const size_t len = sizeof document - 1;
     char page[64];
 
@@ -633,9 +636,22 @@ static void readers(void)
     run = tvk_reader_events(&second, &o, "close\n", 6);
     SAME(run.number, TVK_REGRESSION);
     SAME(run.taken, 0);
+    SAME(tvk_reader_events(&second, &o, NULL, 0).number, TVK_REGRESSION);
     SAME(tvk_reader_end(&second, &o).held, 3);
     tvk_reader_clear(&reader);
     SAME(tvk_reader_events(&reader, &o, document, len).taken, len);
+
+    /* an unfinished line, as long as a line may be and longer, behind one that is taken */
+    memset(line, 'x', sizeof line);
+    memcpy(line, "other\n", 6);
+    tvk_reader_clear(&second);
+    run = tvk_reader_events(&second, &o, line, sizeof line - 1);
+    SAME(run.number, 0);
+    SAME(run.taken, 6);
+    run = tvk_reader_events(&second, &o, line, sizeof line);
+    SAME(run.number, TVK_LONG_LINE);
+    SAME(run.line, 3);
+    SAME(run.taken, 6);
 
     /* words that are no reader's */
     reader.words[0] = 7;
