@@ -4,9 +4,10 @@ use mathlib.Core.Bool.{true}
 use Rattle.base.specs.Bytes.{all}
 use Rattle.base.specs.Options.{bind}
 use Rattle.trial.specs.Rows.{right, rows}
+use Rattle.trial.specs.Stops.{leaves_number, stop_rows}
 
--- one computation, with every definition open that the rows go through
-pub claim : all right rows ≡ true
+-- every definition that the rows go through
+unfoldable open_all : Unit {0}
 unfolding Rattle.base.specs.Options.bind
     Rattle.base.specs.Bytes.both Rattle.base.specs.Bytes.either Rattle.base.specs.Bytes.is_digit Rattle.base.specs.Bytes.all Rattle.base.specs.Bytes.same
     Rattle.kind.specs.Kind.of_number Rattle.kind.specs.Kind.same_kind
@@ -57,4 +58,15 @@ unfolding Rattle.base.specs.Options.bind
     Rattle.listing.specs.Call.page_over Rattle.listing.specs.Call.listing_on
     Rattle.trial.specs.Rows.all_agree Rattle.trial.specs.Rows.right
     Rattle.calls.specs.Ask.after
+    Rattle.trial.specs.Stops.leaves_number
+open_all = tt
+
+-- one computation
+pub claim : all right rows ≡ true
+unfolding open_all
 claim = refl
+
+-- the stop marks are left, each of them
+pub stops_claim : all leaves_number stop_rows ≡ true
+unfolding open_all
+stops_claim = refl
