@@ -661,6 +661,13 @@ static void readers(void)
     SAME(tvk_reader_event(&reader, &o, "close\n", 6).number, TVK_UNSOUND);
     SAME(tvk_reader_end(&reader, &o).number, TVK_UNSOUND);
     SAME(reader.words[0], 7);
+
+    /* a stop mark that no event leaves */
+    tvk_reader_clear(&reader);
+    reader.words[16] = TVK_BAD_RECORD;
+    SAME(tvk_reader_event(&reader, &o, document, 15).number, TVK_UNSOUND);
+    SAME(tvk_reader_end(&reader, &o).number, TVK_UNSOUND);
+    SAME(reader.words[16], TVK_BAD_RECORD);
 }
 
 /* ---- the least that may be lent, by the macro: no bytes at all */

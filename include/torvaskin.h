@@ -15,7 +15,8 @@
    refused, with 1 by set-up and with 22 by every later call. So a saved overlay (its words, bytes and counters) says its own sizes: tvk_sizes_in reads them from the counters,
    tvk_sizes_words and tvk_sizes_bytes say how long the blocks are. There is no lending a longer block later: a new overlay is set up and filled again.
 
-   A reader lives in two arrays more: TVK_READER_WORDS words, all 0 for a fresh reader, and TVK_STAGED_BYTES bytes for the element that it is in.
+   A reader lives in two arrays more: TVK_READER_WORDS words, all 0 for a fresh reader, and TVK_STAGED_BYTES bytes for the element that it is in. In word 16 stands what
+   stopped it, 2 to 16, or 0: words with another number there are no reader's.
 
    What a caller owes at every call, since no proof sees it:
 

@@ -53,4 +53,5 @@ unfolding Rattle.base.specs.Options.bind
     Rattle.listing.specs.Call.page_over Rattle.listing.specs.Call.listing_on
     Rattle.trial.specs.Rows.all_agree Rattle.trial.specs.Rows.right
     Rattle.calls.specs.Ask.after
+    Rattle.trial.specs.Stops.leaves_number
 opened = true

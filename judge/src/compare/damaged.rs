@@ -711,7 +711,7 @@ fn small_overlays() -> [Storage; 4] {
 }
 
 /// Small overlays with a reader: fresh, in elements of each kind with parts, in a leaf, in a delete
-/// section, between elements, at the end, stopped.
+/// section, between elements, at the end, stopped with 12 and with 5.
 fn small_readers() -> Vec<Storage> {
     let way = "open\tway\tid=-1\tversion=4\tuser=ka\nempty\tnd\tref=7\nempty\ttag\tk=k\tv=é\nempty\tnd\tref=-8\n";
     let lists = [
@@ -724,6 +724,7 @@ fn small_readers() -> Vec<Storage> {
         format!("open\tosmChange\nopen\tcreate\n{way}close\n"),
         "open\tosmChange\nclose\n".into(),
         "open\tosmChange\nopen\tmodify\nempty\tway\tid=1\tversion=1\n".into(),
+        "open\tosmChange\nopen\tosmChange\n".into(),
     ];
     let make = |(n, lines): (usize, String)| {
         let mut lent = small(n % 2 == 1, 0);
@@ -735,7 +736,7 @@ fn small_readers() -> Vec<Storage> {
         for line in lines.split_inclusive('\n') {
             let event = Call::Event(0, line.into());
             let number = Words::default().call(&mut lent, &event).number();
-            assert!(number == 0 || (n, number) == (8, 12), "{n} {number} {line}");
+            assert!(number == 0 || [(8, 12), (9, 5)].contains(&(n, number)), "{n} {number} {line}");
         }
         lent
     };
