@@ -440,6 +440,8 @@ static void readings(void)
                                   "r\t20\t+\t1\t9\t1\t0\t0\t0\t\t1\t1\t-20\tfrom\t0\nr\t21\t+\t1\t9\t1\t0\t0\t0\t\t2\t1\t-20\tfrom\t2\t21\t\t1\tname\tT\n"
                                   "r\t22\t+\t1\t9\t1\t0\t0\t0\t\t0\t1\tname\t123456\n";
     memset(page, 'x', sizeof page);
+    SAME(tvk_overlay_listing_length(&o).number, 0);
+    SAME(tvk_overlay_listing_length(&o).length, sizeof listing - 1);
     SAME(tvk_overlay_listing(&o, page, sizeof listing - 2).number, TVK_SHORT_OUTPUT);
     SAME(page[0], 'x');
     SAME(tvk_overlay_listing(&o, NULL, 512).number, TVK_SHORT_OUTPUT);
@@ -542,8 +544,12 @@ static void refused(void)
         SAME(tvk_overlay_deleted_ids(&o, k, ids, versions, 8).number, TVK_UNSOUND);
     }
     SAME(tvk_overlay_listing(&o, page, sizeof page).number, TVK_UNSOUND);
+    SAME(tvk_overlay_listing_length(&o).number, TVK_UNSOUND);
+    SAME(tvk_overlay_listing_length(&o).length, 0);
     SAME(tvk_reader_event(&second, &o, document, 15).number, TVK_UNSOUND);
     SAME(tvk_reader_events(&second, &o, document, sizeof document - 1).number, TVK_UNSOUND);
+    SAME(tvk_reader_events(&second, &o, document, 5).number, TVK_UNSOUND);
+    SAME(tvk_reader_events(&second, &o, NULL, 0).number, TVK_UNSOUND);
     SAME(tvk_reader_end(&second, &o).number, TVK_UNSOUND);
     SAME(second.words[0] + second.words[15] + second.words[16], 0);
     SAME(kept(), 1);
@@ -591,6 +597,7 @@ static void other_blocks(void)
 
 static void readers(void)
 {
+    static char line[6 + TVK_MAX_LINE + 1];
     const size_t len = sizeof document - 1;
     char page[64];
 
@@ -629,9 +636,22 @@ static void readers(void)
     run = tvk_reader_events(&second, &o, "close\n", 6);
     SAME(run.number, TVK_REGRESSION);
     SAME(run.taken, 0);
+    SAME(tvk_reader_events(&second, &o, NULL, 0).number, TVK_REGRESSION);
     SAME(tvk_reader_end(&second, &o).held, 3);
     tvk_reader_clear(&reader);
     SAME(tvk_reader_events(&reader, &o, document, len).taken, len);
+
+    /* an unfinished line, as long as a line may be and longer, behind one that is taken */
+    memset(line, 'x', sizeof line);
+    memcpy(line, "other\n", 6);
+    tvk_reader_clear(&second);
+    run = tvk_reader_events(&second, &o, line, sizeof line - 1);
+    SAME(run.number, 0);
+    SAME(run.taken, 6);
+    run = tvk_reader_events(&second, &o, line, sizeof line);
+    SAME(run.number, TVK_LONG_LINE);
+    SAME(run.line, 3);
+    SAME(run.taken, 6);
 
     /* words that are no reader's */
     reader.words[0] = 7;
@@ -641,6 +661,13 @@ static void readers(void)
     SAME(tvk_reader_event(&reader, &o, "close\n", 6).number, TVK_UNSOUND);
     SAME(tvk_reader_end(&reader, &o).number, TVK_UNSOUND);
     SAME(reader.words[0], 7);
+
+    /* a stop mark that no event leaves */
+    tvk_reader_clear(&reader);
+    reader.words[16] = TVK_BAD_RECORD;
+    SAME(tvk_reader_event(&reader, &o, document, 15).number, TVK_UNSOUND);
+    SAME(tvk_reader_end(&reader, &o).number, TVK_UNSOUND);
+    SAME(reader.words[16], TVK_BAD_RECORD);
 }
 
 /* ---- the least that may be lent, by the macro: no bytes at all */

@@ -33,7 +33,7 @@ int main(void)
     } while (got != 0);
     if (ferror(stdin))
         return perror("standard input"), 2;
-    if (held != 0) /* the rest has no line feed: a full buffer is too long a line, and less is no event line */
+    if (held != 0) /* the rest has no line feed, so it is no event line */
         last = tvk_reader_event(&reader, &roads, run, held);
     if (last.number == 0)
         last = tvk_reader_end(&reader, &roads);

@@ -15,7 +15,8 @@
    refused, with 1 by set-up and with 22 by every later call. So a saved overlay (its words, bytes and counters) says its own sizes: tvk_sizes_in reads them from the counters,
    tvk_sizes_words and tvk_sizes_bytes say how long the blocks are. There is no lending a longer block later: a new overlay is set up and filled again.
 
-   A reader lives in two arrays more: TVK_READER_WORDS words, all 0 for a fresh reader, and TVK_STAGED_BYTES bytes for the element that it is in.
+   A reader lives in two arrays more: TVK_READER_WORDS words, all 0 for a fresh reader, and TVK_STAGED_BYTES bytes for the element that it is in. In word 16 stands what
+   stopped it, 2 to 16, or 0: words with another number there are no reader's.
 
    What a caller owes at every call, since no proof sees it:
 
@@ -302,9 +303,9 @@ struct tvk_reply tvk_delete(uint64_t *words, size_t words_len, const uint8_t *by
 struct tvk_event_reply tvk_event(uint64_t *words, size_t words_len, uint8_t *bytes, size_t bytes_len, uint64_t counters[TVK_COUNTERS], uint64_t reader[TVK_READER_WORDS],
                                  uint8_t parts[TVK_STAGED_BYTES], const uint8_t *line, size_t line_len);
 
-/* The whole lines of a run as events one after another, up to the first that is refused: what tvk_event would leave and reply, with one test for 22. What follows the bytes
-   taken is the refused line, or where nothing is refused the unfinished one: hand it over again with what comes after it. A run without a line feed is 0, with nothing
-   taken and nothing changed, but for words that are no reader's: 22. */
+/* A run of lines. 22, or what stopped the reader, whatever the run holds. Then its whole lines as events one after another, up to the first that is refused: what tvk_event would
+   leave and reply, with one test for 22; a run that is refused has taken in the lines before. What follows the bytes taken is the refused line, or where nothing is refused the
+   unfinished one: hand it over again with what comes after it. An unfinished line of more than TVK_MAX_LINE bytes is refused 2 at once. */
 struct tvk_events_reply tvk_events(uint64_t *words, size_t words_len, uint8_t *bytes, size_t bytes_len, uint64_t counters[TVK_COUNTERS], uint64_t reader[TVK_READER_WORDS],
                                    uint8_t parts[TVK_STAGED_BYTES], const uint8_t *run, size_t run_len);
 
@@ -368,6 +369,10 @@ struct tvk_cursor tvk_seek_find(const uint64_t *ids, size_t ids_len, size_t plac
 /* Writes the listing at the start of the output: 22, 19, or 0 with its length. What lies past it is left as it is. */
 struct tvk_listing_reply tvk_listing(const uint64_t *words, size_t words_len, const uint8_t *bytes, size_t bytes_len, const uint64_t counters[TVK_COUNTERS], uint8_t *out,
                                      size_t out_len);
+
+/* How long the listing is, so that enough can be lent: 22, or 0 with its length. `tvk_listing` writes it into an output of that many bytes or more, and refuses a shorter one 19. It writes
+   nothing. 19 where the listing has more than 2^64 - 1 bytes, for which no output is long enough. */
+struct tvk_listing_reply tvk_listing_length(const uint64_t *words, size_t words_len, const uint8_t *bytes, size_t bytes_len, const uint64_t counters[TVK_COUNTERS]);
 
 /* ==== wrappers: what is lent, in a struct */
 
@@ -534,6 +539,11 @@ static inline struct tvk_number tvk_overlay_deleted_ids(const struct tvk_overlay
 static inline struct tvk_listing_reply tvk_overlay_listing(const struct tvk_overlay *o, void *out, size_t len)
 {
     return tvk_listing(TVK_LENT(o), TVK_SOME_BYTES((uint8_t *)out, len));
+}
+
+static inline struct tvk_listing_reply tvk_overlay_listing_length(const struct tvk_overlay *o)
+{
+    return tvk_listing_length(TVK_LENT(o));
 }
 
 /* ---- a reader */

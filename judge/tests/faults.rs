@@ -89,7 +89,7 @@ fn digits_for_signs(line: &[u8]) -> Vec<u8> {
 }
 
 /// Each fault, with the comparisons that must find it, by their numbers above.
-const FAULTS: [(&str, Fault, &[usize]); 34] = [
+const FAULTS: [(&str, Fault, &[usize]); 37] = [
     (
         "refuses all",
         |_, before, lent, answer| {
@@ -188,6 +188,30 @@ const FAULTS: [(&str, Fault, &[usize]); 34] = [
         &[8, 14],
     ),
     (
+        "tests nothing before a run without a line",
+        |call, before, lent, answer| {
+            if let Call::Events(_, run) = call
+                && !run.contains(&b'\n')
+                && run.len() <= 16_384
+            {
+                *lent = before.clone();
+                *answer = Answer::Events { number: 0, held: 0, line: 0, taken: 0 };
+            }
+        },
+        &[9, 14],
+    ),
+    (
+        "leaves a rest that is too long for a line",
+        |call, before, lent, answer| {
+            if let Call::Events(n, run) = call {
+                let whole = run.iter().rposition(|byte| *byte == b'\n').map_or(0, |at| at + 1);
+                *lent = before.clone();
+                *answer = Words::default().call(lent, &Call::Events(*n, run[..whole].to_vec()));
+            }
+        },
+        &[9, 14],
+    ),
+    (
         "clears the arenas at set-up",
         |call, _, lent, answer| {
             if matches!(call, Call::SetUp(..)) && answer.number() == 0 {
@@ -265,6 +289,15 @@ const FAULTS: [(&str, Fault, &[usize]); 34] = [
                 && let Some(byte) = output.get_mut(*len)
             {
                 *byte = 0;
+            }
+        },
+        &[1, 2, 3, 6, 8, 9],
+    ),
+    (
+        "a listing's length of one byte more",
+        |call, _, _, answer| {
+            if let (Call::ListingLength, Answer::Number { number: 0, value }) = (call, answer) {
+                *value += 1;
             }
         },
         &[1, 2, 3, 6, 8, 9],

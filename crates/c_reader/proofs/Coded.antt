@@ -8,11 +8,12 @@ use native.Mathlib.Omega.{arith}
 use lib.Dec.{ltb, leb, eqb}
 use borrow.Author.Tests.{lt-ltb, le-ltb, lt-leb, eqb-true, ne_eqb}
 use Rattle.base.specs.Bytes.{both, either}
-use Rattle.base.proofs.Split.{by_bool, by_eq, clash, no, both_left, both_right, both_of, either_left, by_either}
+use Rattle.base.proofs.Split.{by_bool, by_eq, clash, no, both_right, both_of, either_left, either_right, by_either}
 use Rattle.kind.specs.Kind.{of_number, Numbered}
 use Rattle.kind.specs.declared.Kind.{Kind}
 use Rattle.kind.specs.declared.UnknownKind.{UnknownKind}
-use Rattle.c_reader.specs.Words.{if_coded, kind_in, stop_coded}
+use Rattle.reader.specs.State.{stops_by}
+use Rattle.c_reader.specs.Words.{if_coded, kind_in, refusal_numbered, stop_coded}
 use Rattle.c_reader.proofs.Fits.{held_within}
 
 module _ (n k : ℕ) {E : Type 0} where
@@ -56,13 +57,13 @@ module _ (n l h : ℕ) where
       (λ e. e)
 
   module _ (z : n ≡ 0 → ⊥) where
-    pub numberless : both (ltb 0 n) (leb n 22) ≡ false → stop_coded n l h ≡ false
-    unfolding stop_coded both
-    numberless e = let f : leb n 22 ≡ false = rw (lt-ltb 0 n (omega (arith, z))) at e in rw f
+    pub numberless : stops_by (refusal_numbered n h) ≡ false → stop_coded n l h ≡ false
+    unfolding stop_coded both either
+    numberless e = rw (ne_eqb n 0 z, e)
 
-    pub numbered : both (ltb 0 n) (leb n 22) ≡ true → ltb h 4294967296 ≡ true → either (eqb n 12) (eqb h 0) ≡ true → stop_coded n l h ≡ true
+    pub numbered : stops_by (refusal_numbered n h) ≡ true → ltb h 4294967296 ≡ true → either (eqb n 12) (eqb h 0) ≡ true → stop_coded n l h ≡ true
     unfolding stop_coded
-    numbered e w k = both_of (both_right _ _ e) (both_of (either_left _ _ (both_left _ _ e)) (both_of w k))
+    numbered e w k = both_of (either_right _ e) (both_of (either_left _ _ (lt-ltb 0 n (omega (arith, z)))) (both_of w k))
 
 pub unnumbered : (l h : ℕ) → stop_coded 0 l h ≡ both (eqb l 0) (eqb h 0)
 unfolding stop_coded both either

@@ -1,26 +1,51 @@
 -- Codes read back, and the words of a mark.
-use Prim.Native.Nat.{ℕ, ◌≤◌, ◌<◌, ◌^◌}
-use mathlib.Core.Path.{◌≡◌, ◌∙◌, ap}
+use Prim.Native.Nat.{ℕ, zero, suc, ◌≤◌, ◌<◌, ◌^◌}
+use mathlib.Core.Path.{◌≡◌, refl, ◌∙◌, ap}
 use mathlib.Core.Bool.{false}
-use lib.Dec.{ltb, leb}
+use native.Mathlib.Omega.{arith}
+use lib.Dec.{leb}
+use lib.ListN.{get_or-eq_default}
 use lib.IntN.{ℤ}
 use lib.Signed.{mag}
 use mir.Syntax.{w32}
 use mir.Val.{to_z, of_z, Fits, hbits}
 use mir.Facts.{of_z-to_z}
-use borrow.Author.Tests.{lt-ltb, le-ltb, lt-leb}
+use borrow.Author.Tests.{lt-leb, le-leb}
 use Rattle.base.specs.Bytes.{both}
-use Rattle.base.proofs.Split.{by_lt}
+use Rattle.base.proofs.Split.{by_lt, by_eq}
 use Rattle.signed.proofs.Bits.{held}
 use Rattle.refusal.specs.Refusal.{number_of, held_of, reply_of}
 use Rattle.refusal.specs.declared.Reply.{Reply}
 use Rattle.refusal.specs.declared.Refusal.{Refusal}
 use Rattle.refusal.specs.declared.Refusal.TheVariants.{Regression}
+use Rattle.refusal.specs.declared.Refusal.TheVariants as R
+use Rattle.reader.specs.State.{stops_by}
+use Rattle.c_reader.specs.Words.{refusal_codes, refusal_numbered}
 use Rattle.c_reader.specs.declared.MarkWords.{MarkWords}
 
-pub refusal_none : (n : ℕ) → (1 ≤ n → 23 ≤ n) → both (ltb 0 n) (leb n 22) ≡ false
+-- ---- what holds of each number below k, one by one
+
+abbrev pub UpTo : (ℕ → Type 0) → ℕ → Type 0
+UpTo P zero = Unit {0}
+UpTo P (suc k) = P k × UpTo P k
+
+pub below : (P : ℕ → Type 0) (k n : ℕ) → n < k → UpTo P k → P n
+below P zero n h u = absurd (omega arith)
+below P (suc k) n h u = by_eq n k (λ e. rw e u.0) (λ d. below P k n (omega arith) u.1)
+
+-- ---- the refusals of marks, by their numbers
+
+-- the numbers of the refusals that an event leaves, today
+pub numbers_stop : (n held : ℕ) → stops_by (refusal_numbered n held) ≡ both (leb 2 n) (leb n 16)
+unfolding stops_by refusal_numbered both
+numbers_stop n held =
+    by_lt n 22
+    (λ l. below (λ (i : ℕ). stops_by (refusal_numbered i held) ≡ both (leb 2 i) (leb i 16)) 22 n l (refl, (refl, (refl, (refl, (refl, (refl, (refl, (refl, (refl, (refl, (refl, (refl, (refl, (refl, (refl, (refl, (refl, (refl, (refl, (refl, (refl, (refl, tt)))))))))))))))))))))))
+    (λ l. rw (get_or-eq_default (refusal_codes held) R.Unsound l, le-leb 2 n (omega arith), lt-leb n 16 (omega arith)))
+
+pub refusal_none : (n held : ℕ) → (2 ≤ n → 17 ≤ n) → stops_by (refusal_numbered n held) ≡ false
 unfolding both
-refusal_none n h = by_lt 0 n (λ l. rw (lt-ltb 0 n l, lt-leb n 22 (h l))) (λ l. rw (le-ltb 0 n l))
+refusal_none n held h = numbers_stop n held ∙ by_lt n 2 (λ l. rw (lt-leb 2 n l)) (λ l. rw (le-leb 2 n l, lt-leb n 16 (h l)))
 
 -- HELD read back from its bits
 pub held_back : {z : ℤ} {n : ℕ} → Fits w32 n → z ≡ to_z w32 n → Regression (to_z w32 (of_z w32 z)) ≡ Regression (to_z w32 n)

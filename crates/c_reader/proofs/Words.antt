@@ -1,21 +1,22 @@
 -- A reader is what its words stand for, and words that are a reader's are its words: each code names one, and each is named by one.
 use Rattle.reader.specs.declared.RefusedAt.{RefusedAt}
-use Rattle.std.specs.Prelude.{Some, Option, None}
+use Rattle.std.specs.Prelude.{Err, Some, Option, None}
 use Prim.Native.Nat.{ℕ, zero, suc, ◌<◌, ◌≤◌}
 use mathlib.Core.Path.{◌≡◌, refl, sym, ◌∙◌, ap}
-use mathlib.Core.Bool.{true}
+use mathlib.Core.Bool.{true, false, not}
+use mathlib.Core.Logic.{◌↔◌}
 use mathlib.Core.List.{List, [], ◌∷◌}
 use native.Mathlib.Omega.{arith}
-use lib.Dec.{leb}
+use lib.Dec.{leb, eqb}
 use lib.IntN.{ℤ, pos}
 use lib.ListN.{length, take, drop}
 use lib.Seq.{drop-cons, drop-length}
 use mir.Syntax.{w32}
 use mir.Val.{of_z, SFits}
-use mir.Facts.{to_z-of_z, of_z-to_z, Fits-of_z}
+use mir.Facts.{to_z-of_z, of_z-to_z, Fits-of_z, sfits_lit, sfits_to_z}
 use borrow.Author.Tests.{leb-true, eqb-true, lt-ltb, ne_eqb}
-use Rattle.base.specs.Bytes.{both, either}
-use Rattle.base.proofs.Split.{both_left, both_right, both_of, by_eq}
+use Rattle.base.specs.Bytes.{Bytes, both, either}
+use Rattle.base.proofs.Split.{both_left, both_right, both_of, by_bool, by_eq, by_either, clash}
 use Rattle.refusal.specs.Refusal.{number_of, held_of}
 use Rattle.refusal.specs.declared.Refusal.{Refusal}
 use Rattle.refusal.specs.declared.Refusal.TheVariants as R
@@ -27,10 +28,12 @@ use Rattle.nesting.specs.declared.Action.TheVariants.{Create, Modify, Delete}
 use Rattle.nesting.specs.declared.Level.{Level}
 use Rattle.nesting.specs.declared.Level.TheVariants.{Doc, Root, Section, Element, Leaf, Other, Done}
 use Rattle.overlay.specs.Given.{head_fits, meta_fits}
-use Rattle.reader.specs.State.{fresh_reader, refusal_at}
-use Rattle.reader.specs.Event.{stopped_at}
+use Rattle.reader.specs.State.{State, fresh_reader, refusal_at, stops_by, is_stopped}
+use Rattle.reader.specs.Event.{stopped_at, event_on}
+use Rattle.reader.proofs.Events.{by_refused}
 use Rattle.reader.specs.declared.EventReader.{EventReader}
 use Rattle.c_reader.specs.Words.{level_word, section_word, mark_number, mark_line, mark_held, words_of_reader, word_at, level_in, section_in, kind_in, refusal_numbered, stop_in, reader_in, place_coded, head_coded, meta_coded, stop_coded, is_reader, reader_of_words}
+use Rattle.c_reader.proofs.Codes.{below, numbers_stop}
 use Rattle.c_reader.proofs.Fits.{place_of, stop_of, held_within}
 
 -- 19 zeros are a fresh reader
@@ -42,16 +45,6 @@ fresh_words = refl
 pub stopped_words : (r : EventReader) (x : Refusal) (line : ℕ) → take 16 (words_of_reader (stopped_at r x line)) ≡ take 16 (words_of_reader r)
 unfolding words_of_reader
 stopped_words r x line = refl
-
--- ---- what holds of each number below k, one by one
-
-abbrev UpTo : (ℕ → Type 0) → ℕ → Type 0
-UpTo P zero = Unit {0}
-UpTo P (suc k) = P k × UpTo P k
-
-below : (P : ℕ → Type 0) (k n : ℕ) → n < k → UpTo P k → P n
-below P zero n h u = absurd (omega arith)
-below P (suc k) n h u = by_eq n k (λ e. rw e u.0) (λ d. below P k n (omega arith) u.1)
 
 -- ---- words that are codes
 
@@ -65,15 +58,24 @@ kind_code : (n : ℕ) → n ≤ 2 → kind_word (kind_in n) ≡ n
 kind_code n h = below (λ (i : ℕ). kind_word (kind_in i) ≡ i) 3 n (omega arith) (refl, (refl, (refl, tt)))
 
 module _ (held : ℕ) where
-  refusal_code : (n : ℕ) → n < 22 → number_of (refusal_numbered (suc n) held) ≡ suc n
+  refusal_code : (n : ℕ) → n < 16 → number_of (refusal_numbered (suc n) held) ≡ suc n
   unfolding refusal_numbered
-  refusal_code n h = below (λ (i : ℕ). number_of (refusal_numbered (suc i) held) ≡ suc i) 22 n h (refl, (refl, (refl, (refl, (refl, (refl, (refl, (refl, (refl, (refl, (refl, (refl, (refl, (refl, (refl, (refl, (refl, (refl, (refl, (refl, (refl, (refl, tt))))))))))))))))))))))
+  refusal_code n h = below (λ (i : ℕ). number_of (refusal_numbered (suc i) held) ≡ suc i) 16 n h (refl, (refl, (refl, (refl, (refl, (refl, (refl, (refl, (refl, (refl, (refl, (refl, (refl, (refl, (refl, (refl, tt))))))))))))))))
 
-  held_none : (n : ℕ) → n < 22 → (n ≡ 11 → ⊥) → held_of (refusal_numbered (suc n) held) ≡ pos 0
+  number_named : (n : ℕ) → (n ≡ 0 → ⊥) → n ≤ 16 → number_of (refusal_numbered n held) ≡ n
+  number_named zero d h = absurd (d refl)
+  number_named (suc n) d h = refusal_code n (omega arith)
+
+  held_none : (n : ℕ) → n < 16 → (n ≡ 11 → ⊥) → held_of (refusal_numbered (suc n) held) ≡ pos 0
   unfolding refusal_numbered
-  held_none n h = below (λ (i : ℕ). (i ≡ 11 → ⊥) → held_of (refusal_numbered (suc i) held) ≡ pos 0) 22 n h (λ d. refl, (λ d. refl, (λ d. refl, (λ d. refl, (λ d. refl, (λ d. refl, (λ d. refl, (λ d. refl, (λ d. refl, (λ d. refl, (λ d. absurd (d refl), (λ d. refl, (λ d. refl, (λ d. refl, (λ d. refl, (λ d. refl, (λ d. refl, (λ d. refl, (λ d. refl, (λ d. refl, (λ d. refl, (λ d. refl, tt))))))))))))))))))))))
+  held_none n h = below (λ (i : ℕ). (i ≡ 11 → ⊥) → held_of (refusal_numbered (suc i) held) ≡ pos 0) 16 n h (λ d. refl, (λ d. refl, (λ d. refl, (λ d. refl, (λ d. absurd (d refl), (λ d. refl, (λ d. refl, (λ d. refl, (λ d. refl, (λ d. refl, (λ d. refl, (λ d. refl, (λ d. refl, (λ d. refl, (λ d. refl, (λ d. refl, tt))))))))))))))))
 
 -- ---- a mark's words
+
+-- a mark is a refusal that an event leaves, and its HELD a number of 32 bits
+abbrev pub MarkFits : Option RefusedAt → Type 0
+MarkFits None = Unit {0}
+MarkFits (Some a) = (stops_by a.refusal ≡ true) × SFits w32 (held_of a.refusal)
 
 -- the mark of three words has those words
 pub record MarkBack (number line held : ℕ) : Type 0 where
@@ -82,9 +84,12 @@ pub record MarkBack (number line held : ℕ) : Type 0 where
   pub held_is : mark_held (stop_in number line held) ≡ held
 
 module _ (number line held : ℕ) (e : stop_coded number line held ≡ true) where
-  number_most : number ≤ 22
+  number_most : number ≤ 16
   unfolding stop_coded
-  number_most = leb-true _ _ (both_left _ _ e)
+  number_most =
+      by_either _ _ (both_left _ _ e)
+      (λ z. let y = eqb-true number 0 z in omega arith)
+      (λ t. leb-true number 16 (both_right _ _ (sym (numbers_stop number held) ∙ t)))
 
   line_none : number ≡ 0 → line ≡ 0
   unfolding stop_coded either
@@ -97,6 +102,17 @@ module _ (number line held : ℕ) (e : stop_coded number line held ≡ true) whe
   held_twelve : (n : ℕ) → n ≡ 11 → of_z w32 (held_of (refusal_numbered (suc n) held)) ≡ held
   unfolding refusal_numbered
   held_twelve n g = rw g (of_z-to_z {w = w32} (record { fits = held_within number line held e }))
+
+  held_fits : (n : ℕ) → number ≡ suc n → SFits w32 (held_of (refusal_numbered number held))
+  unfolding refusal_numbered
+  held_fits n f =
+      rw f (by_eq n 11
+      (λ g. rw g (sfits_to_z (record { fits = held_within number line held e })))
+      (λ d. rw (held_none held n (omega (arith, number_most)) d) (sfits_lit tt)))
+
+  mark_stops : (number ≡ 0 → ⊥) → stops_by (refusal_numbered number held) ≡ true
+  unfolding stop_coded
+  mark_stops d = by_either _ _ (both_left _ _ e) (λ z. absurd (d (eqb-true number 0 z))) (λ t. t)
 
   held_word : (n : ℕ) → number ≡ suc n → of_z w32 (held_of (refusal_numbered (suc n) held)) ≡ held
   held_word n f =
@@ -124,6 +140,12 @@ module _ (number line held : ℕ) (e : stop_coded number line held ≡ true) whe
 pub mark_back : (number line held : ℕ) → stop_coded number line held ≡ true → MarkBack number line held
 mark_back zero line held e = unmarked zero line held e refl
 mark_back (suc n) line held e = marked (suc n) line held e n refl
+
+-- and it is one that an event leaves, or none
+pub mark_fits : (number line held : ℕ) → stop_coded number line held ≡ true → MarkFits (stop_in number line held)
+unfolding stop_in
+mark_fits zero line held e = tt
+mark_fits (suc n) line held e = rw (ne_eqb (suc n) 0 (λ z. omega (arith, z))) (mark_stops (suc n) line held e (λ z. omega (arith, z)), held_fits (suc n) line held e n refl)
 
 -- ---- all words
 
@@ -171,6 +193,25 @@ words_back w l e =
       m.held_is,
     ) (nineteen w l)
 
+-- a reader of words with a number is stopped: of no mark it has to be decided whether it stops
+pub stopped_by_number : (w : List ℕ) → is_reader w ≡ true → is_stopped (reader_in w).stop ≡ not (eqb (word_at w 16) 0)
+unfolding stop_in
+stopped_by_number w e =
+    by_eq (word_at w 16) 0
+    (λ z. rw z)
+    (λ d. rw (ne_eqb (word_at w 16) 0 d, mark_stops (word_at w 16) (word_at w 17) (word_at w 18) (stop_of w e) d))
+
+-- words with a number that no event leaves are no reader's
+pub number_left : (w : List ℕ) → (word_at w 16 ≡ 0 → ⊥) → ((r : Refusal) → number_of r ≡ word_at w 16 → stops_by r ≡ false) → reader_of_words w ≡ None
+unfolding reader_of_words
+number_left w d f =
+    by_bool (is_reader w)
+    (λ e.
+    let m = stop_of w e in
+    clash (mark_stops (word_at w 16) (word_at w 17) (word_at w 18) m d)
+    (f (refusal_numbered (word_at w 16) (word_at w 18)) (number_named (word_at w 18) (word_at w 16) d (number_most (word_at w 16) (word_at w 17) (word_at w 18) m))))
+    (λ e. rw e)
+
 -- ---- a reader read back
 
 levels_coded : (l : Level) → (leb (level_word l) 6 ≡ true) × (level_in (level_word l) ≡ l)
@@ -192,47 +233,62 @@ kinds_coded Node = (refl, refl)
 kinds_coded Way = (refl, refl)
 kinds_coded Relation = (refl, refl)
 
--- a mark's HELD is a number of 32 bits
-abbrev pub HeldFits : Option RefusedAt → Type 0
-HeldFits None = Unit {0}
-HeldFits (Some a) = SFits w32 (held_of a.refusal)
-
-refusals_coded : (r : Refusal) (line : ℕ) → SFits w32 (held_of r)
+refusals_coded : (r : Refusal) (line : ℕ) → stops_by r ≡ true → SFits w32 (held_of r)
     → (stop_coded (number_of r) line (of_z w32 (held_of r)) ≡ true) × (stop_in (number_of r) line (of_z w32 (held_of r)) ≡ Some (refusal_at r line))
-unfolding stop_coded stop_in refusal_numbered both either
-refusals_coded R.Size line f = (refl, refl)
-refusals_coded R.LongLine line f = (refl, refl)
-refusals_coded R.NotText line f = (refl, refl)
-refusals_coded R.NotEventLine line f = (refl, refl)
-refusals_coded R.Misplaced line f = (refl, refl)
-refusals_coded R.OutsideSection line f = (refl, refl)
-refusals_coded R.Missing line f = (refl, refl)
-refusals_coded R.NotInteger line f = (refl, refl)
-refusals_coded R.NotTimestamp line f = (refl, refl)
-refusals_coded R.CoordinateRange line f = (refl, refl)
-refusals_coded R.MemberType line f = (refl, refl)
-refusals_coded (R.Regression v) line f = (rw (lt-ltb (of_z w32 v) 4294967296 (Fits-of_z f).fits), ap (λ (z : ℤ). Some (refusal_at (R.Regression z) line)) (to_z-of_z f))
-refusals_coded R.StringsFull line f = (refl, refl)
-refusals_coded R.IdsFull line f = (refl, refl)
-refusals_coded R.ArenaFull line f = (refl, refl)
-refusals_coded R.TooManyParts line f = (refl, refl)
-refusals_coded R.BadRecord line f = (refl, refl)
-refusals_coded R.Unfinished line f = (refl, refl)
-refusals_coded R.ShortOutput line f = (refl, refl)
-refusals_coded R.NotInOrder line f = (refl, refl)
-refusals_coded R.NoSuchNumber line f = (refl, refl)
-refusals_coded R.Unsound line f = (refl, refl)
+unfolding stops_by stop_coded stop_in refusal_numbered both either
+refusals_coded R.Size line t f = clash t refl
+refusals_coded R.LongLine line t f = (refl, refl)
+refusals_coded R.NotText line t f = (refl, refl)
+refusals_coded R.NotEventLine line t f = (refl, refl)
+refusals_coded R.Misplaced line t f = (refl, refl)
+refusals_coded R.OutsideSection line t f = (refl, refl)
+refusals_coded R.Missing line t f = (refl, refl)
+refusals_coded R.NotInteger line t f = (refl, refl)
+refusals_coded R.NotTimestamp line t f = (refl, refl)
+refusals_coded R.CoordinateRange line t f = (refl, refl)
+refusals_coded R.MemberType line t f = (refl, refl)
+refusals_coded (R.Regression v) line t f = (rw (lt-ltb (of_z w32 v) 4294967296 (Fits-of_z f).fits), ap (λ (z : ℤ). Some (refusal_at (R.Regression z) line)) (to_z-of_z f))
+refusals_coded R.StringsFull line t f = (refl, refl)
+refusals_coded R.IdsFull line t f = (refl, refl)
+refusals_coded R.ArenaFull line t f = (refl, refl)
+refusals_coded R.TooManyParts line t f = (refl, refl)
+refusals_coded R.BadRecord line t f = clash t refl
+refusals_coded R.Unfinished line t f = clash t refl
+refusals_coded R.ShortOutput line t f = clash t refl
+refusals_coded R.NotInOrder line t f = clash t refl
+refusals_coded R.NoSuchNumber line t f = clash t refl
+refusals_coded R.Unsound line t f = clash t refl
 
-marks_coded : (m : Option RefusedAt) → HeldFits m → (stop_coded (mark_number m) (mark_line m) (mark_held m) ≡ true) × (stop_in (mark_number m) (mark_line m) (mark_held m) ≡ m)
+marks_coded : (m : Option RefusedAt) → MarkFits m → (stop_coded (mark_number m) (mark_line m) (mark_held m) ≡ true) × (stop_in (mark_number m) (mark_line m) (mark_held m) ≡ m)
 unfolding stop_coded stop_in both either
 marks_coded None f = (refl, refl)
-marks_coded (Some a) f = refusals_coded a.refusal a.line f
+marks_coded (Some a) f = refusals_coded a.refusal a.line f.0 f.1
+
+-- three words are those of no mark, or of a mark that an event leaves
+pub record IsMark (number line held : ℕ) : Type 0 where
+  pub mark : Option RefusedAt
+  pub fits : MarkFits mark
+  pub number_is : mark_number mark ≡ number
+  pub line_is : mark_line mark ≡ line
+  pub held_is : mark_held mark ≡ held
+
+pub marks_exactly : (number line held : ℕ) → (stop_coded number line held ≡ true) ↔ IsMark number line held
+marks_exactly number line held = (
+  λ e. let m = mark_back number line held e in record {
+    mark = stop_in number line held;
+    fits = mark_fits number line held e;
+    number_is = m.number_is;
+    line_is = m.line_is;
+    held_is = m.held_is;
+  },
+  λ m. rw (← m.number_is, ← m.line_is, ← m.held_is) (marks_coded m.mark m.fits).0,
+)
 
 -- each number of a reader within its type
 pub record ReaderFits (r : EventReader) : Type 0 where
   pub head : head_fits r.pending.head ≡ true
   pub meta : meta_fits r.pending.meta ≡ true
-  pub held : HeldFits r.stop
+  pub mark : MarkFits r.stop
 
 module _ (r : EventReader) (f : ReaderFits r) where
   place_coded_lem : place_coded (words_of_reader r) ≡ true
@@ -252,14 +308,24 @@ module _ (r : EventReader) (f : ReaderFits r) where
 
   is_reader_lem : is_reader (words_of_reader r) ≡ true
   unfolding is_reader words_of_reader
-  is_reader_lem = both_of place_coded_lem (both_of head_coded_lem (both_of meta_coded_lem (marks_coded r.stop f.held).0))
+  is_reader_lem = both_of place_coded_lem (both_of head_coded_lem (both_of meta_coded_lem (marks_coded r.stop f.mark).0))
 
   reader_in_lem : reader_in (words_of_reader r) ≡ r
   unfolding words_of_reader
   reader_in_lem =
-      rw ((levels_coded r.place.level).1, (sections_coded r.place.section).1, (kinds_coded r.place.kind).1, (marks_coded r.stop f.held).1)
+      rw ((levels_coded r.place.level).1, (sections_coded r.place.section).1, (kinds_coded r.place.kind).1, (marks_coded r.stop f.mark).1)
 
   -- a reader's words stand for it
   pub reader_back : reader_of_words (words_of_reader r) ≡ Some r
   unfolding reader_of_words
   reader_back = rw (is_reader_lem, reader_in_lem)
+
+-- a reader that a refusal stopped is read back as it was left
+pub stopped_back : (r : EventReader) → ReaderFits r → (x : Refusal) (line : ℕ) → stops_by x ≡ true → SFits w32 (held_of x)
+    → reader_of_words (words_of_reader (stopped_at r x line)) ≡ Some (stopped_at r x line)
+stopped_back r f x line t h = reader_back (stopped_at r x line) (record { head = f.head; meta = f.meta; mark = (t, h) })
+
+-- so is that of each refused event
+pub event_back : (line : Bytes) (s : State) → ReaderFits s.reader → (r : Refusal) (n : ℕ) → (event_on line s).answer ≡ Err (refusal_at r n) → SFits w32 (held_of r)
+    → reader_of_words (words_of_reader (event_on line s).state.reader) ≡ Some (event_on line s).state.reader
+event_back line s f r n a h = by_refused line s r n a (λ u k j w. rw w (reader_back s.reader f)) (λ u t w. rw w (stopped_back s.reader f r n t h))

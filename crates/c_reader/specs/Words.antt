@@ -1,7 +1,7 @@
 -- A reader as C holds it, in 19 words: 0 level, 1 section, 2 kind; 3 to 7 the head id, lat, lon, count, tags; 8 to 13 the metadata flags, version, timestamp, changeset,
 -- uid, user; 14 the staged bytes; 15 the lines; 16 to 18 the stop mark: its number, 0 while the reader goes on, its line, and HELD. Signed numbers stand in their bits.
 -- So 19 zeros are a fresh reader.
-use Rattle.reader.specs.State.{refusal_at}
+use Rattle.reader.specs.State.{refusal_at, stops_by}
 use Rattle.reader.specs.declared.RefusedAt.{RefusedAt}
 use Rattle.std.specs.Prelude.{ℕ, Bool, cond, List, [], ◌∷◌, leb, ltb, eqb, get_or, None, Option, Some}
 use Rattle.std.specs.Int.{w32}
@@ -130,10 +130,11 @@ unfoldable pub meta_coded : List ℕ → Bool
 meta_coded w =
     both (ltb (word_at w 8) 256) (both (ltb (word_at w 9) 4294967296) (both (ltb (word_at w 12) 4294967296) (ltb (word_at w 13) 4294967296)))
 
--- a mark is a refusal's, with HELD for 12 alone; while the reader goes on it has no line
+-- a mark is a refusal that an event leaves, with HELD for 12 alone; while the reader goes on it has no line
 unfoldable pub stop_coded : ℕ → ℕ → ℕ → Bool
 stop_coded number line held =
-    both (leb number 22) (both (either (ltb 0 number) (eqb line 0)) (both (ltb held 4294967296) (either (eqb number 12) (eqb held 0))))
+    both (either (eqb number 0) (stops_by (refusal_numbered number held)))
+    (both (either (ltb 0 number) (eqb line 0)) (both (ltb held 4294967296) (either (eqb number 12) (eqb held 0))))
 
 unfoldable pub is_reader : List ℕ → Bool
 is_reader w = both (place_coded w) (both (head_coded w) (both (meta_coded w) (stop_coded (word_at w 16) (word_at w 17) (word_at w 18))))

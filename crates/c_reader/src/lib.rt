@@ -1,9 +1,9 @@
 // A reader as C holds it, in words.
 #![tactic(auto)]
 
-ghost use Rattle.std.specs.Prelude.{◌≡◌, leb, ltb};
-ghost use Rattle.base.specs.Bytes.{both};
+ghost use Rattle.std.specs.Prelude.{◌≡◌, leb};
 ghost use Rattle.kind.specs.Kind.{kind_number as kind_word};
+ghost use Rattle.reader.specs.State.{stops_by};
 ghost use Rattle.c_reader.specs.Words.{level_word, section_word, mark_number, mark_line, mark_held, words_of_reader, if_coded, level_in, section_in, kind_in, place_words, head_words, meta_words, refusal_numbered, stop_in, place_coded, head_coded, meta_coded, stop_coded, reader_of_words};
 
 use compact::{ArenaMeta, PushHead};
@@ -96,13 +96,12 @@ fn meta_of(words: &[u64; READER_WORDS]) -> Option<ArenaMeta>
     })
 }
 
-// The refusal of a number, with the bits of the known version for 12.
-#[tactic(auto, using(crate::proofs::Codes::held_back, crate::proofs::Codes::refusal_none), unfolding(crate::specs::Words::refusal_numbered, base::specs::Bytes::both))]
+// The refusal of a stop mark's number, with the bits of the known version for 12; none where no event leaves the number.
+#[tactic(auto, using(crate::proofs::Codes::held_back, crate::proofs::Codes::refusal_none), unfolding(crate::specs::Words::refusal_numbered, reader::specs::State::stops_by))]
 fn refusal_of(number: u64, held: u32) -> Option<Refusal>
-    ensures { result ≡ if_coded (both (ltb 0 number) (leb number 22)) (refusal_numbered number held) }
+    ensures { result ≡ if_coded (stops_by (refusal_numbered number held)) (refusal_numbered number held) }
 {
     match number {
-        1 => Some(Refusal::Size),
         2 => Some(Refusal::LongLine),
         3 => Some(Refusal::NotText),
         4 => Some(Refusal::NotEventLine),
@@ -118,12 +117,6 @@ fn refusal_of(number: u64, held: u32) -> Option<Refusal>
         14 => Some(Refusal::IdsFull),
         15 => Some(Refusal::ArenaFull),
         16 => Some(Refusal::TooManyParts),
-        17 => Some(Refusal::BadRecord),
-        18 => Some(Refusal::Unfinished),
-        19 => Some(Refusal::ShortOutput),
-        20 => Some(Refusal::NotInOrder),
-        21 => Some(Refusal::NoSuchNumber),
-        22 => Some(Refusal::Unsound),
         _ => None,
     }
 }

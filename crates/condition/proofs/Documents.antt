@@ -7,7 +7,7 @@ use mathlib.Core.Bool.{true, false}
 use mathlib.Core.Logic.{◌↔◌}
 use mathlib.Core.List.{List, [], ◌∷◌, ◌++◌, append-nil}
 use lib.ListN.{length}
-use Rattle.base.specs.Bytes.{Bytes, both, all}
+use Rattle.base.specs.Bytes.{Bytes, all}
 use Rattle.base.proofs.Split.{by_bool, no, clash}
 use Rattle.base.proofs.Lists.{all_nil, all_cons, all_head, all_tail}
 use Rattle.little.specs.Little.{is_byte}
@@ -78,7 +78,7 @@ Exactly t xs ms = (all event_taken xs ≡ true) ↔ RunsToEnd t.reader.place ms
 
 pub lines_exactly : (lines : List Bytes) (s : State) → StateGiven s → KindAgrees (reader_of s) → is_stopped s.reader.stop ≡ false → AllByNesting (answers_to s lines)
     → Exactly s (answers_to s lines) (each_gives line_marks lines)
-unfolding answers_to AllByNesting each_gives run stops_by both
+unfolding answers_to AllByNesting each_gives run stops_by
 lines_exactly [] s given kind going h =
     let x = end_exactly s given kind going h.0 in (
       λ t. (s.reader.place, refl, x.0 (taken_is _ (all_head event_taken _ [] t))),

@@ -1,13 +1,8 @@
--- What the code of a piece needs, apart from what a piece comes to (Feed): whether what is left is too long, and what is left at the front of a buffer.
+-- What the code of a piece needs, apart from what a piece comes to (Feed): what is left at the front of a buffer.
 use Rattle.reader.specs.declared.RefusedAt.{RefusedAt}
-use Rattle.std.specs.Prelude.{ℕ, Bool, false, ltb, Ok, Err, Result}
+use Rattle.std.specs.Prelude.{ℕ, Ok, Err, Result}
 use Rattle.base.specs.Bytes.{Bytes}
 use Rattle.input_lines.specs.Place.{Front, keep_rest}
-
--- after an answer, what is left of lines is more than 16,384 bytes
-abbrev pub is_over : Result Unit RefusedAt → ℕ → Bool
-is_over (Ok tt) rest = ltb 16384 rest
-is_over (Err a) rest = false
 
 -- after an answer, the bytes from a place on at the front, or nothing
 abbrev pub kept_front : Result Unit RefusedAt → Bytes → ℕ → Front

@@ -1,19 +1,11 @@
-// The buffer of an input in pieces: a piece behind the bytes that are held, whether what is left of its lines is too long, and the unfinished line moved to the front.
+// The buffer of an input in pieces: a piece behind the bytes that are held, and the unfinished line moved to the front.
 #![tactic(auto)]
 
 ghost use Rattle.std.specs.Prelude.{◌≡◌, ◌+◌, min, length};
 ghost use Rattle.little.specs.Little.{over};
-ghost use Rattle.input_buffer.specs.Fronts.{is_over, kept_front};
+ghost use Rattle.input_buffer.specs.Fronts.{kept_front};
 
-use event_scan::MAX_LINE;
 use reader::RefusedAt;
-
-// Whether what is left behind lines that were accepted is already too long for a line.
-pub fn is_over(answer: Result<(), RefusedAt>, rest: usize) -> bool
-    ensures { result ≡ is_over answer rest }
-{
-    answer.is_ok() && MAX_LINE < rest
-}
 
 // A piece behind the bytes that are held, as far as there is room. The answer is how many there are then. How many are held goes beside the buffer, whose rest is room.
 pub fn join_piece(buffer: &mut [u8], held: usize, piece: &[u8]) -> usize

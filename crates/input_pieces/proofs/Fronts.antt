@@ -1,68 +1,24 @@
--- The lines of lent bytes and what is left of them; a piece in its buffer.
+-- A piece in its buffer.
 use Rattle.std.specs.Prelude.{Ok, Err}
-use Prim.Native.Nat.{ℕ, ◌+◌, ◌<◌, ◌≤◌}
+use Prim.Native.Nat.{ℕ, ◌+◌, ◌≤◌}
 use mathlib.Core.Path.{◌≡◌, sym, ◌∙◌, ap}
-use mathlib.Core.Bool.{true, false}
-use mathlib.Core.List.{List, [], ◌∷◌, ◌++◌, append_assoc}
+use mathlib.Core.List.{◌++◌, append_assoc}
 use native.Mathlib.Omega.{arith}
-use borrow.Author.Tests.{ltb-true, ltb-false}
 use lib.ListN.{length, take, drop, length-drop, length-take, take-append-drop}
 use lib.Seq.{length-take-le}
 use Rattle.std.proofs.lemmas.List.{drop-append-le}
 use Rattle.base.specs.Bytes.{Bytes}
-use Rattle.base.proofs.Split.{no}
 use Rattle.input_lines.specs.Lines.{lines_of, rest_of}
 use Rattle.little.specs.Little.{over}
 use Rattle.little.proofs.Overs.{length_over, over_start, used_over}
 use Rattle.input_lines.specs.Place.{Front, keep_rest}
-use Rattle.input_lines.proofs.Lines.{rest_lacks}
 use Rattle.reader.specs.State.{State, refusal_at}
-use Rattle.reader.specs.Event.{EventResult, event_on}
+use Rattle.reader.specs.Event.{EventResult}
 use Rattle.reader.proofs.Answers.{by_answer}
-use Rattle.reader_events.specs.Events.{events_on, taken_bytes}
-use Rattle.reader_events.proofs.Onward.{events_more, events_off, run_rest}
-use Rattle.input_pieces.specs.Feed.{piece_lines, Intake, IntakeResult, kept_after, feed_on}
-use Rattle.input_buffer.specs.Fronts.{is_over, kept_front}
-use Rattle.input_pieces.proofs.Pieces.{lines_short, lines_long, lines_enough}
-use Rattle.input_pieces.proofs.Stops.{long_refused}
-
--- ---- the whole lines, then what is left
-
-module _ (s : Bytes) (t : State) where
-  -- what the lines and what is left of them come to; where nothing is refused, the place behind the lines is that of the unfinished one
-  abbrev pub Took : EventResult → ℕ → Type 0
-  Took x at = (x ≡ events_on (piece_lines s) t) × (x.answer ≡ Ok tt → drop at s ≡ rest_of s)
-
-  module _ (x : EventResult) (at : ℕ) (e : x ≡ events_on (lines_of s) t) (k : at ≡ taken_bytes (lines_of s) t) where
-    rest_is : x.answer ≡ Ok tt → drop at s ≡ rest_of s
-    rest_is a = rw k (run_rest s t (ap (λ (z : EventResult). z.answer) (sym e) ∙ a))
-
-    -- it is short, or a line was refused
-    pub took_lines : is_over x.answer (length (drop at s)) ≡ false → Took x at
-    took_lines f = (
-      by_answer x.answer
-          (λ a. let h : length (drop at s) ≤ 16384 = ltb-false 16384 (length (drop at s)) (rw a at f) in
-          e ∙ ap (λ (ls : List Bytes). events_on ls t) (sym (lines_short s (omega (arith, h, ap length (rest_is a))))))
-          (λ r n a. e ∙ sym (lines_enough s t r n (ap (λ (z : EventResult). z.answer) (sym e) ∙ a))),
-      rest_is,
-    )
-
-    -- it is too long, and refused
-    pub took_rest : is_over x.answer (length (drop at s)) ≡ true → (y : EventResult) → y ≡ event_on (drop at s) x.state → (m : ℕ) → Took y m
-    took_rest f y g m =
-        by_answer x.answer
-        (λ a.
-        let h : 16384 < length (drop at s) = ltb-true 16384 (length (drop at s)) (rw a at f) in
-        let l : 16384 < length (rest_of s) = omega (arith, h, ap length (rest_is a)) in
-        let b : (events_on (lines_of s) t).answer ≡ Ok tt = ap (λ (z : EventResult). z.answer) (sym e) ∙ a in
-        let z : y ≡ event_on (rest_of s) (events_on (lines_of s) t).state = g ∙ (λ i. event_on (rest_is a i) (e i).state) in
-        long_refused (rest_of s) l (rest_lacks s) (events_on (lines_of s) t).state (λ r n w.
-        let v : y.answer ≡ Err (refusal_at r n) = ap (λ (q : EventResult). q.answer) z ∙ w in (
-          z ∙ sym (ap (λ (ls : List Bytes). events_on ls t) (lines_long s l) ∙ (events_more (lines_of s) (rest_of s ∷ []) t b
-              ∙ (events_off (rest_of s) [] (events_on (lines_of s) t).state r n w ∙ (λ i. record { state = (event_on (rest_of s) (events_on (lines_of s) t).state).state; answer = sym w i })))),
-          λ u. let c = sym v ∙ u in no (cc),
-        )))
-        (λ r n a. let c : false ≡ true = rw a at f in no (cc))
+use Rattle.reader_events.specs.Events.{events_on, taken_bytes, run_lines}
+use Rattle.reader_events.proofs.Onward.{run_left}
+use Rattle.input_pieces.specs.Feed.{Intake, IntakeResult, kept_after, feed_on}
+use Rattle.input_buffer.specs.Fronts.{kept_front}
 
 -- ---- a piece in its buffer
 
@@ -84,19 +40,19 @@ module _ (t : State) (b p : Bytes) (held : ℕ) (room : held + length p ≤ leng
   within : filled ≤ length joined
   within = omega (arith, room, are, ap length is, length_over b held p)
 
-  fed_as : (x : EventResult) → x ≡ events_on (piece_lines (take filled joined)) t → feed_on p intake ≡ kept_after joined (take filled joined) x.answer x.state
+  fed_as : (x : EventResult) → x ≡ events_on (run_lines (take filled joined)) t → feed_on p intake ≡ kept_after joined (take filled joined) x.answer x.state
   unfolding feed_on
   fed_as x e = rw (e, front, is)
 
   -- what is left of a front is kept, or nothing
-  pub fed_by : (x : EventResult) (at : ℕ) → x ≡ events_on (piece_lines (take filled joined)) t → (x.answer ≡ Ok tt → drop at (take filled joined) ≡ rest_of (take filled joined))
+  pub fed_by : (x : EventResult) (at : ℕ) → x ≡ events_on (run_lines (take filled joined)) t → at ≡ taken_bytes (lines_of (take filled joined)) t
       → (q : Bytes) (n : ℕ) → ◌≡◌ {A = Front} (record { buffer = q; kept = n }) (kept_front x.answer (take filled joined) at)
       → ◌≡◌ {A = IntakeResult} (record { intake = record { state = x.state; buffer = q ++ drop filled joined; held = n }; answer = x.answer }) (feed_on p intake)
   unfolding keep_rest
-  fed_by x at e g q n k =
+  fed_by x at e f q n k =
       sym (fed_as x e ∙ by_answer x.answer
       (λ a. let u = take filled joined in
-      let r : drop at u ≡ rest_of u = g a in
+      let r : drop at u ≡ rest_of u = ap (λ (m : ℕ). drop m u) f ∙ run_left u t (sym (ap (λ (z : EventResult). z.answer) e) ∙ a) in
       let j : ◌≡◌ {A = Front} (record { buffer = q; kept = n }) (record { buffer = over u 0 (rest_of u); kept = length (rest_of u) }) = rw (a, r) at k in
       let m : q ++ drop filled joined ≡ over joined 0 (rest_of u) =
       ap (λ (z : Front). z.buffer ++ drop filled joined) j ∙ over_part joined (rest_of u) filled (omega (arith, ap length r, length-drop at u, length-take filled joined)) within in

@@ -1,12 +1,11 @@
 -- Pieces of any size, read up to the first refusal, are taken in as the whole input is.
 use Rattle.reader.specs.declared.RefusedAt.{RefusedAt}
 use Rattle.std.specs.Prelude.{Ok, Err, Result}
-use Prim.Native.Nat.{ℕ, ◌<◌, ◌≤◌, min}
+use Prim.Native.Nat.{ℕ, ◌≤◌, min}
 use mathlib.Core.Path.{◌≡◌, refl, sym, ◌∙◌, ap}
 use mathlib.Core.Bool.{true}
-use mathlib.Core.List.{List, [], ◌∷◌, ◌++◌, append-nil, foldl}
+use mathlib.Core.List.{List, [], ◌∷◌, ◌++◌, foldl}
 use native.Mathlib.Omega.{arith}
-use borrow.Author.Tests.{le-leb, lt-leb}
 use lib.ListN.{length, take, drop}
 use lib.Seq.{take-append_seam}
 use Rattle.base.specs.Bytes.{Bytes}
@@ -22,28 +21,13 @@ use Rattle.input_lines.proofs.Streams.{stopped_early, cut_short}
 use Rattle.reader.specs.State.{State, refusal_at}
 use Rattle.reader.specs.Event.{EventResult, event_on}
 use Rattle.reader.proofs.Answers.{by_answer}
-use Rattle.reader_events.specs.Events.{events_on}
+use Rattle.reader_events.specs.Events.{events_on, run_lines}
 use Rattle.reader_events.specs.Runs.{RunGiven}
-use Rattle.input_pieces.specs.Feed.{after_event, long_line, piece_lines, Intake, IntakeResult, kept_line, kept_after, feed_on, read_on, state_at_end}
+use Rattle.input_pieces.specs.Feed.{after_event, Intake, IntakeResult, kept_line, kept_after, feed_on, read_on, state_at_end}
 use Rattle.reader_events.proofs.Runs.{given_after}
-use Rattle.reader_events.proofs.Onward.{events_off, events_more, events_enough}
-use Rattle.input_pieces.proofs.Stops.{events_fold, events_still, long_same, long_refused, long_still}
-
--- ---- the lines of some bytes
-
-module _ (s : Bytes) where
-  pub lines_short : length (rest_of s) ≤ 16384 → piece_lines s ≡ lines_of s
-  unfolding piece_lines
-  lines_short h = rw (le-leb (length (rest_of s)) 16384 h) (append-nil (lines_of s))
-
-  pub lines_long : 16384 < length (rest_of s) → piece_lines s ≡ lines_of s ++ (rest_of s ∷ [])
-  unfolding piece_lines
-  lines_long h = rw (lt-leb (length (rest_of s)) 16384 h)
-
-  -- a refusal among the whole lines is that of all
-  pub lines_enough : (t : State) (r : Refusal) (n : ℕ) → (events_on (lines_of s) t).answer ≡ Err (refusal_at r n) → events_on (piece_lines s) t ≡ events_on (lines_of s) t
-  unfolding piece_lines
-  lines_enough t r n a = events_enough (lines_of s) (long_line (rest_of s)) t r n a
+use Rattle.reader_events.proofs.Onward.{events_off, events_more, lines_short, lines_long, run_enough}
+use Rattle.reader_events.proofs.Answers.{long_refused}
+use Rattle.input_pieces.proofs.Stops.{events_fold, events_still, long_same, long_still}
 
 -- ---- what is held between pieces
 
@@ -74,7 +58,7 @@ module _ (f : Intake) (w : Holds f) (p : Bytes) where
   next_state : lines.state ≡ next.state
   next_state = events_fold (lines_of given) f.state
 
-  fed_by : (a : EventResult) → events_on (piece_lines given) f.state ≡ a → feed_on p f ≡ kept_after (over f.buffer f.held p) given a.answer a.state
+  fed_by : (a : EventResult) → events_on (run_lines given) f.state ≡ a → feed_on p f ≡ kept_after (over f.buffer f.held p) given a.answer a.state
   unfolding feed_on
   fed_by a e = rw e
 
@@ -127,7 +111,7 @@ module _ (f : Intake) (w : Holds f) (p : Bytes) where
       ∙ ap (λ (s : State). after_event s (rest_of given)) (sym next_state))))))
       (λ r n a.
       off (halted r n lines.state
-      (fed_by lines (lines_enough given f.state r n a) ∙ ap (λ (x : Result Unit RefusedAt). kept_after (over f.buffer f.held p) given x lines.state) a)
+      (fed_by lines (run_enough given f.state r n a) ∙ ap (λ (x : Result Unit RefusedAt). kept_after (over f.buffer f.held p) given x lines.state) a)
       (λ ps. stopped_early after_event next ps (rest_lacks given) (rw (← next_state) (events_still (lines_of given) f.state r n a)) ∙ sym next_state)))
 
 -- ---- pieces, read up to the first refusal
@@ -170,8 +154,8 @@ pub feed_given : (p : Bytes) (f : Intake) → RunGiven f.state → RunGiven (fee
 unfolding feed_on
 feed_given p f w =
     let s = kept_line f ++ p in
-    let a = events_on (piece_lines s) f.state in
-    rw (kept_state (over f.buffer f.held p) s a.answer a.state) (given_after (piece_lines s) f.state w)
+    let a = events_on (run_lines s) f.state in
+    rw (kept_state (over f.buffer f.held p) s a.answer a.state) (given_after (run_lines s) f.state w)
 
 pub reads_given : (ps : List Bytes) (f : Intake) → RunGiven f.state → RunGiven (read_on ps f).state
 reads_given [] f w = rw (read_nothing f) w

@@ -9,18 +9,18 @@ use lib.ListN.{length}
 use Rattle.base.specs.Bytes.{Bytes}
 use Rattle.base.proofs.Split.{clash, no}
 use Rattle.refusal.specs.declared.Refusal.{Refusal}
-use Rattle.refusal.specs.declared.Refusal.TheVariants as R
 use Rattle.line.proofs.Lines.{lacks}
 use Rattle.input_lines.proofs.Streams.{Still, still_taken}
-use Rattle.input_lines.proofs.Long.{long_stands, long_alone}
+use Rattle.input_lines.proofs.Long.{long_stands}
 use Rattle.event_decision.specs.Decision.{Decision}
 use Rattle.reader.specs.State.{State, stops_by, refusal_at}
-use Rattle.reader.specs.Step.{stops, step_of}
+use Rattle.reader.specs.Step.{step_of}
 use Rattle.reader.specs.Event.{EventResult, event_on, unless_unsound, unless_stopped, stepped}
-use Rattle.reader.proofs.Answers.{by_answer, by_event, event_22, step_at}
+use Rattle.reader.proofs.Answers.{by_answer, event_22}
 use Rattle.reader.proofs.Events.{by_refused, event_repeats, unsound_stops_not}
 use Rattle.reader_events.specs.Events.{events_on}
 use Rattle.reader_events.proofs.Onward.{events_none, events_on_lem, events_off}
+use Rattle.reader_events.proofs.Answers.{long_refused}
 use Rattle.input_pieces.specs.Feed.{after_event}
 
 -- ---- a refusal
@@ -57,17 +57,5 @@ module _ (p : Bytes) (k : 16384 < length p) (h : lacks 10 p ≡ true) (s : State
   unfolding event_on
   long_same t = ap (λ (d : Decision). unless_unsound s (unless_stopped s.reader.stop s (stepped s (step_of d s)))) (long_stands p k h t s.reader.place)
 
-  long_stops : step_at p s ≡ stops R.LongLine
-  unfolding step_of
-  long_stops = ap (λ (d : Decision). step_of d s) (long_alone p k h s.reader.place)
-
-  pub long_refused : {C : Type 0} → ((r : Refusal) (n : ℕ) → (event_on p s).answer ≡ Err (refusal_at r n) → C) → C
-  long_refused f =
-      by_event p s
-      (λ u w. f R.Unsound 0 (ap (λ (z : EventResult). z.answer) w))
-      (λ r n u g t w. f r n (ap (λ (z : EventResult). z.answer) w))
-      (λ r u g x w. f r _ (ap (λ (z : EventResult). z.answer) w))
-      (λ l u g x w. let z = sym long_stops ∙ x in no (cc))
-
   pub long_still : Still after_event (after_event s p)
-  long_still = long_refused (λ r n a. refused_still p s r n a)
+  long_still = long_refused p k h s (λ r n a. refused_still p s r n a)

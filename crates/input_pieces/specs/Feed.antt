@@ -1,26 +1,18 @@
 -- An input in pieces: the whole lines of a piece are events, up to the first that is refused; the unfinished line is kept for the next piece. A line of more than 16,384
 -- bytes is refused 2 as soon as 16,385 of them are there, so what is kept is never longer.
 use Rattle.reader.specs.declared.RefusedAt.{RefusedAt}
-use Rattle.std.specs.Prelude.{ℕ, cond, leb, length, take, Ok, Err, Result}
+use Rattle.std.specs.Prelude.{ℕ, length, take, Ok, Err, Result}
 use mathlib.Core.List.{List, [], ◌∷◌, ◌++◌, foldl}
 use Rattle.base.specs.Bytes.{Bytes}
 use Rattle.little.specs.Little.{over}
-use Rattle.input_lines.specs.Lines.{lines_of, rest_of, last_line}
+use Rattle.input_lines.specs.Lines.{rest_of, last_line}
 use Rattle.reader.specs.State.{State}
 use Rattle.reader.specs.Event.{event_on}
-use Rattle.reader_events.specs.Events.{events_on}
+use Rattle.reader_events.specs.Events.{events_on, run_lines}
 
 -- a line is an event
 abbrev pub after_event : State → Bytes → State
 after_event s line = (event_on line s).state
-
--- an unfinished line is judged as it stands where it is already too long
-abbrev pub long_line : Bytes → List Bytes
-long_line rest = cond (leb (length rest) 16384) [] (rest ∷ [])
-
--- the lines that bytes without an end give
-unfoldable pub piece_lines : Bytes → List Bytes
-piece_lines s = lines_of s ++ long_line (rest_of s)
 
 -- ---- a piece
 
@@ -47,7 +39,7 @@ kept_after buffer s (Err a) t = record { intake = record { state = t; buffer = b
 unfoldable pub feed_on : Bytes → Intake → IntakeResult
 feed_on piece f =
     let s = kept_line f ++ piece in
-    let a = events_on (piece_lines s) f.state in
+    let a = events_on (run_lines s) f.state in
     kept_after (over f.buffer f.held piece) s a.answer a.state
 
 -- pieces up to the first in which an event is refused: the program reads no further

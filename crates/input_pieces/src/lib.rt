@@ -1,41 +1,20 @@
 // An input in pieces: the whole lines of a piece are events, up to the first that is refused, and the unfinished line is held for the next piece.
 #![tactic(auto)]
 
-ghost use Rattle.std.specs.Prelude.{◌≡◌, ◌+◌, ◌≤◌, length, take, drop, Ok};
-ghost use Rattle.input_lines.specs.Lines.{rest_of};
+ghost use Rattle.std.specs.Prelude.{◌≡◌, ◌+◌, ◌≤◌, length, take};
 ghost use Rattle.reader.specs.Lent.{state_held, IsSameState};
-ghost use Rattle.reader_events.specs.Events.{events_on};
 ghost use Rattle.reader_events.specs.Runs.{RunGiven};
-ghost use Rattle.input_pieces.specs.Feed.{piece_lines, feed_on};
+ghost use Rattle.input_pieces.specs.Feed.{feed_on};
 ghost use Rattle.input_pieces.specs.Lent.{intake_lent, intake_left};
 
 use event_scan::MAX_LINE;
 use reader::{ReaderState, RefusedAt};
-use reader_events::EventsDone;
 
 // How many bytes of a piece count.
 pub const MAX_PIECE: usize = 65536;
 
 // The bytes of a buffer: the longest unfinished line, and a piece behind it.
 pub const BUFFER: usize = MAX_LINE + MAX_PIECE;
-
-// ---- the lines of lent bytes
-
-// The whole lines as events, up to the first that is refused, and then what is left where it is already too long. Where nothing is refused, what is left is the unfinished line.
-fn take_lines(state: &mut ReaderState<'_>, run: &[u8]) -> EventsDone
-    ensures same { IsSameState state.new state.old }
-    ensures answer_value { RunGiven (state_held state.old)
-        → record { state = state_held state.new; answer = result.answer } ≡ events_on (piece_lines run.now) (state_held state.old) }
-    ensures run_value { RunGiven (state_held state.old) → result.answer ≡ Ok tt → drop result.taken run.now ≡ rest_of run.now }
-{
-    let done = reader_events::events_untested(state, run);
-    let rest = &run[done.taken..];
-    if input_buffer::is_over(done.answer, rest.len()) {
-        let answer = reader_calls::event_on(state, rest);
-        return EventsDone { answer, ..done };
-    }
-    done
-}
 
 // ---- a piece of the input
 
@@ -54,7 +33,7 @@ fn take_piece(
         ≡ feed_on piece.now (record { state = state_held state.old; buffer = buffer.old; held = held }) }
 {
     let n = input_buffer::join_piece(buffer, held, piece);
-    let done = take_lines(state, &buffer[..n]);
+    let done = reader_events::events_untested(state, &buffer[..n]);
     let held = input_buffer::keep_front(&mut buffer[..n], done.answer, done.taken);
     (done.answer, held)
 }

@@ -1,22 +1,25 @@
 -- The call: measured first, lent the output's end; then written, where it fits.
-use Rattle.std.specs.Prelude.{None, Ok, Option, Some}
-use Prim.Native.Nat.{ℕ, ◌<◌, ◌≤◌}
+use Rattle.std.specs.Prelude.{Err, None, Ok, Option, Result, Some}
+use Prim.Native.Nat.{ℕ, ◌-◌, ◌<◌, ◌≤◌}
 use mathlib.Core.Path.{◌≡◌, ◌∙◌, ap}
 use mathlib.Core.Bool.{true, false}
 use mathlib.Core.List.{◌++◌}
 use lib.ListN.{length, drop}
 use borrow.Author.Tests.{le-leb, lt-leb}
 use Rattle.base.specs.Bytes.{Bytes}
-use Rattle.base.proofs.Split.{by_le}
+use native.Mathlib.Omega.{arith}
+use Rattle.base.proofs.Split.{by_le, no}
+use Rattle.refusal.specs.declared.Refusal.{Refusal}
 use Rattle.refusal.specs.declared.Refusal.TheVariants as R
 use Rattle.std.specs.Option.{ok_or}
 use Rattle.print.specs.Print.{joined_pieces}
-use Rattle.print.specs.Piece.{Whole, whole_over}
+use Rattle.print.specs.Piece.{Whole, behind, whole_over}
+use Rattle.print.proofs.Prints.{behind_fits, behind_past}
 use Rattle.overlay.specs.Overlay.{Overlay}
 use Rattle.overlay.specs.Given.{InBytes}
 use Rattle.overlay.specs.Sound.{is_sound}
 use Rattle.listing.specs.Pieces.{pieces_of}
-use Rattle.listing.specs.Call.{Output, not_listed, page_of, page_over, listing_on}
+use Rattle.listing.specs.Call.{Output, not_listed, page_of, page_over, listing_on, most_bytes, page_length, length_on}
 use Rattle.listing.proofs.Pages.{page_pieces}
 
 -- ---- a page over the output
@@ -65,3 +68,40 @@ module _ (out : Bytes) (o : Overlay) where
     pub list_length : length (page_of o) ≤ length out → record { out = page_of o ++ drop (length (page_of o)) out; answer = Ok (length (page_of o)) } ≡ listing_on out o
     unfolding listing_on
     list_length h = rw t (over_whole out (page_of o) h)
+
+-- ---- its length, by the room that the pieces leave of the most bytes
+
+module _ (page : Bytes) where
+  pub length_within : length page ≤ most_bytes → Ok (length page) ≡ page_length page
+  unfolding page_length
+  length_within h = rw (le-leb (length page) most_bytes h)
+
+  pub length_past : most_bytes < length page → Err R.ShortOutput ≡ page_length page
+  unfolding page_length
+  length_past h = rw (lt-leb (length page) most_bytes h)
+
+  module _ {room : Option ℕ} (e : room ≡ behind (Some most_bytes) (length page)) where
+    pub measured_past : room ≡ None → Err R.ShortOutput ≡ page_length page
+    measured_past n =
+        by_le (length page) most_bytes
+        (λ h. let w = behind_fits most_bytes (length page) h in no (cc))
+        length_past
+
+    pub measured_left : {left : ℕ} → room ≡ Some left → Ok (most_bytes - left) ≡ page_length page
+    measured_left {left} s =
+        by_le (length page) most_bytes
+        (λ h.
+        let w = behind_fits most_bytes (length page) h in
+        let l : left ≡ most_bytes - length page = cc in
+        let n : most_bytes - left ≡ length page = omega (arith, h, l) in
+        rw n (length_within h))
+        (λ h. let w = behind_past most_bytes (length page) h in no (cc))
+
+module _ (o : Overlay) where
+  pub length_22 : is_sound o ≡ false → Err R.Unsound ≡ length_on o
+  unfolding length_on
+  length_22 t = rw t
+
+  pub length_pieces : is_sound o ≡ true → InBytes o → (z : Result ℕ Refusal) → z ≡ page_length (joined_pieces (pieces_of o)) → z ≡ length_on o
+  unfolding length_on
+  length_pieces t b z e = rw t (e ∙ ap page_length (page_pieces o b t))

@@ -1,5 +1,5 @@
 -- What the listing answers and leaves: refused by the first condition of its table that holds, and then no byte is written; else the page and its length.
-use Rattle.std.specs.Prelude.{Err, Ok}
+use Rattle.std.specs.Prelude.{Err, Ok, Result}
 use Prim.Native.Nat.{ℕ, ◌<◌, ◌≤◌}
 use mathlib.Core.Path.{◌≡◌, refl, sym, ◌∙◌, ap}
 use mathlib.Core.Bool.{true, false}
@@ -28,9 +28,9 @@ use Rattle.listing_page.specs.Summary.{summary}
 use Rattle.listing_page.specs.Listing.{listing}
 use Rattle.listing.specs.Known.{known_in}
 use Rattle.listing.specs.Table.{kind_table, table_of, Ranked}
-use Rattle.listing.specs.Call.{Output, not_listed, page_of, listing_on}
-use Rattle.listing.specs.First.{listing_table, listed_refusal}
-use Rattle.listing.proofs.Calls.{list_22, list_19, list_length}
+use Rattle.listing.specs.Call.{Output, not_listed, page_of, listing_on, most_bytes, length_on}
+use Rattle.listing.specs.First.{listing_table, length_table, listed_refusal}
+use Rattle.listing.proofs.Calls.{list_22, list_19, list_length, length_within, length_past}
 use Rattle.listing.proofs.Summaries.{listed_page}
 
 module _ (out : Bytes) (o : Overlay) where
@@ -80,6 +80,42 @@ module _ (out : Bytes) (o : Overlay) where
   list_size =
       by_listing (λ t e. rw e) (λ t l e. rw e)
       (λ t l e. rw e (omega (arith, length-append (page_of o) (drop (length (page_of o)) out), length-drop (length (page_of o)) out)))
+
+-- ---- how long the listing is
+
+module _ (o : Overlay) where
+  -- the three cases: 22, 19, its length
+  by_length : {C : Type 0} → (is_sound o ≡ false → length_on o ≡ Err R.Unsound → C)
+      → (is_sound o ≡ true → most_bytes < length (page_of o) → length_on o ≡ Err R.ShortOutput → C)
+      → (is_sound o ≡ true → length (page_of o) ≤ most_bytes → length_on o ≡ Ok (length (page_of o)) → C) → C
+  unfolding length_on
+  by_length f g h =
+      by_bool (is_sound o)
+      (λ t. by_le (length (page_of o)) most_bytes (λ l. h t l (rw t (sym (length_within (page_of o) l)))) (λ l. g t l (rw t (sym (length_past (page_of o) l)))))
+      (λ t. f t (rw t))
+
+  -- T4
+  pub length_first : listed_refusal (length_on o) ≡ first_of (length_table o)
+  unfolding first_of
+  length_first =
+      by_length (λ t e. rw (e, t)) (λ t l e. rw (e, t, lt-ltb most_bytes (length (page_of o)) l)) (λ t l e. rw (e, t, le-ltb most_bytes (length (page_of o)) l))
+
+  -- an output of that many bytes or more gets the listing, a shorter one 19
+  pub length_enough : (n : ℕ) → length_on o ≡ Ok n → (out : Bytes) → (n ≤ length out → listing_on out o ≡ listed_on out o) × (length out < n → listing_on out o ≡ not_listed out R.ShortOutput)
+  length_enough n h out =
+      by_length
+      (λ t e. let z : Err R.Unsound ≡ Ok n = sym e ∙ h in no (cc))
+      (λ t l e. let z : Err R.ShortOutput ≡ Ok n = sym e ∙ h in no (cc))
+      (λ t l e. let z : Ok (length (page_of o)) ≡ Ok n = sym e ∙ h in let m : length (page_of o) ≡ n = cc in
+      (λ g. sym (list_length out o t (rw m g)), λ g. sym (list_19 out o t (rw m g))))
+
+  -- and where its length is refused 19, each output is, since it has at most so many bytes
+  pub length_none : length_on o ≡ Err R.ShortOutput → (out : Bytes) → length out ≤ most_bytes → listing_on out o ≡ not_listed out R.ShortOutput
+  length_none h out b =
+      by_length
+      (λ t e. let z : Err R.Unsound ≡ Err R.ShortOutput = sym e ∙ h in no (cc))
+      (λ t l e. sym (list_19 out o t (omega (arith, l, b))))
+      (λ t l e. let z : Ok (length (page_of o)) ≡ Err R.ShortOutput = sym e ∙ h in no (cc))
 
 -- "an empty overlay lists as no bytes"
 pub empty_listed : (setting : ℕ) (o : Overlay) → page_of (empty setting o) ≡ []

@@ -4,4 +4,3 @@ pub mod Pages
 pub mod Calls
 pub mod Summaries
 pub mod First
-pub mod Example

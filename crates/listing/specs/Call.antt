@@ -28,3 +28,15 @@ page_over out page =
 
 unfoldable pub listing_on : Bytes → Overlay → Output
 listing_on out o = cond (is_sound o) (page_over out (page_of o)) (not_listed out R.Unsound)
+
+-- the most bytes that an output can have: its length is a word of 64 bits
+abbrev pub most_bytes : ℕ
+most_bytes = 18446744073709551615
+
+-- the length of a page, or 19 where no output is long enough for it
+unfoldable pub page_length : Bytes → Result ℕ Refusal
+page_length page = cond (leb (length page) most_bytes) (Ok (length page)) (Err R.ShortOutput)
+
+-- how long the listing is: 22 first, as the listing itself
+unfoldable pub length_on : Overlay → Result ℕ Refusal
+length_on o = cond (is_sound o) (page_length (page_of o)) (Err R.Unsound)

@@ -6,7 +6,7 @@ ghost use Rattle.base.specs.Bytes.{all};
 ghost use Rattle.little.specs.Little.{is_byte};
 ghost use Rattle.overlay.specs.Lent.{overlay_seen};
 ghost use Rattle.listing.specs.Pieces.{pieces_of};
-ghost use Rattle.listing.specs.Call.{listing_on};
+ghost use Rattle.listing.specs.Call.{listing_on, length_on};
 
 use kind::Kind;
 use listing_rows::KindLines;
@@ -51,4 +51,21 @@ pub fn list(storage: &Storage<'_>, out: &mut [u8]) -> Result<usize, Refusal>
     known_bytes(storage.bytes);
     let page = Page { storage: *storage };
     print::print_whole(&page, out).ok_or(Refusal::ShortOutput)
+}
+
+// How long the listing is: 22, or its length. It is measured by a printer that is lent no bytes, as `print_whole` measures first. 19 where it has more bytes than a word of 64 bits counts,
+// since no output has so many.
+pub fn listing_length(storage: &Storage<'_>) -> Result<usize, Refusal>
+    ensures { result ≡ length_on (overlay_seen storage.now) }
+{
+    storage.check_sound()?;
+    known_bytes(storage.bytes);
+    let mut measure = Printer {
+        out: &mut [],
+        cap: usize::MAX,
+        room: Some(usize::MAX),
+    };
+    Page { storage: *storage }.print(&mut measure);
+    let left = measure.room.ok_or(Refusal::ShortOutput)?;
+    Ok(usize::MAX - left)
 }

@@ -8,6 +8,7 @@ use mathlib.Core.Bool.{true, false, cond}
 use mathlib.Core.Logic.{◌↔◌}
 use mathlib.Core.List.{List, [], ◌∷◌}
 use native.Mathlib.Omega.{arith}
+use lib.Dec.{leb}
 use borrow.Author.Tests.{le-leb}
 use Rattle.base.specs.Bytes.{Bytes, both}
 use Rattle.base.proofs.Split.{by_bool, both_of, no, clash}
@@ -111,13 +112,38 @@ refuses_in (refers p z) r e = no (cc)
 refuses_in (joins p m) r e = no (cc)
 refuses_in (ends p) r e = no (cc)
 
+-- the numbers that stop today
+pub stops_numbers : (r : Refusal) → stops_by r ≡ both (leb 2 (number_of r)) (leb (number_of r) 16)
+unfolding stops_by both
+stops_numbers R.Size = refl
+stops_numbers R.LongLine = refl
+stops_numbers R.NotText = refl
+stops_numbers R.NotEventLine = refl
+stops_numbers R.Misplaced = refl
+stops_numbers R.OutsideSection = refl
+stops_numbers R.Missing = refl
+stops_numbers R.NotInteger = refl
+stops_numbers R.NotTimestamp = refl
+stops_numbers R.CoordinateRange = refl
+stops_numbers R.MemberType = refl
+stops_numbers (R.Regression v) = refl
+stops_numbers R.StringsFull = refl
+stops_numbers R.IdsFull = refl
+stops_numbers R.ArenaFull = refl
+stops_numbers R.TooManyParts = refl
+stops_numbers R.BadRecord = refl
+stops_numbers R.Unfinished = refl
+stops_numbers R.ShortOutput = refl
+stops_numbers R.NotInOrder = refl
+stops_numbers R.NoSuchNumber = refl
+stops_numbers R.Unsound = refl
+
 stops_by_lem : (r : Refusal) → 2 ≤ number_of r → number_of r ≤ 16 → stops_by r ≡ true
-unfolding stops_by
-stops_by_lem r a b = both_of (le-leb 2 (number_of r) a) (le-leb (number_of r) 16 b)
+stops_by_lem r a b = stops_numbers r ∙ both_of (le-leb 2 (number_of r) a) (le-leb (number_of r) 16 b)
 
 -- 22 is no stop mark
 pub unsound_stops_not : stops_by R.Unsound ≡ false
-unfolding stops_by both
+unfolding stops_by
 unsound_stops_not = refl
 
 module _ (line : Bytes) (s : State) (e : state_sound s ≡ true) where

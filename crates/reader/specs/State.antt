@@ -1,9 +1,9 @@
 -- A reader in storage, with the overlay that it reads into and the bytes that are lent for the parts of its element.
 use Rattle.reader.specs.declared.RefusedAt.{RefusedAt}
-use Rattle.std.specs.Prelude.{ℕ, ◌+◌, ◌*◌, ◌-◌, Bool, false, leb, ltb, length, take, is_ok, Option, Some, None}
+use Rattle.std.specs.Prelude.{ℕ, ◌+◌, ◌*◌, ◌-◌, Bool, true, false, leb, ltb, length, take, is_ok, Option, Some, None}
 use Rattle.base.specs.Bytes.{Bytes, both}
-use Rattle.refusal.specs.Refusal.{number_of}
 use Rattle.refusal.specs.declared.Refusal.{Refusal}
+use Rattle.refusal.specs.declared.Refusal.TheVariants as R
 use Rattle.kind.specs.declared.Kind.{Kind}
 use Rattle.kind.specs.declared.Kind.TheVariants.{Node, Way, Relation}
 use Rattle.nesting.specs.Nesting.{start}
@@ -45,9 +45,30 @@ next_line s = s.reader.lines + 1
 
 -- ---- the stop mark
 
--- "a refused event, except for 22, stops its reader": the refusals of an event are 2 to 16, and no other is a stop mark
+-- "a refused event, except for 22, stops its reader": the refusals that an event leaves, and no other is a stop mark. A table, since the numbers that stop need be no range.
 unfoldable pub stops_by : Refusal → Bool
-stops_by r = both (leb 2 (number_of r)) (leb (number_of r) 16)
+stops_by R.Size = false
+stops_by R.LongLine = true
+stops_by R.NotText = true
+stops_by R.NotEventLine = true
+stops_by R.Misplaced = true
+stops_by R.OutsideSection = true
+stops_by R.Missing = true
+stops_by R.NotInteger = true
+stops_by R.NotTimestamp = true
+stops_by R.CoordinateRange = true
+stops_by R.MemberType = true
+stops_by (R.Regression v) = true
+stops_by R.StringsFull = true
+stops_by R.IdsFull = true
+stops_by R.ArenaFull = true
+stops_by R.TooManyParts = true
+stops_by R.BadRecord = false
+stops_by R.Unfinished = false
+stops_by R.ShortOutput = false
+stops_by R.NotInOrder = false
+stops_by R.NoSuchNumber = false
+stops_by R.Unsound = false
 
 abbrev pub is_stopped : Option RefusedAt → Bool
 is_stopped None = false

@@ -13,7 +13,6 @@ use Rattle.kind_store.specs.KindStore.{known_version, checked}
 use Rattle.overlay.specs.Overlay.{Overlay, kind_store_of}
 use Rattle.overlay.specs.Calls.{OverlayAfter, overlay_refused}
 use Rattle.overlay_store.specs.Calls.{store_text, store_push, store_delete}
-use Rattle.act_answer.specs.Answer.{claim_answer}
 use Rattle.event.specs.Event.{or_empty}
 use Rattle.event_scan.specs.Fields.{text_written}
 use Rattle.reader_acts.specs.declared.Act.{Act}
@@ -45,6 +44,10 @@ by_begun g f (Err r) = g r
 
 -- ---- an act
 
+-- "12" of the table's row "store", asked of an act with nothing done: a claim against the known version of its id
+abbrev pub claim_answer : Kind → ℤ → Option ℤ → Overlay → Result Unit ℤ
+claim_answer k id claim o = checked o.setting (known_version k (kind_store_of k o) id) claim
+
 -- 12, or what follows
 abbrev pub admitted : Overlay → Result Unit ℤ → OverlayAfter → OverlayAfter
 admitted o (Err v) a = overlay_refused o (Regression v)
@@ -60,7 +63,7 @@ act_kept o a = act_kept_as o a.overlay a.answer
 
 unfoldable pub act_on : Kind → ℤ → Meta Bytes → (ArenaMeta → Overlay → OverlayAfter) → Overlay → OverlayAfter
 act_on k id m act o =
-    admitted o (checked o.setting (known_version k (kind_store_of k o) id) (claim_of m))
+    admitted o (claim_answer k id (claim_of m) o)
     (by_begun (overlay_refused o) (λ a. act_kept o (act a (begin_on m o).overlay)) (begin_on m o).answer)
 
 -- an element that begins and ends at once is pushed: 12, 13, 14, 15

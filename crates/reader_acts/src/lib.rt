@@ -12,18 +12,18 @@ ghost use Rattle.overlay.specs.Lent.{overlay_in, overlay_seen, overlay_held, IsS
 ghost use Rattle.text_index.specs.Chained.{ChainsServe};
 ghost use Rattle.text_index.specs.Lent.{chains_seen};
 ghost use Rattle.overlay_store.specs.Calls.{store_delete};
-ghost use Rattle.act_answer.specs.Answer.{claim_answer};
 ghost use Rattle.event_values.specs.Value.{body_in};
 ghost use Rattle.reader.specs.Step.{bits_with_user, head_for};
-ghost use Rattle.reader_acts.specs.Acts.{begin_on, handle_for, with_user, push_empty_on, delete_element_on, push_staged_on, handle_or_zero, first_refusal, before_act, meta_named, act_means, ActGiven, UserIs};
+ghost use Rattle.reader_acts.specs.Acts.{claim_answer, begin_on, handle_for, with_user, push_empty_on, delete_element_on, push_staged_on, handle_or_zero, first_refusal, before_act, meta_named, act_means, ActGiven, UserIs};
 
 use compact::{ArenaMeta, PushHead, PushRecord};
 use event_scan::MAX_LINE;
 use event_scan::fields::Value;
 use event_values::Coordinates;
 use kind::Kind;
+use kind_store::VersionRegression;
 use overlay::{Storage, StorageMut, StorageTables};
-use overlay_blocks::{COUNTERS, STRINGS};
+use overlay_blocks::{COUNTERS, SETTING, STRINGS};
 use reader::Pending;
 use reader_stage::STAGED;
 use refusal::Refusal;
@@ -116,12 +116,21 @@ pub fn push_staged(
 
 // ---- an act and the user that its metadata names
 
+// 12: where regression is refused, a claim is checked against the known version of its id.
+#[tactic(auto, using(kind_store::proofs::Settings::checked_by))]
+fn check_claim(storage: &Storage<'_>, kind: Kind, id: u64, claim: Option<i32>) -> Result<(), i32>
+    ensures { result ≡ claim_answer kind (to_z w64 id) claim (overlay_seen storage.now) }
+{
+    let regression = VersionRegression::from(storage.counters[SETTING]);
+    regression.check(storage.kind_storage(kind).known_version(id), claim)
+}
+
 // The refusal of an act whose user's text is refused: 12 if its claim is below the known version, else that of the text.
 fn first_refusal(storage: &Storage<'_>, act: &Act<'_>, refusal: Refusal) -> Refusal
     ensures { result ≡ first_refusal (claim_answer act.now.kind (to_z w64 act.now.id) (claim_of (act_means act.now)) (overlay_seen storage.now)) refusal }
 {
     let claim = act.meta.claim();
-    match act_answer::check_claim(storage, act.kind, act.id, claim) {
+    match check_claim(storage, act.kind, act.id, claim) {
         Ok(()) => refusal,
         Err(held) => Refusal::Regression(held),
     }

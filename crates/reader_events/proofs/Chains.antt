@@ -19,7 +19,7 @@ use Rattle.reader.proofs.Answers.{by_answer}
 use Rattle.reader.proofs.Events.{event_accepted, by_refused}
 use Rattle.reader_calls.proofs.Events.{texts_sound}
 use Rattle.reader_events.specs.Runs.{RunGiven}
-use Rattle.reader_events.proofs.Runs.{Running, given_on, run_start, run_on}
+use Rattle.reader_events.proofs.Runs.{Running, given_on, run_start, line_on}
 
 -- ---- the first chains
 
@@ -66,7 +66,7 @@ by_start c ls s g i = record { running = run_start ls s g; chained = i }
 -- a line more, by the chains that are brought up to date before it
 pub by_line : {ls : List Bytes} {s₀ : State} {left : List Bytes} {taken : ℕ} {s : State} → Running ls s₀ left taken s → (c : HandleChains) → StoreChained c s.overlay.texts
     → {l : Bytes} {more : List Bytes} → left ≡ l ∷ more → (x : EventResult) → x ≡ event_on l s → is_err x.answer ≡ false → RunningBy c ls s₀ more (taken + length l) x.state
-by_line {s = s} w c i {l} e x f k = record { running = run_on w e x f k; chained = rw f (event_chained l s c w.given i) }
+by_line {s = s} w c i {l} e x f k = record { running = line_on w e x f k; chained = rw f (event_chained l s c w.given i) }
 
 -- the chains brought up to date, by the overlay as it is read
 pub chained_by : {s t : Overlay} {c d : HandleChains} → t ≡ s → (StoreChained c t.texts → StoreChained d t.texts) → StoreChained c s.texts → StoreChained d s.texts

@@ -8,9 +8,9 @@ use mathlib.Core.Path.{◌≡◌, refl, sym, ◌∙◌, ap}
 use mathlib.Core.Bool.{true, false}
 use mathlib.Core.List.{List, [], ◌∷◌, flatten}
 use native.Mathlib.Omega.{arith}
-use borrow.Author.Tests.{lt-ltb}
+use borrow.Author.Tests.{lt-ltb, le-leb, lt-leb}
 use lib.Dec.{ltb}
-use lib.ListN.{length, length-append}
+use lib.ListN.{length, drop, length-append}
 use Rattle.base.specs.Bytes.{Bytes, both}
 use Rattle.base.proofs.Split.{both_of, both_left, both_right, no}
 use Rattle.input_lines.specs.Lines.{lines_of, rest_of}
@@ -25,10 +25,12 @@ use Rattle.reader.proofs.Answers.{by_answer}
 use Rattle.reader.proofs.Acts.{Fine}
 use Rattle.reader.proofs.Keeps.{ReadyIn, event_fine, event_ready}
 use Rattle.reader_sound.specs.Mark.{going_answer}
+use Rattle.reader_sound.proofs.Mark.{by_refused, going_on}
 use Rattle.reader_calls.proofs.Events.{event_checked}
-use Rattle.reader_events.specs.Events.{events_on, taken_bytes}
+use Rattle.reader_events.specs.Events.{events_on, taken_bytes, long_rest, run_lines, run_on}
 use Rattle.reader_events.specs.Runs.{RunGiven}
-use Rattle.reader_events.proofs.Onward.{events_on_lem, taken_on, events_off, taken_off, events_none, taken_none}
+use Rattle.reader_events.proofs.Onward.{events_on_lem, taken_on, events_off, taken_off, events_none, taken_none, events_one, run_enough, run_more, run_rest}
+use Rattle.reader_events.proofs.Answers.{run_22, run_stopped, run_going}
 
 -- ---- what is tested once
 
@@ -78,30 +80,31 @@ unfolding meta_fits
 meta_fits_lem m flags version timestamp changeset uid user =
     both_of (lt-ltb _ _ flags) (both_of (lt-ltb _ _ version) (both_of (lt-ltb _ _ timestamp) (both_of (lt-ltb _ _ changeset) (both_of (lt-ltb _ _ uid) (lt-ltb _ _ user)))))
 
--- ---- the first line, before which all is tested
+-- ---- the test, before the first line
 
-abbrev pub Came : List Bytes → State → State → Result Unit RefusedAt → ℕ → Type 0
-Came ls s t answer taken = (record { state = t; answer = answer } ≡ events_on ls s) × (taken ≡ taken_bytes ls s)
+abbrev pub Came : Bytes → State → EventResult → ℕ → Type 0
+Came run s x taken = (x ≡ run_on run s) × (taken ≡ taken_bytes (lines_of run) s)
 
-module _ (s : State) where
-  came_none : Came [] s s (Ok tt) 0
-  came_none = (sym (events_none s), sym (taken_none s))
+module _ (run : Bytes) (s : State) where
+  -- then nothing is taken
+  none_taken : {a : RefusedAt} → going_answer (state_sound s) s.reader.stop ≡ Err a → (ls : List Bytes) → taken_bytes ls s ≡ 0
+  none_taken e [] = taken_none s
+  none_taken {a} e (l ∷ ls) = taken_off l ls s a.refusal a.line (sym (ap (λ (z : EventResult). z.answer) (event_checked l s e)))
 
-  pub came_first : {ls : List Bytes} → ls ≡ [] → Came ls s s (Ok tt) 0
-  came_first e = rw e came_none
+  pub came_refused : (x : Result Unit RefusedAt) → is_err x ≡ true → x ≡ going_answer (state_sound s) s.reader.stop → Came run s (record { state = s; answer = x }) 0
+  came_refused (Ok u) k g = no (cc)
+  came_refused (Err a) k g = (
+    by_refused (state_sound s) s.reader.stop a (sym g) (λ u z. rw z (sym (run_22 run s u))) (λ u m t. sym (run_stopped run s a.refusal a.line u m t)),
+    sym (none_taken (sym g) (lines_of run)),
+  )
 
-  -- a refusal before the first line's step is that of the first line
-  pub came_refused : {ls more : List Bytes} {l : Bytes} → ls ≡ l ∷ more → (x : Result Unit RefusedAt) → is_err x ≡ true → x ≡ going_answer (state_sound s) s.reader.stop → Came ls s s x 0
-  came_refused e (Ok u) k g = no (cc)
-  came_refused {more = more} {l = l} e (Err a) k g =
-      let w = event_checked l s (sym g) in
-      let t : (event_on l s).answer ≡ Err a = sym (ap (λ (z : EventResult). z.answer) w) in
-      let u : (event_on l s).state ≡ s = sym (ap (λ (z : EventResult). z.state) w) in (
-        rw e (sym (events_off l more s a.refusal a.line t ∙ ap (λ (z : State). record { state = z; answer = Err a }) u)),
-        rw e (sym (taken_off l more s a.refusal a.line t)),
-      )
+  pub came_going : going_answer (state_sound s) s.reader.stop ≡ Ok tt → {x : EventResult} → x ≡ events_on (run_lines run) s → x ≡ run_on run s
+  came_going g e = let w = going_on (state_sound s) s.reader.stop g in e ∙ sym (run_going run s w.0 w.1)
 
 -- ---- all lines
+
+abbrev pub CameLines : List Bytes → State → EventResult → ℕ → Type 0
+CameLines ls s x taken = (x ≡ events_on ls s) × (taken ≡ taken_bytes ls s)
 
 pub accepted : (a : Result Unit RefusedAt) → is_err a ≡ false → a ≡ Ok tt
 accepted (Ok tt) k = refl
@@ -119,8 +122,8 @@ run_start ls s k = record { total = refl; bytes = omega arith; given = k }
 module _ {ls : List Bytes} {s₀ : State} {left : List Bytes} {taken : ℕ} {s : State} (w : Running ls s₀ left taken s) where
   module _ {l : Bytes} {more : List Bytes} (e : left ≡ l ∷ more) (x : EventResult) (f : x ≡ event_on l s) where
     -- a line more
-    pub run_on : is_err x.answer ≡ false → Running ls s₀ more (taken + length l) x.state
-    run_on k =
+    pub line_on : is_err x.answer ≡ false → Running ls s₀ more (taken + length l) x.state
+    line_on k =
         let a : (event_on l s).answer ≡ Ok tt = sym (ap (λ (z : EventResult). z.answer) f) ∙ accepted x.answer k in
         rw f (record {
           total = w.total ∙ rw e (events_on_lem l more s a);
@@ -129,8 +132,8 @@ module _ {ls : List Bytes} {s₀ : State} {left : List Bytes} {taken : ℕ} {s :
         })
 
     -- or it is refused
-    pub run_off : is_err x.answer ≡ true → Came ls s₀ x.state x.answer taken
-    run_off k =
+    pub line_off : is_err x.answer ≡ true → CameLines ls s₀ x taken
+    line_off k =
         by_answer x.answer
         (λ a. let z : is_err x.answer ≡ false = rw a in no (cc))
         (λ r n a.
@@ -140,8 +143,36 @@ module _ {ls : List Bytes} {s₀ : State} {left : List Bytes} {taken : ℕ} {s :
         ))
 
   -- no line is left
-  pub run_all : left ≡ [] → Came ls s₀ s (Ok tt) taken
-  run_all e = (rw (w.total, e) (sym (events_none s)), omega (arith, w.bytes, ap (λ (z : List Bytes). taken_bytes z s) e, taken_none s))
+  pub lines_end : left ≡ [] → CameLines ls s₀ (record { state = s; answer = Ok tt }) taken
+  lines_end e = (rw (w.total, e) (sym (events_none s)), omega (arith, w.bytes, ap (λ (z : List Bytes). taken_bytes z s) e, taken_none s))
+
+-- ---- what is left behind the lines of a run
+
+-- all of it, without the test
+abbrev pub CameUntested : Bytes → State → EventResult → ℕ → Type 0
+CameUntested run s x taken = (x ≡ events_on (run_lines run) s) × (taken ≡ taken_bytes (lines_of run) s)
+
+module _ (run : Bytes) (s₀ : State) (taken : ℕ) where
+  -- a line was refused: what is left is not looked at
+  pub came_off : (x : EventResult) → CameLines (lines_of run) s₀ x taken → is_err x.answer ≡ true → CameUntested run s₀ x taken
+  came_off x w k =
+      by_answer x.answer
+      (λ a. let z : is_err x.answer ≡ false = rw a in no (cc))
+      (λ r n a. (w.0 ∙ sym (run_enough run s₀ r n (sym (ap (λ (z : EventResult). z.answer) w.0) ∙ a)), w.1))
+
+  -- else it decides
+  pub came_rest : (s : State) → CameLines (lines_of run) s₀ (record { state = s; answer = Ok tt }) taken → (x : EventResult) → x ≡ events_on (long_rest (drop taken run)) s → CameUntested run s₀ x taken
+  came_rest s w x e =
+      let a : (events_on (lines_of run) s₀).answer ≡ Ok tt = sym (ap (λ (z : EventResult). z.answer) w.0) in
+      let d : drop taken run ≡ rest_of run = ap (λ (n : ℕ). drop n run) w.1 ∙ run_rest run s₀ a in
+      (e ∙ ((λ i. events_on (long_rest (d i)) (w.0 i).state) ∙ sym (run_more run s₀ a)), w.1)
+
+-- it is short, or an event
+pub rest_short : (rest : Bytes) (s : State) → length rest ≤ 16384 → record { state = s; answer = Ok tt } ≡ events_on (long_rest rest) s
+rest_short rest s h = rw (le-leb (length rest) 16384 h) (sym (events_none s))
+
+pub rest_long : (rest : Bytes) (s : State) → 16384 < length rest → {x : EventResult} → x ≡ event_on rest s → x ≡ events_on (long_rest rest) s
+rest_long rest s h e = rw (lt-leb (length rest) 16384 h) (e ∙ sym (events_one rest s))
 
 -- the lines that are left lie within the run, behind the bytes that were taken
 abbrev pub Within : Bytes → List Bytes → ℕ → Type 0

@@ -1,4 +1,4 @@
-// A run of event lines fed to a reader in one call: soundness is tested once, then a step a line.
+// A run of event lines fed to a reader in one call: soundness is tested once, then a step a line; and a rest that is too long for a line is refused.
 #![tactic(auto)]
 
 ghost use Rattle.std.specs.Prelude.{◌≡◌, true, ◌≤◌, length};
@@ -12,9 +12,10 @@ ghost use Rattle.reader.specs.Lent.{state_lent, state_left, state_seen, state_he
 ghost use Rattle.reader.specs.State.{state_sound};
 ghost use Rattle.reader.specs.Given.{StateGiven};
 ghost use Rattle.reader.specs.Event.{event_on};
-ghost use Rattle.reader_events.specs.Events.{events_on, taken_bytes};
+ghost use Rattle.reader_events.specs.Events.{events_on, taken_bytes, long_rest, run_lines, run_on};
 ghost use Rattle.reader_events.specs.Runs.{RunGiven};
 
+use event_scan::MAX_LINE;
 use input_lines::RunLines;
 use overlay_blocks::COUNTERS;
 use reader::{EventReader, Pending, ReaderState, ReaderView, RefusedAt};
@@ -47,12 +48,28 @@ fn line_event(
 
 // ---- all lines
 
-// All lines, by chains of handles that are brought up to date before each.
+// What is left behind the lines of a run: where it is already too long for a line it is an event, which refuses it; else it is unfinished.
+fn rest_event(
+    state: &mut ReaderState<'_>,
+    chains: &Chains<'_>,
+    rest: &[u8],
+) -> Result<(), RefusedAt>
+    ensures same { IsSameState state.new state.old }
+    ensures value { RunGiven (state_held state.old) → ChainsServe (chains_seen chains.now) (state_held state.old).overlay.texts
+        → record { state = state_held state.new; answer = result } ≡ events_on (long_rest rest.now) (state_held state.old) }
+{
+    if rest.len() <= MAX_LINE {
+        return Ok(());
+    }
+    line_event(state, chains, rest)
+}
+
+// All lines, by chains of handles that are brought up to date before each, and then what is left.
 fn events_by(state: &mut ReaderState<'_>, chains: &mut ChainsMut<'_>, run: &[u8]) -> EventsDone
     ensures same { IsSameState state.new state.old }
     ensures same_chains { IsSameChains chains.new chains.old }
     ensures answer_value { RunGiven (state_held state.old) → StoreChained (chains_held chains.old) (state_held state.old).overlay.texts
-        → record { state = state_held state.new; answer = result.answer } ≡ events_on (lines_of run.now) (state_held state.old) }
+        → record { state = state_held state.new; answer = result.answer } ≡ events_on (run_lines run.now) (state_held state.old) }
     ensures taken_value { RunGiven (state_held state.old) → StoreChained (chains_held chains.old) (state_held state.old).overlay.texts
         → result.taken ≡ taken_bytes (lines_of run.now) (state_held state.old) }
     ensures taken_in_bounds { result.taken ≤ length run.now }
@@ -66,17 +83,16 @@ fn events_by(state: &mut ReaderState<'_>, chains: &mut ChainsMut<'_>, run: &[u8]
         }
         taken += line.len();
     }
-    EventsDone {
-        answer: Ok(()),
-        taken,
-    }
+    let answer = rest_event(state, &chains.chains(), &run[taken..]);
+    EventsDone { answer, taken }
 }
 
-// The same as `events_on` with no test of soundness: for a caller who knows that the state is sound but for its count of lines, since nothing else changed it after a test.
+// The same as `events_on` with no test of soundness or of the stop mark before the first line: for a caller who knows that the state is sound but for its count of lines, since
+// nothing else changed it after a test.
 pub fn events_untested(state: &mut ReaderState<'_>, run: &[u8]) -> EventsDone
     ensures same { IsSameState state.new state.old }
     ensures answer_value { RunGiven (state_held state.old)
-        → record { state = state_held state.new; answer = result.answer } ≡ events_on (lines_of run.now) (state_held state.old) }
+        → record { state = state_held state.new; answer = result.answer } ≡ events_on (run_lines run.now) (state_held state.old) }
     ensures taken_value { RunGiven (state_held state.old) → result.taken ≡ taken_bytes (lines_of run.now) (state_held state.old) }
     ensures taken_in_bounds { result.taken ≤ length run.now }
 {
@@ -122,19 +138,13 @@ fn state_tested(state: &ReaderView<'_>) -> bool
 
 // ---- the call
 
-// The whole lines of a run as events, up to the first that is refused. What follows the bytes that were taken is the refused line, or the unfinished one, which a caller
-// lends again with what comes after it.
+// A run. Whatever it holds: 22, or the stop mark. Then its whole lines as events, up to the first that is refused, and what is left of it where that is already too long for a line. What follows
+// the bytes that were taken is what was refused, or the unfinished line, which a caller lends again with what comes after it.
 pub fn events_on(state: &mut ReaderState<'_>, run: &[u8]) -> EventsDone
     ensures same { IsSameState state.new state.old }
-    ensures answer_value { record { state = state_held state.new; answer = result.answer } ≡ events_on (lines_of run.now) (state_held state.old) }
+    ensures answer_value { record { state = state_held state.new; answer = result.answer } ≡ run_on run.now (state_held state.old) }
     ensures taken_value { result.taken ≡ taken_bytes (lines_of run.now) (state_held state.old) }
 {
-    let Some(_) = (RunLines { rest: run }).next() else {
-        return EventsDone {
-            answer: Ok(()),
-            taken: 0,
-        };
-    };
     let sound = state_tested(&state.view());
     let answer = reader_sound::check_going(sound, state.reader.stop);
     if answer.is_err() {
@@ -153,7 +163,7 @@ pub fn events(
     run: &[u8],
 ) -> EventsDone
     ensures answer_value { record { state = state_left words.new bytes.new counters.new parts.new reader.new; answer = result.answer }
-        ≡ events_on (lines_of run.now) (state_lent words.old bytes.old counters.old parts.old reader.old) }
+        ≡ run_on run.now (state_lent words.old bytes.old counters.old parts.old reader.old) }
     ensures taken_value { result.taken ≡ taken_bytes (lines_of run.now) (state_lent words.old bytes.old counters.old parts.old reader.old) }
 {
     let mut state = ReaderState {

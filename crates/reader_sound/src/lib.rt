@@ -10,7 +10,7 @@ use compact::PushRecord;
 use kind::Kind;
 use overlay_blocks::STRINGS;
 use reader::{Pending, ReaderView, RefusedAt};
-use refusal::{Refusal, Reply};
+use refusal::Refusal;
 
 // Whether the staged parts lie within the lent bytes, and the push that they will make passes 17, 3, 10 and 16.
 fn pending_sound(strings: u64, kind: Kind, parts: &[u8], pending: Pending) -> bool
@@ -45,12 +45,29 @@ pub fn state_sound(state: &ReaderView<'_>) -> bool
         && reader.lines < u64::MAX
 }
 
-// Whether a refusal stops the reader of its event: 2 to 16.
-#[tactic(auto, unfolding(reader::specs::State::stops_by, refusal::specs::Refusal::reply_of, base::specs::Bytes::both))]
+// Whether a refusal stops the reader of its event.
+#[tactic(auto, unfolding(reader::specs::State::stops_by))]
 fn stops_by(refusal: Refusal) -> bool
     ensures { result ≡ stops_by refusal }
 {
-    (2..=16).contains(&Reply::from(refusal).number)
+    matches!(
+        refusal,
+        Refusal::LongLine
+            | Refusal::NotText
+            | Refusal::NotEventLine
+            | Refusal::Misplaced
+            | Refusal::OutsideSection
+            | Refusal::Missing
+            | Refusal::NotInteger
+            | Refusal::NotTimestamp
+            | Refusal::CoordinateRange
+            | Refusal::MemberType
+            | Refusal::Regression(_)
+            | Refusal::StringsFull
+            | Refusal::IdsFull
+            | Refusal::ArenaFull
+            | Refusal::TooManyParts
+    )
 }
 
 // The mark that stops a reader; a mark that no refused event leaves stops nothing.

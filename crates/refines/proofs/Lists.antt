@@ -46,7 +46,7 @@ use Rattle.reader.specs.Step as S
 use Rattle.reader.specs.Event.{event_on, EventResult, stepped, end_at}
 use Rattle.reader.proofs.Answers.{by_event, end_keeps, end_going}
 use Rattle.reader.proofs.Acts.{Fine, more_strings}
-use Rattle.reader.proofs.Events.{event_accepted}
+use Rattle.reader.proofs.Events.{event_accepted, stops_numbers}
 use Rattle.reader.proofs.Keeps.{ready_sound, Ready, fresh_ready, event_ready, ready_more}
 use Rattle.reader.proofs.Steps.{EachStep, each_goes}
 use Rattle.calls.specs.Ask.{put_at, Ask, interns, pushes, deletes, reads, ends, allows, Storage, state_of, with_state, with_overlay, started, leaves, after, ask_fits}
@@ -164,8 +164,7 @@ line_decided n line p w q h = reading_decided n (event_of line) p w q h
 
 -- the number of a stop mark is not 22
 stops_number : (r : Refusal) → stops_by r ≡ true → eqb (number_of r) 22 ≡ false
-unfolding stops_by
-stops_number r t = ne_eqb (number_of r) 22 (λ e. let l = leb-true (number_of r) 16 (both_right _ _ t) in omega arith)
+stops_number r t = ne_eqb (number_of r) 22 (λ e. let l = leb-true (number_of r) 16 (both_right _ _ (sym (stops_numbers r) ∙ t)) in omega arith)
 
 -- an event of one reader tells nothing of another
 past_other : (n m : ℕ) → (m ≡ n → ⊥) → (t : Told) (p : Past) → ((event_past n t p).stopped m ≡ p.stopped m) × ((event_past n t p).lines m ≡ p.lines m)

@@ -31,8 +31,8 @@ use Rattle.input_lines.specs.Lines.{last_line}
 use Rattle.listing.specs.Call.{Output, page_of, page_over, listing_on, not_listed}
 use Rattle.std.specs.Option.{unwrap_or}
 use Rattle.print.specs.Piece.{Whole, whole_over}
-use Rattle.report.specs.Report.{refused_line}
-use Rattle.report.proofs.Fits.{refused_whole}
+use Rattle.roadlist_report.specs.Report.{refused_line}
+use Rattle.roadlist_report.proofs.Fits.{refused_whole}
 use Rattle.reader.specs.State.{State, fresh_reader, state_sound, reader_sound, refusal_at}
 use Rattle.reader.specs.declared.EventReader.{EventReader}
 use Rattle.reader.specs.Event.{EventResult, event_on, end_on}

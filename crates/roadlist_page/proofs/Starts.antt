@@ -40,7 +40,7 @@ use Rattle.roadlist_page.proofs.Ends.{program_fits}
 
 -- ---- the start
 
-zeros_bytes : (n : ℕ) → all is_byte (replicate n 0) ≡ true
+pub zeros_bytes : (n : ℕ) → all is_byte (replicate n 0) ≡ true
 unfolding all is_byte both
 zeros_bytes zero = refl
 zeros_bytes (suc n) = zeros_bytes n
@@ -55,7 +55,7 @@ bytes = replicate 32768 0
 abbrev counters : List ℕ
 counters = replicate 17 0
 
-lends_bytes : InBytes program_lends
+pub lends_bytes : InBytes program_lends
 unfolding program_lends
 lends_bytes = record { arenas = each; texts = bytes_drop (text_part_in program_sizes (length words) (length bytes)).bytes bytes (zeros_bytes 32768) }
   where
@@ -71,7 +71,7 @@ lends_fit : sizes_fit largest (with_sizes program_sizes program_lends) ≡ true
 unfolding program_lends
 lends_fit = program_fits words bytes counters (length-replicate {A = ℕ} 5632 0) (length-replicate {A = ℕ} 32768 0)
 
-lends_taken : taken_in (set_up program_sizes 0 program_lends).answer ≡ true
+pub lends_taken : taken_in (set_up program_sizes 0 program_lends).answer ≡ true
 lends_taken = by_set_up program_sizes 0 program_lends (λ s w. clash lends_fit s) (λ s w. ap (λ (z : OverlayAfter). taken_in z.answer) w)
 
 pub start_fine : Fine program_start.overlay

@@ -12,7 +12,7 @@ use Rattle.overlay_blocks.specs.declared.Sizes.{Sizes}
 use Rattle.overlay.specs.Calls.{set_up}
 use Rattle.input_lines.specs.Stream.{after_input}
 use Rattle.listing.specs.Call.{page_of}
-use Rattle.report.specs.Report.{refused_line}
+use Rattle.roadlist_report.specs.Report.{refused_line}
 use Rattle.reader.specs.State.{State, fresh_reader}
 use Rattle.reader.specs.Event.{end_on}
 use Rattle.input_pieces.specs.Feed.{after_event}

@@ -90,7 +90,7 @@ fn put_refusal(out: &mut [u8; MAX_OUTPUT], refusal: Refusal, line: u64) -> Ended
     // read for the proof alone: the version held is an `i32`, so the line fits the output
     let _reply = Reply::from(refusal);
     Ended {
-        written: report::put_refused(out, refusal, line).unwrap_or(0),
+        written: roadlist_report::put_refused(out, refusal, line).unwrap_or(0),
         refusal: Some(refusal),
     }
 }

@@ -10,7 +10,7 @@ use Rattle.overlay.specs.Overlay.{Overlay}
 use Rattle.reader.specs.State.{State}
 use Rattle.reader.specs.Event.{event_on, end_on}
 use Rattle.input_lines.specs.Lines.{lines_of}
-use Rattle.reader_events.specs.Events.{events_on, taken_bytes}
+use Rattle.reader_events.specs.Events.{taken_bytes, run_on}
 use Rattle.reader.specs.declared.EventReader.{EventReader}
 use Rattle.c_reader.specs.Words.{words_of_reader, reader_in, is_reader, reader_of_words}
 use Rattle.c_reader.proofs.Coded.{coded, not_coded}
@@ -37,7 +37,7 @@ module _ (o : Overlay) (w : List ℕ) (parts : Bytes) where
     event_is line f g h = rw (g, h, i, ← e, ← f)
 
     pub events_is : (run : Bytes) {q : Overlay} {t : EventReader} {a : Result Unit RefusedAt} {ps : Bytes} {n : ℕ} {ws : List ℕ} {r : EventsReply}
-        → record { state = record { overlay = q; reader = t; parts = ps }; answer = a } ≡ events_on (lines_of run) (record { overlay = o; reader = x; parts = parts })
+        → record { state = record { overlay = q; reader = t; parts = ps }; answer = a } ≡ run_on run (record { overlay = o; reader = x; parts = parts })
         → n ≡ taken_bytes (lines_of run) (record { overlay = o; reader = x; parts = parts })
         → ws ≡ words_of_reader t → r ≡ taken_reply (answer_reply a) n → record { overlay = q; words = ws; parts = ps; reply = r } ≡ events_reply run o w parts
     unfolding events_reply reader_of_words

@@ -7,7 +7,7 @@ use Rattle.reader.specs.Event.{EventResult, event_on, end_on}
 use Rattle.reader.specs.declared.EventReader.{EventReader}
 use Rattle.c_reader.specs.Words.{words_of_reader, reader_of_words}
 use Rattle.input_lines.specs.Lines.{lines_of}
-use Rattle.reader_events.specs.Events.{events_on, taken_bytes}
+use Rattle.reader_events.specs.Events.{taken_bytes, run_on}
 use Rattle.c_replies.specs.Readers.{answer_reply, no_reader, taken_reply}
 use Rattle.c_replies.specs.declared.EventReply.{EventReply}
 use Rattle.c_replies.specs.declared.EventsReply.{EventsReply}
@@ -43,7 +43,7 @@ replied_events x n =
     record { overlay = x.state.overlay; words = words_of_reader x.state.reader; parts = x.state.parts; reply = taken_reply (answer_reply x.answer) n }
 
 abbrev pub run_replied : Bytes → State → EventsReplied
-run_replied run s = replied_events (events_on (lines_of run) s) (taken_bytes (lines_of run) s)
+run_replied run s = replied_events (run_on run s) (taken_bytes (lines_of run) s)
 
 abbrev pub events_named : Option EventReader → Bytes → Overlay → List ℕ → Bytes → EventsReplied
 events_named (Some r) run o words parts = run_replied run (record { overlay = o; reader = r; parts = parts })

@@ -1,6 +1,8 @@
 // The listing.
 ghost use Rattle.std.specs.Prelude.{◌≡◌};
+ghost use Rattle.listing.specs.Call.{length_on};
 ghost use Rattle.overlay.specs.Lent.{lent};
+ghost use Rattle.c_replies.specs.Listings.{listed_reply};
 ghost use Rattle.torvaskin.specs.Listings.{listing_reply};
 
 use c_replies::ListingReply;
@@ -24,4 +26,21 @@ pub extern "C" fn tvk_listing(
         counters,
     };
     ListingReply::from(listing::list(&storage, out))
+}
+
+// How long the listing is, so that a caller lends enough: 22, or its length; 19 where no output is long enough.
+#[unsafe(no_mangle)]
+pub extern "C" fn tvk_listing_length(
+    words: &[u64],
+    bytes: &[u8],
+    counters: &[u64; COUNTERS],
+) -> ListingReply
+    ensures { result ≡ listed_reply (length_on (lent words.now bytes.now counters.now)) }
+{
+    let storage = Storage {
+        words,
+        bytes,
+        counters,
+    };
+    ListingReply::from(listing::listing_length(&storage))
 }

@@ -39,8 +39,8 @@ pub extern "C" fn tvk_event(
     }
 }
 
-// The whole lines of a run as events, up to the first that is refused. What follows the bytes that were taken is the refused line, or the unfinished one, which a caller
-// hands over again with what comes after it. Words that are no reader's are 22, and nothing changes.
+// A run, whatever it holds: 22, or the stop mark. Then its whole lines as events, up to the first that is refused, and what is left of it where that is already too long for a line. What follows
+// the bytes that were taken is what was refused, or the unfinished line, which a caller hands over again with what comes after it. Words that are no reader's are 22, and nothing changes.
 #[unsafe(no_mangle)]
 pub extern "C" fn tvk_events(
     words: &mut [u64],

@@ -1,1 +1,4 @@
+mod Opened
 pub mod Claim
+pub mod Inputs
+pub mod Stops

@@ -135,9 +135,9 @@ input_a =
     ∷ ascii "close\n"
     ∷ []
 
--- its lines as events of reader 0, and the end
-abbrev pub events_a : List Separates
-events_a = map (λ line. accepts (Ask.reads 0 line)) input_a ++ (accepts (Ask.ends 0) ∷ [])
+-- lines as events of reader 0, and its end, all accepted
+abbrev pub events_of : List Bytes → List Separates
+events_of lines = map (λ line. accepts (Ask.reads 0 line)) lines ++ (accepts (Ask.ends 0) ∷ [])
 
 abbrev pub output_a : Bytes
 output_a = ascii "n\t7\t+\t3\t9\t3\t0\t0\t0\t\t10\t-20\t1\tname\tA\nw\t-4\t-\t2\n"
@@ -203,7 +203,7 @@ rows =
     ∷ takes (pos 1) way_of_two 61
     ∷ takes (pos 1) relation_of_one 58
     -- Input A gives Output A
-    ∷ prints events_a output_a
+    ∷ prints (events_of input_a) output_a
     -- no header; an empty overlay lists as no bytes
     ∷ prints [] []
     -- ids in OSM order

@@ -228,6 +228,10 @@ impl<L: Lend> Entries<L> {
                 let listed = self.0.bytes(&mut output, |out| entry::listing(p, out));
                 Answer::Listing { number: listed.number, len: listed.length, output }
             }
+            Call::ListingLength => {
+                let listed = entry::listing_length(p);
+                Answer::Number { number: listed.number, value: listed.length as u64 }
+            }
             ref call => panic!("{call:?}"),
         }
     }

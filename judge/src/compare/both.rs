@@ -44,11 +44,14 @@ impl<'a> Both<'a> {
     }
 
     /// The Rust's answer. What is lent then holds the Rust's state after an accepted call and is otherwise as before, a setting that was given
-    /// as it was given; after a refused one it is as before but for the stop mark. A run is its lines in turn.
+    /// as it was given; after a refused one it is as before but for the stop mark. A run is its stop mark, or its lines in turn.
     fn told(&mut self, call: &Call) -> Answer {
         let mut changed = false;
         let answer = match call {
-            Call::Events(n, run) => in_turn(run, |line| self.answered(&Call::Event(*n, line.into()), &mut changed)),
+            Call::Events(n, run) => {
+                let first = self.rust.mark(*n);
+                in_turn(run, first, |line| self.answered(&Call::Event(*n, line.into()), &mut changed))
+            }
             call => self.answered(call, &mut changed),
         };
         if changed {
@@ -156,8 +159,9 @@ impl<'a> Both<'a> {
         Ok(number)
     }
 
-    /// The listing in outputs that are longer, exactly long enough, and one byte short.
+    /// How long the listing is, and the listing in outputs that are longer, exactly long enough, and one byte short.
     pub(super) fn listing(&mut self) -> Result<(), String> {
+        self.read(&Call::ListingLength)?;
         let len = self.rust.overlay.listing().len();
         for size in [Some(len), Some(len + 9), len.checked_sub(1)] {
             if let Some(size) = size {

@@ -4,6 +4,7 @@ use std::ops::Range;
 
 use super::ground::{Ground, Judge, version, word};
 use crate::answer::{KINDS, Kind, KindState, Meta, Sizes, State};
+use crate::lines::LINE_MAX;
 use crate::produce::Bytes;
 use crate::random::Random;
 
@@ -359,11 +360,12 @@ pub enum Call {
     DeletedIds(u8, usize),
     /// One line with its line feed, or a tail without one, to a reader by its number.
     Event(usize, Bytes),
-    /// The whole lines of a run, one after the other.
+    /// The whole lines of a run, one after the other, and what is left of it where that is too long for a line.
     Events(usize, Bytes),
     End(usize),
     /// Into so many bytes.
     Listing(usize),
+    ListingLength,
 }
 
 impl Call {
@@ -394,7 +396,7 @@ pub enum Answer {
         number: u32,
         held: i32,
     },
-    /// A handle, a count, the bits of an id, a version or 2^32 for none, 1 or 0.
+    /// A handle, a count, a length, the bits of an id, a version or 2^32 for none, 1 or 0.
     Number {
         number: u32,
         value: u64,
@@ -492,17 +494,24 @@ impl Answer {
     }
 }
 
-/// The whole lines of a run as events, up to the first that is refused.
-pub(super) fn in_turn(run: &[u8], mut event: impl FnMut(&[u8]) -> Answer) -> Answer {
-    let mut taken = 0;
-    for line in run.split_inclusive(|byte| *byte == b'\n').filter(|line| line.ends_with(b"\n")) {
-        match event(line) {
-            Answer::Event { number: 0, .. } => taken += line.len(),
-            Answer::Event { number, held, line } => return Answer::Events { number, held, line, taken },
-            answer => panic!("{answer:?}"),
+/// A run: what is answered before its first line, 22 or a stop mark, whatever it holds; then its whole lines as events, up to the first that is refused, and what is left of it where that is
+/// already too long for a line.
+pub(super) fn in_turn(run: &[u8], first: Answer, mut event: impl FnMut(&[u8]) -> Answer) -> Answer {
+    let (mut answer, mut taken) = (first, 0);
+    let is_event = |line: &&[u8]| line.ends_with(b"\n") || line.len() > LINE_MAX;
+    let mut lines = run.split_inclusive(|byte| *byte == b'\n').filter(is_event);
+    while answer.number() == 0
+        && let Some(line) = lines.next()
+    {
+        answer = event(line);
+        if answer.number() == 0 {
+            taken += line.len();
         }
     }
-    Answer::Events { number: 0, held: 0, line: 0, taken }
+    match answer {
+        Answer::Event { number, held, line } => Answer::Events { number, held, line, taken },
+        answer => panic!("{answer:?}"),
+    }
 }
 
 /// The library's calls.

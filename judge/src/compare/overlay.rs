@@ -7,6 +7,7 @@ use super::call::{Call, Port};
 use super::direct::{LARGEST, random_call, some_sizes};
 use super::reads::everything;
 use crate::answer::Sizes;
+use crate::lines::LINE_MAX;
 use crate::produce::{Bytes, Documents, Style, close_names, events, levels};
 use crate::random::Random;
 
@@ -172,7 +173,12 @@ pub fn readers(port: &dyn Port, seed: u64, rounds: u64) -> Compared {
                 1 | 2 => random_call(&mut both, &mut random)?,
                 4 => {
                     let lines: Vec<Bytes> = left[reader].by_ref().take(random.below(6)).collect();
-                    both.call(&Call::Events(reader, lines.concat()))?
+                    let mut run = lines.concat();
+                    if random.once_in(9) {
+                        // An unfinished line, as long as a line may be or longer.
+                        run.resize(run.len() + LINE_MAX + random.below(2), b'x');
+                    }
+                    both.call(&Call::Events(reader, run))?
                 }
                 3 if random.once_in(6) => {
                     // A reader may begin anywhere in a list.

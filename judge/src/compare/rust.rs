@@ -116,6 +116,11 @@ impl Rust {
         stopped(reader.line(&mut self.overlay, body, ended, Change::None, Some(sizes)))
     }
 
+    /// What a reader that is stopped repeats; 0 where it goes on.
+    pub fn mark(&self, reader: usize) -> Answer {
+        stopped(self.readers[reader].stop().map_or(Ok(()), Err))
+    }
+
     /// In blocks of so many words and bytes.
     pub fn set_up(&mut self, sizes: &Given, words: usize, bytes: usize, setting: u64) -> Answer {
         if !sizes_fit(sizes, words, bytes) {
@@ -161,6 +166,7 @@ impl Rust {
             Call::Events(..) => panic!("its lines are given one by one"),
             Call::End(reader) => stopped(self.readers[*reader].end()),
             Call::Listing(size) => Answer::listing(*size, Ok(overlay.listing())),
+            Call::ListingLength => Answer::value(Ok(overlay.listing().len() as u64)),
         }
     }
 

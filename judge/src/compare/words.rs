@@ -605,6 +605,7 @@ impl Port for Words {
             Call::Events(reader, run) => words_reader::events(self, lent, *reader, run),
             Call::End(reader) => words_reader::end(self, lent, *reader),
             Call::Listing(size) => Answer::listing(*size, self.checked(lent).map(|()| listing(lent))),
+            Call::ListingLength => Answer::value(self.checked(lent).map(|()| listing(lent).len() as u64)),
         }
     }
 }

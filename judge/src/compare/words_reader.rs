@@ -38,12 +38,12 @@ fn bits(word: u64) -> Option<i32> {
 }
 
 impl Reading {
-    /// None where a word is no code, or does not fit its field.
+    /// None where a word is no code, or does not fit its field. "a refused event, except for 22, stops its reader": with 2 to 16.
     pub fn of(words: &[u64; 19]) -> Option<Self> {
         let [level, section, kind, id, lat, lon, count, tags, flags, version, ..] = *words;
         let [.., timestamp, changeset, uid, user, used, lines, number, line, held] = *words;
-        // A mark has the version held for 12 alone, and none has a line.
-        if (number != 12 && held != 0) || (number == 0 && line != 0) {
+        // A mark is a refusal that an event leaves, with the version held for 12 alone, and none has a line.
+        if !matches!(number, 0 | 2..=16) || (number != 12 && held != 0) || (number == 0 && line != 0) {
             return None;
         }
         Some(Self {
@@ -65,7 +65,7 @@ impl Reading {
             },
             used: used as usize,
             lines,
-            stop: (code(number, 22)?, bits(held)?, line),
+            stop: (code(number, 16)?, bits(held)?, line),
         })
     }
 
@@ -123,13 +123,13 @@ fn answer((number, held, line): (u32, i32, u64)) -> Answer {
 }
 
 /// The reader, where it and the overlay are sound; or its answer: 22, which names no line, or the
-/// repeat of its stop mark. "a refused event, except for 22, stops its reader": 2 to 16.
+/// repeat of its stop mark.
 fn going(words: &Words, lent: &Storage, n: usize) -> Result<Reading, Answer> {
     let Lines { words: held, parts } = &lent.readers[n];
     let sound = |r: &Reading| words.checked(lent).is_ok() && r.is_sound(parts, lent.counters[6]);
     let reading = Reading::of(held).filter(sound);
     let reading = reading.ok_or_else(|| answer((22, 0, 0)))?;
-    if (2..=16).contains(&reading.stop.0) {
+    if reading.stop.0 != 0 {
         return Err(answer(reading.stop));
     }
     Ok(reading)
@@ -157,12 +157,10 @@ pub(super) fn event(words: &Words, lent: &mut Storage, n: usize, line: &[u8]) ->
     }
 }
 
-/// Words that are no reader's are told first: a run without a whole line tests nothing else.
+/// A run: "each call .., first", so 22 and the stop mark are told whatever it holds.
 pub(super) fn events(words: &Words, lent: &mut Storage, n: usize, run: &[u8]) -> Answer {
-    if Reading::of(&lent.readers[n].words).is_none() {
-        return Answer::Events { number: 22, held: 0, line: 0, taken: 0 };
-    }
-    in_turn(run, |line| event(words, lent, n, line))
+    let first = going(words, lent, n).err().unwrap_or_else(|| answer((0, 0, 0)));
+    in_turn(run, first, |line| event(words, lent, n, line))
 }
 
 /// "18 level is not Done". It stops nothing and changes nothing.

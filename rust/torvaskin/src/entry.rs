@@ -116,6 +116,10 @@ pub fn listing(blocks: Shared<'_>, out: &mut [u8]) -> ListingReply {
     entry!(tvk_listing, read, blocks, out, out_len)
 }
 
+pub fn listing_length(blocks: Shared<'_>) -> ListingReply {
+    entry!(tvk_listing_length, read, blocks)
+}
+
 pub fn event(blocks: Lent<'_>, reader: &mut [u64; 19], staged: &mut [u8; STAGED], line: &[u8]) -> EventReply {
     entry!(tvk_event, write, blocks, reader, staged, line.as_ptr(), line.len())
 }

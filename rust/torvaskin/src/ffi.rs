@@ -168,6 +168,7 @@ unsafe extern "C" {
     pub fn tvk_live_ids(words: *const u64, words_len: usize, bytes: *const u8, bytes_len: usize, counters: *const [u64; 17], kind: u8, ids: *mut u64, ids_len: usize, versions: *mut u64, versions_len: usize) -> Number;
     pub fn tvk_deleted_ids(words: *const u64, words_len: usize, bytes: *const u8, bytes_len: usize, counters: *const [u64; 17], kind: u8, ids: *mut u64, ids_len: usize, versions: *mut u64, versions_len: usize) -> Number;
     pub fn tvk_listing(words: *const u64, words_len: usize, bytes: *const u8, bytes_len: usize, counters: *const [u64; 17], out: *mut u8, out_len: usize) -> ListingReply;
+    pub fn tvk_listing_length(words: *const u64, words_len: usize, bytes: *const u8, bytes_len: usize, counters: *const [u64; 17]) -> ListingReply;
     pub fn tvk_event(words: *mut u64, words_len: usize, bytes: *mut u8, bytes_len: usize, counters: *mut [u64; 17], reader: *mut [u64; 19], parts: *mut [u8; 44432], line: *const u8, line_len: usize) -> EventReply;
     pub fn tvk_events(words: *mut u64, words_len: usize, bytes: *mut u8, bytes_len: usize, counters: *mut [u64; 17], reader: *mut [u64; 19], parts: *mut [u8; 44432], run: *const u8, run_len: usize) -> EventsReply;
     pub fn tvk_end(words: *const u64, words_len: usize, bytes: *const u8, bytes_len: usize, counters: *const [u64; 17], reader: *const [u64; 19], parts: *const [u8; 44432]) -> EventReply;

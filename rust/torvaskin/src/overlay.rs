@@ -443,21 +443,33 @@ impl<S: Storage> Overlay<S> {
         record.map(Some).ok_or(Refusal::UNSOUND)
     }
 
-    /// The listing. Refused 19 where it has more bytes than these.
+    /// The listing. Refused 19 where it has more bytes than these, before memory is taken for it.
     pub fn listing(&self, most: usize) -> Result<String, Refusal> {
+        let len = self.listing_len()?;
         let mut out = Vec::new();
-        loop {
-            let size = most.min((2 * out.len()).max(65_536));
-            out.try_reserve_exact(size - out.len()).map_err(|_| Refusal::of(Reason::ShortOutput))?;
-            out.resize(size, 0);
-            match self.listing_into(&mut out).map(str::len) {
-                Err(refusal) if refusal.reason() == Reason::ShortOutput && size < most => {}
-                listed => {
-                    out.truncate(listed?);
-                    return String::from_utf8(out).map_err(|_| Refusal::UNSOUND);
-                }
-            }
+        if len > most || out.try_reserve_exact(len).is_err() {
+            return Err(Refusal::of(Reason::ShortOutput));
         }
+        out.resize(len, 0);
+        self.listing_into(&mut out)?;
+        String::from_utf8(out).map_err(|_| Refusal::UNSOUND)
+    }
+
+    /// How many bytes the listing has: [`Overlay::listing_into`] writes it into an output of that many bytes or more.
+    ///
+    /// ```
+    /// use torvaskin::{ElementKind, Overlay, Sizes};
+    ///
+    /// let mut overlay = Overlay::new(&Sizes::ROADLIST)?;
+    /// assert_eq!(overlay.listing_len()?, 0);
+    /// overlay.delete(ElementKind::Node, 8, None)?;
+    /// assert_eq!(overlay.listing_len()?, 8);
+    /// # Ok::<(), torvaskin::Refusal>(())
+    /// ```
+    pub fn listing_len(&self) -> Result<usize, Refusal> {
+        let listed = entry::listing_length(self.storage.shared());
+        Refusal::unless_taken(listed.number, 0, 0)?;
+        Ok(listed.length)
     }
 
     /// The listing at the start of an output, whose other bytes stay as they are. Refused 19 where it does not fit.

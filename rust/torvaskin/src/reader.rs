@@ -72,7 +72,9 @@ impl<W: DerefMut<Target = [u64; 19]>, B: DerefMut<Target = [u8; STAGED]>> Reader
     }
 
     /// The whole lines of a run, one event after another, with one test of what is lent: how many bytes were taken. What follows them is a line
-    /// without its line feed, to be handed over again with what comes behind it. Refused as the first refused line is.
+    /// without its line feed, to be handed over again with what comes behind it. Refused as the first refused line is, with the lines before it
+    /// taken in; 2 where what follows is already longer than a line may be; and a run that holds no line is refused 22 or as the reader was
+    /// stopped, as any other.
     ///
     /// ```
     /// use torvaskin::{Overlay, Reader, Sizes};

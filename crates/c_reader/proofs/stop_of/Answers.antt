@@ -27,7 +27,8 @@ returns-in_err-bits c =
 pub returns-in_err-refusal : goal.returns-in_err-refusal
 returns-in_err-refusal c =
     let a = c.args in
-    rw (c.from_residual-in_err-refusal.ensures, numberless a.number a.line a.held c.if-number-eq0.false (not_coded _ c.in_err-refusal.ensures))
+    let n = narrow _ _ _ c.try_from.ensures c.in_ok-bits.ensures.value in
+    rw (c.from_residual-in_err-refusal.ensures, numberless a.number a.line a.held c.if-number-eq0.false (rw n.1 at (not_coded _ c.in_err-refusal.ensures)))
 
 pub returns-then-number-eq12 : goal.returns-then-number-eq12
 unfolding stop_in
@@ -39,7 +40,7 @@ returns-then-number-eq12 c =
       | then-number-eq12-via-then-number-eq12 w ↦ either_left _ _ (eq-eqb a.number 12 w.if-number-eq12.true)
       | then-number-eq12-via-else-number-eq12+then-bits-eq0 w ↦ either_right _ (eq-eqb a.held 0 (sym n.1 ∙ w.if-bits-eq0.true))
     ] in
-    rw (numbered a.number a.line a.held c.if-number-eq0.false r.0 n.0 k, ne_eqb a.number 0 c.if-number-eq0.false, r.1, n.1)
+    rw (numbered a.number a.line a.held c.if-number-eq0.false (rw n.1 at r.0) n.0 k, ne_eqb a.number 0 c.if-number-eq0.false, r.1, n.1)
 
 pub returns : goal.returns
 returns c =

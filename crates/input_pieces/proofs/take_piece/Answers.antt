@@ -13,5 +13,5 @@ returns-clause-value c =
     let a = c.args in
     let j = c.join_piece-n in
     let are : j.result ≡ a.held + length a.piece.now = omega (arith, j.ensures.value, c.requires) in
-    let w = c.take_lines-done in
-    fed_by (state_held a.state.now) a.buffer.now a.piece.now a.held c.requires _ j.result j.ensures.buffer_after are _ w.result.taken (w.ensures.answer_value g) (w.ensures.run_value g) _ _ c.keep_front-held.ensures
+    let w = c.events_untested-done in
+    fed_by (state_held a.state.now) a.buffer.now a.piece.now a.held c.requires _ j.result j.ensures.buffer_after are _ w.result.taken (w.ensures.answer_value g) (w.ensures.taken_value g) _ _ c.keep_front-held.ensures

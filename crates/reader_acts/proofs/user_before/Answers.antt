@@ -8,9 +8,8 @@ use mir.Syntax.{w64}
 use mir.Val.{to_z}
 use Rattle.model.specs.Record.{claim_of}
 use Rattle.overlay.specs.Lent.{overlay_seen}
-use Rattle.act_answer.specs.Answer.{claim_answer}
 use Rattle.refusal.specs.declared.Refusal.{Refusal}
-use Rattle.reader_acts.specs.Acts.{act_means, before_by, first_refusal}
+use Rattle.reader_acts.specs.Acts.{claim_answer, act_means, before_by, first_refusal}
 use Rattle.reader_acts.proofs.Bits.{act_named, act_unnamed}
 use Rattle.reader_acts.proofs.user_before.Goals as goal
 

@@ -1,9 +1,10 @@
 -- A line more, by the chains that are brought up to date before it; or it is refused.
 use mathlib.Core.Path.{refl, sym, ◌∙◌, ap}
 use native.Mathlib.Omega.{arith}
+use Rattle.std.proofs.lemmas.List.{take_rest}
 use Rattle.reader.specs.State.{State}
 use Rattle.reader.specs.Lent.{state_held}
-use Rattle.reader_events.proofs.Runs.{run_off, run_all, within_start, within_line}
+use Rattle.reader_events.proofs.Runs.{line_off, lines_end, came_off, came_rest, within_start, within_line}
 use Rattle.reader_events.proofs.Chains.{by_start, by_line, chained_by, served_by}
 use Rattle.reader_events.proofs.events_by.Goals as goal
 
@@ -34,7 +35,8 @@ returns-then-is_err-clause-answer_value c =
     let w = c.loop-line.invariant.3 g i in
     let j = chained_by (c.storage.ensures ∙ ap (λ (z : State). z.overlay) c.view.ensures) c.chain_texts.ensures.chains w.chained in
     let k = served_by c.chains.ensures j in
-    (run_off w.running c.in-Some.ensures.steps _ (c.line_event-answer.ensures.value w.running.given k) (sym c.is_err.ensures.value ∙ c.if-is_err.true)).0
+    let x = sym c.is_err.ensures.value ∙ c.if-is_err.true in
+    (came_off c.args.run.now (state_held c.args.state.now) _ _ (line_off w.running c.in-Some.ensures.steps _ (c.line_event-answer.ensures.value w.running.given k) x) x).0
 
 pub returns-then-is_err-clause-taken_value : goal.returns-then-is_err-clause-taken_value
 returns-then-is_err-clause-taken_value c =
@@ -42,7 +44,7 @@ returns-then-is_err-clause-taken_value c =
     let w = c.loop-line.invariant.3 g i in
     let j = chained_by (c.storage.ensures ∙ ap (λ (z : State). z.overlay) c.view.ensures) c.chain_texts.ensures.chains w.chained in
     let k = served_by c.chains.ensures j in
-    (run_off w.running c.in-Some.ensures.steps _ (c.line_event-answer.ensures.value w.running.given k) (sym c.is_err.ensures.value ∙ c.if-is_err.true)).1
+    (line_off w.running c.in-Some.ensures.steps _ (c.line_event-answer.ensures.value w.running.given k) (sym c.is_err.ensures.value ∙ c.if-is_err.true)).1
 
 pub returns-then-is_err-clause-taken_in_bounds : goal.returns-then-is_err-clause-taken_in_bounds
 returns-then-is_err-clause-taken_in_bounds c = omega (arith, c.loop-line.invariant.2)
@@ -69,7 +71,13 @@ loop-line-preserved c =
     )
 
 pub returns-clause-answer_value : goal.returns-clause-answer_value
-returns-clause-answer_value c = λ g i. (run_all (c.loop-line.invariant.3 g i).running c.in-None.ensures.steps.0).0
+returns-clause-answer_value c =
+    λ g i.
+    let w = c.loop-line.invariant.3 g i in
+    let run = c.args.run.now in
+    let l = lines_end w.running c.in-None.ensures.steps.0 in
+    let x = c.rest_event-answer.ensures.value w.running.given (served_by c.chains-2.ensures w.chained) in
+    (came_rest run (state_held c.args.state.now) c.loop-line.taken _ l _ (rw (take_rest run c.loop-line.taken) at x)).0
 
 pub returns-clause-taken_value : goal.returns-clause-taken_value
-returns-clause-taken_value c = λ g i. (run_all (c.loop-line.invariant.3 g i).running c.in-None.ensures.steps.0).1
+returns-clause-taken_value c = λ g i. (lines_end (c.loop-line.invariant.3 g i).running c.in-None.ensures.steps.0).1

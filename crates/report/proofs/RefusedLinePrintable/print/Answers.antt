@@ -1,8 +1,0 @@
--- The pieces of the line one after the other.
-use Rattle.report.proofs.Reports.{line_printed}
-use Rattle.report.proofs.RefusedLinePrintable.print.Goals as goal
-
-pub returns : goal.returns
-returns c =
-    let a = c.args.self.now in
-    line_printed a.refusal a.line c.from-reply.result c.from-reply.ensures c.put_bytes.ensures (rw c.from.ensures at c.put.ensures) c.put-2.ensures c.put_held.ensures c.put_bytes-2.ensures
