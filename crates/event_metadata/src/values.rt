@@ -57,11 +57,7 @@ fn metadata_name(s: &[u8]) -> Option<MetadataName>
 
 impl<'a, const N: usize> MetadataValues<'a, N> {
     // With one value more. Only `false` exactly hides.
-    fn with(
-        &self,
-        name: MetadataName,
-        value: &Value<'a, N>,
-    ) -> Result<MetadataValues<'a, N>, Refusal>
+    fn with(&self, name: MetadataName, value: &Value<'a, N>) -> Result<Self, Refusal>
         ensures { metadata_answered result ≡ metadata_as name (metadata_means self.now) (text_written value.now) }
     {
         let with = MetadataValues {
