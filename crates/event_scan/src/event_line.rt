@@ -148,7 +148,8 @@ pub enum EventLine<'a> {
     Others,
 }
 
-// An open or an empty element, by the fields behind its first word.
+// An open or an empty element, by the fields behind its first word. Inlined at both its calls, so that its answer is not handed on through memory.
+#[inline(always)]
 fn starts<'a>(empty: bool, fields: &Fields<'a, MAX_LINE>) -> Result<EventLine<'a>, Refusal>
     ensures { line_means result ≡ starts_from empty (fields_left fields.now) }
 {

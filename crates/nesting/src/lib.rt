@@ -79,6 +79,10 @@ impl From<&[u8]> for Name {
     ghost from_gives = { λ s name. name ≡ name_of s.now };
 
     fn from(s: &[u8]) -> Name {
+        // the names of the document and its sections are longer
+        if s.len() < 6 {
+            return object_name(s);
+        }
         if s == b"osmChange".as_slice() {
             return Name::OsmChange;
         }

@@ -197,7 +197,8 @@ fn tag_with(
     over_limit(&state.view().storage(), chains, key)
 }
 
-// With its value's escapes resolved: an array holds the text. The library has no heap.
+// With its value's escapes resolved: an array holds the text. The library has no heap. It is not inlined, so that a tag without an escape makes no room for the array.
+#[inline(never)]
 fn tag_resolved(
     state: &mut ReaderState<'_>,
     chains: &Chains<'_>,
