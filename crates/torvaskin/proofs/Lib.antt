@@ -5,5 +5,7 @@ pub mod ReaderKeeps
 pub mod MarkReplies
 pub mod ReaderFirst
 pub mod ReadingFirst
+pub mod RecordFirst
+pub mod RecordReads
 pub mod ListingReplies
 pub mod ListingFirst
