@@ -583,7 +583,7 @@ static uint64_t le(const uint8_t *at, size_t n)
     return value;
 }
 
-/* docs/STORAGE.md, "A record" */
+/* docs/STORAGE.md, "Records" */
 static struct found by_offsets(uint8_t kind, const uint8_t *at, size_t len)
 {
     struct found f = {{0}, 0, TVK_UNSOUND};

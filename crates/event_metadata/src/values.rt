@@ -34,22 +34,22 @@ enum MetadataName {
 fn metadata_name(s: &[u8]) -> Option<MetadataName>
     ensures { result ≡ metadata_name s.now }
 {
-    if s == b"version".as_slice() {
+    if distinct::equal(s, b"version".as_slice()) {
         return Some(MetadataName::Version);
     }
-    if s == b"timestamp".as_slice() {
+    if distinct::equal(s, b"timestamp".as_slice()) {
         return Some(MetadataName::Timestamp);
     }
-    if s == b"changeset".as_slice() {
+    if distinct::equal(s, b"changeset".as_slice()) {
         return Some(MetadataName::Changeset);
     }
-    if s == b"uid".as_slice() {
+    if distinct::equal(s, b"uid".as_slice()) {
         return Some(MetadataName::Uid);
     }
-    if s == b"user".as_slice() {
+    if distinct::equal(s, b"user".as_slice()) {
         return Some(MetadataName::User);
     }
-    if s == b"visible".as_slice() {
+    if distinct::equal(s, b"visible".as_slice()) {
         return Some(MetadataName::Visible);
     }
     None

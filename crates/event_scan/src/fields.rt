@@ -144,7 +144,7 @@ impl<'a, const N: usize> Attributes<'a, N> {
     {
         let mut rest = *self;
         while let Some(attribute) = rest.next() {
-            if name == attribute.name {
+            if distinct::equal(name, attribute.name) {
                 return Some(attribute.value);
             }
         }
