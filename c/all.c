@@ -240,6 +240,46 @@ static void set_up(void)
     }
 }
 
+/* ---- many texts in one call, where all strings are held */
+
+static void many_texts(void)
+{
+    static const size_t lengths[] = {4, 0, 9, 4}, two[] = {4, 1}, long_ones[] = {SIZE_MAX, 18};
+    uint64_t handles[5] = {77, 77, 77, 77, 77};
+    struct tvk_texts_reply t = tvk_overlay_intern_texts(&o, "namemaxweightfrom", 17, lengths, handles, 4);
+
+    SAME(t.number, 0);
+    SAME(t.taken, 4);
+    SAME(handles[0], 1);
+    SAME(handles[1], 0);
+    SAME(handles[2], 2);
+    SAME(handles[3], 3);
+    SAME(handles[4], 77);
+    /* the second is refused: the first has its handle, and the word of the second stays */
+    t = tvk_overlay_intern_texts(&o, "fromy", 5, two, handles, 2);
+    SAME(t.number, TVK_STRINGS_FULL);
+    SAME(t.taken, 1);
+    SAME(handles[0], 3);
+    SAME(handles[1], 0);
+    t = tvk_overlay_intern_texts(&o, "from\xff", 5, two, handles, 2);
+    SAME(t.number, TVK_NOT_TEXT);
+    SAME(t.taken, 1);
+    /* lengths that do not add up, and sums past a word */
+    SAME(tvk_overlay_intern_texts(&o, "from", 4, two, handles, 2).number, TVK_BAD_RECORD);
+    SAME(tvk_overlay_intern_texts(&o, "fromfrom", 8, lengths, handles, 1).number, TVK_BAD_RECORD);
+    SAME(tvk_overlay_intern_texts(&o, "namemaxweightfrom", 17, long_ones, handles, 2).number, TVK_BAD_RECORD);
+    /* no text, of which nothing is read or written; and no room for a handle */
+    t = tvk_overlay_intern_texts(&o, NULL, 0, NULL, NULL, 0);
+    SAME(t.number, 0);
+    SAME(t.taken, 0);
+    t = tvk_intern_texts(o.words, o.words_len, o.bytes, o.bytes_len, o.counters, (const uint8_t *)"namemaxweightfrom", 17, lengths, 4, handles, 3);
+    SAME(t.number, TVK_SHORT_OUTPUT);
+    SAME(t.taken, 0);
+    SAME(handles[0], 3);
+    SAME(o.counters[TVK_USED_STRINGS], 8);
+    SAME(o.counters[TVK_USED_STRING_BYTES], 34);
+}
+
 /* ---- an overlay filled by direct calls: every part to its last element */
 
 static void direct(void)
@@ -267,6 +307,7 @@ static void direct(void)
     SAME(tvk_overlay_intern(&o, "y", 1).number, TVK_STRINGS_FULL);
     SAME(o.counters[TVK_USED_STRINGS], 8);
     SAME(o.counters[TVK_USED_STRING_BYTES], 34);
+    many_texts();
 
     /* nodes of 49 bytes: five fill 245 */
     h = head_of(-7);
@@ -451,6 +492,247 @@ static void readings(void)
     SAME(page[l.length], 'x');
 }
 
+/* ---- records read from their bytes: by the walks of the header, and by offsets written here */
+
+/* what was read of a record, word by word, and the refusal */
+struct found {
+    uint64_t words[32];
+    size_t used;
+    uint32_t number;
+};
+
+static void find(struct found *f, uint64_t word)
+{
+    if (f->used < sizeof f->words / sizeof f->words[0])
+        f->words[f->used++] = word;
+}
+
+/* a step goes forward, and not past the bytes */
+static void onward(const struct tvk_walk *from, const struct tvk_walk *to, uint32_t found)
+{
+    SAME(to->remaining, from->remaining - found);
+    SAME(found == 0 ? to->offset == from->offset : from->offset < to->offset && to->offset <= to->len, 1);
+}
+
+static struct found by_walks(uint8_t kind, const uint8_t *at, size_t len)
+{
+    struct found f = {{0}, 0, 0};
+    struct tvk_record r = tvk_record_open(kind, at, len);
+    struct tvk_walk from;
+    struct tvk_ref_reply ref;
+    struct tvk_member_reply member;
+    struct tvk_tag_reply tag;
+
+    f.number = r.number;
+    if (r.number != 0) {
+        SAME(tvk_next_ref(&r.refs).number, TVK_UNSOUND);
+        SAME(tvk_next_member(&r.members).number, TVK_UNSOUND);
+        SAME(tvk_next_tag(&r.tags).number, TVK_UNSOUND);
+        return f;
+    }
+    find(&f, (uint64_t)r.head.id);
+    find(&f, (uint32_t)r.head.lat);
+    find(&f, (uint32_t)r.head.lon);
+    find(&f, r.head.count);
+    find(&f, r.head.tags);
+    find(&f, r.meta.flags);
+    find(&f, (uint32_t)r.meta.version);
+    find(&f, (uint64_t)r.meta.timestamp);
+    find(&f, (uint64_t)r.meta.changeset);
+    find(&f, (uint32_t)r.meta.uid);
+    find(&f, r.meta.user);
+    do {
+        from = r.refs;
+        ref = tvk_next_ref(&r.refs);
+        onward(&from, &r.refs, ref.found);
+        if (ref.found)
+            find(&f, (uint64_t)ref.value);
+    } while (ref.found);
+    do {
+        from = r.members;
+        member = tvk_next_member(&r.members);
+        onward(&from, &r.members, member.found);
+        if (member.found) {
+            find(&f, (uint64_t)member.reference);
+            find(&f, member.kind);
+            find(&f, member.role);
+        }
+    } while (member.found);
+    f.number = ref.number != 0 ? ref.number : member.number;
+    if (f.number != 0)
+        return f;
+    do {
+        from = r.tags;
+        tag = tvk_next_tag(&r.tags);
+        onward(&from, &r.tags, tag.found);
+        if (tag.found) {
+            find(&f, tag.key);
+            find(&f, tag.start);
+            find(&f, tag.len);
+        }
+    } while (tag.found);
+    f.number = tag.number;
+    return f;
+}
+
+static uint64_t le(const uint8_t *at, size_t n)
+{
+    uint64_t value = 0;
+    while (n-- > 0)
+        value = value << 8 | at[n];
+    return value;
+}
+
+/* docs/STORAGE.md, "Records" */
+static struct found by_offsets(uint8_t kind, const uint8_t *at, size_t len)
+{
+    struct found f = {{0}, 0, TVK_UNSOUND};
+    size_t head = kind == TVK_NODE ? 20 : 16, next = head + 29, part = kind == TVK_WAY ? 8 : 13;
+    uint64_t count, tags;
+
+    if (len < next)
+        return f;
+    count = kind == TVK_NODE ? 0 : le(at + 8, 4);
+    tags = le(at + head - 4, 4);
+    find(&f, le(at, 8));
+    find(&f, kind == TVK_NODE ? le(at + 8, 4) : 0);
+    find(&f, kind == TVK_NODE ? le(at + 12, 4) : 0);
+    find(&f, count);
+    find(&f, tags);
+    find(&f, at[head]);
+    find(&f, le(at + head + 1, 4));
+    find(&f, le(at + head + 5, 8));
+    find(&f, le(at + head + 13, 8));
+    find(&f, le(at + head + 21, 4));
+    find(&f, le(at + head + 25, 4));
+    for (; count > 0; count--, next += part) {
+        if (len - next < part || (kind == TVK_RELATION && at[next + 8] > TVK_RELATION))
+            return f;
+        find(&f, le(at + next, 8));
+        if (kind == TVK_RELATION) {
+            find(&f, at[next + 8]);
+            find(&f, le(at + next + 9, 4));
+        }
+    }
+    for (; tags > 0; tags--) {
+        size_t value;
+        if (len - next < 8)
+            return f;
+        value = (size_t)le(at + next + 4, 4);
+        if (len - next - 8 < value || !tvk_field_is_text(at + next + 8, value))
+            return f;
+        find(&f, le(at + next, 4));
+        find(&f, next + 8);
+        find(&f, value);
+        next += 8 + value;
+    }
+    f.number = 0;
+    return f;
+}
+
+static uint32_t read_both_ways(uint8_t kind, const uint8_t *at, size_t len)
+{
+    struct found is = by_walks(kind, at, len), must = by_offsets(kind, at, len);
+    SAME(is.number, must.number);
+    SAME(is.used, must.used);
+    SAME(memcmp(is.words, must.words, sizeof is.words), 0);
+    return is.number;
+}
+
+/* whole, cut short anywhere, and with each bit turned; the bytes end where their array does */
+static void damaged_record(uint8_t kind, uint64_t n)
+{
+    static uint8_t copy[96];
+    struct tvk_bytes record = tvk_view_bytes(tvk_overlay_arena(&o, kind), tvk_overlay_record(&o, kind, n));
+
+    SAME(record.len <= sizeof copy, 1);
+    SAME(read_both_ways(kind, record.at, record.len), 0);
+    for (size_t len = 0; len < record.len; len++) {
+        uint8_t *at = copy + sizeof copy - len;
+        memcpy(at, record.at, len);
+        SAME(read_both_ways(kind, at, len), TVK_UNSOUND);
+    }
+    for (size_t bit = 0; bit < 8 * record.len; bit++) {
+        uint8_t *at = copy + sizeof copy - record.len;
+        memcpy(at, record.at, record.len);
+        at[bit / 8] ^= (uint8_t)(1u << bit % 8);
+        read_both_ways(kind, at, record.len);
+    }
+}
+
+static void records(void)
+{
+    struct tvk_record r = tvk_overlay_open(&o, TVK_WAY, tvk_overlay_get(&o, TVK_WAY, 10));
+    struct tvk_walk again = r.refs;
+    struct tvk_tag_reply tag;
+    struct tvk_member_reply member;
+
+    SAME(r.number, 0);
+    SAME(r.kind, TVK_WAY);
+    SAME(r.head.id, 10);
+    SAME(r.head.count, 2);
+    SAME(r.meta.timestamp, -6);
+    SAME(tvk_next_ref(&r.refs).value, 1);
+    SAME(tvk_next_ref(&r.refs).value, -2);
+    SAME(tvk_next_ref(&r.refs).found, 0);
+    SAME(tvk_next_ref(&r.refs).number, 0);
+    SAME(tvk_next_ref(&again).value, 1);
+    SAME(tvk_next_member(&r.members).found, 0);
+    tag = tvk_next_tag(&r.tags);
+    SAME(tag.key, 1);
+    BYTES(r.tags.bytes + tag.start, tag.len, "Quay Road");
+    SAME(tvk_next_tag(&r.tags).key, 2);
+    tag = tvk_next_tag(&r.tags);
+    SAME(tag.number, 0);
+    SAME(tag.found, 0);
+
+    r = tvk_overlay_open(&o, TVK_RELATION, tvk_overlay_record(&o, TVK_RELATION, 1));
+    SAME(r.head.id, 21);
+    SAME(tvk_next_ref(&r.refs).found, 0);
+    member = tvk_next_member(&r.members);
+    SAME(member.reference, -20);
+    SAME(member.kind, TVK_WAY);
+    SAME(member.role, 3);
+    SAME(tvk_next_member(&r.members).reference, 21);
+    SAME(tvk_next_member(&r.members).found, 0);
+
+    r = tvk_overlay_open(&o, TVK_NODE, tvk_overlay_get(&o, TVK_NODE, 4));
+    SAME(r.number, 0);
+    SAME(r.meta.flags, 0);
+    SAME(tvk_next_ref(&r.refs).found + tvk_next_member(&r.members).found + tvk_next_tag(&r.tags).found, 0);
+
+    /* a view that is refused, or found nothing; bytes that are none; a kind that is none */
+    SAME(tvk_overlay_open(&o, TVK_NODE, tvk_overlay_record(&o, TVK_NODE, 9)).number, TVK_NO_SUCH_NUMBER);
+    SAME(tvk_overlay_open(&o, TVK_NODE, tvk_overlay_get(&o, TVK_NODE, -7)).number, TVK_UNSOUND);
+    SAME(tvk_overlay_open(&o, 3, tvk_overlay_get(&o, 3, 1)).number, TVK_BAD_RECORD);
+    SAME(tvk_record_open(TVK_NODE, NULL, 60).number, TVK_UNSOUND);
+    SAME(tvk_record_open(3, NULL, 0).number, TVK_BAD_RECORD);
+    SAME(tvk_record_head(3, o.bytes, 0).number, TVK_BAD_RECORD);
+    SAME(tvk_record_meta(255, o.bytes, 60).number, TVK_BAD_RECORD);
+    /* no view leads outside its block */
+    struct tvk_view v = {0, 1, 240, 6};
+    SAME(tvk_view_bytes(tvk_overlay_arena(&o, TVK_NODE), v).len, 0);
+    v.start = SIZE_MAX;
+    SAME(tvk_view_bytes(tvk_overlay_arena(&o, TVK_NODE), v).len, 0);
+    v.start = 239;
+    SAME(tvk_view_bytes(tvk_overlay_arena(&o, TVK_NODE), v).at - o.bytes, 239);
+
+    /* offsets that are none: done at 0 remaining, else 22 */
+    static const size_t offsets[] = {49, 50, SIZE_MAX - 12, SIZE_MAX - 7, SIZE_MAX};
+    for (size_t i = 0; i < sizeof offsets / sizeof offsets[0]; i++) {
+        for (uint32_t remaining = 0; remaining < 2; remaining++) {
+            uint32_t number = remaining == 0 ? 0 : TVK_UNSOUND;
+            SAME(tvk_record_ref(o.bytes, 49, offsets[i], remaining).number, number);
+            SAME(tvk_record_member(o.bytes, 49, offsets[i], remaining).number, number);
+            SAME(tvk_record_tag(o.bytes, 49, offsets[i], remaining).number, number);
+            SAME(tvk_record_ref(o.bytes, 49, offsets[i], remaining).found, 0);
+        }
+    }
+    for (uint8_t kind = TVK_NODE; kind <= TVK_RELATION; kind++)
+        for (uint64_t n = 0; n < tvk_overlay_live_count(&o, kind).value; n++)
+            damaged_record(kind, n);
+}
+
 /* ---- where the parts lie in the blocks */
 
 static void places(void)
@@ -519,6 +801,7 @@ static const char document[] = "open\tosmChange\nopen\tmodify\nopen\tnode\tid=7\
 
 static void refused(void)
 {
+    static const size_t short_text = 3;
     uint64_t ids[8], versions[8];
     char page[512];
 
@@ -526,6 +809,8 @@ static void refused(void)
     SAME(tvk_overlay_is_sound(&o).number, TVK_UNSOUND);
     SAME(tvk_overlay_allow_version_regression(&o, 1).number, TVK_UNSOUND);
     SAME(tvk_overlay_intern(&o, "name", 4).number, TVK_UNSOUND);
+    SAME(tvk_overlay_intern_texts(&o, NULL, 0, NULL, NULL, 0).number, TVK_UNSOUND);
+    SAME(tvk_overlay_intern_texts(&o, "name", 4, &short_text, ids, 1).number, TVK_UNSOUND);
     SAME(tvk_overlay_is_empty(&o).number, TVK_UNSOUND);
     SAME(tvk_overlay_text(&o, 0).number, TVK_UNSOUND);
     for (uint8_t k = 0; k < 4; k++) {
@@ -726,6 +1011,7 @@ int main(void)
     set_up();
     direct();
     readings();
+    records();
     places();
     saved();
     other_blocks();

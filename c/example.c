@@ -32,18 +32,19 @@ static struct tvk_reply push_road(void)
     struct tvk_parts parts = tvk_parts_in(buffer, sizeof buffer);
     struct tvk_head head = {5, 0, 0, 0, 0};
     struct tvk_meta meta = tvk_no_meta();
-    struct tvk_handle name = tvk_overlay_intern(&overlay, "name", 4);
-    struct tvk_handle weight = tvk_overlay_intern(&overlay, "maxweight", 9);
-    if (name.number != TVK_ACCEPTED || weight.number != TVK_ACCEPTED) {
-        struct tvk_reply not_held = {name.number != TVK_ACCEPTED ? name.number : weight.number, 0};
+    static const size_t lengths[] = {4, 9}; /* of name and maxweight, which lie end to end */
+    uint64_t keys[2];
+    struct tvk_texts_reply held = tvk_overlay_intern_texts(&overlay, "namemaxweight", 13, lengths, keys, 2);
+    if (held.number != TVK_ACCEPTED) {
+        struct tvk_reply not_held = {held.number, 0};
         return not_held;
     }
     meta.flags = TVK_PRESENT | TVK_HAS_VERSION;
     meta.version = 1;
     tvk_parts_ref(&parts, 7);
     tvk_parts_ref(&parts, 8);
-    tvk_parts_tag(&parts, (uint32_t)name.handle, "Quay Road", 9);
-    tvk_parts_tag(&parts, (uint32_t)weight.handle, "7.5", 3);
+    tvk_parts_tag(&parts, (uint32_t)keys[0], "Quay Road", 9);
+    tvk_parts_tag(&parts, (uint32_t)keys[1], "7.5", 3);
     return tvk_overlay_push_parts(&overlay, TVK_WAY, head, meta, &parts);
 }
 

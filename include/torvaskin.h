@@ -50,7 +50,7 @@ extern "C" {
 /* ---- version */
 
 /* Of this header and its library. CHANGELOG.md says what each version changed. */
-#define TVK_VERSION "0.3.0"
+#define TVK_VERSION "0.4.0"
 
 /* What the words, bytes and counters of an overlay and the words and staged bytes of a reader mean. It changes when they do: who saves them writes it beside them. */
 #define TVK_STORED_FORM 1
@@ -130,9 +130,9 @@ extern "C" {
 #define TVK_IDS_FULL 14         /* a new id, and the ids of its kind are full */
 #define TVK_ARENA_FULL 15       /* a record longer than its arena's unused bytes */
 #define TVK_TOO_MANY_PARTS 16   /* an element over one of the limits above */
-#define TVK_BAD_RECORD 17       /* flags, fields, handles, type bytes or parts that are not as they must be, or a number that is no kind */
+#define TVK_BAD_RECORD 17       /* flags, fields, handles, type bytes, parts or lengths that are not as they must be, or a number that is no kind */
 #define TVK_UNFINISHED 18       /* the end of a document that is not done */
-#define TVK_SHORT_OUTPUT 19     /* an output shorter than the listing */
+#define TVK_SHORT_OUTPUT 19     /* an output shorter than the listing, or a list shorter than what is to stand in it */
 #define TVK_NOT_IN_ORDER 20     /* ids not strictly in OSM order */
 #define TVK_NO_SUCH_NUMBER 21   /* a number not below its list's count, or a handle that is not held */
 #define TVK_UNSOUND 22          /* damaged storage, blocks that are not as long as the sizes say, or words that are no reader's */
@@ -221,6 +221,12 @@ struct tvk_cursor {
     size_t place;
 };
 
+/* 0, or the refusal; and how many texts were taken in. */
+struct tvk_texts_reply {
+    uint32_t number;
+    size_t taken;
+};
+
 /* The head of a direct push. A node has lat and lon, and its count is not looked at; a way counts its refs, a relation its members; each counts its tags. */
 struct tvk_head {
     int64_t id;
@@ -238,6 +244,48 @@ struct tvk_meta {
     int64_t changeset;
     int32_t uid;
     uint32_t user;
+};
+
+/* What a record's head says, with where its refs or members begin and where its tags do, in bytes from the record's start; or the refusal with zeros. A node has a place and no
+   count, a way and a relation a count and no place. */
+struct tvk_head_reply {
+    uint32_t number;
+    struct tvk_head head;
+    size_t parts_at;
+    size_t tags_at;
+};
+
+/* What its metadata say, or the refusal with zeros. */
+struct tvk_meta_reply {
+    uint32_t number;
+    struct tvk_meta meta;
+};
+
+/* 0 and found 1 with a ref, which is a node's id, and the offset of the next; 0 and found 0 where none remains; or the refusal. */
+struct tvk_ref_reply {
+    uint32_t number;
+    uint32_t found;
+    int64_t value;
+    size_t next;
+};
+
+/* The same with a member: its ref, its kind, and its role's handle. */
+struct tvk_member_reply {
+    uint32_t number;
+    uint32_t found;
+    int64_t reference;
+    uint8_t kind;
+    uint32_t role;
+    size_t next;
+};
+
+/* The same with a tag: its key's handle, and where its value lies in the record's bytes. The next tag stands where the value ends. */
+struct tvk_tag_reply {
+    uint32_t number;
+    uint32_t found;
+    uint32_t key;
+    size_t start;
+    size_t len;
 };
 
 /* ==== entries: ids, versions, fields, text */
@@ -286,6 +334,12 @@ struct tvk_reply tvk_allow_version_regression(const uint64_t *words, size_t word
 
 /* Takes a text in: 22, 3, 13, or its handle: that of an equal text, else the next. Handle 0 is the empty text. */
 struct tvk_handle tvk_intern(uint64_t *words, size_t words_len, uint8_t *bytes, size_t bytes_len, uint64_t counters[TVK_COUNTERS], const uint8_t *text, size_t text_len);
+
+/* Takes many texts in, with one test for 22. They lie end to end in texts, and lengths has the length of each. 22; 17 where the lengths do not add up to the bytes; 19 where
+   handles is shorter than the texts are many. Then each text as tvk_intern takes it in, one after another up to the first that is refused 3 or 13: those before it stay taken in,
+   and their handles stand at the start of handles. What lies past them is left as it is. */
+struct tvk_texts_reply tvk_intern_texts(uint64_t *words, size_t words_len, uint8_t *bytes, size_t bytes_len, uint64_t counters[TVK_COUNTERS], const uint8_t *texts,
+                                        size_t texts_len, const size_t *lengths, size_t lengths_len, uint64_t *handles, size_t handles_len);
 
 /* A direct push: 22, 17, 3, 10, 16, 12, 14, 15, or 0. parts: a way's refs (8 bytes each) or a relation's members (13 bytes: ref, type byte, role's handle in 4), then the
    tags (key's handle in 4 bytes, value's length in 4, the value's bytes); numbers little-endian. tvk_parts_ref, tvk_parts_member and tvk_parts_tag lay them out. */
@@ -352,6 +406,19 @@ struct tvk_number tvk_live_ids(const uint64_t *words, size_t words_len, const ui
                                uint64_t *ids, size_t ids_len, uint64_t *versions, size_t versions_len);
 struct tvk_number tvk_deleted_ids(const uint64_t *words, size_t words_len, const uint8_t *bytes, size_t bytes_len, const uint64_t counters[TVK_COUNTERS], uint8_t kind,
                                   uint64_t *ids, size_t ids_len, uint64_t *versions, size_t versions_len);
+
+/* ==== entries: a record's bytes, which a view says where they lie. They look at no overlay and test none, so the bytes may be any, and more may follow the record. A walk that
+   begins at the places that the head names and hands on each `next` goes forward with every part that is found, and not past the bytes. */
+
+/* The head, and the metadata, of a record of a kind: 17 for a number above 2, 22 where bytes are missing, or 0. */
+struct tvk_head_reply tvk_record_head(uint8_t kind, const uint8_t *bytes, size_t bytes_len);
+struct tvk_meta_reply tvk_record_meta(uint8_t kind, const uint8_t *bytes, size_t bytes_len);
+
+/* The ref, the member, and the tag at an offset, with so many remaining: found 0 at 0 remaining; else 22 where its bytes are not all there, for a member also where its type
+   byte is no kind, for a tag also where its value runs past the bytes or is no text. */
+struct tvk_ref_reply tvk_record_ref(const uint8_t *bytes, size_t bytes_len, size_t offset, uint32_t remaining);
+struct tvk_member_reply tvk_record_member(const uint8_t *bytes, size_t bytes_len, size_t offset, uint32_t remaining);
+struct tvk_tag_reply tvk_record_tag(const uint8_t *bytes, size_t bytes_len, size_t offset, uint32_t remaining);
 
 /* ==== entries: lookups in lists of ids, which are handed over as their bits, strictly in OSM order; else 20 */
 
@@ -427,6 +494,12 @@ static inline const uint8_t *tvk_text_at(const void *text)
     return text != NULL ? (const uint8_t *)text : &none;
 }
 
+static inline const size_t *tvk_lengths_at(const size_t *lengths)
+{
+    static const size_t none = 0;
+    return lengths != NULL ? lengths : &none;
+}
+
 static inline size_t tvk_len_of(const void *at, size_t len)
 {
     return at != NULL ? len : 0;
@@ -437,6 +510,7 @@ static inline size_t tvk_len_of(const void *at, size_t len)
 #define TVK_LENT(o) TVK_SOME_WORDS((o)->words, (o)->words_len), TVK_SOME_BYTES((o)->bytes, (o)->bytes_len), (o)->counters
 #define TVK_TEXT(text, len) tvk_text_at(text), tvk_len_of((text), (len))
 #define TVK_IDS(ids, len) tvk_ids_at(ids), tvk_len_of((ids), (len))
+#define TVK_LENGTHS(lengths, len) tvk_lengths_at(lengths), tvk_len_of((lengths), (len))
 
 /* ---- an overlay */
 
@@ -458,6 +532,12 @@ static inline struct tvk_reply tvk_overlay_allow_version_regression(struct tvk_o
 static inline struct tvk_handle tvk_overlay_intern(struct tvk_overlay *o, const void *text, size_t len)
 {
     return tvk_intern(TVK_LENT(o), TVK_TEXT(text, len));
+}
+
+/* so many texts, end to end in these bytes: their lengths, and room for their handles */
+static inline struct tvk_texts_reply tvk_overlay_intern_texts(struct tvk_overlay *o, const void *texts, size_t len, const size_t *lengths, uint64_t *handles, size_t many)
+{
+    return tvk_intern_texts(TVK_LENT(o), TVK_TEXT(texts, len), TVK_LENGTHS(lengths, many), TVK_SOME_WORDS(handles, many));
 }
 
 static inline struct tvk_reply tvk_overlay_push(struct tvk_overlay *o, uint8_t kind, struct tvk_head head, struct tvk_meta meta, const void *parts, size_t len)
@@ -602,13 +682,14 @@ static inline struct tvk_cursor tvk_ids_seek_find(const int64_t *ids, size_t len
     return tvk_seek_find(TVK_IDS(ids, len), place, id);
 }
 
+#undef TVK_LENGTHS
 #undef TVK_IDS
 #undef TVK_TEXT
 #undef TVK_LENT
 #undef TVK_SOME_BYTES
 #undef TVK_SOME_WORDS
 
-/* ==== helpers, which call no entry */
+/* ==== helpers, which call no entry but those that read a record's bytes and that push parts */
 
 /* a fresh reader, for the next document */
 static inline void tvk_reader_clear(struct tvk_reader *r)
@@ -639,9 +720,9 @@ static inline const char *tvk_refusal_sentence(uint32_t number)
         "There is no room left for further ids of that kind.",
         "There is no room left for records of that kind.",
         "One element has more than 256 tags, 2,000 refs, 2,000 members or 16,384 bytes of tag values.",
-        "The terminal's program handed in a record that contradicts itself, or asked for a kind that does not exist.",
+        "The terminal's program handed in a record that contradicts itself or texts that do not fit their lengths, or asked for a kind that does not exist.",
         "The input ended before its last element was closed, or nothing was handed in.",
-        "The listing does not fit its output, or the ids of a kind do not fit the lists that are to hold them.",
+        "The listing does not fit its output, or ids or handles do not fit the lists that are to hold them.",
         "A program handed in a list of ids that is not strictly in order.",
         "A program asked for an id or a record by a number that its list does not have, or for a text by a handle that is not held.",
         "What the terminal has stored is damaged, or was handed over cut short.",
@@ -725,6 +806,99 @@ static inline struct tvk_bytes tvk_overlay_arena(const struct tvk_overlay *o, ui
 static inline struct tvk_bytes tvk_overlay_string_bytes(const struct tvk_overlay *o)
 {
     return tvk_bytes_between(o, tvk_arenas_end(o, 3), tvk_len_of(o->bytes, o->bytes_len));
+}
+
+/* The bytes of a view in the block that it counts in: a kind's arena, or the string bytes. None where it is refused or found nothing, nor where it leads outside the block. */
+static inline struct tvk_bytes tvk_view_bytes(struct tvk_bytes block, struct tvk_view view)
+{
+    struct tvk_bytes none = {NULL, 0};
+    if (view.number != 0 || view.found == 0 || block.at == NULL || view.start > block.len || view.len > block.len - view.start)
+        return none;
+    block.at += view.start;
+    block.len = view.len;
+    return block;
+}
+
+/* ---- a record that is read: its head, its metadata, and a walk over each sort of its parts */
+
+/* The bytes of a record, the offset of the next part, and how many remain. A copy walks again from there. */
+struct tvk_walk {
+    const uint8_t *bytes;
+    size_t len;
+    size_t offset;
+    uint32_t remaining;
+};
+
+/* number is 0, or why the record cannot be read: then each walk is refused 22. A way has refs and a relation members; of other kinds those walks are over none. */
+struct tvk_record {
+    uint32_t number;
+    uint8_t kind;
+    struct tvk_head head;
+    struct tvk_meta meta;
+    struct tvk_walk refs;
+    struct tvk_walk members;
+    struct tvk_walk tags;
+};
+
+/* The next of a walk, whose place goes on behind what is found. The reply's number is to be looked at where nothing more is found: 0 at the walk's end, else 22. */
+static inline struct tvk_ref_reply tvk_next_ref(struct tvk_walk *w)
+{
+    struct tvk_ref_reply ref = tvk_record_ref(tvk_text_at(w->bytes), tvk_len_of(w->bytes, w->len), w->offset, w->remaining);
+    w->offset = ref.found ? ref.next : w->offset;
+    w->remaining -= ref.found;
+    return ref;
+}
+
+static inline struct tvk_member_reply tvk_next_member(struct tvk_walk *w)
+{
+    struct tvk_member_reply member = tvk_record_member(tvk_text_at(w->bytes), tvk_len_of(w->bytes, w->len), w->offset, w->remaining);
+    w->offset = member.found ? member.next : w->offset;
+    w->remaining -= member.found;
+    return member;
+}
+
+/* A tag's value lies at bytes + start of its walk. */
+static inline struct tvk_tag_reply tvk_next_tag(struct tvk_walk *w)
+{
+    struct tvk_tag_reply tag = tvk_record_tag(tvk_text_at(w->bytes), tvk_len_of(w->bytes, w->len), w->offset, w->remaining);
+    w->offset = tag.found ? tag.start + tag.len : w->offset;
+    w->remaining -= tag.found;
+    return tag;
+}
+
+/* a record of a kind at the start of some bytes: 17, 22, or 0 */
+static inline struct tvk_record tvk_record_open(uint8_t kind, const void *bytes, size_t len)
+{
+    struct tvk_head_reply head = tvk_record_head(kind, tvk_text_at(bytes), tvk_len_of(bytes, len));
+    struct tvk_meta_reply meta = tvk_record_meta(kind, tvk_text_at(bytes), tvk_len_of(bytes, len));
+    struct tvk_walk none = {NULL, 0, 0, 0}, parts = {NULL, 0, 0, 1}, tags = {NULL, 0, 0, 1};
+    struct tvk_record r;
+    r.number = head.number != 0 ? head.number : meta.number;
+    r.kind = kind;
+    r.head = head.head;
+    r.meta = meta.meta;
+    if (r.number == 0) {
+        parts.bytes = tags.bytes = tvk_text_at(bytes);
+        parts.len = tags.len = tvk_len_of(bytes, len);
+        parts.offset = head.parts_at;
+        parts.remaining = head.head.count;
+        tags.offset = head.tags_at;
+        tags.remaining = head.head.tags;
+    }
+    r.refs = r.number != 0 || kind == TVK_WAY ? parts : none;
+    r.members = r.number != 0 || kind == TVK_RELATION ? parts : none;
+    r.tags = tags;
+    return r;
+}
+
+/* The record of a kind that a view names: refused as the view is, and 22 where the view found nothing. It reads the overlay's bytes, so it holds as long as the view. */
+static inline struct tvk_record tvk_overlay_open(const struct tvk_overlay *o, uint8_t kind, struct tvk_view view)
+{
+    struct tvk_bytes bytes = tvk_view_bytes(tvk_overlay_arena(o, kind), view);
+    struct tvk_record r = tvk_record_open(kind, bytes.at, bytes.len);
+    if (view.number != 0)
+        r.number = view.number;
+    return r;
 }
 
 /* ---- numbers */

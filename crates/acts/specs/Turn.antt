@@ -81,7 +81,8 @@ unfoldable pub turn_of : Decision → Reader → Field Turn
 turn_of (refuses x) r = bad x
 turn_of (moves p) r = got (record { reader = record { place = p; staged = r.staged }; texts = []; act = None })
 turn_of (begins true p id m b) r = got (clears p (user_text m) (push id (first m b)))
-turn_of (begins false p id m b) r = got (record { reader = record { place = p; staged = record { id = id; held = first m b } }; texts = user_text m; act = None })
+turn_of (begins false p id m b) r =
+    got (record { reader = record { place = p; staged = record { id = id; held = first m b } }; texts = user_text m; act = None })
 turn_of (deletes k p id m) r = got (clears p (user_text m) (delete k id (claim_of m)))
 turn_of (tags p t) r = got (grows p (with_tag t) (t.key ∷ []) r)
 turn_of (refers p z) r = got (grows p (with_ref z) [] r)

@@ -1,7 +1,7 @@
 -- A reader is what its words stand for, and words that are a reader's are its words: each code names one, and each is named by one.
 use Rattle.reader.specs.declared.RefusedAt.{RefusedAt}
 use Rattle.std.specs.Prelude.{Err, Some, Option, None}
-use Prim.Native.Nat.{ℕ, zero, suc, ◌<◌, ◌≤◌}
+use Prim.Native.Nat.{ℕ, zero, suc, ◌+◌, ◌<◌, ◌≤◌}
 use mathlib.Core.Path.{◌≡◌, refl, sym, ◌∙◌, ap}
 use mathlib.Core.Bool.{true, false, not}
 use mathlib.Core.Logic.{◌↔◌}
@@ -149,38 +149,21 @@ mark_fits (suc n) line held e = rw (ne_eqb (suc n) 0 (λ z. omega (arith, z))) (
 
 -- ---- all words
 
--- a list of 19, word by word
-nineteen : (w : List ℕ) → length w ≡ 19
-    → word_at w 0 ∷ word_at w 1 ∷ word_at w 2 ∷ word_at w 3 ∷ word_at w 4 ∷ word_at w 5 ∷ word_at w 6 ∷ word_at w 7 ∷ word_at w 8 ∷ word_at w 9 ∷ word_at w 10
-    ∷ word_at w 11 ∷ word_at w 12 ∷ word_at w 13 ∷ word_at w 14 ∷ word_at w 15 ∷ word_at w 16 ∷ word_at w 17 ∷ word_at w 18 ∷ [] ≡ w
-nineteen w e =
-    let z : drop 19 w ≡ [] = rw e at (drop-length w) in
-    cc (
-      drop-cons w 0 0 (omega arith),
-      drop-cons w 1 0 (omega arith),
-      drop-cons w 2 0 (omega arith),
-      drop-cons w 3 0 (omega arith),
-      drop-cons w 4 0 (omega arith),
-      drop-cons w 5 0 (omega arith),
-      drop-cons w 6 0 (omega arith),
-      drop-cons w 7 0 (omega arith),
-      drop-cons w 8 0 (omega arith),
-      drop-cons w 9 0 (omega arith),
-      drop-cons w 10 0 (omega arith),
-      drop-cons w 11 0 (omega arith),
-      drop-cons w 12 0 (omega arith),
-      drop-cons w 13 0 (omega arith),
-      drop-cons w 14 0 (omega arith),
-      drop-cons w 15 0 (omega arith),
-      drop-cons w 16 0 (omega arith),
-      drop-cons w 17 0 (omega arith),
-      drop-cons w 18 0 (omega arith),
-      z,
-    )
+-- words from a place on, one by one
+words_from : List ℕ → ℕ → ℕ → List ℕ
+words_from w zero i = []
+words_from w (suc n) i = word_at w i ∷ words_from w n (suc i)
+
+words_are : (w : List ℕ) (n i : ℕ) → length w ≡ i + n → words_from w n i ≡ drop i w
+unfolding words_from
+words_are w zero i e =
+    let l : length w ≡ i = omega (arith, e) in
+    sym (rw l at (drop-length w))
+words_are w (suc n) i e = rw (words_are w n (suc i) (omega (arith, e))) (sym (drop-cons w i 0 (omega (arith, e))))
 
 -- words that are a reader's are its words
 pub words_back : (w : List ℕ) → length w ≡ 19 → is_reader w ≡ true → words_of_reader (reader_in w) ≡ w
-unfolding words_of_reader place_coded
+unfolding words_of_reader place_coded words_from
 words_back w l e =
     let p = place_of w e in
     let m = mark_back (word_at w 16) (word_at w 17) (word_at w 18) (stop_of w e) in
@@ -191,7 +174,7 @@ words_back w l e =
       m.number_is,
       m.line_is,
       m.held_is,
-    ) (nineteen w l)
+    ) (words_are w 19 0 l)
 
 -- a reader of words with a number is stopped: of no mark it has to be decided whether it stops
 pub stopped_by_number : (w : List ℕ) → is_reader w ≡ true → is_stopped (reader_in w).stop ≡ not (eqb (word_at w 16) 0)

@@ -121,8 +121,11 @@ fn refusal_of(number: u64, held: u32) -> Option<Refusal>
     }
 }
 
-// The stop mark of three words: `Some(None)` while the reader goes on, and none where they are no mark's.
-fn stop_of(number: u64, line: u64, held: u64) -> Option<Option<RefusedAt>>
+// What a reader has for its stop: a mark, or none while it goes on.
+type Stop = Option<RefusedAt>;
+
+// The stop of three words, if they are one's.
+fn stop_of(number: u64, line: u64, held: u64) -> Option<Stop>
     ensures { result ≡ if_coded (stop_coded number line held) (stop_in number line held) }
 {
     if number == 0 {

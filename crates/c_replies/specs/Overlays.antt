@@ -5,6 +5,7 @@ use Rattle.refusal.specs.Refusal.{number_of, reply_of}
 use Rattle.refusal.specs.declared.Reply.{Reply}
 use Rattle.refusal.specs.declared.Refusal.TheVariants as R
 use Rattle.c_replies.specs.declared.Text.{Text}
+use Rattle.c_replies.specs.declared.TextsReply.{TextsReply}
 use Rattle.c_replies.specs.Readings.{unknown_kind}
 
 -- 0 for what is taken, else the refusal
@@ -25,3 +26,8 @@ unknown_reply sound = reply_of (unknown_kind sound)
 abbrev pub handle_text : Result ℕ Refusal → Text
 handle_text (Ok h) = record { number = 0; handle = h }
 handle_text (Err r) = record { number = number_of r; handle = 0 }
+
+-- 0 or the refusal, and how many texts were taken in
+abbrev pub texts_reply : Result Unit Refusal → ℕ → TextsReply
+texts_reply (Ok tt) n = record { number = 0; taken = n }
+texts_reply (Err r) n = record { number = number_of r; taken = n }

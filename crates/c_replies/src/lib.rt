@@ -6,10 +6,15 @@ ghost use Rattle.std.specs.Prelude.{◌≡◌};
 ghost use Rattle.c_replies.specs.Listings.{listed_reply};
 ghost use Rattle.c_replies.specs.Lookups.{span_places, seek_place, place_word, sought_cursor};
 ghost use Rattle.c_replies.specs.Numbers.{order_number};
-ghost use Rattle.c_replies.specs.Overlays.{kept_reply, handle_text};
+ghost use Rattle.c_replies.specs.Overlays.{kept_reply, handle_text, texts_reply};
 ghost use Rattle.c_replies.specs.Readers.{answer_reply, taken_reply};
 ghost use Rattle.c_replies.specs.Readings.{read_number, view_part, unknown_kind};
+ghost use Rattle.c_replies.specs.Records.{refused_head, node_reply, way_reply, relation_reply, meta_reply, ref_reply, member_reply, tag_reply};
 
+use compact::{
+    ArenaMeta, CompactNode, CompactRelation, CompactWay, MemberPart, PushHead, RecordHead, RefPart,
+    TagPart,
+};
 use little::Span;
 use reader::RefusedAt;
 use refusal::{Refusal, Reply};
@@ -83,6 +88,26 @@ impl From<Result<u64, Refusal>> for Text {
             handle: read.value,
         }
     }
+}
+
+// What `intern_texts` replies: 0 or the refusal, and how many texts were taken in.
+#[repr(C)]
+#[derive(Clone, Copy, PartialEq, Eq, Debug)]
+pub struct TextsReply {
+    pub number: u32,
+    pub taken: usize,
+}
+
+// A function of two values, as `events_reply` is.
+#[tactic(auto, unfolding(refusal::specs::Refusal::reply_of))]
+pub fn texts_reply(answer: Result<(), Refusal>, taken: usize) -> TextsReply
+    ensures { result ≡ texts_reply answer taken }
+{
+    let number = match answer {
+        Ok(()) => 0,
+        Err(refusal) => Reply::from(refusal).number,
+    };
+    TextsReply { number, taken }
 }
 
 // The refusal where a kind's number means no kind: 22, else 17.
@@ -179,6 +204,237 @@ impl From<Result<Option<Span>, Refusal>> for Part {
             Err(refusal) => Part {
                 number: Reply::from(refusal).number,
                 ..Part::default()
+            },
+        }
+    }
+}
+
+// ---- a record's bytes
+
+// 0 with a record's head in bits, where its refs or members begin, and where its tags do; or the refusal with zeros.
+#[repr(C)]
+#[derive(Clone, Copy, PartialEq, Eq, Debug)]
+pub struct HeadReply {
+    pub number: u32,
+    pub head: PushHead,
+    pub parts_at: usize,
+    pub tags_at: usize,
+}
+
+// 0 with a record's metadata in bits, or the refusal with zeros.
+#[repr(C)]
+#[derive(Clone, Copy, PartialEq, Eq, Debug)]
+pub struct MetaReply {
+    pub number: u32,
+    pub meta: ArenaMeta,
+}
+
+// What a step over refs replies: 0 and found 1 with a ref in bits and the offset of the next; 0 and found 0 where none remains; or the refusal.
+#[repr(C)]
+#[derive(Clone, Copy, PartialEq, Eq, Debug, Default)]
+pub struct RefReply {
+    pub number: u32,
+    pub found: u32,
+    pub value: u64,
+    pub next: usize,
+}
+
+// The same over members.
+#[repr(C)]
+#[derive(Clone, Copy, PartialEq, Eq, Debug, Default)]
+pub struct MemberReply {
+    pub number: u32,
+    pub found: u32,
+    pub reference: u64,
+    pub kind: u8,
+    pub role: u32,
+    pub next: usize,
+}
+
+// The same over tags: the key's handle, and where the value lies. The next tag stands where the value ends.
+#[repr(C)]
+#[derive(Clone, Copy, PartialEq, Eq, Debug, Default)]
+pub struct TagReply {
+    pub number: u32,
+    pub found: u32,
+    pub key: u32,
+    pub start: usize,
+    pub len: usize,
+}
+
+impl HeadReply {
+    // The refusal with zeros, of whatever kind the record was to be.
+    #[tactic(auto, unfolding(refusal::specs::Refusal::reply_of))]
+    pub fn refused(refusal: Refusal) -> HeadReply
+        ensures { result ≡ refused_head refusal }
+    {
+        HeadReply {
+            number: Reply::from(refusal).number,
+            head: PushHead {
+                id: 0,
+                lat: 0,
+                lon: 0,
+                count: 0,
+                tags: 0,
+            },
+            parts_at: 0,
+            tags_at: 0,
+        }
+    }
+}
+
+impl From<Result<CompactNode, Refusal>> for HeadReply {
+    ghost from_gives = { λ read reply. reply ≡ node_reply read };
+
+    #[tactic(auto, unfolding(compact::specs::View::tags_at, compact::specs::Held::node_head))]
+    fn from(read: Result<CompactNode, Refusal>) -> HeadReply {
+        match read {
+            Ok(node) => HeadReply {
+                number: 0,
+                head: PushHead {
+                    id: node.id,
+                    lat: node.lat,
+                    lon: node.lon,
+                    count: 0,
+                    tags: node.tag_count,
+                },
+                parts_at: CompactNode::parts_at(),
+                tags_at: node.tags_at(),
+            },
+            Err(refusal) => HeadReply::refused(refusal),
+        }
+    }
+}
+
+impl From<Result<CompactWay, Refusal>> for HeadReply {
+    ghost from_gives = { λ read reply. reply ≡ way_reply read };
+
+    #[tactic(auto, unfolding(compact::specs::View::tags_at, compact::specs::Held::way_head, compact::specs::Held::counts_head))]
+    fn from(read: Result<CompactWay, Refusal>) -> HeadReply {
+        match read {
+            Ok(way) => HeadReply {
+                number: 0,
+                head: PushHead {
+                    id: way.id,
+                    lat: 0,
+                    lon: 0,
+                    count: way.ref_count,
+                    tags: way.tag_count,
+                },
+                parts_at: CompactWay::parts_at(),
+                tags_at: way.tags_at(),
+            },
+            Err(refusal) => HeadReply::refused(refusal),
+        }
+    }
+}
+
+impl From<Result<CompactRelation, Refusal>> for HeadReply {
+    ghost from_gives = { λ read reply. reply ≡ relation_reply read };
+
+    #[tactic(auto, unfolding(compact::specs::View::tags_at, compact::specs::Held::relation_head, compact::specs::Held::counts_head))]
+    fn from(read: Result<CompactRelation, Refusal>) -> HeadReply {
+        match read {
+            Ok(relation) => HeadReply {
+                number: 0,
+                head: PushHead {
+                    id: relation.id,
+                    lat: 0,
+                    lon: 0,
+                    count: relation.member_count,
+                    tags: relation.tag_count,
+                },
+                parts_at: CompactRelation::parts_at(),
+                tags_at: relation.tags_at(),
+            },
+            Err(refusal) => HeadReply::refused(refusal),
+        }
+    }
+}
+
+impl From<Result<ArenaMeta, Refusal>> for MetaReply {
+    ghost from_gives = { λ read reply. reply ≡ meta_reply read };
+
+    #[tactic(auto, unfolding(refusal::specs::Refusal::reply_of))]
+    fn from(read: Result<ArenaMeta, Refusal>) -> MetaReply {
+        match read {
+            Ok(meta) => MetaReply { number: 0, meta },
+            Err(refusal) => MetaReply {
+                number: Reply::from(refusal).number,
+                meta: ArenaMeta {
+                    flags: 0,
+                    version: 0,
+                    timestamp: 0,
+                    changeset: 0,
+                    uid: 0,
+                    user: 0,
+                },
+            },
+        }
+    }
+}
+
+impl From<Result<Option<RefPart>, Refusal>> for RefReply {
+    ghost from_gives = { λ step reply. reply ≡ ref_reply step };
+
+    #[tactic(auto, unfolding(refusal::specs::Refusal::reply_of))]
+    fn from(step: Result<Option<RefPart>, Refusal>) -> RefReply {
+        match step {
+            Ok(Some(part)) => RefReply {
+                number: 0,
+                found: 1,
+                value: part.value,
+                next: part.next,
+            },
+            Ok(None) => RefReply::default(),
+            Err(refusal) => RefReply {
+                number: Reply::from(refusal).number,
+                ..RefReply::default()
+            },
+        }
+    }
+}
+
+impl From<Result<Option<MemberPart>, Refusal>> for MemberReply {
+    ghost from_gives = { λ step reply. reply ≡ member_reply step };
+
+    #[tactic(auto, unfolding(refusal::specs::Refusal::reply_of))]
+    fn from(step: Result<Option<MemberPart>, Refusal>) -> MemberReply {
+        match step {
+            Ok(Some(part)) => MemberReply {
+                number: 0,
+                found: 1,
+                reference: part.reference,
+                kind: u8::from(part.kind),
+                role: part.role,
+                next: part.next,
+            },
+            Ok(None) => MemberReply::default(),
+            Err(refusal) => MemberReply {
+                number: Reply::from(refusal).number,
+                ..MemberReply::default()
+            },
+        }
+    }
+}
+
+impl From<Result<Option<TagPart>, Refusal>> for TagReply {
+    ghost from_gives = { λ step reply. reply ≡ tag_reply step };
+
+    #[tactic(auto, unfolding(refusal::specs::Refusal::reply_of))]
+    fn from(step: Result<Option<TagPart>, Refusal>) -> TagReply {
+        match step {
+            Ok(Some(part)) => TagReply {
+                number: 0,
+                found: 1,
+                key: part.key,
+                start: part.start,
+                len: part.len,
+            },
+            Ok(None) => TagReply::default(),
+            Err(refusal) => TagReply {
+                number: Reply::from(refusal).number,
+                ..TagReply::default()
             },
         }
     }

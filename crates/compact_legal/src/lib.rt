@@ -186,7 +186,8 @@ trait JudgedHead: RecordHead {
 
     final fn verdict(self, walk: Walk, held: bool) -> Result<usize, Refusal>
         ensures { result
-            ≡ chosen held walk.text (place_in_range Self.kind (Self.says self).lat (Self.says self).lon) (few Self.kind (Self.says self).count (Self.says self).tags walk.values) walk.end }
+            ≡ chosen held walk.text (place_in_range Self.kind (Self.says self).lat (Self.says self).lon)
+            (few Self.kind (Self.says self).count (Self.says self).tags walk.values) walk.end }
     {
         let inside = self.in_place();
         let few = self.few_parts(walk.values);

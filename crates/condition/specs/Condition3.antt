@@ -72,15 +72,19 @@ module _ (o : Overlay) (ps : ℕ → Bytes) (cs : List Ask) where
     -- the earlier checks of a direct push: 17, 3, 10 and 16, with as many texts as were taken in
     pub push : (k : Kind) (h : PushHead) (m : ArenaMeta) (bytes : Bytes) → head_fits h ≡ true
         → fault_for (length world_left.texts) (pushed_record k (head_in k h) (meta_of m) bytes) ≡ (Ok tt) → (v : ℤ)
-        → ((push_on k h m bytes storage_left.overlay).answer ≡ Err (Regression v)) ↔ Regresses accepted_acts (record { kind = k; id = to_z w64 h.id }) (claim_of (meta_of m)) v
+        → ((push_on k h m bytes storage_left.overlay).answer ≡ Err (Regression v))
+        ↔ Regresses accepted_acts (record { kind = k; id = to_z w64 h.id }) (claim_of (meta_of m)) v
     -- of a direct delete: 17
     pub delete : (k : Kind) (id : ℕ) (m : ArenaMeta) → id < 2 ^ 64 → legal_meta (length world_left.texts) (meta_of m) ≡ true → (v : ℤ)
-        → ((delete_on k (to_z w64 id) (meta_of m) storage_left.overlay).answer ≡ Err (Regression v)) ↔ Regresses accepted_acts (record { kind = k; id = to_z w64 id }) (claim_of (meta_of m)) v
+        → ((delete_on k (to_z w64 id) (meta_of m) storage_left.overlay).answer ≡ Err (Regression v))
+        ↔ Regresses accepted_acts (record { kind = k; id = to_z w64 id }) (claim_of (meta_of m)) v
     -- of an event: 22, of which nothing is left but that the count of its reader's lines is below its largest; no stop mark; 2 to 11, past which its turn makes an act. It is refused
     -- at its line, one more than the lines that its reader has taken.
-    pub event : (n : ℕ) (line : Bytes) (t : Turn) (a : Act Bytes) → length (lines_read n (replies 0 o ps cs)) < 18446744073709551615 → stopped_in n (replies 0 o ps cs) ≡ false
+    pub event : (n : ℕ) (line : Bytes) (t : Turn) (a : Act Bytes)
+        → length (lines_read n (replies 0 o ps cs)) < 18446744073709551615 → stopped_in n (replies 0 o ps cs) ≡ false
         → turn line (world_left.readers n) ≡ got t → t.act ≡ Some a → (v : ℤ)
-        → ((event_on line (state_of n storage_left)).answer ≡ Err (refusal_at (Regression v) (length (lines_read n (replies 0 o ps cs)) + 1))) ↔ Regresses accepted_acts (key_of a) (claimed_by a) v
+        → ((event_on line (state_of n storage_left)).answer ≡ Err (refusal_at (Regression v) (length (lines_read n (replies 0 o ps cs)) + 1)))
+        ↔ Regresses accepted_acts (key_of a) (claimed_by a) v
 
 -- ---- two lists
 
@@ -90,7 +94,8 @@ module _ (o : Overlay) (ps : ℕ → Bytes) (cs : List Ask) (p : Overlay) (qs : 
   pub record SamePage (out1 out2 : Bytes) : Type 0 where
     pub one : PageListed o ps cs out1
     pub two : PageListed p qs ds out2
-    pub same : (take (page_length o ps cs) (listed_after o ps cs out1).out ≡ take (page_length p qs ds) (listed_after p qs ds out2).out) ↔ ((k : Key) → known (accepted_acts o ps cs) k ≡ known (accepted_acts p qs ds) k)
+    pub same : (take (page_length o ps cs) (listed_after o ps cs out1).out ≡ take (page_length p qs ds) (listed_after p qs ds out2).out)
+        ↔ ((k : Key) → known (accepted_acts o ps cs) k ≡ known (accepted_acts p qs ds) k)
 
   pub record Condition3 : Type 0 where
     pub pages : (out1 out2 : Bytes) → page_length o ps cs ≤ length out1 → page_length p qs ds ≤ length out2 → SamePage out1 out2

@@ -69,4 +69,5 @@ fresh_state o parts = record { overlay = o; reader = fresh_reader; parts = parts
 
 -- where nothing but the nesting refuses any of it, all is accepted exactly when the lines are a document
 abbrev pub AcceptsDocuments : Overlay → Bytes → Type 0
-AcceptsDocuments o parts = (lines : List Bytes) → AllByNesting (answers_to (fresh_state o parts) lines) → (all event_taken (answers_to (fresh_state o parts) lines) ≡ true) ↔ IsDocument (each_gives line_marks lines)
+AcceptsDocuments o parts = (lines : List Bytes) → AllByNesting (answers_to (fresh_state o parts) lines)
+    → (all event_taken (answers_to (fresh_state o parts) lines) ≡ true) ↔ IsDocument (each_gives line_marks lines)

@@ -68,7 +68,8 @@ pub record ShowsLeft (o : Overlay) (k : Kind) (id : ℤ) (left : Option (Left By
 -- an overlay and the accepted acts: each id that is asked for, and each number that has an id, shows the record of the last act on it
 pub record ReadsLast (o : Overlay) (acts : List (Act Bytes)) : Type 0 where
   pub asked : (k : Kind) (id : ℕ) → id < 2 ^ 64 → ShowsLeft o k (to_z w64 id) (known acts (record { kind = k; id = to_z w64 id })).last
-  pub numbered : (k : Kind) (n id : ℕ) → id_on k Live n o ≡ Ok id → seen_in o k (record_on k n o) ≡ left_seen (to_z w64 id) (known acts (record { kind = k; id = to_z w64 id })).last
+  pub numbered : (k : Kind) (n id : ℕ) → id_on k Live n o ≡ Ok id
+      → seen_in o k (record_on k n o) ≡ left_seen (to_z w64 id) (known acts (record { kind = k; id = to_z w64 id })).last
 
 -- where regression was refused throughout, the known version that is read is the highest that accepted acts claimed, or none
 abbrev pub ReadsHighest : Overlay → List (Act Bytes) → Type 0

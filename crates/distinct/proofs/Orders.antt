@@ -18,7 +18,7 @@ use Rattle.std.proofs.lemmas.Map.Text.{is_eq-slice_cmp}
 use Rattle.std.proofs.lemmas.List.{length-drop}
 use Rattle.std.proofs.lemmas.List.Sums.{sum_by-cons}
 use Rattle.std.proofs.lemmas.List.Sorted.{IsPermutation-map, IsPermutation-sym, sum_by-IsPermutation}
-use Rattle.base.specs.Bytes.{Bytes, both, all, same}
+use Rattle.base.specs.Bytes.{Bytes, all, same}
 use Rattle.base.proofs.Split.{by_bool, by_le, both_left, both_right, both_of, clash, no, same_test}
 use Rattle.base.proofs.Lists.{same_yes, same_refl, all_nil, all_cons, all_head, all_tail}
 use Rattle.base.proofs.Equal.{equal}

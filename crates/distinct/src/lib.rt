@@ -9,10 +9,14 @@ ghost use Rattle.distinct.specs.Check.{run_cmp, NotedAs};
 
 use std::cmp::Ordering;
 
-// Whether two runs of bytes are the same.
+// Whether two runs of bytes are the same. Most that are not differ in length, which is told with no call.
+#[inline(always)]
 pub fn equal(a: &[u8], b: &[u8]) -> bool
     ensures { result ≡ same a.now b.now }
 {
+    if a.len() != b.len() {
+        return false;
+    }
     a == b
 }
 
@@ -156,6 +160,11 @@ fn runs_differ(bytes: &[u8], words: &mut [u64]) -> Option<bool>
 // How many words there is room for, where many runs are told apart. The library has no heap.
 const ROOM: usize = 5460;
 
+// How many where there are likely to be few, and up to how many bytes that is.
+const FEW: usize = 512;
+
+const FEW_BYTES: usize = 4096;
+
 // Runs of some bytes that can note their words: the bytes, and what is asked of the runs, which is whether all are noted and no two are equal.
 pub trait NotedRuns {
     ghost within: { Self → Bytes };
@@ -186,12 +195,33 @@ fn noted_differ_in<R: NotedRuns>(runs: &R, words: &mut [u64]) -> Option<bool>
     }
 }
 
-// What is asked of runs, as far as there is room for their words, where it is told. It is not inlined: where its array lay in a caller's frame, clang's stack probe stood behind the caller's
-// first tests.
+// The same with room for a few. Neither this nor `many_differ` is inlined: where its array lay in a caller's frame, clang's stack probe stood behind the caller's first tests.
 #[inline(never)]
-pub fn noted_differ<R: NotedRuns>(runs: &R) -> Option<bool>
+fn few_differ<R: NotedRuns>(runs: &R) -> Option<bool>
+    ensures { RightOf result (R.asked runs.now) }
+{
+    let mut words = [0u64; FEW];
+    noted_differ_in(runs, &mut words)
+}
+
+// With all the room that there is.
+#[inline(never)]
+fn many_differ<R: NotedRuns>(runs: &R) -> Option<bool>
     ensures { RightOf result (R.asked runs.now) }
 {
     let mut words = [0u64; ROOM];
     noted_differ_in(runs, &mut words)
+}
+
+// What is asked of runs, as far as there is room for their words, where it is told. A large array takes longer to clear than a few runs take to sort.
+pub fn noted_differ<R: NotedRuns>(runs: &R) -> Option<bool>
+    ensures { RightOf result (R.asked runs.now) }
+{
+    if runs.bytes().len() <= FEW_BYTES {
+        let differ = few_differ(runs);
+        if differ.is_some() {
+            return differ;
+        }
+    }
+    many_differ(runs)
 }

@@ -96,7 +96,8 @@ is_kind_word v = either (same v (ascii "node")) (either (same v (ascii "way")) (
 abbrev pub child_rows : Child → List Attr → List (ConditionRow Refusal)
 child_rows C.Tag attrs = missing_row (ascii "k") attrs ∷ missing_row (ascii "v") attrs ∷ []
 child_rows C.Nd attrs = integer_rows (ascii "ref") attrs w64
-child_rows C.Member attrs = missing_row (ascii "type") attrs ∷ row R.MemberType (not (is_kind_word (value_or_empty (ascii "type") attrs))) ∷ integer_rows (ascii "ref") attrs w64
+child_rows C.Member attrs =
+    missing_row (ascii "type") attrs ∷ row R.MemberType (not (is_kind_word (value_or_empty (ascii "type") attrs))) ∷ integer_rows (ascii "ref") attrs w64
 
 abbrev pub field_rows : Opened → Action → List Attr → List (ConditionRow Refusal)
 field_rows O.Misplaced a attrs = []
@@ -137,7 +138,9 @@ is_event (reads e) = true
 is_event (refused r) = false
 
 abbrev pub line_rows : Bytes → List (ConditionRow Refusal)
-line_rows line = row R.LongLine (ltb 16384 (length (body line))) ∷ row R.NotText (not (legal_line (body line))) ∷ row R.NotEventLine (not (is_event (event_in (unended line)))) ∷ []
+line_rows line =
+    row R.LongLine (ltb 16384 (length (body line))) ∷ row R.NotText (not (legal_line (body line)))
+    ∷ row R.NotEventLine (not (is_event (event_in (unended line)))) ∷ []
 
 unfoldable pub decide_table : Bytes → Place → List (ConditionRow Refusal)
 decide_table line p = line_rows line ++ event_rows (event_of line) p

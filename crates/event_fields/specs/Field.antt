@@ -104,7 +104,14 @@ with_user m t = record { flags = mark 4 (present m.flags); version = m.version; 
 -- "only `visible=false` exactly sets 2"
 abbrev pub with_visible : Meta Bytes → Bytes → Meta Bytes
 with_visible m t =
-    record { flags = cond (same t (ascii "false")) (mark 2 (present m.flags)) (present m.flags); version = m.version; timestamp = m.timestamp; changeset = m.changeset; uid = m.uid; user = m.user }
+    record {
+      flags = cond (same t (ascii "false")) (mark 2 (present m.flags)) (present m.flags);
+      version = m.version;
+      timestamp = m.timestamp;
+      changeset = m.changeset;
+      uid = m.uid;
+      user = m.user;
+    }
 
 -- "9 timestamp"
 abbrev pub a_stamp : Option ℤ → Field ℤ

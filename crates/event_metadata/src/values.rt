@@ -34,22 +34,22 @@ enum MetadataName {
 fn metadata_name(s: &[u8]) -> Option<MetadataName>
     ensures { result ≡ metadata_name s.now }
 {
-    if s == b"version".as_slice() {
+    if distinct::equal(s, b"version".as_slice()) {
         return Some(MetadataName::Version);
     }
-    if s == b"timestamp".as_slice() {
+    if distinct::equal(s, b"timestamp".as_slice()) {
         return Some(MetadataName::Timestamp);
     }
-    if s == b"changeset".as_slice() {
+    if distinct::equal(s, b"changeset".as_slice()) {
         return Some(MetadataName::Changeset);
     }
-    if s == b"uid".as_slice() {
+    if distinct::equal(s, b"uid".as_slice()) {
         return Some(MetadataName::Uid);
     }
-    if s == b"user".as_slice() {
+    if distinct::equal(s, b"user".as_slice()) {
         return Some(MetadataName::User);
     }
-    if s == b"visible".as_slice() {
+    if distinct::equal(s, b"visible".as_slice()) {
         return Some(MetadataName::Visible);
     }
     None
@@ -57,11 +57,7 @@ fn metadata_name(s: &[u8]) -> Option<MetadataName>
 
 impl<'a, const N: usize> MetadataValues<'a, N> {
     // With one value more. Only `false` exactly hides.
-    fn with(
-        &self,
-        name: MetadataName,
-        value: &Value<'a, N>,
-    ) -> Result<MetadataValues<'a, N>, Refusal>
+    fn with(&self, name: MetadataName, value: &Value<'a, N>) -> Result<Self, Refusal>
         ensures { metadata_answered result ≡ metadata_as name (metadata_means self.now) (text_written value.now) }
     {
         let with = MetadataValues {

@@ -1,16 +1,20 @@
 -- Laws of places in a line: the first of a byte, and the field that ends there.
+use Rattle.std.specs.Prelude.{None, Option, Some, is_some, not}
 use Prim.Native.Nat.{ℕ, zero, suc, ◌+◌, ◌-◌, ◌<◌, ◌≤◌}
 use mathlib.Core.Path.{◌≡◌, refl, sym, ◌∙◌, ap}
+use mathlib.Core.Bool.{Bool, true, false}
 use mathlib.Core.List.{[], ◌∷◌}
 use native.Mathlib.Nat.{suc-add, zero-add}
 use native.Mathlib.Omega.{arith}
-use lib.ListN.{length, take, drop, length-drop}
+use lib.Dec.{eqb}
+use lib.ListN.{length, get_or, take, drop, length-drop}
 use lib.Seq.{slice, length-slice}
-use borrow.Author.Tests.{eq-eqb, ne_eqb, le-leb, lt-leb}
+use borrow.Author.Tests.{eq-eqb, ne_eqb, le-leb, lt-leb, not-true, not-false}
 use borrow.Rule.Slice.PartMut.{mid_of}
-use Rattle.base.specs.Bytes.{Bytes}
+use Rattle.std.specs.Option.{MatchOption}
+use Rattle.base.specs.Bytes.{Bytes, all}
 use Rattle.base.proofs.Lists.{slice_take}
-use Rattle.base.proofs.Split.{by_eq, by_le, no}
+use Rattle.base.proofs.Split.{by_eq, by_le, no, both_of, both_no_left, both_no_right}
 use Rattle.line.specs.Line.{onto, fields}
 use Rattle.event_scan.specs.Scan.{fields_at, UpTo}
 
@@ -88,3 +92,23 @@ module _ (t : Bytes) (at : ℕ) (h : at ≤ length t) where
 
   pub field_length : length (slice at (tab_at t at) t) ≡ tab_at t at - at
   field_length = length-slice at (tab_at t at) t tab_within
+
+-- ---- a byte that is nowhere
+
+all_each : (p : ℕ → Bool) (s : Bytes) → ((k : ℕ) → k < length s → p (get_or s k 0) ≡ true) → all p s ≡ true
+unfolding all
+all_each p [] h = refl
+all_each p (b ∷ s) h = both_of (h 0 (omega arith)) (all_each p s (λ k l. h (suc k) (omega arith)))
+
+all_but : (p : ℕ → Bool) (s : Bytes) (i : ℕ) → i < length s → p (get_or s i 0) ≡ false → all p s ≡ false
+unfolding all
+all_but p [] i l h = no (omega arith)
+all_but p (b ∷ s) zero l h = both_no_left _ _ h
+all_but p (b ∷ s) (suc i) l h = both_no_right _ (all_but p s i (omega arith) h)
+
+-- by where it stands first
+pub lacks_told : (c : ℕ) (s : Bytes) (r : Option ℕ) (z : Bool)
+    → MatchOption r ((k : ℕ) → k < length s → get_or s k 0 ≡ c → ⊥) (λ i. (i < length s) × ((get_or s i 0 ≡ c) × ((k : ℕ) → k < i → get_or s k 0 ≡ c → ⊥)))
+    → is_some r ≡ not z → z ≡ all (λ b. not (eqb b c)) s
+lacks_told c s None z h e = not-false z (sym e) ∙ sym (all_each (λ b. not (eqb b c)) s (λ k l. ap not (ne_eqb _ _ (h k l))))
+lacks_told c s (Some i) z h e = not-true z (sym e) ∙ sym (all_but (λ b. not (eqb b c)) s i h.0 (ap not (eq-eqb _ _ h.1.0)))

@@ -35,7 +35,7 @@ fn all_right(rest: &Fields<'_, MAX_LINE>) -> bool
 fn seen(name: &[u8], names: &[&[u8]]) -> bool
     ensures { result ≡ among name.now (texts_of names.now) }
 {
-    names.iter().any(|known| *known == name)
+    names.iter().any(|known| distinct::equal(known, name))
 }
 
 // The name of the attribute that a field is, if it is none of some names.
@@ -148,7 +148,8 @@ pub enum EventLine<'a> {
     Others,
 }
 
-// An open or an empty element, by the fields behind its first word.
+// An open or an empty element, by the fields behind its first word. Inlined at both its calls, so that its answer is not handed on through memory.
+#[inline(always)]
 fn starts<'a>(empty: bool, fields: &Fields<'a, MAX_LINE>) -> Result<EventLine<'a>, Refusal>
     ensures { line_means result ≡ starts_from empty (fields_left fields.now) }
 {
@@ -174,10 +175,10 @@ fn starts<'a>(empty: bool, fields: &Fields<'a, MAX_LINE>) -> Result<EventLine<'a
 fn alone(word: &[u8]) -> Result<EventLine<'_>, Refusal>
     ensures { line_means result ≡ lone word.now }
 {
-    if word == b"close".as_slice() {
+    if distinct::equal(word, b"close".as_slice()) {
         return Ok(EventLine::Closes);
     }
-    if word == b"other".as_slice() {
+    if distinct::equal(word, b"other".as_slice()) {
         return Ok(EventLine::Others);
     }
     Err(Refusal::NotEventLine)
@@ -192,10 +193,10 @@ fn event(text: &[u8]) -> Result<EventLine<'_>, Refusal>
     let Some(word) = rest.next() else {
         return Err(Refusal::NotEventLine);
     };
-    if word == b"open".as_slice() {
+    if distinct::equal(word, b"open".as_slice()) {
         return starts(false, &rest);
     }
-    if word == b"empty".as_slice() {
+    if distinct::equal(word, b"empty".as_slice()) {
         return starts(true, &rest);
     }
     match rest.next() {

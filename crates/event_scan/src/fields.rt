@@ -12,7 +12,7 @@ use crate::escapes_right;
 pub(crate) fn split_once(s: &[u8], byte: u8) -> Option<(&[u8], &[u8])>
     ensures { parts_seen result ≡ parted_by byte s.now }
 {
-    let i = s.iter().position(|b| *b == byte)?;
+    let i = text::search::byte_position(s, byte)?;
     Some((&s[..i], &s[i + 1..]))
 }
 
@@ -144,7 +144,7 @@ impl<'a, const N: usize> Attributes<'a, N> {
     {
         let mut rest = *self;
         while let Some(attribute) = rest.next() {
-            if name == attribute.name {
+            if distinct::equal(name, attribute.name) {
                 return Some(attribute.value);
             }
         }

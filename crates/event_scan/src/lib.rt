@@ -14,12 +14,11 @@ pub mod fields;
 // "2 over 16,384 bytes without its line feed"
 pub const MAX_LINE: usize = 16384;
 
-// Whether a byte is nowhere in a run. It looks at all bytes, so that many are looked at together.
-// It, `text::plain` and `print::all_plain` differ by the test: the library's fold is the function with a test.
+// Whether a byte is nowhere in a run.
 pub fn lacks(t: &[u8], c: u8) -> bool
     ensures { result ≡ all (λ b. not (eqb b c)) t.now }
 {
-    t.iter().fold(true, |ok, b| ok & (*b != c))
+    text::search::byte_position(t, c).is_none()
 }
 
 // ---- escapes

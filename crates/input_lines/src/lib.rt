@@ -21,7 +21,7 @@ impl<'a> Iterator for RunLines<'a> {
     ghost remaining = { item_count lines_left };
 
     fn next(&mut self) -> Option<&'a [u8]> {
-        let i = self.rest.iter().position(|b| *b == b'\n')?;
+        let i = text::search::byte_position(self.rest, b'\n')?;
         let line = &self.rest[..i + 1];
         self.rest = &self.rest[i + 1..];
         Some(line)

@@ -14,13 +14,17 @@ fn magnitude(s: &[u8], most: u64) -> Option<u64>
     if s.is_empty() {
         return None;
     }
+    let tenth = most / 10;
     let mut n = 0;
     for b in s {
         if !b.is_ascii_digit() {
             return None;
         }
+        if tenth < n {
+            return None;
+        }
         let d = u64::from(*b - b'0');
-        if most < d || (most - d) / 10 < n {
+        if most - n * 10 < d {
             return None;
         }
         n = n * 10 + d;

@@ -30,7 +30,8 @@ pub struct HeldRecord<'a> {
 // What the three kinds of records print between metadata and tags.
 trait Body: RecordHead {
     fn put_body(self, held: &HeldRecord<'_>, printer: &mut Printer<'_>)
-        ensures { Prints (tabs (body_fields_at (text_held (store_seen held.now.strings)) Self.kind (Self.says self) held.now.bytes.now)) printer.old printer.new };
+        ensures { Prints (tabs (body_fields_at (text_held (store_seen held.now.strings)) Self.kind (Self.says self) held.now.bytes.now))
+            printer.old printer.new };
 }
 
 impl HeldRecord<'_> {
@@ -68,7 +69,9 @@ impl HeldRecord<'_> {
 
     // "the tag count and each key and value", from a place on
     fn put_tags(&self, printer: &mut Printer<'_>, first: TagPlace)
-        ensures { Prints (tabs (number_text first.remaining ∷ tag_fields_from (text_held (store_seen self.now.strings)) self.now.bytes.now first.offset first.remaining)) printer.old printer.new }
+        ensures { Prints
+            (tabs (number_text first.remaining ∷ tag_fields_from (text_held (store_seen self.now.strings)) self.now.bytes.now first.offset first.remaining))
+            printer.old printer.new }
     {
         printer.put(&u64::from(first.remaining));
         let mut place = first;

@@ -66,7 +66,8 @@ pub struct KindLines<'a> {
 impl KindLines<'_> {
     // "A deleted line ends there. A live one goes on"
     fn put_last(&self, printer: &mut Printer<'_>, row: Row)
-        ensures { Prints (tabs (last_at (text_held (store_seen self.now.strings)) self.now.storage.kind self.now.storage.arena.now row.offset)) printer.old printer.new }
+        ensures { Prints (tabs (last_at (text_held (store_seen self.now.strings)) self.now.storage.kind self.now.storage.arena.now row.offset))
+            printer.old printer.new }
     {
         if let Some(offset) = row.record_offset() {
             let at = little::lesser(offset as usize, self.storage.arena.len());
@@ -81,7 +82,8 @@ impl KindLines<'_> {
 
     // A row's line.
     fn put_line(&self, printer: &mut Printer<'_>, row: Row)
-        ensures { Prints (line_pieces (row_fields_at (text_held (store_seen self.now.strings)) self.now.storage.kind self.now.storage.arena.now row)) printer.old printer.new }
+        ensures { Prints (line_pieces (row_fields_at (text_held (store_seen self.now.strings)) self.now.storage.kind self.now.storage.arena.now row))
+            printer.old printer.new }
     {
         put_key(
             printer,

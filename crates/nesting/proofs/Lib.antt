@@ -3,3 +3,4 @@ pub mod Taken
 pub mod Parsed
 pub mod Documents
 pub mod Names
+mod Short

@@ -79,16 +79,20 @@ impl From<&[u8]> for Name {
     ghost from_gives = { λ s name. name ≡ name_of s.now };
 
     fn from(s: &[u8]) -> Name {
-        if s == b"osmChange".as_slice() {
+        // the names of the document and its sections are longer
+        if s.len() < 6 {
+            return object_name(s);
+        }
+        if distinct::equal(s, b"osmChange".as_slice()) {
             return Name::OsmChange;
         }
-        if s == b"create".as_slice() {
+        if distinct::equal(s, b"create".as_slice()) {
             return Name::Create;
         }
-        if s == b"modify".as_slice() {
+        if distinct::equal(s, b"modify".as_slice()) {
             return Name::Modify;
         }
-        if s == b"delete".as_slice() {
+        if distinct::equal(s, b"delete".as_slice()) {
             return Name::Delete;
         }
         object_name(s)
@@ -99,13 +103,13 @@ impl From<&[u8]> for Name {
 fn object_name(s: &[u8]) -> Name
     ensures { result ≡ name_in (drop 4 spellings) s.now }
 {
-    if s == b"node".as_slice() {
+    if distinct::equal(s, b"node".as_slice()) {
         return Name::Node;
     }
-    if s == b"way".as_slice() {
+    if distinct::equal(s, b"way".as_slice()) {
         return Name::Way;
     }
-    if s == b"relation".as_slice() {
+    if distinct::equal(s, b"relation".as_slice()) {
         return Name::Relation;
     }
     child_name(s)
@@ -114,19 +118,19 @@ fn object_name(s: &[u8]) -> Name
 fn child_name(s: &[u8]) -> Name
     ensures { result ≡ name_in (drop 7 spellings) s.now }
 {
-    if s == b"tag".as_slice() {
+    if distinct::equal(s, b"tag".as_slice()) {
         return Name::Tag;
     }
-    if s == b"nd".as_slice() {
+    if distinct::equal(s, b"nd".as_slice()) {
         return Name::Nd;
     }
-    if s == b"member".as_slice() {
+    if distinct::equal(s, b"member".as_slice()) {
         return Name::Member;
     }
-    if s == b"bbox".as_slice() {
+    if distinct::equal(s, b"bbox".as_slice()) {
         return Name::Bounds;
     }
-    if s == b"bounds".as_slice() {
+    if distinct::equal(s, b"bounds".as_slice()) {
         return Name::Bounds;
     }
     Name::Unknown

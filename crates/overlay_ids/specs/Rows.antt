@@ -27,5 +27,9 @@ rows_listed side s = rows_on side (rows_read s.table s.ids)
 unfoldable pub kind_ids : Kind → Side → KindStore → List ℕ → List ℕ → AllIds
 kind_ids k side s ids versions =
     cond (leb (length (rows_listed side s)) (min (length ids) (length versions)))
-    (record { ids = over ids 0 (map row_id (rows_listed side s)); versions = over versions 0 (map (row_version k s) (rows_listed side s)); answer = Ok (length (rows_listed side s)) })
+    (record {
+      ids = over ids 0 (map row_id (rows_listed side s));
+      versions = over versions 0 (map (row_version k s) (rows_listed side s));
+      answer = Ok (length (rows_listed side s));
+    })
     (not_written ids versions R.ShortOutput)

@@ -88,7 +88,9 @@ pub fn chain_texts(chains: &mut ChainsMut<'_>, storage: &Storage<'_>)
     ensures same { IsSameChains chains.new chains.old }
     ensures chains { StoreChained (chains_held chains.old) (overlay_seen storage.now).texts → StoreChained (chains_held chains.new) (overlay_seen storage.now).texts }
 {
-    chains.index(&storage.strings());
+    if (chains.handles as u64) < storage.counters[STRINGS] {
+        chains.index(&storage.strings());
+    }
 }
 
 // ---- an act on one kind

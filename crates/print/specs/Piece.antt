@@ -36,4 +36,5 @@ pub record Whole : Type 0 where
 
 -- some bytes at the start of an output, or nothing where they do not fit
 unfoldable pub whole_over : Bytes → Bytes → Whole
-whole_over out x = cond (leb (length x) (length out)) (record { out = x ++ drop (length x) out; length = Some (length x) }) (record { out = out; length = None })
+whole_over out x =
+    cond (leb (length x) (length out)) (record { out = x ++ drop (length x) out; length = Some (length x) }) (record { out = out; length = None })

@@ -163,7 +163,8 @@ unfoldable pub arena_append_way : ℤ → List ℤ → List TagPart → ArenaMet
 arena_append_way id refs tags meta = i64 id ++ u32 (length refs) ++ u32 (length tags) ++ arena_append_meta meta ++ refs_appended refs ++ append_tags tags
 
 unfoldable pub arena_append_relation : ℤ → List MemberPart → List TagPart → ArenaMeta → Bytes
-arena_append_relation id members tags meta = i64 id ++ u32 (length members) ++ u32 (length tags) ++ arena_append_meta meta ++ members_appended members ++ append_tags tags
+arena_append_relation id members tags meta =
+    i64 id ++ u32 (length members) ++ u32 (length tags) ++ arena_append_meta meta ++ members_appended members ++ append_tags tags
 
 -- ---- iterators
 

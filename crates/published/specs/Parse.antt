@@ -161,15 +161,21 @@ delete allow meta_off s id meta = delete_with allow meta_off s id (version_claim
 
 -- fn push_node(&mut self, id, lat, lon, tags, meta) -> ParseResult<()>
 unfoldable pub push_node : CompactDiffOverlay → ℤ → ℤ → ℤ → List TagPart → ArenaMeta → Result CompactDiffOverlay ℤ
-push_node o id lat lon tags meta = map_ok (with_fields_of_element o Node) (push o.allow_version_regression (META_OFF Node) o.nodes id (arena_append_node id lat lon tags meta) meta)
+push_node o id lat lon tags meta =
+    map_ok (with_fields_of_element o Node)
+    (push o.allow_version_regression (META_OFF Node) o.nodes id (arena_append_node id lat lon tags meta) meta)
 
 -- fn push_way(&mut self, id, refs, tags, meta) -> ParseResult<()>
 unfoldable pub push_way : CompactDiffOverlay → ℤ → List ℤ → List TagPart → ArenaMeta → Result CompactDiffOverlay ℤ
-push_way o id refs tags meta = map_ok (with_fields_of_element o Way) (push o.allow_version_regression (META_OFF Way) o.ways id (arena_append_way id refs tags meta) meta)
+push_way o id refs tags meta =
+    map_ok (with_fields_of_element o Way)
+    (push o.allow_version_regression (META_OFF Way) o.ways id (arena_append_way id refs tags meta) meta)
 
 -- fn push_relation(&mut self, id, members, tags, meta) -> ParseResult<()>
 unfoldable pub push_relation : CompactDiffOverlay → ℤ → List MemberPart → List TagPart → ArenaMeta → Result CompactDiffOverlay ℤ
-push_relation o id members tags meta = map_ok (with_fields_of_element o Relation) (push o.allow_version_regression (META_OFF Relation) o.relations id (arena_append_relation id members tags meta) meta)
+push_relation o id members tags meta =
+    map_ok (with_fields_of_element o Relation)
+    (push o.allow_version_regression (META_OFF Relation) o.relations id (arena_append_relation id members tags meta) meta)
 
 -- fn delete_node, delete_way, delete_relation (&mut self, id: i64, meta: &ArenaMeta) -> ParseResult<()>, by the kind
 unfoldable pub delete_kind : CompactDiffOverlay → ElementKind → ℤ → ArenaMeta → Result CompactDiffOverlay ℤ

@@ -26,7 +26,8 @@ pub record KindTable : Type 0 where
 
 -- pairs.into_iter().unzip()
 abbrev pub build_from : Bytes → List (Entry ℕ) → List ℤ → KindTable
-build_from arena pairs deleted = record { arena = arena; ids = map (λ (e : Entry ℕ). e.key) pairs; offsets = map (λ (e : Entry ℕ). e.value) pairs; deleted = deleted }
+build_from arena pairs deleted =
+    record { arena = arena; ids = map (λ (e : Entry ℕ). e.key) pairs; offsets = map (λ (e : Entry ℕ). e.value) pairs; deleted = deleted }
 
 -- fn build(arena: Vec<u8>, index: FxHashMap<i64, usize>, deleted: HashSet<i64>) -> Self
 unfoldable pub build : Bytes → HashMap ℕ → HashSet → KindTable
@@ -72,7 +73,8 @@ hit first last ids = key_at_most last (slice_get ids (partition_point (λ id. is
 -- fn range_overlaps(&self, kind, min_id, max_id) -> bool, of a kind's two lists
 unfoldable pub range_overlaps : List ℤ → List ℤ → ℤ → ℤ → Bool
 range_overlaps ids deleted min_id max_id =
-    either (hit (blob_osm_first_key min_id max_id) (blob_osm_last_key min_id max_id) ids) (hit (blob_osm_first_key min_id max_id) (blob_osm_last_key min_id max_id) deleted)
+    either (hit (blob_osm_first_key min_id max_id) (blob_osm_last_key min_id max_id) ids)
+    (hit (blob_osm_first_key min_id max_id) (blob_osm_last_key min_id max_id) deleted)
 
 pub record Range : Type 0 where
   pub start : ℕ

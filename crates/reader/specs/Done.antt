@@ -17,7 +17,11 @@ pub record StepResult : Type 0 where
 abbrev pub done_by : State → Step → StepResult
 done_by s (goes l) =
     record {
-      state = record { overlay = l.overlay; reader = record { place = l.place; pending = l.pending; lines = s.reader.lines; stop = s.reader.stop }; parts = l.parts };
+      state = record {
+        overlay = l.overlay;
+        reader = record { place = l.place; pending = l.pending; lines = s.reader.lines; stop = s.reader.stop };
+        parts = l.parts;
+      };
       answer = Ok tt;
     }
 done_by s (stops r) = record { state = s; answer = Err r }
@@ -37,7 +41,11 @@ worked s o parts (Err r) = record { state = record { overlay = o; reader = s.rea
 abbrev pub placed_by : Place → State → Result Unit Refusal → StepResult
 placed_by p t (Ok tt) =
     record {
-      state = record { overlay = t.overlay; reader = record { place = p; pending = t.reader.pending; lines = t.reader.lines; stop = t.reader.stop }; parts = t.parts };
+      state = record {
+        overlay = t.overlay;
+        reader = record { place = p; pending = t.reader.pending; lines = t.reader.lines; stop = t.reader.stop };
+        parts = t.parts;
+      };
       answer = Ok tt;
     }
 placed_by p t (Err r) = record { state = t; answer = Err r }

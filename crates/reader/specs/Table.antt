@@ -37,7 +37,8 @@ module _ (o : Overlay) where
   -- 12 of an act on an id of a kind, with the known version
   abbrev pub regression_row : Kind → ℤ → Option ℤ → ConditionRow Refusal
   regression_row k id claim =
-      row (R.Regression (held_by (checked o.setting (known_version k (kind_store_of k o) id) claim))) (is_below (checked o.setting (known_version k (kind_store_of k o) id) claim))
+      row (R.Regression (held_by (checked o.setting (known_version k (kind_store_of k o) id) claim)))
+      (is_below (checked o.setting (known_version k (kind_store_of k o) id) claim))
 
   -- 13 of a text
   abbrev pub text_row : Bytes → ConditionRow Refusal

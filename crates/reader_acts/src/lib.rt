@@ -157,7 +157,8 @@ fn user_before(
 // What follows an act: the user's text is taken in, unless its handle is below the count: then it is held.
 fn take_user(storage: &mut StorageMut<'_>, chains: &Chains<'_>, act: &Act<'_>, handle: Option<u64>)
     ensures same { IsSameStorage storage.new storage.old }
-    ensures taken { ChainsServe (chains_seen chains.now) (overlay_held storage.old).texts → UserIs (act_means act.now) (overlay_held storage.old) (unwrap_or handle 0)
+    ensures taken { ChainsServe (chains_seen chains.now) (overlay_held storage.old).texts
+        → UserIs (act_means act.now) (overlay_held storage.old) (unwrap_or handle 0)
         → overlay_held storage.new ≡ with_user (act_means act.now) (overlay_held storage.old) }
 {
     let Some(user) = act.user else {

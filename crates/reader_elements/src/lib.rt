@@ -32,7 +32,8 @@ pub fn begin(
 ) -> Result<Pending, Refusal>
     ensures same { IsSameStorage storage.new storage.old }
     ensures works { (s : State) → s.overlay ≡ overlay_held storage.old → ActGiven (chains_seen chains.now) s.overlay
-        → Works (λ p. begins empty p (to_z w64 act.now.id) (act_means act.now) (body_in act.now.kind coordinates.lat coordinates.lon)) s (worked s (overlay_held storage.new) s.parts result) }
+        → Works (λ p. begins empty p (to_z w64 act.now.id) (act_means act.now) (body_in act.now.kind coordinates.lat coordinates.lon)) s
+        (worked s (overlay_held storage.new) s.parts result) }
 {
     if empty {
         reader_acts::push_empty(storage, chains, act, coordinates)?;

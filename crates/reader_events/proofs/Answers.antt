@@ -108,7 +108,7 @@ module _ (p : Bytes) (k : 16384 < length p) (h : lacks 10 p ≡ true) (s : State
       (λ l u g x w. let z = sym long_stops ∙ x in no (cc))
 
 -- accepted lines leave a reader that goes on
-lines_go : (ls : List Bytes) (s : State) → is_stopped s.reader.stop ≡ false → (events_on ls s).answer ≡ Ok tt → is_stopped (events_on ls s).state.reader.stop ≡ false
+pub lines_go : (ls : List Bytes) (s : State) → is_stopped s.reader.stop ≡ false → (events_on ls s).answer ≡ Ok tt → is_stopped (events_on ls s).state.reader.stop ≡ false
 lines_go [] s g a = rw (events_none s) g
 lines_go (l ∷ ls) s g a =
     by_answer (event_on l s).answer

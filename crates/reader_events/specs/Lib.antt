@@ -1,2 +1,3 @@
 pub mod Events
 pub mod Runs
+pub mod First

@@ -173,7 +173,8 @@ fn tag_with(
     ensures place { state.new.reader.place ≡ state.old.reader.place }
     ensures worked { StepGiven (chains_seen chains.now) (state_held state.old)
         → record { state = state_held state.new; answer = result } ≡ child_worked (state_held state.old)
-        (add_tag state.old.reader.place.kind state.old.reader.pending (record { key = text_written key.now; value = value.now }) state.old.parts.now (state_held state.old).overlay) }
+        (add_tag state.old.reader.place.kind state.old.reader.pending (record { key = text_written key.now; value = value.now })
+        state.old.parts.now (state_held state.old).overlay) }
 {
     let pending = state.reader.pending;
     if tag_fits(state.reader.place.kind, pending, value.len()) {
@@ -196,7 +197,8 @@ fn tag_with(
     over_limit(&state.view().storage(), chains, key)
 }
 
-// With its value's escapes resolved: an array holds the text. The library has no heap.
+// With its value's escapes resolved: an array holds the text. The library has no heap. It is not inlined, so that a tag without an escape makes no room for the array.
+#[inline(never)]
 fn tag_resolved(
     state: &mut ReaderState<'_>,
     chains: &Chains<'_>,
@@ -207,7 +209,8 @@ fn tag_resolved(
     ensures place { state.new.reader.place ≡ state.old.reader.place }
     ensures worked { StepGiven (chains_seen chains.now) (state_held state.old)
         → record { state = state_held state.new; answer = result } ≡ child_worked (state_held state.old)
-        (add_tag state.old.reader.place.kind state.old.reader.pending (record { key = text_written key.now; value = text_written value.now }) state.old.parts.now (state_held state.old).overlay) }
+        (add_tag state.old.reader.place.kind state.old.reader.pending (record { key = text_written key.now; value = text_written value.now })
+        state.old.parts.now (state_held state.old).overlay) }
 {
     let mut room = [0u8; MAX_LINE];
     let text = reader_texts::resolved(&mut room, value);
@@ -224,7 +227,8 @@ pub fn add_tag(
     ensures same { IsSameState state.new state.old }
     ensures place { state.new.reader.place ≡ state.old.reader.place }
     ensures works { StepGiven (chains_seen chains.now) (state_held state.old)
-        → Works (λ p. tags p (record { key = text_written key.now; value = text_written value.now })) (state_held state.old) (record { state = state_held state.new; answer = result }) }
+        → Works (λ p. tags p (record { key = text_written key.now; value = text_written value.now })) (state_held state.old)
+        (record { state = state_held state.new; answer = result }) }
 {
     if event_scan::lacks(value.bytes, b'\\') {
         return tag_with(state, chains, key, value.bytes);
@@ -261,7 +265,8 @@ pub fn add_member(
     ensures same { IsSameState state.new state.old }
     ensures place { state.new.reader.place ≡ state.old.reader.place }
     ensures works { StepGiven (chains_seen chains.now) (state_held state.old)
-        → Works (λ p. joins p (record { ref = to_z w64 reference; type = kind; role = text_written role.now })) (state_held state.old) (record { state = state_held state.new; answer = result }) }
+        → Works (λ p. joins p (record { ref = to_z w64 reference; type = kind; role = text_written role.now })) (state_held state.old)
+        (record { state = state_held state.new; answer = result }) }
 {
     let reader = state.reader;
     if part_fits(reader.pending, MAX_MEMBERS) {

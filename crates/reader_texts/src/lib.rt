@@ -27,6 +27,8 @@ pub fn resolved<'a>(room: &'a mut [u8; MAX_LINE], value: &Value<'_, MAX_LINE>) -
 // ---- a text taken in
 
 // One with an escape. It and `handle_resolved` differ by what is done with the text: a closure was tried, and what it leaves of the storage that it captures is not known behind it.
+// It is not inlined, nor is `handle_resolved`, so that a text without an escape makes no room for the array.
+#[inline(never)]
 fn take_resolved(
     storage: &mut StorageMut<'_>,
     chains: &Chains<'_>,
@@ -60,6 +62,7 @@ pub fn take_text(
 // ---- a text only asked for
 
 // One with an escape.
+#[inline(never)]
 fn handle_resolved(
     storage: &Storage<'_>,
     chains: &Chains<'_>,

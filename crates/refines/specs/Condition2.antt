@@ -62,7 +62,8 @@ module _ (from_utf8 : Bytes → Bool) (o : Overlay) (r : CompactDiffOverlay) (k 
     pub count : (side : Side) → count_on k side o ≡ Ok (length (ids_on side (sorted_kind k r)))
     pub ids : (side : Side) (n : ℕ) → id_on k side n o ≡ numbered (slice_get (ids_on side (sorted_kind k r)) n)
     pub viewed : (n : ℕ) → table_record (sorted_kind k r) n ≡ rust_view (kind_store_of k o) (record_on k n o)
-    pub read : (n id : ℕ) → id_on k Live n o ≡ Ok id → RecordAs k from_utf8 r.interner.strings (table_record (sorted_kind k r) n) (seen_in o k (record_on k n o))
+    pub read : (n id : ℕ) → id_on k Live n o ≡ Ok id
+        → RecordAs k from_utf8 r.interner.strings (table_record (sorted_kind k r) n) (seen_in o k (record_on k n o))
 
 pub record SameHeld (from_utf8 : Bytes → Bool) (l : Storage) (w : RustHeld) : Type 0 where
   pub ids : (k : Kind) (id : ℤ) → FitsSigned w64 id → SameId from_utf8 l.overlay w.overlay k id

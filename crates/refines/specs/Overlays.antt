@@ -44,7 +44,14 @@ member_part m = record { ref_id = m.ref; type_byte = kind_number m.type; role_id
 
 abbrev pub meta_words : Bits.ArenaMeta → ArenaMeta
 meta_words m =
-    record { flags = m.flags; version = to_z w32 m.version; timestamp = to_z w64 m.timestamp; changeset = to_z w64 m.changeset; uid = to_z w32 m.uid; user_id = m.user }
+    record {
+      flags = m.flags;
+      version = to_z w32 m.version;
+      timestamp = to_z w64 m.timestamp;
+      changeset = to_z w64 m.changeset;
+      uid = to_z w32 m.uid;
+      user_id = m.user;
+    }
 
 abbrev pub refs_in : {S : Type 0} → Body S → List ℤ
 refs_in (place lat lon) = []

@@ -59,7 +59,8 @@ if_open L.Done st = None
 
 abbrev pub staged_in : State → Option Staging
 staged_in s =
-    if_open s.reader.place.level (if_pushed s.reader.place.section (staged_as (to_z w64 s.reader.pending.head.id) (pending_record s.reader.place.kind s.parts s.reader.pending)))
+    if_open s.reader.place.level
+    (if_pushed s.reader.place.section (staged_as (to_z w64 s.reader.pending.head.id) (pending_record s.reader.place.kind s.parts s.reader.pending)))
 
 pub record SameReader (s : State) (d : DriveState) (st : Option Staging) : Type 0 where
   pub state : d ≡ drive_state s.reader.place

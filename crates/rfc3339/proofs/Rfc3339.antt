@@ -92,7 +92,7 @@ module _ (s : Bytes) (v : ℤ) where
   read_moment u m f l z =
       let b = moment_ranges m l in
       let r = taken_ranges m (field_small s 0 4 (omega arith) f.year) b in
-      (shape_kept s u m f b.second, record { parts = date_time_of m; ranges = r; text = spelled s u m f; seconds = sym z ∙ seconds m; whole = refl })
+      (shape_kept s u m f b.second, record { time = date_time_of m; ranges = r; text = spelled s u m f; seconds = sym z ∙ seconds m; whole = refl })
 
   read : stamp s ≡ Some v → KeepsForm s × IsDateTime s v
   read e =
@@ -120,8 +120,8 @@ module _ (s : Bytes) (v : ℤ) where
   -- A date-time of section 5.6 that keeps the form is read as its value.
   pub accepts : KeepsForm s → IsDateTime s v → stamp s ≡ Some v
   accepts k i =
-      let p : Unmarked i.parts = kept_unmarked i.parts i.ranges (rw (← i.text) k) in
-      rw (i.text, i.seconds) (unmarked_taken i.parts i.ranges p)
+      let p : Unmarked i.time = kept_unmarked i.time i.ranges (rw (← i.text) k) in
+      rw (i.text, i.seconds) (unmarked_taken i.time i.ranges p)
 
   -- A text is read, as v, exactly when it keeps the form and is a date-time of section 5.6 whose value is v.
   pub exactly : (stamp s ≡ Some v) ↔ (KeepsForm s × IsDateTime s v)

@@ -79,4 +79,4 @@ one_reading t u r q e =
 
 pub one_value : (s : Bytes) (v w : ℤ) → IsDateTime s v → IsDateTime s w → v ≡ w
 one_value s v w i j =
-    i.seconds ∙ ap since_epoch (one_reading i.parts j.parts i.ranges j.ranges (sym i.text ∙ j.text)) ∙ sym j.seconds
+    i.seconds ∙ ap since_epoch (one_reading i.time j.time i.ranges j.ranges (sym i.text ∙ j.text)) ∙ sym j.seconds

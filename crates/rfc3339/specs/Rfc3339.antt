@@ -164,8 +164,8 @@ fraction (Some digits) = decimal 0 digits
 
 -- the text is a date-time, and its value is v seconds with no fraction of one more
 pub record IsDateTime (s : Bytes) (v : ℤ) : Type 0 where
-  pub parts : DateTime
-  pub ranges : Ranges parts
-  pub text : s ≡ date_time parts
-  pub seconds : v ≡ since_epoch parts
-  pub whole : fraction parts.secfrac ≡ 0
+  pub time : DateTime
+  pub ranges : Ranges time
+  pub text : s ≡ date_time time
+  pub seconds : v ≡ since_epoch time
+  pub whole : fraction time.secfrac ≡ 0

@@ -6,4 +6,5 @@ pub mod Classes
 pub mod Theorem
 pub mod Texts
 pub mod PlainBytes
+pub mod Blocks
 pub mod Escapes

@@ -7,6 +7,8 @@ ghost use Rattle.base.specs.Bytes.{all, both};
 ghost use Rattle.text.specs.Char.{xml_char};
 ghost use Rattle.text.specs.Check.{byte_at, joined_bits, Starting, Measured, is_text, is_plain};
 
+pub mod search;
+
 // The class of each first byte: how many bytes a legal character has that starts with it, 0 where none does.
 // A row has sixteen first bytes.
 const CLASS: [u8; 256] = *b"\
@@ -84,18 +86,11 @@ fn long(s: &[u8], at: usize, k: u8) -> Option<usize>
     }
 }
 
-// Whether a byte is a tab or one from the blank to the tilde.
-fn is_plain(b: u8) -> bool
-    ensures { result ≡ is_plain b }
-{
-    (b == b'\t') | ((b' ' <= b) & (b <= b'~'))
-}
-
-// Whether every byte is a tab or one from the blank to the tilde. It looks at all bytes, so that many are looked at together: no early end, and no branch.
+// Whether every byte is a tab or one from the blank to the tilde.
 pub fn plain(s: &[u8]) -> bool
     ensures { result ≡ all is_plain s.now }
 {
-    s.iter().fold(true, |ok, b| ok & is_plain(*b))
+    search::plain_length(s) == s.len()
 }
 
 // Whether bytes are legal text, character by character.

@@ -3,5 +3,9 @@ pub mod OverlayFirst
 pub mod ReaderReplies
 pub mod ReaderKeeps
 pub mod MarkReplies
+pub mod ReaderFirst
 pub mod ReadingFirst
+pub mod RecordFirst
+pub mod RecordReads
 pub mod ListingReplies
+pub mod ListingFirst

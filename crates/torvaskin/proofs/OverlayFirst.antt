@@ -4,7 +4,8 @@ use Rattle.std.specs.Prelude.{Err, None, Ok, Option, Result, Some}
 use Prim.Native.Nat.{ℕ}
 use mathlib.Core.Path.{◌≡◌, refl, ◌∙◌, ap}
 use mathlib.Core.Bool.{true}
-use mathlib.Core.List.{[], ◌∷◌}
+use mathlib.Core.List.{List, [], ◌∷◌}
+use lib.ListN.{length}
 use lib.IntN.{ℤ}
 use Rattle.base.specs.Bytes.{Bytes}
 use Rattle.base.proofs.Split.{by_bool}
@@ -24,8 +25,11 @@ use Rattle.overlay_store.specs.First.{handle_refusal}
 use Rattle.overlay_direct.specs.Calls.{intern_on}
 use Rattle.overlay_direct.specs.First.{intern_table, rest_of_push, rest_of_delete, push_table, delete_table}
 use Rattle.overlay_direct.proofs.First.{push_first, delete_first, intern_first}
-use Rattle.c_replies.specs.Overlays.{kept_reply, handle_text}
-use Rattle.torvaskin.specs.Overlays.{unknown, set_up_reply, allow_reply, intern_reply, push_named, push_reply, delete_named, delete_reply}
+use Rattle.overlay_texts.specs.Calls.{intern_texts_on}
+use Rattle.overlay_texts.specs.First.{intern_texts_table}
+use Rattle.overlay_texts.proofs.First.{intern_texts_first}
+use Rattle.c_replies.specs.Overlays.{kept_reply, handle_text, texts_reply}
+use Rattle.torvaskin.specs.Overlays.{unknown, set_up_reply, allow_reply, intern_reply, intern_texts_reply, push_named, push_reply, delete_named, delete_reply}
 
 kept_reply_lem : (x : Option Refusal) → kept_reply (kept_by x) ≡ reply_by x
 kept_reply_lem None = refl
@@ -49,6 +53,19 @@ handle_number (Err r) = refl
 pub intern_reply_first : (t : Bytes) (o : Overlay) → (intern_reply t o).reply.number ≡ number_by (first_of (intern_table t o))
 unfolding intern_reply
 intern_reply_first t o = handle_number (intern_on t o).answer ∙ ap number_by (intern_first t o)
+
+-- ---- many texts: 22, 17, 19, then 3, 13 of each
+
+texts_number : (x : Option Refusal) (n : ℕ) → (texts_reply (kept_by x) n).number ≡ number_by x
+texts_number None n = refl
+texts_number (Some r) n = refl
+
+pub intern_texts_reply_first : (lengths : List ℕ) (texts : Bytes) (handles : List ℕ) (o : Overlay)
+    → (intern_texts_reply lengths texts handles o).reply.number ≡ number_by (first_of (intern_texts_table lengths texts (length handles) o))
+unfolding intern_texts_reply
+intern_texts_reply_first lengths texts handles o =
+    let n = (intern_texts_on lengths texts handles o).taken in
+    ap (λ (x : Result Unit Refusal). (texts_reply x n).number) (intern_texts_first lengths texts handles o) ∙ texts_number (first_of (intern_texts_table lengths texts (length handles) o)) n
 
 -- ---- a kind by its number: 22, 17
 

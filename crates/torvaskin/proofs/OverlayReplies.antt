@@ -1,5 +1,5 @@
 -- What an entry leaves and replies, from what a call of the overlay leaves and answers; and where a number means no kind.
-use Rattle.std.specs.Prelude.{Err, None, Ok, Option, Result, Some, ℕ}
+use Rattle.std.specs.Prelude.{Err, List, None, Ok, Option, Result, Some, ℕ}
 use Rattle.refusal.specs.declared.Refusal.{Refusal}
 use mathlib.Core.Path.{◌≡◌, refl}
 use mathlib.Core.Bool.{Bool, true, false, cond}
@@ -11,16 +11,22 @@ use Rattle.overlay.specs.Calls.{OverlayAfter, overlay_refused}
 use Rattle.overlay_store.specs.Calls.{Interning}
 use Rattle.base.proofs.Split.{no}
 use Rattle.kind.specs.declared.Kind.{Kind}
-use Rattle.c_replies.specs.Overlays.{kept_reply, sound_reply, unknown_reply, handle_text}
+use Rattle.overlay_texts.specs.Calls.{TextsAfter}
+use Rattle.c_replies.specs.Overlays.{kept_reply, sound_reply, unknown_reply, handle_text, texts_reply}
 use Rattle.c_replies.specs.Readings.{unknown_kind}
 use Rattle.c_replies.specs.declared.Text.{Text}
-use Rattle.torvaskin.specs.Overlays.{kind_answer, replied, unknown, interned}
+use Rattle.c_replies.specs.declared.TextsReply.{TextsReply}
+use Rattle.torvaskin.specs.Overlays.{kind_answer, replied, unknown, interned, all_interned}
 
 pub replied_is : {x : Overlay} {a : Result Unit Refusal} {r : Reply} {y : OverlayAfter} → r ≡ kept_reply a → record { overlay = x; answer = a } ≡ y → record { overlay = x; reply = r } ≡ replied y
 replied_is told e = rw (told, ← e)
 
 pub interned_is : {x : Overlay} {a : Result ℕ Refusal} {r : Text} {y : Interning} → r ≡ handle_text a → record { overlay = x; answer = a } ≡ y → record { overlay = x; reply = r } ≡ interned y
 interned_is told e = rw (told, ← e)
+
+pub all_interned_is : {x : Overlay} {hs : List ℕ} {a : Result Unit Refusal} {n : ℕ} {r : TextsReply} {y : TextsAfter} → r ≡ texts_reply a n
+    → record { overlay = x; handles = hs; answer = a; taken = n } ≡ y → record { overlay = x; handles = hs; reply = r } ≡ all_interned y
+all_interned_is told e = rw (told, ← e)
 
 -- 22, else 17, and nothing lent changes
 no_kind : (o : Overlay) (b : Bool) → record { overlay = o; reply = unknown_reply b } ≡ replied (cond b (overlay_refused o R.BadRecord) (overlay_refused o R.Unsound))

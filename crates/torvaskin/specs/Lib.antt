@@ -1,4 +1,6 @@
 pub mod Overlays
 pub mod Readers
 pub mod Readings
+pub mod Records
 pub mod Listings
+pub mod First

@@ -1,6 +1,6 @@
 -- The C boundary of the overlay: what each entry leaves and replies; a kind goes by its number, and one above 2 is refused 17 where 22 is not.
 use Rattle.kind.specs.declared.Kind.{Kind}
-use Rattle.std.specs.Prelude.{ℕ, ℤ, Err, None, Ok, Option, Result, Some}
+use Rattle.std.specs.Prelude.{ℕ, ℤ, List, Err, None, Ok, Option, Result, Some}
 use Rattle.base.specs.Bytes.{Bytes}
 use Rattle.kind.specs.Kind.{of_number}
 use Rattle.refusal.specs.declared.Reply.{Reply}
@@ -16,8 +16,10 @@ use Rattle.overlay.specs.Overlay.{Overlay}
 use Rattle.overlay.specs.Calls.{OverlayAfter, if_sound, overlay_refused, set_up, allow_on}
 use Rattle.overlay_direct.specs.Calls.{push_on, delete_on, intern_on}
 use Rattle.overlay_store.specs.Calls.{Interning}
-use Rattle.c_replies.specs.Overlays.{kept_reply, handle_text}
+use Rattle.overlay_texts.specs.Calls.{TextsAfter, intern_texts_on}
+use Rattle.c_replies.specs.Overlays.{kept_reply, handle_text, texts_reply}
 use Rattle.c_replies.specs.declared.Text.{Text}
+use Rattle.c_replies.specs.declared.TextsReply.{TextsReply}
 
 -- an overlay and the reply that a call gives
 pub record Replied : Type 0 where
@@ -66,3 +68,17 @@ interned i = record { overlay = i.overlay; reply = handle_text i.answer }
 
 unfoldable pub intern_reply : Bytes → Overlay → Interned
 intern_reply t o = interned (intern_on t o)
+
+-- ---- many texts
+
+-- an overlay, the list of handles, and the reply that a call gives
+pub record AllInterned : Type 0 where
+  pub overlay : Overlay
+  pub handles : List ℕ
+  pub reply : TextsReply
+
+abbrev pub all_interned : TextsAfter → AllInterned
+all_interned x = record { overlay = x.overlay; handles = x.handles; reply = texts_reply x.answer x.taken }
+
+unfoldable pub intern_texts_reply : List ℕ → Bytes → List ℕ → Overlay → AllInterned
+intern_texts_reply lengths texts handles o = all_interned (intern_texts_on lengths texts handles o)

@@ -8,3 +8,4 @@ mod numbers;
 mod overlays;
 mod readers;
 mod readings;
+mod records;

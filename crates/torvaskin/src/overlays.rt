@@ -1,4 +1,4 @@
-// An overlay: set-up, soundness, the regression setting, intern, direct push and direct delete. Signed numbers in a head and in metadata cross as their bits, which is how C
+// An overlay: set-up, soundness, the regression setting, intern of one text and of many, direct push and direct delete. Signed numbers in a head and in metadata cross as their bits, which is how C
 // and Rust hold them.
 ghost use Rattle.std.specs.Prelude.{◌≡◌};
 ghost use Rattle.compact.specs.Held.{meta_of};
@@ -7,13 +7,14 @@ ghost use Rattle.overlay.specs.Lent.{overlay_seen};
 ghost use Rattle.overlay.specs.Sound.{is_sound};
 ghost use Rattle.kind.specs.Kind.{of_number};
 ghost use Rattle.c_replies.specs.Overlays.{sound_reply};
-ghost use Rattle.torvaskin.specs.Overlays.{kind_answer, set_up_reply, allow_reply, intern_reply, push_reply, delete_reply};
+ghost use Rattle.torvaskin.specs.Overlays.{kind_answer, set_up_reply, allow_reply, intern_reply, intern_texts_reply, push_reply, delete_reply};
 
-use c_replies::Text;
+use c_replies::{Text, TextsReply};
 use compact::{ArenaMeta, PushHead, PushRecord};
 use kind::Kind;
 use overlay::{Storage, StorageMut, StorageTables};
 use overlay_blocks::{COUNTERS, Sizes};
+use overlay_texts::JoinedTexts;
 use refusal::{Refusal, Reply};
 
 // 1 for a size outside, or sizes that are not those of the blocks, else an empty overlay. Setting 0 refuses regression, any other allows it.
@@ -90,6 +91,34 @@ pub extern "C" fn tvk_intern(
         counters,
     };
     Text::from(overlay_direct::intern(&mut storage, text))
+}
+
+// Takes many texts in, which lie end to end: 22; 17 where their lengths do not add up to the bytes; 19 where the list is shorter than the texts are many; then 3 or 13 of the first text that is
+// refused. Those before it are taken in, and their handles stand at the start of the list.
+#[tactic(auto, using(crate::proofs::OverlayReplies::all_interned_is), unfolding(crate::specs::Overlays::intern_texts_reply))]
+#[unsafe(no_mangle)]
+pub extern "C" fn tvk_intern_texts(
+    words: &mut [u64],
+    bytes: &mut [u8],
+    counters: &mut [u64; COUNTERS],
+    texts: &[u8],
+    lengths: &[usize],
+    handles: &mut [u64],
+) -> TextsReply
+    ensures { record { overlay = left words.new bytes.new counters.new; handles = handles.new; reply = result }
+        ≡ intern_texts_reply lengths.now texts.now handles.old (lent words.old bytes.old counters.old) }
+{
+    let mut storage = StorageMut {
+        words,
+        bytes,
+        counters,
+    };
+    let joined = JoinedTexts {
+        bytes: texts,
+        lengths,
+    };
+    let done = overlay_texts::intern_texts(&mut storage, &joined, handles);
+    c_replies::texts_reply(done.answer, done.taken)
 }
 
 // A direct push of a node (kind 0), way (1) or relation (2).

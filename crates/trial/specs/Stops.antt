@@ -76,7 +76,8 @@ stop_rows =
     -- a key of nine bytes where eight are lent
     ∷ stop_row way (ascii "empty\ttag\tk=aaaaaaaaa\tv=\n") 13
     -- a fifth way where four are lent
-    ∷ stop_row (section ++ (ascii "empty\tway\tid=1\n" ∷ ascii "empty\tway\tid=2\n" ∷ ascii "empty\tway\tid=3\n" ∷ ascii "empty\tway\tid=4\n" ∷ [])) (ascii "empty\tway\tid=5\n") 14
+    ∷ stop_row (section ++ (ascii "empty\tway\tid=1\n" ∷ ascii "empty\tway\tid=2\n" ∷ ascii "empty\tway\tid=3\n" ∷ ascii "empty\tway\tid=4\n" ∷ []))
+    (ascii "empty\tway\tid=5\n") 14
     -- a record of more bytes than the 256 that are lent
     ∷ stop_row (way ++ (tag 256 ∷ [])) (ascii "close\n") 15
     -- values of more than 16,384 bytes

@@ -203,6 +203,19 @@ fn changing(p: Lent<'_>, call: &Call) -> Answer {
     }
 }
 
+/// A text behind the empty one, which every sound overlay holds, in a call of many texts: what `intern` of it answers.
+fn interned_behind_empty(p: Lent<'_>, text: &[u8]) -> Answer {
+    let mut handles = [UNWRITTEN_WORD; 3];
+    let done = entry::intern_texts(p, text, &[0, text.len()], &mut handles);
+    let value = match (done.number, done.taken, handles) {
+        (0, 2, [0, handle, UNWRITTEN_WORD]) => handle,
+        (22, 0, [UNWRITTEN_WORD, UNWRITTEN_WORD, UNWRITTEN_WORD]) => 0,
+        (3 | 13, 1, [0, UNWRITTEN_WORD, UNWRITTEN_WORD]) => 0,
+        other => panic!("{other:?}"),
+    };
+    Answer::Number { number: done.number, value }
+}
+
 impl<L: Lend> Entries<L> {
     /// A call that only reads.
     fn reading(&self, p: Shared<'_>, call: &Call) -> Answer {
@@ -274,6 +287,13 @@ impl<L: Lend> Port for Entries<L> {
                 let answer =
                     self.reader(&mut reader, |words, parts| self.0.read(lent, |p| event(entry::end(p, words, parts))));
                 assert!(reader == lent.readers[*n], "an end that writes");
+                answer
+            }
+            Call::Intern(text) => {
+                let mut other = lent.clone();
+                let many = self.0.lend(&mut other, |p| interned_behind_empty(p, text));
+                let answer = self.0.lend(lent, |p| changing(p, call));
+                assert!(many == answer && other == *lent, "many texts in one call are not their `intern`s");
                 answer
             }
             call if call.is_change() => self.0.lend(lent, |p| changing(p, call)),

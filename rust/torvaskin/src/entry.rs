@@ -9,8 +9,8 @@
 use crate::blocks::{Blocks, Lent, Shared};
 use crate::ffi;
 pub use crate::ffi::{
-    ArenaMeta, Cursor, EventReply, EventsReply, KindSize, ListingReply, Number, OsmIdKey, Part, Places, PushHead,
-    Reply, Sizes, Text,
+    ArenaMeta, Cursor, EventReply, EventsReply, HeadReply, KindSize, ListingReply, MemberReply, MetaReply, Number,
+    OsmIdKey, Part, Places, PushHead, RefReply, Reply, Sizes, TagReply, Text, TextsReply,
 };
 use crate::reader::STAGED;
 
@@ -47,6 +47,12 @@ pub fn allow_version_regression(blocks: Lent<'_>, setting: u64) -> Reply {
 
 pub fn intern(blocks: Lent<'_>, text: &[u8]) -> Text {
     entry!(tvk_intern, write, blocks, text.as_ptr(), text.len())
+}
+
+pub fn intern_texts(blocks: Lent<'_>, texts: &[u8], lengths: &[usize], handles: &mut [u64]) -> TextsReply {
+    let ((texts, texts_len), (lengths, lengths_len)) = (read(texts), read(lengths));
+    let (handles, handles_len) = write(handles);
+    entry!(tvk_intern_texts, write, blocks, texts, texts_len, lengths, lengths_len, handles, handles_len)
 }
 
 pub fn push(blocks: Lent<'_>, kind: u8, head: PushHead, meta: ArenaMeta, own: &[u8]) -> Reply {
@@ -138,6 +144,26 @@ macro_rules! plain {
         // SAFETY: numbers, and slices that are borrowed.
         unsafe { ffi::$name($($own),*) }
     };
+}
+
+pub fn record_head(kind: u8, record: &[u8]) -> HeadReply {
+    plain!(tvk_record_head(kind, record.as_ptr(), record.len()))
+}
+
+pub fn record_meta(kind: u8, record: &[u8]) -> MetaReply {
+    plain!(tvk_record_meta(kind, record.as_ptr(), record.len()))
+}
+
+pub fn record_ref(record: &[u8], offset: usize, remaining: u32) -> RefReply {
+    plain!(tvk_record_ref(record.as_ptr(), record.len(), offset, remaining))
+}
+
+pub fn record_member(record: &[u8], offset: usize, remaining: u32) -> MemberReply {
+    plain!(tvk_record_member(record.as_ptr(), record.len(), offset, remaining))
+}
+
+pub fn record_tag(record: &[u8], offset: usize, remaining: u32) -> TagReply {
+    plain!(tvk_record_tag(record.as_ptr(), record.len(), offset, remaining))
 }
 
 pub fn range_overlaps(live: &[i64], deleted: &[i64], min: i64, max: i64) -> Number {

@@ -53,6 +53,14 @@ pub struct Text {
     pub handle: u64,
 }
 
+/// 0 or a refusal's number; and how many texts were taken in.
+#[repr(C)]
+#[derive(Clone, Copy, Debug, PartialEq, Eq)]
+pub struct TextsReply {
+    pub number: u32,
+    pub taken: usize,
+}
+
 /// 0 and found 1 with where something lies, 0 and found 0 for nothing, or a refusal's number.
 #[repr(C)]
 #[derive(Clone, Copy, Debug, PartialEq, Eq)]
@@ -84,6 +92,57 @@ pub struct ArenaMeta {
     pub changeset: u64,
     pub uid: u32,
     pub user: u32,
+}
+
+/// 0 with a record's head, where its refs or members begin and where its tags do; or a refusal's number with zeros.
+#[repr(C)]
+#[derive(Clone, Copy, Debug, PartialEq, Eq)]
+pub struct HeadReply {
+    pub number: u32,
+    pub head: PushHead,
+    pub parts_at: usize,
+    pub tags_at: usize,
+}
+
+/// 0 with its metadata, or a refusal's number with zeros.
+#[repr(C)]
+#[derive(Clone, Copy, Debug, PartialEq, Eq)]
+pub struct MetaReply {
+    pub number: u32,
+    pub meta: ArenaMeta,
+}
+
+/// 0 and found 1 with a ref and the offset of the next, 0 and found 0 where none remains, or a refusal's number.
+#[repr(C)]
+#[derive(Clone, Copy, Debug, PartialEq, Eq)]
+pub struct RefReply {
+    pub number: u32,
+    pub found: u32,
+    pub value: u64,
+    pub next: usize,
+}
+
+/// The same with a member.
+#[repr(C)]
+#[derive(Clone, Copy, Debug, PartialEq, Eq)]
+pub struct MemberReply {
+    pub number: u32,
+    pub found: u32,
+    pub reference: u64,
+    pub kind: u8,
+    pub role: u32,
+    pub next: usize,
+}
+
+/// The same with a tag, whose value ends where the next one stands.
+#[repr(C)]
+#[derive(Clone, Copy, Debug, PartialEq, Eq)]
+pub struct TagReply {
+    pub number: u32,
+    pub found: u32,
+    pub key: u32,
+    pub start: usize,
+    pub len: usize,
 }
 
 /// The lent sizes of a kind: rows of its id table, bytes of its arena.
@@ -152,6 +211,7 @@ unsafe extern "C" {
     pub fn tvk_is_sound(words: *const u64, words_len: usize, bytes: *const u8, bytes_len: usize, counters: *const [u64; 17]) -> Reply;
     pub fn tvk_allow_version_regression(words: *const u64, words_len: usize, bytes: *const u8, bytes_len: usize, counters: *mut [u64; 17], setting: u64) -> Reply;
     pub fn tvk_intern(words: *mut u64, words_len: usize, bytes: *mut u8, bytes_len: usize, counters: *mut [u64; 17], text: *const u8, text_len: usize) -> Text;
+    pub fn tvk_intern_texts(words: *mut u64, words_len: usize, bytes: *mut u8, bytes_len: usize, counters: *mut [u64; 17], texts: *const u8, texts_len: usize, lengths: *const usize, lengths_len: usize, handles: *mut u64, handles_len: usize) -> TextsReply;
     pub fn tvk_push(words: *mut u64, words_len: usize, bytes: *mut u8, bytes_len: usize, counters: *mut [u64; 17], kind: u8, head: PushHead, meta: ArenaMeta, parts: *const u8, parts_len: usize) -> Reply;
     pub fn tvk_delete(words: *mut u64, words_len: usize, bytes: *const u8, bytes_len: usize, counters: *mut [u64; 17], kind: u8, id: i64, meta: ArenaMeta) -> Reply;
     pub fn tvk_live_count(words: *const u64, words_len: usize, bytes: *const u8, bytes_len: usize, counters: *const [u64; 17], kind: u8) -> Number;
@@ -167,6 +227,11 @@ unsafe extern "C" {
     pub fn tvk_text(words: *const u64, words_len: usize, bytes: *const u8, bytes_len: usize, counters: *const [u64; 17], handle: u64) -> Part;
     pub fn tvk_live_ids(words: *const u64, words_len: usize, bytes: *const u8, bytes_len: usize, counters: *const [u64; 17], kind: u8, ids: *mut u64, ids_len: usize, versions: *mut u64, versions_len: usize) -> Number;
     pub fn tvk_deleted_ids(words: *const u64, words_len: usize, bytes: *const u8, bytes_len: usize, counters: *const [u64; 17], kind: u8, ids: *mut u64, ids_len: usize, versions: *mut u64, versions_len: usize) -> Number;
+    pub fn tvk_record_head(kind: u8, bytes: *const u8, bytes_len: usize) -> HeadReply;
+    pub fn tvk_record_meta(kind: u8, bytes: *const u8, bytes_len: usize) -> MetaReply;
+    pub fn tvk_record_ref(bytes: *const u8, bytes_len: usize, offset: usize, remaining: u32) -> RefReply;
+    pub fn tvk_record_member(bytes: *const u8, bytes_len: usize, offset: usize, remaining: u32) -> MemberReply;
+    pub fn tvk_record_tag(bytes: *const u8, bytes_len: usize, offset: usize, remaining: u32) -> TagReply;
     pub fn tvk_listing(words: *const u64, words_len: usize, bytes: *const u8, bytes_len: usize, counters: *const [u64; 17], out: *mut u8, out_len: usize) -> ListingReply;
     pub fn tvk_listing_length(words: *const u64, words_len: usize, bytes: *const u8, bytes_len: usize, counters: *const [u64; 17]) -> ListingReply;
     pub fn tvk_event(words: *mut u64, words_len: usize, bytes: *mut u8, bytes_len: usize, counters: *mut [u64; 17], reader: *mut [u64; 19], parts: *mut [u8; 44432], line: *const u8, line_len: usize) -> EventReply;

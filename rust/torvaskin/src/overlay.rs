@@ -31,8 +31,8 @@ pub struct Overlay<S = Owned> {
 
 /// What names a key, a role or a user in a push: a text, which is taken in, or the [`Handle`] of one that was.
 pub trait Name: Copy + Sealed {
-    /// Its handle.
-    fn handle<S: Storage>(self, overlay: &mut Overlay<S>) -> Result<Handle, Refusal>;
+    /// The handles of some names, with at most one test of what is lent.
+    fn handles<S: Storage>(names: &[Self], overlay: &mut Overlay<S>) -> Result<Vec<Handle>, Refusal>;
 
     /// Of a text its length.
     #[doc(hidden)]
@@ -47,8 +47,8 @@ impl Sealed for Handle {}
 impl Sealed for &str {}
 
 impl Name for Handle {
-    fn handle<S: Storage>(self, _: &mut Overlay<S>) -> Result<Handle, Refusal> {
-        Ok(self)
+    fn handles<S: Storage>(names: &[Self], _: &mut Overlay<S>) -> Result<Vec<Handle>, Refusal> {
+        Ok(names.to_vec())
     }
 
     fn text_len(self) -> Option<usize> {
@@ -57,8 +57,9 @@ impl Name for Handle {
 }
 
 impl Name for &str {
-    fn handle<S: Storage>(self, overlay: &mut Overlay<S>) -> Result<Handle, Refusal> {
-        overlay.intern(self)
+    fn handles<S: Storage>(names: &[Self], overlay: &mut Overlay<S>) -> Result<Vec<Handle>, Refusal> {
+        // of no texts nothing is asked: the push behind them tests what is lent
+        if names.is_empty() { Ok(Vec::new()) } else { overlay.intern_texts(names) }
     }
 
     fn text_len(self) -> Option<usize> {
@@ -183,14 +184,34 @@ impl<S: Storage> Overlay<S> {
     pub fn intern(&mut self, text: &str) -> Result<Handle, Refusal> {
         let text = entry::intern(self.storage.lent(), text.as_bytes());
         Refusal::unless_taken(text.number, 0, 0)?;
-        u32::try_from(text.handle).map(Handle).map_err(|_| Refusal::UNSOUND)
+        handle(text.handle)
+    }
+
+    /// Takes texts in, one after another, with one test of what is lent: the handles that [`Overlay::intern`] would give. Refused 3 or 13 at
+    /// the first text that it would refuse; those before it stay taken in.
+    ///
+    /// ```
+    /// use torvaskin::{Handle, Overlay, Sizes};
+    ///
+    /// let mut overlay = Overlay::new(&Sizes::ROADLIST)?;
+    /// assert_eq!(overlay.intern_texts(&["name", "", "maxweight", "name"])?, [Handle(1), Handle(0), Handle(2), Handle(1)]);
+    /// assert_eq!(overlay.intern_texts(&["access", "\u{1}", "bridge"]).unwrap_err().number(), 3);
+    /// assert_eq!(overlay.used()?.strings, 4);
+    /// # Ok::<(), torvaskin::Refusal>(())
+    /// ```
+    pub fn intern_texts(&mut self, texts: &[&str]) -> Result<Vec<Handle>, Refusal> {
+        let lengths: Vec<_> = texts.iter().map(|text| text.len()).collect();
+        let mut handles = vec![0; texts.len()];
+        let done = entry::intern_texts(self.storage.lent(), texts.concat().as_bytes(), &lengths, &mut handles);
+        Refusal::unless_taken(done.number, 0, 0)?;
+        handles.into_iter().map(handle).collect()
     }
 
     /// Creates or replaces an element. Its names are taken in first (refused 3 or 13), then it is pushed (refused 17, 3, 10, 16, 12, 14 or
     /// 15). Where it is refused, the names that were new are given back, and every lent byte is as it was.
     ///
-    /// Each name that is a text is a call of its own, and each call tests the whole overlay first: a push with five of them tests it six
-    /// times. Names that are pushed often are taken in once, by [`Overlay::intern`], and pushed by their handles.
+    /// The names that are texts are taken in by one call, and each call tests the whole overlay first: a push with such names tests it
+    /// twice, a push without once. Names that are pushed often are taken in once, by [`Overlay::intern_texts`], and pushed by their handles.
     ///
     /// A text that was read from an overlay cannot be pushed into the same one, which it would overlap:
     ///
@@ -201,17 +222,15 @@ impl<S: Storage> Overlay<S> {
     /// # Ok::<(), torvaskin::Refusal>(())
     /// ```
     pub fn push<N: Name>(&mut self, record: &Record<'_, N>) -> Result<(), Refusal> {
-        let user = record.metadata.and_then(|metadata| metadata.user);
-        let roles = record.members().iter().map(|member| member.role);
-        let names = record.tags.iter().map(|tag| tag.0).chain(roles).chain(user).filter_map(Name::text_len);
-        let (texts, text_bytes) =
-            names.fold((0, 0_usize), |(texts, bytes), len| (texts + 1, bytes.saturating_add(len)));
+        let names: Vec<_> = names(record).collect();
+        let (texts, text_bytes) = (names.iter().filter_map(|name| name.text_len()))
+            .fold((0, 0_usize), |(texts, bytes), len| (texts + 1, bytes.saturating_add(len)));
         // what new texts may write, and how much was in use
         let mut lent = self.storage.lent();
         let counters = *lent.counters;
         let (words, bytes) = lent.unused_texts(texts, text_bytes);
         let (words, bytes) = (words.to_vec(), bytes.to_vec());
-        let pushed = self.push_parts(record);
+        let pushed = N::handles(&names, self).and_then(|handles| self.push_parts(record, handles));
         if pushed.is_err() {
             let mut lent = self.storage.lent();
             *lent.counters = counters;
@@ -222,10 +241,13 @@ impl<S: Storage> Overlay<S> {
         pushed
     }
 
-    fn push_parts<N: Name>(&mut self, record: &Record<'_, N>) -> Result<(), Refusal> {
+    /// A push by the handles of the record's names.
+    fn push_parts<N: Name>(&mut self, record: &Record<'_, N>, handles: Vec<Handle>) -> Result<(), Refusal> {
+        let mut handles = handles.into_iter();
         let mut parts = Vec::new();
         let mut head = PushHead { id: record.id.cast_unsigned(), ..PushHead::default() };
-        let meta = self.arena_meta(record.metadata.as_ref())?;
+        let user = record.metadata.and_then(|metadata| metadata.user).and_then(|_| handles.next());
+        let meta = arena_meta(record.metadata.as_ref(), user);
         match &record.body {
             Body::Node { lat, lon } => (head.lat, head.lon) = (lat.cast_unsigned(), lon.cast_unsigned()),
             Body::Way { refs } => {
@@ -234,16 +256,16 @@ impl<S: Storage> Overlay<S> {
             }
             Body::Relation { members } => {
                 head.count = narrow(members.len())?;
-                for member in members {
+                for (member, role) in members.iter().zip(handles.by_ref()) {
                     parts.extend(member.id.to_le_bytes());
                     parts.push(member.kind as u8);
-                    parts.extend(member.role.handle(self)?.0.to_le_bytes());
+                    parts.extend(role.0.to_le_bytes());
                 }
             }
         }
         head.tags = narrow(record.tags.len())?;
-        for (key, value) in &record.tags {
-            parts.extend(key.handle(self)?.0.to_le_bytes());
+        for ((_, value), key) in record.tags.iter().zip(handles) {
+            parts.extend(key.0.to_le_bytes());
             parts.extend(narrow(value.len())?.to_le_bytes());
             parts.extend(value.as_bytes());
         }
@@ -251,27 +273,10 @@ impl<S: Storage> Overlay<S> {
         Refusal::unless_taken(reply.number, reply.held, 0)
     }
 
-    fn arena_meta<N: Name>(&mut self, metadata: Option<&Metadata<N>>) -> Result<ArenaMeta, Refusal> {
-        let Some(metadata) = metadata else { return Ok(ArenaMeta::default()) };
-        let user = metadata.user.map(|user| user.handle(self)).transpose()?;
-        let flag = |given, flag| if given { flag } else { 0 };
-        Ok(ArenaMeta {
-            flags: PRESENT
-                | flag(metadata.hidden, HIDDEN)
-                | flag(user.is_some(), HAS_USER)
-                | flag(metadata.version.is_some(), HAS_VERSION),
-            version: metadata.version.unwrap_or(0).cast_unsigned(),
-            timestamp: metadata.timestamp.cast_unsigned(),
-            changeset: metadata.changeset.cast_unsigned(),
-            uid: metadata.uid.cast_unsigned(),
-            user: user.unwrap_or_default().0,
-        })
-    }
-
     /// Deletes an element, known or not, with the version that the delete claims. Refused 12 or 14.
     pub fn delete(&mut self, kind: ElementKind, id: i64, version: Option<i32>) -> Result<(), Refusal> {
         let metadata = version.map(|_| Metadata::<Handle> { version, ..Metadata::default() });
-        let meta = self.arena_meta(metadata.as_ref())?;
+        let meta = arena_meta(metadata.as_ref(), None);
         let reply = entry::delete(self.storage.lent(), kind as u8, id, meta);
         Refusal::unless_taken(reply.number, reply.held, 0)
     }
@@ -490,6 +495,35 @@ impl<S: Storage> Overlay<S> {
         let listing = out.get(..listed.length).and_then(|listing| core::str::from_utf8(listing).ok());
         listing.ok_or(Refusal::UNSOUND)
     }
+}
+
+/// The names of a record, in the order in which they are taken in: its user, the roles, the keys.
+fn names<'r, N: Name>(record: &'r Record<'_, N>) -> impl Iterator<Item = N> + use<'r, N> {
+    let user = record.metadata.and_then(|metadata| metadata.user);
+    let roles = record.members().iter().map(|member| member.role);
+    user.into_iter().chain(roles).chain(record.tags.iter().map(|tag| tag.0))
+}
+
+/// Metadata as a push has it, with its user's handle.
+fn arena_meta<N>(metadata: Option<&Metadata<N>>, user: Option<Handle>) -> ArenaMeta {
+    let Some(metadata) = metadata else { return ArenaMeta::default() };
+    let flag = |given, flag| if given { flag } else { 0 };
+    ArenaMeta {
+        flags: PRESENT
+            | flag(metadata.hidden, HIDDEN)
+            | flag(user.is_some(), HAS_USER)
+            | flag(metadata.version.is_some(), HAS_VERSION),
+        version: metadata.version.unwrap_or(0).cast_unsigned(),
+        timestamp: metadata.timestamp.cast_unsigned(),
+        changeset: metadata.changeset.cast_unsigned(),
+        uid: metadata.uid.cast_unsigned(),
+        user: user.unwrap_or_default().0,
+    }
+}
+
+/// A handle that an entry gave.
+fn handle(word: u64) -> Result<Handle, Refusal> {
+    u32::try_from(word).map(Handle).map_err(|_| Refusal::UNSOUND)
 }
 
 /// A row's place from here on is that of a deleted id.

@@ -3,6 +3,7 @@
 use alloc::vec::Vec;
 
 use crate::blocks::TextPart;
+use crate::entry::{self, ArenaMeta, HeadReply, MemberReply, MetaReply, RefReply, TagReply};
 
 /// A node, a way or a relation.
 #[derive(Clone, Copy, Debug, PartialEq, Eq, Hash)]
@@ -156,29 +157,22 @@ impl<'a> Record<'a> {
     }
 
     /// The record at the start of these bytes; nothing where they are no whole record.
-    pub(crate) fn read(kind: ElementKind, mut data: &'a [u8], texts: TextPart<'a>) -> Option<Self> {
-        let data = &mut data;
-        let id = i64::from_le_bytes(take(data)?);
-        let place = match kind {
-            ElementKind::Node => [i32::from_le_bytes(take(data)?), i32::from_le_bytes(take(data)?)],
-            _ => [0; 2],
+    pub(crate) fn read(kind: ElementKind, data: &'a [u8], texts: TextPart<'a>) -> Option<Self> {
+        let HeadReply { number: 0, head, parts_at, tags_at } = entry::record_head(kind as u8, data) else {
+            return None;
         };
-        let count = if kind == ElementKind::Node { 0 } else { u32::from_le_bytes(take(data)?) };
-        let tags = u32::from_le_bytes(take(data)?);
-        let metadata = read_metadata(data, texts)?;
+        let MetaReply { number: 0, meta } = entry::record_meta(kind as u8, data) else {
+            return None;
+        };
         let body = match kind {
-            ElementKind::Node => Body::Node { lat: place[0], lon: place[1] },
-            ElementKind::Way => {
-                let refs = (0..count).map(|_| take(data).map(i64::from_le_bytes));
-                Body::Way { refs: refs.collect::<Option<_>>()? }
-            }
+            ElementKind::Node => Body::Node { lat: head.lat.cast_signed(), lon: head.lon.cast_signed() },
+            ElementKind::Way => Body::Way { refs: walk(parts_at, head.count, |at, left| next_ref(data, at, left))? },
             ElementKind::Relation => {
-                let members = (0..count).map(|_| read_member(data, texts));
-                Body::Relation { members: members.collect::<Option<_>>()? }
+                Body::Relation { members: walk(parts_at, head.count, |at, left| next_member(data, texts, at, left))? }
             }
         };
-        let tags = (0..tags).map(|_| read_tag(data, texts)).collect::<Option<_>>()?;
-        Some(Self { id, body, metadata, tags })
+        let tags = walk(tags_at, head.tags, |at, left| next_tag(data, texts, at, left))?;
+        Some(Self { id: head.id.cast_signed(), body, metadata: read_metadata(meta, texts)?, tags })
     }
 }
 
@@ -203,25 +197,57 @@ impl<N> Record<'_, N> {
     }
 }
 
-/// The first bytes, which are cut off.
-fn take<const LEN: usize>(data: &mut &[u8]) -> Option<[u8; LEN]> {
-    let (first, rest) = data.split_first_chunk()?;
-    *data = rest;
-    Some(*first)
+/// What a step gives: nothing where it is refused; else a part and the offset of the next one, or none where none remains.
+type Step<T> = Option<Option<(T, usize)>>;
+
+/// The parts from an offset on, step after step.
+fn walk<T>(mut offset: usize, mut remaining: u32, step: impl Fn(usize, u32) -> Step<T>) -> Option<Vec<T>> {
+    let mut parts = Vec::new();
+    while let Some((part, next)) = step(offset, remaining)? {
+        parts.push(part);
+        (offset, remaining) = (next, remaining - 1);
+    }
+    Some(parts)
 }
 
-fn read_metadata<'a>(data: &mut &'a [u8], texts: TextPart<'a>) -> Option<Option<Metadata<&'a str>>> {
-    let [flags] = take(data)?;
-    let version = i32::from_le_bytes(take(data)?);
-    let timestamp = i64::from_le_bytes(take(data)?);
-    let changeset = i64::from_le_bytes(take(data)?);
-    let uid = i32::from_le_bytes(take(data)?);
-    let user = text(texts, take(data)?)?;
+fn next_ref(data: &[u8], offset: usize, remaining: u32) -> Step<i64> {
+    let RefReply { number: 0, found, value, next } = entry::record_ref(data, offset, remaining) else {
+        return None;
+    };
+    Some((found != 0).then_some((value.cast_signed(), next)))
+}
+
+fn next_member<'a>(data: &[u8], texts: TextPart<'a>, offset: usize, remaining: u32) -> Step<Member<&'a str>> {
+    let MemberReply { number: 0, found, reference, kind, role, next } = entry::record_member(data, offset, remaining)
+    else {
+        return None;
+    };
+    if found == 0 {
+        return Some(None);
+    }
+    let kind = *ElementKind::ALL.get(usize::from(kind))?;
+    Some(Some((Member { kind, id: reference.cast_signed(), role: text(texts, role)? }, next)))
+}
+
+fn next_tag<'a>(data: &'a [u8], texts: TextPart<'a>, offset: usize, remaining: u32) -> Step<(&'a str, &'a str)> {
+    let TagReply { number: 0, found, key, start, len } = entry::record_tag(data, offset, remaining) else {
+        return None;
+    };
+    if found == 0 {
+        return Some(None);
+    }
+    let value = core::str::from_utf8(cut(data, start, len)?).ok()?;
+    Some(Some(((text(texts, key)?, value), start + len)))
+}
+
+fn read_metadata<'a>(meta: ArenaMeta, texts: TextPart<'a>) -> Option<Option<Metadata<&'a str>>> {
+    let ArenaMeta { flags, version, timestamp, changeset, uid, user } = meta;
+    let user = text(texts, user)?;
     let metadata = Metadata {
-        version: (flags & HAS_VERSION != 0).then_some(version),
-        timestamp,
-        changeset,
-        uid,
+        version: (flags & HAS_VERSION != 0).then_some(version.cast_signed()),
+        timestamp: timestamp.cast_signed(),
+        changeset: changeset.cast_signed(),
+        uid: uid.cast_signed(),
         user: (flags & HAS_USER != 0).then_some(user),
         hidden: flags & HIDDEN != 0,
     };
@@ -233,23 +259,9 @@ pub(crate) const HIDDEN: u8 = 2;
 pub(crate) const HAS_USER: u8 = 4;
 pub(crate) const HAS_VERSION: u8 = 8;
 
-fn read_member<'a>(data: &mut &'a [u8], texts: TextPart<'a>) -> Option<Member<&'a str>> {
-    let id = i64::from_le_bytes(take(data)?);
-    let [kind] = take(data)?;
-    Some(Member { kind: *ElementKind::ALL.get(usize::from(kind))?, id, role: text(texts, take(data)?)? })
-}
-
-fn read_tag<'a>(data: &mut &'a [u8], texts: TextPart<'a>) -> Option<(&'a str, &'a str)> {
-    let key = text(texts, take(data)?)?;
-    let len = u32::from_le_bytes(take(data)?) as usize;
-    let (value, rest) = data.split_at_checked(len)?;
-    *data = rest;
-    Some((key, core::str::from_utf8(value).ok()?))
-}
-
 /// The text of a handle.
-fn text<'a>(texts: TextPart<'a>, handle: [u8; 4]) -> Option<&'a str> {
-    let [start, len] = *texts.spans.get(u32::from_le_bytes(handle) as usize)?;
+fn text(texts: TextPart<'_>, handle: u32) -> Option<&str> {
+    let [start, len] = *texts.spans.get(handle as usize)?;
     core::str::from_utf8(cut(texts.bytes, start.try_into().ok()?, len.try_into().ok()?)?).ok()
 }
 

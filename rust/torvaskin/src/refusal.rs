@@ -64,11 +64,11 @@ reasons! {
         "In `roadlist`: the file is too large; ask for one with fewer roads or a shorter time. In a terminal: start with an empty overlay; its maker can lend a larger arena.";
     TooManyParts = 16, "One element has more than 256 tags, 2,000 refs, 2,000 members or 16,384 bytes of tag values.",
         "The element is larger than anything that is taken. Ask the supplier whether it can be divided.";
-    BadRecord = 17, "The terminal's program handed in a record that contradicts itself, or asked for a kind that does not exist.",
+    BadRecord = 17, "The terminal's program handed in a record that contradicts itself or texts that do not fit their lengths, or asked for a kind that does not exist.",
         "A fault of that program: report it to its maker.";
     Unfinished = 18, "The input ended before its last element was closed, or nothing was handed in.",
         "The file was cut off, or it is empty. Fetch it again.";
-    ShortOutput = 19, "The listing does not fit its output, or the ids of a kind do not fit the lists that are to hold them.",
+    ShortOutput = 19, "The listing does not fit its output, or ids or handles do not fit the lists that are to hold them.",
         "In `roadlist`: the file is too large; ask for one with fewer roads or a shorter time. In a terminal: its maker can lend more output.";
     NotInOrder = 20, "A program handed in a list of ids that is not strictly in order.",
         "A fault of the calling program.";

@@ -127,6 +127,9 @@ impl Lent {
         for text in ["k", "new", "ß", "\u{1}"] {
             change(&|overlay| overlay.intern(text).map(drop));
         }
+        for texts in [&[][..], &["", "new"], &["\u{1}", "k"]] {
+            change(&|overlay| overlay.intern_texts(texts).map(drop));
+        }
         for kind in KINDS {
             change(&|overlay| overlay.delete(kind, 5, Some(9)));
             change(&|overlay| overlay.delete(kind, -1, None));

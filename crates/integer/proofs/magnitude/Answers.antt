@@ -1,12 +1,9 @@
-use Prim.Native.Nat.{◌<◌, ◌+◌, ◌-◌, ◌*◌}
 use mathlib.Core.Path.{sym, ◌∙◌, ap}
 use native.Mathlib.Omega.{arith}
-use lib.ListN.{get_or}
 use borrow.Author.Tests.{eqb-true, eqb-false}
 use Rattle.integer.specs.Bounded.{at_most}
 use Rattle.integer.proofs.Digits.{none_left, begins, ends, stops, goes_on, too_large, digit_not, digit_of}
 use Rattle.integer.proofs.magnitude.Goals as goal
-use Rattle.integer.proofs.magnitude.Goals.{then-most-d-via-then-most-d, then-most-d-via-else-most-d+then-most-d-2}
 
 pub returns-then-is_empty : goal.returns-then-is_empty
 returns-then-is_empty c =
@@ -23,14 +20,19 @@ returns-then-not-is_ascii_digit c =
     let a = c.args in
     sym (stops a.s.now l.b-index (omega arith) a.most l.n (digit_not _ c.if-not-is_ascii_digit.ensures.cases)) ∙ l.invariant.1
 
-pub returns-then-most-d : goal.returns-then-most-d
-returns-then-most-d c =
+pub returns-then-tenth-n : goal.returns-then-tenth-n
+returns-then-tenth-n c =
     let l = c.loop-b in
     let a = c.args in
     let d = c.if-not-is_ascii_digit.ensures.cases in
-    let large : a.most < l.n * 10 + (get_or a.s.now l.b-index 0 - 48) =
-    elim c.then-most-d.branch [ then-most-d-via-then-most-d w ↦ omega (arith, c.from-d.ensures) | then-most-d-via-else-most-d+then-most-d-2 w ↦ omega (arith, c.from-d.ensures) ] in
-    sym (too_large a.s.now l.b-index (omega arith) a.most l.n (digit_of _ d.0 d.1) large) ∙ l.invariant.1
+    sym (too_large a.s.now l.b-index (omega arith) a.most l.n (digit_of _ d.0 d.1) (omega arith)) ∙ l.invariant.1
+
+pub returns-then-most-n : goal.returns-then-most-n
+returns-then-most-n c =
+    let l = c.loop-b in
+    let a = c.args in
+    let d = c.if-not-is_ascii_digit.ensures.cases in
+    sym (too_large a.s.now l.b-index (omega arith) a.most l.n (digit_of _ d.0 d.1) (omega (arith, c.from-d.ensures))) ∙ l.invariant.1
 
 pub loop-b-preserved : goal.loop-b-preserved
 loop-b-preserved c =

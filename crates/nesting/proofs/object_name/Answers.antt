@@ -1,21 +1,21 @@
 -- `object_name`: the spellings in their order.
 use Rattle.std.proofs.Common.{◌∙◌}
 use Rattle.nesting.specs.Name.{spellings, name_in, name_of}
-use Rattle.base.proofs.Equal.{known}
+use Rattle.distinct.proofs.Spelled.{spelled}
 use Rattle.nesting.proofs.object_name.Goals as goal
 
-pub returns-then-eq : goal.returns-then-eq
+pub returns-then-equal : goal.returns-then-equal
 unfolding name_of name_in spellings
-returns-then-eq c = rw (← known _ _ c.as_slice.ensures c.eq.ensures, c.if-eq.true)
+returns-then-equal c = rw (← spelled _ _ c.as_slice.ensures c.equal.ensures, c.if-equal.true)
 
-pub returns-then-eq-2 : goal.returns-then-eq-2
+pub returns-then-equal-2 : goal.returns-then-equal-2
 unfolding name_of name_in spellings
-returns-then-eq-2 c = rw (← known _ _ c.as_slice.ensures c.eq.ensures, c.if-eq.false, ← known _ _ c.as_slice-2.ensures c.eq-2.ensures, c.if-eq-2.true)
+returns-then-equal-2 c = rw (← spelled _ _ c.as_slice.ensures c.equal.ensures, c.if-equal.false, ← spelled _ _ c.as_slice-2.ensures c.equal-2.ensures, c.if-equal-2.true)
 
-pub returns-then-eq-3 : goal.returns-then-eq-3
+pub returns-then-equal-3 : goal.returns-then-equal-3
 unfolding name_of name_in spellings
-returns-then-eq-3 c = rw (← known _ _ c.as_slice.ensures c.eq.ensures, c.if-eq.false, ← known _ _ c.as_slice-2.ensures c.eq-2.ensures, c.if-eq-2.false, ← known _ _ c.as_slice-3.ensures c.eq-3.ensures, c.if-eq-3.true)
+returns-then-equal-3 c = rw (← spelled _ _ c.as_slice.ensures c.equal.ensures, c.if-equal.false, ← spelled _ _ c.as_slice-2.ensures c.equal-2.ensures, c.if-equal-2.false, ← spelled _ _ c.as_slice-3.ensures c.equal-3.ensures, c.if-equal-3.true)
 
 pub returns : goal.returns
 unfolding name_of name_in spellings
-returns c = c.child_name.ensures ∙ rw (← known _ _ c.as_slice.ensures c.eq.ensures, c.if-eq.false, ← known _ _ c.as_slice-2.ensures c.eq-2.ensures, c.if-eq-2.false, ← known _ _ c.as_slice-3.ensures c.eq-3.ensures, c.if-eq-3.false)
+returns c = c.child_name.ensures ∙ rw (← spelled _ _ c.as_slice.ensures c.equal.ensures, c.if-equal.false, ← spelled _ _ c.as_slice-2.ensures c.equal-2.ensures, c.if-equal-2.false, ← spelled _ _ c.as_slice-3.ensures c.equal-3.ensures, c.if-equal-3.false)

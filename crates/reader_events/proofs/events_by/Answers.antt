@@ -77,7 +77,7 @@ returns-clause-answer_value c =
     let run = c.args.run.now in
     let l = lines_end w.running c.in-None.ensures.steps.0 in
     let x = c.rest_event-answer.ensures.value w.running.given (served_by c.chains-2.ensures w.chained) in
-    (came_rest run (state_held c.args.state.now) c.loop-line.taken _ l _ (rw (take_rest run c.loop-line.taken) at x)).0
+    (came_rest run (state_held c.args.state.now) c.loop-line.taken _ l _ (rw (← take_rest run c.loop-line.taken) x)).0
 
 pub returns-clause-taken_value : goal.returns-clause-taken_value
 returns-clause-taken_value c = λ g i. (lines_end (c.loop-line.invariant.3 g i).running c.in-None.ensures.steps.0).1

@@ -1,17 +1,8 @@
--- `text::plain` meets its contract: a fold over the bytes tells whether each passes the test.
-use mathlib.Core.Path.{◌∙◌}
-use mathlib.Core.Bool.{true, ◌&&◌}
-use Rattle.std.proofs.Common.{rules}
-use Rattle.std.proofs.lemmas.Iterator.{YieldsList-from_slice}
-use Rattle.std.proofs.lemmas.Iterator.Consumers.{fold_from_yields_List}
-use Rattle.base.specs.Bytes.{both}
+-- `text::plain` meets its contract: where no byte is found that is not plain, all are.
+use Rattle.std.proofs.Common.{eqb, length, ap, ◌∙◌}
 use Rattle.text.specs.Check.{is_plain}
-use Rattle.text.proofs.PlainBytes.{fold_all}
+use Rattle.text.proofs.Blocks.{all_told}
 use Rattle.text.proofs.plain.Goals as goal
 
 pub returns : goal.returns
-unfolding both
-returns c =
-    let s = c.args.s.now in
-    fold_from_yields_List _ (λ o b. o && is_plain b) true c.fold.result c.fold.ensures.ran (YieldsList-from_slice s cc) (λ a x b q w. search rules)
-    ∙ fold_all is_plain s true
+returns c = ap (λ n. eqb n (length c.args.s.now)) c.plain_length.ensures ∙ all_told is_plain c.args.s.now

@@ -1,0 +1,5 @@
+pub mod Sizes
+pub mod Texts
+pub mod Rounding
+pub mod Reading
+pub mod Decimals

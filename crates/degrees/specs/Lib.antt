@@ -1,0 +1,4 @@
+pub mod Degrees
+pub mod Exact
+pub mod Nearest
+pub mod Decimals

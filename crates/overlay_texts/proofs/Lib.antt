@@ -1,0 +1,5 @@
+pub mod Texts
+pub mod Answers
+pub mod Keeps
+pub mod Onward
+pub mod First

@@ -1,0 +1,7 @@
+-- Each element of a lent slice is a value of its type.
+use native.Mathlib.Omega.{arith}
+use Rattle.little.proofs.Littles.{bytes_of}
+use Rattle.overlay_texts.proofs.known_bytes.Goals as goal
+
+pub returns : goal.returns
+returns c = bytes_of c.args.bytes.now (λ i l. omega (arith, c.type_inv.bytes i))

@@ -1,0 +1,5 @@
+pub mod Texts
+pub mod Lent
+pub mod Calls
+pub mod Given
+pub mod First
