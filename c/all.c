@@ -122,7 +122,9 @@ static void numbers(void)
 
     const char *sentence = tvk_refusal_sentence(TVK_COORDINATE_RANGE);
     BYTES(sentence, strlen(sentence), "A coordinate lies outside the globe.");
-    sentence = tvk_refusal_sentence(TVK_UNSOUND + 1);
+    sentence = tvk_refusal_sentence(TVK_NOT_DEGREES);
+    BYTES(sentence, strlen(sentence), "A coordinate in degrees is not of the form 59.011234: at most one sign, one to three digits, and behind a point one to twelve.");
+    sentence = tvk_refusal_sentence(TVK_BOTH_FORMS + 1);
     BYTES(sentence, strlen(sentence), "This is no refusal's number.");
 }
 
@@ -937,6 +939,27 @@ static void readers(void)
     SAME(run.number, TVK_LONG_LINE);
     SAME(run.line, 3);
     SAME(run.taken, 6);
+
+    /* coordinates in degrees: taken, of another form, in both forms */
+    static const char degrees[] = "open\tosmChange\nopen\tmodify\nempty\tnode\tid=7\tlat=0.00000005\tlon=-180\nclose\nclose\n";
+    static const struct {
+        const char *fields;
+        uint32_t number;
+    } others[] = {{"\tlat=5.\tlon=0", TVK_NOT_DEGREES}, {"\tlat=5\tlon=0\tlon7=x", TVK_BOTH_FORMS}, {"\tlat=90.000000000001\tlon=0", TVK_COORDINATE_RANGE}};
+    tvk_reader_clear(&second);
+    SAME(tvk_reader_events(&second, &o, degrees, sizeof degrees - 1).number, 0);
+    SAME(tvk_reader_end(&second, &o).number, 0);
+    l = tvk_overlay_listing(&o, page, sizeof page);
+    BYTES(page, l.length, "n\t7\t+\t3\t0\t0\t0\t0\t0\t\t1\t-1800000000\t0\n");
+    for (size_t n = 0; n < sizeof others / sizeof others[0]; n++) {
+        int length = snprintf(line, sizeof line, "open\tosmChange\nopen\tmodify\nempty\tnode\tid=7%s\n", others[n].fields);
+        tvk_reader_clear(&second);
+        run = tvk_reader_events(&second, &o, line, (size_t)length);
+        SAME(run.number, others[n].number);
+        SAME(run.line, 3);
+        SAME(second.words[16], others[n].number);
+        SAME(tvk_reader_end(&second, &o).number, others[n].number);
+    }
 
     /* words that are no reader's */
     reader.words[0] = 7;

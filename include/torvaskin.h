@@ -16,7 +16,7 @@
    tvk_sizes_words and tvk_sizes_bytes say how long the blocks are. There is no lending a longer block later: a new overlay is set up and filled again.
 
    A reader lives in two arrays more: TVK_READER_WORDS words, all 0 for a fresh reader, and TVK_STAGED_BYTES bytes for the element that it is in. In word 16 stands what
-   stopped it, 2 to 16, or 0: words with another number there are no reader's.
+   stopped it, 2 to 16, 23 or 24, or 0: words with another number there are no reader's.
 
    What a caller owes at every call, since no proof sees it:
 
@@ -50,7 +50,7 @@ extern "C" {
 /* ---- version */
 
 /* Of this header and its library. CHANGELOG.md says what each version changed. */
-#define TVK_VERSION "0.4.0"
+#define TVK_VERSION "0.5.0"
 
 /* What the words, bytes and counters of an overlay and the words and staged bytes of a reader mean. It changes when they do: who saves them writes it beside them. */
 #define TVK_STORED_FORM 1
@@ -101,7 +101,7 @@ extern "C" {
 #define TVK_MAX_MEMBERS 2000
 #define TVK_MAX_TAG_VALUE_BYTES 16384
 
-/* lat7 and lon7 are 1e-7 degree, at most this far from 0 */
+/* Coordinates are held in 1e-7 degree, at most this far from 0; an event gives them so, as lat7 and lon7, or in degrees, as lat and lon. */
 #define TVK_MAX_LAT7 900000000
 #define TVK_MAX_LON7 1800000000
 
@@ -136,6 +136,8 @@ extern "C" {
 #define TVK_NOT_IN_ORDER 20     /* ids not strictly in OSM order */
 #define TVK_NO_SUCH_NUMBER 21   /* a number not below its list's count, or a handle that is not held */
 #define TVK_UNSOUND 22          /* damaged storage, blocks that are not as long as the sizes say, or words that are no reader's */
+#define TVK_NOT_DEGREES 23      /* a lat or lon that is no decimal number of one to three digits and up to twelve decimals */
+#define TVK_BOTH_FORMS 24       /* a coordinate in both forms: lat beside lat7, or lon beside lon7 */
 
 /* ---- structs */
 
@@ -352,7 +354,7 @@ struct tvk_reply tvk_delete(uint64_t *words, size_t words_len, const uint8_t *by
 
 /* ==== entries: a reader */
 
-/* One event by its line, line feed included: 22; what stopped the reader; 2, 3, 4; 5, 6; 7 to 11; 12 to 16; or 0. A refusal but 22 stops the reader, and its later events and
+/* One event by its line, line feed included: 22; what stopped the reader; 2, 3, 4; 5, 6; 7 to 11, 23, 24; 12 to 16; or 0. A refusal but 22 stops the reader, and its later events and
    its end repeat number, held and line. */
 struct tvk_event_reply tvk_event(uint64_t *words, size_t words_len, uint8_t *bytes, size_t bytes_len, uint64_t counters[TVK_COUNTERS], uint64_t reader[TVK_READER_WORDS],
                                  uint8_t parts[TVK_STAGED_BYTES], const uint8_t *line, size_t line_len);
@@ -726,6 +728,8 @@ static inline const char *tvk_refusal_sentence(uint32_t number)
         "A program handed in a list of ids that is not strictly in order.",
         "A program asked for an id or a record by a number that its list does not have, or for a text by a handle that is not held.",
         "What the terminal has stored is damaged, or was handed over cut short.",
+        "A coordinate in degrees is not of the form 59.011234: at most one sign, one to three digits, and behind a point one to twelve.",
+        "A node gives a coordinate twice, in degrees and in whole numbers: `lat` beside `lat7`, or `lon` beside `lon7`.",
     };
     return number < sizeof sentences / sizeof sentences[0] ? sentences[number] : "This is no refusal's number.";
 }

@@ -1,10 +1,13 @@
 //! What the judge answers: event lines, direct calls, the overlay's state, the listing.
 
+use std::borrow::Cow;
 use std::collections::HashMap;
 
-use quick_xml::events::{BytesEnd, BytesStart, BytesText, Event};
-use quick_xml::lines::{Line, escape, judge_line};
+use quick_xml::events::attributes::seven_decimals;
+use quick_xml::events::{BytesEnd, BytesStart, BytesText, Event, Forms};
+use quick_xml::lines::{Line, escape, judge_line, unescape};
 
+use crate::degrees::{self, Axis};
 use crate::ground;
 use crate::nesting::Place;
 use crate::osc::CompactDiffOverlay;
@@ -186,8 +189,8 @@ impl Stop {
     }
 }
 
-/// Lent sizes. The published Rust has none: 13 to 16 and 19 are document 01's words. With them a sign in a timestamp
-/// is 9, as document 02 words it.
+/// Lent sizes. The published Rust has none: 13 to 16 and 19 are document 01's words. With them a sign in a timestamp is 9
+/// and degrees in another form 23, as document 02 words it.
 #[derive(Clone, Copy, Debug, PartialEq, Eq)]
 pub struct Sizes {
     /// For each kind.
@@ -293,19 +296,21 @@ impl Reader {
         change: Change,
         sizes: Option<&Sizes>,
     ) -> Result<(), Refusal> {
+        let mut forms = Forms::default();
         let event = match judge_line(line, ended).map_err(Refusal::plain)? {
             Line::Close => Event::End(BytesEnd),
             Line::Other => Event::Text(BytesText),
             Line::Open { empty, content, name_len } => {
                 let start = match sizes {
-                    Some(_) => BytesStart::from_content(without_signs(content, name_len), name_len),
+                    Some(_) => BytesStart::from_content(compared(content, name_len), name_len),
                     None => BytesStart::from_content(content, name_len),
                 };
+                forms = start.forms();
                 if empty { Event::Empty(start) } else { Event::Start(start) }
             }
         };
         let before = (change == Change::None || sizes.is_some()).then(|| (overlay.clone(), self.steps.clone()));
-        let mut reply = self.steps.step(&mut overlay.inner, &event).map_err(|e| Refusal::of(&e));
+        let mut reply = self.steps.step(&mut overlay.inner, &event).map_err(|e| Refusal::of_event(&e, forms));
         if let (Ok(()), Some(sizes)) = (reply, sizes) {
             let full = sizes.exceeded(&overlay.state()).or(self.element_over());
             reply = full.map_or(Ok(()), |number| Err(Refusal::plain(number)));
@@ -359,16 +364,34 @@ impl Reader {
     }
 }
 
-/// An element's name and fields, a timestamp that the Rust takes in spite of a sign without its value: the Rust refuses
-/// that with 9, at the same place.
-fn without_signs(content: &str, name_len: usize) -> String {
+/// An element's name and fields as the Rust is handed them where it is compared. What it takes and document 02 does not
+/// has no value then, and the Rust refuses it with the same number at the same place: a timestamp with a sign, and degrees
+/// in another form. Degrees that lie as near to two whole numbers and that its float gives the other one are given as the
+/// one further from 0, which they stand for.
+fn compared(content: &str, name_len: usize) -> String {
     let (name, fields) = content.split_at(name_len);
-    let field = |field| match str::strip_prefix(field, "timestamp=").map(str::as_bytes) {
-        Some(value) if ground::stamp(value) != ground::stamp_with_signs(value) => "timestamp=",
-        _ => field,
-    };
-    let fields: Vec<&str> = fields.split('\t').map(field).collect();
+    let fields: Vec<Cow<'_, str>> = fields.split('\t').map(compared_field).collect();
     name.to_owned() + &fields.join("\t")
+}
+
+fn compared_field(field: &str) -> Cow<'_, str> {
+    let Some((name, raw)) = field.split_once('=') else { return Cow::Borrowed(field) };
+    let text = unescape(raw).expect("an event line");
+    if name == "timestamp" && ground::stamp(text.as_bytes()) != ground::stamp_with_signs(text.as_bytes()) {
+        return Cow::Borrowed("timestamp=");
+    }
+    let Some(axis) = Axis::BOTH.into_iter().find(|axis| axis.name() == name) else { return Cow::Borrowed(field) };
+    match degrees::read(&text, axis) {
+        told if told == degrees::by_floats(&text, axis) => Cow::Borrowed(field),
+        Err(number) => {
+            assert_eq!(number, degrees::NOT_DEGREES, "{text}");
+            Cow::Owned(format!("{name}="))
+        }
+        Ok(nearest) => {
+            assert!(degrees::is_tie(&text), "{text}");
+            Cow::Owned(format!("{name}={}", seven_decimals(nearest)))
+        }
+    }
 }
 
 /// What a program prints for event lines.
@@ -405,7 +428,7 @@ pub fn run(input: &[u8], allow_regression: bool) -> (Outcome, Overlay) {
 pub fn drive(input: &[u8], overlay: &mut Overlay) -> Result<(), Stop> {
     let mut reader = quick_xml::Reader::from_reader(input);
     judge_drive(&mut reader, &mut overlay.inner).map_err(|e| {
-        let refusal = Refusal::of(&e);
+        let refusal = Refusal::of_event(&e, reader.forms());
         let past = u64::from(refusal.number == 18);
         Stop::at(refusal, reader.lines() + past)
     })
@@ -422,7 +445,7 @@ pub fn split_lines(input: &[u8]) -> Vec<(&[u8], bool)> {
         .collect()
 }
 
-/// Event lines one at a time into a new overlay, with lent sizes: 13 to 16 and 19 too, and 9 for a sign.
+/// Event lines one at a time into a new overlay, with lent sizes: 13 to 16 and 19 too, 9 for a sign, and 23 for degrees in another form.
 pub fn run_sized(input: &[u8], allow_regression: bool, sizes: &Sizes) -> (Outcome, Overlay) {
     let mut overlay = Overlay::new();
     overlay.allow_version_regression(allow_regression);

@@ -1,9 +1,9 @@
-//! Stand-ins for the coordinate functions. A value arrives as lat7 or lon7, an i32 held exactly by
-//! the float, so scaling leaves it alone; the range is document 01's.
+//! Stand-ins for the coordinate functions, whose files are not among the published ones. A value arrives as degrees;
+//! that they are scaled by 1e7 is assumed, the range is document 01's.
 
 pub(crate) mod coord_fmt {
     pub(crate) fn deg_to_e7(value: f64) -> f64 {
-        value
+        value * 1e7
     }
 }
 
@@ -13,7 +13,7 @@ pub(crate) mod coord_pack {
     #[derive(Debug)]
     pub(crate) struct OutOfRange;
 
-    pub(crate) const OUT_OF_RANGE: &str = "coordinate out of document 01's range";
+    pub(crate) const OUT_OF_RANGE: &str = "coordinate out of its range";
 
     impl fmt::Display for OutOfRange {
         fn fmt(&self, f: &mut fmt::Formatter<'_>) -> fmt::Result {
@@ -22,11 +22,11 @@ pub(crate) mod coord_pack {
     }
 
     pub(crate) fn validate_lat(_name: &str, value: f64) -> Result<(), OutOfRange> {
-        within(value, 900_000_000.0)
+        within(value, 90.0)
     }
 
     pub(crate) fn validate_lon(_name: &str, value: f64) -> Result<(), OutOfRange> {
-        within(value, 1_800_000_000.0)
+        within(value, 180.0)
     }
 
     fn within(value: f64, most: f64) -> Result<(), OutOfRange> {

@@ -3,12 +3,14 @@
 mod answer;
 mod commands;
 mod coord;
+pub mod degrees;
 mod fixed_list;
 mod host;
 mod kinds;
 mod osc;
 mod refusal;
 
+pub use quick_xml::events::attributes::seven_decimals;
 pub use quick_xml::lines;
 
 pub use answer::*;

@@ -1,5 +1,6 @@
 //! Inputs for both sides: event sequences from every level, and documents at random.
 
+use crate::degrees::{self, Axis};
 use crate::ground;
 use crate::lines::escape;
 use crate::random::Random;
@@ -123,6 +124,123 @@ static ONE_BUCKET: std::sync::LazyLock<Vec<String>> = std::sync::LazyLock::new(|
     };
     (0..).map(|n: u32| format!("b{n}")).filter(|text| bucket(text) == 0).take(60).collect()
 });
+
+/// Texts that are no degrees, among them those that Rust's float reader takes.
+pub const NO_DEGREES: [&str; 40] = [
+    "",
+    "+",
+    "-",
+    ".",
+    "-.",
+    "+-1",
+    "--1",
+    " 1",
+    "1 ",
+    "1\\t",
+    "1,5",
+    "1_0",
+    "0x1",
+    "1f",
+    "x",
+    "1.5.5",
+    "1.-5",
+    "1.+5",
+    "٣",
+    "1.٣",
+    "５",
+    "e1",
+    "1e",
+    "1e1",
+    "1E1",
+    "1e-8",
+    "1e+2",
+    "0e0",
+    ".5",
+    "+.5",
+    "5.",
+    "-5.",
+    "inf",
+    "-inf",
+    "infinity",
+    "nan",
+    "NaN",
+    "0090",
+    "0000",
+    "0.0000000000000",
+];
+
+/// Degrees at the edges: ties, what lies beside them, signs, zeros, the ends of the range and past them.
+pub const EDGE_DEGREES: [&str; 40] = [
+    "0",
+    "-0",
+    "+0",
+    "000",
+    "-0.0",
+    "-0.000000000000",
+    "+5",
+    "07",
+    "0.00000005",
+    "-0.00000005",
+    "0.00000004999",
+    "-0.000000049999",
+    "0.000000050001",
+    "0.00000015",
+    "0.00000025",
+    "-0.00000025",
+    "0.00000105",
+    "-0.00000105",
+    "0.00000115",
+    "1.00000005",
+    "-1.00000005",
+    "59.011234",
+    "59.0112345",
+    "59.01123455",
+    "90",
+    "-90",
+    "+090.000000000000",
+    "90.0",
+    "89.99999995",
+    "89.999999949999",
+    "89.999999999999",
+    "90.000000000001",
+    "-90.000000000001",
+    "90.00000004",
+    "91",
+    "179.99999995",
+    "180",
+    "180.000000000001",
+    "-180.000000000001",
+    "999",
+];
+
+/// Degrees of document 02's form, up to the end of an axis and past it: with few and many decimals, half of them ties or
+/// beside one, with signs and zeros.
+pub fn random_degrees(random: &mut Random, axis: Axis) -> String {
+    let sign = *random.pick(&["", "", "-", "-", "+"]);
+    let whole = match random.below(8) {
+        0 => axis.most() as usize + random.below(2),
+        1 => random.below(1_000),
+        2 | 3 => random.below(2),
+        _ => random.below(axis.most() as usize),
+    };
+    let width = 1 + random.below(3);
+    let whole = format!("{sign}{whole:0width$}");
+    match random.below(4) {
+        0 => whole,
+        1 => {
+            let width = 1 + random.below(12);
+            let decimals = random.below(10usize.pow(width as u32));
+            format!("{whole}.{decimals:0width$}")
+        }
+        _ => {
+            // Seven decimals: none, all nines, or any. Then a half, or what lies beside one.
+            let any = random.below(10_000_000);
+            let seven = *random.pick(&[0, 9_999_999, any]);
+            let rest = *random.pick(&["5", "5", "50", "50000", "49999", "50001", "4", "6", "0", "00000", "45", "95"]);
+            format!("{whole}.{seven:07}{rest}")
+        }
+    }
+}
 
 /// How documents are made.
 #[derive(Clone, Copy, Debug)]
@@ -328,21 +446,49 @@ impl Documents {
         }
         let coordinates = kind == "node" && !delete;
         if coordinates || self.random.once_in(10) {
-            for (name, most) in [("lat7", 900_000_000i64), ("lon7", 1_800_000_000)] {
-                let value = match self.random.below(6) {
-                    0 => most,
-                    1 => -most,
-                    _ => self.random.below(2 * most as usize + 1) as i64 - most,
-                };
-                list.push(format!("{name}={}", self.number(value)));
+            for axis in Axis::BOTH {
+                list.extend(self.coordinate(axis));
             }
+        } else if self.random.once_in(10) {
+            // They have no meaning there.
+            list.extend(["lat=x", "lon=1e3"].map(str::to_owned));
         }
         if self.random.once_in(5) {
-            let odd = ["lat=x", "lon=1e3", "Id=2", "a\\b=c", "v==", "ref=x", "é=", "k=\\\\"];
+            let odd = ["Lat=x", "Id=2", "a\\b=c", "v==", "ref=x", "é=", "k=\\\\"];
             list.push((*self.random.pick(&odd)).to_owned());
         }
         self.others(&mut list);
         self.shuffled(list)
+    }
+
+    /// A coordinate in one form; where damage is wanted, at times in both.
+    fn coordinate(&mut self, axis: Axis) -> Vec<String> {
+        let most = i64::from(axis.most()) * 10_000_000;
+        let value = match self.random.below(6) {
+            0 => most,
+            1 => -most,
+            _ => self.random.below(2 * most as usize + 1) as i64 - most,
+        };
+        let seven = format!("{}7={}", axis.name(), self.number(value));
+        let degrees = format!("{}={}", axis.name(), self.degrees(axis));
+        match self.random.below(6) {
+            0 if self.style.damage > 0 && self.random.once_in(20) => vec![seven, degrees],
+            0..=2 => vec![degrees],
+            _ => vec![seven],
+        }
+    }
+
+    /// Degrees as text; where damage is wanted, at times of another form or out of range.
+    fn degrees(&mut self, axis: Axis) -> String {
+        if self.style.damage > 0 && self.random.once_in(30) {
+            return (*self.random.pick(&NO_DEGREES)).to_owned();
+        }
+        loop {
+            let text = random_degrees(&mut self.random, axis);
+            if degrees::read(&text, axis).is_ok() || (self.style.damage > 0 && self.random.once_in(30)) {
+                return text;
+            }
+        }
     }
 
     /// Attributes without a meaning.
@@ -469,7 +615,7 @@ impl Documents {
                 let mut fields = fields;
                 let at = self.random.below(fields.len());
                 if let Some(equals) = fields[at].iter().position(|&b| b == b'=') {
-                    let bad: [&[u8]; 27] = [
+                    let bad: [&[u8]; 37] = [
                         b"",
                         b"x",
                         b"1.5",
@@ -497,6 +643,16 @@ impl Documents {
                         b"-900000001",
                         b"1800000001",
                         b"-1",
+                        b"90.000000000001",
+                        b"-180.000000000001",
+                        b"0.00000105",
+                        b"-0",
+                        b"999",
+                        b"0090",
+                        b".5",
+                        b"5.",
+                        b"nan",
+                        b"0.0000000000000",
                     ];
                     let value = *self.random.pick(&bad);
                     fields[at].truncate(equals + 1);

@@ -1,6 +1,8 @@
-//! Document 01's number for an error of the published files; README.md gives the reasons.
+//! The documents' number for an error of the published files; README.md gives the reasons.
 
 use std::num::{ParseFloatError, ParseIntError};
+
+use quick_xml::events::{Forms, Given};
 
 use crate::Error;
 use crate::commands::NotAStamp;
@@ -19,14 +21,22 @@ impl Refusal {
         Self { number, held: None }
     }
 
+    /// Of a direct call.
     pub(crate) fn of(err: &Error) -> Self {
+        Self::of_event(err, Forms::default())
+    }
+
+    /// Of an event with an element that has its coordinates in these forms.
+    pub(crate) fn of_event(err: &Error, forms: Forms) -> Self {
         match err.kind() {
             ErrorKind::VersionRegression { held, .. } => Self { number: 12, held: Some(*held) },
-            ErrorKind::InvalidData { source: Some(cause), .. } => {
+            ErrorKind::InvalidData { source: Some(cause), msg } => {
                 if let Some(quick_xml::Error::Line(number)) = cause.downcast_ref() {
                     Self::plain(*number)
-                } else if cause.is::<ParseIntError>() || cause.is::<ParseFloatError>() {
+                } else if cause.is::<ParseIntError>() {
                     Self::plain(8)
+                } else if cause.is::<ParseFloatError>() {
+                    Self::plain(by_forms(msg, forms))
                 } else if cause.is::<NotAStamp>() {
                     Self::plain(9)
                 } else {
@@ -36,6 +46,20 @@ impl Refusal {
             ErrorKind::InvalidData { msg, source: None } => Self::plain(by_message(msg)),
             _ => panic!("no number for this error: {}", err.report()),
         }
+    }
+}
+
+/// What a coordinate is refused that the Rust reads as no number: the message names it.
+fn by_forms(msg: &str, forms: Forms) -> u32 {
+    let given = match msg {
+        "attribute 'lat' is not a valid number" => forms.lat,
+        "attribute 'lon' is not a valid number" => forms.lon,
+        _ => panic!("no number for this message: {msg}"),
+    };
+    match given {
+        Given { seven: true, degrees: true } => 24,
+        Given { degrees: true, .. } => 23,
+        _ => 8,
     }
 }
 

@@ -170,6 +170,75 @@ fn d9_signs_in_a_timestamp() {
     }
 }
 
+/// A node whose latitude is this text: what the Rust lists for it, or its number.
+fn by_rust(lat: &str) -> Result<i64, u32> {
+    listed(run(&a_node(&format!("lat={lat}")), false).0)
+}
+
+/// The same by the documents' words.
+fn by_documents(coordinates: &str) -> Result<i64, u32> {
+    listed(run_sized(&a_node(coordinates), false, &Sizes::ROADLIST).0)
+}
+
+fn a_node(coordinates: &str) -> Vec<u8> {
+    format!("open\tosmChange\nopen\tcreate\nempty\tnode\tid=1\t{coordinates}\tlon=0\nclose\nclose\n").into_bytes()
+}
+
+fn listed(outcome: Outcome) -> Result<i64, u32> {
+    match outcome {
+        Outcome::Listing(page) => {
+            let page = String::from_utf8(page).expect("text");
+            Ok(page.split('\t').nth(10).expect("a latitude").parse().expect("a number"))
+        }
+        Outcome::Refused(stop) => Err(stop.number),
+    }
+}
+
+#[test]
+fn d10_other_forms_of_degrees() {
+    for (text, rust) in [
+        ("1e1", 100_000_000),
+        ("1E1", 100_000_000),
+        ("1e-8", 0),
+        (".5", 5_000_000),
+        ("-.5", -5_000_000),
+        ("5.", 50_000_000),
+        ("0000", 0),
+        ("0090.0", 900_000_000),
+        ("0.0000000000000", 0),
+    ] {
+        assert_eq!((by_rust(text), by_documents(&format!("lat={text}"))), (Ok(rust), Err(23)), "{text}");
+    }
+}
+
+#[test]
+fn d11_numbers_past_the_range() {
+    for text in ["inf", "-inf", "infinity", "-infinity", "INF", "nan", "NaN", "1e2", "1000"] {
+        assert_eq!((by_rust(text), by_documents(&format!("lat={text}"))), (Err(10), Err(23)), "{text}");
+    }
+}
+
+/// Every tie below 0.00000105 degrees is the same in both, so this is the smallest.
+#[test]
+fn d12_ties() {
+    let tie = |n: u32| format!("0.{n:07}5");
+    for n in 0..10 {
+        let nearest = Ok(i64::from(n) + 1);
+        assert_eq!((by_rust(&tie(n)), by_documents(&format!("lat={}", tie(n)))), (nearest, nearest), "{n}");
+    }
+    assert_eq!(tie(10), "0.00000105");
+    assert_eq!((by_rust("0.00000105"), by_documents("lat=0.00000105")), (Ok(10), Ok(11)));
+    assert_eq!((by_rust("-0.00000105"), by_documents("lat=-0.00000105")), (Ok(-10), Ok(-11)));
+}
+
+/// The Rust's own reader knows no `lat7`; the stand-in that names it `lat` is not asked for both.
+#[test]
+fn d13_both_forms() {
+    assert_eq!(by_documents("lat=0\tlat7=x"), Err(24));
+    assert_eq!(by_documents("lat7=0\tlat=x"), Err(24));
+    assert_eq!(by_documents("lat7=0"), Ok(0));
+}
+
 #[test]
 fn rfc_3339() {
     use judge::ground::stamp;

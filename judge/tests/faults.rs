@@ -9,8 +9,9 @@ use judge::compare::program::{self, Program, edge_numbers_met, expected};
 use judge::compare::reads::{everything, nothing, the_listing};
 use judge::compare::words::{Words, is_sound, rows};
 use judge::compare::{Compared, direct, overlay};
+use judge::degrees::{self, Axis};
 use judge::ground::stamp_with_signs;
-use judge::{KINDS, Kind, Sizes, run_sized};
+use judge::{KINDS, Kind, Sizes, run_sized, seven_decimals};
 
 /// What a fault makes of a call: what was lent before it, what is lent after it, and its answer.
 type Fault = fn(&Call, &Storage, &mut Storage, &mut Answer);
@@ -30,7 +31,7 @@ impl Port for Faulty {
 /// A comparison by its name.
 type Comparison = (&'static str, fn(&dyn Port) -> Compared);
 
-const COMPARISONS: [Comparison; 15] = [
+const COMPARISONS: [Comparison; 16] = [
     ("set-ups", |port| direct::set_ups(port, nothing)),
     ("sequences", |port| direct::sequences(port, 2, everything)),
     ("calls", |port| direct::calls(port, 1, 1, everything)),
@@ -46,11 +47,12 @@ const COMPARISONS: [Comparison; 15] = [
     ("sizes", damaged::sizes),
     ("limits", damaged::limits),
     ("lines", |port| damaged::readers(port, Values::One)),
+    ("coordinates", |port| overlay::coordinates(port, 1, 1)),
 ];
 
 #[test]
 fn the_words_equal_the_rust() {
-    for (name, comparison) in &COMPARISONS[..10] {
+    for (name, comparison) in COMPARISONS[..10].iter().chain(&COMPARISONS[15..]) {
         let start = std::time::Instant::now();
         let compared = comparison(&Words::default());
         let answers = compared.unwrap_or_else(|difference| panic!("{name}: {difference}"));
@@ -88,8 +90,51 @@ fn digits_for_signs(line: &[u8]) -> Vec<u8> {
     line
 }
 
+/// An event of a node whose coordinate that is first found in degrees is read otherwise: from the text, its axis and the number
+/// that is answered, a text in its place.
+fn with_degrees(
+    call: &Call,
+    before: &Storage,
+    lent: &mut Storage,
+    answer: &mut Answer,
+    other: fn(&str, Axis, u32) -> Option<String>,
+) {
+    let Call::Event(n, line) = call else { return };
+    let Some(line) = std::str::from_utf8(line).ok().and_then(|line| line.strip_suffix('\n')) else { return };
+    let fields = line.split('\t').map(|field| {
+        let axis = if field.starts_with("lat=") { Axis::Latitude } else { Axis::Longitude };
+        let text = field.strip_prefix(axis.name()).and_then(|rest| rest.strip_prefix('='));
+        let changed = text.and_then(|text| other(text, axis, answer.number()));
+        changed.map_or(field.to_owned(), |text| format!("{}={text}", axis.name()))
+    });
+    let changed = fields.collect::<Vec<_>>().join("\t");
+    if changed != line {
+        *lent = before.clone();
+        *answer = Words::default().call(lent, &Call::Event(*n, (changed + "\n").into_bytes()));
+    }
+}
+
+/// The fields of an event's line, where its answer has this number.
+fn fields_refused<'a>(call: &'a Call, answer: &Answer, number: u32) -> Option<(usize, Vec<&'a str>)> {
+    match call {
+        Call::Event(n, line) if answer.number() == number => {
+            Some((*n, std::str::from_utf8(line).ok()?.strip_suffix('\n')?.split('\t').collect()))
+        }
+        _ => None,
+    }
+}
+
+/// The same event without the fields of a name.
+fn without(call: &Call, number: u32, name: &str, before: &Storage, lent: &mut Storage, answer: &mut Answer) {
+    if let Some((n, fields)) = fields_refused(call, answer, number) {
+        let left: Vec<&str> = fields.into_iter().filter(|field| !field.starts_with(name)).collect();
+        *lent = before.clone();
+        *answer = Words::default().call(lent, &Call::Event(n, (left.join("\t") + "\n").into_bytes()));
+    }
+}
+
 /// Each fault, with the comparisons that must find it, by their numbers above.
-const FAULTS: [(&str, Fault, &[usize]); 37] = [
+const FAULTS: [(&str, Fault, &[usize]); 52] = [
     (
         "refuses all",
         |_, before, lent, answer| {
@@ -438,6 +483,138 @@ const FAULTS: [(&str, Fault, &[usize]); 37] = [
             }
         },
         &[14],
+    ),
+    (
+        "ties to even",
+        |call, before, lent, answer| {
+            with_degrees(call, before, lent, answer, |text, axis, _| {
+                let nearest = degrees::read(text, axis).ok().filter(|_| degrees::is_tie(text))?;
+                Some(seven_decimals(nearest - nearest % 2))
+            });
+        },
+        &[8, 15],
+    ),
+    (
+        "a tie below zero towards it",
+        |call, before, lent, answer| {
+            with_degrees(call, before, lent, answer, |text, axis, _| {
+                let nearest = degrees::read(text, axis).ok().filter(|_| degrees::is_tie(text))?;
+                (nearest < 0).then(|| seven_decimals(nearest + 1))
+            });
+        },
+        &[8, 15],
+    ),
+    (
+        "the range after rounding",
+        |call, before, lent, answer| {
+            with_degrees(call, before, lent, answer, |text, _, _| {
+                let nearest = degrees::nearest(degrees::exact(text)?);
+                i32::try_from(nearest).ok().map(seven_decimals)
+            });
+        },
+        &[15],
+    ),
+    (
+        "the range of longitude for latitude",
+        |call, before, lent, answer| {
+            with_degrees(call, before, lent, answer, |text, axis, number| {
+                let taken = number == 10 && axis == Axis::Latitude && degrees::read(text, Axis::Longitude).is_ok();
+                taken.then(|| "90".to_owned())
+            });
+        },
+        &[15],
+    ),
+    (
+        "what the float reader takes",
+        |call, before, lent, answer| {
+            with_degrees(call, before, lent, answer, |text, axis, number| {
+                degrees::by_floats(text, axis).ok().filter(|_| number == 23).map(seven_decimals)
+            });
+        },
+        &[15],
+    ),
+    (
+        "thirteen decimals",
+        |call, before, lent, answer| {
+            with_degrees(call, before, lent, answer, |text, _, number| {
+                (number == 23 && text.contains('.') && text.len() > 13).then(|| text[..text.len() - 1].to_owned())
+            });
+        },
+        &[15],
+    ),
+    (
+        "four digits",
+        |call, before, lent, answer| {
+            with_degrees(call, before, lent, answer, |text, _, number| {
+                text.strip_prefix('0').filter(|_| number == 23).map(str::to_owned)
+            });
+        },
+        &[15],
+    ),
+    ("swaps 8 and 23", |_, _, _, answer| swapped(answer, 23, 8), &[15]),
+    ("swaps 7 and 24", |_, _, _, answer| swapped(answer, 24, 7), &[15]),
+    (
+        "both forms after the text of one",
+        |call, before, lent, answer| {
+            let mut one = (before.clone(), answer.clone());
+            without(call, 24, "lat7=", before, &mut one.0, &mut one.1);
+            if one.1.number() == 23 {
+                (*lent, *answer) = one;
+            }
+        },
+        &[15],
+    ),
+    (
+        "of both forms the whole number",
+        |call, before, lent, answer| without(call, 24, "lat=", before, lent, answer),
+        &[15],
+    ),
+    (
+        "23 that stops nothing",
+        |call, before, lent, answer| {
+            if let (Call::Event(n, _), 23) = (call, answer.number()) {
+                lent.readers[*n] = before.readers[*n].clone();
+            }
+        },
+        &[15],
+    ),
+    (
+        "a stop mark of 24 that is no reader's",
+        |call, before, lent, answer| {
+            if let (Call::End(n) | Call::Event(n, _), 24) = (call, answer.number())
+                && before.readers[*n].words[16] == 24
+            {
+                (*lent, *answer) = (before.clone(), Answer::Event { number: 22, held: 0, line: 0 });
+            }
+        },
+        &[15],
+    ),
+    (
+        "a stop mark above 24 taken",
+        |call, before, lent, answer| {
+            if let (Call::End(n), 22) = (call, answer.number())
+                && let mark @ 25.. = before.readers[*n].words[16]
+            {
+                *lent = before.clone();
+                *answer = Answer::Event { number: mark as u32, held: 0, line: before.readers[*n].words[17] };
+            }
+        },
+        &[14],
+    ),
+    (
+        "degrees of a way read",
+        |call, before, lent, answer| {
+            if let Some((n, fields)) = fields_refused(call, answer, 0)
+                && fields.get(1) == Some(&"way")
+                && fields.contains(&"lat=x")
+            {
+                *lent = before.clone();
+                let line = before.readers[n].words[15] + 1;
+                (lent.readers[n].words[16], lent.readers[n].words[17]) = (23, line);
+                *answer = Answer::Event { number: 23, held: 0, line };
+            }
+        },
+        &[15],
     ),
 ];
 

@@ -123,14 +123,45 @@ fn fields_in_their_order() {
         ("create: empty|node|id=1|lon7=x|lat7=900000001", "refused|10|3|-"),
         ("create: empty|node|id=1|lat7=0|lon7=1800000001", "refused|10|3|-"),
         ("create: empty|node|id=1|lat7=1e3|lon7=0", "refused|8|3|-"),
-        ("create: empty|node|id=1|lat=1|lon=1", "refused|7|3|-"),
-        (
-            "create: empty|node|id=1|lat=x|lat7=-900000000|lon7=+001800000000",
-            "n|1|+|?|0|0|0|0|0||-900000000|1800000000|0",
-        ),
+        ("create: empty|node|id=1|lat7=-900000000|lon7=+001800000000", "n|1|+|?|0|0|0|0|0||-900000000|1800000000|0"),
         ("create: open|relation|id=1/empty|member|ref=1", "refused|7|4|-"),
         ("create: open|relation|id=1/empty|member|type=area|ref=x", "refused|11|4|-"),
         ("create: open|relation|id=1/empty|member|type=way|ref=2/close", "r|1|+|?|0|0|0|0|0||1|1|2||0"),
+    ]);
+}
+
+/// Document 02, request 1: "23 text not of this form, where 8 is checked for `lat7`; 24 a pushed node's coordinate in both
+/// forms, first at that coordinate's place .. 10 as before".
+#[test]
+fn degrees_in_their_order() {
+    answers(&[
+        ("create: empty|node|id=1|lat=1|lon=-1", "n|1|+|?|0|0|0|0|0||10000000|-10000000|0"),
+        ("create: empty|node|id=1|lat7=1|lon=+0.0000001", "n|1|+|?|0|0|0|0|0||1|1|0"),
+        ("create: empty|node|id=1|lat=-0|lon7=-1", "n|1|+|?|0|0|0|0|0||0|-1|0"),
+        ("create: empty|node|id=1|lat=0.00000005|lon=-0.00000005", "n|1|+|?|0|0|0|0|0||1|-1|0"),
+        ("create: empty|node|id=1|lat=0.00000004999|lon=-180", "n|1|+|?|0|0|0|0|0||0|-1800000000|0"),
+        ("create: empty|node|id=1|lat=90.000000000000|lon=180.0", "n|1|+|?|0|0|0|0|0||900000000|1800000000|0"),
+        ("create: empty|node|id=1|lat=90.000000000001|lon=0", "refused|10|3|-"),
+        ("create: empty|node|id=1|lat=0|lon=-180.000000000001", "refused|10|3|-"),
+        ("create: empty|node|id=1|lat=999|lon=0", "refused|10|3|-"),
+        ("create: empty|node|id=1|lat=1,5|lon=0", "refused|23|3|-"),
+        ("create: empty|node|id=1|lat=0|lon=", "refused|23|3|-"),
+        ("create: empty|node|id=1|lat=x|lon=0|version=x", "refused|8|3|-"),
+        // Latitude whole before longitude.
+        ("create: empty|node|id=1|lon=0|lon7=0|lat=91", "refused|10|3|-"),
+        ("create: empty|node|id=1|lon=x|lat=x|lat7=0", "refused|24|3|-"),
+        ("create: empty|node|id=1|lon=x|lat7=x", "refused|8|3|-"),
+        ("create: empty|node|id=1|lon=0|lon7=0", "refused|7|3|-"),
+        ("create: empty|node|id=1|lon=0|lon7=0|lat=0", "refused|24|3|-"),
+        // Both forms come first, whatever their texts.
+        ("create: empty|node|id=1|lat7=x|lat=x|lon=0", "refused|24|3|-"),
+        ("create: empty|node|id=1|lat7=900000001|lat=91|lon=0", "refused|24|3|-"),
+        ("create: empty|node|id=1|lat=0|lon=999|lon7=", "refused|24|3|-"),
+        // Of ways, relations and deleted nodes they are not read.
+        ("create: empty|way|id=1|lat=x|lat7=x|lon=999", "w|1|+|?|0|0|0|0|0||0|0"),
+        ("create: empty|relation|id=1|lat=x|lat7=x", "r|1|+|?|0|0|0|0|0||0|0"),
+        ("delete: empty|node|id=1|lat=x|lat7=x|lon=999", "n|1|-|?"),
+        ("delete: empty|node|id=1", "n|1|-|?"),
     ]);
 }
 

@@ -40,7 +40,7 @@ fn damaged_documents_meet_every_number() {
         *numbers.entry(number).or_insert(0) += 1;
     });
     println!("{numbers:?}");
-    for number in [0, 2, 3, 4, 5, 6, 7, 8, 9, 11, 12, 18] {
+    for number in [0, 2, 3, 4, 5, 6, 7, 8, 9, 10, 11, 12, 18, 23, 24] {
         let count = numbers.get(&number).copied().unwrap_or(0);
         assert!(count >= 3, "{number}: {count} of {numbers:?}");
     }
@@ -50,7 +50,7 @@ fn damaged_documents_meet_every_number() {
 #[test]
 fn wide_documents_are_wide() {
     let (mut attributes, mut escapes, mut texts, mut children, mut behind) = (0, 0, 0, 0, 0);
-    each_document(Style::WIDE, 60, |input, _| {
+    each_document(Style::WIDE, 90, |input, _| {
         let (mut held, mut here, mut tag) = (std::collections::BTreeSet::new(), 0, false);
         for line in input.split(|&b| b == b'\n') {
             let fields: Vec<&[u8]> = line.split(|&b| b == b'\t').collect();

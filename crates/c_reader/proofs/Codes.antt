@@ -1,7 +1,7 @@
 -- Codes read back, and the words of a mark.
 use Prim.Native.Nat.{ℕ, zero, suc, ◌≤◌, ◌<◌, ◌^◌}
 use mathlib.Core.Path.{◌≡◌, refl, ◌∙◌, ap}
-use mathlib.Core.Bool.{false}
+use mathlib.Core.Bool.{true, false}
 use native.Mathlib.Omega.{arith}
 use lib.Dec.{leb}
 use lib.ListN.{get_or-eq_default}
@@ -10,9 +10,9 @@ use lib.Signed.{mag}
 use mir.Syntax.{w32}
 use mir.Val.{to_z, of_z, Fits, hbits}
 use mir.Facts.{of_z-to_z}
-use borrow.Author.Tests.{lt-leb, le-leb}
-use Rattle.base.specs.Bytes.{both}
-use Rattle.base.proofs.Split.{by_lt, by_eq}
+use borrow.Author.Tests.{lt-leb, le-leb, leb-true, eqb-true, ne_eqb}
+use Rattle.base.specs.Bytes.{both, either}
+use Rattle.base.proofs.Split.{by_lt, by_eq, both_right, by_either}
 use Rattle.signed.proofs.Bits.{held}
 use Rattle.refusal.specs.Refusal.{number_of, held_of, reply_of}
 use Rattle.refusal.specs.declared.Reply.{Reply}
@@ -20,6 +20,7 @@ use Rattle.refusal.specs.declared.Refusal.{Refusal}
 use Rattle.refusal.specs.declared.Refusal.TheVariants.{Regression}
 use Rattle.refusal.specs.declared.Refusal.TheVariants as R
 use Rattle.reader.specs.State.{stops_by}
+use Rattle.reader.proofs.Events.{stopping_number}
 use Rattle.c_reader.specs.Words.{refusal_codes, refusal_numbered}
 use Rattle.c_reader.specs.declared.MarkWords.{MarkWords}
 
@@ -36,16 +37,25 @@ below P (suc k) n h u = by_eq n k (λ e. rw e u.0) (λ d. below P k n (omega ari
 -- ---- the refusals of marks, by their numbers
 
 -- the numbers of the refusals that an event leaves, today
-pub numbers_stop : (n held : ℕ) → stops_by (refusal_numbered n held) ≡ both (leb 2 n) (leb n 16)
-unfolding stops_by refusal_numbered both
+pub numbers_stop : (n held : ℕ) → stops_by (refusal_numbered n held) ≡ stopping_number n
+unfolding stops_by refusal_numbered both either
 numbers_stop n held =
-    by_lt n 22
-    (λ l. below (λ (i : ℕ). stops_by (refusal_numbered i held) ≡ both (leb 2 i) (leb i 16)) 22 n l (refl, (refl, (refl, (refl, (refl, (refl, (refl, (refl, (refl, (refl, (refl, (refl, (refl, (refl, (refl, (refl, (refl, (refl, (refl, (refl, (refl, (refl, tt)))))))))))))))))))))))
-    (λ l. rw (get_or-eq_default (refusal_codes held) R.Unsound l, le-leb 2 n (omega arith), lt-leb n 16 (omega arith)))
+    by_lt n 25
+    (λ l. below (λ (i : ℕ). stops_by (refusal_numbered i held) ≡ stopping_number i) 25 n l (refl, (refl, (refl, (refl, (refl, (refl, (refl, (refl, (refl, (refl, (refl, (refl, (refl, (refl, (refl, (refl, (refl, (refl, (refl, (refl, (refl, (refl, (refl, (refl, (refl, tt))))))))))))))))))))))))))
+    (λ l. rw (get_or-eq_default (refusal_codes held) R.Unsound l, le-leb 2 n (omega arith), lt-leb n 16 (omega arith), ne_eqb n 23 (λ e. omega arith), ne_eqb n 24 (λ e. omega arith)))
 
-pub refusal_none : (n held : ℕ) → (2 ≤ n → 17 ≤ n) → stops_by (refusal_numbered n held) ≡ false
-unfolding both
-refusal_none n held h = numbers_stop n held ∙ by_lt n 2 (λ l. rw (lt-leb 2 n l)) (λ l. rw (le-leb 2 n l, lt-leb n 16 (h l)))
+-- each of them is at most 24
+pub stopping_most : (n : ℕ) → stopping_number n ≡ true → n ≤ 24
+stopping_most n e =
+    by_either _ _ e
+    (λ t. let l = leb-true n 16 (both_right _ _ t) in omega arith)
+    (λ t. by_either _ _ t (λ u. let l = eqb-true n 23 u in omega arith) (λ u. let l = eqb-true n 24 u in omega arith))
+
+pub refusal_none : (n held : ℕ) → (2 ≤ n → 17 ≤ n) → (n ≡ 23 → ⊥) → (n ≡ 24 → ⊥) → stops_by (refusal_numbered n held) ≡ false
+unfolding both either
+refusal_none n held h f g =
+    numbers_stop n held
+    ∙ rw (ne_eqb n 23 f, ne_eqb n 24 g) (by_lt n 2 (λ l. rw (lt-leb 2 n l)) (λ l. rw (le-leb 2 n l, lt-leb n 16 (h l))))
 
 -- HELD read back from its bits
 pub held_back : {z : ℤ} {n : ℕ} → Fits w32 n → z ≡ to_z w32 n → Regression (to_z w32 (of_z w32 z)) ≡ Regression (to_z w32 n)

@@ -33,7 +33,7 @@ use Rattle.reader.specs.Event.{stopped_at, event_on}
 use Rattle.reader.proofs.Events.{by_refused}
 use Rattle.reader.specs.declared.EventReader.{EventReader}
 use Rattle.c_reader.specs.Words.{level_word, section_word, mark_number, mark_line, mark_held, words_of_reader, word_at, level_in, section_in, kind_in, refusal_numbered, stop_in, reader_in, place_coded, head_coded, meta_coded, stop_coded, is_reader, reader_of_words}
-use Rattle.c_reader.proofs.Codes.{below, numbers_stop}
+use Rattle.c_reader.proofs.Codes.{below, numbers_stop, stopping_most}
 use Rattle.c_reader.proofs.Fits.{place_of, stop_of, held_within}
 
 -- 19 zeros are a fresh reader
@@ -58,17 +58,17 @@ kind_code : (n : ℕ) → n ≤ 2 → kind_word (kind_in n) ≡ n
 kind_code n h = below (λ (i : ℕ). kind_word (kind_in i) ≡ i) 3 n (omega arith) (refl, (refl, (refl, tt)))
 
 module _ (held : ℕ) where
-  refusal_code : (n : ℕ) → n < 16 → number_of (refusal_numbered (suc n) held) ≡ suc n
+  refusal_code : (n : ℕ) → n < 24 → number_of (refusal_numbered (suc n) held) ≡ suc n
   unfolding refusal_numbered
-  refusal_code n h = below (λ (i : ℕ). number_of (refusal_numbered (suc i) held) ≡ suc i) 16 n h (refl, (refl, (refl, (refl, (refl, (refl, (refl, (refl, (refl, (refl, (refl, (refl, (refl, (refl, (refl, (refl, tt))))))))))))))))
+  refusal_code n h = below (λ (i : ℕ). number_of (refusal_numbered (suc i) held) ≡ suc i) 24 n h (refl, (refl, (refl, (refl, (refl, (refl, (refl, (refl, (refl, (refl, (refl, (refl, (refl, (refl, (refl, (refl, (refl, (refl, (refl, (refl, (refl, (refl, (refl, (refl, tt))))))))))))))))))))))))
 
-  number_named : (n : ℕ) → (n ≡ 0 → ⊥) → n ≤ 16 → number_of (refusal_numbered n held) ≡ n
+  number_named : (n : ℕ) → (n ≡ 0 → ⊥) → n ≤ 24 → number_of (refusal_numbered n held) ≡ n
   number_named zero d h = absurd (d refl)
   number_named (suc n) d h = refusal_code n (omega arith)
 
-  held_none : (n : ℕ) → n < 16 → (n ≡ 11 → ⊥) → held_of (refusal_numbered (suc n) held) ≡ pos 0
+  held_none : (n : ℕ) → n < 24 → (n ≡ 11 → ⊥) → held_of (refusal_numbered (suc n) held) ≡ pos 0
   unfolding refusal_numbered
-  held_none n h = below (λ (i : ℕ). (i ≡ 11 → ⊥) → held_of (refusal_numbered (suc i) held) ≡ pos 0) 16 n h (λ d. refl, (λ d. refl, (λ d. refl, (λ d. refl, (λ d. absurd (d refl), (λ d. refl, (λ d. refl, (λ d. refl, (λ d. refl, (λ d. refl, (λ d. refl, (λ d. refl, (λ d. refl, (λ d. refl, (λ d. refl, (λ d. refl, tt))))))))))))))))
+  held_none n h = below (λ (i : ℕ). (i ≡ 11 → ⊥) → held_of (refusal_numbered (suc i) held) ≡ pos 0) 24 n h (λ d. refl, (λ d. refl, (λ d. refl, (λ d. refl, (λ d. refl, (λ d. refl, (λ d. refl, (λ d. refl, (λ d. refl, (λ d. refl, (λ d. refl, (λ d. refl, (λ d. absurd (d refl), (λ d. refl, (λ d. refl, (λ d. refl, (λ d. refl, (λ d. refl, (λ d. refl, (λ d. refl, (λ d. refl, (λ d. refl, (λ d. refl, (λ d. refl, tt))))))))))))))))))))))))
 
 -- ---- a mark's words
 
@@ -84,12 +84,12 @@ pub record MarkBack (number line held : ℕ) : Type 0 where
   pub held_is : mark_held (stop_in number line held) ≡ held
 
 module _ (number line held : ℕ) (e : stop_coded number line held ≡ true) where
-  number_most : number ≤ 16
+  number_most : number ≤ 24
   unfolding stop_coded
   number_most =
       by_either _ _ (both_left _ _ e)
       (λ z. let y = eqb-true number 0 z in omega arith)
-      (λ t. leb-true number 16 (both_right _ _ (sym (numbers_stop number held) ∙ t)))
+      (λ t. stopping_most number (sym (numbers_stop number held) ∙ t))
 
   line_none : number ≡ 0 → line ≡ 0
   unfolding stop_coded either
@@ -241,6 +241,8 @@ refusals_coded R.ShortOutput line t f = clash t refl
 refusals_coded R.NotInOrder line t f = clash t refl
 refusals_coded R.NoSuchNumber line t f = clash t refl
 refusals_coded R.Unsound line t f = clash t refl
+refusals_coded R.NotDegrees line t f = (refl, refl)
+refusals_coded R.BothForms line t f = (refl, refl)
 
 marks_coded : (m : Option RefusedAt) → MarkFits m → (stop_coded (mark_number m) (mark_line m) (mark_held m) ≡ true) × (stop_in (mark_number m) (mark_line m) (mark_held m) ≡ m)
 unfolding stop_coded stop_in both either

@@ -99,7 +99,7 @@ abbrev pub refusal_codes : ℕ → List Refusal
 refusal_codes held =
     R.Unsound ∷ R.Size ∷ R.LongLine ∷ R.NotText ∷ R.NotEventLine ∷ R.Misplaced ∷ R.OutsideSection ∷ R.Missing ∷ R.NotInteger
     ∷ R.NotTimestamp ∷ R.CoordinateRange ∷ R.MemberType ∷ R.Regression (to_z w32 held) ∷ R.StringsFull ∷ R.IdsFull ∷ R.ArenaFull ∷ R.TooManyParts
-    ∷ R.BadRecord ∷ R.Unfinished ∷ R.ShortOutput ∷ R.NotInOrder ∷ R.NoSuchNumber ∷ []
+    ∷ R.BadRecord ∷ R.Unfinished ∷ R.ShortOutput ∷ R.NotInOrder ∷ R.NoSuchNumber ∷ R.Unsound ∷ R.NotDegrees ∷ R.BothForms ∷ []
 
 -- the refusal of a number, with the bits of HELD
 unfoldable pub refusal_numbered : ℕ → ℕ → Refusal

@@ -12,7 +12,7 @@ use lib.ListN.{length}
 use mir.Syntax.{w64}
 use mir.Val.{to_z}
 use borrow.Author.Tests.{eq-eqb, ne_eqb}
-use Rattle.base.specs.Bytes.{Bytes, all}
+use Rattle.base.specs.Bytes.{Bytes, both, either, all}
 use Rattle.base.proofs.Split.{by_eq, no, clash}
 use Rattle.base.proofs.Lists.{all_head, all_tail}
 use Rattle.kind.specs.declared.Kind.{Kind}
@@ -39,7 +39,7 @@ use Rattle.event.specs.Event as Event
 use Rattle.event.specs.Event.{Attr, Reading, reads, refused, event_of}
 use Rattle.event_fields.specs.Field.{got, bad}
 use Rattle.event_decision.specs.Decision.{Decision, refuses, moves, begins, deletes, tags, refers, joins, ends, decide}
-use Rattle.event_decision.proofs.Refusals.{Opens, misplaced_exactly, outside_exactly}
+use Rattle.event_decision.proofs.Refusals.{decision_number, Opens, misplaced_exactly, outside_exactly}
 use Rattle.acts.specs.Turn.{Reader, turn, turn_of}
 use Rattle.acts.specs.Lines.{mark_of, marks_in, line_marks}
 use Rattle.acts.specs.Call.{Call, World, begin, outcome, acts_before, world_after, acts_from, acts_of, line_read, lines_read}
@@ -51,7 +51,7 @@ use Rattle.reader.specs.State.{State, next_line, is_stopped, state_sound, refusa
 use Rattle.reader.specs.Means.{reader_of}
 use Rattle.reader.specs.Event.{event_on}
 use Rattle.reader.proofs.Answers.{by_answer, end_done, end_18}
-use Rattle.reader.proofs.Events.{event_accepted, event_11}
+use Rattle.reader.proofs.Events.{event_accepted, event_decided}
 use Rattle.reader.proofs.Keeps.{ready_sound}
 use Rattle.calls.specs.Ask.{Ask, interns, pushes, reads, call_of, Storage, started, state_of, leaves, accepts, answered, ask_fits, refused_throughout, storage_after, replies, stopped_in}
 use Rattle.calls.proofs.Lists.{Agrees, agrees_fine, answer_of, agrees_call}
@@ -162,23 +162,23 @@ turn_refuses line r x h = go (decide line r.place) h
 
 -- an event of a reader that is not stopped is refused 5 or 6 exactly where its mark leads nowhere
 module _ (line : Bytes) (s : State) (sound : state_sound s ≡ true) (going : is_stopped s.reader.stop ≡ false) where
-  refuses_event : (r : Refusal) → number_of r ≤ 11 → ((event_on line s).answer ≡ Err (refusal_at r (next_line s))) ↔ (decide line s.reader.place ≡ refuses r)
+  refuses_event : (r : Refusal) → decision_number (number_of r) ≡ true → ((event_on line s).answer ≡ Err (refusal_at r (next_line s))) ↔ (decide line s.reader.place ≡ refuses r)
   unfolding reader_of turn turn_of
-  refuses_event r l = let x = event_11 line s sound going r l in (λ a. turn_refuses line (reader_of s) r (x.0 a), λ e. x.1 (rw e))
+  refuses_event r l = let x = event_decided line s sound going r l in (λ a. turn_refuses line (reader_of s) r (x.0 a), λ e. x.1 (rw e))
 
   pub nowhere_exactly : NestingRefused (event_on line s).answer (next_line s) ↔ (run s.reader.place (line_marks line) ≡ None)
-  unfolding place_taken
+  unfolding place_taken both either
   nowhere_exactly = (to, from)
     where
       to : NestingRefused (event_on line s).answer (next_line s) → run s.reader.place (line_marks line) ≡ None
-      to (misplaced a) = opens_nowhere line s.reader.place O.Misplaced refl ((misplaced_exactly line s.reader.place).0 ((refuses_event R.Misplaced (omega arith)).0 a))
-      to (outside a) = opens_nowhere line s.reader.place O.OutsideSection refl ((outside_exactly line s.reader.place).0 ((refuses_event R.OutsideSection (omega arith)).0 a))
+      to (misplaced a) = opens_nowhere line s.reader.place O.Misplaced refl ((misplaced_exactly line s.reader.place).0 ((refuses_event R.Misplaced refl).0 a))
+      to (outside a) = opens_nowhere line s.reader.place O.OutsideSection refl ((outside_exactly line s.reader.place).0 ((refuses_event R.OutsideSection refl).0 a))
 
       from : run s.reader.place (line_marks line) ≡ None → NestingRefused (event_on line s).answer (next_line s)
       from e =
           by_nowhere line s.reader.place e
-          (λ q. misplaced ((refuses_event R.Misplaced (omega arith)).1 ((misplaced_exactly line s.reader.place).1 q)))
-          (λ q. outside ((refuses_event R.OutsideSection (omega arith)).1 ((outside_exactly line s.reader.place).1 q)))
+          (λ q. misplaced ((refuses_event R.Misplaced refl).1 ((misplaced_exactly line s.reader.place).1 q)))
+          (λ q. outside ((refuses_event R.OutsideSection refl).1 ((outside_exactly line s.reader.place).1 q)))
 
 -- ---- the lines that a reader has taken are taken one after the other
 

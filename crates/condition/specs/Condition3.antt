@@ -78,7 +78,7 @@ module _ (o : Overlay) (ps : ℕ → Bytes) (cs : List Ask) where
     pub delete : (k : Kind) (id : ℕ) (m : ArenaMeta) → id < 2 ^ 64 → legal_meta (length world_left.texts) (meta_of m) ≡ true → (v : ℤ)
         → ((delete_on k (to_z w64 id) (meta_of m) storage_left.overlay).answer ≡ Err (Regression v))
         ↔ Regresses accepted_acts (record { kind = k; id = to_z w64 id }) (claim_of (meta_of m)) v
-    -- of an event: 22, of which nothing is left but that the count of its reader's lines is below its largest; no stop mark; 2 to 11, past which its turn makes an act. It is refused
+    -- of an event: 22, of which nothing is left but that the count of its reader's lines is below its largest; no stop mark; 2 to 11, 23 and 24, past which its turn makes an act. It is refused
     -- at its line, one more than the lines that its reader has taken.
     pub event : (n : ℕ) (line : Bytes) (t : Turn) (a : Act Bytes)
         → length (lines_read n (replies 0 o ps cs)) < 18446744073709551615 → stopped_in n (replies 0 o ps cs) ≡ false

@@ -157,7 +157,7 @@ fn closes<'a>(before: Place) -> Task<'a>
     }
 }
 
-// What an event is to do, or its refusal, 2 to 11: its line with its line feed, at a place.
+// What an event is to do, or its refusal, 2 to 11, 23 and 24: its line with its line feed, at a place.
 pub fn task_of(line: &[u8], place: Place) -> Result<Task<'_>, Refusal>
     ensures { task_answer result ≡ decide line.now place }
 {

@@ -1,15 +1,15 @@
 -- Where a line is refused, by place of the check: line, nesting, fields; 5 and 6 exactly where the nesting says so.
 use Rattle.std.specs.Prelude.{Some}
-use Prim.Native.Nat.{◌≤◌}
+use Prim.Native.Nat.{ℕ, ◌≤◌}
 use mathlib.Core.Path.{◌≡◌, refl, sym, ◌∙◌, ap}
 use mathlib.Core.Bool.{Bool, true}
 use mathlib.Core.List.{List, [], ◌∷◌, ◌++◌}
 use native.Mathlib.Omega.{arith}
 use mathlib.Core.Logic.{◌↔◌, ⊎_elim}
-use lib.Dec.{leb}
-use borrow.Author.Tests.{leb-true}
-use Rattle.base.specs.Bytes.{Bytes, both, all}
-use Rattle.base.proofs.Split.{by_bool, no, both_left, both_right}
+use lib.Dec.{leb, eqb}
+use borrow.Author.Tests.{leb-true, le-leb}
+use Rattle.base.specs.Bytes.{Bytes, both, either, all}
+use Rattle.base.proofs.Split.{by_bool, no, clash, both_of, both_left, both_right, by_either, either_left, either_right}
 use Rattle.base.proofs.Lists.{all_head, all_tail}
 use Rattle.refusal.specs.First.{ConditionRow, first_of}
 use Rattle.refusal.specs.Refusal.{number_of}
@@ -41,20 +41,23 @@ first_gives P (r ∷ rows) {a} h e =
     (λ t. let k : Some r.gives ≡ Some a = rw t at e in let q : r.gives ≡ a = cc in rw (← q) (all_head _ r rows h))
     (λ t. first_gives P rows (all_tail _ r rows h) (rw t at e))
 
--- 7 to 11
+-- 7 to 11, 23, 24
+abbrev pub field_number : ℕ → Bool
+field_number n = either (both (leb 7 n) (leb n 11)) (either (eqb n 23) (eqb n 24))
+
 abbrev is_field : Refusal → Bool
-is_field r = both (leb 7 (number_of r)) (leb (number_of r) 11)
+is_field r = field_number (number_of r)
 
 abbrev fields_give : List (ConditionRow Refusal) → Bool
 fields_give rows = all (λ r. is_field r.gives) rows
 
 meta_give : (attrs : List Attr) (rows : List (ConditionRow Refusal)) → fields_give rows ≡ true → fields_give (meta_rows attrs ++ rows) ≡ true
-unfolding meta_rows all both
+unfolding meta_rows all both either
 meta_give [] rows h = h
 meta_give (a ∷ attrs) rows h = meta_give attrs rows h
 
 place_give : (a : Action) (k : Kind) (attrs : List Attr) → fields_give (if_pushed a (place_rows k attrs)) ≡ true
-unfolding all both
+unfolding all both either
 place_give A.Create K.Node attrs = refl
 place_give A.Modify K.Node attrs = refl
 place_give A.Delete k attrs = refl
@@ -64,7 +67,7 @@ place_give A.Create K.Relation attrs = refl
 place_give A.Modify K.Relation attrs = refl
 
 fields_give_lem : (o : Opened) (a : Action) (attrs : List Attr) → fields_give (field_rows o a attrs) ≡ true
-unfolding all both
+unfolding all both either
 fields_give_lem O.Misplaced a attrs = refl
 fields_give_lem O.OutsideSection a attrs = refl
 fields_give_lem (O.Goes p) a attrs = refl
@@ -72,6 +75,10 @@ fields_give_lem (O.Begins k p) a attrs = meta_give attrs (if_pushed a (place_row
 fields_give_lem (O.Holds C.Tag p) a attrs = refl
 fields_give_lem (O.Holds C.Nd p) a attrs = refl
 fields_give_lem (O.Holds C.Member p) a attrs = refl
+
+-- what is refused before the store: 2 to 11, 23, 24
+abbrev pub decision_number : ℕ → Bool
+decision_number n = either (both (leb 2 n) (leb n 11)) (either (eqb n 23) (eqb n 24))
 
 -- a line is an open or an empty element, which leads somewhere
 pub record Opens (line : Bytes) (p : Place) (o : Opened) : Type 0 where
@@ -86,7 +93,7 @@ pub data RefusedAt (line : Bytes) (p : Place) : Refusal → Type 0 where
   at_line : {r : Refusal} → event_of line ≡ refused r → 2 ≤ number_of r → number_of r ≤ 4 → RefusedAt line p r
   misplaced : Opens line p O.Misplaced → RefusedAt line p R.Misplaced
   outside : Opens line p O.OutsideSection → RefusedAt line p R.OutsideSection
-  at_field : {r : Refusal} → 7 ≤ number_of r → number_of r ≤ 11 → RefusedAt line p r
+  at_field : {r : Refusal} → field_number (number_of r) ≡ true → RefusedAt line p r
 
 module _ (line : Bytes) (p : Place) where
   line_refused : {r : Refusal} → event_of line ≡ refused r → RefusedAt line p r
@@ -97,8 +104,7 @@ module _ (line : Bytes) (p : Place) where
 
   field_refused : (rows : List (ConditionRow Refusal)) {r : Refusal} → fields_give rows ≡ true → first_of rows ≡ Some r → RefusedAt line p r
   field_refused rows {r} h e =
-      let k = first_gives is_field rows h e in
-      at_field (leb-true 7 (number_of r) (both_left _ _ k)) (leb-true (number_of r) 11 (both_right _ _ k))
+      at_field (first_gives is_field rows h e)
 
   start_refused : (e : Bool) (n : Bytes) (attrs : List Attr) {r : Refusal} → event_of line ≡ reads (starts e n attrs) → (o : Opened) → opened e (name_of n) p ≡ o
       → first_of (start_rows o p.section attrs) ≡ Some r → RefusedAt line p r
@@ -122,27 +128,33 @@ module _ (line : Bytes) (p : Place) where
       go (reads others) q k = no (cc)
       go (refused y) q k = let z : y ≡ r = cc in line_refused (q ∙ ap refused z)
 
-  within_eleven : {r : Refusal} → RefusedAt line p r → (2 ≤ number_of r) × (number_of r ≤ 11)
-  within_eleven (at_line e a b) = (a, omega arith)
-  within_eleven (misplaced o) = (omega arith, omega arith)
-  within_eleven (outside o) = (omega arith, omega arith)
-  within_eleven (at_field a b) = (omega arith, b)
+  decided_number : {r : Refusal} → RefusedAt line p r → decision_number (number_of r) ≡ true
+  unfolding both either
+  decided_number {r} (at_line e a b) = either_left _ _ (both_of (le-leb 2 (number_of r) a) (le-leb (number_of r) 11 (omega arith)))
+  decided_number (misplaced o) = refl
+  decided_number (outside o) = refl
+  decided_number {r} (at_field f) =
+      by_either _ _ f
+      (λ t. let k = leb-true 7 (number_of r) (both_left _ _ t) in either_left _ _ (both_of (le-leb 2 (number_of r) (omega arith)) (both_right _ _ t)))
+      (λ t. either_right (both (leb 2 (number_of r)) (leb (number_of r) 11)) t)
 
-  -- a refusal before the store is one of 2 to 11
-  pub decide_within : (r : Refusal) → decide line p ≡ refuses r → (2 ≤ number_of r) × (number_of r ≤ 11)
-  decide_within r h = within_eleven (refused_at r h)
+  -- a refusal before the store is one of 2 to 11, 23, 24
+  pub decide_within : (r : Refusal) → decide line p ≡ refuses r → decision_number (number_of r) ≡ true
+  decide_within r h = decided_number (refused_at r h)
 
   fifth : {r : Refusal} → RefusedAt line p r → number_of r ≡ 5 → Opens line p O.Misplaced
+  unfolding both either
   fifth (at_line e a b) q = absurd (omega arith)
   fifth (misplaced o) q = o
   fifth (outside o) q = absurd (omega arith)
-  fifth (at_field a b) q = absurd (omega arith)
+  fifth (at_field f) q = clash (rw q at f) refl
 
   sixth : {r : Refusal} → RefusedAt line p r → number_of r ≡ 6 → Opens line p O.OutsideSection
+  unfolding both either
   sixth (at_line e a b) q = absurd (omega arith)
   sixth (misplaced o) q = absurd (omega arith)
   sixth (outside o) q = o
-  sixth (at_field a b) q = absurd (omega arith)
+  sixth (at_field f) q = clash (rw q at f) refl
 
   -- 5 and 6 exactly where the nesting says so
   pub misplaced_exactly : (decide line p ≡ refuses R.Misplaced) ↔ Opens line p O.Misplaced

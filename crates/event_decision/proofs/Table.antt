@@ -1,22 +1,26 @@
 -- A line is refused before the store by the first condition of its table that holds, and where none holds it is not refused.
-use Rattle.std.specs.Prelude.{None, Option, Some}
+use Rattle.std.specs.Prelude.{None, Option, Some, is_some}
 use Prim.Native.Nat.{ℕ}
 use mathlib.Core.Path.{◌≡◌, refl, sym, ◌∙◌}
 use mathlib.Core.Bool.{Bool, true, false, not}
 use mathlib.Core.List.{List, [], ◌∷◌, ◌++◌}
-use lib.IntN.{nat_abs}
+use lib.IntN.{ℤ, nat_abs}
 use lib.ListN.{length}
 use mir.Syntax.{Width, w32, w64}
 use borrow.Author.Tests.{lt-ltb, le-ltb, le-leb, lt-leb}
 use Rattle.base.specs.Ascii.{ascii}
-use Rattle.base.specs.Bytes.{Bytes, both, either, same}
+use Rattle.base.specs.Bytes.{Bytes, both, either, all, same}
 use Rattle.base.proofs.Split.{by_bool, by_le, clash, no}
 use Rattle.base.proofs.Lists.{same_yes}
 use Rattle.refusal.specs.First.{ConditionRow, row, first_of}
 use Rattle.refusal.proofs.First.{first_more}
 use Rattle.refusal.specs.declared.Refusal.{Refusal}
 use Rattle.refusal.specs.declared.Refusal.TheVariants as R
-use Rattle.integer.specs.Integer.{integer_of}
+use Rattle.integer.specs.Integer.{integer, of_width, integer_of}
+use Rattle.degrees.specs.declared.Axis.{Axis}
+use Rattle.degrees.specs.declared.Axis.TheVariants.{Latitude, Longitude}
+use Rattle.degrees.specs.Degrees.{legal_degrees, parts_behind, parts_of, exact_degrees}
+use Rattle.degrees.specs.Nearest.{most_degrees}
 use Rattle.kind.specs.declared.Kind.{Kind}
 use Rattle.kind.specs.declared.Kind.TheVariants as K
 use Rattle.nesting.specs.Name.{name_of}
@@ -32,8 +36,8 @@ use Rattle.model.specs.Record.{Meta}
 use Rattle.event.specs.Event.{Attr, named, value_of, Event, starts, closes, others, reads, body}
 use Rattle.event.proofs.Refusals.{by_line}
 use Rattle.event.proofs.Events.{judged_legal}
-use Rattle.event_fields.specs.Field.{Field, got, bad, and_then, or_else, text_field, integer_field, coordinate_within, coordinate, latitude, longitude, id_field, meta_with, meta_from, metadata_of, no_meta, body_for, tag_of, ref_of, type_named, member_of}
-use Rattle.event_fields.proofs.Fields.{value_none, by_field, text_got, integer_got, type_got, type_bad, word_of}
+use Rattle.event_fields.specs.Field.{Field, got, bad, and_then, or_else, text_field, integer_field, whole_name, degrees_name, most_whole, coordinate, latitude, longitude, id_field, meta_with, meta_from, metadata_of, no_meta, body_for, tag_of, ref_of, type_named, member_of}
+use Rattle.event_fields.proofs.Fields.{value_none, by_field, text_got, CoordinateRead, both_forms, neither_form, not_integer, whole_beyond, whole_within, not_degrees, degrees_beyond, degrees_within, coordinate_exactly, type_got, type_bad, word_of}
 use Rattle.event_fields.proofs.Metadata.{Took, Fault, present, sets, with_got, with_bad}
 use Rattle.event_fields.proofs.Metadata as M
 use Rattle.event_decision.specs.Decision.{Decision, on_field, push_begins, element_begins, unless_delete, child_of, decide_opened, decide_event, decide}
@@ -86,12 +90,36 @@ module _ (n : Bytes) (attrs : List Attr) where
       then_first (text_field n attrs) _ (missing_row n attrs ∷ []) (row R.NotInteger (is_none (integer_of w (value_or_empty n attrs))) ∷ []) text_first
       (λ v e. rw ((text_got n attrs v).0 e) (or_first R.NotInteger (integer_of w v)))
 
-  coordinate_first : (limit : ℕ) → refusal_of (coordinate n limit attrs) ≡ first_of (coordinate_rows n attrs limit)
-  unfolding first_of
-  coordinate_first limit =
-      then_first (integer_field w32 n attrs) (coordinate_within limit) (integer_rows n attrs w32) (row R.CoordinateRange (exceeds limit (integer_of w32 (value_or_empty n attrs))) ∷ []) (integer_first w32)
-      (λ z e. let g = (integer_got n attrs w32 z).0 e in
-      rw (g.1.0, g.1.1) (by_le (nat_abs z) limit (λ h. rw (le-leb (nat_abs z) limit h, le-ltb limit (nat_abs z) h)) (λ h. rw (lt-leb (nat_abs z) limit h, lt-ltb limit (nat_abs z) h))))
+-- the empty text is no integer and no degrees
+no_integer : integer_of w32 [] ≡ None
+unfolding integer_of integer of_width
+no_integer = refl
+
+no_degrees : exact_degrees [] ≡ None
+unfolding exact_degrees parts_of parts_behind legal_degrees both all
+no_degrees = refl
+
+-- whether a name is there, by its value
+named_by : (n : Bytes) (attrs : List Attr) {o : Option Bytes} → value_of n attrs ≡ o → named n attrs ≡ is_some o
+named_by n attrs {o = None} e = (value_none n attrs).0 e
+named_by n attrs {o = Some v} e = by_bool (named n attrs) (λ t. t) (λ t. no (cc ((value_none n attrs).1 t)))
+
+-- a coordinate in its place
+module _ (a : Axis) (attrs : List Attr) where
+  read_first : {o p : Option Bytes} {f : Field ℤ} → value_of (whole_name a) attrs ≡ o → value_of (degrees_name a) attrs ≡ p → CoordinateRead a o p f
+      → refusal_of f ≡ first_of (coordinate_rows a attrs)
+  unfolding first_of both either
+  read_first i j both_forms = rw (named_by _ attrs i, named_by _ attrs j)
+  read_first i j neither_form = rw (named_by _ attrs i, named_by _ attrs j)
+  read_first i j (not_integer e) = rw (named_by _ attrs i, named_by _ attrs j, i, e)
+  read_first i j (whole_beyond {z = z} e h) = rw (named_by _ attrs i, named_by _ attrs j, i, e, lt-ltb (most_whole a) (nat_abs z) h)
+  read_first i j (whole_within {z = z} e h) = rw (named_by _ attrs i, named_by _ attrs j, i, j, e, le-ltb (most_whole a) (nat_abs z) h, no_degrees)
+  read_first i j (not_degrees e) = rw (named_by _ attrs i, named_by _ attrs j, j, e)
+  read_first i j (degrees_beyond {x = x} e h) = rw (named_by _ attrs i, named_by _ attrs j, i, j, e, no_integer, lt-ltb (most_degrees a) (nat_abs x) h)
+  read_first i j (degrees_within {x = x} e h) = rw (named_by _ attrs i, named_by _ attrs j, i, j, e, no_integer, le-ltb (most_degrees a) (nat_abs x) h)
+
+  coordinate_first : refusal_of (coordinate a attrs) ≡ first_of (coordinate_rows a attrs)
+  coordinate_first = read_first refl refl ((coordinate_exactly a attrs (coordinate a attrs)).0 refl)
 
 -- an attribute of metadata: 8 or 9
 no_either : (x y : Bool) → either x y ≡ false → (x ≡ false) × (y ≡ false)
@@ -156,10 +184,10 @@ type_first v =
 
 -- what an element holds at first
 place_first : (k : Kind) (attrs : List Attr) → refusal_of (body_for k attrs) ≡ first_of (place_rows k attrs)
-unfolding latitude longitude first_of
+unfolding first_of
 place_first K.Node attrs =
-    then_first (latitude attrs) _ (coordinate_rows (ascii "lat7") attrs 900000000) (coordinate_rows (ascii "lon7") attrs 1800000000)
-    (coordinate_first _ attrs _) (λ z e. last_first (longitude attrs) _ ∙ coordinate_first _ attrs _)
+    then_first (latitude attrs) _ (coordinate_rows Latitude attrs) (coordinate_rows Longitude attrs)
+    (coordinate_first Latitude attrs) (λ z e. last_first (longitude attrs) _ ∙ coordinate_first Longitude attrs)
 place_first K.Way attrs = refl
 place_first K.Relation attrs = refl
 

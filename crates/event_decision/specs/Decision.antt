@@ -1,4 +1,4 @@
--- Document 01: what one event is to do, from its line and the place of its reader alone, or which of 2 to 11 it is. "Places go top to bottom": line, nesting, fields.
+-- Document 01: what one event is to do, from its line and the place of its reader alone, or which of 2 to 11 it is, or of 23 and 24. "Places go top to bottom": line, nesting, fields.
 -- What a reader keeps of it (acts) and what is done in storage (reader) go by the decision; whether the store's row refuses it, 12 to 16, is decided there.
 use Rattle.std.specs.Prelude.{Bool, List, ℤ}
 use Rattle.base.specs.Bytes.{Bytes}
@@ -22,7 +22,7 @@ use Rattle.event_fields.specs.Field.{Field, got, bad, id_field, metadata_of, bod
 
 -- what an event is to do; each but a refusal says where its reader stands after it
 pub data Decision : Type 0 where
-  -- 2 to 11
+  -- 2 to 11, 23, 24
   refuses : Refusal → Decision
   -- the place alone changes
   moves : Place → Decision
@@ -44,7 +44,7 @@ on_field (bad r) f = refuses r
 
 -- ---- an element begins
 
--- "Fields: id; then metadata in line order; then a pushed node's lat7; then lon7."
+-- "Fields: id; then metadata in line order; then a pushed node's lat7; then lon7." Document 02: each in either form.
 abbrev pub push_begins : Bool → Kind → Place → List Attr → Decision
 push_begins empty k p attrs = on_field (id_field attrs) (λ id. on_field (metadata_of attrs) (λ m. on_field (body_for k attrs) (λ b. begins empty p id m b)))
 

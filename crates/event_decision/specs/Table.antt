@@ -8,6 +8,10 @@ use Rattle.refusal.specs.First.{ConditionRow, row}
 use Rattle.refusal.specs.declared.Refusal.{Refusal}
 use Rattle.refusal.specs.declared.Refusal.TheVariants as R
 use Rattle.integer.specs.Integer.{integer_of}
+use Rattle.degrees.specs.declared.Axis.{Axis}
+use Rattle.degrees.specs.declared.Axis.TheVariants.{Latitude, Longitude}
+use Rattle.degrees.specs.Degrees.{exact_degrees}
+use Rattle.degrees.specs.Nearest.{most_degrees}
 use Rattle.stamp.specs.Stamp.{stamp}
 use Rattle.kind.specs.declared.Kind.{Kind}
 use Rattle.kind.specs.declared.Kind.TheVariants as K
@@ -21,6 +25,7 @@ use Rattle.nesting.specs.declared.Child.TheVariants as C
 use Rattle.nesting.specs.Opened.{Opened}
 use Rattle.nesting.specs.Opened as O
 use Rattle.event.specs.Event.{Attr, named, value_of, or_empty, starts, closes, others, Reading, reads, refused, unended, body, legal_line, event_in, event_of}
+use Rattle.event_fields.specs.Field.{whole_name, degrees_name, most_whole}
 use Rattle.event_decision.specs.Decision.{Decision, refuses, moves, begins, deletes, tags, refers, joins, ends}
 
 -- the refusal of a decision, if it is one
@@ -38,7 +43,7 @@ abbrev pub is_none : {A : Type 0} → Option A → Bool
 is_none None = true
 is_none (Some a) = false
 
--- ---- fields: "7 missing; 8 not an integer of its width; 9 timestamp; 10 coordinate range; 11 member type not `node`, `way`, `relation`"
+-- ---- fields: "7 missing; 8 not an integer of its width; 9 timestamp; 10 coordinate range; 11 member type not `node`, `way`, `relation`"; document 02: 23, 24
 
 abbrev pub exceeds : ℕ → Option ℤ → Bool
 exceeds limit None = false
@@ -55,9 +60,16 @@ module _ (n : Bytes) (attrs : List Attr) where
   abbrev pub integer_rows : Width → List (ConditionRow Refusal)
   integer_rows w = missing_row ∷ row R.NotInteger (is_none (integer_of w value_or_empty)) ∷ []
 
-  -- 7, 8, 10
-  abbrev pub coordinate_rows : ℕ → List (ConditionRow Refusal)
-  coordinate_rows limit = integer_rows w32 ++ (row R.CoordinateRange (exceeds limit (integer_of w32 value_or_empty)) ∷ [])
+-- a coordinate, whole before the next: 24, 7, 8 for its whole number or 23 for its degrees, 10. A name that is not there has the empty text here, which is neither.
+abbrev pub coordinate_rows : Axis → List Attr → List (ConditionRow Refusal)
+coordinate_rows a attrs =
+    row R.BothForms (both (named (whole_name a) attrs) (named (degrees_name a) attrs))
+    ∷ row R.Missing (not (either (named (whole_name a) attrs) (named (degrees_name a) attrs)))
+    ∷ row R.NotInteger (both (named (whole_name a) attrs) (is_none (integer_of w32 (value_or_empty (whole_name a) attrs))))
+    ∷ row R.NotDegrees (both (named (degrees_name a) attrs) (is_none (exact_degrees (value_or_empty (degrees_name a) attrs))))
+    ∷ row R.CoordinateRange (either (exceeds (most_whole a) (integer_of w32 (value_or_empty (whole_name a) attrs)))
+    (exceeds (most_degrees a) (exact_degrees (value_or_empty (degrees_name a) attrs))))
+    ∷ []
 
 -- "Version, uid .. are i32; .. changeset i64"
 abbrev pub bad_integer : Attr → Bool
@@ -74,9 +86,9 @@ unfoldable pub meta_rows : List Attr → List (ConditionRow Refusal)
 meta_rows [] = []
 meta_rows (a ∷ attrs) = row R.NotInteger (bad_integer a) ∷ row R.NotTimestamp (bad_stamp a) ∷ meta_rows attrs
 
--- "then a pushed node's lat7; then lon7"
+-- "then a pushed node's lat7; then lon7", in either form
 abbrev pub place_rows : Kind → List Attr → List (ConditionRow Refusal)
-place_rows K.Node attrs = coordinate_rows (ascii "lat7") attrs 900000000 ++ coordinate_rows (ascii "lon7") attrs 1800000000
+place_rows K.Node attrs = coordinate_rows Latitude attrs ++ coordinate_rows Longitude attrs
 place_rows K.Way attrs = []
 place_rows K.Relation attrs = []
 

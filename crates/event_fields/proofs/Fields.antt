@@ -1,23 +1,32 @@
 -- What the fields of an event give: each refusal exactly when its condition holds, and numbers that fit their widths.
-use Rattle.std.specs.Prelude.{None, Option, Some}
+use Rattle.std.specs.Prelude.{None, Option, Some, Result}
 use Prim.Native.Nat.{ℕ, ◌<◌, ◌≤◌}
 use mathlib.Core.Path.{◌≡◌, refl, sym, ◌∙◌, ap}
 use mathlib.Core.Bool.{Bool, true, false, cond}
 use mathlib.Core.Logic.{◌↔◌, ◌⊎◌, inl, inr, ⊎_elim}
 use mathlib.Core.List.{List, [], ◌∷◌, Memᴰ}
 use lib.Dec.{leb}
-use lib.IntN.{ℤ, nat_abs}
+use lib.IntN.{ℤ, pos, negsuc, nat_abs}
+use native.Mathlib.Omega.{arith}
 use mir.Syntax.{Width, w32, w64}
 use mir.Val.{SFits}
 use borrow.Author.Tests.{leb-true, leb-false, le-leb, lt-leb}
 use Rattle.base.specs.Ascii.{ascii}
 use Rattle.base.specs.Bytes.{Bytes, both, all, same}
-use Rattle.base.proofs.Split.{by_bool, clash, no}
+use Rattle.base.proofs.Split.{by_bool, by_le, clash, no}
 use Rattle.base.proofs.Lists.{same_yes, all_head, all_tail}
 use Rattle.refusal.specs.declared.Refusal.{Refusal}
-use Rattle.refusal.specs.declared.Refusal.TheVariants.{Missing, NotInteger, CoordinateRange, MemberType}
+use Rattle.refusal.specs.declared.Refusal.TheVariants.{Missing, NotInteger, CoordinateRange, MemberType, NotDegrees, BothForms}
 use Rattle.integer.specs.Integer.{integer_of}
 use Rattle.integer.proofs.Integers.{integer_of_is}
+use Rattle.degrees.specs.declared.Axis.{Axis}
+use Rattle.degrees.specs.declared.Axis.TheVariants.{Latitude, Longitude}
+use Rattle.degrees.specs.declared.DegreesError.{DegreesError}
+use Rattle.degrees.specs.Degrees.{exact_degrees}
+use Rattle.degrees.specs.Nearest.{nearest, most_degrees, read_degrees}
+use Rattle.degrees.proofs.Rounding.{nearest_within}
+use Rattle.degrees.proofs.Reading.{DegreesRead, degrees_read}
+use Rattle.degrees.proofs.Reading
 use Rattle.kind.specs.declared.Kind.{Kind}
 use Rattle.kind.specs.declared.Kind.TheVariants.{Node, Way, Relation}
 use Rattle.nesting.specs.declared.Name.{Name}
@@ -25,7 +34,7 @@ use Rattle.nesting.specs.declared.Name.TheVariants as N
 use Rattle.nesting.specs.Name.{Spelling, spellings, name_in, name_of}
 use Rattle.model.specs.Record.{Member, Tag}
 use Rattle.event.specs.Event.{Attr, named, value_of, or_empty}
-use Rattle.event_fields.specs.Field.{Field, got, bad, and_then, or_else, text_field, integer_field, coordinate_within, coordinate, latitude, longitude, tag_of, ref_of, type_named, member_of}
+use Rattle.event_fields.specs.Field.{Field, got, bad, and_then, or_else, text_field, integer_field, an_integer, whole_name, degrees_name, most_whole, coordinate_within, whole_coordinate, degrees_answered, coordinate_by, coordinate, latitude, longitude, tag_of, ref_of, type_named, member_of}
 
 -- ---- one field, then another
 
@@ -119,50 +128,97 @@ module _ (n : Bytes) (attrs : List Attr) where
 
 -- ---- coordinates
 
-module _ (limit : ℕ) (z : ℤ) where
-  within_got : (x : ℤ) → (coordinate_within limit z ≡ got x) ↔ ((z ≡ x) × (nat_abs z ≤ limit))
-  within_got x = go (leb (nat_abs z) limit) refl
+-- a coordinate, by the values of its two names: each answer with its condition
+pub data CoordinateRead (a : Axis) : Option Bytes → Option Bytes → Field ℤ → Type 0 where
+  -- "24 a pushed node's coordinate in both forms, first at that coordinate's place"; 7 in neither
+  both_forms : {v d : Bytes} → CoordinateRead a (Some v) (Some d) (bad BothForms)
+  neither_form : CoordinateRead a None None (bad Missing)
+  -- a whole number of 1e-7 degree: 8, 10, or the number
+  not_integer : {v : Bytes} → integer_of w32 v ≡ None → CoordinateRead a (Some v) None (bad NotInteger)
+  whole_beyond : {v : Bytes} {z : ℤ} → integer_of w32 v ≡ Some z → most_whole a < nat_abs z → CoordinateRead a (Some v) None (bad CoordinateRange)
+  whole_within : {v : Bytes} {z : ℤ} → integer_of w32 v ≡ Some z → nat_abs z ≤ most_whole a → CoordinateRead a (Some v) None (got z)
+  -- degrees: 23; 10 by the exact degrees; or the nearest 1e-7 degree
+  not_degrees : {d : Bytes} → exact_degrees d ≡ None → CoordinateRead a None (Some d) (bad NotDegrees)
+  degrees_beyond : {d : Bytes} {x : ℤ} → exact_degrees d ≡ Some x → most_degrees a < nat_abs x → CoordinateRead a None (Some d) (bad CoordinateRange)
+  degrees_within : {d : Bytes} {x : ℤ} → exact_degrees d ≡ Some x → nat_abs x ≤ most_degrees a → CoordinateRead a None (Some d) (got (nearest x))
+
+module _ (a : Axis) where
+  whole_read : (v : Bytes) → CoordinateRead a (Some v) None (whole_coordinate a v)
+  whole_read v = go (integer_of w32 v) refl
     where
-      go : (t : Bool) → leb (nat_abs z) limit ≡ t → (cond t (got z) (bad CoordinateRange) ≡ got x) ↔ ((z ≡ x) × (nat_abs z ≤ limit))
-      go true e = (λ h. (cc, leb-true (nat_abs z) limit e), λ h. ap got h.0)
-      go false e = (λ h. no (cc), λ h. clash (le-leb (nat_abs z) limit h.1) e)
+      go : (o : Option ℤ) → integer_of w32 v ≡ o → CoordinateRead a (Some v) None (and_then (an_integer o) (coordinate_within (most_whole a)))
+      go None e = not_integer e
+      go (Some z) e =
+          by_le (nat_abs z) (most_whole a)
+          (λ h. rw (le-leb (nat_abs z) (most_whole a) h) (whole_within e h))
+          (λ h. rw (lt-leb (nat_abs z) (most_whole a) h) (whole_beyond e h))
 
-  within_bad : (r : Refusal) → (coordinate_within limit z ≡ bad r) ↔ ((limit < nat_abs z) × (r ≡ CoordinateRange))
-  within_bad r = go (leb (nat_abs z) limit) refl
+  degrees_read_lem : (d : Bytes) → CoordinateRead a None (Some d) (degrees_answered (read_degrees a d))
+  degrees_read_lem d = go refl (degrees_read a d)
     where
-      go : (t : Bool) → leb (nat_abs z) limit ≡ t → (cond t (got z) (bad CoordinateRange) ≡ bad r) ↔ ((limit < nat_abs z) × (r ≡ CoordinateRange))
-      go true e = (λ h. no (cc), λ h. clash e (lt-leb (nat_abs z) limit h.0))
-      go false e = (λ h. (leb-false (nat_abs z) limit e, cc), λ h. ap bad (sym h.1))
+      go : {o : Option ℤ} {r : Result ℤ DegreesError} → exact_degrees d ≡ o → DegreesRead a o r → CoordinateRead a None (Some d) (degrees_answered r)
+      go e Reading.not_degrees = not_degrees e
+      go e (Reading.out_of_range h) = degrees_beyond e h
+      go e (Reading.result h) = degrees_within e h
 
-module _ (n : Bytes) (limit : ℕ) (attrs : List Attr) where
-  pub coordinate_got : (z : ℤ) → (coordinate n limit attrs ≡ got z) ↔ ((integer_field w32 n attrs ≡ got z) × (nat_abs z ≤ limit))
-  coordinate_got z = (
-    λ e.
-        let t = then_got _ (integer_field w32 n attrs) e in
-        let h = (within_got limit t.0 z).0 t.1.1 in
-        (t.1.0 ∙ ap got h.0, rw h.0 at h.1),
-    λ h. rw h.0 ((within_got limit z z).1 (refl, h.1)),
-  )
+  read_by : (o p : Option Bytes) → CoordinateRead a o p (coordinate_by a o p)
+  read_by (Some v) (Some d) = both_forms
+  read_by None None = neither_form
+  read_by (Some v) None = whole_read v
+  read_by None (Some d) = degrees_read_lem d
 
-  -- "10 coordinate range"
-  pub coordinate_bad : (r : Refusal) → (coordinate n limit attrs ≡ bad r)
-      ↔ ((integer_field w32 n attrs ≡ bad r) ⊎ ((z : ℤ) × ((integer_field w32 n attrs ≡ got z) × ((limit < nat_abs z) × (r ≡ CoordinateRange)))))
-  coordinate_bad r = (
-    λ e. ⊎_elim inl (λ t. inr (t.0, (t.1.0, (within_bad limit t.0 r).0 t.1.1))) ((then_bad _ (integer_field w32 n attrs) r).0 e),
-    λ s. (then_bad _ (integer_field w32 n attrs) r).1 (⊎_elim inl (λ t. inr (t.0, (t.1.0, (within_bad limit t.0 r).1 t.1.1))) s),
-  )
+  by_read : {o p : Option Bytes} {f : Field ℤ} → CoordinateRead a o p f → coordinate_by a o p ≡ f
+  unfolding read_degrees
+  by_read both_forms = refl
+  by_read neither_form = refl
+  by_read (not_integer e) = rw e
+  by_read (whole_beyond {z = z} e h) = rw (e, lt-leb (nat_abs z) (most_whole a) h)
+  by_read (whole_within {z = z} e h) = rw (e, le-leb (nat_abs z) (most_whole a) h)
+  by_read (not_degrees e) = rw e
+  by_read (degrees_beyond {x = x} e h) = rw (e, lt-leb (nat_abs x) (most_degrees a) h)
+  by_read (degrees_within {x = x} e h) = rw (e, le-leb (nat_abs x) (most_degrees a) h)
 
-  pub coordinate_fits : {z : ℤ} → coordinate n limit attrs ≡ got z → (nat_abs z ≤ limit) × SFits w32 z
-  coordinate_fits {z} e = let h = (coordinate_got z).0 e in (h.1, integer_fits n attrs w32 h.0)
+  module _ (attrs : List Attr) where
+    abbrev whole_text : Option Bytes
+    whole_text = value_of (whole_name a) attrs
 
--- "at most 900,000,000 and 1,800,000,000 either side of 0"
+    abbrev degrees_text_of : Option Bytes
+    degrees_text_of = value_of (degrees_name a) attrs
+
+    -- each answer exactly when its condition holds
+    pub coordinate_exactly : (f : Field ℤ) → (coordinate a attrs ≡ f) ↔ CoordinateRead a (value_of (whole_name a) attrs) (value_of (degrees_name a) attrs) f
+    unfolding coordinate
+    coordinate_exactly f = (λ e. rw e at (read_by whole_text degrees_text_of), λ r. by_read r)
+
+whole_units : (a : Axis) (x : ℤ) → nat_abs x ≤ most_degrees a → nat_abs (nearest x) ≤ most_whole a
+whole_units Latitude x h = nearest_within 900000000 x h
+whole_units Longitude x h = nearest_within 1800000000 x h
+
+most_fits : (a : Axis) (z : ℤ) → nat_abs z ≤ most_whole a → SFits w32 z
+most_fits Latitude (pos n) h = record { sfits = omega (arith, h) }
+most_fits Latitude (negsuc n) h = record { sfits = omega (arith, h) }
+most_fits Longitude (pos n) h = record { sfits = omega (arith, h) }
+most_fits Longitude (negsuc n) h = record { sfits = omega (arith, h) }
+
+-- "at most 900,000,000 and 1,800,000,000 either side of 0", whatever form a coordinate is given in
+pub coordinate_fits : (a : Axis) (attrs : List Attr) {z : ℤ} → coordinate a attrs ≡ got z → (nat_abs z ≤ most_whole a) × SFits w32 z
+coordinate_fits a attrs {z} e = let h = small refl ((coordinate_exactly a attrs (got z)).0 e) in (h, most_fits a z h)
+  where
+    small : {o p : Option Bytes} {f : Field ℤ} → f ≡ got z → CoordinateRead a o p f → nat_abs z ≤ most_whole a
+    small e both_forms = no (cc)
+    small e neither_form = no (cc)
+    small e (not_integer i) = no (cc)
+    small e (whole_beyond i h) = no (cc)
+    small e (whole_within {z = y} i h) = let q : y ≡ z = cc in rw q at h
+    small e (not_degrees i) = no (cc)
+    small e (degrees_beyond i h) = no (cc)
+    small e (degrees_within {x = x} i h) = let q : nearest x ≡ z = cc in rw q at (whole_units a x h)
+
 pub latitude_fits : (attrs : List Attr) {z : ℤ} → latitude attrs ≡ got z → (nat_abs z ≤ 900000000) × SFits w32 z
-unfolding latitude
-latitude_fits attrs e = coordinate_fits (ascii "lat7") 900000000 attrs e
+latitude_fits attrs e = coordinate_fits Latitude attrs e
 
 pub longitude_fits : (attrs : List Attr) {z : ℤ} → longitude attrs ≡ got z → (nat_abs z ≤ 1800000000) × SFits w32 z
-unfolding longitude
-longitude_fits attrs e = coordinate_fits (ascii "lon7") 1800000000 attrs e
+longitude_fits attrs e = coordinate_fits Longitude attrs e
 
 -- ---- children
 

@@ -13,13 +13,17 @@ use Rattle.base.specs.Bytes.{Bytes, both, either, same}
 use Rattle.base.proofs.Split.{by_bool, clash, no, both_left, both_right, both_of, either_left, either_right, by_either}
 use Rattle.base.proofs.Lists.{same_yes, same_refl, same_swap}
 use Rattle.integer.specs.Integer.{integer_of}
+use Rattle.degrees.specs.declared.Axis.{Axis}
+use Rattle.degrees.specs.declared.Axis.TheVariants.{Latitude, Longitude}
+use Rattle.degrees.specs.Degrees.{exact_degrees}
+use Rattle.degrees.specs.Nearest.{nearest, most_degrees}
 use Rattle.stamp.specs.Stamp.{stamp}
 use Rattle.kind.specs.declared.Kind.{Kind}
 use Rattle.kind.specs.declared.Kind.TheVariants.{Node, Way, Relation}
 use Rattle.model.specs.Record.{Meta, Member, Tag, Body, place, refs, members, flagged, claim_of}
 use Rattle.event.specs.Event.{Attr, named, none_twice, value_of, or_empty}
-use Rattle.event_fields.specs.Field.{got, id_field, coordinate, latitude, longitude, body_for, no_meta, meta_with, meta_from, metadata_of, tag_of, ref_of, member_of}
-use Rattle.event_fields.proofs.Fields.{then_got, value_none, integer_got, coordinate_got, word_of, tag_got, member_got}
+use Rattle.event_fields.specs.Field.{Field, got, id_field, whole_name, degrees_name, most_whole, coordinate, latitude, longitude, body_for, no_meta, meta_with, meta_from, metadata_of, tag_of, ref_of, member_of}
+use Rattle.event_fields.proofs.Fields.{then_got, value_none, integer_got, CoordinateRead, both_forms, neither_form, not_integer, whole_beyond, whole_within, not_degrees, degrees_beyond, degrees_within, coordinate_exactly, word_of, tag_got, member_got}
 use Rattle.event_fields.proofs.Metadata.{Flag, sets, Took, with_got, meta_legal, any, any_named, meta_flags, meta_claim}
 
 -- ---- the attribute of a name
@@ -57,13 +61,14 @@ Reads read n attrs x = (v : Bytes) × ((value_of n attrs ≡ Some v) × (read v 
 
 -- ---- id, ref, coordinates
 
--- a coordinate: "1e-7 degree, at most .. either side of 0"
-abbrev pub ReadsWithin : ℕ → Bytes → List Attr → ℤ → Type 0
-ReadsWithin limit n attrs z = Reads (integer_of w32) n attrs z × (nat_abs z ≤ limit)
+-- a coordinate in one form: a whole number "1e-7 degree, at most .. either side of 0", or the nearest one to degrees that do not pass 90 or 180
+pub data CoordinateGiven (a : Axis) (attrs : List Attr) : ℤ → Type 0 where
+  in_whole : {z : ℤ} → Reads (integer_of w32) (whole_name a) attrs z → nat_abs z ≤ most_whole a → value_of (degrees_name a) attrs ≡ None → CoordinateGiven a attrs z
+  in_degrees : {x : ℤ} → Reads exact_degrees (degrees_name a) attrs x → nat_abs x ≤ most_degrees a → value_of (whole_name a) attrs ≡ None → CoordinateGiven a attrs (nearest x)
 
 -- what an element holds at first: a node its place, a way no refs, a relation no members
 pub data BodyGiven (attrs : List Attr) : Kind → Body Bytes → Type 0 where
-  node : {lat lon : ℤ} → ReadsWithin 900000000 (ascii "lat7") attrs lat → ReadsWithin 1800000000 (ascii "lon7") attrs lon → BodyGiven attrs Node (place lat lon)
+  node : {lat lon : ℤ} → CoordinateGiven Latitude attrs lat → CoordinateGiven Longitude attrs lon → BodyGiven attrs Node (place lat lon)
   way : BodyGiven attrs Way (refs [])
   relation : BodyGiven attrs Relation (members [])
 
@@ -76,19 +81,25 @@ module _ (attrs : List Attr) where
   unfolding ref_of
   ref_given z = integer_got (ascii "ref") attrs w64 z
 
-  within_given : (n : Bytes) (limit : ℕ) (z : ℤ) → (coordinate n limit attrs ≡ got z) ↔ ReadsWithin limit n attrs z
-  within_given n limit z =
-      let c = coordinate_got n limit attrs z in
-      let i = integer_got n attrs w32 z in
-      (λ e. let h = c.0 e in (i.0 h.0, h.1), λ h. c.1 (i.1 h.0, h.1))
+  read_given : {a : Axis} {o p : Option Bytes} {f : Field ℤ} {z : ℤ} → value_of (whole_name a) attrs ≡ o → value_of (degrees_name a) attrs ≡ p → CoordinateRead a o p f → f ≡ got z
+      → CoordinateGiven a attrs z
+  read_given i j both_forms e = no (cc)
+  read_given i j neither_form e = no (cc)
+  read_given i j (not_integer r) e = no (cc)
+  read_given i j (whole_beyond r h) e = no (cc)
+  read_given {z = z} i j (whole_within {v = v} {z = y} r h) e = let q : y ≡ z = cc in rw (← q) (in_whole (v, (i, r)) h j)
+  read_given i j (not_degrees r) e = no (cc)
+  read_given i j (degrees_beyond r h) e = no (cc)
+  read_given {z = z} i j (degrees_within {d = d} {x = x} r h) e = let q : nearest x ≡ z = cc in rw (← q) (in_degrees (d, (j, r)) h i)
 
-  pub latitude_given : (z : ℤ) → (latitude attrs ≡ got z) ↔ ReadsWithin 900000000 (ascii "lat7") attrs z
-  unfolding latitude
-  latitude_given z = within_given (ascii "lat7") 900000000 z
+  given_read : {a : Axis} {z : ℤ} → CoordinateGiven a attrs z → CoordinateRead a (value_of (whole_name a) attrs) (value_of (degrees_name a) attrs) (got z)
+  given_read (in_whole r h n) = rw (r.1.0, n) (whole_within r.1.1 h)
+  given_read (in_degrees r h n) = rw (r.1.0, n) (degrees_within r.1.1 h)
 
-  pub longitude_given : (z : ℤ) → (longitude attrs ≡ got z) ↔ ReadsWithin 1800000000 (ascii "lon7") attrs z
-  unfolding longitude
-  longitude_given z = within_given (ascii "lon7") 1800000000 z
+  pub coordinate_given : (a : Axis) (z : ℤ) → (coordinate a attrs ≡ got z) ↔ CoordinateGiven a attrs z
+  coordinate_given a z =
+      let c = coordinate_exactly a attrs (got z) in
+      (λ e. read_given refl refl (c.0 e) refl, λ g. c.1 (given_read g))
 
   body_read : (k : Kind) (b : Body Bytes) → body_for k attrs ≡ got b → BodyGiven attrs k b
   body_read Node b e =
@@ -96,12 +107,12 @@ module _ (attrs : List Attr) where
       let y = then_got _ (longitude attrs) x.1.1 in
       let q : got (place x.0 y.0) ≡ got b = y.1.1 in
       let p : place x.0 y.0 ≡ b = cc in
-      rw (← p) (node ((latitude_given x.0).0 x.1.0) ((longitude_given y.0).0 y.1.0))
+      rw (← p) (node ((coordinate_given Latitude x.0).0 x.1.0) ((coordinate_given Longitude y.0).0 y.1.0))
   body_read Way b e = let p : refs [] ≡ b = cc in rw (← p) way
   body_read Relation b e = let p : members [] ≡ b = cc in rw (← p) relation
 
   read_body : {k : Kind} {b : Body Bytes} → BodyGiven attrs k b → body_for k attrs ≡ got b
-  read_body (node {lat = lat} {lon = lon} x y) = rw ((latitude_given lat).1 x, (longitude_given lon).1 y)
+  read_body (node {lat = lat} {lon = lon} x y) = rw ((coordinate_given Latitude lat).1 x, (coordinate_given Longitude lon).1 y)
   read_body way = refl
   read_body relation = refl
 

@@ -1,11 +1,16 @@
--- Document 01: the fields of an event, or which of 7 to 11 it is; "each field is checked whole before the next".
-use Rattle.std.specs.Prelude.{ℕ, ◌+◌, cond, List, [], ◌∷◌, leb, ℤ, pos, nat_abs, None, Option, Some}
+-- Document 01: the fields of an event, or which of 7 to 11 it is; "each field is checked whole before the next". Document 02: a coordinate in degrees, or 23 or 24.
+use Rattle.std.specs.Prelude.{ℕ, ◌+◌, cond, List, [], ◌∷◌, leb, ℤ, pos, nat_abs, None, Option, Some, Err, Ok, Result}
 use Rattle.std.specs.Int.{Width, w32, w64}
 use Rattle.base.specs.Ascii.{ascii}
 use Rattle.base.specs.Bytes.{Bytes, same}
 use Rattle.refusal.specs.declared.Refusal.{Refusal}
-use Rattle.refusal.specs.declared.Refusal.TheVariants.{Missing, NotInteger, NotTimestamp, CoordinateRange, MemberType}
+use Rattle.refusal.specs.declared.Refusal.TheVariants.{Missing, NotInteger, NotTimestamp, CoordinateRange, MemberType, NotDegrees, BothForms}
 use Rattle.integer.specs.Integer.{integer_of}
+use Rattle.degrees.specs.declared.Axis.{Axis}
+use Rattle.degrees.specs.declared.Axis.TheVariants.{Latitude, Longitude}
+use Rattle.degrees.specs.declared.DegreesError.{DegreesError}
+use Rattle.degrees.specs.declared.DegreesError.TheVariants as E
+use Rattle.degrees.specs.Nearest.{read_degrees}
 use Rattle.stamp.specs.Stamp.{stamp}
 use Rattle.kind.specs.declared.Kind.{Kind}
 use Rattle.kind.specs.declared.Kind.TheVariants.{Node, Way, Relation}
@@ -53,21 +58,51 @@ id_field attrs = integer_field w64 (ascii "id") attrs
 
 -- ---- coordinates of a pushed node
 
--- "1e-7 degree, at most 900,000,000 and 1,800,000,000 either side of 0"; "10 coordinate range"
+-- the two attributes that can give one: `lat7` and `lon7` in whole numbers of 1e-7 degree; document 02: "`lat` and `lon` as decimal text"
+abbrev pub whole_name : Axis → Bytes
+whole_name Latitude = ascii "lat7"
+whole_name Longitude = ascii "lon7"
+
+abbrev pub degrees_name : Axis → Bytes
+degrees_name Latitude = ascii "lat"
+degrees_name Longitude = ascii "lon"
+
+-- "1e-7 degree, at most 900,000,000 and 1,800,000,000 either side of 0"
+abbrev pub most_whole : Axis → ℕ
+most_whole Latitude = 900000000
+most_whole Longitude = 1800000000
+
+-- "10 coordinate range"
 abbrev pub coordinate_within : ℕ → ℤ → Field ℤ
 coordinate_within limit z = cond (leb (nat_abs z) limit) (got z) (bad CoordinateRange)
 
--- a coordinate: the attribute of a name, within a limit
-abbrev pub coordinate : Bytes → ℕ → List Attr → Field ℤ
-coordinate n limit attrs = and_then (integer_field w32 n attrs) (coordinate_within limit)
+-- a whole number's text: 8, then 10
+abbrev pub whole_coordinate : Axis → Bytes → Field ℤ
+whole_coordinate a v = and_then (an_integer (integer_of w32 v)) (coordinate_within (most_whole a))
 
-unfoldable pub latitude : List Attr → Field ℤ
-latitude attrs = coordinate (ascii "lat7") 900000000 attrs
+-- degrees as text: "23 text not of this form, where 8 is checked for `lat7`"; then 10
+abbrev pub degrees_answered : Result ℤ DegreesError → Field ℤ
+degrees_answered (Ok z) = got z
+degrees_answered (Err E.NotDegrees) = bad NotDegrees
+degrees_answered (Err E.OutOfRange) = bad CoordinateRange
 
-unfoldable pub longitude : List Attr → Field ℤ
-longitude attrs = coordinate (ascii "lon7") 1800000000 attrs
+-- a coordinate by the values of its two names: "24 a pushed node's coordinate in both forms, first at that coordinate's place"; 7 in neither
+abbrev pub coordinate_by : Axis → Option Bytes → Option Bytes → Field ℤ
+coordinate_by a (Some v) (Some d) = bad BothForms
+coordinate_by a None None = bad Missing
+coordinate_by a (Some v) None = whole_coordinate a v
+coordinate_by a None (Some d) = degrees_answered (read_degrees a d)
 
--- what an element of a kind begins with: "then a pushed node's lat7; then lon7"
+unfoldable pub coordinate : Axis → List Attr → Field ℤ
+coordinate a attrs = coordinate_by a (value_of (whole_name a) attrs) (value_of (degrees_name a) attrs)
+
+abbrev pub latitude : List Attr → Field ℤ
+latitude attrs = coordinate Latitude attrs
+
+abbrev pub longitude : List Attr → Field ℤ
+longitude attrs = coordinate Longitude attrs
+
+-- what an element of a kind begins with: "then a pushed node's lat7; then lon7", each whole and in either form
 abbrev pub body_for : Kind → List Attr → Field (Body Bytes)
 body_for Node attrs = and_then (latitude attrs) (λ lat. and_then (longitude attrs) (λ lon. got (place lat lon)))
 body_for Way attrs = got (refs [])

@@ -20,6 +20,10 @@ use Rattle.text.proofs.Escapes.{bare, bare_nil, bare_cons, bare_append, read_byt
 use Rattle.integer.specs.Integer.{digits, integer, of_width, integer_of}
 use Rattle.integer.proofs.Digits.{digit_is, digits_is}
 use Rattle.integer.proofs.Integers.{integer_of_is}
+use Rattle.degrees.specs.declared.Axis.{Axis}
+use Rattle.degrees.specs.Degrees.{Sign, unsigned, plus, minus, DegreeParts, legal_decimals, legal_degrees, sign_text, decimals_text, parts_text, parts_behind, parts_of, exact_degrees}
+use Rattle.degrees.specs.Nearest.{degrees_or, read_degrees}
+use Rattle.degrees.proofs.Texts.{exactly}
 use Rattle.stamp.specs.declared.Moment.{Moment}
 use Rattle.stamp.specs.Stamp.{stamp_field, separated, shaped, moment, accepted_moment, stamp}
 use Rattle.stamp.proofs.Reading.{no_year, no_month, no_day, no_hour, no_minute, no_second}
@@ -95,6 +99,32 @@ integer_bare (b ∷ s) z e =
 pub integer_raw : (w : Width) (v : Bytes) → integer_of w v ≡ integer_of w (value_text v)
 unfolding integer_of of_width integer
 integer_raw w v = text_reads (integer_of w) (λ s z p. integer_bare s z (integer_of_is w s p).0) refl v
+
+-- ---- degrees
+
+sign_bare : (g : Sign) → bare (sign_text g) ≡ true
+unfolding breaks either
+sign_bare unsigned = bare_nil
+sign_bare plus = bare_cons 43 [] refl bare_nil
+sign_bare minus = bare_cons 45 [] refl bare_nil
+
+decimals_bare : (d : Option Bytes) → legal_decimals d ≡ true → bare (decimals_text d) ≡ true
+unfolding breaks either
+decimals_bare None h = bare_nil
+decimals_bare (Some s) h = bare_cons 46 s refl (digits_bare s (both_left _ _ h))
+
+parts_bare : (p : DegreeParts) → legal_degrees p ≡ true → bare (parts_text p) ≡ true
+unfolding legal_degrees parts_text
+parts_bare p h =
+    bare_append (sign_text p.sign) _ (sign_bare p.sign)
+    (bare_append p.whole _ (digits_bare p.whole (both_left _ _ (both_left _ _ h))) (decimals_bare p.decimals (both_right _ _ h)))
+
+degrees_bare : (s : Bytes) (x : ℤ) → exact_degrees s ≡ Some x → bare s ≡ true
+degrees_bare s x e = let w = (exactly s x).0 e in rw w.text (parts_bare w.parts w.legal)
+
+pub degrees_raw : (a : Axis) (v : Bytes) → read_degrees a v ≡ read_degrees a (value_text v)
+unfolding read_degrees exact_degrees parts_of parts_behind legal_degrees both all
+degrees_raw a v = ap (degrees_or a) (text_reads exact_degrees degrees_bare refl v)
 
 -- ---- timestamps
 

@@ -1,17 +1,19 @@
 -- A value read where it lies: its integer, its timestamp, and the field of its name.
-use Rattle.std.specs.Prelude.{None, Option, Some, Err, Result, option_map, ok_or, unwrap_or, IsErr, IsErrAnd}
+use Rattle.std.specs.Prelude.{None, Option, Some, Ok, Err, Result, option_map, ok_or, unwrap_or, IsErr, IsErrAnd}
 use Rattle.std.proofs.lemmas.Result.{err_from_is_err_and}
-use Prim.Native.Nat.{ℕ, ◌<◌, ◌≤◌}
-use mathlib.Core.Path.{◌≡◌, refl, ◌∙◌, ap}
-use mathlib.Core.List.{List, []}
+use Prim.Native.Nat.{ℕ, ◌*◌, ◌<◌, ◌≤◌}
+use mathlib.Core.Path.{◌≡◌, refl, sym, ◌∙◌, ap}
+use mathlib.Core.Bool.{true, false}
+use mathlib.Core.List.{List, [], map}
 use native.Mathlib.Omega.{arith}
-use lib.IntN.{ℤ, nat_abs}
+use lib.IntN.{ℤ, pos, negsuc, nat_abs}
 use mir.Syntax.{Width, w32, w64}
 use lib.Signed.{mag}
-use mir.Val.{of_z, to_z, Fits}
+use mir.Val.{of_z, to_z, Fits, SFits}
 use mir.Facts.{to_z-of_z}
 use borrow.Author.Tests.{le-leb, lt-leb}
-use Rattle.base.specs.Bytes.{Bytes}
+use Rattle.base.specs.Bytes.{Bytes, both, same}
+use Rattle.base.proofs.Lists.{same_yes, same_swap}
 use Rattle.refusal.specs.declared.Refusal.{Refusal}
 use Rattle.refusal.specs.declared.Refusal.TheVariants.{Missing, NotInteger, CoordinateRange, MemberType}
 use Rattle.kind.specs.declared.Kind.{Kind}
@@ -21,16 +23,23 @@ use Rattle.nesting.specs.declared.Name.TheVariants.{OsmChange, Create, Modify, D
 use Rattle.text.specs.Escape.{unescape_from}
 use Rattle.integer.specs.Integer.{integer_of, read_of}
 use Rattle.integer.proofs.Integers.{integer_of_is, read_is}
+use Rattle.degrees.specs.declared.Axis.{Axis}
+use Rattle.degrees.specs.declared.Axis.TheVariants.{Latitude, Longitude}
+use Rattle.degrees.specs.declared.DegreesError.{DegreesError}
+use Rattle.degrees.specs.Nearest.{most_degrees, read_degrees}
+use Rattle.degrees.proofs.Reading.{result_within}
 use Rattle.stamp.specs.Stamp as S
 use Rattle.stamp.proofs.Bounds.{stamp_fits}
 use Rattle.event.specs.Event.{Attr, value_of, or_empty}
 use Rattle.event_scan.specs.Piece.{value_text}
-use Rattle.event_fields.specs.Field.{got, bad, or_else, coordinate_within, text_field, integer_field, type_named}
+use Rattle.event_scan.specs.Parts.{with_text}
+use Rattle.event_scan.proofs.Parts.{value_text_of}
+use Rattle.event_fields.specs.Field.{got, bad, or_else, an_integer, whole_name, degrees_name, coordinate_within, degrees_answered, coordinate_by, coordinate, text_field, integer_field, type_named}
 use Rattle.event_scan.specs.declared.fields.Value.{Value}
 use Rattle.event_scan.specs.Fields.{text_written}
 use Rattle.event_values.specs.Values.{value_field}
 use Rattle.event_values.specs.Value.{integer_in, stamp_in, field_in}
-use Rattle.event_values.proofs.Raws.{integer_raw, stamp_raw}
+use Rattle.event_values.proofs.Raws.{integer_raw, degrees_raw, stamp_raw}
 
 -- ---- answers in bits
 
@@ -111,6 +120,10 @@ module _ (n : Bytes) (attrs : List Attr) (w : Width) where
   unfolding integer_field
   integer_read o e q p = ap (field_in (to_z w)) p ∙ field_read (to_z w) NotInteger o ∙ rw (← e, q)
 
+-- an integer, or 8
+pub number_read : (w : Width) (o : Option ℕ) {z : Option ℤ} {r : Result ℕ Refusal} → integer_in w o ≡ z → r ≡ ok_or o NotInteger → field_in (to_z w) r ≡ an_integer z
+number_read w o q p = ap (field_in (to_z w)) p ∙ field_read (to_z w) NotInteger o ∙ ap an_integer q
+
 -- ---- "at most 900,000,000 and 1,800,000,000 either side of 0"
 
 -- the size of a number that is read from its bits
@@ -122,3 +135,48 @@ within {limit = limit} z e h = rw (le-leb (nat_abs z) limit (omega arith))
 
 pub beyond : {n limit : ℕ} (z : ℤ) → n ≡ nat_abs z → limit < n → bad CoordinateRange ≡ coordinate_within limit z
 beyond {limit = limit} z e h = rw (lt-leb (nat_abs z) limit (omega arith))
+
+-- ---- a coordinate
+
+-- the two names are two
+names_apart : (a : Axis) → same (whole_name a) (degrees_name a) ≡ false
+unfolding same both
+names_apart Latitude = refl
+names_apart Longitude = refl
+
+-- what the attributes that are left give a name as it is written, they give it as a text
+pub text_same : (n : Bytes) (xs ys : List Attr) → value_of n xs ≡ value_of n ys → value_of n (map with_text xs) ≡ value_of n (map with_text ys)
+text_same n xs ys e = value_text_of n xs ∙ ap (option_map value_text) e ∙ sym (value_text_of n ys)
+
+-- an attribute of one name is none of the other
+module _ (a : Axis) {w d : Bytes} (p : w ≡ whole_name a) (q : d ≡ degrees_name a) (x : Bytes) where
+  pub whole_alone : same w x ≡ true → same d x ≡ false
+  whole_alone t = rw (← same_yes w x t, p, q, same_swap (degrees_name a) (whole_name a)) (names_apart a)
+
+  pub degrees_alone : same d x ≡ true → same w x ≡ false
+  degrees_alone t = rw (← same_yes d x t, p, q) (names_apart a)
+
+-- by what its two names are given
+pub coordinate_values : (a : Axis) (attrs : List Attr) {o p : Option Bytes} → value_of (whole_name a) attrs ≡ o → value_of (degrees_name a) attrs ≡ p
+    → coordinate_by a o p ≡ coordinate a attrs
+unfolding coordinate
+coordinate_values a attrs e f = rw (e, f)
+
+-- degrees, with their bits handed on
+module _ (a : Axis) (v : Bytes) where
+  result_fits : {z : ℤ} → read_degrees a v ≡ Ok z → SFits w32 z
+  result_fits {z} e = by_axis a z (result_within a v e)
+    where
+      by_axis : (a : Axis) (z : ℤ) → 100000 * nat_abs z ≤ most_degrees a → SFits w32 z
+      by_axis Latitude (pos n) h = record { sfits = omega arith }
+      by_axis Latitude (negsuc n) h = record { sfits = omega arith }
+      by_axis Longitude (pos n) h = record { sfits = omega arith }
+      by_axis Longitude (negsuc n) h = record { sfits = omega arith }
+
+  pub degrees_got : {z : ℤ} {n : ℕ} → Ok z ≡ read_degrees a v → n ≡ of_z w32 (to_z w32 (of_z w32 z)) → got (to_z w32 n) ≡ degrees_answered (read_degrees a (value_text v))
+  degrees_got e q =
+      let f = to_z-of_z (result_fits (sym e)) in
+      rw (← degrees_raw a v, ← e) (ap got (ap (to_z w32) q ∙ rw (f, f)))
+
+  pub degrees_not : {x : DegreesError} → Err x ≡ read_degrees a v → degrees_answered (Err x) ≡ degrees_answered (read_degrees a (value_text v))
+  degrees_not e = rw (← degrees_raw a v, ← e)

@@ -2,17 +2,20 @@
 // with its escapes. No escape stands for a digit, a sign or a letter, so a number or a word is read as it is written.
 #![tactic(auto)]
 
-ghost use Rattle.std.specs.Prelude.{◌≡◌};
+ghost use Rattle.std.specs.Prelude.{◌≡◌, option_map};
 ghost use Rattle.std.specs.Int.{w32, w64};
 ghost use Rattle.kind.specs.declared.Kind.TheVariants as kinds;
 ghost use Rattle.integer.specs.Integer.{integer_of};
+ghost use Rattle.degrees.specs.Nearest.{read_degrees};
 ghost use Rattle.event_scan.specs.Piece.{value_text};
-ghost use Rattle.event_fields.specs.Field.{integer_field, coordinate, body_for, tag_of, member_of};
+ghost use Rattle.event_fields.specs.Field.{integer_field, whole_name, degrees_name, most_whole, whole_coordinate, degrees_answered, coordinate, body_for, tag_of, member_of};
 ghost use Rattle.event_fields.specs.Field as F;
 ghost use Rattle.event_values.specs.Value.{narrow_in, wide_field, narrow_field, body_field};
-ghost use Rattle.event_scan.specs.Fields.{attributes_left};
+ghost use Rattle.event.specs.Event.{value_of};
+ghost use Rattle.event_scan.specs.Fields.{attributes_left, text_written};
 ghost use Rattle.event_values.specs.Values.{value_field, tag_answered, member_answered};
 
+use degrees::{Axis, DegreesError};
 use event_scan::fields::{Attributes, Value};
 use kind::Kind;
 use model::{MAX_LAT7, MAX_LON7};
@@ -50,20 +53,108 @@ pub fn integer_field<const N: usize>(
     integer::read::<i64>(value.bytes).ok_or(Refusal::NotInteger)
 }
 
-// A coordinate, at most a limit either side of 0.
-fn coordinate_field<const N: usize>(
-    attributes: &Attributes<'_, N>,
-    name: &[u8],
-    limit: u32,
-) -> Result<u32, Refusal>
-    ensures { narrow_field result ≡ coordinate name.now limit (attributes_left attributes.now) }
+// ---- a coordinate, in either form
+
+// The attribute that gives a coordinate in whole numbers of 1e-7 degree.
+fn whole_name(axis: Axis) -> &'static [u8]
+    ensures { result.now ≡ whole_name axis }
 {
-    let value = required(attributes, name)?;
-    let bits = integer_32(value.bytes).ok_or(Refusal::NotInteger)?;
-    if bits.cast_signed().unsigned_abs() > limit {
+    match axis {
+        Axis::Latitude => b"lat7".as_slice(),
+        Axis::Longitude => b"lon7".as_slice(),
+    }
+}
+
+// The attribute that gives it in degrees.
+fn degrees_name(axis: Axis) -> &'static [u8]
+    ensures { result.now ≡ degrees_name axis }
+{
+    match axis {
+        Axis::Latitude => b"lat".as_slice(),
+        Axis::Longitude => b"lon".as_slice(),
+    }
+}
+
+// The largest whole number, either side of 0.
+fn most_whole(axis: Axis) -> u32
+    ensures { result ≡ most_whole axis }
+{
+    match axis {
+        Axis::Latitude => MAX_LAT7,
+        Axis::Longitude => MAX_LON7,
+    }
+}
+
+// A coordinate in whole numbers of 1e-7 degree: 8, 10, or its bits.
+fn whole_coordinate(value: &[u8], axis: Axis) -> Result<u32, Refusal>
+    ensures { narrow_field result ≡ whole_coordinate axis (value_text value.now) }
+{
+    let bits = integer_32(value).ok_or(Refusal::NotInteger)?;
+    if bits.cast_signed().unsigned_abs() > most_whole(axis) {
         return Err(Refusal::CoordinateRange);
     }
     Ok(bits)
+}
+
+// A coordinate in degrees: 23, 10, or the bits of the nearest 1e-7 degree.
+fn degrees_coordinate(value: &[u8], axis: Axis) -> Result<u32, Refusal>
+    ensures { narrow_field result ≡ degrees_answered (read_degrees axis (value_text value.now)) }
+{
+    match degrees::read_degrees(value, axis) {
+        Ok(coordinate) => Ok(coordinate.cast_unsigned()),
+        Err(DegreesError::NotDegrees) => Err(Refusal::NotDegrees),
+        Err(DegreesError::OutOfRange) => Err(Refusal::CoordinateRange),
+    }
+}
+
+// What an axis is given: a whole number, degrees. One walk finds both: behind the first of them only the other one is looked for.
+#[derive(Clone, Copy, Debug)]
+struct AxisValues<'a, const N: usize> {
+    whole: Option<Value<'a, N>>,
+    degrees: Option<Value<'a, N>>,
+}
+
+fn axis_values<'a, const N: usize>(attributes: &Attributes<'a, N>, axis: Axis) -> AxisValues<'a, N>
+    ensures whole { option_map text_written result.whole ≡ value_of (whole_name axis) (attributes_left attributes.now) }
+    ensures degrees { option_map text_written result.degrees ≡ value_of (degrees_name axis) (attributes_left attributes.now) }
+{
+    let whole_name = whole_name(axis);
+    let degrees_name = degrees_name(axis);
+    let mut rest = *attributes;
+    while let Some(attribute) = rest.next() {
+        if whole_name == attribute.name {
+            return AxisValues {
+                whole: Some(attribute.value),
+                degrees: rest.value_of(degrees_name),
+            };
+        }
+        if degrees_name == attribute.name {
+            return AxisValues {
+                whole: rest.value_of(whole_name),
+                degrees: Some(attribute.value),
+            };
+        }
+    }
+    AxisValues {
+        whole: None,
+        degrees: None,
+    }
+}
+
+// A coordinate in its place: 24 in both forms, 7 in neither, else what its one form gives.
+fn coordinate_field<const N: usize>(
+    attributes: &Attributes<'_, N>,
+    axis: Axis,
+) -> Result<u32, Refusal>
+    ensures { narrow_field result ≡ coordinate axis (attributes_left attributes.now) }
+{
+    let AxisValues { whole, degrees } = axis_values(attributes, axis);
+    match (whole, degrees) {
+        (Some(_), Some(_)) => Err(Refusal::BothForms),
+        (None, None) => Err(Refusal::Missing),
+        (Some(value), None) => whole_coordinate(value.bytes, axis),
+        (None, Some(value)) => degrees_coordinate(value.bytes, axis),
+    }
 }
 
 // What an element holds at first: the coordinates of a node, 0 for another kind.
@@ -76,8 +167,8 @@ pub struct Coordinates {
 fn node_coordinates<const N: usize>(attributes: &Attributes<'_, N>) -> Result<Coordinates, Refusal>
     ensures { body_field kinds.Node result ≡ body_for kinds.Node (attributes_left attributes.now) }
 {
-    let lat = coordinate_field(attributes, b"lat7", MAX_LAT7)?;
-    let lon = coordinate_field(attributes, b"lon7", MAX_LON7)?;
+    let lat = coordinate_field(attributes, Axis::Latitude)?;
+    let lon = coordinate_field(attributes, Axis::Longitude)?;
     Ok(Coordinates { lat, lon })
 }
 

@@ -41,6 +41,9 @@ pub data Error : Type 0 where
   version_regression : ℤ → Error
   truncated : Error
   internal : Error
+  -- the two that degrees alone have: they belong to what is not published (`NotPublished`)
+  not_degrees : Error
+  both_forms : Error
 
 -- `?`
 abbrev pub then : {A B : Type 0} → Result A Error → (A → Result B Error) → Result B Error
@@ -94,7 +97,7 @@ parse_member e =
     then (parse_str_attr e (ascii "type")) (λ t. then (ok_or unknown_member_type (from_name t)) (λ kind. then (parse_i64_attr e (ascii "ref")) (λ r.
     Ok (record { kind = kind; ref_id = r; role = or_empty (find_attr e.attributes (ascii "role")) }))))
 
--- ---- what is not published, the timestamp reader of commands/mod.rs; and `coord_to_decimicro`, which document 01 leaves out: degrees as a float there, lat7 and lon7 here
+-- ---- what is not published, the timestamp reader of commands/mod.rs; and `coord_to_decimicro`, which document 01 leaves out: degrees as a float there, lat7 and lon7 or degrees in whole numbers here
 
 pub record NotPublished : Type 0 where
   pub parse_rfc3339_utc : Bytes → Option ℤ

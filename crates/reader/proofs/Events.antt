@@ -4,14 +4,14 @@ use Rattle.reader.specs.declared.RefusedAt.{RefusedAt}
 use Rattle.std.specs.Prelude.{None, Option, Some, Ok, Err}
 use Prim.Native.Nat.{ℕ, ◌≤◌}
 use mathlib.Core.Path.{◌≡◌, refl, sym, ◌∙◌, ap}
-use mathlib.Core.Bool.{true, false, cond}
+use mathlib.Core.Bool.{Bool, true, false, cond}
 use mathlib.Core.Logic.{◌↔◌}
 use mathlib.Core.List.{List, [], ◌∷◌}
 use native.Mathlib.Omega.{arith}
-use lib.Dec.{leb}
-use borrow.Author.Tests.{le-leb}
-use Rattle.base.specs.Bytes.{Bytes, both}
-use Rattle.base.proofs.Split.{by_bool, both_of, no, clash}
+use lib.Dec.{leb, eqb}
+use borrow.Author.Tests.{le-leb, leb-true, eqb-true}
+use Rattle.base.specs.Bytes.{Bytes, both, either}
+use Rattle.base.proofs.Split.{by_bool, both_of, both_left, both_right, either_left, either_right, by_either, no, clash}
 use Rattle.refusal.specs.Refusal.{number_of}
 use Rattle.refusal.specs.First.{ConditionRow, first_of}
 use Rattle.refusal.proofs.First.{before}
@@ -26,7 +26,7 @@ use Rattle.event_decision.specs.Table.{refusal_in}
 use Rattle.event_decision.proofs.Lawful.{decide_lawful}
 use Rattle.event_decision.proofs.Table.{refusal_of, decide_first}
 use Rattle.acts.proofs.Turns.{turn_first}
-use Rattle.event_decision.proofs.Refusals.{decide_within}
+use Rattle.event_decision.proofs.Refusals.{decision_number, decide_within}
 use Rattle.acts.specs.Turn.{Turn, turn_of, turn}
 use Rattle.reader.specs.State.{State, next_line, stops_by, is_stopped, pending_sound, reader_sound, state_sound, refusal_at}
 use Rattle.reader.specs.Given.{StateGiven}
@@ -78,7 +78,7 @@ module _ (line : Bytes) (s : State) (g : StateGiven s) where
         pending = held_sound _ _ _ _ x.held;
       })
 
--- ---- the refusals of a step: 2 to 11 of its decision, 12 to 16 of the store
+-- ---- the refusals of a step: 2 to 11, 23 and 24 of its decision, 12 to 16 of the store
 
 -- each row that holds gives a refusal whose number is from lo to hi
 abbrev pub Among : ℕ → ℕ → List (ConditionRow Refusal) → Type 0
@@ -112,9 +112,12 @@ refuses_in (refers p z) r e = no (cc)
 refuses_in (joins p m) r e = no (cc)
 refuses_in (ends p) r e = no (cc)
 
--- the numbers that stop today
-pub stops_numbers : (r : Refusal) → stops_by r ≡ both (leb 2 (number_of r)) (leb (number_of r) 16)
-unfolding stops_by both
+-- the numbers that stop today: 2 to 16, 23, 24
+abbrev pub stopping_number : ℕ → Bool
+stopping_number n = either (both (leb 2 n) (leb n 16)) (either (eqb n 23) (eqb n 24))
+
+pub stops_numbers : (r : Refusal) → stops_by r ≡ stopping_number (number_of r)
+unfolding stops_by both either
 stops_numbers R.Size = refl
 stops_numbers R.LongLine = refl
 stops_numbers R.NotText = refl
@@ -137,9 +140,25 @@ stops_numbers R.ShortOutput = refl
 stops_numbers R.NotInOrder = refl
 stops_numbers R.NoSuchNumber = refl
 stops_numbers R.Unsound = refl
+stops_numbers R.NotDegrees = refl
+stops_numbers R.BothForms = refl
 
 stops_by_lem : (r : Refusal) → 2 ≤ number_of r → number_of r ≤ 16 → stops_by r ≡ true
-stops_by_lem r a b = stops_numbers r ∙ both_of (le-leb 2 (number_of r) a) (le-leb (number_of r) 16 b)
+stops_by_lem r a b = stops_numbers r ∙ either_left _ _ (both_of (le-leb 2 (number_of r) a) (le-leb (number_of r) 16 b))
+
+-- what is refused before the store stops
+decision_stops : (r : Refusal) → decision_number (number_of r) ≡ true → stops_by r ≡ true
+decision_stops r e =
+    by_either _ _ e
+    (λ t. let l = leb-true (number_of r) 11 (both_right _ _ t) in stops_by_lem r (leb-true 2 (number_of r) (both_left _ _ t)) (omega arith))
+    (λ t. stops_numbers r ∙ either_right (both (leb 2 (number_of r)) (leb (number_of r) 16)) t)
+
+-- and is none of the store's
+decision_not_store : (n : ℕ) → decision_number n ≡ true → 12 ≤ n → n ≤ 16 → ⊥
+decision_not_store n e a b =
+    by_either _ _ e
+    (λ t. let l = leb-true n 11 (both_right _ _ t) in omega arith)
+    (λ t. by_either _ _ t (λ u. let l = eqb-true n 23 u in omega arith) (λ u. let l = eqb-true n 24 u in omega arith))
 
 -- 22 is no stop mark
 pub unsound_stops_not : stops_by R.Unsound ≡ false
@@ -150,7 +169,7 @@ module _ (line : Bytes) (s : State) (e : state_sound s ≡ true) where
   abbrev d : Decision
   d = decide line s.reader.place
 
-  -- a step is refused by its decision, 2 to 11, or by the store, 12 to 16
+  -- a step is refused by its decision, 2 to 11, 23 and 24, or by the store, 12 to 16
   by_refusal : {C : Type 0} (r : Refusal) → step_at line s ≡ stops r
       → (decide line s.reader.place ≡ refuses r → C) → (12 ≤ number_of r → number_of r ≤ 16 → C) → C
   by_refusal {C} r f decided store = go (refusal_in d) refl
@@ -166,17 +185,17 @@ module _ (line : Bytes) (s : State) (e : state_sound s ≡ true) where
           store w.0 w.1
 
   pub step_stops : (r : Refusal) → step_at line s ≡ stops r → stops_by r ≡ true
-  step_stops r f = by_refusal r f (λ q. let w = decide_within line s.reader.place r q in stops_by_lem r w.0 (omega (arith, w.1))) (λ a b. stops_by_lem r (omega arith) b)
+  step_stops r f = by_refusal r f (λ q. decision_stops r (decide_within line s.reader.place r q)) (λ a b. stops_by_lem r (omega arith) b)
 
   module _ (g : is_stopped s.reader.stop ≡ false) where
-    -- an event that the acts' turn refuses is refused so, at its line; and each refusal up to 11 is the turn's
+    -- an event that the acts' turn refuses is refused so, at its line; and each refusal before the store is the turn's
     pub event_bad : (r : Refusal) → turn line (reader_of s) ≡ bad r → (event_on line s).answer ≡ Err (refusal_at r (next_line s))
     unfolding reader_of step_of
     event_bad r h =
         let k : d ≡ refuses r = refuses_in d r (decide_first line s.reader.place ∙ (sym (turn_first line (reader_of s)) ∙ ap refusal_of h)) in
         ap (λ (z : EventResult). z.answer) (event_going line s e g) ∙ ap (λ (x : Decision). (stepped s (step_of x s)).answer) k
 
-    -- a refusal is at the next line, is one of 2 to 16, and stops the reader with itself
+    -- a refusal is at the next line, is one of 2 to 16, 23 and 24, and stops the reader with itself
     pub event_stops : (r : Refusal) (n : ℕ) → (event_on line s).answer ≡ Err (refusal_at r n) → (step_at line s ≡ stops r) × (n ≡ next_line s)
     event_stops r n a =
         by_event line s
@@ -185,10 +204,10 @@ module _ (line : Bytes) (s : State) (e : state_sound s ≡ true) where
         (λ x u q f w. let z = same_refusal (answer_is w a) in (rw z.0 at f, sym z.1))
         (λ l u q f w. let z = answer_is w a in no (cc))
 
-    pub event_11 : (r : Refusal) → number_of r ≤ 11 → ((event_on line s).answer ≡ Err (refusal_at r (next_line s))) ↔ (turn line (reader_of s) ≡ bad r)
+    pub event_decided : (r : Refusal) → decision_number (number_of r) ≡ true → ((event_on line s).answer ≡ Err (refusal_at r (next_line s))) ↔ (turn line (reader_of s) ≡ bad r)
     unfolding turn turn_of reader_of
-    event_11 r l = (
-      λ a. by_refusal r (event_stops r (next_line s) a).0 (λ q. ap (λ (x : Decision). turn_of x (reader_of s)) q) (λ x y. let n : ⊥ = omega arith in absurd n),
+    event_decided r l = (
+      λ a. by_refusal r (event_stops r (next_line s) a).0 (λ q. ap (λ (x : Decision). turn_of x (reader_of s)) q) (λ x y. absurd (decision_not_store (number_of r) l x y)),
       event_bad r,
     )
 

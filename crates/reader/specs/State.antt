@@ -69,6 +69,8 @@ stops_by R.ShortOutput = false
 stops_by R.NotInOrder = false
 stops_by R.NoSuchNumber = false
 stops_by R.Unsound = false
+stops_by R.NotDegrees = true
+stops_by R.BothForms = true
 
 abbrev pub is_stopped : Option RefusedAt → Bool
 is_stopped None = false

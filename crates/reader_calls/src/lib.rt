@@ -69,7 +69,7 @@ pub fn event_going(
     }
 }
 
-// An event by its line: 22, the stop mark, or its step: 2 to 16, or it is accepted. A refused event changes its reader's stop mark alone, and 22 and a repeated refusal nothing.
+// An event by its line: 22, the stop mark, or its step: 2 to 16, 23, 24, or it is accepted. A refused event changes its reader's stop mark alone, and 22 and a repeated refusal nothing.
 pub fn event_on(state: &mut ReaderState<'_>, line: &[u8]) -> Result<(), RefusedAt>
     ensures same { IsSameState state.new state.old }
     ensures value { record { state = state_held state.new; answer = result } ≡ event_on line.now (state_held state.old) }

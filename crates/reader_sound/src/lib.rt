@@ -67,6 +67,8 @@ fn stops_by(refusal: Refusal) -> bool
             | Refusal::IdsFull
             | Refusal::ArenaFull
             | Refusal::TooManyParts
+            | Refusal::NotDegrees
+            | Refusal::BothForms
     )
 }
 

@@ -8,6 +8,7 @@ use Rattle.base.proofs.Lists.{same_yes}
 use Rattle.kind.specs.Kind.{kind_number}
 use Rattle.kind.specs.declared.Kind.{Kind}
 use Rattle.kind.specs.declared.Kind.TheVariants as K
+use Rattle.degrees.specs.declared.Axis.TheVariants.{Latitude, Longitude}
 use Rattle.nesting.specs.Name.{name_of, name_in, spellings}
 use Rattle.nesting.specs.Nesting.{at, opened, opened_at, in_doc, in_root, in_section, in_element, closed, closed_to}
 use Rattle.nesting.specs.declared.Name.{Name}
@@ -19,7 +20,7 @@ use Rattle.nesting.specs.declared.Level.TheVariants as L
 use Rattle.nesting.specs.declared.Place.{Place}
 use Rattle.model.specs.Record.{Member, Tag, Body, place, refs, members, kind_of}
 use Rattle.event.specs.Event.{Attr, Event, starts, closes, others, value_of, or_empty}
-use Rattle.event_fields.specs.Field.{got, and_then, id_field, metadata_of, body_for, member_of, latitude, longitude, integer_field}
+use Rattle.event_fields.specs.Field.{got, and_then, id_field, metadata_of, body_for, member_of, integer_field}
 use Rattle.event_fields.specs.Field as F
 use Rattle.event_decision.specs.Decision.{begins, deletes, tags, refers, joins, on_field, push_begins, delete_begins, element_begins, unless_delete, decide_opened, decide_closed, decide_event}
 use Rattle.published.specs.Std.{ElementKind, from_name}
@@ -192,11 +193,11 @@ module _ (p : Place) (attrs : List Attr) (name : Bytes) (s : CompactSink) where
 
   body_comes : (empty : Bool) (k : Kind) (id : ℤ) (m : MetaSoFar)
       → comes empty k (X.begin_staged by_documents s (element_kind k) id m (X.coordinates by_documents (element_kind k) start)) ≡ done_as (on_field (body_for k attrs) (λ b. begins empty (next_place empty k) id (meta_so_far m) b)) s
-  unfolding latitude longitude done_as
+  unfolding done_as
   body_comes empty K.Way id m = staged_comes empty K.Way id m (refs []) refl
   body_comes empty K.Relation id m = staged_comes empty K.Relation id m (members []) refl
   body_comes empty K.Node id m =
-      rw (← same_coordinate name attrs (ascii "lat7") 900000000, ← same_coordinate name attrs (ascii "lon7") 1800000000) (go (by_documents.lat start) (by_documents.lon start))
+      rw (← same_coordinate name attrs Latitude, ← same_coordinate name attrs Longitude) (go (by_documents.lat start) (by_documents.lon start))
     where
       go : (x y : Result ℤ Error) → comes empty K.Node (X.begin_staged by_documents s O.Node id m (X.then x (λ lat. X.then y (λ lon. Ok (record { lat = lat; lon = lon })))))
           ≡ done_as (on_field (and_then (field_of (λ a. a) x) (λ lat. and_then (field_of (λ a. a) y) (λ lon. got (place lat lon)))) (λ b. begins empty (next_place empty K.Node) id (meta_so_far m) b)) s

@@ -9,6 +9,10 @@ use Rattle.base.proofs.Lists.{same_swap}
 use Rattle.base.proofs.Split.{by_bool}
 use Rattle.integer.specs.Integer.{decimal, digits, integer, holds, of_width, integer_of}
 use Rattle.model.specs.Record.{flagged}
+use Rattle.degrees.specs.declared.Axis.{Axis}
+use Rattle.degrees.specs.declared.DegreesError.{DegreesError}
+use Rattle.degrees.specs.declared.DegreesError.TheVariants as E
+use Rattle.degrees.specs.Nearest.{read_degrees}
 use Rattle.stamp.specs.Stamp.{stamp}
 use Rattle.event.specs.Event.{Attr, value_of}
 use Rattle.event_fields.specs.Field.{Field, got, and_then, text_field, integer_field, mark, meta_with, meta_from, metadata_of}
@@ -19,7 +23,7 @@ use Rattle.published.specs.Compact as C
 use Rattle.published.specs.XmlParse as X
 use Rattle.event_fields.specs.Field as F
 use Rattle.refines.specs.Driving as Driving
-use Rattle.refines.specs.Driving.{attribute, bytes_start, by_documents, coordinate7}
+use Rattle.refines.specs.Driving.{attribute, bytes_start, by_documents}
 use Rattle.refines.proofs.Sinks.{field_of, meta_so_far, user_of}
 
 -- ---- integers
@@ -95,21 +99,29 @@ module _ (name : Bytes) (attrs : List Attr) (n : Bytes) where
       reads None = refl
       reads (Some v) = rw (same_i64 v)
 
-  pub same_coordinate : (limit : ℕ) → field (coordinate7 n limit (bytes_start name attrs)) ≡ F.coordinate n limit attrs
-  unfolding integer_field text_field
-  same_coordinate limit = rw (same_attr attrs n) (go (value_of n attrs))
+-- a coordinate, in either form
+module _ (name : Bytes) (attrs : List Attr) (a : Axis) where
+  pub same_coordinate : field (Driving.coordinate_in a (bytes_start name attrs)) ≡ F.coordinate a attrs
+  unfolding F.coordinate
+  same_coordinate = rw (same_attr attrs (F.whole_name a), same_attr attrs (F.degrees_name a)) (go (value_of (F.whole_name a) attrs) (value_of (F.degrees_name a) attrs))
     where
-      within : (z : ℤ) → field (Driving.limited limit z) ≡ F.coordinate_within limit z
-      within z = by_bool (leb (nat_abs z) limit) (λ t. rw t) (λ t. rw t)
+      within : (z : ℤ) → field (Driving.limited (F.most_whole a) z) ≡ F.coordinate_within (F.most_whole a) z
+      within z = by_bool (leb (nat_abs z) (F.most_whole a)) (λ t. rw t) (λ t. rw t)
 
-      read : (z : Option ℤ) → field (X.then (X.ok_or X.not_integer z) (Driving.limited limit)) ≡ and_then (F.an_integer z) (F.coordinate_within limit)
-      read None = refl
-      read (Some z) = within z
+      whole : (z : Option ℤ) → field (X.then (X.ok_or X.not_integer z) (Driving.limited (F.most_whole a))) ≡ and_then (F.an_integer z) (F.coordinate_within (F.most_whole a))
+      whole None = refl
+      whole (Some z) = within z
 
-      go : (o : Option Bytes) → field (X.then (X.then (X.ok_or X.missing_attr o) (λ v. X.ok_or X.not_integer (parse_int 31 v))) (Driving.limited limit))
-          ≡ and_then (and_then (F.required o) (λ v. F.an_integer (integer_of w32 v))) (F.coordinate_within limit)
-      go None = refl
-      go (Some v) = rw (same_i32 v) (read (integer_of w32 v))
+      degrees : (r : Result ℤ DegreesError) → field (Driving.degrees_told r) ≡ F.degrees_answered r
+      degrees (Ok z) = refl
+      degrees (Err E.NotDegrees) = refl
+      degrees (Err E.OutOfRange) = refl
+
+      go : (o p : Option Bytes) → field (Driving.coordinate_told a o p) ≡ F.coordinate_by a o p
+      go (Some v) (Some d) = refl
+      go None None = refl
+      go (Some v) None = rw (same_i32 v) (whole (integer_of w32 v))
+      go None (Some d) = degrees (read_degrees a d)
 
 -- ---- metadata
 

@@ -11,7 +11,7 @@ use Rattle.event_fields.specs.Field.{Field, got, bad}
 use Rattle.event_decision.specs.Decision.{Decision, refuses, moves, begins, deletes, tags, refers, joins, ends}
 use Rattle.published.specs.Compact.{ArenaMeta}
 use Rattle.published.specs.Parse.{CompactDiffOverlay, intern_in, handle_in_overlay, delete_kind}
-use Rattle.published.specs.XmlParse.{misplaced, outside_section, missing_attr, not_integer, bad_timestamp, bad_coordinate, unknown_member_type, version_regression, truncated, internal, Driven, Error, DriveState, CompactSink, Staging, Sunk, MetaSoFar, or_empty, flags_of, user_interned, user_handle, sink_with, staged, add_tag, add_ref, add_member, end_element}
+use Rattle.published.specs.XmlParse.{misplaced, outside_section, missing_attr, not_integer, bad_timestamp, bad_coordinate, not_degrees, both_forms, unknown_member_type, version_regression, truncated, internal, Driven, Error, DriveState, CompactSink, Staging, Sunk, MetaSoFar, or_empty, flags_of, user_interned, user_handle, sink_with, staged, add_tag, add_ref, add_member, end_element}
 use Rattle.refines.specs.Overlays.{element_kind}
 use Rattle.refines.specs.Driving.{drive_state}
 use Rattle.refines.specs.Told.{refused_told}
@@ -31,6 +31,8 @@ refusal_of unknown_member_type = R.MemberType
 refusal_of (version_regression v) = R.Regression v
 refusal_of truncated = R.Unfinished
 refusal_of internal = R.Unsound
+refusal_of not_degrees = R.NotDegrees
+refusal_of both_forms = R.BothForms
 
 -- ---- what an event comes to for the Rust: it goes on, or it stops. What a refused event leaves is not looked at: the Rust may keep its user's name (DIFFERENCES D1).
 
@@ -102,3 +104,5 @@ error_told_lem unknown_member_type = refl
 error_told_lem (version_regression v) = refl
 error_told_lem truncated = refl
 error_told_lem internal = refl
+error_told_lem not_degrees = refl
+error_told_lem both_forms = refl

@@ -5,7 +5,7 @@ use Rattle.event.specs.Event as Line
 use Rattle.calls.specs.Ask.{Ask, interns, pushes, deletes, reads, ends, allows, Storage, put_at, leaves}
 use Rattle.published.specs.Parse.{CompactDiffOverlay, allow, intern_in, handle_in_overlay}
 use Rattle.published.specs.Parse as Parse
-use Rattle.published.specs.XmlParse.{Error, misplaced, outside_section, missing_attr, not_integer, bad_timestamp, bad_coordinate, unknown_member_type, version_regression, truncated, internal, DriveState, Driven, Staging, CompactSink, sink_with, drive_event, end_test, fresh}
+use Rattle.published.specs.XmlParse.{Error, misplaced, outside_section, missing_attr, not_integer, bad_timestamp, bad_coordinate, not_degrees, both_forms, unknown_member_type, version_regression, truncated, internal, DriveState, Driven, Staging, CompactSink, sink_with, drive_event, end_test, fresh}
 use Rattle.refines.specs.OneKind.{allowed}
 use Rattle.refines.specs.Overlays.{rust_push, rust_delete}
 use Rattle.refines.specs.Driving.{rust_event, by_documents}
@@ -40,6 +40,8 @@ error_told unknown_member_type = refused 11 (pos 0)
 error_told (version_regression v) = refused 12 v
 error_told truncated = refused 18 (pos 0)
 error_told internal = refused 22 (pos 0)
+error_told not_degrees = refused 23 (pos 0)
+error_told both_forms = refused 24 (pos 0)
 
 abbrev pub unit_told : Result (Unit {0}) Error → Told
 unit_told (Ok u) = done

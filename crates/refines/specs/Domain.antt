@@ -17,10 +17,10 @@ use Rattle.refines.specs.Told.{Told, handle, done, refused}
 
 -- ---- by the table
 
--- "10, 13 to 17, 20 to 22". Of an event 10 is compared all the same: what reads a coordinate is a parameter of the Rust (`NotPublished`). 22 is not left out: in a list from set-up on it is
+-- "10, 13 to 17, 20 to 22"; document 02: 24 "left out of the comparison". Of an event 10 is compared all the same: what reads a coordinate is a parameter of the Rust (`NotPublished`). 22 is not left out: in a list from set-up on it is
 -- never given, but for the count of a reader's lines (`going`).
 abbrev pub event_outside : List ℕ
-event_outside = 13 ∷ 14 ∷ 15 ∷ 16 ∷ 17 ∷ 20 ∷ 21 ∷ []
+event_outside = 13 ∷ 14 ∷ 15 ∷ 16 ∷ 17 ∷ 20 ∷ 21 ∷ 24 ∷ []
 
 -- of a direct call 3 too: a text that is UTF-8 and no XML is refused 3 here and taken there (DIFFERENCES, D3)
 abbrev pub direct_outside : List ℕ

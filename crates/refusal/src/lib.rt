@@ -1,4 +1,4 @@
-// The refusals of document 01 ("What is returned, by place of the check"): one enum, and one definition of its numbers.
+// The refusals of document 01 ("What is returned, by place of the check") and of document 02: one enum, and one definition of its numbers.
 #![tactic(auto)]
 
 ghost use Rattle.std.specs.Prelude.{◌≡◌};
@@ -21,6 +21,8 @@ pub enum Refusal {
     NotTimestamp,
     CoordinateRange,
     MemberType,
+    NotDegrees,
+    BothForms,
     // store; a regression carries the known version
     Regression(i32),
     StringsFull,
@@ -84,6 +86,8 @@ impl From<Refusal> for Reply {
             Refusal::NotInOrder => plain(20),
             Refusal::NoSuchNumber => plain(21),
             Refusal::Unsound => plain(22),
+            Refusal::NotDegrees => plain(23),
+            Refusal::BothForms => plain(24),
         }
     }
 }

@@ -9,6 +9,7 @@ unfolding Rattle.base.specs.Options.bind
     Rattle.version_floor.specs.Version.higher Rattle.version_floor.specs.Version.admit_of Rattle.version_floor.specs.Version.word_of Rattle.version_floor.specs.Version.of_word
     Rattle.integer.specs.Integer.decimal Rattle.integer.specs.Integer.digits Rattle.integer.specs.Integer.integer Rattle.integer.specs.Integer.holds Rattle.integer.specs.Integer.of_width Rattle.integer.specs.Integer.integer_of
     Rattle.calendar.specs.Calendar.leap Rattle.calendar.specs.Calendar.month_days Rattle.calendar.specs.Calendar.months_days Rattle.calendar.specs.Calendar.year_days Rattle.calendar.specs.Calendar.years_days
+    Rattle.degrees.specs.Degrees.legal_degrees Rattle.degrees.specs.Degrees.exact_of Rattle.degrees.specs.Degrees.parts_behind Rattle.degrees.specs.Degrees.parts_of Rattle.degrees.specs.Degrees.exact_degrees Rattle.degrees.specs.Nearest.nearest Rattle.degrees.specs.Nearest.read_degrees
     Rattle.stamp.specs.Stamp.stamp_field Rattle.stamp.specs.Stamp.separated Rattle.stamp.specs.Stamp.shaped Rattle.stamp.specs.Stamp.taken_moment Rattle.stamp.specs.Stamp.days_of Rattle.stamp.specs.Stamp.epoch Rattle.stamp.specs.Stamp.seconds_of Rattle.stamp.specs.Stamp.moment Rattle.stamp.specs.Stamp.accepted_moment Rattle.stamp.specs.Stamp.stamp
     Rattle.text.specs.Char.from_to Rattle.text.specs.Char.xml_char Rattle.text.specs.Char.utf8
     Rattle.text.specs.Check.joined_bits Rattle.text.specs.Check.decoded Rattle.text.specs.Check.begins Rattle.text.specs.Check.char_len Rattle.text.specs.Check.text_after Rattle.text.specs.Check.is_text
@@ -42,7 +43,7 @@ unfolding Rattle.base.specs.Options.bind
     Rattle.overlay.specs.Calls.set_up
     Rattle.overlay_direct.specs.Calls.push_on Rattle.overlay_direct.specs.Calls.delete_on Rattle.overlay_direct.specs.Calls.intern_on
     Rattle.listing_page.specs.Listing.kind_field Rattle.listing_page.specs.Listing.version_field Rattle.listing_page.specs.Listing.each Rattle.listing_page.specs.Listing.counted Rattle.listing_page.specs.Listing.body_fields Rattle.listing_page.specs.Listing.record_fields Rattle.listing_page.specs.Listing.row_fields Rattle.listing_page.specs.Listing.listing
-    Rattle.event_fields.specs.Field.id_field Rattle.event_fields.specs.Field.text_field Rattle.event_fields.specs.Field.integer_field Rattle.event_fields.specs.Field.latitude Rattle.event_fields.specs.Field.longitude Rattle.event_fields.specs.Field.mark Rattle.event_fields.specs.Field.meta_with Rattle.event_fields.specs.Field.meta_from Rattle.event_fields.specs.Field.metadata_of Rattle.event_fields.specs.Field.tag_of Rattle.event_fields.specs.Field.ref_of Rattle.event_fields.specs.Field.member_of
+    Rattle.event_fields.specs.Field.id_field Rattle.event_fields.specs.Field.text_field Rattle.event_fields.specs.Field.integer_field Rattle.event_fields.specs.Field.coordinate Rattle.event_fields.specs.Field.mark Rattle.event_fields.specs.Field.meta_with Rattle.event_fields.specs.Field.meta_from Rattle.event_fields.specs.Field.metadata_of Rattle.event_fields.specs.Field.tag_of Rattle.event_fields.specs.Field.ref_of Rattle.event_fields.specs.Field.member_of
     Rattle.event_decision.specs.Decision.decide_event Rattle.event_decision.specs.Decision.decide
     Rattle.reader_stage.specs.Stage.staged
     Rattle.reader.specs.State.stops_by Rattle.reader.specs.State.pending_record Rattle.reader.specs.State.pending_sound Rattle.reader.specs.State.reader_sound Rattle.reader.specs.State.state_sound

@@ -17,7 +17,7 @@ use Rattle.refusal.specs.declared.Refusal.TheVariants as R
 use Rattle.reader.specs.State.{State, stops_by, refusal_at}
 use Rattle.reader.specs.Event.{event_on}
 use Rattle.reader.proofs.Answers.{by_answer, event_counts}
-use Rattle.reader.proofs.Events.{by_refused, stops_numbers}
+use Rattle.reader.proofs.Events.{by_refused, stopping_number, stops_numbers}
 use Rattle.trial.specs.Stops.{StopRow, state_before, is_going, has_mark, leaves_number, has_number, stop_rows}
 use Rattle.trial.proofs.Claim.{stops_claim}
 
@@ -96,9 +96,11 @@ stops_row R.ShortOutput = refl
 stops_row R.NotInOrder = refl
 stops_row R.NoSuchNumber = refl
 stops_row R.Unsound = refl
+stops_row R.NotDegrees = refl
+stops_row R.BothForms = refl
 
 pub stops_exactly : (r : Refusal) → (stops_by r ≡ true) ↔ Leaves (number_of r)
 stops_exactly r = (
   λ t. found stop_rows (number_of r) stops_claim (sym (stops_row r) ∙ t),
-  λ l. stops_numbers r ∙ ap (λ (n : ℕ). both (leb 2 n) (leb n 16)) (sym l.number) ∙ sym (stops_numbers l.mark.refusal) ∙ left_stops l,
+  λ l. stops_numbers r ∙ ap stopping_number (sym l.number) ∙ sym (stops_numbers l.mark.refusal) ∙ left_stops l,
 )

@@ -82,4 +82,6 @@ stop_rows =
     ∷ stop_row (way ++ (tag 256 ∷ [])) (ascii "close\n") 15
     -- values of more than 16,384 bytes
     ∷ stop_row (way ++ (tag 8192 ∷ [])) (tag 8193) 16
+    ∷ stop_row section (ascii "open\tnode\tid=1\tlat=5.\n") 23
+    ∷ stop_row section (ascii "open\tnode\tid=1\tlat=5\tlat7=5\n") 24
     ∷ []

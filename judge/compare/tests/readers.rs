@@ -2,10 +2,10 @@
 
 use compare::overlay::{Between, Entries};
 use compare::same;
-use judge::Sizes;
 use judge::compare::call::{Answer, Call, Lines, Port, Storage};
 use judge::compare::overlay;
 use judge::random::{Random, depth, seed_and_rounds};
+use judge::{Kind, Sizes};
 
 const LIBRARY: &dyn Port = &Entries(Between);
 
@@ -18,6 +18,12 @@ fn nesting() {
 fn names() {
     let (seed, rounds) = seed_and_rounds();
     same(overlay::names(LIBRARY, seed, rounds));
+}
+
+#[test]
+fn coordinates() {
+    let (seed, rounds) = seed_and_rounds();
+    same(overlay::coordinates(LIBRARY, seed, rounds));
 }
 
 #[test]
@@ -64,7 +70,7 @@ fn told(lines: &str) -> (Answer, Storage) {
     (answer, lent)
 }
 
-/// The port's side of docs/DIFFERENCES.md: D1, 16 of a reader in D6, and D9.
+/// The port's side of docs/DIFFERENCES.md: D1, 16 of a reader in D6, D9, and D10 to D13.
 #[test]
 fn differences() {
     let refused = |number, line| {
@@ -80,6 +86,22 @@ fn differences() {
         let (answer, _) = told(&format!("open\tosmChange\nopen\tcreate\nempty\tway\tid=1\ttimestamp={stamp}\n"));
         assert_eq!(answer, refused(9, 3));
     }
+    let node =
+        |coordinates: &str| told(&format!("open\tosmChange\nopen\tcreate\nempty\tnode\tid=1\t{coordinates}\tlon=0\n"));
+    let other_forms = ["1e1", "1E1", "1e-8", ".5", "-.5", "5.", "0000", "0090.0", "0.0000000000000"];
+    let past_the_range = ["inf", "-inf", "infinity", "-infinity", "INF", "nan", "NaN", "1e2", "1000"];
+    for text in other_forms.into_iter().chain(past_the_range) {
+        assert_eq!(node(&format!("lat={text}")).0, refused(23, 3), "{text}");
+    }
+    for (text, latitude) in [("0.00000105", 11), ("-0.00000105", -11)] {
+        let (answer, lent) = node(&format!("lat={text}"));
+        assert_eq!(answer, refused(0, 0));
+        // Behind the id.
+        assert_eq!(lent.arena(Kind::Node)[8..12], i32::to_le_bytes(latitude));
+    }
+    assert_eq!(node("lat=0\tlat7=x").0, refused(24, 3));
+    assert_eq!(node("lat7=0\tlat=x").0, refused(24, 3));
+    assert_eq!(node("lat7=0").0, refused(0, 0));
 }
 
 /// Document 01's input A.

@@ -1,6 +1,6 @@
 //! Event lines on standard input; the listing, or `refused`, on standard output, as the published
-//! Rust answers. With `--sizes` also document 01's limits for what `roadlist` lends; with `--allow`
-//! version regression is allowed; with `--state` the overlay's state follows.
+//! Rust answers. With `--sizes` also document 01's limits for what `roadlist` lends, and timestamps and degrees as
+//! document 02 has them; with `--allow` version regression is allowed; with `--state` the overlay's state follows.
 
 use std::io::{Read, Write};
 

@@ -7,8 +7,9 @@ use super::call::{Call, Port};
 use super::direct::{LARGEST, random_call, some_sizes};
 use super::reads::everything;
 use crate::answer::Sizes;
+use crate::degrees::Axis;
 use crate::lines::LINE_MAX;
-use crate::produce::{Bytes, Documents, Style, close_names, events, levels};
+use crate::produce::{Bytes, Documents, EDGE_DEGREES, NO_DEGREES, Style, close_names, events, levels, random_degrees};
 use crate::random::Random;
 
 /// Every sequence of events up to `depth` from every level, in both settings; after a refusal only
@@ -70,6 +71,88 @@ pub fn names(port: &dyn Port, seed: u64, rounds: u64) -> Compared {
         }
     }
     both.tally.done()
+}
+
+/// Coordinates: degrees of every form and at every edge, and at random; each coordinate missing, in one form, good, bad or
+/// out of range, or in both, of each kind in each section; what is staged or stored, and the listing.
+pub fn coordinates(port: &dyn Port, seed: u64, rounds: u64) -> Compared {
+    let mut both = Both::new(port);
+    for section in ["create", "modify", "delete"] {
+        to_level(&mut both, 0, &[b"open\tosmChange\n".to_vec(), format!("open\t{section}\n").into_bytes()])?;
+        for kind in ["node", "way", "relation"] {
+            for given in given_coordinates() {
+                one_element(&mut both, &format!("open\t{kind}\tid=1{given}\n"))?;
+                one_element(&mut both, &format!("empty\t{kind}{given}\tid=1\n"))?;
+            }
+        }
+    }
+    to_level(&mut both, 0, &[b"open\tosmChange\n".to_vec(), b"open\tmodify\n".to_vec()])?;
+    for text in EDGE_DEGREES.iter().chain(&NO_DEGREES) {
+        in_degrees(&mut both, text)?;
+        // Each place without its byte, and with another one.
+        for at in text.char_indices().map(|(at, _)| at) {
+            let (before, behind) = text.split_at(at);
+            let past = &behind[behind.chars().next().map_or(0, char::len_utf8)..];
+            in_degrees(&mut both, &format!("{before}{past}"))?;
+            for other in [".", "-", "+", "5", "e", "/", ":"] {
+                in_degrees(&mut both, &format!("{before}{other}{past}"))?;
+                in_degrees(&mut both, &format!("{before}{other}{behind}"))?;
+            }
+        }
+    }
+    in_degrees(&mut both, &"9".repeat(16_000))?;
+    in_degrees(&mut both, &format!("1.{}", "0".repeat(16_000)))?;
+    let mut random = Random::new(seed);
+    for n in 0..20_000 * rounds {
+        let mut text = random_degrees(&mut random, Axis::BOTH[n as usize % 2]);
+        if random.once_in(6) {
+            let at = random.below(text.len() + 1);
+            text.insert(at, *random.pick(&['0', '9', '.', '-', '+', 'e', ' ', 'E']));
+        }
+        in_degrees(&mut both, &text)?;
+    }
+    both.tally.done()
+}
+
+/// Each coordinate in no form, in one with a good value, a bad one and one out of range, and in both; longitude first in every
+/// second.
+fn given_coordinates() -> Vec<String> {
+    let seven = ["", "7", "x", "1800000001"];
+    let degrees = ["", "-7.25", "x", "180.000000000001"];
+    let given = |name: &str, value: &str| match value {
+        "" => String::new(),
+        value => format!("\t{name}={value}"),
+    };
+    let mut out = Vec::new();
+    for (lat7, lat) in seven.iter().flat_map(|lat7| degrees.map(|lat| (lat7, lat))) {
+        for (lon7, lon) in seven.iter().flat_map(|lon7| degrees.map(|lon| (lon7, lon))) {
+            let lat = given("lat7", lat7) + &given("lat", lat);
+            let lon = given("lon", lon) + &given("lon7", lon7);
+            out.push(if out.len() % 2 == 0 { lat + &lon } else { lon + &lat });
+        }
+    }
+    out
+}
+
+/// An element in a section, the end of it or what its refusal leaves, and the listing.
+fn one_element(both: &mut Both<'_>, line: &str) -> Result<(), String> {
+    let here = both.here();
+    both.event(0, line.as_bytes())?;
+    both.event(0, b"close\n")?;
+    both.call(&Call::End(0))?;
+    both.listing()?;
+    both.back(here);
+    Ok(())
+}
+
+/// A node with this text as its latitude, and as its longitude.
+fn in_degrees(both: &mut Both<'_>, text: &str) -> Result<(), String> {
+    for place in [format!("lat={text}\tlon7=0"), format!("lat7=0\tlon={text}")] {
+        let here = both.here();
+        both.event(0, format!("open\tnode\tid=1\t{place}\n").as_bytes())?;
+        both.back(here);
+    }
+    Ok(())
 }
 
 /// Whole documents at random, valid and damaged.

@@ -3,6 +3,7 @@
 use super::call::{Answer, Head, Lines, Storage, in_turn};
 use super::words::{Words, admitted, claim, first_fault, pushed, store_delete, store_push, store_text};
 use crate::answer::{KINDS, Kind, MOST_MEMBERS, MOST_REFS, MOST_TAGS, MOST_VALUE_BYTES, Meta};
+use crate::degrees::{self, Axis};
 use crate::ground;
 use crate::lines::{Line, judge_line, unescape};
 use crate::nesting::Place;
@@ -38,12 +39,12 @@ fn bits(word: u64) -> Option<i32> {
 }
 
 impl Reading {
-    /// None where a word is no code, or does not fit its field. "a refused event, except for 22, stops its reader": with 2 to 16.
+    /// None where a word is no code, or does not fit its field. "a refused event, except for 22, stops its reader": with 2 to 16, 23 and 24.
     pub fn of(words: &[u64; 19]) -> Option<Self> {
         let [level, section, kind, id, lat, lon, count, tags, flags, version, ..] = *words;
         let [.., timestamp, changeset, uid, user, used, lines, number, line, held] = *words;
         // A mark is a refusal that an event leaves, with the version held for 12 alone, and none has a line.
-        if !matches!(number, 0 | 2..=16) || (number != 12 && held != 0) || (number == 0 && line != 0) {
+        if !matches!(number, 0 | 2..=16 | 23 | 24) || (number != 12 && held != 0) || (number == 0 && line != 0) {
             return None;
         }
         Some(Self {
@@ -65,7 +66,7 @@ impl Reading {
             },
             used: used as usize,
             lines,
-            stop: (code(number, 16)?, bits(held)?, line),
+            stop: (code(number, 24)?, bits(held)?, line),
         })
     }
 
@@ -228,13 +229,21 @@ impl Fields<'_> {
         ground::read_i64(value).ok_or((8, 0))
     }
 
-    /// 7, 8, 10.
-    fn coordinate(&self, name: &str, most: u32) -> Result<i32, (u32, i32)> {
-        let value = ground::read_i32(self.given(name)?.as_bytes()).ok_or((8, 0))?;
-        if value.unsigned_abs() > most {
-            return Err((10, 0));
+    /// "24 a pushed node's coordinate in both forms, first at that coordinate's place"; 7; "23 text not of this form, where 8
+    /// is checked for `lat7`"; "10 as before".
+    fn coordinate(&self, axis: Axis) -> Result<i32, (u32, i32)> {
+        let (seven, most) = match axis {
+            Axis::Latitude => ("lat7", 900_000_000),
+            Axis::Longitude => ("lon7", 1_800_000_000),
+        };
+        match (self.get(seven), self.get(axis.name())) {
+            (Some(_), Some(_)) => Err((24, 0)),
+            (None, Some(text)) => degrees::read(text, axis).map_err(plain),
+            _ => {
+                let value = ground::read_i32(self.given(seven)?.as_bytes()).ok_or((8, 0))?;
+                if value.unsigned_abs() > most { Err((10, 0)) } else { Ok(value) }
+            }
         }
-        Ok(value)
     }
 
     /// Metadata in line order, but for the user's handle: 8, 9. "Any of the six attributes sets flag 1;
@@ -293,15 +302,15 @@ fn open(lent: &mut Storage, n: usize, reading: &mut Reading, empty: bool, name: 
     Ok(())
 }
 
-/// "Fields: id; then metadata in line order; then a pushed node's lat7; then lon7." "In a delete
+/// "Fields: id; then metadata in line order; then a pushed node's lat7; then lon7", or `lat` and `lon` in their places. "In a delete
 /// section the delete happens at the opening." 12, 13, 14, 15.
 fn begin(lent: &mut Storage, reading: &mut Reading, empty: bool, kind: u8, fields: &Fields) -> Stepped {
     let deletes = reading.place.section == DELETE;
     let mut head = Head { id: fields.number("id")?, ..Head::default() };
     let mut meta = fields.meta()?;
     if kind == 0 && !deletes {
-        head.lat = fields.coordinate("lat7", 900_000_000)?;
-        head.lon = fields.coordinate("lon7", 1_800_000_000)?;
+        head.lat = fields.coordinate(Axis::Latitude)?;
+        head.lon = fields.coordinate(Axis::Longitude)?;
     }
     let which = KINDS[usize::from(kind)];
     if deletes || empty {

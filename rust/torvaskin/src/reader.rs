@@ -65,8 +65,8 @@ impl<W: DerefMut<Target = [u64; 19]>, B: DerefMut<Target = [u8; STAGED]>> Reader
         Self { words, staged }
     }
 
-    /// One line with its line feed. Refused 2 to 16; the rest of an input without a line feed is 2 where it is longer than a line, 3 where it is
-    /// no text, and else 4. A refused line stops the reader: later lines and the end are refused the same.
+    /// One line with its line feed. Refused 2 to 16, 23 and 24; the rest of an input without a line feed is 2 where it is longer than a line, 3
+    /// where it is no text, and else 4. A refused line stops the reader: later lines and the end are refused the same.
     pub fn event<S: Storage>(&mut self, overlay: &mut Overlay<S>, line: impl AsRef<[u8]>) -> Result<(), Refusal> {
         taken(entry::event(overlay.storage_mut().lent(), &mut self.words, &mut self.staged, line.as_ref()))
     }

@@ -76,6 +76,10 @@ reasons! {
         "A fault of the calling program.";
     Unsound = 22, "What the terminal has stored is damaged, or was handed over cut short.",
         "Do not use the listing. Start with an empty overlay, lent as at set-up, and read the files again.";
+    NotDegrees = 23, "A coordinate in degrees is not of the form 59.011234: at most one sign, one to three digits, and behind a point one to twelve.",
+        "Ask the supplier of the file.";
+    BothForms = 24, "A node gives a coordinate twice, in degrees and in whole numbers: `lat` beside `lat7`, or `lon` beside `lon7`.",
+        "Ask the supplier of the file.";
 }
 
 /// A refusal: nothing that was lent has changed, but for the stop mark of a refused event's reader.
@@ -115,7 +119,7 @@ impl Refusal {
         Err(Self { reason, held, line })
     }
 
-    /// Its number, 1 to 22.
+    /// Its number, 1 to 24.
     pub fn number(&self) -> u32 {
         self.reason as u32
     }

@@ -34,7 +34,7 @@ fn refusals() {
     rows.sort();
     let of = |reason: &Reason| (*reason as u8, reason.sentence().to_string(), reason.help().to_string());
     assert_eq!(Reason::ALL.iter().map(of).collect::<Vec<_>>(), rows);
-    assert!(rows.iter().map(|row| row.0).eq(1..=22));
+    assert!(rows.iter().map(|row| row.0).eq(1..=24));
 }
 
 /// The small terminal prints what is stored for each sample, as `roadlist` does.

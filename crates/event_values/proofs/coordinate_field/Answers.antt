@@ -1,31 +1,28 @@
--- `coordinate_field`: 7, 8, 10, or the integer.
-use mir.Syntax.{w32}
-use mir.Val.{to_z}
-use Rattle.event_scan.specs.Fields.{attributes_left}
-use Rattle.event_values.proofs.Values.{handed_on, integer_missing, integer_read, size_is, within, beyond}
+-- `coordinate_field`: 24, 7, or what the one form gives.
+use mathlib.Core.Path.{sym, ◌∙◌}
+use Rattle.event_values.proofs.Values.{coordinate_values}
 use Rattle.event_values.proofs.coordinate_field.Goals as goal
 
-pub returns-in_err-value : goal.returns-in_err-value
-returns-in_err-value g c =
-    let a = c.args in
-    rw (handed_on c.from_residual.ensures, ← integer_missing a.name.now (attributes_left a.attributes.now) w32 c.in_err-value.ensures)
+pub returns-in-Some-Some : goal.returns-in-Some-Some
+returns-in-Some-Some g c =
+    let w = sym (rw c.in-Some-Some.is-0 at c.axis_values.ensures.whole) in
+    let d = sym (rw c.in-Some-Some.is-1 at c.axis_values.ensures.degrees) in
+    coordinate_values c.args.axis _ w d
 
-pub returns-in_err-bits : goal.returns-in_err-bits
-returns-in_err-bits g c =
-    let a = c.args in
-    let e = integer_read a.name.now (attributes_left a.attributes.now) w32 _ c.in_ok-value.ensures c.integer_32.ensures c.in_err-bits.ensures.value in
-    rw (handed_on c.from_residual-in_err-bits.ensures, ← e)
+pub returns-in-None-None : goal.returns-in-None-None
+returns-in-None-None g c =
+    let w = sym (rw c.in-None-None.is-0 at c.axis_values.ensures.whole) in
+    let d = sym (rw c.in-None-None.is-1 at c.axis_values.ensures.degrees) in
+    coordinate_values c.args.axis _ w d
 
-pub returns-then-unsigned_abs-limit : goal.returns-then-unsigned_abs-limit
-returns-then-unsigned_abs-limit g c =
-    let a = c.args in
-    let e = integer_read a.name.now (attributes_left a.attributes.now) w32 _ c.in_ok-value.ensures c.integer_32.ensures c.in_ok-bits.ensures.value in
-    let b = c.in_ok-bits.bits in
-    rw (← e) (beyond (to_z w32 b) (size_is b c.unsigned_abs.ensures.value c.cast_signed.type_inv c.cast_signed.ensures) c.if-unsigned_abs-limit.true)
+pub returns-in-Some-None : goal.returns-in-Some-None
+returns-in-Some-None g c =
+    let w = sym (rw c.in-Some-None.is-0 at c.axis_values.ensures.whole) in
+    let d = sym (rw c.in-Some-None.is-1 at c.axis_values.ensures.degrees) in
+    c.whole_coordinate.ensures ∙ coordinate_values c.args.axis _ w d
 
-pub returns : goal.returns
-returns g c =
-    let a = c.args in
-    let e = integer_read a.name.now (attributes_left a.attributes.now) w32 _ c.in_ok-value.ensures c.integer_32.ensures c.in_ok-bits.ensures.value in
-    let b = c.in_ok-bits.bits in
-    rw (← e) (within (to_z w32 b) (size_is b c.unsigned_abs.ensures.value c.cast_signed.type_inv c.cast_signed.ensures) c.if-unsigned_abs-limit.false)
+pub returns-in-None-Some : goal.returns-in-None-Some
+returns-in-None-Some g c =
+    let w = sym (rw c.in-None-Some.is-0 at c.axis_values.ensures.whole) in
+    let d = sym (rw c.in-None-Some.is-1 at c.axis_values.ensures.degrees) in
+    c.degrees_coordinate.ensures ∙ coordinate_values c.args.axis _ w d

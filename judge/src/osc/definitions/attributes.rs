@@ -1,9 +1,10 @@
 //! xml_parse.rs, the readers of attributes: every short list out of a few attributes, good and bad.
 
 use super::page::{Page, Row, row};
-use super::state::{error, meta, texts};
+use super::state::{error, meta, refused, texts};
 use super::term::{atom, bytes, call, list, result, z};
 use crate::answer::Overlay;
+use crate::degrees::{Axis, NOT_DEGREES, by_floats};
 use crate::kinds::ElementKind;
 use crate::lines::escape;
 use crate::osc::ParseResult;
@@ -97,12 +98,26 @@ fn member(m: ParsedMember) -> String {
 pub(super) const STAMP: &str = "2024-01-01T23:00:00Z";
 
 /// The timestamps that `arena_meta` may meet, each that is read with its seconds.
-pub(super) fn stamps(values: &[String]) -> String {
+fn stamps(values: &[String]) -> String {
     let mut values = values.to_vec();
     values.sort();
     values.dedup();
     let read = |text: String| crate::parse_rfc3339_utc(&text).ok().map(|at| call("stamp", &[bytes(text), z(at)]));
     list(values.into_iter().filter_map(read))
+}
+
+/// The coordinates in degrees that an element may have, each that is a number with what the Rust makes of it.
+fn degrees(values: &[String], axis: Axis) -> String {
+    let read = |text: &String| match by_floats(text, axis) {
+        Err(NOT_DEGREES) => None,
+        answer => Some(call("degrees", &[bytes(text), result(answer.map(z).map_err(|number| refused(number, None)))])),
+    };
+    list(values.iter().filter_map(read))
+}
+
+/// What is not published, at these timestamps and texts of `lat` and `lon`.
+pub(super) fn not_published(timestamps: &[String], lats: &[String], lons: &[String]) -> String {
+    call("not_published", &[stamps(timestamps), degrees(lats, Axis::Latitude), degrees(lons, Axis::Longitude)])
 }
 
 /// `arena_meta` into an overlay that holds the user `u`.
@@ -128,7 +143,7 @@ fn metas() -> Vec<Row> {
     // Of the lists of three each thirteenth.
     all.extend(lists(&of, 3).into_iter().filter(|list| list.len() == 3).step_by(13));
     let overlay = "Parse.intern_in Parse.new (ascii \"u\")";
-    let np = format!("not_published {}", atom(stamps(&[STAMP.to_owned()])));
+    let np = not_published(&[STAMP.to_owned()], &[], &[]);
     let scan = format!("XmlParse.scan_meta_attrs ({np}) XmlParse.default @.attributes");
     let read = |e: &BytesStart<'_>| {
         let mut overlay = Overlay::new();

@@ -2,7 +2,7 @@
 
 use std::collections::BTreeSet;
 
-use super::attributes::{element, stamps};
+use super::attributes::{self, element};
 use super::page::{Page, Row, row};
 use super::state::{place, refused, staged, told};
 use super::term::{atom, call, list, result, z};
@@ -40,7 +40,7 @@ pub(super) fn page() -> Page {
         sorted.push(in_order(&term, &overlay));
     }
     // A document, and each error that one can give.
-    assert_eq!(numbers.into_iter().collect::<Vec<_>>(), [0, 5, 6, 7, 8, 9, 10, 11, 12, 18]);
+    assert_eq!(numbers.into_iter().collect::<Vec<_>>(), [0, 5, 6, 7, 8, 9, 10, 11, 12, 18, 23, 24]);
     page.about("drive_osc", driven);
     page.about("into_sorted", sorted);
     page
@@ -55,9 +55,11 @@ fn events(lines: &[Bytes]) -> Vec<Bytes> {
 
 /// Takes an attribute away, or gives it a value that its reader refuses.
 fn spoil(document: &mut [Bytes], random: &mut Random) {
-    let named = ["id", "version", "version", "timestamp", "uid", "lat7", "lon7", "ref", "type", "type", "k", "v"];
+    let named =
+        ["id", "version", "version", "timestamp", "uid", "lat7", "lon7", "lat", "lon", "ref", "type", "type", "k", "v"];
     let bad = |name: &str, random: &mut Random| match name {
         "lat7" | "lon7" => "1800000001",
+        "lat" | "lon" => *random.pick(&["180.000000000001", "x", "1\\t"]),
         "version" => "-3",
         _ => *random.pick(&["x", "", "area"]),
     };
@@ -102,16 +104,19 @@ fn event(bytes: &Bytes) -> String {
     }
 }
 
-/// What is not published, at the document's timestamps.
+/// What is not published, at the document's timestamps and degrees.
 fn not_published(document: &[Bytes]) -> String {
-    let mut values = Vec::new();
-    for bytes in document {
-        if let Line::Open { content, name_len, .. } = line(bytes) {
-            let stamps = parted(content, name_len).1.into_iter().filter(|(name, _)| *name == "timestamp");
-            values.extend(stamps.map(|(_, value)| value));
+    let values = |wanted: &str| -> Vec<String> {
+        let mut values = BTreeSet::new();
+        for bytes in document {
+            if let Line::Open { content, name_len, .. } = line(bytes) {
+                let given = parted(content, name_len).1.into_iter().filter(|(name, _)| *name == wanted);
+                values.extend(given.map(|(_, value)| value));
+            }
         }
-    }
-    call("not_published", &[stamps(&values)])
+        values.into_iter().collect()
+    };
+    attributes::not_published(&values("timestamp"), &values("lat"), &values("lon"))
 }
 
 /// `drive_osc`, and the same event by event for where it stands and what is staged.

@@ -3,9 +3,9 @@
 
 use std::ops::Range;
 
-use quick_xml::events::{BytesEnd, Event};
+use quick_xml::events::{BytesEnd, Event, Forms};
 
-use super::attributes::{STAMP, element, stamps, start};
+use super::attributes::{STAMP, element, not_published, start};
 use super::page::{Page, Row, row};
 use super::state::{kind_name, overlay, place, staged, told, unit};
 use super::term::{atom, call};
@@ -71,12 +71,12 @@ impl Stand {
         place(self.place)
     }
 
-    /// What a call answers and leaves.
-    fn after(&self, f: impl FnOnce(&mut JudgeSteps, &mut Overlay) -> Result<(), crate::Error>) -> String {
+    /// What a call answers and leaves, of an element with its coordinates in these forms.
+    fn after(&self, forms: Forms, f: impl FnOnce(&mut JudgeSteps, &mut Overlay) -> Result<(), crate::Error>) -> String {
         let (mut steps, mut after) = (JudgeSteps::at(self.place, self.staged.clone()), before());
         let reply = f(&mut steps, &mut after);
         let held = if after.state() == before().state() { "unchanged".to_owned() } else { told(&after) };
-        call("summary", &[place(steps.place()), held, staged(steps.staged()), unit(reply)])
+        call("summary", &[place(steps.place()), held, staged(steps.staged()), unit(reply, forms)])
     }
 }
 
@@ -120,7 +120,8 @@ fn parted(line: &str) -> (&str, Vec<(&str, &str)>) {
 
 fn defined(name: &'static str) -> Page {
     let mut page = Page::new(name);
-    page.define("np", "NotPublished", &call("not_published", &[stamps(&[STAMP.to_owned()])]));
+    let texts = DEGREES.map(str::to_owned);
+    page.define("np", "NotPublished", &not_published(&[STAMP.to_owned()], &texts, &texts));
     page.define("before", "CompactDiffOverlay", &overlay(&before()));
     page.define("unchanged", "Told", "overlay before");
     page.define("sink_none", "CompactSink", "XmlParse.sink_with before None");
@@ -159,16 +160,48 @@ fn open(stand: &Stand, number: usize) -> [Row; 2] {
     let (name, attributes) = parted(line);
     [false, true].map(|empty| {
         let e = start(name, &attributes);
+        let forms = e.forms();
         let event = if empty { Event::Empty(e) } else { Event::Start(e) };
-        let answer = stand.after(|steps, overlay| steps.step(&mut overlay.inner, &event));
+        let answer = stand.after(forms, |steps, overlay| steps.step(&mut overlay.inner, &event));
         let arguments = [format!("element_{number}"), empty.to_string(), stand.state(), stand.sink.clone()];
         row(format!("of_driven ({})", call("XmlParse.handle_open np", &arguments)), answer)
     })
 }
 
 fn close(stand: &Stand) -> Row {
-    let answer = stand.after(|steps, overlay| steps.step(&mut overlay.inner, &Event::End(BytesEnd)));
+    let answer = stand.after(Forms::default(), |steps, overlay| steps.step(&mut overlay.inner, &Event::End(BytesEnd)));
     row(format!("of_driven ({})", call("XmlParse.handle_close", &[stand.state(), stand.sink.clone()])), answer)
+}
+
+/// Coordinates in degrees: read, rounded and out of range.
+const DEGREES: [&str; 3] = ["-1.50000005", "+90", "180.000000000001"];
+
+/// A node's coordinates, each missing, in one form, good or bad, or in both; in either order.
+fn coordinates() -> Vec<Vec<(&'static str, &'static str)>> {
+    let [read, _, far] = DEGREES;
+    let of = |seven, degrees| -> Vec<Vec<(&'static str, &'static str)>> {
+        vec![
+            vec![],
+            vec![(seven, "5")],
+            vec![(seven, "x")],
+            vec![(degrees, read)],
+            vec![(degrees, "x")],
+            vec![(degrees, far)],
+            vec![(degrees, "x"), (seven, "5")],
+            vec![(seven, "x"), (degrees, read)],
+        ]
+    };
+    let mut out = Vec::new();
+    for lat in of("lat7", "lat") {
+        for lon in of("lon7", "lon") {
+            let mut given = [&[("id", "1")], &lat[..], &lon[..]].concat();
+            if out.len() % 2 == 1 {
+                given.reverse();
+            }
+            out.push(given);
+        }
+    }
+    out
 }
 
 /// Attributes of an element: one choice of each, in either order.
@@ -198,11 +231,12 @@ fn choices() -> Vec<Vec<(&'static str, &'static str)>> {
     out
 }
 
-/// `begin_element`: of a node with all choices, of the others with each sixth.
+/// `begin_element`: of a node with all choices, of the others with each sixth; and with all coordinates.
 pub(super) fn begin_page() -> Page {
     let mut page = defined("Begin");
     for kind in KINDS {
-        let choices: Vec<_> = choices().into_iter().step_by(if kind == ElementKind::Node { 1 } else { 6 }).collect();
+        let choices = choices().into_iter().chain(coordinates());
+        let choices: Vec<_> = choices.step_by(if kind == ElementKind::Node { 1 } else { 6 }).collect();
         let each = (0..3).flat_map(|section| choices.iter().map(move |given| begin(kind, section, given)));
         page.about(&format!("begin_{kind}"), each);
     }
@@ -212,7 +246,7 @@ pub(super) fn begin_page() -> Page {
 fn begin(kind: ElementKind, section: u8, given: &[(&str, &str)]) -> Row {
     let stand = Stand::bare(Place { level: 2, section, kind: 0 });
     let e = start(kind.as_str(), given);
-    let answer = stand.after(|steps, overlay| steps.begin(&mut overlay.inner, kind, &e));
+    let answer = stand.after(e.forms(), |steps, overlay| steps.begin(&mut overlay.inner, kind, &e));
     let action = super::state::action(section).to_owned();
     let arguments = [stand.sink.clone(), action, kind_name(kind).to_owned(), element(kind.as_str(), given)];
     let question = call("XmlParse.begin_element np", &arguments);

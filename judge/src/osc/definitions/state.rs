@@ -1,5 +1,7 @@
 //! The Rust's states and errors as terms.
 
+use quick_xml::events::Forms;
+
 use super::term::{atom, bytes, call, list, option, packed, result, z};
 use crate::answer::{KindState, Overlay, State};
 use crate::error::ErrorKind;
@@ -29,14 +31,19 @@ pub(super) fn place(p: Place) -> String {
 
 /// An error by the name of its maker.
 pub(super) fn error(err: &crate::Error) -> String {
+    error_of_event(err, Forms::default())
+}
+
+/// The same of an event with an element that has its coordinates in these forms.
+fn error_of_event(err: &crate::Error, forms: Forms) -> String {
     if matches!(err.kind(), ErrorKind::Internal { .. }) {
         return "XmlParse.internal".to_owned();
     }
-    let refusal = Refusal::of(err);
+    let refusal = Refusal::of_event(err, forms);
     refused(refusal.number, refusal.held)
 }
 
-/// The same by document 01's number.
+/// The same by the documents' number.
 pub(super) fn refused(number: u32, held: Option<i32>) -> String {
     let name = match number {
         5 => "misplaced",
@@ -48,14 +55,16 @@ pub(super) fn refused(number: u32, held: Option<i32>) -> String {
         11 => "unknown_member_type",
         12 => return call("XmlParse.version_regression", &[z(held.expect("what is held"))]),
         18 => "truncated",
+        23 => "not_degrees",
+        24 => "both_forms",
         _ => panic!("no error of the definitions has number {number}"),
     };
     format!("XmlParse.{name}")
 }
 
-/// `Ok(())`, or the error.
-pub(super) fn unit(reply: Result<(), crate::Error>) -> String {
-    result(reply.map(|()| "tt".to_owned()).map_err(|e| error(&e)))
+/// `Ok(())`, or the error, of an event with an element that has its coordinates in these forms.
+pub(super) fn unit(reply: Result<(), crate::Error>, forms: Forms) -> String {
+    result(reply.map(|()| "tt".to_owned()).map_err(|e| error_of_event(&e, forms)))
 }
 
 pub(super) fn meta(m: &ArenaMeta) -> String {

@@ -38,6 +38,26 @@ impl<'a> BytesStart<'a> {
     pub fn attributes(&self) -> Attributes<'_> {
         Attributes::of(&self.content[self.name_len..])
     }
+
+    pub fn forms(&self) -> Forms {
+        attributes::forms(&self.content[self.name_len..])
+    }
+}
+
+/// In which forms an element has a coordinate.
+#[derive(Clone, Copy, Debug, Default, PartialEq, Eq)]
+pub struct Given {
+    /// `lat7` or `lon7`.
+    pub seven: bool,
+    /// `lat` or `lon`.
+    pub degrees: bool,
+}
+
+/// The same of latitude and longitude.
+#[derive(Clone, Copy, Debug, Default, PartialEq, Eq)]
+pub struct Forms {
+    pub lat: Given,
+    pub lon: Given,
 }
 
 impl Deref for BytesStart<'_> {
@@ -67,12 +87,14 @@ pub mod attributes {
     use std::borrow::Cow;
     use std::convert::Infallible;
 
-    use super::QName;
+    use super::{Forms, Given, QName};
     use crate::XmlVersion;
     use crate::lines::unescape;
 
-    /// A value that Rust's float reader refuses, as document 01's integer reader refused the line's.
+    /// Values that Rust's float reader refuses: for a `lat7` or `lon7` that document 01's integer reader refuses, and
+    /// for a coordinate in both forms, which the Rust is not asked.
     pub const NO_INTEGER: &str = "not an i32";
+    pub const BOTH_FORMS: &str = "in both forms";
 
     /// An event line's value is the text itself, so the raw and the normalized value are one.
     #[derive(Clone, Debug)]
@@ -87,20 +109,38 @@ pub mod attributes {
         }
     }
 
-    /// The attributes in line order. `lat7` and `lon7` go under the names `lat` and `lon` that the
-    /// published file asks for, as exact i32 or as a value that it refuses; a line's own `lat` and
-    /// `lon` are attributes without meaning, and left out.
+    /// The attributes in line order. `lat` and `lon` are handed on as they stand, `lat7` and `lon7` under their names,
+    /// which the published file asks for, as degrees with seven decimals.
     #[derive(Clone, Debug)]
     pub struct Attributes<'a> {
         fields: std::str::Split<'a, char>,
+        forms: Forms,
+    }
+
+    /// `rest` is empty, or a tab and the fields.
+    fn fields(rest: &str) -> std::str::Split<'_, char> {
+        let mut fields = rest.split('\t');
+        fields.next();
+        fields
+    }
+
+    pub(super) fn forms(rest: &str) -> Forms {
+        let mut forms = Forms::default();
+        for (name, _) in fields(rest).filter_map(|field| field.split_once('=')) {
+            match name {
+                "lat" => forms.lat.degrees = true,
+                "lat7" => forms.lat.seven = true,
+                "lon" => forms.lon.degrees = true,
+                "lon7" => forms.lon.seven = true,
+                _ => {}
+            }
+        }
+        forms
     }
 
     impl<'a> Attributes<'a> {
-        /// `rest` is empty, or a tab and the fields.
         pub(super) fn of(rest: &'a str) -> Self {
-            let mut fields = rest.split('\t');
-            fields.next();
-            Self { fields }
+            Self { fields: fields(rest), forms: forms(rest) }
         }
     }
 
@@ -108,24 +148,29 @@ pub mod attributes {
         type Item = Result<Attribute<'a>, Infallible>;
 
         fn next(&mut self) -> Option<Self::Item> {
-            loop {
-                let (name, raw) = self.fields.next()?.split_once('=')?;
-                let text = if raw.contains('\\') { Cow::Owned(unescape(raw)?) } else { Cow::Borrowed(raw) };
-                let (name, value) = match name {
-                    "lat" | "lon" => continue,
-                    "lat7" => ("lat", coordinate(&text)),
-                    "lon7" => ("lon", coordinate(&text)),
-                    _ => (name, text),
-                };
-                return Some(Ok(Attribute { key: QName(name), value }));
-            }
+            let (name, raw) = self.fields.next()?.split_once('=')?;
+            let text = if raw.contains('\\') { Cow::Owned(unescape(raw)?) } else { Cow::Borrowed(raw) };
+            let (name, value) = match name {
+                "lat" | "lat7" => ("lat", degrees(self.forms.lat, text)),
+                "lon" | "lon7" => ("lon", degrees(self.forms.lon, text)),
+                _ => (name, text),
+            };
+            Some(Ok(Attribute { key: QName(name), value }))
         }
     }
 
-    fn coordinate(text: &str) -> Cow<'static, str> {
-        match text.parse::<i32>() {
-            Ok(value) => Cow::Owned(value.to_string()),
-            Err(_) => Cow::Borrowed(NO_INTEGER),
+    fn degrees(given: Given, text: Cow<'_, str>) -> Cow<'_, str> {
+        match given {
+            Given { seven: true, degrees: true } => Cow::Borrowed(BOTH_FORMS),
+            Given { degrees: true, .. } => text,
+            _ => text.parse().map_or(Cow::Borrowed(NO_INTEGER), |value| Cow::Owned(seven_decimals(value))),
         }
+    }
+
+    /// A whole number of 1e-7 degree as degrees.
+    pub fn seven_decimals(value: i32) -> String {
+        let sign = if value < 0 { "-" } else { "" };
+        let size = value.unsigned_abs();
+        format!("{sign}{}.{:07}", size / 10_000_000, size % 10_000_000)
     }
 }

@@ -8,7 +8,7 @@ use std::fmt;
 use std::io::{self, BufRead};
 use std::sync::Arc;
 
-use events::{BytesEnd, BytesStart, BytesText, Event};
+use events::{BytesEnd, BytesStart, BytesText, Event, Forms};
 use lines::Line;
 
 /// Named by the published file in each call of `normalized_value`.
@@ -47,11 +47,12 @@ pub struct Reader<R> {
     input: R,
     config: Config,
     lines: u64,
+    forms: Forms,
 }
 
 impl<R> Reader<R> {
     pub fn from_reader(input: R) -> Self {
-        Self { input, config: Config, lines: 0 }
+        Self { input, config: Config, lines: 0, forms: Forms::default() }
     }
 
     pub fn config_mut(&mut self) -> &mut Config {
@@ -61,6 +62,11 @@ impl<R> Reader<R> {
     /// The lines read so far, a refused one included.
     pub fn lines(&self) -> u64 {
         self.lines
+    }
+
+    /// The forms of the coordinates in the last element read.
+    pub fn forms(&self) -> Forms {
+        self.forms
     }
 }
 
@@ -74,6 +80,7 @@ impl<R: BufRead> Reader<R> {
         match lines::judge_line(buf, ended).map_err(Error::Line)? {
             Line::Open { empty, content, name_len } => {
                 let start = BytesStart::from_content(content, name_len);
+                self.forms = start.forms();
                 Ok(if empty { Event::Empty(start) } else { Event::Start(start) })
             }
             Line::Close => Ok(Event::End(BytesEnd)),

@@ -1,6 +1,7 @@
 //! How fast the library runs beside Rust's own functions and the published overlay, in one run: nanoseconds a call, the least of nine
 //! rounds, and the ratio. Both sides are called through a trait object or a C entry, so that neither is inlined into the loop.
 
+mod degrees;
 mod documents;
 mod hostile;
 
@@ -173,6 +174,7 @@ fn main() {
             || over(&texts, &|s| u64::from(std::str::from_utf8(s).is_ok())),
         );
     }
+    degrees::degrees();
     overlays();
     soundness();
     listings();
