@@ -1,4 +1,4 @@
-/* Lines to storage of a yardstick, in one pass over a line's bytes by a table of classes. The checks and their order are document 01's, as judge/src/compare/words_reader.rs has them. */
+/* Lines to storage of a yardstick, in one pass over a line's bytes by a table of classes. The checks and their order are document 01's and 02's, as judge/src/compare/words_reader.rs has them. */
 #include "yardstick.h"
 
 /* ---- what a run works on */
@@ -204,13 +204,19 @@ static int digits(struct text s, uint64_t largest, uint64_t *value)
     return v <= largest ? 0 : TVK_NOT_INTEGER;
 }
 
+/* Takes at most one sign off the front: whether it was a minus. */
+static int take_sign(struct text *s)
+{
+    int below = s->len > 0 && s->at[0] == '-';
+    if (below || (s->len > 0 && s->at[0] == '+'))
+        *s = (struct text){s->at + 1, s->len - 1};
+    return below;
+}
+
 /* the bits of a whole number with at most one sign, from -largest - 1 to largest */
 static int number(struct text s, uint64_t largest, uint64_t *bits)
 {
-    int below = s.len > 0 && s.at[0] == '-';
-    if (below || (s.len > 0 && s.at[0] == '+'))
-        s = (struct text){s.at + 1, s.len - 1};
-    int refused = digits(s, largest + (uint64_t)below, bits);
+    int below = take_sign(&s), refused = digits(s, largest + (uint64_t)below, bits);
     if (below && refused == 0)
         *bits = 0 - *bits;
     return refused;
@@ -234,13 +240,76 @@ static int needed(const struct line *l, const struct attribute *a, uint64_t *bit
     return a != NULL ? wide(value_of(l, a), bits) : TVK_MISSING;
 }
 
-static int coordinate(const struct line *l, const struct attribute *a, int32_t most, uint64_t *bits)
+/* so many in 1e-12 degree are 1e-7 degree */
+#define UNIT UINT64_C(100000)
+
+/* a number with the digits behind it that a text has from a place on, at most so many: where they end */
+static uint32_t more_digits(struct text s, uint32_t from, uint32_t most, uint64_t *value)
 {
-    int refused = a != NULL ? narrow(value_of(l, a), bits) : TVK_MISSING;
+    uint32_t i = from;
+    for (; i < s.len && i - from < most && s.at[i] >= '0' && s.at[i] <= '9'; i++)
+        *value = *value * 10 + (s.at[i] - (uint64_t)'0');
+    return i;
+}
+
+/* a number without a sign, in 1e-12 degree */
+static int exact_degrees(struct text s, uint64_t *exact)
+{
+    static const uint64_t powers[13] = {
+        UINT64_C(1000000000000), UINT64_C(100000000000), UINT64_C(10000000000), 1000000000, 100000000, 10000000, 1000000, 100000, 10000, 1000, 100, 10, 1,
+    };
+    *exact = 0;
+    uint32_t end = more_digits(s, 0, 3, exact), decimals = 0;
+    if (end == 0)
+        return TVK_NOT_DEGREES;
+    if (end < s.len && s.at[end] == '.') {
+        decimals = more_digits(s, end + 1, 12, exact) - end - 1;
+        if (decimals == 0)
+            return TVK_NOT_DEGREES;
+        end += 1 + decimals;
+    }
+    *exact *= powers[decimals];
+    return end == s.len ? 0 : TVK_NOT_DEGREES;
+}
+
+/* the nearest 1e-7 degree, ties away from zero, where the exact value is not above the most */
+static int degrees(struct text s, int32_t most, uint64_t *bits)
+{
+    uint64_t exact;
+    int below = take_sign(&s), refused = exact_degrees(s, &exact);
+    if (refused != 0)
+        return refused;
+    if (exact > (uint64_t)most * UNIT)
+        return TVK_COORDINATE_RANGE;
+    uint64_t nearest = (exact + UNIT / 2) / UNIT;
+    *bits = (below ? 0 - nearest : nearest) & UINT32_MAX;
+    return 0;
+}
+
+/* a whole number of 1e-7 degree */
+static int whole_coordinate(struct text s, int32_t most, uint64_t *bits)
+{
+    int refused = narrow(s, bits);
     if (refused != 0)
         return refused;
     int32_t value = tvk_i32_of(*bits);
     return value <= most && value >= -most ? 0 : TVK_COORDINATE_RANGE;
+}
+
+/* a coordinate in one of its two forms: in degrees by three letters, in whole numbers by these and a 7 */
+static int coordinate(const struct line *l, const char *letters, int32_t most, uint64_t *bits)
+{
+    const struct attribute *forms[2] = {NULL, NULL};
+    for (uint32_t i = 0; i < l->attributes; i++) {
+        struct text name = name_of(l, &l->attribute[i]);
+        if ((name.len == 3 || (name.len == 4 && name.at[3] == '7')) && memcmp(name.at, letters, 3) == 0)
+            forms[name.len - 3] = &l->attribute[i];
+    }
+    if (forms[0] != NULL && forms[1] != NULL)
+        return TVK_BOTH_FORMS;
+    if (forms[0] != NULL)
+        return degrees(value_of(l, forms[0]), most, bits);
+    return forms[1] != NULL ? whole_coordinate(value_of(l, forms[1]), most, bits) : TVK_MISSING;
 }
 
 /* two digits; above 99 where they are none */
@@ -317,8 +386,8 @@ static int fields(const struct line *l, uint64_t kind, int pushed, struct elemen
     if (kind != TVK_NODE || !pushed)
         return refused;
     if (refused == 0)
-        refused = coordinate(l, FIND(l, "lat7"), TVK_MAX_LAT7, &e->lat);
-    return refused == 0 ? coordinate(l, FIND(l, "lon7"), TVK_MAX_LON7, &e->lon) : refused;
+        refused = coordinate(l, "lat", TVK_MAX_LAT7, &e->lat);
+    return refused == 0 ? coordinate(l, "lon", TVK_MAX_LON7, &e->lon) : refused;
 }
 
 /* ---- texts, by chains of handles */

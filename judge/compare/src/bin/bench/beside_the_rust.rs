@@ -172,6 +172,7 @@ pub fn beside_the_rust() {
     let (seed, rounds) = seed_and_rounds();
     let answers = all([
         overlay::nesting(&ByHand, depth()),
+        overlay::coordinates(&ByHand, seed, rounds),
         overlay::documents(&ByHand, seed, rounds).map(|(_, answers)| answers),
         overlay::wide_documents(&ByHand, seed, rounds).map(|(_, answers)| answers),
         overlay::large_document(&ByHand, seed).map(|(_, answers)| answers),
