@@ -1,5 +1,6 @@
 //! Whole documents, batches and single events, beside the published driver with its stand-in for XML.
 
+use crate::by_hand;
 use crate::{least, row};
 use judge::{Overlay, drive};
 use quick_xml::{Reader as Events, events::Event};
@@ -71,7 +72,8 @@ pub fn documents() {
         let input = document(&ids(count, shuffled), texts);
         let lines = input.lines().count();
         let order = if shuffled { "shuffled" } else { "in order" };
-        row(
+        by_hand::same_storage(&input);
+        let port = row(
             &format!("document of {count} ways, ids {order}, {texts} texts, {lines} lines: a line"),
             lines,
             || batch(lent.lent(), &input),
@@ -81,6 +83,7 @@ pub fn documents() {
                 black_box(&overlay);
             },
         );
+        crate::by_hand(port, lines, || by_hand::batch(lent.lent(), &input));
         println!("  of the Rust's, its stand-in for XML\t\t{:.1} ns", least(lines, || stand_in(&input)));
     }
 }

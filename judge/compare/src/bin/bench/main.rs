@@ -1,6 +1,9 @@
 //! How fast the library runs beside Rust's own functions and the published overlay, in one run: nanoseconds a call, the least of nine
-//! rounds, and the ratio. Both sides are called through a trait object or a C entry, so that neither is inlined into the loop.
+//! rounds, and the ratio. Both sides are called through a trait object or a C entry, so that neither is inlined into the loop. Beside some rows stands
+//! the same work by hand in C (`judge/yardstick`).
 
+mod beside_the_rust;
+mod by_hand;
 mod degrees;
 mod documents;
 mod hostile;
@@ -25,9 +28,17 @@ fn least(calls: usize, mut work: impl FnMut()) -> f64 {
     best
 }
 
-fn row(name: &str, calls: usize, port: impl FnMut(), rust: impl FnMut()) {
+/// The port's time is answered.
+fn row(name: &str, calls: usize, port: impl FnMut(), rust: impl FnMut()) -> f64 {
     let (p, r) = (least(calls, port), least(calls, rust));
     println!("{name}\t{p:.1} ns\t{r:.1} ns\t{:.2}", p / r);
+    p
+}
+
+/// What the yardstick takes for what took the port so long.
+fn by_hand(port: f64, calls: usize, hand: impl FnMut()) {
+    let hand = least(calls, hand);
+    println!("  by hand in C\t{hand:.1} ns\tport / by hand {:.2}", port / hand);
 }
 
 /// One loop for each side over the same inputs; every answer is used.
@@ -80,11 +91,13 @@ fn soundness() {
             overlay.push(&way).expect("taken");
         }
         let sound = least(1, || overlay.is_sound().expect("sound"));
-        let used = overlay.into_storage().counters[4];
+        let lent = overlay.into_storage();
+        let used = lent.counters[4];
         println!(
             "soundness, {ways} ways of 12 tags, ids {name}, {used} bytes\t{sound:.0} ns\t{:.2} ns a byte",
             sound / used as f64
         );
+        by_hand(sound, 1, || assert!(by_hand::is_sound(lent.shared())));
     }
 }
 
@@ -144,6 +157,7 @@ fn listings() {
 }
 
 fn main() {
+    beside_the_rust::beside_the_rust();
     println!("what\tport\tRust\tratio");
     let numbers: Vec<Vec<u8>> =
         (0..100_000u64).map(|i| i.wrapping_mul(0x9e37_79b9_7f4a_7c15).cast_signed().to_string().into_bytes()).collect();
