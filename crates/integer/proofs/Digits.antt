@@ -6,7 +6,7 @@ use mathlib.Core.Bool.{true, false, cond}
 use mathlib.Core.Logic.{◌⊎◌, ⊎_elim}
 use mathlib.Core.List.{[], ◌∷◌, ◌++◌}
 use native.Mathlib.Omega.{arith}
-use native.Mathlib.Nat.{pow-suc, mul_comm, mul_assoc, mul-le-mul_right, lt_of_lt_of_le}
+use native.Mathlib.Nat.{pow-suc, pow-le-pow_right, mul_comm, mul_assoc, mul-le-mul_right, lt_of_lt_of_le}
 use native.Mathlib.Numerals.{add-one}
 use lib.Dec.{leb}
 use lib.ListN.{length, get_or, drop, drop_of_length-le}
@@ -102,10 +102,24 @@ pub after_over : (most n : ℕ) (s : Bytes) → most < n → at_most most (after
 unfolding after at_most
 after_over most n s h = by_bool (all is_digit s) (λ t. rw (t, lt-leb (decimal n s) most (omega (arith, decimal_grows n s)))) (λ t. rw t)
 
+-- a digit more of a number that has a digit for each place
+pub one_more : (n i d : ℕ) → n < 10 ^ i → d ≤ 9 → n * 10 + d < 10 ^ (i + 1)
+one_more n i d h k = rw (add-one, pow-suc 10 i) (omega arith)
+
+-- 19 digits write a number below 2^64
+pub number_fits : (n i d : ℕ) → n < 10 ^ i → i < 19 → d ≤ 9 → n * 10 + d < 2 ^ 64
+number_fits n i d h k l =
+    let last : i ≤ 18 = omega arith in
+    let most : 10 ^ i ≤ 10 ^ 18 = pow-le-pow_right (omega arith) last in
+    omega arith
+
 -- the same at a place of a text
 module _ (s : Bytes) (at : ℕ) (h : at < length s) where
   here : drop at s ≡ get_or s at 0 ∷ drop (at + 1) s
   here = rw add-one (drop-cons s at 0 h)
+
+  pub stops_here : (n : ℕ) → is_digit (get_or s at 0) ≡ false → after n (drop at s) ≡ None
+  stops_here n e = rw (here, after_other n (get_or s at 0) (drop (at + 1) s) e)
 
   pub stops : (most n : ℕ) → is_digit (get_or s at 0) ≡ false → at_most most (after n (drop at s)) ≡ None
   unfolding at_most
@@ -118,6 +132,13 @@ module _ (s : Bytes) (at : ℕ) (h : at < length s) where
   too_large most n e k = ap (at_most most) (goes_on n e) ∙ after_over most _ (drop (at + 1) s) k
 
 -- where the loop begins, and where it ends
+pub no_digits : (s : Bytes) → length s ≡ 0 → digits s ≡ None
+unfolding digits
+no_digits s h = let g : length s ≤ 0 = omega arith in let e : s ≡ [] = drop_of_length-le s g in rw e
+
+pub all_read : (s : Bytes) (at n : ℕ) → length s ≤ at → after n (drop at s) ≡ Some n
+all_read s at n h = rw (drop_of_length-le s h, after_nil n)
+
 module _ (s : Bytes) (most : ℕ) where
   pub none_left : length s ≡ 0 → at_most most (digits s) ≡ None
   unfolding at_most digits

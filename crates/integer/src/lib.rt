@@ -1,35 +1,60 @@
 // Integer fields, as Rust's `parse` reads an i64 or an i32: at most one sign, then one or more digits, any number of them.
 #![tactic(auto)]
 
-ghost use Rattle.std.specs.Prelude.{◌≡◌, ◌-◌, ◌^◌, ℕ, refl};
+ghost use Rattle.std.specs.Prelude.{◌≡◌, ◌-◌, ◌^◌, ◌≤◌, ℕ, refl, length};
 ghost use Rattle.std.specs.Int.{Width, w32, w64};
 ghost use mir.Val.{bits, hbits};
 ghost use Rattle.integer.specs.Integer.{read_of, digits};
 ghost use Rattle.integer.specs.Bounded.{at_most};
 
-// The number that the digits write, if there are digits and nothing else, and it is at most `most`.
-fn magnitude(s: &[u8], most: u64) -> Option<u64>
-    ensures { result ≡ at_most most (digits s.now) }
+// The number that at most 19 digits write, if there are digits and nothing else: it is below 2^64.
+fn short(s: &[u8]) -> Option<u64>
+    requires { length s.now ≤ 19 }
+    ensures { result ≡ digits s.now }
 {
     if s.is_empty() {
         return None;
     }
-    let tenth = most / 10;
     let mut n = 0;
     for b in s {
         if !b.is_ascii_digit() {
             return None;
         }
-        if tenth < n {
+        n = n * 10 + u64::from(*b - b'0');
+    }
+    Some(n)
+}
+
+// The number that any number of digits write, if there are digits and nothing else, and it is at most `most`.
+fn long(s: &[u8], most: u64) -> Option<u64>
+    ensures { result ≡ at_most most (digits s.now) }
+{
+    if s.is_empty() {
+        return None;
+    }
+    let mut n = 0;
+    for b in s {
+        if !b.is_ascii_digit() {
             return None;
         }
         let d = u64::from(*b - b'0');
-        if most - n * 10 < d {
+        if most < d || (most - d) / 10 < n {
             return None;
         }
         n = n * 10 + d;
     }
     Some(n)
+}
+
+// The number that the digits write, if there are digits and nothing else, and it is at most `most`.
+fn magnitude(s: &[u8], most: u64) -> Option<u64>
+    ensures { result ≡ at_most most (digits s.now) }
+{
+    if s.len() <= 19 {
+        let n = short(s)?;
+        return (n <= most).then_some(n);
+    }
+    long(s, most)
 }
 
 // A width that integer fields have: its largest number, and its bits all set.

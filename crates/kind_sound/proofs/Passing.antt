@@ -8,7 +8,7 @@ use Rattle.std.specs.Bool.{MatchBool}
 use Rattle.std.specs.List.{AllWithin, HoldsAt}
 use Rattle.std.specs.Simd.{first_chunks}
 use Rattle.kind_table.proofs.Chunks.{chunk_row, chunks_length}
-use lib.ListN.{take, length, get_or, replicate, length-replicate}
+use lib.ListN.{take, length, get_or, replicate}
 use mir.Syntax.{w64}
 use mir.Val.{to_z}
 use borrow.Author.Tests.{lt-ltb, le-ltb, lt-leb, le-leb}
@@ -80,9 +80,9 @@ zeros zero i = refl
 zeros (suc n) zero = refl
 zeros (suc n) (suc i) = zeros n i
 
-pub empty : (cells : List ℕ) → cells ≡ replicate 23302 0 → Empty cells
+pub empty : (n : ℕ) (cells : List ℕ) → cells ≡ replicate n 0 → Empty cells
 unfolding Empty
-empty cells e = rw e (length-replicate {A = ℕ} 23302 0, zeros 23302)
+empty n cells e = rw e (zeros n)
 
 -- the test, step by step
 module _ (strings : ℕ) (k : Kind) (s : KindStore) where

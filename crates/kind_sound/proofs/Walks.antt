@@ -98,8 +98,7 @@ pub record Noting (strings : ℕ) (k : Kind) (s : Bytes) (cells : List ℕ) (at 
   pub whole : whole_records strings k (drop at s) ≡ whole_records strings k s
   pub reached : Reached strings k s at
   pub apart : (offset : ℕ) → offset < at → comes_to strings k s offset offset 0 ≡ true → offset + 45 ≤ at
-  pub size : length cells ≡ 23302
-  pub noted : (offset : ℕ) → offset / 45 < 23302 → eqb (get_or cells (offset / 45) 0) (cell_of offset) ≡ both (ltb offset at) (comes_to strings k s offset offset 0)
+  pub noted : (offset : ℕ) → offset / 45 < length cells → eqb (get_or cells (offset / 45) 0) (cell_of offset) ≡ both (ltb offset at) (comes_to strings k s offset offset 0)
 
 module _ (strings : ℕ) (k : Kind) (s : Bytes) (cells : List ℕ) where
   pub noting_first : Empty cells → Noting strings k s cells 0
@@ -110,8 +109,7 @@ module _ (strings : ℕ) (k : Kind) (s : Bytes) (cells : List ℕ) where
         whole = refl;
         reached = reached_first strings k s;
         apart = λ offset m t. absurd (omega arith);
-        size = h.0;
-        noted = λ offset m. rw (h.1 (offset / 45)) (ne_eqb 0 (cell_of offset) (λ z. omega arith) ∙ sym (both_no_left _ _ (le-ltb offset 0 (omega arith))));
+        noted = λ offset m. rw (h (offset / 45)) (ne_eqb 0 (cell_of offset) (λ z. omega arith) ∙ sym (both_no_left _ _ (le-ltb offset 0 (omega arith))));
       }
 
   module _ (at : ℕ) (w : Noting strings k s cells at) where
@@ -154,10 +152,10 @@ module _ (strings : ℕ) (k : Kind) (s : Bytes) (cells : List ℕ) where
           (λ m. sym (both_no_right (ltb offset e) (by_bool (comes_to strings k s offset offset 0) (λ y. absurd (omega (arith, w.apart offset m y))) (λ y. y))))
           (λ m. sym (both_no_right (ltb offset e) (start offset m (omega arith) ∙ ne_eqb at offset j)))))
 
-      noted_next : (offset : ℕ) → offset / 45 < 23302 → eqb (get_or (set cells (at / 45) (cell_of at)) (offset / 45) 0) (cell_of offset) ≡ both (ltb offset e) (comes_to strings k s offset offset 0)
+      noted_next : (offset : ℕ) → offset / 45 < length cells → eqb (get_or (set cells (at / 45) (cell_of at)) (offset / 45) 0) (cell_of offset) ≡ both (ltb offset e) (comes_to strings k s offset offset 0)
       noted_next offset h =
           by_eq (offset / 45) (at / 45)
-          (λ i. rw (i, get_or-set_same cells (at / 45) (cell_of at) 0 (omega (arith, w.size))) (same_cell offset i))
+          (λ i. rw (i, get_or-set_same cells (at / 45) (cell_of at) 0 (omega (arith, i, h))) (same_cell offset i))
           (λ i. rw (get_or-set_other cells (at / 45) (offset / 45) (cell_of at) 0 i) (w.noted offset h ∙ other offset (λ z. i (ap (λ (n : ℕ). n / 45) (sym z)))))
 
       pub noting_next : (at < e) × Noting strings k s (set cells (at / 45) (cell_of at)) e
@@ -169,8 +167,7 @@ module _ (strings : ℕ) (k : Kind) (s : Bytes) (cells : List ℕ) where
               whole = sym o.0 ∙ w.whole;
               reached = reached_next strings k s at e w.reached t forth;
               apart = apart_next;
-              size = length-set cells (at / 45) (cell_of at) ∙ w.size;
-              noted = noted_next;
+              noted = λ offset m. noted_next offset (omega (arith, length-set cells (at / 45) (cell_of at), m));
             },
           )
 

@@ -10,8 +10,8 @@ cell_of offset = offset % 45 + 1
 
 -- nothing is noted
 unfoldable pub Empty : List ℕ → Type 0
-Empty cells = (length cells ≡ 23302) × ((i : ℕ) → get_or cells i 0 ≡ 0)
+Empty cells = (i : ℕ) → get_or cells i 0 ≡ 0
 
 -- of each offset in the bytes that has a cell, the cell tells whether a record starts there
 abbrev pub Noted : ℕ → Kind → Bytes → List ℕ → Type 0
-Noted strings k s cells = (offset : ℕ) → offset < length s → offset / 45 < 23302 → eqb (get_or cells (offset / 45) 0) (cell_of offset) ≡ comes_to strings k s offset offset 0
+Noted strings k s cells = (offset : ℕ) → offset < length s → offset / 45 < length cells → eqb (get_or cells (offset / 45) 0) (cell_of offset) ≡ comes_to strings k s offset offset 0

@@ -24,11 +24,14 @@ const CELL_BYTES: usize = 45;
 // How many cells there are: they cover 1 MiB, the largest arena that set-up takes.
 const CELLS: usize = 23302;
 
+// How many are tried for few bytes: clearing all takes longer than judging a few records.
+const FEW_CELLS: usize = 512;
+
 // Records with where each of them starts. A cell says by how many bytes behind its first a record starts, plus 1, or 0 where none does.
 #[derive(Clone, Copy)]
 struct Starts<'a> {
     records: Records<'a>,
-    cells: &'a [u8; CELLS],
+    cells: &'a [u8],
     ghost noted: { Noted records.strings records.kind records.bytes.now cells.now },
 }
 
@@ -42,18 +45,18 @@ fn rank_there(bytes: &[u8], offset: usize) -> u64
 // ---- where records start
 
 // It takes the cells and an offset, and no part of them: which cell an offset has and what the cell holds are told by the offset, and a part would tell neither.
-fn note(cells: &mut [u8; CELLS], at: usize)
+fn note(cells: &mut [u8], at: usize)
     ensures { cells.new ≡ set cells.old (at / 45) (cell_of at) }
 {
     let i = at / CELL_BYTES;
-    if i < CELLS {
+    if i < cells.len() {
         cells[i] = (at % CELL_BYTES + 1) as u8;
     }
 }
 
 // One walk from record to record: whether all are whole and legal, with their starts noted. It is a `while`, here and in `comes_to`: each record tells where
 // the next one starts, so no range or slice has the offsets to go over.
-fn note_starts(records: &Records<'_>, cells: &mut [u8; CELLS]) -> bool
+fn note_starts(records: &Records<'_>, cells: &mut [u8]) -> bool
     requires { Empty cells.old }
     ensures whole { result ≡ whole_records records.now.strings records.now.kind records.now.bytes.now }
     ensures noted { result ≡ true → Noted records.now.strings records.now.kind records.now.bytes.now cells.new }
@@ -90,7 +93,7 @@ impl Starts<'_> {
         ensures { result ≡ comes_to self.now.records.strings self.now.records.kind self.now.records.bytes.now offset offset 0 }
     {
         let i = offset / CELL_BYTES;
-        if i < CELLS {
+        if i < self.cells.len() {
             return self.cells[i] == (offset % CELL_BYTES + 1) as u8;
         }
         comes_to(&self.records, offset)
@@ -123,7 +126,7 @@ impl Starts<'_> {
 }
 
 // The used bytes, then the rows.
-fn cells_pass(records: &Records<'_>, table: &Table<'_>, cells: &mut [u8; CELLS]) -> bool
+fn cells_pass(records: &Records<'_>, table: &Table<'_>, cells: &mut [u8]) -> bool
     requires { Empty cells.old }
     ensures { result
         ≡ both (whole_records records.now.strings records.now.kind records.now.bytes.now) (all (row_passes records.now.strings records.now.kind records.now.bytes.now) (rows_of table.now.words.now (held table.now.words.now table.now.count))) }
@@ -136,6 +139,37 @@ fn cells_pass(records: &Records<'_>, table: &Table<'_>, cells: &mut [u8; CELLS])
         return starts.rows_pass(table);
     }
     false
+}
+
+// The same with cells for few bytes. Neither this nor `many_cells_pass` is inlined: its array would lie in the caller's frame. They are on the stack: the library has no heap.
+#[inline(never)]
+fn few_cells_pass(records: &Records<'_>, table: &Table<'_>) -> bool
+    ensures { result
+        ≡ both (whole_records records.now.strings records.now.kind records.now.bytes.now) (all (row_passes records.now.strings records.now.kind records.now.bytes.now) (rows_of table.now.words.now (held table.now.words.now table.now.count))) }
+{
+    let mut cells = [0; FEW_CELLS];
+    cells_pass(records, table, &mut cells)
+}
+
+// With all cells.
+#[inline(never)]
+fn many_cells_pass(records: &Records<'_>, table: &Table<'_>) -> bool
+    ensures { result
+        ≡ both (whole_records records.now.strings records.now.kind records.now.bytes.now) (all (row_passes records.now.strings records.now.kind records.now.bytes.now) (rows_of table.now.words.now (held table.now.words.now table.now.count))) }
+{
+    let mut cells = [0; CELLS];
+    cells_pass(records, table, &mut cells)
+}
+
+// The used bytes, then the rows, with as many cells as are worth clearing.
+fn used_passes(records: &Records<'_>, table: &Table<'_>) -> bool
+    ensures { result
+        ≡ both (whole_records records.now.strings records.now.kind records.now.bytes.now) (all (row_passes records.now.strings records.now.kind records.now.bytes.now) (rows_of table.now.words.now (held table.now.words.now table.now.count))) }
+{
+    if records.bytes.len() <= FEW_CELLS * CELL_BYTES {
+        return few_cells_pass(records, table);
+    }
+    many_cells_pass(records, table)
 }
 
 // Whether what is lent for one kind is sound, given how many strings are held: the used count, the table, the used bytes, the rows.
@@ -152,7 +186,5 @@ pub fn is_sound(storage: &KindStorage<'_>, strings: u64) -> bool
         bytes: &storage.arena[..n],
         strings,
     };
-    // On the stack: the library has no heap.
-    let mut cells = [0; CELLS];
-    cells_pass(&records, &table, &mut cells)
+    used_passes(&records, &table)
 }

@@ -1,8 +1,8 @@
--- The used count and the table first, then the used bytes and the rows, with cells of their own.
-use mathlib.Core.Path.{refl, sym, ◌∙◌}
+-- The used count and the table first, then the used bytes and the rows.
+use mathlib.Core.Path.{sym, ◌∙◌}
 use native.Mathlib.Omega.{arith}
 use Rattle.kind_store.specs.Lent.{kind_seen}
-use Rattle.kind_sound.proofs.Passing.{empty, unsound_past, unsound_order, sound_by}
+use Rattle.kind_sound.proofs.Passing.{unsound_past, unsound_order, sound_by}
 use Rattle.kind_sound.proofs.is_sound.Goals.{then-storage-n-via-then-storage-n, then-storage-n-via-else-storage-n+then-not-is_rising}
 use Rattle.kind_sound.proofs.is_sound.Goals as goal
 
@@ -15,12 +15,9 @@ returns-then-storage-n c =
           unsound_order c.args.strings s.kind (kind_seen s) (rw (c.rows-table.ensures.0, c.rows-table.ensures.1) at (sym w.is_rising.ensures ∙ w.if-not-is_rising.true))
     ]
 
-pub cells_pass-requires : goal.cells_pass-requires
-cells_pass-requires c = empty _ refl
-
 pub returns : goal.returns
 returns c =
     let s = c.args.storage.now in
     sound_by c.args.strings s.kind (kind_seen s) (omega arith)
     (rw (c.rows-table.ensures.0, c.rows-table.ensures.1) at (sym c.is_rising.ensures ∙ c.if-not-is_rising.false))
-    (rw (c.rows-table.ensures.0, c.rows-table.ensures.1) at c.cells_pass.ensures)
+    (rw (c.rows-table.ensures.0, c.rows-table.ensures.1) at c.used_passes.ensures)

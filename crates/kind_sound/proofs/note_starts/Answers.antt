@@ -20,7 +20,7 @@ returns-in_default c =
     }
 
 -- a record more
-turn : (c : goal.After-note) → let s = c.args.records.now in
+turn : (c : goal.After-slice_known-in-loop-at-1) → let s = c.args.records.now in
     let l = c.loop-at in
     (l.at < c.in-Some.e) × Noting s.strings s.kind s.bytes.now (set l.cells (l.at / 45) (cell_of l.at)) c.in-Some.e
 turn c =
