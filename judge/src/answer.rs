@@ -135,7 +135,7 @@ impl Overlay {
 }
 
 /// One line of the listing.
-pub(crate) fn list_one(out: &mut String, kind: Kind, id: i64, known: Option<i32>, record: Option<&Record>) {
+pub fn list_one(out: &mut String, kind: Kind, id: i64, known: Option<i32>, record: Option<&Record>) {
     let known = known.map_or_else(|| "?".to_owned(), |v| v.to_string());
     let sign = if record.is_some() { "+" } else { "-" };
     let letter = ["n", "w", "r"][kind as usize];
@@ -213,15 +213,15 @@ impl Sizes {
         [a, b, c, d, e, f, self.strings, self.string_bytes].map(|size| size as u64)
     }
 
-    /// The first of 13, 14 and 15 that the overlay's state would not fit.
-    pub(crate) fn exceeded(&self, state: &State) -> Option<u32> {
-        let kinds = || state.kinds.iter().enumerate();
-        let known = |k: &KindState| k.live.len() + k.deleted.len();
-        if state.texts.len() > self.strings || state.string_bytes.len() > self.string_bytes {
+    /// The first of 13, 14 and 15 that the overlay would not fit.
+    pub(crate) fn exceeded(&self, overlay: &Overlay) -> Option<u32> {
+        let (spans, bytes) = overlay.inner.judge_spans();
+        let over = |most: &[usize; 3], used: &dyn Fn(Kind) -> usize| KINDS.iter().any(|&k| used(k) > most[k as usize]);
+        if spans.len() > self.strings || bytes.len() > self.string_bytes {
             Some(13)
-        } else if kinds().any(|(n, k)| known(k) > self.ids[n]) {
+        } else if over(&self.ids, &|kind| overlay.live_count(kind) + overlay.deleted_count(kind)) {
             Some(14)
-        } else if kinds().any(|(n, k)| k.arena.len() > self.arenas[n]) {
+        } else if over(&self.arenas, &|kind| overlay.inner.judge_arena(kind).len()) {
             Some(15)
         } else {
             None
@@ -309,10 +309,10 @@ impl Reader {
                 if empty { Event::Empty(start) } else { Event::Start(start) }
             }
         };
-        let before = (change == Change::None || sizes.is_some()).then(|| (overlay.clone(), self.steps.clone()));
+        let before = (change == Change::None).then(|| (overlay.clone(), self.steps.clone()));
         let mut reply = self.steps.step(&mut overlay.inner, &event).map_err(|e| Refusal::of_event(&e, forms));
         if let (Ok(()), Some(sizes)) = (reply, sizes) {
-            let full = sizes.exceeded(&overlay.state()).or(self.element_over());
+            let full = sizes.exceeded(overlay).or(self.element_over());
             reply = full.map_or(Ok(()), |number| Err(Refusal::plain(number)));
         }
         if reply.is_err()

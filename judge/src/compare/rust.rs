@@ -31,7 +31,7 @@ impl Rust {
     fn act<T>(&mut self, sizes: &Sizes, act: impl FnOnce(&mut Overlay) -> Result<T, Refusal>) -> Result<T, (u32, i32)> {
         let before = self.overlay.clone();
         let reply = act(&mut self.overlay).map_err(|r| (r.number, r.held.unwrap_or(0)));
-        let full = sizes.exceeded(&self.overlay.state());
+        let full = sizes.exceeded(&self.overlay);
         let reply = reply.and_then(|value| full.map_or(Ok(value), |number| Err((number, 0))));
         if reply.is_err() {
             self.overlay = before;

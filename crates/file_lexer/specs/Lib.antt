@@ -1,0 +1,4 @@
+pub mod Lexing
+pub mod Line
+pub mod Held
+pub mod Plain

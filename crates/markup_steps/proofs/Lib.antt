@@ -1,0 +1,3 @@
+pub mod Wrapped
+pub mod Kept
+pub mod Runs

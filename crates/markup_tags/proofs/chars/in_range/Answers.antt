@@ -1,0 +1,8 @@
+-- `chars::in_range`: the test is the definition's.
+use Rattle.base.proofs.Tests.{and_both}
+use Rattle.text.specs.Char.{from_to}
+use Rattle.markup_tags.proofs.chars.in_range.Goals as goal
+
+pub returns : goal.returns
+unfolding from_to
+returns c = and_both _ _

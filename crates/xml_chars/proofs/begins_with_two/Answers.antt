@@ -1,0 +1,8 @@
+-- `xml_chars::begins_with_two`: the test is the definition's.
+use Rattle.base.proofs.Tests.{and_both}
+use Rattle.markup.specs.MarkupBytes.{begins_char}
+use Rattle.xml_chars.proofs.begins_with_two.Goals as goal
+
+pub returns : goal.returns
+unfolding begins_char
+returns c = rw (c.in_range.ensures, c.is_second.ensures) (and_both _ _)
