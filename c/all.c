@@ -124,7 +124,9 @@ static void numbers(void)
     BYTES(sentence, strlen(sentence), "A coordinate lies outside the globe.");
     sentence = tvk_refusal_sentence(TVK_NOT_DEGREES);
     BYTES(sentence, strlen(sentence), "A coordinate in degrees is not of the form 59.011234: at most one sign, one to three digits, and behind a point one to twelve.");
-    sentence = tvk_refusal_sentence(TVK_BOTH_FORMS + 1);
+    sentence = tvk_refusal_sentence(TVK_UNMATCHED_END_TAG);
+    BYTES(sentence, strlen(sentence), "An end tag closes nothing, or another element than the one that is open.");
+    sentence = tvk_refusal_sentence(TVK_UNMATCHED_END_TAG + 1);
     BYTES(sentence, strlen(sentence), "This is no refusal's number.");
 }
 
@@ -978,6 +980,135 @@ static void readers(void)
     SAME(reader.words[16], TVK_BAD_RECORD);
 }
 
+/* ---- a reader of files */
+
+static const char change[] = "\xef\xbb\xbf<?xml version='1.0' encoding=\"utf-8\" standalone='no' ?>\n<osmChange version=\"0.6\" ><!-- a - comment -->\n<?other data?><modify>\n"
+                             "<node id = \"7\" version='3' lat=\"0.000001\" lon=\"-0.000002\"><tag k=\"name\" v=\"&#65;&amp;&#x42;\xc3\xa4\"/></node >\n</modify></osmChange>";
+static struct tvk_change_file file, file_before;
+
+/* the words of a place with the reader's others as they are before the first byte, by the end of a file: 25 within markup, 18 between, 22 for words that are none */
+static uint32_t end_of_words(uint64_t number, uint64_t first, uint64_t second, uint64_t chars)
+{
+    tvk_change_file_clear(&file);
+    file.words[0] = number;
+    file.words[1] = first;
+    file.words[2] = second;
+    file.words[3] = chars;
+    return tvk_change_file_end(&file, &o).number;
+}
+
+static uint32_t end_of_word(size_t at, uint64_t number, uint64_t word)
+{
+    tvk_change_file_clear(&file);
+    file.words[0] = number;
+    file.words[at] = word;
+    return tvk_change_file_end(&file, &o).number;
+}
+
+/* each number of a place with the words beside it up to their bounds and past them */
+static void file_words(void)
+{
+    static const uint64_t most[34][2] = {{4, 0}, {1, 0}, {0, 0}, {1, 0}, {0, 0}, {0, 0}, {0, 0}, {1, 1}, {1, 0}, {1, 13}, {1, 0}, {1, 0x10ffff},
+                                         {1, 0}, {1, 0x10ffff}, {0, 0}, {0, 0}, {0, 0}, {0, 0}, {0, 0}, {0, 0}, {1, 0}, {0, 0}, {1, 0}, {1, 6},
+                                         {0, 0}, {1, 0}, {3, 1}, {6, 0}, {7, 0}, {9, 0}, {2, 0}, {2, 0}, {1, 15}, {0, 0}};
+    static const uint64_t begun[] = {0, 0xc2, 0xf4, 0xa0e0, 0x80e1, 0x9fed, 0x8ff4, 0x8090f0, 0xbf8ff4};
+    static const uint64_t not_begun[] = {1, 0x41, 0xc1, 0xf5, 0x80df, 0x9fe0, 0xa0ed, 0x8ff0, 0x90f4, 0x7f90f0, 0x8080ee, 0x1000000, UINT64_MAX};
+
+    for (uint64_t number = 0; number < 34; number++) {
+        uint32_t named = number == 0 ? TVK_UNFINISHED : TVK_NOT_MARKUP;
+        for (uint64_t first = 0; first <= most[number][0] + 1; first++) {
+            for (uint64_t second = 0; second <= 16; second++)
+                SAME(end_of_words(number, first, second, 0), first <= most[number][0] && second <= most[number][1] ? named : TVK_UNSOUND);
+            SAME(end_of_words(number, first, most[number][1], 0), first <= most[number][0] ? named : TVK_UNSOUND);
+            SAME(end_of_words(number, first, most[number][1] + 1, 0), TVK_UNSOUND);
+        }
+        SAME(end_of_words(number, UINT64_MAX, 0, 0), TVK_UNSOUND);
+        SAME(end_of_words(number, 256, 0, 0), TVK_UNSOUND);
+        SAME(end_of_words(number, 0, UINT64_MAX, 0), TVK_UNSOUND);
+        SAME(end_of_words(number, 0, UINT64_C(1) << 32, 0), TVK_UNSOUND);
+        for (size_t i = 0; i < sizeof begun / sizeof begun[0]; i++)
+            SAME(end_of_words(number, 0, 0, begun[i]), number == 0 && i != 0 ? TVK_UNSOUND : named);
+        for (size_t i = 0; i < sizeof not_begun / sizeof not_begun[0]; i++)
+            SAME(end_of_words(number, 0, 0, not_begun[i]), TVK_UNSOUND);
+    }
+    SAME(end_of_words(34, 0, 0, 0), TVK_UNSOUND);
+    SAME(end_of_words(UINT64_MAX, 0, 0, 0), TVK_UNSOUND);
+
+    /* no more line feeds before the markup than so far, its line within its room, and a name only where one is open */
+    SAME(end_of_word(4, 1, 1), TVK_UNSOUND);
+    SAME(end_of_word(5, 1, 16380), TVK_NOT_MARKUP);
+    SAME(end_of_word(5, 1, 16381), TVK_UNSOUND);
+    SAME(end_of_word(5, 1, UINT64_MAX), TVK_UNSOUND);
+    SAME(end_of_word(6, 1, 1), TVK_UNSOUND);
+    SAME(end_of_word(4, 0, 1), TVK_UNSOUND);
+    SAME(end_of_word(5, 0, 1), TVK_UNSOUND);
+
+    /* a piece for words that are none changes nothing */
+    file.words[0] = 34;
+    memcpy(&file_before, &file, sizeof file);
+    keep();
+    SAME(tvk_change_file_piece(&file, &o, change, sizeof change - 1).number, TVK_UNSOUND);
+    SAME(kept() && memcmp(&file, &file_before, sizeof file) == 0, 1);
+    tvk_change_file_clear(&file);
+    file.reader.words[0] = 7;
+    SAME(tvk_change_file_piece(&file, &o, NULL, 0).number, TVK_UNSOUND);
+    SAME(tvk_change_file_end(&file, &o).number, TVK_UNSOUND);
+}
+
+static void files(void)
+{
+    const size_t len = sizeof change - 1;
+    char page[64];
+    size_t within = 0;
+    uint64_t feeds = 0, line = 1;
+
+    SAME(sizeof file.bytes, TVK_FILE_BYTES);
+    SAME(tvk_overlay_set_up(&o, sizes, 0).number, 0);
+    SAME(tvk_change_file_end(&file, &o).number, TVK_UNFINISHED);
+    SAME(tvk_change_file_piece(&file, &o, change, len).number, 0);
+    SAME(tvk_change_file_end(&file, &o).number, 0);
+    struct tvk_listing_reply l = tvk_overlay_listing(&o, page, sizeof page);
+    BYTES(page, l.length, "n\t7\t+\t3\t9\t3\t0\t0\t0\t\t10\t-20\t1\tname\tA&B\xc3\xa4\n");
+
+    /* byte by byte: after each its words are a reader's, and the end says where the file would end */
+    SAME(tvk_overlay_set_up(&o, sizes, 0).number, 0);
+    tvk_change_file_clear(&file);
+    for (size_t i = 0; i < len; i++) {
+        if (change[i] == '<') {
+            within = 1;
+            line = feeds + 1;
+        }
+        if (change[i] == '>')
+            within = 0;
+        if (change[i] == '\n')
+            feeds++;
+        SAME(tvk_change_file_piece(&file, &o, change + i, 1).number, 0);
+        struct tvk_event_reply e = tvk_change_file_end(&file, &o);
+        SAME(e.number, within ? TVK_NOT_MARKUP : i + 1 < len ? TVK_UNFINISHED : 0);
+        SAME(e.line, within ? line : i + 1 < len ? feeds + 1 : 0);
+        SAME(tvk_change_file_piece(&file, &o, NULL, 0).number, 0);
+    }
+    l = tvk_overlay_listing(&o, page, sizeof page);
+    BYTES(page, l.length, "n\t7\t+\t3\t9\t3\t0\t0\t0\t\t10\t-20\t1\tname\tA&B\xc3\xa4\n");
+
+    /* what is refused stops the reader */
+    tvk_change_file_clear(&file);
+    struct tvk_event_reply e = tvk_change_file_piece(&file, &o, "<osmChange>\n<modify></delete>", 29);
+    SAME(e.number, TVK_UNMATCHED_END_TAG);
+    SAME(e.line, 2);
+    e = tvk_change_file_piece(&file, &o, change, len);
+    SAME(e.number, TVK_UNMATCHED_END_TAG);
+    SAME(e.line, 2);
+    SAME(tvk_change_file_end(&file, &o).number, TVK_UNMATCHED_END_TAG);
+    tvk_change_file_clear(&file);
+    e = tvk_change_file_piece(&file, &o, "\n<osmChange\n x>", 15);
+    SAME(e.number, TVK_NOT_MARKUP);
+    SAME(e.line, 2);
+    SAME(file.reader.words[16], TVK_NOT_MARKUP);
+
+    file_words();
+}
+
 /* ---- the least that may be lent, by the macro: no bytes at all */
 
 TVK_STATIC_OVERLAY(least, 1, 0, 1, 0);
@@ -1039,6 +1170,7 @@ int main(void)
     saved();
     other_blocks();
     readers();
+    files();
     guards();
     no_bytes();
     empty_block();

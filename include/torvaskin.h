@@ -16,7 +16,8 @@
    tvk_sizes_words and tvk_sizes_bytes say how long the blocks are. There is no lending a longer block later: a new overlay is set up and filled again.
 
    A reader lives in two arrays more: TVK_READER_WORDS words, all 0 for a fresh reader, and TVK_STAGED_BYTES bytes for the element that it is in. In word 16 stands what
-   stopped it, 2 to 16, 23 or 24, or 0: words with another number there are no reader's.
+   stopped it, 2 to 16 or 23 to 26, or 0: words with another number there are no reader's. A reader of files has TVK_FILE_WORDS words and TVK_FILE_BYTES bytes beside those, its
+   words all 0 before the first byte of a file.
 
    What a caller owes at every call, since no proof sees it:
 
@@ -50,7 +51,7 @@ extern "C" {
 /* ---- version */
 
 /* Of this header and its library. CHANGELOG.md says what each version changed. */
-#define TVK_VERSION "0.5.0"
+#define TVK_VERSION "0.6.0"
 
 /* What the words, bytes and counters of an overlay and the words and staged bytes of a reader mean. It changes when they do: who saves them writes it beside them. */
 #define TVK_STORED_FORM 1
@@ -72,6 +73,8 @@ extern "C" {
 #define TVK_COUNTERS 17
 #define TVK_READER_WORDS 19
 #define TVK_STAGED_BYTES 44432
+#define TVK_FILE_WORDS 7
+#define TVK_FILE_BYTES 32771
 
 /* What may be lent: 1 to MAX_IDS ids and 0 to MAX_ARENA bytes a kind, 1 to MAX_STRINGS strings (the empty text is one), 0 to MAX_STRING_BYTES bytes. */
 #define TVK_MAX_IDS 4096
@@ -138,6 +141,8 @@ extern "C" {
 #define TVK_UNSOUND 22          /* damaged storage, blocks that are not as long as the sizes say, or words that are no reader's */
 #define TVK_NOT_DEGREES 23      /* a lat or lon that is no decimal number of one to three digits and up to twelve decimals */
 #define TVK_BOTH_FORMS 24       /* a coordinate in both forms: lat beside lat7, or lon beside lon7 */
+#define TVK_NOT_MARKUP 25       /* markup that is not well formed by itself, or not supported; a file that ends inside markup */
+#define TVK_UNMATCHED_END_TAG 26 /* an end tag with none open, or whose name is not the open one's */
 
 /* ---- structs */
 
@@ -369,6 +374,20 @@ struct tvk_events_reply tvk_events(uint64_t *words, size_t words_len, uint8_t *b
 struct tvk_event_reply tvk_end(const uint64_t *words, size_t words_len, const uint8_t *bytes, size_t bytes_len, const uint64_t counters[TVK_COUNTERS],
                                const uint64_t reader[TVK_READER_WORDS], const uint8_t parts[TVK_STAGED_BYTES]);
 
+/* ==== entries: a reader of files, in XML 1.0 (docs/FILES.md) */
+
+/* A piece of a file, which may end anywhere: 22, or what stopped the reader, whatever the piece holds. Then its markups one after another, up to the first that is refused: 25 at the first
+   byte with which no legal markup goes on; 26; then its event as tvk_event has it, 2 for its line, and 25 where an attribute stands twice. line is that of the markup's first byte. A
+   refusal but 22 stops the reader. How a file is cut changes no answer. */
+struct tvk_event_reply tvk_file_piece(uint64_t *words, size_t words_len, uint8_t *bytes, size_t bytes_len, uint64_t counters[TVK_COUNTERS], uint64_t reader[TVK_READER_WORDS],
+                                      uint8_t parts[TVK_STAGED_BYTES], uint64_t file_words[TVK_FILE_WORDS], uint8_t file_bytes[TVK_FILE_BYTES], const uint8_t *piece,
+                                      size_t piece_len);
+
+/* The end of a file: 22; what stopped the reader; 25 inside markup, at that markup's line; 18, at the line feeds plus one; or 0. It changes nothing. */
+struct tvk_event_reply tvk_file_end(const uint64_t *words, size_t words_len, const uint8_t *bytes, size_t bytes_len, const uint64_t counters[TVK_COUNTERS],
+                                    const uint64_t reader[TVK_READER_WORDS], const uint8_t parts[TVK_STAGED_BYTES], const uint64_t file_words[TVK_FILE_WORDS],
+                                    const uint8_t file_bytes[TVK_FILE_BYTES]);
+
 /* ==== entries: readings, which change nothing. Each is 22 first; one that takes a kind is then 17 for a number above 2. */
 
 /* How many ids of a kind are live, and how many deleted. */
@@ -458,6 +477,13 @@ struct tvk_overlay {
 struct tvk_reader {
     uint64_t words[TVK_READER_WORDS];
     uint8_t staged[TVK_STAGED_BYTES];
+};
+
+/* The same with what a reader of files has beside them. */
+struct tvk_change_file {
+    struct tvk_reader reader;
+    uint64_t words[TVK_FILE_WORDS];
+    uint8_t bytes[TVK_FILE_BYTES];
 };
 
 /* an array as a block: its pointer, and how many */
@@ -645,6 +671,18 @@ static inline struct tvk_event_reply tvk_reader_end(const struct tvk_reader *r, 
     return tvk_end(TVK_LENT(o), r->words, r->staged);
 }
 
+/* ---- a reader of files */
+
+static inline struct tvk_event_reply tvk_change_file_piece(struct tvk_change_file *f, struct tvk_overlay *o, const void *piece, size_t len)
+{
+    return tvk_file_piece(TVK_LENT(o), f->reader.words, f->reader.staged, f->words, f->bytes, TVK_TEXT(piece, len));
+}
+
+static inline struct tvk_event_reply tvk_change_file_end(const struct tvk_change_file *f, const struct tvk_overlay *o)
+{
+    return tvk_file_end(TVK_LENT(o), f->reader.words, f->reader.staged, f->words, f->bytes);
+}
+
 /* ---- fields */
 
 static inline struct tvk_number tvk_field_read_i64(const void *s, size_t len)
@@ -699,6 +737,13 @@ static inline void tvk_reader_clear(struct tvk_reader *r)
     memset(r->words, 0, sizeof r->words);
 }
 
+/* a fresh reader of files, for the next file */
+static inline void tvk_change_file_clear(struct tvk_change_file *f)
+{
+    tvk_reader_clear(&f->reader);
+    memset(f->words, 0, sizeof f->words);
+}
+
 /* ---- refusals */
 
 /* What happened, by a reply's number, for the person who reads it: the sentence of docs/REFUSALS.md. */
@@ -730,6 +775,8 @@ static inline const char *tvk_refusal_sentence(uint32_t number)
         "What the terminal has stored is damaged, or was handed over cut short.",
         "A coordinate in degrees is not of the form 59.011234: at most one sign, one to three digits, and behind a point one to twelve.",
         "A node gives a coordinate twice, in degrees and in whole numbers: `lat` beside `lat7`, or `lon` beside `lon7`.",
+        "The file is not well-formed XML there, or holds what is not supported: a DOCTYPE, CDATA or an encoding other than UTF-8.",
+        "An end tag closes nothing, or another element than the one that is open.",
     };
     return number < sizeof sentences / sizeof sentences[0] ? sentences[number] : "This is no refusal's number.";
 }

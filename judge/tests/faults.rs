@@ -590,10 +590,10 @@ const FAULTS: [(&str, Fault, &[usize]); 52] = [
         &[15],
     ),
     (
-        "a stop mark above 24 taken",
+        "a stop mark above 26 taken",
         |call, before, lent, answer| {
             if let (Call::End(n), 22) = (call, answer.number())
-                && let mark @ 25.. = before.readers[*n].words[16]
+                && let mark @ 27.. = before.readers[*n].words[16]
             {
                 *lent = before.clone();
                 *answer = Answer::Event { number: mark as u32, held: 0, line: before.readers[*n].words[17] };

@@ -58,17 +58,17 @@ kind_code : (n : ℕ) → n ≤ 2 → kind_word (kind_in n) ≡ n
 kind_code n h = below (λ (i : ℕ). kind_word (kind_in i) ≡ i) 3 n (omega arith) (refl, (refl, (refl, tt)))
 
 module _ (held : ℕ) where
-  refusal_code : (n : ℕ) → n < 24 → number_of (refusal_numbered (suc n) held) ≡ suc n
+  refusal_code : (n : ℕ) → n < 26 → number_of (refusal_numbered (suc n) held) ≡ suc n
   unfolding refusal_numbered
-  refusal_code n h = below (λ (i : ℕ). number_of (refusal_numbered (suc i) held) ≡ suc i) 24 n h (refl, (refl, (refl, (refl, (refl, (refl, (refl, (refl, (refl, (refl, (refl, (refl, (refl, (refl, (refl, (refl, (refl, (refl, (refl, (refl, (refl, (refl, (refl, (refl, tt))))))))))))))))))))))))
+  refusal_code n h = below (λ (i : ℕ). number_of (refusal_numbered (suc i) held) ≡ suc i) 26 n h (refl, (refl, (refl, (refl, (refl, (refl, (refl, (refl, (refl, (refl, (refl, (refl, (refl, (refl, (refl, (refl, (refl, (refl, (refl, (refl, (refl, (refl, (refl, (refl, (refl, (refl, tt))))))))))))))))))))))))))
 
-  number_named : (n : ℕ) → (n ≡ 0 → ⊥) → n ≤ 24 → number_of (refusal_numbered n held) ≡ n
+  number_named : (n : ℕ) → (n ≡ 0 → ⊥) → n ≤ 26 → number_of (refusal_numbered n held) ≡ n
   number_named zero d h = absurd (d refl)
   number_named (suc n) d h = refusal_code n (omega arith)
 
-  held_none : (n : ℕ) → n < 24 → (n ≡ 11 → ⊥) → held_of (refusal_numbered (suc n) held) ≡ pos 0
+  held_none : (n : ℕ) → n < 26 → (n ≡ 11 → ⊥) → held_of (refusal_numbered (suc n) held) ≡ pos 0
   unfolding refusal_numbered
-  held_none n h = below (λ (i : ℕ). (i ≡ 11 → ⊥) → held_of (refusal_numbered (suc i) held) ≡ pos 0) 24 n h (λ d. refl, (λ d. refl, (λ d. refl, (λ d. refl, (λ d. refl, (λ d. refl, (λ d. refl, (λ d. refl, (λ d. refl, (λ d. refl, (λ d. refl, (λ d. refl, (λ d. absurd (d refl), (λ d. refl, (λ d. refl, (λ d. refl, (λ d. refl, (λ d. refl, (λ d. refl, (λ d. refl, (λ d. refl, (λ d. refl, (λ d. refl, (λ d. refl, tt))))))))))))))))))))))))
+  held_none n h = below (λ (i : ℕ). (i ≡ 11 → ⊥) → held_of (refusal_numbered (suc i) held) ≡ pos 0) 26 n h (λ d. refl, (λ d. refl, (λ d. refl, (λ d. refl, (λ d. refl, (λ d. refl, (λ d. refl, (λ d. refl, (λ d. refl, (λ d. refl, (λ d. refl, (λ d. refl, (λ d. refl, (λ d. refl, (λ d. absurd (d refl), (λ d. refl, (λ d. refl, (λ d. refl, (λ d. refl, (λ d. refl, (λ d. refl, (λ d. refl, (λ d. refl, (λ d. refl, (λ d. refl, (λ d. refl, tt))))))))))))))))))))))))))
 
 -- ---- a mark's words
 
@@ -84,7 +84,7 @@ pub record MarkBack (number line held : ℕ) : Type 0 where
   pub held_is : mark_held (stop_in number line held) ≡ held
 
 module _ (number line held : ℕ) (e : stop_coded number line held ≡ true) where
-  number_most : number ≤ 24
+  number_most : number ≤ 26
   unfolding stop_coded
   number_most =
       by_either _ _ (both_left _ _ e)
@@ -243,6 +243,8 @@ refusals_coded R.NoSuchNumber line t f = clash t refl
 refusals_coded R.Unsound line t f = clash t refl
 refusals_coded R.NotDegrees line t f = (refl, refl)
 refusals_coded R.BothForms line t f = (refl, refl)
+refusals_coded R.NotMarkup line t f = (refl, refl)
+refusals_coded R.UnmatchedEndTag line t f = (refl, refl)
 
 marks_coded : (m : Option RefusedAt) → MarkFits m → (stop_coded (mark_number m) (mark_line m) (mark_held m) ≡ true) × (stop_in (mark_number m) (mark_line m) (mark_held m) ≡ m)
 unfolding stop_coded stop_in both either

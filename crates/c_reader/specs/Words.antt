@@ -99,7 +99,7 @@ abbrev pub refusal_codes : ℕ → List Refusal
 refusal_codes held =
     R.Unsound ∷ R.Size ∷ R.LongLine ∷ R.NotText ∷ R.NotEventLine ∷ R.Misplaced ∷ R.OutsideSection ∷ R.Missing ∷ R.NotInteger
     ∷ R.NotTimestamp ∷ R.CoordinateRange ∷ R.MemberType ∷ R.Regression (to_z w32 held) ∷ R.StringsFull ∷ R.IdsFull ∷ R.ArenaFull ∷ R.TooManyParts
-    ∷ R.BadRecord ∷ R.Unfinished ∷ R.ShortOutput ∷ R.NotInOrder ∷ R.NoSuchNumber ∷ R.Unsound ∷ R.NotDegrees ∷ R.BothForms ∷ []
+    ∷ R.BadRecord ∷ R.Unfinished ∷ R.ShortOutput ∷ R.NotInOrder ∷ R.NoSuchNumber ∷ R.Unsound ∷ R.NotDegrees ∷ R.BothForms ∷ R.NotMarkup ∷ R.UnmatchedEndTag ∷ []
 
 -- the refusal of a number, with the bits of HELD
 unfoldable pub refusal_numbered : ℕ → ℕ → Refusal
@@ -130,7 +130,7 @@ unfoldable pub meta_coded : List ℕ → Bool
 meta_coded w =
     both (ltb (word_at w 8) 256) (both (ltb (word_at w 9) 4294967296) (both (ltb (word_at w 12) 4294967296) (ltb (word_at w 13) 4294967296)))
 
--- a mark is a refusal that an event leaves, with HELD for 12 alone; while the reader goes on it has no line
+-- a mark is a refusal that stops a reader, with HELD for 12 alone; while the reader goes on it has no line
 unfoldable pub stop_coded : ℕ → ℕ → ℕ → Bool
 stop_coded number line held =
     both (either (eqb number 0) (stops_by (refusal_numbered number held)))

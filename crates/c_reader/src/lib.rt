@@ -96,7 +96,7 @@ fn meta_of(words: &[u64; READER_WORDS]) -> Option<ArenaMeta>
     })
 }
 
-// The refusal of a stop mark's number, with the bits of the known version for 12; none where no event leaves the number.
+// The refusal of a stop mark's number, with the bits of the known version for 12; none where the number is of no refusal that stops a reader.
 #[tactic(auto, using(crate::proofs::Codes::held_back), unfolding(crate::specs::Words::refusal_numbered, reader::specs::State::stops_by))]
 fn refusal_of(number: u64, held: u32) -> Option<Refusal>
     ensures { result ≡ if_coded (stops_by (refusal_numbered number held)) (refusal_numbered number held) }
@@ -119,6 +119,8 @@ fn refusal_of(number: u64, held: u32) -> Option<Refusal>
         16 => Some(Refusal::TooManyParts),
         23 => Some(Refusal::NotDegrees),
         24 => Some(Refusal::BothForms),
+        25 => Some(Refusal::NotMarkup),
+        26 => Some(Refusal::UnmatchedEndTag),
         _ => None,
     }
 }

@@ -34,7 +34,8 @@ use Rattle.calls.proofs.Theorems as Theorems
 use Rattle.condition.specs.Condition3.{Start}
 use Rattle.condition.proofs.Condition3.{taken_start}
 use Rattle.input_pieces.specs.Feed.{after_event}
-use Rattle.roadlist_page.specs.Roadlist.{program_sizes, program_lends, start_on, program_start, page_ending, ending_at, roadlist_of}
+use Rattle.program_ending.specs.Ending.{page_ending}
+use Rattle.roadlist_page.specs.Roadlist.{program_sizes, program_lends, start_on, program_start, ending_at, roadlist_of}
 use Rattle.roadlist_page.proofs.Starts.{zeros_bytes, lends_bytes, lends_taken}
 use Rattle.input_acts.specs.Input.{line_taken, input_acts}
 use Rattle.input_acts.proofs.Runs.{state_own}

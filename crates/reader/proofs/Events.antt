@@ -112,9 +112,13 @@ refuses_in (refers p z) r e = no (cc)
 refuses_in (joins p m) r e = no (cc)
 refuses_in (ends p) r e = no (cc)
 
--- the numbers that stop today: 2 to 16, 23, 24
+-- the numbers that stop today: 2 to 16, 23 to 26
 abbrev pub stopping_number : ℕ → Bool
-stopping_number n = either (both (leb 2 n) (leb n 16)) (either (eqb n 23) (eqb n 24))
+stopping_number n = either (both (leb 2 n) (leb n 16)) (both (leb 23 n) (leb n 26))
+
+-- those of them that an event leaves: 2 to 16, 23, 24
+abbrev pub event_number : ℕ → Bool
+event_number n = either (both (leb 2 n) (leb n 16)) (either (eqb n 23) (eqb n 24))
 
 pub stops_numbers : (r : Refusal) → stops_by r ≡ stopping_number (number_of r)
 unfolding stops_by both either
@@ -142,18 +146,26 @@ stops_numbers R.NoSuchNumber = refl
 stops_numbers R.Unsound = refl
 stops_numbers R.NotDegrees = refl
 stops_numbers R.BothForms = refl
+stops_numbers R.NotMarkup = refl
+stops_numbers R.UnmatchedEndTag = refl
 
-stops_by_lem : (r : Refusal) → 2 ≤ number_of r → number_of r ≤ 16 → stops_by r ≡ true
-stops_by_lem r a b = stops_numbers r ∙ either_left _ _ (both_of (le-leb 2 (number_of r) a) (le-leb (number_of r) 16 b))
-
--- what is refused before the store stops
-decision_stops : (r : Refusal) → decision_number (number_of r) ≡ true → stops_by r ≡ true
-decision_stops r e =
+-- what is refused before the store is of an event
+decision_event : (n : ℕ) → decision_number n ≡ true → event_number n ≡ true
+decision_event n e =
     by_either _ _ e
-    (λ t. let l = leb-true (number_of r) 11 (both_right _ _ t) in stops_by_lem r (leb-true 2 (number_of r) (both_left _ _ t)) (omega arith))
-    (λ t. stops_numbers r ∙ either_right (both (leb 2 (number_of r)) (leb (number_of r) 16)) t)
+    (λ t. let l = leb-true n 11 (both_right _ _ t) in either_left _ _ (both_of (both_left _ _ t) (le-leb n 16 (omega arith))))
+    (λ t. either_right (both (leb 2 n) (leb n 16)) t)
 
--- and is none of the store's
+-- and what is of an event stops
+pub event_stopping : (n : ℕ) → event_number n ≡ true → stopping_number n ≡ true
+event_stopping n e =
+    by_either _ _ e
+    (λ t. either_left _ _ t)
+    (λ t. either_right (both (leb 2 n) (leb n 16)) (by_either _ _ t
+    (λ u. let l = eqb-true n 23 u in both_of (le-leb 23 n (omega arith)) (le-leb n 26 (omega arith)))
+    (λ u. let l = eqb-true n 24 u in both_of (le-leb 23 n (omega arith)) (le-leb n 26 (omega arith)))))
+
+-- what is refused before the store is none of the store's
 decision_not_store : (n : ℕ) → decision_number n ≡ true → 12 ≤ n → n ≤ 16 → ⊥
 decision_not_store n e a b =
     by_either _ _ e
@@ -184,8 +196,15 @@ module _ (line : Bytes) (s : State) (e : state_sound s ≡ true) where
           let w = first_among 12 16 (store_rows_of d s) r (store_among d s) (sym z) in
           store w.0 w.1
 
+  -- so it is one of 2 to 16, 23 and 24
+  pub step_number : (r : Refusal) → step_at line s ≡ stops r → event_number (number_of r) ≡ true
+  step_number r f =
+      by_refusal r f
+      (λ q. decision_event (number_of r) (decide_within line s.reader.place r q))
+      (λ a b. either_left _ _ (both_of (le-leb 2 (number_of r) (omega arith)) (le-leb (number_of r) 16 b)))
+
   pub step_stops : (r : Refusal) → step_at line s ≡ stops r → stops_by r ≡ true
-  step_stops r f = by_refusal r f (λ q. decision_stops r (decide_within line s.reader.place r q)) (λ a b. stops_by_lem r (omega arith) b)
+  step_stops r f = stops_numbers r ∙ event_stopping (number_of r) (step_number r f)
 
   module _ (g : is_stopped s.reader.stop ≡ false) where
     -- an event that the acts' turn refuses is refused so, at its line; and each refusal before the store is the turn's

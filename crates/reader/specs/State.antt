@@ -71,6 +71,8 @@ stops_by R.NoSuchNumber = false
 stops_by R.Unsound = false
 stops_by R.NotDegrees = true
 stops_by R.BothForms = true
+stops_by R.NotMarkup = true
+stops_by R.UnmatchedEndTag = true
 
 abbrev pub is_stopped : Option RefusedAt → Bool
 is_stopped None = false

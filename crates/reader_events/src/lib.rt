@@ -32,7 +32,7 @@ pub struct EventsDone {
 // ---- one line
 
 // A line as an event of a state that is sound but for its count of lines: 22 where that is at its largest, the stop mark, or its step.
-fn line_event(
+pub fn line_event(
     state: &mut ReaderState<'_>,
     chains: &Chains<'_>,
     line: &[u8],

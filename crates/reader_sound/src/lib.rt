@@ -69,6 +69,8 @@ fn stops_by(refusal: Refusal) -> bool
             | Refusal::TooManyParts
             | Refusal::NotDegrees
             | Refusal::BothForms
+            | Refusal::NotMarkup
+            | Refusal::UnmatchedEndTag
     )
 }
 

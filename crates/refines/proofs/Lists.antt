@@ -1,7 +1,7 @@
 -- Condition 2, equality with the Rust, over lists: a call in the domain tells the same on both sides and leaves the same; one outside leaves the library as it was, and is not given to
 -- the Rust.
 use Rattle.std.specs.Prelude.{Option, Result, Ok, Err}
-use Rattle.std.proofs.Common.{◌≡◌, ℕ, ◌≤◌, true, false, not, eqb, ltb, List, [], ◌∷◌, ℤ, sym, refl, ap, ◌∙◌, subst, arith, w64, to_z, ltb-true, eq-eqb, ne_eqb, leb-true, eqb-true}
+use Rattle.std.proofs.Common.{◌≡◌, ℕ, ◌≤◌, true, false, not, eqb, ltb, List, [], ◌∷◌, ℤ, sym, refl, ap, ◌∙◌, subst, arith, w64, to_z, ltb-true, eq-eqb, ne_eqb, leb-true}
 use borrow.Author.Tests.{not-true}
 use Rattle.base.specs.Bytes.{Bytes, both, either, all}
 use Rattle.base.proofs.Split.{by_bool, by_eq, either_right, either_false, both_left, both_right, both_of, by_either, clash, no}
@@ -167,7 +167,7 @@ stops_number : (r : Refusal) → stops_by r ≡ true → eqb (number_of r) 22 �
 stops_number r t =
     ne_eqb (number_of r) 22 (λ e. by_either _ _ (sym (stops_numbers r) ∙ t)
     (λ s. let l = leb-true (number_of r) 16 (both_right _ _ s) in omega arith)
-    (λ s. by_either _ _ s (λ u. let l = eqb-true (number_of r) 23 u in omega arith) (λ u. let l = eqb-true (number_of r) 24 u in omega arith)))
+    (λ s. let l = leb-true 23 (number_of r) (both_left _ _ s) in omega arith))
 
 -- an event of one reader tells nothing of another
 past_other : (n m : ℕ) → (m ≡ n → ⊥) → (t : Told) (p : Past) → ((event_past n t p).stopped m ≡ p.stopped m) × ((event_past n t p).lines m ≡ p.lines m)

@@ -1,8 +1,8 @@
--- Document 01, "What is returned, by place of the check", and document 02, 23 and 24: each refusal's number, and the version that a regression returns with it.
+-- Document 01, "What is returned, by place of the check", and document 02, 23 to 26: each refusal's number, and the version that a regression returns with it.
 use Rattle.std.specs.Prelude.{ℕ, ℤ, pos}
 use Rattle.refusal.specs.declared.Reply.{Reply}
 use Rattle.refusal.specs.declared.Refusal.{Refusal}
-use Rattle.refusal.specs.declared.Refusal.TheVariants.{Size, LongLine, NotText, NotEventLine, Misplaced, OutsideSection, Missing, NotInteger, NotTimestamp, CoordinateRange, MemberType, Regression, StringsFull, IdsFull, ArenaFull, TooManyParts, BadRecord, Unfinished, ShortOutput, NotInOrder, NoSuchNumber, Unsound, NotDegrees, BothForms}
+use Rattle.refusal.specs.declared.Refusal.TheVariants.{Size, LongLine, NotText, NotEventLine, Misplaced, OutsideSection, Missing, NotInteger, NotTimestamp, CoordinateRange, MemberType, Regression, StringsFull, IdsFull, ArenaFull, TooManyParts, BadRecord, Unfinished, ShortOutput, NotInOrder, NoSuchNumber, Unsound, NotDegrees, BothForms, NotMarkup, UnmatchedEndTag}
 
 -- "1 lent size outside", "2 over 16,384 bytes without its line feed", and so on down the table
 abbrev pub number_of : Refusal → ℕ
@@ -30,6 +30,8 @@ number_of NoSuchNumber = 21
 number_of Unsound = 22
 number_of NotDegrees = 23
 number_of BothForms = 24
+number_of NotMarkup = 25
+number_of UnmatchedEndTag = 26
 
 -- "the known version for 12 (0 otherwise)"
 abbrev pub held_of : Refusal → ℤ
@@ -57,6 +59,8 @@ held_of NoSuchNumber = pos 0
 held_of Unsound = pos 0
 held_of NotDegrees = pos 0
 held_of BothForms = pos 0
+held_of NotMarkup = pos 0
+held_of UnmatchedEndTag = pos 0
 
 -- a refusal without a version
 abbrev pub plain_reply : ℕ → Reply

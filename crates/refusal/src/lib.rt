@@ -12,6 +12,9 @@ pub enum Refusal {
     LongLine,
     NotText,
     NotEventLine,
+    // file
+    NotMarkup,
+    UnmatchedEndTag,
     // nesting
     Misplaced,
     OutsideSection,
@@ -88,6 +91,8 @@ impl From<Refusal> for Reply {
             Refusal::Unsound => plain(22),
             Refusal::NotDegrees => plain(23),
             Refusal::BothForms => plain(24),
+            Refusal::NotMarkup => plain(25),
+            Refusal::UnmatchedEndTag => plain(26),
         }
     }
 }

@@ -4,9 +4,10 @@
 
 use input_pieces::{BUFFER, InputBuffer, MAX_PIECE};
 use overlay_blocks::COUNTERS;
+use program_ending::Ended;
 use reader::ReaderState;
 use reader_stage::STAGED;
-use roadlist_page::{BYTES, Ended, MAX_OUTPUT, WORDS};
+use roadlist_page::{BYTES, MAX_OUTPUT, WORDS};
 use std::io;
 use std::io::Read;
 

@@ -1,45 +1,34 @@
 -- The start, a last line, and what is printed: each step of the code by its definition.
 use Rattle.reader.specs.declared.RefusedAt.{RefusedAt}
-use Rattle.std.specs.Prelude.{Option, Err, None, Ok, Result, Some}
-use Prim.Native.Nat.{ℕ, ◌+◌, ◌^◌, ◌<◌, ◌≤◌}
-use mathlib.Core.Path.{◌≡◌, refl, sym, ◌∙◌, ap, subst}
+use Rattle.std.specs.Prelude.{Ok, Result}
+use Prim.Native.Nat.{ℕ, ◌<◌, ◌≤◌}
+use mathlib.Core.Path.{◌≡◌, refl, sym, ◌∙◌, ap}
 use mathlib.Core.Bool.{true, false}
-use mathlib.Core.List.{List, [], ◌∷◌, ◌++◌}
+use mathlib.Core.List.{List, [], ◌∷◌}
 use native.Mathlib.Omega.{arith}
-use borrow.Author.Tests.{le-leb, lt-leb, ltb-true}
-use mir.Syntax.{w32}
-use mir.Val.{SFits}
-use lib.ListN.{length, drop}
+use lib.ListN.{length}
 use lib.Seq.{length-take-le, take-length}
 use Rattle.base.specs.Bytes.{Bytes, both}
-use Rattle.base.proofs.Split.{by_le, both_left, both_right, clash, no}
-use Rattle.refusal.specs.Refusal.{held_of, reply_of}
-use Rattle.refusal.specs.declared.Reply.{Reply}
+use Rattle.base.proofs.Split.{clash, no}
 use Rattle.refusal.specs.declared.Refusal.{Refusal}
 use Rattle.refusal.specs.declared.Refusal.TheVariants as R
-use Rattle.little.proofs.Overs.{over_start}
 use Rattle.overlay_blocks.specs.declared.Sizes.{Sizes}
 use Rattle.overlay_blocks.specs.Blocks.{sizes_in}
 use Rattle.overlay_blocks.specs.Sizes.{largest, kind_fits, strings_fit, sizes_in_range, filled, fitted}
 use Rattle.overlay.specs.Overlay.{Overlay, with_sizes, sizes_fit, empty}
 use Rattle.overlay.specs.Lent.{overlay_for, overlay_in}
-use Rattle.overlay.specs.Sound.{is_sound}
 use Rattle.overlay.specs.Calls.{OverlayAfter, set_up}
 use Rattle.overlay.proofs.Tiles.{fits_in}
 use Rattle.overlay.proofs.Answers.{by_set_up}
 use Rattle.input_lines.specs.Lines.{last_line}
-use Rattle.listing.specs.Call.{Output, page_of, page_over, listing_on, not_listed}
-use Rattle.std.specs.Option.{unwrap_or}
-use Rattle.print.specs.Piece.{Whole, whole_over}
-use Rattle.roadlist_report.specs.Report.{refused_line}
-use Rattle.roadlist_report.proofs.Fits.{refused_whole}
-use Rattle.reader.specs.State.{State, fresh_reader, state_sound, reader_sound, refusal_at}
+use Rattle.reader.specs.State.{State, fresh_reader, state_sound}
 use Rattle.reader.specs.declared.EventReader.{EventReader}
 use Rattle.reader.specs.Event.{EventResult, event_on, end_on}
 use Rattle.reader.proofs.Answers.{by_end, end_22, answer_is}
-use Rattle.roadlist_page.specs.Roadlist.{program_sizes, start_on, refused_ending, page_ending, ending_at}
+use Rattle.program_ending.specs.Ending.{EndOutput, end_output, refused_ending, ending_by}
+use Rattle.roadlist_page.specs.Roadlist.{program_sizes, start_on, ending_at}
 use Rattle.input_pieces.specs.Feed.{Intake, kept_line, state_at_end}
-use Rattle.roadlist_page.specs.Finish.{EndOutput, end_output, Finished, finish_on}
+use Rattle.roadlist_page.specs.Finish.{Finished, finish_on}
 
 -- ---- the start
 
@@ -90,43 +79,7 @@ last_lent f = rw (take-length (kept_line f)) refl
 
 -- ---- what is printed
 
--- the line of a refusal is at the start of the output
-pub refused_put : (out : Bytes) → length out ≡ 65536 → (r : Refusal) (n : ℕ) → n < 2 ^ 64 → (y : Reply) → SFits w32 y.held → y ≡ reply_of r
-    → (q : Bytes) (m : Option ℕ) → ◌≡◌ {A = Whole} (record { out = q; length = m }) (whole_over out (refused_line r n))
-    → ◌≡◌ {A = EndOutput} (record { out = q; written = unwrap_or m 0; refusal = Some r }) (end_output out (refused_ending r n))
-unfolding reply_of
-refused_put out l r n h y g k q m e =
-    let f : SFits w32 (held_of r) = subst (λ (z : Reply). SFits w32 z.held) k g in
-    let w = e ∙ refused_whole r n h f out (omega arith) in
-    λ i. record { out = (w i).out; written = unwrap_or (w i).length 0; refusal = Some r }
-
-module _ (out : Bytes) (l : length out ≡ 65536) (o : Overlay) (s : is_sound o ≡ true) (lines : ℕ) where
-  -- 19 is the only refusal of the listing
-  by_page : {C : Type 0} (x : Output) → x ≡ listing_on out o
-      → (x ≡ record { out = page_of o ++ drop (length (page_of o)) out; answer = Ok (length (page_of o)) } → page_ending o lines ≡ record { text = page_of o; refusal = None } → C)
-      → (x ≡ not_listed out R.ShortOutput → page_ending o lines ≡ refused_ending R.ShortOutput (lines + 1) → C) → C
-  unfolding listing_on page_over page_ending
-  by_page x e f g =
-      by_le (length (page_of o)) 65536
-      (λ h. f (rw (s, l, le-leb (length (page_of o)) 65536 h) at e) (rw (le-leb (length (page_of o)) 65536 h)))
-      (λ h. g (rw (s, l, lt-leb (length (page_of o)) 65536 h) at e) (rw (lt-leb (length (page_of o)) 65536 h)))
-
-  pub page_listed : (q : Bytes) (n : ℕ) (z : Result ℕ Refusal) → z ≡ Ok n → ◌≡◌ {A = Output} (record { out = q; answer = z }) (listing_on out o)
-      → ◌≡◌ {A = EndOutput} (record { out = q; written = n; refusal = None }) (end_output out (page_ending o lines))
-  page_listed q n y k e =
-      by_page (record { out = q; answer = y }) e
-      (λ x p. let z = sym k ∙ ap (λ (z : Output). z.answer) x in let m : n ≡ length (page_of o) = cc in rw p (λ i. record { out = (x i).out; written = m i; refusal = None }))
-      (λ x p. let z = sym k ∙ ap (λ (z : Output). z.answer) x in no (cc))
-
-  pub page_refused : (q : Bytes) (r : Refusal) (z : Result ℕ Refusal) → z ≡ Err r → ◌≡◌ {A = Output} (record { out = q; answer = z }) (listing_on out o)
-      → (x : EndOutput) → x ≡ end_output q (refused_ending r (lines + 1)) → x ≡ end_output out (page_ending o lines)
-  page_refused q r v i e x k =
-      by_page (record { out = q; answer = v }) e
-      (λ y p. let z = sym i ∙ ap (λ (z : Output). z.answer) y in no (cc))
-      (λ y p. let z = sym i ∙ ap (λ (z : Output). z.answer) y in let m : r ≡ R.ShortOutput = cc in let w : q ≡ out = ap (λ (z : Output). z.out) y in
-      rw p (rw (m, w) at k))
-
--- an end is accepted in sound storage alone
+-- an end is accepted in a sound state alone
 module _ (s : State) (r : Result Unit RefusedAt) (e : ◌≡◌ {A = EventResult} (record { state = s; answer = r }) (end_on s)) where
   pub end_sound : r ≡ Ok tt → state_sound s ≡ true
   end_sound a =
@@ -135,21 +88,9 @@ module _ (s : State) (r : Result Unit RefusedAt) (e : ◌≡◌ {A = EventResult
       (λ x n u g t w. u)
       (λ u g w. u)
 
-  pub end_overlay : r ≡ Ok tt → is_sound s.overlay ≡ true
-  unfolding state_sound
-  end_overlay a = both_left _ _ (end_sound a)
-
-  pub end_lines : r ≡ Ok tt → s.reader.lines < 18446744073709551615
-  unfolding state_sound reader_sound
-  end_lines a = ltb-true s.reader.lines 18446744073709551615 (both_right _ _ (both_right _ _ (end_sound a)))
-
-  pub ends_page : r ≡ Ok tt → page_ending s.overlay s.reader.lines ≡ ending_at s
+  pub ends_so : (out : Bytes) → length out ≡ 65536 → ending_by (length out) r s ≡ ending_at s
   unfolding ending_at
-  ends_page a = rw (← e, a)
-
-  pub ends_refused : (x : Refusal) (n : ℕ) → r ≡ Err (refusal_at x n) → refused_ending x n ≡ ending_at s
-  unfolding ending_at
-  ends_refused x n a = rw (← e, a)
+  ends_so out n = λ i. ending_by (n i) (e i).answer s
 
 -- in unsound storage, as where the line count is at its largest, 22 is told, which names no line
 pub ends_22 : (s : State) → state_sound s ≡ false → ending_at s ≡ refused_ending R.Unsound 0

@@ -1,22 +1,22 @@
 // What the program `roadlist` prints: the listing or the `refused` line, at the end of its input. Before that pieces are taken in (crate `input_pieces`).
 #![tactic(auto)]
 
-ghost use Rattle.std.specs.Prelude.{◌≡◌, true, ◌<◌, length};
-ghost use Rattle.overlay.specs.Lent.{lent_for, overlay_seen};
-ghost use Rattle.overlay.specs.Sound.{is_sound};
+ghost use Rattle.std.specs.Prelude.{◌≡◌, length};
+ghost use Rattle.overlay.specs.Lent.{lent_for};
 ghost use Rattle.reader.specs.Lent.{state_left, state_seen, state_held, IsSameState};
 ghost use Rattle.input_pieces.specs.Feed.{state_at_end};
 ghost use Rattle.input_pieces.specs.Lent.{intake_lent};
-ghost use Rattle.roadlist_page.specs.Roadlist.{program_sizes, start_on, refused_ending, page_ending, ending_at};
-ghost use Rattle.roadlist_page.specs.Finish.{end_output, finish_on};
+ghost use Rattle.program_ending.specs.Ending.{end_output};
+ghost use Rattle.roadlist_page.specs.Roadlist.{program_sizes, start_on, ending_at};
+ghost use Rattle.roadlist_page.specs.Finish.{finish_on};
 
 use event_scan::MAX_LINE;
 use input_pieces::InputBuffer;
-use overlay::{Storage, StorageTables};
+use overlay::StorageTables;
 use overlay_blocks::{COUNTERS, KindSize, Sizes};
+use program_ending::Ended;
 use reader::{EventReader, ReaderState, ReaderView};
 use reader_stage::STAGED;
-use refusal::{Refusal, Reply};
 
 // The words and bytes of the program's overlay, as its sizes ask: 512 ids of each of three kinds, three words an id, and 512 strings, two words a string; four parts of 8,192 bytes.
 pub const WORDS: usize = 5632;
@@ -75,50 +75,12 @@ fn take_last(state: &mut ReaderState<'_>, last: &[u8])
     let _ = reader_calls::event_on(state, last);
 }
 
-// What is printed at the end: how many bytes of the output, and the refusal that they tell, none where they are the listing. A count and no slice: the contract says what all
-// of the output holds then.
-#[derive(Clone, Copy, PartialEq, Eq, Debug)]
-pub struct Ended {
-    pub written: usize,
-    pub refusal: Option<Refusal>,
-}
-
-// The line of a refusal at the start of the output. It is short, so it fits.
-fn put_refusal(out: &mut [u8; MAX_OUTPUT], refusal: Refusal, line: u64) -> Ended
-    ensures { record { out = out.new; written = result.written; refusal = result.refusal } ≡ end_output out.old (refused_ending refusal line) }
-{
-    // read for the proof alone: the version held is an `i32`, so the line fits the output
-    let _reply = Reply::from(refusal);
-    Ended {
-        written: roadlist_report::put_refused(out, refusal, line).unwrap_or(0),
-        refusal: Some(refusal),
-    }
-}
-
-// The listing, or 19.
-fn put_page(storage: &Storage<'_>, out: &mut [u8; MAX_OUTPUT], lines: u64) -> Ended
-    requires counters_value { is_sound (overlay_seen storage.now) ≡ true }
-    requires lines_bound { lines < u64.MAX }
-    ensures { record { out = out.new; written = result.written; refusal = result.refusal }
-        ≡ end_output out.old (page_ending (overlay_seen storage.now) lines) }
-{
-    match listing::list(storage, out) {
-        Ok(written) => Ended {
-            written,
-            refusal: None,
-        },
-        Err(refusal) => put_refusal(out, refusal, lines + 1),
-    }
-}
-
 // What the end answers: its refusal, or the page.
 fn put_end(state: &ReaderView<'_>, out: &mut [u8; MAX_OUTPUT]) -> Ended
     ensures { record { out = out.new; written = result.written; refusal = result.refusal } ≡ end_output out.old (ending_at (state_seen state.now)) }
 {
-    match reader_calls::end_on(state) {
-        Ok(()) => put_page(&state.storage(), out, state.reader.lines),
-        Err(at) => put_refusal(out, at.refusal, at.line),
-    }
+    let answer = reader_calls::end_on(state);
+    program_ending::put_ending(state, answer, out)
 }
 
 // The end of the input: a last line, the end of the document, then the listing or the `refused` line at the start of the output. Of the bytes held at most `MAX_LINE` count.

@@ -15,7 +15,7 @@ use Rattle.base.proofs.Lists.{all_cons, all_nil}
 use Rattle.text.specs.Escape.{breaks}
 use Rattle.refusal.specs.Refusal.{number_of, held_of}
 use Rattle.refusal.specs.declared.Refusal.{Refusal}
-use Rattle.refusal.specs.declared.Refusal.TheVariants.{Size, LongLine, NotText, NotEventLine, Misplaced, OutsideSection, Missing, NotInteger, NotTimestamp, CoordinateRange, MemberType, Regression, StringsFull, IdsFull, ArenaFull, TooManyParts, BadRecord, Unfinished, ShortOutput, NotInOrder, NoSuchNumber, Unsound, NotDegrees, BothForms}
+use Rattle.refusal.specs.declared.Refusal.TheVariants.{Size, LongLine, NotText, NotEventLine, Misplaced, OutsideSection, Missing, NotInteger, NotTimestamp, CoordinateRange, MemberType, Regression, StringsFull, IdsFull, ArenaFull, TooManyParts, BadRecord, Unfinished, ShortOutput, NotInOrder, NoSuchNumber, Unsound, NotDegrees, BothForms, NotMarkup, UnmatchedEndTag}
 use Rattle.line.specs.Line.{plain_field, tabbed, line}
 use Rattle.line.specs.Decimal.{digits_before, number_text, integer_text}
 use Rattle.line.proofs.Lines.{line_code}
@@ -54,6 +54,8 @@ numbered NoSuchNumber = (omega arith, λ n. refl)
 numbered Unsound = (omega arith, λ n. refl)
 numbered NotDegrees = (omega arith, λ n. refl)
 numbered BothForms = (omega arith, λ n. refl)
+numbered NotMarkup = (omega arith, λ n. refl)
+numbered UnmatchedEndTag = (omega arith, λ n. refl)
 
 -- 12 is the number of a regression alone
 pub not_12 : (r : Refusal) → ((v : ℤ) → r ≡ Regression v → ⊥) → number_of r ≡ 12 → ⊥
@@ -81,6 +83,8 @@ not_12 NoSuchNumber n e = omega arith
 not_12 Unsound n e = omega arith
 not_12 NotDegrees n e = omega arith
 not_12 BothForms n e = omega arith
+not_12 NotMarkup n e = omega arith
+not_12 UnmatchedEndTag n e = omega arith
 
 -- ---- HELD
 

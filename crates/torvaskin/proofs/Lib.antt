@@ -1,9 +1,11 @@
 pub mod OverlayReplies
 pub mod OverlayFirst
 pub mod ReaderReplies
+pub mod FileReplies
 pub mod ReaderKeeps
 pub mod MarkReplies
 pub mod ReaderFirst
+pub mod FileFirst
 pub mod ReadingFirst
 pub mod RecordFirst
 pub mod RecordReads

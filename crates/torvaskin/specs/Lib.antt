@@ -1,5 +1,6 @@
 pub mod Overlays
 pub mod Readers
+pub mod Files
 pub mod Readings
 pub mod Records
 pub mod Listings

@@ -11,7 +11,7 @@ use reader_stage::STAGED;
 use refusal::Refusal;
 
 // Words that are no reader's are 22, which names no line.
-const NO_READER: RefusedAt = RefusedAt {
+pub const NO_READER: RefusedAt = RefusedAt {
     refusal: Refusal::Unsound,
     line: 0,
 };

@@ -1,4 +1,4 @@
--- "a refused event, except for 22, stops its reader": for each number that stops a reader an event that leaves it, on an overlay that starts empty, after calls that are taken.
+-- "a refused event, except for 22, stops its reader": for each number that stops a reader, but for those of a file, an event that leaves it, on an overlay that starts empty, after calls that are taken.
 use Rattle.reader.specs.declared.RefusedAt.{RefusedAt}
 use Rattle.std.specs.Prelude.{ℕ, Bool, true, false, List, [], ◌∷◌, ◌++◌, map, eqb, replicate, Option, Some, None}
 use Rattle.base.specs.Ascii.{ascii}

@@ -6,9 +6,9 @@ use judge::{Change, Outcome, Overlay, Reader, Sizes, Stop};
 
 use crate::markup::{Attribute, Begun, Fault, Markup, Tag, markup};
 
-/// What `roadfile` lends: for each kind and for the strings document 01's most, and an output of a mebibyte.
+/// What `roadfile` lends: for each kind and for the strings document 01's most, and an output of two mebibytes.
 pub const ROADFILE: Sizes =
-    Sizes { ids: [4_096; 3], arenas: [1_048_576; 3], strings: 4_096, string_bytes: 65_536, output: 1_048_576 };
+    Sizes { ids: [4_096; 3], arenas: [1_048_576; 3], strings: 4_096, string_bytes: 65_536, output: 2_097_152 };
 
 /// What a file's markups have that the Rust over quick-xml 0.26 reads in another way, as far as it was read.
 #[derive(Clone, Copy, Debug, Default, PartialEq, Eq)]

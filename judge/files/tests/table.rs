@@ -54,13 +54,13 @@ fn real_files() {
     assert_eq!((counts[&Class::Refused], counts[&Class::OnlyRust("`<` in a value")]), (3, 1));
     let length = real(&Shape::SOME, 1).len();
     assert!((400_000..600_000).contains(&length), "{length}");
-    // the large one: its page is longer than a mebibyte
+    // the large one: its page is longer than a mebibyte, and has room in what `roadfile` lends
     let file = real(&Shape::LARGE, 1);
     assert!(file.len() > 5_000_000);
-    let roomy = judge::Sizes { output: 1 << 24, ..ROADFILE };
+    let tight = judge::Sizes { output: 1 << 20, ..ROADFILE };
     let listing = rust::listing_of(&file).expect("the Rust takes it");
-    assert!(answer(&file, &roomy).outcome.print() == listing, "the large file's listings differ");
-    assert!(answer(&file, &ROADFILE).outcome.print().starts_with(b"refused\t19\t"));
+    assert!(answer(&file, &ROADFILE).outcome.print() == listing, "the large file's listings differ");
+    assert!(answer(&file, &tight).outcome.print().starts_with(b"refused\t19\t"));
 }
 
 /// Each size and limit is met, and each enemy answered.

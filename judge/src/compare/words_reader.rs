@@ -39,12 +39,12 @@ fn bits(word: u64) -> Option<i32> {
 }
 
 impl Reading {
-    /// None where a word is no code, or does not fit its field. "a refused event, except for 22, stops its reader": with 2 to 16, 23 and 24.
+    /// None where a word is no code, or does not fit its field. "a refused event, except for 22, stops its reader": with 2 to 16 and 23 to 26.
     pub fn of(words: &[u64; 19]) -> Option<Self> {
         let [level, section, kind, id, lat, lon, count, tags, flags, version, ..] = *words;
         let [.., timestamp, changeset, uid, user, used, lines, number, line, held] = *words;
-        // A mark is a refusal that an event leaves, with the version held for 12 alone, and none has a line.
-        if !matches!(number, 0 | 2..=16 | 23 | 24) || (number != 12 && held != 0) || (number == 0 && line != 0) {
+        // A mark is a refusal that stops a reader, with the version held for 12 alone, and none has a line.
+        if !matches!(number, 0 | 2..=16 | 23..=26) || (number != 12 && held != 0) || (number == 0 && line != 0) {
             return None;
         }
         Some(Self {
@@ -66,7 +66,7 @@ impl Reading {
             },
             used: used as usize,
             lines,
-            stop: (code(number, 24)?, bits(held)?, line),
+            stop: (code(number, 26)?, bits(held)?, line),
         })
     }
 

@@ -12,6 +12,7 @@ pub use crate::ffi::{
     ArenaMeta, Cursor, EventReply, EventsReply, HeadReply, KindSize, ListingReply, MemberReply, MetaReply, Number,
     OsmIdKey, Part, Places, PushHead, RefReply, Reply, Sizes, TagReply, Text, TextsReply,
 };
+use crate::file::{FILE_BYTES, FILE_WORDS};
 use crate::reader::STAGED;
 
 fn read<T>(part: &[T]) -> (*const T, usize) {
@@ -136,6 +137,28 @@ pub fn events(blocks: Lent<'_>, reader: &mut [u64; 19], staged: &mut [u8; STAGED
 
 pub fn end(blocks: Shared<'_>, reader: &[u64; 19], staged: &[u8; STAGED]) -> EventReply {
     entry!(tvk_end, read, blocks, reader, staged)
+}
+
+/// What a reader of files lends beside its overlay: a reader's words and staged bytes, its own words and its own bytes.
+pub struct FileParts<'a> {
+    pub reader: &'a mut [u64; 19],
+    pub staged: &'a mut [u8; STAGED],
+    pub words: &'a mut [u64; FILE_WORDS],
+    pub bytes: &'a mut [u8; FILE_BYTES],
+}
+
+pub fn file_piece(blocks: Lent<'_>, file: FileParts<'_>, piece: &[u8]) -> EventReply {
+    entry!(tvk_file_piece, write, blocks, file.reader, file.staged, file.words, file.bytes, piece.as_ptr(), piece.len())
+}
+
+pub fn file_end(
+    blocks: Shared<'_>,
+    reader: &[u64; 19],
+    staged: &[u8; STAGED],
+    words: &[u64; FILE_WORDS],
+    bytes: &[u8; FILE_BYTES],
+) -> EventReply {
+    entry!(tvk_file_end, read, blocks, reader, staged, words, bytes)
 }
 
 /// Calls an entry on numbers and slices that it only reads.

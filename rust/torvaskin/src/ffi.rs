@@ -237,4 +237,6 @@ unsafe extern "C" {
     pub fn tvk_event(words: *mut u64, words_len: usize, bytes: *mut u8, bytes_len: usize, counters: *mut [u64; 17], reader: *mut [u64; 19], parts: *mut [u8; 44432], line: *const u8, line_len: usize) -> EventReply;
     pub fn tvk_events(words: *mut u64, words_len: usize, bytes: *mut u8, bytes_len: usize, counters: *mut [u64; 17], reader: *mut [u64; 19], parts: *mut [u8; 44432], run: *const u8, run_len: usize) -> EventsReply;
     pub fn tvk_end(words: *const u64, words_len: usize, bytes: *const u8, bytes_len: usize, counters: *const [u64; 17], reader: *const [u64; 19], parts: *const [u8; 44432]) -> EventReply;
+    pub fn tvk_file_piece(words: *mut u64, words_len: usize, bytes: *mut u8, bytes_len: usize, counters: *mut [u64; 17], reader: *mut [u64; 19], parts: *mut [u8; 44432], file_words: *mut [u64; 7], file_bytes: *mut [u8; 32771], piece: *const u8, piece_len: usize) -> EventReply;
+    pub fn tvk_file_end(words: *const u64, words_len: usize, bytes: *const u8, bytes_len: usize, counters: *const [u64; 17], reader: *const [u64; 19], parts: *const [u8; 44432], file_words: *const [u64; 7], file_bytes: *const [u8; 32771]) -> EventReply;
 }

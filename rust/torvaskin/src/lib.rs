@@ -30,7 +30,7 @@
 //! | There | Here |
 //! |---|---|
 //! | `CompactDiffOverlay::new()` | [`Overlay::new`] with [`Sizes`], or [`Overlay::set_up`] in [`Lent`] blocks |
-//! | `parse_osc_file_into(path, &mut overlay)` | a [`Reader`] and its event lines |
+//! | `parse_osc_file_into(path, &mut overlay)` | a [`FileReader`] and the file's pieces, or a [`Reader`] and event lines |
 //! | `push_way(id, &refs, &tags, &meta)`, `delete_way(id, &meta)` | [`Overlay::push`] of a [`Record`], [`Overlay::delete`] |
 //! | `get_way(id)`, `has_way(id)`, `is_deleted(kind, id)` | [`Overlay::get`], [`Overlay::has`], [`Overlay::is_deleted`] |
 //! | `way_ids()`, `way_count()`, `deleted_ids(kind)` | [`Overlay::live_ids`], [`Overlay::live_count`], [`Overlay::deleted_ids`] |
@@ -50,6 +50,7 @@ pub mod entry;
 #[allow(missing_docs, unsafe_code)]
 mod ffi;
 pub mod fields;
+mod file;
 pub mod lists;
 mod overlay;
 mod reader;
@@ -57,6 +58,7 @@ mod record;
 mod refusal;
 
 pub use blocks::{Blocks, Lent, Owned, Shared, Sizes, Storage};
+pub use file::{FILE_BYTES, FILE_WORDS, FileReader};
 pub use overlay::{Name, Overlay};
 pub use reader::{Reader, STAGED};
 pub use record::{Body, ElementKind, Handle, Member, Metadata, Record};

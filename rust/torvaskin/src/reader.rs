@@ -99,6 +99,6 @@ impl<W: DerefMut<Target = [u64; 19]>, B: DerefMut<Target = [u8; STAGED]>> Reader
     }
 }
 
-fn taken(reply: EventReply) -> Result<(), Refusal> {
+pub(crate) fn taken(reply: EventReply) -> Result<(), Refusal> {
     Refusal::unless_taken(reply.number, reply.held, reply.line)
 }

@@ -80,6 +80,10 @@ reasons! {
         "Ask the supplier of the file.";
     BothForms = 24, "A node gives a coordinate twice, in degrees and in whole numbers: `lat` beside `lat7`, or `lon` beside `lon7`.",
         "Ask the supplier of the file.";
+    NotMarkup = 25, "The file is not well-formed XML there, or holds what is not supported: a DOCTYPE, CDATA or an encoding other than UTF-8.",
+        "Fetch the file again; it may have been cut off. If it is refused at the same line again, ask its supplier for OsmChange in UTF-8 without these.";
+    UnmatchedEndTag = 26, "An end tag closes nothing, or another element than the one that is open.",
+        "Fetch the file again. If it is refused at the same line again, ask its supplier.";
 }
 
 /// A refusal: nothing that was lent has changed, but for the stop mark of a refused event's reader.

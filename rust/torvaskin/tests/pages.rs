@@ -4,7 +4,7 @@ use std::fs::File;
 use std::path::{Path, PathBuf};
 use std::process::{Command, Stdio};
 
-use torvaskin::{Reason, STORED_FORM, VERSION};
+use torvaskin::{FileReader, Overlay, Reason, Refusal, STORED_FORM, Sizes, VERSION};
 
 #[allow(dead_code)]
 #[path = "../examples/terminal.rs"]
@@ -34,7 +34,7 @@ fn refusals() {
     rows.sort();
     let of = |reason: &Reason| (*reason as u8, reason.sentence().to_string(), reason.help().to_string());
     assert_eq!(Reason::ALL.iter().map(of).collect::<Vec<_>>(), rows);
-    assert!(rows.iter().map(|row| row.0).eq(1..=24));
+    assert!(rows.iter().map(|row| row.0).eq(1..=26));
 }
 
 /// The small terminal prints what is stored for each sample, as `roadlist` does.
@@ -54,10 +54,38 @@ fn samples() {
     }
 }
 
+/// A reader of files gives what is stored for each sample, in one piece and byte by byte.
+#[test]
+fn files() {
+    let mut seen = 0;
+    for file in std::fs::read_dir(repository().join("samples")).expect("the samples") {
+        let input = file.expect("a sample").path();
+        if input.extension().is_none_or(|e| e != "osc") {
+            continue;
+        }
+        let bytes = std::fs::read(&input).expect("a sample");
+        let page = |size: usize| -> Result<String, Refusal> {
+            let (mut overlay, mut reader) = (Overlay::new(&Sizes::ROADLIST)?, FileReader::new());
+            bytes.chunks(size).try_for_each(|piece| reader.piece(&mut overlay, piece))?;
+            reader.end(&overlay)?;
+            overlay.listing(65_536)
+        };
+        let output = text(&input.with_extension("out"));
+        for size in [1, 7, bytes.len()] {
+            let printed = page(size).unwrap_or_else(|refusal| {
+                terminal::refused((refusal, refusal.line().expect("a file's refusal has one")))
+            });
+            assert_eq!(printed, output, "{} in pieces of {size}", input.display());
+        }
+        seen += 1;
+    }
+    assert!(seen > 10);
+}
+
 /// README prints the example as it is compiled.
 #[test]
 fn readme() {
-    let (page, example) = (text(&repository().join("README.md")), include_str!("../examples/listing.rs"));
+    let (page, example) = (text(&repository().join("README.md")), include_str!("../examples/file.rs"));
     assert!(page.contains(&format!("```rust\n{example}```\n")));
 }
 
@@ -126,6 +154,11 @@ fn faults() {
         assert_eq!((status, &output[..]), (Some(2), ""), "{example}");
         assert!(said.contains("directory"), "{example}: {said}");
     }
+    let osc = |name: &str| repository().join("samples").join(name).with_extension("osc");
+    assert_eq!(ran("file", &[], &osc("example"), Stdio::piped()), (Some(0), page.clone(), String::new()));
+    let (status, output, said) = ran("file", &[], &osc("other_end_tag"), Stdio::piped());
+    assert_eq!((status, &output[..]), (Some(1), ""), "{said}");
+    assert!(said.starts_with("refused 26, line 4: An end tag closes nothing"), "{said}");
     std::fs::remove_file(&kept).expect("it was kept");
     let (status, _, said) = ran("terminal", &["none"], &input, Stdio::piped());
     assert!(status == Some(2) && said.starts_with("none: "), "{said}");

@@ -5,7 +5,8 @@ use Rattle.reader.specs.State.{State}
 use Rattle.reader.specs.Lent.{state_held}
 use Rattle.input_pieces.specs.Feed.{Intake}
 use Rattle.roadlist_page.specs.Roadlist.{ending_at}
-use Rattle.roadlist_page.specs.Finish.{end_output, finish_on}
+use Rattle.program_ending.specs.Ending.{end_output}
+use Rattle.roadlist_page.specs.Finish.{finish_on}
 use Rattle.roadlist_page.proofs.Ends.{finished_by, last_lent}
 use Rattle.roadlist_page.proofs.finish.Goals as goal
 

@@ -47,15 +47,24 @@ pub struct Row {
     pub record: Option<Record>,
 }
 
-/// A file through the published `drive_osc` into a new overlay: the ids that this then knows, by kind and in OSM order, or what the
-/// error says.
-pub fn rows_of(file: &[u8]) -> std::result::Result<Vec<Row>, String> {
+/// A file through the published `drive_osc` into a new overlay, or what the error says.
+fn driven(file: &[u8]) -> std::result::Result<osc::CompactDiffOverlay, String> {
     let mut overlay = osc::CompactDiffOverlay::new();
     // as `open_osc_reader` sets it up
     let mut reader = quick_xml::Reader::from_reader(BufReader::new(file));
     reader.config_mut().trim_text(true);
     osc::xml_parse::judge_drive(&mut reader, &mut overlay).map_err(|e| e.report().to_string())?;
-    let overlay = osc::direct::Overlay { inner: overlay };
+    Ok(overlay)
+}
+
+/// That alone, to be timed: whether the overlay knows anything.
+pub fn drive(file: &[u8]) -> std::result::Result<bool, String> {
+    driven(file).map(|overlay| !overlay.is_empty())
+}
+
+/// The ids that a file leaves, by kind and in OSM order, or what the error says.
+pub fn rows_of(file: &[u8]) -> std::result::Result<Vec<Row>, String> {
+    let overlay = osc::direct::Overlay { inner: driven(file)? };
     Ok([Kind::Node, Kind::Way, Kind::Relation].into_iter().flat_map(|kind| rows_of_kind(&overlay, kind)).collect())
 }
 

@@ -4,6 +4,7 @@
 
 mod beside_the_rust;
 mod by_hand;
+mod change_files;
 mod degrees;
 mod documents;
 mod hostile;
@@ -197,4 +198,5 @@ fn main() {
     documents::readings();
     documents::sizes();
     hostile::hostile();
+    change_files::change_files();
 }

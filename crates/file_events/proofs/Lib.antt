@@ -1,0 +1,12 @@
+pub mod Unlined
+pub mod Tags
+pub mod Texts
+pub mod Markups
+pub mod Files
+pub mod Lexes
+pub mod Malformed
+pub mod Printed
+pub mod Refusals
+pub mod Places
+pub mod Open
+pub mod Matched

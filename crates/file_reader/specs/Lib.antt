@@ -1,0 +1,5 @@
+pub mod File
+pub mod Calls
+pub mod Held
+pub mod First
+pub mod Tags
