@@ -1,10 +1,9 @@
 // The answers, by the words of the questions.
-use crate::fields;
+use crate::{fields, write};
 use osm_id::OsmIdKey;
 use refusal::{Refusal, Reply};
-use std::alloc::{AllocError, Global};
 use std::cmp::Ordering;
-use std::fmt;
+use std::io;
 use version_floor::VersionFloor;
 
 // What the library answers to a question.
@@ -18,22 +17,29 @@ pub enum Answer {
     Text(bool),
 }
 
-// The fields of an answer, with a tab between each two.
-impl fmt::Display for Answer {
-    fn fmt<W: fmt::Write>(&self, f: &mut fmt::Formatter<W>) -> fmt::Result {
+impl Answer {
+    // Writes the fields of an answer, each after a tab. It is no Display: the numbers go through decimal, so that the list tries it too, and decimal writes bytes, where a Display asks for text.
+    pub fn write_fields(&self, rt: &impl Print) -> io::Result<()> {
         match *self {
-            Answer::Key(k) => write!(f, "{}\t{}", k.class, k.magnitude),
-            Answer::Order(Ordering::Less) => write!(f, "0"),
-            Answer::Order(Ordering::Equal) => write!(f, "1"),
-            Answer::Order(Ordering::Greater) => write!(f, "2"),
-            Answer::Floor(Some(n)) => write!(f, "{n}"),
-            Answer::Floor(None) => write!(f, "?"),
-            Answer::Taken(n) => write!(f, "0\t{n}"),
+            Answer::Key(k) => {
+                write::number(rt, u64::from(k.class))?;
+                write::number(rt, k.magnitude)
+            }
+            Answer::Order(Ordering::Less) => write::number(rt, 0),
+            Answer::Order(Ordering::Equal) => write::number(rt, 1),
+            Answer::Order(Ordering::Greater) => write::number(rt, 2),
+            Answer::Floor(Some(n)) => write::integer(rt, decimal::widened(n.cast_unsigned())),
+            Answer::Floor(None) => rt.write_all(b"\t?"),
+            Answer::Taken(n) => {
+                write::number(rt, 0)?;
+                write::integer(rt, n.cast_unsigned())
+            }
             Answer::Refused(r) => {
                 let reply = Reply::from(r);
-                write!(f, "{}\t{}", reply.number, reply.held)
+                write::number(rt, u64::from(reply.number))?;
+                write::integer(rt, decimal::widened(reply.held.cast_unsigned()))
             }
-            Answer::Text(legal) => write!(f, "{}", u8::from(legal)),
+            Answer::Text(legal) => write::number(rt, u64::from(legal)),
         }
     }
 }
@@ -71,15 +77,15 @@ fn field_answer(value: Option<i64>, refusal: Refusal) -> Answer {
 }
 
 // The answer to a question; none where its word is not on the list, or where a field that should be an id is none.
-pub fn answer_to(alloc: Global, line: &[u8]) -> Result<Option<Answer>, AllocError> {
+pub fn answer_to(line: &[u8]) -> Option<Answer> {
     let (Some(word), a, b) = (
         fields::field(line, 0),
         fields::field(line, 1),
         fields::field(line, 2),
     ) else {
-        return Ok(None);
+        return None;
     };
-    let answer = match word {
+    match word {
         b"key" => a
             .and_then(long)
             .map(|id| Answer::Key(osm_id::osm_id_key(id))),
@@ -95,10 +101,11 @@ pub fn answer_to(alloc: Global, line: &[u8]) -> Result<Option<Answer>, AllocErro
         b"i32" => Some(field_answer(a.and_then(short).map(i64::from), Refusal::NotInteger)),
         b"stamp" => Some(field_answer(a.and_then(stamp), Refusal::NotTimestamp)),
         b"text" => {
-            let bytes = fields::bytes_of(alloc, a.unwrap_or(b""))?;
-            Some(Answer::Text(text::is_text(&bytes)))
+            // A fixed array: the program has no heap.
+            let mut bytes = [0u8; 64];
+            let n = fields::bytes_of(a.unwrap_or(b""), &mut bytes);
+            Some(Answer::Text(text::is_text(&bytes[..n])))
         }
         _ => None,
-    };
-    Ok(answer)
+    }
 }

@@ -1,9 +1,7 @@
 // The fields of a question.
-ghost use Rattle.std.specs.Prelude.{◌≡◌, ◌<◌, IfSome, option_map};
+ghost use Rattle.std.specs.Prelude.{◌≡◌, ◌<◌, ◌/◌, length, min, IfSome, option_map};
 ghost use Rattle.std.specs.List.{slice_get};
 ghost use Rattle.line.specs.Line.{fields};
-
-use std::alloc::{AllocError, Global};
 
 // The field of a line by its number, from 0 on, if there is one.
 pub fn field(line: &[u8], n: usize) -> Option<&[u8]>
@@ -28,8 +26,13 @@ fn byte([high, low]: &[u8; 2]) -> u8 {
     digit(*high).unwrap_or(0) * 16 + digit(*low).unwrap_or(0)
 }
 
-// The bytes that pairs of hexadecimal digits write, at most 64 of them.
-pub fn bytes_of(alloc: Global, digits: &[u8]) -> Result<Vec<u8>, AllocError> {
+// Puts the bytes that pairs of hexadecimal digits write at the start of `bytes`, as far as there is room, and answers how many they are.
+pub fn bytes_of(digits: &[u8], bytes: &mut [u8; 64]) -> usize
+    ensures { result ≡ min (length digits.now / 2) 64 }
+{
     let (pairs, _) = digits.as_chunks::<2>();
-    pairs.iter().take(64).map(byte).collect(alloc)
+    for (place, pair) in bytes.iter_mut().zip(pairs) {
+        *place = byte(pair);
+    }
+    pairs.len().min(bytes.len())
 }

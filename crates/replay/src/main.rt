@@ -5,21 +5,24 @@
 
 mod answers;
 mod fields;
+mod write;
+
+ghost use Rattle.std.specs.Prelude.{◌≤◌, length, IfOk};
 
 use std::io;
 use std::io::Read;
 
 // A question and its answer; a word that is not on the list gets no answer.
-fn whole_line(rt: &(impl AllocGlobal + Print), line: &[u8]) -> io::Result<()> {
+fn whole_line(rt: &impl Print, line: &[u8]) -> io::Result<()> {
     rt.write_all(line)?;
-    if let Some(answer) = answers::answer_to(rt.alloc(), line)? {
-        print!(rt; "\t{answer}")?;
+    if let Some(answer) = answers::answer_to(line) {
+        answer.write_fields(rt)?;
     }
     rt.write_all(b"\n")
 }
 
 // Every line that a line feed ends.
-fn replay(rt: &(impl AllocGlobal + Print), input: &[u8]) -> io::Result<()> {
+fn replay(rt: &impl Print, input: &[u8]) -> io::Result<()> {
     for line in input.split_inclusive(|b| *b == b'\n') {
         if let [line @ .., b'\n'] = line {
             whole_line(rt, line)?;
@@ -28,10 +31,24 @@ fn replay(rt: &(impl AllocGlobal + Print), input: &[u8]) -> io::Result<()> {
     Ok(())
 }
 
-// The questions are some 57,000 bytes; what stands past 131,072 is not read. Where there is no memory for the questions, or for the bytes of a text, the program ends with that error, as it does where a
-// read or a write fails.
+// Reads until the buffer is full or the input ends, and answers how many bytes it put at the buffer's start. It stands in `utf8_vectors` too: std's `read_to_end` wants a heap, and no crate of the library reads input.
+fn read_full(input: &mut impl Read, buf: &mut [u8]) -> io::Result<usize>
+    ensures { IfOk result (λ n. n ≤ length buf.new) }
+{
+    let mut done = 0;
+    while done < buf.len() {
+        let n = input.read(&mut buf[done..])?;
+        if n == 0 {
+            break;
+        }
+        done += n;
+    }
+    Ok(done)
+}
+
+// The questions are some 57,000 bytes; what stands past 131,072 is not read, and is missing from what is written. The program has no heap; where a read or a write fails, it ends with that error.
 fn main(rt: HostRuntime) -> io::Result<()> {
-    let mut input = Vec::new(rt.alloc());
-    rt.stdin().take(131_072).read_to_end(&mut input)?;
-    replay(&rt, &input)
+    let mut input = [0u8; 131_072];
+    let n = read_full(&mut rt.stdin(), &mut input)?;
+    replay(&rt, &input[..n])
 }

@@ -1,16 +1,15 @@
 // Runs published UTF-8 vectors on text::is_text, and counts what it takes of all short sequences.
 #![tactic(auto)]
 
-ghost use Rattle.std.specs.Prelude.{◌≡◌, ◌+◌, ◌<◌, ◌≤◌, length, IfSome};
+ghost use Rattle.std.specs.Prelude.{◌≡◌, ◌+◌, ◌<◌, ◌≤◌, length, IfOk, IfSome};
 
-use std::alloc::{AllocError, Global};
 use std::io;
 use std::io::Read;
 
-// What a line of the input says: the bytes of a sequence, and whether they are text.
-#[derive(Drop)]
+// What a line of the input says: how many bytes its sequence has, and whether they are text.
+#[derive(Clone, Copy, PartialEq, Eq, Debug)]
 struct Line {
-    sequence: Vec<u8>,
+    length: usize,
     text: bool,
 }
 
@@ -33,39 +32,49 @@ fn digit(b: u8) -> Option<u8>
 }
 
 // The byte that two hexadecimal digits write.
-fn byte(digits: &[u8]) -> Option<u8> {
-    let [high, low] = digits else {
-        return None;
-    };
+fn byte([high, low]: &[u8; 2]) -> Option<u8> {
     Some(digit(*high)? * 16 + digit(*low)?)
 }
 
-// The bytes that pairs of hexadecimal digits write, if there is nothing else.
-fn sequence(alloc: Global, digits: &[u8]) -> Result<Option<Vec<u8>>, AllocError> {
-    digits.chunks(2).map(byte).collect(alloc)
+// Puts the bytes that pairs of hexadecimal digits write at the start of `bytes`, and answers how many they are; nothing where they are more than 32, or there is anything else.
+fn sequence(digits: &[u8], bytes: &mut [u8; 32]) -> Option<usize>
+    ensures { IfSome result (λ n. (n ≤ 32) × (n + n ≡ length digits.now)) }
+{
+    let (pairs, []) = digits.as_chunks::<2>() else {
+        return None;
+    };
+    if bytes.len() < pairs.len() {
+        return None;
+    }
+    for (place, pair) in bytes.iter_mut().zip(pairs) {
+        *place = byte(pair)?;
+    }
+    Some(pairs.len())
 }
 
-// A line is pairs of hexadecimal digits, of at most 32 bytes, a tab, 0 or 1, and a line feed.
-fn read_line(alloc: Global, line: &[u8]) -> Result<Option<Line>, AllocError> {
+// A line is pairs of hexadecimal digits, of at most 32 bytes, a tab, 0 or 1, and a line feed. Its sequence is put at the start of `bytes`.
+fn read_line(line: &[u8], bytes: &mut [u8; 32]) -> Option<Line>
+    ensures { IfSome result (λ l. (l.length ≤ 32) × (l.length + l.length + 3 ≡ length line.now)) }
+{
     let [digits @ .., b'\t', flag, b'\n'] = line else {
-        return Ok(None);
+        return None;
     };
-    if 64 < digits.len() {
-        return Ok(None);
-    }
     let text = match flag {
         b'0' => false,
         b'1' => true,
-        _ => return Ok(None),
+        _ => return None,
     };
-    let sequence = sequence(alloc, digits)?;
-    Ok(sequence.map(|sequence| Line { sequence, text }))
+    let length = sequence(digits, bytes)?;
+    Some(Line { length, text })
 }
 
 // Whether the check judges a sequence as its line says; nothing where the line is none.
-fn is_right(alloc: Global, line: &[u8]) -> Result<Option<bool>, AllocError> {
-    let line = read_line(alloc, line)?;
-    Ok(line.map(|l| text::is_text(&l.sequence) == l.text))
+fn is_right(line: &[u8]) -> Option<bool>
+    ensures { IfSome result (λ r. (3 ≤ length line.now) × (length line.now ≤ 67)) }
+{
+    let mut bytes = [0u8; 32];
+    let l = read_line(line, &mut bytes)?;
+    Some(text::is_text(&bytes[..l.length]) == l.text)
 }
 
 // The bytes up to the first line feed and with it, and those after it.
@@ -87,12 +96,12 @@ fn mismatch(rt: &impl Print, line: &[u8]) -> io::Result<()> {
 }
 
 // Every line of the input. A line that is none takes the rest of the input, and counts as judged otherwise.
-fn vectors(rt: &(impl AllocGlobal + Print), input: &[u8]) -> io::Result<Tally> {
+fn vectors(rt: &impl Print, input: &[u8]) -> io::Result<Tally> {
     let mut tally = Tally::default();
     let mut rest = input;
     while !rest.is_empty() {
         let (line, after) = cut_line(rest);
-        match is_right(rt.alloc(), line)? {
+        match is_right(line) {
             Some(true) => rest = after,
             Some(false) => {
                 mismatch(rt, line)?;
@@ -128,11 +137,26 @@ fn count(rt: &impl Print, bytes: usize) -> io::Result<()>
     println!(rt; "bytes\t{bytes}\taccepted\t{accepted}")
 }
 
-// Of the input the first 65,536 bytes are read. Where there is no memory for them or for a sequence, the program ends with that error, as it does where a read or a write fails.
+// Reads until the buffer is full or the input ends, and answers how many bytes it put at the buffer's start. It stands in `replay` too: std's `read_to_end` wants a heap, and no crate of the library reads input.
+fn read_full(input: &mut impl Read, buf: &mut [u8]) -> io::Result<usize>
+    ensures { IfOk result (λ n. n ≤ length buf.new) }
+{
+    let mut done = 0;
+    while done < buf.len() {
+        let n = input.read(&mut buf[done..])?;
+        if n == 0 {
+            break;
+        }
+        done += n;
+    }
+    Ok(done)
+}
+
+// Of the input the first 65,536 bytes are read. The program has no heap; where a read or a write fails, it ends with that error.
 fn main(rt: HostRuntime) -> io::Result<()> {
-    let mut input = Vec::new(rt.alloc());
-    rt.stdin().take(65_536).read_to_end(&mut input)?;
-    let t = vectors(&rt, &input)?;
+    let mut input = [0u8; 65_536];
+    let n = read_full(&mut rt.stdin(), &mut input)?;
+    let t = vectors(&rt, &input[..n])?;
     println!(rt; "vectors\t{}\tmismatches\t{}", t.vectors, t.mismatches)?;
     for bytes in 1..=3 {
         count(&rt, bytes)?;
