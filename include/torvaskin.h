@@ -1,6 +1,6 @@
 /* Torvaskin for C99 and C++11 and later. `./library` writes this file and libtorvaskin.a into one folder; link the archive behind the program's own files.
 
-   It runs on x86-64 Linux with 64-bit pointers, on processors of the level x86-64-v2 (those since about 2009: SSE4.1 is used), and needs memcpy, memmove and memset of a C library.
+   It runs on x86-64 Linux with 64-bit pointers, on processors of the level x86-64-v2 (those since about 2009: SSE4.1 is used), and needs memmove and memset of a C library.
 
    The entries (first half) are what the archive exports; each is proved to do what is said here, on any words and bytes that it is lent. The wrappers (second half)
    are inline C: each hands a struct's fields on to its entry in order, and nothing proves it; c/all.c calls every one. tvk_GROUP_NAME is the wrapper of tvk_NAME.
@@ -51,7 +51,7 @@ extern "C" {
 /* ---- version */
 
 /* Of this header and its library. CHANGELOG.md says what each version changed. */
-#define TVK_VERSION "0.6.0"
+#define TVK_VERSION "0.6.1"
 
 /* What the words, bytes and counters of an overlay and the words and staged bytes of a reader mean. It changes when they do: who saves them writes it beside them. */
 #define TVK_STORED_FORM 1

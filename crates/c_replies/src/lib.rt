@@ -490,7 +490,8 @@ pub fn place_of(word: usize) -> Option<usize>
     (word < NO_PLACE).then_some(word)
 }
 
-fn place_word(place: Option<usize>) -> usize
+// The word of C that means a place, or none. No `From`, as for `place_of`.
+pub fn place_word(place: Option<usize>) -> usize
     ensures { result ≡ place_word place }
 {
     place.unwrap_or(NO_PLACE)

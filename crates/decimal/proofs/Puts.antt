@@ -113,6 +113,10 @@ pub signed_plain : (s : Bytes) (minus : Bool) (n : ℕ) → minus ≡ false → 
 unfolding signed_text
 signed_plain s minus n e = rw e
 
+pub signed_number : (n : ℕ) → signed_text false n ≡ number_text n
+unfolding signed_text
+signed_number n = refl
+
 pub signed_integer : (z : ℤ) → signed_text (lt_z z (pos 0)) (nat_abs z) ≡ integer_text z
 unfolding signed_text integer_text
 signed_integer (pos n) = rw (le-ltb n 0 (omega arith))

@@ -64,6 +64,13 @@ fn put_signed(out: &mut [u8], minus: bool, v: u64) -> Option<usize>
     Some(sign + n)
 }
 
+// A number at the start of what is lent, where it fits.
+pub fn put_number(out: &mut [u8], v: u64) -> Option<usize>
+    ensures { record { bytes = out.new; answer = result } ≡ put_text out.old (number_text v) }
+{
+    put_signed(out, false, v)
+}
+
 // An integer of 64 bits, given by its bits.
 pub fn put_integer(out: &mut [u8], bits: u64) -> Option<usize>
     ensures { record { bytes = out.new; answer = result } ≡ put_text out.old (integer_text (to_z w64 bits)) }

@@ -193,6 +193,10 @@ distinct_sorted bytes words sorted p =
     (distinct_moved (runs_in bytes sorted) (runs_in bytes words) (IsPermutation-sym (runs_in bytes words) (runs_in bytes sorted) q))
     (distinct_moved (runs_in bytes words) (runs_in bytes sorted) q)
 
+-- runs whose words rise in some order all differ
+pub all_differ : (bytes : Bytes) (words sorted : List ℕ) → IsPermutation words sorted → Rises bytes sorted (length sorted) → distinct (runs_in bytes words) ≡ true
+all_differ bytes words sorted p rise = sym (distinct_sorted bytes words sorted p) ∙ rising_differ bytes sorted rise
+
 -- what is right of a test is right of one that agrees
 pub right_as : (o : Option Bool) (a b : Bool) → a ≡ b → RightOf o b → RightOf o a
 right_as (Some t) a b e r = e ∙ r

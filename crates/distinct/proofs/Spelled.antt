@@ -5,7 +5,7 @@ use mathlib.Core.List.{[], ◌∷◌}
 use lib.Dec.{eqb}
 use lib.ListN.{length}
 use native.Mathlib.Omega.{arith}
-use Rattle.base.specs.Bytes.{Bytes, both, same}
+use Rattle.base.specs.Bytes.{Bytes, same}
 use Rattle.base.proofs.Split.{both_no_right}
 
 pub spelled : (s t : Bytes) {k : Bytes} {r : Bool} → t ≡ k → r ≡ same s t → r ≡ same s k

@@ -147,7 +147,7 @@ fn rises(bytes: &[u8], words: &[u64]) -> Option<bool>
 }
 
 // Whether no two of the runs of some words are equal, where it is told. The words are sorted: most by their keys alone.
-fn runs_differ(bytes: &[u8], words: &mut [u64]) -> Option<bool>
+fn sorted_differ(bytes: &[u8], words: &mut [u64]) -> Option<bool>
     ensures { RightOf result (distinct (runs_in bytes.now words.old)) }
 {
     words.sort_unstable();
@@ -164,6 +164,19 @@ const ROOM: usize = 5460;
 const FEW: usize = 512;
 
 const FEW_BYTES: usize = 4096;
+
+// Whether no two of the runs of at most 5,460 words are equal, where it is told; of more nothing is. A copy of the words is sorted: who has them to give up, as `noted_differ`, sorts them in place.
+pub fn runs_differ(bytes: &[u8], words: &[u64]) -> Option<bool>
+    ensures { RightOf result (distinct (runs_in bytes.now words.now)) }
+{
+    if ROOM < words.len() {
+        return None;
+    }
+    let mut copy = [0u64; ROOM];
+    let sorted = &mut copy[..words.len()];
+    sorted.copy_from_slice(words);
+    sorted_differ(bytes, sorted)
+}
 
 // Runs of some bytes that can note their words: the bytes, and what is asked of the runs, which is whether all are noted and no two are equal.
 pub trait NotedRuns {
@@ -189,7 +202,7 @@ fn noted_differ_in<R: NotedRuns>(runs: &R, words: &mut [u64]) -> Option<bool>
         return None;
     }
     match runs.note(words) {
-        Some(n) if n <= words.len() => runs_differ(bytes, &mut words[..n]),
+        Some(n) if n <= words.len() => sorted_differ(bytes, &mut words[..n]),
         Some(_) => None,
         None => Some(false),
     }

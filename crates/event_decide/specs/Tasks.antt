@@ -1,13 +1,13 @@
 -- What the code holds of an event's task, and what it stands for: a decision of crate event_decision, its numbers by their bits, its texts by how they are written.
-use Rattle.std.specs.Prelude.{Err, Ok, Result}
+use Rattle.std.specs.Prelude.{ℕ, Err, Ok, Result}
 use Rattle.std.specs.Int.{w64}
 use Rattle.std.proofs.Common.{to_z}
 use Rattle.refusal.specs.declared.Refusal.{Refusal}
 use Rattle.nesting.specs.declared.Place.{Place}
 use Rattle.event_decision.specs.Decision.{Decision, refuses, moves, begins, deletes, tags, refers, joins, ends}
 use Rattle.event_values.specs.Value.{body_in}
-use Rattle.event_values.specs.Values.{tag_means, member_means}
-use Rattle.event_metadata.specs.Values.{metadata_means}
+use Rattle.event_values.specs.Values.{tag_means, TagInBounds, member_means, MemberInBounds}
+use Rattle.event_metadata.specs.Values.{metadata_means, MetadataInBounds}
 use Rattle.event_decide.specs.declared.tasks.Work.{Work}
 use Rattle.event_decide.specs.declared.tasks.Work.TheVariants as W
 use Rattle.event_decide.specs.declared.tasks.Task.{Task}
@@ -31,3 +31,17 @@ work_answer p (Err r) = refuses r
 abbrev pub task_answer : Result Task Refusal → Decision
 task_answer (Ok t) = task_means t
 task_answer (Err r) = refuses r
+
+-- ---- how long the texts are, as they are written: no longer than so many bytes
+
+abbrev pub WorkInBounds : ℕ → Work → Type 0
+WorkInBounds n W.Nothing = Unit {0}
+WorkInBounds n (W.Begins e) = MetadataInBounds n e.metadata
+WorkInBounds n (W.Deletes e) = MetadataInBounds n e.metadata
+WorkInBounds n (W.Tags t) = TagInBounds n t
+WorkInBounds n (W.Refers r) = Unit {0}
+WorkInBounds n (W.Joins m) = MemberInBounds n m
+WorkInBounds n W.Ends = Unit {0}
+
+abbrev pub TaskInBounds : ℕ → Task → Type 0
+TaskInBounds n t = WorkInBounds n t.work

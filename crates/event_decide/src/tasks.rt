@@ -1,13 +1,15 @@
 // What an event is to do, decided from its line and the place of its reader alone: line, nesting, fields.
 // Numbers are held as their bits; a text is as it is written in the line, with its escapes.
 
-ghost use Rattle.std.specs.Prelude.{◌≡◌};
+ghost use Rattle.std.specs.Prelude.{ℕ, ◌≡◌, length, IfOk};
 ghost use Rattle.nesting.specs.Name.{name_of};
 ghost use Rattle.nesting.specs.Nesting.{opened, closed};
 ghost use Rattle.nesting.specs.declared.Place.{Place as ReaderPlace};
-ghost use Rattle.event_scan.specs.Fields.{attributes_left};
+ghost use Rattle.event.specs.Event.{body};
+ghost use Rattle.event_scan.specs.Parts.{written_size};
+ghost use Rattle.event_scan.specs.Fields.{written_left, attributes_left};
 ghost use Rattle.event_decision.specs.Decision.{unless_delete, element_begins, child_of, decide_opened, decide_closed, decide};
-ghost use Rattle.event_decide.specs.Tasks.{work_means, work_answer, task_means, task_answer};
+ghost use Rattle.event_decide.specs.Tasks.{work_means, work_answer, WorkInBounds, task_means, task_answer, TaskInBounds};
 
 use event_metadata::values::MetadataValues;
 use event_scan::event_line::EventLine;
@@ -67,7 +69,8 @@ fn begins<'a>(
     kind: Kind,
     attributes: &Attributes<'a, MAX_LINE>,
 ) -> Result<Work<'a>, Refusal>
-    ensures { (p : ReaderPlace) → work_answer p result ≡ element_begins action empty kind p (attributes_left attributes.now) }
+    ensures means { (p : ReaderPlace) → work_answer p result ≡ element_begins action empty kind p (attributes_left attributes.now) }
+    ensures in_bounds { IfOk result (WorkInBounds (written_size (written_left attributes.now))) }
 {
     let id = event_values::integer_field(attributes, b"id")?;
     let metadata = event_metadata::values::metadata_of(attributes)?;
@@ -90,7 +93,8 @@ fn begins<'a>(
 
 // In a delete section children are dropped, and the close of the element pushes nothing.
 fn unless_deleted<'a>(action: Action, work: &Work<'a>) -> Work<'a>
-    ensures { (p : ReaderPlace) → work_means p result ≡ unless_delete action p (work_means p work.now) }
+    ensures means { (p : ReaderPlace) → work_means p result ≡ unless_delete action p (work_means p work.now) }
+    ensures in_bounds { (n : ℕ) → WorkInBounds n work.now → WorkInBounds n result }
 {
     match action {
         Action::Create | Action::Modify => *work,
@@ -103,7 +107,8 @@ fn child<'a>(
     child: Child,
     attributes: &Attributes<'a, MAX_LINE>,
 ) -> Result<Work<'a>, Refusal>
-    ensures { (p : ReaderPlace) → work_answer p result ≡ child_of child action p (attributes_left attributes.now) }
+    ensures means { (p : ReaderPlace) → work_answer p result ≡ child_of child action p (attributes_left attributes.now) }
+    ensures in_bounds { IfOk result (WorkInBounds (written_size (written_left attributes.now))) }
 {
     let work = match child {
         Child::Tag => Work::Tags(event_values::tag_of(attributes)?),
@@ -122,7 +127,8 @@ fn opens<'a>(
     name: &[u8],
     attributes: &Attributes<'a, MAX_LINE>,
 ) -> Result<Task<'a>, Refusal>
-    ensures { task_answer result ≡ decide_opened (opened empty (name_of name.now) before) empty before.section (attributes_left attributes.now) }
+    ensures means { task_answer result ≡ decide_opened (opened empty (name_of name.now) before) empty before.section (attributes_left attributes.now) }
+    ensures in_bounds { IfOk result (TaskInBounds (written_size (written_left attributes.now))) }
 {
     match before.open(empty, Name::from(name))? {
         Opening::Goes(place) => Ok(Task {
@@ -142,7 +148,8 @@ fn opens<'a>(
 
 // A close: a push happens when its element ends.
 fn closes<'a>(before: Place) -> Task<'a>
-    ensures { task_means result ≡ decide_closed before.level before.section (closed before) }
+    ensures means { task_means result ≡ decide_closed before.level before.section (closed before) }
+    ensures in_bounds { (n : ℕ) → TaskInBounds n result }
 {
     let place = before.close();
     match before.level {
@@ -159,7 +166,8 @@ fn closes<'a>(before: Place) -> Task<'a>
 
 // What an event is to do, or its refusal, 2 to 11, 23 and 24: its line with its line feed, at a place.
 pub fn task_of(line: &[u8], place: Place) -> Result<Task<'_>, Refusal>
-    ensures { task_answer result ≡ decide line.now place }
+    ensures means { task_answer result ≡ decide line.now place }
+    ensures in_bounds { IfOk result (TaskInBounds (length (body line.now))) }
 {
     match event_line::read(line)? {
         EventLine::Starts {

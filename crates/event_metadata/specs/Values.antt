@@ -1,6 +1,6 @@
 -- The metadata that the code holds, and what it stands for: metadata of crate event_fields.
 use Rattle.refusal.specs.declared.Refusal.{Refusal}
-use Rattle.std.specs.Prelude.{ℕ, ◌+◌, Bool, cond, None, Option, Some, option_map, is_some, unwrap_or, Result}
+use Rattle.std.specs.Prelude.{ℕ, ◌+◌, ◌≤◌, Bool, cond, length, None, Option, Some, option_map, is_some, unwrap_or, IfSome, Result}
 use Rattle.std.specs.Int.{w32, w64}
 use Rattle.std.proofs.Common.{to_z}
 use Rattle.base.specs.Ascii.{ascii}
@@ -33,6 +33,10 @@ metadata_means m =
 
 abbrev pub metadata_answered : {N : ℕ} → Result (MetadataValues N) Refusal → Field (Meta Bytes)
 metadata_answered r = field_in metadata_means r
+
+-- the user is no longer than so many bytes, as it is written
+abbrev pub MetadataInBounds : {N : ℕ} → ℕ → MetadataValues N → Type 0
+MetadataInBounds n m = IfSome m.user (λ v. length v.bytes.now ≤ n)
 
 -- ---- one attribute, by its name
 

@@ -1,9 +1,10 @@
 // The metadata of an element, read from its attributes in their order. Numbers are held as their bits.
 
-ghost use Rattle.std.specs.Prelude.{◌≡◌, option_map};
+ghost use Rattle.std.specs.Prelude.{ℕ, ◌≡◌, ◌≤◌, length, option_map, IfOk};
 ghost use Rattle.event_fields.specs.Field.{metadata_of};
-ghost use Rattle.event_scan.specs.Fields.{attributes_left, text_written};
-ghost use Rattle.event_metadata.specs.Values.{metadata_means, metadata_answered, metadata_name, metadata_as};
+ghost use Rattle.event_scan.specs.Parts.{written_size};
+ghost use Rattle.event_scan.specs.Fields.{written_left, attributes_left, text_written};
+ghost use Rattle.event_metadata.specs.Values.{metadata_means, metadata_answered, MetadataInBounds, metadata_name, metadata_as};
 
 use event_scan::fields::{Attributes, Value};
 use refusal::Refusal;
@@ -58,7 +59,8 @@ fn metadata_name(s: &[u8]) -> Option<MetadataName>
 impl<'a, const N: usize> MetadataValues<'a, N> {
     // With one value more. Only `false` exactly hides.
     fn with(&self, name: MetadataName, value: &Value<'a, N>) -> Result<Self, Refusal>
-        ensures { metadata_answered result ≡ metadata_as name (metadata_means self.now) (text_written value.now) }
+        ensures means { metadata_answered result ≡ metadata_as name (metadata_means self.now) (text_written value.now) }
+        ensures in_bounds { (n : ℕ) → MetadataInBounds n self.now → length value.now.bytes.now ≤ n → IfOk result (MetadataInBounds n) }
     {
         let with = MetadataValues {
             given: true,
@@ -101,7 +103,8 @@ impl<'a, const N: usize> MetadataValues<'a, N> {
 pub fn metadata_of<'a, const N: usize>(
     attributes: &Attributes<'a, N>,
 ) -> Result<MetadataValues<'a, N>, Refusal>
-    ensures { metadata_answered result ≡ metadata_of (attributes_left attributes.now) }
+    ensures means { metadata_answered result ≡ metadata_of (attributes_left attributes.now) }
+    ensures in_bounds { IfOk result (MetadataInBounds (written_size (written_left attributes.now))) }
 {
     let mut metadata = MetadataValues {
         given: false,

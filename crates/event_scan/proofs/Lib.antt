@@ -5,3 +5,4 @@ pub mod Names
 pub mod Parts
 pub mod Standing
 pub mod Noted
+pub mod Valued

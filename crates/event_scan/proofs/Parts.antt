@@ -1,5 +1,5 @@
 -- Laws of a text parted by the first of a byte: the first place of the byte, and the fields of a line and a field's name and value by it.
-use Rattle.std.specs.Prelude.{None, Option, Some, option_map, is_some}
+use Rattle.std.specs.Prelude.{None, Option, Some, option_map, is_some, IfSome}
 use Rattle.std.specs.Borrow.{Bor}
 use Prim.Native.Nat.{ℕ, zero, suc, ◌+◌, ◌<◌, ◌≤◌}
 use mathlib.Core.Path.{◌≡◌, refl, sym, ◌∙◌, ap}
@@ -8,7 +8,7 @@ use mathlib.Core.List.{List, [], ◌∷◌, map, append-nil}
 use mathlib.Core.Logic.{◌⊎◌, inl, inr}
 use native.Mathlib.Omega.{arith}
 use lib.Dec.{eqb}
-use lib.ListN.{length, get_or, take, drop}
+use lib.ListN.{length, get_or, take, drop, length-drop}
 use lib.Seq.{take-length, length-take-le, drop-length}
 use borrow.Author.Tests.{eq-eqb, ne_eqb}
 use Rattle.std.specs.List.{slice_range}
@@ -16,12 +16,12 @@ use Rattle.std.specs.Option.{MatchOption}
 use Rattle.std.proofs.lemmas.List.{drop_all}
 use Rattle.std.proofs.lemmas.List.Folds.{drop_split}
 use Rattle.base.specs.Bytes.{Bytes, both, same}
-use Rattle.base.proofs.Split.{by_bool, by_eq, no, clash}
+use Rattle.base.proofs.Split.{by_bool, by_eq, by_le, no, clash}
 use Rattle.line.specs.Line.{onto, fields}
 use Rattle.text.specs.Escape.{unescape}
 use Rattle.event.specs.Event.{Attr, Parted, onto_left, parted, is_empty, attr_with, attr_from, attr_of, or_empty, named, none_twice, value_of}
 use Rattle.event_scan.specs.Piece.{there, value_text}
-use Rattle.event_scan.specs.Parts.{parted_by, size_left, with_text, written_as, written_in}
+use Rattle.event_scan.specs.Parts.{parted_by, size_left, with_text, written_as, written_in, fields_size, written_size}
 use Rattle.event_scan.specs.Scan.{UpTo, fields_at}
 use Rattle.event_scan.specs.Fields.{fields_in}
 use Rattle.event_scan.proofs.Places.{up_nil, up_cons_here, up_cons, up_within, fields_past, fields_within}
@@ -200,6 +200,68 @@ left_behind t at None (inr h) = no (omega arith)
 left_behind t at (Some x) (h, _, e, _) =
     let d : drop at t ≡ slice_range t at (length t) = drop_split t at (length t) h ∙ rw (drop-length t) (append-nil (slice_range t at (length t))) in
     ap fields (e ∙ sym d) ∙ sym (fields_within t at h)
+
+-- ---- how long fields and attributes are
+
+onto_size : (b : ℕ) (fs : List Bytes) → fields_size (onto b fs) ≡ 1 + fields_size fs
+unfolding fields_size onto
+onto_size b [] = omega arith
+onto_size b (f ∷ fs) = omega arith
+
+-- the fields of a text are no longer than it
+pub fields_short : (s : Bytes) → fields_size (fields s) ≤ length s
+unfolding fields_size fields
+fields_short [] = omega arith
+fields_short (b ∷ s) =
+    by_eq b 9
+    (λ e. rw (eq-eqb b 9 e) (omega (arith, fields_short s)))
+    (λ n. rw (ne_eqb b 9 n, onto_size b (fields s)) (omega (arith, fields_short s)))
+
+field_size : (f : Bytes) → length (take (UpTo 61 f) f) + length (drop (suc (UpTo 61 f)) f) ≤ length f
+field_size f = omega (arith, up_within 61 f, length-take-le (UpTo 61 f) f (up_within 61 f), length-drop (suc (UpTo 61 f)) f)
+
+written_short : (fs : List Bytes) → written_size (written_in fs) ≤ fields_size fs
+unfolding written_size fields_size
+written_short [] = omega arith
+written_short (f ∷ fs) = omega (arith, field_size f, written_short fs)
+
+-- the first field of a text and those behind it
+pub parts_short : (s f : Bytes) (gs : List Bytes) → fields s ≡ f ∷ gs → (length f ≤ length s) × (fields_size gs ≤ length s)
+unfolding fields_size
+parts_short s f gs e = let w : length f + fields_size gs ≤ length s = rw e at (fields_short s) in (omega arith, omega arith)
+
+-- the first field and the attributes behind it
+pub first_short : (fs : List Bytes) (f : Bytes) (gs : List Bytes) → fs ≡ f ∷ gs → (length f ≤ fields_size fs) × (written_size (written_in gs) ≤ fields_size fs)
+unfolding fields_size
+first_short fs f gs e = rw e (omega arith, omega (arith, written_short gs))
+
+-- the fields from a place on as attributes
+pub written_at_short : (t : Bytes) (at : ℕ) → written_size (written_in (fields_at t at)) ≤ length t
+unfolding written_size
+written_at_short t at =
+    by_le at (length t)
+    (λ h. rw (fields_within t at h) (omega (arith, written_short (fields (drop at t)), fields_short (drop at t), length-drop at t)))
+    (λ h. rw (fields_past t at h) (omega arith))
+
+-- the first attribute and those behind it
+pub first_written : (attrs : List Attr) (a : Attr) (bs : List Attr) → attrs ≡ a ∷ bs → (length a.value ≤ written_size attrs) × (written_size bs ≤ written_size attrs)
+unfolding written_size
+first_written attrs a bs e = rw e (omega arith, omega arith)
+
+value_short : (n : Bytes) (attrs : List Attr) (v : Bytes) → value_of n attrs ≡ Some v → length v ≤ written_size attrs
+unfolding value_of written_size
+value_short n [] v e = let z : None ≡ Some v = e in no (cc)
+value_short n (a ∷ attrs) v e =
+    by_bool (same n a.name)
+    (λ h. let z : Some a.value ≡ Some v = rw h at e in
+    let q : a.value ≡ v = cc in
+    rw (← q) (omega arith))
+    (λ h. let z : value_of n attrs ≡ Some v = rw h at e in omega (arith, value_short n attrs v z))
+
+-- a value that was found
+pub found_short : {A : Type 0} (f : A → Bytes) (o : Option A) (n : Bytes) (attrs : List Attr) → option_map f o ≡ value_of n attrs → IfSome o (λ v. length (f v) ≤ written_size attrs)
+found_short f None n attrs e = tt
+found_short f (Some v) n attrs e = value_short n attrs (f v) (sym e)
 
 -- ---- the value of a name, and no name twice
 

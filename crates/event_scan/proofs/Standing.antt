@@ -1,24 +1,30 @@
 -- Whether fields stand as attributes: each is one, and no name is there twice, which is that each name is none of those before it.
-use Rattle.std.specs.Prelude.{None, Option, Some, option_map, is_some}
+use Rattle.std.specs.Prelude.{None, Option, Some, option_map, is_some, Result, IfOk}
+use Rattle.std.proofs.lemmas.Result.{IfOk-weaker}
 use Rattle.std.specs.Borrow.{Bor}
-use Prim.Native.Nat.{ℕ, ◌+◌, ◌<◌}
+use Prim.Native.Nat.{ℕ, ◌+◌, ◌<◌, ◌≤◌}
 use mathlib.Core.Path.{◌≡◌, refl, sym, ◌∙◌, ap}
 use mathlib.Core.Bool.{Bool, true, false, not, cond}
 use mathlib.Core.List.{List, [], ◌∷◌, ◌++◌}
 use native.Mathlib.Numerals.{add-one}
+use native.Mathlib.Omega.{arith}
 use lib.Dec.{eqb}
 use lib.ListN.{length, take, set}
 use lib.Seq.{take-suc-set}
 use Rattle.std.specs.List.{list_any}
 use Rattle.base.specs.Bytes.{Bytes, both, either, same}
 use Rattle.base.proofs.Split.{by_bool, clash, both_true, both_left, both_right, both_no_right}
+use Rattle.refusal.specs.declared.Refusal.{Refusal}
 use Rattle.refusal.specs.declared.Refusal.TheVariants.{NotEventLine}
 use Rattle.text.specs.Escape.{unescape}
-use Rattle.event.specs.Event.{Attr, Parted, parted, is_empty, or_empty, attr_with, attr_from, attr_of, beside, attrs_of, named, none_twice, reads, refused, starts, starts_with, starts_from}
+use Rattle.event.specs.Event.{Attr, Parted, parted, is_empty, or_empty, attr_with, attr_from, attr_of, beside, attrs_of, named, none_twice, value_of, reads, refused, starts, starts_with, starts_from}
 use Rattle.event_scan.specs.Names.{among, new_name, texts_of}
 use Rattle.event_scan.specs.Piece.{there, value_text}
-use Rattle.event_scan.specs.Parts.{name_seen, written_as, with_text, attributes_in}
+use Rattle.event_scan.specs.Parts.{name_seen, written_as, written_in, with_text, text_in, attributes_in}
 use Rattle.event_scan.specs.Scan.{stand}
+use Rattle.event_scan.specs.declared.event_line.EventLine.{EventLine}
+use Rattle.event_scan.specs.declared.event_line.EventLine.TheVariants as L
+use Rattle.event_scan.specs.Line.{Good, InBounds}
 use Rattle.event_scan.proofs.Parts.{empty_is, written_by}
 
 -- ---- each field is an attribute
@@ -211,7 +217,55 @@ unfolding there stand
 stand_there None h = clash h refl
 stand_there (Some attrs) h = refl
 
+-- fields that stand are attributes alone
+pub stand_right : (fs : List Bytes) → stand (attrs_of fs) ≡ true → Good fs
+stand_right fs h = attributes_right fs (stand_there (attrs_of fs) h)
+
+-- ---- the value of a name
+
+-- a field that is an attribute has a value whose escapes are right
+text_there : (f : Bytes) → there (attr_of f) ≡ true → unescape (written_as f).value ≡ Some (value_text (written_as f).value)
+unfolding attr_of there value_text
+text_there f h = by_parts (parted f) refl h
+  where
+    by_text : (n : Bytes) (o : Option Bytes) → there (attr_with n o) ≡ true → o ≡ Some (or_empty o)
+    by_text n None h = clash h refl
+    by_text n (Some x) h = refl
+
+    by_name : (n v : Bytes) (t : Bool) → there (cond t None (attr_with n (unescape v))) ≡ true → unescape v ≡ Some (or_empty (unescape v))
+    by_name n v true h = clash h refl
+    by_name n v false h = by_text n (unescape v) h
+
+    by_parts : (o : Option Parted) → parted f ≡ o → there (attr_from o) ≡ true → unescape (written_as f).value ≡ Some (or_empty (unescape (written_as f).value))
+    by_parts None q h = clash h refl
+    by_parts (Some p) q h =
+        let e : (written_as f).value ≡ p.right = ap (λ (a : Attr). a.value) (written_by f p q) in
+        ap unescape e ∙ by_name p.left p.right (is_empty p.left) h ∙ sym (ap (λ v. Some (or_empty (unescape v))) e)
+
+value_there : (n : Bytes) (fs : List Bytes) → there (attrs_of fs) ≡ true → text_in (value_of n (written_in fs)) ≡ value_of n (attributes_in fs)
+unfolding attrs_of value_of
+value_there n [] h = refl
+value_there n (f ∷ fs) h =
+    let k : both (there (attr_of f)) (there (attrs_of fs)) ≡ true = sym (there_beside (attr_of f) (attrs_of fs)) ∙ h in
+    by_bool (same n (written_as f).name)
+    (λ e. rw e (text_there f (both_left _ _ k)))
+    (λ e. rw e (value_there n fs (both_right _ _ k)))
+
+-- of attributes, the text of the value that is found is that of the name
+pub value_is : (n : Bytes) (fs : List Bytes) → Good fs → text_in (value_of n (written_in fs)) ≡ value_of n (attributes_in fs)
+unfolding there
+value_is n fs g = value_there n fs (ap there g)
+
 -- ---- an element
+
+-- more bytes hold it too
+wider : {m n : ℕ} → m ≤ n → (l : EventLine) → InBounds m l → InBounds n l
+wider h (L.Starts empty name attributes) b = (omega (arith, h, b.0), omega (arith, h, b.1), b.2)
+wider h L.Closes b = tt
+wider h L.Others b = tt
+
+pub lies_wider : (r : Result EventLine Refusal) {m n : ℕ} → m ≤ n → IfOk r (InBounds m) → IfOk r (InBounds n)
+lies_wider r h b = IfOk-weaker r _ _ (wider h) b
 
 starts_none : (empty : Bool) (n : Bytes) (o : Option (List Attr)) → stand o ≡ false → starts_with empty n o ≡ refused NotEventLine
 unfolding stand

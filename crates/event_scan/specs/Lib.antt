@@ -4,3 +4,4 @@ pub mod Names
 pub mod Parts
 pub mod Fields
 pub mod Line
+pub mod Places

@@ -1,8 +1,9 @@
 -- A text parted by the first of a byte, and the attributes that fields are.
-use Rattle.std.specs.Prelude.{ℕ, suc, cond, List, [], ◌∷◌, eqb, length, take, drop, map, None, Option, Some, option_map}
+use Rattle.std.specs.Prelude.{ℕ, suc, ◌+◌, cond, List, [], ◌∷◌, eqb, length, take, drop, map, None, Option, Some, option_map}
 use Rattle.std.specs.Borrow.{Bor}
 use Rattle.base.specs.Bytes.{Bytes}
 use Rattle.base.specs.Chars.{equals_sign}
+use Rattle.text.specs.Escape.{unescape}
 use Rattle.event.specs.Event.{Attr, Parted, onto_left}
 use Rattle.event_scan.specs.Piece.{value_text}
 use Rattle.event_scan.specs.Scan.{UpTo}
@@ -41,6 +42,23 @@ written_in fs = map written_as fs
 abbrev pub with_text : Attr → Attr
 with_text a = record { name = a.name; value = value_text a.value }
 
+-- the text of a value that was found, which is as it is written; none where it has another escape
+abbrev pub text_in : Option Bytes → Option Bytes
+text_in None = None
+text_in (Some v) = unescape v
+
 -- the attributes that fields are
 abbrev pub attributes_in : List Bytes → List Attr
 attributes_in fs = map with_text (written_in fs)
+
+-- ---- sizes
+
+-- how many bytes fields take, without the tabs between them
+unfoldable pub fields_size : List Bytes → ℕ
+fields_size [] = 0
+fields_size (f ∷ fs) = length f + fields_size fs
+
+-- how many bytes attributes take as they are written, without each `=` and the tabs
+unfoldable pub written_size : List Attr → ℕ
+written_size [] = 0
+written_size (a ∷ attrs) = length a.name + length a.value + written_size attrs

@@ -1,6 +1,6 @@
 // An event's line: what it is, with its name and its attributes as they are written.
 
-ghost use Rattle.std.specs.Prelude.{◌≡◌, ◌≤◌, ◌<◌, true, not, map, option_map, length, take, IfSome};
+ghost use Rattle.std.specs.Prelude.{◌≡◌, ◌≤◌, ◌<◌, true, not, map, option_map, length, take, IfOk, IfSome};
 ghost use Rattle.std.specs.Borrow.{Bor};
 ghost use Rattle.base.specs.Bytes.{Bytes, both};
 ghost use Rattle.line.specs.Line.{fields};
@@ -8,10 +8,10 @@ ghost use Rattle.event.specs.Event.{body, event_of, event_from, starts_from, att
 ghost use Rattle.distinct.specs.Distinct.{runs_in};
 ghost use Rattle.event_scan.specs.Names.{names_of, among, new_name, texts_of};
 ghost use Rattle.event_scan.specs.Piece.{there};
-ghost use Rattle.event_scan.specs.Parts.{name_seen, text_left, attributes_in};
+ghost use Rattle.event_scan.specs.Parts.{name_seen, text_left, fields_size, attributes_in};
 ghost use Rattle.event_scan.specs.Fields.{fields_left, attributes_left};
 ghost use Rattle.event_scan.specs.Scan.{stand, lone};
-ghost use Rattle.event_scan.specs.Line.{line_means};
+ghost use Rattle.event_scan.specs.Line.{line_means, InBounds};
 
 use crate::fields::{Attributes, Fields, attribute_name, name_length};
 use crate::{MAX_LINE, body_length, lacks, legal_line};
@@ -151,7 +151,8 @@ pub enum EventLine<'a> {
 // An open or an empty element, by the fields behind its first word. Inlined at both its calls, so that its answer is not handed on through memory.
 #[inline(always)]
 fn starts<'a>(empty: bool, fields: &Fields<'a, MAX_LINE>) -> Result<EventLine<'a>, Refusal>
-    ensures { line_means result ≡ starts_from empty (fields_left fields.now) }
+    ensures means { line_means result ≡ starts_from empty (fields_left fields.now) }
+    ensures in_bounds { IfOk result (InBounds (fields_size (fields_left fields.now))) }
 {
     let mut rest = *fields;
     let Some(name) = rest.next() else {
@@ -173,7 +174,8 @@ fn starts<'a>(empty: bool, fields: &Fields<'a, MAX_LINE>) -> Result<EventLine<'a
 
 // A line that is one word, which starts no element.
 fn alone(word: &[u8]) -> Result<EventLine<'_>, Refusal>
-    ensures { line_means result ≡ lone word.now }
+    ensures means { line_means result ≡ lone word.now }
+    ensures in_bounds { IfOk result (InBounds (length word.now)) }
 {
     if distinct::equal(word, b"close".as_slice()) {
         return Ok(EventLine::Closes);
@@ -187,7 +189,8 @@ fn alone(word: &[u8]) -> Result<EventLine<'_>, Refusal>
 // The event of a text's fields.
 fn event(text: &[u8]) -> Result<EventLine<'_>, Refusal>
     requires { length text.now ≤ MAX_LINE }
-    ensures { line_means result ≡ event_from (fields text.now) }
+    ensures means { line_means result ≡ event_from (fields text.now) }
+    ensures in_bounds { IfOk result (InBounds (length text.now)) }
 {
     let mut rest = Fields::new(text);
     let Some(word) = rest.next() else {
@@ -207,7 +210,8 @@ fn event(text: &[u8]) -> Result<EventLine<'_>, Refusal>
 
 // What a line with its line feed is, or its refusal. Plain bytes are legal, and none of them is a line feed.
 pub fn read(line: &[u8]) -> Result<EventLine<'_>, Refusal>
-    ensures { line_means result ≡ event_of line.now }
+    ensures means { line_means result ≡ event_of line.now }
+    ensures in_bounds { IfOk result (InBounds (length (body line.now))) }
 {
     let n = body_length(line);
     if MAX_LINE < n {

@@ -168,6 +168,18 @@ impl<'a, const N: usize> Attributes<'a, N> {
 // The largest length that a type can name: no slice is longer.
 pub const ANY_LENGTH: usize = usize::MAX;
 
+impl<'a> Fields<'a, ANY_LENGTH> {
+    ghost use Rattle.event_scan.specs.Fields.{fields_left};
+
+    // The fields of any text from any place on, none past the end.
+    pub(crate) fn behind(text: &'a [u8], at: usize) -> Fields<'a, ANY_LENGTH>
+        ensures { fields_left result ≡ fields_at text.now at }
+    {
+        let rest = text.get(at..);
+        Fields { rest }
+    }
+}
+
 impl<'a> Attributes<'a, ANY_LENGTH> {
     ghost use Rattle.event_scan.specs.Fields.{written_left};
 
@@ -176,9 +188,7 @@ impl<'a> Attributes<'a, ANY_LENGTH> {
     pub fn of(text: &'a [u8], at: usize) -> Attributes<'a, ANY_LENGTH>
         ensures { written_left result ≡ written_in (fields_at text.now at) }
     {
-        let rest = text.get(at..);
-        Attributes {
-            fields: Fields { rest },
-        }
+        let fields = Fields::behind(text, at);
+        Attributes { fields }
     }
 }

@@ -10,6 +10,7 @@ ghost use Rattle.event_scan.specs.Piece.{there, piece_in, value_text};
 
 pub mod event_line;
 pub mod fields;
+pub mod located;
 
 // "2 over 16,384 bytes without its line feed"
 pub const MAX_LINE: usize = 16384;

@@ -1,11 +1,12 @@
 -- A value read where it lies: its integer, its timestamp, and the field of its name.
-use Rattle.std.specs.Prelude.{None, Option, Some, Ok, Err, Result, option_map, ok_or, unwrap_or, IsErr, IsErrAnd}
+use Rattle.std.specs.Prelude.{None, Option, Some, Ok, Err, Result, option_map, ok_or, unwrap_or, IsErr, IsErrAnd, IfOk, IfSome}
 use Rattle.std.proofs.lemmas.Result.{err_from_is_err_and}
 use Prim.Native.Nat.{ℕ, ◌*◌, ◌<◌, ◌≤◌}
 use mathlib.Core.Path.{◌≡◌, refl, sym, ◌∙◌, ap}
 use mathlib.Core.Bool.{true, false}
 use mathlib.Core.List.{List, [], map}
 use native.Mathlib.Omega.{arith}
+use lib.ListN.{length}
 use lib.IntN.{ℤ, pos, negsuc, nat_abs}
 use mir.Syntax.{Width, w32, w64}
 use lib.Signed.{mag}
@@ -82,6 +83,16 @@ pub field_written : {N : ℕ} (n : Bytes) (attrs : List Attr) (o : Option (Value
 unfolding text_field
 field_written n attrs None r e q = rw (q, ← e)
 field_written n attrs (Some v) r e q = rw (q, ← e)
+
+-- what holds of a value that was found
+pub found_kept : {A E : Type 0} (x : E) (o : Option A) (P : A → Type 0) {r : Result A E} → r ≡ ok_or o x → IfSome o P → IfOk r P
+found_kept x None P e h = rw e tt
+found_kept x (Some v) P e h = rw e h
+
+-- a value that was found, or else the empty one, is no longer than those that can be found
+pub or_empty_short : {N : ℕ} (n : ℕ) (d : Value N) (o : Option (Value N)) → d.bytes.now ≡ [] → IfSome o (λ v. length v.bytes.now ≤ n) → length (unwrap_or o d).bytes.now ≤ n
+or_empty_short n d None e h = rw e (omega arith)
+or_empty_short n d (Some v) e h = h
 
 -- the value of a name, or else the empty one
 pub or_empty_written : {N : ℕ} (d : Value N) (o : Option (Value N)) (x : Option Bytes) → d.bytes.now ≡ [] → option_map text_written o ≡ x → text_written (unwrap_or o d) ≡ or_empty x

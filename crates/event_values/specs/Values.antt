@@ -1,5 +1,5 @@
 -- What the code holds of an event's fields: a number as its bits, a text as a value of the line, with its escapes. Each answer stands for a field of crate event_fields, or for its refusal.
-use Rattle.std.specs.Prelude.{ℕ, Result}
+use Rattle.std.specs.Prelude.{ℕ, ◌≤◌, length, Result}
 use Rattle.std.specs.Int.{w64}
 use Rattle.std.proofs.Common.{to_z}
 use Rattle.base.specs.Bytes.{Bytes}
@@ -18,11 +18,19 @@ value_field r = field_in text_written r
 abbrev pub tag_means : {N : ℕ} → TagValues N → Tag Bytes
 tag_means x = record { key = text_written x.key; value = text_written x.value }
 
+-- both texts are no longer than so many bytes, as they are written
+abbrev pub TagInBounds : {N : ℕ} → ℕ → TagValues N → Type 0
+TagInBounds n x = (length x.key.bytes.now ≤ n) × (length x.value.bytes.now ≤ n)
+
 abbrev pub tag_answered : {N : ℕ} → Result (TagValues N) Refusal → Field (Tag Bytes)
 tag_answered r = field_in tag_means r
 
 abbrev pub member_means : {N : ℕ} → MemberValues N → Member Bytes
 member_means x = record { ref = to_z w64 x.reference; type = x.kind; role = text_written x.role }
+
+-- its role is no longer than so many bytes, as it is written
+abbrev pub MemberInBounds : {N : ℕ} → ℕ → MemberValues N → Type 0
+MemberInBounds n x = length x.role.bytes.now ≤ n
 
 abbrev pub member_answered : {N : ℕ} → Result (MemberValues N) Refusal → Field (Member Bytes)
 member_answered r = field_in member_means r

@@ -2,7 +2,7 @@
 // with its escapes. No escape stands for a digit, a sign or a letter, so a number or a word is read as it is written.
 #![tactic(auto)]
 
-ghost use Rattle.std.specs.Prelude.{◌≡◌, option_map};
+ghost use Rattle.std.specs.Prelude.{◌≡◌, ◌≤◌, length, option_map, IfOk};
 ghost use Rattle.std.specs.Int.{w32, w64};
 ghost use Rattle.kind.specs.declared.Kind.TheVariants as kinds;
 ghost use Rattle.integer.specs.Integer.{integer_of};
@@ -12,8 +12,9 @@ ghost use Rattle.event_fields.specs.Field.{integer_field, whole_name, degrees_na
 ghost use Rattle.event_fields.specs.Field as F;
 ghost use Rattle.event_values.specs.Value.{narrow_in, wide_field, narrow_field, body_field};
 ghost use Rattle.event.specs.Event.{value_of};
-ghost use Rattle.event_scan.specs.Fields.{attributes_left, text_written};
-ghost use Rattle.event_values.specs.Values.{value_field, tag_answered, member_answered};
+ghost use Rattle.event_scan.specs.Parts.{written_size};
+ghost use Rattle.event_scan.specs.Fields.{written_left, attributes_left, text_written};
+ghost use Rattle.event_values.specs.Values.{value_field, tag_answered, TagInBounds, member_answered, MemberInBounds};
 
 use degrees::{Axis, DegreesError};
 use event_scan::fields::{Attributes, Value};
@@ -38,7 +39,8 @@ fn required<'a, const N: usize>(
     attributes: &Attributes<'a, N>,
     name: &[u8],
 ) -> Result<Value<'a, N>, Refusal>
-    ensures { value_field result ≡ F.text_field name.now (attributes_left attributes.now) }
+    ensures means { value_field result ≡ F.text_field name.now (attributes_left attributes.now) }
+    ensures in_bounds { IfOk result (λ v. length v.bytes.now ≤ written_size (written_left attributes.now)) }
 {
     attributes.value_of(name).ok_or(Refusal::Missing)
 }
@@ -196,7 +198,8 @@ pub struct TagValues<'a, const N: usize> {
 pub fn tag_of<'a, const N: usize>(
     attributes: &Attributes<'a, N>,
 ) -> Result<TagValues<'a, N>, Refusal>
-    ensures { tag_answered result ≡ tag_of (attributes_left attributes.now) }
+    ensures means { tag_answered result ≡ tag_of (attributes_left attributes.now) }
+    ensures in_bounds { IfOk result (TagInBounds (written_size (written_left attributes.now))) }
 {
     let key = required(attributes, b"k")?;
     let value = required(attributes, b"v")?;
@@ -215,7 +218,8 @@ pub struct MemberValues<'a, const N: usize> {
 pub fn member_of<'a, const N: usize>(
     attributes: &Attributes<'a, N>,
 ) -> Result<MemberValues<'a, N>, Refusal>
-    ensures { member_answered result ≡ member_of (attributes_left attributes.now) }
+    ensures means { member_answered result ≡ member_of (attributes_left attributes.now) }
+    ensures in_bounds { IfOk result (MemberInBounds (written_size (written_left attributes.now))) }
 {
     let named = required(attributes, b"type")?;
     let kind = Name::from(named.bytes).kind().ok_or(Refusal::MemberType)?;

@@ -24,7 +24,10 @@ pub fn keep_front(buffer: &mut [u8], answer: Result<(), RefusedAt>, from: usize)
 {
     // `map_or` was tried: of a buffer that a closure holds which is not called, a proof learns nothing
     match answer {
-        Ok(()) => input_lines::keep_rest(buffer, from),
+        Ok(()) => {
+            let end = buffer.len();
+            input_lines::keep_rest(buffer, from, end)
+        }
         Err(_) => 0,
     }
 }

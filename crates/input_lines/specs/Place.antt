@@ -1,5 +1,6 @@
 -- Lines where they lie: those that are left of a run, and the rest moved to the front of its buffer.
-use Rattle.std.specs.Prelude.{ℕ, List, length, drop}
+use Rattle.std.specs.Prelude.{ℕ, List, length}
+use Rattle.std.proofs.Math.Seq.{slice}
 use Rattle.base.specs.Bytes.{Bytes}
 use Rattle.little.specs.Little.{over}
 use Rattle.input_lines.specs.Lines.{lines_of}
@@ -14,6 +15,6 @@ pub record Front : Type 0 where
   pub buffer : Bytes
   pub kept : ℕ
 
--- the bytes from a place on moved to the front; no byte behind them is touched
-unfoldable pub keep_rest : Bytes → ℕ → Front
-keep_rest s from = record { buffer = over s 0 (drop from s); kept = length (drop from s) }
+-- the bytes from one place up to another moved to the front; those past the end are left out, and no other byte is touched
+unfoldable pub keep_rest : Bytes → ℕ → ℕ → Front
+keep_rest s from to = record { buffer = over s 0 (slice from to s); kept = length (slice from to s) }

@@ -28,14 +28,15 @@ impl<'a> Iterator for RunLines<'a> {
     }
 }
 
-// The bytes from a place on moved to the front of their buffer. The answer is how many they are. The place stays: the rest of a buffer cannot be lent beside the buffer.
-pub fn keep_rest(buffer: &mut [u8], from: usize) -> usize
-    ensures { record { buffer = buffer.new; kept = result } ≡ keep_rest buffer.old from }
+// The bytes from one place up to another moved to the front of their buffer; those past its end are left out. The answer is how many they are. The places stay: a part of a buffer cannot be
+// lent beside the buffer.
+pub fn keep_rest(buffer: &mut [u8], from: usize, to: usize) -> usize
+    ensures { record { buffer = buffer.new; kept = result } ≡ keep_rest buffer.old from to }
 {
-    let end = buffer.len();
+    let end = to.min(buffer.len());
     if end <= from {
         return 0;
     }
-    buffer.copy_within(from.., 0);
+    buffer.copy_within(from..end, 0);
     end - from
 }

@@ -12,6 +12,7 @@ use Rattle.input_lines.specs.Lines.{lines_of, rest_of}
 use Rattle.little.specs.Little.{over}
 use Rattle.little.proofs.Overs.{length_over, over_start, used_over}
 use Rattle.input_lines.specs.Place.{Front, keep_rest}
+use Rattle.input_lines.proofs.Places.{slice_end}
 use Rattle.reader.specs.State.{State, refusal_at}
 use Rattle.reader.specs.Event.{EventResult}
 use Rattle.reader.proofs.Answers.{by_answer}
@@ -53,7 +54,7 @@ module _ (t : State) (b p : Bytes) (held : ℕ) (room : held + length p ≤ leng
       sym (fed_as x e ∙ by_answer x.answer
       (λ a. let u = take filled joined in
       let r : drop at u ≡ rest_of u = ap (λ (m : ℕ). drop m u) f ∙ run_left u t (sym (ap (λ (z : EventResult). z.answer) e) ∙ a) in
-      let j : ◌≡◌ {A = Front} (record { buffer = q; kept = n }) (record { buffer = over u 0 (rest_of u); kept = length (rest_of u) }) = rw (a, r) at k in
+      let j : ◌≡◌ {A = Front} (record { buffer = q; kept = n }) (record { buffer = over u 0 (rest_of u); kept = length (rest_of u) }) = rw (a, slice_end u at, r) at k in
       let m : q ++ drop filled joined ≡ over joined 0 (rest_of u) =
       ap (λ (z : Front). z.buffer ++ drop filled joined) j ∙ over_part joined (rest_of u) filled (omega (arith, ap length r, length-drop at u, length-take filled joined)) within in
       rw a (λ i. record { intake = record { state = x.state; buffer = sym m i; held = (sym j i).kept }; answer = Ok tt }))

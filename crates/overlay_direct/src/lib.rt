@@ -14,7 +14,6 @@ use kind::Kind;
 use overlay::{StorageMut, StorageTables};
 use overlay_blocks::STRINGS;
 use refusal::Refusal;
-use text_index::Chains;
 
 // Takes a text in: 22, 3, 13, or its handle.
 #[tactic(auto, using(overlay::proofs::Checked::checked_unsound, overlay::proofs::Checked::checked_sound), unfolding(crate::specs::Calls::intern_on))]
@@ -24,7 +23,7 @@ pub fn intern(storage: &mut StorageMut<'_>, text: &[u8]) -> Result<u64, Refusal>
 {
     storage.check_sound()?;
     if text::is_text(text) {
-        return overlay_store::intern(storage, &Chains::none(), text);
+        return overlay_store::store_text(storage, text);
     }
     Err(Refusal::NotText)
 }

@@ -2,7 +2,7 @@
 // A caller makes the tests of the rows before it first.
 #![tactic(auto)]
 
-ghost use Rattle.std.specs.Prelude.{◌≡◌, ◌+◌, ◌<◌};
+ghost use Rattle.std.specs.Prelude.{◌≡◌, ◌+◌, ◌≤◌, ◌<◌};
 ghost use Rattle.std.specs.Int.{w64};
 ghost use Rattle.std.proofs.Common.{to_z};
 ghost use Rattle.model.specs.Record.{claim_of};
@@ -23,7 +23,7 @@ use kind_store::{KindStorageMut, KindStorageTable};
 use overlay::{Storage, StorageMut, StorageTables};
 use overlay_blocks::{ARENA, COUNTERS, SETTING, STRING_BYTES, STRINGS, Sizes};
 use refusal::Refusal;
-use text_index::{Chains, ChainsMut};
+use text_index::{Chains, ChainsMut, HANDLES};
 
 // ---- a text
 
@@ -74,6 +74,14 @@ pub fn intern(
     handle.ok_or(Refusal::StringsFull)
 }
 
+// The same where no chains are kept: the held texts are searched one by one.
+pub fn store_text(storage: &mut StorageMut<'_>, text: &[u8]) -> Result<u64, Refusal>
+    ensures same { IsSameStorage storage.new storage.old }
+    ensures done { record { overlay = overlay_held storage.new; answer = result } ≡ store_text text.now (overlay_held storage.old) }
+{
+    intern(storage, &Chains::none(), text)
+}
+
 // What that would answer, with nothing taken in: 13, or the handle that the text has or would get.
 pub fn handle(storage: &Storage<'_>, chains: &Chains<'_>, text: &[u8]) -> Result<u64, Refusal>
     ensures { ChainsServe (chains_seen chains.now) (overlay_seen storage.now).texts → result ≡ (store_text text.now (overlay_seen storage.now)).answer }
@@ -87,6 +95,7 @@ pub fn handle(storage: &Storage<'_>, chains: &Chains<'_>, text: &[u8]) -> Result
 pub fn chain_texts(chains: &mut ChainsMut<'_>, storage: &Storage<'_>)
     ensures same { IsSameChains chains.new chains.old }
     ensures chains { StoreChained (chains_held chains.old) (overlay_seen storage.now).texts → StoreChained (chains_held chains.new) (overlay_seen storage.now).texts }
+    ensures few { chains.old.handles ≤ HANDLES → chains.new.handles ≤ HANDLES }
 {
     if (chains.handles as u64) < storage.counters[STRINGS] {
         chains.index(&storage.strings());

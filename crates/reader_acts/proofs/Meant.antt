@@ -7,7 +7,7 @@ use native.Mathlib.Omega.{arith}
 use lib.IntN.{ℤ}
 use mir.Syntax.{w32, w64}
 use mir.Val.{Fits, SFits}
-use mir.Facts.{Fits-of_z, to_z-of_z, of_z-to_z}
+use mir.Facts.{Fits-of_z, of_z-to_z}
 use borrow.Author.Tests.{eqb-true, eqb-false}
 use Rattle.base.specs.Bytes.{Bytes}
 use Rattle.base.proofs.Split.{by_bool, clash}
@@ -27,7 +27,7 @@ use Rattle.reader.specs.State.{State}
 use Rattle.reader.specs.Step.{bits_with_user, head_for, step_of}
 use Rattle.reader_acts.specs.declared.Act.{Act}
 use Rattle.reader_acts.specs.Acts.{AfterBegun, begun_by, begin_on, act_on, push_empty_on, delete_element_on, user_flagged, meta_named, act_means}
-use Rattle.reader_acts.proofs.Bits.{act_named, act_claims}
+use Rattle.reader_acts.proofs.Bits.{act_named, act_claims, claim_bits}
 use Rattle.reader_acts.proofs.Laws.{begins_step, empty_step, deletes_step}
 
 -- ---- metadata that agrees in what an act goes by
@@ -91,12 +91,12 @@ module _ {m w : Meta Bytes} (same : Agree m w) where
 -- ---- the metadata that an act means
 
 -- a user as it is written, where metadata names one
-abbrev pub UserMeans : Option (Value 16384) → Bool → Bytes → Type 0
+abbrev pub UserMeans : {N : ℕ} → Option (Value N) → Bool → Bytes → Type 0
 UserMeans None named t = named ≡ false
 UserMeans (Some u) named t = (named ≡ true) × (text_written u ≡ t)
 
 -- an act by its metadata, whatever user stands there where it names none, and whatever numbers have these bits
-pub record Means (a : Act) (m : Meta Bytes) : Type 0 where
+pub record Means {N : ℕ} (a : Act N) (m : Meta Bytes) : Type 0 where
   pub bits : a.meta ≡ bits_with_user m 0
   pub version : SFits w32 m.version
   pub user : UserMeans a.user (flagged 4 m.flags) m.user
@@ -120,12 +120,8 @@ bits_back : (a : ArenaMeta) (named : Bool) (t : Bytes) → flagged 4 a.flags ≡
 bits_back a named t e v f u =
     rw (flag_back a.flags named e, of_z-to_z v, of_z-to_z f.timestamp, of_z-to_z f.changeset, of_z-to_z f.uid) (ap (with_handle a) u)
 
-read_claim : (m : Meta Bytes) → SFits w32 m.version → claim_of (meta_of (bits_with_user m 0)) ≡ claim_of m
-unfolding claim_of meta_of
-read_claim m f = rw (to_z-of_z f)
-
-module _ {a : Act} {m : Meta Bytes} (means : Means a m) (fit : NumbersFit a.meta) where
-  names : (x : Option (Value 16384)) → a.user ≡ x → UserMeans x (flagged 4 m.flags) m.user → (flagged 4 m.flags ≡ is_some x) × (flagged 4 m.flags ≡ true → m.user ≡ (act_means a).user)
+module _ {N : ℕ} {a : Act N} {m : Meta Bytes} (means : Means a m) (fit : NumbersFit a.meta) where
+  names : (x : Option (Value N)) → a.user ≡ x → UserMeans x (flagged 4 m.flags) m.user → (flagged 4 m.flags ≡ is_some x) × (flagged 4 m.flags ≡ true → m.user ≡ (act_means a).user)
   names None e g = (g, λ t. clash t g)
   names (Some u) e g = (g.0, λ t. sym g.1 ∙ (act_named a e).1)
 
@@ -137,7 +133,7 @@ module _ {a : Act} {m : Meta Bytes} (means : Means a m) (fit : NumbersFit a.meta
       let none : a.meta.user ≡ 0 = ap (λ (x : ArenaMeta). x.user) means.bits in
       record {
         bits = sym means.bits ∙ bits_back a.meta (is_some a.user) (act_means a).user flag version fit none;
-        claims = sym (read_claim m means.version) ∙ sym (ap (λ (x : ArenaMeta). claim_of (meta_of x)) means.bits) ∙ act_claims a;
+        claims = sym (claim_bits m 0 means.version) ∙ sym (ap (λ (x : ArenaMeta). claim_of (meta_of x)) means.bits) ∙ act_claims a;
         user = named.1;
       }
 

@@ -1,5 +1,5 @@
 -- Document 01, the acts of an event: "12 .. 13 .. 14 .. 15 ..", and the first of them is answered. "Nothing lent changes" at a refusal.
-use Rattle.std.specs.Prelude.{ℕ, ◌+◌, ◌*◌, ◌/◌, ◌%◌, ◌<◌, ◌≡◌, Bool, cond, [], ℤ, take, Err, Ok, Result, Option, option_map, is_some, unwrap_or}
+use Rattle.std.specs.Prelude.{ℕ, ◌+◌, ◌*◌, ◌/◌, ◌%◌, ◌<◌, ◌≤◌, ◌≡◌, Bool, cond, [], ℤ, length, take, Err, Ok, Result, None, Option, Some, option_map, is_some, unwrap_or}
 use Rattle.std.specs.Int.{w32, w64}
 use Rattle.std.proofs.Common.{to_z}
 use Rattle.base.specs.Bytes.{Bytes}
@@ -15,6 +15,7 @@ use Rattle.overlay.specs.Calls.{OverlayAfter, overlay_refused}
 use Rattle.overlay_store.specs.Calls.{store_text, store_push, store_delete}
 use Rattle.event.specs.Event.{or_empty}
 use Rattle.event_scan.specs.Fields.{text_written}
+use Rattle.event_scan.specs.declared.fields.Value.{Value}
 use Rattle.reader_acts.specs.declared.Act.{Act}
 use Rattle.reader.specs.declared.Pending.{Pending}
 use Rattle.reader.specs.Step.{bits_with_user, head_for}
@@ -135,10 +136,15 @@ meta_named m named user =
     }
 
 -- the metadata of an act; what holds for it holds for all metadata that the act means (proofs/Meant)
-abbrev pub act_means : Act → Meta Bytes
+abbrev pub act_means : {N : ℕ} → Act N → Meta Bytes
 act_means a = meta_named a.meta (is_some a.user) (or_empty (option_map text_written a.user))
 
 -- ---- what is given
+
+-- the text of the user that an act names is no longer than a line may be; one of at most so many bytes by its type is (proofs/Bits)
+abbrev pub UserShort : {N : ℕ} → Option (Value N) → Type 0
+UserShort None = Unit {0}
+UserShort (Some u) = length u.bytes.now ≤ 16384
 
 -- the handles of the overlay fit the metadata's field, and the chains serve its texts; a premise of the clauses for the reason that stands at `StepGiven` (reader_parts)
 pub record ActGiven (chains : HandleChains) (o : Overlay) : Type 0 where

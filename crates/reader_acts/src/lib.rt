@@ -14,10 +14,9 @@ ghost use Rattle.text_index.specs.Lent.{chains_seen};
 ghost use Rattle.overlay_store.specs.Calls.{store_delete};
 ghost use Rattle.event_values.specs.Value.{body_in};
 ghost use Rattle.reader.specs.Step.{bits_with_user, head_for};
-ghost use Rattle.reader_acts.specs.Acts.{claim_answer, begin_on, handle_for, with_user, push_empty_on, delete_element_on, push_staged_on, handle_or_zero, first_refusal, before_act, meta_named, act_means, ActGiven, UserIs};
+ghost use Rattle.reader_acts.specs.Acts.{claim_answer, begin_on, handle_for, with_user, push_empty_on, delete_element_on, push_staged_on, handle_or_zero, first_refusal, before_act, meta_named, act_means, ActGiven, UserIs, UserShort};
 
 use compact::{ArenaMeta, PushHead, PushRecord};
-use event_scan::MAX_LINE;
 use event_scan::fields::Value;
 use event_values::Coordinates;
 use kind::Kind;
@@ -29,13 +28,14 @@ use reader_stage::STAGED;
 use refusal::Refusal;
 use text_index::Chains;
 
-// An act on an element: its kind and id, its metadata in bits, but for its user, and the text of the user that it names, as it is written.
+// An act on an element: its kind and id, its metadata in bits, but for its user, and the text of the user that it names, as it is written. It may have any length; what is promised
+// of an act that names a user is promised of one whose text is no longer than a line may be.
 #[derive(Clone, Copy)]
-pub struct Act<'a> {
+pub struct Act<'a, const N: usize> {
     pub kind: Kind,
     pub id: u64,
     pub meta: ArenaMeta,
-    pub user: Option<Value<'a, MAX_LINE>>,
+    pub user: Option<Value<'a, N>>,
 }
 
 // ---- in bits
@@ -76,13 +76,13 @@ fn with_user(meta: ArenaMeta, handle: Option<u64>) -> ArenaMeta
 // ---- an element that begins
 
 // An element begins: 13, or its metadata with its user's handle.
-pub fn begin_element(
+pub fn begin_element<const N: usize>(
     storage: &mut StorageMut<'_>,
     chains: &Chains<'_>,
-    act: &Act<'_>,
+    act: &Act<'_, N>,
 ) -> Result<ArenaMeta, Refusal>
     ensures same { IsSameStorage storage.new storage.old }
-    ensures begun { ActGiven (chains_seen chains.now) (overlay_held storage.old)
+    ensures begun { UserShort act.now.user → ActGiven (chains_seen chains.now) (overlay_held storage.old)
         → record { overlay = overlay_held storage.new; answer = result } ≡ begin_on (act_means act.now) (overlay_held storage.old) }
 {
     let Some(user) = act.user else {
@@ -118,7 +118,12 @@ pub fn push_staged(
 
 // 12: where regression is refused, a claim is checked against the known version of its id.
 #[tactic(auto, using(kind_store::proofs::Settings::checked_by))]
-fn check_claim(storage: &Storage<'_>, kind: Kind, id: u64, claim: Option<i32>) -> Result<(), i32>
+pub fn check_claim(
+    storage: &Storage<'_>,
+    kind: Kind,
+    id: u64,
+    claim: Option<i32>,
+) -> Result<(), i32>
     ensures { result ≡ claim_answer kind (to_z w64 id) claim (overlay_seen storage.now) }
 {
     let regression = VersionRegression::from(storage.counters[SETTING]);
@@ -126,7 +131,11 @@ fn check_claim(storage: &Storage<'_>, kind: Kind, id: u64, claim: Option<i32>) -
 }
 
 // The refusal of an act whose user's text is refused: 12 if its claim is below the known version, else that of the text.
-fn first_refusal(storage: &Storage<'_>, act: &Act<'_>, refusal: Refusal) -> Refusal
+fn first_refusal<const N: usize>(
+    storage: &Storage<'_>,
+    act: &Act<'_, N>,
+    refusal: Refusal,
+) -> Refusal
     ensures { result ≡ first_refusal (claim_answer act.now.kind (to_z w64 act.now.id) (claim_of (act_means act.now)) (overlay_seen storage.now)) refusal }
 {
     let claim = act.meta.claim();
@@ -137,27 +146,33 @@ fn first_refusal(storage: &Storage<'_>, act: &Act<'_>, refusal: Refusal) -> Refu
 }
 
 // What is asked before an act: the handle that the user's text has or will get, none without a user; or the refusal of the act.
-fn user_before(
+fn user_before<const N: usize>(
     storage: &Storage<'_>,
     chains: &Chains<'_>,
-    act: &Act<'_>,
+    act: &Act<'_, N>,
 ) -> Result<Option<u64>, Refusal>
     ensures named { IfOk result (λ (h : Option ℕ). is_some h ≡ is_some act.now.user) }
-    ensures asked { ChainsServe (chains_seen chains.now) (overlay_seen storage.now).texts
+    ensures asked { UserShort act.now.user → ChainsServe (chains_seen chains.now) (overlay_seen storage.now).texts
         → handle_or_zero result ≡ before_act act.now.kind (to_z w64 act.now.id) (act_means act.now) (overlay_seen storage.now) }
 {
     let Some(user) = act.user else {
         return Ok(None);
     };
-    let refusal = |r: Refusal| first_refusal(storage, act, r);
-    let handle = reader_texts::text_handle(storage, chains, &user).map_err(refusal)?;
-    Ok(Some(handle))
+    match reader_texts::text_handle(storage, chains, &user) {
+        Ok(handle) => Ok(Some(handle)),
+        Err(refusal) => Err(first_refusal(storage, act, refusal)),
+    }
 }
 
 // What follows an act: the user's text is taken in, unless its handle is below the count: then it is held.
-fn take_user(storage: &mut StorageMut<'_>, chains: &Chains<'_>, act: &Act<'_>, handle: Option<u64>)
+fn take_user<const N: usize>(
+    storage: &mut StorageMut<'_>,
+    chains: &Chains<'_>,
+    act: &Act<'_, N>,
+    handle: Option<u64>,
+)
     ensures same { IsSameStorage storage.new storage.old }
-    ensures taken { ChainsServe (chains_seen chains.now) (overlay_held storage.old).texts
+    ensures taken { UserShort act.now.user → ChainsServe (chains_seen chains.now) (overlay_held storage.old).texts
         → UserIs (act_means act.now) (overlay_held storage.old) (unwrap_or handle 0)
         → overlay_held storage.new ≡ with_user (act_means act.now) (overlay_held storage.old) }
 {
@@ -176,14 +191,14 @@ fn take_user(storage: &mut StorageMut<'_>, chains: &Chains<'_>, act: &Act<'_>, h
 // ---- an element that begins and ends at once, and a delete
 
 // Pushes an empty element, a node with its coordinates: 12, 13, 14, 15, or taken.
-pub fn push_empty(
+pub fn push_empty<const N: usize>(
     storage: &mut StorageMut<'_>,
     chains: &Chains<'_>,
-    act: &Act<'_>,
+    act: &Act<'_, N>,
     coordinates: Coordinates,
 ) -> Result<(), Refusal>
     ensures same { IsSameStorage storage.new storage.old }
-    ensures pushed { ActGiven (chains_seen chains.now) (overlay_held storage.old)
+    ensures pushed { UserShort act.now.user → ActGiven (chains_seen chains.now) (overlay_held storage.old)
         → record { overlay = overlay_held storage.new; answer = result }
         ≡ push_empty_on (to_z w64 act.now.id) (act_means act.now) (body_in act.now.kind coordinates.lat coordinates.lon) (overlay_held storage.old) }
 {
@@ -220,13 +235,13 @@ fn store_delete(
 }
 
 // Deletes an id: 12, 13, 14, or taken.
-pub fn delete_element(
+pub fn delete_element<const N: usize>(
     storage: &mut StorageMut<'_>,
     chains: &Chains<'_>,
-    act: &Act<'_>,
+    act: &Act<'_, N>,
 ) -> Result<(), Refusal>
     ensures same { IsSameStorage storage.new storage.old }
-    ensures deleted { ChainsServe (chains_seen chains.now) (overlay_held storage.old).texts
+    ensures deleted { UserShort act.now.user → ChainsServe (chains_seen chains.now) (overlay_held storage.old).texts
         → record { overlay = overlay_held storage.new; answer = result }
         ≡ delete_element_on act.now.kind (to_z w64 act.now.id) (act_means act.now) (overlay_held storage.old) }
 {

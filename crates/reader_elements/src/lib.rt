@@ -11,7 +11,7 @@ ghost use Rattle.text_index.specs.Lent.{chains_seen};
 ghost use Rattle.overlay.specs.Lent.{overlay_held, IsSameStorage};
 ghost use Rattle.reader.specs.State.{State};
 ghost use Rattle.reader.specs.Done.{worked, Works};
-ghost use Rattle.reader_acts.specs.Acts.{act_means, ActGiven};
+ghost use Rattle.reader_acts.specs.Acts.{act_means, ActGiven, UserShort};
 
 use event_values::Coordinates;
 use kind::Kind;
@@ -23,15 +23,15 @@ use refusal::Refusal;
 use text_index::Chains;
 
 // An element begins, a node with its coordinates; one that is empty ends too, and is pushed.
-pub fn begin(
+pub fn begin<const N: usize>(
     storage: &mut StorageMut<'_>,
     chains: &Chains<'_>,
-    act: &Act<'_>,
+    act: &Act<'_, N>,
     coordinates: Coordinates,
     empty: bool,
 ) -> Result<Pending, Refusal>
     ensures same { IsSameStorage storage.new storage.old }
-    ensures works { (s : State) → s.overlay ≡ overlay_held storage.old → ActGiven (chains_seen chains.now) s.overlay
+    ensures works { (s : State) → s.overlay ≡ overlay_held storage.old → UserShort act.now.user → ActGiven (chains_seen chains.now) s.overlay
         → Works (λ p. begins empty p (to_z w64 act.now.id) (act_means act.now) (body_in act.now.kind coordinates.lat coordinates.lon)) s
         (worked s (overlay_held storage.new) s.parts result) }
 {
@@ -49,13 +49,13 @@ pub fn begin(
 }
 
 // An id is deleted.
-pub fn delete(
+pub fn delete<const N: usize>(
     storage: &mut StorageMut<'_>,
     chains: &Chains<'_>,
-    act: &Act<'_>,
+    act: &Act<'_, N>,
 ) -> Result<Pending, Refusal>
     ensures same { IsSameStorage storage.new storage.old }
-    ensures works { (s : State) → s.overlay ≡ overlay_held storage.old → ChainsServe (chains_seen chains.now) s.overlay.texts
+    ensures works { (s : State) → s.overlay ≡ overlay_held storage.old → UserShort act.now.user → ChainsServe (chains_seen chains.now) s.overlay.texts
         → Works (λ p. deletes act.now.kind p (to_z w64 act.now.id) (act_means act.now)) s (worked s (overlay_held storage.new) s.parts result) }
 {
     reader_acts::delete_element(storage, chains, act)?;

@@ -1,4 +1,5 @@
 // Children of the element that a reader is putting together: one tag, ref or member more. A refused child changes nothing, so the limits are asked before a text is taken in.
+// A text of any length may be given; a child is promised where its texts are no longer than a line may be.
 #![tactic(auto)]
 
 ghost use Rattle.std.specs.Prelude.{◌≡◌, ◌+◌, ◌++◌, ◌≤◌, ◌<◌, length, max};
@@ -73,12 +74,12 @@ fn part_fits(pending: Pending, limit: u32) -> bool
 }
 
 // What a child with a text is answered that is not within them: 13 if its text would be refused, else 16.
-fn over_limit(
+fn over_limit<const N: usize>(
     storage: &Storage<'_>,
     chains: &Chains<'_>,
-    text: &Value<'_, MAX_LINE>,
+    text: &Value<'_, N>,
 ) -> Result<(), Refusal>
-    ensures { ChainsServe (chains_seen chains.now) (overlay_seen storage.now).texts
+    ensures { length text.now.bytes.now ≤ MAX_LINE → ChainsServe (chains_seen chains.now) (overlay_seen storage.now).texts
         → result ≡ Err (refusal_over (store_text (text_written text.now) (overlay_seen storage.now)).answer) }
 {
     reader_texts::text_handle(storage, chains, text)?;
@@ -129,14 +130,14 @@ fn stage_middle(parts: &mut [u8; STAGED], kind: Kind, pending: Pending, part: &[
 // ---- a child with a text
 
 // Takes its text in: 13, or its handle.
-fn take_text(
+fn take_text<const N: usize>(
     state: &mut ReaderState<'_>,
     chains: &Chains<'_>,
-    text: &Value<'_, MAX_LINE>,
+    text: &Value<'_, N>,
 ) -> Result<u64, Refusal>
     ensures same { IsSameState state.new state.old }
     ensures rest { state_held state.new ≡ with_overlay (state_held state.new).overlay (state_held state.old) }
-    ensures taken { ChainsServe (chains_seen chains.now) (state_held state.old).overlay.texts
+    ensures taken { length text.now.bytes.now ≤ MAX_LINE → ChainsServe (chains_seen chains.now) (state_held state.old).overlay.texts
         → record { overlay = (state_held state.new).overlay; answer = result } ≡ store_text (text_written text.now) (state_held state.old).overlay }
 {
     let mut storage = StorageMut {
@@ -148,14 +149,14 @@ fn take_text(
 }
 
 // The same, its handle in 32 bits: sound storage has no handle that they do not hold.
-fn take_handle(
+fn take_handle<const N: usize>(
     state: &mut ReaderState<'_>,
     chains: &Chains<'_>,
-    text: &Value<'_, MAX_LINE>,
+    text: &Value<'_, N>,
 ) -> Result<u32, Refusal>
     ensures same { IsSameState state.new state.old }
     ensures rest { state_held state.new ≡ with_overlay (state_held state.new).overlay (state_held state.old) }
-    ensures taken { StepGiven (chains_seen chains.now) (state_held state.old)
+    ensures taken { length text.now.bytes.now ≤ MAX_LINE → StepGiven (chains_seen chains.now) (state_held state.old)
         → record { overlay = (state_held state.new).overlay; answer = result } ≡ store_text (text_written text.now) (state_held state.old).overlay }
 {
     let handle = take_text(state, chains, text)?;
@@ -163,15 +164,15 @@ fn take_handle(
 }
 
 // A tag by its value's text.
-fn tag_with(
+fn tag_with<const N: usize>(
     state: &mut ReaderState<'_>,
     chains: &Chains<'_>,
-    key: &Value<'_, MAX_LINE>,
+    key: &Value<'_, N>,
     value: &[u8],
 ) -> Result<(), Refusal>
     ensures same { IsSameState state.new state.old }
     ensures place { state.new.reader.place ≡ state.old.reader.place }
-    ensures worked { StepGiven (chains_seen chains.now) (state_held state.old)
+    ensures worked { length key.now.bytes.now ≤ MAX_LINE → StepGiven (chains_seen chains.now) (state_held state.old)
         → record { state = state_held state.new; answer = result } ≡ child_worked (state_held state.old)
         (add_tag state.old.reader.place.kind state.old.reader.pending (record { key = text_written key.now; value = value.now })
         state.old.parts.now (state_held state.old).overlay) }
@@ -199,15 +200,15 @@ fn tag_with(
 
 // With its value's escapes resolved: an array holds the text. The library has no heap. It is not inlined, so that a tag without an escape makes no room for the array.
 #[inline(never)]
-fn tag_resolved(
+fn tag_resolved<const N: usize>(
     state: &mut ReaderState<'_>,
     chains: &Chains<'_>,
-    key: &Value<'_, MAX_LINE>,
-    value: &Value<'_, MAX_LINE>,
+    key: &Value<'_, N>,
+    value: &Value<'_, N>,
 ) -> Result<(), Refusal>
     ensures same { IsSameState state.new state.old }
     ensures place { state.new.reader.place ≡ state.old.reader.place }
-    ensures worked { StepGiven (chains_seen chains.now) (state_held state.old)
+    ensures worked { length key.now.bytes.now ≤ MAX_LINE → length value.now.bytes.now ≤ MAX_LINE → StepGiven (chains_seen chains.now) (state_held state.old)
         → record { state = state_held state.new; answer = result } ≡ child_worked (state_held state.old)
         (add_tag state.old.reader.place.kind state.old.reader.pending (record { key = text_written key.now; value = text_written value.now })
         state.old.parts.now (state_held state.old).overlay) }
@@ -218,15 +219,15 @@ fn tag_resolved(
 }
 
 // A tag more, its key and its value as they are written: 13 of its key, 16, or the tag staged.
-pub fn add_tag(
+pub fn add_tag<const N: usize>(
     state: &mut ReaderState<'_>,
     chains: &Chains<'_>,
-    key: &Value<'_, MAX_LINE>,
-    value: &Value<'_, MAX_LINE>,
+    key: &Value<'_, N>,
+    value: &Value<'_, N>,
 ) -> Result<(), Refusal>
     ensures same { IsSameState state.new state.old }
     ensures place { state.new.reader.place ≡ state.old.reader.place }
-    ensures works { StepGiven (chains_seen chains.now) (state_held state.old)
+    ensures works { length key.now.bytes.now ≤ MAX_LINE → length value.now.bytes.now ≤ MAX_LINE → StepGiven (chains_seen chains.now) (state_held state.old)
         → Works (λ p. tags p (record { key = text_written key.now; value = text_written value.now })) (state_held state.old)
         (record { state = state_held state.new; answer = result }) }
 {
@@ -255,16 +256,16 @@ pub fn add_ref(
 }
 
 // A member more, its role as it is written: 13 of its role, 16, or the member staged.
-pub fn add_member(
+pub fn add_member<const N: usize>(
     state: &mut ReaderState<'_>,
     chains: &Chains<'_>,
     reference: u64,
     kind: Kind,
-    role: &Value<'_, MAX_LINE>,
+    role: &Value<'_, N>,
 ) -> Result<(), Refusal>
     ensures same { IsSameState state.new state.old }
     ensures place { state.new.reader.place ≡ state.old.reader.place }
-    ensures works { StepGiven (chains_seen chains.now) (state_held state.old)
+    ensures works { length role.now.bytes.now ≤ MAX_LINE → StepGiven (chains_seen chains.now) (state_held state.old)
         → Works (λ p. joins p (record { ref = to_z w64 reference; type = kind; role = text_written role.now })) (state_held state.old)
         (record { state = state_held state.new; answer = result }) }
 {

@@ -76,7 +76,7 @@ fn stops_by(refusal: Refusal) -> bool
 
 // The mark that stops a reader; a mark that no refused event leaves stops nothing.
 #[tactic(auto, unfolding(crate::specs::Mark::stop_mark))]
-fn mark_of(stop: Option<RefusedAt>) -> Option<RefusedAt>
+pub fn mark_of(stop: Option<RefusedAt>) -> Option<RefusedAt>
     ensures { result ≡ stop_mark stop }
 {
     stop.filter(|at| stops_by(at.refusal))

@@ -43,7 +43,9 @@ pub fn tag_bytes(key: u32, value: usize) -> [u8; 8]
 
 // ---- a part more
 
-// A part put before the bytes of a room, which move up to its end: its numbers, and the bytes of a value behind them.
+// A part put before the bytes of a room, which move up to its end: its numbers, and the bytes of a value behind them. It is not inlined: where the compiler sees that the numbers lie in an array of the
+// caller's it asks for `memcpy`, and the archive asks for `memmove` and `memset` alone.
+#[inline(never)]
 fn put_before(room: &mut [u8], numbers: &[u8], value: &[u8])
     requires { length numbers.now + length value.now ≤ length room.old }
     ensures { room.new ≡ (numbers.now ++ value.now) ++ take (length room.old - (length numbers.now + length value.now)) room.old }

@@ -13,9 +13,8 @@ fn field(rt: &impl Print, text: Option<&[u8]>) -> io::Result<()> {
 // 20 bytes are the most that a number of 64 bits asks for, with its sign.
 pub fn number(rt: &impl Print, v: u64) -> io::Result<()> {
     let mut bytes = [0u8; 20];
-    let length = decimal::number_length(v);
-    decimal::put_measured(&mut bytes, length, v);
-    field(rt, bytes.get(..length))
+    let length = decimal::put_number(&mut bytes, v);
+    field(rt, length.and_then(|n| bytes.get(..n)))
 }
 
 // An integer of 64 bits, by its bits.

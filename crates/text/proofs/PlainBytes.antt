@@ -1,17 +1,17 @@
 -- Plain bytes: one pass over a run tells whether all its bytes pass a test, and a run of plain bytes is text.
-use Prim.Native.Nat.{ℕ, ◌+◌, ◌<◌, ◌≤◌}
-use mathlib.Core.Path.{◌≡◌, refl}
+use Prim.Native.Nat.{ℕ, zero, suc, ◌+◌, ◌<◌, ◌≤◌}
+use mathlib.Core.Path.{◌≡◌, refl, sym, ap, ◌∙◌}
 use mathlib.Core.Bool.{Bool, true, false, ◌&&◌, ◌||◌}
 use mathlib.Core.List.{[], ◌∷◌}
 use native.Mathlib.Numerals.{add-one}
 use native.Mathlib.Omega.{arith}
 use lib.Dec.{leb, eqb}
-use lib.ListN.{length, get_or, drop, drop_of_length-le}
+use lib.ListN.{length, get_or, take, drop, drop_of_length-le}
 use lib.Seq.{drop-cons}
 use borrow.Author.Tests.{leb-true, eqb-true}
 use Rattle.std.specs.List.{fold}
 use Rattle.base.specs.Bytes.{Bytes, both, either, all}
-use Rattle.base.proofs.Split.{both_left, both_right, by_either}
+use Rattle.base.proofs.Split.{both_left, both_right, by_bool, by_either}
 use Rattle.base.proofs.Lists.{all_nil}
 use Rattle.text.specs.Char.{from_to, xml_char}
 use Rattle.text.specs.Check.{is_text, is_plain, plain_ascii}
@@ -38,6 +38,22 @@ module _ (p : ℕ → Bool) (s : Bytes) where
   unfolding both
   pass_ends true i h = rw (drop_of_length-le s h) (all_nil p)
   pass_ends false i h = refl
+
+-- the bytes up to a place, and those from there on
+all_cut : (p : ℕ → Bool) (n : ℕ) (s : Bytes) → both (all p (take n s)) (all p (drop n s)) ≡ all p s
+unfolding both all
+all_cut p zero s = refl
+all_cut p (suc n) [] = refl
+all_cut p (suc n) (b ∷ s) = by_bool (p b) (λ t. rw t (all_cut p n s)) (λ f. rw f refl)
+
+module _ (p : ℕ → Bool) (n : ℕ) (s : Bytes) where
+  pub all_behind : all p (take n s) ≡ true → all p (drop n s) ≡ all p s
+  unfolding both
+  all_behind h = sym (ap (λ b. both b (all p (drop n s))) h) ∙ all_cut p n s
+
+  pub not_all : all p (take n s) ≡ false → false ≡ all p s
+  unfolding both
+  not_all h = sym (ap (λ b. both b (all p (drop n s))) h) ∙ all_cut p n s
 
 -- ---- plain bytes
 

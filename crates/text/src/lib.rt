@@ -86,11 +86,30 @@ fn long(s: &[u8], at: usize, k: u8) -> Option<usize>
     }
 }
 
-// Whether every byte is a tab or one from the blank to the tilde.
+// How many bytes of a long run are looked at together.
+const TOGETHER: usize = 64;
+
+// Whether every byte is a tab or one from the blank to the tilde. It looks at all bytes, so that many are looked at together: no early end, and no branch.
+fn plain_together(s: &[u8]) -> bool
+    ensures { result ≡ all is_plain s.now }
+{
+    s.iter().fold(true, |plain, b| plain & search::is_plain(*b))
+}
+
+// The same of a run of any length, to its end or to where one is not.
+// The loop is no `for` over `chunks`: what is left behind the last of them is looked at in another way.
 pub fn plain(s: &[u8]) -> bool
     ensures { result ≡ all is_plain s.now }
 {
-    search::plain_length(s) == s.len()
+    let mut rest = s;
+    while TOGETHER <= rest.len() {
+        let (front, back) = rest.split_at(TOGETHER);
+        if !plain_together(front) {
+            return false;
+        }
+        rest = back;
+    }
+    search::plain_length(rest) == rest.len()
 }
 
 // Whether bytes are legal text, character by character.

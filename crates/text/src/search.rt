@@ -121,7 +121,7 @@ fn plain_by_blocks<const N: usize>(s: &[u8]) -> usize
 }
 
 // Whether a byte is a tab or one from the blank to the tilde.
-fn is_plain(b: u8) -> bool
+pub(crate) fn is_plain(b: u8) -> bool
     ensures { result ≡ is_plain b }
 {
     (b == b'\t') | ((b' ' <= b) & (b <= b'~'))

@@ -1,13 +1,14 @@
 -- Laws of chains that their users need.
 use Prim.Native.Nat.{ℕ, ◌-◌, ◌<◌}
-use mathlib.Core.Path.{◌≡◌, refl, sym, ◌∙◌}
+use mathlib.Core.Path.{◌≡◌, refl, sym, ◌∙◌, ap}
 use mathlib.Core.List.{List, [], ◌++◌}
 use native.Mathlib.Omega.{arith}
 use lib.ListN.{length-append, get_or, replicate, get_or-replicate, length-replicate, get_or-append, get_or-eq_default}
 use Rattle.base.specs.Bytes.{Bytes}
 use Rattle.base.proofs.Split.{by_lt}
+use Rattle.interner.specs.Strings.{Store}
 use Rattle.text_index.specs.Index.{bucket_at, LastBelow}
-use Rattle.text_index.specs.Chained.{HandleChains, none_chained, Chained}
+use Rattle.text_index.specs.Chained.{HandleChains, none_chained, Chained, ChainsServe}
 
 -- the same buckets below m
 pub last_same : (f g : ℕ → ℕ) (b m c : ℕ) → ((h : ℕ) → h < m → g h ≡ f h) → LastBelow f b m c → LastBelow g b m c
@@ -43,6 +44,10 @@ chained_fresh befores texts = chained_empty (record { lasts = replicate 4096 0; 
 -- no chains at all
 pub chained_none : (texts : List Bytes) → Chained none_chained texts
 chained_none texts = chained_empty none_chained texts refl (λ b. refl)
+
+-- they serve any strings
+pub none_serve : (c : HandleChains) → c ≡ none_chained → (s : Store) → ChainsServe c s
+none_serve c e s h = absurd (omega (arith, ap (λ (k : HandleChains). k.handles) e))
 
 -- more texts
 pub chained_more : (c : HandleChains) (texts more : List Bytes) → Chained c texts → Chained c (texts ++ more)

@@ -1,6 +1,7 @@
 -- What chains of handles say of a list of texts: of each bucket the last handle, of each handle the one before it in its bucket, each as the handle and one, 0 for none.
-use Rattle.std.specs.Prelude.{ℕ, zero, suc, ◌+◌, ◌≤◌, ◌<◌, ◌≡◌, true, false, List, [], length, get_or, set, Option, Some, None}
+use Rattle.std.specs.Prelude.{ℕ, zero, suc, ◌+◌, ◌≤◌, ◌<◌, ◌≡◌, true, false, cond, ltb, List, [], length, get_or, set, Option, Some, None}
 use Rattle.base.specs.Bytes.{Bytes}
+use Rattle.interner.specs.Interned.{Interned, Held, New, Full}
 use Rattle.interner.specs.Strings.{is_at, Store}
 use Rattle.interner.specs.Sound.{texts_in, texts_of, sound_up_to, sound_strings}
 use Rattle.text_index.specs.Index.{bucket_at, LastBelow}
@@ -46,3 +47,8 @@ chain_linked c b h = record { lasts = set c.lasts b (h + 1); befores = set c.bef
 abbrev pub FoundBelow : List ℕ → Bytes → Bytes → ℕ → Option ℕ → Type 0
 FoundBelow spans bytes t n (Some h) = (h < n) × (is_at spans bytes t h ≡ true)
 FoundBelow spans bytes t n None = (h : ℕ) → h < n → is_at spans bytes t h ≡ false
+
+-- what taking a text in answers, told by how many are held and by its handle: below the count it is held, else new
+unfoldable pub told_apart : ℕ → Option ℕ → Interned
+told_apart count None = Full
+told_apart count (Some h) = cond (ltb h count) (Held h) (New h)

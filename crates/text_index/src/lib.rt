@@ -8,7 +8,7 @@ ghost use Rattle.interner.specs.Strings.{spanned, bytes_at, intern};
 ghost use Rattle.interner.specs.Texts.{handle_answered};
 ghost use Rattle.interner.specs.Lent.{store_seen, store_held, IsSameStrings, find_held};
 ghost use Rattle.text_index.specs.Index.{bucket_of};
-ghost use Rattle.text_index.specs.Chained.{handle_coded, none_chained, chain_linked, TextsChained, StoreChained, ChainsServe, FoundBelow};
+ghost use Rattle.text_index.specs.Chained.{handle_coded, none_chained, chain_linked, TextsChained, StoreChained, ChainsServe, FoundBelow, told_apart};
 ghost use Rattle.text_index.specs.Lent.{chains_seen, chains_held, IsSameChains};
 
 use interner::{Strings, StringsMut, Texts};
@@ -126,9 +126,10 @@ impl Chains<'_> {
         strings.intern_found(text, found)
     }
 
-    // What that would answer, with nothing taken in.
+    // What that would answer, with nothing taken in. Whether the text is held or would be new is told by its handle: below the count, or the count.
     pub fn answer(&self, strings: &Strings<'_>, text: &[u8]) -> Option<u64>
-        ensures { ChainsServe (chains_seen self.now) (store_seen strings.now) → result ≡ handle_answered (intern (store_seen strings.now) text.now).answer }
+        ensures handle { ChainsServe (chains_seen self.now) (store_seen strings.now) → result ≡ handle_answered (intern (store_seen strings.now) text.now).answer }
+        ensures told { ChainsServe (chains_seen self.now) (store_seen strings.now) → told_apart strings.now.count result ≡ (intern (store_seen strings.now) text.now).answer }
     {
         let next = strings.has_room(text).then_some(strings.count);
         self.find(strings, text).or(next)
@@ -173,6 +174,7 @@ impl ChainsMut<'_> {
     pub fn index(&mut self, strings: &Strings<'_>)
         ensures same { IsSameChains self.new self.old }
         ensures chains { StoreChained (chains_held self.old) (store_seen strings.now) → StoreChained (chains_held self.new) (store_seen strings.now) }
+        ensures few { self.old.handles ≤ HANDLES → self.new.handles ≤ HANDLES }
     {
         if self.lasts.len() < BUCKETS || self.befores.len() < HANDLES {
             return;

@@ -8,11 +8,11 @@ use Rattle.reader_acts.proofs.Bits.{act_claims}
 use Rattle.reader_acts.proofs.first_refusal.Goals as goal
 
 pub returns-in-Ok : goal.returns-in-Ok
-returns-in-Ok c =
+returns-in-Ok g c =
     let e = c.claim-claim.ensures ∙ act_claims c.args.act.now in rw (← e, ← c.check_claim.ensures, c.in-Ok.is) refl
 
 pub returns-in-Err : goal.returns-in-Err
-returns-in-Err c =
+returns-in-Err g c =
     let e = c.claim-claim.ensures ∙ act_claims c.args.act.now in
     let told : SFits w32 c.in-Err.held = search rules in
     rw (to_z-of_z told, ← e, ← c.check_claim.ensures, c.in-Err.is) refl

@@ -13,19 +13,19 @@ use Rattle.reader_acts.proofs.Once.{asked, before_ok, before_not, behind, empty_
 use Rattle.reader_acts.proofs.push_empty.Goals as goal
 
 pub returns-in_err-user-clause-pushed : goal.returns-in_err-user-clause-pushed
-returns-in_err-user-clause-pushed c =
+returns-in_err-user-clause-pushed g c =
     let p = err_from_is_err_and c.from_residual.result c.from_residual.ensures.1 in
     let o = overlay_held c.args.storage.now in
     let act = c.args.act.now in
     let id = to_z w64 act.id in
     let m = act_means act in
-    λ g.
-    let e = rw c.in_err-user.was at (asked act.kind id m o c.storage.ensures g.serve c.user_before.ensures.asked) in
+    λ short given.
+    let e = rw c.in_err-user.was at (asked act.kind id m o c.storage.ensures given.serve (c.user_before.ensures.asked short)) in
     let n = before_not act.kind id m o e in
     rw (p.1, p.2) (empty_not act.kind id m o _ (kind_read act.kind c.args.coordinates.lat c.args.coordinates.lon) n.1.0 n.1.1)
 
 pub returns-in_err-push-clause-pushed : goal.returns-in_err-push-clause-pushed
-returns-in_err-push-clause-pushed c =
+returns-in_err-push-clause-pushed g c =
     let p = err_from_is_err_and c.from_residual-in_err-push.result c.from_residual-in_err-push.ensures.1 in
     let o = overlay_held c.args.storage.now in
     let act = c.args.act.now in
@@ -33,26 +33,26 @@ returns-in_err-push-clause-pushed c =
     let m = act_means act in
     let h = c.head_for.ensures in
     let same = ap (λ (z : PushHead). to_z w64 z.id) (sym h.bits) ∙ ap (λ (n : ℕ). to_z w64 n) h.id in
-    λ g.
-    let e = rw c.in_ok-user.was at (asked act.kind id m o c.storage.ensures g.serve c.user_before.ensures.asked) in
+    λ short given.
+    let e = rw c.in_ok-user.was at (asked act.kind id m o c.storage.ensures given.serve (c.user_before.ensures.asked short)) in
     let user = before_ok act.kind id m o e in
-    let meta = rw (rw c.in_ok-user.was at c.user_before.ensures.named) at (c.with_user.ensures.bits m.user (user_fits m o _ user g.few)) in
+    let meta = rw (rw c.in_ok-user.was at c.user_before.ensures.named) at (c.with_user.ensures.bits m.user (user_fits m o _ user given.few)) in
     let claims = rw meta at (c.with_user.ensures.claim ∙ act_claims act) in
     let done = rw (meta, c.in_err-push.was) at c.push.ensures.done in
     rw (p.1, p.2) (empty_done act.kind id m o _ same _ claims (kind_read act.kind c.args.coordinates.lat c.args.coordinates.lon) h.bits user (ap (then_user_on m) done))
 
 pub returns-clause-pushed : goal.returns-clause-pushed
-returns-clause-pushed c =
+returns-clause-pushed g c =
     let o = overlay_held c.args.storage.now in
     let act = c.args.act.now in
     let id = to_z w64 act.id in
     let m = act_means act in
     let h = c.head_for.ensures in
     let same = ap (λ (z : PushHead). to_z w64 z.id) (sym h.bits) ∙ ap (λ (n : ℕ). to_z w64 n) h.id in
-    λ g.
-    let e = rw c.in_ok-user.was at (asked act.kind id m o c.storage.ensures g.serve c.user_before.ensures.asked) in
+    λ short given.
+    let e = rw c.in_ok-user.was at (asked act.kind id m o c.storage.ensures given.serve (c.user_before.ensures.asked short)) in
     let user = before_ok act.kind id m o e in
-    let meta = rw (rw c.in_ok-user.was at c.user_before.ensures.named) at (c.with_user.ensures.bits m.user (user_fits m o _ user g.few)) in
+    let meta = rw (rw c.in_ok-user.was at c.user_before.ensures.named) at (c.with_user.ensures.bits m.user (user_fits m o _ user given.few)) in
     let claims = rw meta at (c.with_user.ensures.claim ∙ act_claims act) in
     let done = rw (meta, c.in_ok-push.was) at c.push.ensures.done in
-    empty_done act.kind id m o _ same _ claims (kind_read act.kind c.args.coordinates.lat c.args.coordinates.lon) h.bits user (behind _ m o g.serve _ user act.kind _ done c.take_user.ensures.taken)
+    empty_done act.kind id m o _ same _ claims (kind_read act.kind c.args.coordinates.lat c.args.coordinates.lon) h.bits user (behind _ m o given.serve _ user act.kind _ done (c.take_user.ensures.taken short))

@@ -8,12 +8,12 @@ use Rattle.reader_acts.proofs.Handles.{user_held}
 use Rattle.reader_acts.proofs.take_user.Goals as goal
 
 pub returns-in_default-clause-taken : goal.returns-in_default-clause-taken
-returns-in_default-clause-taken c = λ g user. let f = act_unnamed c.args.act.now c.in_default.is in rw f
+returns-in_default-clause-taken g c = λ short serve user. let f = act_unnamed c.args.act.now c.in_default.is in rw f
 
 pub returns-in-Some-handle-clause-taken : goal.returns-in-Some-handle-clause-taken
-returns-in-Some-handle-clause-taken c =
-    λ g user. sym (user_held (act_means c.args.act.now) (overlay_held c.args.storage.now) _ (rw c.in-Some-handle.is at user) c.if-handle-storage.true)
+returns-in-Some-handle-clause-taken g c =
+    λ short serve user. sym (user_held (act_means c.args.act.now) (overlay_held c.args.storage.now) _ (rw c.in-Some-handle.is at user) c.if-handle-storage.true)
 
 pub returns-in_default-handle-clause-taken : goal.returns-in_default-handle-clause-taken
-returns-in_default-handle-clause-taken c =
-    λ g user. let u = act_named c.args.act.now c.in-Some.is in rw u.0 (ap (λ (z : Interning). z.overlay) (rw u.1 at (c.take_text.ensures.taken g)))
+returns-in_default-handle-clause-taken g c =
+    λ short serve user. let u = act_named c.args.act.now c.in-Some.is in rw u.0 (ap (λ (z : Interning). z.overlay) (rw u.1 at (c.take_text.ensures.taken (rw c.in-Some.is at short) serve)))

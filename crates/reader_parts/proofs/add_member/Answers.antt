@@ -16,27 +16,27 @@ use Rattle.reader_parts.proofs.Steps.{member_works}
 use Rattle.reader_parts.proofs.add_member.Goals as goal
 
 pub returns-in_err-role-clause-works : goal.returns-in_err-role-clause-works
-returns-in_err-role-clause-works c =
+returns-in_err-role-clause-works g c =
     let s = state_held c.args.state.now in
     let m : Member Bytes = record { ref = to_z w64 c.args.reference; type = c.args.kind; role = text_written c.args.role.now } in
     let p = err_from_is_err_and c.from_residual.result c.from_residual.ensures.1 in
-    λ g. member_works s (record { state = state_held c.take_handle.new.state; answer = c.from_residual.result }) m
-    (rw (p.1, p.2) (refused_left s (member_child s m) (c.take_handle.ensures.taken g) c.in_err-role.was c.take_handle.ensures.rest))
+    λ short given. member_works s (record { state = state_held c.take_handle.new.state; answer = c.from_residual.result }) m
+    (rw (p.1, p.2) (refused_left s (member_child s m) (c.take_handle.ensures.taken short given) c.in_err-role.was c.take_handle.ensures.rest))
 
 pub returns-then-part_fits-clause-works : goal.returns-then-part_fits-clause-works
-returns-then-part_fits-clause-works c =
+returns-then-part_fits-clause-works g c =
     let s = state_held c.args.state.now in
     let m : Member Bytes = record { ref = to_z w64 c.args.reference; type = c.args.kind; role = text_written c.args.role.now } in
     let y = member_child s m in
     let x = c.member_bytes-part.result in
     let e : x ≡ member_part (member_bits m c.in_ok-role.role) = rw (c.member_bytes-part.ensures, c.from.ensures, of_z-to_z c.ranges.reference) in
-    λ g. member_works s _ m
-    (staged_left s y (c.take_handle.ensures.taken g) (sym c.part_fits.ensures ∙ c.if-part_fits.true) c.in_ok-role.was c.take_handle.ensures.rest x e c.stage_middle-state.ensures.parts
-    (c.stage_middle-state.ensures.pending (rw (ap (λ (z : State). z.parts) c.take_handle.ensures.rest) g.used)))
+    λ short given. member_works s _ m
+    (staged_left s y (c.take_handle.ensures.taken short given) (sym c.part_fits.ensures ∙ c.if-part_fits.true) c.in_ok-role.was c.take_handle.ensures.rest x e c.stage_middle-state.ensures.parts
+    (c.stage_middle-state.ensures.pending (rw (ap (λ (z : State). z.parts) c.take_handle.ensures.rest) given.used)))
 
 pub returns-clause-works : goal.returns-clause-works
-returns-clause-works c =
+returns-clause-works g c =
     let s = state_held c.args.state.now in
     let m : Member Bytes = record { ref = to_z w64 c.args.reference; type = c.args.kind; role = text_written c.args.role.now } in
     let e = c.storage.ensures ∙ ap (λ (z : State). z.overlay) c.view.ensures in
-    λ g. member_works s (record { state = s; answer = c.over_limit.result }) m (over_left s (member_child s m) (sym c.part_fits.ensures ∙ c.if-part_fits.false) e g.serve c.over_limit.ensures)
+    λ short given. member_works s (record { state = s; answer = c.over_limit.result }) m (over_left s (member_child s m) (sym c.part_fits.ensures ∙ c.if-part_fits.false) e given.serve (c.over_limit.ensures short))

@@ -15,38 +15,38 @@ use Rattle.reader_parts.proofs.Adds.{tag_child, fits_yes, staged_left, refused_l
 use Rattle.reader_parts.proofs.tag_with.Goals as goal
 
 pub overflow_add-head : goal.overflow_add-head
-overflow_add-head c =
+overflow_add-head g c =
     let s = state_held c.args.state.now in
     let f = fits_yes s.reader.place.kind s.reader.pending (length c.args.value.now) (sym c.tag_fits.ensures ∙ c.if-tag_fits.true) in
     Fits-of_lt (omega arith)
 
 pub stage_part-state-requires : goal.stage_part-state-requires
-stage_part-state-requires c =
+stage_part-state-requires g c =
     let s = state_held c.args.state.now in
     let f = fits_yes s.reader.place.kind s.reader.pending (length c.args.value.now) (sym c.tag_fits.ensures ∙ c.if-tag_fits.true) in
     (omega arith, f.1)
 
 pub returns-in_err-handle-clause-worked : goal.returns-in_err-handle-clause-worked
-returns-in_err-handle-clause-worked c =
+returns-in_err-handle-clause-worked g c =
     let s = state_held c.args.state.now in
     let t : Tag Bytes = record { key = text_written c.args.key.now; value = c.args.value.now } in
     let p = err_from_is_err_and c.from_residual.result c.from_residual.ensures.1 in
-    λ g. rw (p.1, p.2) (refused_left s (tag_child s t) (c.take_handle.ensures.taken g) c.in_err-handle.was c.take_handle.ensures.rest)
+    λ short given. rw (p.1, p.2) (refused_left s (tag_child s t) (c.take_handle.ensures.taken short given) c.in_err-handle.was c.take_handle.ensures.rest)
 
 pub returns-then-tag_fits-clause-worked : goal.returns-then-tag_fits-clause-worked
-returns-then-tag_fits-clause-worked c =
+returns-then-tag_fits-clause-worked g c =
     let s = state_held c.args.state.now in
     let v = c.args.value.now in
     let n = c.in_ok-handle.handle in
     let x = c.tag_bytes-numbers.result ++ v in
     let t : Tag Bytes = record { key = text_written c.args.key.now; value = v } in
     let e : x ≡ tag_part n v = rw (c.tag_bytes-numbers.ensures, append_assoc) in
-    λ g. staged_left s (tag_child s t) (c.take_handle.ensures.taken g) (sym c.tag_fits.ensures ∙ c.if-tag_fits.true) c.in_ok-handle.was c.take_handle.ensures.rest x e c.stage_part-state.ensures.parts
-    (c.stage_part-state.ensures.pending (rw (ap (λ (z : State). z.parts) c.take_handle.ensures.rest) g.used))
+    λ short given. staged_left s (tag_child s t) (c.take_handle.ensures.taken short given) (sym c.tag_fits.ensures ∙ c.if-tag_fits.true) c.in_ok-handle.was c.take_handle.ensures.rest x e c.stage_part-state.ensures.parts
+    (c.stage_part-state.ensures.pending (rw (ap (λ (z : State). z.parts) c.take_handle.ensures.rest) given.used))
 
 pub returns-clause-worked : goal.returns-clause-worked
-returns-clause-worked c =
+returns-clause-worked g c =
     let s = state_held c.args.state.now in
     let t : Tag Bytes = record { key = text_written c.args.key.now; value = c.args.value.now } in
     let e = c.storage.ensures ∙ ap (λ (z : State). z.overlay) c.view.ensures in
-    λ g. over_left s (tag_child s t) (sym c.tag_fits.ensures ∙ c.if-tag_fits.false) e g.serve c.over_limit.ensures
+    λ short given. over_left s (tag_child s t) (sym c.tag_fits.ensures ∙ c.if-tag_fits.false) e given.serve (c.over_limit.ensures short)

@@ -4,6 +4,6 @@ use native.Mathlib.Omega.{arith}
 use Rattle.reader_texts.proofs.resolved.Goals as goal
 
 pub returns : goal.returns
-returns c =
+returns g c =
     let v = c.args.value.now in
-    held_whole c.args.room.now _ v.bytes.now _ _ (omega arith) v.short c.unescape_into-n.ensures c.min-end.ensures
+    λ short. held_whole c.args.room.now _ v.bytes.now _ _ (omega arith) short c.unescape_into-n.ensures c.min-end.ensures

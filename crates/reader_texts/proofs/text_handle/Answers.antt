@@ -4,5 +4,5 @@ use Rattle.event_scan.proofs.Pieces.{text_bare}
 use Rattle.reader_texts.proofs.text_handle.Goals as goal
 
 pub returns-then-lacks : goal.returns-then-lacks
-returns-then-lacks c =
-    λ serve. rw (text_bare c.args.value.now.bytes.now (sym c.lacks.ensures ∙ c.if-lacks.true)) (c.handle.ensures serve)
+returns-then-lacks g c =
+    λ short serve. rw (text_bare c.args.value.now.bytes.now (sym c.lacks.ensures ∙ c.if-lacks.true)) (c.handle.ensures serve)

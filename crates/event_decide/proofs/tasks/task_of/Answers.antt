@@ -2,20 +2,33 @@
 use Rattle.std.proofs.Common.{◌∙◌}
 use Rattle.event_decision.specs.Decision.{decide_event}
 use Rattle.event_values.proofs.Values.{handed_on}
-use Rattle.event_decide.proofs.Tasked.{decided_refused, decided_read}
+use Rattle.event_decide.proofs.Tasked.{decided_refused, decided_read, task_wider}
 use Rattle.event_decide.proofs.tasks.task_of.Goals as goal
 
 pub returns-in_err-empty : goal.returns-in_err-empty
-returns-in_err-empty c = rw (handed_on c.from_residual.ensures) (decided_refused c.args.line.now c.args.place _ c.in_err-empty.ensures)
+returns-in_err-empty c =
+    record {
+      means = rw (handed_on c.from_residual.ensures) (decided_refused c.args.line.now c.args.place _ c.in_err-empty.ensures.means);
+      in_bounds = rw (handed_on c.from_residual.ensures) tt;
+    }
 
 pub returns-in-Starts : goal.returns-in-Starts
 unfolding decide_event
-returns-in-Starts c = c.opens.ensures ∙ decided_read c.args.line.now c.args.place _ (rw c.in-Starts.is at c.in_ok-empty.ensures)
+returns-in-Starts c =
+    let lies = rw c.in-Starts.is at c.in_ok-empty.ensures.in_bounds in
+    record {
+      means = c.opens.ensures.means ∙ decided_read c.args.line.now c.args.place _ (rw c.in-Starts.is at c.in_ok-empty.ensures.means);
+      in_bounds = task_wider _ lies.1 c.opens.ensures.in_bounds;
+    }
 
 pub returns-in-Closes : goal.returns-in-Closes
 unfolding decide_event
-returns-in-Closes c = c.closes.ensures ∙ decided_read c.args.line.now c.args.place _ (rw c.in-Closes.is at c.in_ok-empty.ensures)
+returns-in-Closes c =
+    record {
+      means = c.closes.ensures.means ∙ decided_read c.args.line.now c.args.place _ (rw c.in-Closes.is at c.in_ok-empty.ensures.means);
+      in_bounds = c.closes.ensures.in_bounds _;
+    }
 
 pub returns-in-Others : goal.returns-in-Others
 unfolding decide_event
-returns-in-Others c = decided_read c.args.line.now c.args.place _ (rw c.in-Others.is at c.in_ok-empty.ensures)
+returns-in-Others c = record { means = decided_read c.args.line.now c.args.place _ (rw c.in-Others.is at c.in_ok-empty.ensures.means); in_bounds = tt }

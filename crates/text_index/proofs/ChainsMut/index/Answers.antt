@@ -19,5 +19,6 @@ loop-h-preserved c =
       same = record { lasts = c.link.ensures.same.lasts ∙ l.invariant.same.lasts; befores = c.link.ensures.same.befores ∙ l.invariant.same.befores };
       lasts = omega (arith, ap (λ (x : HandleChains). length x.lasts) e, length-set n.lasts.now b (l.h + 1), l.invariant.lasts);
       befores = omega (arith, ap (λ (x : HandleChains). length x.befores) e, length-set n.befores.now l.h (get_or n.lasts.now b 0), l.invariant.befores);
+      few = λ g. omega (arith, ap (λ (x : HandleChains). x.handles) e, c.lesser-end.ensures);
       chains = λ g. (rw e (linked_store (chains_held n) (store_seen c.args.strings.now) b l.h l.invariant.lasts l.invariant.befores c.in-Some.ensures.below (omega (arith, c.lesser-end.ensures)) (omega (arith, c.lesser-end.ensures)) g.sound (rw (t.spans, t.bytes) at c.in-Some.ensures.value) (l.invariant.chains g)), ap (λ (x : HandleChains). x.handles) e);
     }

@@ -12,5 +12,6 @@ invariant-loop-h l =
       same : IsSameChains l.self l.fn.self;
       lasts : 4096 ≤ length l.self.lasts.now;
       befores : 4096 ≤ length l.self.befores.now;
+      few : l.fn.self.handles ≤ 4096 → l.self.handles ≤ 4096;
       chains : StoreChained (chains_held l.fn.self) (store_seen l.strings) → Chained (chains_held l.self) (texts_of (store_seen l.strings)) × (l.self.handles ≡ l.h);
     }

@@ -1,6 +1,6 @@
 use Rattle.std.proofs.lemmas.List.Sorted.{IsPermutation-trans}
 use Rattle.distinct.proofs.Orders.{distinct_sorted}
-use Rattle.distinct.proofs.runs_differ.Goals as goal
+use Rattle.distinct.proofs.sorted_differ.Goals as goal
 
 pub returns : goal.returns
 returns c =
