@@ -24,7 +24,7 @@ use Rattle.event_scan.specs.Parts.{name_seen, written_as, written_in, with_text,
 use Rattle.event_scan.specs.Scan.{stand}
 use Rattle.event_scan.specs.declared.event_line.EventLine.{EventLine}
 use Rattle.event_scan.specs.declared.event_line.EventLine.TheVariants as L
-use Rattle.event_scan.specs.Line.{Good, InBounds}
+use Rattle.event_scan.specs.Line.{Good, InBounds, Spells}
 use Rattle.event_scan.proofs.Parts.{empty_is, written_by}
 
 -- ---- each field is an attribute
@@ -266,6 +266,10 @@ wider h L.Others b = tt
 
 pub lies_wider : (r : Result EventLine Refusal) {m n : ℕ} → m ≤ n → IfOk r (InBounds m) → IfOk r (InBounds n)
 lies_wider r h b = IfOk-weaker r _ _ (wider h) b
+
+-- equal fields spell it too
+pub spells_equal : (r : Result EventLine Refusal) {fs gs : List Bytes} → fs ≡ gs → IfOk r (Spells fs) → IfOk r (Spells gs)
+spells_equal r e b = rw e at b
 
 starts_none : (empty : Bool) (n : Bytes) (o : Option (List Attr)) → stand o ≡ false → starts_with empty n o ≡ refused NotEventLine
 unfolding stand

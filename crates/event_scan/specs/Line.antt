@@ -1,5 +1,5 @@
 -- What a line that was read means.
-use Rattle.std.specs.Prelude.{ℕ, ◌≡◌, ◌≤◌, List, length, Err, Ok, Result, Some}
+use Rattle.std.specs.Prelude.{ℕ, ◌≡◌, ◌≤◌, List, ◌∷◌, length, Err, Ok, Result, Some}
 use Rattle.base.specs.Bytes.{Bytes}
 use Rattle.refusal.specs.declared.Refusal.{Refusal}
 use Rattle.event.specs.Event.{attrs_of, Event, starts, closes, others, Reading, reads, refused}
@@ -26,3 +26,9 @@ abbrev pub InBounds : ℕ → EventLine → Type 0
 InBounds n (L.Starts empty name attributes) = (length name.now ≤ n) × (written_size (written_left attributes) ≤ n) × Good (fields_left attributes.fields)
 InBounds n L.Closes = Unit {0}
 InBounds n L.Others = Unit {0}
+
+-- the name of an element and its attributes are these fields, as they are written
+abbrev pub Spells : List Bytes → EventLine → Type 0
+Spells fs (L.Starts empty name attributes) = fs ≡ name.now ∷ fields_left attributes.fields
+Spells fs L.Closes = Unit {0}
+Spells fs L.Others = Unit {0}

@@ -1,6 +1,6 @@
 // An event's line: what it is, with its name and its attributes as they are written.
 
-ghost use Rattle.std.specs.Prelude.{◌≡◌, ◌≤◌, ◌<◌, true, not, map, option_map, length, take, IfOk, IfSome};
+ghost use Rattle.std.specs.Prelude.{◌≡◌, ◌≤◌, ◌<◌, true, not, List, map, option_map, length, take, drop, IfOk, IfSome};
 ghost use Rattle.std.specs.Borrow.{Bor};
 ghost use Rattle.base.specs.Bytes.{Bytes, both};
 ghost use Rattle.line.specs.Line.{fields};
@@ -11,7 +11,7 @@ ghost use Rattle.event_scan.specs.Piece.{there};
 ghost use Rattle.event_scan.specs.Parts.{name_seen, text_left, fields_size, attributes_in};
 ghost use Rattle.event_scan.specs.Fields.{fields_left, attributes_left};
 ghost use Rattle.event_scan.specs.Scan.{stand, lone};
-ghost use Rattle.event_scan.specs.Line.{line_means, InBounds};
+ghost use Rattle.event_scan.specs.Line.{line_means, InBounds, Spells};
 
 use crate::fields::{Attributes, Fields, attribute_name, name_length};
 use crate::{MAX_LINE, body_length, lacks, legal_line};
@@ -153,6 +153,7 @@ pub enum EventLine<'a> {
 fn starts<'a>(empty: bool, fields: &Fields<'a, MAX_LINE>) -> Result<EventLine<'a>, Refusal>
     ensures means { line_means result ≡ starts_from empty (fields_left fields.now) }
     ensures in_bounds { IfOk result (InBounds (fields_size (fields_left fields.now))) }
+    ensures written { IfOk result (Spells (fields_left fields.now)) }
 {
     let mut rest = *fields;
     let Some(name) = rest.next() else {
@@ -176,6 +177,7 @@ fn starts<'a>(empty: bool, fields: &Fields<'a, MAX_LINE>) -> Result<EventLine<'a
 fn alone(word: &[u8]) -> Result<EventLine<'_>, Refusal>
     ensures means { line_means result ≡ lone word.now }
     ensures in_bounds { IfOk result (InBounds (length word.now)) }
+    ensures written { (fs : List Bytes) → IfOk result (Spells fs) }
 {
     if distinct::equal(word, b"close".as_slice()) {
         return Ok(EventLine::Closes);
@@ -191,6 +193,7 @@ fn event(text: &[u8]) -> Result<EventLine<'_>, Refusal>
     requires { length text.now ≤ MAX_LINE }
     ensures means { line_means result ≡ event_from (fields text.now) }
     ensures in_bounds { IfOk result (InBounds (length text.now)) }
+    ensures written { IfOk result (Spells (drop 1 (fields text.now))) }
 {
     let mut rest = Fields::new(text);
     let Some(word) = rest.next() else {
@@ -212,6 +215,7 @@ fn event(text: &[u8]) -> Result<EventLine<'_>, Refusal>
 pub fn read(line: &[u8]) -> Result<EventLine<'_>, Refusal>
     ensures means { line_means result ≡ event_of line.now }
     ensures in_bounds { IfOk result (InBounds (length (body line.now))) }
+    ensures written { IfOk result (Spells (drop 1 (fields (body line.now)))) }
 {
     let n = body_length(line);
     if MAX_LINE < n {

@@ -1,7 +1,8 @@
 -- `read`: 2, then 3, then 4 or an event.
-use Rattle.std.proofs.Common.{length, sym, ap, ◌∙◌, arith}
+use Rattle.std.proofs.Common.{length, drop, sym, ap, ◌∙◌, arith}
 use lib.Seq.{length-take-le}
-use Rattle.event_scan.proofs.Standing.{lies_wider}
+use Rattle.line.specs.Line.{fields}
+use Rattle.event_scan.proofs.Standing.{lies_wider, spells_equal}
 use Rattle.event_scan.proofs.Lines.{judged, judged_part, plain_legal, plain_whole, scan_long, scan_illegal, scan_open, scan_broken, reads_event}
 use Rattle.event_scan.proofs.event_line.read.Goals as goal
 
@@ -33,6 +34,11 @@ returns-then-plain-clause-in_bounds c =
     let n = c.body_length-n in
     lies_wider _ (omega (arith, ap length (judged_part c.args.line.now n.result n.ensures))) c.event.ensures.in_bounds
 
+pub returns-then-plain-clause-written : goal.returns-then-plain-clause-written
+returns-then-plain-clause-written c =
+    let n = c.body_length-n in
+    spells_equal _ (ap (λ t. drop 1 (fields t)) (judged_part c.args.line.now n.result n.ensures)) c.event.ensures.written
+
 pub returns-then-n-line-2-clause-means : goal.returns-then-n-line-2-clause-means
 returns-then-n-line-2-clause-means c =
     let n = c.body_length-n in
@@ -49,6 +55,11 @@ pub returns-then-lacks-clause-in_bounds : goal.returns-then-lacks-clause-in_boun
 returns-then-lacks-clause-in_bounds c =
     let n = c.body_length-n in
     lies_wider _ (omega (arith, ap length (judged_part c.args.line.now n.result n.ensures))) c.event-then-lacks.ensures.in_bounds
+
+pub returns-then-lacks-clause-written : goal.returns-then-lacks-clause-written
+returns-then-lacks-clause-written c =
+    let n = c.body_length-n in
+    spells_equal _ (ap (λ t. drop 1 (fields t)) (judged_part c.args.line.now n.result n.ensures)) c.event-then-lacks.ensures.written
 
 pub returns-then-legal_line-clause-means : goal.returns-then-legal_line-clause-means
 returns-then-legal_line-clause-means c =

@@ -13,6 +13,7 @@ returns-then-attributes_stand c =
     record {
       means = starts_right _ _ _ _ c.in-Some.ensures.steps (sym c.is_empty.ensures ∙ c.if-is_empty.false) stands;
       in_bounds = let s = first_short _ _ _ c.in-Some.ensures.steps in (s.0, s.1, stand_right _ stands);
+      written = c.in-Some.ensures.steps;
     }
 
 pub returns-clause-means : goal.returns-clause-means
