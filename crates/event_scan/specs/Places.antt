@@ -1,5 +1,6 @@
 -- Places in a text: where the attribute at a place ends, and where the value of a name lies.
 use Rattle.std.specs.Prelude.{ℕ, ◌+◌, cond, List, [], ◌∷◌, length, take, None, Option, Some}
+use Rattle.std.proofs.Math.Seq.{slice}
 use Rattle.base.specs.Bytes.{Bytes, same}
 use Rattle.base.specs.Chars.{equals_sign}
 use Rattle.event_scan.specs.Scan.{UpTo, fields_at}
@@ -22,3 +23,7 @@ value_in name at (f ∷ fs) =
 
 unfoldable pub attribute_value : Bytes → Bytes → ℕ → Option ValuePlaces
 attribute_value t name at = value_in name at (fields_at t at)
+
+-- the bytes of a text between two places; none where the second comes first
+abbrev pub bytes_between : Bytes → ValuePlaces → Bytes
+bytes_between t p = slice p.from p.to t
