@@ -89,6 +89,16 @@ pub found_kept : {A E : Type 0} (x : E) (o : Option A) (P : A → Type 0) {r : R
 found_kept x None P e h = rw e tt
 found_kept x (Some v) P e h = rw e h
 
+-- a value that was found is the one that is written
+pub found_written : {A : Type 0} (f : A → Bytes) (o : Option A) {x : Option Bytes} → option_map f o ≡ x → IfSome o (λ v. x ≡ Some (f v))
+found_written f None e = tt
+found_written f (Some v) e = sym e
+
+-- a value that was found, or else the empty one, is the one that is written, or else empty
+pub or_empty_is : {N : ℕ} (d : Value N) (o : Option (Value N)) {x : Option Bytes} → d.bytes.now ≡ [] → option_map (λ v. v.bytes.now) o ≡ x → (unwrap_or o d).bytes.now ≡ or_empty x
+or_empty_is d None e q = rw (e, ← q)
+or_empty_is d (Some v) e q = rw (← q)
+
 -- a value that was found, or else the empty one, is no longer than those that can be found
 pub or_empty_short : {N : ℕ} (n : ℕ) (d : Value N) (o : Option (Value N)) → d.bytes.now ≡ [] → IfSome o (λ v. length v.bytes.now ≤ n) → length (unwrap_or o d).bytes.now ≤ n
 or_empty_short n d None e h = rw e (omega arith)

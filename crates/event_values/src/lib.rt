@@ -2,7 +2,7 @@
 // with its escapes. No escape stands for a digit, a sign or a letter, so a number or a word is read as it is written.
 #![tactic(auto)]
 
-ghost use Rattle.std.specs.Prelude.{◌≡◌, ◌≤◌, length, option_map, IfOk};
+ghost use Rattle.std.specs.Prelude.{◌≡◌, ◌≤◌, length, Some, option_map, IfOk};
 ghost use Rattle.std.specs.Int.{w32, w64};
 ghost use Rattle.kind.specs.declared.Kind.TheVariants as kinds;
 ghost use Rattle.integer.specs.Integer.{integer_of};
@@ -14,7 +14,7 @@ ghost use Rattle.event_values.specs.Value.{narrow_in, wide_field, narrow_field, 
 ghost use Rattle.event.specs.Event.{value_of};
 ghost use Rattle.event_scan.specs.Parts.{written_size};
 ghost use Rattle.event_scan.specs.Fields.{written_left, attributes_left, text_written};
-ghost use Rattle.event_values.specs.Values.{value_field, tag_answered, TagInBounds, member_answered, MemberInBounds};
+ghost use Rattle.event_values.specs.Values.{value_field, tag_answered, TagInBounds, TagWritten, member_answered, MemberInBounds, MemberWritten};
 
 use degrees::{Axis, DegreesError};
 use event_scan::fields::{Attributes, Value};
@@ -41,6 +41,7 @@ fn required<'a, const N: usize>(
 ) -> Result<Value<'a, N>, Refusal>
     ensures means { value_field result ≡ F.text_field name.now (attributes_left attributes.now) }
     ensures in_bounds { IfOk result (λ v. length v.bytes.now ≤ written_size (written_left attributes.now)) }
+    ensures written { IfOk result (λ v. value_of name.now (written_left attributes.now) ≡ Some v.bytes.now) }
 {
     attributes.value_of(name).ok_or(Refusal::Missing)
 }
@@ -200,6 +201,7 @@ pub fn tag_of<'a, const N: usize>(
 ) -> Result<TagValues<'a, N>, Refusal>
     ensures means { tag_answered result ≡ tag_of (attributes_left attributes.now) }
     ensures in_bounds { IfOk result (TagInBounds (written_size (written_left attributes.now))) }
+    ensures written { IfOk result (TagWritten (written_left attributes.now)) }
 {
     let key = required(attributes, b"k")?;
     let value = required(attributes, b"v")?;
@@ -220,6 +222,7 @@ pub fn member_of<'a, const N: usize>(
 ) -> Result<MemberValues<'a, N>, Refusal>
     ensures means { member_answered result ≡ member_of (attributes_left attributes.now) }
     ensures in_bounds { IfOk result (MemberInBounds (written_size (written_left attributes.now))) }
+    ensures written { IfOk result (MemberWritten (written_left attributes.now)) }
 {
     let named = required(attributes, b"type")?;
     let kind = Name::from(named.bytes).kind().ok_or(Refusal::MemberType)?;

@@ -5,7 +5,7 @@ use Rattle.event_scan.proofs.Parts.{found_short}
 use Rattle.event_fields.specs.Field.{type_named, member_of}
 use Rattle.event_values.specs.Value.{field_in}
 use Rattle.event_values.proofs.Raws.{name_raw}
-use Rattle.event_values.proofs.Values.{handed_on, type_read, or_empty_short, or_empty_written}
+use Rattle.event_values.proofs.Values.{handed_on, type_read, or_empty_is, or_empty_short, or_empty_written}
 use Rattle.event_values.proofs.member_of.Goals as goal
 
 pub returns-in_err-named : goal.returns-in_err-named
@@ -14,6 +14,7 @@ returns-in_err-named g c =
     record {
       means = rw (handed_on c.from_residual.ensures, ← c.in_err-named.ensures.means);
       in_bounds = rw (handed_on c.from_residual.ensures) tt;
+      written = rw (handed_on c.from_residual.ensures) tt;
     }
 
 pub returns-in_err-kind : goal.returns-in_err-kind
@@ -23,6 +24,7 @@ returns-in_err-kind g c =
     record {
       means = rw (handed_on c.from_residual-in_err-kind.ensures, ← c.in_ok-named.ensures.means, ← k);
       in_bounds = rw (handed_on c.from_residual-in_err-kind.ensures) tt;
+      written = rw (handed_on c.from_residual-in_err-kind.ensures) tt;
     }
 
 pub returns-in_err-reference : goal.returns-in_err-reference
@@ -32,6 +34,7 @@ returns-in_err-reference g c =
     record {
       means = rw (handed_on c.from_residual-in_err-reference.ensures, ← c.in_ok-named.ensures.means, ← k, ← c.in_err-reference.ensures);
       in_bounds = rw (handed_on c.from_residual-in_err-reference.ensures) tt;
+      written = rw (handed_on c.from_residual-in_err-reference.ensures) tt;
     }
 
 pub returns : goal.returns
@@ -43,4 +46,5 @@ returns g c =
     record {
       means = rw (← c.in_ok-named.ensures.means, ← k, ← c.in_ok-reference.ensures, r);
       in_bounds = rw c.unwrap_or-role.ensures short;
+      written = rw c.unwrap_or-role.ensures (or_empty_is _ c.value_of.result c.as_slice.ensures c.value_of.ensures.written);
     }
