@@ -5,11 +5,12 @@ use mir.Syntax.{Width, w32, w64}
 use mir.Val.{to_z}
 use Prim.Native.Nat.{ℕ}
 use mathlib.Core.Path.{◌≡◌, refl, sym, ◌∙◌, ap}
-use mathlib.Core.Bool.{Bool, true, false}
+use mathlib.Core.Bool.{Bool, true, false, cond}
 use mathlib.Core.List.{List, [], ◌∷◌}
 use Rattle.base.specs.Ascii.{ascii}
-use Rattle.base.specs.Bytes.{Bytes, same}
+use Rattle.base.specs.Bytes.{Bytes, both, same}
 use Rattle.base.proofs.Split.{by_bool}
+use Rattle.base.proofs.Lists.{same_yes}
 use Rattle.refusal.specs.declared.Refusal.{Refusal}
 use Rattle.refusal.specs.declared.Refusal.TheVariants.{NotInteger, NotTimestamp}
 use Rattle.integer.specs.Integer.{integer_of, read_of}
@@ -21,7 +22,7 @@ use Rattle.event_fields.specs.Field.{Field, got, bad, and_then, or_else, an_inte
 use Rattle.event_values.specs.Value.{integer_in, narrow_in, field_in, narrow_field, wide_field}
 use Rattle.event_values.proofs.Values.{number_text, moment_text, field_read}
 use Rattle.event_metadata.specs.declared.values.MetadataName.{MetadataName}
-use Rattle.event_metadata.specs.Values.{flags_of, metadata_name, metadata_as}
+use Rattle.event_metadata.specs.Values.{flags_of, user_in, metadata_name, metadata_as, user_with}
 
 -- ---- flags
 
@@ -138,3 +139,39 @@ module _ (m : Meta Bytes) (attrs : List Attr) where
 
       pub metadata_stops : (r : Refusal) → bad r ≡ metadata_as name m a.value → bad r ≡ meta_from m attrs
       metadata_stops r q = sym (metadata_step ∙ rw (← n, ← q))
+
+-- ---- the user, as it is written
+
+-- a name that is another one is not `user`
+not_user : (n k : Bytes) → same n k ≡ true → same k (ascii "user") ≡ false → same n (ascii "user") ≡ false
+not_user n k h e = rw (same_yes n k h) e
+
+abbrev user_or_not : Option MetadataName → Option Bytes → Bytes → Option Bytes
+user_or_not None u v = u
+user_or_not (Some n) u v = user_with n u v
+
+user_named : (u : Option Bytes) (a : Attr) → cond (same a.name (ascii "user")) (Some a.value) u ≡ user_or_not (metadata_name a.name) u a.value
+unfolding metadata_name same both
+user_named u a =
+    by_bool (same a.name (ascii "version")) (λ e. rw (e, not_user _ _ e refl)) (λ e1. rw e1 (
+    by_bool (same a.name (ascii "timestamp")) (λ e. rw (e, not_user _ _ e refl)) (λ e2. rw e2 (
+    by_bool (same a.name (ascii "changeset")) (λ e. rw (e, not_user _ _ e refl)) (λ e3. rw e3 (
+    by_bool (same a.name (ascii "uid")) (λ e. rw (e, not_user _ _ e refl)) (λ e4. rw e4 (
+    by_bool (same a.name (ascii "user")) (λ e. rw e) (λ e5. rw e5 (
+    by_bool (same a.name (ascii "visible")) (λ e. rw e) (λ e6. rw e6)))))))))))
+
+module _ (u : Option Bytes) (attrs : List Attr) where
+  pub user_ends : attrs ≡ [] → user_in u attrs ≡ u
+  unfolding user_in
+  user_ends e = rw e
+
+  module _ (a : Attr) (bs : List Attr) (e : attrs ≡ a ∷ bs) where
+    user_step : user_in u attrs ≡ user_in (user_or_not (metadata_name a.name) u a.value) bs
+    unfolding user_in
+    user_step = rw e (ap (λ x. user_in x bs) (user_named u a))
+
+    pub user_passed : None ≡ metadata_name a.name → user_in u bs ≡ user_in u attrs
+    user_passed n = sym (user_step ∙ rw (← n))
+
+    pub user_on : {name : MetadataName} → Some name ≡ metadata_name a.name → {x : Option Bytes} → x ≡ user_with name u a.value → user_in x bs ≡ user_in u attrs
+    user_on n q = sym (user_step ∙ rw (← n, ← q))

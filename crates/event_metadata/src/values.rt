@@ -1,10 +1,10 @@
 // The metadata of an element, read from its attributes in their order. Numbers are held as their bits.
 
-ghost use Rattle.std.specs.Prelude.{ℕ, ◌≡◌, ◌≤◌, length, option_map, IfOk};
+ghost use Rattle.std.specs.Prelude.{ℕ, ◌≡◌, ◌≤◌, length, None, option_map, IfOk};
 ghost use Rattle.event_fields.specs.Field.{metadata_of};
 ghost use Rattle.event_scan.specs.Parts.{written_size};
 ghost use Rattle.event_scan.specs.Fields.{written_left, attributes_left, text_written};
-ghost use Rattle.event_metadata.specs.Values.{metadata_means, metadata_answered, MetadataInBounds, metadata_name, metadata_as};
+ghost use Rattle.event_metadata.specs.Values.{metadata_means, metadata_answered, MetadataInBounds, user_written, user_in, metadata_name, metadata_as, user_with};
 
 use event_scan::fields::{Attributes, Value};
 use refusal::Refusal;
@@ -61,6 +61,7 @@ impl<'a, const N: usize> MetadataValues<'a, N> {
     fn with(&self, name: MetadataName, value: &Value<'a, N>) -> Result<Self, Refusal>
         ensures means { metadata_answered result ≡ metadata_as name (metadata_means self.now) (text_written value.now) }
         ensures in_bounds { (n : ℕ) → MetadataInBounds n self.now → length value.now.bytes.now ≤ n → IfOk result (MetadataInBounds n) }
+        ensures written { IfOk result (λ m. user_written m ≡ user_with name (user_written self.now) value.now.bytes.now) }
     {
         let with = MetadataValues {
             given: true,
@@ -105,6 +106,7 @@ pub fn metadata_of<'a, const N: usize>(
 ) -> Result<MetadataValues<'a, N>, Refusal>
     ensures means { metadata_answered result ≡ metadata_of (attributes_left attributes.now) }
     ensures in_bounds { IfOk result (MetadataInBounds (written_size (written_left attributes.now))) }
+    ensures written { IfOk result (λ m. user_written m ≡ user_in None (written_left attributes.now)) }
 {
     let mut metadata = MetadataValues {
         given: false,
