@@ -2,12 +2,13 @@
 use Rattle.std.specs.Prelude.{Option, None, Some, Result, IfOk, IfSome}
 use Rattle.std.proofs.lemmas.Result.{IfOk-weaker}
 use Prim.Native.Nat.{ℕ, ◌≤◌}
-use mathlib.Core.Path.{◌≡◌}
+use mathlib.Core.Path.{◌≡◌, sym, ◌∙◌, ap}
 use mathlib.Core.Bool.{Bool}
 use mathlib.Core.Logic.{◌⊎◌, inl, inr}
-use mathlib.Core.List.{List}
+use mathlib.Core.List.{List, ◌∷◌}
 use native.Mathlib.Omega.{arith}
-use lib.ListN.{length}
+use lib.ListN.{length, drop}
+use lib.Seq.{drop-drop}
 use lib.IntN.{ℤ}
 use mir.Syntax.{w64}
 use Rattle.base.specs.Ascii.{ascii}
@@ -70,3 +71,7 @@ work_wider h W.Ends b = tt
 
 pub task_wider : (r : Result Task Refusal) {m n : ℕ} → m ≤ n → IfOk r (TaskInBounds m) → IfOk r (TaskInBounds n)
 task_wider r h b = IfOk-weaker r _ _ (λ t. work_wider h t.work) b
+
+-- the fields behind a line's word and its name
+pub behind_name : (fs gs : List Bytes) (n : Bytes) → drop 1 fs ≡ n ∷ gs → drop 2 fs ≡ gs
+behind_name fs gs n e = sym (drop-drop 1 1 fs) ∙ ap (drop 1) e

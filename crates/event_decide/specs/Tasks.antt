@@ -1,13 +1,14 @@
 -- What the code holds of an event's task, and what it stands for: a decision of crate event_decision, its numbers by their bits, its texts by how they are written.
-use Rattle.std.specs.Prelude.{ℕ, Err, Ok, Result}
+use Rattle.std.specs.Prelude.{ℕ, ◌≡◌, List, None, Err, Ok, Result}
 use Rattle.std.specs.Int.{w64}
 use Rattle.std.proofs.Common.{to_z}
 use Rattle.refusal.specs.declared.Refusal.{Refusal}
 use Rattle.nesting.specs.declared.Place.{Place}
+use Rattle.event.specs.Event.{Attr}
 use Rattle.event_decision.specs.Decision.{Decision, refuses, moves, begins, deletes, tags, refers, joins, ends}
 use Rattle.event_values.specs.Value.{body_in}
-use Rattle.event_values.specs.Values.{tag_means, TagInBounds, member_means, MemberInBounds}
-use Rattle.event_metadata.specs.Values.{metadata_means, MetadataInBounds}
+use Rattle.event_values.specs.Values.{tag_means, TagInBounds, TagWritten, member_means, MemberInBounds, MemberWritten}
+use Rattle.event_metadata.specs.Values.{metadata_means, MetadataInBounds, user_written, user_in}
 use Rattle.event_decide.specs.declared.tasks.Work.{Work}
 use Rattle.event_decide.specs.declared.tasks.Work.TheVariants as W
 use Rattle.event_decide.specs.declared.tasks.Task.{Task}
@@ -45,3 +46,17 @@ WorkInBounds n W.Ends = Unit {0}
 
 abbrev pub TaskInBounds : ℕ → Task → Type 0
 TaskInBounds n t = WorkInBounds n t.work
+
+-- ---- its texts are those of these attributes, as they are written
+
+abbrev pub WorkWritten : List Attr → Work → Type 0
+WorkWritten attrs W.Nothing = Unit {0}
+WorkWritten attrs (W.Begins e) = user_written e.metadata ≡ user_in None attrs
+WorkWritten attrs (W.Deletes e) = user_written e.metadata ≡ user_in None attrs
+WorkWritten attrs (W.Tags t) = TagWritten attrs t
+WorkWritten attrs (W.Refers r) = Unit {0}
+WorkWritten attrs (W.Joins m) = MemberWritten attrs m
+WorkWritten attrs W.Ends = Unit {0}
+
+abbrev pub TaskWritten : List Attr → Task → Type 0
+TaskWritten attrs t = WorkWritten attrs t.work

@@ -1,15 +1,16 @@
 // What an event is to do, decided from its line and the place of its reader alone: line, nesting, fields.
 // Numbers are held as their bits; a text is as it is written in the line, with its escapes.
 
-ghost use Rattle.std.specs.Prelude.{ℕ, ◌≡◌, length, IfOk};
+ghost use Rattle.std.specs.Prelude.{ℕ, ◌≡◌, List, length, drop, IfOk};
 ghost use Rattle.nesting.specs.Name.{name_of};
 ghost use Rattle.nesting.specs.Nesting.{opened, closed};
 ghost use Rattle.nesting.specs.declared.Place.{Place as ReaderPlace};
-ghost use Rattle.event.specs.Event.{body};
-ghost use Rattle.event_scan.specs.Parts.{written_size};
+ghost use Rattle.line.specs.Line.{fields};
+ghost use Rattle.event.specs.Event.{Attr, body};
+ghost use Rattle.event_scan.specs.Parts.{written_size, written_in};
 ghost use Rattle.event_scan.specs.Fields.{written_left, attributes_left};
 ghost use Rattle.event_decision.specs.Decision.{unless_delete, element_begins, child_of, decide_opened, decide_closed, decide};
-ghost use Rattle.event_decide.specs.Tasks.{work_means, work_answer, WorkInBounds, task_means, task_answer, TaskInBounds};
+ghost use Rattle.event_decide.specs.Tasks.{work_means, work_answer, WorkInBounds, WorkWritten, task_means, task_answer, TaskInBounds, TaskWritten};
 
 use event_metadata::values::MetadataValues;
 use event_scan::event_line::EventLine;
@@ -71,6 +72,7 @@ fn begins<'a>(
 ) -> Result<Work<'a>, Refusal>
     ensures means { (p : ReaderPlace) → work_answer p result ≡ element_begins action empty kind p (attributes_left attributes.now) }
     ensures in_bounds { IfOk result (WorkInBounds (written_size (written_left attributes.now))) }
+    ensures written { IfOk result (WorkWritten (written_left attributes.now)) }
 {
     let id = event_values::integer_field(attributes, b"id")?;
     let metadata = event_metadata::values::metadata_of(attributes)?;
@@ -95,6 +97,7 @@ fn begins<'a>(
 fn unless_deleted<'a>(action: Action, work: &Work<'a>) -> Work<'a>
     ensures means { (p : ReaderPlace) → work_means p result ≡ unless_delete action p (work_means p work.now) }
     ensures in_bounds { (n : ℕ) → WorkInBounds n work.now → WorkInBounds n result }
+    ensures written { (attrs : List Attr) → WorkWritten attrs work.now → WorkWritten attrs result }
 {
     match action {
         Action::Create | Action::Modify => *work,
@@ -109,6 +112,7 @@ fn child<'a>(
 ) -> Result<Work<'a>, Refusal>
     ensures means { (p : ReaderPlace) → work_answer p result ≡ child_of child action p (attributes_left attributes.now) }
     ensures in_bounds { IfOk result (WorkInBounds (written_size (written_left attributes.now))) }
+    ensures written { IfOk result (WorkWritten (written_left attributes.now)) }
 {
     let work = match child {
         Child::Tag => Work::Tags(event_values::tag_of(attributes)?),
@@ -129,6 +133,7 @@ fn opens<'a>(
 ) -> Result<Task<'a>, Refusal>
     ensures means { task_answer result ≡ decide_opened (opened empty (name_of name.now) before) empty before.section (attributes_left attributes.now) }
     ensures in_bounds { IfOk result (TaskInBounds (written_size (written_left attributes.now))) }
+    ensures written { IfOk result (TaskWritten (written_left attributes.now)) }
 {
     match before.open(empty, Name::from(name))? {
         Opening::Goes(place) => Ok(Task {
@@ -150,6 +155,7 @@ fn opens<'a>(
 fn closes<'a>(before: Place) -> Task<'a>
     ensures means { task_means result ≡ decide_closed before.level before.section (closed before) }
     ensures in_bounds { (n : ℕ) → TaskInBounds n result }
+    ensures written { (attrs : List Attr) → TaskWritten attrs result }
 {
     let place = before.close();
     match before.level {
@@ -168,6 +174,7 @@ fn closes<'a>(before: Place) -> Task<'a>
 pub fn task_of(line: &[u8], place: Place) -> Result<Task<'_>, Refusal>
     ensures means { task_answer result ≡ decide line.now place }
     ensures in_bounds { IfOk result (TaskInBounds (length (body line.now))) }
+    ensures written { IfOk result (TaskWritten (written_in (drop 2 (fields (body line.now))))) }
 {
     match event_line::read(line)? {
         EventLine::Starts {

@@ -11,6 +11,7 @@ returns-in_err-integer_field-in-Nd c =
     record {
       means = λ p. rw (handed_on c.from_residual-in_err-integer_field-in-Nd.ensures, c.in-Nd.is, ← c.in_err-integer_field-in-Nd.ensures);
       in_bounds = rw (handed_on c.from_residual-in_err-integer_field-in-Nd.ensures) tt;
+      written = rw (handed_on c.from_residual-in_err-integer_field-in-Nd.ensures) tt;
     }
 
 pub returns : goal.returns
@@ -26,5 +27,10 @@ returns c =
         | in-Tag+in_ok-tag_of-in-Tag w ↦ rw w.work-is w.in_ok-tag_of-in-Tag.ensures.in_bounds
         | in-Nd+in_ok-integer_field-in-Nd w ↦ rw w.work-is tt
         | in-Member+in_ok-member_of-in-Member w ↦ rw w.work-is w.in_ok-member_of-in-Member.ensures.in_bounds
+      ]);
+      written = c.unless_deleted.ensures.written _ (elim c.match-child.branch [
+        | in-Tag+in_ok-tag_of-in-Tag w ↦ rw w.work-is w.in_ok-tag_of-in-Tag.ensures.written
+        | in-Nd+in_ok-integer_field-in-Nd w ↦ rw w.work-is tt
+        | in-Member+in_ok-member_of-in-Member w ↦ rw w.work-is w.in_ok-member_of-in-Member.ensures.written
       ]);
     }
