@@ -40,11 +40,12 @@ returns-in_err-reference g c =
 pub returns : goal.returns
 unfolding member_of
 returns g c =
+    let w = or_empty_is _ c.value_of.result c.as_slice.ensures c.value_of.ensures.written in
     let k = ap (field_in (λ k. k)) c.in_ok-kind.ensures.value ∙ type_read _ c.kind.ensures ∙ ap type_named (c.from.ensures ∙ name_raw _) in
     let r = ap text_written c.unwrap_or-role.ensures ∙ or_empty_written _ c.value_of.result _ c.as_slice.ensures c.value_of.ensures.text in
     let short = or_empty_short _ _ c.value_of.result c.as_slice.ensures (found_short (λ v. v.bytes.now) _ _ _ c.value_of.ensures.written) in
     record {
       means = rw (← c.in_ok-named.ensures.means, ← k, ← c.in_ok-reference.ensures, r);
       in_bounds = rw c.unwrap_or-role.ensures short;
-      written = rw c.unwrap_or-role.ensures (or_empty_is _ c.value_of.result c.as_slice.ensures c.value_of.ensures.written);
+      written = rw c.unwrap_or-role.ensures w;
     }
