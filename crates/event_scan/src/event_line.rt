@@ -106,14 +106,11 @@ impl NotedRuns for Attributes<'_, MAX_LINE> {
     }
 }
 
-// Whether no two attributes have one name. In a short line they are compared in pairs, in a long one by the words of the names, where these tell it.
+// Whether no two attributes have one name: by the words of the names, and where these do not tell it they are compared in pairs.
 fn once(rest: &Fields<'_, MAX_LINE>) -> bool
     ensures { result ≡ none_twice (attributes_in (fields_left rest.now)) }
 {
     let attributes = Attributes { fields: *rest };
-    if attributes.bytes().len() < 96 {
-        return attributes.once_in_pairs();
-    }
     // Bound before the call: of a closure written inside this call the check infers nothing of its answer.
     let pairs = || attributes.once_in_pairs();
     distinct::noted_differ(&attributes).unwrap_or_else(pairs)
