@@ -1,3 +1,4 @@
+pub mod Known
 pub mod Numbers
 pub mod Writes
 pub mod First

@@ -3,8 +3,9 @@
 // The ids and the versions are two lists and no pairs, since C lends two.
 #![tactic(auto)]
 
-ghost use Rattle.std.specs.Prelude.{◌≡◌, map, ◌≤◌, length};
+ghost use Rattle.std.specs.Prelude.{◌≡◌, true, map, ◌≤◌, length};
 ghost use Rattle.little.specs.Little.{over};
+ghost use Rattle.kind_table.specs.Words.{sound_table};
 ghost use Rattle.kind_store.specs.Lent.{kind_seen};
 ghost use Rattle.kind_reading.specs.Listed.{rows_read, rows_on};
 ghost use Rattle.overlay.specs.Lent.{overlay_seen};
@@ -18,9 +19,10 @@ use kind_table::Row;
 use overlay::Storage;
 use refusal::Refusal;
 
-// The ids of a list's rows and their known versions over the first words of two lists. It counts what it wrote: `enumerate` over a filter takes a closure for the one test, and makes each row of its words twice.
+// The ids of a list's rows and their known versions over the first words of two lists. In a sound table the known version of an id is that of its row, and no row is looked for. It counts what it wrote: `enumerate` over a filter takes a closure for the one test, and makes each row of its words twice.
 fn put_rows(held: &KindStorage<'_>, side: Side, ids: &mut [u64], versions: &mut [u64])
-    requires { (length (rows_on side (rows_read held.now.table.now held.now.ids)) ≤ length ids.old)
+    requires { (sound_table held.now.table.now held.now.ids ≡ true)
+        × (length (rows_on side (rows_read held.now.table.now held.now.ids)) ≤ length ids.old)
         × (length (rows_on side (rows_read held.now.table.now held.now.ids)) ≤ length versions.old) }
     ensures { (ids.new ≡ over ids.old 0 (map row_id (rows_on side (rows_read held.now.table.now held.now.ids))))
         × (versions.new
@@ -31,9 +33,8 @@ fn put_rows(held: &KindStorage<'_>, side: Side, ids: &mut [u64], versions: &mut 
     for words in table.rows() {
         let row = Row::from(*words);
         if side.has(row) {
-            let id = overlay_reading::row_id(row);
-            ids[n] = id;
-            versions[n] = version_floor::version_word(held.known_version(id));
+            ids[n] = overlay_reading::row_id(row);
+            versions[n] = version_floor::version_word(held.row_version(row));
             n += 1;
         }
     }
@@ -47,6 +48,7 @@ fn put_kind(
     ids: &mut [u64],
     versions: &mut [u64],
 ) -> Result<u64, Refusal>
+    requires { sound_table held.now.table.now held.now.ids ≡ true }
     ensures { record { ids = ids.new; versions = versions.new; answer = result }
         ≡ kind_ids held.now.kind side (kind_seen held.now) ids.old versions.old }
 {

@@ -3,15 +3,14 @@ use mathlib.Core.Path.{◌≡◌, refl, sym, ◌∙◌, ap}
 use mathlib.Core.List.{[]}
 use native.Mathlib.Omega.{arith}
 use lib.ListN.{length}
-use mir.Syntax.{w64}
-use mir.Val.{to_z}
+use Rattle.std.proofs.Common.{rules}
 use Rattle.version_floor.specs.Version.{word_of}
 use Rattle.kind_table.specs.Words.{row_at, held}
 use Rattle.kind_table.proofs.Chunks.{chunks_length, row_of_chunk}
-use Rattle.kind_store.specs.KindStore.{known_version}
 use Rattle.kind_store.specs.Lent.{kind_seen}
 use Rattle.kind_reading.specs.Listed.{is_on}
 use Rattle.overlay_ids.specs.Rows.{row_id}
+use Rattle.overlay_ids.proofs.Known.{row_says}
 use Rattle.overlay_ids.proofs.Writes.{onward_all, starts, id_fits, version_fits, puts, passes, ends}
 use Rattle.overlay_ids.proofs.put_rows.Goals.{After-from-row, then-has, else-has}
 use Rattle.overlay_ids.proofs.put_rows.Goals as goal
@@ -23,7 +22,7 @@ loop-words-init c =
     let m = held h.table.now h.ids in
     let e = onward_all a.side h.table.now h.ids m refl in (
       rw (c.rows-table.ensures.0, c.rows-table.ensures.1) at c.rows-words-items.ensures.value,
-      starts h.kind a.side (kind_seen h) a.ids.now a.versions.now m (rw e c.requires.0) (rw e c.requires.1),
+      starts h.kind a.side (kind_seen h) a.ids.now a.versions.now m (rw e c.requires.1) (rw e c.requires.2),
     )
 
 -- the row of the words that are gone over stands in the table
@@ -63,11 +62,11 @@ loop-words-preserved c =
     let on = c.has.ensures ∙ ap (is_on a.side) r.1 in
     elim c.if-has.branch [
       | then-has w ↦
-          let e = w.row_id-id.ensures ∙ ap row_id r.1 in (
+          let e = w.row_id.ensures ∙ ap row_id r.1 in (
             c.loop-words.invariant.0,
             rw (w.ids-is, w.versions-is, w.n-is)
                 (puts h.kind a.side (kind_seen h) a.ids.now a.versions.now _ r.0 c.loop-words.invariant.1 (sym on ∙ w.if-has.true) _ _ e
-                (w.version_word.ensures ∙ ap word_of (w.known_version.ensures ∙ ap (λ x. known_version h.kind (kind_seen h) (to_z w64 x)) e))),
+                (w.version_word.ensures ∙ ap word_of w.row_version.ensures ∙ row_says h.kind (kind_seen h) c.requires.0 _ r.0 c.from-row.result r.1 (search rules))),
           )
       | else-has w ↦ (c.loop-words.invariant.0, rw (w.ids-is, w.versions-is, w.n-is) (passes h.kind a.side (kind_seen h) a.ids.now a.versions.now _ r.0 c.loop-words.invariant.1 (sym on ∙ w.if-has.false)))
     ]
