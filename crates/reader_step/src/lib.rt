@@ -226,7 +226,7 @@ fn work<const N: usize>(
 
 // ---- a step
 
-// A deed done: its refusal, 12 to 16, or the reader stands at the place. Its texts may have any length, and its metadata any bits; the step is promised where the texts are no longer than a line
+// A deed done: the refusal that it is, 12 to 16, or the reader stands at the place. Its texts may have any length, and its metadata any bits; the step is promised where the texts are no longer than a line
 // may be. Chains of handles find held texts; where none are kept, empty ones serve.
 pub fn step_deed<const N: usize>(
     state: &mut ReaderState<'_>,
